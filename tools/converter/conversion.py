@@ -6,7 +6,7 @@ from . import export_file
 from .cap_file import cap_file
 from .class_file import ABSTRACT, CLASS, INTERFACE, read_class
 from .code import TooManyFields
-from .components import Components
+from .components import METHOD, Components
 from .library import APPLET
 from .map_lines import map_text, told_method
 from .package import INSTALL, Package
@@ -37,8 +37,8 @@ class Converted:
         return export_file.Writer(self.package).content if self.package.exports else None
 
     def map(self):
-        """Where the methods stand in the Method component, as tools/cap2script --map tells it."""
-        return map_text(self.request.aid, {offset: told_method(*method) for method, offset in self.methods.items()})
+        """Where the methods and their instructions stand in the Method component, as tools/cap2script --map tells it."""
+        return map_text(self.request.aid, self.contents[METHOD][3:], {offset: told_method(*method) for method, offset in self.methods.items()})
 
 
 def read_classes(folder):

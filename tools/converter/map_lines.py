@@ -1,4 +1,5 @@
-"""The lines of a map, which tell where the methods of a package stand."""
+"""The lines of a map, which tell where the methods of a package and their instructions stand."""
+from .instructions import instructions_of
 from .refusal import class_name, method_name
 
 
@@ -11,6 +12,11 @@ def told_method(owner, name, descriptor):
     return ascii(told)[1:-1].replace(" ", "")
 
 
-def map_text(aid, names):
-    """The lines for a package's names by their offsets in the Method component, behind one that tells its AID."""
-    return f"package {aid.hex().upper()}\n" + "".join(f"{offset} {name}\n" for offset, name in sorted(names.items()))
+def map_text(aid, info, names):
+    """The lines for a package's names by their offsets in the info of its Method component, behind one that tells its AID. Behind each
+    name stands a line that a blank begins: the offsets of the method's instructions."""
+    lines, places = [f"package {aid.hex().upper()}"], sorted(names)
+    for start, end in zip(places, [*places[1:], len(info)]):
+        lines.append(f"{start} {names[start]}")
+        lines.append("".join(f" {at}" for at in instructions_of(info, start, end)) or " ")
+    return "".join(f"{line}\n" for line in lines)

@@ -17,6 +17,7 @@ A method of an interface is at no offset, which is told by 0.
 """
 from . import card_components as cap
 from .card_check import MOST_VISIBLE, Card, Checked, Names
+from .components import METHOD
 from .export_file import link, read_exports
 from .map_lines import map_text, told_method
 from .refusal import Refusal, class_name
@@ -112,11 +113,11 @@ def component(contents, tag, name, reader):
 
 
 def map_of(aid, contents, exports):
-    """The lines of the map of a package: its AID, and for each method an offset in the Method component and a name."""
+    """The lines of the map of a package: its AID, and for each method an offset in the Method component, a name, and its instructions."""
     debug, descriptor = component(contents, cap.DEBUG, "Debug", Debug), component(contents, cap.DESCRIPTOR, "Descriptor", Descriptor)
     if debug is None and descriptor is None:
         raise Refusal("the CAP file has neither a Descriptor nor a Debug component")
     names = ExportedNames(contents, exports)
     found = {offset: names.name(offset, *more) for offset, *more in descriptor.methods} if descriptor else {}
     found.update(debug.methods if debug else {})
-    return map_text(aid, found)
+    return map_text(aid, contents[METHOD][3:], found)

@@ -66,18 +66,18 @@ ends_outside p q s new load kept (Ok ended) rests made up = (ended_rests p s new
 ends_outside p q s new load kept (Err down) rests cut up = absurd (true≢false (sym cut.down ∙ up))
 
 -- the response to the end of a load
-pub ends_so : (d : Program LoadResult) (s new : MemoryState) (r : Result CommandResult StoreDown) (q : Packages) (kept : Option OpenLoad)
+pub ends_so : (budget : ℕ) (d : Program LoadResult) (s new : MemoryState) (r : Result CommandResult StoreDown) (q : Packages) (kept : Option OpenLoad)
     (said : Result (List ℕ) StoreDown) → said ≡ response_of_end r → Executes d s (after_end r q kept new) →
-    Executes (bind d s (λ left v. Finish (answer_of_left left))) s (after_exchange said (record { memory = new; packages = q; load = kept }))
-ends_so d s new r q kept said is made =
-    subst (λ x. Executes (bind d s (λ left v. Finish (answer_of_left left))) s (after_exchange x (record { memory = new; packages = q; load = kept }))) (sym is)
+    Executes (bind d s (λ left v. Finish (answer_of_left budget left))) s (after_exchange said (record { memory = new; packages = q; load = kept; budget = budget }))
+ends_so budget d s new r q kept said is made =
+    subst (λ x. Executes (bind d s (λ left v. Finish (answer_of_left budget left))) s (after_exchange x (record { memory = new; packages = q; load = kept; budget = budget }))) (sym is)
     (by_end r made)
   where
-    done : (left : LoadResult) → Completes d s left new → Executes (bind d s (λ l v. Finish (answer_of_left l))) s (Completed (answer_of_left left) new)
-    done left did = bind_did (λ l v. Finish (answer_of_left l)) d s new new left (answer_of_left left) did (refl, refl)
+    done : (left : LoadResult) → Completes d s left new → Executes (bind d s (λ l v. Finish (answer_of_left budget l))) s (Completed (answer_of_left budget left) new)
+    done left did = bind_did (λ l v. Finish (answer_of_left budget l)) d s new new left (answer_of_left budget left) did (refl, refl)
 
     by_end : (r : Result CommandResult StoreDown) → Executes d s (after_end r q kept new)
-        → Executes (bind d s (λ left v. Finish (answer_of_left left))) s (after_exchange (response_of_end r)
-        (record { memory = new; packages = q; load = kept }))
+        → Executes (bind d s (λ left v. Finish (answer_of_left budget left))) s (after_exchange (response_of_end r)
+        (record { memory = new; packages = q; load = kept; budget = budget }))
     by_end (Ok ended) m = done (record { ended = ended; packages = q; load = kept }) m
-    by_end (Err down) m = bind_cut (λ left v. Finish (answer_of_left left)) d s new m
+    by_end (Err down) m = bind_cut (λ left v. Finish (answer_of_left budget left)) d s new m

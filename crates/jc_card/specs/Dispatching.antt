@@ -19,9 +19,9 @@ use Rattle.jc_card.specs.CardState.{CardState}
 use Rattle.jc_card.specs.Loads.{LoadResponse}
 use Rattle.jc_card.specs.StatusWord.{status_bytes, no_error, wrong_length, wrong_data, unknown, full, conditions_not_satisfied, no_applet, not_selected}
 
--- a command carries out at most so many instructions
-abbrev pub most_instructions : ℕ
-most_instructions = 100000
+-- so many instructions a command may carry out where nothing else was said
+abbrev pub usual_budget : ℕ
+usual_budget = 100000
 
 -- the AID by which the manager is selected
 abbrev pub manager_aid : List ℕ
@@ -49,34 +49,34 @@ status_of_ending NoApplet = no_applet
 status_of_ending RegistryFull = full
 
 -- the selected applet answers; where none is selected, that is the answer
-abbrev pub to_selected : Option AppletNumber → ℕ → Packages → MemoryState → Program AppletResult
-to_selected None expected p m = Finish NotSelected
-to_selected (Some a) expected p m = process_command most_instructions p a false expected m
+abbrev pub to_selected : ℕ → Option AppletNumber → ℕ → Packages → MemoryState → Program AppletResult
+to_selected budget None expected p m = Finish NotSelected
+to_selected budget (Some a) expected p m = process_command budget p a false expected m
 
 -- the applet with an AID is selected, or the command goes to the one that is
-abbrev pub to_named : Option AppletNumber → ℕ → Packages → MemoryState → Program AppletResult
-to_named None expected p m = to_selected m.registers.selected expected p m
-to_named (Some a) expected p m = applet_selection most_instructions p a expected m
+abbrev pub to_named : ℕ → Option AppletNumber → ℕ → Packages → MemoryState → Program AppletResult
+to_named budget None expected p m = to_selected budget m.registers.selected expected p m
+to_named budget (Some a) expected p m = applet_selection budget p a expected m
 
 -- SELECT (00 A4 04 00) of the manager or of an applet; another command goes to the selected applet
-unfoldable pub route : Apdu → ℕ → Packages → MemoryState → Program AppletResult
-route c expected p m =
-    if is_select c then (if bytes_eq c.content manager_aid then manager_selection most_instructions p m else to_named
+unfoldable pub route : ℕ → Apdu → ℕ → Packages → MemoryState → Program AppletResult
+route budget c expected p m =
+    if is_select c then (if bytes_eq c.content manager_aid then manager_selection budget p m else to_named budget
     (applet_with_aid m c.content) expected p m)
-    else to_selected m.registers.selected expected p m
+    else to_selected budget m.registers.selected expected p m
 
 -- a response to the command, and nothing else of the card but its memory changed
 abbrev pub with_response : CardState → List ℕ → LoadResponse
-with_response card response = record { response = response; packages = card.packages; load = card.load }
+with_response card response = record { response = response; packages = card.packages; load = card.load; budget = card.budget }
 
 -- the data that were sent, and then the status word, whatever it is
 unfoldable pub dispatch : List ℕ → Apdu → CardState → Program LoadResponse
 dispatch bytes c card = then_with (BeginCommand bytes) card.memory (λ v.
-    bind (route c (expected_by bytes) card.packages v) v (λ e w. Finish (with_response card (w.sent ++ status_bytes (status_of_ending e)))))
+    bind (route card.budget c (expected_by bytes) card.packages v) v (λ e w. Finish (with_response card (w.sent ++ status_bytes (status_of_ending e)))))
 
 -- Command 80 B8 create applet: an applet is installed; without data the length is wrong. What its install sends
 -- is dropped
 unfoldable pub create_applet : List ℕ → CardState → Program LoadResponse
 create_applet [] card = Finish (with_response card (status_bytes wrong_length))
 create_applet (b ∷ more) card = then_with (BeginCommand []) card.memory (λ v.
-    bind (applet_creation most_instructions card.packages (b ∷ more) v) v (λ e w. Finish (with_response card (status_bytes (status_of_ending e)))))
+    bind (applet_creation card.budget card.packages (b ∷ more) v) v (λ e w. Finish (with_response card (status_bytes (status_of_ending e)))))

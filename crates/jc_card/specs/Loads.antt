@@ -14,11 +14,12 @@ use Rattle.jc_card_load.specs.Ending.{LoadResult, end_of_load}
 use Rattle.jc_card.specs.CardState.{CardState}
 use Rattle.jc_card.specs.StatusWord.{status_bytes, no_error, wrong_length, conditions_not_satisfied, wrong_data, no_space, aid_taken, full}
 
--- the response to a command, the packages and the load that it leaves
+-- the response to a command; the packages, the load and the budget that it leaves
 pub record LoadResponse : Type 0 where
   pub response : List ℕ
   pub packages : Packages
   pub load : Option OpenLoad
+  pub budget : ℕ
 
 -- the number of a fault of linking
 abbrev pub link_number : LinkFault → ℕ
@@ -44,7 +45,7 @@ response_to (Err refusal) = status_bytes (status_of refusal)
 
 -- a command that changes nothing but the load
 abbrev pub load_command : CardState → CommandResult → Option OpenLoad → Program LoadResponse
-load_command card ended load = Finish (record { response = response_to ended; packages = card.packages; load = load })
+load_command card ended load = Finish (record { response = response_to ended; packages = card.packages; load = load; budget = card.budget })
 
 -- one for which a load must be open
 abbrev pub on_load : CardState → (OpenLoad → CommandResult × OpenLoad) → Option OpenLoad → Program LoadResponse
@@ -66,7 +67,7 @@ component_append_without_memory more load = without_memory load (component_appen
 -- Command 80 B4 append: more bytes of the open component; without data the length is wrong. Where there is no other refusal, memory may
 -- be refused
 abbrev pub append_component : List ℕ → CardState → Program LoadResponse
-append_component [] card = Finish (record { response = status_bytes wrong_length; packages = card.packages; load = card.load })
+append_component [] card = Finish (record { response = status_bytes wrong_length; packages = card.packages; load = card.load; budget = card.budget })
 append_component (b ∷ more) card = Either (on_load card (component_append (b ∷ more)) card.load)
     (on_load card (component_append_without_memory (b ∷ more)) card.load)
 
@@ -75,12 +76,12 @@ abbrev pub end_component : CardState → Program LoadResponse
 end_component card = on_load card component_end card.load
 
 -- the load ends
-abbrev pub answer_of_left : LoadResult → LoadResponse
-answer_of_left left = record { response = response_to left.ended; packages = left.packages; load = left.load }
+abbrev pub answer_of_left : ℕ → LoadResult → LoadResponse
+answer_of_left budget left = record { response = response_to left.ended; packages = left.packages; load = left.load; budget = budget }
 
 -- Command 80 BA end load: the package is linked and added, or refused
 abbrev pub end_load : CardState → Program LoadResponse
-end_load card = bind (end_of_load card.packages card.memory card.load) card.memory (λ left s. Finish (answer_of_left left))
+end_load card = bind (end_of_load card.packages card.memory card.load) card.memory (λ left s. Finish (answer_of_left card.budget left))
 
 -- what is said of how it ended: the response, or that the store is down
 abbrev pub response_of_end : Result CommandResult StoreDown → Result (List ℕ) StoreDown

@@ -19,9 +19,6 @@ use jc_memory::Memory;
 use jc_registry::applet_with_aid;
 use jc_words::{StoreDown, WordStore};
 
-/// A command carries out at most so many instructions.
-pub(crate) const MOST_INSTRUCTIONS: u32 = 100_000;
-
 /// The AID by which the manager is selected.
 const MANAGER_AID: [u8; 6] = [0xF0, 0x4A, 0x43, 0x4D, 0x47, 0x52];
 
@@ -73,18 +70,19 @@ fn status_of(ending: AppletResult) -> StatusWord
 
 // The selected applet answers the command.
 fn to_selected<S: WordStore>(
+    budget: u32,
     expected: u16,
     memory: &mut Memory<S>,
     linked: &Linked,
 ) -> Result<AppletResult, StoreDown>
     requires up { memory.old.heap.down ≡ false }
     requires outside { memory.old.heap.begun ≡ false }
-    ensures does { Executes (to_selected memory.old.registers.selected expected linked.now
+    ensures does { Executes (to_selected budget memory.old.registers.selected expected linked.now
         memory.old) memory.old (after_step result memory.new) }
     ensures outside { OnOk result (memory.new.heap.begun ≡ false) }
 {
     match memory.registers().selected {
-        Some(applet) => process(MOST_INSTRUCTIONS, applet, false, expected, memory, linked),
+        Some(applet) => process(budget, applet, false, expected, memory, linked),
         None => Ok(AppletResult::NotSelected),
     }
 }
@@ -92,6 +90,7 @@ fn to_selected<S: WordStore>(
 // SELECT (00 A4 04 00) of the manager or of an applet; another command goes to the selected applet.
 #[tactic(auto, unfolding(crate::specs::Dispatching::route))]
 fn route<S: WordStore>(
+    budget: u32,
     command: Command<'_>,
     expected: u16,
     memory: &mut Memory<S>,
@@ -99,19 +98,19 @@ fn route<S: WordStore>(
 ) -> Result<AppletResult, StoreDown>
     requires up { memory.old.heap.down ≡ false }
     requires outside { memory.old.heap.begun ≡ false }
-    ensures does { Executes (route (apdu_value command.entry) expected linked.now memory.old)
-        memory.old (after_step result memory.new) }
+    ensures does { Executes (route budget (apdu_value command.entry) expected linked.now
+        memory.old) memory.old (after_step result memory.new) }
     ensures outside { OnOk result (memory.new.heap.begun ≡ false) }
 {
     if !is_select(command) {
-        return to_selected(expected, memory, linked);
+        return to_selected(budget, expected, memory, linked);
     }
     if command.data == MANAGER_AID.as_slice() {
-        return select_manager(MOST_INSTRUCTIONS, memory, linked);
+        return select_manager(budget, memory, linked);
     }
     match applet_with_aid(memory, command.data) {
-        Some(applet) => select(MOST_INSTRUCTIONS, applet, expected, memory, linked),
-        None => to_selected(expected, memory, linked),
+        Some(applet) => select(budget, applet, expected, memory, linked),
+        None => to_selected(budget, expected, memory, linked),
     }
 }
 
@@ -130,7 +129,13 @@ impl<S: WordStore> Card<S> {
     {
         self.memory.start(bytes);
         let expected = expected_by(bytes);
-        let ending = route(command, expected, &mut self.memory, &self.linked)?;
+        let ending = route(
+            self.budget,
+            command,
+            expected,
+            &mut self.memory,
+            &self.linked,
+        )?;
         Ok(Response::new(self.memory.sent(), status_of(ending)))
     }
 
@@ -145,7 +150,7 @@ impl<S: WordStore> Card<S> {
             return Ok(Response::of_status(StatusWord::WRONG_LENGTH));
         }
         self.memory.start(&[]);
-        let ending = create(MOST_INSTRUCTIONS, bytes, &mut self.memory, &self.linked)?;
+        let ending = create(self.budget, bytes, &mut self.memory, &self.linked)?;
         Ok(Response::of_status(status_of(ending)))
     }
 }

@@ -20,12 +20,13 @@ ghost use Rattle.jc_memory.specs.Marks.{AreNone, AreObjects, mark_count};
 ghost use Rattle.jc_memory.specs.Owners.{at_reset};
 ghost use Rattle.jc_card_load.specs.Reading.{packages_of};
 ghost use Rattle.jc_card_checks.specs.Sound.{IsSound};
+ghost use Rattle.jc_card.specs.Dispatching.{usual_budget};
 ghost use Rattle.jc_card.specs.Fixed.{fixed_facts, fixed_objects, fixed_of, last_fixed};
 ghost use Rattle.jc_card.specs.Reset.{IsAtReset};
 ghost use Rattle.jc_card.specs.PowerUp.{PowerUpRefuses, RecoveredWordsFail, FailsToLink, RefusalLeaves, IsFoundFirst, IsFoundAfter, HasTable};
 ghost use Rattle.jc_card.specs.PowerUp.{HasHeap, fault_of};
 
-use crate::card::Card;
+use crate::card::{Card, USUAL_BUDGET};
 use crate::fixed::{LAST_FIXED, fixed_headers, fixed_of};
 use crate::lent::LentStore;
 use jc_card_checks::sound::is_sound;
@@ -81,15 +82,16 @@ impl From<ImageFault> for PowerFault {
 }
 
 impl<S: WordStore> Card<S> {
-    /// The card of a store, after a reset: first takes back what a loss of power left open and makes the
+    /// The card of a store, after a reset, with a budget of instructions a command: first takes back what a loss of power left open and makes the
     /// image one of the version that is written, then asks for memory. Where it refuses, it gives the store back.
-    pub fn power_up(alloc: Global, store: S) -> Result<Card<S>, (PowerFault, S)>
+    pub fn power_up(alloc: Global, store: S, budget: u32) -> Result<Card<S>, (PowerFault, S)>
         ensures made { OnOk result (IsMade (S.words store)) }
         ensures heap { IfOk result (λ card. card.memory.heap
             ≡ heap_view (recovered_journal (S.words store) (S.passed store) (S.refusals store))
             (limit_of (S.words store))) }
         ensures blank { IfOk result (λ card. IsCleared card.memory.ram) }
         ensures load { IfOk result (λ card. card.load ≡ None) }
+        ensures budget { IfOk result (λ card. card.budget ≡ budget) }
         ensures reset { IfOk result (λ card. IsAtReset
             (heap_of (recovered_of (S.words store))) card) }
         ensures cause { IfErr result (λ e. PowerUpRefuses e.0 (S.words store)) }
@@ -117,7 +119,7 @@ impl<S: WordStore> Card<S> {
             return Err((PowerFault::from(fault), store));
         }
         match OpenImage::open(store) {
-            Ok(image) => start(alloc, image.into_store()),
+            Ok(image) => start(alloc, image.into_store(), budget),
             Err((OpenRefusal::BadLog, store)) => Err((PowerFault::BadLog, store)),
             Err((OpenRefusal::StoreDown, store)) => Err((PowerFault::StoreDown, store)),
         }
@@ -125,7 +127,7 @@ impl<S: WordStore> Card<S> {
 }
 
 // The card of a store at rest. Its image is read of words that are lent, so that a fault leaves the store as it is.
-fn start<S: WordStore>(alloc: Global, store: S) -> Result<Card<S>, (PowerFault, S)>
+fn start<S: WordStore>(alloc: Global, store: S, budget: u32) -> Result<Card<S>, (PowerFault, S)>
     requires up { S.down store ≡ false }
     requires good { IsGoodLog (S.words store) }
     requires current { slice_index (S.words store) version_address ≡ version }
@@ -136,6 +138,7 @@ fn start<S: WordStore>(alloc: Global, store: S) -> Result<Card<S>, (PowerFault, 
         ≡ heap_of_store_at_rest (S.words store) (S.passed store) (S.refusals store)) }
     ensures blank { IfOk result (λ card. IsCleared card.memory.ram) }
     ensures load { IfOk result (λ card. card.load ≡ None) }
+    ensures budget { IfOk result (λ card. card.budget ≡ budget) }
     ensures reset { IfOk result (λ card. IsAtReset (heap_of (recovered_of (S.words store))) card) }
     ensures cause { IfErr result (λ e. RecoveredWordsFail e.0 (recovered_of (S.words store))) }
     ensures found { IfErr result (λ e. IsFoundAfter e.0) }
@@ -148,7 +151,7 @@ fn start<S: WordStore>(alloc: Global, store: S) -> Result<Card<S>, (PowerFault, 
     match lent_card(alloc, image, marks.as_mut_slice()) {
         Ok(card) => {
             let (linked, ram) = parts_of(card);
-            Ok(card_over(alloc, store, linked, ram, Marks::of_flags(marks)))
+            Ok(card_over(alloc, store, linked, ram, Marks::of_flags(marks), budget))
         }
         Err(fault) => Err((fault, store)),
     }
@@ -267,7 +270,7 @@ fn sound_card<S: WordStore + Drop>(
     requires linked { length linked.loaded ≡ length memory.heap.now.packages }
     requires own { (own ≡ 0 → ⊥) → IsObject memory.heap.now own }
     ensures card { IfOk result (λ card. card
-        ≡ record { memory = memory; packages = linked; load = None }) }
+        ≡ record { memory = memory; packages = linked; load = None; budget = usual_budget }) }
     ensures sound { OnOk result (IsSound linked memory.heap.now own) }
     ensures cause { IfErr result (λ fault. (fault ≡ PowerFault.BadPackage)
         × (IsSound linked memory.heap.now own → ⊥)) }
@@ -280,6 +283,7 @@ fn sound_card<S: WordStore + Drop>(
         memory,
         linked,
         load: None,
+        budget: USUAL_BUDGET,
     })
 }
 
@@ -300,6 +304,7 @@ fn card_over<S: WordStore>(
     linked: Linked,
     ram: Ram,
     marks: Marks,
+    budget: u32,
 ) -> Card<S>
     requires rests { IsAtRest (S.words store) (S.down store) }
     requires whole { IsConsistent (heap_of (recovered_of (S.words store))) }
@@ -317,6 +322,7 @@ fn card_over<S: WordStore>(
         } }
     ensures packages { result.packages ≡ linked }
     ensures load { result.load ≡ None }
+    ensures budget { result.budget ≡ budget }
 {
     let heap = Heap::resume(store);
     let fixed = fixed_of(&heap);
@@ -325,6 +331,7 @@ fn card_over<S: WordStore>(
         memory: Memory::new(heap, ram, fixed, marks),
         linked,
         load: None,
+        budget,
     }
 }
 

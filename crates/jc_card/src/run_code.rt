@@ -5,7 +5,6 @@ ghost use Rattle.jc_memory.specs.Programs.{Executes};
 ghost use Rattle.jc_card.specs.Answers.{after_exchange, answer_of, run_code};
 
 use crate::card::Card;
-use crate::dispatching::MOST_INSTRUCTIONS;
 use crate::response::Response;
 use crate::status::StatusWord;
 use jc_dispatch::ad_hoc_code;
@@ -41,7 +40,7 @@ impl<S: WordStore> Card<S> {
             return Ok(Response::of_status(StatusWord::WRONG_LENGTH));
         }
         let outcome = ad_hoc_code::run_command_code(
-            MOST_INSTRUCTIONS,
+            self.budget,
             max_stack,
             locals,
             code,

@@ -143,33 +143,22 @@ fn step_in_frames(code: &[u8], frames: &mut Frames) -> Result<(), PausedStep>
     }
 }
 
+// Notes the instruction at the frame's place, where somebody asks for each.
+#[inline(always)]
+fn note_if_asked(frames: &Frames, noted: Option<&Notes>) {
+    if let Some(notes) = noted {
+        note_step(frames, notes);
+    }
+}
+
 /// Carries out instructions that need nothing but frames, as many at most: `None` once they are used up, else
-/// how many are left and where something else is to be done.
+/// how many are left and where something else is to be done. Each is noted before, where somebody asks for it.
+/// A second loop, without the notes, would be slower: then neither has the instructions in line.
 pub(crate) fn run_in_frames(
     code: &[u8],
     budget: u32,
     frames: &mut Frames,
-) -> Option<(u32, PausedStep)>
-    requires short { length code.now < 2 ^ 16 }
-    ensures same { (lent : List ℕ) (p : Packages) (m : MemoryState)
-        → code.now ≡ code_of lent p frames.old.current.origin.package_number
-        → run_of budget lent p frames.old m ≡ run_rest result lent p frames.new m }
-    ensures fewer { IfSome result (λ r. r.0 < budget) }
-{
-    for turns in 0..budget {
-        if let Err(pause) = step_in_frames(code, frames) {
-            return Some((budget - (turns + 1), pause));
-        }
-    }
-    None
-}
-
-/// The same, and notes each instruction before it is carried out.
-pub(crate) fn run_with_notes(
-    code: &[u8],
-    budget: u32,
-    frames: &mut Frames,
-    notes: &Notes,
+    noted: Option<&Notes>,
 ) -> Option<(u32, PausedStep)>
     requires short { length code.now < 2 ^ 16 }
     ensures same { (lent : List ℕ) (p : Packages) (m : MemoryState)
@@ -179,7 +168,7 @@ pub(crate) fn run_with_notes(
 {
     for turns in 0..budget {
         let left = budget - (turns + 1);
-        note_step(frames, notes);
+        note_if_asked(frames, noted);
         if let Err(pause) = step_in_frames(code, frames) {
             return Some((left, pause));
         }
@@ -201,9 +190,10 @@ pub(crate) fn run_turn(
         → run_of budget lent p frames.old m ≡ run_rest result lent p frames.new m }
     ensures fewer { IfSome result (λ r. r.0 < budget) }
 {
-    if notes.keep_steps() {
-        run_with_notes(code, budget, frames, notes)
+    let noted = if notes.keep_steps() {
+        Some(notes)
     } else {
-        run_in_frames(code, budget, frames)
-    }
+        None
+    };
+    run_in_frames(code, budget, frames, noted)
 }

@@ -7,7 +7,6 @@ use Rattle.jc_commit.specs.Image.{top_of}
 use Rattle.jc_heap.specs.Cut.{Sizes, missing_words, records_from}
 use Rattle.jc_heap.specs.Heap.{read_image}
 use Rattle.jc_heap.specs.Image.{base, image, item_entry, missing_words_of_image, package_addresses}
-use Rattle.jc_heap.specs.Object.{Item}
 use Rattle.jc_heap.proofs.Following.{records_from-step}
 use Rattle.jc_heap.proofs.Walks.{walk_short, walk_step}
 use Rattle.jc_records.specs.Bounds.{first_record, has_bounds}

@@ -13,7 +13,7 @@ use Rattle.jc_session.specs.declared.event.Event.{Event}
 use Rattle.jc_session.specs.declared.event.Event.TheVariants.{Command, Reset}
 use Rattle.jc_session.specs.declared.event.Answer.{Answer}
 use Rattle.jc_session.specs.declared.event.Answer.TheVariants.{Response, Ready, Down}
-use Rattle.jc_session.specs.Power.{PowerState, Up, Off, KeptState, durable_state}
+use Rattle.jc_session.specs.Power.{PowerState, Up, Off, KeptState, budget_of, durable_state}
 use Rattle.jc_session.specs.Starting.{IsPoweredUp}
 use Rattle.jc_session.specs.Serving.{AnswersCommand, AnswersReset, Serves, SessionRun}
 
@@ -35,8 +35,8 @@ is_raised : (p : ℕ) (old new : Refusals) → new ≡ refused_once false p old 
 is_raised p old new e = omega (arith, count_raised p old new e, grows old.count)
 
 -- a card that was powered up has the refusals of what was left
-pub powered_refusals : (k : KeptState) (card : CardState) → IsPoweredUp k card → card.memory.heap.refusals ≡ k.refusals
-powered_refusals k card p = ap (λ (v : HeapView). v.refusals) p.heap
+pub powered_refusals : (k : KeptState) (budget : ℕ) (card : CardState) → IsPoweredUp k budget card → card.memory.heap.refusals ≡ k.refusals
+powered_refusals k budget card p = ap (λ (v : HeapView). v.refusals) p.heap
 
 -- a command that was carried out refuses nothing
 pub done_refusals : (bytes r : List ℕ) (card next : CardState) → Completes (exchange bytes card) card.memory (with_response next r) next.memory
@@ -47,15 +47,15 @@ done_refusals bytes r card next did = refusals_did (exchange bytes card) card.me
 pub command_grows : (s : PowerState) (bytes : List ℕ) (answer : Answer) (next : PowerState) → AnswersCommand s bytes answer next
     → (durable_state s).refusals.count ≤ (durable_state next).refusals.count
 command_grows (Up card) bytes (Response r) (Up next) h = is_same _ _ (ap (λ (x : Refusals). x.count) (done_refusals bytes r card next h))
-command_grows (Up card) bytes Down (Off k) h = is_raised k.passed _ _ h.2
-command_grows (Off k) bytes Down (Off l) h = is_same _ _ (ap (λ (x : KeptState). x.refusals.count) h)
+command_grows (Up card) bytes Down (Off b k) h = is_raised k.passed _ _ h.2
+command_grows (Off b k) bytes Down (Off d l) h = is_same _ _ (ap (λ (x : KeptState). x.refusals.count) h.0)
 command_grows s bytes answer next h = absurd h
 
 -- nor does a reset
 pub reset_grows : (s : PowerState) (answer : Answer) (next : PowerState) → AnswersReset s answer next
     → (durable_state s).refusals.count ≤ (durable_state next).refusals.count
-reset_grows s Ready (Up card) h = is_same _ _ (ap (λ (x : Refusals). x.count) (powered_refusals (durable_state s) card h))
-reset_grows s Down (Off k) h = is_raised k.passed _ _ (ap (λ (x : KeptState). x.refusals) h)
+reset_grows s Ready (Up card) h = is_same _ _ (ap (λ (x : Refusals). x.count) (powered_refusals (durable_state s) (budget_of s) card h))
+reset_grows s Down (Off b k) h = is_raised k.passed _ _ (ap (λ (x : KeptState). x.refusals) h.0)
 reset_grows s answer next h = absurd h
 
 pub served_grows : (s : PowerState) (event : Event) (answer : Answer) (next : PowerState) → Serves s event answer next

@@ -14,7 +14,7 @@ use Rattle.jc_card.specs.Answers.{exchange, exchange_of_apdu, is_dispatched}
 use Rattle.jc_card.specs.Answers.{manager_response as to_manager}
 use Rattle.jc_card.specs.Apdu.{Apdu}
 use Rattle.jc_card.specs.CardState.{CardState}
-use Rattle.jc_card.specs.Dispatching.{with_response, dispatch, expected_by, is_select, manager_aid, most_instructions, route, status_of_ending, to_named}
+use Rattle.jc_card.specs.Dispatching.{with_response, dispatch, expected_by, is_select, manager_aid, route, status_of_ending, to_named}
 use Rattle.jc_card.specs.Dispatching.{to_selected}
 use Rattle.jc_card.specs.Loads.{LoadResponse}
 use Rattle.jc_card.specs.StatusWord.{status_bytes}
@@ -28,23 +28,23 @@ or_first : (a b : Bool) → a ≡ true → (a || b) ≡ true
 or_first true b e = refl
 or_first false b e = absurd (cc)
 
-managed_none : (p : Packages) (m new : MemoryState) (ending : AppletResult) → Completes (manager_selection most_instructions p m) m ending new
+managed_none : (budget : ℕ) (p : Packages) (m new : MemoryState) (ending : AppletResult) → Completes (manager_selection budget p m) m ending new
     → new.registers.selected ≡ None
 unfolding manager_selection
-managed_none p m new ending did =
+managed_none budget p m new ending did =
     let last = did_bind (λ rest v. Perform (SetRegisters (with_selected None v.registers)) (Finish Done))
-    (deselection most_instructions p None m) m new ending did in
+    (deselection budget p None m) m new ending did in
     ap (λ (s : MemoryState). s.registers.selected) last.3.1
 
-routed_none : (c : Apdu) (n : ℕ) (p : Packages) (m new : MemoryState) (ending : AppletResult) → is_select c ≡ true → c.content ≡ manager_aid
-    → Completes (route c n p m) m ending new → new.registers.selected ≡ None
+routed_none : (budget : ℕ) (c : Apdu) (n : ℕ) (p : Packages) (m new : MemoryState) (ending : AppletResult) → is_select c ≡ true → c.content ≡ manager_aid
+    → Completes (route budget c n p m) m ending new → new.registers.selected ≡ None
 unfolding route
-routed_none c n p m new ending select content did =
-    let named = to_named (applet_with_aid m c.content) n p m in
-    let other = to_selected m.registers.selected n p m in
-    let inner = is_first (bytes_eq c.content manager_aid) (manager_selection most_instructions p m) named (ap (λ l. bytes_eq l manager_aid) content) in
-    let outer = is_first (is_select c) (if bytes_eq c.content manager_aid then manager_selection most_instructions p m else named) other select in
-    managed_none p m new ending (subst (λ d. Completes d m ending new) (outer ∙ inner) did)
+routed_none budget c n p m new ending select content did =
+    let named = to_named budget (applet_with_aid m c.content) n p m in
+    let other = to_selected budget m.registers.selected n p m in
+    let inner = is_first (bytes_eq c.content manager_aid) (manager_selection budget p m) named (ap (λ l. bytes_eq l manager_aid) content) in
+    let outer = is_first (is_select c) (if bytes_eq c.content manager_aid then manager_selection budget p m else named) other select in
+    managed_none budget p m new ending (subst (λ d. Completes d m ending new) (outer ∙ inner) did)
 
 dispatched_none : (bytes : List ℕ) (c : Apdu) (card : CardState) (a : LoadResponse) (new : MemoryState) → is_select c ≡ true → c.content ≡ manager_aid
     → Completes (dispatch bytes c card) card.memory a new → new.registers.selected ≡ None
@@ -52,8 +52,8 @@ unfolding dispatch
 dispatched_none bytes c card a new select content did =
     let v = apply_effect (BeginCommand bytes) card.memory in
     let parts = did_bind (λ e w. Finish (with_response card (w.sent ++ status_bytes (status_of_ending e))))
-    (route c (expected_by bytes) card.packages v) v new a did in
-    ap (λ (s : MemoryState). s.registers.selected) parts.3.1 ∙ routed_none c (expected_by bytes) card.packages v parts.1 parts.0 select content parts.2
+    (route card.budget c (expected_by bytes) card.packages v) v new a did in
+    ap (λ (s : MemoryState). s.registers.selected) parts.3.1 ∙ routed_none card.budget c (expected_by bytes) card.packages v parts.1 parts.0 select content parts.2
 
 pub unselects : ManagerUnselects
 unfolding exchange

@@ -20,20 +20,20 @@ run_more [] (a ∷ rest) s t u event answer run served = absurd run
 run_more (e ∷ es) [] s t u event answer run served = absurd run
 
 -- one more event is served
-pub session_more : (before : StoreState) (some more : List Event) (answers given : List Answer) (t u : PowerState) (event : Event) (answer : Answer) →
-    more ≡ some ++ event ∷ [] → given ≡ answers ++ answer ∷ [] → IsSession before some answers t → Serves t event answer u → IsSession before more given u
-session_more before some more answers given t u event answer events_are answers_are session served =
-    subst (λ l. IsSession before l given u) (sym events_are) (subst (λ l. IsSession before (some ++ event ∷ []) l u) (sym answers_are)
+pub session_more : (budget : ℕ) (before : StoreState) (some more : List Event) (answers given : List Answer) (t u : PowerState) (event : Event) (answer : Answer) →
+    more ≡ some ++ event ∷ [] → given ≡ answers ++ answer ∷ [] → IsSession budget before some answers t → Serves t event answer u → IsSession budget before more given u
+session_more budget before some more answers given t u event answer events_are answers_are session served =
+    subst (λ l. IsSession budget before l given u) (sym events_are) (subst (λ l. IsSession budget before (some ++ event ∷ []) l u) (sym answers_are)
     (session.0, session.1, run_more some answers session.0 t u event answer session.2 served))
 
 -- all events were served
-pub session_ended : (before : StoreState) (events : List Event) (answers : List Answer) (last : PowerState) (n : ℕ) → length events ≤ n
-    → IsSession before (take n events) answers last → IsSession before events answers last
-session_ended before events answers last n over session = subst (λ l. IsSession before l answers last) (take_all n events over) session
+pub session_ended : (budget : ℕ) (before : StoreState) (events : List Event) (answers : List Answer) (last : PowerState) (n : ℕ) → length events ≤ n
+    → IsSession budget before (take n events) answers last → IsSession budget before events answers last
+session_ended budget before events answers last n over session = subst (λ l. IsSession budget before l answers last) (take_all n events over) session
 
 -- the first n events were served, and the reset behind them finds a fault
-pub stops_at_reset : (before after : StoreState) (events : List Event) (answers : List Answer) (last : PowerState) (n : ℕ) (event : Event) (fault : PowerFault)
+pub stops_at_reset : (budget : ℕ) (before after : StoreState) (events : List Event) (answers : List Answer) (last : PowerState) (n : ℕ) (event : Event) (fault : PowerFault)
     → n < length events → event ≡ get_or events n event →
-    IsSession before (take n events) answers last → (event ≡ Reset) × FailsToReset fault last after → FailsAtReset fault before events after
-stops_at_reset before after events answers last n event fault below is session fails =
+    IsSession budget before (take n events) answers last → (event ≡ Reset) × FailsToReset fault last after → FailsAtReset budget fault before events after
+stops_at_reset budget before after events answers last n event fault below is session fails =
     (n, answers, last, slice_get_read events (length events) n event refl below is ∙ ap Some fails.0, session, fails.1)

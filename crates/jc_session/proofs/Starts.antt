@@ -1,5 +1,5 @@
 -- What a power up over a store comes to.
-use Rattle.std.proofs.Common.{◌≡◌, ℕ, List, true, false, sym, ◌∙◌, ap, subst}
+use Rattle.std.proofs.Common.{◌≡◌, ℕ, List, true, false, refl, sym, ◌∙◌, ap, subst}
 use Rattle.jc_words.specs.Refusals.{Refusals, refused_once}
 use Rattle.jc_commit.specs.Image.{limit_of, recovered_of}
 use Rattle.jc_commit.specs.Migration.{migrated, StillOpens}
@@ -24,10 +24,10 @@ opened_heap w passed refusals n =
     λ i. heap_at_rest (same i) (recovered_journal w passed refusals).passed refusals n
 
 -- the card is up
-pub starts_up : (before : StoreState) (passed : ℕ) (card : CardState) → IsMade before.words
+pub starts_up : (budget : ℕ) (before : StoreState) (passed : ℕ) (card : CardState) → IsMade before.words
     → card.memory.heap ≡ heap_view (recovered_journal before.words passed before.refusals) (limit_of before.words)
-    → IsAtReset (heap_of (recovered_of before.words)) card → Starts before (Up card)
-starts_up before passed card made heap reset =
+    → IsAtReset (heap_of (recovered_of before.words)) card → card.budget ≡ budget → Starts budget before (Up card)
+starts_up budget before passed card made heap reset has =
     let opened = heap ∙ opened_heap before.words passed before.refusals (limit_of before.words) in (
       made,
       record {
@@ -35,13 +35,14 @@ starts_up before passed card made heap reset =
         heap = opened ∙ (λ i. heap_at_rest (heap_of (recovered_of before.words)) (sym (ap (λ (v : HeapView). v.passed) opened) i) before.refusals
             (limit_of before.words));
         reset = reset;
+        budget = has;
       },
     )
 
 -- or a write was refused
-pub starts_off : (before after : StoreState) → PowerUpRefuses StoreDown before.words → StillOpens before.words after.words → after.down ≡ true
-    → after.refusals ≡ refused_once false after.passed before.refusals → Starts before (Off (durable_state_in_store after))
-starts_off before after cause still down refusals =
+pub starts_off : (budget : ℕ) (before after : StoreState) → PowerUpRefuses StoreDown before.words → StillOpens before.words after.words → after.down ≡ true
+    → after.refusals ≡ refused_once false after.passed before.refusals → Starts budget before (Off budget (durable_state_in_store after))
+starts_off budget before after cause still down refusals =
     let alike = migrated_alike (recovered_of before.words) still.done in
     let limit = limit_still before.words after.words still in
     let laid : is_well_formed (recovered_of after.words) ≡ is_well_formed (recovered_of before.words) = ap is_well_formed still.recovered
@@ -55,20 +56,21 @@ starts_off before after cause still down refusals =
         refusals = refusals i;
         size = limit i;
       }),
+      refl,
     )
 
 -- the same of the store that a power up was over, whose words and refusals are those of the one before
-pub card_starts : (before : StoreState) (w : List ℕ) (passed : ℕ) (refusals : Refusals) (card held : CardState) → w ≡ before.words → refusals ≡ before.refusals
+pub card_starts : (budget : ℕ) (before : StoreState) (w : List ℕ) (passed : ℕ) (refusals : Refusals) (card held : CardState) → w ≡ before.words → refusals ≡ before.refusals
     → held ≡ card → IsMade w → card.memory.heap ≡ heap_view (recovered_journal w passed refusals) (limit_of w) → IsAtReset (heap_of (recovered_of w)) card
-    → Starts before (Up held)
-card_starts before w passed refusals card held words same is made heap reset = subst (λ (c : CardState). Starts before (Up c)) (sym is)
-    (starts_up before passed card (subst IsMade words made)
+    → card.budget ≡ budget → Starts budget before (Up held)
+card_starts budget before w passed refusals card held words same is made heap reset has = subst (λ (c : CardState). Starts budget before (Up c)) (sym is)
+    (starts_up budget before passed card (subst IsMade words made)
     (heap ∙ (λ i. heap_view (recovered_journal (words i) passed (same i)) (limit_of (words i))))
-    (subst (λ (l : List ℕ). IsAtReset (heap_of (recovered_of l)) card) words reset))
+    (subst (λ (l : List ℕ). IsAtReset (heap_of (recovered_of l)) card) words reset) has)
 
-pub store_starts : (before after : StoreState) (w : List ℕ) (refusals : Refusals) (k : KeptState) → w ≡ before.words → refusals ≡ before.refusals
+pub store_starts : (budget : ℕ) (before after : StoreState) (w : List ℕ) (refusals : Refusals) (k : KeptState) → w ≡ before.words → refusals ≡ before.refusals
     → k ≡ durable_state_in_store after → PowerUpRefuses StoreDown w → StillOpens w after.words → after.down ≡ true
-    → after.refusals ≡ refused_once false after.passed refusals → Starts before (Off k)
-store_starts before after w refusals k words same is cause still down refused = subst (λ (s : KeptState). Starts before (Off s)) (sym is)
-    (starts_off before after (subst (PowerUpRefuses StoreDown) words cause) (subst (λ (l : List ℕ). StillOpens l after.words) words still) down
+    → after.refusals ≡ refused_once false after.passed refusals → Starts budget before (Off budget k)
+store_starts budget before after w refusals k words same is cause still down refused = subst (λ (s : KeptState). Starts budget before (Off budget s)) (sym is)
+    (starts_off budget before after (subst (PowerUpRefuses StoreDown) words cause) (subst (λ (l : List ℕ). StillOpens l after.words) words still) down
     (refused ∙ ap (λ (r : Refusals). refused_once false after.passed r) same))

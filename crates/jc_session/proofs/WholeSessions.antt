@@ -10,7 +10,7 @@ use Rattle.jc_session.specs.declared.event.Event.{Event}
 use Rattle.jc_session.specs.declared.event.Event.TheVariants.{Command, Reset}
 use Rattle.jc_session.specs.declared.event.Answer.{Answer}
 use Rattle.jc_session.specs.declared.event.Answer.TheVariants.{Response, Ready, Down}
-use Rattle.jc_session.specs.Power.{PowerState, Up, Off, KeptState, StoreState, IsStoreOf, durable_rest, durable_state, durable_state_in_store}
+use Rattle.jc_session.specs.Power.{PowerState, Up, Off, KeptState, StoreState, IsStoreOf, budget_of, durable_rest, durable_state, durable_state_in_store}
 use Rattle.jc_session.specs.Starting.{Starts, IsPoweredUp}
 use Rattle.jc_session.specs.Serving.{AnswersCommand, AnswersReset, Serves, SessionRun}
 use Rattle.jc_session.specs.WholeCopies.{ServesWhole, RunsWhole}
@@ -27,15 +27,15 @@ pub command_whole : (card : CardState) (bytes : List ℕ) (answer : Answer) (nex
     (response : List ℕ) × (mid : CardState) × (answer ≡ Response response) × (next ≡ Up mid)
     × Completes (exchange bytes card) card.memory (with_response mid response) mid.memory
 command_whole card bytes (Response r) (Up next) h small same = (r, next, refl, refl, h)
-command_whole card bytes Down (Off k) h small same = absurd (no_rise k.passed card.memory.heap.refusals k.refusals small h.2 same)
+command_whole card bytes Down (Off b k) h small same = absurd (no_rise k.passed card.memory.heap.refusals k.refusals small h.2 same)
 command_whole card bytes answer next h small same = absurd h
 
 -- and powers up at a reset
 pub reset_whole : (card : CardState) (answer : Answer) (next : PowerState) → AnswersReset (Up card) answer next
     → card.memory.heap.refusals.count < 18446744073709551615 → (durable_state next).refusals.count ≡ card.memory.heap.refusals.count →
-    (mid : CardState) × (answer ≡ Ready) × (next ≡ Up mid) × IsPoweredUp (durable_rest card.memory.heap) mid
+    (mid : CardState) × (answer ≡ Ready) × (next ≡ Up mid) × IsPoweredUp (durable_rest card.memory.heap) card.budget mid
 reset_whole card Ready (Up next) h small same = (next, refl, refl, h)
-reset_whole card Down (Off k) h small same = absurd (no_rise k.passed card.memory.heap.refusals k.refusals small (ap (λ (x : KeptState). x.refusals) h) same)
+reset_whole card Down (Off b k) h small same = absurd (no_rise k.passed card.memory.heap.refusals k.refusals small (ap (λ (x : KeptState). x.refusals) h.0) same)
 reset_whole card answer next h small same = absurd h
 
 -- so it serves the event as one with whole copies
@@ -64,26 +64,26 @@ run_whole (event ∷ events) (answer ∷ answers) card last h small same =
 run_whole [] (answer ∷ answers) card last h small same = absurd h
 run_whole (event ∷ events) [] card last h small same = absurd h
 
-pub start_count : (before : StoreState) (first : PowerState) → Starts before first → before.refusals.count ≤ (durable_state first).refusals.count
-start_count before (Up card) h =
-    let e : card.memory.heap.refusals.count ≡ before.refusals.count = ap (λ (x : Refusals). x.count) (powered_refusals (durable_state_in_store before) card h.1) in
+pub start_count : (budget : ℕ) (before : StoreState) (first : PowerState) → Starts budget before first → before.refusals.count ≤ (durable_state first).refusals.count
+start_count budget before (Up card) h =
+    let e : card.memory.heap.refusals.count ≡ before.refusals.count = ap (λ (x : Refusals). x.count) (powered_refusals (durable_state_in_store before) budget card h.1) in
     omega (arith, e)
-start_count before (Off k) h =
+start_count budget before (Off b k) h =
     let e = count_raised k.passed before.refusals k.refusals (ap (λ (x : KeptState). x.refusals) h.1) in omega (arith, e)
 
-pub started_up : (before : StoreState) (first : PowerState) → Starts before first → before.refusals.count < 18446744073709551615
+pub started_up : (budget : ℕ) (before : StoreState) (first : PowerState) → Starts budget before first → before.refusals.count < 18446744073709551615
     → (durable_state first).refusals.count ≡ before.refusals.count →
-    (card : CardState) × (first ≡ Up card) × IsPoweredUp (durable_state_in_store before) card
-started_up before (Up card) h small same = (card, refl, h.1)
-started_up before (Off k) h small same = absurd (no_rise k.passed before.refusals k.refusals small (ap (λ (x : KeptState). x.refusals) h.1) same)
+    (card : CardState) × (first ≡ Up card) × IsPoweredUp (durable_state_in_store before) budget card
+started_up budget before (Up card) h small same = (card, refl, h.1)
+started_up budget before (Off b k) h small same = absurd (no_rise k.passed before.refusals k.refusals small (ap (λ (x : KeptState). x.refusals) h.1) same)
 
 pub are_whole : AreWholeSessions
-are_whole before after events answers last session store none =
+are_whole budget before after events answers last session store none =
     let left : after.refusals.count ≡ (durable_state last).refusals.count = ap (λ (x : KeptState). x.refusals.count) store.kept in
-    let up = start_count before session.0 session.1 in
+    let up = start_count budget before session.0 session.1 in
     let on = run_grows session.0 events answers last session.2 in
     let stays : (durable_state session.0).refusals.count ≡ before.refusals.count = omega (arith, left, up, on, none.1) in
-    let first = started_up before session.0 session.1 none.0 stays in
+    let first = started_up budget before session.0 session.1 none.0 stays in
     let count : first.0.memory.heap.refusals.count ≡ before.refusals.count = sym (ap (λ p. (durable_state p).refusals.count) first.1) ∙ stays in
     let run = run_whole events answers first.0 last (subst (λ p. SessionRun p events answers last) first.1 session.2) (omega (arith, count, none.0))
     (sym left ∙ (none.1 ∙ sym count)) in
@@ -96,21 +96,22 @@ begin_anew card next h = record {
   blank = h.reset.ram;
   unselected = ap (λ r. r.selected) h.reset.registers;
   unloaded = h.reset.load;
+  budget = h.budget;
 }
 
 told_by_answer : (s : PowerState) (event : Event) (answer : Answer) (next : PowerState) → Serves s event answer next → IsToldByAnswer answer s next
 told_by_answer (Up card) (Command bytes) (Response r) (Up next) h = done_refusals bytes.items r card next h
-told_by_answer (Up card) (Command bytes) Down (Off k) h = tt
-told_by_answer (Off k) (Command bytes) Down (Off l) h = tt
-told_by_answer s Reset Ready (Up card) h = powered_refusals (durable_state s) card h
-told_by_answer s Reset Down (Off k) h = tt
+told_by_answer (Up card) (Command bytes) Down (Off b k) h = tt
+told_by_answer (Off b k) (Command bytes) Down (Off d l) h = tt
+told_by_answer s Reset Ready (Up card) h = powered_refusals (durable_state s) (budget_of s) card h
+told_by_answer s Reset Down (Off b k) h = tt
 told_by_answer s event answer next h = absurd h
 
 told_down : (s : PowerState) (event : Event) (next : PowerState) → Serves s event Down next → IsToldOfRefusal event s next
-told_down (Up card) (Command bytes) (Off k) h = h.2
-told_down (Off k) (Command bytes) (Off l) h = ap Off h
-told_down (Up card) Reset (Off k) h = ap (λ (x : KeptState). x.refusals) h
-told_down (Off l) Reset (Off k) h = ap (λ (x : KeptState). x.refusals) h
+told_down (Up card) (Command bytes) (Off b k) h = h.2
+told_down (Off b k) (Command bytes) (Off d l) h = λ i. Off (h.1 i) (h.0 i)
+told_down (Up card) Reset (Off b k) h = ap (λ (x : KeptState). x.refusals) h.0
+told_down (Off d l) Reset (Off b k) h = ap (λ (x : KeptState). x.refusals) h.0
 told_down s event next h = absurd h
 
 pub down_tells : DownTellsRefusals

@@ -18,10 +18,10 @@ pub record KeptState : Type 0 where
   pub refusals : Refusals
   pub size : ℕ
 
--- a card is up, or it is off
+-- a card is up, or it is off, with the budget that it has when it is up again
 pub data PowerState : Type 0 where
   Up : CardState → PowerState
-  Off : KeptState → PowerState
+  Off : ℕ → KeptState → PowerState
 
 -- what a loss of power leaves of a heap, whose words are laid
 abbrev pub durable_rest : HeapView → KeptState
@@ -30,7 +30,12 @@ durable_rest v = record { durable = v.durable; laid = true; down = v.down; passe
 -- what a loss of power leaves now
 abbrev pub durable_state : PowerState → KeptState
 durable_state (Up card) = durable_rest card.memory.heap
-durable_state (Off k) = k
+durable_state (Off budget k) = k
+
+-- the budget that a card has, or has when it is up again
+abbrev pub budget_of : PowerState → ℕ
+budget_of (Up card) = card.budget
+budget_of (Off budget k) = budget
 
 -- so many writes have passed, and one more was refused
 abbrev pub with_refusal : ℕ → KeptState → KeptState

@@ -8,7 +8,7 @@ use Rattle.jc_session.specs.declared.event.Event.{Event}
 use Rattle.jc_session.specs.declared.event.Event.TheVariants.{Command, Reset}
 use Rattle.jc_session.specs.declared.event.Answer.{Answer}
 use Rattle.jc_session.specs.declared.event.Answer.TheVariants.{Response, Ready, Down}
-use Rattle.jc_session.specs.Power.{PowerState, Up, Off, durable_state, with_refusal}
+use Rattle.jc_session.specs.Power.{PowerState, Up, Off, budget_of, durable_state, with_refusal}
 use Rattle.jc_session.specs.Starting.{IsPoweredUp}
 
 -- a command may be answered so, and lead there
@@ -16,24 +16,25 @@ abbrev pub AnswersCommand : PowerState → List ℕ → Answer → PowerState �
 -- no write was refused: all of it was done
 AnswersCommand (Up card) bytes (Response r) (Up next) = Completes (exchange bytes card) card.memory (with_response next r) next.memory
 -- a write was refused within it: this heap a loss within it may leave, laid in a store of the same size
-AnswersCommand (Up card) bytes Down (Off k) = TearLeaves (exchange bytes card) card.memory k.durable × (k.down ≡ true)
+AnswersCommand (Up card) bytes Down (Off b k) = TearLeaves (exchange bytes card) card.memory k.durable × (k.down ≡ true)
     × (k.refusals ≡ refused_once false k.passed card.memory.heap.refusals) × (k.size ≡ card.memory.heap.size) × (k.laid ≡ true)
+    × (b ≡ card.budget)
 -- without power nothing is done
-AnswersCommand (Off k) bytes Down (Off l) = l ≡ k
-AnswersCommand (Up card) bytes (Response r) (Off k) = ⊥
+AnswersCommand (Off b k) bytes Down (Off d l) = (l ≡ k) × (d ≡ b)
+AnswersCommand (Up card) bytes (Response r) (Off b k) = ⊥
 AnswersCommand (Up card) bytes Ready next = ⊥
 AnswersCommand (Up card) bytes Down (Up next) = ⊥
-AnswersCommand (Off k) bytes (Response r) next = ⊥
-AnswersCommand (Off k) bytes Ready next = ⊥
-AnswersCommand (Off k) bytes Down (Up next) = ⊥
+AnswersCommand (Off b k) bytes (Response r) next = ⊥
+AnswersCommand (Off b k) bytes Ready next = ⊥
+AnswersCommand (Off b k) bytes Down (Up next) = ⊥
 
 -- a reset may be answered so, and lead there, whether the card was up or off
 abbrev pub AnswersReset : PowerState → Answer → PowerState → Type 0
 -- no write was refused
-AnswersReset s Ready (Up card) = IsPoweredUp (durable_state s) card
+AnswersReset s Ready (Up card) = IsPoweredUp (durable_state s) (budget_of s) card
 -- a write was refused: the same is left
-AnswersReset s Down (Off k) = k ≡ with_refusal k.passed (durable_state s)
-AnswersReset s Ready (Off k) = ⊥
+AnswersReset s Down (Off b k) = (k ≡ with_refusal k.passed (durable_state s)) × (b ≡ budget_of s)
+AnswersReset s Ready (Off b k) = ⊥
 AnswersReset s Down (Up card) = ⊥
 AnswersReset s (Response r) next = ⊥
 

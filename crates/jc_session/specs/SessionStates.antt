@@ -8,9 +8,9 @@ use Rattle.jc_session.specs.declared.state.SessionState.TheVariants.{Card, Store
 -- it is up where there is a card
 abbrev pub power_of : {S : Type 0} → SessionState S → PowerState
 power_of (Card card) = Up card
-power_of (Store kept) = Off kept
+power_of (Store kept budget) = Off budget kept
 
 -- what is answered after a power up
 abbrev pub answer_of_power_up : PowerState → Answer
 answer_of_power_up (Up card) = Ready
-answer_of_power_up (Off k) = Down
+answer_of_power_up (Off budget k) = Down

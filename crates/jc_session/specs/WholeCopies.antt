@@ -15,7 +15,7 @@ use Rattle.jc_session.specs.Starting.{IsPoweredUp}
 -- durable copy the present one
 abbrev pub ServesWhole : CardState → Event → Answer → CardState → Type 0
 ServesWhole card (Command bytes) (Response r) next = Completes (exchange bytes.items card) card.memory (with_response next r) next.memory
-ServesWhole card Reset Ready next = IsPoweredUp (durable_rest card.memory.heap) next
+ServesWhole card Reset Ready next = IsPoweredUp (durable_rest card.memory.heap) card.budget next
 ServesWhole card (Command bytes) Ready next = ⊥
 ServesWhole card (Command bytes) Down next = ⊥
 ServesWhole card Reset (Response r) next = ⊥
@@ -32,7 +32,7 @@ RunsWhole card (event ∷ events) [] last = ⊥
 abbrev pub RefusesNone : ℕ → ℕ → Type 0
 RefusesNone before after = (before < 18446744073709551615) × (after ≡ before)
 
--- a session of such a card over a store, from its power up on: it is answered so, and leaves such a store
-abbrev pub IsWholeSession : StoreState → List Event → List Answer → StoreState → Type 0
-IsWholeSession before events answers after = (first last : CardState) × IsPoweredUp (durable_state_in_store before) first × RunsWhole first events answers last
-    × IsStoreOf (Up last) after
+-- a session of such a card over a store, with this budget, from its power up on: it is answered so, and leaves such a store
+abbrev pub IsWholeSession : ℕ → StoreState → List Event → List Answer → StoreState → Type 0
+IsWholeSession budget before events answers after = (first last : CardState) × IsPoweredUp (durable_state_in_store before) budget first
+    × RunsWhole first events answers last × IsStoreOf (Up last) after

@@ -1,5 +1,6 @@
 //! Sessions.
 ghost use Rattle.std.specs.Prelude.{◌≡◌, ◌<◌, length, Err, IfOk};
+ghost use Rattle.jc_card.specs.Dispatching.{usual_budget};
 ghost use Rattle.jc_session.specs.Sessions.{SessionEnds, answers_of};
 ghost use Rattle.jc_session.specs.WholeCopies.{IsWholeSession, RefusesNone};
 
@@ -28,7 +29,7 @@ pub fn session<S: WordStore>(
     store: S,
     events: &[Event],
 ) -> (S, Result<Vec<Answer>, SessionFault>)
-    ensures session { SessionEnds (answers_of result.1)
+    ensures session { SessionEnds usual_budget (answers_of result.1)
         (record { words = S.words store; down = S.down store; passed = S.passed store; refusals = S.refusals store })
         events.now
         (record {
@@ -41,7 +42,7 @@ pub fn session<S: WordStore>(
     // While the store refuses no write, the answers and the heap are those of a card that keeps whole copies of its heap.
     ensures whole { RefusesNone (S.refusals store).count (S.refusals result.0).count
         → IfOk (answers_of result.1) (λ answers.
-        IsWholeSession (record {
+        IsWholeSession usual_budget (record {
           words = S.words store;
           down = S.down store;
           passed = S.passed store;

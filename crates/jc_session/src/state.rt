@@ -4,14 +4,14 @@ ghost use Rattle.jc_words.specs.Refusals.{refused_once};
 ghost use Rattle.jc_commit.specs.Image.{IsGoodLog};
 ghost use Rattle.jc_memory.specs.Programs.{Completes, TearLeaves};
 ghost use Rattle.jc_card.specs.Answers.{exchange};
-ghost use Rattle.jc_card.specs.Dispatching.{with_response};
-ghost use Rattle.jc_session.specs.Power.{Off, IsStoreOf, durable_state_in_store};
+ghost use Rattle.jc_card.specs.Dispatching.{usual_budget, with_response};
+ghost use Rattle.jc_session.specs.Power.{IsStoreOf, budget_of, durable_state_in_store};
 ghost use Rattle.jc_session.specs.Starting.{FailsToReset, FailsToStart, Starts};
 ghost use Rattle.jc_session.specs.Serving.{AnswersCommand, AnswersReset, Serves};
 ghost use Rattle.jc_session.specs.SessionStates.{power_of, answer_of_power_up};
 
 use crate::event::{Answer, Event};
-use jc_card::card::Card;
+use jc_card::card::{Card, USUAL_BUDGET};
 use jc_card::power_up::PowerFault;
 use jc_card::response::Response;
 use jc_words::{StoreDown, WordStore};
@@ -92,12 +92,10 @@ impl<S: WordStore> DownStore<S> {
 
     // The store.
     fn into_store(self) -> S
-        ensures { IsStoreOf (Off self) (record {
-          words = S.words result;
-          down = S.down result;
-          passed = S.passed result;
-          refusals = S.refusals result;
-        }) }
+        ensures good { IsGoodLog (S.words result) }
+        ensures kept { durable_state_in_store (record
+            { words = S.words result; down = S.down result; passed = S.passed result; refusals = S.refusals result })
+            ≡ self }
     {
         self.store
     }
@@ -108,15 +106,32 @@ impl<S: WordStore> DownStore<S> {
 pub enum SessionState<S: WordStore> {
     /// A card that is up.
     Card(PoweredCard<S>),
-    /// The store of a card that is down.
-    Store(DownStore<S>),
+    /// The store of a card that is down, and the budget that the card has when it is up again.
+    Store(DownStore<S>, u32),
 }
 
 impl<S: WordStore> SessionState<S> {
-    /// Brings the power to a store and powers up. A refused write leaves the card down; at any other fault the
-    /// store comes back.
-    pub fn start(alloc: Global, mut store: S) -> Result<SessionState<S>, (PowerFault, S)>
-        ensures powered { IfOk result (λ held. Starts (record
+    /// Brings the power to a store and powers up, with the usual budget of instructions. A refused write leaves the card
+    /// down; at any other fault the store comes back.
+    pub fn start(alloc: Global, store: S) -> Result<SessionState<S>, (PowerFault, S)>
+        ensures powered { IfOk result (λ held. Starts usual_budget (record
+            { words = S.words store; down = S.down store; passed = S.passed store; refusals = S.refusals store })
+            (power_of held)) }
+        ensures fault { IfErr result (λ e. FailsToStart e.0
+            (record { words = S.words store; down = S.down store; passed = S.passed store; refusals = S.refusals store })
+            (record { words = S.words e.1; down = S.down e.1; passed = S.passed e.1; refusals = S.refusals e.1 })) }
+        ensures good { IfErr result (λ e. IsGoodLog (S.words store) → IsGoodLog (S.words e.1)) }
+    {
+        SessionState::power_up(alloc, store, USUAL_BUDGET)
+    }
+
+    // The same with any budget.
+    fn power_up(
+        alloc: Global,
+        mut store: S,
+        budget: u32,
+    ) -> Result<SessionState<S>, (PowerFault, S)>
+        ensures powered { IfOk result (λ held. Starts budget (record
             { words = S.words store; down = S.down store; passed = S.passed store; refusals = S.refusals store })
             (power_of held)) }
         ensures fault { IfErr result (λ e. FailsToStart e.0
@@ -125,12 +140,23 @@ impl<S: WordStore> SessionState<S> {
         ensures good { IfErr result (λ e. IsGoodLog (S.words store) → IsGoodLog (S.words e.1)) }
     {
         store.power_on();
-        match Card::power_up(alloc, store) {
+        match Card::power_up(alloc, store, budget) {
             Ok(card) => Ok(SessionState::Card(PoweredCard::of_card(card))),
-            Err((PowerFault::StoreDown, store)) => Ok(SessionState::Store(DownStore::of_store(
-                store,
-            ))),
+            Err((PowerFault::StoreDown, store)) => Ok(SessionState::Store(
+                DownStore::of_store(store),
+                budget,
+            )),
             Err((fault, store)) => Err((fault, store)),
+        }
+    }
+
+    // The budget that the card has, or has when it is up again.
+    fn budget(&self) -> u32
+        ensures { result ≡ budget_of (power_of self.now) }
+    {
+        match self {
+            SessionState::Card(up) => up.card.budget(),
+            SessionState::Store(_, budget) => *budget,
         }
     }
 
@@ -146,7 +172,7 @@ impl<S: WordStore> SessionState<S> {
     {
         match self {
             SessionState::Card(up) => up.card.into_store(),
-            SessionState::Store(kept) => kept.into_store(),
+            SessionState::Store(kept, _) => kept.into_store(),
         }
     }
 
@@ -155,11 +181,14 @@ impl<S: WordStore> SessionState<S> {
         ensures { AnswersCommand (power_of self) command.now result.1 (power_of result.0) }
     {
         match self {
-            SessionState::Card(up) => match up.exchange(command) {
-                Ok((up, response)) => (SessionState::Card(up), Answer::Response(response)),
-                Err(kept) => (SessionState::Store(kept), Answer::Down),
-            },
-            SessionState::Store(kept) => (SessionState::Store(kept), Answer::Down),
+            SessionState::Card(up) => {
+                let budget = up.card.budget();
+                match up.exchange(command) {
+                    Ok((up, response)) => (SessionState::Card(up), Answer::Response(response)),
+                    Err(kept) => (SessionState::Store(kept, budget), Answer::Down),
+                }
+            }
+            SessionState::Store(kept, budget) => (SessionState::Store(kept, budget), Answer::Down),
         }
     }
 
@@ -169,8 +198,9 @@ impl<S: WordStore> SessionState<S> {
         ensures fault { IfErr result (λ e. FailsToReset e.0 (power_of self)
             (record { words = S.words e.1; down = S.down e.1; passed = S.passed e.1; refusals = S.refusals e.1 })) }
     {
+        let budget = self.budget();
         let store = self.into_store();
-        match SessionState::start(alloc, store) {
+        match SessionState::power_up(alloc, store, budget) {
             Ok(held) => {
                 let answer = held.power_up_answer();
                 Ok((held, answer))
@@ -185,7 +215,7 @@ impl<S: WordStore> SessionState<S> {
     {
         match self {
             SessionState::Card(_) => Answer::Ready,
-            SessionState::Store(_) => Answer::Down,
+            SessionState::Store(_, _) => Answer::Down,
         }
     }
 

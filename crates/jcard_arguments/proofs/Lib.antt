@@ -1,9 +1,11 @@
 pub mod CommandLine
 pub mod CommandWalk
+pub mod Digits
 pub mod Dumps
 pub mod FlagWords
 pub mod OptionLines
 pub mod RunLines
+pub mod RunOptions
 pub mod Runs
 pub mod TearLines
 pub mod TestLines

@@ -1,3 +1,3 @@
 pub mod CommandLine
 pub mod JoinLines
-pub mod WhyLines
+pub mod RunLines

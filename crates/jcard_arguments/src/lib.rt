@@ -3,4 +3,5 @@
 
 pub mod arguments;
 pub mod join_line;
-pub mod why_line;
+mod numbers;
+pub mod run_options;

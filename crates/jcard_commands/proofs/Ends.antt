@@ -10,12 +10,12 @@ use Rattle.jcard_faults.specs.declared.fault.Fault.{Fault}
 use Rattle.jcard_faults.specs.declared.fault.Fault.TheVariants.{BadCommandLine, NoMemory, CannotRead}
 
 -- words that are taken for nothing, or memory that was refused
-pub nothing_done : (words : List (List ℕ)) (fault : Fault) → IsTakenAs (request_of_words words) (Err fault)
-    → IsDoneOrNoMemory words (Err fault) [] []
-nothing_done words BadCommandLine h = inr (subst (λ (o : Option CommandLineRequest). IsDone o (Err BadCommandLine) [] []) (sym h)
+pub nothing_done : (budget : ℕ) (words : List (List ℕ)) (fault : Fault) → IsTakenAs (request_of_words words) (Err fault)
+    → IsDoneOrNoMemory budget words (Err fault) [] []
+nothing_done budget words BadCommandLine h = inr (subst (λ (o : Option CommandLineRequest). IsDone budget o (Err BadCommandLine) [] []) (sym h)
     (refl, refl, refl))
-nothing_done words NoMemory h = inl (refl, refl, refl)
-nothing_done words other h = absurd h
+nothing_done budget words NoMemory h = inl (refl, refl, refl)
+nothing_done budget words other h = absurd h
 
 -- where nothing was begun, nothing was written that failed
 begun_unwritten : (count : ℕ) (ended : Result (Unit {0}) Fault) → IsUnbegun ended → failures_after count (is_unwritten ended) ≡ count

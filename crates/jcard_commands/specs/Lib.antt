@@ -1,3 +1,4 @@
 pub mod Commands
 pub mod Runs
+pub mod ToldRuns
 pub mod Trials

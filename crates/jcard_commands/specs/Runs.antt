@@ -5,28 +5,28 @@ use Rattle.std.specs.Bool.{OnTrue}
 use Rattle.std.specs.Io.KnownBytes.{Consumes}
 use Rattle.jc_words.specs.Files.{IsImageSize}
 use Rattle.jc_words.specs.Stores.{FuseStoreValue, below_fuse}
-use Rattle.jcard_script.specs.Script.{Ends, IsWholeScript}
+use Rattle.jcard_script.specs.Script.{EndsWithin, IsWholeScript}
 use Rattle.jcard_script.specs.declared.script.ScriptFault.{ScriptFault}
 use Rattle.jcard_files.specs.FileDeeds.{FileDeed, ClosesImage, OpensImage, ReadsText, fresh_store, untouched}
 use Rattle.jcard_files.specs.Images.{IsNotOpenedToWrite, IsUnopened}
 use Rattle.jcard_faults.specs.declared.fault.Fault.{Fault}
 use Rattle.jcard_faults.specs.ScriptFaults.{IsOutcomeOf}
 
--- the script, of whose bytes so much was known before and is known after, was carried out to this end, from one store to the other,
+-- the script, of whose bytes so much was known before and is known after, was carried out to this end, with this budget, from one store to the other,
 -- and this text was written
-abbrev pub IsCarriedOut : List ℕ → List ℕ → Option (List ℕ) → Option (List ℕ) → FuseStoreValue → FuseStoreValue → Result Unit Fault → List ℕ → Type 0
-IsCarriedOut image script known left before after ended text = (bytes : List ℕ) × (at_end : Bool) × (carried : Result Unit ScriptFault)
-    × Consumes known left bytes × OnTrue at_end (IsWholeScript left bytes) × Ends carried before after at_end bytes text
+abbrev pub IsCarriedOut : ℕ → List ℕ → List ℕ → Option (List ℕ) → Option (List ℕ) → FuseStoreValue → FuseStoreValue → Result Unit Fault → List ℕ → Type 0
+IsCarriedOut budget image script known left before after ended text = (bytes : List ℕ) × (at_end : Bool) × (carried : Result Unit ScriptFault)
+    × Consumes known left bytes × OnTrue at_end (IsWholeScript left bytes) × EndsWithin budget carried before after at_end bytes text
     × IsOutcomeOf image script carried ended
 
 -- the image could not be opened, and the script was not asked for; or after it the script could not, nothing was written, and the
 -- image was closed with no write asked for; or the script was carried out to this end over the image's words, this text was written,
 -- and the image was closed as the script left it, with the script's writes and no other
-abbrev pub IsRun : List ℕ → List ℕ → Result Unit Fault → List ℕ → List FileDeed → Type 0
-IsRun image script ended text deeds =
+abbrev pub IsRun : ℕ → List ℕ → List ℕ → Result Unit Fault → List ℕ → List FileDeed → Type 0
+IsRun budget image script ended text deeds =
     ((fault : Fault) × (ended ≡ Err fault) × IsNotOpenedToWrite image fault × (text ≡ []) × (deeds ≡ OpensImage image (Err fault) ∷ []))
     ⊎ ((w : List ℕ) × (fault : Fault) × (ended ≡ Err fault) × IsUnopened script fault × (text ≡ [])
     × (deeds ≡ OpensImage image (Ok w) ∷ ReadsText script (Err fault) ∷ ClosesImage image (untouched w) ∷ []))
     ⊎ ((w : List ℕ) × (known left : Option (List ℕ)) × (after : FuseStoreValue) × IsImageSize (2 * length w)
-    × IsCarriedOut image script known left (fresh_store w) after ended text
+    × IsCarriedOut budget image script known left (fresh_store w) after ended text
     × (deeds ≡ OpensImage image (Ok w) ∷ ReadsText script (Ok known) ∷ ClosesImage image (below_fuse after) ∷ []))

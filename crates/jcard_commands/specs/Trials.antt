@@ -2,6 +2,7 @@
 use Rattle.std.specs.Prelude.{ℕ, ◌≡◌, ◌⊎◌, ◌+◌, ◌<◌, List, [], length, codes, Result, Ok, Err, Option}
 use Rattle.std.specs.Prelude.{◌∷◌}
 use Rattle.jc_words.specs.Stores.{FuseStoreValue}
+use Rattle.jc_card.specs.Dispatching.{usual_budget}
 use Rattle.jc_image.specs.Laying.{first_free}
 use Rattle.jc_platform.specs.Table.{Reads}
 use Rattle.jc_platform.specs.declared.fault.TableFault.TheVariants.{BadTable as BadLine}
@@ -22,7 +23,7 @@ IsTriedOn script n table ended text opened = ((fault : Fault) × (ended ≡ Err 
     ⊎ ((known left : Option (List ℕ)) × (opened ≡ Ok known) × (((ended ≡ Err NoMemory) × (text ≡ []))
     ⊎ ((ended ≡ Err ImageTooSmall) × (n < first_free (length table) + fixed_size) × (text ≡ []))
     ⊎ ((w : List ℕ) × (after : FuseStoreValue) × IsNewImage n table w
-    × IsCarriedOut (codes "memory") script known left (fresh_store w) after ended text)))
+    × IsCarriedOut usual_budget (codes "memory") script known left (fresh_store w) after ended text)))
 
 -- a script was tried: an image cannot have so many words, and no file was asked for; or after that the table was not read, or it is
 -- none, and no other file was asked for; or the script was tried, and its file was the only other

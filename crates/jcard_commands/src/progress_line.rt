@@ -1,6 +1,6 @@
 //! A line on a terminal that tells how far a sweep has come.
 
-use jcard_script::explainer::Explainer;
+use crate::told::Listener;
 use jcard_tear::progress::Progress;
 
 /// Of so many cuts one is told.
@@ -42,15 +42,7 @@ impl<'a, R: Eprint> Progress for ProgressLine<'a, R> {
     }
 }
 
-impl<'a, R: Eprint> Explainer for ProgressLine<'a, R> {
-    fn asks(&self) -> bool {
-        true
-    }
-
-    fn map(&self) -> &[u8] {
-        b""
-    }
-
+impl<'a, R: Eprint> Listener for ProgressLine<'a, R> {
     // A text that cannot be written is left out.
     fn tell(&mut self, text: &[u8]) {
         if let Ok(text) = str::from_utf8(text) {

@@ -8,22 +8,23 @@ ghost use Rattle.jcard_arguments.specs.JoinLines.{files_of};
 ghost use Rattle.jcard_files.specs.FileDeeds.{FileDeed};
 ghost use Rattle.jcard_faults.specs.Faults.{status_of, failures_of, is_unwritten, IsLastLine};
 ghost use Rattle.jcard_commands.specs.Runs.{IsCarriedOut, IsRun};
-ghost use Rattle.jcard_arguments.specs.WhyLines.{words_before_map};
-ghost use Rattle.jcard_commands.specs.Commands.{IsDone, IsDoneOrNoMemory, IsExplainedBy, IsListedBy, IsMapped, IsPerformed, IsPerformedBy};
+ghost use Rattle.jcard_arguments.specs.RunLines.{asked_by, run_asked};
+ghost use Rattle.jcard_commands.specs.Commands.{IsDone, IsDoneOrNoMemory, IsListedBy, IsPerformed, IsPerformedBy, IsToldBy, IsToldRun};
 ghost use Rattle.jcard_listing.specs.Asked.{asked_of};
 ghost use Rattle.jcard_faults.specs.declared.fault.Fault.{Fault};
 
-use crate::mapped::Mapped;
+use crate::told::{Listener, Told};
+use crate::told_run::{keep_cover, names_of};
 use crate::trial::try_script;
+use jc_card::card::USUAL_BUDGET;
 use jc_words::{FuseStore, WordStore};
 use jcard_arguments::arguments::{Action, parse};
 use jcard_arguments::join_line::files_of;
-use jcard_arguments::why_line::{words_before_map, words_before_why};
+use jcard_arguments::run_options::{RunOptions, run_asked};
 use jcard_faults::fault::{Fault, tell};
 use jcard_faults::script_fault::{Names, script_fault};
 use jcard_files::closed_store::ClosedStore;
 use jcard_files::disk::Disk;
-use jcard_files::reading::script_of;
 use jcard_images::dump::dump_image;
 use jcard_images::new_image::make_image;
 use jcard_listing::asked::{against_of, asked_of};
@@ -42,8 +43,8 @@ use std::alloc::Global;
 
 /// Does what the words ask for, the program's name among them as the first, and answers the exit
 /// status. What is written goes to `out`: the answers, and after a fault one last line. How far a sweep has come goes to `progress`,
-/// and so does why commands of a run were not answered by 9000, where the words ask for it.
-pub fn run_words<D: Disk, W: TextOut, P: Progress + Explainer>(
+/// and so does what commands of a run did, where the words ask for it.
+pub fn run_words<D: Disk, W: TextOut, P: Progress + Listener>(
     disk: &mut D,
     words: &[String],
     out: &mut W,
@@ -61,7 +62,7 @@ pub fn run_words<D: Disk, W: TextOut, P: Progress + Explainer>(
 }
 
 /// Does what the words ask for.
-pub(crate) fn perform<'n, D: Disk, W: TextOut, P: Progress + Explainer>(
+pub(crate) fn perform<'n, D: Disk, W: TextOut, P: Progress + Listener>(
     disk: &mut D,
     words: &'n [String],
     out: &mut W,
@@ -81,7 +82,7 @@ pub(crate) fn perform<'n, D: Disk, W: TextOut, P: Progress + Explainer>(
 }
 
 // Does what the words ask for, which name no two images.
-fn perform_alone<'n, D: Disk, W: TextOut, P: Progress + Explainer>(
+fn perform_alone<'n, D: Disk, W: TextOut, P: Progress + Listener>(
     disk: &mut D,
     words: &'n [String],
     out: &mut W,
@@ -101,7 +102,7 @@ fn perform_alone<'n, D: Disk, W: TextOut, P: Progress + Explainer>(
 }
 
 // Does what the words ask for, which ask for no objects.
-fn perform_other<'n, D: Disk, W: TextOut, P: Progress + Explainer>(
+fn perform_other<'n, D: Disk, W: TextOut, P: Progress + Listener>(
     disk: &mut D,
     words: &'n [String],
     out: &mut W,
@@ -116,12 +117,12 @@ fn perform_other<'n, D: Disk, W: TextOut, P: Progress + Explainer>(
 {
     match files_of(words) {
         Some(files) => join_files(disk, files, out),
-        None => perform_explained(disk, words, out, progress),
+        None => perform_told(disk, words, out, progress),
     }
 }
 
 // Does what the words ask for, which name no files to join.
-fn perform_explained<'n, D: Disk, W: TextOut, P: Progress + Explainer>(
+fn perform_told<'n, D: Disk, W: TextOut, P: Progress + Listener>(
     disk: &mut D,
     words: &'n [String],
     out: &mut W,
@@ -129,60 +130,61 @@ fn perform_explained<'n, D: Disk, W: TextOut, P: Progress + Explainer>(
 ) -> Result<(), Fault<'n>>
     ensures done { (text : List ℕ) × (deeds : List FileDeed)
         × Appends (W.contents out.old) (W.contents out.new) text
-        × IsExplainedBy (words_before_map (map string_bytes words.now))
-        (map string_bytes words.now) result text deeds × D.does disk.old deeds disk.new }
+        × IsToldBy (run_asked (map string_bytes words.now)) (map string_bytes words.now) result text
+        deeds × D.does disk.old deeds disk.new }
     ensures writes { W.failures out.new ≡ failures_after (W.failures out.old)
         (is_unwritten result) }
 {
-    match words_before_map(words) {
-        Some((front, file)) => perform_mapped(disk, front, file, out, progress),
-        None => match words_before_why(words) {
-            Some(front) => perform_parsed(disk, front, out, &mut Nobody, progress),
-            None => perform_parsed(disk, words, out, progress, &mut Unasked),
-        },
+    match run_asked(words) {
+        Some((front, options)) => run_told(disk, front, options, out, progress),
+        None => perform_parsed(disk, words, USUAL_BUDGET, out, progress, &mut Unasked),
     }
 }
 
-// Does what the words ask for, with the names in the map of this name told to whoever asks why.
-fn perform_mapped<'n, D: Disk, W: TextOut, E: Explainer>(
+// Does what the words of a run ask for in front of these options, and what those ask for.
+fn run_told<'n, D: Disk, W: TextOut, L: Listener>(
     disk: &mut D,
     front: &'n [String],
-    file: &'n str,
+    options: RunOptions<'n>,
     out: &mut W,
-    explainer: &mut E,
+    listener: &mut L,
 ) -> Result<(), Fault<'n>>
     ensures done { (text : List ℕ) × (deeds : List FileDeed)
         × Appends (W.contents out.old) (W.contents out.new) text
-        × IsMapped (map string_bytes front.now) file.now result text deeds
+        × IsToldRun (map string_bytes front.now) (asked_by options.entry) result text deeds
         × D.does disk.old deeds disk.new }
     ensures writes { W.failures out.new ≡ failures_after (W.failures out.old)
         (is_unwritten result) }
 {
-    let names = match script_of(disk, file) {
+    let names = match names_of(disk, options.map) {
         Ok(names) => names,
         Err(fault) => return Err(fault),
     };
-    let mut mapped = Mapped::new(explainer, &names);
-    perform_parsed(disk, front, out, &mut Nobody, &mut mapped)
+    let mut told = Told::new(disk.alloc(), listener, &names, &options);
+    let budget = options.instructions.unwrap_or(USUAL_BUDGET);
+    let ran = perform_parsed(disk, front, budget, out, &mut Nobody, &mut told);
+    let cover = told.into_cover();
+    keep_cover(disk, &cover, options.cover, ran)
 }
 
 // Does what the words ask for, which name no files to join.
 fn perform_parsed<'n, D: Disk, W: TextOut, P: Progress, E: Explainer>(
     disk: &mut D,
     words: &'n [String],
+    budget: u32,
     out: &mut W,
     progress: &mut P,
     explainer: &mut E,
 ) -> Result<(), Fault<'n>>
     ensures done { (text : List ℕ) × (deeds : List FileDeed)
         × Appends (W.contents out.old) (W.contents out.new) text
-        × IsDoneOrNoMemory (map string_bytes words.now) result text deeds
+        × IsDoneOrNoMemory budget (map string_bytes words.now) result text deeds
         × D.does disk.old deeds disk.new }
     ensures writes { W.failures out.new ≡ failures_after (W.failures out.old)
         (is_unwritten result) }
 {
     match parse(disk.alloc(), words) {
-        Ok(action) => act(disk, action, out, progress, explainer),
+        Ok(action) => act(disk, action, budget, out, progress, explainer),
         Err(fault) => Err(fault),
     }
 }
@@ -190,13 +192,14 @@ fn perform_parsed<'n, D: Disk, W: TextOut, P: Progress, E: Explainer>(
 fn act<'n, D: Disk, W: TextOut, P: Progress, E: Explainer>(
     disk: &mut D,
     action: Action<'n>,
+    budget: u32,
     out: &mut W,
     progress: &mut P,
     explainer: &mut E,
 ) -> Result<(), Fault<'n>>
     ensures done { (text : List ℕ) × (deeds : List FileDeed)
         × Appends (W.contents out.old) (W.contents out.new) text
-        × IsDone (Some (request_by action.entry)) result text deeds
+        × IsDone budget (Some (request_by action.entry)) result text deeds
         × D.does disk.old deeds disk.new }
     ensures writes { W.failures out.new ≡ failures_after (W.failures out.old)
         (is_unwritten result) }
@@ -208,7 +211,7 @@ fn act<'n, D: Disk, W: TextOut, P: Progress, E: Explainer>(
             journal,
             table,
         } => make_image(disk, image, words, journal, table),
-        Action::Run { image, script } => run_file(disk, image, script, out, explainer),
+        Action::Run { image, script } => run_file(disk, image, script, budget, out, explainer),
         Action::Dump { image } => dump_image(disk, image, out),
         Action::Try {
             script,
@@ -247,12 +250,13 @@ fn run_file<'n, D: Disk, W: TextOut, E: Explainer>(
     disk: &mut D,
     image: &'n str,
     script: &'n str,
+    budget: u32,
     out: &mut W,
     explainer: &mut E,
 ) -> Result<(), Fault<'n>>
     ensures done { (text : List ℕ) × (deeds : List FileDeed)
         × Appends (W.contents out.old) (W.contents out.new) text
-        × IsRun image.now script.now result text deeds × D.does disk.old deeds disk.new }
+        × IsRun budget image.now script.now result text deeds × D.does disk.old deeds disk.new }
     ensures writes { W.failures out.new ≡ failures_after (W.failures out.old)
         (is_unwritten result) }
 {
@@ -264,7 +268,15 @@ fn run_file<'n, D: Disk, W: TextOut, E: Explainer>(
         Ok(file) => {
             let names = Names { image, script };
             let mut reader = StdText::new(file);
-            let (store, ended) = run_named(disk.alloc(), names, store, &mut reader, out, explainer);
+            let (store, ended) = run_named(
+                disk.alloc(),
+                names,
+                store,
+                budget,
+                &mut reader,
+                out,
+                explainer,
+            );
             disk.close_image(image, ClosedStore::new(store.into_store()));
             ended
         }
@@ -280,17 +292,18 @@ pub(crate) fn run_named<'a, S: WordStore + Drop, I: TextIn, W: TextOut, E: Expla
     alloc: Global,
     names: Names<'a>,
     store: FuseStore<S>,
+    budget: u32,
     script: &mut I,
     out: &mut W,
     explainer: &mut E,
 ) -> (FuseStore<S>, Result<(), Fault<'a>>)
     ensures done { (text : List ℕ) × Appends (W.contents out.old) (W.contents out.new) text
-        × IsCarriedOut names.entry.image.now names.entry.script.now (I.remaining script.old)
+        × IsCarriedOut budget names.entry.image.now names.entry.script.now (I.remaining script.old)
         (I.remaining script.new) store result.0 result.1 text }
     ensures writes { W.failures out.new ≡ failures_after (W.failures out.old)
         (is_unwritten result.1) }
 {
-    let (store, ended) = run_script_explained(alloc, store, script, out, explainer);
+    let (store, ended) = run_script_explained(alloc, store, budget, script, out, explainer);
     match ended {
         Ok(()) => (store, Ok(())),
         Err(cause) => (store, Err(script_fault(names, cause))),

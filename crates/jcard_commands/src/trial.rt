@@ -10,6 +10,7 @@ ghost use Rattle.jcard_files.specs.FileDeeds.{FileDeed, ReadsText};
 ghost use Rattle.jcard_images.specs.NewImages.{IsTable};
 
 use crate::run::run_named;
+use jc_card::card::USUAL_BUDGET;
 use jc_platform::fault::TableFault;
 use jc_platform::read::read_table;
 use jc_words::FuseStore;
@@ -87,6 +88,7 @@ fn try_on<'n, D: Disk, W: TextOut>(
         disk.alloc(),
         names,
         FuseStore::new(store),
+        USUAL_BUDGET,
         &mut reader,
         out,
         &mut Unasked,

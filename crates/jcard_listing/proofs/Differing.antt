@@ -1,11 +1,11 @@
 -- What is not the same in two images, part by part.
-use Rattle.std.proofs.Common.{◌≡◌, ◌∙◌, ◌⊎◌, ◌&&◌, ◌++◌, ℕ, Bool, true, false, inl, inr, List, Some, None, Result, Ok, Err, ap, ap₂, refl, subst, sym}
+use Rattle.std.proofs.Common.{◌≡◌, ◌∙◌, ◌&&◌, ◌++◌, ℕ, Bool, true, false, inl, inr, List, Some, Result, Ok, Err, ap, ap₂, refl, subst, sym}
 use Rattle.std.proofs.lemmas.Bool.{cases_Bool, false≢true}
 use Rattle.jc_platform.specs.Tokens.{Tokens}
 use Rattle.jc_records.specs.Bounds.{has_bounds}
 use Rattle.jcard_images.specs.Listings.{Lines, line, line_if, then_lines}
 use Rattle.jcard_listing.specs.Areas.{areas_line}
-use Rattle.jcard_listing.specs.Differences.{AreDifferences, AreToldTo, IsContent, IsContentTold, area_lines}
+use Rattle.jcard_listing.specs.Differences.{AreToldTo, IsContent, IsContentTold, area_lines}
 use Rattle.jcard_listing.specs.Fault.{Lists}
 use Rattle.jcard_listing.specs.Listing.{IsTableOf}
 use Rattle.jcard_listing.specs.Pairs.{end_lines}

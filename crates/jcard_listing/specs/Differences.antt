@@ -1,5 +1,5 @@
 -- All that is not the same in two images.
-use Rattle.std.specs.Prelude.{ℕ, ◌≡◌, ◌⊎◌, ◌&&◌, true, false, Bool, List, Option, Some, None, Ok, Err, Result}
+use Rattle.std.specs.Prelude.{ℕ, ◌≡◌, ◌⊎◌, ◌&&◌, true, false, Bool, List, Some, None, Ok, Err, Result}
 use Rattle.jc_platform.specs.Tokens.{Tokens}
 use Rattle.jc_records.specs.Bounds.{has_bounds}
 use Rattle.jcard_images.specs.Listings.{Lines, line_if, then_lines}

@@ -1,5 +1,5 @@
 -- All that is listed of an image.
-use Rattle.std.specs.Prelude.{ℕ, ◌≡◌, ◌⊎◌, true, false, Bool, List, [], slice_index, Option, Some, None, Ok, Err, Result}
+use Rattle.std.specs.Prelude.{ℕ, ◌≡◌, ◌⊎◌, true, false, Bool, List, slice_index, Option, Some, None, Ok, Err, Result}
 use Rattle.jc_words.specs.Layout.{applets_address, packages_address}
 use Rattle.jc_commit.specs.Image.{count_of}
 use Rattle.jc_heap.specs.Image.{table_text}

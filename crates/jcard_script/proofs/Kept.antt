@@ -1,5 +1,5 @@
 -- What a power up leaves that fails.
-use Rattle.std.proofs.Common.{◌≡◌, ◌⊎◌, inl, inr, false, ap, refl, sym, subst}
+use Rattle.std.proofs.Common.{◌≡◌, ℕ, ◌⊎◌, inl, inr, false, ap, refl, sym, subst}
 use Rattle.jc_words.specs.Stores.{FuseStoreValue}
 use Rattle.jc_commit.specs.Image.{limit_of}
 use Rattle.jc_commit.specs.State.{recovered_journal}
@@ -49,8 +49,8 @@ pub fails_up : (before mid after : FuseStoreValue) (fault : Fault) → mid ≡ w
 fails_up before mid after fault is other found = of_powered before after fault other (subst (λ m. Found fault m after) is found)
 
 -- a session that a power up left down, and its store
-pub failed_store : (s : ScriptState) (before after store : FuseStoreValue) (fault : Fault) → FailsUp before fault after → s ≡ Down after
+pub failed_store : (budget : ℕ) (s : ScriptState) (before after store : FuseStoreValue) (fault : Fault) → FailsUp before fault after → s ≡ Down budget after
     → IsSessionStore s store → FailsUp before fault store
-failed_store s before after store fault h down holds =
+failed_store budget s before after store fault h down holds =
     let same : store ≡ after = subst (λ (t : ScriptState). IsSessionStore t store) down holds in
     subst (FailsUp before fault) (sym same) h

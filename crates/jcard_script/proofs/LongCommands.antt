@@ -63,4 +63,4 @@ exchanges_whole whole given card after bytes e h = subst (λ d. Executes d card.
 pub answered_whole : (s t : ScriptState) (whole given text : List ℕ) → IsBytes whole → given ≡ take 262 whole → IsAnswered given s t text
     → IsAnswered whole s t text
 answered_whole (Up card) t whole given text bytes same a = (a.0, exchanges_whole whole given card a.0 bytes same a.1, a.2)
-answered_whole (Down store) t whole given text bytes same a = a
+answered_whole (Down budget store) t whole given text bytes same a = a

@@ -11,6 +11,7 @@ use Rattle.hex.specs.declared.error.FromHexError.{FromHexError}
 use Rattle.jc_words.specs.Stores.{FuseStoreValue}
 use Rattle.jc_memory.specs.State.{MemoryState}
 use Rattle.jc_heap.specs.Completions.{Completion, Completed, Torn}
+use Rattle.jc_card.specs.Dispatching.{usual_budget}
 use Rattle.jc_card.specs.Loads.{LoadResponse}
 use Rattle.jc_card.specs.declared.power_up.PowerFault.{PowerFault as Fault}
 use Rattle.jcard_script.specs.ScriptStates.{ScriptState, Up, Down, Exchanges, IsSessionStore, IsStoreOf, PowersUp, FailsUp, IsReset, FailsReset, with_fuse}
@@ -98,18 +99,19 @@ armed_text k = codes "armed " ++ decimal k ++ codes "\n"
 -- what is told after a power up
 abbrev pub power_text : ScriptState → List ℕ
 power_text (Up card) = ready_text
-power_text (Down store) = down_text
+power_text (Down budget store) = down_text
 
--- what is written for a command that ended so, and how the session stands after it: the text of the response; or, where the
+-- what is written for a command that ended so, with this budget, and how the session stands after it: the text of the response; or, where the
 -- store refused a write, that the card is down
-abbrev pub IsToldOf : Completion MemoryState LoadResponse → ScriptState → List ℕ → Type 0
-IsToldOf (Completed a memory) t text = (text ≡ text_of a.response) × (t ≡ Up (record { memory = memory; packages = a.packages; load = a.load }))
-IsToldOf (Torn memory) t text = (text ≡ down_text) × (store : FuseStoreValue) × IsStoreOf memory.heap store × (t ≡ Down store)
+abbrev pub IsToldOf : ℕ → Completion MemoryState LoadResponse → ScriptState → List ℕ → Type 0
+IsToldOf budget (Completed a memory) t text = (text ≡ text_of a.response)
+    × (t ≡ Up (record { memory = memory; packages = a.packages; load = a.load; budget = a.budget }))
+IsToldOf budget (Torn memory) t text = (text ≡ down_text) × (store : FuseStoreValue) × IsStoreOf memory.heap store × (t ≡ Down budget store)
 
 -- what is written for a command, and how the session stands before and after it
 abbrev pub IsAnswered : List ℕ → ScriptState → ScriptState → List ℕ → Type 0
-IsAnswered bytes (Up card) t text = (after : Completion MemoryState LoadResponse) × Exchanges bytes card after × IsToldOf after t text
-IsAnswered bytes (Down store) t text = (text ≡ down_text) × (t ≡ Down store)
+IsAnswered bytes (Up card) t text = (after : Completion MemoryState LoadResponse) × Exchanges bytes card after × IsToldOf card.budget after t text
+IsAnswered bytes (Down budget store) t text = (text ≡ down_text) × (t ≡ Down budget store)
 
 -- what is written for a line, and how the session stands before and after it
 abbrev pub IsWrittenFor : Form → ScriptState → ScriptState → List ℕ → Type 0
@@ -158,11 +160,15 @@ abbrev pub FailsAtOnce : Result Unit ScriptFault → FuseStoreValue → FuseStor
 FailsAtOnce (Err (PowerFault fault)) before after script text = FailsUp before fault after × (script ≡ []) × (text ≡ [])
 FailsAtOnce _ before after script text = ⊥
 
--- a script on a store that was so before and is so after: it failed at once, or it was carried out from a power up on
-abbrev pub Ends : Result Unit ScriptFault → FuseStoreValue → FuseStoreValue → Bool → List ℕ → List ℕ → Type 0
-Ends result before after at_end script text =
-    FailsAtOnce result before after script text ⊎ ((first last : ScriptState) × PowersUp before first × IsSessionStore last after
+-- a script on a store that was so before and is so after, with a card of this budget: it failed at once, or it was carried out from a power up on
+abbrev pub EndsWithin : ℕ → Result Unit ScriptFault → FuseStoreValue → FuseStoreValue → Bool → List ℕ → List ℕ → Type 0
+EndsWithin budget result before after at_end script text =
+    FailsAtOnce result before after script text ⊎ ((first last : ScriptState) × PowersUp budget before first × IsSessionStore last after
     × EndsFrom result at_end script first last text)
+
+-- the same with the usual budget
+abbrev pub Ends : Result Unit ScriptFault → FuseStoreValue → FuseStoreValue → Bool → List ℕ → List ℕ → Type 0
+Ends result before after at_end script text = EndsWithin usual_budget result before after at_end script text
 
 -- whether a read failed
 abbrev pub is_read_failed : Result Unit ScriptFault → Bool

@@ -21,10 +21,15 @@ use Rattle.jc_card.specs.Reset.{IsAtReset}
 use Rattle.jc_card.specs.declared.power_up.PowerFault.{PowerFault as Fault}
 use Rattle.jc_card.specs.declared.power_up.PowerFault.TheVariants.{StoreDown}
 
--- the card is up, in this state; or it is down, and its store is so
+-- the card is up, in this state; or it is down, with the budget that it has when it is up again, and its store is so
 pub data ScriptState : Type 0 where
   Up : CardState → ScriptState
-  Down : FuseStoreValue → ScriptState
+  Down : ℕ → FuseStoreValue → ScriptState
+
+-- the budget that the card has, or has when it is up again
+abbrev pub budget_of : ScriptState → ℕ
+budget_of (Up card) = card.budget
+budget_of (Down budget store) = budget
 
 -- a card may carry a command of these bytes out so
 abbrev pub Exchanges : List ℕ → CardState → Completion MemoryState LoadResponse → Type 0
@@ -43,18 +48,18 @@ pub record IsStoreOf (heap : HeapView) (store : FuseStoreValue) : Type 0 where
 -- the session's store is so
 abbrev pub IsSessionStore : ScriptState → FuseStoreValue → Type 0
 IsSessionStore (Up card) store = IsStoreOf card.memory.heap store
-IsSessionStore (Down held) store = store ≡ held
+IsSessionStore (Down budget held) store = store ≡ held
 
--- a power up over a store that was so ends so: the card is up, with the heap of the recovered words, blank memory and no open
+-- a power up over a store that was so, with this budget, ends so: the card is up, with the heap of the recovered words, blank memory and no open
 -- load, as after a reset, and no write was refused; or one was, and a part of the recovery was done, so that another leaves what
 -- this one would have left
-abbrev pub PowersUp : FuseStoreValue → ScriptState → Type 0
-PowersUp before (Up card) = IsMade before.words × (card.memory.heap ≡ heap_view (recovered_journal before.words before.passed before.refusals)
+abbrev pub PowersUp : ℕ → FuseStoreValue → ScriptState → Type 0
+PowersUp budget before (Up card) = IsMade before.words × (card.memory.heap ≡ heap_view (recovered_journal before.words before.passed before.refusals)
     (limit_of before.words)) × IsCleared card.memory.ram × (card.load ≡ None)
-    × IsAtReset (heap_of (recovered_of before.words)) card
-PowersUp before (Down after) = PowerUpRefuses StoreDown before.words × StillOpens before.words after.words × (after.down ≡ true)
+    × IsAtReset (heap_of (recovered_of before.words)) card × (card.budget ≡ budget)
+PowersUp budget before (Down b after) = PowerUpRefuses StoreDown before.words × StillOpens before.words after.words × (after.down ≡ true)
     × (after.refusals ≡ refused_once false after.passed before.refusals)
-    × IsPartOfOpening before.words after.words before.passed after.passed
+    × IsPartOfOpening before.words after.words before.passed after.passed × (b ≡ budget)
 
 -- the power is back, in the store below too
 abbrev pub with_power : FuseStoreValue → FuseStoreValue
@@ -72,13 +77,13 @@ pub record FailsUp (before : FuseStoreValue) (fault : Fault) (after : FuseStoreV
   pub untouched : IsFoundFirst fault → after ≡ with_power before
   pub recovered : IsFoundAfter fault → after.passed ≡ (recovered_journal before.words before.passed before.refusals).passed
 
--- a reset: the power comes back to the session's store, and the card powers up
+-- a reset: the power comes back to the session's store, and the card powers up, with the budget that it had
 abbrev pub IsReset : ScriptState → ScriptState → Type 0
-IsReset s t = (store : FuseStoreValue) × IsSessionStore s store × PowersUp store t
+IsReset s t = (store : FuseStoreValue) × IsSessionStore s store × PowersUp (budget_of s) store t
 
 -- a reset that finds a fault
 abbrev pub FailsReset : Fault → ScriptState → ScriptState → Type 0
-FailsReset fault s t = (before after : FuseStoreValue) × IsSessionStore s before × FailsUp before fault after × (t ≡ Down after)
+FailsReset fault s t = (before after : FuseStoreValue) × IsSessionStore s before × FailsUp before fault after × (t ≡ Down (budget_of s) after)
 
 -- the fuse is armed: k further writes pass. A card that is up is as it was, at rest
 abbrev pub with_fuse : ℕ → ScriptState → ScriptState
@@ -88,4 +93,4 @@ with_fuse k (Up card) = Up (record card {
         (with_fuse_at (saturating_count card.memory.heap.passed k) card.memory.heap.refusals) card.memory.heap.size;
   };
 })
-with_fuse k (Down store) = Down (with_fuse_armed k store)
+with_fuse k (Down budget store) = Down budget (with_fuse_armed k store)

@@ -1,18 +1,19 @@
 //! A card, or the store of a card that does not power up.
-ghost use Rattle.std.specs.Prelude.{◌≡◌, OnOk, OnSome, IfErr, IfSome, IsNone};
+ghost use Rattle.std.specs.Prelude.{◌≡◌, false, OnOk, OnSome, IfErr, IfSome, IsNone};
 ghost use Rattle.jc_words.specs.Stores.{FuseStoreValue};
-ghost use Rattle.jcard_script.specs.ScriptStates.{Down, IsSessionStore, PowersUp, FailsUp, with_fuse};
+ghost use Rattle.jcard_script.specs.ScriptStates.{Down, IsSessionStore, PowersUp, FailsUp, budget_of, with_fuse};
 ghost use Rattle.jcard_script.specs.CardOrStore.{IsUp, state_of_card};
 ghost use Rattle.jcard_script.specs.Reply.{text_of_reply};
 ghost use Rattle.jcard_script.specs.Script.{IsAnswered, down_text, power_text, text_of};
 
+use crate::explainer::Explainer;
 use crate::reply::Reply;
 use jc_card::card::Card;
 use jc_card::power_up::PowerFault;
 use jc_card::response::Response;
 use jc_memory::{Note, Notes};
 use jc_words::{FuseStore, StoreDown, WordStore};
-use jcard_why::explanation::{Asked, why};
+use jcard_why::explanation::{Asked, told};
 use std::alloc::Global;
 
 /// What a session holds.
@@ -20,27 +21,28 @@ use std::alloc::Global;
 pub(crate) enum CardOrStore<S: WordStore> {
     /// A card that is powered up.
     Card(Card<FuseStore<S>>),
-    /// The store of a card that is down.
-    Store(FuseStore<S>),
+    /// The store of a card that is down, and the budget that the card has when it is up again.
+    Store(FuseStore<S>, u32),
 }
 
 impl<S: WordStore> CardOrStore<S> {
-    /// Brings the power back and powers up. A refused write leaves the store; any other fault is
+    /// Brings the power back and powers up, with a budget of instructions a command. A refused write leaves the store; any other fault is
     /// told too.
     pub(crate) fn power_up(
         alloc: Global,
         mut store: FuseStore<S>,
+        budget: u32,
     ) -> (CardOrStore<S>, Result<(), PowerFault>)
         ensures up { IsUp result.0 }
-        ensures powered { OnOk result.1 (PowersUp store (state_of_card result.0)) }
+        ensures powered { OnOk result.1 (PowersUp budget store (state_of_card result.0)) }
         ensures fault { IfErr result.1 (λ fault. (after : FuseStoreValue)
-            × FailsUp store fault after × (state_of_card result.0 ≡ Down after)) }
+            × FailsUp store fault after × (state_of_card result.0 ≡ Down budget after)) }
     {
         store.power_on();
-        match Card::power_up(alloc, store) {
+        match Card::power_up(alloc, store, budget) {
             Ok(card) => (CardOrStore::Card(card), Ok(())),
-            Err((PowerFault::StoreDown, store)) => (CardOrStore::Store(store), Ok(())),
-            Err((fault, store)) => (CardOrStore::Store(store), Err(fault)),
+            Err((PowerFault::StoreDown, store)) => (CardOrStore::Store(store, budget), Ok(())),
+            Err((fault, store)) => (CardOrStore::Store(store, budget), Err(fault)),
         }
     }
 
@@ -52,28 +54,38 @@ impl<S: WordStore> CardOrStore<S> {
     {
         match self {
             CardOrStore::Card(card) => card.explain(notes.share()),
-            CardOrStore::Store(_) => {}
+            CardOrStore::Store(_, _) => {}
         }
     }
 
-    /// The text that says why a command was answered by this status word, by its note and a map of methods.
-    pub(crate) fn why(
+    /// Tells an explainer what it wants to be told of a command, by its note and its status word.
+    pub(crate) fn tell<E: Explainer>(
         &self,
         alloc: Global,
         note: &Note,
         status: u16,
-        map: &[u8],
-    ) -> Option<Vec<u8>> {
+        explainer: &mut E,
+    )
+        requires up { IsUp self.now }
+    {
+        let CardOrStore::Card(card) = self else {
+            return;
+        };
+        if let Some(text) = text_about(alloc, card, note, status, explainer) {
+            explainer.tell(&text);
+        }
+        if let Some(cover) = explainer.cover() {
+            cover.add(note, card.linked());
+        }
+    }
+
+    /// The budget that the card has, or has when it is up again.
+    pub(crate) fn budget(&self) -> u32
+        ensures { result ≡ budget_of (state_of_card self.now) }
+    {
         match self {
-            CardOrStore::Card(card) => why(&Asked {
-                alloc,
-                note,
-                status,
-                linked: card.linked(),
-                map,
-            })
-            .ok(),
-            CardOrStore::Store(_) => None,
+            CardOrStore::Card(card) => card.budget(),
+            CardOrStore::Store(_, budget) => *budget,
         }
     }
 
@@ -83,7 +95,7 @@ impl<S: WordStore> CardOrStore<S> {
     {
         match self {
             CardOrStore::Card(card) => card.into_store(),
-            CardOrStore::Store(store) => store,
+            CardOrStore::Store(store, _) => store,
         }
     }
 
@@ -99,9 +111,9 @@ impl<S: WordStore> CardOrStore<S> {
                 store.arm(k);
                 CardOrStore::Card(Card::of_parts(store, rest))
             }
-            CardOrStore::Store(mut store) => {
+            CardOrStore::Store(mut store, budget) => {
                 store.arm(k);
-                CardOrStore::Store(store)
+                CardOrStore::Store(store, budget)
             }
         }
     }
@@ -115,14 +127,15 @@ impl<S: WordStore> CardOrStore<S> {
             (state_of_card self.new) (text_of response)) }
         ensures down { IsNone result → (store : FuseStoreValue)
             → IsSessionStore (state_of_card self.new) store
-            → IsAnswered command.now (state_of_card self.old) (Down store) down_text }
+            → IsAnswered command.now (state_of_card self.old)
+            (Down (budget_of (state_of_card self.old)) store) down_text }
     {
         match self {
             CardOrStore::Card(card) => match card.exchange(command) {
                 Ok(response) => Some(response),
                 Err(StoreDown) => None,
             },
-            CardOrStore::Store(_) => None,
+            CardOrStore::Store(_, _) => None,
         }
     }
 
@@ -132,7 +145,30 @@ impl<S: WordStore> CardOrStore<S> {
     {
         match self {
             CardOrStore::Card(_) => Reply::Ready,
-            CardOrStore::Store(_) => Reply::Down,
+            CardOrStore::Store(_, _) => Reply::Down,
         }
     }
+}
+
+// The text that an explainer wants to be told of a command of a card.
+fn text_about<S: WordStore, E: Explainer>(
+    alloc: Global,
+    card: &Card<FuseStore<S>>,
+    note: &Note,
+    status: u16,
+    explainer: &E,
+) -> Option<Vec<u8>>
+    requires up { card.now.memory.heap.down ≡ false }
+{
+    let wanted = explainer.wanted()?;
+    let asked = Asked {
+        alloc,
+        note,
+        status,
+        budget: card.budget(),
+        linked: card.linked(),
+        free_words: card.free_words(),
+        map: explainer.map(),
+    };
+    told(&asked, wanted).ok()
 }

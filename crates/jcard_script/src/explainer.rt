@@ -1,15 +1,21 @@
-//! Who asks why commands were not answered by 9000.
+//! Who asks what commands of a script did.
 
-/// Somebody who may be told why. No answer depends on it.
+use jcard_why::covers::Cover;
+use jcard_why::explanation::Wanted;
+
+/// Somebody who may be told what commands did. No answer depends on it.
 pub trait Explainer {
-    /// Whether it is asked.
-    fn asks(&self) -> bool;
+    /// What it wants to be told; nothing, where it does not ask.
+    fn wanted(&self) -> Option<Wanted>;
 
     /// A map that names methods; empty where there is none.
     fn map(&self) -> &[u8];
 
-    /// A command was not answered by 9000: why.
+    /// What it wanted to be told of a command.
     fn tell(&mut self, text: &[u8]);
+
+    /// Where it counts instructions, where it wants that.
+    fn cover(&mut self) -> Option<&mut Cover>;
 }
 
 /// Nobody asks.
@@ -17,8 +23,8 @@ pub trait Explainer {
 pub struct Unasked;
 
 impl Explainer for Unasked {
-    fn asks(&self) -> bool {
-        false
+    fn wanted(&self) -> Option<Wanted> {
+        None
     }
 
     fn map(&self) -> &[u8] {
@@ -26,4 +32,8 @@ impl Explainer for Unasked {
     }
 
     fn tell(&mut self, _text: &[u8]) {}
+
+    fn cover(&mut self) -> Option<&mut Cover> {
+        None
+    }
 }

@@ -11,9 +11,6 @@ use crate::streams::{TextOut, WriteFailed, write_all, write_parts};
 use itoa::Buffer;
 use jc_card::response::Response;
 
-/// The status word of a command that was carried out.
-const SUCCESS: u16 = 0x9000;
-
 /// What is to be written for a line.
 #[derive(Drop)]
 pub(crate) enum Reply {
@@ -30,18 +27,14 @@ pub(crate) enum Reply {
 }
 
 impl Reply {
-    /// The status word of a card's response, where it is another than 9000.
-    pub(crate) fn refusal(&self) -> Option<u16> {
+    /// The status word of a card's response.
+    pub(crate) fn status(&self) -> Option<u16> {
         let Reply::Answer(response) = self else {
             return None;
         };
         let bytes = response.as_bytes();
         let high = bytes.get(bytes.len().checked_sub(2)?)?;
-        let status = u16::from_be_bytes([*high, *bytes.last()?]);
-        if status == SUCCESS {
-            return None;
-        }
-        Some(status)
+        Some(u16::from_be_bytes([*high, *bytes.last()?]))
     }
 }
 

@@ -3,14 +3,16 @@ ghost use Rattle.std.specs.Prelude.{◌≡◌, ℕ, List, Bool};
 ghost use Rattle.std.specs.Bool.{OnTrue};
 ghost use Rattle.std.specs.Io.KnownBytes.{Appends, Consumes};
 ghost use Rattle.jc_words.specs.Count.{failures_after};
-ghost use Rattle.jcard_script.specs.Script.{Ends, IsWholeScript, is_read_failed, is_write_failed};
+ghost use Rattle.jcard_script.specs.Script.{Ends, EndsWithin, IsWholeScript, is_read_failed, is_write_failed};
 
 use crate::explainer::{Explainer, Unasked};
 use crate::session::Session;
 use crate::streams::{TextIn, TextOut};
+use jc_card::card::USUAL_BUDGET;
 use jc_card::power_up::PowerFault;
 use jc_memory::Notes;
 use jc_words::{FuseStore, WordStore};
+use jcard_why::explanation::Wanted;
 use std::alloc::{AllocError, Global};
 use thiserror::Error;
 
@@ -40,7 +42,7 @@ pub enum ScriptFault {
     PowerFault(PowerFault),
 }
 
-/// Powers a card up over a store with a fuse, carries out the lines of a script on it, writes each
+/// Powers a card up over a store with a fuse, with the usual budget of instructions, carries out the lines of a script on it, writes each
 /// answer before more of the script is read, and gives the store back.
 ///
 /// A line ends at a line feed, which the last may lack; a carriage return before a line feed
@@ -65,13 +67,15 @@ pub fn run_script<S: WordStore + Drop, R: TextIn, W: TextOut>(
     ensures writes { W.failures writer.new ≡ failures_after (W.failures writer.old)
         (is_write_failed result.1) }
 {
-    run_script_explained(alloc, fuse, reader, writer, &mut Unasked)
+    run_script_explained(alloc, fuse, USUAL_BUDGET, reader, writer, &mut Unasked)
 }
 
-/// The same; and behind each answer of a command that is not 9000 the explainer is told why, if it asks.
+/// The same with any budget of instructions a command; and behind each answer of a command the explainer is told what it wants to
+/// be told.
 pub fn run_script_explained<S: WordStore + Drop, R: TextIn, W: TextOut, E: Explainer>(
     alloc: Global,
     fuse: FuseStore<S>,
+    budget: u32,
     reader: &mut R,
     writer: &mut W,
     explainer: &mut E,
@@ -80,13 +84,18 @@ pub fn run_script_explained<S: WordStore + Drop, R: TextIn, W: TextOut, E: Expla
         × Consumes (R.remaining reader.old) (R.remaining reader.new) script
         × Appends (W.contents writer.old) (W.contents writer.new) text
         × OnTrue at_end (IsWholeScript (R.remaining reader.new) script)
-        × Ends result.1 fuse result.0 at_end script text }
+        × EndsWithin budget result.1 fuse result.0 at_end script text }
     ensures reads { R.failures reader.new ≡ failures_after (R.failures reader.old)
         (is_read_failed result.1) }
     ensures writes { W.failures writer.new ≡ failures_after (W.failures writer.old)
         (is_write_failed result.1) }
 {
-    let (mut session, started) = Session::start(alloc, fuse, notes_for(alloc, explainer.asks()));
+    let (mut session, started) = Session::start(
+        alloc,
+        fuse,
+        budget,
+        notes_for(alloc, explainer.wanted()),
+    );
     if let Err(fault) = started {
         return (session.into_store(), Err(ScriptFault::PowerFault(fault)));
     }
@@ -94,12 +103,12 @@ pub fn run_script_explained<S: WordStore + Drop, R: TextIn, W: TextOut, E: Expla
     (session.into_store(), result)
 }
 
-// Notes that are kept where somebody asks for them and there is memory.
-fn notes_for(alloc: Global, asked: bool) -> Notes {
-    if !asked {
+// Notes that are kept where somebody wants to be told of them and there is memory.
+fn notes_for(alloc: Global, wanted: Option<Wanted>) -> Notes {
+    let Some(wanted) = wanted else {
         return Notes::nowhere();
-    }
-    match Notes::kept(alloc, None) {
+    };
+    match Notes::kept(alloc, Some(wanted.most_noted())) {
         Ok(notes) => notes,
         Err(AllocError) => Notes::nowhere(),
     }

@@ -10,7 +10,7 @@ ghost use Rattle.jcard_script.specs.Line.{AsksFor};
 ghost use Rattle.jcard_script.specs.Reply.{text_of_reply};
 ghost use Rattle.jcard_script.specs.Script.{EndsFrom, IsAnswered, IsWholeScript, IsWrittenFor, armed_text, form_of, power_text, is_read_failed};
 ghost use Rattle.jcard_script.specs.Script.{is_write_failed, ended_lines};
-ghost use Rattle.jcard_script.specs.ScriptStates.{ScriptState, Down, IsSessionStore, PowersUp, FailsUp, IsReset, FailsReset, with_fuse};
+ghost use Rattle.jcard_script.specs.ScriptStates.{ScriptState, Down, IsSessionStore, PowersUp, FailsUp, IsReset, FailsReset, budget_of, with_fuse};
 ghost use Rattle.jcard_script.specs.Session.{StandsAt, IsUnbroken, LineEnds, LineFails, LinesEnd};
 
 use crate::card_or_store::CardOrStore;
@@ -40,19 +40,20 @@ pub(crate) struct Session<S: WordStore> {
 }
 
 impl<S: WordStore + Drop> Session<S> {
-    /// Before the first line: brings the power back and powers up.
+    /// Before the first line: brings the power back and powers up, with a budget of instructions a command.
     pub(crate) fn start(
         alloc: Global,
         fuse: FuseStore<S>,
+        budget: u32,
         notes: Notes,
     ) -> (Session<S>, Result<(), PowerFault>)
         ensures held { IsState result.0.held }
         ensures stands { StandsAt result.0 (state_of_held result.0.held) [] [] }
-        ensures powered { OnOk result.1 (PowersUp fuse (state_of_held result.0.held)) }
+        ensures powered { OnOk result.1 (PowersUp budget fuse (state_of_held result.0.held)) }
         ensures fault { IfErr result.1 (λ fault. (after : FuseStoreValue) × FailsUp fuse fault after
-            × (state_of_held result.0.held ≡ Down after)) }
+            × (state_of_held result.0.held ≡ Down budget after)) }
     {
-        let (mut held, started) = CardOrStore::power_up(alloc, fuse);
+        let (mut held, started) = CardOrStore::power_up(alloc, fuse, budget);
         held.explain(&notes);
         let session = Session {
             alloc,
@@ -215,7 +216,7 @@ impl<S: WordStore + Drop> Session<S> {
         match self.reply(asked) {
             Ok(reply) => match write_reply(&reply, writer) {
                 Ok(()) => {
-                    self.tell_why(&reply, explainer);
+                    self.tell_about(&reply, explainer);
                     Ok(())
                 }
                 Err(WriteFailed) => Err(ScriptFault::WriteFailed),
@@ -224,19 +225,18 @@ impl<S: WordStore + Drop> Session<S> {
         }
     }
 
-    // Tells who asks why this is not the answer 9000, if it is an answer.
-    fn tell_why<E: Explainer>(&self, reply: &Reply, explainer: &mut E) {
-        let Some(status) = reply.refusal() else {
+    // Tells who asks what the command did that was answered so, if one was.
+    fn tell_about<E: Explainer>(&self, reply: &Reply, explainer: &mut E)
+        requires held { IsState self.now.held }
+    {
+        let Some(status) = reply.status() else {
             return;
         };
         let Some(note) = self.notes.take() else {
             return;
         };
-        let Some(held) = &self.held else {
-            return;
-        };
-        if let Some(text) = held.why(self.alloc, &note, status, explainer.map()) {
-            explainer.tell(&text);
+        if let Some(held) = &self.held {
+            held.tell(self.alloc, &note, status, explainer);
         }
     }
 
@@ -273,14 +273,26 @@ impl<S: WordStore + Drop> Session<S> {
             (state_of_held self.new.held) (text_of_reply result) }
     {
         self.notes.begin(self.number);
+        let budget = self.budget();
         if let Some(held) = &mut self.held {
             if let Some(response) = held.exchange(command) {
                 return Reply::Answer(response);
             }
         }
         let left = self.held.take().unwrap().into_store();
-        self.held = Some(CardOrStore::Store(left));
+        self.held = Some(CardOrStore::Store(left, budget));
         Reply::Down
+    }
+
+    // The budget that the card has, or has when it is up again.
+    fn budget(&self) -> u32
+        requires held { IsState self.now.held }
+        ensures { result ≡ budget_of (state_of_held self.now.held) }
+    {
+        match &self.held {
+            Some(held) => held.budget(),
+            None => 0,
+        }
     }
 
     // Takes the power from the card and powers it up again over its store.
@@ -294,8 +306,9 @@ impl<S: WordStore + Drop> Session<S> {
         ensures fault { IfErr result (λ fault. FailsReset fault (state_of_held self.old.held)
             (state_of_held self.new.held)) }
     {
+        let budget = self.budget();
         let store = self.held.take().unwrap().into_store();
-        let (mut held, result) = CardOrStore::power_up(self.alloc, store);
+        let (mut held, result) = CardOrStore::power_up(self.alloc, store, budget);
         held.explain(&self.notes);
         let reply = held.power_up_answer();
         self.held = Some(held);

@@ -1,18 +1,19 @@
 -- Why a command was not cut.
-use Rattle.std.proofs.Common.{◌≡◌, ◌⊎◌, ◌++◌, ◌+◌, ◌*◌, ◌<◌, ◌≤◌, ℕ, zero, suc, List, [], ◌∷◌, Option, Result, Ok, Err, IsErrAnd, MatchResult, length, refl, sym, subst, inl, inr, arith}
+use Rattle.std.proofs.Common.{◌≡◌, ◌⊎◌, ◌++◌, ◌+◌, ◌*◌, ◌<◌, ◌≤◌, ℕ, zero, suc, true, List, [], ◌∷◌, Option, Result, Ok, Err, IsErrAnd, MatchResult, length, refl, sym, subst, inl, inr, arith}
 use Rattle.std.proofs.Math.Nat.{mul-suc, suc-mul}
 use Rattle.jc_objects.specs.declared.image_objects.ImageObjects.{ImageObjects}
 use Rattle.jcard_outcomes.specs.declared.standing.Cut.{Cut}
 use Rattle.jcard_outcomes.specs.declared.standing.Left.{Left}
 use Rattle.jcard_tear.specs.Faults.{IsCarriedOut, IsCutPast, IsProbeFault, IsScriptFor, IsUncutFor, told_run_fault}
 use Rattle.jcard_tear.specs.Parts.{AreEvery}
-use Rattle.jcard_tear.specs.Runs.{IsRunFault}
+use Rattle.jc_words.specs.Stores.{FuseStoreValue}
+use Rattle.jcard_tear.specs.Runs.{IsRunFault, Runs}
 use Rattle.jcard_tear.specs.Sweeps.{AreCuts, IsDone}
 use Rattle.jcard_tear.specs.declared.cuts.Command.{Command}
 use Rattle.jcard_tear.specs.declared.runs.RunFault.{RunFault}
 use Rattle.jcard_tear.specs.declared.runs.RunFault.TheVariants as run
 use Rattle.jcard_tear.specs.declared.tearing.TearFault.{TearFault}
-use Rattle.jcard_tear.specs.declared.tearing.TearFault.TheVariants.{NoMemory, Probe}
+use Rattle.jcard_tear.specs.declared.tearing.TearFault.TheVariants.{Down, NoMemory, Probe}
 
 -- memory was refused
 pub memory_uncut : (words : List ℕ) (c : Command) (step : ℕ) (fault : TearFault) → fault ≡ NoMemory → IsUncutFor words c step fault
@@ -29,6 +30,11 @@ pub probe_uncut : (words : List ℕ) (c : Command) (step : ℕ) (fault : TearFau
 probe_uncut words c step NoMemory done is = tt
 probe_uncut words c step (Probe x) done is = done
 probe_uncut words c step other done is = absurd is
+
+-- the card is down at the command
+pub down_uncut : (words : List ℕ) (c : Command) (step : ℕ) (text : List ℕ) (after : FuseStoreValue) → Runs words (c.before.now ++ c.line.now) text after
+    → after.down ≡ true → IsUncutFor words c step Down
+down_uncut words c step text after runs down = (text, after, runs, down)
 
 -- a command that was done was carried out
 pub done_carried : (words : List ℕ) (c : Command) (answer : List ℕ) (left : Left) → IsDone words c answer left → IsCarriedOut words c

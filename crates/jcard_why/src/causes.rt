@@ -109,7 +109,7 @@ const fn fault_text(kind: FaultKind) -> &'static [u8] {
         FaultKind::NoMethod => b"the method is abstract or cut, or the object's class has none",
         FaultKind::TooManyFrames => b"33rd frame",
         FaultKind::TooManyCells => b"513th cell",
-        FaultKind::TooManyInstructions => b"100,001st instruction",
+        FaultKind::TooManyInstructions => b"the command's instructions are used up",
         FaultKind::Other => b"the instruction cannot use what it is given",
     }
 }

@@ -1,7 +1,8 @@
-//! Texts that say why a command was not answered by 9000.
+//! Texts that say what a command did, and why it was not answered by 9000.
 #![tactic(auto)]
 
 mod causes;
+pub mod covers;
 pub mod explanation;
 pub mod maps;
 pub mod mnemonics;
@@ -10,3 +11,4 @@ mod reasons;
 mod refusals;
 mod statuses;
 mod text;
+mod traces;

@@ -30,8 +30,14 @@ pub(crate) fn push_context(
     }
 }
 
-/// Adds a line for a frame: its package, where its instruction stands, its method and the instruction's mnemonic.
+/// Adds a line for a frame.
 pub(crate) fn push_spot(text: &mut Text, spot: Spot, asked: &Asked<'_>) -> Result<(), AllocError> {
+    push_place(text, spot, asked)?;
+    text.push(b"\n")
+}
+
+/// Adds the package of a frame, where its instruction stands, its method and the instruction's mnemonic.
+pub(crate) fn push_place(text: &mut Text, spot: Spot, asked: &Asked<'_>) -> Result<(), AllocError> {
     text.push(b"  at ")?;
     push_package(text, spot.package_number, asked.linked)?;
     text.push(b" offset ")?;
@@ -40,8 +46,7 @@ pub(crate) fn push_spot(text: &mut Text, spot: Spot, asked: &Asked<'_>) -> Resul
         text.push(b" in ")?;
         push_method(text, spot, asked)?;
     }
-    push_instruction(text, spot, asked.linked)?;
-    text.push(b"\n")
+    push_instruction(text, spot, asked.linked)
 }
 
 // A method by the name that the map has of it, or by where it begins.

@@ -35,6 +35,18 @@ impl Text {
         self.push(digits.format(number).as_bytes())
     }
 
+    /// Adds a number of 64 bits in decimal digits.
+    pub(crate) fn push_wide(&mut self, number: u64) -> Result<(), AllocError> {
+        let mut digits = Buffer::new();
+        self.push(digits.format(number).as_bytes())
+    }
+
+    /// Adds a number with its sign in decimal digits.
+    pub(crate) fn push_signed(&mut self, number: i16) -> Result<(), AllocError> {
+        let mut digits = Buffer::new();
+        self.push(digits.format(number).as_bytes())
+    }
+
     /// Adds a number of things, of which one is named so: behind another number than 1 it ends by s.
     pub(crate) fn push_count(&mut self, number: u32, thing: &[u8]) -> Result<(), AllocError> {
         self.push_number(number)?;

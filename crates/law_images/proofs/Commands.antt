@@ -25,7 +25,7 @@ use Rattle.jc_dispatch.specs.AdHocCode.{ad_hoc_run}
 use Rattle.jc_card.specs.Answers.{answer_of, respond_with, run_code}
 use Rattle.jc_card.specs.Apdu.{Apdu, apdu_of, data_of}
 use Rattle.jc_card.specs.CardState.{CardState}
-use Rattle.jc_card.specs.Dispatching.{with_response, create_applet, dispatch, expected_by, is_select, manager_aid, most_instructions, route, to_named}
+use Rattle.jc_card.specs.Dispatching.{with_response, create_applet, dispatch, expected_by, is_select, manager_aid, route, to_named}
 use Rattle.jc_card.specs.Dispatching.{to_selected}
 use Rattle.jc_card.specs.Loads.{LoadResponse, append_component, component_append_without_memory, load_command, on_load}
 use Rattle.law_images.specs.Loaded.{AreBytes}
@@ -66,12 +66,12 @@ module _ (begins : EffectsKeepBeginnings) (t : Tokens) (card : CardState) (own :
 
   -- all of it was done
   pub did_own : (ans : LoadResponse) (new : MemoryState) → Completes d card.memory ans new
-      → IsOwnCard t (record { memory = new; packages = ans.packages; load = ans.load })
+      → IsOwnCard t (record { memory = new; packages = ans.packages; load = ans.load; budget = ans.budget })
   did_own ans new did =
       let left = each_did (IsAnswered card.packages) d card.memory new ans good.each did in
       let memory = due_keeps (IsServed card.packages) (IsOwnMemory card.memory.heap.durable.head.1 t card.packages) keeps d card.memory new ans good.due did
       (own_memory t card own) in
-      subst (λ p. IsOwnCard t (record { memory = new; packages = p; load = ans.load })) (sym left.packages) (record {
+      subst (λ p. IsOwnCard t (record { memory = new; packages = p; load = ans.load; budget = ans.budget })) (sym left.packages) (record {
         linked = own.linked;
         ready = left.ready;
         reading = memory.reading;
@@ -135,9 +135,9 @@ module _ (commands : CommandsAreSound) (t : Tokens) (card : CardState) (own : Is
   unfolding run_code
   runs_good limit locals [] = answers_good _
   runs_good limit locals (b ∷ more) =
-      let d = ad_hoc_run most_instructions limit locals (b ∷ more) p card.memory in
+      let d = ad_hoc_run card.budget limit locals (b ∷ more) p card.memory in
       good_bind p _ (λ end v. respond_with card (answer_of end)) d card.memory (good_more p _ _ d card.memory
-      (of_leaves d card.memory (commands.running most_instructions limit locals (b ∷ more) p card.memory known own.ready))
+      (of_leaves d card.memory (commands.running card.budget limit locals (b ∷ more) p card.memory known own.ready))
       (λ end v ready. ends_good (answer_of end) v ready))
 
   pub loads_good : (ended : CommandResult) (load : Option OpenLoad) → IfSome load IsOpenReadable
@@ -170,10 +170,10 @@ module _ (commands : CommandsAreSound) (t : Tokens) (card : CardState) (own : Is
   creates_good [] = answers_good _
   creates_good (b ∷ more) =
       let v = apply_effect (BeginCommand []) card.memory in
-      let d = applet_creation most_instructions p (b ∷ more) v in
+      let d = applet_creation card.budget p (b ∷ more) v in
       let few : 0 ≤ buffer_size = omega arith in
       good_then p _ (BeginCommand []) _ card.memory few (good_bind p _ _ d v (good_more p _ _ d v
-      (of_leaves d v (commands.making most_instructions p (b ∷ more) v known (started [] card.memory few own.ready))) (λ e w ready. ends_good _ w ready)))
+      (of_leaves d v (commands.making card.budget p (b ∷ more) v known (started [] card.memory few own.ready))) (λ e w ready. ends_good _ w ready)))
 
   -- the applet with an AID is there
   number_found : (m : MemoryState) (o : Option ℕ) (a : AppletNumber) → option_map (λ n. record { 0 = n }) o ≡ Some a
@@ -198,24 +198,24 @@ module _ (commands : CommandsAreSound) (t : Tokens) (card : CardState) (own : Is
       and_from (nat_lt 0 a.0) _ (lt-ltb 0 a.0 (let x = at.0 in omega (arith, x))) (le-leb a.0 v.heap.durable.counts.1 (let x = at.1 in omega (arith, x, same)))
 
   to_selected_good : (o : Option AppletNumber) (expected : ℕ) (v : MemoryState) → IsReady p v
-      → ((a : AppletNumber) → o ≡ Some a → is_applet v.heap.durable a ≡ true) → Good p (to_selected o expected p v) v (λ e w. IsReady p w)
+      → ((a : AppletNumber) → o ≡ Some a → is_applet v.heap.durable a ≡ true) → Good p (to_selected card.budget o expected p v) v (λ e w. IsReady p w)
   to_selected_good None expected v r there = good_gives p _ NotSelected v r
-  to_selected_good (Some a) expected v r there = of_leaves _ v (commands.answering most_instructions p a false expected v known r (there a refl))
+  to_selected_good (Some a) expected v r there = of_leaves _ v (commands.answering card.budget p a false expected v known r (there a refl))
 
   to_named_good : (o : Option AppletNumber) (expected : ℕ) (v : MemoryState) → IsReady p v
-      → ((a : AppletNumber) → o ≡ Some a → is_applet v.heap.durable a ≡ true) → Good p (to_named o expected p v) v (λ e w. IsReady p w)
+      → ((a : AppletNumber) → o ≡ Some a → is_applet v.heap.durable a ≡ true) → Good p (to_named card.budget o expected p v) v (λ e w. IsReady p w)
   to_named_good None expected v r there = to_selected_good v.registers.selected expected v r r.sound.selected
-  to_named_good (Some a) expected v r there = of_leaves _ v (commands.selecting most_instructions p a expected v known r (there a refl))
+  to_named_good (Some a) expected v r there = of_leaves _ v (commands.selecting card.budget p a expected v known r (there a refl))
 
   if_good : {A : Type 0} (b : Bool) (x y : Program A) (m : MemoryState) (Q : A → MemoryState → Type 0) → Good p x m Q → Good p y m Q
       → Good p (if b then x else y) m Q
   if_good true x y m Q first second = first
   if_good false x y m Q first second = second
 
-  routed_good : (c : Apdu) (expected : ℕ) (v : MemoryState) → IsReady p v → Good p (route c expected p v) v (λ e w. IsReady p w)
+  routed_good : (c : Apdu) (expected : ℕ) (v : MemoryState) → IsReady p v → Good p (route card.budget c expected p v) v (λ e w. IsReady p w)
   unfolding route
   routed_good c expected v r = if_good (is_select c) _ _ v _
-      (if_good (bytes_eq c.content manager_aid) _ _ v _ (of_leaves _ v (commands.managing most_instructions p v known r))
+      (if_good (bytes_eq c.content manager_aid) _ _ v _ (of_leaves _ v (commands.managing card.budget p v known r))
       (to_named_good (applet_with_aid v c.content) expected v r (λ a is. registered v c.content a r is)))
       (to_selected_good v.registers.selected expected v r r.sound.selected)
 
@@ -223,7 +223,7 @@ module _ (commands : CommandsAreSound) (t : Tokens) (card : CardState) (own : Is
   unfolding dispatch
   dispatched_good bytes c few =
       let v = apply_effect (BeginCommand bytes) card.memory in
-      let d = route c (expected_by bytes) p v in
+      let d = route card.budget c (expected_by bytes) p v in
       good_then p _ (BeginCommand bytes) _ card.memory few (good_bind p _ _ d v (good_more p _ _ d v
       (routed_good c (expected_by bytes) v (started bytes card.memory few own.ready))
       (λ e w ready. good_gives p _ _ w (record { ready = ready; packages = refl; load = own.load }))))

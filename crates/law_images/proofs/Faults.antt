@@ -12,7 +12,7 @@ use Rattle.jc_session.specs.declared.event.Event.{Event}
 use Rattle.jc_session.specs.declared.event.Event.TheVariants.{Command, Reset}
 use Rattle.jc_session.specs.declared.event.Answer.{Answer}
 use Rattle.jc_session.specs.declared.event.Answer.TheVariants.{Response, Ready, Down}
-use Rattle.jc_session.specs.Power.{KeptState, PowerState, Up, Off, StoreState, IsStoreOf, durable_state, durable_state_in_store, with_power}
+use Rattle.jc_session.specs.Power.{KeptState, PowerState, Up, Off, StoreState, IsStoreOf, budget_of, durable_state, durable_state_in_store, with_power}
 use Rattle.jc_session.specs.Serving.{AnswersCommand, AnswersReset, Serves, SessionRun}
 use Rattle.jc_session.specs.Starting.{FailsToReset, FailsToStart, Starts}
 use Rattle.jc_session.specs.Sessions.{IsSession, FailsAtReset}
@@ -31,19 +31,19 @@ IsLaidIn s = (durable_state s).laid ≡ true
 
 command_laid : (s : PowerState) (bytes : List ℕ) (answer : Answer) (next : PowerState) → IsLaidIn s → AnswersCommand s bytes answer next → IsLaidIn next
 command_laid (Up card) bytes (Response r) (Up next) laid did = refl
-command_laid (Up card) bytes Down (Off k) laid lost = lost.4
-command_laid (Off k) bytes Down (Off l) laid same = ap (λ (x : KeptState). x.laid) same ∙ laid
-command_laid (Up card) bytes (Response r) (Off k) laid none = absurd none
+command_laid (Up card) bytes Down (Off b k) laid lost = lost.4
+command_laid (Off b k) bytes Down (Off d l) laid same = ap (λ (x : KeptState). x.laid) same.0 ∙ laid
+command_laid (Up card) bytes (Response r) (Off b k) laid none = absurd none
 command_laid (Up card) bytes Ready next laid none = absurd none
 command_laid (Up card) bytes Down (Up next) laid none = absurd none
-command_laid (Off k) bytes (Response r) next laid none = absurd none
-command_laid (Off k) bytes Ready next laid none = absurd none
-command_laid (Off k) bytes Down (Up next) laid none = absurd none
+command_laid (Off b k) bytes (Response r) next laid none = absurd none
+command_laid (Off b k) bytes Ready next laid none = absurd none
+command_laid (Off b k) bytes Down (Up next) laid none = absurd none
 
 reset_laid : (s : PowerState) (answer : Answer) (next : PowerState) → IsLaidIn s → AnswersReset s answer next → IsLaidIn next
 reset_laid s Ready (Up card) laid up = refl
-reset_laid s Down (Off k) laid same = ap (λ (x : KeptState). x.laid) same ∙ laid
-reset_laid s Ready (Off k) laid none = absurd none
+reset_laid s Down (Off b k) laid same = ap (λ (x : KeptState). x.laid) same.0 ∙ laid
+reset_laid s Ready (Off b k) laid none = absurd none
 reset_laid s Down (Up card) laid none = absurd none
 reset_laid s (Response r) next laid none = absurd none
 
@@ -77,15 +77,15 @@ made_of t store own = images_made.kept t store.words (durable_state_in_store sto
 
 -- ---- sessions over it
 
-module _ (g : OneTable) (t : Tokens) (before : StoreState) (own : IsOwnStore t before) where
-  first_own : (first : PowerState) → Starts before first → IsOwnPower t first × IsLaidIn first
-  first_own (Up card) h = (powered_own g t (durable_state_in_store before) card own.own h.1, refl)
-  first_own (Off k) h = (
+module _ (budget : ℕ) (g : OneTable) (t : Tokens) (before : StoreState) (own : IsOwnStore t before) where
+  first_own : (first : PowerState) → Starts budget before first → IsOwnPower t first × IsLaidIn first
+  first_own (Up card) h = (powered_own g t (durable_state_in_store before) budget card own.own h.1, refl)
+  first_own (Off b k) h = (
     subst (IsOwnKept t) (sym h.1) (record { packages = own.own.packages; linked = own.own.linked; heap = own.own.heap; layout = own.own.layout }),
     ap (λ (x : KeptState). x.laid) h.1 ∙ if_laid (recovered_of before.words) own.keeps.laid,
   )
 
-  last_own : (events : List Event) (answers : List Answer) (last : PowerState) → AreOfBytes events → IsSession before events answers last
+  last_own : (events : List Event) (answers : List Answer) (last : PowerState) → AreOfBytes events → IsSession budget before events answers last
       → IsOwnPower t last × IsLaidIn last
   last_own events answers last are h =
       let first = first_own h.0 h.1 in
@@ -106,7 +106,7 @@ reset_own : (t : Tokens) (s : PowerState) (after : StoreState) (fault : Fault) �
 reset_own t s after fault own laid fails =
     let left = kept_own t s own in (
       no_other fault fails.0.words (made_of t fails.0 (store_own t s fails.0 own laid fails.1)) fails.2 fails.3,
-      store_own t (Off (with_power after.passed (durable_state s))) after (record {
+      store_own t (Off (budget_of s) (with_power after.passed (durable_state s))) after (record {
         packages = left.packages;
         linked = left.linked;
         heap = left.heap;
@@ -114,13 +114,13 @@ reset_own t s after fault own laid fails =
       }) laid fails.4,
     )
 
-fault_is : OneTable → (t : Tokens) (before after : StoreState) (events : List Event) (fault : Fault) → AreOfBytes events → IsOwnStore t before
-    → FailsToStart fault before after ⊎ FailsAtReset fault before events after → (fault ≡ NoMemory) × IsOwnStore t after
-fault_is g t before after events fault are own (inl start) =
-    reset_own t (Off (durable_state_in_store before)) after fault own.own (if_laid (recovered_of before.words) own.keeps.laid)
-    (start_fails fault (Off (durable_state_in_store before)) before after (record { good = own.keeps.good; kept = refl }) start)
-fault_is g t before after events fault are own (inr stops) =
-    let last = last_own g t before own (take stops.0 events) stops.1 stops.2 (first_bytes stops.0 events are) stops.4 in
+fault_is : (budget : ℕ) → OneTable → (t : Tokens) (before after : StoreState) (events : List Event) (fault : Fault) → AreOfBytes events → IsOwnStore t before
+    → FailsToStart fault before after ⊎ FailsAtReset budget fault before events after → (fault ≡ NoMemory) × IsOwnStore t after
+fault_is budget g t before after events fault are own (inl start) =
+    reset_own t (Off budget (durable_state_in_store before)) after fault own.own (if_laid (recovered_of before.words) own.keeps.laid)
+    (start_fails fault (Off budget (durable_state_in_store before)) before after (record { good = own.keeps.good; kept = refl }) start)
+fault_is budget g t before after events fault are own (inr stops) =
+    let last = last_own budget g t before own (take stops.0 events) stops.1 stops.2 (first_bytes stops.0 events are) stops.4 in
     reset_own t stops.2 after fault last.0 last.1 stops.5
 
 pub end_well : OneTable → SessionsEndWell
@@ -129,7 +129,7 @@ end_well g = record {
       let keeps : Keeps store.words (durable_state_in_store store) = record { good = made.log; laid = made.laid; durable = refl; size = refl } in
       record { keeps = keeps; own = images_made.new t capacity text store.words (durable_state_in_store store) made reads is keeps };
   made = made_of;
-  done = λ t before after events answers are own ends.
-      let last = last_own g t before own events answers ends.0 are ends.1 in store_own t ends.0 after last.0 last.1 ends.2;
-  fault = λ t before after events fault are own ends. fault_is g t before after events fault are own ends;
+  done = λ budget t before after events answers are own ends.
+      let last = last_own budget g t before own events answers ends.0 are ends.1 in store_own t ends.0 after last.0 last.1 ends.2;
+  fault = λ budget t before after events fault are own ends. fault_is budget g t before after events fault are own ends;
 }

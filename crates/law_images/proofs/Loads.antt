@@ -153,14 +153,14 @@ module _ (begins : EffectsKeepBeginnings) (loads : LoadsKeepSound) (t : Tokens) 
   left_by (Some load) readable h lost = open_lost load readable (is_none load.coming) h lost
 
   pub ends_own : (ans : LoadResponse) (new : MemoryState) → Completes (end_load card) m ans new
-      → IsOwnCard t (record { memory = new; packages = ans.packages; load = ans.load })
+      → IsOwnCard t (record { memory = new; packages = ans.packages; load = ans.load; budget = ans.budget })
   ends_own ans new did =
-      let both = did_bind (λ left s. Finish (answer_of_left left)) (end_of_load p m card.load) m new ans did in
+      let both = did_bind (λ left s. Finish (answer_of_left card.budget left)) (end_of_load p m card.load) m new ans did in
       let left = both.0 in
       let mid = both.1 in
       let done = ended card.load own.load left mid both.2 in
       let read = ends_keep.done t p card.load m mid left own.load own.ready.sound.whole own.ready.closed own.reading both.2 in
-      let here : IsOwnCard t (record { memory = mid; packages = left.packages; load = left.load }) = record {
+      let here : IsOwnCard t (record { memory = mid; packages = left.packages; load = left.load; budget = card.budget }) = record {
         linked = done.linked;
         ready = record { sound = done.fits.sound; environment = done.fits.environment; closed = done.closed; idle = done.idle };
         reading = read.0;
@@ -168,11 +168,11 @@ module _ (begins : EffectsKeepBeginnings) (loads : LoadsKeepSound) (t : Tokens) 
         layout = done.fits.layout;
         load = read.1;
       } in
-      subst (λ v. IsOwnCard t (record { memory = v; packages = ans.packages; load = ans.load })) (sym both.3.1)
-      (subst (λ a. IsOwnCard t (record { memory = mid; packages = a.packages; load = a.load })) (sym both.3.0) here)
+      subst (λ v. IsOwnCard t (record { memory = v; packages = ans.packages; load = ans.load; budget = ans.budget })) (sym both.3.1)
+      (subst (λ a. IsOwnCard t (record { memory = mid; packages = a.packages; load = a.load; budget = a.budget })) (sym both.3.0) here)
 
   pub ends_lost : (h : HeapState) → TearLeaves (end_load card) m h → IsLeft n t p h
-  ends_lost h lost = subst (IsLeft n t p) (sym (elim (left_bind (λ left s. Finish (answer_of_left left)) (end_of_load p m card.load) m h lost) [
+  ends_lost h lost = subst (IsLeft n t p) (sym (elim (left_bind (λ left s. Finish (answer_of_left card.budget left)) (end_of_load p m card.load) m h lost) [
     | inl first ↦ left_by card.load own.load h first
     | inr later ↦ absurd later.3
   ])) (left_own n t p m (own_memory t card own))

@@ -74,8 +74,8 @@ leave_at_rest bytes card a new rest did =
     rests new.heap (down_did (exchange bytes card) card.memory new a did ∙ ap (λ (v : HeapView). v.down) rest) ended (calm.0 ended) (calm.1 ended)
 
 -- a card that is powered up rests
-pub rests_so : (k : KeptState) (card : CardState) → IsPoweredUp k card → IsResting card.memory.heap
-rests_so k card up =
+pub rests_so : (k : KeptState) (budget : ℕ) (card : CardState) → IsPoweredUp k budget card → IsResting card.memory.heap
+rests_so k budget card up =
     let same = up.heap in
     same ∙ (λ i. heap_at_rest (sym (ap (λ (v : HeapView). v.now) same) i) card.memory.heap.passed (sym (ap (λ (v : HeapView). v.refusals) same) i)
     (sym (ap (λ (v : HeapView). v.size) same) i))

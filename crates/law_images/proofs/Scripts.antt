@@ -17,7 +17,7 @@ use Rattle.jc_session.specs.declared.event.Event.TheVariants as event
 use Rattle.jc_session.specs.declared.event.Answer.{Answer}
 use Rattle.jc_session.specs.declared.event.Answer.TheVariants.{Response, Down}
 use Rattle.jc_session.specs.SessionStates.{answer_of_power_up}
-use Rattle.jc_session.specs.Power.{PowerState, Up, Off, KeptState, StoreState, IsStoreOf, durable_state, durable_rest, durable_state_in_store, with_refusal}
+use Rattle.jc_session.specs.Power.{PowerState, Up, Off, KeptState, StoreState, IsStoreOf, budget_of, durable_state, durable_rest, durable_state_in_store, with_refusal}
 use Rattle.jc_session.specs.Serving.{AnswersCommand, AnswersReset, SessionRun}
 use Rattle.jc_session.specs.Starting.{FailsToReset, IsPoweredUp, Starts}
 use Rattle.jc_card.specs.declared.power_up.PowerFault.{PowerFault as Fault}
@@ -28,7 +28,7 @@ use Rattle.jc_session.proofs.Refusals.{command_grows, is_same, reset_grows}
 use Rattle.jc_session.proofs.WholeSessions.{command_whole, reset_whole, start_count, started_up}
 use Rattle.jcard_script.specs.declared.script.ScriptFault.TheVariants.{ReadFailed, WriteFailed, BadLine, TooLong, PowerFault}
 use Rattle.jcard_script.specs.ScriptStates.{ScriptState, Up as UpIn, Down as DownIn, Exchanges, FailsReset, IsStoreOf as IsStoreOfHeap, IsSessionStore}
-use Rattle.jcard_script.specs.ScriptStates.{PowersUp, with_fuse}
+use Rattle.jcard_script.specs.ScriptStates.{PowersUp, budget_of as budget_in, with_fuse}
 use Rattle.jcard_script.specs.Script.{AreCarriedOut, Form, Skipped, Command, Resets, ArmsFuse, Bad, IsAnswered, IsToldOf, IsWrittenFor}
 use Rattle.jcard_script.specs.Script.{form_of, lines_so_far, power_text}
 use Rattle.jcard_script.specs.Texts.{IsCutOf}
@@ -42,12 +42,12 @@ use Rattle.law_images.specs.Scripts.{ServeAsEvents, ServeLines, ServeLinesWhole,
 -- how the card of a script stands, as a session sees it
 abbrev power_in : ScriptState → PowerState
 power_in (UpIn card) = Up card
-power_in (DownIn store) = Off (durable_state_in_store (state_of store))
+power_in (DownIn budget store) = Off budget (durable_state_in_store (state_of store))
 
 -- the heap of a card that is up rests, and the journal of one that is down is good
 abbrev IsGood : ScriptState → Type 0
 IsGood (UpIn card) = IsResting card.memory.heap
-IsGood (DownIn store) = IsGoodLog store.words
+IsGood (DownIn budget store) = IsGoodLog store.words
 
 same_kept : (heap : HeapView) (store : FuseStoreValue) → IsStoreOfHeap heap store → durable_state_in_store (state_of store) ≡ durable_rest heap
 same_kept heap store h = λ i. record {
@@ -61,11 +61,11 @@ same_kept heap store h = λ i. record {
 
 kept_held : (s : ScriptState) (store : FuseStoreValue) → IsSessionStore s store → durable_state_in_store (state_of store) ≡ durable_state (power_in s)
 kept_held (UpIn card) store h = same_kept card.memory.heap store h
-kept_held (DownIn held) store h = ap (λ (f : FuseStoreValue). durable_state_in_store (state_of f)) h
+kept_held (DownIn budget held) store h = ap (λ (f : FuseStoreValue). durable_state_in_store (state_of f)) h
 
 store_held : (s : ScriptState) (store : FuseStoreValue) → IsGood s → IsSessionStore s store → IsStoreOf (power_in s) (state_of store)
 store_held (UpIn card) store good h = record { good = h.good; kept = same_kept card.memory.heap store h }
-store_held (DownIn held) store good h = record {
+store_held (DownIn budget held) store good h = record {
   good = subst (λ (f : FuseStoreValue). IsGoodLog f.words) (sym h) good;
   kept = ap (λ (f : FuseStoreValue). durable_state_in_store (state_of f)) h;
 }
@@ -75,7 +75,7 @@ abbrev IsTold : List ℕ → PowerState → ScriptState → List ℕ → Type 0
 IsTold bytes s t text = (answer : Answer) × AnswersCommand s bytes answer (power_in t) × (text ≡ text_of_answer answer) × IsGood t
 
 told_after : (bytes : List ℕ) (card : CardState) (after : Completion MemoryState LoadResponse) (t : ScriptState) (text : List ℕ) → IsResting card.memory.heap
-    → Exchanges bytes card after → IsToldOf after t text → IsTold bytes (Up card) t text
+    → Exchanges bytes card after → IsToldOf card.budget after t text → IsTold bytes (Up card) t text
 told_after bytes card (Completed a memory) t text rest made says = (
   Response a.response,
   subst (λ (u : ScriptState). AnswersCommand (Up card) bytes (Response a.response) (power_in u)) (sym says.1) made,
@@ -84,32 +84,44 @@ told_after bytes card (Completed a memory) t text rest made says = (
 )
 told_after bytes card (Torn memory) t text rest cut says =
     let left = cut_kept card bytes memory (state_of says.1) (ap (λ (v : HeapView). v.down) rest) cut says.2.durable says.2.down says.2.passed says.2.refusals
-    says.2.size says.2.laid in
-    (Down, subst (λ (u : ScriptState). AnswersCommand (Up card) bytes Down (power_in u)) (sym says.3) left, says.0, subst IsGood (sym says.3) says.2.good)
+    says.2.size says.2.laid in (
+      Down,
+      subst (λ (u : ScriptState). AnswersCommand (Up card) bytes Down (power_in u)) (sym says.3)
+          (left.0, left.1, left.2, left.3, left.4, refl),
+      says.0,
+      subst IsGood (sym says.3) says.2.good,
+    )
 
 told_of : (bytes : List ℕ) (s t : ScriptState) (text : List ℕ) → IsGood s → IsAnswered bytes s t text → IsTold bytes (power_in s) t text
 told_of bytes (UpIn card) t text good h = told_after bytes card h.0 t text good h.1 h.2
-told_of bytes (DownIn store) t text good h = (
+told_of bytes (DownIn budget store) t text good h = (
   Down,
-  subst (λ (u : ScriptState). AnswersCommand (Off (durable_state_in_store (state_of store))) bytes Down (power_in u)) (sym h.1) refl,
+  subst (λ (u : ScriptState). AnswersCommand (Off budget (durable_state_in_store (state_of store))) bytes Down (power_in u)) (sym h.1) (refl, refl),
   h.0,
   subst IsGood (sym h.1) good,
 )
 
 -- a power up over a store
-started : (before : FuseStoreValue) (t : ScriptState) → PowersUp before t → Starts (state_of before) (power_in t) × IsGood t
-started before (UpIn card) h =
-    let up = starts_up (state_of before) before.passed card h.0 h.1 h.4 in (up, rests_so (durable_state_in_store (state_of before)) card up.1)
-started before (DownIn after) h = (starts_off (state_of before) (state_of after) h.0 h.1 h.2 h.3, h.1.good)
+started : (budget : ℕ) (before : FuseStoreValue) (t : ScriptState) → PowersUp budget before t → Starts budget (state_of before) (power_in t) × IsGood t
+started budget before (UpIn card) h =
+    let up = starts_up budget (state_of before) before.passed card h.0 h.1 h.4 h.5 in
+    (up, rests_so (durable_state_in_store (state_of before)) budget card up.1)
+started budget before (DownIn b after) h =
+    let off = starts_off budget (state_of before) (state_of after) h.0 h.1 h.2 h.3 in ((off.0, off.1, h.5), h.1.good)
 
-reset_by : (s : PowerState) (store : StoreState) (t : PowerState) → durable_state_in_store store ≡ durable_state s → Starts store t
+reset_by : (s : PowerState) (store : StoreState) (t : PowerState) → durable_state_in_store store ≡ durable_state s → Starts (budget_of s) store t
     → AnswersReset s (answer_of_power_up t) t
-reset_by s store (Up card) same h = subst (λ k. IsPoweredUp k card) same h.1
-reset_by s store (Off k) same h = h.1 ∙ ap (with_refusal k.passed) same
+reset_by s store (Up card) same h = subst (λ k. IsPoweredUp k (budget_of s) card) same h.1
+reset_by s store (Off b k) same h = (h.1 ∙ ap (with_refusal k.passed) same, h.2)
+
+-- the budget is the one that a session sees
+same_budget : (s : ScriptState) → budget_in s ≡ budget_of (power_in s)
+same_budget (UpIn card) = refl
+same_budget (DownIn budget store) = refl
 
 text_told : (t : ScriptState) → power_text t ≡ text_of_answer (answer_of_power_up (power_in t))
 text_told (UpIn card) = refl
-text_told (DownIn store) = refl
+text_told (DownIn budget store) = refl
 
 -- arming the fuse leaves a card as it is but for that
 same_armed : (k : ℕ) (s : ScriptState) → IsGood s → power_in (with_fuse k s) ≡ armed k (power_in s)
@@ -118,11 +130,11 @@ same_armed k (UpIn card) rest =
     let fuse = with_fuse_at (saturating_count heap.passed k) heap.refusals in
     ap (λ (v : HeapView). Up (record card { memory = record card.memory { heap = v } }))
     (sym (ap (λ (v : HeapView). record v { refusals = fuse }) rest ∙ (λ i. heap_at_rest (sym (ap (λ (v : HeapView). v.durable) rest) i) heap.passed fuse heap.size)))
-same_armed k (DownIn store) good = refl
+same_armed k (DownIn budget store) good = refl
 
 good_armed : (k : ℕ) (s : ScriptState) → IsGood s → IsGood (with_fuse k s)
 good_armed k (UpIn card) rest = refl
-good_armed k (DownIn store) good = good
+good_armed k (DownIn budget store) good = good
 
 -- a line, from one standing to the other
 one_line : (form : Form) (s u : ScriptState) (first : List ℕ) → IsGood s → IsWrittenFor form s u first
@@ -131,10 +143,11 @@ one_line Skipped s u first good h = ((ap power_in h.0, h.1), subst IsGood (sym h
 one_line (ArmsFuse k) s u first good h = ((ap power_in h.0 ∙ same_armed k s good, h.1), subst IsGood (sym h.0) (good_armed k s good))
 one_line (Command bytes) s u first good h = let said = told_of bytes s u first good h in ((said.0, said.1, said.2), said.3)
 one_line Resets s u first good h =
-    let up = started h.0.0 u h.0.2 in (
+    let up = started (budget_in s) h.0.0 u h.0.2 in (
       (
         answer_of_power_up (power_in u),
-        reset_by (power_in s) (state_of h.0.0) (power_in u) (kept_held s h.0.0 h.0.1) up.0,
+        reset_by (power_in s) (state_of h.0.0) (power_in u) (kept_held s h.0.0 h.0.1)
+            (subst (λ n. Starts n (state_of h.0.0) (power_in u)) (same_budget s) up.0),
         h.1 ∙ text_told u,
       ),
       up.1,
@@ -153,10 +166,10 @@ all_lines (line ∷ more) s t text good h =
 -- ---- whole scripts
 
 -- lines that were carried out from a power up on are served
-served : (before : FuseStoreValue) (carried : List (List ℕ)) (s t : ScriptState) (text : List ℕ) (leads : PowerState → Type 0) → PowersUp before s
-    → AreCarriedOut carried s t text → (IsGood t → leads (power_in t)) → AreSessionsOfScript before carried text leads
-served before carried s t text leads up h ends =
-    let first = started before s up in
+served : (budget : ℕ) (before : FuseStoreValue) (carried : List (List ℕ)) (s t : ScriptState) (text : List ℕ) (leads : PowerState → Type 0) → PowersUp budget before s
+    → AreCarriedOut carried s t text → (IsGood t → leads (power_in t)) → AreSessionsOfScript budget before carried text leads
+served budget before carried s t text leads up h ends =
+    let first = started budget before s up in
     let ran = all_lines carried s t text first.1 h in
     (power_in t, (power_in s, first.0, ran.0), ends ran.1)
 
@@ -182,20 +195,20 @@ longer_cut : (whole answer part : List ℕ) → IsCutOf answer part → IsCutOf 
 longer_cut whole answer part cut = (cut.0, ap (λ l. whole ++ l) cut.1 ∙ sym (append_assoc whole part cut.0), cut.2)
 
 pub are_sessions : AreSessions
-are_sessions (Ok done) before after at_end script text (inl fails) = absurd fails
-are_sessions (Ok done) before after at_end script text (inr h) = served before (lines script) h.0 h.1 text (Leaves after) h.2 h.4.1
+are_sessions budget (Ok done) before after at_end script text (inl fails) = absurd fails
+are_sessions budget (Ok done) before after at_end script text (inr h) = served budget before (lines script) h.0 h.1 text (Leaves after) h.2 h.4.1
     (λ good. store_held h.1 after good h.3)
-are_sessions (Err TooLong) before after at_end script text (inl fails) = absurd fails
-are_sessions (Err TooLong) before after at_end script text (inr h) = served before (lines_so_far false script) h.0 h.1 text (Leaves after) h.2 h.4.1
+are_sessions budget (Err TooLong) before after at_end script text (inl fails) = absurd fails
+are_sessions budget (Err TooLong) before after at_end script text (inr h) = served budget before (lines_so_far false script) h.0 h.1 text (Leaves after) h.2 h.4.1
     (λ good. store_held h.1 after good h.3)
-are_sessions (Err ReadFailed) before after at_end script text (inl fails) = absurd fails
-are_sessions (Err ReadFailed) before after at_end script text (inr h) = served before (lines_so_far false script) h.0 h.1 text (Leaves after) h.2 h.4.1
+are_sessions budget (Err ReadFailed) before after at_end script text (inl fails) = absurd fails
+are_sessions budget (Err ReadFailed) before after at_end script text (inr h) = served budget before (lines_so_far false script) h.0 h.1 text (Leaves after) h.2 h.4.1
     (λ good. store_held h.1 after good h.3)
-are_sessions (Err (BadLine n)) before after at_end script text (inl fails) = absurd fails
-are_sessions (Err (BadLine n)) before after at_end script text (inr h) =
+are_sessions budget (Err (BadLine n)) before after at_end script text (inl fails) = absurd fails
+are_sessions budget (Err (BadLine n)) before after at_end script text (inr h) =
     let at = h.4 in
-    (at.0, at.1, (at.2, at.3), at.5, at.4, served before at.0 h.0 h.1 text (Leaves after) h.2 at.6 (λ good. store_held h.1 after good h.3))
-are_sessions (Err (PowerFault fault)) before after at_end script text (inl fails) =
+    (at.0, at.1, (at.2, at.3), at.5, at.4, served budget before at.0 h.0 h.1 text (Leaves after) h.2 at.6 (λ good. store_held h.1 after good h.3))
+are_sessions budget (Err (PowerFault fault)) before after at_end script text (inl fails) =
     inl (
       record {
         cause = fails.0.cause;
@@ -207,7 +220,7 @@ are_sessions (Err (PowerFault fault)) before after at_end script text (inl fails
       },
       fails.2,
     )
-are_sessions (Err (PowerFault fault)) before after at_end script text (inr h) =
+are_sessions budget (Err (PowerFault fault)) before after at_end script text (inr h) =
     let at = h.4 in
     let stops = at.5 in
     inr (
@@ -215,11 +228,11 @@ are_sessions (Err (PowerFault fault)) before after at_end script text (inr h) =
       at.1,
       (at.2, at.3),
       at.4,
-      served before at.0 h.0 stops.0 text (λ last. FailsToReset fault last (state_of after)) h.2 stops.1
+      served budget before at.0 h.0 stops.0 text (λ last. FailsToReset fault last (state_of after)) h.2 stops.1
           (λ good. reset_fails fault stops.0 h.1 after good stops.2 h.3),
     )
-are_sessions (Err WriteFailed) before after at_end script text (inl fails) = absurd fails
-are_sessions (Err WriteFailed) before after at_end script text (inr h) =
+are_sessions budget (Err WriteFailed) before after at_end script text (inl fails) = absurd fails
+are_sessions budget (Err WriteFailed) before after at_end script text (inr h) =
     let at = h.4 in
     let stops = at.4 in (
       at.0,
@@ -228,7 +241,7 @@ are_sessions (Err WriteFailed) before after at_end script text (inr h) =
       (
         stops.0 ++ stops.1,
         subst (IsCutOf (stops.0 ++ stops.1)) (sym stops.4) (longer_cut stops.0 stops.1 stops.2 stops.7),
-        served before (at.0 ++ at.1 ∷ []) h.0 h.1 (stops.0 ++ stops.1) (Leaves after) h.2 (one_more at.0 at.1 h.0 stops.3 h.1 stops.0 stops.1 stops.5 stops.6)
+        served budget before (at.0 ++ at.1 ∷ []) h.0 h.1 (stops.0 ++ stops.1) (Leaves after) h.2 (one_more at.0 at.1 h.0 stops.3 h.1 stops.0 stops.1 stops.5 stops.6)
             (λ good. store_held h.1 after good h.3),
       ),
     )
@@ -281,7 +294,7 @@ line_grows (ArmsFuse k) s t text h = is_same _ _ (ap (λ p. (durable_state p).re
   where
     counts_on : (p : PowerState) → (durable_state (armed k p)).refusals.count ≡ (durable_state p).refusals.count
     counts_on (Up card) = refl
-    counts_on (Off kept) = refl
+    counts_on (Off b kept) = refl
 line_grows Bad s t text h = absurd h
 
 lines_grow : (all : List (List ℕ)) (s t : PowerState) (text : List ℕ) → ServeLines all s t text
@@ -318,15 +331,15 @@ lines_whole (line ∷ more) card last text h small same =
     (rest.0, rest.1, (h.0, h.1, first.0, h.3, first.2, rest.2))
 
 pub are_whole_sessions : AreWholeSessions
-are_whole_sessions before after at_end script text ends none =
-    let s : AreSessionsOfScript before (lines script) text (Leaves after) = are_sessions (Ok tt) before after at_end script text ends in
+are_whole_sessions budget before after at_end script text ends none =
+    let s : AreSessionsOfScript budget before (lines script) text (Leaves after) = are_sessions budget (Ok tt) before after at_end script text ends in
     let last = s.0 in
     let ran = s.1 in
     let left : after.refusals.count ≡ (durable_state last).refusals.count = ap (λ (x : KeptState). x.refusals.count) s.2.kept in
-    let up = start_count (state_of before) ran.0 ran.1 in
+    let up = start_count budget (state_of before) ran.0 ran.1 in
     let on = lines_grow (lines script) ran.0 last text ran.2 in
     let stays : (durable_state ran.0).refusals.count ≡ before.refusals.count = omega (arith, left, up, on, none.1) in
-    let first = started_up (state_of before) ran.0 ran.1 none.0 stays in
+    let first = started_up budget (state_of before) ran.0 ran.1 none.0 stays in
     let count : first.0.memory.heap.refusals.count ≡ before.refusals.count = sym (ap (λ p. (durable_state p).refusals.count) first.1) ∙ stays in
     let whole = lines_whole (lines script) first.0 last text (subst (λ p. ServeLines (lines script) p last text) first.1 ran.2) (omega (arith, count, none.0))
     (sym left ∙ (none.1 ∙ sym count)) in

@@ -29,7 +29,7 @@ use Rattle.jc_session.specs.declared.event.Answer.{Answer}
 use Rattle.jc_session.specs.declared.event.Answer.TheVariants.{Response, Ready, Down}
 use Rattle.jc_session.specs.declared.event.Event.{Event}
 use Rattle.jc_session.specs.declared.event.Event.TheVariants.{Command, Reset}
-use Rattle.jc_session.specs.Power.{KeptState, PowerState, Up, Off, durable_state}
+use Rattle.jc_session.specs.Power.{KeptState, PowerState, Up, Off, budget_of, durable_state}
 use Rattle.jc_session.specs.Serving.{AnswersCommand, AnswersReset, Serves, SessionRun}
 use Rattle.jc_session.specs.Starting.{IsPoweredUp}
 use Rattle.law_linking.proofs.Aids.{have_aids}
@@ -97,7 +97,7 @@ module _ (t : Tokens) (card : CardState) (own : IsOwnCard t card) where
   -- wherever a command ends, or the power is lost within it
   record Does (d : Program LoadResponse) : Type 0 where
     did : (ans : LoadResponse) (new : MemoryState) → Completes d card.memory ans new
-        → IsOwnCard t (record { memory = new; packages = ans.packages; load = ans.load })
+        → IsOwnCard t (record { memory = new; packages = ans.packages; load = ans.load; budget = ans.budget })
     lost : (h : HeapState) → TearLeaves d card.memory h → IsLeft card.memory.heap.durable.head.1 t card.packages h
 
   are_known : AreKnown card.packages
@@ -145,13 +145,13 @@ module _ (t : Tokens) (card : CardState) (own : IsOwnCard t card) where
 
   pub command_own : (bytes : List ℕ) (answer : Answer) (next : PowerState) → AreBytes bytes → AnswersCommand (Up card) bytes answer next → IsOwnPower t next
   command_own bytes (Response r) (Up next) are did = (exchanging_does bytes are).did (with_response next r) next.memory did
-  command_own bytes Down (Off k) are lost = record {
+  command_own bytes Down (Off b k) are lost = record {
     packages = card.packages;
     linked = own.linked;
     heap = own_at card.memory.heap.durable.head.1 t card.packages k.durable ((exchanging_does bytes are).lost k.durable lost.0).heap;
     layout = ((exchanging_does bytes are).lost k.durable lost.0).layout;
   }
-  command_own bytes (Response r) (Off k) are none = absurd none
+  command_own bytes (Response r) (Off b k) are none = absurd none
   command_own bytes Ready next are none = absurd none
   command_own bytes Down (Up next) are none = absurd none
 
@@ -164,10 +164,10 @@ kept_own t (Up card) own = record {
   heap = (left_own card.memory.heap.durable.head.1 t card.packages card.memory (own_memory t card own)).heap;
   layout = own.layout.durable;
 }
-kept_own t (Off k) own = own
+kept_own t (Off b k) own = own
 
 module _ (n : ℕ) (t : Tokens) (p : Packages) (h : HeapState) (own : IsOwnHeap h.head.1 t p h) (linked : AreLinkedWell p) (layout : IsLaidOut h)
-    (passed : ℕ) (refusals : Refusals) (m : MemoryState) (clear : IsCleared m.ram) (none : m.command ≡ []) where
+    (passed budget : ℕ) (refusals : Refusals) (m : MemoryState) (clear : IsCleared m.ram) (none : m.command ≡ []) where
   abbrev reset_memory : MemoryState
   reset_memory = record m { heap = heap_at_rest h passed refusals n; fixed = fixed_of h; registers = at_reset }
 
@@ -194,7 +194,7 @@ module _ (n : ℕ) (t : Tokens) (p : Packages) (h : HeapState) (own : IsOwnHeap 
     transients = blank_lives h m.ram clear;
   }
 
-  reset_own : IsOwnCard t (record { memory = reset_memory; packages = p; load = None })
+  reset_own : IsOwnCard t (record { memory = reset_memory; packages = p; load = None; budget = budget })
   reset_own = record {
     linked = linked;
     ready = record { sound = reset_sound; environment = record { now = own.environment; durable = own.environment }; closed = refl; idle = refl };
@@ -204,12 +204,12 @@ module _ (n : ℕ) (t : Tokens) (p : Packages) (h : HeapState) (own : IsOwnHeap 
     load = tt;
   }
 
-pub powered_own : OneTable → (t : Tokens) (k : KeptState) (card : CardState) → IsOwnKept t k → IsPoweredUp k card → IsOwnCard t card
-powered_own g t k card own up =
+pub powered_own : OneTable → (t : Tokens) (k : KeptState) (budget : ℕ) (card : CardState) → IsOwnKept t k → IsPoweredUp k budget card → IsOwnCard t card
+powered_own g t k budget card own up =
     let table : up.reset.packages.0 ≡ t = g k.durable.text up.reset.packages.0 t up.reset.packages.1 own.heap.beginning.table in
     let read : packages_of t k.durable ≡ Some card.packages = subst (λ u. packages_of u k.durable ≡ Some card.packages) table up.reset.packages.2 in
     let same : card.packages ≡ own.packages = same_Some card.packages own.packages (sym read ∙ own.heap.packages) in
-    let reset = reset_own k.size t own.packages k.durable own.heap own.linked own.layout card.memory.heap.passed k.refusals card.memory
+    let reset = reset_own k.size t own.packages k.durable own.heap own.linked own.layout card.memory.heap.passed card.budget k.refusals card.memory
     up.reset.ram up.reset.command in
     let path : card ≡ record {
       memory = record card.memory {
@@ -219,6 +219,7 @@ powered_own g t k card own up =
       };
       packages = own.packages;
       load = None;
+      budget = card.budget;
     } =
     λ i. record {
       memory = record {
@@ -231,16 +232,17 @@ powered_own g t k card own up =
       };
       packages = same i;
       load = up.reset.load i;
+      budget = card.budget;
     } in
     subst (IsOwnCard t) (sym path) reset
 
 reset_answered : OneTable → (t : Tokens) (s : PowerState) (answer : Answer) (next : PowerState) → IsOwnPower t s → AnswersReset s answer next
     → IsOwnPower t next
-reset_answered g t s Ready (Up card) own up = powered_own g t (durable_state s) card (kept_own t s own) up
-reset_answered g t s Down (Off k) own same =
+reset_answered g t s Ready (Up card) own up = powered_own g t (durable_state s) (budget_of s) card (kept_own t s own) up
+reset_answered g t s Down (Off b k) own same =
     let old = kept_own t s own in
-    subst (IsOwnKept t) (sym same) (record { packages = old.packages; linked = old.linked; heap = old.heap; layout = old.layout })
-reset_answered g t s Ready (Off k) own none = absurd none
+    subst (IsOwnKept t) (sym same.0) (record { packages = old.packages; linked = old.linked; heap = old.heap; layout = old.layout })
+reset_answered g t s Ready (Off b k) own none = absurd none
 reset_answered g t s Down (Up card) own none = absurd none
 reset_answered g t s (Response r) next own none = absurd none
 
@@ -249,10 +251,10 @@ reset_answered g t s (Response r) next own none = absurd none
 command_answered : (t : Tokens) (s : PowerState) (bytes : List ℕ) (answer : Answer) (next : PowerState) → AreBytes bytes → IsOwnPower t s
     → AnswersCommand s bytes answer next → IsOwnPower t next
 command_answered t (Up card) bytes answer next are own served = command_own t card own bytes answer next are served
-command_answered t (Off k) bytes Down (Off l) are own same = subst (IsOwnKept t) (sym same) own
-command_answered t (Off k) bytes (Response r) next are own none = absurd none
-command_answered t (Off k) bytes Ready next are own none = absurd none
-command_answered t (Off k) bytes Down (Up next) are own none = absurd none
+command_answered t (Off b k) bytes Down (Off d l) are own same = subst (IsOwnKept t) (sym same.0) own
+command_answered t (Off b k) bytes (Response r) next are own none = absurd none
+command_answered t (Off b k) bytes Ready next are own none = absurd none
+command_answered t (Off b k) bytes Down (Up next) are own none = absurd none
 
 event_own : OneTable → (t : Tokens) (s : PowerState) (event : Event) (answer : Answer) (next : PowerState) → IsOfBytes event → IsOwnPower t s
     → Serves s event answer next → IsOwnPower t next

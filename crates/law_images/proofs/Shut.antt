@@ -36,7 +36,7 @@ use Rattle.jc_card_load.specs.Ending.{package_entry, assembly_result, after_addi
 use Rattle.jc_card.specs.Answers.{manager_command, exchange, exchange_of_apdu, is_dispatched, run_code}
 use Rattle.jc_card.specs.Apdu.{Apdu, apdu_of}
 use Rattle.jc_card.specs.CardState.{CardState}
-use Rattle.jc_card.specs.Dispatching.{create_applet, dispatch, expected_by, is_select, manager_aid, most_instructions, route, to_named, to_selected}
+use Rattle.jc_card.specs.Dispatching.{create_applet, dispatch, expected_by, is_select, manager_aid, route, to_named, to_selected}
 use Rattle.jc_card.specs.Loads.{begin_component, end_component, append_component, end_load}
 
 -- no transaction is open
@@ -162,32 +162,32 @@ created_shut budget p bytes m shut = created_of_shut budget p (creation_of bytes
 
 -- ---- commands of applets
 
-to_selected_shut : (a : Option AppletNumber) (expected : ℕ) (p : Packages) (m : MemoryState) → m.heap.begun ≡ false → EndsShut (to_selected a expected p m) m
-to_selected_shut None expected p m shut = stays_shut shut
-to_selected_shut (Some a) expected p m shut = processed_shut most_instructions p a false expected m
+to_selected_shut : (budget : ℕ) (a : Option AppletNumber) (expected : ℕ) (p : Packages) (m : MemoryState) → m.heap.begun ≡ false → EndsShut (to_selected budget a expected p m) m
+to_selected_shut budget None expected p m shut = stays_shut shut
+to_selected_shut budget (Some a) expected p m shut = processed_shut budget p a false expected m
 
-to_named_shut : (a : Option AppletNumber) (expected : ℕ) (p : Packages) (m : MemoryState) → m.heap.begun ≡ false → EndsShut (to_named a expected p m) m
-to_named_shut None expected p m shut = to_selected_shut m.registers.selected expected p m shut
-to_named_shut (Some a) expected p m shut = selected_shut most_instructions p a expected m
+to_named_shut : (budget : ℕ) (a : Option AppletNumber) (expected : ℕ) (p : Packages) (m : MemoryState) → m.heap.begun ≡ false → EndsShut (to_named budget a expected p m) m
+to_named_shut budget None expected p m shut = to_selected_shut budget m.registers.selected expected p m shut
+to_named_shut budget (Some a) expected p m shut = selected_shut budget p a expected m
 
-routed_shut : (c : Apdu) (expected : ℕ) (p : Packages) (m : MemoryState) → m.heap.begun ≡ false → EndsShut (route c expected p m) m
+routed_shut : (budget : ℕ) (c : Apdu) (expected : ℕ) (p : Packages) (m : MemoryState) → m.heap.begun ≡ false → EndsShut (route budget c expected p m) m
 unfolding route
-routed_shut c expected p m shut =
-    shut_if (is_select c) _ _ m (shut_if (bytes_eq c.content manager_aid) _ _ m (managed_shut most_instructions p m shut)
-    (to_named_shut (applet_with_aid m c.content) expected p m shut))
-    (to_selected_shut m.registers.selected expected p m shut)
+routed_shut budget c expected p m shut =
+    shut_if (is_select c) _ _ m (shut_if (bytes_eq c.content manager_aid) _ _ m (managed_shut budget p m shut)
+    (to_named_shut budget (applet_with_aid m c.content) expected p m shut))
+    (to_selected_shut budget m.registers.selected expected p m shut)
 
 dispatched_shut : (bytes : List ℕ) (c : Apdu) (card : CardState) → card.memory.heap.begun ≡ false → EndsShut (dispatch bytes c card) card.memory
 unfolding dispatch
 dispatched_shut bytes c card shut =
     let v = apply_effect (BeginCommand bytes) card.memory in
-    behind _ _ card.memory (still_shut _ (λ e w none. stays_shut none) (route c (expected_by bytes) card.packages v) v
-    (routed_shut c (expected_by bytes) card.packages v shut))
+    behind _ _ card.memory (still_shut _ (λ e w none. stays_shut none) (route card.budget c (expected_by bytes) card.packages v) v
+    (routed_shut card.budget c (expected_by bytes) card.packages v shut))
 
 -- ---- the manager's commands
 
 code_run_shut : (limit locals : ℕ) (code : List ℕ) (card : CardState) → EndsShut
-    (ad_hoc_run most_instructions limit locals code card.packages card.memory) card.memory
+    (ad_hoc_run card.budget limit locals code card.packages card.memory) card.memory
 unfolding ad_hoc_run
 code_run_shut limit locals code card = then_shut _ (λ end v. still_shut _ (λ u w none. stays_shut none) (close v) v (closed_shut v)) _ card.memory
 
@@ -195,7 +195,7 @@ runs_shut : (limit locals : ℕ) (code : List ℕ) (card : CardState) → card.m
 unfolding run_code
 runs_shut limit locals [] card shut = stays_shut shut
 runs_shut limit locals (b ∷ more) card shut =
-    still_shut _ (λ end v none. stays_shut none) (ad_hoc_run most_instructions limit locals (b ∷ more) card.packages card.memory) card.memory
+    still_shut _ (λ end v none. stays_shut none) (ad_hoc_run card.budget limit locals (b ∷ more) card.packages card.memory) card.memory
     (code_run_shut limit locals (b ∷ more) card)
 
 creates_shut : (bytes : List ℕ) (card : CardState) → card.memory.heap.begun ≡ false → EndsShut (create_applet bytes card) card.memory
@@ -203,8 +203,8 @@ unfolding create_applet
 creates_shut [] card shut = stays_shut shut
 creates_shut (b ∷ more) card shut =
     let v = apply_effect (BeginCommand []) card.memory in
-    behind _ _ card.memory (still_shut _ (λ e w none. stays_shut none) (applet_creation most_instructions card.packages (b ∷ more) v) v
-    (created_shut most_instructions card.packages (b ∷ more) v shut))
+    behind _ _ card.memory (still_shut _ (λ e w none. stays_shut none) (applet_creation card.budget card.packages (b ∷ more) v) v
+    (created_shut card.budget card.packages (b ∷ more) v shut))
 
 component_begins_shut : (tag : ℕ) (load : Option OpenLoad) (card : CardState) → card.load ≡ load → card.memory.heap.begun ≡ false
     → EndsShut (begin_component tag card) card.memory

@@ -45,7 +45,7 @@ pub record IsOwnKept (t : Tokens) (k : KeptState) : Type 0 where
 -- a card that is so, up or off
 abbrev pub IsOwnPower : Tokens → PowerState → Type 0
 IsOwnPower t (Up card) = IsOwnCard t card
-IsOwnPower t (Off k) = IsOwnKept t k
+IsOwnPower t (Off budget k) = IsOwnKept t k
 
 -- a command is bytes
 abbrev pub IsOfBytes : Event → Type 0

@@ -16,19 +16,20 @@ use Rattle.law_images.specs.Loaded.{AreBytes}
 use Rattle.law_images.specs.Cards.{AreOfBytes, IsOwnKept}
 use Rattle.law_images.specs.Faults.{IsOwnStore}
 
--- a session comes to this state that began without power, with what is left of a new image, or of one that sessions left of it
+-- a session comes to this state that began without power, with any budget and with what is left of a new image, or of one that sessions left of it
 pub record ComesTo (t : Tokens) (s : PowerState) : Type 0 where
+  pub budget : ℕ
   pub first : KeptState
   pub events : List Event
   pub answers : List Answer
   pub own : IsOwnKept t first
   pub bytes : AreOfBytes events
-  pub run : SessionRun (Off first) events answers s
+  pub run : SessionRun (Off budget first) events answers s
 
 -- so does each session over a store that is so
 abbrev pub StoresCome : Type 0
-StoresCome = (t : Tokens) (before : StoreState) (events : List Event) (answers : List Answer) (s : PowerState) → IsOwnStore t before → AreOfBytes events
-    → IsSession before events answers s → ComesTo t s
+StoresCome = (budget : ℕ) (t : Tokens) (before : StoreState) (events : List Event) (answers : List Answer) (s : PowerState) → IsOwnStore t before → AreOfBytes events
+    → IsSession budget before events answers s → ComesTo t s
 
 -- and a command of these bytes then begins with these effects
 pub record ComesWithin (t : Tokens) (card : CardState) (bytes : List ℕ) (es : List Effect) : Type 0 where

@@ -26,7 +26,7 @@ pub record SessionsEndWell : Type 0 where
   pub new : (t : Tokens) (capacity : ℕ) (text : List ℕ) (store : StoreState) → IsMade store.words → Reads text (Ok t)
       → heap_of (recovered_of store.words) ≡ new_card_heap (length store.words) capacity text t → IsOwnStore t store
   pub made : (t : Tokens) (store : StoreState) → IsOwnStore t store → IsMade store.words
-  pub done : (t : Tokens) (before after : StoreState) (events : List Event) (answers : List Answer) → AreOfBytes events → IsOwnStore t before
-      → SessionEnds (Ok answers) before events after → IsOwnStore t after
-  pub fault : (t : Tokens) (before after : StoreState) (events : List Event) (fault : Fault) → AreOfBytes events → IsOwnStore t before
-      → SessionEnds (Err (PowerFault fault)) before events after → (fault ≡ NoMemory) × IsOwnStore t after
+  pub done : (budget : ℕ) (t : Tokens) (before after : StoreState) (events : List Event) (answers : List Answer) → AreOfBytes events → IsOwnStore t before
+      → SessionEnds budget (Ok answers) before events after → IsOwnStore t after
+  pub fault : (budget : ℕ) (t : Tokens) (before after : StoreState) (events : List Event) (fault : Fault) → AreOfBytes events → IsOwnStore t before
+      → SessionEnds budget (Err (PowerFault fault)) before events after → (fault ≡ NoMemory) × IsOwnStore t after

@@ -18,7 +18,7 @@ use Rattle.jc_session.specs.Starting.{FailsToReset, FailsToStart, IsPoweredUp, S
 use Rattle.jc_session.specs.WholeCopies.{RefusesNone}
 use Rattle.jcard_script.specs.declared.script.ScriptFault.{ScriptFault}
 use Rattle.jcard_script.specs.declared.script.ScriptFault.TheVariants.{ReadFailed, WriteFailed, BadLine, TooLong, PowerFault}
-use Rattle.jcard_script.specs.Script.{Ends, Form, Skipped, Command, Resets, ArmsFuse, Bad, armed_text, down_text, form_of, lines_so_far, ready_text, text_of}
+use Rattle.jcard_script.specs.Script.{EndsWithin, Form, Skipped, Command, Resets, ArmsFuse, Bad, armed_text, down_text, form_of, lines_so_far, ready_text, text_of}
 use Rattle.jcard_script.specs.Texts.{IsCutOf}
 
 -- what a session sees of a store with a fuse
@@ -36,7 +36,7 @@ armed_card k card = record card {
 -- the same of a card that is off
 abbrev pub armed : ℕ → PowerState → PowerState
 armed k (Up card) = Up (armed_card k card)
-armed k (Off kept) = Off (record kept { refusals = with_fuse_at (saturating_count kept.passed k) kept.refusals })
+armed k (Off budget kept) = Off budget (record kept { refusals = with_fuse_at (saturating_count kept.passed k) kept.refusals })
 
 -- the line of an answer
 abbrev pub text_of_answer : Answer → List ℕ
@@ -74,13 +74,13 @@ pub record ServeWithOne (carried : List (List ℕ)) (s last : PowerState) (text 
   pub one : ServesForm (form_of line) mid next told
   pub behind : ServeLines after next last rest
 
--- a session of these lines over a store: a power up, and then the lines are served so and lead there
-abbrev pub IsSessionOfScript : FuseStoreValue → List (List ℕ) → List ℕ → PowerState → Type 0
-IsSessionOfScript before carried text last = (first : PowerState) × Starts (state_of before) first × ServeLines carried first last text
+-- a session of these lines over a store, with this budget: a power up, and then the lines are served so and lead there
+abbrev pub IsSessionOfScript : ℕ → FuseStoreValue → List (List ℕ) → List ℕ → PowerState → Type 0
+IsSessionOfScript budget before carried text last = (first : PowerState) × Starts budget (state_of before) first × ServeLines carried first last text
 
 -- they were carried out as a session, which leads to such a state
-abbrev pub AreSessionsOfScript : FuseStoreValue → List (List ℕ) → List ℕ → (PowerState → Type 0) → Type 0
-AreSessionsOfScript before carried text leads = (last : PowerState) × IsSessionOfScript before carried text last × leads last
+abbrev pub AreSessionsOfScript : ℕ → FuseStoreValue → List (List ℕ) → List ℕ → (PowerState → Type 0) → Type 0
+AreSessionsOfScript budget before carried text leads = (last : PowerState) × IsSessionOfScript budget before carried text last × leads last
 
 -- the store is the one of such a state
 abbrev pub Leaves : FuseStoreValue → PowerState → Type 0
@@ -93,25 +93,25 @@ ComesBehind all carried line = (after : List (List ℕ)) × (all ≡ carried ++ 
 -- how a script ended, as a session over its store: all its lines were carried out, those before a bad line, or those that were read
 -- before it became too long or the reader failed; a power up found a fault, at the beginning or at a reset; or of what a line is to
 -- be answered only a beginning was written
-abbrev pub EndsAsSession : Result Unit ScriptFault → FuseStoreValue → FuseStoreValue → Bool → List ℕ → List ℕ → Type 0
-EndsAsSession (Ok done) before after at_end script text = AreSessionsOfScript before (lines script) text (Leaves after)
-EndsAsSession (Err TooLong) before after at_end script text = AreSessionsOfScript before (lines_so_far false script) text (Leaves after)
-EndsAsSession (Err ReadFailed) before after at_end script text = AreSessionsOfScript before (lines_so_far false script) text (Leaves after)
-EndsAsSession (Err (BadLine n)) before after at_end script text =
+abbrev pub EndsAsSession : ℕ → Result Unit ScriptFault → FuseStoreValue → FuseStoreValue → Bool → List ℕ → List ℕ → Type 0
+EndsAsSession budget (Ok done) before after at_end script text = AreSessionsOfScript budget before (lines script) text (Leaves after)
+EndsAsSession budget (Err TooLong) before after at_end script text = AreSessionsOfScript budget before (lines_so_far false script) text (Leaves after)
+EndsAsSession budget (Err ReadFailed) before after at_end script text = AreSessionsOfScript budget before (lines_so_far false script) text (Leaves after)
+EndsAsSession budget (Err (BadLine n)) before after at_end script text =
     (carried : List (List ℕ)) × (line : List ℕ) × ComesBehind (lines_so_far at_end script) carried line × (form_of line ≡ Bad) × (n ≡ length carried + 1)
-    × AreSessionsOfScript before carried text (Leaves after)
-EndsAsSession (Err (PowerFault fault)) before after at_end script text =
+    × AreSessionsOfScript budget before carried text (Leaves after)
+EndsAsSession budget (Err (PowerFault fault)) before after at_end script text =
     (FailsToStart fault (state_of before) (state_of after) × (text ≡ [])) ⊎
     ((carried : List (List ℕ)) × (line : List ℕ) × ComesBehind (lines_so_far at_end script) carried line × (form_of line ≡ Resets)
-    × AreSessionsOfScript before carried text (λ last. FailsToReset fault last (state_of after)))
-EndsAsSession (Err WriteFailed) before after at_end script text =
+    × AreSessionsOfScript budget before carried text (λ last. FailsToReset fault last (state_of after)))
+EndsAsSession budget (Err WriteFailed) before after at_end script text =
     (carried : List (List ℕ)) × (line : List ℕ) × ComesBehind (lines_so_far at_end script) carried line ×
-    ((whole : List ℕ) × IsCutOf whole text × AreSessionsOfScript before (carried ++ line ∷ []) whole (Leaves after))
+    ((whole : List ℕ) × IsCutOf whole text × AreSessionsOfScript budget before (carried ++ line ∷ []) whole (Leaves after))
 
 -- so ends every script
 abbrev pub AreSessions : Type 0
-AreSessions = (result : Result Unit ScriptFault) (before after : FuseStoreValue) (at_end : Bool) (script text : List ℕ)
-    → Ends result before after at_end script text → EndsAsSession result before after at_end script text
+AreSessions = (budget : ℕ) (result : Result Unit ScriptFault) (before after : FuseStoreValue) (at_end : Bool) (script text : List ℕ)
+    → EndsWithin budget result before after at_end script text → EndsAsSession budget result before after at_end script text
 
 -- what comes to a card, by its bytes alone: a command of these, or a reset
 pub data Coming : Type 0 where
@@ -195,7 +195,7 @@ abbrev pub ServesFormWhole : Form → CardState → CardState → List ℕ → T
 ServesFormWhole Skipped card next text = (next ≡ card) × (text ≡ [])
 ServesFormWhole (Command bytes) card next text = (response : List ℕ)
     × Completes (exchange bytes card) card.memory (with_response next response) next.memory × (text ≡ text_of response)
-ServesFormWhole Resets card next text = IsPoweredUp (durable_rest card.memory.heap) next × (text ≡ ready_text)
+ServesFormWhole Resets card next text = IsPoweredUp (durable_rest card.memory.heap) card.budget next × (text ≡ ready_text)
 ServesFormWhole (ArmsFuse k) card next text = (next ≡ armed_card k card) × (text ≡ armed_text k)
 ServesFormWhole Bad card next text = ⊥
 
@@ -207,6 +207,6 @@ ServeLinesWhole (line ∷ more) card last text = (first rest : List ℕ) × (nex
 
 -- and where the store refused no write, a script that was carried out to its end is a session of a card that keeps whole copies of its heap
 abbrev pub AreWholeSessions : Type 0
-AreWholeSessions = (before after : FuseStoreValue) (at_end : Bool) (script text : List ℕ) → Ends (Ok tt) before after at_end script text
-    → RefusesNone before.refusals.count after.refusals.count → (first last : CardState) × IsPoweredUp (durable_state_in_store (state_of before)) first
+AreWholeSessions = (budget : ℕ) (before after : FuseStoreValue) (at_end : Bool) (script text : List ℕ) → EndsWithin budget (Ok tt) before after at_end script text
+    → RefusesNone before.refusals.count after.refusals.count → (first last : CardState) × IsPoweredUp (durable_state_in_store (state_of before)) budget first
     × ServeLinesWhole (lines script) first last text × IsStoreOf (Up last) (state_of after)

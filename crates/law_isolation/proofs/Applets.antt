@@ -53,6 +53,12 @@ begun_in : (m : MemoryState) (b : Bool) (k : PackageNumber) → (if b then open_
 begun_in m true k e = refl
 begun_in m false k e = absurd (none-some k e)
 
+pub full_in : (k : PackageNumber) (space room : Bool) (j : PackageNumber)
+    → (if space then (if room then Err (Throw buffer_full) else Ok j) else Err (Throw no_resource)) ≡ Ok k → j ≡ k
+full_in k true true j e = absurd (err_not_ok e)
+full_in k true false j e = same_Ok j k e
+full_in k false room j e = absurd (err_not_ok e)
+
 module _ (m : MemoryState) (aid : List ℕ) (instance : ℕ) (k : PackageNumber) where
   few_in : (known room : Bool) → nat_lt m.heap.now.counts.1 most_applets ≡ room → (owned : Bool)
       → (if known then false else (if room then owned else false)) ≡ true → m.heap.now.counts.1 < most_applets
@@ -60,19 +66,13 @@ module _ (m : MemoryState) (aid : List ℕ) (instance : ℕ) (k : PackageNumber)
   few_in false true is owned e = ltb-true m.heap.now.counts.1 most_applets is
   few_in false false is owned e = absurd (true≢false (sym e))
 
-  full_in : (space room : Bool) (j : PackageNumber) → (if space then (if room then Err (Throw buffer_full) else Ok j) else Err (Throw no_resource))
-      ≡ Ok k → j ≡ k
-  full_in true true j e = absurd (err_not_ok e)
-  full_in true false j e = same_Ok j k e
-  full_in false room j e = absurd (err_not_ok e)
-
   added_in : (added inside : Bool) → may_be_added m aid instance ≡ added → (j : PackageNumber) → m.heap.begun ≡ true
       → j.0 ≡ installed_package m.registers.installation →
       (if added then (if inside then Err (Throw in_progress) else unless_full m j) else Err (Throw illegal_aid)) ≡ Ok k → MayRegister m k
   added_in true true is j begun home e = absurd (err_not_ok e)
   added_in true false is j begun home e = record {
     begun = begun;
-    home = ap (λ x. x.0) (sym (full_in _ _ j e)) ∙ home;
+    home = ap (λ x. x.0) (sym (full_in k _ _ j e)) ∙ home;
     few = few_in (is_some (applet_with_aid m aid)) (nat_lt m.heap.now.counts.1 most_applets) refl (is_owned (next_number m) (header_at m instance)) is;
   }
   added_in false inside is j begun home e = absurd (err_not_ok e)

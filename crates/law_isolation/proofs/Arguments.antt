@@ -2,7 +2,7 @@
 use Rattle.std.proofs.Common.{◌≡◌, ℕ, ◌+◌, ◌≤◌, Bool, true, false, List, length, Option, Some, None, Result, Ok, Err, refl, sym, ◌∙◌, ap, subst, arith}
 use Rattle.std.proofs.Common.{if◌then◌else◌, inl, inr}
 use Rattle.std.specs.Prelude.{◌⊎◌}
-use Rattle.std.proofs.lemmas.Bool.{and_parts, eqb-true, leb-true, ne_eqb}
+use Rattle.std.proofs.lemmas.Bool.{and_parts, eqb-true, leb-true}
 use Rattle.std.proofs.lemmas.List.{length-map}
 use Rattle.std.proofs.lemmas.List.FromFn.{length-range_with_len}
 use Rattle.std.proofs.lemmas.Option.{none-some, same_Some}
@@ -266,21 +266,7 @@ if_both : (a b : Bool) → (if a then b else false) ≡ true → (a ≡ true) ×
 if_both true b e = (refl, e)
 if_both false b e = absurd cc
 
-if_some : (zero fit : Bool) → zero ≡ false → (if zero then true else fit) ≡ true → fit ≡ true
-if_some true fit some e = absurd cc
-if_some false fit some e = e
-
 -- the record of a PIN
 pub pin_record : (m : MemoryState) (r : ℕ) → is_pin m r ≡ true → IsKeptAs m Instance 5 r
 unfolding is_pin
 pin_record m r e = kept_as m Instance 5 r (header_at m r) refl (if_both (is_persistent_with Instance 5 (header_at m r)) (has_value m (record_of m r)) e).0
-
--- the array for its value, where that may have any bytes
-pub pin_value : (m : MemoryState) (r : ℕ) → is_pin m r ≡ true → ((record_of m r).maximum ≡ 0 → ⊥)
-    → IsKeptAs m ByteArray (record_of m r).maximum (record_of m r).value
-unfolding is_pin
-pin_value m r e some =
-    let value = (if_both (is_persistent_with Instance 5 (header_at m r)) (has_value m (record_of m r)) e).1 in
-    let fit = (and_parts (nat_le (record_of m r).length (record_of m r).maximum) _ value).1 in
-    kept_as m ByteArray (record_of m r).maximum (record_of m r).value (header_at m (record_of m r).value) refl
-    (if_some ((record_of m r).maximum == 0) _ (ne_eqb (record_of m r).maximum 0 some) fit)

@@ -57,7 +57,7 @@ pub record IsCell (p : Packages) (m : MemoryState) (field : FieldOfClass) (r i :
   pub within : i < (facts m.heap.now r).length
   pub reach : IsInReach (situation_of p m (facts m.heap.now r))
 
-instance_kind : (kind : Kind) → is_instance kind ≡ true → kind ≡ Instance
+pub instance_kind : (kind : Kind) → is_instance kind ≡ true → kind ≡ Instance
 instance_kind Instance e = refl
 instance_kind _ e = absurd cc
 

@@ -36,7 +36,7 @@ one_context (Package p) (Package q) e = ap Package (eqb-true p q e)
 pub err_not_ok : {A : Type 0} {a : A} {e : FrameExit} → Err e ≡ Ok a → ⊥
 err_not_ok same = false≢true (ap is_ok same)
 
-own_reach : (s : Situation) → is_own s ≡ true → IsInReach s
+pub own_reach : (s : Situation) → is_own s ≡ true → IsInReach s
 own_reach s e = inr (inl (one_context s.object.owner s.active e))
 
 -- where all rules allow an array's element or an instance's field, the object is within reach

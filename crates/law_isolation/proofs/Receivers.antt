@@ -50,21 +50,15 @@ use Rattle.jc_interp_calls.specs.Invoke.{arguments_of, call_of, invokeinterface,
 use Rattle.jc_interp_calls.specs.Invoke.{fits_at_null, interface_access, interface_by, is_native_constructor, is_of, is_of_any, call_decision, receiver_of}
 use Rattle.jc_interp_calls.specs.Invoke.{receiver_on, special_by, static_by, virtual_by}
 use Rattle.jc_interp_calls.specs.Parameters.{fits}
-use Rattle.law_isolation.proofs.Reaching.{err_not_ok, field_allowed, object_is, one_context, same_Ok}
+use Rattle.law_isolation.proofs.Arguments.{both_ok}
+use Rattle.law_isolation.proofs.Reaching.{err_not_ok, field_allowed, object_is, one_context, own_reach, same_Ok}
 use Rattle.law_isolation.specs.Steps.{NamesStatics}
-
-pub both_fine : {A B : Type 0} (o : Result A FrameExit) (go : A → Result B FrameExit) (b : B) → and_then o go ≡ Ok b → (a : A) × (o ≡ Ok a) × (go a ≡ Ok b)
-both_fine (Ok a) go b e = (a, refl, e)
-both_fine (Err x) go b e = absurd (err_not_ok e)
 
 pub is_there : {A : Type 0} (o : Option A) (a : A) → some_or_fault o ≡ Ok a → o ≡ Some a
 is_there None a e = absurd (err_not_ok e)
 is_there (Some x) a e = ap Some (same_Ok x a e)
 
 -- ---- what the firewall allows without a switch
-
-own_reach : (s : Situation) → is_own s ≡ true → IsInReach s
-own_reach s e = inr (inl (one_context s.object.owner s.active e))
 
 switch_not_allow : {o : Context} → Switch o ≡ Allow → ⊥
 switch_not_allow e = cc
@@ -131,7 +125,7 @@ module _ (p : Packages) (m : MemoryState) (stack : List Cell) (c : MethodCall) (
   found_on : (n : ℕ) (f : Facts) → receiver_of n stack m ≡ Ok f → IsInReach (situation_of p m f) → c.arguments ≡ n → IsOnOwn p m stack c
   unfolding receiver_of
   found_on n f e reach same =
-      let b = both_fine (some_or_fault (receiver_on n stack)) (λ r. object_at m r) f e in
+      let b = both_ok (some_or_fault (receiver_on n stack)) (λ r. object_at m r) f e in
       record {
         receiver = b.0;
         on = ap (λ k. receiver_on k stack) same ∙ is_there (receiver_on n stack) b.0 b.1;
@@ -147,23 +141,23 @@ module _ (p : Packages) (m : MemoryState) (stack : List Cell) (c : MethodCall) (
   virtually_on : (class : ℕ) (token : VirtualToken) (method : Method) → invokevirtual class token method p stack m ≡ Ok c → IsFit p m stack c
   unfolding invokevirtual
   virtually_on class token method e =
-      let one = both_fine (some_or_fault (arguments_of p method)) _ c e in
-      let kinds = both_fine (check_or_fault (fits_at_null one.0 method p stack m)) _ c one.2 in
-      let two = both_fine (receiver_of one.0 stack m) _ c kinds.2 in
-      let three = both_fine (check_or_fault (is_of p two.0 class)) _ c two.2 in
-      let four = both_fine (some_or_fault (method_at p (class_of p two.0) (class / 256) token)) _ c three.2 in
-      let five = both_fine (check_or_fault (fits four.0 p m stack)) _ c four.2 in
+      let one = both_ok (some_or_fault (arguments_of p method)) _ c e in
+      let kinds = both_ok (check_or_fault (fits_at_null one.0 method p stack m)) _ c one.2 in
+      let two = both_ok (receiver_of one.0 stack m) _ c kinds.2 in
+      let three = both_ok (check_or_fault (is_of p two.0 class)) _ c two.2 in
+      let four = both_ok (some_or_fault (method_at p (class_of p two.0) (class / 256) token)) _ c three.2 in
+      let five = both_ok (check_or_fault (fits four.0 p m stack)) _ c four.2 in
       inl (judged_on (firewall_decision access.VirtualCall p m two.0) two.0 four.0 one.0 (virtual_allowed p m two.0) two.1 five.2)
 
   specially_on : (class : Option ℕ) (method : Method) → invokespecial class method p stack m ≡ Ok c → IsFit p m stack c
   unfolding invokespecial
   specially_on class method e =
-      let one = both_fine (some_or_fault (arguments_of p method)) _ c e in
-      let kinds = both_fine (check_or_fault (fits_at_null one.0 method p stack m)) _ c one.2 in
-      let two = both_fine (receiver_of one.0 stack m) _ c kinds.2 in
-      let three = both_fine (check_or_fault (is_of_any p two.0 class)) _ c two.2 in
-      let four = both_fine (check_or_fault (fits method p m stack)) _ c three.2 in
-      let five = both_fine (firewall_check access.InstanceField p m two.0) _ c four.2 in
+      let one = both_ok (some_or_fault (arguments_of p method)) _ c e in
+      let kinds = both_ok (check_or_fault (fits_at_null one.0 method p stack m)) _ c one.2 in
+      let two = both_ok (receiver_of one.0 stack m) _ c kinds.2 in
+      let three = both_ok (check_or_fault (is_of_any p two.0 class)) _ c two.2 in
+      let four = both_ok (check_or_fault (fits method p m stack)) _ c three.2 in
+      let five = both_ok (firewall_check access.InstanceField p m two.0) _ c four.2 in
       inl (found_on one.0 two.0 two.1 (field_allowed p m two.0 five.1) (ap (λ x. x.arguments) (sym (same_Ok (call_of method one.0 None) c five.2))))
 
   interface_decided : (interface : ℕ) (f : Facts) (b : Bool) → is_shareable p interface ≡ b
@@ -174,10 +168,10 @@ module _ (p : Packages) (m : MemoryState) (stack : List Cell) (c : MethodCall) (
   interface_on : (interface n token : ℕ) → invokeinterface interface n token p stack m ≡ Ok c → IsFit p m stack c
   unfolding invokeinterface
   interface_on interface n token e =
-      let one = both_fine (receiver_of n stack m) _ c e in
-      let two = both_fine (check_or_fault (is_of p one.0 interface)) _ c one.2 in
-      let three = both_fine (some_or_fault (interface_method_at p (class_of p one.0) interface token)) _ c two.2 in
-      let four = both_fine (check_or_fault (fits three.0 p m stack)) _ c three.2 in
+      let one = both_ok (receiver_of n stack m) _ c e in
+      let two = both_ok (check_or_fault (is_of p one.0 interface)) _ c one.2 in
+      let three = both_ok (some_or_fault (interface_method_at p (class_of p one.0) interface token)) _ c two.2 in
+      let four = both_ok (check_or_fault (fits three.0 p m stack)) _ c three.2 in
       inl (judged_on (firewall_decision (interface_access p interface) p m one.0) one.0 three.0 n
       (interface_decided interface one.0 (is_shareable p interface) refl) one.1 four.2)
 
@@ -189,8 +183,8 @@ module _ (p : Packages) (m : MemoryState) (stack : List Cell) (c : MethodCall) (
       → target_at p number index ≡ Some (StaticMethod class method) → invokestatic method p ≡ Ok c → IsFit p m stack c
   unfolding invokestatic
   statically_on statics number index class method target e =
-      let one = both_fine (check_or_fault (not (is_native_constructor method))) _ c e in
-      let two = both_fine (some_or_fault (arguments_of p method)) _ c one.2 in
+      let one = both_ok (check_or_fault (not (is_native_constructor method))) _ c e in
+      let two = both_ok (some_or_fault (arguments_of p method)) _ c one.2 in
       let same : method ≡ c.method = ap (λ x. x.method) (same_Ok (call_of method two.0 None) c two.2) in
       inr (λ native is. (
         statics number index class native (target ∙ ap (λ x. Some (StaticMethod class x)) (same ∙ is)),

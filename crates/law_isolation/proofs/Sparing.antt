@@ -26,7 +26,7 @@ is_an_object : (t : Item) → is_object t ≡ true → (o : Object) × (t ≡ An
 is_an_object (AnObject o) e = (o, refl)
 is_an_object (APackage ws) e = absurd (true≢false (sym e))
 
-area_long : (ram : RamState) (event : ClearEvent) → HasSizes ram → length (area ram event) ≡ area_size
+pub area_long : (ram : RamState) (event : ClearEvent) → HasSizes ram → length (area ram event) ≡ area_size
 area_long ram Reset sizes = sizes.reset_cells
 area_long ram Deselect sizes = sizes.deselect_cells
 

@@ -46,11 +46,11 @@ packages_stay m n same home a =
     ∙ ap (λ l. package_in m.heap.now.counts.1 l (installed_package n.registers.installation) a) same.1
     ∙ ap (λ i. package_in m.heap.now.counts.1 m.heap.now.applets i a) home
 
-applets-set_cell : (h : HeapState) (r i v : ℕ) → SameApplets h (set_cell h r i v)
+pub applets-set_cell : (h : HeapState) (r i v : ℕ) → SameApplets h (set_cell h r i v)
 unfolding set_cell
 applets-set_cell h r i v = (refl, refl)
 
-applets-set_word : (h : HeapState) (r j v : ℕ) → SameApplets h (set_word h r j v)
+pub applets-set_word : (h : HeapState) (r j v : ℕ) → SameApplets h (set_word h r j v)
 unfolding set_word
 applets-set_word h r j v = (refl, refl)
 

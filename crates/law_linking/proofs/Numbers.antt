@@ -1,7 +1,7 @@
 -- Numbers under which packages stand.
 use Rattle.std.proofs.Common.{◌≡◌, ℕ, zero, suc, ◌+◌, ◌-◌, ◌*◌, ◌/◌, ◌<◌, ◌≤◌, ◌⊎◌, inl, inr, ◌==◌, ◌||◌, Bool, true, false, List, [], ◌∷◌, Option, Some, None}
 use Rattle.std.proofs.Common.{length, refl, sym, subst, arith, if◌then◌else◌}
-use Rattle.std.specs.Prelude.{is_some, slice_get, slice_index}
+use Rattle.std.specs.Prelude.{is_some, slice_get}
 use Rattle.std.specs.Option.{option_and_then}
 use Rattle.std.proofs.lemmas.Bool.{false≢true, eqb-true}
 use Rattle.jc_platform.specs.declared.names.PlatformPackage.{PlatformPackage}

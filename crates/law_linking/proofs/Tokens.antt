@@ -14,7 +14,7 @@ use Rattle.jc_platform.specs.declared.names.PlatformMethod.{PlatformMethod}
 use Rattle.jc_platform.specs.Distinct.{class_of, class_word, home_of, is_needed_class, kind_of_method}
 use Rattle.jc_platform.specs.Hierarchy.{interface_of, is_interface, superclass_of}
 use Rattle.jc_platform.specs.Names.{ClassEntry, MethodEntry, classes, methods}
-use Rattle.jc_platform.specs.Numbers.{class_number, kind_number, method_number, package_number, same_class, same_kind, same_package}
+use Rattle.jc_platform.specs.Numbers.{class_number, kind_number, package_number, same_class, same_kind, same_package}
 use Rattle.jc_platform.specs.Platform.{TellNames, class_by_token, class_by_word, method_by_token, package_by_number}
 use Rattle.jc_platform.specs.Tokens.{Tokens, class_token, number_in, token_of_class, token_of_method}
 use Rattle.jc_platform.specs.Rows.{is_token}

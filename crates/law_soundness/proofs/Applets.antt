@@ -1,12 +1,12 @@
 -- Applet: an applet is registered, with an AID object that is made for it.
 use Rattle.std.proofs.Common.{◌≡◌, ℕ, ◌+◌, ◌*◌, ◌<◌, ◌≤◌, Bool, true, false, List, length, Option, Some, None, Ok, Err, refl, sym, ◌∙◌, ap, subst, arith}
 use Rattle.std.proofs.Common.{if◌then◌else◌}
-use Rattle.std.proofs.lemmas.Bool.{and_from, and_parts, cond-true, eq-eqb, false_from_ne_true, leb-true, ltb-true, or_left, true≢false}
+use Rattle.std.proofs.lemmas.Bool.{and_from, and_parts, cond-true, eq-eqb, false_from_ne_true, leb-true, ltb-true, true≢false}
 use Rattle.std.proofs.lemmas.List.{length-replicate}
 use Rattle.std.proofs.lemmas.List.FromFn.{get_or-map-range_with_len}
 use Rattle.std.proofs.lemmas.Option.{none-some, same_Some}
 use Rattle.std.specs.Option.{option_map}
-use Rattle.std.specs.Prelude.{◌==◌, ◌&&◌, nat_le, nat_lt, is_some, not, slice_index, ◌||◌}
+use Rattle.std.specs.Prelude.{◌==◌, ◌&&◌, nat_le, nat_lt, is_some, not, slice_index}
 use Rattle.jc_words.specs.Layout.{most_applets}
 use Rattle.jc_heap.specs.declared.object.Facts.{Facts}
 use Rattle.jc_heap.specs.declared.object.Kind.TheVariants.{Instance}
@@ -25,7 +25,7 @@ use Rattle.jc_memory.specs.Owners.{owner_number}
 use Rattle.jc_memory.specs.State.{MemoryState, HeapMove, IsNew, apply_effect}
 use Rattle.jc_memory.specs.Cells.{byte_at, header_at}
 use Rattle.jc_memory.specs.Reading.{AllDue}
-use Rattle.jc_linker.specs.Classes.{any_is, implements, is_below, is_class, lineage_from, reference_cell, size_of}
+use Rattle.jc_linker.specs.Classes.{is_class, reference_cell, size_of}
 use Rattle.jc_linker.specs.Lookups.{applet_entry}
 use Rattle.jc_linker.specs.Resolves.{names_interface}
 use Rattle.jc_linker.specs.Values.{Packages}
@@ -41,7 +41,7 @@ use Rattle.jc_world.specs.Arrays.{bytes_in}
 use Rattle.jc_world.proofs.Below.{below_itself}
 use Rattle.jc_api_runtime.specs.AidCells.{cells_of_aid, is_aid_length}
 use Rattle.jc_api_runtime.specs.Applet.{install_aid}
-use Rattle.jc_frames.specs.Reasons.{buffer_full, illegal_aid, in_progress, no_resource}
+use Rattle.jc_frames.specs.Reasons.{illegal_aid, in_progress}
 use Rattle.jc_api_runtime.specs.Register.{aid_object_creation, registry_entry, installation_in_transaction, is_inside, is_owned, may_be_added, next_number}
 use Rattle.jc_api_runtime.specs.Register.{open_installation, registration, registration_package, registration_package_in, unless_full, with_installation}
 use Rattle.law_soundness.specs.Classes.{HasAids, KnowsClasses}
@@ -49,7 +49,8 @@ use Rattle.law_soundness.specs.Fit.{AreCellsOf, FitsNew, FitsObject, FitsRun, Fi
 use Rattle.law_soundness.specs.State.{IsSoundMemory, IsSteady, is_home, is_open, is_owner_up_to}
 use Rattle.law_isolation.proofs.Arguments.{length_bytes}
 use Rattle.law_isolation.proofs.Due.{call_ok}
-use Rattle.law_isolation.proofs.Reaching.{err_not_ok, header_is, same_Ok}
+use Rattle.law_isolation.proofs.Applets.{full_in}
+use Rattle.law_isolation.proofs.Reaching.{err_not_ok, header_is}
 use Rattle.law_isolation.proofs.Standing.{applets-add_object, applets-set_cells}
 use Rattle.law_soundness.proofs.Below.{aid_no_pin}
 use Rattle.law_soundness.proofs.Frames.{run_headers}
@@ -71,12 +72,6 @@ module _ (m : MemoryState) (aid : List ℕ) (instance : ℕ) (k : PackageNumber)
   added_by false true owned e = (refl, (refl, e))
   added_by false false owned e = absurd (true≢false (sym e))
 
-  full_in : (space room : Bool) (j : PackageNumber) → (if space then (if room then Err (Throw buffer_full) else Ok j) else Err (Throw no_resource))
-      ≡ Ok k → j ≡ k
-  full_in true true j e = absurd (err_not_ok e)
-  full_in true false j e = same_Ok j k e
-  full_in false room j e = absurd (err_not_ok e)
-
   begun_by : (b : Bool) (j : PackageNumber) → (if b then open_installation m.registers.installation else None) ≡ Some j
       → (b ≡ true) × (open_installation m.registers.installation ≡ Some j)
   begun_by true j e = (refl, e)
@@ -86,7 +81,7 @@ module _ (m : MemoryState) (aid : List ℕ) (instance : ℕ) (k : PackageNumber)
       (if added then (if inside then Err (Throw in_progress) else unless_full m j) else Err (Throw illegal_aid)) ≡ Ok k → MayRegister m aid instance k
   added_in true true is j home e = absurd (err_not_ok e)
   added_in true false is j home e =
-      let same : j ≡ k = full_in _ _ j e in
+      let same : j ≡ k = full_in k _ _ j e in
       let begun = begun_by m.heap.begun j home in
       let added = added_by (is_some (applet_with_aid m aid)) (nat_lt m.heap.now.counts.1 most_applets) (is_owned (next_number m) (header_at m instance)) is in
       record {

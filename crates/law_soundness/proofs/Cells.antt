@@ -17,7 +17,7 @@ use Rattle.jc_card_checks.specs.Sound.{entry_word}
 use Rattle.law_soundness.proofs.Lists.{first_set}
 use Rattle.law_soundness.proofs.Kept.{AidsStay, Carries, HoldsBut, IsFitBut, IsSoundBut, object_kept, object_new, pin_kept, pin_same, records_kept}
 use Rattle.law_soundness.proofs.Kept.{reference_kept, sound_kept}
-use Rattle.law_isolation.proofs.Standing.{SameApplets}
+use Rattle.law_isolation.proofs.Standing.{applets-set_cell}
 
 -- what is set in a cell fits it; of one object, a PIN's cells need not say the right thing of one another
 pub record CellFits (x : ℕ) (p : Packages) (h : HeapState) (r i v : ℕ) : Type 0 where
@@ -33,10 +33,6 @@ words-with_cell (APackage ws) i v = refl
 packages-set_cell : (h : HeapState) (r i v : ℕ) → (set_cell h r i v).packages ≡ h.packages
 unfolding set_cell
 packages-set_cell h r i v = refl
-
-pub applets-set_cell : (h : HeapState) (r i v : ℕ) → SameApplets h (set_cell h r i v)
-unfolding set_cell
-applets-set_cell h r i v = (refl, refl)
 
 module _ (h : HeapState) (r i v : ℕ) where
   stood : (q : ℕ) → IsObject (set_cell h r i v) q → IsObject h q

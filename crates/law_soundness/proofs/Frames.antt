@@ -5,7 +5,7 @@ use Rattle.jc_transient.specs.declared.cell.ClearEvent.TheVariants.{Reset, Desel
 use Rattle.jc_heap.specs.declared.object.Kind.{Kind}
 use Rattle.jc_heap.specs.declared.place.Place.{Place}
 use Rattle.jc_heap.specs.declared.place.Place.TheVariants.{Cell, Static, Registry, AppletCount}
-use Rattle.jc_heap.specs.Object.{AnObject, APackage, Item, Object, header_only, facts_of, is_object, new_transient}
+use Rattle.jc_heap.specs.Object.{Item, Object, header_only, facts_of, is_object, new_transient}
 use Rattle.jc_heap.specs.Heap.{HeapState, add_object, add_transient, area_end, facts, heap_item_at, set_cell, set_cells, with_area_end}
 use Rattle.jc_heap.specs.Places.{set_place, set_places, cell_changes}
 use Rattle.jc_heap.specs.Statics.{set_word}

@@ -19,7 +19,7 @@ use Rattle.jc_card_checks.specs.Sound.{entry_word}
 use Rattle.law_soundness.specs.State.{is_owner_up_to}
 use Rattle.law_soundness.proofs.Lists.{zeros}
 use Rattle.law_soundness.proofs.Kept.{Carries, HoldsBut, IsFitBut, IsSoundBut, object_kept, owner_same, pin_same, records_kept, sound_kept}
-use Rattle.law_isolation.proofs.Standing.{SameApplets, applets-add_object}
+use Rattle.law_isolation.proofs.Standing.{applets-add_object}
 
 pub packages-add_object : (h : HeapState) (o : Object) (n : ℕ) → (add_object h o n).packages ≡ h.packages
 unfolding add_object

@@ -13,7 +13,6 @@ use Rattle.jc_heap.specs.Places.{set_place, set_places, cell_changes}
 use Rattle.jc_heap.specs.Statics.{set_word}
 use Rattle.jc_heap.proofs.Laws.{header_only-set_cell, cells-set_other, facts-set_cell, same_facts}
 use Rattle.jc_heap.proofs.Keeping.{object-header_only}
-use Rattle.jc_heap.proofs.Places.{bare_stays}
 use Rattle.jc_memory.specs.State.{MemoryState}
 use Rattle.jc_linker.specs.Classes.{reference_cell}
 use Rattle.jc_linker.specs.Values.{Packages}

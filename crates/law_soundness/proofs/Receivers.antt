@@ -47,7 +47,8 @@ use Rattle.jc_interp_calls.specs.Invoke.{fits_at_null, interface_access, interfa
 use Rattle.jc_interp_calls.specs.Invoke.{receiver_on, special_by, static_by, virtual_by}
 use Rattle.jc_interp_calls.specs.Parameters.{fits}
 use Rattle.law_isolation.proofs.Reaching.{err_not_ok, field_allowed, object_is, same_Ok}
-use Rattle.law_isolation.proofs.Receivers.{both_fine, is_there}
+use Rattle.law_isolation.proofs.Arguments.{both_ok}
+use Rattle.law_isolation.proofs.Receivers.{is_there}
 use Rattle.law_soundness.specs.Classes.{KnowsClasses}
 use Rattle.law_soundness.specs.State.{IsSoundMemory, is_owner_up_to, last_own, most_owner}
 use Rattle.law_soundness.specs.Natives.{minds_receiver}
@@ -105,13 +106,13 @@ module _ (p : Packages) (m : MemoryState) (known : KnowsClasses p) (methods : Kn
   found : (n : ℕ) (f : Facts) → receiver_of n stack m ≡ Ok f → (r : ℕ) → receiver_on n stack ≡ Some r → f ≡ facts m.heap.now r
   unfolding receiver_of
   found n f e r on =
-      let b = both_fine (some_or_fault (receiver_on n stack)) (λ r. object_at m r) f e in
+      let b = both_ok (some_or_fault (receiver_on n stack)) (λ r. object_at m r) f e in
       (object_is m b.0 f b.2).1 ∙ ap (facts m.heap.now) (same_Some b.0 r (sym (is_there (receiver_on n stack) b.0 b.1) ∙ on))
 
   owner_there : (n : ℕ) (f : Facts) → receiver_of n stack m ≡ Ok f → is_owner_up_to (most_owner m) m.heap.now (owner_number (owner_of f.owner)) ≡ true
   unfolding receiver_of
   owner_there n f e =
-      let b = both_fine (some_or_fault (receiver_on n stack)) (λ r. object_at m r) f e in
+      let b = both_ok (some_or_fault (receiver_on n stack)) (λ r. object_at m r) f e in
       let is = object_is m b.0 f b.2 in
       known_again p m methods sound f.owner (subst (λ g. is_owner_up_to (most_owner m) m.heap.now g.owner ≡ true) (sym is.1)
       (object_owner p m methods sound own b.0 is.0))
@@ -155,12 +156,12 @@ module _ (p : Packages) (m : MemoryState) (known : KnowsClasses p) (methods : Kn
   virtually_fit : (class : ℕ) (token : VirtualToken) (method : Method) → invokevirtual class token method p stack m ≡ Ok c → IsFitCall p m stack c
   unfolding invokevirtual
   virtually_fit class token method e =
-      let one = both_fine (some_or_fault (arguments_of p method)) _ c e in
-      let kinds = both_fine (check_or_fault (fits_at_null one.0 method p stack m)) _ c one.2 in
-      let two = both_fine (receiver_of one.0 stack m) _ c kinds.2 in
-      let three = both_fine (check_or_fault (is_of p two.0 class)) _ c two.2 in
-      let four = both_fine (some_or_fault (method_at p (class_of p two.0) (class / 256) token)) _ c three.2 in
-      let five = both_fine (check_or_fault (fits four.0 p m stack)) _ c four.2 in
+      let one = both_ok (some_or_fault (arguments_of p method)) _ c e in
+      let kinds = both_ok (check_or_fault (fits_at_null one.0 method p stack m)) _ c one.2 in
+      let two = both_ok (receiver_of one.0 stack m) _ c kinds.2 in
+      let three = both_ok (check_or_fault (is_of p two.0 class)) _ c two.2 in
+      let four = both_ok (some_or_fault (method_at p (class_of p two.0) (class / 256) token)) _ c three.2 in
+      let five = both_ok (check_or_fault (fits four.0 p m stack)) _ c four.2 in
       judged_fit (firewall_decision access.VirtualCall p m two.0) two.0 four.0 one.0 two.1
       (λ native is. methods.virtually (class_of p two.0) (class / 256) token native
       (is_there (method_at p (class_of p two.0) (class / 256) token) four.0 four.1 ∙ ap Some is)) five.2
@@ -168,10 +169,10 @@ module _ (p : Packages) (m : MemoryState) (known : KnowsClasses p) (methods : Kn
   interface_fit : (interface n token : ℕ) → invokeinterface interface n token p stack m ≡ Ok c → IsFitCall p m stack c
   unfolding invokeinterface
   interface_fit interface n token e =
-      let one = both_fine (receiver_of n stack m) _ c e in
-      let two = both_fine (check_or_fault (is_of p one.0 interface)) _ c one.2 in
-      let three = both_fine (some_or_fault (interface_method_at p (class_of p one.0) interface token)) _ c two.2 in
-      let four = both_fine (check_or_fault (fits three.0 p m stack)) _ c three.2 in
+      let one = both_ok (receiver_of n stack m) _ c e in
+      let two = both_ok (check_or_fault (is_of p one.0 interface)) _ c one.2 in
+      let three = both_ok (some_or_fault (interface_method_at p (class_of p one.0) interface token)) _ c two.2 in
+      let four = both_ok (check_or_fault (fits three.0 p m stack)) _ c three.2 in
       judged_fit (firewall_decision (interface_access p interface) p m one.0) one.0 three.0 n one.1
       (λ native is. methods.by_interface (class_of p one.0) interface token native (is_there
       (interface_method_at p (class_of p one.0) interface token) three.0 three.1 ∙ ap Some is)) four.2
@@ -187,12 +188,12 @@ module _ (p : Packages) (m : MemoryState) (known : KnowsClasses p) (methods : Kn
       → is_a p (class_of p f) (class_of_method method) ≡ true) → invokespecial class by p stack m ≡ Ok c → IsFitCall p m stack c
   unfolding invokespecial
   specially_fit class by is e =
-      let one = both_fine (some_or_fault (arguments_of p by)) _ c e in
-      let kinds = both_fine (check_or_fault (fits_at_null one.0 by p stack m)) _ c one.2 in
-      let two = both_fine (receiver_of one.0 stack m) _ c kinds.2 in
-      let three = both_fine (check_or_fault (is_of_any p two.0 class)) _ c two.2 in
-      let four = both_fine (check_or_fault (fits by p m stack)) _ c three.2 in
-      let five = both_fine (firewall_check access.InstanceField p m two.0) _ c four.2 in
+      let one = both_ok (some_or_fault (arguments_of p by)) _ c e in
+      let kinds = both_ok (check_or_fault (fits_at_null one.0 by p stack m)) _ c one.2 in
+      let two = both_ok (receiver_of one.0 stack m) _ c kinds.2 in
+      let three = both_ok (check_or_fault (is_of_any p two.0 class)) _ c two.2 in
+      let four = both_ok (check_or_fault (fits by p m stack)) _ c three.2 in
+      let five = both_ok (firewall_check access.InstanceField p m two.0) _ c four.2 in
       let same = same_Ok (call_of by one.0 None) c five.2 in
       record {
         on = λ method reached minds r on. (
@@ -211,8 +212,8 @@ module _ (p : Packages) (m : MemoryState) (known : KnowsClasses p) (methods : Kn
       → invokestatic method p ≡ Ok c → IsFitCall p m stack c
   unfolding invokestatic
   statically_fit number index class method target e =
-      let one = both_fine (check_or_fault (not (is_native_constructor method))) _ c e in
-      let two = both_fine (some_or_fault (arguments_of p method)) _ c one.2 in
+      let one = both_ok (check_or_fault (not (is_native_constructor method))) _ c e in
+      let two = both_ok (some_or_fault (arguments_of p method)) _ c one.2 in
       let same = same_Ok (call_of method two.0 None) c two.2 in
       record {
         on = λ native reached minds r on. (

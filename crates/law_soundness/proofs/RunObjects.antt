@@ -21,13 +21,10 @@ use Rattle.jc_linker.specs.Classes.{is_class, size_of}
 use Rattle.jc_linker.specs.Resolves.{names_interface}
 use Rattle.jc_linker.specs.Values.{Packages}
 use Rattle.jc_card_checks.specs.Objects.{fits_class, is_instance, is_persistent_instance}
+pub use Rattle.law_isolation.proofs.Reached.{instance_kind}
 use Rattle.law_soundness.specs.Classes.{has_instances}
 use Rattle.law_soundness.specs.Fit.{FitsFill, FitsNew, FitsValue, IsFit}
 use Rattle.law_soundness.specs.State.{IsLivingElement, IsLivingValue, IsSoundMemory, IsSteady, is_open, is_owner_up_to, last_own, most_new, most_owner}
-
-pub instance_kind : (kind : Kind) → is_instance kind ≡ true → kind ≡ Instance
-instance_kind Instance e = refl
-instance_kind _ e = absurd cc
 
 pub instance_no_array : (kind : Kind) → is_instance kind ≡ true → kind ≡ ReferenceArray → ⊥
 instance_no_array kind e array = true≢false (sym e ∙ ap is_instance array)

@@ -3,7 +3,7 @@ use Rattle.std.proofs.Common.{◌≡◌, ℕ, ◌<◌, ◌≤◌, Bool, true, fa
 use Rattle.std.proofs.lemmas.Bool.{and_from, eq-eqb, false_from_ne_true, ne_eqb, true≢false}
 use Rattle.std.specs.Prelude.{is_none, slice_index}
 use Rattle.jc_heap.specs.declared.object.Kind.TheVariants.{ByteArray}
-use Rattle.jc_heap.specs.Object.{Item, AnObject, APackage, Object, header_only, facts_of, is_object, new_object, object_size}
+use Rattle.jc_heap.specs.Object.{AnObject, Object, header_only, facts_of, is_object, new_object, object_size}
 use Rattle.jc_heap.specs.Heap.{HeapState, add_object, facts, heap_item_at, is_allocated, set_cell}
 use Rattle.jc_heap.specs.Moves.{WriteNonAtomic}
 use Rattle.jc_heap.proofs.Laws.{header_only-set_cell, facts-set_cell, heap_item_at-add_object, heap_item_at-add_other, object_named}

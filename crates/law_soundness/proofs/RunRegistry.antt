@@ -4,9 +4,8 @@ use Rattle.std.proofs.lemmas.Bool.{and_from, and_parts, both_ways, cond-true, eq
 use Rattle.std.proofs.lemmas.List.FromFn.{fill_by_all}
 use Rattle.std.proofs.lemmas.Slice.Eq.{bytes_eq-Decides}
 use Rattle.std.specs.Option.{option_and_then, option_map}
-use Rattle.std.specs.Prelude.{◌==◌, is_none, is_some, min, nat_le, nat_lt, slice_index}
+use Rattle.std.specs.Prelude.{◌==◌, is_some, min, nat_le, nat_lt, slice_index}
 use Rattle.std.specs.Str.{bytes_eq}
-use Rattle.jc_transient.specs.declared.cell.ClearEvent.{ClearEvent}
 use Rattle.jc_words.specs.Layout.{most_applets}
 use Rattle.jc_heap.specs.Heap.{IsObject, cells, facts, heap_item_at}
 use Rattle.jc_heap.specs.Object.{is_object}

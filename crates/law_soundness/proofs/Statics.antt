@@ -22,7 +22,7 @@ use Rattle.jc_card_checks.specs.Objects.{is_reference}
 use Rattle.jc_card_checks.specs.Sound.{HoldsStatics, entry_word, package_record_at}
 use Rattle.law_soundness.specs.Fit.{AreStatics, FitsStatic}
 use Rattle.law_soundness.proofs.Kept.{Carries, IsSoundBut, object_kept, reference_kept, sound_kept, statics_kept}
-use Rattle.law_isolation.proofs.Standing.{SameApplets}
+use Rattle.law_isolation.proofs.Standing.{applets-set_word}
 
 -- ---- where the image begins
 
@@ -129,10 +129,6 @@ record_named h r some = elim (cases_Bool (is_allocated h r)) [
 packages-set_word : (h : HeapState) (r j v : ℕ) → (set_word h r j v).packages ≡ h.packages
 unfolding set_word
 packages-set_word h r j v = refl
-
-applets-set_word : (h : HeapState) (r j v : ℕ) → SameApplets h (set_word h r j v)
-unfolding set_word
-applets-set_word h r j v = (refl, refl)
 
 module _ (h : HeapState) (r j v : ℕ) (static : IsStatic (record_of h r) j) where
   abbrev g : HeapState

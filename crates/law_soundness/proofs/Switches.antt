@@ -37,7 +37,8 @@ use Rattle.jc_interp_calls.specs.Invoke.{fits_at_null, interface_access, interfa
 use Rattle.jc_interp_calls.specs.Invoke.{receiver_on, special_by, static_by, virtual_by}
 use Rattle.jc_interp_calls.specs.Parameters.{fits}
 use Rattle.law_isolation.proofs.Reaching.{err_not_ok, object_is, same_Ok}
-use Rattle.law_isolation.proofs.Receivers.{both_fine, is_there}
+use Rattle.law_isolation.proofs.Arguments.{both_ok}
+use Rattle.law_isolation.proofs.Receivers.{is_there}
 use Rattle.law_soundness.specs.Environment.{HasEnvironment}
 use Rattle.law_soundness.specs.Fit.{IsPlatformClass}
 use Rattle.law_soundness.specs.Platform.{KeepsPlatform}
@@ -65,7 +66,7 @@ module _ (p : Packages) (m : MemoryState) (platform : KeepsPlatform p) (environm
   own_class : (n : ℕ) (f : Facts) → receiver_of n stack m ≡ Ok f → f.owner ≡ 0 → IsOfPlatform p (class_of p f)
   unfolding receiver_of
   own_class n f e zero =
-      let b = both_fine (some_or_fault (receiver_on n stack)) (λ r. object_at m r) f e in
+      let b = both_ok (some_or_fault (receiver_on n stack)) (λ r. object_at m r) f e in
       let is = object_is m b.0 f b.2 in
       platform_class p f.kind f.class (λ instance. subst (λ h. IsPlatformClass p h.class) (sym is.1)
       (environment.now.classes b.0 is.0 (subst (λ h. is_instance h.kind ≡ true) is.1 instance) (subst (λ h. h.owner ≡ 0) is.1 zero)))
@@ -84,8 +85,8 @@ module _ (p : Packages) (m : MemoryState) (platform : KeepsPlatform p) (environm
       and_then (some_or_fault (method_at p (class_of p f) (class / 256) token)) (λ found. and_then (check_or_fault (fits found p m stack))
       (λ w. call_decision (firewall_decision access.VirtualCall p m f) f found n)) ≡ Ok c → SwitchesToOthers c
   found_virtually f n class token there e =
-      let one = both_fine (some_or_fault (method_at p (class_of p f) (class / 256) token)) _ c e in
-      let two = both_fine (check_or_fault (fits one.0 p m stack)) _ c one.2 in
+      let one = both_ok (some_or_fault (method_at p (class_of p f) (class / 256) token)) _ c e in
+      let two = both_ok (check_or_fault (fits one.0 p m stack)) _ c one.2 in
       judged_others (firewall_decision access.VirtualCall p m f) f one.0 n (λ zero is.
       let of = own_class n f there zero in
       platform.virtually of.0 (class / 256) token number offset
@@ -96,8 +97,8 @@ module _ (p : Packages) (m : MemoryState) (platform : KeepsPlatform p) (environm
       (λ found. and_then (check_or_fault (fits found p m stack)) (λ w. call_decision (firewall_decision (interface_access p interface) p m f) f found n))
       ≡ Ok c → SwitchesToOthers c
   found_by_interface f interface n token there e =
-      let one = both_fine (some_or_fault (interface_method_at p (class_of p f) interface token)) _ c e in
-      let two = both_fine (check_or_fault (fits one.0 p m stack)) _ c one.2 in
+      let one = both_ok (some_or_fault (interface_method_at p (class_of p f) interface token)) _ c e in
+      let two = both_ok (check_or_fault (fits one.0 p m stack)) _ c one.2 in
       judged_others (firewall_decision (interface_access p interface) p m f) f one.0 n (λ zero is.
       let of = own_class n f there zero in
       platform.by_interface of.0 interface token number offset
@@ -107,36 +108,36 @@ module _ (p : Packages) (m : MemoryState) (platform : KeepsPlatform p) (environm
   virtually_others : (class : ℕ) (token : VirtualToken) (method : Method) → invokevirtual class token method p stack m ≡ Ok c → SwitchesToOthers c
   unfolding invokevirtual
   virtually_others class token method e =
-      let one = both_fine (some_or_fault (arguments_of p method)) _ c e in
-      let kinds = both_fine (check_or_fault (fits_at_null one.0 method p stack m)) _ c one.2 in
-      let two = both_fine (receiver_of one.0 stack m) _ c kinds.2 in
-      let three = both_fine (check_or_fault (is_of p two.0 class)) _ c two.2 in
+      let one = both_ok (some_or_fault (arguments_of p method)) _ c e in
+      let kinds = both_ok (check_or_fault (fits_at_null one.0 method p stack m)) _ c one.2 in
+      let two = both_ok (receiver_of one.0 stack m) _ c kinds.2 in
+      let three = both_ok (check_or_fault (is_of p two.0 class)) _ c two.2 in
       found_virtually two.0 one.0 class token two.1 three.2
 
   interface_others : (interface n token : ℕ) → invokeinterface interface n token p stack m ≡ Ok c → SwitchesToOthers c
   unfolding invokeinterface
   interface_others interface n token e =
-      let one = both_fine (receiver_of n stack m) _ c e in
-      let two = both_fine (check_or_fault (is_of p one.0 interface)) _ c one.2 in
+      let one = both_ok (receiver_of n stack m) _ c e in
+      let two = both_ok (check_or_fault (is_of p one.0 interface)) _ c one.2 in
       found_by_interface one.0 interface n token one.1 two.2
 
   -- a call of the method itself keeps the owner
   specially_others : (class : Option ℕ) (by : Method) → invokespecial class by p stack m ≡ Ok c → SwitchesToOthers c
   unfolding invokespecial
   specially_others class by e =
-      let one = both_fine (some_or_fault (arguments_of p by)) _ c e in
-      let kinds = both_fine (check_or_fault (fits_at_null one.0 by p stack m)) _ c one.2 in
-      let two = both_fine (receiver_of one.0 stack m) _ c kinds.2 in
-      let three = both_fine (check_or_fault (is_of_any p two.0 class)) _ c two.2 in
-      let four = both_fine (check_or_fault (fits by p m stack)) _ c three.2 in
-      let five = both_fine (firewall_check access.InstanceField p m two.0) _ c four.2 in
+      let one = both_ok (some_or_fault (arguments_of p by)) _ c e in
+      let kinds = both_ok (check_or_fault (fits_at_null one.0 by p stack m)) _ c one.2 in
+      let two = both_ok (receiver_of one.0 stack m) _ c kinds.2 in
+      let three = both_ok (check_or_fault (is_of_any p two.0 class)) _ c two.2 in
+      let four = both_ok (check_or_fault (fits by p m stack)) _ c three.2 in
+      let five = both_ok (firewall_check access.InstanceField p m two.0) _ c four.2 in
       to_others c (ap (λ x. x.switches_to) (same_Ok (call_of by one.0 None) c five.2))
 
   statically_others : (by : Method) → invokestatic by p ≡ Ok c → SwitchesToOthers c
   unfolding invokestatic
   statically_others by e =
-      let one = both_fine (check_or_fault (not (is_native_constructor by))) _ c e in
-      let two = both_fine (some_or_fault (arguments_of p by)) _ c one.2 in
+      let one = both_ok (check_or_fault (not (is_native_constructor by))) _ c e in
+      let two = both_ok (some_or_fault (arguments_of p by)) _ c one.2 in
       to_others c (ap (λ x. x.switches_to) (same_Ok (call_of by two.0 None) c two.2))
 
   virtual_others : (o : Option Target) → virtual_by o p stack m ≡ Ok c → SwitchesToOthers c

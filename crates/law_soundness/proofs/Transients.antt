@@ -24,6 +24,7 @@ use Rattle.jc_heap.proofs.Laws.{heap_item_at-absent, heap_item_at-add_object, he
 use Rattle.jc_heap.proofs.OwnCells.{owns_cells}
 use Rattle.jc_memory.specs.State.{MemoryState, ram_after_set, ram_unflagged, ram_without_dead, zero_of}
 use Rattle.jc_card_checks.specs.Objects.{is_object_address, is_reference}
+use Rattle.law_isolation.proofs.Sparing.{area_long}
 use Rattle.law_soundness.specs.Fit.{FitsFill}
 use Rattle.law_soundness.specs.State.{HasLivingElements, IsLivingElement, IsLivingValue, TransientCells}
 use Rattle.law_soundness.proofs.Frames.{same_object}
@@ -60,10 +61,6 @@ put_cell P xs vs a k le old new =
           ]
     ]
 
-area_sized : (ram : RamState) (event : ClearEvent) → HasSizes ram → length (area ram event) ≡ area_size
-area_sized ram Reset sizes = sizes.reset_cells
-area_sized ram Deselect sizes = sizes.deselect_cells
-
 with_sized : (ram : RamState) (event : ClearEvent) (cells : List CellValue) → HasSizes ram → length cells ≡ area_size → HasSizes (with_area ram event cells)
 with_sized ram Reset cells sizes long = record { reset_cells = long; deselect_cells = sizes.deselect_cells; flags = sizes.flags }
 with_sized ram Deselect cells sizes long = record { reset_cells = sizes.reset_cells; deselect_cells = long; flags = sizes.flags }
@@ -74,7 +71,7 @@ module _ (ram : RamState) (sizes : HasSizes ram) (at : ℕ) (vs : List CellValue
 
   put_sized : (event : ClearEvent) → HasSizes (put event)
   put_sized event =
-      let size = area_sized ram event sizes in
+      let size = area_long ram event sizes in
       with_sized ram event _ sizes (put_long (area ram event) vs at (omega (arith, size, fits)) ∙ size)
 
   -- so it is in both areas
@@ -207,7 +204,7 @@ module _ (h : HeapState) (ram : RamState) (t : TransientCells h ram) where
 
   pub cleared_carried : (event : ClearEvent) → TransientCells h (with_area ram event (map default_value (area ram event)))
   cleared_carried event = carried h h ram _ (cleared_by event) (record {
-    sizes = with_sized ram event _ t.sizes (length-map (area ram event) default_value ∙ area_sized ram event t.sizes);
+    sizes = with_sized ram event _ t.sizes (length-map (area ram event) default_value ∙ area_long ram event t.sizes);
     cells = cleared_cells event;
     values = cleared_values event;
     elements = cleared_elements event;

@@ -1,8 +1,8 @@
 -- Values that are set in cells of arrays, of instances and of AID objects.
-use Rattle.std.proofs.Common.{◌≡◌, ℕ, zero, suc, ◌+◌, ◌*◌, ◌<◌, ◌≤◌, ◌==◌, true, false, List, [], ◌∷◌, length, get_or, refl, sym, ◌∙◌, ap, subst, arith, Option}
+use Rattle.std.proofs.Common.{◌≡◌, ℕ, suc, ◌+◌, ◌*◌, ◌<◌, ◌≤◌, ◌==◌, true, false, List, [], ◌∷◌, length, get_or, refl, sym, ◌∙◌, ap, subst, arith, Option}
 use Rattle.std.proofs.Common.{Some, None}
 use Rattle.std.specs.Prelude.{is_none}
-use Rattle.std.proofs.lemmas.Bool.{and_parts, false≢true, or_left, eq-eqb, eqb-true}
+use Rattle.std.proofs.lemmas.Bool.{and_parts, false≢true, eqb-true}
 use Rattle.jc_transient.specs.declared.cell.ClearEvent.{ClearEvent}
 use Rattle.jc_platform.specs.declared.names.PlatformClass.TheVariants.{Aid, OwnerPin}
 use Rattle.jc_platform.specs.Distinct.{class_word}
@@ -10,15 +10,15 @@ use Rattle.jc_heap.specs.declared.object.Kind.{Kind}
 use Rattle.jc_heap.specs.declared.object.Kind.TheVariants.{Instance}
 use Rattle.jc_heap.specs.Heap.{HeapState, facts, set_cell, set_cells}
 use Rattle.jc_heap.proofs.Laws.{facts-set_cell}
-use Rattle.jc_linker.specs.Classes.{any_is, is_below, lineage_from, most_classes, reference_cell}
+use Rattle.jc_linker.specs.Classes.{is_below, reference_cell}
 use Rattle.jc_linker.specs.Values.{Packages}
 use Rattle.jc_card_checks.specs.Objects.{is_a, is_bytes, is_instance, is_persistent_instance, is_object_address}
 use Rattle.jc_card_checks.specs.Sound.{IsRegistered, entry_word}
 use Rattle.law_soundness.specs.State.{IsSoundUpTo}
 use Rattle.law_soundness.specs.Fit.{FitsCell}
 use Rattle.law_soundness.proofs.Kept.{IsSoundBut, but_one, with_one}
-use Rattle.law_soundness.proofs.Cells.{CellFits, applets-set_cell, cell_kept}
-use Rattle.law_isolation.proofs.Standing.{SameApplets}
+use Rattle.law_soundness.proofs.Cells.{CellFits, cell_kept}
+use Rattle.law_isolation.proofs.Standing.{SameApplets, applets-set_cell}
 use Rattle.jc_world.proofs.Below.{below_itself}
 
 -- the object of a registered AID

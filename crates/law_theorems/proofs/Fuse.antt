@@ -8,7 +8,7 @@ use Rattle.jc_words.specs.Count.{saturating_count}
 use Rattle.jc_words.specs.Refusals.{Refusals, is_at, refused_once, with_fuse_at}
 use Rattle.jc_session.specs.declared.event.Answer.{Answer}
 use Rattle.jc_session.specs.declared.event.Answer.TheVariants.{Response, Ready, Down}
-use Rattle.jc_session.specs.Power.{PowerState, Up, Off, KeptState, durable_state}
+use Rattle.jc_session.specs.Power.{PowerState, Up, Off, KeptState, budget_of, durable_state}
 use Rattle.jc_session.specs.Serving.{AnswersCommand, AnswersReset}
 use Rattle.jc_session.proofs.Refusals.{done_refusals, one_more, powered_refusals}
 use Rattle.jcard_script.specs.Script.{Form, Skipped, Command, Resets, ArmsFuse, Bad, down_text, form_of}
@@ -66,13 +66,13 @@ IsRefusing s next told = (refusals_of next ≡ refusals_of s) ⊎ (told × (refu
 command_refuses : (s : PowerState) (bytes : List ℕ) (answer : Answer) (next : PowerState) → AnswersCommand s bytes answer next
     → IsRefusing s next (answer ≡ Down)
 command_refuses (Up card) bytes (Response r) (Up next) h = inl (done_refusals bytes r card next h)
-command_refuses (Up card) bytes Down (Off k) h = inr (refl, h.2)
-command_refuses (Off k) bytes Down (Off l) h = inl (ap (λ (x : KeptState). x.refusals) h)
+command_refuses (Up card) bytes Down (Off b k) h = inr (refl, h.2)
+command_refuses (Off b k) bytes Down (Off d l) h = inl (ap (λ (x : KeptState). x.refusals) h.0)
 command_refuses s bytes answer next h = absurd h
 
 reset_refuses : (s : PowerState) (answer : Answer) (next : PowerState) → AnswersReset s answer next → IsRefusing s next (answer ≡ Down)
-reset_refuses s Ready (Up card) h = inl (powered_refusals (durable_state s) card h)
-reset_refuses s Down (Off k) h = inr (refl, ap (λ (x : KeptState). x.refusals) h)
+reset_refuses s Ready (Up card) h = inl (powered_refusals (durable_state s) (budget_of s) card h)
+reset_refuses s Down (Off b k) h = inr (refl, ap (λ (x : KeptState). x.refusals) h.0)
 reset_refuses s answer next h = absurd h
 
 so_told : (s next : PowerState) (answer : Answer) (text : List ℕ) → text ≡ text_of_answer answer → IsRefusing s next (answer ≡ Down)
@@ -197,7 +197,7 @@ stays_or_cuts count (line ∷ more) last s text leave h fuse small same = cut_no
 
 armed_refusals : (k : ℕ) (s : PowerState) → refusals_of (armed k s) ≡ with_fuse_at (saturating_count (durable_state s).passed k) (refusals_of s)
 armed_refusals k (Up card) = refl
-armed_refusals k (Off kept) = refl
+armed_refusals k (Off b kept) = refl
 
 pub fuses_cut : FusesCut
 fuses_cut k carried s last text h leave small same within =

@@ -26,7 +26,7 @@ use Rattle.law_theorems.specs.Refusals.{DownTells}
 use Rattle.law_theorems.specs.WholeCopies.{AreOfWholeCopies}
 
 pub whole : AreOfWholeCopies
-whole before after events answers ends none = are_whole before after events answers ends.0 ends.1 ends.2 none
+whole budget before after events answers ends none = are_whole budget before after events answers ends.0 ends.1 ends.2 none
 
 -- ---- down
 
@@ -40,21 +40,21 @@ so_down : (s : PowerState) (event : Event) (answer : Answer) (next : PowerState)
     → Serves s event answer next → IsToldOfRefusal event s next → answer ≡ Down
 so_down (Up card) (Command bytes) (Response r) (Up next) small h is =
     absurd (no_rise next.memory.heap.passed card.memory.heap.refusals next.memory.heap.refusals small (done_refusals bytes.items r card next h) is)
-so_down (Up card) (Command bytes) Down (Off k) small h is = refl
-so_down (Off k) (Command bytes) Down (Off l) small h is = refl
+so_down (Up card) (Command bytes) Down (Off b k) small h is = refl
+so_down (Off b k) (Command bytes) Down (Off d l) small h is = refl
 so_down (Up card) Reset Ready (Up next) small h is =
-    absurd (no_rise next.memory.heap.passed card.memory.heap.refusals next.memory.heap.refusals small (powered_refusals (durable_state (Up card)) next h) is)
-so_down (Off k) Reset Ready (Up next) small h is =
-    absurd (no_rise next.memory.heap.passed k.refusals next.memory.heap.refusals small (powered_refusals k next h) is)
-so_down s Reset Down (Off k) small h is = refl
+    absurd (no_rise next.memory.heap.passed card.memory.heap.refusals next.memory.heap.refusals small (powered_refusals (durable_state (Up card)) card.budget next h) is)
+so_down (Off b k) Reset Ready (Up next) small h is =
+    absurd (no_rise next.memory.heap.passed k.refusals next.memory.heap.refusals small (powered_refusals k b next h) is)
+so_down s Reset Down (Off b k) small h is = refl
 so_down s event answer next small h is = absurd h
 
 unless_down : (s : PowerState) (answer : Answer) (next : PowerState) → IsToldByAnswer answer s next → (answer ≡ Down → ⊥)
     → (durable_state next).refusals ≡ (durable_state s).refusals
 unless_down s (Response r) (Up card) told other = told
-unless_down s (Response r) (Off k) told other = absurd told
+unless_down s (Response r) (Off b k) told other = absurd told
 unless_down s Ready (Up card) told other = told
-unless_down s Ready (Off k) told other = absurd told
+unless_down s Ready (Off b k) told other = absurd told
 unless_down s Down next told other = absurd (other refl)
 
 pub tells : DownTells
@@ -66,16 +66,16 @@ tells s event answer next h small =
 
 -- ---- stores
 
-ended : (end : SessionsEndWell) (t : Tokens) (before after : StoreState) (events : List Event) (result : Result (List Answer) SessionFault) → AreOfBytes events
-    → IsOwnStore t before → SessionEnds result before events after → IsOwnStore t after
-ended end t before after events (Ok answers) are own ends = end.done t before after events answers are own ends
-ended end t before after events (Err NoMemory) are own same = subst (IsOwnStore t) (sym same) own
-ended end t before after events (Err (PowerFault fault)) are own ends = (end.fault t before after events fault are own ends).1
+ended : (end : SessionsEndWell) (budget : ℕ) (t : Tokens) (before after : StoreState) (events : List Event) (result : Result (List Answer) SessionFault) → AreOfBytes events
+    → IsOwnStore t before → SessionEnds budget result before events after → IsOwnStore t after
+ended end budget t before after events (Ok answers) are own ends = end.done budget t before after events answers are own ends
+ended end budget t before after events (Err NoMemory) are own same = subst (IsOwnStore t) (sym same) own
+ended end budget t before after events (Err (PowerFault fault)) are own ends = (end.fault budget t before after events fault are own ends).1
 
 pub again : PowerUpAgain
 again = let end : SessionsEndWell = end_well one_table in record {
   new = end.new;
   ends = ended end;
-  fault = λ t before after events fault are own ends. (end.fault t before after events fault are own ends).0;
+  fault = λ budget t before after events fault are own ends. (end.fault budget t before after events fault are own ends).0;
   up = λ t store fault own cause. refused_made store.words fault (end.made t store own) cause;
 }

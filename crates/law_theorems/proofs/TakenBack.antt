@@ -35,12 +35,12 @@ use Rattle.law_theorems.proofs.Coming.{comes_own, comes_rests}
 
 -- ---- while all is answered down
 
-down_off : (k : KeptState) (event : Event) (next : PowerState) → Serves (Off k) event Down next
-    → (l : KeptState) × (next ≡ Off l) × (l.durable ≡ k.durable)
-down_off k (Command bytes) (Off l) h = (l, refl, ap (λ (x : KeptState). x.durable) h)
-down_off k Reset (Off l) h = (l, refl, ap (λ (x : KeptState). x.durable) h)
-down_off k (Command bytes) (Up card) h = absurd h
-down_off k Reset (Up card) h = absurd h
+down_off : (b : ℕ) (k : KeptState) (event : Event) (next : PowerState) → Serves (Off b k) event Down next
+    → (l : KeptState) × (next ≡ Off b l) × (l.durable ≡ k.durable)
+down_off b k (Command bytes) (Off d l) h = (l, ap (λ n. Off n l) h.1, ap (λ (x : KeptState). x.durable) h.0)
+down_off b k Reset (Off d l) h = (l, ap (λ n. Off n l) h.1, ap (λ (x : KeptState). x.durable) h.0)
+down_off b k (Command bytes) (Up card) h = absurd h
+down_off b k Reset (Up card) h = absurd h
 
 no_more : (answers : List Answer) (s last : PowerState) → SessionRun s [] (answers ++ (Ready ∷ [])) last → ⊥
 no_more [] s last h = h
@@ -50,14 +50,15 @@ no_answer : (events : List Event) (s last : PowerState) → SessionRun s (events
 no_answer [] s last h = h
 no_answer (event ∷ events) s last h = h
 
-resets : (events : List Event) (answers : List Answer) (k : KeptState) (next : CardState) → AreDown answers
-    → SessionRun (Off k) (events ++ (Reset ∷ [])) (answers ++ (Ready ∷ [])) (Up next) → (l : KeptState) × (l.durable ≡ k.durable) × IsPoweredUp l next
-resets [] [] k next down h = (k, refl, subst (λ s. AnswersReset (Off k) Ready s) (sym h.2) h.1)
-resets [] (answer ∷ answers) k next down h = absurd (no_more answers h.0 (Up next) h.2)
-resets (event ∷ events) [] k next down h = absurd (no_answer events h.0 (Up next) h.2)
-resets (event ∷ events) (answer ∷ answers) k next down h =
-    let off = down_off k event h.0 (subst (λ a. Serves (Off k) event a h.0) down.0 h.1) in
-    let rest = resets events answers off.0 next down.1
+resets : (events : List Event) (answers : List Answer) (b : ℕ) (k : KeptState) (next : CardState) → AreDown answers
+    → SessionRun (Off b k) (events ++ (Reset ∷ [])) (answers ++ (Ready ∷ [])) (Up next)
+    → (l : KeptState) × (l.durable ≡ k.durable) × IsPoweredUp l b next
+resets [] [] b k next down h = (k, refl, subst (λ s. AnswersReset (Off b k) Ready s) (sym h.2) h.1)
+resets [] (answer ∷ answers) b k next down h = absurd (no_more answers h.0 (Up next) h.2)
+resets (event ∷ events) [] b k next down h = absurd (no_answer events h.0 (Up next) h.2)
+resets (event ∷ events) (answer ∷ answers) b k next down h =
+    let off = down_off b k event h.0 (subst (λ a. Serves (Off b k) event a h.0) down.0 h.1) in
+    let rest = resets events answers b off.0 next down.1
     (subst (λ s. SessionRun s (events ++ (Reset ∷ [])) (answers ++ (Ready ∷ [])) (Up next)) off.1 h.2) in
     (rest.0, rest.1 ∙ off.2, rest.2)
 
@@ -106,11 +107,11 @@ module _ (t : Tokens) (card : CardState) (comes : ComesTo t (Up card)) where
   open_left es left stands (inr was) = was.1
 
 first_left : (t : Tokens) (card : CardState) (event : Event) (mid : PowerState) → ComesTo t (Up card) → IsOfBytes event → Serves (Up card) event Down mid
-    → (k : KeptState) × (mid ≡ Off k) × IsLeftBy card event k.durable
-first_left t card (Command bytes) (Off k) comes are h =
+    → (k : KeptState) × (mid ≡ Off card.budget k) × IsLeftBy card event k.durable
+first_left t card (Command bytes) (Off b k) comes are h =
     let p = lost_at (exchange bytes.items card) card.memory k.durable h.0 in
-    (k, refl, (p.0, p.1, left_of t card comes bytes.items p.0 k.durable are p.1 p.2))
-first_left t card Reset (Off k) comes are h = (k, refl, ap (λ (x : KeptState). x.durable) h ∙ settled t card comes (shut t card comes))
+    (k, ap (λ n. Off n k) h.5, (p.0, p.1, left_of t card comes bytes.items p.0 k.durable are p.1 p.2))
+first_left t card Reset (Off b k) comes are h = (k, ap (λ n. Off n k) h.1, ap (λ (x : KeptState). x.durable) h.0 ∙ settled t card comes (shut t card comes))
 first_left t card (Command bytes) (Up next) comes are h = absurd h
 first_left t card Reset (Up next) comes are h = absurd h
 
@@ -128,10 +129,10 @@ pub taken_back : IsTakenBack
 taken_back = record {
   lost = λ t card next event events answers comes are down run.
       let first = first_left t card event run.0 comes are run.1 in
-      let rest = resets events answers first.0 next down
+      let rest = resets events answers card.budget first.0 next down
       (subst (λ s. SessionRun s (events ++ (Reset ∷ [])) (answers ++ (Ready ∷ [])) (Up next)) first.1 run.2) in
       let now : next.memory.heap.now ≡ (first.0).durable = ap (λ (v : HeapView). v.now) rest.2.heap ∙ rest.1 in
-      (subst (IsLeftBy card event) (sym now) first.2, rests_so rest.0 next rest.2);
+      (subst (IsLeftBy card event) (sym now) first.2, rests_so rest.0 card.budget next rest.2);
   aborted = λ t card bytes es within.
       let begins = front (exchange bytes card) card.memory es (HeapMove Abort ∷ []) within.begins in
       let due = due_after KeepsTransactionOrder es (HeapMove Abort ∷ []) card.memory

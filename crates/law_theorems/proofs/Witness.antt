@@ -76,7 +76,7 @@ is_blank = record {
   flags = λ r. same_there false flag_count r;
 }
 
-module _ (n capacity : ℕ) (text : List ℕ) (t : Tokens) (enough : least_size ≤ n) (reads : Reads text (Ok t)) where
+module _ (budget n capacity : ℕ) (text : List ℕ) (t : Tokens) (enough : least_size ≤ n) (reads : Reads text (Ok t)) where
   abbrev heap : HeapState
   heap = new_card_heap n capacity text t
 
@@ -128,7 +128,7 @@ module _ (n capacity : ℕ) (text : List ℕ) (t : Tokens) (enough : least_size 
     }
 
     abbrev card : CardState
-    card = record { memory = memory; packages = none; load = None }
+    card = record { memory = memory; packages = none; load = None; budget = budget }
 
     as_zero : ReadsAsZero memory
     as_zero r i event e = ap (λ x. word_in x memory r i) e ∙ ap word_of (blank_cell event ((facts memory.heap.now r).place + i))
@@ -140,7 +140,7 @@ module _ (n capacity : ℕ) (text : List ℕ) (t : Tokens) (enough : least_size 
       passed = before;
       refusals = refusals;
       size = size;
-    }) card
+    }) budget card
     powered laid down before = record {
       made = subst (λ m. IsCardHeap m heap) (sym (ap (λ (x : ℕ × ℕ). x.1) fits.beginning.head)) card_heap;
       heap = refl;
@@ -154,16 +154,18 @@ module _ (n capacity : ℕ) (text : List ℕ) (t : Tokens) (enough : least_size 
         packages = (t, fits.beginning.table, fits.packages);
         load = refl;
       };
+      budget = refl;
     }
 
   abbrev first : CardState
   first = card 0 (heap_end n capacity) no_refusals
 
-  comes_off : ComesTo t (Off (new_kept n capacity text t))
-  comes_off = record { first = new_kept n capacity text t; events = []; answers = []; own = own; bytes = tt; run = refl }
+  comes_off : ComesTo t (Off budget (new_kept n capacity text t))
+  comes_off = record { budget = budget; first = new_kept n capacity text t; events = []; answers = []; own = own; bytes = tt; run = refl }
 
   comes_up : ComesTo t (Up first)
   comes_up = record {
+    budget = budget;
     first = new_kept n capacity text t;
     events = Reset ∷ [];
     answers = Ready ∷ [];
@@ -185,36 +187,36 @@ are_bytes = All-from_recursion (λ b. b < 256) begin_load_bytes (omega arith, (o
 
 pub witnesses : HaveWitnesses
 unfolding exchange manager_command refused_once machine_step instruction_step
-witnesses n capacity text t enough reads =
+witnesses budget n capacity text t enough reads =
     let size = heap_end n capacity in
     let refused = refused_once false 0 no_refusals in
-    let other = card n capacity text t enough reads 0 size refused in record {
-      off = comes_off n capacity text t enough reads;
-      card = first n capacity text t enough reads;
-      up = comes_up n capacity text t enough reads;
-      down = refl;
+    let other = card budget n capacity text t enough reads 0 size refused in record {
+      off = comes_off budget n capacity text t enough reads;
+      card = first budget n capacity text t enough reads;
+      up = comes_up budget n capacity text t enough reads;
+      down = (refl, refl);
       few = let least : 0 < 18446744073709551615 = omega arith in least;
       other = other;
       lost = (
-        Off (with_refusal 0 (durable_state (Up (first n capacity text t enough reads)))),
-        refl,
+        Off budget (with_refusal 0 (durable_state (Up (first budget n capacity text t enough reads)))),
+        (refl, refl),
         (
           Up other,
-          powered n capacity text t enough reads 0 size refused true true 0,
+          powered budget n capacity text t enough reads 0 size refused true true 0,
           refl,
         ),
       );
-      next = record (first n capacity text t enough reads) { load = Some empty_load };
+      next = record (first budget n capacity text t enough reads) { load = Some empty_load };
       bytes = are_bytes;
       ended = (refl, refl);
       begins = record {
-        comes = record { comes = comes_up n capacity text t enough reads; are = are_bytes; begins = tt };
+        comes = record { comes = comes_up budget n capacity text t enough reads; are = are_bytes; begins = tt };
         same = tt;
-        begins = begins n capacity text t enough reads;
+        begins = begins budget n capacity text t enough reads;
         steps = (refl, refl);
       };
       step = (refl, refl);
-      cut = (down_text, [], new_blown n capacity text t, refl, (Down, refl, refl), (refl, refl));
+      cut = (down_text, [], new_blown budget n capacity text t, refl, (Down, (refl, refl), refl), (refl, refl));
       none = (tt, tt);
       spared = refl;
       within = λ count is. absurd (none-some count is);
@@ -225,13 +227,13 @@ abbrev left_in : StoreState → HeapState → Bool → KeptState
 left_in store h laid = record { durable = h; laid = laid; down = false; passed = store.passed; refusals = store.refusals; size = limit_of store.words }
 
 pub new_stores_serve : NewStoresServe
-new_stores_serve t capacity text store made reads is =
+new_stores_serve budget t capacity text store made reads is =
     let n = length store.words in
     let size = limit_of store.words in
     let enough = made.heap.enough in
     let laid = is_well_formed (recovered_of store.words) in
-    let first = card n capacity text t enough reads store.passed size store.refusals in
-    let up = powered n capacity text t enough reads store.passed size store.refusals in
+    let first = card budget n capacity text t enough reads store.passed size store.refusals in
+    let up = powered budget n capacity text t enough reads store.passed size store.refusals in
     let starts = subst (λ h. IsPoweredUp (record {
       durable = h;
       laid = laid;
@@ -239,7 +241,7 @@ new_stores_serve t capacity text store made reads is =
       passed = store.passed;
       refusals = store.refusals;
       size = size;
-    }) first) (sym is) (up laid store.down store.passed) in (
+    }) budget first) (sym is) (up laid store.down store.passed) in (
       Up first,
       (Up first, (made, starts), (Up first, up true false store.passed, refl)),
       record {

@@ -22,9 +22,9 @@ use Rattle.law_images.specs.Faults.{IsOwnStore}
 pub record PowerUpAgain : Type 0 where
   pub new : (t : Tokens) (capacity : ℕ) (text : List ℕ) (store : StoreState) → IsMade store.words → Reads text (Ok t)
       → heap_of (recovered_of store.words) ≡ new_card_heap (length store.words) capacity text t → IsOwnStore t store
-  pub ends : (t : Tokens) (before after : StoreState) (events : List Event) (result : Result (List Answer) SessionFault) → AreOfBytes events
-      → IsOwnStore t before → SessionEnds result before events after → IsOwnStore t after
-  pub fault : (t : Tokens) (before after : StoreState) (events : List Event) (fault : Fault) → AreOfBytes events → IsOwnStore t before
-      → SessionEnds (Err (PowerFault fault)) before events after → fault ≡ NoMemory
+  pub ends : (budget : ℕ) (t : Tokens) (before after : StoreState) (events : List Event) (result : Result (List Answer) SessionFault) → AreOfBytes events
+      → IsOwnStore t before → SessionEnds budget result before events after → IsOwnStore t after
+  pub fault : (budget : ℕ) (t : Tokens) (before after : StoreState) (events : List Event) (fault : Fault) → AreOfBytes events → IsOwnStore t before
+      → SessionEnds budget (Err (PowerFault fault)) before events after → fault ≡ NoMemory
   pub up : (t : Tokens) (store : StoreState) (fault : Fault) → IsOwnStore t store → PowerUpRefuses fault store.words
       → (fault ≡ NoMemory) ⊎ (fault ≡ StoreDown)

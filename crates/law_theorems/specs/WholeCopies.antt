@@ -1,5 +1,5 @@
 -- Sessions whose store refused no write.
-use Rattle.std.specs.Prelude.{List, Ok}
+use Rattle.std.specs.Prelude.{ℕ, List, Ok}
 use Rattle.jc_session.specs.declared.event.Event.{Event}
 use Rattle.jc_session.specs.declared.event.Answer.{Answer}
 use Rattle.jc_session.specs.Power.{StoreState}
@@ -8,5 +8,5 @@ use Rattle.jc_session.specs.WholeCopies.{IsWholeSession, RefusesNone}
 
 -- a session over a store that refused no write is that of a card that keeps whole copies of its heap
 abbrev pub AreOfWholeCopies : Type 0
-AreOfWholeCopies = (before after : StoreState) (events : List Event) (answers : List Answer) → SessionEnds (Ok answers) before events after
-    → RefusesNone before.refusals.count after.refusals.count → IsWholeSession before events answers after
+AreOfWholeCopies = (budget : ℕ) (before after : StoreState) (events : List Event) (answers : List Answer) → SessionEnds budget (Ok answers) before events after
+    → RefusesNone before.refusals.count after.refusals.count → IsWholeSession budget before events answers after

@@ -31,12 +31,12 @@ abbrev pub new_kept : ℕ → ℕ → List ℕ → Tokens → KeptState
 new_kept n capacity text t = record { durable = new_card_heap n capacity text t; laid = true; down = false; passed = 0; refusals = no_refusals; size = heap_end n capacity }
 
 -- it with its fuse armed, so that no write passes
-abbrev pub new_armed : ℕ → ℕ → List ℕ → Tokens → PowerState
-new_armed n capacity text t = armed 0 (Off (new_kept n capacity text t))
+abbrev pub new_armed : ℕ → ℕ → ℕ → List ℕ → Tokens → PowerState
+new_armed budget n capacity text t = armed 0 (Off budget (new_kept n capacity text t))
 
 -- a reset of it that the fuse cuts
-abbrev pub new_blown : ℕ → ℕ → List ℕ → Tokens → PowerState
-new_blown n capacity text t = Off (with_refusal 0 (durable_state (new_armed n capacity text t)))
+abbrev pub new_blown : ℕ → ℕ → ℕ → List ℕ → Tokens → PowerState
+new_blown budget n capacity text t = Off budget (with_refusal 0 (durable_state (new_armed budget n capacity text t)))
 
 -- a command that begins a load, and a line that asks for a reset
 abbrev pub begin_load_bytes : List ℕ
@@ -45,13 +45,13 @@ begin_load_bytes = 0x80 ∷ 0xB0 ∷ 0 ∷ 0 ∷ []
 abbrev pub reset_line : List ℕ
 reset_line = codes "reset"
 
--- With any table that reads sessions come to a new image without power, and to the card behind its first reset
-pub record HaveWitness (n capacity : ℕ) (text : List ℕ) (t : Tokens) : Type 0 where
-  pub off : ComesTo t (Off (new_kept n capacity text t))
+-- With any budget and any table that reads sessions come to a new image without power, and to the card behind its first reset
+pub record HaveWitness (budget n capacity : ℕ) (text : List ℕ) (t : Tokens) : Type 0 where
+  pub off : ComesTo t (Off budget (new_kept n capacity text t))
   pub card : CardState
   pub up : ComesTo t (Up card)
   -- of `down_tells_of_refused_writes`: a reset is cut
-  pub down : Serves (Up card) Reset Down (Off (with_refusal 0 (durable_state (Up card))))
+  pub down : Serves (Up card) Reset Down (Off budget (with_refusal 0 (durable_state (Up card))))
   pub few : (refusals_of (Up card)).count < 18446744073709551615
   -- of `lost` in `sessions_take_back_what_is_not_committed`: another one completes
   pub other : CardState
@@ -64,17 +64,17 @@ pub record HaveWitness (n capacity : ℕ) (text : List ℕ) (t : Tokens) : Type 
   pub begins : RunsFrom t card begin_load_bytes [] 0 [] (bare_frames 0 0) (bare_frames 0 0) card.memory
   pub step : HasTrace (machine_step [] card.packages (bare_frames 0 0) card.memory) card.memory [] (Ends Fault)
   -- of `fuses_cut_where_they_were_set`: a line is cut behind `stop 0`
-  pub cut : ServeLines (reset_line ∷ []) (new_armed n capacity text t) (new_blown n capacity text t) down_text
+  pub cut : ServeLines (reset_line ∷ []) (new_armed budget n capacity text t) (new_blown budget n capacity text t) down_text
   pub none : ArmNone (reset_line ∷ [])
-  pub spared : (refusals_of (new_blown n capacity text t)).faults ≡ 0
-  pub within : IsWithinFuse (durable_state (new_blown n capacity text t)).passed (refusals_of (new_blown n capacity text t)).fuse
+  pub spared : (refusals_of (new_blown budget n capacity text t)).faults ≡ 0
+  pub within : IsWithinFuse (durable_state (new_blown budget n capacity text t)).passed (refusals_of (new_blown budget n capacity text t)).fuse
 
 abbrev pub HaveWitnesses : Type 0
-HaveWitnesses = (n capacity : ℕ) (text : List ℕ) (t : Tokens) → least_size ≤ n → Reads text (Ok t) → HaveWitness n capacity text t
+HaveWitnesses = (budget n capacity : ℕ) (text : List ℕ) (t : Tokens) → least_size ≤ n → Reads text (Ok t) → HaveWitness budget n capacity text t
 
 -- of `sessions_without_refused_writes_are_of_whole_copies` and `images_power_up_again`: over each store of a new image a session ends well, and
 -- refuses no write
 abbrev pub NewStoresServe : Type 0
-NewStoresServe = (t : Tokens) (capacity : ℕ) (text : List ℕ) (store : StoreState) → IsMade store.words → Reads text (Ok t)
+NewStoresServe = (budget : ℕ) (t : Tokens) (capacity : ℕ) (text : List ℕ) (store : StoreState) → IsMade store.words → Reads text (Ok t)
     → heap_of (recovered_of store.words) ≡ new_card_heap (length store.words) capacity text t
-    → SessionEnds (Ok (Ready ∷ [])) store (Reset ∷ []) (record store { down = false })
+    → SessionEnds budget (Ok (Ready ∷ [])) store (Reset ∷ []) (record store { down = false })

@@ -2,7 +2,7 @@
 use crate::served::{
     NO_ANSWERS, Refused, answers_of, is_left_by, joined, new_store, result_of, serve,
 };
-use jc_session::card::card::Card;
+use jc_session::card::card::{Card, USUAL_BUDGET};
 use jc_session::card::power_up::PowerFault;
 use jc_words::{MemStore, WordStore};
 use std::test::Fail;
@@ -155,11 +155,12 @@ fn a_session_over_no_image_tells_it(rt: HostRuntime) -> Result<(), Fail> {
 // Where an allocation is made to fail the store is given back, and powers up once there is memory.
 #[test]
 fn without_memory_the_store_is_given_back(rt: HostRuntime) -> Result<(), Fail> {
-    let Err((fault, store)) = Card::power_up(rt.alloc(), new_store(rt.alloc())?) else {
+    let store = new_store(rt.alloc())?;
+    let Err((fault, store)) = Card::power_up(rt.alloc(), store, USUAL_BUDGET) else {
         return Ok(());
     };
     assert_eq!(rt; fault, PowerFault::NoMemory);
-    match Card::power_up(rt.alloc(), store) {
+    match Card::power_up(rt.alloc(), store, USUAL_BUDGET) {
         Ok(_card) => Ok(()),
         Err((fault, _)) => Err(fault)?,
     }

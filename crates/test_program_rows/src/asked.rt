@@ -1,6 +1,6 @@
-//! Who asks why commands of a run were not answered by 9000.
+//! Who is told what commands of a run did.
 
-use jcard_script::explainer::Explainer;
+use jcard_commands::told::Listener;
 use jcard_tear::progress::Progress;
 use std::alloc::Global;
 
@@ -23,15 +23,7 @@ impl Progress for Asked {
     fn tell_cut(&mut self, _number: u16) {}
 }
 
-impl Explainer for Asked {
-    fn asks(&self) -> bool {
-        true
-    }
-
-    fn map(&self) -> &[u8] {
-        b""
-    }
-
+impl Listener for Asked {
     // What there is no memory for is left out.
     fn tell(&mut self, text: &[u8]) {
         let _ = self.text.extend_from_slice(text);

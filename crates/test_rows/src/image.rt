@@ -1,7 +1,7 @@
 //! A card's image while its power is off.
 use crate::order::ImageOrder;
 use crate::words::{Store, is_of_journal, no_store, read_word, store_of, words_of, zeros};
-use jc_session::card::card::Card;
+use jc_session::card::card::{Card, USUAL_BUDGET};
 use jc_session::card::formatting::{FormatFault, format};
 use jc_session::card::power_up::PowerFault;
 use jc_session::session::{SessionFault, session};
@@ -94,7 +94,7 @@ impl Image {
     /// Powers the card up: `ready`, `down`, or a fault, which a session has to find too.
     fn power_up(&mut self, alloc: Global, writes: u64) -> Result<String, AllocError> {
         let words = words_of(alloc, &self.store)?;
-        match Card::power_up(alloc, self.take_store(alloc, writes)) {
+        match Card::power_up(alloc, self.take_store(alloc, writes), USUAL_BUDGET) {
             Ok(card) => {
                 self.store = card.into_store();
                 String::from_str(alloc, "ready")

@@ -1,7 +1,7 @@
 //! Recoveries, each cut after each number of its word writes.
 use crate::copies::first_unlike;
 use crate::words::{store_of, word_at};
-use jc_session::card::card::Card;
+use jc_session::card::card::{Card, USUAL_BUDGET};
 use jc_session::card::power_up::PowerFault;
 use jc_words::layout::COUNT;
 use std::alloc::{AllocError, Global};
@@ -99,7 +99,7 @@ fn recover_at_each(
 fn recover(alloc: Global, words: &[u16], writes: u64) -> Result<Recovery, AllocError> {
     let mut store = store_of(alloc, words)?;
     store.arm(writes);
-    match Card::power_up(alloc, store) {
+    match Card::power_up(alloc, store, USUAL_BUDGET) {
         Ok(card) => {
             let store = card.into_store();
             let passed = store.passed();

@@ -1,4 +1,4 @@
-use Rattle.std.proofs.Common.{arith, ◌≡◌, ◌<◌, ◌≤◌, ◌+◌, ◌-◌, ◌∙◌, ap, ap₂, subst, sym, List, ℕ, Bool, true, false, if◌then◌else◌}
+use Rattle.std.proofs.Common.{arith, ◌<◌, ◌+◌, ◌-◌, ◌∙◌, ap, ap₂, subst, sym, List, ℕ, Bool, if◌then◌else◌}
 use Rattle.std.proofs.lemmas.Bool.{le-leb}
 use Rattle.jc_heap.specs.Object.{Item}
 use Rattle.jc_commit.specs.Image.{top_of}

@@ -1,5 +1,6 @@
 use Rattle.std.proofs.Common.{◌<◌, ◌≤◌, ◌+◌, ◌++◌, ◌∷◌, [], ◌∙◌, length, take, inr, sym, ap, arith}
 use Rattle.std.proofs.lemmas.List.{take_more}
+use Rattle.jc_card.specs.Dispatching.{usual_budget}
 use Rattle.jc_session.specs.SessionStates.{power_of}
 use Rattle.jc_session.specs.Power.{StoreState}
 use Rattle.jc_session.proofs.SessionRuns.{session_ended, session_more, stops_at_reset}
@@ -18,7 +19,7 @@ loop-event-preserved g c =
       refusals = g.S.WordStore.refusals c.args.store;
     } in
     record {
-      session = session_more before (take n c.args.events.now) (take (n + 1) c.args.events.now) c.loop-event.answers.items c.push.new.self.items
+      session = session_more usual_budget before (take n c.args.events.now) (take (n + 1) c.args.events.now) c.loop-event.answers.items c.push.new.self.items
           (power_of c.loop-event.held) (power_of c.in-Ok-serve.next) c.event-item.result c.in-Ok-serve.answer
           (take_more c.args.events.now n c.event-item.result below ∙ ap (λ x. take n c.args.events.now ++ x ∷ []) (sym c.event-item.is))
           c.in-Ok-push.ensures.items i.session c.in-Ok-serve.ensures.served;
@@ -42,7 +43,7 @@ returns-in-Err-serve-clause-session g c =
       passed = g.S.WordStore.passed c.in-Err-serve.store;
       refusals = g.S.WordStore.refusals c.in-Err-serve.store;
     } in
-    inr (stops_at_reset before after c.args.events.now c.loop-event.answers.items (power_of c.loop-event.held) n c.event-item.result c.in-Err-serve.fault below
+    inr (stops_at_reset usual_budget before after c.args.events.now c.loop-event.answers.items (power_of c.loop-event.held) n c.event-item.result c.in-Err-serve.fault below
     c.event-item.is c.loop-event.invariant.session c.in-Err-serve.ensures.fault)
 
 pub returns-clause-session : goal.returns-clause-session
@@ -55,7 +56,7 @@ returns-clause-session g c =
     } in
     let over : length c.args.events.now ≤ c.loop-event.event-index = omega arith in (
       power_of c.loop-event.held,
-      session_ended before c.args.events.now c.loop-event.answers.items
+      session_ended usual_budget before c.args.events.now c.loop-event.answers.items
           (power_of c.loop-event.held) c.loop-event.event-index over c.loop-event.invariant.session,
       c.into_store-2.ensures,
     )
@@ -75,6 +76,6 @@ returns-clause-whole g c = λ none.
       refusals = g.S.WordStore.refusals c.into_store-2.result;
     } in
     let over : length c.args.events.now ≤ c.loop-event.event-index = omega arith in
-    are_whole before after c.args.events.now c.loop-event.answers.items (power_of c.loop-event.held)
-    (session_ended before c.args.events.now c.loop-event.answers.items (power_of c.loop-event.held) c.loop-event.event-index over
+    are_whole usual_budget before after c.args.events.now c.loop-event.answers.items (power_of c.loop-event.held)
+    (session_ended usual_budget before c.args.events.now c.loop-event.answers.items (power_of c.loop-event.held) c.loop-event.event-index over
     c.loop-event.invariant.session) c.into_store-2.ensures none

@@ -16,10 +16,10 @@ returns-in-Some-clause-done g c =
 
 pub returns-in-None-clause-done : goal.returns-in-None-clause-done
 returns-in-None-clause-done g c =
-    let done = c.perform_explained.ensures.done in (
+    let done = c.perform_told.ensures.done in (
       done.0,
       done.1,
       done.2,
-      subst (λ (files : Option (List (List ℕ))). IsPerformedBy files (map string_bytes c.args.words.now) c.perform_explained.result done.0 done.1) (sym c.in-None.ensures) done.3,
+      subst (λ (files : Option (List (List ℕ))). IsPerformedBy files (map string_bytes c.args.words.now) c.perform_told.result done.0 done.1) (sym c.in-None.ensures) done.3,
       done.4,
     )

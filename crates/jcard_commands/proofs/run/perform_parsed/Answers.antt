@@ -10,4 +10,4 @@ returns-in-Ok-clause-done g c =
 
 pub returns-in-Err-clause-done : goal.returns-in-Err-clause-done
 returns-in-Err-clause-done g c =
-    ([], [], appends_same _, nothing_done _ c.in-Err.fault c.in-Err.ensures.taken, g.met.D.Disk.none c.args.disk.now)
+    ([], [], appends_same _, nothing_done c.args.budget _ c.in-Err.fault c.in-Err.ensures.taken, g.met.D.Disk.none c.args.disk.now)

@@ -28,8 +28,8 @@ returns-in-Ok-open_text-clause-done g c =
     ∙ fresh_under_fuse words _ _ _ c.in-Ok.ensures.up c.in-Ok.ensures.none_passed c.in-Ok.ensures.none_refused in
     let done = c.run_named-store.ensures.done in
     let known = unread c.in-Ok-open_text.file in
-    let over = subst (λ f. IsCarriedOut image script (unread f) left c.new-store.result after ended done.0) c.new-reader.ensures.inner done.2 in
-    let carried = subst (λ s. IsCarriedOut image script known left s after ended done.0) fresh over in
+    let over = subst (λ f. IsCarriedOut c.args.budget image script (unread f) left c.new-store.result after ended done.0) c.new-reader.ensures.inner done.2 in
+    let carried = subst (λ s. IsCarriedOut c.args.budget image script known left s after ended done.0) fresh over in
     let I = g.D.Image.WordStore in
     let value = store_value I.words I.down I.passed I.refusals in
     let below : value c.new.result.store ≡ below_fuse after = ap value c.new.ensures ∙ c.into_store.ensures in

@@ -1,4 +1,4 @@
-use Rattle.std.proofs.Common.{◌≡◌, ◌∙◌, ◌+◌, ◌-◌, ◌++◌, [], List, ℕ, ap, arith}
+use Rattle.std.proofs.Common.{◌≡◌, ◌∙◌, ◌+◌, ◌-◌, ◌++◌, List, ℕ, ap, arith}
 use Rattle.std.specs.Prelude.{codes, slice_index}
 use Rattle.jc_words.specs.Layout.{registry_start}
 use Rattle.jc_heap.specs.RegistryLayout.{entry_instance, entry_start}

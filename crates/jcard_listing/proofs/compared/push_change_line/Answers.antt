@@ -1,4 +1,4 @@
-use Rattle.std.proofs.Common.{◌≡◌, ◌++◌, List, ℕ}
+use Rattle.std.proofs.Common.{◌++◌, List, ℕ}
 use Rattle.std.specs.Prelude.{codes}
 use Rattle.jcard_objects.specs.ClassTexts.{kind_text}
 use Rattle.jcard_listing.specs.Objects.{value_text}

@@ -1,6 +1,5 @@
-use Rattle.std.proofs.Common.{arith, ◌≡◌, ◌≤◌, ◌<◌, ◌+◌, ◌-◌, ◌∙◌, ◌++◌, ap, sym, subst, List, ℕ, Ok, Err}
+use Rattle.std.proofs.Common.{arith, ◌<◌, ◌+◌, ◌-◌, ◌∙◌, ap, sym, subst, List, ℕ, Ok, Err}
 use Rattle.jc_commit.specs.Image.{top_of}
-use Rattle.jc_records.specs.Bounds.{first_record}
 use Rattle.jc_records.specs.Records.{item_at, record_size}
 use Rattle.jc_records.proofs.HeapBounds.{Bounds, bounds}
 use Rattle.jc_records.proofs.PlaceSteps.{place_behind}

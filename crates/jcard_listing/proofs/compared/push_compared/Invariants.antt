@@ -1,4 +1,4 @@
-use Rattle.std.proofs.Common.{◌≡◌, ◌≤◌, ◌-◌}
+use Rattle.std.proofs.Common.{◌≤◌, ◌-◌}
 use Rattle.jc_words.specs.Layout.{text_start}
 use Rattle.jc_records.specs.Places.{IsPlaceFor}
 use Rattle.jcard_listing.specs.Compared.{compared_lines, compared_text}

@@ -1,6 +1,5 @@
 use Rattle.std.proofs.Common.{◌≡◌, ◌∙◌, ◌++◌, List, ℕ, ap, sym, append-nil}
 use Rattle.std.proofs.lemmas.Result.{on_ok_weaker}
-use Rattle.jc_records.specs.Places.{standing_at}
 use Rattle.jc_records.specs.Records.{item_at}
 use Rattle.jc_records.specs.declared.places.Standing.{Standing}
 use Rattle.jcard_listing.specs.Compared.{beside_text}

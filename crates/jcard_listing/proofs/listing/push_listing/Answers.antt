@@ -1,4 +1,3 @@
-use Rattle.std.proofs.Common.{Ok, Err}
 use Rattle.std.proofs.lemmas.Result.{err_from_is_err_and}
 use Rattle.jcard_listing.proofs.Listings.{areas_told, areas_untold, contents_told, table_untold}
 use Rattle.jcard_listing.proofs.listing.push_listing.Goals as goal

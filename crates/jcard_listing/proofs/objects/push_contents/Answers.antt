@@ -1,10 +1,10 @@
-use Rattle.std.proofs.Common.{arith, ◌≡◌, ◌<◌, ◌+◌, ◌∙◌, ◌++◌, ◌∷◌, [], ap, sym, true, false, Bool, get_or, length, take, List, ℕ, append_assoc, if◌then◌else◌}
+use Rattle.std.proofs.Common.{arith, ◌+◌, ◌∙◌, ◌++◌, ap, sym, false, Bool, get_or, take, List, ℕ, append_assoc, if◌then◌else◌}
 use Rattle.std.specs.Prelude.{codes}
 use Rattle.std.specs.List.{flat_map}
 use Rattle.std.proofs.lemmas.List.{flat_map_more, take_all, take_more}
 use Rattle.jc_heap.specs.Object.{cells_of}
 use Rattle.jc_records.specs.Records.{item_at}
-use Rattle.jcard_listing.specs.Objects.{cell_text, contents_text, pin_text}
+use Rattle.jcard_listing.specs.Objects.{cell_text, pin_text}
 use Rattle.jcard_listing.proofs.objects.push_contents.Goals as goal
 
 pub loop-i-preserved : goal.loop-i-preserved

@@ -1,4 +1,4 @@
-use Rattle.std.proofs.Common.{◌≡◌, ◌++◌, List, ℕ}
+use Rattle.std.proofs.Common.{◌++◌, List, ℕ}
 use Rattle.std.specs.Prelude.{codes}
 use Rattle.jc_heap.specs.Object.{cells_of}
 use Rattle.jc_records.specs.Records.{item_at}

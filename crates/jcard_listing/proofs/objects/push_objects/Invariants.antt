@@ -1,4 +1,4 @@
-use Rattle.std.proofs.Common.{◌≡◌, ◌≤◌, ◌-◌}
+use Rattle.std.proofs.Common.{◌≤◌, ◌-◌}
 use Rattle.jc_words.specs.Layout.{text_start}
 use Rattle.jcard_listing.specs.Objects.{item_text, objects_lines}
 use Rattle.jcard_listing.proofs.Listed.{IsTelling}

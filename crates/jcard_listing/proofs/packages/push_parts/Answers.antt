@@ -1,9 +1,8 @@
-use Rattle.std.proofs.Common.{arith, refl, ◌≡◌, ◌≤◌, ◌<◌, ◌+◌, ◌-◌, ◌∙◌, ◌++◌, ap, sym, subst, get_or, length, take, drop, List, ℕ, Ok, Err, true}
-use Rattle.std.proofs.lemmas.List.{get_or-drop}
+use Rattle.std.proofs.Common.{arith, refl, ◌≡◌, ◌<◌, ◌+◌, ◌-◌, ◌∙◌, ◌++◌, ap, sym, subst, get_or, length, take, drop, List, ℕ, Ok, Err, true}
 use Rattle.jc_heap.specs.Components.{words_for}
 use Rattle.jc_records.specs.Records.{record_size, record_words}
-use Rattle.jc_records.proofs.HeapBounds.{Bounds, bounds}
-use Rattle.jc_records.proofs.ItemWords.{length-words, word_is}
+use Rattle.jc_records.proofs.HeapBounds.{bounds}
+use Rattle.jc_records.proofs.ItemWords.{length-words}
 use Rattle.jcard_images.specs.Listings.{Lines}
 use Rattle.jcard_listing.specs.Packages.{component_text, image_text, parts_lines}
 use Rattle.jcard_listing.specs.Fault.{Lists}

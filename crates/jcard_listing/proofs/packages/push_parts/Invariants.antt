@@ -1,4 +1,4 @@
-use Rattle.std.proofs.Common.{◌≡◌, ◌≤◌, ◌-◌}
+use Rattle.std.proofs.Common.{◌≤◌, ◌-◌}
 use Rattle.jc_records.specs.Records.{record_words}
 use Rattle.jcard_listing.specs.Packages.{parts_lines}
 use Rattle.jcard_listing.proofs.Listed.{IsTelling}

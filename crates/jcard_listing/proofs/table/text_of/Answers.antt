@@ -1,4 +1,4 @@
-use Rattle.std.proofs.Common.{◌≡◌, ◌<◌, ◌≤◌, ◌∙◌, ◌++◌, ◌∷◌, [], List, ℕ, ap, sym, get_or, length, take, arith}
+use Rattle.std.proofs.Common.{◌<◌, ◌∙◌, ◌++◌, ◌∷◌, [], List, ℕ, sym, get_or, arith}
 use Rattle.std.proofs.lemmas.List.{take_all, take_more}
 use Rattle.jc_words.specs.Layout.{text_length_address}
 use Rattle.jc_heap.specs.Image.{table_text, text_byte}

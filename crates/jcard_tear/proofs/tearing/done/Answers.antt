@@ -2,7 +2,7 @@ use Rattle.std.proofs.Common.{◌≡◌, ◌∙◌, ◌++◌, ap, sym, refl, inl
 use Rattle.jcard_tear.specs.Faults.{IsCarriedOut, IsProbeFault}
 use Rattle.jcard_tear.specs.Runs.{IsLeft, IsRunFault, Runs}
 use Rattle.jcard_tear.specs.Sweeps.{IsLastLine}
-use Rattle.jcard_tear.proofs.Uncut.{memory_uncut, passed_on, probe_uncut, run_uncut}
+use Rattle.jcard_tear.proofs.Uncut.{down_uncut, memory_uncut, passed_on, probe_uncut, run_uncut}
 use Rattle.jcard_tear.proofs.tearing.done.Goals as goal
 
 pub returns : goal.returns
@@ -35,7 +35,7 @@ returns-then-ran c = λ step.
     let ran = c.in_ok-ran.ensures.ran in
     let script = c.deref.ensures.value ∙ c.in_ok-extend_from_slice.ensures.items ∙ ap (λ l. l ++ c.args.command.line.now) c.in_ok-script.ensures.items in
     let runs = subst (λ s. Runs c.args.words.now s c.in_ok-ran.ran.text.items ran.0) script ran.1 in
-    (c.in_ok-ran.ran.text.items, ran.0, runs, sym ran.3 ∙ c.if-ran.true)
+    down_uncut c.args.words.now c.args.command step c.in_ok-ran.ran.text.items ran.0 runs (sym ran.3 ∙ c.if-ran.true)
 
 pub returns-in_err-answer : goal.returns-in_err-answer
 returns-in_err-answer c = passed_on _ _ c.from_residual-in_err-answer.result c.from_residual-in_err-answer.ensures.1

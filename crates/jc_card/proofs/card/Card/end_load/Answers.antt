@@ -15,6 +15,11 @@ invariant_of-self g c =
 pub returns : goal.returns
 returns g c =
     subst (λ (v : CardState). Executes (end_load v) v.memory (after_exchange c.response_of_end.result
-    (record { memory = c.end_package-ended.new.memory; packages = c.end_package-ended.new.linked; load = c.end_package-ended.new.load }))) c.self.view_is
-    (ends_so (end_of_load c.self.inside.linked c.self.inside.memory c.self.inside.load) c.self.inside.memory _ c.end_package-ended.result _ _
+    (record {
+      memory = c.end_package-ended.new.memory;
+      packages = c.end_package-ended.new.linked;
+      load = c.end_package-ended.new.load;
+      budget = c.self.inside.budget;
+    }))) c.self.view_is
+    (ends_so c.self.inside.budget (end_of_load c.self.inside.linked c.self.inside.memory c.self.inside.load) c.self.inside.memory _ c.end_package-ended.result _ _
     c.response_of_end.result c.response_of_end.ensures c.end_package-ended.ensures)
