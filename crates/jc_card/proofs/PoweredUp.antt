@@ -1,7 +1,6 @@
 -- What power up finds.
 use Rattle.std.proofs.Common.{◌≡◌, ℕ, ◌+◌, ◌/◌, ◌≤◌, ◌<◌, ◌⊎◌, inl, inr, List, length, get_or, refl, sym, ◌∙◌, ap, subst, arith, Ok, Err}
-use Rattle.std.specs.Prelude.{Result, Bool, IsOk, IfOk, IfErr, OnOk, MatchResult, None, Some}
-use Rattle.std.proofs.lemmas.Bool.{false≢true}
+use Rattle.std.specs.Prelude.{Result, IsOk, IfOk, IfErr, OnOk, MatchResult, None, Some}
 use Rattle.jc_words.specs.Image.{HasSize, IsVersion}
 use Rattle.jc_words.specs.declared.image.ImageFault.{ImageFault}
 use Rattle.jc_words.specs.Layout.{magic_address, version_address, size_address, text_length_address, text_start, magic}
@@ -13,9 +12,6 @@ use Rattle.jc_heap.specs.Alike.{StandAlike}
 use Rattle.jc_heap.proofs.Migrated.{migrated_alike}
 use Rattle.jc_heap.specs.Image.{IsWellFormed, base, image, table_text}
 use Rattle.jc_heap.specs.Heap.{HeapState, head_of, heap_of}
-use Rattle.jc_image.specs.Opening.{HoldsImage}
-use Rattle.jc_words.specs.Refusals.{Refusals}
-use Rattle.jc_commit.specs.State.{State}
 use Rattle.jc_card_checks.specs.Sound.{IsSound}
 use Rattle.jc_card_load.specs.Reading.{packages_of}
 use Rattle.jc_heap.proofs.RawWords.{recovered-head, head_is, text_is}
@@ -30,7 +26,7 @@ use Rattle.jc_card.specs.CardState.{CardState}
 use Rattle.jc_card.specs.Dispatching.{usual_budget}
 use Rattle.jc_card.specs.Fixed.{BeginsWithFixed, last_fixed}
 use Rattle.jc_card.specs.Made.{IsMade}
-use Rattle.jc_card.specs.PowerUp.{HasHead, HasTable, HasHeap, PowerUpRefuses, RecoveredWordsFail, FailsToLink, HasPackages, IsFoundAfter, IsFoundFirst, IsRecovered, RefusalLeaves}
+use Rattle.jc_card.specs.PowerUp.{HasHead, HasTable, HasHeap, PowerUpRefuses, RecoveredWordsFail, FailsToLink, HasPackages}
 use Rattle.jc_card.specs.declared.power_up.PowerFault.{PowerFault}
 use Rattle.jc_card.specs.declared.power_up.PowerFault.TheVariants.{BadMagic, BadVersion, BadSize, BadLog, BadTable, BadPackage, NoMemory, StoreDown}
 
@@ -94,11 +90,6 @@ refused_made w BadPackage made r =
 refused_made w NoMemory made r = inl refl
 refused_made w StoreDown made r = inr refl
 
-pub refused_if : {A E : Type 0} (r : Result A E) (fault : E → PowerFault) (w : List ℕ) → IsMade w → IfErr r (λ e. PowerUpRefuses (fault e) w)
-    → IfErr r (λ e. (fault e ≡ NoMemory) ⊎ (fault e ≡ StoreDown))
-refused_if (Ok a) fault w made f = tt
-refused_if (Err e) fault w made f = refused_made w (fault e) made f
-
 -- the same for the parts of a recovered image
 pub refuses_from : (w : List ℕ) (f : PowerFault) → HasHead w → IsGoodLog w → RecoveredWordsFail f (recovered_of w) → PowerUpRefuses f w
 refuses_from w BadMagic head log r = absurd r
@@ -109,26 +100,6 @@ refuses_from w BadTable head log r = (head, log, r)
 refuses_from w BadPackage head log r = (head, log, r)
 refuses_from w NoMemory head log r = (head, log)
 refuses_from w StoreDown head log r = absurd r
-
-pub mapped_err : {A E : Type 0} (r : Result A E) (P Q : E → Type 0) → ((e : E) → P e → Q e) → IfErr r P → IfErr r Q
-mapped_err (Ok a) P Q f p = tt
-mapped_err (Err e) P Q f p = f e p
-
-pub mapped_on : {A E : Type 0} (r : Result A E) (P Q : Type 0) → (P → Q) → OnOk r P → OnOk r Q
-mapped_on (Ok a) P Q f p = f p
-mapped_on (Err e) P Q f p = tt
-
--- no fault of the first words where they are an image's
-pub no_image_fault : (r : Result Unit ImageFault) (f : ImageFault) (w : List ℕ) → r ≡ Err f
-    → ((get_or w magic_address 0 ≡ magic) × IsVersion (get_or w version_address 0) × HasSize w → IsOk r) → IsMade w → ⊥
-no_image_fault r f w is ok made =
-    let h : HasHead w = has_head w made in
-    false≢true (subst IsOk is (ok (h.magic, h.version, h.size)))
-
--- a fact from what is so of an answer
-pub on_if : {A E : Type 0} (r : Result A E) (Q : A → Type 0) (P : Type 0) → ((a : A) → Q a → P) → IfOk r Q → OnOk r P
-on_if (Ok a) Q P f q = f a q
-on_if (Err e) Q P f q = tt
 
 -- words that stand alike have the same table and the same heap
 module _ (ws vs : List ℕ) (alike : StandAlike ws vs) where
@@ -178,31 +149,6 @@ told_image w good = ap (λ (h : ℕ × ℕ). h.1) ((recovered_alike w).head ∙ 
 pub limit_still : (old new : List ℕ) → StillOpens old new → limit_of new ≡ limit_of old
 limit_still old new still =
     sym (length-recovered new) ∙ ap (λ (l : List ℕ). length l) still.recovered ∙ (migrated_alike (recovered_of old) still.done).size ∙ length-recovered old
-
--- the store of a recovered image has as many words as the image tells, and so has that of a heap at rest
-pub long_of_image : (w : List ℕ) (d : Bool) (p : ℕ) (r : Refusals) (j : State) → HoldsImage w d p r j → length w ≡ get_or j.plain size_address 0
-long_of_image w d p r j holds = sym holds.good.size.told ∙ ap (λ (h : ℕ × ℕ). h.1) holds.head
-
--- a fault that is found after the recovery leaves the words as the recovery and the migration left them
-pub leaves_from : (f : PowerFault) (old new : List ℕ) → IsFoundAfter f → IsRecovered (migrated 3 (recovered_of old)) new → RefusalLeaves f old new
-leaves_from BadMagic old new late leaves = absurd late
-leaves_from BadVersion old new late leaves = absurd late
-leaves_from BadSize old new late leaves = absurd late
-leaves_from BadLog old new late leaves = absurd late
-leaves_from BadTable old new late leaves = leaves
-leaves_from BadPackage old new late leaves = leaves
-leaves_from NoMemory old new late leaves = leaves
-leaves_from StoreDown old new late leaves = absurd late
-
-pub no_first : (f : PowerFault) → IsFoundAfter f → IsFoundFirst f → ⊥
-no_first BadTable late first = first
-no_first BadPackage late first = first
-no_first NoMemory late first = first
-no_first f late first = late
-
-pub both_err : {A E : Type 0} (r : Result A E) (P Q : E → Type 0) → IfErr r P → IfErr r Q → IfErr r (λ e. P e × Q e)
-both_err (Ok a) P Q p q = tt
-both_err (Err e) P Q p q = (p, q)
 
 -- what does not fit the packages that are linked of it fits none
 pub none_fit : (t : Tokens) (h : HeapState) (p : Packages) → packages_of t h ≡ Some p → (IsSound p h (last_fixed h) → ⊥) → HasPackages t h → ⊥

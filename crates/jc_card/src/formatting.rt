@@ -1,14 +1,14 @@
 //! Making an image.
-ghost use Rattle.std.specs.Prelude.{ℕ, ◌≡◌, ◌≢◌, ◌<◌, ◌≤◌, ◌+◌, ◌⊎◌, ◌↔◌, true, false, length, slice_index, take, Ok, Err, IfOk, IfErr, OnOk, OnErr, IsErrOf, Result};
+ghost use Rattle.std.specs.Prelude.{◌≡◌, ◌≢◌, ◌≤◌, ◌+◌, ◌⊎◌, true, false, length, slice_index, take, Ok, IfOk, IfErr};
 ghost use Rattle.jc_words.specs.Refusals.{refused_once};
 ghost use Rattle.jc_words.specs.Layout.{front_length, magic_address, magic, least_size};
 ghost use Rattle.jc_words.specs.Image.{IsCapacity, heap_end};
 ghost use Rattle.jc_image.specs.Laying.{first_free};
 ghost use Rattle.jc_heap.specs.Heap.{heap_of};
 ghost use Rattle.jc_commit.specs.Image.{recovered_of};
-ghost use Rattle.jc_platform.specs.Tokens.{Tokens};
 ghost use Rattle.jc_platform.specs.Table.{Reads};
 ghost use Rattle.jc_card.specs.Fixed.{fixed_size};
+ghost use Rattle.jc_card.specs.Formatting.{Formats};
 ghost use Rattle.jc_card.specs.Made.{IsMade, new_card_heap, new_front};
 
 use crate::fixed::make_fixed;
@@ -47,32 +47,8 @@ pub enum FormatFault {
 /// Makes an image of a store, whose journal can have so many entries, 16 to 1024: the platform table with
 /// this text, the objects of the runtime environment, and last the magic word. So an image that was not made to its end has none.
 pub fn format<S: WordStore>(store: S, text: &[u8], capacity: u16) -> (S, Result<(), FormatFault>)
-    ensures made { OnOk result.1 (IsMade (S.words result.0)) }
-    ensures heap { OnOk result.1 ((t : Tokens) × Reads text.now (Ok t)
-        × (heap_of (recovered_of (S.words result.0)) ≡ new_card_heap
-        (length (S.words store)) capacity text.now t)) }
-    ensures front { OnOk result.1 (take front_length (S.words result.0)
-        ≡ new_front (length (S.words store)) capacity (length text.now)) }
-    ensures size { length (S.words result.0) ≡ length (S.words store) }
-    ensures up { OnOk result.1 (S.down result.0 ≡ false) }
-    ensures none_refused { OnOk result.1 (S.refusals result.0 ≡ S.refusals store) }
-    ensures bad_size { (result.1 ≡ Err FormatFault.BadSize)
-        ↔ (length (S.words store) < least_size) }
-    ensures bad_capacity { (result.1 ≡ Err FormatFault.BadCapacity)
-        ↔ ((least_size ≤ length (S.words store)) × (IsCapacity capacity → ⊥)) }
-    ensures bad_table { (line : ℕ) → (result.1 ≡ Err (FormatFault.BadTable line))
-        ↔ ((least_size ≤ length (S.words store)) × IsCapacity capacity × Reads text.now
-        (Err (TableFault.BadTable line))) }
-    ensures too_small { (result.1 ≡ Err FormatFault.TooSmall)
-        ↔ ((least_size ≤ length (S.words store)) × IsCapacity capacity
-        × (heap_end (length (S.words store)) capacity
-        < first_free (length text.now) + fixed_size) × ((t : Tokens) × Reads text.now (Ok t))) }
-    ensures kept { OnErr result.1 ((result.1 ≡ Err FormatFault.StoreDown → ⊥) → result.0 ≡ store) }
-    ensures stopped { result.1 ≡ Err FormatFault.StoreDown
-        → (S.down result.0 ≡ true)
-        × (S.refusals result.0 ≡ refused_once (S.down store) (S.passed result.0) (S.refusals store))
-        × ((S.words result.0 ≡ S.words store) ⊎ (slice_index
-        (S.words result.0) magic_address ≢ magic)) }
+    ensures { Formats S.words S.down S.passed S.refusals store capacity text.now
+        result.0 result.1 }
 {
     let size = store.size();
     if size < LEAST_SIZE {

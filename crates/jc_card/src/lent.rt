@@ -55,6 +55,10 @@ impl<'a, S: WordStore> WordStore for LentStore<'a, S> {
         Err(StoreDown)
     }
 
+    fn passed_writes(&self) -> u64 {
+        0
+    }
+
     fn is_down(&self) -> bool {
         self.down
     }

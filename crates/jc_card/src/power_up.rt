@@ -1,20 +1,16 @@
 //! Powering a card up over the words of its image.
 ghost use Rattle.std.specs.Prelude.{ℕ, List, ◌≡◌, ◌⊎◌, ◌+◌, ◌/◌, ◌≤◌, ◌↔◌, [], length, slice_index, None, Some, Ok, IsOk, IfOk, IfErr, OnOk, false, true, MatchResult};
-ghost use Rattle.jc_words.specs.Refusals.{refused_once};
 ghost use Rattle.jc_words.specs.Layout.{text_length_address, text_start, version, version_address};
-ghost use Rattle.jc_commit.specs.Migration.{IsPartOfOpening};
-ghost use Rattle.jc_commit.specs.State.{recovered_journal};
 ghost use Rattle.jc_heap.specs.Heap.{heap_view};
 ghost use Rattle.jc_heap.specs.Image.{IsWellFormed, table_text};
 ghost use Rattle.jc_image.specs.Beginning.{HeapBeginsWith};
 ghost use Rattle.jc_transient.specs.State.{IsCleared};
 ghost use Rattle.jc_platform.specs.Table.{Reads};
 ghost use Rattle.jc_platform.specs.Tokens.{Tokens};
-ghost use Rattle.jc_card.specs.Made.{IsMade};
 ghost use Rattle.jc_heap.specs.Whole.{IsConsistent};
 ghost use Rattle.jc_heap.specs.Heap.{IsObject, heap_of};
 ghost use Rattle.jc_heap.specs.Stored.{IsAtRest, heap_of_store_at_rest};
-ghost use Rattle.jc_commit.specs.Image.{IsGoodLog, count_of, limit_of, recovered_of};
+ghost use Rattle.jc_commit.specs.Image.{IsGoodLog, count_of, recovered_of};
 ghost use Rattle.jc_transient.specs.State.{HasSizes};
 ghost use Rattle.jc_memory.specs.Marks.{AreNone, AreObjects, mark_count};
 ghost use Rattle.jc_memory.specs.Owners.{at_reset};
@@ -23,8 +19,8 @@ ghost use Rattle.jc_card_checks.specs.Sound.{IsSound};
 ghost use Rattle.jc_card.specs.Dispatching.{usual_budget};
 ghost use Rattle.jc_card.specs.Fixed.{fixed_facts, fixed_objects, fixed_of, last_fixed};
 ghost use Rattle.jc_card.specs.Reset.{IsAtReset};
-ghost use Rattle.jc_card.specs.PowerUp.{PowerUpRefuses, RecoveredWordsFail, FailsToLink, RefusalLeaves, IsFoundFirst, IsFoundAfter, HasTable};
-ghost use Rattle.jc_card.specs.PowerUp.{HasHeap, fault_of};
+ghost use Rattle.jc_card.specs.PowerUp.{FailsToLink, HasHeap, HasTable, RecoveredWordsFail, fault_of};
+ghost use Rattle.jc_card.specs.PoweringUp.{PowersUpOver};
 
 use crate::card::{Card, USUAL_BUDGET};
 use crate::fixed::{LAST_FIXED, fixed_headers, fixed_of};
@@ -85,35 +81,7 @@ impl<S: WordStore> Card<S> {
     /// The card of a store, after a reset, with a budget of instructions a command: first takes back what a loss of power left open and makes the
     /// image one of the version that is written, then asks for memory. Where it refuses, it gives the store back.
     pub fn power_up(alloc: Global, store: S, budget: u32) -> Result<Card<S>, (PowerFault, S)>
-        ensures made { OnOk result (IsMade (S.words store)) }
-        ensures heap { IfOk result (λ card. card.memory.heap
-            ≡ heap_view (recovered_journal (S.words store) (S.passed store) (S.refusals store))
-            (limit_of (S.words store))) }
-        ensures blank { IfOk result (λ card. IsCleared card.memory.ram) }
-        ensures load { IfOk result (λ card. card.load ≡ None) }
-        ensures budget { IfOk result (λ card. card.budget ≡ budget) }
-        ensures reset { IfOk result (λ card. IsAtReset
-            (heap_of (recovered_of (S.words store))) card) }
-        ensures cause { IfErr result (λ e. PowerUpRefuses e.0 (S.words store)) }
-        ensures stands { IfErr result (λ e. RefusalLeaves e.0 (S.words store) (S.words e.1)) }
-        // Over an image that the product made it refuses for want of memory alone, or by the store.
-        ensures of_made { IsMade (S.words store) → IfErr result
-            (λ e. (e.0 ≡ PowerFault.NoMemory) ⊎ (e.0 ≡ PowerFault.StoreDown)) }
-        ensures was_up { OnOk result (S.down store ≡ false) }
-        ensures down { IfErr result (λ e. e.0 ≡ PowerFault.StoreDown → S.down e.1 ≡ true) }
-        ensures was_down { IfErr result (λ e. S.down store ≡ true → e.1 ≡ store) }
-        // Before a recovery the store is given back as it came; after it, as the recovery left it.
-        ensures untouched { IfErr result (λ e. IsFoundFirst e.0 → e.1 ≡ store) }
-        ensures after { IfErr result (λ e. IsFoundAfter e.0
-            → (S.down e.1 ≡ false) × (S.passed e.1 ≡ (recovered_journal (S.words store)
-            (S.passed store) (S.refusals store)).passed) × (S.refusals e.1 ≡ S.refusals store)) }
-        ensures good { IfErr result (λ e. IsFoundAfter e.0 → IsGoodLog (S.words e.1)) }
-        ensures size { IfErr result (λ e. length (S.words e.1) ≡ length (S.words store)) }
-        ensures limit { IfErr result (λ e. limit_of (S.words e.1) ≡ limit_of (S.words store)) }
-        ensures part { IfErr result (λ e. e.0 ≡ PowerFault.StoreDown
-            → IsPartOfOpening (S.words store) (S.words e.1) (S.passed store) (S.passed e.1)) }
-        ensures refused { IfErr result (λ e. e.0 ≡ PowerFault.StoreDown → S.down store ≡ false
-            → S.refusals e.1 ≡ refused_once false (S.passed e.1) (S.refusals store)) }
+        ensures { PowersUpOver S.words S.down S.passed S.refusals store budget result }
     {
         if let Err(fault) = check_image(&store) {
             return Err((PowerFault::from(fault), store));
@@ -136,12 +104,9 @@ fn start<S: WordStore>(alloc: Global, store: S, budget: u32) -> Result<Card<S>, 
         × HasHeap t (recovered_of (S.words store))) }
     ensures heap { IfOk result (λ card. card.memory.heap
         ≡ heap_of_store_at_rest (S.words store) (S.passed store) (S.refusals store)) }
-    ensures blank { IfOk result (λ card. IsCleared card.memory.ram) }
-    ensures load { IfOk result (λ card. card.load ≡ None) }
     ensures budget { IfOk result (λ card. card.budget ≡ budget) }
     ensures reset { IfOk result (λ card. IsAtReset (heap_of (recovered_of (S.words store))) card) }
     ensures cause { IfErr result (λ e. RecoveredWordsFail e.0 (recovered_of (S.words store))) }
-    ensures found { IfErr result (λ e. IsFoundAfter e.0) }
     ensures same { IfErr result (λ e. e.1 ≡ store) }
 {
     let Ok(mut marks) = unset_flags(alloc) else {
@@ -173,7 +138,6 @@ fn lent_card<S: WordStore + Drop>(
     ensures reset { IfOk result (λ card. IsAtReset (heap_of image.plain) card) }
     ensures heap { IfOk result (λ card. card.memory.heap ≡ heap_view image (length image.plain)) }
     ensures cause { IfErr result (λ fault. RecoveredWordsFail fault image.plain) }
-    ensures found { IfErr result (λ fault. IsFoundAfter fault) }
 {
     let table = match platform_of(alloc, &image) {
         Ok(table) => table,

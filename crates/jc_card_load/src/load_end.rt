@@ -12,7 +12,7 @@ use crate::linking::link_package;
 use crate::load::OpenLoad;
 use crate::load_refusal::LoadRefusal;
 use crate::record_contents::{RecordContents, record_contents_of};
-use crate::refusals::note_refusal;
+use crate::refusals::{note_full_heap, note_refusal};
 use jc_cap::assembling::Package;
 use jc_cap::texts::LoadedComponents;
 use jc_heap::HeapRefusal;
@@ -137,6 +137,9 @@ fn write_record<S: WordStore>(
             Ok(Ok(()))
         }
         Err(HeapRefusal::StoreDown) => Err(StoreDown),
-        Err(_) => Ok(Err(LoadRefusal::HeapFull)),
+        Err(_) => {
+            note_full_heap(contents, memory);
+            Ok(Err(LoadRefusal::HeapFull))
+        }
     }
 }

@@ -1,8 +1,9 @@
 //! Notes of why a load is refused, for whoever asks why.
-ghost use Rattle.std.specs.Prelude.{◌<◌, ◌≤◌, ◌≡◌, length, IfOk};
+ghost use Rattle.std.specs.Prelude.{◌<◌, ◌≤◌, ◌≡◌, false, length, IfOk};
 
 use crate::load::OpenLoad;
 use crate::load_refusal::LoadRefusal;
+use crate::record_contents::RecordContents;
 use jc_cap::assembling::Package;
 use jc_cap::contents::Contents;
 use jc_cap::texts::LoadedComponents;
@@ -10,8 +11,10 @@ use jc_cap_linkage::class_refs::ClassRef;
 use jc_cap_linkage::fault::CapFault;
 use jc_cap_linkage::formats::Format;
 use jc_cap_linkage::pool::{Entry, StaticRef, VirtualToken};
+use jc_heap::layout::HEADER;
 use jc_linker::fault::LinkFault;
-use jc_memory::{Notes, RefusedLoad};
+use jc_memory::{Memory, Notes, RefusedLoad, Shortage, Space};
+use jc_words::WordStore;
 use std::alloc::{AllocError, Global};
 
 // The first bytes of a component.
@@ -180,4 +183,38 @@ pub(crate) fn note_refusal(refusal: LoadRefusal, whole: &Package, notes: &Notes)
     } = named_by(contents.pool.get(index));
     let package = package_named(&contents, package_token);
     notes.refused_load(RefusedLoad::of_entry(index, package, class, token));
+}
+
+// Words, and so many bytes more, of which two stand in each.
+fn with_bytes(words: u32, bytes: &[u8]) -> u32 {
+    let more = bytes.len().div_ceil(2);
+    words.saturating_add(u32::try_from(more).unwrap_or(u32::MAX))
+}
+
+// How many words a package takes: its record, and the objects of its arrays.
+fn words_of(contents: &RecordContents<'_>) -> u32 {
+    let mut words = 2;
+    for component in &contents.components {
+        words = with_bytes(words, component.info).saturating_add(2);
+    }
+    for array in &contents.arrays {
+        let object = with_bytes(u32::from(HEADER), array.values);
+        words = words.saturating_add(object).saturating_add(1);
+    }
+    with_bytes(words, &contents.image)
+}
+
+/// Notes how many words a package asked for that the heap has not.
+#[cold]
+pub(crate) fn note_full_heap<S: WordStore>(contents: &RecordContents<'_>, memory: &Memory<S>)
+    requires { memory.now.heap.down ≡ false }
+{
+    let notes = memory.notes();
+    if notes.are_kept() {
+        notes.shortage(Shortage {
+            space: Space::Heap,
+            asked: words_of(contents),
+            left: u32::from(memory.heap().free_words()),
+        });
+    }
 }

@@ -5,3 +5,4 @@ pub mod Entries
 pub mod Keeping
 pub mod EntryIndex
 pub mod State
+pub mod Opening

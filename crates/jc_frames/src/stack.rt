@@ -25,16 +25,6 @@ impl Frames {
         self.cells.pop().ok_or(CodeFault)
     }
 
-    // Puts a cell of the wrong kind back to where it was found.
-    #[cold]
-    fn put_back(&mut self, cell: Cell) -> CodeFault
-        requires { length self.old.current.stack < self.old.current.limit }
-        ensures { self.new ≡ with_stack self.old (cell ∷ self.old.current.stack) }
-    {
-        self.push(cell);
-        CodeFault
-    }
-
     /// Takes a short from the top.
     #[inline(always)]
     pub fn pop_short(&mut self) -> Result<i16, CodeFault>
@@ -42,9 +32,12 @@ impl Frames {
         ensures taken { short_on self.old.current.stack ≡ popped result self.new.current.stack }
         ensures room { OnOk result (length self.new.current.stack < self.new.current.limit) }
     {
-        match self.pop()? {
-            Cell::Short(x) => Ok(x),
-            other => Err(self.put_back(other)),
+        match self.peek(0) {
+            Some(Cell::Short(x)) => {
+                self.pop()?;
+                Ok(x)
+            }
+            _ => Err(CodeFault),
         }
     }
 
@@ -55,9 +48,12 @@ impl Frames {
         ensures taken { reference_on self.old.current.stack ≡ popped result self.new.current.stack }
         ensures room { OnOk result (length self.new.current.stack < self.new.current.limit) }
     {
+        let Some(Cell::Reference(_)) = self.peek(0) else {
+            return Err(CodeFault);
+        };
         match self.pop()? {
             Cell::Reference(r) => Ok(r),
-            other => Err(self.put_back(other)),
+            _ => Err(CodeFault),
         }
     }
 
@@ -68,10 +64,10 @@ impl Frames {
         ensures taken { storable_on self.old.current.stack ≡ popped result self.new.current.stack }
         ensures room { OnOk result (length self.new.current.stack < self.new.current.limit) }
     {
-        match self.pop()? {
-            short @ Cell::Short(_) => Err(self.put_back(short)),
-            cell => Ok(cell),
+        if let Some(Cell::Short(_)) = self.peek(0) {
+            return Err(CodeFault);
         }
+        self.pop()
     }
 
     /// Takes two shorts from the top, and gives the lower one first.

@@ -1,5 +1,6 @@
 //! New objects.
 ghost use Rattle.std.specs.Prelude.{nat_le, ◌≡◌, [], ◌∷◌, false, IfOk, Some, ◌+◌, ◌-◌};
+ghost use Rattle.jc_words.specs.Refusals.{IsWithinFuse};
 ghost use Rattle.jc_transient.specs.State.{area_size};
 ghost use Rattle.jc_heap.specs.Object.{AnObject, new_object, object_size, new_transient, header_word};
 ghost use Rattle.jc_heap.specs.Heap.{is_allocated, heap_item_at, area_end, limit};
@@ -22,6 +23,14 @@ impl<S: WordStore> Heap<S> {
         ensures { result ≡ limit self.now - self.now.now.top }
     {
         self.size.saturating_sub(self.top())
+    }
+
+    /// How many word writes the store has let pass. At 2^64 - 1 the count stays.
+    pub fn passed_writes(&self) -> u64
+        ensures count { result ≡ self.now.passed }
+        ensures within { IsWithinFuse self.now.passed self.now.refusals.fuse }
+    {
+        self.journal.passed_writes()
     }
 
     /// How many cells of an event's area new objects can still take, of 2048.

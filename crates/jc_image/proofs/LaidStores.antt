@@ -1,5 +1,5 @@
 -- A store with the words of an image without objects, and the journal over it.
-use Rattle.std.proofs.Common.{◌≡◌, ℕ, zero, suc, ◌+◌, ◌<◌, ◌≤◌, ◌==◌, ◌⊎◌, inl, inr, false, List, [], ◌∷◌, ◌++◌, length, take, drop, get_or, refl, sym, ◌∙◌, ap}
+use Rattle.std.proofs.Common.{◌≡◌, ℕ, zero, suc, ◌+◌, ◌<◌, ◌≤◌, ◌==◌, ◌⊎◌, inl, inr, Bool, false, List, [], ◌∷◌, ◌++◌, length, take, drop, get_or, sym, ◌∙◌, ap}
 use Rattle.std.proofs.Common.{subst, arith, if◌then◌else◌, lit<}
 use Rattle.std.proofs.lemmas.List.{take_all, length-append, length-drop, length-take-le, get_or_append_left, get_or-take}
 use Rattle.jc_words.specs.Count.{saturating_count}
@@ -8,6 +8,7 @@ use Rattle.jc_words.specs.Layout.{first_version, version, version_address, capac
 use Rattle.jc_words.specs.Image.{heap_end, IsCapacity}
 use Rattle.jc_commit.specs.Image.{count_of, limit_of, plain_of, recovered_of, touched_of, with_words, IsGoodLog}
 use Rattle.jc_commit.specs.Migration.{migration, migrated, opening_writes}
+use Rattle.jc_commit.specs.Opening.{IsStoppedOpening, OpeningFails}
 use Rattle.jc_commit.specs.State.{recovered_journal}
 use Rattle.jc_commit.specs.declared.refusal.OpenRefusal.{OpenRefusal}
 use Rattle.jc_commit.specs.declared.refusal.OpenRefusal.TheVariants.{StoreDown, BadLog}
@@ -22,10 +23,11 @@ use Rattle.jc_heap.specs.Heap.{heap_of, heap_view}
 use Rattle.jc_image.specs.Laying.{IsOfBytes, first_free, new_image_words, written_image_prefix, unsealed_heap, unsealed_view, IsPartlyWritten}
 use Rattle.jc_image.proofs.LaidImages.{length-laid, front-word, current-laid, good-laid, limit-laid, heap_of-laid, IsLaid-laid, count-laid}
 
--- a good log is refused by a store that is down alone
-pub only_down : (w : List ℕ) (e : OpenRefusal) → IsGoodLog w → (e ≡ BadLog → IsGoodLog w → ⊥) → e ≡ StoreDown
-only_down w StoreDown good bad = refl
-only_down w BadLog good bad = absurd (bad refl good)
+-- over a good log an opening fails by a store that is down alone
+pub is_stopped : {S : Type 0} (words : S → List ℕ) (down : S → Bool) (passed : S → ℕ) (refusals : S → Refusals) (old : S) (e : OpenRefusal) (new : S)
+    → IsGoodLog (words old) → OpeningFails words down passed refusals old e new → IsStoppedOpening words down passed refusals old new
+is_stopped words down passed refusals old StoreDown new good fails = fails
+is_stopped words down passed refusals old BadLog new good fails = absurd (fails.0 good)
 
 -- an opening writes nothing where no entry counts and the version is the one that is written
 stopped_none : (w : List ℕ) (n : ℕ) → count_of w ≡ 0 → get_or w version_address 0 ≡ version → with_words w (take n (opening_writes w)) ≡ w

@@ -1,10 +1,9 @@
 //! Opening an image, and whether its heap is whole.
 ghost use Rattle.std.specs.Prelude.{ℕ, ◌+◌, ◌/◌, ◌≡◌, ◌<◌, ◌≤◌, ◌↔◌, IsTrue, IsOk, IfOk, IfErr, OnOk, true, false, length, slice_index, slice_index_or};
-ghost use Rattle.jc_words.specs.Refusals.{refused_once};
 ghost use Rattle.jc_words.specs.Layout.{top_address, text_length_address, text_start, version, version_address};
 ghost use Rattle.jc_commit.specs.Image.{IsGoodLog, count_of};
-ghost use Rattle.jc_commit.specs.Migration.{IsPartOfOpening, StillOpens};
-ghost use Rattle.jc_commit.specs.State.{recovered_journal, resumed_journal};
+ghost use Rattle.jc_commit.specs.Opening.{Opens};
+ghost use Rattle.jc_commit.specs.State.{resumed_journal};
 ghost use Rattle.jc_heap.specs.Object.{is_object};
 ghost use Rattle.jc_heap.specs.Image.{text_byte, table_text, IsWellFormed, image, package_addresses, is_package};
 ghost use Rattle.jc_heap.specs.Heap.{heap_view, heap_of, heap_item_at, is_allocated};
@@ -90,21 +89,9 @@ fn is_heap<S: WordStore>(journal: &Journal<S>, size: u16, marks: &mut [bool]) ->
 impl<S: WordStore> OpenImage<S> {
     /// Opens a store, and first takes back what a loss of power left open. An image of the first
     /// version then becomes one of the version that is written.
+    #[tactic(auto, using(crate::proofs::OpenImages::long_recovered))]
     pub fn open(store: S) -> Result<OpenImage<S>, (OpenRefusal, S)>
-        ensures ok { IfOk result (λ o. o ≡ recovered_journal (S.words store) (S.passed store)
-            (S.refusals store)) }
-        ensures good { OnOk result (IsGoodLog (S.words store)) }
-        ensures bad_log { IfErr result (λ e. e.0 ≡ OpenRefusal.BadLog
-            → (IsGoodLog (S.words store) → ⊥) × (e.1 ≡ store)) }
-        ensures stopped { IfErr result (λ e. e.0 ≡ OpenRefusal.StoreDown
-            → IsGoodLog (S.words store) × StillOpens (S.words store) (S.words e.1)
-            × (S.down e.1 ≡ true)) }
-        ensures part { IfErr result (λ e. e.0 ≡ OpenRefusal.StoreDown
-            → IsPartOfOpening (S.words store) (S.words e.1) (S.passed store) (S.passed e.1)) }
-        ensures was_up { OnOk result (S.down store ≡ false) }
-        ensures was_down { IfErr result (λ e. S.down store ≡ true → e.1 ≡ store) }
-        ensures refused { IfErr result (λ e. e.0 ≡ OpenRefusal.StoreDown → S.down store ≡ false
-            → S.refusals e.1 ≡ refused_once false (S.passed e.1) (S.refusals store)) }
+        ensures { Opens S.words S.down S.passed S.refusals store result }
     {
         match Journal::open(store) {
             Ok(journal) => {

@@ -7,7 +7,6 @@ use jc_frames::{Cell, Frames, Outcome};
 use jc_interp_calls::notes::{note_frames, spot_of};
 use jc_linker::linked::Linked;
 use jc_memory::{Cause, FaultKind, Memory, Notes, Step, TopCell};
-use jc_opcodes::decode::decode;
 use jc_opcodes::instr::{BranchOp, Instr, LocalOp, ReturnOp, StackOp};
 use jc_words::WordStore;
 
@@ -33,13 +32,14 @@ pub(crate) fn note_step(frames: &Frames, notes: &Notes) {
     notes.step(Step { spot, top }, cells);
 }
 
-/// Notes how the run ended at the instruction at a place, and how many instructions are left; of a code fault why, and where
-/// the frames stand.
+/// Notes how the run ended at the instruction at a place, if one stands there, and how many instructions are left; of a code
+/// fault why, and where the frames stand.
 #[cold]
 #[inline(never)]
 pub(crate) fn note_end<S: WordStore>(
     outcome: &Outcome,
     left: u32,
+    instr: Option<Instr>,
     code: &[u8],
     place: u16,
     frames: &Frames,
@@ -55,7 +55,7 @@ pub(crate) fn note_end<S: WordStore>(
     notes.left(left);
     if matches!(outcome, Outcome::Fault) {
         if !notes.has_fault() {
-            notes.fault(fault_of(code, place, frames, memory, linked));
+            notes.fault(fault_of(instr, code, place, frames, memory, linked));
         }
         note_frames(place, frames, notes);
     }
@@ -75,6 +75,7 @@ pub(crate) fn note_budget<S: WordStore>(frames: &Frames, memory: &Memory<S>) {
 
 // Of what is met in an object or an argument its own code has told already.
 fn fault_of<S: WordStore>(
+    instr: Option<Instr>,
     code: &[u8],
     place: u16,
     frames: &Frames,
@@ -83,7 +84,7 @@ fn fault_of<S: WordStore>(
 ) -> FaultKind
     requires up { memory.now.heap.down ≡ false }
 {
-    let Some((instr, next)) = decode(code, usize::from(place)) else {
+    let Some(instr) = instr else {
         return FaultKind::NoInstruction;
     };
     if !is_plain(instr) && frames.origin().package_number == 0 {
@@ -97,8 +98,9 @@ fn fault_of<S: WordStore>(
         Instr::Arithmetic(_) => stack_fault(frames),
         Instr::Branch(branch) => branch_fault(branch, code, place, frames),
         Instr::Return(ReturnOp::Return) => FaultKind::Other,
-        // Where its frame was left the next instruction is the caller's.
-        Instr::Return(_) if usize::from(frames.place()) != next && !frames.has_room() => {
+        // Where its frame was left the next instruction is the caller's. Its own is the byte behind it.
+        Instr::Return(_)
+            if u32::from(frames.place()) != u32::from(place) + 1 && !frames.has_room() => {
             FaultKind::FullStack
         }
         Instr::Return(_) => stack_fault(frames),

@@ -69,6 +69,8 @@ impl From<FrameExit> for FramesExit {
 pub(crate) struct PausedStep {
     pub(crate) place: u16,
     pub(crate) why: FramesExit,
+    /// The instruction, if one stands there, for whoever explains.
+    pub(crate) instr: Option<Instr>,
 }
 
 // Whether code that was lent has the instruction.
@@ -128,18 +130,24 @@ fn step_in_frames(code: &[u8], frames: &mut Frames) -> Result<(), PausedStep>
         return Err(PausedStep {
             place,
             why: FramesExit::from(CodeFault),
+            instr: None,
         });
     };
     if !is_plain(instr) && frames.origin().package_number == 0 {
         return Err(PausedStep {
             place,
             why: FramesExit::from(CodeFault),
+            instr: Some(instr),
         });
     }
     frames.set_place(next as u16);
     match carry_out(instr, code, place, frames) {
         Ok(()) => Ok(()),
-        Err(why) => Err(PausedStep { place, why }),
+        Err(why) => Err(PausedStep {
+            place,
+            why,
+            instr: Some(instr),
+        }),
     }
 }
 

@@ -5,7 +5,7 @@ ghost use Rattle.jc_heap.specs.Completions.{after_step};
 ghost use Rattle.jc_interp.specs.Running.{run_methods, run_of, run_ad_hoc};
 
 use crate::explain::{note_budget, note_end};
-use crate::frames_only::run_turn;
+use crate::frames_only::{PausedStep, run_turn};
 use crate::step::{code_of, finish};
 use jc_frames::{Frames, Origin, Outcome};
 use jc_linker::linked::Linked;
@@ -34,11 +34,11 @@ pub fn run_of<S: WordStore>(
     let mut code = code_of(lent, number, linked);
     while let Some((rest, pause)) = run_turn(code, left, frames, memory.notes()) {
         left = rest;
-        let place = pause.place;
+        let PausedStep { place, instr, .. } = pause;
         match finish(pause, frames, memory, linked) {
             Ok(()) => {}
             Err(StepExit::End(outcome)) => {
-                note_end(&outcome, left, code, place, frames, memory, linked);
+                note_end(&outcome, left, instr, code, place, frames, memory, linked);
                 return Ok((left, outcome));
             }
             Err(StepExit::Throw(_)) => return Ok((left, Outcome::Fault)),

@@ -109,7 +109,7 @@ pub(crate) fn finish<S: WordStore>(
     ensures { Executes (step_rest pause linked.now frames.old memory.old) memory.old
         (after_instruction result frames.new memory.new) }
 {
-    let PausedStep { place, why } = pause;
+    let PausedStep { place, why, .. } = pause;
     match resume(why, place, frames, memory, linked) {
         Err(StepExit::Throw(exception)) => {
             frames.clear_stack();

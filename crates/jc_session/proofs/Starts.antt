@@ -1,5 +1,5 @@
 -- What a power up over a store comes to.
-use Rattle.std.proofs.Common.{◌≡◌, ℕ, List, true, false, refl, sym, ◌∙◌, ap, subst}
+use Rattle.std.proofs.Common.{◌≡◌, ℕ, List, Bool, true, false, refl, sym, ◌∙◌, ap, subst}
 use Rattle.jc_words.specs.Refusals.{Refusals, refused_once}
 use Rattle.jc_commit.specs.Image.{limit_of, recovered_of}
 use Rattle.jc_commit.specs.Migration.{migrated, StillOpens}
@@ -8,12 +8,15 @@ use Rattle.jc_heap.specs.Heap.{HeapView, heap_at_rest, heap_of, heap_view}
 use Rattle.jc_heap.proofs.Migrated.{migrated_alike}
 use Rattle.jc_card.specs.CardState.{CardState}
 use Rattle.jc_card.specs.Made.{IsCardHeap, IsMade}
-use Rattle.jc_card.specs.PowerUp.{PowerUpRefuses}
+use Rattle.jc_card.specs.PowerUp.{PowerUpRefuses, RefusalLeaves}
+use Rattle.jc_card.specs.PoweringUp.{PowerUpFails}
 use Rattle.jc_card.specs.Reset.{IsAtReset}
+use Rattle.jc_card.specs.declared.power_up.PowerFault.{PowerFault as Fault}
 use Rattle.jc_card.specs.declared.power_up.PowerFault.TheVariants.{StoreDown}
 use Rattle.jc_card.proofs.PoweredUp.{limit_still}
+use Rattle.jc_card.proofs.PoweringUp.{limit_left, none_refused, still_up, words_left}
 use Rattle.jc_session.specs.Power.{KeptState, Off, StoreState, Up, durable_state_in_store, is_well_formed}
-use Rattle.jc_session.specs.Starting.{Starts}
+use Rattle.jc_session.specs.Starting.{FailsToStart, Starts}
 use Rattle.jc_session.proofs.Laid.{same_answer}
 
 -- what an opening leaves stands for the heap of the recovered words
@@ -74,3 +77,17 @@ pub store_starts : (budget : ℕ) (before after : StoreState) (w : List ℕ) (re
 store_starts budget before after w refusals k words same is cause still down refused = subst (λ (s : KeptState). Starts budget before (Off budget s)) (sym is)
     (starts_off budget before after (subst (PowerUpRefuses StoreDown) words cause) (subst (λ (l : List ℕ). StillOpens l after.words) words still) down
     (refused ∙ ap (λ (r : Refusals). refused_once false after.passed r) same))
+
+-- or a fault was found
+pub fault_starts : {S : Type 0} (words : S → List ℕ) (down : S → Bool) (passed : S → ℕ) (refusals : S → Refusals) (mid after : S) (before : StoreState)
+    (fault : Fault) → words mid ≡ before.words → refusals mid ≡ before.refusals → down mid ≡ false → (fault ≡ StoreDown → ⊥)
+    → PowerUpFails words down passed refusals mid fault after
+    → FailsToStart fault before (record { words = words after; down = down after; passed = passed after; refusals = refusals after })
+fault_starts words down passed refusals mid after before fault same is up other fails = record {
+  cause = subst (PowerUpRefuses fault) same fails.0;
+  other = other;
+  stands = subst (λ (l : List ℕ). RefusalLeaves fault l (words after)) same (words_left words down passed refusals mid after fault fails.1);
+  size = limit_left words down passed refusals mid after fault fails.1 ∙ ap limit_of same;
+  up = still_up words down passed refusals mid after fault other up fails.1;
+  refusals = none_refused words down passed refusals mid after fault other fails.1 ∙ is;
+}

@@ -4,7 +4,7 @@ ghost use Rattle.jc_words.specs.Files.{AreWordsOf, IsImageSize};
 ghost use Rattle.jcard_files.specs.MemDisks.{image_after, zero_image};
 
 use crate::closed_store::ClosedStore;
-use jc_words::{MemStore, is_image_size, put_words, words_of_bytes};
+use jc_words::{MemStore, WordStore, is_image_size, put_words, words_of_bytes};
 use jcard_faults::fault::{Damage, Fault};
 use std::alloc::{AllocError, Global};
 use std::marker::Model;
@@ -92,7 +92,7 @@ impl ImageFile {
         let words = store.store().words();
         if self.bytes.len() == 2 * words.len() {
             put_words(words, self.bytes.as_mut_slice());
-            self.writes = self.writes.saturating_add(store.store().passed());
+            self.writes = self.writes.saturating_add(store.store().passed_writes());
         }
     }
 }

@@ -1,43 +1,50 @@
--- Images that were not made.
-use Rattle.std.proofs.Common.{◌≡◌, ◌∙◌, ◌⊎◌, ℕ, true, List, Result, Ok, Err, sym, subst, inl, inr, arith}
+-- Images that were made, and that were not.
+use Rattle.std.proofs.Common.{◌≡◌, ◌∙◌, ◌⊎◌, ℕ, Bool, true, List, Result, Ok, Err, sym, subst, inl, inr, arith}
 use Rattle.std.specs.Prelude.{◌<◌, ◌≤◌, ◌+◌, ◌≢◌, length, replicate, slice_index}
-use Rattle.jc_words.specs.Image.{IsCapacity, heap_end}
+use Rattle.jc_words.specs.Image.{IsCapacity}
 use Rattle.jc_words.specs.Layout.{least_size, magic, magic_address}
+use Rattle.jc_words.specs.Refusals.{Refusals}
 use Rattle.jc_words.specs.Stores.{MemStoreValue, StoreValue}
 use Rattle.jc_image.specs.Laying.{first_free}
-use Rattle.jc_platform.specs.Table.{Reads}
 use Rattle.jc_platform.specs.declared.fault.TableFault.TheVariants.{BadTable as BadLine}
 use Rattle.jc_platform.proofs.OneAnswer.{no_fault}
 use Rattle.jc_card.specs.Fixed.{fixed_size}
+use Rattle.jc_card.specs.Formatting.{Formats, IsStoppedFormat}
 use Rattle.jc_card.specs.declared.formatting.FormatFault.{FormatFault}
 use Rattle.jc_card.specs.declared.formatting.FormatFault.TheVariants.{StoreDown, BadSize, BadCapacity, BadTable, TooSmall}
 use Rattle.jcard_files.specs.FileDeeds.{untouched}
-use Rattle.jcard_images.specs.NewImages.{IsFormatFault, IsLaid, IsLaidInMemory, IsNewImage, IsNewImageInMemory, IsTable}
+use Rattle.jcard_images.specs.NewImages.{IsFormatFault, IsLaid, IsLaidInMemory, IsNewImage, IsNewImageInMemory, IsNewImageOf, IsTable, usual_capacity}
 use Rattle.jcard_faults.specs.declared.fault.Fault.{Fault}
 use Rattle.jcard_faults.specs.declared.fault.Fault.TheVariants.{ImageTooSmall}
 
+-- a format that made an image
+pub laid_new : {S : Type 0} (words : S → List ℕ) (down : S → Bool) (passed : S → ℕ) (refusals : S → Refusals) (old new : S) (capacity : ℕ) (text : List ℕ)
+    → Formats words down passed refusals old capacity text new (Ok tt) → IsNewImageOf (length (words old)) capacity text (words new)
+laid_new words down passed refusals old new capacity text came = record {
+  size = came.2.size;
+  made = came.2.made;
+  heap = (came.0, came.1.reads, came.2.heap);
+}
+
 -- a format that ended by a fault
-pub laid_with : (image : List ℕ) (n capacity : ℕ) (text : List ℕ) (made : Result (Unit {0}) FormatFault) (cause : FormatFault) (fault : Fault)
-    (after : StoreValue) → made ≡ Err cause → IsTable text → least_size ≤ n → IsCapacity capacity
-    → (made ≡ Err BadSize → n < least_size)
-    → (made ≡ Err BadCapacity → IsCapacity capacity → ⊥)
-    → ((line : ℕ) → made ≡ Err (BadTable line) → Reads text (Err (BadLine line)))
-    → (made ≡ Err TooSmall → heap_end n capacity < first_free (length text) + fixed_size)
-    → ((made ≡ Err StoreDown → ⊥) → after ≡ untouched (replicate n 0))
-    → (made ≡ Err StoreDown → (after.down ≡ true) × (after.refused ≡ 1)
-    × ((after.words ≡ replicate n 0) ⊎ (slice_index after.words magic_address ≢ magic)))
-    → IsFormatFault image cause fault → IsLaid image n capacity text (Err fault) after
-laid_with image n capacity text made StoreDown fault after is table enough journal size entries line small kept stopped told =
-    let s = stopped is in
-    subst (λ f. IsLaid image n capacity text (Err f) after) (sym told.1) (told.2, s.0, s.1, s.2)
-laid_with image n capacity text made BadSize fault after is table enough journal size entries line small kept stopped told =
-    let low : n < least_size = size is in absurd (omega arith)
-laid_with image n capacity text made BadCapacity fault after is table enough journal size entries line small kept stopped told =
-    absurd (entries is journal)
-laid_with image n capacity text made (BadTable k) fault after is table enough journal size entries line small kept stopped told =
-    absurd (no_fault text table.0 (BadLine k) table.1 (line k is))
-laid_with image n capacity text made TooSmall fault after is table enough journal size entries line small kept stopped told =
-    subst (λ f. IsLaid image n capacity text (Err f) after) (sym told) (small is, kept (λ e. cc))
+pub laid_with : {S : Type 0} (words : S → List ℕ) (down : S → Bool) (passed : S → ℕ) (refusals : S → Refusals) (old new : S) (capacity : ℕ) (text image : List ℕ)
+    (cause : FormatFault) (fault : Fault) (after : StoreValue) → Formats words down passed refusals old capacity text new (Err cause)
+    → IsTable text → least_size ≤ length (words old) → IsCapacity capacity
+    → (new ≡ old → after ≡ untouched (replicate (length (words old)) 0))
+    → (IsStoppedFormat words down passed refusals old new → (after.down ≡ true) × (after.refused ≡ 1)
+    × ((after.words ≡ replicate (length (words old)) 0) ⊎ (slice_index after.words magic_address ≢ magic)))
+    → IsFormatFault image cause fault → IsLaid image (length (words old)) capacity text (Err fault) after
+laid_with words down passed refusals old new capacity text image StoreDown fault after came table enough journal kept stopped told =
+    let s = stopped came.1 in
+    subst (λ f. IsLaid image (length (words old)) capacity text (Err f) after) (sym told.1) (told.2, s.0, s.1, s.2)
+laid_with words down passed refusals old new capacity text image BadSize fault after came table enough journal kept stopped told =
+    absurd (omega (arith, enough, came.0))
+laid_with words down passed refusals old new capacity text image BadCapacity fault after came table enough journal kept stopped told =
+    absurd (came.0.1 journal)
+laid_with words down passed refusals old new capacity text image (BadTable k) fault after came table enough journal kept stopped told =
+    absurd (no_fault text table.0 (BadLine k) table.1 came.0.2)
+laid_with words down passed refusals old new capacity text image TooSmall fault after came table enough journal kept stopped told =
+    subst (λ f. IsLaid image (length (words old)) capacity text (Err f) after) (sym told) (came.0.2, kept came.1)
 
 -- what stands in a store that refused a write of a format
 pub stopped_words : (n : ℕ) (w v after : List ℕ) → after ≡ v → w ≡ replicate n 0 → (v ≡ w) ⊎ (slice_index v magic_address ≢ magic)
@@ -46,22 +53,17 @@ stopped_words n w v after same zeros (inl e) = inl (same ∙ (e ∙ zeros))
 stopped_words n w v after same zeros (inr h) = inr (subst (λ (x : List ℕ). slice_index x magic_address ≢ magic) (sym same) h)
 
 -- a format in memory that ended by a fault
-pub not_in_memory : (image : List ℕ) (m n : ℕ) (text : List ℕ) (made : Result (Unit {0}) FormatFault) (cause : FormatFault) (fault : Fault)
-    → made ≡ Err cause → m ≡ n → IsTable text → least_size ≤ n
-    → (made ≡ Err BadSize → m < least_size)
-    → (made ≡ Err BadCapacity → ⊥)
-    → ((line : ℕ) → made ≡ Err (BadTable line) → Reads text (Err (BadLine line)))
-    → (made ≡ Err TooSmall → m < first_free (length text) + fixed_size)
-    → (made ≡ Err StoreDown → ⊥)
-    → IsFormatFault image cause fault → IsLaidInMemory n text (Err fault)
-not_in_memory image m n text made StoreDown fault is same table enough size entries line small stopped told = absurd (stopped is)
-not_in_memory image m n text made BadSize fault is same table enough size entries line small stopped told =
-    let low : m < least_size = size is in absurd (omega arith)
-not_in_memory image m n text made BadCapacity fault is same table enough size entries line small stopped told = absurd (entries is)
-not_in_memory image m n text made (BadTable k) fault is same table enough size entries line small stopped told =
-    absurd (no_fault text table.0 (BadLine k) table.1 (line k is))
-not_in_memory image m n text made TooSmall fault is same table enough size entries line small stopped told =
-    subst (λ f. IsLaidInMemory n text (Err f)) (sym told) (subst (λ k. k < first_free (length text) + fixed_size) same (small is))
+pub not_in_memory : {S : Type 0} (words : S → List ℕ) (down : S → Bool) (passed : S → ℕ) (refusals : S → Refusals) (old new : S) (text image : List ℕ)
+    (cause : FormatFault) (fault : Fault) → Formats words down passed refusals old usual_capacity text new (Err cause)
+    → IsTable text → least_size ≤ length (words old) → (down new ≡ true → ⊥)
+    → IsFormatFault image cause fault → IsLaidInMemory (length (words old)) text (Err fault)
+not_in_memory words down passed refusals old new text image StoreDown fault came table enough up told = absurd (up came.1.is_down)
+not_in_memory words down passed refusals old new text image BadSize fault came table enough up told = absurd (omega (arith, enough, came.0))
+not_in_memory words down passed refusals old new text image BadCapacity fault came table enough up told = absurd (came.0.1 (omega arith, omega arith))
+not_in_memory words down passed refusals old new text image (BadTable k) fault came table enough up told =
+    absurd (no_fault text table.0 (BadLine k) table.1 came.0.2)
+not_in_memory words down passed refusals old new text image TooSmall fault came table enough up told =
+    subst (λ f. IsLaidInMemory (length (words old)) text (Err f)) (sym told) came.0.2
 
 -- an image that is laid in memory is a new one
 pub laid_is_new : (m n : ℕ) (text : List ℕ) (made : Result MemStoreValue Fault) → m ≡ n → IsLaidInMemory m text made → IsNewImageInMemory n text made

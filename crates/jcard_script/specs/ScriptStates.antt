@@ -1,23 +1,18 @@
 -- How a session stands, and what a power up makes of it.
 use Rattle.std.specs.Prelude.{ℕ, ◌≡◌, List, true, false, Some, None}
 use Rattle.jc_words.specs.Count.{saturating_count}
-use Rattle.jc_words.specs.Refusals.{refused_once, with_fuse_at}
+use Rattle.jc_words.specs.Refusals.{with_fuse_at}
 use Rattle.jc_words.specs.Stores.{FuseStoreValue, with_fuse_armed}
 use Rattle.jc_commit.specs.Image.{IsGoodLog, limit_of, recovered_of}
-use Rattle.jc_commit.specs.Migration.{IsPartOfOpening, StillOpens}
-use Rattle.jc_commit.specs.State.{recovered_journal}
-use Rattle.jc_heap.specs.Heap.{HeapView, heap_of, heap_view, heap_at_rest}
+use Rattle.jc_heap.specs.Heap.{HeapView, heap_of, heap_at_rest}
 use Rattle.jc_heap.specs.Image.{IsWellFormed}
-use Rattle.jc_transient.specs.State.{IsCleared}
 use Rattle.jc_memory.specs.Programs.{Executes}
 use Rattle.jc_memory.specs.State.{MemoryState}
 use Rattle.jc_heap.specs.Completions.{Completion}
 use Rattle.jc_card.specs.Answers.{exchange}
 use Rattle.jc_card.specs.CardState.{CardState}
 use Rattle.jc_card.specs.Loads.{LoadResponse}
-use Rattle.jc_card.specs.Made.{IsMade}
-use Rattle.jc_card.specs.PowerUp.{PowerUpRefuses, RefusalLeaves, IsFoundFirst, IsFoundAfter}
-use Rattle.jc_card.specs.Reset.{IsAtReset}
+use Rattle.jc_card.specs.PoweringUp.{IsPoweredOver, PowerUpFails}
 use Rattle.jc_card.specs.declared.power_up.PowerFault.{PowerFault as Fault}
 use Rattle.jc_card.specs.declared.power_up.PowerFault.TheVariants.{StoreDown}
 
@@ -50,32 +45,23 @@ abbrev pub IsSessionStore : ScriptState → FuseStoreValue → Type 0
 IsSessionStore (Up card) store = IsStoreOf card.memory.heap store
 IsSessionStore (Down budget held) store = store ≡ held
 
--- a power up over a store that was so, with this budget, ends so: the card is up, with the heap of the recovered words, blank memory and no open
--- load, as after a reset, and no write was refused; or one was, and a part of the recovery was done, so that another leaves what
--- this one would have left
-abbrev pub PowersUp : ℕ → FuseStoreValue → ScriptState → Type 0
-PowersUp budget before (Up card) = IsMade before.words × (card.memory.heap ≡ heap_view (recovered_journal before.words before.passed before.refusals)
-    (limit_of before.words)) × IsCleared card.memory.ram × (card.load ≡ None)
-    × IsAtReset (heap_of (recovered_of before.words)) card × (card.budget ≡ budget)
-PowersUp budget before (Down b after) = PowerUpRefuses StoreDown before.words × StillOpens before.words after.words × (after.down ≡ true)
-    × (after.refusals ≡ refused_once false after.passed before.refusals)
-    × IsPartOfOpening before.words after.words before.passed after.passed × (b ≡ budget)
-
 -- the power is back, in the store below too
 abbrev pub with_power : FuseStoreValue → FuseStoreValue
 with_power f = record f { down = false; down_below = false }
 
--- a power up over a store that was so finds this fault, which these words have and which is not that a write was refused, and
--- leaves the store so: no write was refused, and none passed but those of a recovery
-pub record FailsUp (before : FuseStoreValue) (fault : Fault) (after : FuseStoreValue) : Type 0 where
-  pub cause : PowerUpRefuses fault before.words
-  pub other : fault ≡ StoreDown → ⊥
-  pub stands : RefusalLeaves fault before.words after.words
-  pub size : limit_of after.words ≡ limit_of before.words
-  pub up : after.down ≡ false
-  pub refusals : after.refusals ≡ before.refusals
-  pub untouched : IsFoundFirst fault → after ≡ with_power before
-  pub recovered : IsFoundAfter fault → after.passed ≡ (recovered_journal before.words before.passed before.refusals).passed
+-- once the power is back, a power up over a store that was so fails by this fault, which the store's words have, and leaves it so
+abbrev pub FailsOver : FuseStoreValue → Fault → FuseStoreValue → Type 0
+FailsOver before fault after = PowerUpFails (λ f. f.words) (λ f. f.down) (λ f. f.passed) (λ f. f.refusals) (with_power before) fault after
+
+-- a power up over a store that was so, with this budget, ends so: the card is up, as after a reset, and no write was refused; or one was,
+-- and a part of the recovery was done, so that another leaves what this one would have left
+abbrev pub PowersUp : ℕ → FuseStoreValue → ScriptState → Type 0
+PowersUp budget before (Up card) = IsPoweredOver before.words false before.passed before.refusals budget card
+PowersUp budget before (Down b after) = FailsOver before StoreDown after × (b ≡ budget)
+
+-- it finds another fault, so that no write was refused, and none passed but those of a recovery
+abbrev pub FailsUp : FuseStoreValue → Fault → FuseStoreValue → Type 0
+FailsUp before fault after = (fault ≡ StoreDown → ⊥) × FailsOver before fault after
 
 -- a reset: the power comes back to the session's store, and the card powers up, with the budget that it had
 abbrev pub IsReset : ScriptState → ScriptState → Type 0

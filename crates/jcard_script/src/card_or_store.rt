@@ -58,12 +58,22 @@ impl<S: WordStore> CardOrStore<S> {
         }
     }
 
-    /// Tells an explainer what it wants to be told of a command, by its note and its status word.
+    /// How many word writes its store has let pass.
+    pub(crate) fn passed_writes(&self) -> u64 {
+        match self {
+            CardOrStore::Card(card) => card.passed_writes(),
+            CardOrStore::Store(store, _) => store.passed_writes(),
+        }
+    }
+
+    /// Tells an explainer what it wants to be told of a command, by its note, its status word and how many word writes had passed
+    /// before it.
     pub(crate) fn tell<E: Explainer>(
         &self,
         alloc: Global,
         note: &Note,
         status: u16,
+        passed_before: u64,
         explainer: &mut E,
     )
         requires up { IsUp self.now }
@@ -71,7 +81,8 @@ impl<S: WordStore> CardOrStore<S> {
         let CardOrStore::Card(card) = self else {
             return;
         };
-        if let Some(text) = text_about(alloc, card, note, status, explainer) {
+        let word_writes = card.passed_writes().saturating_sub(passed_before);
+        if let Some(text) = text_about(alloc, card, note, status, word_writes, explainer) {
             explainer.tell(&text);
         }
         if let Some(cover) = explainer.cover() {
@@ -156,6 +167,7 @@ fn text_about<S: WordStore, E: Explainer>(
     card: &Card<FuseStore<S>>,
     note: &Note,
     status: u16,
+    word_writes: u64,
     explainer: &E,
 ) -> Option<Vec<u8>>
     requires up { card.now.memory.heap.down ≡ false }
@@ -167,6 +179,7 @@ fn text_about<S: WordStore, E: Explainer>(
         status,
         budget: card.budget(),
         linked: card.linked(),
+        word_writes,
         free_words: card.free_words(),
         map: explainer.map(),
     };

@@ -3,6 +3,7 @@ ghost use Rattle.std.specs.Prelude.{◌≡◌, ℕ, List, Bool};
 ghost use Rattle.std.specs.Bool.{OnTrue};
 ghost use Rattle.std.specs.Io.KnownBytes.{Appends, Consumes};
 ghost use Rattle.jc_words.specs.Count.{failures_after};
+ghost use Rattle.jc_words.specs.Refusals.{IsWithinFuse};
 ghost use Rattle.jcard_script.specs.Script.{Ends, EndsWithin, IsWholeScript, is_read_failed, is_write_failed};
 
 use crate::explainer::{Explainer, Unasked};
@@ -66,6 +67,8 @@ pub fn run_script<S: WordStore + Drop, R: TextIn, W: TextOut>(
         (is_read_failed result.1) }
     ensures writes { W.failures writer.new ≡ failures_after (W.failures writer.old)
         (is_write_failed result.1) }
+    // Its fuse let no more writes pass than it was set to.
+    ensures within { IsWithinFuse result.0.passed result.0.refusals.fuse }
 {
     run_script_explained(alloc, fuse, USUAL_BUDGET, reader, writer, &mut Unasked)
 }
@@ -89,6 +92,8 @@ pub fn run_script_explained<S: WordStore + Drop, R: TextIn, W: TextOut, E: Expla
         (is_read_failed result.1) }
     ensures writes { W.failures writer.new ≡ failures_after (W.failures writer.old)
         (is_write_failed result.1) }
+    // Its fuse let no more writes pass than it was set to.
+    ensures within { IsWithinFuse result.0.passed result.0.refusals.fuse }
 {
     let (mut session, started) = Session::start(
         alloc,

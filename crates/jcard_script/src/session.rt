@@ -5,6 +5,7 @@ ghost use Rattle.std.specs.Io.KnownBytes.{Appends, Consumes};
 ghost use Rattle.std.specs.Str.Lines.{lines};
 ghost use Rattle.jc_words.specs.Stores.{FuseStoreValue};
 ghost use Rattle.jc_words.specs.Count.{failures_after};
+ghost use Rattle.jc_words.specs.Refusals.{IsWithinFuse};
 ghost use Rattle.jcard_script.specs.CardOrStore.{IsState, state_of_held};
 ghost use Rattle.jcard_script.specs.Line.{AsksFor};
 ghost use Rattle.jcard_script.specs.Reply.{text_of_reply};
@@ -37,6 +38,8 @@ pub(crate) struct Session<S: WordStore> {
     line: Line,
     number: u32,
     notes: Notes,
+    // How many word writes had passed before the last command.
+    passed_before: u64,
 }
 
 impl<S: WordStore + Drop> Session<S> {
@@ -61,14 +64,16 @@ impl<S: WordStore + Drop> Session<S> {
             line: Line::empty(),
             number: 0,
             notes,
+            passed_before: 0,
         };
         (session, started)
     }
 
-    /// The store of the card, without power.
+    /// The store of the card, without power. Its fuse let no more writes pass than it was set to.
     pub(crate) fn into_store(self) -> FuseStore<S>
         requires { IsState self.held }
-        ensures { IsSessionStore (state_of_held self.held) result }
+        ensures store { IsSessionStore (state_of_held self.held) result }
+        ensures within { IsWithinFuse result.passed result.refusals.fuse }
     {
         let Session {
             alloc: _,
@@ -76,8 +81,11 @@ impl<S: WordStore + Drop> Session<S> {
             line: _,
             number: _,
             notes: _,
+            passed_before: _,
         } = self;
-        held.unwrap().into_store()
+        let store = held.unwrap().into_store();
+        let _within = store.passed_writes();
+        store
     }
 
     /// Carries out the lines of a script.
@@ -236,7 +244,7 @@ impl<S: WordStore + Drop> Session<S> {
             return;
         };
         if let Some(held) = &self.held {
-            held.tell(self.alloc, &note, status, explainer);
+            held.tell(self.alloc, &note, status, self.passed_before, explainer);
         }
     }
 
@@ -275,6 +283,7 @@ impl<S: WordStore + Drop> Session<S> {
         self.notes.begin(self.number);
         let budget = self.budget();
         if let Some(held) = &mut self.held {
+            self.passed_before = held.passed_writes();
             if let Some(response) = held.exchange(command) {
                 return Reply::Answer(response);
             }

@@ -29,6 +29,8 @@ pub struct Asked<'a> {
     pub budget: u32,
     /// The packages of the card.
     pub linked: &'a Linked,
+    /// How many word writes passed in it.
+    pub word_writes: u64,
     /// How many words of the heap are free behind it.
     pub free_words: u16,
     /// A map of methods; empty where there is none.
@@ -91,6 +93,11 @@ fn push_cost(text: &mut Text, asked: &Asked<'_>) -> Result<(), AllocError> {
     };
     text.push(b"  ")?;
     text.push_count(asked.budget.saturating_sub(left), b"instruction")?;
+    text.push(b", ")?;
+    text.push_count(
+        u32::try_from(asked.word_writes).unwrap_or(u32::MAX),
+        b"word write",
+    )?;
     text.push(b", up to ")?;
     text.push_number(u32::from(asked.note.highest))?;
     text.push(b" of 512 cells, ")?;

@@ -6,7 +6,7 @@ use Rattle.std.specs.Str.Lines.{lines}
 use Rattle.jc_words.specs.Count.{saturating_count}
 use Rattle.jc_words.specs.Refusals.{with_fuse_at}
 use Rattle.jc_words.specs.Stores.{FuseStoreValue}
-use Rattle.jc_commit.specs.Image.{IsGoodLog, limit_of, recovered_of}
+use Rattle.jc_commit.specs.Image.{IsGoodLog, recovered_of}
 use Rattle.jc_heap.specs.Heap.{HeapView, heap_at_rest}
 use Rattle.jc_memory.specs.State.{MemoryState}
 use Rattle.jc_heap.specs.Completions.{Completion, Completed, Torn}
@@ -19,22 +19,21 @@ use Rattle.jc_session.specs.declared.event.Answer.TheVariants.{Response, Down}
 use Rattle.jc_session.specs.SessionStates.{answer_of_power_up}
 use Rattle.jc_session.specs.Power.{PowerState, Up, Off, KeptState, StoreState, IsStoreOf, budget_of, durable_state, durable_rest, durable_state_in_store, with_refusal}
 use Rattle.jc_session.specs.Serving.{AnswersCommand, AnswersReset, SessionRun}
-use Rattle.jc_session.specs.Starting.{FailsToReset, IsPoweredUp, Starts}
+use Rattle.jc_session.specs.Starting.{FailsToReset, FailsToStart, IsPoweredUp, Starts}
 use Rattle.jc_card.specs.declared.power_up.PowerFault.{PowerFault as Fault}
-use Rattle.jc_card.specs.PowerUp.{RefusalLeaves}
 use Rattle.jc_session.proofs.Laid.{if_laid}
-use Rattle.jc_session.proofs.Resets.{fails_to_reset}
+use Rattle.jc_session.proofs.Resets.{start_fails}
 use Rattle.jc_session.proofs.Refusals.{command_grows, is_same, reset_grows}
 use Rattle.jc_session.proofs.WholeSessions.{command_whole, reset_whole, start_count, started_up}
 use Rattle.jcard_script.specs.declared.script.ScriptFault.TheVariants.{ReadFailed, WriteFailed, BadLine, TooLong, PowerFault}
 use Rattle.jcard_script.specs.ScriptStates.{ScriptState, Up as UpIn, Down as DownIn, Exchanges, FailsReset, IsStoreOf as IsStoreOfHeap, IsSessionStore}
-use Rattle.jcard_script.specs.ScriptStates.{PowersUp, budget_of as budget_in, with_fuse}
+use Rattle.jcard_script.specs.ScriptStates.{FailsUp, PowersUp, budget_of as budget_in, with_fuse, with_power}
 use Rattle.jcard_script.specs.Script.{AreCarriedOut, Form, Skipped, Command, Resets, ArmsFuse, Bad, IsAnswered, IsToldOf, IsWrittenFor}
 use Rattle.jcard_script.specs.Script.{form_of, lines_so_far, power_text}
 use Rattle.jcard_script.specs.Texts.{IsCutOf}
 use Rattle.law_images.proofs.Rest.{leave_at_rest, rests_so}
 use Rattle.law_images.proofs.Steps.{cut_kept}
-use Rattle.jc_session.proofs.Starts.{starts_off, starts_up}
+use Rattle.jc_session.proofs.Starts.{fault_starts, starts_off, starts_up}
 use Rattle.law_images.specs.Rest.{IsResting}
 use Rattle.law_images.specs.Scripts.{AreAnswered, AreSessionsOfScript, AreSessions, AreWholeSessions, ArmsNone, IsWrittenFirst, Leaves, RunOfBytes, RunsAreOfBytes, brought_by, brought_first, bytes_of_event}
 use Rattle.law_images.specs.Scripts.{ServeAsEvents, ServeLines, ServeLinesWhole, ServesForm, ServesFormWhole, armed, armed_card, state_of, text_of_answer}
@@ -104,10 +103,15 @@ told_of bytes (DownIn budget store) t text good h = (
 -- a power up over a store
 started : (budget : ℕ) (before : FuseStoreValue) (t : ScriptState) → PowersUp budget before t → Starts budget (state_of before) (power_in t) × IsGood t
 started budget before (UpIn card) h =
-    let up = starts_up budget (state_of before) before.passed card h.0 h.1 h.4 h.5 in
+    let up = starts_up budget (state_of before) before.passed card h.made h.heap h.reset h.budget in
     (up, rests_so (durable_state_in_store (state_of before)) budget card up.1)
 started budget before (DownIn b after) h =
-    let off = starts_off budget (state_of before) (state_of after) h.0 h.1 h.2 h.3 in ((off.0, off.1, h.5), h.1.good)
+    let off = starts_off budget (state_of before) (state_of after) h.0.0 h.0.1.still h.0.1.is_down (h.0.1.was_up refl) in ((off.0, off.1, h.1), h.0.1.still.good)
+
+-- or a fault was found
+start_fails_so : (fault : Fault) (before after : FuseStoreValue) → FailsUp before fault after → FailsToStart fault (state_of before) (state_of after)
+start_fails_so fault before after h = fault_starts (λ (f : FuseStoreValue). f.words) (λ f. f.down) (λ f. f.passed) (λ f. f.refusals) (with_power before) after
+    (state_of before) fault refl refl refl h.0 h.1
 
 reset_by : (s : PowerState) (store : StoreState) (t : PowerState) → durable_state_in_store store ≡ durable_state s → Starts (budget_of s) store t
     → AnswersReset s (answer_of_power_up t) t
@@ -178,10 +182,8 @@ reset_fails : (fault : Fault) (s t : ScriptState) (after : FuseStoreValue) → I
     → FailsToReset fault (power_in s) (state_of after)
 reset_fails fault s t after good h holds =
     let left : after ≡ h.1 = subst (λ (v : ScriptState). IsSessionStore v after) h.4 holds in
-    fails_to_reset fault (power_in s) (state_of h.0) (state_of after) (store_held s h.0 good h.2) h.3.cause h.3.other
-    (ap (λ (f : FuseStoreValue). limit_of f.words) left ∙ h.3.size)
-    (subst (λ (f : FuseStoreValue). RefusalLeaves fault h.0.words f.words) (sym left) h.3.stands) (ap (λ (f : FuseStoreValue). f.down) left ∙ h.3.up)
-    (ap (λ (f : FuseStoreValue). f.refusals) left ∙ h.3.refusals)
+    subst (λ (f : FuseStoreValue). FailsToReset fault (power_in s) (state_of f)) (sym left)
+    (start_fails fault (power_in s) (state_of h.0) (state_of h.1) (store_held s h.0 good h.2) (start_fails_so fault h.0 h.1 h.3))
 
 -- one more line behind some that were carried out
 one_more : (all : List (List ℕ)) (line : List ℕ) (s u t : ScriptState) (whole answer : List ℕ) → AreCarriedOut all s u whole
@@ -208,18 +210,7 @@ are_sessions budget (Err (BadLine n)) before after at_end script text (inl fails
 are_sessions budget (Err (BadLine n)) before after at_end script text (inr h) =
     let at = h.4 in
     (at.0, at.1, (at.2, at.3), at.5, at.4, served budget before at.0 h.0 h.1 text (Leaves after) h.2 at.6 (λ good. store_held h.1 after good h.3))
-are_sessions budget (Err (PowerFault fault)) before after at_end script text (inl fails) =
-    inl (
-      record {
-        cause = fails.0.cause;
-        other = fails.0.other;
-        stands = fails.0.stands;
-        size = fails.0.size;
-        up = fails.0.up;
-        refusals = fails.0.refusals;
-      },
-      fails.2,
-    )
+are_sessions budget (Err (PowerFault fault)) before after at_end script text (inl fails) = inl (start_fails_so fault before after fails.0, fails.2)
 are_sessions budget (Err (PowerFault fault)) before after at_end script text (inr h) =
     let at = h.4 in
     let stops = at.5 in

@@ -2,6 +2,8 @@ pub mod OnHeap
 pub mod InAreas
 pub mod Standing
 pub mod Sparing
+pub mod Exits
+pub mod NativeExits
 pub mod Due
 pub mod Reaching
 pub mod Reached

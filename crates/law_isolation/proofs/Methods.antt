@@ -1,5 +1,5 @@
 -- What methods of the platform do, for whatever is to hold of each effect.
-use Rattle.std.proofs.Common.{◌≡◌, ℕ, true, false, if◌then◌else◌, List, length, Option, Some, None, Result, Ok, Err, refl, sym, ◌∙◌, ap}
+use Rattle.std.proofs.Common.{◌≡◌, ℕ, Bool, true, false, if◌then◌else◌, List, length, Option, Some, None, Result, Ok, Err, refl, sym, ◌∙◌, ap}
 use Rattle.std.proofs.lemmas.Bool.{ltb-false}
 use Rattle.std.proofs.lemmas.Option.{cond_some, option_and_then_some, same_Some}
 use Rattle.std.specs.Option.{option_and_then}
@@ -31,7 +31,6 @@ use Rattle.jc_memory.specs.Cells.{bytes_at, header_at, cell_refusal, cells_refus
 use Rattle.jc_memory.specs.Programs.{Program}
 use Rattle.jc_memory.specs.Making.{creation_refusal}
 use Rattle.jc_memory.specs.Reading.{AllDue}
-use Rattle.jc_memory.proofs.ProgramLemmas.{due_bind, each_always, each_more}
 use Rattle.jc_linker.specs.Values.{Packages}
 use Rattle.jc_platform.specs.declared.names.PlatformClass.TheVariants.{Aid, OwnerPin}
 use Rattle.jc_platform.specs.declared.names.PlatformMethod.{PlatformMethod}
@@ -86,7 +85,7 @@ use Rattle.jc_api_data.specs.OwnerPinArguments.{at_least_1, array_arguments, arg
 use Rattle.jc_api_data.specs.OwnerPin.{pin_comparison, owner_pin_init, guess_of, pin_call, owner_pin_check, changed_or_thrown, owner_pin_get_tries_remaining}
 use Rattle.jc_api_data.specs.OwnerPin.{return_unless_refused, owner_pin_is_validated, owner_pin_update, owner_pin_reset, owner_pin_reset_and_unblock}
 use Rattle.jc_api_data.specs.OwnerPin.{owner_pin_set_validated_flag}
-use Rattle.jc_api_runtime.specs.SystemSharing.{jc_system_lookup_aid, server_call_result, server_call_by_aid, server_call_if_known}
+use Rattle.jc_api_runtime.specs.SystemSharing.{aid_or_null, jc_system_lookup_aid, server_call_result, server_call_by_aid, server_call_if_known}
 use Rattle.jc_api_runtime.specs.SystemSharing.{jc_system_get_applet_shareable_interface_object, jc_system_is_applet_active}
 use Rattle.jc_api_runtime.specs.System.{system_call}
 use Rattle.jc_api_runtime.specs.SystemMemory.{available_bytes, first_of_two, jc_system_get_available_memory, jc_system_get_available_memory_shorts}
@@ -109,133 +108,133 @@ use Rattle.law_isolation.specs.Natives.{sets_receiver}
 use Rattle.jc_world.specs.NativeCalls.{NativeProgram}
 use Rattle.jc_world.specs.Numbers.{not_negative}
 use Rattle.law_isolation.proofs.Arguments.{buffer_is, counted_is, instance_is, length_bytes, pair_is, shorts_is, stretch_is, two_is}
-use Rattle.law_isolation.proofs.Due.{call_ok, call_some, call_unless, due_if, kept_each}
-use Rattle.law_isolation.proofs.Passing.{Bears, IsPinCall, MethodPasses}
+use Rattle.law_isolation.proofs.Due.{IsPlainCall, call_ok, call_some, call_unless, called_after, called_if, called_ok, called_some, called_then, called_unless}
+use Rattle.law_isolation.proofs.Due.{due_if, effects_due}
+use Rattle.law_isolation.proofs.Exits.{FaultsOnly, plain_firewall}
+use Rattle.law_isolation.proofs.NativeExits.{plain_argument, plain_available, plain_bytes, plain_counted, plain_elements, plain_given, plain_instance}
+use Rattle.law_isolation.proofs.NativeExits.{plain_least, plain_length, plain_own, plain_pair, plain_pair_arguments, plain_piece, plain_shorts, plain_two}
+use Rattle.law_isolation.proofs.NativeExits.{plain_two_within}
+use Rattle.law_isolation.proofs.Passing.{AnswersSo, Bears, IsPinCall, MethodPasses, Turns, turns_of}
 
 -- ---- what only reads
 
-module _ (P : Effect → MemoryState → Type 0) (args : List Cell) (p : Packages) (m : MemoryState) where
+module _ (P : Effect → MemoryState → Type 0) (L : ℕ → Type 0) (args : List Cell) (p : Packages) (m : MemoryState) where
   -- Object and exceptions
-  same_due : AllDue P (object_equals args) m
+  same_due : IsPlainCall P L (object_equals args) m
   unfolding object_equals
-  same_due = call_some P m (reference_argument args 0) _ (λ own is. call_some P m (reference_argument args 1) _ (λ other there. tt))
+  same_due = called_some P L m (reference_argument args 0) _ (λ own is. called_some P L m (reference_argument args 1) _ (λ other there. tt))
 
-  got_due : AllDue P (exception_get_reason args m) m
+  got_due : IsPlainCall P L (exception_get_reason args m) m
   unfolding exception_get_reason
-  got_due = call_some P m (reference_argument args 0) _ (λ own is. call_ok P m (instance_at m own 1) _ (λ f long. tt))
+  got_due = called_some P L m (reference_argument args 0) _ (λ own is. called_ok P L m (instance_at m own 1) _ (plain_instance m own 1) (λ f long. tt))
 
-  thrown_due : (of : ℤ → Exception) → AllDue P (exception_throw_it of args) m
+  thrown_due : (of : ℤ → Exception) → IsPlainCall P L (exception_throw_it of args) m
   unfolding exception_throw_it
-  thrown_due of = call_some P m (short_argument args 0) _ (λ reason is. tt)
+  thrown_due of = called_some P L m (short_argument args 0) _ (λ reason is. tt)
 
   -- JCSystem
-  memory_told_due : AllDue P (jc_system_get_available_memory args m) m
+  pub memory_told_due : IsPlainCall P L (jc_system_get_available_memory args m) m
   unfolding jc_system_get_available_memory
-  memory_told_due = call_some P m (short_argument args 0) _ (λ type is. call_ok P m (available_bytes m type) _ (λ count fine. tt))
+  memory_told_due = called_some P L m (short_argument args 0) _
+      (λ type is. called_ok P L m (available_bytes m type) _ (plain_available m type) (λ count fine. tt))
 
-  looked_up_due : AllDue P (jc_system_lookup_aid args p m) m
+  found_so : AnswersSo L m → (b : Bool) (o : Option AppletNumber) → L (if b then aid_or_null m.heap.now o else 0)
+  found_so so true o = so.aid o
+  found_so so false o = so.null
+
+  pub looked_up_due : AnswersSo L m → IsPlainCall P L (jc_system_lookup_aid args p m) m
   unfolding jc_system_lookup_aid
-  looked_up_due = call_some P m (reference_argument args 0) _ (λ array is. call_some P m (short_argument args 1) _
-      (λ start s. call_some P m (short_argument args 2) _ (λ count c.
-      call_ok P m (bytes_argument m array) _ (λ argument there. call_ok P m (elements_of p m array argument start count) _ (λ e fine. tt)))))
+  looked_up_due so = called_some P L m (reference_argument args 0) _ (λ array is. called_some P L m (short_argument args 1) _
+      (λ start s. called_some P L m (short_argument args 2) _ (λ count c.
+      called_ok P L m (bytes_argument m array) _ (plain_bytes m array) (λ argument there.
+      called_ok P L m (elements_of p m array argument start count) _ (plain_elements p m array argument start count)
+      (λ e fine. found_so so (is_aid_length e.count) (applet_with_aid m (bytes_in m e)))))))
 
-  asked_due : (parameter : ℤ) (n : AppletNumber) (server : Option ℕ) → AllDue P (server_call_result m parameter n server) m
-  asked_due parameter n None = tt
-  asked_due parameter n (Some server) = tt
-
-  known_due : (parameter : ℤ) (n : Option AppletNumber) → AllDue P (server_call_if_known m parameter n) m
-  known_due parameter None = tt
-  known_due parameter (Some n) = asked_due parameter n (instance_of_applet m.heap.now n.0)
-
-  asked_by_due : (aid : ℕ) (parameter : ℤ) (f : Facts) → AllDue P (server_call_by_aid p m aid parameter f) m
-  asked_by_due aid parameter f = due_if P m (is_instance_of p f (class_word p.platform Aid)) _ _
-      (λ on. known_due parameter (option_and_then (λ bytes. applet_with_aid m bytes) (aid_at m aid))) (λ off. tt)
-
-  server_due : AllDue P (jc_system_get_applet_shareable_interface_object args p m) m
-  unfolding jc_system_get_applet_shareable_interface_object
-  server_due = call_some P m (reference_argument args 0) _ (λ aid is. call_some P m (short_argument args 1) _ (λ parameter there.
-      due_if P m (aid == 0) _ _ (λ on. tt) (λ off. call_some P m (header_at m aid) _ (λ f found. asked_by_due aid parameter f))))
-
-  event_due : AllDue P (jc_system_is_transient args m) m
+  pub event_due : IsPlainCall P L (jc_system_is_transient args m) m
   unfolding jc_system_is_transient
-  event_due = call_some P m (reference_argument args 0) _ (λ r is. due_if P m (r == 0) _ _ (λ on. tt) (λ off. call_some P m (header_at m r) _ (λ f found. tt)))
+  event_due = called_some P L m (reference_argument args 0) _ (λ r is.
+      called_if P L m (r == 0) _ _ (λ on. tt) (λ off. called_some P L m (header_at m r) _ (λ f found. tt)))
 
-  active_due : AllDue P (jc_system_is_applet_active args p m) m
+  pub active_due : IsPlainCall P L (jc_system_is_applet_active args p m) m
   unfolding jc_system_is_applet_active
-  active_due = call_some P m (reference_argument args 0) _ (λ aid is. due_if P m (aid == 0) _ _ (λ on. tt) (λ off.
-      call_some P m (header_at m aid) _ (λ f found. due_if P m (is_instance_of p f (class_word p.platform Aid)) _ _ (λ on. tt) (λ other. tt))))
+  active_due = called_some P L m (reference_argument args 0) _ (λ aid is. called_if P L m (aid == 0) _ _ (λ on. tt) (λ off.
+      called_some P L m (header_at m aid) _ (λ f found. called_if P L m (is_instance_of p f (class_word p.platform Aid)) _ _ (λ on. tt) (λ other. tt))))
 
   -- Util and AID
-  arrays_compared_due : AllDue P (util_array_compare args p m) m
+  arrays_compared_due : IsPlainCall P L (util_array_compare args p m) m
   unfolding util_array_compare
-  arrays_compared_due = call_ok P m (pair_arguments args) _ (λ n named. call_ok P m (pair_of p m n) _ (λ a fine. tt))
+  arrays_compared_due = called_ok P L m (pair_arguments args) _ (plain_pair_arguments args)
+      (λ n named. called_ok P L m (pair_of p m n) _ (plain_pair p m n) (λ a fine. tt))
 
-  short_got_due : AllDue P (util_get_short args p m) m
+  short_got_due : IsPlainCall P L (util_get_short args p m) m
   unfolding util_get_short
-  short_got_due = call_ok P m (two_of args p m) _ (λ e fine. tt)
+  short_got_due = called_ok P L m (two_of args p m) _ (plain_two args p m) (λ e fine. tt)
 
-  short_made_due : AllDue P (util_make_short args) m
+  short_made_due : IsPlainCall P L (util_make_short args) m
   unfolding util_make_short
-  short_made_due = call_some P m (short_argument args 0) _ (λ high is. call_some P m (short_argument args 1) _ (λ low there. tt))
+  short_made_due = called_some P L m (short_argument args 0) _ (λ high is. called_some P L m (short_argument args 1) _ (λ low there. tt))
 
-  aid_equals_due : AllDue P (aid_equals args p m) m
+  aid_equals_due : IsPlainCall P L (aid_equals args p m) m
   unfolding aid_equals
-  aid_equals_due = call_some P m (reference_argument args 0) _ (λ own is. call_some P m (reference_argument args 1) _
-      (λ other there. call_some P m (aid_at m own) _ (λ aid found. tt)))
+  aid_equals_due = called_some P L m (reference_argument args 0) _ (λ own is. called_some P L m (reference_argument args 1) _
+      (λ other there. called_some P L m (aid_at m own) _ (λ aid found. tt)))
 
-  aid_equals_bytes_due : AllDue P (aid_equals_bytes args p m) m
+  aid_equals_bytes_due : IsPlainCall P L (aid_equals_bytes args p m) m
   unfolding aid_equals_bytes
-  aid_equals_bytes_due = call_some P m (reference_argument args 0) _ (λ own is. call_some P m (reference_argument args 1) _
-      (λ array a. call_some P m (short_argument args 2) _ (λ start s. call_some P m (short_argument args 3) _ (λ count c.
-      call_some P m (aid_at m own) _ (λ aid found. call_ok P m (bytes_argument m array) _ (λ argument there. due_if P m (array == 0) _ _ (λ on. tt) (λ off.
-      call_ok P m (elements_of p m array argument start count) _ (λ e fine. tt))))))))
+  aid_equals_bytes_due = called_some P L m (reference_argument args 0) _ (λ own is. called_some P L m (reference_argument args 1) _
+      (λ array a. called_some P L m (short_argument args 2) _ (λ start s. called_some P L m (short_argument args 3) _ (λ count c.
+      called_some P L m (aid_at m own) _ (λ aid found. called_ok P L m (bytes_argument m array) _ (plain_bytes m array) (λ argument there.
+      called_if P L m (array == 0) _ _ (λ on. tt) (λ off.
+      called_ok P L m (elements_of p m array argument start count) _ (plain_elements p m array argument start count) (λ e fine. tt))))))))
 
-  aid_rid_equals_due : AllDue P (aid_rid_equals args p m) m
+  aid_rid_equals_due : IsPlainCall P L (aid_rid_equals args p m) m
   unfolding aid_rid_equals
-  aid_rid_equals_due = call_some P m (reference_argument args 0) _ (λ own is. call_some P m (reference_argument args 1) _
-      (λ other there. call_some P m (aid_at m own) _ (λ aid found. tt)))
+  aid_rid_equals_due = called_some P L m (reference_argument args 0) _ (λ own is. called_some P L m (reference_argument args 1) _
+      (λ other there. called_some P L m (aid_at m own) _ (λ aid found. tt)))
 
-  aid_partial_equals_due : AllDue P (aid_partial_equals args p m) m
+  aid_partial_equals_due : IsPlainCall P L (aid_partial_equals args p m) m
   unfolding aid_partial_equals
-  aid_partial_equals_due = call_some P m (reference_argument args 0) _ (λ own is. call_some P m (reference_argument args 1) _
-      (λ array a. call_some P m (short_argument args 2) _ (λ start s. call_some P m (short_argument args 3) _ (λ count c.
-      call_some P m (aid_at m own) _ (λ aid found. call_ok P m (bytes_argument m array) _ (λ argument there. due_if P m (array == 0) _ _ (λ on. tt) (λ off.
-      call_ok P m (elements_of p m array argument start count) _ (λ e fine. tt))))))))
+  aid_partial_equals_due = called_some P L m (reference_argument args 0) _ (λ own is. called_some P L m (reference_argument args 1) _
+      (λ array a. called_some P L m (short_argument args 2) _ (λ start s. called_some P L m (short_argument args 3) _ (λ count c.
+      called_some P L m (aid_at m own) _ (λ aid found. called_ok P L m (bytes_argument m array) _ (plain_bytes m array) (λ argument there.
+      called_if P L m (array == 0) _ _ (λ on. tt) (λ off.
+      called_ok P L m (elements_of p m array argument start count) _ (plain_elements p m array argument start count) (λ e fine. tt))))))))
 
-  there_due : (part : Option (List ℕ)) (go : List ℕ → NativeProgram) → ((bytes : List ℕ) → AllDue P (go bytes) m) → AllDue P (if_there part go) m
+  there_due : (part : Option (List ℕ)) (go : List ℕ → NativeProgram) → ((bytes : List ℕ) → IsPlainCall P L (go bytes) m)
+      → IsPlainCall P L (if_there part go) m
   there_due None go each = tt
   there_due (Some bytes) go each = each bytes
 
   -- OwnerPIN
-  tries_due : AllDue P (owner_pin_get_tries_remaining args m) m
+  tries_due : IsPlainCall P L (owner_pin_get_tries_remaining args m) m
   unfolding owner_pin_get_tries_remaining
-  tries_due = call_some P m (receiver m args) _ (λ pin is. tt)
+  tries_due = called_some P L m (receiver m args) _ (λ pin is. tt)
 
-  validated_due : AllDue P (owner_pin_is_validated args m) m
+  validated_due : IsPlainCall P L (owner_pin_is_validated args m) m
   unfolding owner_pin_is_validated
-  validated_due = call_some P m (receiver m args) _ (λ pin is. tt)
+  validated_due = called_some P L m (receiver m args) _ (λ pin is. tt)
 
   -- APDU
-  buffer_got_due : AllDue P (apdu_get_buffer m) m
-  buffer_got_due = call_some P m (buffer_of m) _ (λ buffer there. tt)
+  buffer_got_due : AnswersSo L m → IsPlainCall P L (apdu_get_buffer m) m
+  buffer_got_due so = called_some P L m (buffer_of m) _ so.buffer
 
-  received_more_due : (phase : ApduPhase) → AllDue P (apdu_receive_bytes phase) m
+  received_more_due : (phase : ApduPhase) → IsPlainCall P L (apdu_receive_bytes phase) m
   received_more_due Waiting = tt
   received_more_due _ = tt
 
-  while_received_due : (phase : ApduPhase) (answer : ℤ) → AllDue P (while_received phase answer) m
+  while_received_due : (phase : ApduPhase) (answer : ℤ) → IsPlainCall P L (while_received phase answer) m
   while_received_due Received answer = tt
   while_received_due _ answer = tt
 
-  current_apdu_due : AllDue P (apdu_get_current_apdu m) m
+  current_apdu_due : AnswersSo L m → IsPlainCall P L (apdu_get_current_apdu m) m
   unfolding apdu_get_current_apdu
-  current_apdu_due = due_if P m (has_command m) _ _ (λ on. call_some P m (apdu_object m) _ (λ apdu is. tt)) (λ off. tt)
+  current_apdu_due so = called_if P L m (has_command m) _ _ (λ on. called_some P L m (apdu_object m) _ so.apdu) (λ off. tt)
 
-  current_buffer_due : AllDue P (apdu_get_current_apdu_buffer m) m
+  current_buffer_due : AnswersSo L m → IsPlainCall P L (apdu_get_current_apdu_buffer m) m
   unfolding apdu_get_current_apdu_buffer
-  current_buffer_due = due_if P m (has_command m) _ _ (λ on. buffer_got_due) (λ off. tt)
+  current_buffer_due so = called_if P L m (has_command m) _ _ (λ on. buffer_got_due so) (λ off. tt)
 
--- ---- what sets registers, and begins and ends transactions
+-- ---- what begins and ends transactions
 
 module _ (P : Effect → MemoryState → Type 0) (Q : MemoryState → Type 0) (bears : Bears P Q) where
   -- JCSystem's transactions
@@ -277,53 +276,52 @@ module _ (P : Effect → MemoryState → Type 0) (Q : MemoryState → Type 0) (b
         ))
         (λ off. (bears.turns _ m so refl refl refl, after_abort_due m.registers.installation _))
 
-  -- APDU
-  outgoing_in_due : (m : MemoryState) → Q m → (phase : ApduPhase) → AllDue P (set_outgoing_in_phase m phase) m
-  outgoing_in_due m so Waiting = (bears.turns _ m so refl refl refl, tt)
-  outgoing_in_due m so Received = (bears.turns _ m so refl refl refl, tt)
+-- ---- what sets registers and sends
+
+module _ (P : Effect → MemoryState → Type 0) (L : ℕ → Type 0) (Q : MemoryState → Type 0) (turns : Turns P Q) where
+  outgoing_in_due : (m : MemoryState) → Q m → (phase : ApduPhase) → IsPlainCall P L (set_outgoing_in_phase m phase) m
+  outgoing_in_due m so Waiting = (turns.turns _ m so refl refl refl, tt)
+  outgoing_in_due m so Received = (turns.turns _ m so refl refl refl, tt)
   outgoing_in_due m so _ = tt
 
-  outgoing_due : (m : MemoryState) → Q m → AllDue P (apdu_set_outgoing m) m
+  outgoing_due : (m : MemoryState) → Q m → IsPlainCall P L (apdu_set_outgoing m) m
   unfolding apdu_set_outgoing
   outgoing_due m so = outgoing_in_due m so (phase_of m)
 
-  length_in_due : (m : MemoryState) → Q m → (phase : ApduPhase) (count : ℤ) → AllDue P (set_length_in_phase m phase count) m
-  length_in_due m so Outgoing count = call_ok P m (length_of count) _ (λ n is. (bears.turns _ m so refl refl refl, tt))
+  length_in_due : (m : MemoryState) → Q m → (phase : ApduPhase) (count : ℤ) → IsPlainCall P L (set_length_in_phase m phase count) m
+  length_in_due m so Outgoing count = called_ok P L m (length_of count) _ (plain_length count) (λ n is. (turns.turns _ m so refl refl refl, tt))
   length_in_due m so _ count = tt
 
-  length_due : (m : MemoryState) → Q m → (count : ℤ) → AllDue P (apdu_set_outgoing_length count m) m
+  length_due : (m : MemoryState) → Q m → (count : ℤ) → IsPlainCall P L (apdu_set_outgoing_length count m) m
   unfolding apdu_set_outgoing_length
   length_due m so count = length_in_due m so (phase_of m) count
 
-  sent_in_due : (m : MemoryState) → Q m → (phase : ApduPhase) (start count : ℤ) → AllDue P (send_in_phase m phase start count) m
-  sent_in_due m so (Sending left) start count = call_ok P m (piece_of m left start count) _ (λ piece is. call_some P m (buffer_of m) _ (λ buffer there.
-      let sends = bears.sends (bytes_at m buffer piece.start piece.count) m in
-      (sends, (bears.turns _ _ (bears.keeps (SendBytes (bytes_at m buffer piece.start piece.count)) m sends so) refl refl refl, tt))))
+  sent_in_due : (m : MemoryState) → Q m → (phase : ApduPhase) (start count : ℤ) → IsPlainCall P L (send_in_phase m phase start count) m
+  sent_in_due m so (Sending left) start count = called_ok P L m (piece_of m left start count) _ (plain_piece m left start count) (λ piece is.
+      called_some P L m (buffer_of m) _ (λ buffer there.
+      let sends = turns.sends (bytes_at m buffer piece.start piece.count) m in
+      (sends, (turns.turns _ _ (turns.keeps (SendBytes (bytes_at m buffer piece.start piece.count)) m sends so) refl refl refl, tt))))
   sent_in_due m so _ start count = tt
 
-  sent_due : (m : MemoryState) → Q m → (start count : ℤ) → AllDue P (apdu_send_bytes start count m) m
+  sent_due : (m : MemoryState) → Q m → (start count : ℤ) → IsPlainCall P L (apdu_send_bytes start count m) m
   unfolding apdu_send_bytes
   sent_due m so start count = sent_in_due m so (phase_of m) start count
 
-  elements_sent_due : (m : MemoryState) → Q m → (phase : ApduPhase) (e : Stretch) → AllDue P (send_elements_in_phase m phase e) m
-  elements_sent_due m so (Sending left) e = due_if P m (is_too_much m left (pos e.count)) _ _ (λ on. tt) (λ off.
-      let sends = bears.sends (bytes_in m e) m in
-      (sends, (bears.turns _ _ (bears.keeps (SendBytes (bytes_in m e)) m sends so) refl refl refl, tt)))
+  elements_sent_due : (m : MemoryState) → Q m → (phase : ApduPhase) (e : Stretch) → IsPlainCall P L (send_elements_in_phase m phase e) m
+  elements_sent_due m so (Sending left) e = called_if P L m (is_too_much m left (pos e.count)) _ _ (λ on. tt) (λ off.
+      let sends = turns.sends (bytes_in m e) m in
+      (sends, (turns.turns _ _ (turns.keeps (SendBytes (bytes_in m e)) m sends so) refl refl refl, tt)))
   elements_sent_due m so _ e = tt
 
-  sent_long_due : (args : List Cell) (p : Packages) (m : MemoryState) → Q m → AllDue P (apdu_send_bytes_long args p m) m
+  sent_long_due : (args : List Cell) (p : Packages) (m : MemoryState) → Q m → IsPlainCall P L (apdu_send_bytes_long args p m) m
   unfolding apdu_send_bytes_long
-  sent_long_due args p m so = call_ok P m (array_arguments args m) _ (λ given fine. call_ok P m (argument_bytes given p m) _
-      (λ e there. elements_sent_due m so (phase_of m) e))
+  sent_long_due args p m so = called_ok P L m (array_arguments args m) _ (plain_given args m) (λ given fine.
+      called_ok P L m (argument_bytes given p m) _ (plain_argument given p m) (λ e there. elements_sent_due m so (phase_of m) e))
 
-  all_sent_due : (m : MemoryState) → Q m → (start count : ℤ) → AllDue P (apdu_set_outgoing_and_send start count m) m
+  all_sent_due : (m : MemoryState) → Q m → (start count : ℤ) → IsPlainCall P L (apdu_set_outgoing_and_send start count m) m
   unfolding apdu_set_outgoing_and_send
-  all_sent_due m so start count =
-      due_bind P _ (apdu_set_outgoing m) m (outgoing_due m so) (each_more _ _ (λ answer v next. call_ok P v answer _ (λ a is.
-      due_bind P _ (apdu_set_outgoing_length count v) v (length_due v next count) (each_more _ _
-      (λ more u last. call_ok P u more _ (λ b there. sent_due u last start count)) (apdu_set_outgoing_length count v) v
-      (kept_each P Q bears.keeps (apdu_set_outgoing_length count v) v (length_due v next count) next)))) (apdu_set_outgoing m) m
-      (kept_each P Q bears.keeps (apdu_set_outgoing m) m (outgoing_due m so) so))
+  all_sent_due m so start count = called_then P L Q turns.keeps _ (λ v next. called_then P L Q turns.keeps _ (λ w last. sent_due w last start count)
+      (apdu_set_outgoing_length count v) v next (length_due v next count)) (apdu_set_outgoing m) m so (outgoing_due m so)
 
 -- a run of cells that is set leaves the registers
 same_registers : (event : Option ClearEvent) (r i : ℕ) (words : List ℕ) (m : MemoryState)
@@ -333,139 +331,123 @@ same_registers (Some event) r i words m = refl
 
 -- ---- what sets cells, and makes objects
 
-module _ (P : Effect → MemoryState → Type 0) (Q : MemoryState → Type 0) (bears : Bears P Q) (method : PlatformMethod) (args : List Cell) (p : Packages)
-    (m : MemoryState) (so : Q m) (pass : MethodPasses P method args p m) where
+module _ (P : Effect → MemoryState → Type 0) (L : ℕ → Type 0) (Q : MemoryState → Type 0) (turns : Turns P Q) (method : PlatformMethod)
+    (args : List Cell) (p : Packages) (m : MemoryState) (so : Q m) (pass : MethodPasses P method args p m) where
   -- exceptions
-  reason_due : part_of method ≡ CardExceptions → sets_receiver method ≡ true → AllDue P (exception_set_reason args m) m
+  reason_due : part_of method ≡ CardExceptions → sets_receiver method ≡ true → IsPlainCall P L (exception_set_reason args m) m
   unfolding exception_set_reason
-  reason_due part sets = call_some P m (reference_argument args 0) _ (λ own is. call_some P m (short_argument args 1) _
-      (λ reason there. call_ok P m (instance_at m own 1) _ (λ f long.
-      call_unless P m (cell_refusal m own 0) _ (λ room. (pass.reason part sets own reason is (instance_is m own 1 f long), tt)))))
+  reason_due part sets = called_some P L m (reference_argument args 0) _ (λ own is. called_some P L m (short_argument args 1) _
+      (λ reason there. called_ok P L m (instance_at m own 1) _ (plain_instance m own 1) (λ f long.
+      called_unless P L m (cell_refusal m own 0) _ (λ room. (pass.reason part sets own reason is (instance_is m own 1 f long), tt)))))
 
-  no_reason_due : part_of method ≡ CardExceptions → sets_receiver method ≡ true → AllDue P (exception_set_no_reason args m) m
+  no_reason_due : part_of method ≡ CardExceptions → sets_receiver method ≡ true → IsPlainCall P L (exception_set_no_reason args m) m
   unfolding exception_set_no_reason
-  no_reason_due part sets = call_some P m (reference_argument args 0) _ (λ own is. call_ok P m (instance_at m own 1) _ (λ f long.
-      call_unless P m (cell_refusal m own 0) _ (λ room. (pass.reason part sets own (pos 0) is (instance_is m own 1 f long), tt))))
-
-  -- transient arrays
-  transient_due : (kind : Kind) → (kind ≡ Instance → ⊥) → AllDue P (jc_system_make_transient_array kind args p m) m
-  unfolding jc_system_make_transient_array
-  transient_due kind none = call_some P m (short_argument args 0) _ (λ count is. call_some P m (short_argument args 1) _
-      (λ event there. call_ok P m (requested_array kind count event p m) _ (λ o fine.
-      call_unless P m (creation_refusal m o) _ (λ room. pass.transient kind count event o none fine room))))
+  no_reason_due part sets = called_some P L m (reference_argument args 0) _ (λ own is.
+      called_ok P L m (instance_at m own 1) _ (plain_instance m own 1) (λ f long.
+      called_unless P L m (cell_refusal m own 0) _ (λ room. (pass.reason part sets own (pos 0) is (instance_is m own 1 f long), tt))))
 
   -- Util
-  copied_due : AllDue P (util_array_copy args p m) m
+  copied_due : IsPlainCall P L (util_array_copy args p m) m
   unfolding util_array_copy
-  copied_due = call_ok P m (pair_arguments args) _ (λ n named. call_ok P m (pair_of p m n) _ (λ a fine. let is = pair_is p m n a fine in
-      call_unless P m (cells_refusal m a.to.array a.to.start (bytes_in m a.from)) _
+  copied_due = called_ok P L m (pair_arguments args) _ (plain_pair_arguments args) (λ n named.
+      called_ok P L m (pair_of p m n) _ (plain_pair p m n) (λ a fine. let is = pair_is p m n a fine in
+      called_unless P L m (cells_refusal m a.to.array a.to.start (bytes_in m a.from)) _
       (λ room. (pass.stretch n.destination n.count a.to (bytes_in m a.from) is.0 (length_bytes m a.from ∙ is.1), tt))))
 
-  short_set_due : AllDue P (util_set_short args p m) m
+  short_set_due : IsPlainCall P L (util_set_short args p m) m
   unfolding util_set_short
-  short_set_due = call_some P m (short_argument args 2) _ (λ v is. call_ok P m (two_of args p m) _ (λ e fine. let two = two_is args p m e fine in
-      call_unless P m (cells_refusal m e.array e.start (bytes_of_short v)) _ (λ room.
+  short_set_due = called_some P L m (short_argument args 2) _ (λ v is.
+      called_ok P L m (two_of args p m) _ (plain_two args p m) (λ e fine. let two = two_is args p m e fine in
+      called_unless P L m (cells_refusal m e.array e.start (bytes_of_short v)) _ (λ room.
       (pass.stretch two.0 (pos 2) e (bytes_of_short v) two.1 (same_Some 2 e.count two.1.counted), tt))))
 
-  filled_due : AllDue P (util_array_fill args p m) m
+  filled_due : IsPlainCall P L (util_array_fill args p m) m
   unfolding util_array_fill
-  filled_due = call_some P m (short_argument args 3) _ (λ v is. call_ok P m (counted_of args p m) _ (λ e fine. let counted = counted_is args p m e fine in
-      call_unless P m (cells_refusal m e.array e.start (filling_of v e)) _ (λ room.
+  filled_due = called_some P L m (short_argument args 3) _ (λ v is.
+      called_ok P L m (counted_of args p m) _ (plain_counted args p m) (λ e fine. let counted = counted_is args p m e fine in
+      called_unless P L m (cells_refusal m e.array e.start (filling_of v e)) _ (λ room.
       (pass.stretch counted.0 counted.1 e (filling_of v e) counted.2 (length-replicate e.count (cast_unsigned w16 v % 256)), tt))))
 
   -- JCSystem
-  memory_set_due : AllDue P (jc_system_get_available_memory_shorts args p m) m
+  pub memory_set_due : IsPlainCall P L (jc_system_get_available_memory_shorts args p m) m
   unfolding jc_system_get_available_memory_shorts
-  memory_set_due = call_some P m (reference_argument args 0) _ (λ array a. call_some P m (short_argument args 1) _ (λ start s.
-      call_some P m (short_argument args 2) _ (λ type t. call_ok P m (shorts_argument m array) _ (λ f there.
-      call_ok P m (firewall_check ArrayElement p m f) _ (λ u allowed. call_ok P m (first_of_two f.length (not_negative start)) _ (λ i first.
-      call_ok P m (available_bytes m type) _ (λ count fine. call_unless P m (cells_refusal m array i (shorts_of_count count)) _ (λ room.
+  memory_set_due = called_some P L m (reference_argument args 0) _ (λ array a. called_some P L m (short_argument args 1) _ (λ start s.
+      called_some P L m (short_argument args 2) _ (λ type t. called_ok P L m (shorts_argument m array) _ (plain_shorts m array) (λ f there.
+      called_ok P L m (firewall_check ArrayElement p m f) _ (plain_firewall ArrayElement p m f) (λ u allowed.
+      called_ok P L m (first_of_two f.length (not_negative start)) _ (plain_two_within f.length (not_negative start)) (λ i first.
+      called_ok P L m (available_bytes m type) _ (plain_available m type) (λ count fine.
+      called_unless P L m (cells_refusal m array i (shorts_of_count count)) _ (λ room.
       (pass.stretch array (pos 2) _ (shorts_of_count count) (shorts_is p m array i f u start there allowed first) refl, tt)))))))))
 
   -- AID
-  aid_made_due : method ≡ AidInit → AllDue P (aid_init args p m) m
+  aid_made_due : method ≡ AidInit → IsPlainCall P L (aid_init args p m) m
   unfolding aid_init
-  aid_made_due init = call_some P m (reference_argument args 0) _ (λ own is. call_some P m (reference_argument args 1) _
-      (λ array a. call_some P m (short_argument args 2) _ (λ start s. call_some P m (short_argument args 3) _ (λ count c.
-      call_ok P m (bytes_argument m array) _ (λ argument there. call_ok P m (instance_at m own 9) _
-      (λ f long. call_ok P m (elements_of p m array argument start count) _ (λ e fine.
-      due_if P m (is_aid_length e.count) _ _ (λ on. call_unless P m (cells_refusal m own 0 (cells_of_aid (bytes_in m e))) _ (λ room.
+  aid_made_due init = called_some P L m (reference_argument args 0) _ (λ own is. called_some P L m (reference_argument args 1) _
+      (λ array a. called_some P L m (short_argument args 2) _ (λ start s. called_some P L m (short_argument args 3) _ (λ count c.
+      called_ok P L m (bytes_argument m array) _ (plain_bytes m array) (λ argument there. called_ok P L m (instance_at m own 9) _ (plain_instance m own 9)
+      (λ f long. called_ok P L m (elements_of p m array argument start count) _ (plain_elements p m array argument start count) (λ e fine.
+      called_if P L m (is_aid_length e.count) _ _ (λ on. called_unless P L m (cells_refusal m own 0 (cells_of_aid (bytes_in m e))) _ (λ room.
       (pass.aid init own (bytes_in m e) is (instance_is m own 9 f long) (ap is_aid_length (length_bytes m e) ∙ on), tt))) (λ off. tt))))))))
 
-  aid_got_due : AllDue P (aid_get_bytes args p m) m
+  aid_got_due : IsPlainCall P L (aid_get_bytes args p m) m
   unfolding aid_get_bytes
-  aid_got_due = call_some P m (reference_argument args 0) _ (λ own is. call_some P m (reference_argument args 1) _
-      (λ array a. call_some P m (short_argument args 2) _ (λ start s.
-      call_some P m (aid_at m own) _ (λ aid found. call_ok P m (bytes_argument m array) _
-      (λ argument there. call_ok P m (elements_of p m array argument start (pos (length aid))) _ (λ e fine.
+  aid_got_due = called_some P L m (reference_argument args 0) _ (λ own is. called_some P L m (reference_argument args 1) _
+      (λ array a. called_some P L m (short_argument args 2) _ (λ start s.
+      called_some P L m (aid_at m own) _ (λ aid found. called_ok P L m (bytes_argument m array) _ (plain_bytes m array)
+      (λ argument there. called_ok P L m (elements_of p m array argument start (pos (length aid))) _
+      (plain_elements p m array argument start (pos (length aid))) (λ e fine.
       let is = stretch_is p m array start (pos (length aid)) e argument there fine in
-      call_unless P m (cells_refusal m e.array e.start aid) _ (λ room. (
+      called_unless P L m (cells_refusal m e.array e.start aid) _ (λ room. (
         pass.stretch array (pos (length aid)) e aid is
             (same_Some (length aid) e.count is.counted),
         tt,
       ))))))))
 
-  aid_part_got_due : AllDue P (aid_get_partial_bytes args p m) m
+  aid_part_got_due : IsPlainCall P L (aid_get_partial_bytes args p m) m
   unfolding aid_get_partial_bytes
-  aid_part_got_due = call_some P m (reference_argument args 0) _ (λ own is. call_some P m (short_argument args 1) _
-      (λ from f. call_some P m (reference_argument args 2) _ (λ array a. call_some P m (short_argument args 3) _ (λ start s.
-      call_some P m (short_argument args 4) _ (λ count c. call_some P m (aid_at m own) _ (λ aid found. call_ok P m (bytes_argument m array) _
-      (λ argument there. there_due P args p m (part_within aid (not_negative from) (not_negative count)) _ (λ part.
-      call_ok P m (elements_of p m array argument start (pos (length part))) _ (λ e fine.
+  aid_part_got_due = called_some P L m (reference_argument args 0) _ (λ own is. called_some P L m (short_argument args 1) _
+      (λ from f. called_some P L m (reference_argument args 2) _ (λ array a. called_some P L m (short_argument args 3) _ (λ start s.
+      called_some P L m (short_argument args 4) _ (λ count c. called_some P L m (aid_at m own) _ (λ aid found.
+      called_ok P L m (bytes_argument m array) _ (plain_bytes m array)
+      (λ argument there. there_due P L args p m (part_within aid (not_negative from) (not_negative count)) _ (λ part.
+      called_ok P L m (elements_of p m array argument start (pos (length part))) _ (plain_elements p m array argument start (pos (length part))) (λ e fine.
       let is = stretch_is p m array start (pos (length part)) e argument there fine in
-      call_unless P m (cells_refusal m e.array e.start part) _ (λ room. (
+      called_unless P L m (cells_refusal m e.array e.start part) _ (λ room. (
         pass.stretch array (pos (length part)) e part is
             (same_Some (length part) e.count is.counted),
         tt,
       )))))))))))
 
   -- APDU
-  received_in_due : (phase : ApduPhase) → AllDue P (receive_in_phase m phase) m
-  received_in_due Waiting = call_some P m (buffer_of m) _ (λ buffer there.
+  received_in_due : (phase : ApduPhase) → IsPlainCall P L (receive_in_phase m phase) m
+  received_in_due Waiting = called_some P L m (buffer_of m) _ (λ buffer there.
       let sets = pass.buffer buffer (buffer_is m buffer there) in
       let same = same_registers (facts m.heap.now buffer).event buffer 5 (data_of m.command) m in
-      call_unless P m (cells_refusal m buffer 5 (data_of m.command)) _ (λ room. (
+      called_unless P L m (cells_refusal m buffer 5 (data_of m.command)) _ (λ room. (
         sets,
         (
-          bears.turns _ _ (bears.keeps (cells_effect m buffer 5 (data_of m.command)) m sets so) (ap (λ g. g.active) (sym same))
+          turns.turns _ _ (turns.keeps (cells_effect m buffer 5 (data_of m.command)) m sets so) (ap (λ g. g.active) (sym same))
               (ap (λ g. g.installation) (sym same)) (ap (λ g. g.selected) (sym same)),
           tt,
         ),
       )))
   received_in_due _ = tt
 
-  received_due : AllDue P (apdu_set_incoming_and_receive m) m
+  received_due : IsPlainCall P L (apdu_set_incoming_and_receive m) m
   unfolding apdu_set_incoming_and_receive
   received_due = received_in_due (phase_of m)
-
-  -- Applet
-  as_due : method ≡ AppletRegister → (instance : ℕ) → reference_argument args 0 ≡ Some instance → (aid : Option (List ℕ))
-      → install_aid p m.registers.installation ≡ aid → AllDue P (register_with instance p m aid) m
-  as_due is instance own None there = tt
-  as_due is instance own (Some aid) there = due_if P m (nat_le (length aid) 16) _ _ (λ on. pass.own_registers is aid instance own there) (λ off. tt)
-
-  own_registered_due : method ≡ AppletRegister → AllDue P (applet_register args p m) m
-  unfolding applet_register
-  own_registered_due is = call_some P m (reference_argument args 0) _ (λ instance own. as_due is instance own (install_aid p m.registers.installation) refl)
-
-  given_registered_due : method ≡ AppletRegisterBytes → AllDue P (applet_register_bytes args p m) m
-  unfolding applet_register_bytes
-  given_registered_due is = call_some P m (reference_argument args 0) _ (λ instance own. call_some P m (reference_argument args 1) _
-      (λ array a. call_some P m (short_argument args 2) _ (λ start s. call_some P m (short_argument args 3) _ (λ count c.
-      call_ok P m (bytes_argument m array) _ (λ header h. call_ok P m (elements_of p m array header start count) _ (λ e fine.
-      due_if P m (is_aid_length e.count) _ _ (λ on. pass.given_registers is e instance own on) (λ off. tt)))))))
 
   -- OwnerPIN
   full_due : {A : Type 0} (o : Option HeapRefusal) (d : Program (Result A PinRefusal)) → AllDue P d m → AllDue P (unless_no_room o d) m
   full_due None d due = due
   full_due (Some reason) d due = tt
 
-  refused_due : (result : Result (Unit {0}) PinRefusal) (v : MemoryState) → AllDue P (return_unless_refused result) v
+  refused_due : (result : Result (Unit {0}) PinRefusal) (v : MemoryState) → IsPlainCall P L (return_unless_refused result) v
   refused_due (Ok u) v = tt
   refused_due (Err e) v = tt
 
-  settled_due : (change : Program (Result (Unit {0}) PinRefusal)) → AllDue P change m → AllDue P (changed_or_thrown change m) m
-  settled_due change due = due_bind P _ change m due (each_always _ refused_due change m)
+  settled_due : (change : Program (Result (Unit {0}) PinRefusal)) → AllDue P change m → IsPlainCall P L (changed_or_thrown change m) m
+  settled_due change due = called_after P L _ change m due refused_due
 
   module _ (class : class_of method ≡ OwnerPin) (sets : sets_receiver method ≡ true) where
     called_pin : (pin : ℕ) → receiver m args ≡ Some pin → IsPinCall method args m pin
@@ -478,11 +460,11 @@ module _ (P : Effect → MemoryState → Type 0) (Q : MemoryState → Type 0) (b
     started_due pin limit maximum is = due_if P m (not (has_space m ByteArray maximum)) _ _ (λ on. tt)
         (λ off. due_if P m (lacks_capacity m (touched_by_init pin)) _ _ (λ on. tt) (λ off. pass.starts pin is limit maximum))
 
-    constructed_due : AllDue P (owner_pin_init args m) m
+    constructed_due : IsPlainCall P L (owner_pin_init args m) m
     unfolding owner_pin_init
-    constructed_due = call_some P m (receiver m args) _ (λ pin is. call_some P m (short_argument args 1) _
-        (λ limit l. call_some P m (short_argument args 2) _ (λ maximum x.
-        call_ok P m (at_least_1 limit) _ (λ n few. call_ok P m (at_least_1 maximum) _
+    constructed_due = called_some P L m (receiver m args) _ (λ pin is. called_some P L m (short_argument args 1) _
+        (λ limit l. called_some P L m (short_argument args 2) _ (λ maximum x.
+        called_ok P L m (at_least_1 limit) _ (plain_least limit) (λ n few. called_ok P L m (at_least_1 maximum) _ (plain_least maximum)
         (λ k most. settled_due (pin_init m pin n k) (started_due pin n k (called_pin pin is)))))))
 
     judged_due : (pin : ℕ) (v : MemoryState) (guess : Option (List ℕ)) → ((limit : ℕ) → P (HeapMove (WriteNonAtomic (counter pin) limit)) v)
@@ -495,34 +477,34 @@ module _ (P : Effect → MemoryState → Type 0) (Q : MemoryState → Type 0) (b
     checked_due pin guess is = due_if P m ((record_of m pin).tries == 0) _ _ (λ on. tt)
         (λ off. (pass.flags pin is false m, (pass.counts pin is _, judged_due pin _ guess (pass.refills pin is _) (pass.flags pin is true))))
 
-    compared_due : (pin : ℕ) (bytes : Result Stretch FrameExit) → IsPinCall method args m pin → AllDue P (pin_comparison m pin bytes) m
+    compared_due : (pin : ℕ) (bytes : Result Stretch FrameExit) → FaultsOnly bytes → IsPinCall method args m pin
+        → IsPlainCall P L (pin_comparison m pin bytes) m
     unfolding pin_comparison
-    compared_due pin bytes is = due_if P m ((record_of m pin).tries == 0) _ _ (λ on. tt) (λ off.
-        due_bind P _ (pin_check m pin (guess_of m bytes)) m (checked_due pin (guess_of m bytes) is)
-        (each_always _ (λ same v. call_ok P v bytes _ (λ e fine. tt)) (pin_check m pin (guess_of m bytes)) m))
+    compared_due pin bytes plain is = called_if P L m ((record_of m pin).tries == 0) _ _ (λ on. tt) (λ off.
+        called_after P L _ (pin_check m pin (guess_of m bytes)) m (checked_due pin (guess_of m bytes) is)
+        (λ same v. called_ok P L v bytes _ plain (λ e fine. tt)))
 
-    pin_checked_due : AllDue P (owner_pin_check args p m) m
+    pin_checked_due : IsPlainCall P L (owner_pin_check args p m) m
     unfolding owner_pin_check
-    pin_checked_due = call_some P m (receiver m args) _ (λ pin is. call_ok P m (array_arguments args m) _
-        (λ given fine. compared_due pin (argument_bytes given p m) (called_pin pin is)))
+    pin_checked_due = called_some P L m (receiver m args) _ (λ pin is. called_ok P L m (array_arguments args m) _ (plain_given args m)
+        (λ given fine. compared_due pin (argument_bytes given p m) (plain_argument given p m) (called_pin pin is)))
 
     reset_due : (pin : ℕ) → IsPinCall method args m pin → AllDue P (pin_reset m pin) m
     unfolding pin_reset
     reset_due pin is = due_if P m (flag_of m.ram pin) _ _ (λ on. (pass.flags pin is false m, (pass.counts pin is _, tt))) (λ off. tt)
 
-    was_reset_due : AllDue P (owner_pin_reset args m) m
+    was_reset_due : IsPlainCall P L (owner_pin_reset args m) m
     unfolding owner_pin_reset
-    was_reset_due = call_some P m (receiver m args) _ (λ pin is. due_bind P _ (pin_reset m pin) m (reset_due pin (called_pin pin is))
-        (each_always _ (λ u v. tt) (pin_reset m pin) m))
+    was_reset_due = called_some P L m (receiver m args) _ (λ pin is. called_after P L _ (pin_reset m pin) m (reset_due pin (called_pin pin is)) (λ u v. tt))
 
-    was_unblocked_due : AllDue P (owner_pin_reset_and_unblock args m) m
+    was_unblocked_due : IsPlainCall P L (owner_pin_reset_and_unblock args m) m
     unfolding owner_pin_reset_and_unblock
-    was_unblocked_due = call_some P m (receiver m args) _ (λ pin is.
+    was_unblocked_due = called_some P L m (receiver m args) _ (λ pin is.
         (pass.flags pin (called_pin pin is) false m, (pass.counts pin (called_pin pin is) _, tt)))
 
-    flag_set_due : AllDue P (owner_pin_set_validated_flag args m) m
+    flag_set_due : IsPlainCall P L (owner_pin_set_validated_flag args m) m
     unfolding owner_pin_set_validated_flag
-    flag_set_due = call_some P m (receiver m args) _ (λ pin is. call_some P m (short_argument args 1) _
+    flag_set_due = called_some P L m (receiver m args) _ (λ pin is. called_some P L m (short_argument args 1) _
         (λ value there. (pass.flags pin (called_pin pin is) _ m, tt)))
 
     updated_due : (pin : ℕ) (bytes : List ℕ) → IsPinCall method args m pin → is_own_value m pin ≡ Ok tt → AllDue P (pin_update m pin bytes) m
@@ -531,131 +513,201 @@ module _ (P : Effect → MemoryState → Type 0) (Q : MemoryState → Type 0) (b
         full_due (refusal_of_places m.heap (places_of (changes_of_update (record_of m pin) pin bytes))) _
         (pass.updates pin is bytes owned (ltb-false (record_of m pin).maximum (length bytes) off), (pass.flags pin is false _, tt)))
 
-    value_set_due : AllDue P (owner_pin_update args p m) m
+    value_set_due : IsPlainCall P L (owner_pin_update args p m) m
     unfolding owner_pin_update
-    value_set_due = call_some P m (receiver m args) _ (λ pin is. call_ok P m (array_arguments args m) _
-        (λ given fine. call_ok P m (argument_bytes given p m) _ (λ e there.
-        call_ok P m (is_own_value m pin) _ (λ u owned. settled_due (pin_update m pin (bytes_in m e))
+    value_set_due = called_some P L m (receiver m args) _ (λ pin is. called_ok P L m (array_arguments args m) _ (plain_given args m)
+        (λ given fine. called_ok P L m (argument_bytes given p m) _ (plain_argument given p m) (λ e there.
+        called_ok P L m (is_own_value m pin) _ (plain_own m pin) (λ u owned. settled_due (pin_update m pin (bytes_in m e))
         (updated_due pin (bytes_in m e) (called_pin pin is) owned)))))
+
+-- ---- what asks a server, makes transient arrays and registers applets
+
+module _ (P : Effect → MemoryState → Type 0) (method : PlatformMethod) (args : List Cell) (p : Packages) (m : MemoryState) where
+  asked_due : (parameter : ℤ) (n : AppletNumber) (server : Option ℕ) → AllDue P (server_call_result m parameter n server) m
+  asked_due parameter n None = tt
+  asked_due parameter n (Some server) = tt
+
+  known_due : (parameter : ℤ) (n : Option AppletNumber) → AllDue P (server_call_if_known m parameter n) m
+  known_due parameter None = tt
+  known_due parameter (Some n) = asked_due parameter n (instance_of_applet m.heap.now n.0)
+
+  asked_by_due : (aid : ℕ) (parameter : ℤ) (f : Facts) → AllDue P (server_call_by_aid p m aid parameter f) m
+  asked_by_due aid parameter f = due_if P m (is_instance_of p f (class_word p.platform Aid)) _ _
+      (λ on. known_due parameter (option_and_then (λ bytes. applet_with_aid m bytes) (aid_at m aid))) (λ off. tt)
+
+  server_due : AllDue P (jc_system_get_applet_shareable_interface_object args p m) m
+  unfolding jc_system_get_applet_shareable_interface_object
+  server_due = call_some P m (reference_argument args 0) _ (λ aid is. call_some P m (short_argument args 1) _ (λ parameter there.
+      due_if P m (aid == 0) _ _ (λ on. tt) (λ off. call_some P m (header_at m aid) _ (λ f found. asked_by_due aid parameter f))))
+
+  module _ (pass : MethodPasses P method args p m) where
+    -- transient arrays
+    transient_due : (kind : Kind) → (kind ≡ Instance → ⊥) → AllDue P (jc_system_make_transient_array kind args p m) m
+    unfolding jc_system_make_transient_array
+    transient_due kind none = call_some P m (short_argument args 0) _ (λ count is. call_some P m (short_argument args 1) _
+        (λ event there. call_ok P m (requested_array kind count event p m) _ (λ o fine.
+        call_unless P m (creation_refusal m o) _ (λ room. pass.transient kind count event o none fine room))))
+
+    -- Applet
+    as_due : method ≡ AppletRegister → (instance : ℕ) → reference_argument args 0 ≡ Some instance → (aid : Option (List ℕ))
+        → install_aid p m.registers.installation ≡ aid → AllDue P (register_with instance p m aid) m
+    as_due is instance own None there = tt
+    as_due is instance own (Some aid) there = due_if P m (nat_le (length aid) 16) _ _ (λ on. pass.own_registers is aid instance own there) (λ off. tt)
+
+    own_registered_due : method ≡ AppletRegister → AllDue P (applet_register args p m) m
+    unfolding applet_register
+    own_registered_due is = call_some P m (reference_argument args 0) _ (λ instance own. as_due is instance own (install_aid p m.registers.installation) refl)
+
+    given_registered_due : method ≡ AppletRegisterBytes → AllDue P (applet_register_bytes args p m) m
+    unfolding applet_register_bytes
+    given_registered_due is = call_some P m (reference_argument args 0) _ (λ instance own. call_some P m (reference_argument args 1) _
+        (λ array a. call_some P m (short_argument args 2) _ (λ start s. call_some P m (short_argument args 3) _ (λ count c.
+        call_ok P m (bytes_argument m array) _ (λ header h. call_ok P m (elements_of p m array header start count) _ (λ e fine.
+        due_if P m (is_aid_length e.count) _ _ (λ on. pass.given_registers is e instance own on) (λ off. tt)))))))
 
 -- ---- part by part
 
-module _ (P : Effect → MemoryState → Type 0) (Q : MemoryState → Type 0) (bears : Bears P Q) (args : List Cell) (p : Packages) (m : MemoryState) (so : Q m) where
-  objects_due : (method : PlatformMethod) → AllDue P (object_call method args) m
+-- whatever the reference
+abbrev pub Anything : ℕ → Type 0
+Anything r = Unit {0}
+
+-- parts whose methods begin and end no transaction, register nothing, ask no server and make nothing
+abbrev pub IsPlainPart : Part → Type 0
+IsPlainPart System = ⊥
+IsPlainPart Applets = ⊥
+IsPlainPart part = Unit {0}
+
+module _ (P : Effect → MemoryState → Type 0) (L : ℕ → Type 0) (Q : MemoryState → Type 0) (turns : Turns P Q) (args : List Cell) (p : Packages)
+    (m : MemoryState) (so : Q m) (refers : AnswersSo L m) where
+  objects_due : (method : PlatformMethod) → IsPlainCall P L (object_call method args) m
   unfolding object_call
-  objects_due ObjectEquals = same_due P args p m
+  objects_due ObjectEquals = same_due P L args p m
   objects_due _ = tt
 
-  exceptions_due : (method : PlatformMethod) → part_of method ≡ CardExceptions → MethodPasses P method args p m → AllDue P (exception_call method args m) m
+  exceptions_due : (method : PlatformMethod) → part_of method ≡ CardExceptions → MethodPasses P method args p m
+      → IsPlainCall P L (exception_call method args m) m
   unfolding exception_call sets_receiver
-  exceptions_due CardExceptionInit part pass = reason_due P Q bears CardExceptionInit args p m so pass part refl
-  exceptions_due CardExceptionThrowIt part pass = thrown_due P args p m exception.CardException
-  exceptions_due CardExceptionGetReason part pass = got_due P args p m
-  exceptions_due CardExceptionSetReason part pass = reason_due P Q bears CardExceptionSetReason args p m so pass part refl
-  exceptions_due CardRuntimeExceptionInit part pass = reason_due P Q bears CardRuntimeExceptionInit args p m so pass part refl
-  exceptions_due CardRuntimeExceptionThrowIt part pass = thrown_due P args p m exception.CardRuntimeException
-  exceptions_due CardRuntimeExceptionGetReason part pass = got_due P args p m
-  exceptions_due CardRuntimeExceptionSetReason part pass = reason_due P Q bears CardRuntimeExceptionSetReason args p m so pass part refl
-  exceptions_due IsoExceptionInit part pass = reason_due P Q bears IsoExceptionInit args p m so pass part refl
-  exceptions_due IsoExceptionThrowIt part pass = thrown_due P args p m exception.ISOException
-  exceptions_due PinExceptionInit part pass = reason_due P Q bears PinExceptionInit args p m so pass part refl
-  exceptions_due PinExceptionThrowIt part pass = thrown_due P args p m exception.PINException
-  exceptions_due SystemExceptionInit part pass = reason_due P Q bears SystemExceptionInit args p m so pass part refl
-  exceptions_due SystemExceptionThrowIt part pass = thrown_due P args p m exception.SystemException
-  exceptions_due TransactionExceptionInit part pass = reason_due P Q bears TransactionExceptionInit args p m so pass part refl
-  exceptions_due TransactionExceptionThrowIt part pass = thrown_due P args p m exception.TransactionException
-  exceptions_due ApduExceptionInit part pass = reason_due P Q bears ApduExceptionInit args p m so pass part refl
-  exceptions_due ApduExceptionThrowIt part pass = thrown_due P args p m exception.APDUException
-  exceptions_due UserExceptionInit part pass = reason_due P Q bears UserExceptionInit args p m so pass part refl
-  exceptions_due UserExceptionInitWithoutReason part pass = no_reason_due P Q bears UserExceptionInitWithoutReason args p m so pass part refl
-  exceptions_due UserExceptionThrowIt part pass = thrown_due P args p m exception.UserException
+  exceptions_due CardExceptionInit part pass = reason_due P L Q turns CardExceptionInit args p m so pass part refl
+  exceptions_due CardExceptionThrowIt part pass = thrown_due P L args p m exception.CardException
+  exceptions_due CardExceptionGetReason part pass = got_due P L args p m
+  exceptions_due CardExceptionSetReason part pass = reason_due P L Q turns CardExceptionSetReason args p m so pass part refl
+  exceptions_due CardRuntimeExceptionInit part pass = reason_due P L Q turns CardRuntimeExceptionInit args p m so pass part refl
+  exceptions_due CardRuntimeExceptionThrowIt part pass = thrown_due P L args p m exception.CardRuntimeException
+  exceptions_due CardRuntimeExceptionGetReason part pass = got_due P L args p m
+  exceptions_due CardRuntimeExceptionSetReason part pass = reason_due P L Q turns CardRuntimeExceptionSetReason args p m so pass part refl
+  exceptions_due IsoExceptionInit part pass = reason_due P L Q turns IsoExceptionInit args p m so pass part refl
+  exceptions_due IsoExceptionThrowIt part pass = thrown_due P L args p m exception.ISOException
+  exceptions_due PinExceptionInit part pass = reason_due P L Q turns PinExceptionInit args p m so pass part refl
+  exceptions_due PinExceptionThrowIt part pass = thrown_due P L args p m exception.PINException
+  exceptions_due SystemExceptionInit part pass = reason_due P L Q turns SystemExceptionInit args p m so pass part refl
+  exceptions_due SystemExceptionThrowIt part pass = thrown_due P L args p m exception.SystemException
+  exceptions_due TransactionExceptionInit part pass = reason_due P L Q turns TransactionExceptionInit args p m so pass part refl
+  exceptions_due TransactionExceptionThrowIt part pass = thrown_due P L args p m exception.TransactionException
+  exceptions_due ApduExceptionInit part pass = reason_due P L Q turns ApduExceptionInit args p m so pass part refl
+  exceptions_due ApduExceptionThrowIt part pass = thrown_due P L args p m exception.APDUException
+  exceptions_due UserExceptionInit part pass = reason_due P L Q turns UserExceptionInit args p m so pass part refl
+  exceptions_due UserExceptionInitWithoutReason part pass = no_reason_due P L Q turns UserExceptionInitWithoutReason args p m so pass part refl
+  exceptions_due UserExceptionThrowIt part pass = thrown_due P L args p m exception.UserException
   exceptions_due _ part pass = tt
 
-  util_due : (method : PlatformMethod) → MethodPasses P method args p m → AllDue P (util_call method args p m) m
+  util_due : (method : PlatformMethod) → MethodPasses P method args p m → IsPlainCall P L (util_call method args p m) m
   unfolding util_call
-  util_due UtilArrayCompare pass = arrays_compared_due P args p m
-  util_due UtilArrayCopy pass = copied_due P Q bears UtilArrayCopy args p m so pass
-  util_due UtilArrayFill pass = filled_due P Q bears UtilArrayFill args p m so pass
-  util_due UtilGetShort pass = short_got_due P args p m
-  util_due UtilMakeShort pass = short_made_due P args p m
-  util_due UtilSetShort pass = short_set_due P Q bears UtilSetShort args p m so pass
+  util_due UtilArrayCompare pass = arrays_compared_due P L args p m
+  util_due UtilArrayCopy pass = copied_due P L Q turns UtilArrayCopy args p m so pass
+  util_due UtilArrayFill pass = filled_due P L Q turns UtilArrayFill args p m so pass
+  util_due UtilGetShort pass = short_got_due P L args p m
+  util_due UtilMakeShort pass = short_made_due P L args p m
+  util_due UtilSetShort pass = short_set_due P L Q turns UtilSetShort args p m so pass
   util_due _ pass = tt
+
+  aids_due : (method : PlatformMethod) → MethodPasses P method args p m → IsPlainCall P L (aid_call method args p m) m
+  unfolding aid_call
+  aids_due AidInit pass = aid_made_due P L Q turns AidInit args p m so pass refl
+  aids_due AidEquals pass = aid_equals_due P L args p m
+  aids_due AidEqualsBytes pass = aid_equals_bytes_due P L args p m
+  aids_due AidGetBytes pass = aid_got_due P L Q turns AidGetBytes args p m so pass
+  aids_due AidRidEquals pass = aid_rid_equals_due P L args p m
+  aids_due AidPartialEquals pass = aid_partial_equals_due P L args p m
+  aids_due AidGetPartialBytes pass = aid_part_got_due P L Q turns AidGetPartialBytes args p m so pass
+  aids_due _ pass = tt
+
+  pins_due : (method : PlatformMethod) → MethodPasses P method args p m → IsPlainCall P L (pin_call method args p m) m
+  unfolding pin_call sets_receiver methods
+  pins_due OwnerPinInit pass = constructed_due P L Q turns OwnerPinInit args p m so pass refl refl
+  pins_due OwnerPinCheck pass = pin_checked_due P L Q turns OwnerPinCheck args p m so pass refl refl
+  pins_due OwnerPinGetTriesRemaining pass = tries_due P L args p m
+  pins_due OwnerPinIsValidated pass = validated_due P L args p m
+  pins_due OwnerPinReset pass = was_reset_due P L Q turns OwnerPinReset args p m so pass refl refl
+  pins_due OwnerPinResetAndUnblock pass = was_unblocked_due P L Q turns OwnerPinResetAndUnblock args p m so pass refl refl
+  pins_due OwnerPinUpdate pass = value_set_due P L Q turns OwnerPinUpdate args p m so pass refl refl
+  pins_due OwnerPinGetValidatedFlag pass = validated_due P L args p m
+  pins_due OwnerPinSetValidatedFlag pass = flag_set_due P L Q turns OwnerPinSetValidatedFlag args p m so pass refl refl
+  pins_due _ pass = tt
+
+  apdus_due : (method : PlatformMethod) → MethodPasses P method args p m → IsPlainCall P L (apdu_call method args p m) m
+  unfolding apdu_call
+  apdus_due ApduGetBuffer pass = buffer_got_due P L args p m refers
+  apdus_due ApduReceiveBytes pass = called_some P L m (short_argument args 1) _ (λ start is. received_more_due P L args p m (phase_of m))
+  apdus_due ApduSendBytes pass = called_some P L m (short_argument args 1) _ (λ start is. called_some P L m (short_argument args 2) _
+      (λ count there. sent_due P L Q turns m so start count))
+  apdus_due ApduSetIncomingAndReceive pass = received_due P L Q turns ApduSetIncomingAndReceive args p m so pass
+  apdus_due ApduSetOutgoing pass = outgoing_due P L Q turns m so
+  apdus_due ApduSetOutgoingAndSend pass = called_some P L m (short_argument args 1) _
+      (λ start is. called_some P L m (short_argument args 2) _ (λ count there. all_sent_due P L Q turns m so start count))
+  apdus_due ApduSetOutgoingLength pass = called_some P L m (short_argument args 1) _ (λ count is. length_due P L Q turns m so count)
+  apdus_due ApduGetIncomingLength pass = while_received_due P L args p m (phase_of m) (cast_signed w16 (length (data_of m.command)))
+  apdus_due ApduGetOffsetCdata pass = while_received_due P L args p m (phase_of m) (pos 5)
+  apdus_due ApduSendBytesLong pass = sent_long_due P L Q turns args p m so
+  apdus_due ApduSetOutgoingNoChaining pass = outgoing_due P L Q turns m so
+  apdus_due ApduGetCurrentApdu pass = current_apdu_due P L args p m refers
+  apdus_due ApduGetCurrentApduBuffer pass = current_buffer_due P L args p m refers
+  apdus_due _ pass = tt
+
+  -- each effect of such a method is due, where those that set cells are, and it answers plainly
+  pub part_called : (part : Part) (method : PlatformMethod) → IsPlainPart part → part_of method ≡ part → MethodPasses P method args p m
+      → IsPlainCall P L (native_call_in part method args p m) m
+  part_called Objects method plain is pass = objects_due method
+  part_called CardExceptions method plain is pass = exceptions_due method is pass
+  part_called Utilities method plain is pass = util_due method pass
+  part_called System method plain is pass = absurd plain
+  part_called Aids method plain is pass = aids_due method pass
+  part_called Pins method plain is pass = pins_due method pass
+  part_called Applets method plain is pass = absurd plain
+  part_called Apdus method plain is pass = apdus_due method pass
+
+module _ (P : Effect → MemoryState → Type 0) (Q : MemoryState → Type 0) (bears : Bears P Q) (args : List Cell) (p : Packages) (m : MemoryState) (so : Q m) where
+  any_so : AnswersSo Anything m
+  any_so = record { buffer = λ r is. tt; apdu = λ r is. tt; aid = λ o. tt; null = tt }
 
   system_due : (method : PlatformMethod) → MethodPasses P method args p m → AllDue P (system_call method args p m) m
   unfolding system_call
   system_due JcSystemAbortTransaction pass = aborted_due P Q bears m so m.registers.depth
   system_due JcSystemBeginTransaction pass = begun_due P Q bears m so m.registers.depth
   system_due JcSystemCommitTransaction pass = committed_due P Q bears m so m.registers.depth
-  system_due JcSystemGetAppletShareableInterfaceObject pass = server_due P args p m
-  system_due JcSystemGetAvailableMemory pass = memory_told_due P args p m
-  system_due JcSystemGetAvailableMemoryShorts pass = memory_set_due P Q bears JcSystemGetAvailableMemoryShorts args p m so pass
-  system_due JcSystemIsAppletActive pass = active_due P args p m
-  system_due JcSystemIsTransient pass = event_due P args p m
-  system_due JcSystemLookupAid pass = looked_up_due P args p m
-  system_due JcSystemMakeTransientBooleanArray pass = transient_due P Q bears JcSystemMakeTransientBooleanArray args p m so pass BooleanArray (λ e. cc)
-  system_due JcSystemMakeTransientByteArray pass = transient_due P Q bears JcSystemMakeTransientByteArray args p m so pass ByteArray (λ e. cc)
-  system_due JcSystemMakeTransientObjectArray pass = transient_due P Q bears JcSystemMakeTransientObjectArray args p m so pass ReferenceArray (λ e. cc)
-  system_due JcSystemMakeTransientShortArray pass = transient_due P Q bears JcSystemMakeTransientShortArray args p m so pass ShortArray (λ e. cc)
+  system_due JcSystemGetAppletShareableInterfaceObject pass = server_due P JcSystemGetAppletShareableInterfaceObject args p m
+  system_due JcSystemGetAvailableMemory pass = effects_due P Anything _ m (memory_told_due P Anything args p m)
+  system_due JcSystemGetAvailableMemoryShorts pass = effects_due P Anything _ m
+      (memory_set_due P Anything Q (turns_of P Q bears) JcSystemGetAvailableMemoryShorts args p m so pass)
+  system_due JcSystemIsAppletActive pass = effects_due P Anything _ m (active_due P Anything args p m)
+  system_due JcSystemIsTransient pass = effects_due P Anything _ m (event_due P Anything args p m)
+  system_due JcSystemLookupAid pass = effects_due P Anything _ m (looked_up_due P Anything args p m any_so)
+  system_due JcSystemMakeTransientBooleanArray pass = transient_due P JcSystemMakeTransientBooleanArray args p m pass BooleanArray (λ e. cc)
+  system_due JcSystemMakeTransientByteArray pass = transient_due P JcSystemMakeTransientByteArray args p m pass ByteArray (λ e. cc)
+  system_due JcSystemMakeTransientObjectArray pass = transient_due P JcSystemMakeTransientObjectArray args p m pass ReferenceArray (λ e. cc)
+  system_due JcSystemMakeTransientShortArray pass = transient_due P JcSystemMakeTransientShortArray args p m pass ShortArray (λ e. cc)
   system_due _ pass = tt
-
-  aids_due : (method : PlatformMethod) → MethodPasses P method args p m → AllDue P (aid_call method args p m) m
-  unfolding aid_call
-  aids_due AidInit pass = aid_made_due P Q bears AidInit args p m so pass refl
-  aids_due AidEquals pass = aid_equals_due P args p m
-  aids_due AidEqualsBytes pass = aid_equals_bytes_due P args p m
-  aids_due AidGetBytes pass = aid_got_due P Q bears AidGetBytes args p m so pass
-  aids_due AidRidEquals pass = aid_rid_equals_due P args p m
-  aids_due AidPartialEquals pass = aid_partial_equals_due P args p m
-  aids_due AidGetPartialBytes pass = aid_part_got_due P Q bears AidGetPartialBytes args p m so pass
-  aids_due _ pass = tt
-
-  pins_due : (method : PlatformMethod) → MethodPasses P method args p m → AllDue P (pin_call method args p m) m
-  unfolding pin_call sets_receiver methods
-  pins_due OwnerPinInit pass = constructed_due P Q bears OwnerPinInit args p m so pass refl refl
-  pins_due OwnerPinCheck pass = pin_checked_due P Q bears OwnerPinCheck args p m so pass refl refl
-  pins_due OwnerPinGetTriesRemaining pass = tries_due P args p m
-  pins_due OwnerPinIsValidated pass = validated_due P args p m
-  pins_due OwnerPinReset pass = was_reset_due P Q bears OwnerPinReset args p m so pass refl refl
-  pins_due OwnerPinResetAndUnblock pass = was_unblocked_due P Q bears OwnerPinResetAndUnblock args p m so pass refl refl
-  pins_due OwnerPinUpdate pass = value_set_due P Q bears OwnerPinUpdate args p m so pass refl refl
-  pins_due OwnerPinGetValidatedFlag pass = validated_due P args p m
-  pins_due OwnerPinSetValidatedFlag pass = flag_set_due P Q bears OwnerPinSetValidatedFlag args p m so pass refl refl
-  pins_due _ pass = tt
 
   applets_due : (method : PlatformMethod) → MethodPasses P method args p m → AllDue P (applet_call method args p m) m
   unfolding applet_call
-  applets_due AppletRegister pass = own_registered_due P Q bears AppletRegister args p m so pass refl
-  applets_due AppletRegisterBytes pass = given_registered_due P Q bears AppletRegisterBytes args p m so pass refl
+  applets_due AppletRegister pass = own_registered_due P AppletRegister args p m pass refl
+  applets_due AppletRegisterBytes pass = given_registered_due P AppletRegisterBytes args p m pass refl
   applets_due _ pass = tt
 
-  apdus_due : (method : PlatformMethod) → MethodPasses P method args p m → AllDue P (apdu_call method args p m) m
-  unfolding apdu_call
-  apdus_due ApduGetBuffer pass = buffer_got_due P args p m
-  apdus_due ApduReceiveBytes pass = call_some P m (short_argument args 1) _ (λ start is. received_more_due P args p m (phase_of m))
-  apdus_due ApduSendBytes pass = call_some P m (short_argument args 1) _ (λ start is. call_some P m (short_argument args 2) _
-      (λ count there. sent_due P Q bears m so start count))
-  apdus_due ApduSetIncomingAndReceive pass = received_due P Q bears ApduSetIncomingAndReceive args p m so pass
-  apdus_due ApduSetOutgoing pass = outgoing_due P Q bears m so
-  apdus_due ApduSetOutgoingAndSend pass = call_some P m (short_argument args 1) _
-      (λ start is. call_some P m (short_argument args 2) _ (λ count there. all_sent_due P Q bears m so start count))
-  apdus_due ApduSetOutgoingLength pass = call_some P m (short_argument args 1) _ (λ count is. length_due P Q bears m so count)
-  apdus_due ApduGetIncomingLength pass = while_received_due P args p m (phase_of m) (cast_signed w16 (length (data_of m.command)))
-  apdus_due ApduGetOffsetCdata pass = while_received_due P args p m (phase_of m) (pos 5)
-  apdus_due ApduSendBytesLong pass = sent_long_due P Q bears args p m so
-  apdus_due ApduSetOutgoingNoChaining pass = outgoing_due P Q bears m so
-  apdus_due ApduGetCurrentApdu pass = current_apdu_due P args p m
-  apdus_due ApduGetCurrentApduBuffer pass = current_buffer_due P args p m
-  apdus_due _ pass = tt
-
   part_due : (part : Part) (method : PlatformMethod) → part_of method ≡ part → MethodPasses P method args p m → AllDue P (native_call_in part method args p m) m
-  part_due Objects method is pass = objects_due method
-  part_due CardExceptions method is pass = exceptions_due method is pass
-  part_due Utilities method is pass = util_due method pass
   part_due System method is pass = system_due method pass
-  part_due Aids method is pass = aids_due method pass
-  part_due Pins method is pass = pins_due method pass
   part_due Applets method is pass = applets_due method pass
-  part_due Apdus method is pass = apdus_due method pass
+  part_due part method is pass = effects_due P Anything (native_call_in part method args p m) m
+      (part_called P Anything Q (turns_of P Q bears) args p m so any_so part method tt is pass)
 
   -- each effect of a method is due, where those that set cells are
   pub method_due : (method : PlatformMethod) → MethodPasses P method args p m → AllDue P (native_call method args p m) m

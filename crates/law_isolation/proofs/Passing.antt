@@ -1,6 +1,6 @@
 -- What is to be shown of something that is to hold of each effect: that it holds of those that instructions and methods of the platform
 -- have, behind the checks that precede them.
-use Rattle.std.proofs.Common.{◌≡◌, ℕ, ◌<◌, ◌≤◌, Bool, true, false, List, [], ◌∷◌, length, Some, None, Result, Ok}
+use Rattle.std.proofs.Common.{◌≡◌, ℕ, ◌<◌, ◌≤◌, Bool, true, false, List, [], ◌∷◌, length, Option, Some, None, Result, Ok}
 use Rattle.std.specs.Prelude.{ℤ}
 use Rattle.jc_transient.specs.declared.cell.CellValue.{CellValue}
 use Rattle.jc_transient.specs.declared.cell.CellValue.TheVariants.{Short}
@@ -10,6 +10,7 @@ use Rattle.jc_heap.specs.declared.object.Kind.TheVariants.{Instance, ReferenceAr
 use Rattle.jc_heap.specs.Heap.{facts}
 use Rattle.jc_heap.specs.Moves.{SetPlaces, WriteNonAtomic, Begin, Commit, Abort}
 use Rattle.jc_memory.specs.declared.making.NewObject.{NewObject}
+use Rattle.jc_memory.specs.declared.registers.AppletNumber.{AppletNumber}
 use Rattle.jc_memory.specs.declared.registers.Registers.{Registers}
 use Rattle.jc_memory.specs.State.{MemoryState, Effect, HeapMove, SetTransient, SetFlag, SetRegisters, SendBytes, apply_effect}
 use Rattle.jc_memory.specs.Cells.{cell_effect, cells_effect, word_of}
@@ -43,10 +44,12 @@ use Rattle.jc_world.specs.Making.{new_on_top}
 use Rattle.jc_world.specs.Types.{class_named}
 use Rattle.jc_world.specs.Values.{keepable, value_on}
 use Rattle.jc_api_runtime.specs.AidCells.{cells_of_aid, is_aid_length}
-use Rattle.jc_api_data.specs.ApduBuffer.{data_of}
+use Rattle.jc_api_data.specs.ApduBuffer.{buffer_of, data_of}
+use Rattle.jc_api_data.specs.ApduCurrent.{apdu_object}
 use Rattle.jc_api_runtime.specs.Applet.{install_aid}
 use Rattle.jc_api_runtime.specs.Register.{open_installation, registration}
 use Rattle.jc_api_data.specs.OwnerPinArguments.{is_own_value}
+use Rattle.jc_api_runtime.specs.SystemSharing.{aid_or_null}
 use Rattle.jc_api_runtime.specs.SystemTransient.{requested_array}
 use Rattle.jc_interp_objects.specs.declared.array_elements.Element.{Element}
 use Rattle.jc_interp_objects.specs.ArrayElements.{element_value}
@@ -77,6 +80,23 @@ pub record Bears (P : Effect → MemoryState → Type 0) (Q : MemoryState → Ty
   pub commits : (m : MemoryState) → Q m → m.heap.begun ≡ true → open_installation m.registers.installation ≡ None → P (HeapMove Commit) m
   pub aborts : (m : MemoryState) → m.heap.begun ≡ true → P (HeapMove Abort) m
   pub sends : (bytes : List ℕ) (m : MemoryState) → P (SendBytes bytes) m
+
+-- the same of a call that neither begins nor ends a transaction
+pub record Turns (P : Effect → MemoryState → Type 0) (Q : MemoryState → Type 0) : Type 0 where
+  pub keeps : (e : Effect) (m : MemoryState) → P e m → Q m → Q (apply_effect e m)
+  pub turns : (g : Registers) (m : MemoryState) → Q m → g.active ≡ m.registers.active → g.installation ≡ m.registers.installation
+      → g.selected ≡ m.registers.selected → P (SetRegisters g) m
+  pub sends : (bytes : List ℕ) (m : MemoryState) → P (SendBytes bytes) m
+
+pub turns_of : (P : Effect → MemoryState → Type 0) (Q : MemoryState → Type 0) → Bears P Q → Turns P Q
+turns_of P Q bears = record { keeps = bears.keeps; turns = bears.turns; sends = bears.sends }
+
+-- so it is of the references that methods answer: the APDU buffer, the APDU object, the AID object of an applet, and null
+pub record AnswersSo (L : ℕ → Type 0) (m : MemoryState) : Type 0 where
+  pub buffer : (r : ℕ) → buffer_of m ≡ Some r → L r
+  pub apdu : (r : ℕ) → apdu_object m ≡ Some r → L r
+  pub aid : (o : Option AppletNumber) → L (aid_or_null m.heap.now o)
+  pub null : L 0
 
 -- a PIN, on which a method of OwnerPIN is called that sets cells of it
 pub record IsPinCall (method : PlatformMethod) (args : List Cell) (m : MemoryState) (pin : ℕ) : Type 0 where

@@ -1,5 +1,6 @@
 -- How calls leave a memory: those that are still, and the words in which calls are defined.
-use Rattle.std.proofs.Common.{◌≡◌, Bool, true, false, List, [], ◌∷◌, Option, Some, None, Result, Ok, Err, refl, sym, subst, if◌then◌else◌}
+use Rattle.std.proofs.Common.{◌≡◌, Bool, true, false, List, [], ◌∷◌, Option, Some, None, Result, Ok, Err, refl, sym, ◌∙◌, subst, if◌then◌else◌}
+use Rattle.jc_frames.specs.declared.cell.Cell.TheVariants.{Short, Reference, ReturnAddress}
 use Rattle.jc_frames.specs.declared.outcome.FrameExit.{FrameExit}
 use Rattle.jc_frames.specs.declared.outcome.FrameExit.TheVariants.{Throw, End}
 use Rattle.jc_frames.specs.Frames.{Caller}
@@ -10,15 +11,17 @@ use Rattle.jc_linker.specs.Values.{Packages}
 use Rattle.jc_world.specs.declared.native_result.NativeResult.{NativeResult}
 use Rattle.jc_world.specs.declared.native_result.NativeResult.TheVariants.{ReturnVoid, ReturnValue, CallServer, Aborted}
 use Rattle.jc_heap.specs.declared.refusal.HeapRefusal.{HeapRefusal}
+use Rattle.jc_heap.specs.Whole.{IsReference}
 use Rattle.jc_world.specs.NativeCalls.{NativeProgram, if_some, if_ok, unless}
 use Rattle.law_soundness.specs.Fit.{IsFit, KeepsSound}
 use Rattle.law_soundness.specs.State.{IsSoundMemory, IsSteady, is_owner_up_to, most_owner}
 use Rattle.law_soundness.specs.LocalEffects.{LocalEffectsStay}
 use Rattle.law_soundness.specs.Machines.{KnowOwners}
 use Rattle.law_soundness.specs.Calls.{IsCallResult, IsReadyAgain}
-use Rattle.law_soundness.proofs.Exits.{FaultsOnly, plain_living}
-use Rattle.law_soundness.proofs.Living.{cell_kept}
-use Rattle.law_soundness.proofs.Still.{IsLike, IsStillAnswer, IsStillCall, still_calm}
+use Rattle.law_isolation.proofs.Due.{IsPlainAnswer, IsPlainCall}
+use Rattle.law_isolation.proofs.Exits.{FaultsOnly}
+use Rattle.law_soundness.proofs.Living.{plain_living}
+use Rattle.law_soundness.proofs.Still.{IsStill}
 use Rattle.law_soundness.proofs.LocalEffects.{same_known}
 
 pub same_owners : (m n : MemoryState) → n.heap.now.packages ≡ m.heap.now.packages → most_owner n ≡ most_owner m → (callers : List Caller) → KnowOwners callers m
@@ -35,36 +38,39 @@ same_owners m n packages most (c ∷ callers) known = (
 pub stays : (m : MemoryState) → IsSteady m → IsReadyAgain m m
 stays m steady = record { again = record { steady = steady; owners = λ callers known. known; active = refl }; references = λ r refers. refers }
 
--- a memory that was left so after a call that is still
-pub left_so : (m n : MemoryState) (answer : Result NativeResult FrameExit) → IsStillAnswer m answer → IsReadyAgain m n → IsCallResult m answer n
-left_so m n (Ok ReturnVoid) still stands = stands
-left_so m n (Ok (ReturnValue cell)) still stands = (stands, cell_kept m.heap.now n.heap.now stands.references cell still)
-left_so m n (Ok (CallServer asked)) still stands = absurd still
-left_so m n (Ok Aborted) still stands = absurd still
-left_so m n (Err (Throw e)) still stands = stands
-left_so m n (Err (End o)) still stands = plain_living n.heap.now o still
+-- a memory that was left so after a call that answers plainly, with references to what was there
+pub left_so : (m n : MemoryState) (answer : Result NativeResult FrameExit) → IsPlainAnswer (IsReference m.heap.now) answer → IsReadyAgain m n
+    → IsCallResult m answer n
+left_so m n (Ok ReturnVoid) plain stands = stands
+left_so m n (Ok (ReturnValue (Short v))) plain stands = (stands, tt)
+left_so m n (Ok (ReturnValue (Reference r))) plain stands = (stands, stands.references r plain)
+left_so m n (Ok (ReturnValue (ReturnAddress a))) plain stands = (stands, tt)
+left_so m n (Ok (CallServer asked)) plain stands = absurd plain
+left_so m n (Ok Aborted) plain stands = absurd plain
+left_so m n (Err (Throw e)) plain stands = stands
+left_so m n (Err (End o)) plain stands = plain_living n.heap.now o plain
 
--- calls that are still
+-- a call that is still, and answers plainly
+abbrev pub IsStillCall : MemoryState → NativeProgram → Type 0
+IsStillCall m d = IsPlainCall IsStill (IsReference m.heap.now) d m
+
 module _ (keeps : KeepsSound) (calm : LocalEffectsStay) (p : Packages) (m : MemoryState) where
-  still_each : (d : NativeProgram) (v : MemoryState) → IsStillCall m d → AllDue (IsFit p) d v → IsSoundMemory p v → IsLike m v
+  still_each : (d : NativeProgram) (v : MemoryState) → IsPlainCall IsStill (IsReference m.heap.now) d v → AllDue (IsFit p) d v → IsSoundMemory p v
       → IsReadyAgain m v → AllResults d v (IsCallResult m)
-  still_each (Finish answer) v still due sound like stands = left_so m v answer still stands
-  still_each (Perform e rest) v still due sound like stands =
-      let now = still_calm m e v still.0 like in
-      still_each rest (apply_effect e v) still.1 due.1 (keeps p e v due.0 sound) now.1
-      (record {
-        again = record {
-          steady = calm.steady e v now.0 sound.settled (stands.again).steady;
-          owners = λ callers known. calm.owners e v callers now.0 sound.settled ((stands.again).owners callers known);
-          active = now.1.active;
-        };
-        references = λ r refers. calm.references e v now.0 sound.whole.now r (stands.references r refers);
-      })
-  still_each (Choose choose) v still due sound like stands = λ r new. still_each (choose r) v (still r) (due r new) sound like stands
-  still_each (Either x y) v still due sound like stands = (still_each x v still.0 due.0 sound like stands, still_each y v still.1 due.1 sound like stands)
+  still_each (Finish answer) v call due sound stands = left_so m v answer call stands
+  still_each (Perform e rest) v call due sound stands = still_each rest (apply_effect e v) call.1 due.1 (keeps p e v due.0 sound) (record {
+    again = record {
+      steady = calm.steady e v call.0.0 sound.settled (stands.again).steady;
+      owners = λ callers known. calm.owners e v callers call.0.0 sound.settled ((stands.again).owners callers known);
+      active = call.0.1 ∙ (stands.again).active;
+    };
+    references = λ r refers. calm.references e v call.0.0 sound.whole.now r (stands.references r refers);
+  })
+  still_each (Choose choose) v call due sound stands = λ r new. still_each (choose r) v (call r new) (due r new) sound stands
+  still_each (Either x y) v call due sound stands = (still_each x v call.0 due.0 sound stands, still_each y v call.1 due.1 sound stands)
 
   pub still_left : IsSoundMemory p m → IsSteady m → (d : NativeProgram) → IsStillCall m d → AllDue (IsFit p) d m → AllResults d m (IsCallResult m)
-  still_left sound steady d still due = still_each d m still due sound (record { active = refl; installation = refl }) (stays m steady)
+  still_left sound steady d call due = still_each d m call due sound (stays m steady)
 
 -- calls, by what their checks give
 module _ (m : MemoryState) where

@@ -35,13 +35,7 @@ pub mod Arguments
 pub mod Calls
 pub mod Instructions
 pub mod LocalEffects
-pub mod Exits
-pub mod NativeExits
 pub mod Still
-pub mod Util
-pub mod Aids
-pub mod Apdus
-pub mod CalledPins
 pub mod Leaving
 pub mod Registered
 pub mod System

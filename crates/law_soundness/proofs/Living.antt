@@ -12,9 +12,11 @@ use Rattle.jc_frames.specs.declared.cell.Cell.TheVariants.{Short, Reference, Ret
 use Rattle.jc_frames.specs.Cells.{as_reference, cell_on, reference_on, short_on, storable_on, two_references_on, two_shorts_on, without_dead}
 use Rattle.jc_frames.specs.Calls.{arguments_on, caller_without_dead, first_frame, frame_without_dead}
 use Rattle.jc_frames.specs.declared.method.Origin.{Origin}
+use Rattle.jc_frames.specs.declared.outcome.FrameExit.TheVariants.{End}
 use Rattle.jc_frames.specs.declared.outcome.Outcome.{Outcome}
 use Rattle.jc_frames.specs.declared.outcome.Outcome.TheVariants as ends
 use Rattle.jc_frames.specs.Frames.{Caller, Frame}
+use Rattle.law_isolation.proofs.Exits.{IsPlainExit}
 use Rattle.law_isolation.proofs.Receivers.{args_are}
 use Rattle.law_soundness.specs.Living.{AreLivingCallers, AreLivingCells, IsLivingCell, IsLivingFrame, IsLivingOutcome, KeepsReferences}
 use Rattle.law_soundness.specs.Living.{KeepsReferencesBelow}
@@ -33,6 +35,14 @@ module _ (h : HeapState) where
 
   pub none_living : AreLivingCells h []
   none_living = All-nil IsLiving
+
+  -- an exception or a code fault
+  pub plain_living : (o : Outcome) → IsPlainExit (End o) → IsLivingOutcome h o
+  plain_living ends.Void plain = tt
+  plain_living (ends.Short v) plain = tt
+  plain_living (ends.Reference r) plain = absurd plain
+  plain_living (ends.Thrown r) plain = absurd plain
+  plain_living ends.Fault plain = tt
 
   -- ---- what is taken from a stack, and what is left there
 

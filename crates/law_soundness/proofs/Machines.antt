@@ -30,8 +30,8 @@ use Rattle.law_soundness.specs.Methods.{KnowsMethods}
 use Rattle.law_soundness.specs.Steps.{AsksFit, CallsFit, HasSoundCallers, InstructionsFit, IsSoundInvoke, LeavesFit}
 use Rattle.law_soundness.specs.Calls.{NativesLeave}
 use Rattle.law_soundness.specs.Soundness.{IsSoundNext}
-use Rattle.law_soundness.proofs.Exits.{FaultsOnly, IsPlainExit, plain_living}
-use Rattle.law_soundness.proofs.Living.{callers_kept, frame_kept, outcome_kept}
+use Rattle.law_isolation.proofs.Exits.{FaultsOnly, IsPlainExit}
+use Rattle.law_soundness.proofs.Living.{callers_kept, frame_kept, outcome_kept, plain_living}
 use Rattle.law_soundness.proofs.Quiet.{IsWithin, Keeps, Stays, quiet_calm, quiet_registers, without_cells}
 
 -- a method of the platform that a package's method calls is called on an object that it may be called on

@@ -17,8 +17,8 @@ use Rattle.jc_frames.specs.Frames.{Caller, Frame, Frames, Next, GoesOn, Throws, 
 use Rattle.jc_world.specs.Instructions.{if_ok, if_some, exit_of, unless}
 use Rattle.law_soundness.specs.Living.{AreLivingCells, IsLivingFrame, IsLivingOutcome}
 use Rattle.law_soundness.specs.LocalEffects.{AreElsewhere, IsLocalEffect, IsElsewhere}
-use Rattle.law_soundness.proofs.Exits.{FaultsOnly, IsPlainExit, plain_living}
-use Rattle.law_soundness.proofs.Living.{none_living}
+use Rattle.law_isolation.proofs.Exits.{FaultsOnly, IsPlainExit}
+use Rattle.law_soundness.proofs.Living.{none_living, plain_living}
 
 -- calm in each memory, and no turn of the registers
 abbrev pub IsQuiet : Effect → Type 0

@@ -30,7 +30,7 @@ use Rattle.law_soundness.specs.State.{IsSoundMemory, IsSteady, is_open, most_own
 use Rattle.law_soundness.proofs.Frames.{object_frames, places_headers, run_frames, run_headers}
 use Rattle.law_soundness.proofs.References.{headers_keep}
 use Rattle.law_soundness.specs.Calls.{IsCallResult, IsReadyAgain}
-use Rattle.law_soundness.proofs.NativeExits.{plain_bytes, plain_elements, plain_registration}
+use Rattle.law_isolation.proofs.NativeExits.{plain_bytes, plain_elements, plain_registration}
 use Rattle.law_soundness.proofs.Leaving.{left_if, left_ok, left_some, same_owners, stays}
 
 -- an applet may be registered only while it is being installed

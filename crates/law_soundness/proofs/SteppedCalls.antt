@@ -54,7 +54,7 @@ use Rattle.law_soundness.specs.Steps.{IsSoundInvoke}
 use Rattle.law_soundness.specs.Soundness.{AreKnown, IsSoundNext}
 use Rattle.law_soundness.proofs.Machines.{Given, HasCallers, IsLed, IsOthers, IsSoundUnder, callers_in_frame, callers_next, led_if, led_ok, led_some}
 use Rattle.law_soundness.proofs.Machines.{machine_like, under_after, under_of}
-use Rattle.law_soundness.proofs.Exits.{plain_selection}
+use Rattle.law_isolation.proofs.Exits.{plain_selection}
 use Rattle.law_soundness.proofs.Living.{arguments_living, callers_kept, callers_nulled, first_living, frame_kept, frame_nulled, reverse_living}
 use Rattle.law_soundness.proofs.Plain.{keeps_pushed, keeps_stored}
 use Rattle.law_soundness.proofs.Quiet.{with_cells, without_cells}

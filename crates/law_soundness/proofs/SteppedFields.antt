@@ -35,7 +35,7 @@ use Rattle.law_soundness.specs.State.{IsSoundMemory}
 use Rattle.law_soundness.proofs.Living.{mapped_some, more_living, reference_taken, short_taken}
 use Rattle.law_soundness.proofs.Loads.{field_living, static_living}
 use Rattle.law_soundness.proofs.RunStatics.{static_is}
-use Rattle.law_soundness.proofs.Exits.{plain_field, plain_keepable}
+use Rattle.law_isolation.proofs.Exits.{plain_field, plain_keepable}
 use Rattle.law_soundness.proofs.Quiet.{Stays, quiet_sets, stays_if, stays_ok, stays_some, stays_unless, with_cells}
 
 -- what is below a value that is taken from a stack

@@ -40,7 +40,7 @@ use Rattle.jc_heap.specs.Whole.{IsReference}
 use Rattle.law_isolation.proofs.Reaching.{header_is}
 use Rattle.law_soundness.specs.Living.{AreLivingCells, IsLivingCell, IsLivingFrame, IsLivingOutcome}
 use Rattle.law_soundness.specs.Soundness.{IsSoundNext}
-use Rattle.law_soundness.proofs.Exits.{plain_check, plain_firewall, plain_object}
+use Rattle.law_isolation.proofs.Exits.{plain_check, plain_firewall, plain_object}
 use Rattle.law_soundness.proofs.Living.{mapped_some, none_living, reference_taken}
 use Rattle.law_soundness.proofs.Machines.{Given, IsLed, IsOthers, IsSoundUnder, MayRun, callers_in_frame, callers_next, led_if, led_ok, led_some, under_after}
 use Rattle.law_soundness.proofs.Machines.{within_next}

@@ -50,7 +50,7 @@ use Rattle.law_soundness.proofs.Loads.{element_comes}
 use Rattle.law_soundness.proofs.Machines.{Given, IsLed, IsSoundUnder, MayRun, led_ok, led_some, led_stopped, led_unless, machine_like, stayed_led, under_after}
 use Rattle.law_soundness.proofs.Machines.{under_of}
 use Rattle.law_soundness.proofs.SteppedFields.{topped, value_taken}
-use Rattle.law_soundness.proofs.Exits.{plain_array, plain_element, plain_element_value, plain_index, plain_keepable, plain_size, plain_type}
+use Rattle.law_isolation.proofs.Exits.{plain_array, plain_element, plain_element_value, plain_index, plain_keepable, plain_size, plain_type}
 use Rattle.law_soundness.proofs.Quiet.{Stays, quiet_sets, stays_if, stays_ok, stays_some, stays_stopped, stays_unless, with_cells}
 
 -- ---- what is in an array comes onto the stack, or what is there goes into it

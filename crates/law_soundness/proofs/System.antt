@@ -1,4 +1,4 @@
--- Calls of JCSystem: what is still, and who is asked.
+-- Calls of JCSystem: new arrays, and who is asked.
 use Rattle.std.proofs.Common.{◌≡◌, ℕ, ◌+◌, ◌≤◌, Bool, true, false, inl, inr, List, Option, Some, None, refl, ap, arith, if◌then◌else◌}
 use Rattle.std.proofs.lemmas.Bool.{and_parts, le-leb, leb-true, ltb-true, or_left, or_right}
 use Rattle.std.proofs.lemmas.Option.{none-some}
@@ -39,67 +39,30 @@ use Rattle.law_soundness.specs.Calls.{IsCallResult}
 use Rattle.law_soundness.specs.LocalEffects.{LocalEffectsStay}
 use Rattle.law_soundness.proofs.Leaving.{left_if, left_ok, left_some, left_unless, stays}
 use Rattle.law_soundness.proofs.Registered.{or_null_refers, server_refers}
-use Rattle.law_soundness.proofs.Exits.{plain_firewall}
-use Rattle.law_soundness.proofs.NativeExits.{plain_available, plain_bytes, plain_elements, plain_requested, plain_shorts, plain_two_within}
-use Rattle.law_soundness.proofs.Still.{IsStillAnswer, IsStillCall, still_if, still_ok, still_sets_run, still_some, still_unless}
+use Rattle.law_isolation.proofs.NativeExits.{plain_requested}
 use Rattle.law_soundness.proofs.SteppedObjects.{creation_local, new_there}
 
-module _ (args : List Cell) (p : Packages) (m : MemoryState) (sound : IsSoundMemory p m) where
-  pub event_still : IsStillCall m (jc_system_is_transient args m)
-  unfolding jc_system_is_transient
-  event_still = still_some m (reference_argument args 0) _ (λ r. still_if m (IsStillAnswer m) (r == 0) _ _ tt (still_some m (header_at m r) _ (λ f. tt)))
+-- a new array is there
+module _ (args : List Cell) (p : Packages) (m : MemoryState) (sound : IsSoundMemory p m) (calm : LocalEffectsStay) (steady : IsSteady m) where
+  made_left : (o : NewObject) → AllResults (object_creation o (λ r. return_value (ReturnValue (Reference r)))) m (IsCallResult m)
+  made_left o r new =
+      let e = HeapMove (creation_move o.event o) in
+      let local = creation_local o.event o m in (
+        record {
+          again = record {
+            steady = calm.steady e m local sound.settled steady;
+            owners = λ callers known. calm.owners e m callers local sound.settled known;
+            active = refl;
+          };
+          references = calm.references e m local sound.whole.now;
+        },
+        inr (new_there o.event o m r new),
+      )
 
-  pub active_still : IsStillCall m (jc_system_is_applet_active args p m)
-  unfolding jc_system_is_applet_active
-  active_still = still_some m (reference_argument args 0) _ (λ aid. still_if m (IsStillAnswer m) (aid == 0) _ _ tt
-      (still_some m (header_at m aid) _ (λ f. still_if m (IsStillAnswer m) (is_instance_of p f (class_word p.platform Aid)) _ _ tt tt)))
-
-  pub memory_told_still : IsStillCall m (jc_system_get_available_memory args m)
-  unfolding jc_system_get_available_memory
-  memory_told_still = still_some m (short_argument args 0) _ (λ type. still_ok m (available_bytes m type) _ (plain_available m type) (λ count. tt))
-
-  pub memory_set_still : IsStillCall m (jc_system_get_available_memory_shorts args p m)
-  unfolding jc_system_get_available_memory_shorts
-  memory_set_still = still_some m (reference_argument args 0) _ (λ array. still_some m (short_argument args 1) _ (λ start.
-      still_some m (short_argument args 2) _ (λ type. still_ok m (shorts_argument m array) _ (plain_shorts m array) (λ f.
-      still_ok m (firewall_check ArrayElement p m f) _ (plain_firewall ArrayElement p m f) (λ u.
-      still_ok m (first_of_two f.length (not_negative start)) _ (plain_two_within f.length (not_negative start)) (λ i.
-      still_ok m (available_bytes m type) _ (plain_available m type) (λ count.
-      still_unless m (cells_refusal m array i (shorts_of_count count)) _ (still_sets_run m m array i (shorts_of_count count), tt))))))))
-
-  found_refers : (b : Bool) (o : Option AppletNumber) → IsReference m.heap.now (if b then aid_or_null m.heap.now o else 0)
-  found_refers true o = or_null_refers p m sound o
-  found_refers false o = inl refl
-
-  pub looked_up_still : IsStillCall m (jc_system_lookup_aid args p m)
-  unfolding jc_system_lookup_aid
-  looked_up_still = still_some m (reference_argument args 0) _ (λ array. still_some m (short_argument args 1) _
-      (λ start. still_some m (short_argument args 2) _ (λ count.
-      still_ok m (bytes_argument m array) _ (plain_bytes m array) (λ argument. still_ok m (elements_of p m array argument start count) _
-      (plain_elements p m array argument start count)
-      (λ e. found_refers (is_aid_length e.count) (applet_with_aid m (bytes_in m e)))))))
-
-  -- a new array is there
-  module _ (calm : LocalEffectsStay) (steady : IsSteady m) where
-    made_left : (o : NewObject) → AllResults (object_creation o (λ r. return_value (ReturnValue (Reference r)))) m (IsCallResult m)
-    made_left o r new =
-        let e = HeapMove (creation_move o.event o) in
-        let local = creation_local o.event o m in (
-          record {
-            again = record {
-              steady = calm.steady e m local sound.settled steady;
-              owners = λ callers known. calm.owners e m callers local sound.settled known;
-              active = refl;
-            };
-            references = calm.references e m local sound.whole.now;
-          },
-          inr (new_there o.event o m r new),
-        )
-
-    pub array_left : (kind : Kind) → AllResults (jc_system_make_transient_array kind args p m) m (IsCallResult m)
-    unfolding jc_system_make_transient_array
-    array_left kind = left_some m (short_argument args 0) _ (λ count there. left_some m (short_argument args 1) _ (λ event is.
-        left_ok m steady (requested_array kind count event p m) _ (plain_requested kind count event p m) (λ o asked. left_unless m steady (creation_refusal m o) _ (made_left o))))
+  pub array_left : (kind : Kind) → AllResults (jc_system_make_transient_array kind args p m) m (IsCallResult m)
+  unfolding jc_system_make_transient_array
+  array_left kind = left_some m (short_argument args 0) _ (λ count there. left_some m (short_argument args 1) _ (λ event is.
+      left_ok m steady (requested_array kind count event p m) _ (plain_requested kind count event p m) (λ o asked. left_unless m steady (creation_refusal m o) _ (made_left o))))
 
 -- an applet of which there is an instance is there
 entered_in : (b : Bool) (n server : ℕ) (e : AppletEntry) → option_map (λ x. x.instance) (if b then Some e else None) ≡ Some server → b ≡ true

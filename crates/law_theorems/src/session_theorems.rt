@@ -38,8 +38,9 @@ pub fn sessions_change_tries_by_pin_calls_alone()
 
 /// Behind `stop K`, until the fuse is armed again, and while the store below refuses no write by itself, no write is
 /// refused, at most K more pass, and the fuse stands K writes ahead of those that had passed; or exactly one is, when K
-/// more have passed, and burns the fuse out. A reset in between changes nothing of that, and its own writes count. The
-/// store must let no more writes pass than its fuse does, as each `FuseStore` tells where it counts them.
+/// more have passed, and burns the fuse out. A reset in between changes nothing of that, and its own writes count. That
+/// the store lets no more writes pass than its fuse does is a premise that each store meets (`WordStore::passed_writes`),
+/// and that `run_script` tells of the one that it gives back.
 pub fn fuses_cut_where_they_were_set()
     ensures { FusesCut }
 {}

@@ -4,6 +4,7 @@ use crate::moves::{Move, ends, read_moves};
 use crate::recoveries::recover_deep;
 use crate::sessions::run_session;
 use crate::words::{Store, store_of, words_of};
+use jc_words::WordStore;
 use std::alloc::{AllocError, Global};
 
 /// The words of an image, commands for its card, the moves that they say they make, and how many writes a recovery is after
@@ -168,7 +169,7 @@ impl Cuts {
             return Ok(None);
         };
         Ok(Some(Ran {
-            writes: store.passed(),
+            writes: store.passed_writes(),
             words: store.into_store().into_words(),
             printed,
         }))

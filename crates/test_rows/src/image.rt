@@ -59,7 +59,7 @@ impl Image {
             ImageOrder::Undo => self.undo(alloc),
             ImageOrder::Changed(is_outside) => self.told_changes(alloc, is_outside),
             ImageOrder::Passed => {
-                let passed = self.store.passed();
+                let passed = self.store.passed_writes();
                 format!(in alloc; "{passed}")
             }
         }

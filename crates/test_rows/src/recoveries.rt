@@ -3,6 +3,7 @@ use crate::copies::first_unlike;
 use crate::words::{store_of, word_at};
 use jc_session::card::card::{Card, USUAL_BUDGET};
 use jc_session::card::power_up::PowerFault;
+use jc_words::WordStore;
 use jc_words::layout::COUNT;
 use std::alloc::{AllocError, Global};
 
@@ -102,7 +103,7 @@ fn recover(alloc: Global, words: &[u16], writes: u64) -> Result<Recovery, AllocE
     match Card::power_up(alloc, store, USUAL_BUDGET) {
         Ok(card) => {
             let store = card.into_store();
-            let passed = store.passed();
+            let passed = store.passed_writes();
             Ok(Recovery::Whole(store.into_store().into_words(), passed))
         }
         Err((PowerFault::NoMemory, _)) => Err(AllocError),

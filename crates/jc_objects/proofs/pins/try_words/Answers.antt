@@ -12,6 +12,6 @@ pub returns-in-Ok : goal.returns-in-Ok
 returns-in-Ok c =
     let words = c.args.words.items in
     let plain = c.in-Ok.image.plain in
-    let same = ap (λ (s : State). s.plain) c.in-Ok.ensures.ok ∙ ap (λ (m : MemStoreValue). migrated 3 (recovered_of m.words)) c.of.ensures in
+    let same = ap (λ (s : State). s.plain) c.in-Ok.ensures.recovered ∙ ap (λ (m : MemStoreValue). migrated 3 (recovered_of m.words)) c.of.ensures in
     IfOk-weaker c.try_words_of.result (λ found. AreTriesOf plain found.items) (λ found. AreTriesIn words found.items)
     (λ found told. tries_told words plain found.items same told) c.try_words_of.ensures

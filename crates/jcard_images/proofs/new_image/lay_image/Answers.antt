@@ -1,28 +1,38 @@
-use Rattle.std.proofs.Common.{◌≡◌, ◌∙◌, ap, length, refl}
+use Rattle.std.proofs.Common.{◌≡◌, ◌∙◌, Ok, Err, ap, length, refl, subst}
 use Rattle.jc_words.specs.Count.{saturating_count}
 use Rattle.jc_words.specs.Refusals.{Refusals}
 use Rattle.jc_words.specs.Stores.{store_value}
 use Rattle.jc_words.proofs.Refusals.{count-refused_once}
+use Rattle.jc_card.specs.Formatting.{Formats}
 use Rattle.jcard_files.specs.FileDeeds.{untouched}
 use Rattle.jcard_files.proofs.Stores.{fresh_untouched}
-use Rattle.jcard_images.proofs.NewImages.{laid_with, stopped_words}
+use Rattle.jcard_images.proofs.NewImages.{laid_new, laid_with, stopped_words}
 use Rattle.jcard_images.proofs.new_image.lay_image.Goals as goal
+
+pub returns-in-Ok : goal.returns-in-Ok
+returns-in-Ok g c =
+    let s = g.S.WordStore in
+    let came : Formats s.words s.down s.passed s.refusals c.args.store c.args.capacity c.args.text.now c.format-store.result.0 (Ok tt)
+    = subst (λ r. Formats s.words s.down s.passed s.refusals c.args.store c.args.capacity c.args.text.now c.format-store.result.0 r) c.in-Ok.is c.format-store.ensures in (
+      laid_new s.words s.down s.passed s.refusals c.args.store c.format-store.result.0 c.args.capacity c.args.text.now came,
+      came.2.is_up,
+      ap (λ (r : Refusals). r.count) (came.2.none_refused ∙ c.requires.none_refused),
+    )
 
 pub returns-in-Err : goal.returns-in-Err
 returns-in-Err g c =
     let s = g.S.WordStore in
     let words = s.words c.args.store in
     let after = c.format-store.result.0 in
-    let f = c.format-store.ensures in
-    let kept = rw c.in-Err.is at f.kept in
-    laid_with c.args.image.now (length words) c.args.capacity c.args.text.now c.format-store.result.1 c.in-Err.cause c.format_fault.result
-    (store_value s.words s.down s.passed s.refusals after)
-    c.in-Err.is c.requires.table c.requires.enough c.requires.journal f.bad_size.0 (λ e. (f.bad_capacity.0 e).1) (λ k e. ((f.bad_table k).0 e).2) (λ e. (f.too_small.0 e).2)
-    (λ h. ap (λ t. store_value s.words s.down s.passed s.refusals t) (kept (λ e. h (c.in-Err.is ∙ e)))
+    let came : Formats s.words s.down s.passed s.refusals c.args.store c.args.capacity c.args.text.now after (Err c.in-Err.cause)
+    = subst (λ r. Formats s.words s.down s.passed s.refusals c.args.store c.args.capacity c.args.text.now after r) c.in-Err.is c.format-store.ensures in
+    laid_with s.words s.down s.passed s.refusals c.args.store after c.args.capacity c.args.text.now c.args.image.now c.in-Err.cause c.format_fault.result
+    (store_value s.words s.down s.passed s.refusals after) came c.requires.table c.requires.enough c.requires.journal
+    (λ same. ap (λ t. store_value s.words s.down s.passed s.refusals t) same
     ∙ (fresh_untouched words _ _ _ c.requires.up c.requires.none_passed c.requires.none_refused ∙ ap untouched c.requires.zeros))
-    (λ e. let stopped = f.stopped e in (
-      stopped.0,
-      ap (λ (r : Refusals). r.count) stopped.1 ∙ (count-refused_once _ _ _ ∙ ap (λ (r : Refusals). saturating_count r.count 1) c.requires.none_refused),
-      stopped_words (length words) words (s.words after) (s.words after) refl c.requires.zeros stopped.2,
+    (λ stopped. (
+      stopped.is_down,
+      ap (λ (r : Refusals). r.count) stopped.one_refused ∙ (count-refused_once _ _ _ ∙ ap (λ (r : Refusals). saturating_count r.count 1) c.requires.none_refused),
+      stopped_words (length words) words (s.words after) (s.words after) refl c.requires.zeros stopped.unmarked,
     ))
     c.format_fault.ensures

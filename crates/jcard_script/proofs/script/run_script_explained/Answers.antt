@@ -8,5 +8,5 @@ pub returns-in-Err-clause-script : goal.returns-in-Err-clause-script
 returns-in-Err-clause-script g c =
     let fails = rw c.in-Err.is at c.start-session.ensures.fault in
     let store = failed_store c.args.budget (state_of_held c.start-session.result.0.held) c.args.fuse fails.0 c.into_store.result c.in-Err.fault fails.1 fails.2
-    c.into_store.ensures in
+    c.into_store.ensures.store in
     ([], [], false, consumes_same _, appends_same _, tt, inl (store, refl, refl))

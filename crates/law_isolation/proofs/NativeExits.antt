@@ -33,7 +33,7 @@ use Rattle.jc_api_runtime.specs.Register.{aid_cells, installation_in_transaction
 use Rattle.jc_api_runtime.specs.Register.{touched_by_registration, unless_full}
 use Rattle.jc_api_runtime.specs.SystemMemory.{available_bytes, first_of_two, if_shorts, if_shorts_there, shorts_argument}
 use Rattle.jc_api_runtime.specs.SystemTransient.{allowed_event, event_named, if_usable, length_in, own_array, requested_array}
-use Rattle.law_soundness.proofs.Exits.{FaultsOnly, plain_firewall, plain_if, plain_object, plain_some, plain_then}
+use Rattle.law_isolation.proofs.Exits.{FaultsOnly, plain_firewall, plain_if, plain_object, plain_some, plain_then}
 
 -- ---- arrays and instances
 

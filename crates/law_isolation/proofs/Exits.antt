@@ -2,7 +2,6 @@
 use Rattle.std.specs.Prelude.{ℕ, ℤ, pos, negsuc, ◌/◌, ◌^◌, ◌==◌, nat_lt, not, Bool, true, false, List, Option, Some, None, Result, Ok, Err, if◌then◌else◌}
 use Rattle.jc_transient.specs.declared.cell.CellValue.{CellValue}
 use Rattle.jc_transient.specs.declared.cell.CellValue.TheVariants as kept
-use Rattle.jc_heap.specs.Heap.{HeapState}
 use Rattle.jc_heap.specs.declared.object.Facts.{Facts}
 use Rattle.jc_memory.specs.Cells.{header_at}
 use Rattle.jc_memory.specs.State.{MemoryState}
@@ -23,7 +22,6 @@ use Rattle.jc_firewall.specs.declared.decide.Decision.TheVariants.{Allow, Switch
 use Rattle.jc_frames.specs.declared.cell.Cell.{Cell}
 use Rattle.jc_frames.specs.declared.outcome.FrameExit.{FrameExit}
 use Rattle.jc_frames.specs.declared.outcome.FrameExit.TheVariants.{Throw, End}
-use Rattle.jc_frames.specs.declared.outcome.Outcome.{Outcome}
 use Rattle.jc_frames.specs.declared.outcome.Outcome.TheVariants.{Void, Short, Reference, Thrown, Fault}
 use Rattle.jc_frames.specs.Frames.{Frames}
 use Rattle.jc_world.specs.Answers.{and_then}
@@ -43,7 +41,6 @@ use Rattle.jc_interp_calls.specs.Invoke.{arguments_of, call_decision, class_of, 
 use Rattle.jc_interp_calls.specs.Invoke.{invokestatic, invokevirtual, is_native_constructor, is_of, is_of_any, method_selection, receiver_of, receiver_on}
 use Rattle.jc_interp_calls.specs.Invoke.{special_by, static_by, virtual_by}
 use Rattle.jc_interp_calls.specs.Parameters.{fits}
-use Rattle.law_soundness.specs.Living.{IsLivingOutcome}
 
 -- an exception, or a code fault
 abbrev pub IsPlainExit : FrameExit → Type 0
@@ -58,13 +55,6 @@ IsPlainExit (End Fault) = Unit {0}
 abbrev pub FaultsOnly : {A : Type 0} → Result A FrameExit → Type 0
 FaultsOnly (Ok a) = Unit {0}
 FaultsOnly (Err e) = IsPlainExit e
-
-pub plain_living : (h : HeapState) (o : Outcome) → IsPlainExit (End o) → IsLivingOutcome h o
-plain_living h Void plain = tt
-plain_living h (Short v) plain = tt
-plain_living h (Reference r) plain = absurd plain
-plain_living h (Thrown r) plain = absurd plain
-plain_living h Fault plain = tt
 
 -- ---- checks in a row
 

@@ -1,0 +1,65 @@
+-- What comes of making an image: the image, or why there is none and what is left of the store.
+use Rattle.std.specs.Prelude.{ℕ, ◌≡◌, ◌≢◌, ◌<◌, ◌≤◌, ◌+◌, ◌⊎◌, Bool, true, false, List, Result, Ok, Err, length, slice_index, take}
+use Rattle.jc_words.specs.Refusals.{Refusals, refused_once}
+use Rattle.jc_words.specs.Layout.{front_length, magic_address, magic, least_size}
+use Rattle.jc_words.specs.Image.{IsCapacity, heap_end}
+use Rattle.jc_commit.specs.Image.{recovered_of}
+use Rattle.jc_heap.specs.Heap.{heap_of}
+use Rattle.jc_image.specs.Laying.{first_free}
+use Rattle.jc_platform.specs.Tokens.{Tokens}
+use Rattle.jc_platform.specs.Table.{Reads}
+use Rattle.jc_platform.specs.declared.fault.TableFault.TheVariants.{BadTable as BadLine}
+use Rattle.jc_card.specs.Fixed.{fixed_size}
+use Rattle.jc_card.specs.Made.{IsMade, new_card_heap, new_front}
+use Rattle.jc_card.specs.declared.formatting.FormatFault.{FormatFault}
+use Rattle.jc_card.specs.declared.formatting.FormatFault.TheVariants.{StoreDown, BadSize, BadCapacity, BadTable, TooSmall}
+
+-- an image can have n words and a journal of so many entries, this text tells this table, and it and the objects of the runtime
+-- environment fit below the heap's end
+pub record FitsImage (n capacity : ℕ) (text : List ℕ) (t : Tokens) : Type 0 where
+  pub enough : least_size ≤ n
+  pub entries : IsCapacity capacity
+  pub reads : Reads text (Ok t)
+  pub room : first_free (length text) + fixed_size ≤ heap_end n capacity
+
+-- why no image of n words is made, with a journal of so many entries, from this text, each cause before the next; a store refuses a
+-- write where there is no other cause
+abbrev pub FormatRefuses : FormatFault → ℕ → ℕ → List ℕ → Type 0
+FormatRefuses BadSize n capacity text = n < least_size
+FormatRefuses BadCapacity n capacity text = (least_size ≤ n) × (IsCapacity capacity → ⊥)
+FormatRefuses (BadTable line) n capacity text = (least_size ≤ n) × IsCapacity capacity × Reads text (Err (BadLine line))
+FormatRefuses TooSmall n capacity text = (least_size ≤ n) × IsCapacity capacity × (heap_end n capacity < first_free (length text) + fixed_size)
+    × ((t : Tokens) × Reads text (Ok t))
+FormatRefuses StoreDown n capacity text = (t : Tokens) × FitsImage n capacity text t
+
+-- the store is up, has refused no write, and holds a new image, made of the old one's words with this journal, text and table
+pub record HoldsNewImage {S : Type 0} (words : S → List ℕ) (down : S → Bool) (refusals : S → Refusals) (old : S) (capacity : ℕ) (text : List ℕ)
+    (t : Tokens) (new : S) : Type 0 where
+  pub made : IsMade (words new)
+  pub heap : heap_of (recovered_of (words new)) ≡ new_card_heap (length (words old)) capacity text t
+  pub front : take front_length (words new) ≡ new_front (length (words old)) capacity (length text)
+  pub size : length (words new) ≡ length (words old)
+  pub is_up : down new ≡ false
+  pub none_refused : refusals new ≡ refusals old
+
+-- the store has refused a write, and holds no image but one that it held before
+pub record IsStoppedFormat {S : Type 0} (words : S → List ℕ) (down : S → Bool) (passed : S → ℕ) (refusals : S → Refusals) (old new : S) : Type 0 where
+  pub is_down : down new ≡ true
+  pub one_refused : refusals new ≡ refused_once (down old) (passed new) (refusals old)
+  pub size : length (words new) ≡ length (words old)
+  pub unmarked : (words new ≡ words old) ⊎ (slice_index (words new) magic_address ≢ magic)
+
+-- what is left of the store where no image was made: unless it refused a write, it is as it was
+abbrev pub FormatLeaves : {S : Type 0} → (S → List ℕ) → (S → Bool) → (S → ℕ) → (S → Refusals) → S → FormatFault → S → Type 0
+FormatLeaves words down passed refusals old BadSize new = new ≡ old
+FormatLeaves words down passed refusals old BadCapacity new = new ≡ old
+FormatLeaves words down passed refusals old (BadTable line) new = new ≡ old
+FormatLeaves words down passed refusals old TooSmall new = new ≡ old
+FormatLeaves words down passed refusals old StoreDown new = IsStoppedFormat words down passed refusals old new
+
+-- what comes of making an image of a store, with a journal of so many entries and this text
+abbrev pub Formats : {S : Type 0} → (S → List ℕ) → (S → Bool) → (S → ℕ) → (S → Refusals) → S → ℕ → List ℕ → S → Result (Unit {0}) FormatFault → Type 0
+Formats words down passed refusals old capacity text new (Ok done) = (t : Tokens) × FitsImage (length (words old)) capacity text t
+    × HoldsNewImage words down refusals old capacity text t new
+Formats words down passed refusals old capacity text new (Err fault) =
+    FormatRefuses fault (length (words old)) capacity text × FormatLeaves words down passed refusals old fault new
