@@ -1,5 +1,5 @@
 -- Pauses: where instructions that need nothing but frames do not go on, and what is left to do then.
-use Rattle.std.specs.Prelude.{ℕ, List, Option, Some, None, Result, Ok, Err}
+use Rattle.std.specs.Prelude.{ℕ, ◌+◌, List, Option, Some, None, Result, Ok, Err}
 use Rattle.jc_memory.specs.State.{MemoryState}
 use Rattle.jc_memory.specs.Programs.{Program, Finish, bind}
 use Rattle.jc_linker.specs.Values.{Packages}
@@ -50,3 +50,8 @@ step_rest pause p s m = bind (paused_rest pause.why pause.place p s m) m (λ nex
 abbrev pub run_rest : Option (ℕ × PausedStep) → List ℕ → Packages → Frames → MemoryState → Program (ℕ × Outcome)
 run_rest None lent p s m = Finish (0, Fault)
 run_rest (Some r) lent p s m = bind (step_rest r.1 p s m) m (λ next v. or_end r.0 next (λ t. run_of r.0 lent p t v))
+
+-- the same of a run of so many steps more, all of which are left where there was no pause
+abbrev pub run_behind : Option (ℕ × PausedStep) → ℕ → List ℕ → Packages → Frames → MemoryState → Program (ℕ × Outcome)
+run_behind None more lent p s m = run_of more lent p s m
+run_behind (Some r) more lent p s m = run_rest (Some (r.0 + more, r.1)) lent p s m

@@ -2,7 +2,7 @@
 ghost use Rattle.std.specs.Prelude.{◌≡◌, false};
 
 use crate::explain_members::{call_fault, use_fault};
-use crate::frames_only::is_plain;
+use crate::frames_only::{FramesExit, MemoryInstr, is_plain};
 use jc_frames::{Cell, Frames, Outcome};
 use jc_interp_calls::notes::{note_frames, spot_of};
 use jc_linker::linked::Linked;
@@ -30,6 +30,18 @@ pub(crate) fn note_step(frames: &Frames, notes: &Notes) {
     let spot = spot_of(frames.origin(), frames.place());
     let cells = u16::try_from(frames.counted_cells()).unwrap_or(u16::MAX);
     notes.step(Step { spot, top }, cells);
+}
+
+/// The instruction that paused, if one stood there: what it needs, or the one that failed over frames alone.
+pub(crate) const fn paused_instr(why: FramesExit, failed: Option<Instr>) -> Option<Instr> {
+    match why {
+        FramesExit::Exit(_) => failed,
+        FramesExit::Needs(MemoryInstr::Return(how)) => Some(Instr::Return(how)),
+        FramesExit::Needs(MemoryInstr::Field(field)) => Some(Instr::Field(field)),
+        FramesExit::Needs(MemoryInstr::Array(operation)) => Some(Instr::Array(operation)),
+        FramesExit::Needs(MemoryInstr::Object(operation)) => Some(Instr::Object(operation)),
+        FramesExit::Needs(MemoryInstr::Invoke(call)) => Some(Instr::Invoke(call)),
+    }
 }
 
 /// Notes how the run ended at the instruction at a place, if one stands there, and how many instructions are left; of a code

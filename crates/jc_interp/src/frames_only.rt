@@ -1,12 +1,12 @@
 //! Turns: instructions that need nothing but the frames are carried out one after the other, up to one that
 //! needs more.
-ghost use Rattle.std.specs.Prelude.{◌≡◌, ◌<◌, ◌^◌, ℕ, List, length, IfErr, IfSome, OnOk};
+ghost use Rattle.std.specs.Prelude.{◌≡◌, ◌<◌, ◌+◌, ◌^◌, ℕ, List, length, IfErr, IfSome, IsNone, OnOk};
 ghost use Rattle.jc_opcodes.specs.Table.{HasListedOperands};
 ghost use Rattle.jc_linker.specs.Values.{Packages};
 ghost use Rattle.jc_memory.specs.State.{MemoryState};
 ghost use Rattle.jc_interp.specs.Stepping.{code_of, instruction_at, instruction_step, is_plain};
 ghost use Rattle.jc_interp.specs.Running.{run_of};
-ghost use Rattle.jc_interp.specs.PausedSteps.{after_part, after_frames_step, run_rest};
+ghost use Rattle.jc_interp.specs.PausedSteps.{after_part, after_frames_step, run_behind, run_rest};
 
 use crate::explain::note_step;
 use jc_frames::arithmetic_ops::arithmetic_instruction;
@@ -69,8 +69,8 @@ impl From<FrameExit> for FramesExit {
 pub(crate) struct PausedStep {
     pub(crate) place: u16,
     pub(crate) why: FramesExit,
-    /// The instruction, if one stands there, for whoever explains.
-    pub(crate) instr: Option<Instr>,
+    /// The instruction that failed over frames alone, if one stands there, for whoever explains.
+    pub(crate) failed: Option<Instr>,
 }
 
 // Whether code that was lent has the instruction.
@@ -130,43 +130,63 @@ fn step_in_frames(code: &[u8], frames: &mut Frames) -> Result<(), PausedStep>
         return Err(PausedStep {
             place,
             why: FramesExit::from(CodeFault),
-            instr: None,
+            failed: None,
         });
     };
     if !is_plain(instr) && frames.origin().package_number == 0 {
         return Err(PausedStep {
             place,
             why: FramesExit::from(CodeFault),
-            instr: Some(instr),
+            failed: Some(instr),
         });
     }
     frames.set_place(next as u16);
     match carry_out(instr, code, place, frames) {
         Ok(()) => Ok(()),
-        Err(why) => Err(PausedStep {
+        Err(why @ FramesExit::Needs(_)) => Err(PausedStep {
             place,
             why,
-            instr: Some(instr),
+            failed: None,
+        }),
+        Err(why @ FramesExit::Exit(_)) => Err(PausedStep {
+            place,
+            why,
+            failed: Some(instr),
         }),
     }
 }
 
-// Notes the instruction at the frame's place, where somebody asks for each.
-#[inline(always)]
-fn note_if_asked(frames: &Frames, noted: Option<&Notes>) {
-    if let Some(notes) = noted {
-        note_step(frames, notes);
-    }
-}
-
 /// Carries out instructions that need nothing but frames, as many at most: `None` once they are used up, else
-/// how many are left and where something else is to be done. Each is noted before, where somebody asks for it.
-/// A second loop, without the notes, would be slower: then neither has the instructions in line.
+/// how many are left and where something else is to be done.
 pub(crate) fn run_in_frames(
     code: &[u8],
     budget: u32,
     frames: &mut Frames,
-    noted: Option<&Notes>,
+) -> Option<(u32, PausedStep)>
+    requires short { length code.now < 2 ^ 16 }
+    ensures same { (more : ℕ) (lent : List ℕ) (p : Packages) (m : MemoryState)
+        → code.now ≡ code_of lent p frames.old.current.origin.package_number
+        → run_of (budget + more) lent p frames.old m ≡ run_behind result more lent p frames.new m }
+    ensures fewer { IfSome result (λ r. r.0 < budget) }
+    ensures origin { IsNone result → frames.new.current.origin ≡ frames.old.current.origin }
+{
+    for turns in 0..budget {
+        if let Err(pause) = step_in_frames(code, frames) {
+            return Some((budget - (turns + 1), pause));
+        }
+    }
+    None
+}
+
+// The same, with a note of each instruction before it is carried out. It is one call for each, so that the instructions stand in
+// line in one place alone.
+#[cold]
+#[inline(never)]
+fn run_noted(
+    code: &[u8],
+    budget: u32,
+    frames: &mut Frames,
+    notes: &Notes,
 ) -> Option<(u32, PausedStep)>
     requires short { length code.now < 2 ^ 16 }
     ensures same { (lent : List ℕ) (p : Packages) (m : MemoryState)
@@ -175,16 +195,15 @@ pub(crate) fn run_in_frames(
     ensures fewer { IfSome result (λ r. r.0 < budget) }
 {
     for turns in 0..budget {
-        let left = budget - (turns + 1);
-        note_if_asked(frames, noted);
-        if let Err(pause) = step_in_frames(code, frames) {
-            return Some((left, pause));
+        note_step(frames, notes);
+        if let Some((_, pause)) = run_in_frames(code, 1, frames) {
+            return Some((budget - (turns + 1), pause));
         }
     }
     None
 }
 
-/// The same, with notes where somebody asks for each instruction.
+/// Carries out instructions that need nothing but frames, as `run_in_frames` does. Each is noted before, where somebody asks for it.
 #[inline(always)]
 pub(crate) fn run_turn(
     code: &[u8],
@@ -198,10 +217,8 @@ pub(crate) fn run_turn(
         → run_of budget lent p frames.old m ≡ run_rest result lent p frames.new m }
     ensures fewer { IfSome result (λ r. r.0 < budget) }
 {
-    let noted = if notes.keep_steps() {
-        Some(notes)
-    } else {
-        None
-    };
-    run_in_frames(code, budget, frames, noted)
+    if notes.keep_steps() {
+        return run_noted(code, budget, frames, notes);
+    }
+    run_in_frames(code, budget, frames)
 }

@@ -4,7 +4,7 @@ ghost use Rattle.jc_memory.specs.Programs.{Executes};
 ghost use Rattle.jc_heap.specs.Completions.{after_step};
 ghost use Rattle.jc_interp.specs.Running.{run_methods, run_of, run_ad_hoc};
 
-use crate::explain::{note_budget, note_end};
+use crate::explain::{note_budget, note_end, paused_instr};
 use crate::frames_only::{PausedStep, run_turn};
 use crate::step::{code_of, finish};
 use jc_frames::{Frames, Origin, Outcome};
@@ -34,10 +34,11 @@ pub fn run_of<S: WordStore>(
     let mut code = code_of(lent, number, linked);
     while let Some((rest, pause)) = run_turn(code, left, frames, memory.notes()) {
         left = rest;
-        let PausedStep { place, instr, .. } = pause;
+        let PausedStep { place, why, failed } = pause;
         match finish(pause, frames, memory, linked) {
             Ok(()) => {}
             Err(StepExit::End(outcome)) => {
+                let instr = paused_instr(why, failed);
                 note_end(&outcome, left, instr, code, place, frames, memory, linked);
                 return Ok((left, outcome));
             }

@@ -1,5 +1,5 @@
 -- What is told of an image.
-use Rattle.std.specs.Prelude.{ℕ, ◌≡◌, ◌⊎◌, ◌*◌, true, false, List, [], ◌∷◌, ◌++◌, codes, length, Some, None, Result, Ok, Err}
+use Rattle.std.specs.Prelude.{ℕ, ◌≡◌, ◌⊎◌, ◌*◌, true, false, List, [], ◌∷◌, ◌++◌, codes, length, Result, Ok, Err}
 use Rattle.jc_words.specs.Files.{IsImageSize}
 use Rattle.jc_words.specs.declared.image.ImageFault.{ImageFault}
 use Rattle.jc_card.specs.Inventory.{inventory_of}

@@ -2,15 +2,27 @@
 use Rattle.std.proofs.Common.{◌≡◌, ℕ, ◌+◌, ◌<◌, true, false, List, [], ◌∷◌, ◌++◌, length, take, Result, Ok, Err, refl, sym, ◌∙◌, ap, subst, arith, append_assoc}
 use Rattle.std.proofs.Common.{append-nil, length-append, slice_index, ◌==◌, drop, take-append-drop}
 use Rattle.std.proofs.lemmas.List.{take_more}
-use Rattle.std.specs.Prelude.{OnOk}
+use Rattle.std.specs.Prelude.{OnOk, Option}
+use Rattle.std.specs.Io.KnownBytes.{Appends}
 use Rattle.std.specs.Str.Lines.{lines}
 use Rattle.jcard_script.specs.ScriptStates.{ScriptState}
-use Rattle.jcard_script.specs.Script.{Form, form_of, AreCarriedOut, FailsAtBadLine, FailsAtReset, EndsInsideLine, EndsFrom, ended_lines, bound}
-use Rattle.jcard_script.specs.Session.{LineEnds, LineFails, LinesEnd, unfinished_line}
+use Rattle.jcard_script.specs.Script.{Form, form_of, AreCarriedOut, FailsAtBadLine, FailsAtReset, EndsInsideLine, EndsFrom, IsWrittenFor, ended_lines, bound}
+use Rattle.jcard_script.specs.Session.{LineEnds, LineFails, LinesEnd, IsWrittenOut, unfinished_line}
 use Rattle.jcard_script.specs.declared.script.ScriptFault.{ScriptFault}
 use Rattle.jcard_script.specs.declared.script.ScriptFault.TheVariants.{ReadFailed, WriteFailed, BadLine, TooLong, PowerFault}
 use Rattle.jcard_script.proofs.Carried.{carried_more, bad_more, reset_more, cut_more, bad_then, reset_then, cut_then}
 use Rattle.jcard_script.proofs.Parts.{last_line, lines_whole, ended_more}
+
+-- what was written for a reply, or a beginning of it, ends its line
+pub written_line : (r : Result Unit ScriptFault) (n : ℕ) (form : Form) (s t : ScriptState) (before after : Option (List ℕ)) (text : List ℕ)
+    → IsWrittenFor form s t text → IsWrittenOut r before after text
+    → (more : List ℕ) × Appends before after more × LineEnds r n form s t more
+written_line (Ok done) n form s t before after text h w = (text, w, h)
+written_line (Err WriteFailed) n form s t before after text h w = (w.0, w.1, (text, h, w.2))
+written_line (Err (BadLine k)) n form s t before after text h w = absurd w
+written_line (Err (PowerFault fault)) n form s t before after text h w = absurd w
+written_line (Err ReadFailed) n form s t before after text h w = absurd w
+written_line (Err TooLong) n form s t before after text h w = absurd w
 
 -- one more line after those that were carried out
 pub line_done : (r : Result Unit ScriptFault) (n : ℕ) (all : List (List ℕ)) (line text more : List ℕ) (s t u : ScriptState) → AreCarriedOut all s t text

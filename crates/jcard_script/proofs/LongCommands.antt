@@ -13,8 +13,11 @@ use Rattle.jc_heap.specs.Completions.{Completion}
 use Rattle.jc_card.specs.CardState.{CardState}
 use Rattle.jc_card.specs.Loads.{LoadResponse}
 use Rattle.jc_card.specs.Answers.{exchange, exchange_of_apdu}
-use Rattle.jcard_script.specs.Script.{IsAnswered}
+use Rattle.jcard_script.specs.Line.{IsCommandOf}
+use Rattle.jcard_script.specs.Script.{IsAnswered, IsWrittenFor, form_of}
 use Rattle.jcard_script.specs.ScriptStates.{ScriptState, Up, Down, Exchanges}
+use Rattle.jcard_script.proofs.Decoding.{command_bytes}
+use Rattle.jcard_script.proofs.Words.{form_command}
 
 -- a command of more than 261 bytes has no data
 data_none : (c : List ℕ) → 261 < length c → slice_index c 4 < 256 → data_of c ≡ None
@@ -64,3 +67,10 @@ pub answered_whole : (s t : ScriptState) (whole given text : List ℕ) → IsByt
     → IsAnswered whole s t text
 answered_whole (Up card) t whole given text bytes same a = (a.0, exchanges_whole whole given card a.0 bytes same a.1, a.2)
 answered_whole (Down budget store) t whole given text bytes same a = a
+
+-- what is answered to a command is written for the line that is the command
+pub answered_line : (s t : ScriptState) (line given text : List ℕ) → IsCommandOf given (form_of line) → IsAnswered given s t text
+    → IsWrittenFor (form_of line) s t text
+answered_line s t line given text k a =
+    let whole = answered_whole s t k.0 given text (command_bytes line k.0 (form_command line k.0 k.1)) k.2 a in
+    rw k.1 whole

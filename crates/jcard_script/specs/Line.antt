@@ -29,10 +29,14 @@ IsLineOf Nonsense digits odd line = IsPlain line × (list_all is_hex_digit (with
 abbrev pub ends_in_return : List ℕ → Bool
 ends_in_return line = slice_index line (length line - 1) == 13
 
--- what is asked for is a form; of a command the first 262 bytes are told, more than any command has
+-- the form is a command, of which these are the first 262 bytes, more than any command has
+abbrev pub IsCommandOf : List ℕ → Form → Type 0
+IsCommandOf told form = (bytes : List ℕ) × (form ≡ Command bytes) × (told ≡ take 262 bytes)
+
+-- what is asked for is a form
 abbrev pub IsAsked : LineRequest → Form → Type 0
 IsAsked Nothing form = form ≡ Skipped
-IsAsked (Exchange command) form = (bytes : List ℕ) × (form ≡ Command bytes) × (command.items ≡ take 262 bytes)
+IsAsked (Exchange command) form = IsCommandOf command.items form
 IsAsked Reset form = form ≡ Resets
 IsAsked (ArmFuse k) form = form ≡ ArmsFuse k
 IsAsked Refused form = form ≡ Bad

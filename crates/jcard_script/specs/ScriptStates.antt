@@ -1,5 +1,5 @@
 -- How a session stands, and what a power up makes of it.
-use Rattle.std.specs.Prelude.{ℕ, ◌≡◌, List, true, false, Some, None}
+use Rattle.std.specs.Prelude.{ℕ, ◌≡◌, List, false}
 use Rattle.jc_words.specs.Count.{saturating_count}
 use Rattle.jc_words.specs.Refusals.{with_fuse_at}
 use Rattle.jc_words.specs.Stores.{FuseStoreValue, with_fuse_armed}

@@ -1,12 +1,13 @@
 -- A script that is being carried out.
-use Rattle.std.specs.Prelude.{ℕ, ◌≡◌, ◌<◌, ◌==◌, false, List, [], ◌∷◌, length, slice_index, Result, Ok, Err}
+use Rattle.std.specs.Prelude.{ℕ, ◌≡◌, ◌<◌, ◌==◌, false, List, [], ◌∷◌, length, slice_index, Option, Result, Ok, Err}
 use Rattle.std.specs.List.{slice_split}
+use Rattle.std.specs.Io.KnownBytes.{Appends}
 use Rattle.std.specs.Str.Lines.{strip_carriage_return}
 use Rattle.jcard_script.specs.CardOrStore.{state_of_held}
 use Rattle.jcard_script.specs.Line.{IsLineOf, ends_in_return}
 use Rattle.jcard_script.specs.ScriptStates.{ScriptState, FailsReset}
 use Rattle.jcard_script.specs.Script.{Form, Resets, Bad, IsWrittenFor, AreCarriedOut, FailsAtBadLine, FailsAtReset, EndsInsideLine, ended_lines}
-use Rattle.jcard_script.specs.Texts.{IsCutOf}
+use Rattle.jcard_script.specs.Texts.{AppendsCut, IsCutOf}
 use Rattle.jcard_script.specs.Word.{IsWordOf}
 use Rattle.jcard_script.specs.declared.line.Line.{Line}
 use Rattle.jcard_script.specs.declared.session.Session.{Session}
@@ -53,6 +54,15 @@ LineEnds (Err (PowerFault fault)) n form s t text = (form ≡ Resets) × FailsRe
 LineEnds (Err WriteFailed) n form s t text = (answer : List ℕ) × IsWrittenFor form s t answer × IsCutOf answer text
 LineEnds (Err ReadFailed) n form s t text = ⊥
 LineEnds (Err TooLong) n form s t text = ⊥
+
+-- a text was written, or only a beginning of it
+abbrev pub IsWrittenOut : Result Unit ScriptFault → Option (List ℕ) → Option (List ℕ) → List ℕ → Type 0
+IsWrittenOut (Ok done) before after text = Appends before after text
+IsWrittenOut (Err WriteFailed) before after text = AppendsCut before after text
+IsWrittenOut (Err (BadLine k)) before after text = ⊥
+IsWrittenOut (Err (PowerFault fault)) before after text = ⊥
+IsWrittenOut (Err ReadFailed) before after text = ⊥
+IsWrittenOut (Err TooLong) before after text = ⊥
 
 -- how carrying out some lines ended
 abbrev pub LinesEnd : Result Unit ScriptFault → List (List ℕ) → ScriptState → ScriptState → List ℕ → Type 0

@@ -1,9 +1,9 @@
 //! One line of a script, in fixed room.
-ghost use Rattle.std.specs.Prelude.{◌≡◌, ◌≢◌, ◌≤◌, ℕ, List, [], ◌∷◌, ◌++◌, length, IsErr, IfSome, MatchOption, Ok, true};
+ghost use Rattle.std.specs.Prelude.{◌≡◌, ◌≢◌, ◌≤◌, ℕ, List, [], ◌∷◌, ◌++◌, length, take, IsErr, IsSome, IfSome, MatchOption, Ok, true};
 ghost use Rattle.std.specs.Str.Lines.{strip_carriage_return};
 ghost use Rattle.hex.specs.Hex.{decode_of, is_hex_digit};
-ghost use Rattle.jcard_script.specs.Line.{IsLineOf, IsPlain, HasDigits, AsksFor, PlainlyAsksFor};
-ghost use Rattle.jcard_script.specs.declared.line.LineRequest.TheVariants.{Exchange};
+ghost use Rattle.jcard_script.specs.Line.{IsCommandOf, IsLineOf, IsPlain, HasDigits, AsksFor, PlainlyAsksFor};
+ghost use Rattle.jcard_script.specs.Script.{form_of};
 ghost use Rattle.jcard_script.specs.Session.{IsKeptOf};
 ghost use Rattle.jcard_script.specs.Word.{IsWordOf};
 
@@ -14,7 +14,7 @@ use arrayvec::ArrayVec;
 const DIGITS: usize = 524;
 
 /// The most bytes of a command that are told: one more than the longest command has.
-const BYTES: usize = 262;
+pub(crate) const BYTES: usize = 262;
 
 /// What the bytes of a line are.
 #[derive(Clone, Copy)]
@@ -180,18 +180,26 @@ impl Line {
     }
 
     /// What the line asks for if these bytes, none of which is a line feed, and a line feed follow.
-    /// Where no byte has come before and they spell a command, they are not kept.
     pub(crate) fn ended_by(&mut self, bytes: &[u8]) -> LineRequest
         ensures { (line : List ℕ) → IsKeptOf self.old line
             → AsksFor result (strip_carriage_return (line ++ bytes.now)) }
     {
-        if self.is_new() {
-            if let Some(command) = command_in(bytes) {
-                return LineRequest::Exchange(command);
-            }
-        }
         self.push_all(bytes);
         asked_by(&self.content, &self.word)
+    }
+
+    /// How many bytes the command has that the line is if these digits and a line feed follow, which it then puts at the front of the
+    /// room. `None` where a byte has come before, and where they are any other bytes than digits of one command.
+    pub(crate) fn whole_command(&self, bytes: &[u8], room: &mut [u8; 262]) -> Option<usize>
+        ensures within { IfSome result (λ count. count ≤ 262) }
+        ensures new { IsSome result → (line : List ℕ) → IsKeptOf self.now line → line ≡ [] }
+        ensures command { IfSome result (λ count. IsCommandOf (take count room.new)
+            (form_of (strip_carriage_return bytes.now))) }
+    {
+        if !self.is_new() {
+            return None;
+        }
+        command_in(bytes, room)
     }
 
     // Whether no byte has come.
@@ -233,14 +241,29 @@ fn asked_by(content: &Content, word: &Word) -> LineRequest
     }
 }
 
-// The command that a line of these bytes is which are hexadecimal digits alone.
-fn command_in(line: &[u8]) -> Option<ArrayVec<u8, 262>>
-    ensures { IfSome result (λ command. AsksFor (Exchange command) (strip_carriage_return line.now)) }
+// The command that a line of these bytes is which are hexadecimal digits alone, at the front of the room, and how many bytes it has.
+fn command_in(line: &[u8], room: &mut [u8; 262]) -> Option<usize>
+    ensures within { IfSome result (λ count. count ≤ 262) }
+    ensures command { IfSome result (λ count. IsCommandOf (take count room.new)
+        (form_of (strip_carriage_return line.now))) }
 {
     if line.is_empty() || line.len() > DIGITS {
         return None;
     }
-    command_of(line)
+    let count = line.len() / 2;
+    if decode(line, &mut room[..count]) {
+        Some(count)
+    } else {
+        None
+    }
+}
+
+// Puts the bytes that digits spell there, and says whether they spell so many.
+fn decode(digits: &[u8], bytes: &mut [u8]) -> bool
+    ensures len { length bytes.new ≡ length bytes.old }
+    ensures spelt { result ≡ true → decode_of digits.now ≡ Ok bytes.new }
+{
+    hex::decode_to_slice(digits, bytes).is_ok()
 }
 
 fn is_digit(byte: u8) -> bool

@@ -1,5 +1,5 @@
 //! A script that is being carried out.
-ghost use Rattle.std.specs.Prelude.{◌≡◌, ◌+◌, ◌-◌, ◌^◌, ◌<◌, ◌≤◌, ℕ, List, [], ◌∷◌, ◌++◌, Bool, length, IfOk, IfErr, OnOk, MatchResult, Err, false};
+ghost use Rattle.std.specs.Prelude.{◌≡◌, ◌+◌, ◌-◌, ◌^◌, ◌<◌, ◌≤◌, ℕ, List, [], ◌∷◌, ◌++◌, Bool, length, IfOk, IfErr, OnOk, MatchResult, IsSome, Err, false};
 ghost use Rattle.std.specs.Bool.{OnTrue};
 ghost use Rattle.std.specs.Io.KnownBytes.{Appends, Consumes};
 ghost use Rattle.std.specs.Str.Lines.{lines};
@@ -7,16 +7,16 @@ ghost use Rattle.jc_words.specs.Stores.{FuseStoreValue};
 ghost use Rattle.jc_words.specs.Count.{failures_after};
 ghost use Rattle.jc_words.specs.Refusals.{IsWithinFuse};
 ghost use Rattle.jcard_script.specs.CardOrStore.{IsState, state_of_held};
-ghost use Rattle.jcard_script.specs.Line.{AsksFor};
+ghost use Rattle.jcard_script.specs.Line.{AsksFor, IsCommandOf};
 ghost use Rattle.jcard_script.specs.Reply.{text_of_reply};
-ghost use Rattle.jcard_script.specs.Script.{EndsFrom, IsAnswered, IsWholeScript, IsWrittenFor, armed_text, form_of, power_text, is_read_failed};
+ghost use Rattle.jcard_script.specs.Script.{EndsFrom, IsAnswered, IsWholeScript, IsWrittenFor, armed_text, down_text, form_of, power_text, is_read_failed};
 ghost use Rattle.jcard_script.specs.Script.{is_write_failed, ended_lines};
 ghost use Rattle.jcard_script.specs.ScriptStates.{ScriptState, Down, IsSessionStore, PowersUp, FailsUp, IsReset, FailsReset, budget_of, with_fuse};
-ghost use Rattle.jcard_script.specs.Session.{StandsAt, IsUnbroken, LineEnds, LineFails, LinesEnd};
+ghost use Rattle.jcard_script.specs.Session.{StandsAt, IsUnbroken, IsWrittenOut, LineEnds, LineFails, LinesEnd};
 
 use crate::card_or_store::CardOrStore;
 use crate::explainer::Explainer;
-use crate::line::{Line, LineRequest};
+use crate::line::{BYTES, Line, LineRequest};
 use crate::reply::{Reply, write_reply};
 use crate::script::{BOUND, ScriptFault};
 use crate::streams::{TextIn, TextOut, WriteFailed};
@@ -176,6 +176,38 @@ impl<S: WordStore + Drop> Session<S> {
         ensures writes { W.failures writer.new ≡ failures_after (W.failures writer.old)
             (is_write_failed result) }
     {
+        let mut room = [0u8; BYTES];
+        match self.line.whole_command(bytes, &mut room) {
+            Some(count) => {
+                self.number += 1;
+                self.answer_command(&room[..count], writer, explainer)
+            }
+            None => self.end_other_line(bytes, writer, explainer),
+        }
+    }
+
+    // The same for a line that these bytes alone do not spell as a command.
+    #[inline(never)]
+    fn end_other_line<W: TextOut, E: Explainer>(
+        &mut self,
+        bytes: &[u8],
+        writer: &mut W,
+        explainer: &mut E,
+    ) -> Result<(), ScriptFault>
+        requires unbroken { IsUnbroken bytes.now }
+        requires number { self.old.number < 2 ^ 32 - 1 }
+        requires held { IsState self.old.held }
+        ensures held { IsState self.new.held }
+        ensures number { OnOk result (self.new.number ≡ self.old.number + 1) }
+        ensures goes { (script text : List ℕ) → (first : ScriptState)
+            → StandsAt self.old first script text
+            → (more : List ℕ) × Appends (W.contents writer.old) (W.contents writer.new) more
+            × OnOk result (StandsAt self.new first (script ++ bytes.now ++ 10 ∷ []) (text ++ more))
+            × LinesEnd result (ended_lines (script ++ bytes.now ++ 10 ∷ [])) first
+            (state_of_held self.new.held) (text ++ more) }
+        ensures writes { W.failures writer.new ≡ failures_after (W.failures writer.old)
+            (is_write_failed result) }
+    {
         let asked = self.line.ended_by(bytes);
         self.number += 1;
         let result = self.answer_line(asked, writer, explainer);
@@ -222,14 +254,52 @@ impl<S: WordStore + Drop> Session<S> {
             (is_write_failed result) }
     {
         match self.reply(asked) {
-            Ok(reply) => match write_reply(&reply, writer) {
-                Ok(()) => {
-                    self.tell_about(&reply, explainer);
-                    Ok(())
-                }
-                Err(WriteFailed) => Err(ScriptFault::WriteFailed),
-            },
+            Ok(reply) => self.write(&reply, writer, explainer),
             Err(fault) => Err(fault),
+        }
+    }
+
+    // Answers a command.
+    fn answer_command<W: TextOut, E: Explainer>(
+        &mut self,
+        command: &[u8],
+        writer: &mut W,
+        explainer: &mut E,
+    ) -> Result<(), ScriptFault>
+        requires held { IsState self.old.held }
+        ensures held { IsState self.new.held }
+        ensures number { self.new.number ≡ self.old.number }
+        ensures line { self.new.line ≡ self.old.line }
+        ensures goes { (line : List ℕ) → IsCommandOf command.now (form_of line)
+            → (more : List ℕ) × Appends (W.contents writer.old) (W.contents writer.new) more
+            × LineEnds result self.old.number (form_of line) (state_of_held self.old.held)
+            (state_of_held self.new.held) more }
+        ensures writes { W.failures writer.new ≡ failures_after (W.failures writer.old)
+            (is_write_failed result) }
+    {
+        let reply = self.exchange(command);
+        self.write(&reply, writer, explainer)
+    }
+
+    // Writes a reply, and tells who asks what the command did that was answered so, if one was.
+    fn write<W: TextOut, E: Explainer>(
+        &self,
+        reply: &Reply,
+        writer: &mut W,
+        explainer: &mut E,
+    ) -> Result<(), ScriptFault>
+        requires held { IsState self.now.held }
+        ensures text { IsWrittenOut result (W.contents writer.old) (W.contents writer.new)
+            (text_of_reply reply.now) }
+        ensures writes { W.failures writer.new ≡ failures_after (W.failures writer.old)
+            (is_write_failed result) }
+    {
+        match write_reply(reply, writer) {
+            Ok(()) => {
+                self.tell_about(reply, explainer);
+                Ok(())
+            }
+            Err(WriteFailed) => Err(ScriptFault::WriteFailed),
         }
     }
 
@@ -277,6 +347,7 @@ impl<S: WordStore + Drop> Session<S> {
         requires held { IsState self.old.held }
         ensures held { IsState self.new.held }
         ensures number { self.new.number ≡ self.old.number }
+        ensures line { self.new.line ≡ self.old.line }
         ensures answer { IsAnswered command.now (state_of_held self.old.held)
             (state_of_held self.new.held) (text_of_reply result) }
     {
@@ -288,6 +359,21 @@ impl<S: WordStore + Drop> Session<S> {
                 return Reply::Answer(response);
             }
         }
+        self.go_down(budget)
+    }
+
+    // The store is all that is left of the card, which has this budget when it is up again.
+    #[cold]
+    #[inline(never)]
+    fn go_down(&mut self, budget: u32) -> Reply
+        requires some { IsSome self.old.held }
+        ensures held { IsState self.new.held }
+        ensures number { self.new.number ≡ self.old.number }
+        ensures line { self.new.line ≡ self.old.line }
+        ensures text { text_of_reply result ≡ down_text }
+        ensures down { (store : FuseStoreValue) × IsSessionStore (state_of_held self.old.held) store
+            × (state_of_held self.new.held ≡ Down budget store) }
+    {
         let left = self.held.take().unwrap().into_store();
         self.held = Some(CardOrStore::Store(left, budget));
         Reply::Down

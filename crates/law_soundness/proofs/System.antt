@@ -10,9 +10,8 @@ use Rattle.jc_heap.specs.declared.place.AppletEntry.{AppletEntry}
 use Rattle.jc_frames.specs.declared.cell.Cell.{Cell}
 use Rattle.jc_memory.specs.declared.registers.AppletNumber.{AppletNumber}
 use Rattle.jc_memory.specs.declared.making.NewObject.{NewObject}
-use Rattle.jc_heap.specs.Whole.{IsReference}
 use Rattle.jc_memory.specs.State.{MemoryState, HeapMove}
-use Rattle.jc_memory.specs.Cells.{cells_refusal, header_at}
+use Rattle.jc_memory.specs.Cells.{header_at}
 use Rattle.jc_memory.specs.Making.{creation_move, creation_refusal, object_creation}
 use Rattle.jc_memory.specs.Reading.{AllResults}
 use Rattle.jc_linker.specs.Values.{Packages}
@@ -21,16 +20,9 @@ use Rattle.jc_platform.specs.Distinct.{class_word}
 use Rattle.jc_registry.specs.Aids.{aid_at}
 use Rattle.jc_registry.specs.Registry.{applet_count, applet_entry, applet_with_aid, instance_of_applet, is_applet}
 use Rattle.jc_world.specs.Objects.{is_instance_of, reference_argument, short_argument}
-use Rattle.jc_firewall.specs.declared.access.Access.TheVariants.{ArrayElement}
-use Rattle.jc_world.specs.Contexts.{firewall_check}
-use Rattle.jc_world.specs.Numbers.{not_negative}
-use Rattle.jc_world.specs.Arrays.{bytes_argument, bytes_in, elements_of}
-use Rattle.jc_api_runtime.specs.AidCells.{is_aid_length}
-use Rattle.jc_api_runtime.specs.SystemSharing.{aid_or_null, applet_of, jc_system_lookup_aid, server_call_result, server_call_by_aid, server_call_if_known}
-use Rattle.jc_api_runtime.specs.SystemSharing.{jc_system_get_applet_shareable_interface_object, jc_system_is_applet_active}
-use Rattle.jc_api_runtime.specs.SystemMemory.{available_bytes, first_of_two, jc_system_get_available_memory, jc_system_get_available_memory_shorts}
-use Rattle.jc_api_runtime.specs.SystemMemory.{shorts_argument, shorts_of_count}
-use Rattle.jc_api_runtime.specs.SystemTransient.{jc_system_make_transient_array, jc_system_is_transient, requested_array}
+use Rattle.jc_api_runtime.specs.SystemSharing.{applet_of, server_call_result, server_call_by_aid, server_call_if_known}
+use Rattle.jc_api_runtime.specs.SystemSharing.{jc_system_get_applet_shareable_interface_object}
+use Rattle.jc_api_runtime.specs.SystemTransient.{jc_system_make_transient_array, requested_array}
 use Rattle.jc_frames.specs.declared.cell.Cell.TheVariants.{Reference}
 use Rattle.jc_world.specs.declared.native_result.NativeResult.TheVariants.{ReturnValue}
 use Rattle.jc_world.specs.NativeCalls.{return_value}

@@ -1,8 +1,6 @@
-use Rattle.std.proofs.Common.{arith, rules, length, refl}
+use Rattle.std.proofs.Common.{arith, rules, refl}
 use borrow.Enum.Total.{values_d}
 use Rattle.jc_platform.specs.contracts.fault.TableFault.{enum}
-use Rattle.jc_platform.specs.Tokens.{Tokens}
-use Rattle.jc_card.specs.Formatting.{FitsImage}
 use Rattle.jc_card.proofs.FormatFaults.{line_refused}
 use Rattle.jc_card.proofs.formatting.format.Goals as goal
 

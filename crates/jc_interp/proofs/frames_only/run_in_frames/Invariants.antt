@@ -1,5 +1,5 @@
 -- The run from the beginning is the run from here with as many steps less; the method is the same.
-use Rattle.std.proofs.Common.{◌≡◌, ℕ, ◌-◌, List}
+use Rattle.std.proofs.Common.{◌≡◌, ℕ, ◌+◌, ◌-◌, List}
 use Rattle.jc_linker.specs.Values.{Packages}
 use Rattle.jc_memory.specs.State.{MemoryState}
 use Rattle.jc_interp.specs.Stepping.{code_of}
@@ -8,7 +8,7 @@ use Rattle.jc_interp.proofs.frames_only.run_in_frames.Given as goal
 
 abbrev pub invariant-loop-turns : goal.invariant-loop-turns
 invariant-loop-turns l = record {
-  same : (lent : List ℕ) (p : Packages) (m : MemoryState) → l.code ≡ code_of lent p l.fn.frames.current.origin.package_number
-      → run_of l.budget lent p l.fn.frames m ≡ run_of (l.budget - l.turns) lent p l.frames m;
+  same : (more : ℕ) (lent : List ℕ) (p : Packages) (m : MemoryState) → l.code ≡ code_of lent p l.fn.frames.current.origin.package_number
+      → run_of (l.budget + more) lent p l.fn.frames m ≡ run_of (l.budget - l.turns + more) lent p l.frames m;
   origin : l.frames.current.origin ≡ l.fn.frames.current.origin;
 }

@@ -1,4 +1,4 @@
-use Rattle.std.proofs.Common.{◌≡◌, ◌∙◌, Ok, Err, ap, false, length, subst, sym}
+use Rattle.std.proofs.Common.{◌∙◌, Ok, Err, ap, false, length, subst, sym}
 use Rattle.std.specs.Prelude.{codes}
 use Rattle.std.proofs.lemmas.Bool.{false≢true}
 use Rattle.jc_words.specs.Refusals.{no_refusals}

@@ -1,4 +1,4 @@
-use Rattle.std.proofs.Common.{◌≡◌, ◌∙◌, Ok, Err, ap, length, refl, subst}
+use Rattle.std.proofs.Common.{◌∙◌, Ok, Err, ap, length, refl, subst}
 use Rattle.jc_words.specs.Count.{saturating_count}
 use Rattle.jc_words.specs.Refusals.{Refusals}
 use Rattle.jc_words.specs.Stores.{store_value}

@@ -1,7 +1,15 @@
-use Rattle.std.proofs.Common.{arith}
-use Rattle.jcard_script.proofs.Digits.{spelt, if_some}
+use Rattle.std.proofs.Common.{◌≡◌, ◌∙◌, ◌/◌, length, arith, refl}
+use Rattle.std.proofs.lemmas.List.{take-append-le, take_all}
+use Rattle.hex.proofs.HexLemmas.{decode_of-ok}
+use Rattle.jcard_script.proofs.Digits.{spelt}
 use Rattle.jcard_script.proofs.line.command_in.Goals as goal
 
-pub returns : goal.returns
-returns c = if_some _ c.command_of.result _ _ c.command_of.ensures (λ command h.
-    let s = spelt c.args.line.now command.items h (grind arith) (omega arith) in (command.items, s.0, s.1))
+pub returns-then-decode-clause-command : goal.returns-then-decode-clause-command
+returns-then-decode-clause-command c =
+    let line = c.args.line.now in
+    let bytes = c.decode.new.bytes in
+    let h = c.if-decode.ensures.spelt refl in
+    let s = spelt line bytes h (grind arith) (omega arith) in
+    let ok = decode_of-ok line bytes h in
+    let long : length bytes ≡ length line / 2 = omega (arith, ok.2) in
+    (bytes, s.0, take-append-le (length line / 2) bytes _ (omega (arith, long)) ∙ take_all (length line / 2) bytes (omega (arith, long)) ∙ s.1)
