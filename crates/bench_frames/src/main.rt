@@ -40,7 +40,8 @@ fn main(rt: HostRuntime) -> io::Result<ExitCode> {
             rounds = number;
         }
     }
-    let mut frames = Frames::begin(&[], 0, 3, 0, METHOD);
+    let mut frames = Frames::empty();
+    frames.begin(&[], 0, 3, 0, METHOD);
     let mut sum = 0i16;
     for _round in 0..rounds {
         match recurse(&mut frames, sum) {

@@ -5,7 +5,7 @@ ghost use Rattle.jc_heap.specs.Completions.{after_step};
 ghost use Rattle.jc_dispatch.specs.Phases.{applet_method_call, default_of, instance_of, method_named, registers_idle, method_run, registers_for};
 
 use jc_cap_linkage::pool::VirtualToken;
-use jc_frames::{Cell, Outcome};
+use jc_frames::{Cell, Frames, Outcome};
 use jc_interp::begin;
 use jc_interp::run::run_methods;
 use jc_linker::linked::Linked;
@@ -54,7 +54,16 @@ pub(crate) fn run_for<S: WordStore>(
     ensures { Executes (method_run budget linked.now package_number offset arguments.now owner
         memory.old) memory.old (after_step result memory.new) }
 {
-    let Some(mut frames) = begin(linked, package_number, offset, arguments, owner.number()) else {
+    let mut frames = Frames::empty();
+    let begun = begin(
+        linked,
+        package_number,
+        offset,
+        arguments,
+        owner.number(),
+        &mut frames,
+    );
+    let Ok(()) = begun else {
         return Ok((budget, Outcome::Fault));
     };
     let registers = memory.registers();

@@ -1,12 +1,10 @@
 -- Which instructions called, in the array that holds the cells of all frames.
-use Rattle.std.proofs.Common.{◌≡◌, ℕ, zero, suc, ◌-◌, ◌<◌, ◌≤◌, List, [], ◌∷◌, length, reverse, take, refl, sym, ◌∙◌, ap, arith, get_or}
-use Rattle.std.specs.Prelude.{Option, Some, None}
+use Rattle.std.proofs.Common.{◌≡◌, ℕ, zero, suc, ◌-◌, ◌<◌, ◌≤◌, List, [], ◌∷◌, length, reverse, take, refl, ◌∙◌, ap, arith, get_or}
+use Rattle.std.specs.Prelude.{Some, None}
 use Rattle.std.proofs.lemmas.List.{get_or-reverse, length-reverse}
 use Rattle.jc_frames.specs.declared.cell.Cell.{Cell}
 use Rattle.jc_frames.specs.declared.call_sites.CallSite.{CallSite}
-use Rattle.jc_frames.specs.declared.frames.Region.{Region}
 use Rattle.jc_frames.specs.declared.frames.SavedFrame.{SavedFrame}
-use Rattle.jc_frames.specs.Frames.{Caller}
 use Rattle.jc_frames.specs.Layout.{callers_in}
 use Rattle.jc_frames.specs.CallSites.{call_site_at}
 

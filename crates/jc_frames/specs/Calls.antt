@@ -17,6 +17,10 @@ abbrev pub first_frame : List Cell → ℕ → ℕ → ℕ → Origin → Frame
 first_frame arguments locals limit place origin =
     record { locals = arguments ++ replicate locals (Short (pos 0)); stack = []; limit = limit; place = place; origin = origin }
 
+-- frames in which nothing runs: no cell, and code of no package
+abbrev pub empty_frames : Frames
+empty_frames = record { current = first_frame [] 0 0 0 (record { package_number = 0; method = 0; owner = 0 }); callers = [] }
+
 -- the cells that a calling frame counts: its locals, and those that are on its stack
 abbrev pub calling_cells : List Caller → ℕ
 calling_cells [] = 0

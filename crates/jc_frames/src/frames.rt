@@ -2,7 +2,7 @@
 ghost use Rattle.std.specs.Prelude.{◌≡◌, ◌+◌, ◌<◌, ◌≤◌, ◌++◌, [], length, pos, replicate};
 ghost use Rattle.jc_frames.specs.declared.cell.Cell.TheVariants.{Short};
 ghost use Rattle.jc_frames.specs.Frames.{Frames};
-ghost use Rattle.jc_frames.specs.Calls.{first_frame};
+ghost use Rattle.jc_frames.specs.Calls.{empty_frames, first_frame};
 
 use crate::cell::Cell;
 use crate::method::{Origin, ReturnPoint};
@@ -57,29 +57,38 @@ impl Model for Frames {
 }
 
 impl Frames {
-    /// The frame of a method with these arguments, which nothing called.
-    pub fn begin(arguments: &[Cell], locals: u8, limit: u8, place: u16, origin: Origin) -> Self
+    /// Frames in which nothing runs until `begin`.
+    pub fn empty() -> Self
+        ensures { result ≡ empty_frames }
+    {
+        Frames {
+            cells: ArrayVec::new(),
+            current: Region::default(),
+            saved: ArrayVec::new(),
+        }
+    }
+
+    /// Begins the frame of a method with these arguments, which nothing called. The frames that were
+    /// there are gone.
+    pub fn begin(&mut self, arguments: &[Cell], locals: u8, limit: u8, place: u16, origin: Origin)
         requires { length arguments.now + locals + limit ≤ 512 }
-        ensures { result ≡ record {
+        ensures { self.new ≡ record {
           current = first_frame arguments.now locals limit place origin;
           callers = [];
         } }
     {
-        let mut cells = ArrayVec::new();
-        push_all(&mut cells, arguments);
-        push_zeros(&mut cells, u16::from(locals));
-        let bottom = cells.len();
-        Frames {
-            cells,
-            current: Region {
-                base: 0,
-                bottom,
-                ceiling: bottom + usize::from(limit),
-                place,
-                origin,
-            },
-            saved: ArrayVec::new(),
-        }
+        self.cells.clear();
+        self.saved.clear();
+        push_all(&mut self.cells, arguments);
+        push_zeros(&mut self.cells, u16::from(locals));
+        let bottom = self.cells.len();
+        self.current = Region {
+            base: 0,
+            bottom,
+            ceiling: bottom + usize::from(limit),
+            place,
+            origin,
+        };
     }
 
     /// The place of the next instruction.

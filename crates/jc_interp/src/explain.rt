@@ -2,11 +2,12 @@
 ghost use Rattle.std.specs.Prelude.{◌≡◌, false};
 
 use crate::explain_members::{call_fault, use_fault};
-use crate::frames_only::{FramesExit, MemoryInstr, is_plain};
+use crate::frames_only::is_plain;
 use jc_frames::{Cell, Frames, Outcome};
 use jc_interp_calls::notes::{note_frames, spot_of};
 use jc_linker::linked::Linked;
 use jc_memory::{Cause, FaultKind, Memory, Notes, Step, TopCell};
+use jc_opcodes::decode::decode;
 use jc_opcodes::instr::{BranchOp, Instr, LocalOp, ReturnOp, StackOp};
 use jc_words::WordStore;
 
@@ -32,18 +33,6 @@ pub(crate) fn note_step(frames: &Frames, notes: &Notes) {
     notes.step(Step { spot, top }, cells);
 }
 
-/// The instruction that paused, if one stood there: what it needs, or the one that failed over frames alone.
-pub(crate) const fn paused_instr(why: FramesExit, failed: Option<Instr>) -> Option<Instr> {
-    match why {
-        FramesExit::Exit(_) => failed,
-        FramesExit::Needs(MemoryInstr::Return(how)) => Some(Instr::Return(how)),
-        FramesExit::Needs(MemoryInstr::Field(field)) => Some(Instr::Field(field)),
-        FramesExit::Needs(MemoryInstr::Array(operation)) => Some(Instr::Array(operation)),
-        FramesExit::Needs(MemoryInstr::Object(operation)) => Some(Instr::Object(operation)),
-        FramesExit::Needs(MemoryInstr::Invoke(call)) => Some(Instr::Invoke(call)),
-    }
-}
-
 /// Notes how the run ended at the instruction at a place, if one stands there, and how many instructions are left; of a code
 /// fault why, and where the frames stand.
 #[cold]
@@ -51,7 +40,6 @@ pub(crate) const fn paused_instr(why: FramesExit, failed: Option<Instr>) -> Opti
 pub(crate) fn note_end<S: WordStore>(
     outcome: &Outcome,
     left: u32,
-    instr: Option<Instr>,
     code: &[u8],
     place: u16,
     frames: &Frames,
@@ -61,13 +49,10 @@ pub(crate) fn note_end<S: WordStore>(
     requires up { memory.now.heap.down ≡ false }
 {
     let notes = memory.notes();
-    if !notes.are_kept() {
-        return;
-    }
     notes.left(left);
     if matches!(outcome, Outcome::Fault) {
         if !notes.has_fault() {
-            notes.fault(fault_of(instr, code, place, frames, memory, linked));
+            notes.fault(fault_of(code, place, frames, memory, linked));
         }
         note_frames(place, frames, notes);
     }
@@ -87,7 +72,6 @@ pub(crate) fn note_budget<S: WordStore>(frames: &Frames, memory: &Memory<S>) {
 
 // Of what is met in an object or an argument its own code has told already.
 fn fault_of<S: WordStore>(
-    instr: Option<Instr>,
     code: &[u8],
     place: u16,
     frames: &Frames,
@@ -96,7 +80,7 @@ fn fault_of<S: WordStore>(
 ) -> FaultKind
     requires up { memory.now.heap.down ≡ false }
 {
-    let Some(instr) = instr else {
+    let Some((instr, _)) = decode::<true>(code, usize::from(place)) else {
         return FaultKind::NoInstruction;
     };
     if !is_plain(instr) && frames.origin().package_number == 0 {

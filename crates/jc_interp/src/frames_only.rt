@@ -69,8 +69,6 @@ impl From<FrameExit> for FramesExit {
 pub(crate) struct PausedStep {
     pub(crate) place: u16,
     pub(crate) why: FramesExit,
-    /// The instruction that failed over frames alone, if one stands there, for whoever explains.
-    pub(crate) failed: Option<Instr>,
 }
 
 // Whether code that was lent has the instruction.
@@ -126,33 +124,22 @@ fn step_in_frames(code: &[u8], frames: &mut Frames) -> Result<(), PausedStep>
     ensures origin { OnOk result (frames.new.current.origin ≡ frames.old.current.origin) }
 {
     let place = frames.place();
-    let Some((instr, next)) = decode(code, usize::from(place)) else {
+    let Some((instr, next)) = decode::<false>(code, usize::from(place)) else {
         return Err(PausedStep {
             place,
             why: FramesExit::from(CodeFault),
-            failed: None,
         });
     };
     if !is_plain(instr) && frames.origin().package_number == 0 {
         return Err(PausedStep {
             place,
             why: FramesExit::from(CodeFault),
-            failed: Some(instr),
         });
     }
     frames.set_place(next as u16);
     match carry_out(instr, code, place, frames) {
         Ok(()) => Ok(()),
-        Err(why @ FramesExit::Needs(_)) => Err(PausedStep {
-            place,
-            why,
-            failed: None,
-        }),
-        Err(why @ FramesExit::Exit(_)) => Err(PausedStep {
-            place,
-            why,
-            failed: Some(instr),
-        }),
+        Err(why) => Err(PausedStep { place, why }),
     }
 }
 

@@ -4,7 +4,7 @@ ghost use Rattle.jc_memory.specs.Programs.{Executes};
 ghost use Rattle.jc_heap.specs.Completions.{after_step};
 ghost use Rattle.jc_interp.specs.Running.{run_methods, run_of, run_ad_hoc};
 
-use crate::explain::{note_budget, note_end, paused_instr};
+use crate::explain::{note_budget, note_end};
 use crate::frames_only::{PausedStep, run_turn};
 use crate::step::{code_of, finish};
 use jc_frames::{Frames, Origin, Outcome};
@@ -34,12 +34,13 @@ pub fn run_of<S: WordStore>(
     let mut code = code_of(lent, number, linked);
     while let Some((rest, pause)) = run_turn(code, left, frames, memory.notes()) {
         left = rest;
-        let PausedStep { place, why, failed } = pause;
+        let PausedStep { place, .. } = pause;
         match finish(pause, frames, memory, linked) {
             Ok(()) => {}
             Err(StepExit::End(outcome)) => {
-                let instr = paused_instr(why, failed);
-                note_end(&outcome, left, instr, code, place, frames, memory, linked);
+                if memory.notes().are_kept() {
+                    note_end(&outcome, left, code, place, frames, memory, linked);
+                }
                 return Ok((left, outcome));
             }
             Err(StepExit::Throw(_)) => return Ok((left, Outcome::Fault)),
@@ -88,6 +89,7 @@ pub fn run_ad_hoc<S: WordStore>(
         method: 0,
         owner: RUNTIME_ENVIRONMENT,
     };
-    let mut frames = Frames::begin(&[], locals, max_stack, 0, no_package);
+    let mut frames = Frames::empty();
+    frames.begin(&[], locals, max_stack, 0, no_package);
     run_of(code, budget, &mut frames, memory, linked)
 }

@@ -1,11 +1,15 @@
 //! How the frame of a method in bytecode begins.
-ghost use Rattle.std.specs.Prelude.{◌≡◌, false};
+ghost use Rattle.std.specs.Prelude.{OnErr, ◌≡◌, false};
+ghost use Rattle.std.specs.Option.{option_map};
+ghost use Rattle.std.specs.Result.{result_ok};
 ghost use Rattle.jc_memory.specs.Programs.{Executes};
 ghost use Rattle.jc_world.specs.Instructions.{after_instruction};
 ghost use Rattle.jc_interp_calls.specs.Entering.{first_frames_of, method_entry_with, entry_of, origin_of, registers_in_callee, takes};
 
 use crate::method_component::method_component_of;
-use jc_frames::{CallKind, Cell, Entry, Frames, MOST_CELLS, Origin, Outcome, ReturnPoint};
+use jc_frames::{
+    CallKind, Cell, CodeFault, Entry, Frames, MOST_CELLS, Origin, Outcome, ReturnPoint,
+};
 use jc_linker::linked::Linked;
 use jc_memory::{Memory, Owner, Registers};
 use jc_opcodes::{Header, header_at};
@@ -121,9 +125,9 @@ pub fn enter<S: WordStore>(
     Ok(())
 }
 
-/// The frames of a method before its first instruction, which nothing called; `None`, a code fault, where
-/// its header is cut, where it is abstract or takes another number of cells, or where its cells are too
-/// many.
+/// Begins the frame of a method that nothing called, in place of the frames that are there. A code fault, and
+/// nothing changes, where its header is cut, where it is abstract or takes another number of cells, or where
+/// its cells are too many.
 #[tactic(auto, unfolding(crate::specs::Entering::first_frames_of))]
 pub fn begin(
     linked: &Linked,
@@ -131,18 +135,23 @@ pub fn begin(
     offset: u16,
     arguments: &[Cell],
     owner: OwnerWord,
-) -> Option<Frames>
-    ensures { result ≡ first_frames_of linked.now package_number offset arguments.now owner }
+    frames: &mut Frames,
+) -> Result<(), CodeFault>
+    ensures begun { option_map (λ _. frames.new) (result_ok result)
+        ≡ first_frames_of linked.now package_number offset arguments.now owner }
+    ensures same { OnErr result (frames.new ≡ frames.old) }
 {
-    let header = header_at(method_component_of(package_number, linked), offset)?;
+    let component = method_component_of(package_number, linked);
+    let header = header_at(component, offset).ok_or(CodeFault)?;
     let cells = arguments.len() + usize::from(header.locals) + usize::from(header.limit);
     if !takes(arguments.len(), header) || cells > MOST_CELLS {
-        return None;
+        return Err(CodeFault);
     }
     let origin = Origin {
         package_number,
         method: offset,
         owner,
     };
-    Some(Frames::begin(arguments, header.locals, header.limit, header.place, origin))
+    frames.begin(arguments, header.locals, header.limit, header.place, origin);
+    Ok(())
 }

@@ -71,14 +71,11 @@ pub(crate) fn note_exception<S: WordStore>(
 )
     requires up { memory.now.heap.down ≡ false }
 {
-    let notes = memory.notes();
-    if !notes.are_kept() {
-        return;
-    }
     let Some(facts) = memory.header(thrown) else {
         return;
     };
     let reason = reason_of(thrown, facts, memory, linked);
+    let notes = memory.notes();
     notes.cause(Cause::Exception(facts.class(), reason));
     note_frames(place, frames, notes);
 }

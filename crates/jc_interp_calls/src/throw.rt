@@ -83,7 +83,9 @@ fn throw_object<S: WordStore>(
     ensures { Executes (object_unwind thrown place linked.now frames.old memory.old) memory.old
         (after_instruction result frames.new memory.new) }
 {
-    note_exception(thrown, place, frames, memory, linked);
+    if memory.notes().are_kept() {
+        note_exception(thrown, place, frames, memory, linked);
+    }
     match memory.header(thrown) {
         Some(facts) => unwind(facts.class(), thrown, place, frames, memory, linked),
         None => Err(StepExit::End(Outcome::Fault)),

@@ -9,7 +9,11 @@ use crate::operands::{s1_at, s2_at, u1_at, u2_at};
 use crate::returns::decode_return;
 
 #[inline(always)]
-pub(crate) fn decode_branch(opcode: u8, code: &[u8], at: usize) -> Option<(Instr, usize)>
+pub(crate) fn decode_branch<const AGAIN: bool>(
+    opcode: u8,
+    code: &[u8],
+    at: usize,
+) -> Option<(Instr, usize)>
     requires { at ≤ length code.now }
     ensures value { result ≡ option_and_then (instruction_with code.now at)
         (form_in from_branches opcode) }
@@ -33,14 +37,14 @@ pub(crate) fn decode_branch(opcode: u8, code: &[u8], at: usize) -> Option<(Instr
         0x6D => Condition::Shorts(Comparison::GreaterOrEqual), // if_scmpge
         0x6E => Condition::Shorts(Comparison::Greater), // if_scmpgt
         0x6F => Condition::Shorts(Comparison::LessOrEqual), // if_scmple
-        _ => return decode_wide_if(opcode, code, at),
+        _ => return decode_wide_if::<AGAIN>(opcode, code, at),
     };
     let offset = s1_at(code, at)?;
     Some((Instr::Branch(BranchOp::If(condition, offset)), at + 1))
 }
 
 #[inline(always)]
-fn decode_wide_if(opcode: u8, code: &[u8], at: usize) -> Option<(Instr, usize)>
+fn decode_wide_if<const AGAIN: bool>(opcode: u8, code: &[u8], at: usize) -> Option<(Instr, usize)>
     requires { at ≤ length code.now }
     ensures value { result ≡ option_and_then (instruction_with code.now at)
         (form_in from_wide opcode) }
@@ -64,14 +68,14 @@ fn decode_wide_if(opcode: u8, code: &[u8], at: usize) -> Option<(Instr, usize)>
         0xA5 => Condition::Shorts(Comparison::GreaterOrEqual), // if_scmpge_w
         0xA6 => Condition::Shorts(Comparison::Greater), // if_scmpgt_w
         0xA7 => Condition::Shorts(Comparison::LessOrEqual), // if_scmple_w
-        _ => return decode_jump(opcode, code, at),
+        _ => return decode_jump::<AGAIN>(opcode, code, at),
     };
     let offset = s2_at(code, at)?;
     Some((Instr::Branch(BranchOp::If(condition, offset)), at + 2))
 }
 
 #[inline(always)]
-fn decode_jump(opcode: u8, code: &[u8], at: usize) -> Option<(Instr, usize)>
+fn decode_jump<const AGAIN: bool>(opcode: u8, code: &[u8], at: usize) -> Option<(Instr, usize)>
     requires { at ≤ length code.now }
     ensures value { result ≡ option_and_then (instruction_with code.now at)
         (form_in from_jumps opcode) }
@@ -83,15 +87,15 @@ fn decode_jump(opcode: u8, code: &[u8], at: usize) -> Option<(Instr, usize)>
         0xA8 => (BranchOp::Goto(s2_at(code, at)?), at + 2), // goto_w
         0x71 => (BranchOp::Jsr(s2_at(code, at)?), at + 2), // jsr
         0x72 => (BranchOp::Ret(u1_at(code, at)?), at + 1), // ret
-        0x73 => return decode_table_switch(code, at), // stableswitch
-        0x75 => return decode_lookup_switch(code, at), // slookupswitch
-        _ => return decode_return(opcode, code, at),
+        0x73 => return decode_table_switch::<AGAIN>(code, at), // stableswitch
+        0x75 => return decode_lookup_switch::<AGAIN>(code, at), // slookupswitch
+        _ => return decode_return::<AGAIN>(opcode, code, at),
     };
     Some((Instr::Branch(branch), next))
 }
 
 #[inline(always)]
-fn decode_table_switch(code: &[u8], at: usize) -> Option<(Instr, usize)>
+fn decode_table_switch<const AGAIN: bool>(code: &[u8], at: usize) -> Option<(Instr, usize)>
     requires { at ≤ length code.now }
     ensures value { result ≡ instruction_with code.now at Form.TableSwitch }
     ensures within { IfSome result (λ p. p.1 ≤ length code.now) }
@@ -117,7 +121,7 @@ fn decode_table_switch(code: &[u8], at: usize) -> Option<(Instr, usize)>
 }
 
 #[inline(always)]
-fn decode_lookup_switch(code: &[u8], at: usize) -> Option<(Instr, usize)>
+fn decode_lookup_switch<const AGAIN: bool>(code: &[u8], at: usize) -> Option<(Instr, usize)>
     requires { at ≤ length code.now }
     ensures value { result ≡ instruction_with code.now at Form.LookupSwitch }
     ensures within { IfSome result (λ p. p.1 ≤ length code.now) }

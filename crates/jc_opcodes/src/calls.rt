@@ -7,7 +7,11 @@ use crate::instr::{Instr, InvokeOp};
 use crate::operands::{u1_at, u2_at};
 
 #[inline(always)]
-pub(crate) fn decode_call(opcode: u8, code: &[u8], at: usize) -> Option<(Instr, usize)>
+pub(crate) fn decode_call<const AGAIN: bool>(
+    opcode: u8,
+    code: &[u8],
+    at: usize,
+) -> Option<(Instr, usize)>
     requires { at ≤ length code.now }
     ensures value { result ≡ option_and_then (instruction_with code.now at) (form_in calls opcode) }
     ensures within { IfSome result (λ p. p.1 ≤ length code.now) }
@@ -17,14 +21,14 @@ pub(crate) fn decode_call(opcode: u8, code: &[u8], at: usize) -> Option<(Instr, 
         0x8B => (InvokeOp::Virtual(u2_at(code, at)?), at + 2), // invokevirtual
         0x8C => (InvokeOp::Special(u2_at(code, at)?), at + 2), // invokespecial
         0x8D => (InvokeOp::Static(u2_at(code, at)?), at + 2), // invokestatic
-        0x8E => return decode_interface_call(code, at), // invokeinterface
+        0x8E => return decode_interface_call::<AGAIN>(code, at), // invokeinterface
         _ => return None,
     };
     Some((Instr::Invoke(call), next))
 }
 
 #[inline(always)]
-fn decode_interface_call(code: &[u8], at: usize) -> Option<(Instr, usize)>
+fn decode_interface_call<const AGAIN: bool>(code: &[u8], at: usize) -> Option<(Instr, usize)>
     requires { at ≤ length code.now }
     ensures value { result ≡ instruction_with code.now at
         (Form.U1U2U1 (λ arguments index token. Instr.Invoke

@@ -10,7 +10,11 @@ use crate::instr::{Instr, ObjectOp, TestedType};
 use crate::operands::{u1_at, u2_at};
 
 #[inline(always)]
-pub(crate) fn decode_object(opcode: u8, code: &[u8], at: usize) -> Option<(Instr, usize)>
+pub(crate) fn decode_object<const AGAIN: bool>(
+    opcode: u8,
+    code: &[u8],
+    at: usize,
+) -> Option<(Instr, usize)>
     requires { at ≤ length code.now }
     ensures value { result ≡ option_and_then (instruction_with code.now at)
         (form_in from_objects opcode) }
@@ -28,7 +32,7 @@ pub(crate) fn decode_object(opcode: u8, code: &[u8], at: usize) -> Option<(Instr
             ObjectOp::InstanceOf(tested_type_of(u1_at(code, at)?, u2_at(code, at + 1)?)?),
             at + 3,
         ),
-        _ => return decode_call(opcode, code, at),
+        _ => return decode_call::<AGAIN>(opcode, code, at),
     };
     Some((Instr::Object(operation), next))
 }

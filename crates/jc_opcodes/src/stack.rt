@@ -9,7 +9,11 @@ use crate::instr::{Instr, StackOp};
 use crate::operands::u1_at;
 
 #[inline(always)]
-pub(crate) fn decode_stack(opcode: u8, code: &[u8], at: usize) -> Option<(Instr, usize)>
+pub(crate) fn decode_stack<const AGAIN: bool>(
+    opcode: u8,
+    code: &[u8],
+    at: usize,
+) -> Option<(Instr, usize)>
     requires { at ≤ length code.now }
     ensures value { result ≡ option_and_then (instruction_with code.now at)
         (form_in from_stack opcode) }
@@ -23,7 +27,7 @@ pub(crate) fn decode_stack(opcode: u8, code: &[u8], at: usize) -> Option<(Instr,
         0x3E => (StackOp::Dup2, at), // dup2
         0x3F => (duplicate_below_of(u1_at(code, at)?)?, at + 1), // dup_x
         0x40 => (swap_of(u1_at(code, at)?)?, at + 1), // swap_x
-        _ => return decode_arithmetic(opcode, code, at),
+        _ => return decode_arithmetic::<AGAIN>(opcode, code, at),
     };
     Some((Instr::Stack(stack), next))
 }

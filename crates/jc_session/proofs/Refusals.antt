@@ -1,5 +1,5 @@
 -- Counts of refused writes over sessions.
-use Rattle.std.proofs.Common.{◌≡◌, ℕ, ◌+◌, ◌<◌, ◌≤◌, List, [], ◌∷◌, ap, ◌∙◌, false, arith}
+use Rattle.std.proofs.Common.{◌≡◌, ℕ, ◌+◌, ◌<◌, ◌≤◌, List, [], ◌∷◌, refl, ap, ◌∙◌, false, arith}
 use Rattle.jc_words.specs.Count.{saturating_count}
 use Rattle.jc_words.specs.Refusals.{Refusals, refused_once}
 use Rattle.jc_words.proofs.Refusals.{count-refused_once}
@@ -9,11 +9,8 @@ use Rattle.jc_memory.proofs.ProgramLemmas.{refusals_did}
 use Rattle.jc_card.specs.Answers.{exchange}
 use Rattle.jc_card.specs.CardState.{CardState}
 use Rattle.jc_card.specs.Dispatching.{with_response}
-use Rattle.jc_session.specs.declared.event.Event.{Event}
-use Rattle.jc_session.specs.declared.event.Event.TheVariants.{Command, Reset}
-use Rattle.jc_session.specs.declared.event.Answer.{Answer}
-use Rattle.jc_session.specs.declared.event.Answer.TheVariants.{Response, Ready, Down}
-use Rattle.jc_session.specs.Power.{PowerState, Up, Off, KeptState, budget_of, durable_state}
+use Rattle.jc_session.specs.Requests.{Request, Command, Reset, ArmFuse, Reply, Response, Ready, Down}
+use Rattle.jc_session.specs.Power.{PowerState, Up, Off, KeptState, armed, budget_of, durable_state}
 use Rattle.jc_session.specs.Starting.{IsPoweredUp}
 use Rattle.jc_session.specs.Serving.{AnswersCommand, AnswersReset, Serves, SessionRun}
 
@@ -24,7 +21,7 @@ one_more n h = omega (arith, h)
 grows : (n : ℕ) → n ≤ saturating_count n 1
 grows n = omega arith
 
-pub is_same : (m n : ℕ) → n ≡ m → m ≤ n
+is_same : (m n : ℕ) → n ≡ m → m ≤ n
 is_same m n e = omega (arith, e)
 
 -- a write that was refused raises the count
@@ -44,31 +41,37 @@ pub done_refusals : (bytes r : List ℕ) (card next : CardState) → Completes (
 done_refusals bytes r card next did = refusals_did (exchange bytes card) card.memory next.memory (with_response next r) did
 
 -- no command lowers the count
-pub command_grows : (s : PowerState) (bytes : List ℕ) (answer : Answer) (next : PowerState) → AnswersCommand s bytes answer next
+command_grows : (s : PowerState) (bytes : List ℕ) (reply : Reply) (next : PowerState) → AnswersCommand s bytes reply next
     → (durable_state s).refusals.count ≤ (durable_state next).refusals.count
 command_grows (Up card) bytes (Response r) (Up next) h = is_same _ _ (ap (λ (x : Refusals). x.count) (done_refusals bytes r card next h))
 command_grows (Up card) bytes Down (Off b k) h = is_raised k.passed _ _ h.2
 command_grows (Off b k) bytes Down (Off d l) h = is_same _ _ (ap (λ (x : KeptState). x.refusals.count) h.0)
-command_grows s bytes answer next h = absurd h
+command_grows s bytes reply next h = absurd h
 
 -- nor does a reset
-pub reset_grows : (s : PowerState) (answer : Answer) (next : PowerState) → AnswersReset s answer next
+reset_grows : (s : PowerState) (reply : Reply) (next : PowerState) → AnswersReset s reply next
     → (durable_state s).refusals.count ≤ (durable_state next).refusals.count
 reset_grows s Ready (Up card) h = is_same _ _ (ap (λ (x : Refusals). x.count) (powered_refusals (durable_state s) (budget_of s) card h))
 reset_grows s Down (Off b k) h = is_raised k.passed _ _ (ap (λ (x : KeptState). x.refusals) h.0)
-reset_grows s answer next h = absurd h
+reset_grows s reply next h = absurd h
 
-pub served_grows : (s : PowerState) (event : Event) (answer : Answer) (next : PowerState) → Serves s event answer next
+-- nor does arming the fuse
+armed_count : (k : ℕ) (s : PowerState) → (durable_state (armed k s)).refusals.count ≡ (durable_state s).refusals.count
+armed_count k (Up card) = refl
+armed_count k (Off b kept) = refl
+
+pub served_grows : (s : PowerState) (request : Request) (reply : Reply) (next : PowerState) → Serves s request reply next
     → (durable_state s).refusals.count ≤ (durable_state next).refusals.count
-served_grows s (Command bytes) answer next h = command_grows s bytes.items answer next h
-served_grows s Reset answer next h = reset_grows s answer next h
+served_grows s (Command bytes) reply next h = command_grows s bytes reply next h
+served_grows s Reset reply next h = reset_grows s reply next h
+served_grows s (ArmFuse k) reply next h = is_same _ _ (ap (λ p. (durable_state p).refusals.count) h.1 ∙ armed_count k s)
 
-pub run_grows : (s : PowerState) (events : List Event) (answers : List Answer) (last : PowerState) → SessionRun s events answers last
+pub run_grows : (s : PowerState) (requests : List Request) (replies : List Reply) (last : PowerState) → SessionRun s requests replies last
     → (durable_state s).refusals.count ≤ (durable_state last).refusals.count
 run_grows s [] [] last h = is_same _ _ (ap (λ p. (durable_state p).refusals.count) h)
-run_grows s (event ∷ events) (answer ∷ answers) last h =
-    let first = served_grows s event answer h.0 h.1 in
-    let rest = run_grows h.0 events answers last h.2 in
+run_grows s (request ∷ requests) (reply ∷ replies) last h =
+    let first = served_grows s request reply h.0 h.1 in
+    let rest = run_grows h.0 requests replies last h.2 in
     omega (arith, first, rest)
-run_grows s [] (answer ∷ answers) last h = absurd h
-run_grows s (event ∷ events) [] last h = absurd h
+run_grows s [] (reply ∷ replies) last h = absurd h
+run_grows s (request ∷ requests) [] last h = absurd h

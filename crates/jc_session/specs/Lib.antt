@@ -1,3 +1,4 @@
+pub mod Requests
 pub mod Power
 pub mod Starting
 pub mod Serving

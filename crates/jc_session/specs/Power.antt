@@ -2,7 +2,8 @@
 use Rattle.std.specs.Prelude.{ℕ, ◌≡◌, ◌==◌, ◌&&◌, nat_le, nat_lt, Bool, true, false, List, length, slice_index}
 use Rattle.std.specs.List.{list_all}
 use Rattle.jc_words.specs.Layout.{top_address}
-use Rattle.jc_words.specs.Refusals.{Refusals, refused_once}
+use Rattle.jc_words.specs.Count.{saturating_count}
+use Rattle.jc_words.specs.Refusals.{Refusals, refused_once, with_fuse_at}
 use Rattle.jc_commit.specs.Image.{IsGoodLog, limit_of, recovered_of}
 use Rattle.jc_heap.specs.Heap.{HeapState, HeapView, heap_of}
 use Rattle.jc_heap.specs.Image.{base, image, missing_words_of_image, package_addresses}
@@ -44,6 +45,19 @@ with_refusal passed k = record k { down = true; passed = passed; refusals = refu
 -- the power is back, and so many writes have passed
 abbrev pub with_power : ℕ → KeptState → KeptState
 with_power passed k = record k { down = false; passed = passed }
+
+-- the fuse of its store is armed, so that k further writes pass, and nothing else changes
+abbrev pub armed_card : ℕ → CardState → CardState
+armed_card k card = record card {
+  memory = record card.memory {
+    heap = record card.memory.heap { refusals = with_fuse_at (saturating_count card.memory.heap.passed k) card.memory.heap.refusals };
+  };
+}
+
+-- the same of a card that is up or off
+abbrev pub armed : ℕ → PowerState → PowerState
+armed k (Up card) = Up (armed_card k card)
+armed k (Off budget kept) = Off budget (record kept { refusals = with_fuse_at (saturating_count kept.passed k) kept.refusals })
 
 -- the words of a store, whether it is down, how many writes have passed, and those that it has refused
 pub record StoreState : Type 0 where

@@ -1,7 +1,6 @@
 -- What a session holds.
 use Rattle.jc_session.specs.Power.{PowerState, Up, Off}
-use Rattle.jc_session.specs.declared.event.Answer.{Answer}
-use Rattle.jc_session.specs.declared.event.Answer.TheVariants.{Ready, Down}
+use Rattle.jc_session.specs.Requests.{Reply, Ready, Down}
 use Rattle.jc_session.specs.declared.state.SessionState.{SessionState}
 use Rattle.jc_session.specs.declared.state.SessionState.TheVariants.{Card, Store}
 
@@ -11,6 +10,6 @@ power_of (Card card) = Up card
 power_of (Store kept budget) = Off budget kept
 
 -- what is answered after a power up
-abbrev pub answer_of_power_up : PowerState → Answer
+abbrev pub answer_of_power_up : PowerState → Reply
 answer_of_power_up (Up card) = Ready
 answer_of_power_up (Off budget k) = Down

@@ -1,7 +1,8 @@
 //! Sessions.
 ghost use Rattle.std.specs.Prelude.{◌≡◌, ◌<◌, length, Err, IfOk};
+ghost use Rattle.jc_words.specs.Refusals.{IsWithinFuse};
 ghost use Rattle.jc_card.specs.Dispatching.{usual_budget};
-ghost use Rattle.jc_session.specs.Sessions.{SessionEnds, answers_of};
+ghost use Rattle.jc_session.specs.Sessions.{SessionEnds, replies_of, requests_of};
 ghost use Rattle.jc_session.specs.WholeCopies.{IsWholeSession, RefusesNone};
 
 use crate::event::{Answer, Event};
@@ -29,9 +30,9 @@ pub fn session<S: WordStore>(
     store: S,
     events: &[Event],
 ) -> (S, Result<Vec<Answer>, SessionFault>)
-    ensures session { SessionEnds usual_budget (answers_of result.1)
+    ensures session { SessionEnds usual_budget (replies_of result.1)
         (record { words = S.words store; down = S.down store; passed = S.passed store; refusals = S.refusals store })
-        events.now
+        (requests_of events.now)
         (record {
           words = S.words result.0;
           down = S.down result.0;
@@ -39,15 +40,17 @@ pub fn session<S: WordStore>(
           refusals = S.refusals result.0;
         }) }
     ensures memory { result.1 ≡ Err SessionFault.NoMemory → 0 < length events.now }
+    // Its fuse let no more writes pass than it was set to.
+    ensures within { IsWithinFuse (S.passed result.0) (S.refusals result.0).fuse }
     // While the store refuses no write, the answers and the heap are those of a card that keeps whole copies of its heap.
     ensures whole { RefusesNone (S.refusals store).count (S.refusals result.0).count
-        → IfOk (answers_of result.1) (λ answers.
+        → IfOk (replies_of result.1) (λ replies.
         IsWholeSession usual_budget (record {
           words = S.words store;
           down = S.down store;
           passed = S.passed store;
           refusals = S.refusals store;
-        }) events.now answers
+        }) (requests_of events.now) replies
         (record {
           words = S.words result.0;
           down = S.down result.0;
@@ -56,23 +59,34 @@ pub fn session<S: WordStore>(
         })) }
 {
     let Ok(room) = Vec::with_capacity(alloc, events.len()) else {
+        let _within = store.passed_writes();
         return (store, Err(SessionFault::NoMemory));
     };
     let mut answers = room;
     let mut held = match SessionState::start(alloc, store) {
         Ok(held) => held,
-        Err((fault, store)) => return (store, Err(SessionFault::PowerFault(fault))),
+        Err((fault, store)) => {
+            let _within = store.passed_writes();
+            return (store, Err(SessionFault::PowerFault(fault)));
+        }
     };
     for event in events {
         match held.serve(alloc, event) {
             Ok((next, answer)) => {
                 held = next;
                 let Ok(()) = answers.push(answer) else {
-                    return (held.into_store(), Err(SessionFault::NoMemory));
+                    let store = held.into_store();
+                    let _within = store.passed_writes();
+                    return (store, Err(SessionFault::NoMemory));
                 };
             }
-            Err((fault, store)) => return (store, Err(SessionFault::PowerFault(fault))),
+            Err((fault, store)) => {
+                let _within = store.passed_writes();
+                return (store, Err(SessionFault::PowerFault(fault)));
+            }
         }
     }
-    (held.into_store(), Ok(answers))
+    let store = held.into_store();
+    let _within = store.passed_writes();
+    (store, Ok(answers))
 }

@@ -2,7 +2,7 @@
 ghost use Rattle.jc_session.specs.Laws.{AreWholeSessions, DownTellsRefusals, ManagerUnselects, ResetsBeginAnew};
 
 /// A session over a store that refuses no write is that of a card that keeps whole copies of its heap. Its
-/// answers are responses and ready, and its heap is that card's.
+/// replies are responses, ready and armed, and its heap is that card's.
 pub fn sessions_are_those_of_whole_copies()
     ensures { AreWholeSessions }
 {}

@@ -5,6 +5,7 @@ ghost use Rattle.jc_commit.specs.Image.{IsGoodLog};
 ghost use Rattle.jc_memory.specs.Programs.{Completes, TearLeaves};
 ghost use Rattle.jc_card.specs.Answers.{exchange};
 ghost use Rattle.jc_card.specs.Dispatching.{usual_budget, with_response};
+ghost use Rattle.jc_session.specs.Requests.{Reset, reply_of, request_of};
 ghost use Rattle.jc_session.specs.Power.{IsStoreOf, budget_of, durable_state_in_store};
 ghost use Rattle.jc_session.specs.Starting.{FailsToReset, FailsToStart, Starts};
 ghost use Rattle.jc_session.specs.Serving.{AnswersCommand, AnswersReset, Serves};
@@ -178,7 +179,8 @@ impl<S: WordStore> SessionState<S> {
 
     /// Carries a command out, where there is power.
     pub fn exchange(self, command: &[u8]) -> (SessionState<S>, Answer)
-        ensures { AnswersCommand (power_of self) command.now result.1 (power_of result.0) }
+        ensures { AnswersCommand (power_of self) command.now (reply_of result.1)
+            (power_of result.0) }
     {
         match self {
             SessionState::Card(up) => {
@@ -194,7 +196,7 @@ impl<S: WordStore> SessionState<S> {
 
     /// Takes the power away, brings it back and powers up. At a fault the store comes back, with its power on.
     pub fn reset(self, alloc: Global) -> Result<(SessionState<S>, Answer), (PowerFault, S)>
-        ensures reset { IfOk result (λ r. AnswersReset (power_of self) r.1 (power_of r.0)) }
+        ensures reset { IfOk result (λ r. AnswersReset (power_of self) (reply_of r.1) (power_of r.0)) }
         ensures fault { IfErr result (λ e. FailsToReset e.0 (power_of self)
             (record { words = S.words e.1; down = S.down e.1; passed = S.passed e.1; refusals = S.refusals e.1 })) }
     {
@@ -211,7 +213,7 @@ impl<S: WordStore> SessionState<S> {
 
     // Ready where the card is up, else down.
     fn power_up_answer(&self) -> Answer
-        ensures { result ≡ answer_of_power_up (power_of self.now) }
+        ensures { reply_of result ≡ answer_of_power_up (power_of self.now) }
     {
         match self {
             SessionState::Card(_) => Answer::Ready,
@@ -225,8 +227,9 @@ impl<S: WordStore> SessionState<S> {
         alloc: Global,
         event: &Event,
     ) -> Result<(SessionState<S>, Answer), (PowerFault, S)>
-        ensures served { IfOk result (λ r. Serves (power_of self) event.now r.1 (power_of r.0)) }
-        ensures fault { IfErr result (λ e. (event.now ≡ Event.Reset)
+        ensures served { IfOk result (λ r. Serves (power_of self) (request_of event.now)
+            (reply_of r.1) (power_of r.0)) }
+        ensures fault { IfErr result (λ e. (request_of event.now ≡ Reset)
             × FailsToReset e.0 (power_of self) (record {
               words = S.words e.1;
               down = S.down e.1;

@@ -1,1 +1,2 @@
 pub mod Clearing
+mod Numbers

@@ -1,5 +1,5 @@
 -- Values of cells.
-use Rattle.std.specs.Prelude.{ℕ, ◌≡◌, ◌%◌, List, map, drop, pos, nat_lt, if◌then◌else◌}
+use Rattle.std.specs.Prelude.{ℕ, ◌≡◌, ◌%◌, Bool, true, false, List, [], ◌∷◌, map, drop, pos, nat_lt, if◌then◌else◌}
 use Rattle.std.specs.Int.{w16, cast_signed, cast_unsigned}
 use Rattle.jc_transient.specs.declared.cell.CellValue.{CellValue}
 use Rattle.jc_transient.specs.declared.cell.CellValue.TheVariants.{Short, Reference}
@@ -26,3 +26,13 @@ low_byte (Reference r) = 0
 -- the cells from this place on are as a clearing leaves them
 abbrev pub AreClearedFrom : ℕ → List CellValue → Type 0
 AreClearedFrom place cells = map default_value (drop place cells) ≡ drop place cells
+
+-- whether a cell holds the name of an object, or null
+abbrev pub is_reference : CellValue → Bool
+is_reference (Short v) = false
+is_reference (Reference r) = true
+
+-- the cells hold numbers alone
+abbrev pub AreNumbers : List CellValue → Type 0
+AreNumbers [] = Unit {0}
+AreNumbers (cell ∷ cells) = (is_reference cell ≡ false) × AreNumbers cells

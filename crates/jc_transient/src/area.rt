@@ -7,24 +7,26 @@ use crate::cell::CellValue;
 use std::alloc::{AllocError, Global};
 use std::marker::Model;
 
-/// Cells, all of which from the first `used` on are as a clearing leaves them.
+/// Cells, all of which from the first `used` on are as a clearing leaves them. They hold numbers alone where none was set to a reference.
 #[derive(Drop)]
 pub(crate) struct Area {
     cells: Vec<CellValue>,
     used: usize,
+    has_references: bool,
 }
 
 impl Model for Area {
-    ghost use Rattle.std.specs.Prelude.{List, ◌≤◌, length};
+    ghost use Rattle.std.specs.Prelude.{List, ◌≡◌, ◌≤◌, false, length};
     ghost use Rattle.jc_transient.specs.declared.cell.CellValue.{CellValue};
-    ghost use Rattle.jc_transient.specs.Cells.{AreClearedFrom};
+    ghost use Rattle.jc_transient.specs.Cells.{AreClearedFrom, AreNumbers};
 
     ghost Value = { List CellValue };
 
     ghost view = { λ a. a.cells.items };
 
     ghost invariant = { λ a. (a.used ≤ length a.cells.items)
-        × AreClearedFrom a.used a.cells.items };
+        × AreClearedFrom a.used a.cells.items
+        × (a.has_references ≡ false → AreNumbers a.cells.items) };
 }
 
 impl Area {
@@ -37,6 +39,7 @@ impl Area {
         Ok(Area {
             cells: zero_cells(alloc, count)?,
             used: 0,
+            has_references: false,
         })
     }
 
@@ -55,6 +58,7 @@ impl Area {
         requires { place < length self.old }
         ensures { self.new ≡ slice_set self.old place value }
     {
+        self.has_references = value.is_reference() || self.has_references;
         self.cells[place] = value;
         self.used = self.used.max(place + 1);
     }
@@ -64,6 +68,7 @@ impl Area {
         requires { place + count ≤ length self.old }
         ensures { self.new ≡ with_cells self.old place (replicate count value) }
     {
+        self.has_references = value.is_reference() || self.has_references;
         fill_cells(self.cells.as_mut_slice(), place, count, &value);
         self.used = self.used.max(place + count);
     }
@@ -98,7 +103,9 @@ impl Area {
     pub(crate) fn null_dead(&mut self, top: u16)
         ensures { self.new ≡ map (without_dead top) self.old }
     {
-        null_dead_cells(self.cells.as_mut_slice(), self.used, top);
+        if self.has_references {
+            null_dead_cells(self.cells.as_mut_slice(), self.used, top);
+        }
     }
 }
 

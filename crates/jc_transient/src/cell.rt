@@ -1,6 +1,6 @@
 //! Values of cells.
 ghost use Rattle.std.specs.Prelude.{◌≡◌};
-ghost use Rattle.jc_transient.specs.Cells.{default_value, without_dead, number_of, low_byte};
+ghost use Rattle.jc_transient.specs.Cells.{default_value, is_reference, without_dead, number_of, low_byte};
 
 use crate::Ref;
 
@@ -46,6 +46,17 @@ impl CellValue {
                     CellValue::Reference(Ref::null())
                 }
             }
+        }
+    }
+
+    /// Whether it is the name of an object, or null.
+    #[inline(always)]
+    pub(crate) const fn is_reference(&self) -> bool
+        ensures { result ≡ is_reference self.now }
+    {
+        match *self {
+            CellValue::Short(_) => false,
+            CellValue::Reference(_) => true,
         }
     }
 

@@ -1,12 +1,13 @@
 -- Steps and runs keep the order of transactions.
-use Rattle.std.proofs.Common.{ℕ, zero, suc, false, List, refl, Option, Some, None}
+use Rattle.std.proofs.Common.{◌≡◌, ℕ, zero, suc, true, false, List, refl, Option, Some, None}
 use Rattle.jc_transient.specs.declared.cell.CellValue.{CellValue}
 use Rattle.jc_transient.specs.declared.cell.CellValue.TheVariants.{Short}
 use Rattle.jc_transient.specs.declared.cell.ClearEvent.{ClearEvent}
 use Rattle.jc_heap.specs.Heap.{facts}
 use Rattle.jc_memory.specs.declared.making.NewObject.{NewObject}
+use Rattle.jc_memory.specs.declared.registers.PackageNumber.{PackageNumber}
 use Rattle.jc_memory.specs.Cells.{cell_effect_in, cells_effect_in}
-use Rattle.jc_memory.specs.Making.{creation_move, creation_refusal}
+use Rattle.jc_memory.specs.Making.{creation_move}
 use Rattle.jc_memory.specs.Programs.{Program}
 use Rattle.jc_memory.specs.Reading.{AllDue}
 use Rattle.jc_memory.specs.State.{MemoryState, HeapMove, SetFlag, apply_effect}
@@ -16,18 +17,13 @@ use Rattle.jc_platform.specs.declared.names.PlatformMethod.{PlatformMethod}
 use Rattle.jc_frames.specs.declared.cell.Cell.{Cell}
 use Rattle.jc_frames.specs.declared.outcome.Outcome.{Outcome}
 use Rattle.jc_frames.specs.Frames.{Frames, Next, GoesOn, Throws, Ends}
-use Rattle.jc_world.specs.Arrays.{bytes_in}
-use Rattle.jc_world.specs.Making.{new_on_top}
 use Rattle.jc_api_data.specs.ApduBuffer.{data_of}
 use Rattle.jc_api_runtime.specs.AidCells.{cells_of_aid}
-use Rattle.jc_api_runtime.specs.Register.{registration}
 use Rattle.jc_interp.specs.Running.{or_end, run_of}
 use Rattle.jc_interp.specs.Stepping.{machine_step}
-use Rattle.law_isolation.proofs.Applets.{registered_due}
-use Rattle.law_isolation.proofs.Due.{due_unless}
-use Rattle.law_isolation.proofs.Instructions.{static_due}
+use Rattle.law_isolation.proofs.Applets.{Registering}
 use Rattle.law_isolation.proofs.Methods.{method_due}
-use Rattle.law_isolation.proofs.Passing.{ArraysPass, Bears, FieldsPass, MethodPasses}
+use Rattle.law_isolation.proofs.Passing.{ArraysPass, Bears, FieldsPass, MethodPasses, RegistersSo}
 use Rattle.law_isolation.proofs.Walk.{step_due}
 use Rattle.law_atomicity.specs.Orderly.{KeepsTransactionOrder}
 use Rattle.law_atomicity.proofs.TransactionPins.{pin_counted, pin_flagged}
@@ -57,25 +53,19 @@ module _ (m : MemoryState) where
   made_orderly (Some event) o = tt
 
 module _ (p : Packages) (m : MemoryState) where
-  new_due : (o : NewObject) (s : Frames) → AllDue KeepsTransactionOrder (new_on_top o s m) m
-  unfolding new_on_top
-  new_due o s = due_unless KeepsTransactionOrder m s (creation_refusal m o) _ (λ r new. (made_orderly m o.event o, tt))
-
   fields_pass : FieldsPass KeepsTransactionOrder p m
   fields_pass = record {
     field = λ of_type number index r i field cells v k taken kept named cell. cell_orderly m (facts m.heap.now r).event r i k;
-    static = λ of_type number index field cells v k s taken kept named. static_due KeepsTransactionOrder p m (λ w x. tt) (λ w behind x y. tt) of_type field _ s;
+    word = λ of_type number index field cells v k w x taken kept named there whole. tt;
+    halves = λ of_type number index field w behind x y named there odd next. tt;
   }
 
   arrays_pass : ArraysPass KeepsTransactionOrder p m
   arrays_pass = record {
     element = λ of_type r f e cells v k w taken kept array inside fits. cell_orderly m (facts m.heap.now r).event r e.index w;
-    numbers = λ of_type n s. new_due _ s;
-    references = λ number index class n s named. new_due _ s;
+    numbers = λ of_type n r new. tt;
+    references = λ number index class n named r new. tt;
   }
-
-  registers : (aid : List ℕ) (instance : ℕ) → AllDue KeepsTransactionOrder (registration aid instance p m) m
-  registers = registered_due KeepsTransactionOrder (λ g v. tt) (λ v on. on) p m (λ r words new. (tt, (tt, tt))) (λ entry v is. tt)
 
   method_passes : (method : PlatformMethod) (args : List Cell) → MethodPasses KeepsTransactionOrder method args p m
   method_passes method args = record {
@@ -83,24 +73,33 @@ module _ (p : Packages) (m : MemoryState) where
     stretch = λ r count e words is long. cells_orderly m (facts m.heap.now e.array).event e.array e.start words;
     aid = λ init own bytes is long fine. cells_orderly m (facts m.heap.now own).event own 0 (cells_of_aid bytes);
     buffer = λ r is. cells_orderly m (facts m.heap.now r).event r 5 (data_of m.command);
-    transient = λ kind count event o none fine room r new. (made_orderly m o.event o, tt);
+    transient = λ kind count event o none fine room r new. made_orderly m o.event o;
     starts = λ pin is limit maximum value new. (tt, (tt, (tt, tt)));
     flags = λ pin is flag v. tt;
     counts = λ pin is n. (pin, refl, pin_flagged m pin false is.is);
     refills = λ pin is n limit. (pin, refl, pin_counted (apply_effect (SetFlag pin false) m) pin n (pin_flagged m pin false is.is));
     updates = λ pin is bytes owned short. tt;
-    own_registers = λ is aid instance own there. registers aid instance;
-    given_registers = λ is e instance own fine. registers (bytes_in m e) instance;
   }
+
+  registers : (method : PlatformMethod) (args : List Cell) → RegistersSo KeepsTransactionOrder (λ a v. Unit {0}) method args p m
+  registers method args = record {
+    own = λ is aid instance own there k may r new. registering may.begun;
+    given = λ is e instance own fine k may r new. registering may.begun;
+  }
+    where
+      registering : {aid : List ℕ} {instance : ℕ} {k : PackageNumber} {r : ℕ} → m.heap.begun ≡ true
+          → Registering KeepsTransactionOrder (λ a v. Unit {0}) p m aid instance k r
+      registering on = record { makes = tt; sets = tt; enters = tt; commits = on; turns = tt; follows = tt }
 
 pub step_orderly : (lent : List ℕ) (p : Packages) (s : Frames) (m : MemoryState) → AllDue KeepsTransactionOrder (machine_step lent p s m) m
 step_orderly lent p s m = step_due KeepsTransactionOrder lent p s m (record {
   fields = fields_pass p m;
   arrays = arrays_pass p m;
-  instances = λ number index class n s made few. new_due p m _ s;
+  instances = λ number index class n made few r new. tt;
   turns = λ g n. tt;
   reasons = λ r v n own some. tt;
-  calls = λ c method args called is are. method_due KeepsTransactionOrder (λ m. Unit {0}) bears args p m tt method (method_passes p m method args);
+  calls = λ c method args called is are. method_due KeepsTransactionOrder (λ m. Unit {0}) bears args p m tt method (method_passes p m method args)
+      (registers p m method args);
 })
 
 goes_orderly : (left : ℕ) (next : Next Frames) (more : Frames → Program (ℕ × Outcome)) (m : MemoryState)

@@ -8,11 +8,8 @@ use Rattle.jc_card.specs.PowerUp.{PowerUpRefuses}
 use Rattle.jc_card.specs.declared.power_up.PowerFault.{PowerFault as Fault}
 use Rattle.jc_card.specs.declared.power_up.PowerFault.TheVariants.{NoMemory, StoreDown}
 use Rattle.jc_card.proofs.PoweredUp.{refused_made}
-use Rattle.jc_session.specs.declared.event.Event.{Event}
-use Rattle.jc_session.specs.declared.event.Event.TheVariants.{Command, Reset}
-use Rattle.jc_session.specs.declared.event.Answer.{Answer}
-use Rattle.jc_session.specs.declared.event.Answer.TheVariants.{Response, Ready, Down}
-use Rattle.jc_session.specs.Power.{KeptState, PowerState, Up, Off, StoreState, IsStoreOf, budget_of, durable_state, durable_state_in_store, with_power}
+use Rattle.jc_session.specs.Requests.{Request, Command, Reset, ArmFuse, Reply, Response, Ready, Down}
+use Rattle.jc_session.specs.Power.{KeptState, PowerState, Up, Off, StoreState, IsStoreOf, armed, budget_of, durable_state, durable_state_in_store, with_power}
 use Rattle.jc_session.specs.Serving.{AnswersCommand, AnswersReset, Serves, SessionRun}
 use Rattle.jc_session.specs.Starting.{FailsToReset, FailsToStart, Starts}
 use Rattle.jc_session.specs.Sessions.{IsSession, FailsAtReset}
@@ -29,40 +26,39 @@ use Rattle.law_images.proofs.CardImages.{images_made}
 abbrev IsLaidIn : PowerState → Type 0
 IsLaidIn s = (durable_state s).laid ≡ true
 
-command_laid : (s : PowerState) (bytes : List ℕ) (answer : Answer) (next : PowerState) → IsLaidIn s → AnswersCommand s bytes answer next → IsLaidIn next
+command_laid : (s : PowerState) (bytes : List ℕ) (reply : Reply) (next : PowerState) → IsLaidIn s → AnswersCommand s bytes reply next → IsLaidIn next
 command_laid (Up card) bytes (Response r) (Up next) laid did = refl
 command_laid (Up card) bytes Down (Off b k) laid lost = lost.4
 command_laid (Off b k) bytes Down (Off d l) laid same = ap (λ (x : KeptState). x.laid) same.0 ∙ laid
-command_laid (Up card) bytes (Response r) (Off b k) laid none = absurd none
-command_laid (Up card) bytes Ready next laid none = absurd none
-command_laid (Up card) bytes Down (Up next) laid none = absurd none
-command_laid (Off b k) bytes (Response r) next laid none = absurd none
-command_laid (Off b k) bytes Ready next laid none = absurd none
-command_laid (Off b k) bytes Down (Up next) laid none = absurd none
+command_laid s bytes reply next laid none = absurd none
 
-reset_laid : (s : PowerState) (answer : Answer) (next : PowerState) → IsLaidIn s → AnswersReset s answer next → IsLaidIn next
+reset_laid : (s : PowerState) (reply : Reply) (next : PowerState) → IsLaidIn s → AnswersReset s reply next → IsLaidIn next
 reset_laid s Ready (Up card) laid up = refl
 reset_laid s Down (Off b k) laid same = ap (λ (x : KeptState). x.laid) same.0 ∙ laid
-reset_laid s Ready (Off b k) laid none = absurd none
-reset_laid s Down (Up card) laid none = absurd none
-reset_laid s (Response r) next laid none = absurd none
+reset_laid s reply next laid none = absurd none
 
-event_laid : (s : PowerState) (event : Event) (answer : Answer) (next : PowerState) → IsLaidIn s → Serves s event answer next → IsLaidIn next
-event_laid s (Command bytes) answer next laid served = command_laid s bytes.items answer next laid served
-event_laid s Reset answer next laid served = reset_laid s answer next laid served
+armed_laid : (k : ℕ) (s : PowerState) → IsLaidIn s → IsLaidIn (armed k s)
+armed_laid k (Up card) laid = refl
+armed_laid k (Off b kept) laid = laid
 
-session_laid : (s : PowerState) (events : List Event) (answers : List Answer) (last : PowerState) → IsLaidIn s → SessionRun s events answers last
+request_laid : (s : PowerState) (request : Request) (reply : Reply) (next : PowerState) → IsLaidIn s → Serves s request reply next → IsLaidIn next
+request_laid s (Command bytes) reply next laid served = command_laid s bytes reply next laid served
+request_laid s Reset reply next laid served = reset_laid s reply next laid served
+request_laid s (ArmFuse k) reply next laid served = subst IsLaidIn (sym served.1) (armed_laid k s laid)
+
+session_laid : (s : PowerState) (requests : List Request) (replies : List Reply) (last : PowerState) → IsLaidIn s → SessionRun s requests replies last
     → IsLaidIn last
 session_laid s [] [] last laid same = subst IsLaidIn (sym same) laid
-session_laid s (event ∷ events) (answer ∷ answers) last laid run = session_laid run.0 events answers last (event_laid s event answer run.0 laid run.1) run.2
-session_laid s [] (answer ∷ answers) last laid none = absurd none
-session_laid s (event ∷ events) [] last laid none = absurd none
+session_laid s (request ∷ requests) (reply ∷ replies) last laid run =
+    session_laid run.0 requests replies last (request_laid s request reply run.0 laid run.1) run.2
+session_laid s [] (reply ∷ replies) last laid none = absurd none
+session_laid s (request ∷ requests) [] last laid none = absurd none
 
--- the first of some commands of bytes are of bytes
-first_bytes : (n : ℕ) (events : List Event) → AreOfBytes events → AreOfBytes (take n events)
-first_bytes zero events are = tt
+-- the first of some requests of bytes are of bytes
+first_bytes : (n : ℕ) (requests : List Request) → AreOfBytes requests → AreOfBytes (take n requests)
+first_bytes zero requests are = tt
 first_bytes (suc n) [] are = tt
-first_bytes (suc n) (event ∷ events) are = (are.0, first_bytes n events are.1)
+first_bytes (suc n) (request ∷ requests) are = (are.0, first_bytes n requests are.1)
 
 -- ---- the store of a card that commands left
 
@@ -85,12 +81,12 @@ module _ (budget : ℕ) (g : OneTable) (t : Tokens) (before : StoreState) (own :
     ap (λ (x : KeptState). x.laid) h.1 ∙ if_laid (recovered_of before.words) own.keeps.laid,
   )
 
-  last_own : (events : List Event) (answers : List Answer) (last : PowerState) → AreOfBytes events → IsSession budget before events answers last
+  last_own : (requests : List Request) (replies : List Reply) (last : PowerState) → AreOfBytes requests → IsSession budget before requests replies last
       → IsOwnPower t last × IsLaidIn last
-  last_own events answers last are h =
+  last_own requests replies last are h =
       let first = first_own h.0 h.1 in
       let stays : StaysOwn = stays_own g in
-      (stays.session t h.0 events answers last are first.0 h.2, session_laid h.0 events answers last first.1 h.2)
+      (stays.session t h.0 requests replies last are first.0 h.2, session_laid h.0 requests replies last first.1 h.2)
 
 -- words that the product made have no other fault
 no_other : (fault : Fault) (words : List ℕ) → IsMade words → PowerUpRefuses fault words → (fault ≡ StoreDown → ⊥) → fault ≡ NoMemory
@@ -114,13 +110,13 @@ reset_own t s after fault own laid fails =
       }) laid fails.4,
     )
 
-fault_is : (budget : ℕ) → OneTable → (t : Tokens) (before after : StoreState) (events : List Event) (fault : Fault) → AreOfBytes events → IsOwnStore t before
-    → FailsToStart fault before after ⊎ FailsAtReset budget fault before events after → (fault ≡ NoMemory) × IsOwnStore t after
-fault_is budget g t before after events fault are own (inl start) =
+fault_is : (budget : ℕ) → OneTable → (t : Tokens) (before after : StoreState) (requests : List Request) (fault : Fault) → AreOfBytes requests → IsOwnStore t before
+    → FailsToStart fault before after ⊎ FailsAtReset budget fault before requests after → (fault ≡ NoMemory) × IsOwnStore t after
+fault_is budget g t before after requests fault are own (inl start) =
     reset_own t (Off budget (durable_state_in_store before)) after fault own.own (if_laid (recovered_of before.words) own.keeps.laid)
     (start_fails fault (Off budget (durable_state_in_store before)) before after (record { good = own.keeps.good; kept = refl }) start)
-fault_is budget g t before after events fault are own (inr stops) =
-    let last = last_own budget g t before own (take stops.0 events) stops.1 stops.2 (first_bytes stops.0 events are) stops.4 in
+fault_is budget g t before after requests fault are own (inr stops) =
+    let last = last_own budget g t before own (take stops.0 requests) stops.1 stops.2 (first_bytes stops.0 requests are) stops.4 in
     reset_own t stops.2 after fault last.0 last.1 stops.5
 
 pub end_well : OneTable → SessionsEndWell
@@ -129,7 +125,7 @@ end_well g = record {
       let keeps : Keeps store.words (durable_state_in_store store) = record { good = made.log; laid = made.laid; durable = refl; size = refl } in
       record { keeps = keeps; own = images_made.new t capacity text store.words (durable_state_in_store store) made reads is keeps };
   made = made_of;
-  done = λ budget t before after events answers are own ends.
-      let last = last_own budget g t before own events answers ends.0 are ends.1 in store_own t ends.0 after last.0 last.1 ends.2;
-  fault = λ budget t before after events fault are own ends. fault_is budget g t before after events fault are own ends;
+  done = λ budget t before after requests replies are own ends.
+      let last = last_own budget g t before own requests replies ends.0 are ends.1 in store_own t ends.0 after last.0 last.1 ends.2;
+  fault = λ budget t before after requests fault are own ends. fault_is budget g t before after requests fault are own ends;
 }

@@ -1,5 +1,5 @@
 -- What a package that was prepared was prepared of.
-use Rattle.std.proofs.Common.{◌≡◌, ◌<◌, Result, Ok, Err, length, refl, ap, ◌∙◌, if◌then◌else◌, nat_le}
+use Rattle.std.proofs.Common.{◌≡◌, ◌<◌, Result, Ok, Err, length, ap, ◌∙◌, nat_le}
 use Rattle.std.specs.Prelude.{is_some}
 use Rattle.std.proofs.lemmas.Bool.{leb-false}
 use Rattle.jc_cap.specs.declared.texts.LoadedComponents.{LoadedComponents}

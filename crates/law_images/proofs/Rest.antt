@@ -9,7 +9,7 @@ use Rattle.jc_memory.specs.State.{apply_effect, apply_effects}
 use Rattle.jc_memory.proofs.ProgramLemmas.{down_did, each_did, took}
 use Rattle.jc_card.specs.Answers.{exchange}
 use Rattle.jc_card.specs.CardState.{CardState}
-use Rattle.jc_session.specs.Power.{KeptState}
+use Rattle.jc_session.specs.Power.{KeptState, armed_card}
 use Rattle.jc_session.specs.Starting.{IsPoweredUp}
 use Rattle.law_atomicity.specs.Tears.{IsDurableOutside}
 use Rattle.law_atomicity.proofs.Torn.{settled_effect}
@@ -79,3 +79,7 @@ rests_so k budget card up =
     let same = up.heap in
     same ∙ (λ i. heap_at_rest (sym (ap (λ (v : HeapView). v.now) same) i) card.memory.heap.passed (sym (ap (λ (v : HeapView). v.refusals) same) i)
     (sym (ap (λ (v : HeapView). v.size) same) i))
+
+-- so does one whose fuse is armed
+pub armed_rests : (k : ℕ) (card : CardState) → IsResting card.memory.heap → IsResting (armed_card k card).memory.heap
+armed_rests k card rest = ap (λ (v : HeapView). record v { refusals = (armed_card k card).memory.heap.refusals }) rest

@@ -1,7 +1,9 @@
--- Lines of a script as events of a session.
-use Rattle.std.proofs.Common.{◌≡◌, ◌<◌, ◌≤◌, inl, inr, ℕ, List, [], ◌∷◌, ◌++◌, refl, sym, ◌∙◌, ap, subst, arith}
-use Rattle.std.specs.Prelude.{false, map, Ok, Err}
-use Rattle.std.proofs.lemmas.List.{append_assoc, append-nil}
+-- Lines of a script as requests of a session.
+use Rattle.std.proofs.Common.{◌≡◌, ◌≢◌, ◌<◌, inl, inr, ℕ, List, [], ◌∷◌, ◌++◌, length, Some, refl, sym, ◌∙◌, ap, subst, arith}
+use Rattle.std.specs.Prelude.{false, slice_index, Result, Ok, Err}
+use Rattle.std.proofs.lemmas.List.{append_assoc, append-nil, get_or_at, get_or_default, length-append, take_at}
+use Rattle.std.proofs.lemmas.List.Concat.{flat_map-append}
+use Rattle.std.proofs.lemmas.Option.{slice_get-get_or}
 use Rattle.std.specs.Str.Lines.{lines}
 use Rattle.jc_words.specs.Count.{saturating_count}
 use Rattle.jc_words.specs.Refusals.{with_fuse_at}
@@ -12,31 +14,35 @@ use Rattle.jc_memory.specs.State.{MemoryState}
 use Rattle.jc_heap.specs.Completions.{Completion, Completed, Torn}
 use Rattle.jc_card.specs.CardState.{CardState}
 use Rattle.jc_card.specs.Loads.{LoadResponse}
-use Rattle.jc_session.specs.declared.event.Event.{Event}
-use Rattle.jc_session.specs.declared.event.Event.TheVariants as event
-use Rattle.jc_session.specs.declared.event.Answer.{Answer}
-use Rattle.jc_session.specs.declared.event.Answer.TheVariants.{Response, Down}
+use Rattle.jc_session.specs.Requests.{Request, Command as Sends, Reset, ArmFuse, Reply, Response, Down, Armed}
 use Rattle.jc_session.specs.SessionStates.{answer_of_power_up}
-use Rattle.jc_session.specs.Power.{PowerState, Up, Off, KeptState, StoreState, IsStoreOf, budget_of, durable_state, durable_rest, durable_state_in_store, with_refusal}
-use Rattle.jc_session.specs.Serving.{AnswersCommand, AnswersReset, SessionRun}
+use Rattle.jc_session.specs.Power.{PowerState, Up, Off, StoreState, IsStoreOf, armed, budget_of, durable_state, durable_rest, durable_state_in_store, with_refusal}
+use Rattle.jc_session.specs.Serving.{AnswersCommand, AnswersReset, Serves, SessionRun}
+use Rattle.jc_session.specs.declared.session.SessionFault.{SessionFault}
+use Rattle.jc_session.specs.declared.session.SessionFault.TheVariants.{PowerFault as NotPoweredUp}
+use Rattle.jc_session.specs.Sessions.{FailsAtReset, IsSession, SessionEnds}
 use Rattle.jc_session.specs.Starting.{FailsToReset, FailsToStart, IsPoweredUp, Starts}
 use Rattle.jc_card.specs.declared.power_up.PowerFault.{PowerFault as Fault}
 use Rattle.jc_session.proofs.Laid.{if_laid}
 use Rattle.jc_session.proofs.Resets.{start_fails}
-use Rattle.jc_session.proofs.Refusals.{command_grows, is_same, reset_grows}
-use Rattle.jc_session.proofs.WholeSessions.{command_whole, reset_whole, start_count, started_up}
+use Rattle.jc_session.proofs.SessionRuns.{run_then}
+use Rattle.jc_session.proofs.WholeSessions.{are_whole}
+use Rattle.jcard_script.specs.declared.script.ScriptFault.{ScriptFault}
 use Rattle.jcard_script.specs.declared.script.ScriptFault.TheVariants.{ReadFailed, WriteFailed, BadLine, TooLong, PowerFault}
 use Rattle.jcard_script.specs.ScriptStates.{ScriptState, Up as UpIn, Down as DownIn, Exchanges, FailsReset, IsStoreOf as IsStoreOfHeap, IsSessionStore}
 use Rattle.jcard_script.specs.ScriptStates.{FailsUp, PowersUp, budget_of as budget_in, with_fuse, with_power}
 use Rattle.jcard_script.specs.Script.{AreCarriedOut, Form, Skipped, Command, Resets, ArmsFuse, Bad, IsAnswered, IsToldOf, IsWrittenFor}
 use Rattle.jcard_script.specs.Script.{form_of, lines_so_far, power_text}
 use Rattle.jcard_script.specs.Texts.{IsCutOf}
+use Rattle.jcard_script.proofs.Decoding.{command_bytes}
+use Rattle.jcard_script.proofs.Words.{form_command}
+use Rattle.law_images.specs.Cards.{AreOfBytes}
+use Rattle.law_images.specs.Loaded.{AreBytes}
 use Rattle.law_images.proofs.Rest.{leave_at_rest, rests_so}
 use Rattle.law_images.proofs.Steps.{cut_kept}
 use Rattle.jc_session.proofs.Starts.{fault_starts, starts_off, starts_up}
 use Rattle.law_images.specs.Rest.{IsResting}
-use Rattle.law_images.specs.Scripts.{AreAnswered, AreSessionsOfScript, AreSessions, AreWholeSessions, ArmsNone, IsWrittenFirst, Leaves, RunOfBytes, RunsAreOfBytes, brought_by, brought_first, bytes_of_event}
-use Rattle.law_images.specs.Scripts.{ServeAsEvents, ServeLines, ServeLinesWhole, ServesForm, ServesFormWhole, armed, armed_card, state_of, text_of_answer}
+use Rattle.law_images.specs.Scripts.{AreSessionsOfScript, AreSessions, AreWholeSessions, AskBytes, EndAsSessions, EndsAsSession, HaveForm, IsSameEnd, Leaves, asked_by, asked_by_form, state_of, text_of_replies, text_of_reply}
 
 -- how the card of a script stands, as a session sees it
 abbrev power_in : ScriptState → PowerState
@@ -71,7 +77,7 @@ store_held (DownIn budget held) store good h = record {
 
 -- a command is answered so, with this text, and leads there
 abbrev IsTold : List ℕ → PowerState → ScriptState → List ℕ → Type 0
-IsTold bytes s t text = (answer : Answer) × AnswersCommand s bytes answer (power_in t) × (text ≡ text_of_answer answer) × IsGood t
+IsTold bytes s t text = (reply : Reply) × AnswersCommand s bytes reply (power_in t) × (text ≡ text_of_reply reply) × IsGood t
 
 told_after : (bytes : List ℕ) (card : CardState) (after : Completion MemoryState LoadResponse) (t : ScriptState) (text : List ℕ) → IsResting card.memory.heap
     → Exchanges bytes card after → IsToldOf card.budget after t text → IsTold bytes (Up card) t text
@@ -123,7 +129,7 @@ same_budget : (s : ScriptState) → budget_in s ≡ budget_of (power_in s)
 same_budget (UpIn card) = refl
 same_budget (DownIn budget store) = refl
 
-text_told : (t : ScriptState) → power_text t ≡ text_of_answer (answer_of_power_up (power_in t))
+text_told : (t : ScriptState) → power_text t ≡ text_of_reply (answer_of_power_up (power_in t))
 text_told (UpIn card) = refl
 text_told (DownIn budget store) = refl
 
@@ -140,32 +146,47 @@ good_armed : (k : ℕ) (s : ScriptState) → IsGood s → IsGood (with_fuse k s)
 good_armed k (UpIn card) rest = refl
 good_armed k (DownIn budget store) good = good
 
+-- one request is served, and this is written for it
+one_asked : (request : Request) (reply : Reply) (s u : PowerState) (text : List ℕ) → Serves s request reply u → text ≡ text_of_reply reply
+    → (replies : List Reply) × SessionRun s (request ∷ []) replies u × (text ≡ text_of_replies replies)
+one_asked request reply s u text served told = (reply ∷ [], (u, served, refl), told ∙ sym (append-nil (text_of_reply reply)))
+
 -- a line, from one standing to the other
-one_line : (form : Form) (s u : ScriptState) (first : List ℕ) → IsGood s → IsWrittenFor form s u first
-    → ServesForm form (power_in s) (power_in u) first × IsGood u
-one_line Skipped s u first good h = ((ap power_in h.0, h.1), subst IsGood (sym h.0) good)
-one_line (ArmsFuse k) s u first good h = ((ap power_in h.0 ∙ same_armed k s good, h.1), subst IsGood (sym h.0) (good_armed k s good))
-one_line (Command bytes) s u first good h = let said = told_of bytes s u first good h in ((said.0, said.1, said.2), said.3)
+abbrev IsAsked : Form → ScriptState → ScriptState → List ℕ → Type 0
+IsAsked form s u text = ((replies : List Reply) × SessionRun (power_in s) (asked_by_form form) replies (power_in u) × (text ≡ text_of_replies replies))
+    × (form ≢ Bad) × IsGood u
+
+one_line : (form : Form) (s u : ScriptState) (first : List ℕ) → IsGood s → IsWrittenFor form s u first → IsAsked form s u first
+one_line Skipped s u first good h = (([], ap power_in h.0, h.1), (λ e. cc e), subst IsGood (sym h.0) good)
+one_line (ArmsFuse k) s u first good h = (
+  one_asked (ArmFuse k) (Armed k) (power_in s) (power_in u) first (refl, ap power_in h.0 ∙ same_armed k s good) h.1,
+  (λ e. cc e),
+  subst IsGood (sym h.0) (good_armed k s good),
+)
+one_line (Command bytes) s u first good h =
+    let said = told_of bytes s u first good h in
+    (one_asked (Sends bytes) said.0 (power_in s) (power_in u) first said.1 said.2, (λ e. cc e), said.3)
 one_line Resets s u first good h =
-    let up = started (budget_in s) h.0.0 u h.0.2 in (
-      (
-        answer_of_power_up (power_in u),
-        reset_by (power_in s) (state_of h.0.0) (power_in u) (kept_held s h.0.0 h.0.1)
-            (subst (λ n. Starts n (state_of h.0.0) (power_in u)) (same_budget s) up.0),
-        h.1 ∙ text_told u,
-      ),
-      up.1,
-    )
+    let up = started (budget_in s) h.0.0 u h.0.2 in
+    let served = reset_by (power_in s) (state_of h.0.0) (power_in u) (kept_held s h.0.0 h.0.1)
+    (subst (λ n. Starts n (state_of h.0.0) (power_in u)) (same_budget s) up.0) in
+    (one_asked Reset (answer_of_power_up (power_in u)) (power_in s) (power_in u) first served (h.1 ∙ text_told u), (λ e. cc e), up.1)
 one_line Bad s u first good h = absurd h
 
 -- some lines
 all_lines : (all : List (List ℕ)) (s t : ScriptState) (text : List ℕ) → IsGood s → AreCarriedOut all s t text
-    → ServeLines all (power_in s) (power_in t) text × IsGood t
-all_lines [] s t text good h = ((ap power_in h.0, h.1), subst IsGood (sym h.0) good)
+    → (replies : List Reply) × SessionRun (power_in s) (asked_by all) replies (power_in t) × (text ≡ text_of_replies replies) × HaveForm all × IsGood t
+all_lines [] s t text good h = ([], ap power_in h.0, h.1, tt, subst IsGood (sym h.0) good)
 all_lines (line ∷ more) s t text good h =
     let one = one_line (form_of line) s h.2 h.0 good h.4 in
-    let rest = all_lines more h.2 t h.1 one.1 h.5 in
-    ((h.0, h.1, power_in h.2, h.3, one.0, rest.0), rest.1)
+    let first = one.0 in
+    let rest = all_lines more h.2 t h.1 one.2 h.5 in (
+      first.0 ++ rest.0,
+      run_then (asked_by_form (form_of line)) (asked_by more) first.0 rest.0 (power_in s) (power_in h.2) (power_in t) first.1 rest.1,
+      h.3 ∙ (λ i. first.2 i ++ rest.2 i) ∙ sym (flat_map-append text_of_reply first.0 rest.0),
+      (one.1, rest.3),
+      rest.4,
+    )
 
 -- ---- whole scripts
 
@@ -175,7 +196,7 @@ served : (budget : ℕ) (before : FuseStoreValue) (carried : List (List ℕ)) (s
 served budget before carried s t text leads up h ends =
     let first = started budget before s up in
     let ran = all_lines carried s t text first.1 h in
-    (power_in t, (power_in s, first.0, ran.0), ends ran.1)
+    (power_in t, (ran.0, (power_in s, first.0, ran.1), ran.2, ran.3), ends ran.4)
 
 -- a reset that finds a fault leaves what was there, with the power on
 reset_fails : (fault : Fault) (s t : ScriptState) (after : FuseStoreValue) → IsGood s → FailsReset fault s t → IsSessionStore t after
@@ -237,101 +258,82 @@ are_sessions budget (Err WriteFailed) before after at_end script text (inr h) =
       ),
     )
 
--- ---- lines as events
-
-first_events : (form : Form) (more : List (List ℕ)) (s u t : PowerState) (first rest text : List ℕ) → text ≡ first ++ rest
-    → ServesForm form s u first → ArmsNone form →
-    ((answers : List Answer) × RunOfBytes u (brought_by more) answers t × AreAnswered more answers rest) →
-    (answers : List Answer) × RunOfBytes s (brought_first form (brought_by more)) answers t × IsWrittenFirst form (AreAnswered more) answers text
-first_events Skipped more s u t first rest text is h none ran =
-    (ran.0, subst (λ p. RunOfBytes p (brought_by more) ran.0 t) h.0 ran.1, subst (AreAnswered more ran.0) (sym (is ∙ ap (λ l. l ++ rest) h.1)) ran.2)
-first_events (Command bytes) more s u t first rest text is h none ran = (h.0 ∷ ran.0, (u, h.1, ran.1), (rest, is ∙ ap (λ l. l ++ rest) h.2, ran.2))
-first_events Resets more s u t first rest text is h none ran = (h.0 ∷ ran.0, (u, h.1, ran.1), (rest, is ∙ ap (λ l. l ++ rest) h.2, ran.2))
-first_events (ArmsFuse k) more s u t first rest text is h none ran = absurd none
-first_events Bad more s u t first rest text is h none ran = absurd h
-
-pub serve_as_events : ServeAsEvents
-serve_as_events [] s t text h none = ([], h.0, (refl, h.1))
-serve_as_events (line ∷ more) s t text h none =
-    first_events (form_of line) more s h.2 t h.0 h.1 text h.3 h.4 none.0 (serve_as_events more h.2 t h.1 h.5 none.1)
-
-bytes_run : (events : List Event) (s last : PowerState) (answers : List Answer) → SessionRun s events answers last
-    → RunOfBytes s (map bytes_of_event events) answers last
-bytes_run [] s last [] run = run
-bytes_run (event.Command v ∷ events) s last (answer ∷ answers) run = (run.0, run.1, bytes_run events run.0 last answers run.2)
-bytes_run (event.Reset ∷ events) s last (answer ∷ answers) run = (run.0, run.1, bytes_run events run.0 last answers run.2)
-bytes_run [] s last (answer ∷ answers) run = absurd run
-bytes_run (event ∷ events) s last [] run = absurd run
-
-run_of_bytes : (events : List Event) (s last : PowerState) (answers : List Answer) → RunOfBytes s (map bytes_of_event events) answers last
-    → SessionRun s events answers last
-run_of_bytes [] s last [] run = run
-run_of_bytes (event.Command v ∷ events) s last (answer ∷ answers) run = (run.0, run.1, run_of_bytes events run.0 last answers run.2)
-run_of_bytes (event.Reset ∷ events) s last (answer ∷ answers) run = (run.0, run.1, run_of_bytes events run.0 last answers run.2)
-run_of_bytes [] s last (answer ∷ answers) run = absurd run
-run_of_bytes (event ∷ events) s last [] run = absurd run
-
-pub runs_are_of_bytes : RunsAreOfBytes
-runs_are_of_bytes s last events answers = (bytes_run events s last answers, run_of_bytes events s last answers)
-
--- ---- scripts that refuse nothing
-
--- no line lowers the count of refusals
-line_grows : (form : Form) (s t : PowerState) (text : List ℕ) → ServesForm form s t text → (durable_state s).refusals.count ≤ (durable_state t).refusals.count
-line_grows Skipped s t text h = is_same _ _ (ap (λ p. (durable_state p).refusals.count) h.0)
-line_grows (Command bytes) s t text h = command_grows s bytes h.0 t h.1
-line_grows Resets s t text h = reset_grows s h.0 t h.1
-line_grows (ArmsFuse k) s t text h = is_same _ _ (ap (λ p. (durable_state p).refusals.count) h.0 ∙ counts_on s)
-  where
-    counts_on : (p : PowerState) → (durable_state (armed k p)).refusals.count ≡ (durable_state p).refusals.count
-    counts_on (Up card) = refl
-    counts_on (Off b kept) = refl
-line_grows Bad s t text h = absurd h
-
-lines_grow : (all : List (List ℕ)) (s t : PowerState) (text : List ℕ) → ServeLines all s t text
-    → (durable_state s).refusals.count ≤ (durable_state t).refusals.count
-lines_grow [] s t text h = is_same _ _ (ap (λ p. (durable_state p).refusals.count) h.0)
-lines_grow (line ∷ more) s t text h =
-    let first = line_grows (form_of line) s h.2 h.0 h.4 in
-    let rest = lines_grow more h.2 t h.1 h.5 in
-    omega (arith, first, rest)
-
--- where the count does not rise, the card stays up, and serves a line as one with whole copies
-line_whole : (form : Form) (card : CardState) (next : PowerState) (text : List ℕ) → ServesForm form (Up card) next text
-    → card.memory.heap.refusals.count < 18446744073709551615 → (durable_state next).refusals.count ≡ card.memory.heap.refusals.count →
-    (mid : CardState) × (next ≡ Up mid) × ServesFormWhole form card mid text
-line_whole Skipped card next text h small same = (card, h.0, (refl, h.1))
-line_whole (Command bytes) card next text h small same =
-    let w = command_whole card bytes h.0 next h.1 small same in (w.1, w.3, (w.0, w.4, h.2 ∙ ap text_of_answer w.2))
-line_whole Resets card next text h small same =
-    let w = reset_whole card h.0 next h.1 small same in (w.0, w.2, (w.3, h.2 ∙ ap text_of_answer w.1))
-line_whole (ArmsFuse k) card next text h small same = (armed_card k card, h.0, (refl, h.1))
-line_whole Bad card next text h small same = absurd h
-
-lines_whole : (all : List (List ℕ)) (card : CardState) (last : PowerState) (text : List ℕ) → ServeLines all (Up card) last text
-    → card.memory.heap.refusals.count < 18446744073709551615 → (durable_state last).refusals.count ≡ card.memory.heap.refusals.count →
-    (end : CardState) × (last ≡ Up end) × ServeLinesWhole all card end text
-lines_whole [] card last text h small same = (card, h.0, (refl, h.1))
-lines_whole (line ∷ more) card last text h small same =
-    let up = line_grows (form_of line) (Up card) h.2 h.0 h.4 in
-    let on = lines_grow more h.2 last h.1 h.5 in
-    let stays : (durable_state h.2).refusals.count ≡ card.memory.heap.refusals.count = omega (arith, up, on, same) in
-    let first = line_whole (form_of line) card h.2 h.0 h.4 small stays in
-    let count : first.0.memory.heap.refusals.count ≡ card.memory.heap.refusals.count = sym (ap (λ p. (durable_state p).refusals.count) first.1) ∙ stays in
-    let rest = lines_whole more first.0 last h.1 (subst (λ p. ServeLines more p last h.1) first.1 h.5) (omega (arith, count, small)) (same ∙ sym count) in
-    (rest.0, rest.1, (h.0, h.1, first.0, h.3, first.2, rest.2))
-
 pub are_whole_sessions : AreWholeSessions
 are_whole_sessions budget before after at_end script text ends none =
-    let s : AreSessionsOfScript budget before (lines script) text (Leaves after) = are_sessions budget (Ok tt) before after at_end script text ends in
-    let last = s.0 in
-    let ran = s.1 in
-    let left : after.refusals.count ≡ (durable_state last).refusals.count = ap (λ (x : KeptState). x.refusals.count) s.2.kept in
-    let up = start_count budget (state_of before) ran.0 ran.1 in
-    let on = lines_grow (lines script) ran.0 last text ran.2 in
-    let stays : (durable_state ran.0).refusals.count ≡ before.refusals.count = omega (arith, left, up, on, none.1) in
-    let first = started_up budget (state_of before) ran.0 ran.1 none.0 stays in
-    let count : first.0.memory.heap.refusals.count ≡ before.refusals.count = sym (ap (λ p. (durable_state p).refusals.count) first.1) ∙ stays in
-    let whole = lines_whole (lines script) first.0 last text (subst (λ p. ServeLines (lines script) p last text) first.1 ran.2) (omega (arith, count, none.0))
-    (sym left ∙ (none.1 ∙ sym count)) in
-    (first.0, whole.0, first.2, whole.2, subst (λ p. IsStoreOf p (state_of after)) whole.1 s.2)
+    let session : AreSessionsOfScript budget before (lines script) text (Leaves after) = are_sessions budget (Ok tt) before after at_end script text ends in
+    let ran = session.1 in
+    (ran.0, are_whole budget (state_of before) (state_of after) (asked_by (lines script)) ran.0 session.0 ran.1 session.2 none, ran.2)
+
+-- ---- commands are of bytes
+
+all_bytes : (bytes : List ℕ) → ((i : ℕ) → slice_index bytes i < 256) → AreBytes bytes
+all_bytes bytes are = λ k d inside. subst (λ b. b < 256) (get_or_default bytes k 0 d inside) (are k)
+
+form_bytes : (form : Form) → ((bytes : List ℕ) → form ≡ Command bytes → AreBytes bytes) → AreOfBytes (asked_by_form form)
+form_bytes Skipped are = tt
+form_bytes (Command bytes) are = (are bytes refl, tt)
+form_bytes Resets are = (tt, tt)
+form_bytes (ArmsFuse k) are = (tt, tt)
+form_bytes Bad are = tt
+
+bytes_then : (requests more : List Request) → AreOfBytes requests → AreOfBytes more → AreOfBytes (requests ++ more)
+bytes_then [] more are rest = rest
+bytes_then (request ∷ requests) more are rest = (are.0, bytes_then requests more are.1 rest)
+
+pub ask_bytes : AskBytes
+ask_bytes [] = tt
+ask_bytes (line ∷ more) = bytes_then (asked_by_form (form_of line)) (asked_by more)
+    (form_bytes (form_of line) (λ bytes is. all_bytes bytes (command_bytes line bytes (form_command line bytes is)))) (ask_bytes more)
+
+-- ---- scripts end as sessions
+
+abbrev IsEndedBy : ℕ → Result Unit ScriptFault → FuseStoreValue → FuseStoreValue → Type 0
+IsEndedBy budget result before after = (requests : List Request) × (ended : Result (List Reply) SessionFault) × AreOfBytes requests
+    × IsSameEnd result ended × SessionEnds budget ended (state_of before) requests (state_of after)
+
+-- all that these lines asked was served
+abbrev IsServedTo : ℕ → FuseStoreValue → FuseStoreValue → Type 0
+IsServedTo budget before after = (requests : List Request) × (replies : List Reply) × AreOfBytes requests
+    × SessionEnds budget (Ok replies) (state_of before) requests (state_of after)
+
+served_to : (budget : ℕ) (before after : FuseStoreValue) (carried : List (List ℕ)) (text : List ℕ)
+    → AreSessionsOfScript budget before carried text (Leaves after) → IsServedTo budget before after
+served_to budget before after carried text s = let ran = s.1 in (asked_by carried, ran.0, ask_bytes carried, (s.0, ran.1, s.2))
+
+-- or the reset behind them found a fault
+stopped_at : (budget : ℕ) (fault : Fault) (before : StoreState) (requests : List Request) (replies : List Reply) (last : PowerState) (after : StoreState)
+    → IsSession budget before requests replies last → FailsToReset fault last after → FailsAtReset budget fault before (requests ++ Reset ∷ []) after
+stopped_at budget fault before requests replies last after session fails =
+    let all = requests ++ Reset ∷ [] in
+    let inside : length requests < length all = omega (arith, length-append requests (Reset ∷ [])) in (
+      length requests,
+      replies,
+      last,
+      slice_get-get_or all (length requests) Reset inside ∙ ap Some (get_or_at requests Reset [] Reset (length requests) refl),
+      subst (λ l. IsSession budget before l replies last) (sym (take_at requests (Reset ∷ []) (length requests) refl)) session,
+      fails,
+    )
+
+pub end_as_sessions : EndAsSessions
+end_as_sessions budget result before after at_end script text ends = ended result (are_sessions budget result before after at_end script text ends)
+  where
+    done : (r : Result Unit ScriptFault) → ((replies : List Reply) → IsSameEnd r (Ok replies)) → IsServedTo budget before after → IsEndedBy budget r before after
+    done r same s = (s.0, Ok s.1, s.2, same s.1, s.3)
+
+    ended : (r : Result Unit ScriptFault) → EndsAsSession budget r before after at_end script text → IsEndedBy budget r before after
+    ended (Ok u) s = done (Ok u) (λ replies. (replies, refl)) (served_to budget before after (lines script) text s)
+    ended (Err TooLong) s = done (Err TooLong) (λ replies. (replies, refl)) (served_to budget before after (lines_so_far false script) text s)
+    ended (Err ReadFailed) s = done (Err ReadFailed) (λ replies. (replies, refl)) (served_to budget before after (lines_so_far false script) text s)
+    ended (Err (BadLine n)) s = done (Err (BadLine n)) (λ replies. (replies, refl)) (served_to budget before after s.0 text s.5)
+    ended (Err WriteFailed) s =
+        let cut = s.3 in done (Err WriteFailed) (λ replies. (replies, refl)) (served_to budget before after (s.0 ++ s.1 ∷ []) cut.0 cut.2)
+    ended (Err (PowerFault fault)) (inl start) = ([], Err (NotPoweredUp fault), tt, refl, inl start.0)
+    ended (Err (PowerFault fault)) (inr stops) =
+        let s = stops.4 in
+        let ran = s.1 in (
+          asked_by stops.0 ++ Reset ∷ [],
+          Err (NotPoweredUp fault),
+          bytes_then (asked_by stops.0) (Reset ∷ []) (ask_bytes stops.0) (tt, tt),
+          refl,
+          inr (stopped_at budget fault (state_of before) (asked_by stops.0) ran.0 s.0 (state_of after) ran.1 s.2),
+        )

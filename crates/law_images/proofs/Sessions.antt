@@ -25,11 +25,8 @@ use Rattle.jc_card.specs.Dispatching.{with_response, create_applet, dispatch}
 use Rattle.jc_card.specs.Fixed.{fixed_of}
 use Rattle.jc_card.specs.Loads.{LoadResponse, begin_component, end_component, append_component, begin_load}
 use Rattle.jc_card.specs.StatusWord.{cla_not_supported, ins_not_supported, status_bytes, wrong_length}
-use Rattle.jc_session.specs.declared.event.Answer.{Answer}
-use Rattle.jc_session.specs.declared.event.Answer.TheVariants.{Response, Ready, Down}
-use Rattle.jc_session.specs.declared.event.Event.{Event}
-use Rattle.jc_session.specs.declared.event.Event.TheVariants.{Command, Reset}
-use Rattle.jc_session.specs.Power.{KeptState, PowerState, Up, Off, budget_of, durable_state}
+use Rattle.jc_session.specs.Requests.{Request, Command, Reset, ArmFuse, Reply, Response, Ready, Down}
+use Rattle.jc_session.specs.Power.{KeptState, PowerState, Up, Off, armed, armed_card, budget_of, durable_state}
 use Rattle.jc_session.specs.Serving.{AnswersCommand, AnswersReset, Serves, SessionRun}
 use Rattle.jc_session.specs.Starting.{IsPoweredUp}
 use Rattle.law_linking.proofs.Aids.{have_aids}
@@ -143,7 +140,7 @@ module _ (t : Tokens) (card : CardState) (own : IsOwnCard t card) where
   unfolding exchange
   exchanging_does bytes are = apdu_does bytes (apdu_of bytes) (λ c is. content_of bytes (data_of bytes) c refl are is) (command_fits bytes are)
 
-  pub command_own : (bytes : List ℕ) (answer : Answer) (next : PowerState) → AreBytes bytes → AnswersCommand (Up card) bytes answer next → IsOwnPower t next
+  pub command_own : (bytes : List ℕ) (reply : Reply) (next : PowerState) → AreBytes bytes → AnswersCommand (Up card) bytes reply next → IsOwnPower t next
   command_own bytes (Response r) (Up next) are did = (exchanging_does bytes are).did (with_response next r) next.memory did
   command_own bytes Down (Off b k) are lost = record {
     packages = card.packages;
@@ -151,9 +148,7 @@ module _ (t : Tokens) (card : CardState) (own : IsOwnCard t card) where
     heap = own_at card.memory.heap.durable.head.1 t card.packages k.durable ((exchanging_does bytes are).lost k.durable lost.0).heap;
     layout = ((exchanging_does bytes are).lost k.durable lost.0).layout;
   }
-  command_own bytes (Response r) (Off b k) are none = absurd none
-  command_own bytes Ready next are none = absurd none
-  command_own bytes Down (Up next) are none = absurd none
+  command_own bytes reply next are none = absurd none
 
 -- ---- a reset
 
@@ -236,38 +231,73 @@ powered_own g t k budget card own up =
     } in
     subst (IsOwnCard t) (sym path) reset
 
-reset_answered : OneTable → (t : Tokens) (s : PowerState) (answer : Answer) (next : PowerState) → IsOwnPower t s → AnswersReset s answer next
+reset_answered : OneTable → (t : Tokens) (s : PowerState) (reply : Reply) (next : PowerState) → IsOwnPower t s → AnswersReset s reply next
     → IsOwnPower t next
 reset_answered g t s Ready (Up card) own up = powered_own g t (durable_state s) (budget_of s) card (kept_own t s own) up
 reset_answered g t s Down (Off b k) own same =
     let old = kept_own t s own in
     subst (IsOwnKept t) (sym same.0) (record { packages = old.packages; linked = old.linked; heap = old.heap; layout = old.layout })
-reset_answered g t s Ready (Off b k) own none = absurd none
-reset_answered g t s Down (Up card) own none = absurd none
-reset_answered g t s (Response r) next own none = absurd none
+reset_answered g t s reply next own none = absurd none
+
+-- ---- arming the fuse
+
+armed_sound : (p : Packages) (k : ℕ) (card : CardState) → IsSoundMemory p card.memory → IsSoundMemory p (armed_card k card).memory
+armed_sound p k card s = record {
+  whole = record { now = s.whole.now; durable = s.whole.durable; shape = s.whole.shape; order = s.whole.order };
+  registry = s.registry;
+  registry_kept = s.registry_kept;
+  now = s.now;
+  durable = s.durable;
+  settled = s.settled;
+  packages = s.packages;
+  loaded = s.loaded;
+  counts = s.counts;
+  active = s.active;
+  behind = s.behind;
+  own = s.own;
+  home = s.home;
+  selected = s.selected;
+  command = s.command;
+  transients = s.transients;
+}
+
+armed_own : (t : Tokens) (k : ℕ) (s : PowerState) → IsOwnPower t s → IsOwnPower t (armed k s)
+armed_own t k (Up card) own = record {
+  linked = own.linked;
+  ready = record {
+    sound = armed_sound card.packages k card own.ready.sound;
+    environment = record { now = own.ready.environment.now; durable = own.ready.environment.durable };
+    closed = own.ready.closed;
+    idle = own.ready.idle;
+  };
+  reading = record { now = own.reading.now; durable = own.reading.durable };
+  beginning = record { now = own.beginning.now; durable = own.beginning.durable; fixed = own.beginning.fixed; same = own.beginning.same };
+  layout = record { now = own.layout.now; durable = own.layout.durable };
+  load = own.load;
+}
+armed_own t k (Off b kept) own = record { packages = own.packages; linked = own.linked; heap = own.heap; layout = own.layout }
 
 -- ---- sessions
 
-command_answered : (t : Tokens) (s : PowerState) (bytes : List ℕ) (answer : Answer) (next : PowerState) → AreBytes bytes → IsOwnPower t s
-    → AnswersCommand s bytes answer next → IsOwnPower t next
-command_answered t (Up card) bytes answer next are own served = command_own t card own bytes answer next are served
+command_answered : (t : Tokens) (s : PowerState) (bytes : List ℕ) (reply : Reply) (next : PowerState) → AreBytes bytes → IsOwnPower t s
+    → AnswersCommand s bytes reply next → IsOwnPower t next
+command_answered t (Up card) bytes reply next are own served = command_own t card own bytes reply next are served
 command_answered t (Off b k) bytes Down (Off d l) are own same = subst (IsOwnKept t) (sym same.0) own
-command_answered t (Off b k) bytes (Response r) next are own none = absurd none
-command_answered t (Off b k) bytes Ready next are own none = absurd none
-command_answered t (Off b k) bytes Down (Up next) are own none = absurd none
+command_answered t (Off b k) bytes reply next are own none = absurd none
 
-event_own : OneTable → (t : Tokens) (s : PowerState) (event : Event) (answer : Answer) (next : PowerState) → IsOfBytes event → IsOwnPower t s
-    → Serves s event answer next → IsOwnPower t next
-event_own g t s (Command bytes) answer next are own served = command_answered t s bytes.items answer next are own served
-event_own g t s Reset answer next are own served = reset_answered g t s answer next own served
+request_own : OneTable → (t : Tokens) (s : PowerState) (request : Request) (reply : Reply) (next : PowerState) → IsOfBytes request → IsOwnPower t s
+    → Serves s request reply next → IsOwnPower t next
+request_own g t s (Command bytes) reply next are own served = command_answered t s bytes reply next are own served
+request_own g t s Reset reply next are own served = reset_answered g t s reply next own served
+request_own g t s (ArmFuse k) reply next are own served = subst (IsOwnPower t) (sym served.1) (armed_own t k s own)
 
-session_own : OneTable → (t : Tokens) (s : PowerState) (events : List Event) (respond_with : List Answer) (last : PowerState) → AreOfBytes events
-    → IsOwnPower t s → SessionRun s events respond_with last → IsOwnPower t last
+session_own : OneTable → (t : Tokens) (s : PowerState) (requests : List Request) (replies : List Reply) (last : PowerState) → AreOfBytes requests
+    → IsOwnPower t s → SessionRun s requests replies last → IsOwnPower t last
 session_own g t s [] [] last are own same = subst (IsOwnPower t) (sym same) own
-session_own g t s (event ∷ events) (answer ∷ respond_with) last are own run = session_own g t run.0 events respond_with last are.1
-    (event_own g t s event answer run.0 are.0 own run.1) run.2
-session_own g t s [] (answer ∷ respond_with) last are own none = absurd none
-session_own g t s (event ∷ events) [] last are own none = absurd none
+session_own g t s (request ∷ requests) (reply ∷ replies) last are own run = session_own g t run.0 requests replies last are.1
+    (request_own g t s request reply run.0 are.0 own run.1) run.2
+session_own g t s [] (reply ∷ replies) last are own none = absurd none
+session_own g t s (request ∷ requests) [] last are own none = absurd none
 
 pub stays_own : OneTable → StaysOwn
-stays_own g = record { event = event_own g; session = session_own g }
+stays_own g = record { request = request_own g; session = session_own g }

@@ -6,9 +6,7 @@ use Rattle.jc_linker.specs.Values.{LinkerComponents}
 use Rattle.jc_card.specs.CardState.{CardState}
 use Rattle.law_linking.specs.Given.{AreRead}
 use Rattle.law_images.specs.GrowthRecords.{HaveAppletComponents}
-use Rattle.jc_session.specs.declared.event.Event.{Event}
-use Rattle.jc_session.specs.declared.event.Event.TheVariants.{Command, Reset}
-use Rattle.jc_session.specs.declared.event.Answer.{Answer}
+use Rattle.jc_session.specs.Requests.{Request, Command, Reset, ArmFuse, Reply}
 use Rattle.jc_session.specs.Power.{PowerState, Up, Off, KeptState}
 use Rattle.jc_session.specs.Serving.{Serves, SessionRun}
 use Rattle.law_images.specs.Kept.{IsReadAs}
@@ -48,17 +46,18 @@ IsOwnPower t (Up card) = IsOwnCard t card
 IsOwnPower t (Off budget k) = IsOwnKept t k
 
 -- a command is bytes
-abbrev pub IsOfBytes : Event → Type 0
-IsOfBytes (Command bytes) = AreBytes bytes.items
+abbrev pub IsOfBytes : Request → Type 0
+IsOfBytes (Command bytes) = AreBytes bytes
 IsOfBytes Reset = Unit {0}
+IsOfBytes (ArmFuse k) = Unit {0}
 
-abbrev pub AreOfBytes : List Event → Type 0
+abbrev pub AreOfBytes : List Request → Type 0
 AreOfBytes [] = Unit {0}
-AreOfBytes (event ∷ events) = IsOfBytes event × AreOfBytes events
+AreOfBytes (request ∷ requests) = IsOfBytes request × AreOfBytes requests
 
--- however such a card answers an event, it is so behind it; and behind a session of them
+-- however such a card answers a request, it is so behind it; and behind a session of them
 pub record StaysOwn : Type 0 where
-  pub event : (t : Tokens) (s : PowerState) (event : Event) (answer : Answer) (next : PowerState) → IsOfBytes event → IsOwnPower t s
-      → Serves s event answer next → IsOwnPower t next
-  pub session : (t : Tokens) (s : PowerState) (events : List Event) (answers : List Answer) (last : PowerState) → AreOfBytes events → IsOwnPower t s
-      → SessionRun s events answers last → IsOwnPower t last
+  pub request : (t : Tokens) (s : PowerState) (request : Request) (reply : Reply) (next : PowerState) → IsOfBytes request → IsOwnPower t s
+      → Serves s request reply next → IsOwnPower t next
+  pub session : (t : Tokens) (s : PowerState) (requests : List Request) (replies : List Reply) (last : PowerState) → AreOfBytes requests → IsOwnPower t s
+      → SessionRun s requests replies last → IsOwnPower t last

@@ -1,14 +1,12 @@
 -- What sessions come to.
-use Rattle.std.specs.Prelude.{ℕ, ◌≡◌, List, [], ◌∷◌}
+use Rattle.std.specs.Prelude.{ℕ, List, [], ◌∷◌}
 use Rattle.jc_heap.specs.Moves.{AddPackage}
 use Rattle.jc_memory.specs.State.{MemoryState, Effect, HeapMove, apply_effects}
 use Rattle.jc_memory.specs.Reading.{HasTracePrefix}
 use Rattle.jc_platform.specs.Tokens.{Tokens}
 use Rattle.jc_card.specs.Answers.{exchange}
 use Rattle.jc_card.specs.CardState.{CardState}
-use Rattle.jc_session.specs.declared.event.Event.{Event}
-use Rattle.jc_session.specs.declared.event.Answer.{Answer}
-use Rattle.jc_session.specs.declared.event.Answer.TheVariants.{Down}
+use Rattle.jc_session.specs.Requests.{Request, Reply, Response, Ready, Down, Armed}
 use Rattle.jc_session.specs.Power.{PowerState, Up, Off, KeptState, StoreState}
 use Rattle.jc_session.specs.Serving.{SessionRun}
 use Rattle.jc_session.specs.Sessions.{IsSession}
@@ -20,16 +18,16 @@ use Rattle.law_images.specs.Faults.{IsOwnStore}
 pub record ComesTo (t : Tokens) (s : PowerState) : Type 0 where
   pub budget : ℕ
   pub first : KeptState
-  pub events : List Event
-  pub answers : List Answer
+  pub requests : List Request
+  pub replies : List Reply
   pub own : IsOwnKept t first
-  pub bytes : AreOfBytes events
-  pub run : SessionRun (Off budget first) events answers s
+  pub bytes : AreOfBytes requests
+  pub run : SessionRun (Off budget first) requests replies s
 
 -- so does each session over a store that is so
 abbrev pub StoresCome : Type 0
-StoresCome = (budget : ℕ) (t : Tokens) (before : StoreState) (events : List Event) (answers : List Answer) (s : PowerState) → IsOwnStore t before → AreOfBytes events
-    → IsSession budget before events answers s → ComesTo t s
+StoresCome = (budget : ℕ) (t : Tokens) (before : StoreState) (requests : List Request) (replies : List Reply) (s : PowerState) → IsOwnStore t before → AreOfBytes requests
+    → IsSession budget before requests replies s → ComesTo t s
 
 -- and a command of these bytes then begins with these effects
 pub record ComesWithin (t : Tokens) (card : CardState) (bytes : List ℕ) (es : List Effect) : Type 0 where
@@ -47,7 +45,14 @@ AddNone [] = Unit {0}
 AddNone (HeapMove (AddPackage components arrays image) ∷ es) = ⊥
 AddNone (e ∷ es) = AddNone es
 
--- each answer is down
-abbrev pub AreDown : List Answer → Type 0
+-- it is down, or tells that the fuse is armed
+abbrev pub IsDown : Reply → Type 0
+IsDown Down = Unit {0}
+IsDown (Armed k) = Unit {0}
+IsDown (Response response) = ⊥
+IsDown Ready = ⊥
+
+-- each of these replies is so
+abbrev pub AreDown : List Reply → Type 0
 AreDown [] = Unit {0}
-AreDown (answer ∷ answers) = (answer ≡ Down) × AreDown answers
+AreDown (reply ∷ replies) = IsDown reply × AreDown replies

@@ -7,9 +7,8 @@ use Rattle.jc_platform.specs.Tokens.{Tokens}
 use Rattle.jc_card.specs.Made.{IsMade, new_card_heap}
 use Rattle.jc_card.specs.declared.power_up.PowerFault.{PowerFault as Fault}
 use Rattle.jc_card.specs.declared.power_up.PowerFault.TheVariants.{NoMemory}
-use Rattle.jc_session.specs.declared.event.Event.{Event}
-use Rattle.jc_session.specs.declared.event.Answer.{Answer}
 use Rattle.jc_session.specs.declared.session.SessionFault.TheVariants.{PowerFault}
+use Rattle.jc_session.specs.Requests.{Request, Reply}
 use Rattle.jc_session.specs.Power.{StoreState, durable_state_in_store}
 use Rattle.jc_session.specs.Sessions.{SessionEnds}
 use Rattle.law_images.specs.Cards.{AreOfBytes, IsOwnKept}
@@ -26,7 +25,7 @@ pub record SessionsEndWell : Type 0 where
   pub new : (t : Tokens) (capacity : ℕ) (text : List ℕ) (store : StoreState) → IsMade store.words → Reads text (Ok t)
       → heap_of (recovered_of store.words) ≡ new_card_heap (length store.words) capacity text t → IsOwnStore t store
   pub made : (t : Tokens) (store : StoreState) → IsOwnStore t store → IsMade store.words
-  pub done : (budget : ℕ) (t : Tokens) (before after : StoreState) (events : List Event) (answers : List Answer) → AreOfBytes events → IsOwnStore t before
-      → SessionEnds budget (Ok answers) before events after → IsOwnStore t after
-  pub fault : (budget : ℕ) (t : Tokens) (before after : StoreState) (events : List Event) (fault : Fault) → AreOfBytes events → IsOwnStore t before
-      → SessionEnds budget (Err (PowerFault fault)) before events after → (fault ≡ NoMemory) × IsOwnStore t after
+  pub done : (budget : ℕ) (t : Tokens) (before after : StoreState) (requests : List Request) (replies : List Reply) → AreOfBytes requests → IsOwnStore t before
+      → SessionEnds budget (Ok replies) before requests after → IsOwnStore t after
+  pub fault : (budget : ℕ) (t : Tokens) (before after : StoreState) (requests : List Request) (fault : Fault) → AreOfBytes requests → IsOwnStore t before
+      → SessionEnds budget (Err (PowerFault fault)) before requests after → (fault ≡ NoMemory) × IsOwnStore t after

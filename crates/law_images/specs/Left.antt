@@ -6,8 +6,7 @@ use Rattle.jc_memory.specs.State.{Effect, HeapMove, apply_effect, moves_of}
 use Rattle.jc_memory.specs.Reading.{HasTracePrefix}
 use Rattle.jc_card.specs.Answers.{exchange}
 use Rattle.jc_card.specs.CardState.{CardState}
-use Rattle.jc_session.specs.declared.event.Event.{Event}
-use Rattle.jc_session.specs.declared.event.Event.TheVariants.{Command, Reset}
+use Rattle.jc_session.specs.Requests.{Request, Command, Reset, ArmFuse}
 use Rattle.law_images.specs.Comes.{memory_at}
 use Rattle.law_images.specs.Tries.{IsAsFound}
 
@@ -25,7 +24,8 @@ abbrev pub IsLeft : CardState → List Effect → HeapState → Type 0
 IsLeft card es left = (((memory_at card es).heap.begun ≡ false) × (left ≡ (memory_at card es).heap.now))
     ⊎ (((memory_at card es).heap.begun ≡ true) × IsWhatWasFound card es left)
 
--- what a loss of power leaves within an event
-abbrev pub IsLeftBy : CardState → Event → HeapState → Type 0
-IsLeftBy card (Command bytes) left = (es : List Effect) × HasTracePrefix (exchange bytes.items card) card.memory es × IsLeft card es left
+-- what a loss of power leaves within a request
+abbrev pub IsLeftBy : CardState → Request → HeapState → Type 0
+IsLeftBy card (Command bytes) left = (es : List Effect) × HasTracePrefix (exchange bytes card) card.memory es × IsLeft card es left
 IsLeftBy card Reset left = left ≡ card.memory.heap.now
+IsLeftBy card (ArmFuse k) left = left ≡ card.memory.heap.now

@@ -1,19 +1,23 @@
 -- Effects that are due, through the words in which instructions and calls are defined.
 use Rattle.std.proofs.Common.{◌≡◌, ℕ, Bool, true, false, Option, Some, None, Result, Ok, Err, refl, if◌then◌else◌}
 use Rattle.jc_heap.specs.declared.refusal.HeapRefusal.{HeapRefusal}
-use Rattle.jc_frames.specs.declared.cell.Cell.TheVariants.{Short, Reference, ReturnAddress}
 use Rattle.jc_frames.specs.declared.outcome.FrameExit.{FrameExit}
 use Rattle.jc_frames.specs.declared.outcome.FrameExit.TheVariants as stop
+use Rattle.jc_frames.specs.declared.outcome.Outcome.TheVariants.{Fault}
 use Rattle.jc_frames.specs.Frames.{Frames, Next}
 use Rattle.jc_memory.specs.State.{MemoryState, Effect, IsNew, apply_effect}
 use Rattle.jc_memory.specs.Programs.{Program, Finish, Perform, Choose, Either, bind}
 use Rattle.jc_memory.specs.Reading.{AllDue, AllResults}
+use Rattle.jc_memory.proofs.ProgramLemmas.{each_always}
+use Rattle.jc_registry.specs.Registry.{instance_of_applet}
 use Rattle.jc_world.specs.declared.native_result.NativeResult.{NativeResult}
 use Rattle.jc_world.specs.declared.native_result.NativeResult.TheVariants.{ReturnVoid, ReturnValue, CallServer, Aborted}
 use Rattle.jc_world.specs.Instructions.{exit_of}
 use Rattle.jc_world.specs.Instructions as groups
 use Rattle.jc_world.specs.NativeCalls.{NativeProgram}
 use Rattle.jc_world.specs.NativeCalls as calls
+use Rattle.jc_world.specs.StepExits.{exception_of}
+use Rattle.law_isolation.specs.Referring.{CellRefersSo}
 use Rattle.law_isolation.proofs.Exits.{FaultsOnly, IsPlainExit}
 
 module _ (P : Effect → MemoryState → Type 0) (m : MemoryState) where
@@ -40,52 +44,85 @@ module _ (P : Effect → MemoryState → Type 0) (m : MemoryState) where
   due_unless s (Some reason) d k = tt
 
   -- of calls
-  pub call_some : {A : Type 0} (o : Option A) (go : A → NativeProgram) → ((a : A) → o ≡ Some a → AllDue P (go a) m) → AllDue P (calls.if_some o go) m
-  call_some None go k = tt
-  call_some (Some a) go k = k a refl
-
   pub call_ok : {A : Type 0} (o : Result A FrameExit) (go : A → NativeProgram) → ((a : A) → o ≡ Ok a → AllDue P (go a) m) → AllDue P (calls.if_ok o go) m
   call_ok (Ok a) go k = k a refl
   call_ok (Err e) go k = tt
 
-  pub call_unless : (o : Option HeapRefusal) (d : NativeProgram) → (o ≡ None → AllDue P d m) → AllDue P (calls.unless o d) m
-  call_unless None d k = k refl
-  call_unless (Some reason) d k = tt
+-- ---- what is done, and what follows
 
--- what effects that are due keep of a memory is so behind all of them
-module _ (P : Effect → MemoryState → Type 0) (Q : MemoryState → Type 0) (keeps : (e : Effect) (m : MemoryState) → P e m → Q m → Q (apply_effect e m)) where
-  pub kept_each : {A : Type 0} (d : Program A) (m : MemoryState) → AllDue P d m → Q m → AllResults d m (λ a v. Q v)
-  kept_each (Finish a) m due so = so
-  kept_each (Perform e rest) m due so = kept_each rest (apply_effect e m) due.1 (keeps e m due.0 so)
-  kept_each (Choose choose) m due so = λ r new. kept_each (choose r) m (due r new) so
-  kept_each (Either x y) m due so = (kept_each x m due.0 so, kept_each y m due.1 so)
+-- whatever is chosen, each effect is due in the memory that it finds, and what follows is so in the memory that is left
+abbrev pub DueThen : {A : Type 0} → (Effect → MemoryState → Type 0) → (A → MemoryState → Type 0) → Program A → MemoryState → Type 0
+DueThen P R (Finish a) m = R a m
+DueThen P R (Perform e rest) m = P e m × DueThen P R rest (apply_effect e m)
+DueThen P R (Choose choose) m = (r : ℕ) → IsNew m.heap.now r → DueThen P R (choose r) m
+DueThen P R (Either x y) m = DueThen P R x m × DueThen P R y m
+
+pub due_of : {A : Type 0} (P : Effect → MemoryState → Type 0) (R : A → MemoryState → Type 0) (d : Program A) (m : MemoryState) → DueThen P R d m
+    → AllDue P d m
+due_of P R (Finish a) m so = tt
+due_of P R (Perform e rest) m so = (so.0, due_of P R rest (apply_effect e m) so.1)
+due_of P R (Choose choose) m so = λ r new. due_of P R (choose r) m (so r new)
+due_of P R (Either x y) m so = (due_of P R x m so.0, due_of P R y m so.1)
+
+pub results_of : {A : Type 0} (P : Effect → MemoryState → Type 0) (R : A → MemoryState → Type 0) (d : Program A) (m : MemoryState) → DueThen P R d m
+    → AllResults d m R
+results_of P R (Finish a) m so = so
+results_of P R (Perform e rest) m so = results_of P R rest (apply_effect e m) so.1
+results_of P R (Choose choose) m so = λ r new. results_of P R (choose r) m (so r new)
+results_of P R (Either x y) m so = (results_of P R x m so.0, results_of P R y m so.1)
+
+pub due_then : {A : Type 0} (P : Effect → MemoryState → Type 0) (R : A → MemoryState → Type 0) (d : Program A) (m : MemoryState) → AllDue P d m
+    → AllResults d m R → DueThen P R d m
+due_then P R (Finish a) m due so = so
+due_then P R (Perform e rest) m due so = (due.0, due_then P R rest (apply_effect e m) due.1 so)
+due_then P R (Choose choose) m due so = λ r new. due_then P R (choose r) m (due r new) (so r new)
+due_then P R (Either x y) m due so = (due_then P R x m due.0 so.0, due_then P R y m due.1 so.1)
+
+-- whatever follows
+pub due_any : {A : Type 0} (P : Effect → MemoryState → Type 0) (d : Program A) (m : MemoryState) → AllDue P d m → DueThen P (λ a v. Unit {0}) d m
+due_any P d m due = due_then P _ d m due (each_always _ (λ a v. tt) d m)
+
+-- whatever the reference
+abbrev pub Anything : MemoryState → ℕ → Type 0
+Anything m r = Unit {0}
+
+-- ---- calls, by what their checks give, where this is so of exceptions and code faults
+
+module _ (P : Effect → MemoryState → Type 0) (R : Result NativeResult FrameExit → MemoryState → Type 0) (m : MemoryState)
+    (exits : (e : FrameExit) → IsPlainExit e → R (Err e) m) where
+  pub then_if : (b : Bool) (x y : NativeProgram) → (b ≡ true → DueThen P R x m) → (b ≡ false → DueThen P R y m) → DueThen P R (if b then x else y) m
+  then_if true x y on off = on refl
+  then_if false x y on off = off refl
+
+  pub then_some : {A : Type 0} (o : Option A) (go : A → NativeProgram) → ((a : A) → o ≡ Some a → DueThen P R (go a) m) → DueThen P R (calls.if_some o go) m
+  then_some None go k = exits (stop.End Fault) tt
+  then_some (Some a) go k = k a refl
+
+  pub then_ok : {A : Type 0} (o : Result A FrameExit) (go : A → NativeProgram) → FaultsOnly o → ((a : A) → o ≡ Ok a → DueThen P R (go a) m)
+      → DueThen P R (calls.if_ok o go) m
+  then_ok (Ok a) go plain k = k a refl
+  then_ok (Err e) go plain k = exits e plain
+
+  pub then_unless : (o : Option HeapRefusal) (d : NativeProgram) → (o ≡ None → DueThen P R d m) → DueThen P R (calls.unless o d) m
+  then_unless None d k = k refl
+  then_unless (Some reason) d k = exits (stop.Throw (exception_of reason)) tt
 
 -- ---- calls that answer plainly
 
--- what is answered: nothing, a number, a reference of which this is so, an exception or a code fault. No server is asked, and nothing is aborted
-abbrev pub IsPlainAnswer : (ℕ → Type 0) → Result NativeResult FrameExit → Type 0
-IsPlainAnswer L (Ok ReturnVoid) = Unit {0}
-IsPlainAnswer L (Ok (ReturnValue (Short v))) = Unit {0}
-IsPlainAnswer L (Ok (ReturnValue (Reference r))) = L r
-IsPlainAnswer L (Ok (ReturnValue (ReturnAddress a))) = Unit {0}
-IsPlainAnswer L (Ok (CallServer asked)) = ⊥
-IsPlainAnswer L (Ok Aborted) = ⊥
-IsPlainAnswer L (Err e) = IsPlainExit e
+-- what is answered: nothing, a number, a reference of which this is so, an exception or a code fault; or an applet's instance is asked on
+-- behalf of such a reference. Nothing is aborted
+abbrev pub IsPlainAnswer : (MemoryState → ℕ → Type 0) → Result NativeResult FrameExit → MemoryState → Type 0
+IsPlainAnswer L (Ok ReturnVoid) m = Unit {0}
+IsPlainAnswer L (Ok (ReturnValue cell)) m = CellRefersSo (L m) cell
+IsPlainAnswer L (Ok (CallServer asked)) m = (instance_of_applet m.heap.now asked.owner.0 ≡ Some asked.server) × L m asked.client
+IsPlainAnswer L (Ok Aborted) m = ⊥
+IsPlainAnswer L (Err e) m = IsPlainExit e
 
 -- whatever is chosen, each effect of a call is due in the memory that it finds, and the call answers plainly
-abbrev pub IsPlainCall : (Effect → MemoryState → Type 0) → (ℕ → Type 0) → NativeProgram → MemoryState → Type 0
-IsPlainCall P L (Finish answer) m = IsPlainAnswer L answer
-IsPlainCall P L (Perform e rest) m = P e m × IsPlainCall P L rest (apply_effect e m)
-IsPlainCall P L (Choose choose) m = (r : ℕ) → IsNew m.heap.now r → IsPlainCall P L (choose r) m
-IsPlainCall P L (Either x y) m = IsPlainCall P L x m × IsPlainCall P L y m
+abbrev pub IsPlainCall : (Effect → MemoryState → Type 0) → (MemoryState → ℕ → Type 0) → NativeProgram → MemoryState → Type 0
+IsPlainCall P L d m = DueThen P (IsPlainAnswer L) d m
 
-module _ (P : Effect → MemoryState → Type 0) (L : ℕ → Type 0) where
-  pub effects_due : (d : NativeProgram) (m : MemoryState) → IsPlainCall P L d m → AllDue P d m
-  effects_due (Finish answer) m call = tt
-  effects_due (Perform e rest) m call = (call.0, effects_due rest (apply_effect e m) call.1)
-  effects_due (Choose choose) m call = λ r new. effects_due (choose r) m (call r new)
-  effects_due (Either x y) m call = (effects_due x m call.0, effects_due y m call.1)
-
+module _ (P : Effect → MemoryState → Type 0) (L : MemoryState → ℕ → Type 0) where
   -- first something else, and then a call
   pub called_after : {A : Type 0} (more : A → MemoryState → NativeProgram) (d : Program A) (m : MemoryState) → AllDue P d m
       → ((a : A) (v : MemoryState) → IsPlainCall P L (more a v) v) → IsPlainCall P L (bind d m more) m
@@ -108,19 +145,15 @@ module _ (P : Effect → MemoryState → Type 0) (L : ℕ → Type 0) where
   module _ (m : MemoryState) where
     pub called_if : (b : Bool) (x y : NativeProgram) → (b ≡ true → IsPlainCall P L x m) → (b ≡ false → IsPlainCall P L y m)
         → IsPlainCall P L (if b then x else y) m
-    called_if true x y on off = on refl
-    called_if false x y on off = off refl
+    called_if = then_if P (IsPlainAnswer L) m (λ e plain. plain)
 
     pub called_some : {A : Type 0} (o : Option A) (go : A → NativeProgram) → ((a : A) → o ≡ Some a → IsPlainCall P L (go a) m)
         → IsPlainCall P L (calls.if_some o go) m
-    called_some None go k = tt
-    called_some (Some a) go k = k a refl
+    called_some o go k = then_some P (IsPlainAnswer L) m (λ e plain. plain) o go k
 
     pub called_ok : {A : Type 0} (o : Result A FrameExit) (go : A → NativeProgram) → FaultsOnly o → ((a : A) → o ≡ Ok a → IsPlainCall P L (go a) m)
         → IsPlainCall P L (calls.if_ok o go) m
-    called_ok (Ok a) go plain k = k a refl
-    called_ok (Err e) go plain k = plain
+    called_ok o go plain k = then_ok P (IsPlainAnswer L) m (λ e plain. plain) o go plain k
 
     pub called_unless : (o : Option HeapRefusal) (d : NativeProgram) → (o ≡ None → IsPlainCall P L d m) → IsPlainCall P L (calls.unless o d) m
-    called_unless None d k = k refl
-    called_unless (Some reason) d k = tt
+    called_unless = then_unless P (IsPlainAnswer L) m (λ e plain. plain)

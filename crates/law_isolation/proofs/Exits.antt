@@ -22,6 +22,7 @@ use Rattle.jc_firewall.specs.declared.decide.Decision.TheVariants.{Allow, Switch
 use Rattle.jc_frames.specs.declared.cell.Cell.{Cell}
 use Rattle.jc_frames.specs.declared.outcome.FrameExit.{FrameExit}
 use Rattle.jc_frames.specs.declared.outcome.FrameExit.TheVariants.{Throw, End}
+use Rattle.jc_frames.specs.declared.outcome.Outcome.{Outcome}
 use Rattle.jc_frames.specs.declared.outcome.Outcome.TheVariants.{Void, Short, Reference, Thrown, Fault}
 use Rattle.jc_frames.specs.Frames.{Frames}
 use Rattle.jc_world.specs.Answers.{and_then}
@@ -55,6 +56,14 @@ IsPlainExit (End Fault) = Unit {0}
 abbrev pub FaultsOnly : {A : Type 0} → Result A FrameExit → Type 0
 FaultsOnly (Ok a) = Unit {0}
 FaultsOnly (Err e) = IsPlainExit e
+
+-- an exit that ends the run is a fault
+pub plain_end : (N : Outcome → Type 0) → N Fault → (o : Outcome) → IsPlainExit (End o) → N o
+plain_end N fault Void plain = absurd plain
+plain_end N fault (Short v) plain = absurd plain
+plain_end N fault (Reference r) plain = absurd plain
+plain_end N fault (Thrown r) plain = absurd plain
+plain_end N fault Fault plain = fault
 
 -- ---- checks in a row
 

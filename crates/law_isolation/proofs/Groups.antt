@@ -1,54 +1,41 @@
 -- Instructions on fields, arrays and objects spare what is outside reach.
 use Rattle.std.proofs.Common.{◌≡◌, ℕ, ◌<◌, inl, refl, subst}
+use Rattle.jc_heap.specs.declared.object.Kind.TheVariants.{Instance, ReferenceArray}
 use Rattle.jc_heap.specs.Heap.{facts}
-use Rattle.jc_frames.specs.Frames.{Frames}
-use Rattle.jc_memory.specs.declared.making.NewObject.{NewObject}
 use Rattle.jc_memory.specs.State.{MemoryState}
-use Rattle.jc_memory.specs.Reading.{AllDue}
-use Rattle.jc_memory.specs.Cells.{word_of}
-use Rattle.jc_memory.specs.Making.{creation_refusal}
 use Rattle.jc_linker.specs.Values.{Packages}
 use Rattle.jc_firewall.specs.Reach.{IsInReach}
 use Rattle.jc_world.specs.Contexts.{situation_of}
-use Rattle.jc_world.specs.Making.{new_on_top}
+use Rattle.jc_interp_objects.specs.ArrayCreation.{kind_of}
 use Rattle.law_isolation.specs.Groups.{ArraysSpare, FieldsSpare, ObjectsSpare}
-use Rattle.jc_frames.specs.declared.cell.Cell.TheVariants.{Reference}
-use Rattle.jc_world.specs.Instructions.{continue_with}
-use Rattle.jc_world.specs.Values.{with_top}
 use Rattle.law_isolation.specs.Reach.{IsOutside}
 use Rattle.law_isolation.specs.Sparing.{LeavesObject}
-use Rattle.law_isolation.proofs.Due.{due_unless}
-use Rattle.law_isolation.proofs.Instructions.{arrays_due, checked_due, examined_due, fields_due, made_due, static_due}
-use Rattle.law_isolation.proofs.Passing.{ArraysPass, FieldsPass, InstancesPass}
+use Rattle.law_isolation.proofs.Instructions.{arrays_due, checked_due, examined_due, fields_due, made_due}
+use Rattle.law_isolation.proofs.Passing.{ArraysPass, FieldsPass, InstancesPass, new_for}
 use Rattle.law_isolation.proofs.Reaching.{not_outside}
-use Rattle.law_isolation.proofs.Setting.{new_spares, set_spares}
+use Rattle.law_isolation.proofs.Setting.{new_makes, set_spares}
 
 module _ (p : Packages) (m : MemoryState) (q : ℕ) (out : IsOutside p m q) where
   other : (r : ℕ) → IsInReach (situation_of p m (facts m.heap.now r)) → r ≡ q → ⊥
   other r reach = not_outside p m q r (facts m.heap.now r) out refl reach
 
-  new_due : (o : NewObject) (s : Frames) → AllDue (LeavesObject q) (new_on_top o s m) m
-  unfolding new_on_top
-  new_due o s = due_unless (LeavesObject q) m s (creation_refusal m o) _
-      (new_spares q o (λ r. continue_with (with_top (Reference r) s)) m out.there (λ r v other. tt))
-
   pub fields_pass : FieldsPass (LeavesObject q) p m
   fields_pass = record {
     field = λ of_type number index r i field cells v k taken kept named cell. set_spares q m r i k (other r cell.reach) cell.within;
-    static = λ of_type number index field cells v k s taken kept named. static_due (LeavesObject q) p m (λ w x. tt)
-        (λ w behind x y. inl (tt, (tt, tt))) of_type field (word_of k) s;
+    word = λ of_type number index field cells v k w x taken kept named there whole. tt;
+    halves = λ of_type number index field w behind x y named there odd next. inl (tt, (tt, tt));
   }
 
   pub arrays_pass : ArraysPass (LeavesObject q) p m
   arrays_pass = record {
     element = λ of_type r f e cells v k w taken kept array inside fits. set_spares q m r e.index w (other r array.reach)
         (subst (λ g. e.index < g.length) array.is inside);
-    numbers = λ of_type n s. new_due _ s;
-    references = λ number index class n s named. new_due _ s;
+    numbers = λ of_type n. new_makes q m (new_for m (kind_of of_type) 0 n);
+    references = λ number index class n named. new_makes q m (new_for m ReferenceArray class n);
   }
 
   pub instances_pass : InstancesPass (LeavesObject q) p m
-  instances_pass number index class n s made few = new_due _ s
+  instances_pass number index class n made few = new_makes q m (new_for m Instance class n)
 
 pub fields_spare : FieldsSpare
 fields_spare field p s m q out = fields_due (LeavesObject q) p m (fields_pass p m q out) field s

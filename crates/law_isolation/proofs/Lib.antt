@@ -5,13 +5,15 @@ pub mod Sparing
 pub mod Exits
 pub mod NativeExits
 pub mod Due
+pub mod Taking
+pub mod Going
 pub mod Reaching
 pub mod Reached
 pub mod Arguments
+pub mod Applets
 pub mod Passing
 pub mod Instructions
 pub mod Methods
-pub mod Applets
 pub mod Walk
 pub mod Setting
 pub mod Groups

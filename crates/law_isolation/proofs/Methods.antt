@@ -19,6 +19,8 @@ use Rattle.jc_frames.specs.declared.cell.Cell.{Cell}
 use Rattle.jc_frames.specs.declared.outcome.Exception.{Exception}
 use Rattle.jc_frames.specs.declared.outcome.Exception.TheVariants as exception
 use Rattle.jc_frames.specs.declared.outcome.FrameExit.{FrameExit}
+use Rattle.jc_frames.specs.declared.outcome.FrameExit.TheVariants.{Throw}
+use Rattle.jc_frames.specs.Reasons.{illegal_aid, illegal_value, in_progress, not_in_progress}
 use Rattle.jc_memory.specs.declared.registers.ApduPhase.{ApduPhase}
 use Rattle.jc_memory.specs.declared.registers.ApduPhase.TheVariants.{Waiting, Received, Outgoing, Sending}
 use Rattle.jc_memory.specs.declared.registers.AppletNumber.{AppletNumber}
@@ -53,7 +55,8 @@ use Rattle.jc_platform.specs.declared.names.PlatformMethod.TheVariants.{UserExce
 use Rattle.jc_platform.specs.declared.names.PlatformMethod.TheVariants.{UtilArrayFill, UtilSetShort, UserExceptionInitWithoutReason, OwnerPinGetValidatedFlag, OwnerPinSetValidatedFlag}
 use Rattle.jc_platform.specs.declared.names.PlatformMethod.TheVariants.{AidRidEquals, AidPartialEquals, AidGetPartialBytes, JcSystemIsAppletActive, JcSystemGetAvailableMemory, ApduGetIncomingLength, ApduGetOffsetCdata}
 use Rattle.jc_platform.specs.declared.names.PlatformMethod.TheVariants.{ApduSendBytesLong, ApduSetOutgoingNoChaining, ApduGetCurrentApdu, ApduGetCurrentApduBuffer}
-use Rattle.jc_platform.specs.declared.names.PlatformMethod.TheVariants.{JcSystemGetAvailableMemoryShorts}
+use Rattle.jc_platform.specs.declared.names.PlatformMethod.TheVariants.{JcSystemGetAvailableMemoryShorts, JcSystemGetAid, JcSystemGetPreviousContextAid}
+use Rattle.jc_platform.specs.declared.names.PlatformMethod.TheVariants.{AppletGetShareableInterfaceObject}
 use Rattle.jc_platform.specs.Distinct.{class_of, class_word}
 use Rattle.jc_platform.specs.Names.{methods}
 use Rattle.jc_pin.specs.declared.updating.PinRefusal.{PinRefusal}
@@ -65,6 +68,8 @@ use Rattle.jc_pin.specs.Updating.{unless_no_room, changes_of_update, pin_update}
 use Rattle.jc_registry.specs.Aids.{aid_at}
 use Rattle.jc_registry.specs.Registry.{applet_with_aid, instance_of_applet}
 use Rattle.jc_memory.specs.Room.{has_space, lacks_capacity}
+use Rattle.jc_world.specs.declared.native_result.NativeResult.{NativeResult}
+use Rattle.jc_world.specs.declared.native_result.NativeResult.TheVariants.{Aborted}
 use Rattle.jc_world.specs.Objects.{is_instance_of, reference_argument, short_argument}
 use Rattle.jc_world.specs.declared.arrays.Stretch.{Stretch}
 use Rattle.jc_world.specs.Arrays.{bytes_argument, bytes_in, elements_of}
@@ -85,7 +90,7 @@ use Rattle.jc_api_data.specs.OwnerPinArguments.{at_least_1, array_arguments, arg
 use Rattle.jc_api_data.specs.OwnerPin.{pin_comparison, owner_pin_init, guess_of, pin_call, owner_pin_check, changed_or_thrown, owner_pin_get_tries_remaining}
 use Rattle.jc_api_data.specs.OwnerPin.{return_unless_refused, owner_pin_is_validated, owner_pin_update, owner_pin_reset, owner_pin_reset_and_unblock}
 use Rattle.jc_api_data.specs.OwnerPin.{owner_pin_set_validated_flag}
-use Rattle.jc_api_runtime.specs.SystemSharing.{aid_or_null, jc_system_lookup_aid, server_call_result, server_call_by_aid, server_call_if_known}
+use Rattle.jc_api_runtime.specs.SystemSharing.{aid_or_null, applet_of, jc_system_lookup_aid, server_call_result, server_call_by_aid, server_call_if_known}
 use Rattle.jc_api_runtime.specs.SystemSharing.{jc_system_get_applet_shareable_interface_object, jc_system_is_applet_active}
 use Rattle.jc_api_runtime.specs.System.{system_call}
 use Rattle.jc_api_runtime.specs.SystemMemory.{available_bytes, first_of_two, jc_system_get_available_memory, jc_system_get_available_memory_shorts}
@@ -103,22 +108,23 @@ use Rattle.jc_api_data.specs.Util.{filling_of, util_array_fill}
 use Rattle.jc_interp.specs.declared.parts.Part.{Part}
 use Rattle.jc_interp.specs.declared.parts.Part.TheVariants.{Objects, CardExceptions, Utilities, System, Aids, Pins, Applets, Apdus}
 use Rattle.jc_interp.specs.Natives.{native_call, native_call_in}
-use Rattle.jc_interp.specs.Parts.{part_of}
+use Rattle.jc_interp.specs.Parts.{part_of, part_of_class}
 use Rattle.law_isolation.specs.Natives.{sets_receiver}
 use Rattle.jc_world.specs.NativeCalls.{NativeProgram}
 use Rattle.jc_world.specs.Numbers.{not_negative}
+use Rattle.law_isolation.proofs.Applets.{registered_then}
 use Rattle.law_isolation.proofs.Arguments.{buffer_is, counted_is, instance_is, length_bytes, pair_is, shorts_is, stretch_is, two_is}
-use Rattle.law_isolation.proofs.Due.{IsPlainCall, call_ok, call_some, call_unless, called_after, called_if, called_ok, called_some, called_then, called_unless}
-use Rattle.law_isolation.proofs.Due.{due_if, effects_due}
-use Rattle.law_isolation.proofs.Exits.{FaultsOnly, plain_firewall}
+use Rattle.law_isolation.proofs.Due.{Anything, DueThen, IsPlainCall, called_after, called_if, called_ok, called_some, called_then, called_unless}
+use Rattle.law_isolation.proofs.Due.{due_any, due_if, due_of, then_if, then_ok, then_some}
+use Rattle.law_isolation.proofs.Exits.{FaultsOnly, IsPlainExit, plain_firewall}
 use Rattle.law_isolation.proofs.NativeExits.{plain_argument, plain_available, plain_bytes, plain_counted, plain_elements, plain_given, plain_instance}
 use Rattle.law_isolation.proofs.NativeExits.{plain_least, plain_length, plain_own, plain_pair, plain_pair_arguments, plain_piece, plain_shorts, plain_two}
-use Rattle.law_isolation.proofs.NativeExits.{plain_two_within}
-use Rattle.law_isolation.proofs.Passing.{AnswersSo, Bears, IsPinCall, MethodPasses, Turns, turns_of}
+use Rattle.law_isolation.proofs.NativeExits.{plain_requested, plain_two_within}
+use Rattle.law_isolation.proofs.Passing.{AnswersSo, Bears, EndsSo, IsPinCall, MethodPasses, RegistersSo, Turns, turns_of}
 
 -- ---- what only reads
 
-module _ (P : Effect → MemoryState → Type 0) (L : ℕ → Type 0) (args : List Cell) (p : Packages) (m : MemoryState) where
+module _ (P : Effect → MemoryState → Type 0) (L : MemoryState → ℕ → Type 0) (args : List Cell) (p : Packages) (m : MemoryState) where
   -- Object and exceptions
   same_due : IsPlainCall P L (object_equals args) m
   unfolding object_equals
@@ -138,7 +144,7 @@ module _ (P : Effect → MemoryState → Type 0) (L : ℕ → Type 0) (args : Li
   memory_told_due = called_some P L m (short_argument args 0) _
       (λ type is. called_ok P L m (available_bytes m type) _ (plain_available m type) (λ count fine. tt))
 
-  found_so : AnswersSo L m → (b : Bool) (o : Option AppletNumber) → L (if b then aid_or_null m.heap.now o else 0)
+  found_so : AnswersSo L m → (b : Bool) (o : Option AppletNumber) → L m (if b then aid_or_null m.heap.now o else 0)
   found_so so true o = so.aid o
   found_so so false o = so.null
 
@@ -236,49 +242,50 @@ module _ (P : Effect → MemoryState → Type 0) (L : ℕ → Type 0) (args : Li
 
 -- ---- what begins and ends transactions
 
-module _ (P : Effect → MemoryState → Type 0) (Q : MemoryState → Type 0) (bears : Bears P Q) where
-  -- JCSystem's transactions
-  module _ (m : MemoryState) (so : Q m) where
-    begun_due : (depth : Depth) → AllDue P (jc_system_begin_transaction depth m) m
-    begun_due Inside = tt
-    begun_due Outside = due_if P m m.heap.begun _ _ (λ on. (bears.turns _ m so refl refl refl, tt)) (λ off.
-        (bears.begins m so off, (bears.turns _ _ (bears.keeps (HeapMove Begin) m (bears.begins m so off) so) refl refl refl, tt)))
+module _ (P : Effect → MemoryState → Type 0) (R : Result NativeResult FrameExit → MemoryState → Type 0) (Q : MemoryState → Type 0) (bears : Bears P Q)
+    (m : MemoryState) (so : Q m) (ends : EndsSo R m) where
+  begun_due : (depth : Depth) → DueThen P R (jc_system_begin_transaction depth m) m
+  begun_due Inside = ends.exits (Throw in_progress) tt
+  begun_due Outside = then_if P R m ends.exits m.heap.begun _ _ (λ on. (bears.turns _ m so refl refl refl, ends.levels Inside)) (λ off.
+      (bears.begins m so off, (bears.turns _ _ (bears.keeps (HeapMove Begin) m (bears.begins m so off) so) refl refl refl, ends.begins)))
 
-    -- where no installation is open
-    closed_due : open_installation m.registers.installation ≡ None → AllDue P (commit_of_applet Idle m) m
-    closed_due none = due_if P m m.heap.begun _ _ (λ on. (
-      bears.commits m so on none,
-      (bears.turns _ _ (bears.keeps (HeapMove Commit) m (bears.commits m so on none) so) refl refl refl, tt),
-    )) (λ off. (bears.turns _ m so refl refl refl, tt))
+  -- where no installation is open
+  closed_due : open_installation m.registers.installation ≡ None → DueThen P R (commit_of_applet Idle m) m
+  closed_due none = then_if P R m ends.exits m.heap.begun _ _ (λ on. (
+    bears.commits m so on none,
+    (bears.turns _ _ (bears.keeps (HeapMove Commit) m (bears.commits m so on none) so) refl refl refl, ends.commits none),
+  )) (λ off. (bears.turns _ m so refl refl refl, ends.levels Outside))
 
-    committed_in_due : (installation : Installation) → m.registers.installation ≡ installation → AllDue P (commit_of_applet installation m) m
-    committed_in_due (Open home entry) is = (bears.turns _ m so refl refl refl, tt)
-    committed_in_due Idle is = closed_due (ap open_installation is)
-    committed_in_due (Registered home) is = closed_due (ap open_installation is)
+  committed_in_due : (installation : Installation) → m.registers.installation ≡ installation → DueThen P R (commit_of_applet installation m) m
+  committed_in_due (Open home entry) is = (bears.turns _ m so refl refl refl, ends.levels Outside)
+  committed_in_due Idle is = closed_due (ap open_installation is)
+  committed_in_due (Registered home) is = closed_due (ap open_installation is)
 
-    committed_due : (depth : Depth) → AllDue P (jc_system_commit_transaction depth m) m
-    committed_due Outside = tt
-    committed_due Inside = committed_in_due m.registers.installation refl
+  committed_due : (depth : Depth) → DueThen P R (jc_system_commit_transaction depth m) m
+  committed_due Outside = ends.exits (Throw not_in_progress) tt
+  committed_due Inside = committed_in_due m.registers.installation refl
 
-    after_abort_due : (installation : Installation) (v : MemoryState) → AllDue P (after_abort installation) v
-    after_abort_due Idle v = tt
-    after_abort_due _ v = tt
+  after_abort_due : (installation : Installation) → m.registers.installation ≡ installation → (v : MemoryState)
+      → (open_installation m.registers.installation ≡ None → R (Ok Aborted) v) → DueThen P R (after_abort installation) v
+  after_abort_due Idle is v left = left (ap open_installation is)
+  after_abort_due (Open home entry) is v left = ends.faults v
+  after_abort_due (Registered home) is v left = left (ap open_installation is)
 
-    aborted_due : (depth : Depth) → AllDue P (jc_system_abort_transaction depth m) m
-    aborted_due Outside = tt
-    aborted_due Inside = due_if P m m.heap.begun _ _
-        (λ on. (
-          bears.aborts m on,
-          (
-            bears.turns _ _ (bears.keeps (HeapMove Abort) m (bears.aborts m on) so) refl refl refl,
-            after_abort_due m.registers.installation _,
-          ),
-        ))
-        (λ off. (bears.turns _ m so refl refl refl, after_abort_due m.registers.installation _))
+  aborted_due : (depth : Depth) → DueThen P R (jc_system_abort_transaction depth m) m
+  aborted_due Outside = ends.exits (Throw not_in_progress) tt
+  aborted_due Inside = then_if P R m ends.exits m.heap.begun _ _
+      (λ on. (
+        bears.aborts m on,
+        (
+          bears.turns _ _ (bears.keeps (HeapMove Abort) m (bears.aborts m on) so) refl refl refl,
+          after_abort_due m.registers.installation refl _ ends.aborts,
+        ),
+      ))
+      (λ off. (bears.turns _ m so refl refl refl, after_abort_due m.registers.installation refl _ ends.stays))
 
 -- ---- what sets registers and sends
 
-module _ (P : Effect → MemoryState → Type 0) (L : ℕ → Type 0) (Q : MemoryState → Type 0) (turns : Turns P Q) where
+module _ (P : Effect → MemoryState → Type 0) (L : MemoryState → ℕ → Type 0) (Q : MemoryState → Type 0) (turns : Turns P Q) where
   outgoing_in_due : (m : MemoryState) → Q m → (phase : ApduPhase) → IsPlainCall P L (set_outgoing_in_phase m phase) m
   outgoing_in_due m so Waiting = (turns.turns _ m so refl refl refl, tt)
   outgoing_in_due m so Received = (turns.turns _ m so refl refl refl, tt)
@@ -331,7 +338,7 @@ same_registers (Some event) r i words m = refl
 
 -- ---- what sets cells, and makes objects
 
-module _ (P : Effect → MemoryState → Type 0) (L : ℕ → Type 0) (Q : MemoryState → Type 0) (turns : Turns P Q) (method : PlatformMethod)
+module _ (P : Effect → MemoryState → Type 0) (L : MemoryState → ℕ → Type 0) (Q : MemoryState → Type 0) (turns : Turns P Q) (method : PlatformMethod)
     (args : List Cell) (p : Packages) (m : MemoryState) (so : Q m) (pass : MethodPasses P method args p m) where
   -- exceptions
   reason_due : part_of method ≡ CardExceptions → sets_receiver method ≡ true → IsPlainCall P L (exception_set_reason args m) m
@@ -520,64 +527,70 @@ module _ (P : Effect → MemoryState → Type 0) (L : ℕ → Type 0) (Q : Memor
         called_ok P L m (is_own_value m pin) _ (plain_own m pin) (λ u owned. settled_due (pin_update m pin (bytes_in m e))
         (updated_due pin (bytes_in m e) (called_pin pin is) owned)))))
 
--- ---- what asks a server, makes transient arrays and registers applets
+-- ---- what asks a server, and makes transient arrays
 
-module _ (P : Effect → MemoryState → Type 0) (method : PlatformMethod) (args : List Cell) (p : Packages) (m : MemoryState) where
-  asked_due : (parameter : ℤ) (n : AppletNumber) (server : Option ℕ) → AllDue P (server_call_result m parameter n server) m
-  asked_due parameter n None = tt
-  asked_due parameter n (Some server) = tt
+module _ (P : Effect → MemoryState → Type 0) (L : MemoryState → ℕ → Type 0) (args : List Cell) (p : Packages) (m : MemoryState) (refers : AnswersSo L m) where
+  asked_due : (parameter : ℤ) (n : AppletNumber) (server : Option ℕ) → instance_of_applet m.heap.now n.0 ≡ server
+      → IsPlainCall P L (server_call_result m parameter n server) m
+  asked_due parameter n None is = refers.null
+  asked_due parameter n (Some server) is = (is, refers.aid (applet_of m.registers.active))
 
-  known_due : (parameter : ℤ) (n : Option AppletNumber) → AllDue P (server_call_if_known m parameter n) m
-  known_due parameter None = tt
-  known_due parameter (Some n) = asked_due parameter n (instance_of_applet m.heap.now n.0)
+  known_due : (parameter : ℤ) (n : Option AppletNumber) → IsPlainCall P L (server_call_if_known m parameter n) m
+  known_due parameter None = refers.null
+  known_due parameter (Some n) = asked_due parameter n (instance_of_applet m.heap.now n.0) refl
 
-  asked_by_due : (aid : ℕ) (parameter : ℤ) (f : Facts) → AllDue P (server_call_by_aid p m aid parameter f) m
-  asked_by_due aid parameter f = due_if P m (is_instance_of p f (class_word p.platform Aid)) _ _
+  asked_by_due : (aid : ℕ) (parameter : ℤ) (f : Facts) → IsPlainCall P L (server_call_by_aid p m aid parameter f) m
+  asked_by_due aid parameter f = called_if P L m (is_instance_of p f (class_word p.platform Aid)) _ _
       (λ on. known_due parameter (option_and_then (λ bytes. applet_with_aid m bytes) (aid_at m aid))) (λ off. tt)
 
-  server_due : AllDue P (jc_system_get_applet_shareable_interface_object args p m) m
+  server_due : IsPlainCall P L (jc_system_get_applet_shareable_interface_object args p m) m
   unfolding jc_system_get_applet_shareable_interface_object
-  server_due = call_some P m (reference_argument args 0) _ (λ aid is. call_some P m (short_argument args 1) _ (λ parameter there.
-      due_if P m (aid == 0) _ _ (λ on. tt) (λ off. call_some P m (header_at m aid) _ (λ f found. asked_by_due aid parameter f))))
+  server_due = called_some P L m (reference_argument args 0) _ (λ aid is. called_some P L m (short_argument args 1) _ (λ parameter there.
+      called_if P L m (aid == 0) _ _ (λ on. refers.null) (λ off. called_some P L m (header_at m aid) _ (λ f found. asked_by_due aid parameter f))))
 
-  module _ (pass : MethodPasses P method args p m) where
-    -- transient arrays
-    transient_due : (kind : Kind) → (kind ≡ Instance → ⊥) → AllDue P (jc_system_make_transient_array kind args p m) m
-    unfolding jc_system_make_transient_array
-    transient_due kind none = call_some P m (short_argument args 0) _ (λ count is. call_some P m (short_argument args 1) _
-        (λ event there. call_ok P m (requested_array kind count event p m) _ (λ o fine.
-        call_unless P m (creation_refusal m o) _ (λ room. pass.transient kind count event o none fine room))))
+  transient_due : (method : PlatformMethod) → MethodPasses P method args p m → (kind : Kind) → (kind ≡ Instance → ⊥)
+      → IsPlainCall P L (jc_system_make_transient_array kind args p m) m
+  unfolding jc_system_make_transient_array
+  transient_due method pass kind none = called_some P L m (short_argument args 0) _ (λ count is. called_some P L m (short_argument args 1) _
+      (λ event there. called_ok P L m (requested_array kind count event p m) _ (plain_requested kind count event p m) (λ o fine.
+      called_unless P L m (creation_refusal m o) _ (λ room r new. (pass.transient kind count event o none fine room r new, refers.new o r new)))))
 
-    -- Applet
-    as_due : method ≡ AppletRegister → (instance : ℕ) → reference_argument args 0 ≡ Some instance → (aid : Option (List ℕ))
-        → install_aid p m.registers.installation ≡ aid → AllDue P (register_with instance p m aid) m
-    as_due is instance own None there = tt
-    as_due is instance own (Some aid) there = due_if P m (nat_le (length aid) 16) _ _ (λ on. pass.own_registers is aid instance own there) (λ off. tt)
+-- ---- what registers applets
 
-    own_registered_due : method ≡ AppletRegister → AllDue P (applet_register args p m) m
-    unfolding applet_register
-    own_registered_due is = call_some P m (reference_argument args 0) _ (λ instance own. as_due is instance own (install_aid p m.registers.installation) refl)
+module _ (P : Effect → MemoryState → Type 0) (R : Result NativeResult FrameExit → MemoryState → Type 0) (method : PlatformMethod) (args : List Cell)
+    (p : Packages) (m : MemoryState) (exits : (e : FrameExit) → IsPlainExit e → R (Err e) m) (registers : RegistersSo P R method args p m) where
+  as_due : method ≡ AppletRegister → (instance : ℕ) → reference_argument args 0 ≡ Some instance → (aid : Option (List ℕ))
+      → install_aid p m.registers.installation ≡ aid → DueThen P R (register_with instance p m aid) m
+  as_due is instance own None there = exits (Throw illegal_aid) tt
+  as_due is instance own (Some aid) there = then_if P R m exits (nat_le (length aid) 16) _ _ (λ on. registered_then P R p m exits aid instance (registers.own is aid instance own there))
+      (λ off. exits (Throw illegal_aid) tt)
 
-    given_registered_due : method ≡ AppletRegisterBytes → AllDue P (applet_register_bytes args p m) m
-    unfolding applet_register_bytes
-    given_registered_due is = call_some P m (reference_argument args 0) _ (λ instance own. call_some P m (reference_argument args 1) _
-        (λ array a. call_some P m (short_argument args 2) _ (λ start s. call_some P m (short_argument args 3) _ (λ count c.
-        call_ok P m (bytes_argument m array) _ (λ header h. call_ok P m (elements_of p m array header start count) _ (λ e fine.
-        due_if P m (is_aid_length e.count) _ _ (λ on. pass.given_registers is e instance own on) (λ off. tt)))))))
+  own_registered_due : method ≡ AppletRegister → DueThen P R (applet_register args p m) m
+  unfolding applet_register
+  own_registered_due is = then_some P R m exits (reference_argument args 0) _
+      (λ instance own. as_due is instance own (install_aid p m.registers.installation) refl)
+
+  given_registered_due : method ≡ AppletRegisterBytes → DueThen P R (applet_register_bytes args p m) m
+  unfolding applet_register_bytes
+  given_registered_due is = then_some P R m exits (reference_argument args 0) _ (λ instance own. then_some P R m exits (reference_argument args 1) _
+      (λ array a. then_some P R m exits (short_argument args 2) _ (λ start s. then_some P R m exits (short_argument args 3) _ (λ count c.
+      then_ok P R m exits (bytes_argument m array) _ (plain_bytes m array) (λ header h.
+      then_ok P R m exits (elements_of p m array header start count) _ (plain_elements p m array header start count) (λ e fine.
+      then_if P R m exits (is_aid_length e.count) _ _
+      (λ on. registered_then P R p m exits (bytes_in m e) instance (registers.given is e instance own on)) (λ off. exits (Throw illegal_value) tt)))))))
 
 -- ---- part by part
 
--- whatever the reference
-abbrev pub Anything : ℕ → Type 0
-Anything r = Unit {0}
+-- methods that begin and end no transaction, and register nothing
+abbrev pub IsPlainMethod : PlatformMethod → Type 0
+IsPlainMethod JcSystemAbortTransaction = ⊥
+IsPlainMethod JcSystemBeginTransaction = ⊥
+IsPlainMethod JcSystemCommitTransaction = ⊥
+IsPlainMethod AppletRegister = ⊥
+IsPlainMethod AppletRegisterBytes = ⊥
+IsPlainMethod method = Unit {0}
 
--- parts whose methods begin and end no transaction, register nothing, ask no server and make nothing
-abbrev pub IsPlainPart : Part → Type 0
-IsPlainPart System = ⊥
-IsPlainPart Applets = ⊥
-IsPlainPart part = Unit {0}
-
-module _ (P : Effect → MemoryState → Type 0) (L : ℕ → Type 0) (Q : MemoryState → Type 0) (turns : Turns P Q) (args : List Cell) (p : Packages)
+module _ (P : Effect → MemoryState → Type 0) (L : MemoryState → ℕ → Type 0) (Q : MemoryState → Type 0) (turns : Turns P Q) (args : List Cell) (p : Packages)
     (m : MemoryState) (so : Q m) (refers : AnswersSo L m) where
   objects_due : (method : PlatformMethod) → IsPlainCall P L (object_call method args) m
   unfolding object_call
@@ -663,53 +676,81 @@ module _ (P : Effect → MemoryState → Type 0) (L : ℕ → Type 0) (Q : Memor
   apdus_due ApduGetCurrentApduBuffer pass = current_buffer_due P L args p m refers
   apdus_due _ pass = tt
 
-  -- each effect of such a method is due, where those that set cells are, and it answers plainly
-  pub part_called : (part : Part) (method : PlatformMethod) → IsPlainPart part → part_of method ≡ part → MethodPasses P method args p m
-      → IsPlainCall P L (native_call_in part method args p m) m
-  part_called Objects method plain is pass = objects_due method
-  part_called CardExceptions method plain is pass = exceptions_due method is pass
-  part_called Utilities method plain is pass = util_due method pass
-  part_called System method plain is pass = absurd plain
-  part_called Aids method plain is pass = aids_due method pass
-  part_called Pins method plain is pass = pins_due method pass
-  part_called Applets method plain is pass = absurd plain
-  part_called Apdus method plain is pass = apdus_due method pass
+  systems_due : (method : PlatformMethod) → IsPlainMethod method → MethodPasses P method args p m → IsPlainCall P L (system_call method args p m) m
+  unfolding system_call
+  systems_due JcSystemAbortTransaction plain pass = absurd plain
+  systems_due JcSystemBeginTransaction plain pass = absurd plain
+  systems_due JcSystemCommitTransaction plain pass = absurd plain
+  systems_due JcSystemGetAid plain pass = refers.aid (applet_of m.registers.active)
+  systems_due JcSystemGetAppletShareableInterfaceObject plain pass = server_due P L args p m refers
+  systems_due JcSystemGetAvailableMemory plain pass = memory_told_due P L args p m
+  systems_due JcSystemGetAvailableMemoryShorts plain pass = memory_set_due P L Q turns JcSystemGetAvailableMemoryShorts args p m so pass
+  systems_due JcSystemGetPreviousContextAid plain pass = refers.aid (applet_of m.registers.previous)
+  systems_due JcSystemIsAppletActive plain pass = active_due P L args p m
+  systems_due JcSystemIsTransient plain pass = event_due P L args p m
+  systems_due JcSystemLookupAid plain pass = looked_up_due P L args p m refers
+  systems_due JcSystemMakeTransientBooleanArray plain pass = transient_due P L args p m refers JcSystemMakeTransientBooleanArray pass BooleanArray (λ e. cc)
+  systems_due JcSystemMakeTransientByteArray plain pass = transient_due P L args p m refers JcSystemMakeTransientByteArray pass ByteArray (λ e. cc)
+  systems_due JcSystemMakeTransientObjectArray plain pass = transient_due P L args p m refers JcSystemMakeTransientObjectArray pass ReferenceArray (λ e. cc)
+  systems_due JcSystemMakeTransientShortArray plain pass = transient_due P L args p m refers JcSystemMakeTransientShortArray pass ShortArray (λ e. cc)
+  systems_due _ plain pass = tt
 
+  applets_due : (method : PlatformMethod) → IsPlainMethod method → IsPlainCall P L (applet_call method args p m) m
+  unfolding applet_call
+  applets_due AppletRegister plain = absurd plain
+  applets_due AppletRegisterBytes plain = absurd plain
+  applets_due AppletGetShareableInterfaceObject plain = refers.null
+  applets_due _ plain = tt
+
+  part_called : (part : Part) (method : PlatformMethod) → part_of method ≡ part → IsPlainMethod method → MethodPasses P method args p m
+      → IsPlainCall P L (native_call_in part method args p m) m
+  part_called Objects method is plain pass = objects_due method
+  part_called CardExceptions method is plain pass = exceptions_due method is pass
+  part_called Utilities method is plain pass = util_due method pass
+  part_called System method is plain pass = systems_due method plain pass
+  part_called Aids method is plain pass = aids_due method pass
+  part_called Pins method is plain pass = pins_due method pass
+  part_called Applets method is plain pass = applets_due method plain
+  part_called Apdus method is plain pass = apdus_due method pass
+
+  -- each effect of such a method is due, where those that set cells are, and it answers plainly
+  pub method_called : (method : PlatformMethod) → IsPlainMethod method → MethodPasses P method args p m → IsPlainCall P L (native_call method args p m) m
+  unfolding native_call
+  method_called method plain pass = part_called (part_of method) method refl plain pass
+
+-- ---- all methods
+
+-- where it is so of such a method, it is so of each
+module _ (P : Effect → MemoryState → Type 0) (R : Result NativeResult FrameExit → MemoryState → Type 0) (Q : MemoryState → Type 0) (bears : Bears P Q)
+    (args : List Cell) (p : Packages) (m : MemoryState) (so : Q m) (ends : EndsSo R m) where
+  pub method_then : (method : PlatformMethod) → RegistersSo P R method args p m → (IsPlainMethod method → DueThen P R (native_call method args p m) m)
+      → DueThen P R (native_call method args p m) m
+  unfolding native_call system_call applet_call part_of part_of_class methods
+  method_then JcSystemAbortTransaction registers plain = aborted_due P R Q bears m so ends m.registers.depth
+  method_then JcSystemBeginTransaction registers plain = begun_due P R Q bears m so ends m.registers.depth
+  method_then JcSystemCommitTransaction registers plain = committed_due P R Q bears m so ends m.registers.depth
+  method_then AppletRegister registers plain = own_registered_due P R AppletRegister args p m ends.exits registers refl
+  method_then AppletRegisterBytes registers plain = given_registered_due P R AppletRegisterBytes args p m ends.exits registers refl
+  method_then _ registers plain = plain tt
+
+-- each effect of a method is due, where those that set cells are
 module _ (P : Effect → MemoryState → Type 0) (Q : MemoryState → Type 0) (bears : Bears P Q) (args : List Cell) (p : Packages) (m : MemoryState) (so : Q m) where
   any_so : AnswersSo Anything m
-  any_so = record { buffer = λ r is. tt; apdu = λ r is. tt; aid = λ o. tt; null = tt }
+  any_so = record { buffer = λ r is. tt; apdu = λ r is. tt; aid = λ o. tt; null = tt; new = λ o r new. tt }
 
-  system_due : (method : PlatformMethod) → MethodPasses P method args p m → AllDue P (system_call method args p m) m
-  unfolding system_call
-  system_due JcSystemAbortTransaction pass = aborted_due P Q bears m so m.registers.depth
-  system_due JcSystemBeginTransaction pass = begun_due P Q bears m so m.registers.depth
-  system_due JcSystemCommitTransaction pass = committed_due P Q bears m so m.registers.depth
-  system_due JcSystemGetAppletShareableInterfaceObject pass = server_due P JcSystemGetAppletShareableInterfaceObject args p m
-  system_due JcSystemGetAvailableMemory pass = effects_due P Anything _ m (memory_told_due P Anything args p m)
-  system_due JcSystemGetAvailableMemoryShorts pass = effects_due P Anything _ m
-      (memory_set_due P Anything Q (turns_of P Q bears) JcSystemGetAvailableMemoryShorts args p m so pass)
-  system_due JcSystemIsAppletActive pass = effects_due P Anything _ m (active_due P Anything args p m)
-  system_due JcSystemIsTransient pass = effects_due P Anything _ m (event_due P Anything args p m)
-  system_due JcSystemLookupAid pass = effects_due P Anything _ m (looked_up_due P Anything args p m any_so)
-  system_due JcSystemMakeTransientBooleanArray pass = transient_due P JcSystemMakeTransientBooleanArray args p m pass BooleanArray (λ e. cc)
-  system_due JcSystemMakeTransientByteArray pass = transient_due P JcSystemMakeTransientByteArray args p m pass ByteArray (λ e. cc)
-  system_due JcSystemMakeTransientObjectArray pass = transient_due P JcSystemMakeTransientObjectArray args p m pass ReferenceArray (λ e. cc)
-  system_due JcSystemMakeTransientShortArray pass = transient_due P JcSystemMakeTransientShortArray args p m pass ShortArray (λ e. cc)
-  system_due _ pass = tt
+  any_end : EndsSo (λ a v. Unit {0}) m
+  any_end = record {
+    exits = λ e plain. tt;
+    faults = λ v. tt;
+    levels = λ depth. tt;
+    begins = tt;
+    commits = λ none. tt;
+    aborts = λ none. tt;
+    stays = λ none. tt;
+  }
 
-  applets_due : (method : PlatformMethod) → MethodPasses P method args p m → AllDue P (applet_call method args p m) m
-  unfolding applet_call
-  applets_due AppletRegister pass = own_registered_due P AppletRegister args p m pass refl
-  applets_due AppletRegisterBytes pass = given_registered_due P AppletRegisterBytes args p m pass refl
-  applets_due _ pass = tt
-
-  part_due : (part : Part) (method : PlatformMethod) → part_of method ≡ part → MethodPasses P method args p m → AllDue P (native_call_in part method args p m) m
-  part_due System method is pass = system_due method pass
-  part_due Applets method is pass = applets_due method pass
-  part_due part method is pass = effects_due P Anything (native_call_in part method args p m) m
-      (part_called P Anything Q (turns_of P Q bears) args p m so any_so part method tt is pass)
-
-  -- each effect of a method is due, where those that set cells are
-  pub method_due : (method : PlatformMethod) → MethodPasses P method args p m → AllDue P (native_call method args p m) m
-  unfolding native_call
-  method_due method pass = part_due (part_of method) method refl pass
+  pub method_due : (method : PlatformMethod) → MethodPasses P method args p m → RegistersSo P (λ a v. Unit {0}) method args p m
+      → AllDue P (native_call method args p m) m
+  method_due method pass registers = due_of P _ (native_call method args p m) m (method_then P (λ a v. Unit {0}) Q bears args p m so any_end method registers
+      (λ plain. due_any P (native_call method args p m) m
+      (due_of P _ (native_call method args p m) m (method_called P Anything Q (turns_of P Q bears) args p m so any_so method plain pass))))

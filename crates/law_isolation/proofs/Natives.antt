@@ -1,16 +1,17 @@
 -- Methods of the platform spare what is outside reach.
-use Rattle.std.proofs.Common.{◌≡◌, ℕ, ◌+◌, ◌≤◌, Bool, true, false, inl, inr, List, [], length, Some, Ok, refl, sym, ◌∙◌, ap, subst, arith, if◌then◌else◌}
+use Rattle.std.proofs.Common.{◌≡◌, ℕ, ◌+◌, ◌<◌, ◌≤◌, Bool, true, false, inl, inr, List, [], length, Some, Ok, refl, sym, ◌∙◌, ap, subst, arith, if◌then◌else◌}
 use Rattle.std.proofs.lemmas.List.{length-map}
 use Rattle.std.proofs.lemmas.List.FromFn.{length-range_with_len}
 use Rattle.std.proofs.lemmas.List.Edits.{length-between}
 use Rattle.std.specs.List.{range_with_len}
 use Rattle.std.specs.Prelude.{ℤ, min, nat_le, slice_index, slice_range}
+use Rattle.jc_words.specs.Layout.{most_applets}
 use Rattle.jc_transient.specs.declared.cell.CellValue.TheVariants.{Short}
-use Rattle.jc_heap.specs.Heap.{facts, is_allocated}
+use Rattle.jc_heap.specs.Heap.{facts}
 use Rattle.jc_frames.specs.declared.cell.Cell.{Cell}
-use Rattle.jc_memory.specs.State.{MemoryState}
+use Rattle.jc_memory.specs.declared.registers.PackageNumber.{PackageNumber}
+use Rattle.jc_memory.specs.State.{MemoryState, IsNew}
 use Rattle.jc_memory.specs.Cells.{header_at, cells_effect}
-use Rattle.jc_memory.specs.Reading.{AllDue}
 use Rattle.jc_linker.specs.Values.{Packages}
 use Rattle.jc_platform.specs.declared.names.PlatformMethod.{PlatformMethod}
 use Rattle.jc_platform.specs.declared.names.PlatformMethod.TheVariants.{AidInit}
@@ -22,21 +23,18 @@ use Rattle.jc_world.specs.declared.arrays.Stretch.{Stretch}
 use Rattle.jc_world.specs.Arrays.{bytes_in}
 use Rattle.jc_api_runtime.specs.AidCells.{aid_cell, cells_of_aid}
 use Rattle.jc_api_data.specs.ApduBuffer.{data_of}
-use Rattle.jc_api_runtime.specs.Register.{registration}
+use Rattle.jc_api_runtime.specs.Register.{aid_object}
 use Rattle.jc_api_data.specs.OwnerPinArguments.{is_own_value}
-use Rattle.jc_frames.specs.declared.cell.Cell.TheVariants.{Reference}
-use Rattle.jc_world.specs.declared.native_result.NativeResult.TheVariants.{ReturnValue}
-use Rattle.jc_world.specs.NativeCalls.{return_value}
 use Rattle.law_isolation.specs.Natives.{NativesSpare, ReachesCalled, sets_receiver}
 use Rattle.law_isolation.specs.Reach.{IsOutside}
 use Rattle.law_isolation.specs.Sparing.{LeavesObject}
-use Rattle.law_isolation.proofs.Applets.{registered_due}
+use Rattle.law_isolation.proofs.Applets.{MayRegister, Registering, counts_kept, entry_of, home_of}
 use Rattle.law_isolation.proofs.Arguments.{IsStretch}
 use Rattle.law_isolation.proofs.Methods.{method_due}
-use Rattle.law_isolation.proofs.Passing.{Bears, IsPinCall, MethodPasses, recorded}
+use Rattle.law_isolation.proofs.Passing.{Bears, IsPinCall, MethodPasses, RegistersSo, recorded}
 use Rattle.law_isolation.proofs.Pins.{beside_append, beside_put, value_inside}
 use Rattle.law_isolation.proofs.Reaching.{not_outside}
-use Rattle.law_isolation.proofs.Setting.{new_other, new_spares, run_spares, set_spares}
+use Rattle.law_isolation.proofs.Setting.{new_makes, new_other, new_spares, run_spares, set_spares}
 
 -- effects that set no cells spare each object
 bears : (q : ℕ) → Bears (LeavesObject q) (λ m. Unit {0})
@@ -85,9 +83,21 @@ module _ (method : PlatformMethod) (args : List Cell) (p : Packages) (m : Memory
   stretch_spares r count e words is long = subst (λ a. LeavesObject q (cells_effect m a e.start words) m) (sym is.array)
       (run_spares q m r e.start words (not_outside p m q r (facts m.heap.now r) out refl is.reach) (let w = is.within in omega (arith, w, long)))
 
-  registers : (aid : List ℕ) (instance : ℕ) → AllDue (LeavesObject q) (registration aid instance p m) m
-  registers = registered_due (LeavesObject q) (λ g v. tt) (λ v on. tt) p m (λ r words new.
-      ((refl, subst (λ t. is_allocated m.heap.now t ≡ false) new.chosen new.free), (new_other m q r out.there new, tt))) (λ entry v is. inr is)
+  registers : (aid : List ℕ) (instance : ℕ) (k : PackageNumber) → MayRegister m aid instance k → (r : ℕ) → IsNew m.heap.now r
+      → Registering (LeavesObject q) (λ a v. Unit {0}) p m aid instance k r
+  registers aid instance k may r new = record {
+    makes = new_makes q m (aid_object p) r new;
+    sets = new_other m q r out.there new;
+    enters = inr (record {
+      entry = entry_of instance k r;
+      is = refl;
+      few = subst (λ n. n < most_applets) (sym (counts_kept p m aid r)) may.few;
+      home = home_of m.registers.installation k may.opened_by;
+    });
+    commits = tt;
+    turns = tt;
+    follows = tt;
+  }
 
   passes : MethodPasses (LeavesObject q) method args p m
   passes = record {
@@ -97,7 +107,7 @@ module _ (method : PlatformMethod) (args : List Cell) (p : Packages) (m : Memory
         (let l = long.cells in let n = nine bytes in omega (arith, l, n));
     buffer = λ r is. run_spares q m r 5 (data_of m.command) (λ same. out.others (16, sym same ∙ is.is))
         (let d = data_fits m.command few in let l = is.long in omega (arith, d, l));
-    transient = λ kind count event o none fine room. new_spares q o (λ r. return_value (ReturnValue (Reference r))) m out.there (λ r v new. tt);
+    transient = λ kind count event o none fine room. new_makes q m o;
     starts = λ pin is limit maximum.
         let ne = other_pin pin is in
         new_spares q (value_array m maximum) (recorded pin limit maximum) m out.there (λ value v new. (inl (ne, (ne, (ne, (ne, (ne, tt))))), (ne, tt)));
@@ -107,10 +117,14 @@ module _ (method : PlatformMethod) (args : List Cell) (p : Packages) (m : Memory
     updates = λ pin is bytes owned short. let ne = other_pin pin is in
         inl (beside_append q (cell_changes (record_of m pin).value 0 bytes) _ (beside_put q (record_of m pin).value 0 bytes (other_value pin is owned))
         (ne, (ne, tt)));
-    own_registers = λ is aid instance own there. registers aid instance;
-    given_registers = λ is e instance own fine. registers (bytes_in m e) instance;
+  }
+
+  registers_so : RegistersSo (LeavesObject q) (λ a v. Unit {0}) method args p m
+  registers_so = record {
+    own = λ is aid instance own there. registers aid instance;
+    given = λ is e instance own fine. registers (bytes_in m e) instance;
   }
 
 pub natives_spare : NativesSpare
 natives_spare method args p m q out few reach = method_due (LeavesObject q) (λ m. Unit {0}) (bears q) args p m tt method
-    (passes method args p m q out few reach)
+    (passes method args p m q out few reach) (registers_so method args p m q out few reach)

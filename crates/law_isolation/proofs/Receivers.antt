@@ -1,6 +1,6 @@
 -- What a call is made on: an object within reach, or nothing.
-use Rattle.std.proofs.Common.{◌≡◌, ◌⊎◌, ℕ, ◌-◌, ◌/◌, ◌<◌, ◌≤◌, Bool, true, false, inl, inr, List, length, take, reverse, get_or, Option, Some, None, Result, Ok}
-use Rattle.std.proofs.Common.{Err, refl, sym, ◌∙◌, ap, subst, arith, if◌then◌else◌}
+use Rattle.std.proofs.Common.{◌≡◌, ◌⊎◌, ℕ, ◌-◌, ◌/◌, ◌<◌, ◌≤◌, Bool, true, false, inl, inr, List, length, take, reverse, get_or, Option, Some, None, Ok}
+use Rattle.std.proofs.Common.{refl, sym, ◌∙◌, ap, subst, arith, if◌then◌else◌}
 use Rattle.std.proofs.lemmas.Bool.{eqb-false, leb-true, not-false}
 use Rattle.std.proofs.lemmas.List.{get_or-reverse, get_or-take, length-reverse, length-take-le}
 use Rattle.std.proofs.lemmas.Option.{none-some, same_Some, slice_get-get_or}
@@ -38,14 +38,12 @@ use Rattle.jc_firewall.specs.Table.{AllAllow, first_refusal, rules, switches}
 use Rattle.jc_firewall.specs.Table as table
 use Rattle.jc_firewall.proofs.Finds.{all_allow}
 use Rattle.jc_frames.specs.declared.cell.Cell.{Cell}
-use Rattle.jc_frames.specs.declared.outcome.FrameExit.{FrameExit}
 use Rattle.jc_frames.specs.Calls.{arguments_on}
 use Rattle.jc_frames.specs.Cells.{as_reference}
 use Rattle.jc_frames.specs.Frames.{Frames}
 use Rattle.jc_world.specs.Contexts.{firewall_check, firewall_decision, situation_of}
 use Rattle.jc_world.specs.Objects.{check_or_fault, object_at, some_or_fault, reference_argument}
 use Rattle.jc_interp_calls.specs.declared.invoke.MethodCall.{MethodCall}
-use Rattle.jc_world.specs.Answers.{and_then}
 use Rattle.jc_interp_calls.specs.Invoke.{arguments_of, call_of, invokeinterface, invokespecial, invokestatic, invokevirtual, method_selection, class_of}
 use Rattle.jc_interp_calls.specs.Invoke.{fits_at_null, interface_access, interface_by, is_native_constructor, is_of, is_of_any, call_decision, receiver_of}
 use Rattle.jc_interp_calls.specs.Invoke.{receiver_on, special_by, static_by, virtual_by}

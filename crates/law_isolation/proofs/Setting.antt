@@ -9,11 +9,12 @@ use Rattle.jc_heap.specs.Heap.{IsObject, facts, is_allocated}
 use Rattle.jc_heap.proofs.Laws.{object_named}
 use Rattle.jc_memory.specs.declared.making.NewObject.{NewObject}
 use Rattle.jc_memory.specs.State.{MemoryState, HeapMove, IsNew}
-use Rattle.jc_memory.specs.Programs.{Program, Perform}
+use Rattle.jc_memory.specs.Programs.{Program}
 use Rattle.jc_memory.specs.Reading.{AllDue}
 use Rattle.jc_memory.specs.Cells.{cell_effect, cell_effect_in, cells_effect, cells_effect_in}
 use Rattle.jc_memory.specs.Making.{object_creation, creation_move}
 use Rattle.law_isolation.specs.Sparing.{LeavesObject}
+use Rattle.law_isolation.proofs.Passing.{Makes}
 
 module _ (q : ℕ) (m : MemoryState) where
   set_in_spares : (event : Option ClearEvent) (r i : ℕ) (v : CellValue) → (r ≡ q → ⊥) → i < (facts m.heap.now r).length
@@ -38,16 +39,16 @@ module _ (q : ℕ) (m : MemoryState) where
 pub new_other : (m : MemoryState) (q r : ℕ) → IsObject m.heap.now q → IsNew m.heap.now r → r ≡ q → ⊥
 new_other m q r there new same = true≢false (sym (object_named m.heap.now q there) ∙ (ap (is_allocated m.heap.now) (sym same) ∙ new.free))
 
-module _ {A : Type 0} (q : ℕ) (o : NewObject) (rest : ℕ → Program A) where
-  -- what follows is due wherever the new object is another one
-  abbrev pub Follows : Type 0
-  Follows = (r : ℕ) (v : MemoryState) → (r ≡ q → ⊥) → AllDue (LeavesObject q) (rest r) v
+made_in : (event : Option ClearEvent) (o : NewObject) (q : ℕ) (m : MemoryState) (r : ℕ) → IsNew m.heap.now r
+    → LeavesObject q (HeapMove (creation_move event o)) m
+made_in None o q m r new = (refl, subst (λ t. is_allocated m.heap.now t ≡ false) new.chosen new.free)
+made_in (Some event) o q m r new = subst (λ t. is_allocated m.heap.now t ≡ false) new.chosen new.free
 
-  made_in : (event : Option ClearEvent) (m : MemoryState) (r : ℕ) → IsNew m.heap.now r → (r ≡ q → ⊥) → Follows →
-      AllDue (LeavesObject q) (Perform (HeapMove (creation_move event o)) (rest r)) m
-  made_in None m r new other follows = ((refl, subst (λ t. is_allocated m.heap.now t ≡ false) new.chosen new.free), follows r _ other)
-  made_in (Some event) m r new other follows = (subst (λ t. is_allocated m.heap.now t ≡ false) new.chosen new.free, follows r _ other)
+-- a new object is made
+pub new_makes : (q : ℕ) (m : MemoryState) (o : NewObject) → Makes (LeavesObject q) m o
+new_makes q m o r new = made_in o.event o q m r new
 
-  -- a new object is made
-  pub new_spares : (m : MemoryState) → IsObject m.heap.now q → Follows → AllDue (LeavesObject q) (object_creation o rest) m
-  new_spares m there follows = λ r new. made_in o.event m r new (new_other m q r there new) follows
+-- and what follows is due wherever the new object is another one
+pub new_spares : {A : Type 0} (q : ℕ) (o : NewObject) (rest : ℕ → Program A) (m : MemoryState) → IsObject m.heap.now q
+    → ((r : ℕ) (v : MemoryState) → (r ≡ q → ⊥) → AllDue (LeavesObject q) (rest r) v) → AllDue (LeavesObject q) (object_creation o rest) m
+new_spares q o rest m there follows = λ r new. (new_makes q m o r new, follows r _ (new_other m q r there new))

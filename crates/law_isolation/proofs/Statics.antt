@@ -3,7 +3,7 @@ use Rattle.std.proofs.Common.{◌≡◌, ℕ, Bool, true, false, List, [], ◌�
 use Rattle.std.proofs.lemmas.Bool.{and_parts, false≢true}
 use Rattle.std.proofs.lemmas.Option.{none-some, same_Some}
 use Rattle.std.specs.Option.{option_map, option_and_then}
-use Rattle.std.specs.Prelude.{◌&&◌, ◌==◌, ◌+◌, ◌/◌, find, nat_lt, slice_get, slice_index}
+use Rattle.std.specs.Prelude.{◌&&◌, ◌+◌, ◌/◌, find, nat_lt, slice_get}
 use Rattle.jc_cap_linkage.specs.declared.pool.Entry.TheVariants as entries
 use Rattle.jc_cap_linkage.specs.declared.pool.StaticRef.TheVariants as statics
 use Rattle.jc_cap_linkage.specs.declared.pool.VirtualToken.{VirtualToken}

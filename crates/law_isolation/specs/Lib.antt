@@ -1,4 +1,5 @@
 pub mod Reach
+pub mod Referring
 pub mod Sparing
 pub mod Groups
 pub mod Natives

@@ -1,12 +1,12 @@
 -- Applet: an applet is registered, with an AID object that is made for it.
-use Rattle.std.proofs.Common.{◌≡◌, ℕ, ◌+◌, ◌*◌, ◌<◌, ◌≤◌, Bool, true, false, List, length, Option, Some, None, Ok, Err, refl, sym, ◌∙◌, ap, subst, arith}
+use Rattle.std.proofs.Common.{◌≡◌, ℕ, ◌+◌, ◌*◌, ◌<◌, ◌≤◌, Bool, true, false, List, length, Option, Some, None, Result, Ok, refl, sym, ◌∙◌, ap, subst, arith}
 use Rattle.std.proofs.Common.{if◌then◌else◌}
 use Rattle.std.proofs.lemmas.Bool.{and_from, and_parts, cond-true, eq-eqb, false_from_ne_true, leb-true, ltb-true, true≢false}
 use Rattle.std.proofs.lemmas.List.{length-replicate}
 use Rattle.std.proofs.lemmas.List.FromFn.{get_or-map-range_with_len}
 use Rattle.std.proofs.lemmas.Option.{none-some, same_Some}
 use Rattle.std.specs.Option.{option_map}
-use Rattle.std.specs.Prelude.{◌==◌, ◌&&◌, nat_le, nat_lt, is_some, not, slice_index}
+use Rattle.std.specs.Prelude.{◌==◌, ◌&&◌, nat_le, nat_lt, not, slice_index}
 use Rattle.jc_words.specs.Layout.{most_applets}
 use Rattle.jc_heap.specs.declared.object.Facts.{Facts}
 use Rattle.jc_heap.specs.declared.object.Kind.TheVariants.{Instance}
@@ -17,14 +17,13 @@ use Rattle.jc_heap.specs.Object.{AnObject, Object, header_only, cells_of, facts_
 use Rattle.jc_heap.specs.Places.{applet_changes}
 use Rattle.jc_heap.proofs.Laws.{heap_item_at-add_object, heap_item_at-add_other, object_named, same_facts}
 use Rattle.jc_heap.proofs.Keeping.{object-header_only}
-use Rattle.jc_frames.specs.declared.outcome.FrameExit.TheVariants.{Throw}
+use Rattle.jc_frames.specs.declared.outcome.FrameExit.{FrameExit}
 use Rattle.jc_memory.specs.declared.registers.Installation.{Installation}
 use Rattle.jc_memory.specs.declared.registers.Installation.TheVariants.{Idle, Open, Registered}
 use Rattle.jc_memory.specs.declared.registers.PackageNumber.{PackageNumber}
 use Rattle.jc_memory.specs.Owners.{owner_number}
-use Rattle.jc_memory.specs.State.{MemoryState, HeapMove, IsNew, apply_effect}
+use Rattle.jc_memory.specs.State.{MemoryState, HeapMove, IsNew, SetRegisters, apply_effect}
 use Rattle.jc_memory.specs.Cells.{byte_at, header_at}
-use Rattle.jc_memory.specs.Reading.{AllDue}
 use Rattle.jc_linker.specs.Classes.{is_class, reference_cell, size_of}
 use Rattle.jc_linker.specs.Lookups.{applet_entry}
 use Rattle.jc_linker.specs.Resolves.{names_interface}
@@ -33,24 +32,22 @@ use Rattle.jc_platform.specs.declared.names.PlatformClass.TheVariants.{Aid, Appl
 use Rattle.jc_platform.specs.Distinct.{class_word}
 use Rattle.jc_platform.specs.Hierarchy.{holds_reference, is_interface}
 use Rattle.jc_platform.specs.Hierarchy as platform
-use Rattle.jc_registry.specs.Registry.{applet_with_aid}
 use Rattle.jc_card_checks.specs.Objects.{is_a, is_instance, is_object_address}
 use Rattle.jc_card_checks.specs.Sound.{aid_in, aid_of_entry, entry_word, holds_aid}
 use Rattle.jc_world.specs.declared.arrays.Stretch.{Stretch}
+use Rattle.jc_world.specs.declared.native_result.NativeResult.{NativeResult}
+use Rattle.jc_world.specs.declared.native_result.NativeResult.TheVariants.{ReturnVoid}
 use Rattle.jc_world.specs.Arrays.{bytes_in}
 use Rattle.jc_world.proofs.Below.{below_itself}
 use Rattle.jc_api_runtime.specs.AidCells.{cells_of_aid, is_aid_length}
 use Rattle.jc_api_runtime.specs.Applet.{install_aid}
-use Rattle.jc_frames.specs.Reasons.{illegal_aid, in_progress}
-use Rattle.jc_api_runtime.specs.Register.{aid_object_creation, registry_entry, installation_in_transaction, is_inside, is_owned, may_be_added, next_number}
-use Rattle.jc_api_runtime.specs.Register.{open_installation, registration, registration_package, registration_package_in, unless_full, with_installation}
+use Rattle.jc_api_runtime.specs.Register.{is_owned, next_number, open_installation, with_installation}
 use Rattle.law_soundness.specs.Classes.{HasAids, KnowsClasses}
 use Rattle.law_soundness.specs.Fit.{AreCellsOf, FitsNew, FitsObject, FitsRun, FitsTurn, IsFit, KeepsSound, OfRegistry, RegistersApplet}
 use Rattle.law_soundness.specs.State.{IsSoundMemory, IsSteady, is_home, is_open, is_owner_up_to}
 use Rattle.law_isolation.proofs.Arguments.{length_bytes}
-use Rattle.law_isolation.proofs.Due.{call_ok}
-use Rattle.law_isolation.proofs.Applets.{full_in}
-use Rattle.law_isolation.proofs.Reaching.{err_not_ok, header_is}
+use Rattle.law_isolation.proofs.Applets.{MayRegister, Registering}
+use Rattle.law_isolation.proofs.Reaching.{header_is}
 use Rattle.law_isolation.proofs.Standing.{applets-add_object, applets-set_cells}
 use Rattle.law_soundness.proofs.Below.{aid_no_pin}
 use Rattle.law_soundness.proofs.Frames.{run_headers}
@@ -58,52 +55,8 @@ use Rattle.law_isolation.proofs.Natives.{nine}
 use Rattle.law_soundness.proofs.RunCells.{aid_put, all_set, item-set_cells}
 use Rattle.law_soundness.proofs.RunRegistry.{unlike}
 
--- an applet may be registered, in this package
-record MayRegister (m : MemoryState) (aid : List ℕ) (instance : ℕ) (k : PackageNumber) : Type 0 where
-  begun : m.heap.begun ≡ true
-  opened_by : open_installation m.registers.installation ≡ Some k
-  none : is_some (applet_with_aid m aid) ≡ false
-  few : m.heap.now.counts.1 < most_applets
-  owned : is_owned (next_number m) (header_at m instance) ≡ true
-
-module _ (m : MemoryState) (aid : List ℕ) (instance : ℕ) (k : PackageNumber) where
-  added_by : (has room owned : Bool) → (if has then false else (if room then owned else false)) ≡ true → (has ≡ false) × ((room ≡ true) × (owned ≡ true))
-  added_by true room owned e = absurd (true≢false (sym e))
-  added_by false true owned e = (refl, (refl, e))
-  added_by false false owned e = absurd (true≢false (sym e))
-
-  begun_by : (b : Bool) (j : PackageNumber) → (if b then open_installation m.registers.installation else None) ≡ Some j
-      → (b ≡ true) × (open_installation m.registers.installation ≡ Some j)
-  begun_by true j e = (refl, e)
-  begun_by false j e = absurd (none-some j e)
-
-  added_in : (added inside : Bool) → may_be_added m aid instance ≡ added → (j : PackageNumber) → installation_in_transaction m ≡ Some j →
-      (if added then (if inside then Err (Throw in_progress) else unless_full m j) else Err (Throw illegal_aid)) ≡ Ok k → MayRegister m aid instance k
-  added_in true true is j home e = absurd (err_not_ok e)
-  added_in true false is j home e =
-      let same : j ≡ k = full_in k _ _ j e in
-      let begun = begun_by m.heap.begun j home in
-      let added = added_by (is_some (applet_with_aid m aid)) (nat_lt m.heap.now.counts.1 most_applets) (is_owned (next_number m) (header_at m instance)) is in
-      record {
-        begun = begun.0;
-        opened_by = begun.1 ∙ ap Some same;
-        none = added.0;
-        few = ltb-true m.heap.now.counts.1 most_applets (added.1).0;
-        owned = (added.1).1;
-      }
-  added_in false inside is j home e = absurd (err_not_ok e)
-
-  registrable_by : (o : Option PackageNumber) → installation_in_transaction m ≡ o → registration_package_in m aid instance o ≡ Ok k
-      → MayRegister m aid instance k
-  registrable_by None is e = absurd (err_not_ok e)
-  registrable_by (Some j) is e = added_in (may_be_added m aid instance) (is_inside m.registers.depth) refl j is e
-
-  registrable_is : registration_package m aid instance ≡ Ok k → MayRegister m aid instance k
-  unfolding registration_package
-  registrable_is e = registrable_by (installation_in_transaction m) refl e
-
 -- an installation that is open is of a package that is there
-open_home : (i : Installation) (k : PackageNumber) → open_installation i ≡ Some k → is_open i ≡ true
+pub open_home : (i : Installation) (k : PackageNumber) → open_installation i ≡ Some k → is_open i ≡ true
 open_home Idle k e = absurd (none-some k e)
 open_home (Open home entry) k e = refl
 open_home (Registered home) k e = absurd (none-some k e)
@@ -336,20 +289,18 @@ module _ (keeps : KeepsSound) (p : Packages) (m : MemoryState) (known : KnowsCla
         opens = λ on. absurd (true≢false (sym on));
       }
 
-      all_fit : IsFit p (HeapMove (SetPlaces (applet_changes after_cells.heap.now entry))) after_cells
-          × (IsFit p (HeapMove Commit) after_entry × FitsTurn after_commit (with_installation after_entry (Registered k)))
-      all_fit = (OfRegistry registers_fit, ((may.begun, λ on. one_more), turn_registered))
-
-  pub registered_due : (aid : List ℕ) (instance : ℕ) → is_aid_length (length aid) ≡ true → ((i : ℕ) → i < length aid → slice_index aid i < 256)
-      → is_instance (facts m.heap.now instance).kind ≡ true → is_a p (facts m.heap.now instance).class Applet ≡ true
-      → AllDue (IsFit p) (registration aid instance p m) m
-  unfolding registration aid_object_creation registry_entry
-  registered_due aid instance long bytes is class = call_ok (IsFit p) m (registration_package m aid instance) _ (λ k fine. λ r new.
-      let may = registrable_is m aid instance k fine in
-      let rest = all_fit r new aid instance k may long bytes is class in (
-        record { kind = Instance; class = aid_class; owner = 0; long = 9; is = refl; fits = made_fits },
-        ((cells_there r new aid, cells_fit r new aid long), (rest.0, ((rest.1).0, ((rest.1).1, tt)))),
-      ))
+      -- so an applet is registered
+      pub registering_fits : (R : Result NativeResult FrameExit → MemoryState → Type 0)
+          → R (Ok ReturnVoid) (apply_effect (SetRegisters (with_installation after_entry (Registered k))) after_commit)
+          → Registering (IsFit p) R p m aid instance k r
+      registering_fits R follows = record {
+        makes = record { kind = Instance; class = aid_class; owner = 0; long = 9; is = refl; fits = made_fits };
+        sets = (cells_there aid, cells_fit aid long);
+        enters = OfRegistry registers_fit;
+        commits = (may.begun, λ on. one_more);
+        turns = turn_registered;
+        follows = follows;
+      }
 
 -- the AID of an entry, and one whose bytes are those of an array
 module _ (p : Packages) (aids : HasAids p) where

@@ -14,33 +14,23 @@ use Rattle.jc_opcodes.specs.declared.instr.PrimitiveArray.TheVariants.{Booleans,
 use Rattle.jc_opcodes.specs.declared.instr.ValueType.{ValueType}
 use Rattle.jc_opcodes.specs.declared.instr.ValueType.TheVariants as types
 use Rattle.jc_frames.specs.declared.outcome.FrameExit.{FrameExit}
-use Rattle.jc_frames.specs.Frames.{Frames}
-use Rattle.jc_memory.specs.declared.making.NewObject.{NewObject}
-use Rattle.jc_memory.specs.Owners.{owner_number}
 use Rattle.jc_memory.specs.State.{MemoryState}
-use Rattle.jc_memory.specs.Reading.{AllDue}
 use Rattle.jc_memory.specs.Cells.{word_of}
-use Rattle.jc_memory.specs.Making.{creation_refusal}
 use Rattle.jc_linker.specs.declared.target.Target.{Target}
 use Rattle.jc_linker.specs.declared.target.Target.TheVariants as targets
 use Rattle.jc_linker.specs.Classes.{is_class}
 use Rattle.jc_linker.specs.Lookups.{target_at}
 use Rattle.jc_linker.specs.Values.{Packages}
 use Rattle.jc_card_checks.specs.Objects.{fits_class, is_instance, is_reference}
-use Rattle.jc_world.specs.Making.{new_on_top}
 use Rattle.jc_world.specs.Types.{class_named, class_of}
 use Rattle.jc_world.specs.Values.{keepable}
 use Rattle.jc_interp_objects.specs.ArrayElements.{assignable_or_null, element_value, has_elements, element_if_assignable}
 use Rattle.jc_interp_objects.specs.ArrayCreation.{kind_of}
-use Rattle.jc_frames.specs.declared.cell.Cell.TheVariants.{Reference}
-use Rattle.jc_world.specs.Instructions.{continue_with}
-use Rattle.jc_world.specs.Values.{with_top}
 use Rattle.law_soundness.specs.Classes.{KnowsClasses}
-use Rattle.law_soundness.specs.Fit.{FitsFill, FitsNew, FitsValue, IsFit}
+use Rattle.law_soundness.specs.Fit.{FitsFill, FitsValue, IsFit}
 use Rattle.law_soundness.specs.State.{IsLivingValue, IsSoundMemory, IsSteady}
-use Rattle.law_isolation.proofs.Due.{due_unless}
 use Rattle.law_isolation.proofs.Instructions.{arrays_due}
-use Rattle.law_isolation.proofs.Passing.{ArraysPass, new_for}
+use Rattle.law_isolation.proofs.Passing.{ArraysPass, Makes, new_for}
 use Rattle.law_isolation.proofs.Reaching.{err_not_ok, same_Ok}
 use Rattle.law_soundness.specs.Groups.{ArraysFit}
 use Rattle.law_soundness.proofs.RunObjects.{active_known, new_kept, one_fits, set_in}
@@ -91,28 +81,19 @@ module _ (p : Packages) (m : MemoryState) where
       one_fits m r i v within lives (λ array. element_of m.heap.now v (subst IsRef (keepable_same p m value k kept ∙ element_same class k v fits)
       (references of_type (facts m.heap.now r).kind value has array of)) lives)
 
--- a new object on the stack
-pub new_due : (p : Packages) (m : MemoryState) (o : NewObject) (s : Frames) → o.event ≡ None → FitsNew p m o.kind o.class (owner_number o.owner) o.length
-    → AllDue (IsFit p) (new_on_top o s m) m
-unfolding new_on_top
-new_due p m o s kept fits = due_unless (IsFit p) m s (creation_refusal m o) _
-    (new_kept p o (λ r. continue_with (with_top (Reference r) s)) m fits kept (λ r new. tt))
-
 module _ (p : Packages) (m : MemoryState) (known : KnowsClasses p) (sound : IsSoundMemory p m) (steady : IsSteady m) where
-  array_due : (kind : Kind) (class n : ℕ) (s : Frames) → is_instance kind ≡ false → fits_class p kind class n ≡ true
-      → AllDue (IsFit p) (new_on_top (new_for m kind class n) s m) m
-  array_due kind class n s none fits =
-      new_due p m _ s refl (record {
-        there = fits;
-        known = active_known p m sound steady;
-        small = λ is. absurd (both_ways (is_instance kind) none is);
-        environments = λ is zero. absurd (both_ways (is_instance kind) none is);
-      })
+  array_fits : (kind : Kind) (class n : ℕ) → is_instance kind ≡ false → fits_class p kind class n ≡ true → Makes (IsFit p) m (new_for m kind class n)
+  array_fits kind class n none fits = new_kept p m (new_for m kind class n) (record {
+    there = fits;
+    known = active_known p m sound steady;
+    small = λ is. absurd (both_ways (is_instance kind) none is);
+    environments = λ is zero. absurd (both_ways (is_instance kind) none is);
+  }) refl
 
-  of_kind : (of_type : PrimitiveArray) (n : ℕ) (s : Frames) → AllDue (IsFit p) (new_on_top (new_for m (kind_of of_type) 0 n) s m) m
-  of_kind Booleans n s = array_due BooleanArray 0 n s refl refl
-  of_kind Bytes n s = array_due ByteArray 0 n s refl refl
-  of_kind Shorts n s = array_due ShortArray 0 n s refl refl
+  of_kind : (of_type : PrimitiveArray) (n : ℕ) → Makes (IsFit p) m (new_for m (kind_of of_type) 0 n)
+  of_kind Booleans n = array_fits BooleanArray 0 n refl refl
+  of_kind Bytes n = array_fits ByteArray 0 n refl refl
+  of_kind Shorts n = array_fits ShortArray 0 n refl refl
 
   class_there : (number index class : ℕ) (o : Option Target) → target_at p number index ≡ o → option_and_then class_of o ≡ Some class → is_class p class ≡ true
   class_there number index class None is e = absurd (none-some class e)
@@ -130,7 +111,7 @@ module _ (p : Packages) (m : MemoryState) (known : KnowsClasses p) (sound : IsSo
         (element_fills p m of_type r e.index v.0 k w e.class array.elements (has_type of_type cells v taken) kept fits
         (subst (λ g. e.index < g.length) array.is inside));
     numbers = of_kind;
-    references = λ number index class n s named. array_due ReferenceArray class n s refl (named_there number index class named);
+    references = λ number index class n named. array_fits ReferenceArray class n refl (named_there number index class named);
   }
 
 pub arrays_are_fit : ArraysFit

@@ -17,11 +17,11 @@ use Rattle.law_isolation.proofs.Instructions.{fields_due}
 use Rattle.law_isolation.proofs.Passing.{FieldsPass}
 use Rattle.law_isolation.proofs.Reached.{IsCell, Names}
 use Rattle.law_soundness.specs.Classes.{KnowsClasses}
-use Rattle.law_soundness.specs.Fit.{FitsCell, FitsValue, IsFit}
+use Rattle.law_soundness.specs.Fit.{FitsCell, FitsValue, IsFit, OfStatics}
 use Rattle.law_soundness.specs.State.{IsSoundMemory}
 use Rattle.law_soundness.specs.Groups.{FieldsFit}
 use Rattle.law_soundness.proofs.RunObjects.{instance_no_array, kept_fits, one_fits, set_in}
-use Rattle.law_soundness.proofs.RunStatics.{static_due, static_is}
+use Rattle.law_soundness.proofs.RunStatics.{halves_set, static_is, word_set}
 use Rattle.law_soundness.proofs.RunValues.{HasType, has_type, keepable_is, keepable_lives}
 
 module _ (p : Packages) (m : MemoryState) (known : KnowsClasses p) (sound : IsSoundMemory p m) where
@@ -62,8 +62,10 @@ module _ (p : Packages) (m : MemoryState) (known : KnowsClasses p) (sound : IsSo
         (fits_place number index of_type field r i v.0 k named cell (has_type of_type cells v taken) kept)
         (one_fits m r i k cell.within (keepable_lives p m v.0 k kept)
         (λ array. absurd (instance_no_array (facts m.heap.now r).kind (ap is_instance cell.kind) array)));
-    static = λ of_type number index field cells v k s taken kept named. static_due p m sound of_type field v.0 k s
-        (static_is p of_type field number index named) (has_type of_type cells v taken) kept;
+    word = λ of_type number index field cells v k w x taken kept named there whole. word_set p m sound field w there of_type v.0 k x
+        (static_is p of_type field number index named) (has_type of_type cells v taken) kept whole;
+    halves = λ of_type number index field w behind x y named there odd next. OfStatics
+        (halves_set p m sound field w there of_type behind x y (static_is p of_type field number index named) odd next);
   }
 
 pub fields_are_fit : FieldsFit

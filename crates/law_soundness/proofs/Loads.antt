@@ -23,7 +23,7 @@ use Rattle.jc_linker.specs.Values.{Packages}
 use Rattle.jc_opcodes.specs.declared.instr.ValueType.{ValueType}
 use Rattle.jc_opcodes.specs.declared.instr.ValueType.TheVariants as types
 use Rattle.jc_frames.specs.declared.cell.Cell.{Cell}
-use Rattle.jc_frames.specs.declared.cell.Cell.TheVariants.{Short, Reference}
+use Rattle.jc_frames.specs.declared.cell.Cell.TheVariants.{Reference}
 use Rattle.jc_frames.specs.declared.outcome.FrameExit.{FrameExit}
 use Rattle.jc_card_checks.specs.Objects.{is_instance, is_persistent_instance, is_reference}
 use Rattle.jc_card_checks.specs.Sound.{HoldsStatics}
@@ -35,16 +35,20 @@ use Rattle.jc_interp_objects.specs.declared.field_names.FieldOfImage.{FieldOfIma
 use Rattle.jc_interp_objects.specs.ArrayElements.{array_at, element_at, element_in, has_elements}
 use Rattle.jc_interp_objects.specs.StaticFields.{static_value}
 use Rattle.jc_interp_objects.specs.StaticImages.{byte_of, image_byte, image_pair, image_word, word_value}
+use Rattle.law_isolation.proofs.Passing.{ReadsSo}
 use Rattle.law_isolation.proofs.Reached.{IsArray, IsCell, Names, array_reached, index_within}
 use Rattle.law_isolation.proofs.Reaching.{err_not_ok}
+use Rattle.law_isolation.proofs.Taking.{mapped_some}
 use Rattle.law_soundness.specs.Classes.{KnowsClasses}
 use Rattle.law_soundness.specs.Environment.{HasEnvironment}
 use Rattle.law_soundness.specs.Living.{IsLivingCell}
+use Rattle.law_soundness.specs.LocalEffects.{LocalEffectsStay}
 use Rattle.law_soundness.specs.State.{IsFitObject, IsLivingElement, IsSoundMemory, last_own, most_owner}
-use Rattle.law_soundness.proofs.Living.{mapped_some}
 use Rattle.law_soundness.proofs.Transients.{names_object}
 use Rattle.law_soundness.proofs.RunObjects.{kept_fits}
-use Rattle.law_soundness.proofs.RunStatics.{HasStatic, word_is}
+use Rattle.law_soundness.proofs.RunStatics.{HasStatic, static_is, word_is}
+use Rattle.law_soundness.proofs.NewObjects.{new_there}
+use Rattle.law_soundness.proofs.Still.{IsStill, Lives}
 
 -- ---- static fields
 
@@ -174,3 +178,13 @@ module _ (p : Packages) (m : MemoryState) (sound : IsSoundMemory p m) where
     field_living types.Byte number index field r i named cell = tt
     field_living types.Short number index field r i named cell = tt
     field_living types.Reference number index field r i named cell = field_refers number index field r i named cell
+
+    -- what comes onto a stack names what is there
+    pub living_reads : LocalEffectsStay → ReadsSo IsStill Lives p m
+    living_reads calm = record {
+      field = field_living;
+      static = λ t number index field value named read. static_living t field value (static_is p t field number index named) read;
+      element = element_comes;
+      new = λ o r new. inr (new_there o.event o m r new);
+      stays = λ e still r is. calm.references e m still.0 sound.whole.now r is;
+    }

@@ -21,11 +21,10 @@ use Rattle.law_soundness.specs.Fit.{IsFit}
 use Rattle.law_soundness.specs.Classes.{KnowsClasses}
 use Rattle.law_soundness.specs.State.{IsSoundMemory, IsSteady}
 use Rattle.law_isolation.proofs.Instructions.{checked_due, examined_due, made_due}
-use Rattle.law_isolation.proofs.Passing.{InstancesPass}
+use Rattle.law_isolation.proofs.Passing.{InstancesPass, new_for}
 use Rattle.law_isolation.proofs.Reaching.{err_not_ok, same_Ok}
 use Rattle.law_soundness.specs.Groups.{ObjectsFit}
-use Rattle.law_soundness.proofs.Arrays.{new_due}
-use Rattle.law_soundness.proofs.RunObjects.{active_known}
+use Rattle.law_soundness.proofs.RunObjects.{active_known, new_kept}
 
 -- no interface has instances that code makes
 no_interface : (c : PlatformClass) → is_instantiable c ≡ true → is_interface c ≡ false
@@ -65,15 +64,15 @@ module _ (p : Packages) (m : MemoryState) (known : KnowsClasses p) (sound : IsSo
       (eq-eqb n (size_of p class) (sym size)))
 
   instances_pass : (owner_number m.registers.active ≡ 0 → ⊥) → InstancesPass (IsFit p) p m
-  instances_pass other number index class n s is few =
+  instances_pass other number index class n is few =
       let made = class_made p number index class is in
       let size = cells_in (size_of p class) n (nat_lt (size_of p class) 65536) refl _ few in
-      new_due p m _ s refl (record {
+      new_kept p m (new_for m Instance class n) (record {
         there = fits_made class n made size.0;
         known = active_known p m sound steady;
         small = λ instance. subst (λ x. x < 65536) size.0 size.1;
         environments = λ instance zero. absurd (other zero);
-      })
+      }) refl
 
 pub objects_are_fit : ObjectsFit
 objects_are_fit = record {

@@ -1,10 +1,14 @@
--- Methods of the platform fit.
-use Rattle.std.proofs.Common.{◌≡◌, ℕ, true, false, inl, List, Some, refl, sym, ◌∙◌, ap, subst, arith}
+-- Methods of the platform fit, and leave a memory between two instructions.
+use Rattle.std.proofs.Common.{◌≡◌, ℕ, true, false, inl, inr, List, Option, Some, None, refl, sym, ◌∙◌, ap, subst, arith}
+use Rattle.std.proofs.lemmas.Option.{none-some, same_Some}
+use Rattle.std.specs.Option.{option_map}
+use Rattle.std.specs.Prelude.{slice_index}
 use Rattle.jc_transient.specs.declared.cell.CellValue.TheVariants.{Short}
-use Rattle.jc_heap.specs.Heap.{facts}
+use Rattle.jc_heap.specs.declared.object.Facts.{Facts}
+use Rattle.jc_heap.specs.Heap.{IsObject, facts}
 use Rattle.jc_frames.specs.declared.cell.Cell.{Cell}
 use Rattle.jc_memory.specs.State.{MemoryState}
-use Rattle.jc_memory.specs.Cells.{cells_effect}
+use Rattle.jc_memory.specs.Cells.{cells_effect, header_at}
 use Rattle.jc_linker.specs.Values.{Packages}
 use Rattle.jc_platform.specs.declared.names.PlatformClass.{PlatformClass}
 use Rattle.jc_platform.specs.declared.names.PlatformClass.TheVariants.{Aid, Applet, ApduException, CardException, CardRuntimeException, IsoException}
@@ -18,23 +22,24 @@ use Rattle.jc_card_checks.specs.Objects.{is_a, is_instance}
 use Rattle.jc_world.specs.Objects.{reference_argument}
 use Rattle.jc_world.specs.Arrays.{bytes_in}
 use Rattle.jc_api_runtime.specs.AidCells.{cells_of_aid, is_aid_length}
+use Rattle.jc_interp.specs.Natives.{native_call}
+use Rattle.jc_world.specs.NativeCalls.{NativeProgram}
+use Rattle.jc_api_data.specs.ApduCurrent.{apdu_object}
 use Rattle.jc_api_data.specs.ApduBuffer.{data_of}
 use Rattle.jc_interp.specs.declared.parts.Part.TheVariants.{CardExceptions}
 use Rattle.jc_interp.specs.Parts.{part_of, part_of_class}
-use Rattle.jc_frames.specs.declared.cell.Cell.TheVariants.{Reference}
-use Rattle.jc_world.specs.declared.native_result.NativeResult.TheVariants.{ReturnValue}
-use Rattle.jc_world.specs.NativeCalls.{return_value}
 use Rattle.law_isolation.specs.Natives.{sets_receiver}
-use Rattle.law_isolation.proofs.Arguments.{length_bytes}
-use Rattle.law_isolation.proofs.Methods.{method_due}
+use Rattle.law_isolation.proofs.Arguments.{buffer_is, length_bytes}
+use Rattle.law_isolation.proofs.Due.{DueThen, due_of, due_then, results_of}
+use Rattle.law_isolation.proofs.Methods.{IsPlainMethod, method_called, method_then}
 use Rattle.law_isolation.proofs.Natives.{data_fits, nine}
-use Rattle.law_isolation.proofs.Passing.{IsPinCall, MethodPasses}
+use Rattle.law_isolation.proofs.Passing.{AnswersSo, IsPinCall, MethodPasses, RegistersSo, turns_of}
 use Rattle.law_soundness.specs.Classes.{HasAids, KnowsClasses}
 use Rattle.law_soundness.specs.Fit.{IsFit, IsPinObject, OfValue}
 use Rattle.law_soundness.specs.State.{IsSoundMemory, IsSteady}
 use Rattle.law_soundness.proofs.Effects.{keeps_sound}
 use Rattle.law_soundness.specs.Natives.{IsReceiver, NativesFit, minds_receiver}
-use Rattle.law_soundness.proofs.Applets.{bytes_small, entry_named, registered_due}
+use Rattle.law_soundness.proofs.Applets.{bytes_small, entry_named, open_home, registering_fits}
 use Rattle.law_soundness.proofs.Below.{HasReason, has_reason}
 use Rattle.law_soundness.proofs.NativeArrays.{aid_fits, elements_fit, run_in}
 use Rattle.law_soundness.proofs.RunObjects.{instance_no_array, one_fits, set_in}
@@ -42,6 +47,24 @@ use Rattle.law_soundness.proofs.RunPins.{after_count, after_flag, pin_object, st
 use Rattle.law_soundness.proofs.Small.{reason_fits, transient_fits}
 use Rattle.law_soundness.proofs.Turning.{bears}
 use Rattle.law_soundness.proofs.Minding.{aid_minds}
+use Rattle.law_soundness.specs.Calls.{IsCallResult, NativesLeave}
+use Rattle.law_soundness.specs.Environment.{HasEnvironment}
+use Rattle.law_soundness.proofs.Leaving.{still_left}
+use Rattle.law_soundness.proofs.LocalEffects.{calm_stays}
+use Rattle.law_soundness.proofs.NewObjects.{new_there}
+use Rattle.law_soundness.proofs.Register.{registered_again}
+use Rattle.law_soundness.proofs.Registered.{or_null_refers}
+use Rattle.law_soundness.proofs.Still.{IsStill, Lives, still_passes, still_turns}
+use Rattle.law_soundness.proofs.Transactions.{transactions_left}
+
+-- the object that is answered for APDU is the sixteenth of the environment
+apdu_found : (m : MemoryState) (o : Option Facts) (r : ℕ) → option_map (λ f. slice_index m.fixed 15) o ≡ Some r → slice_index m.fixed 15 ≡ r
+apdu_found m None r is = absurd (none-some r is)
+apdu_found m (Some f) r is = same_Some (slice_index m.fixed 15) r is
+
+apdu_is : (m : MemoryState) (r : ℕ) → apdu_object m ≡ Some r → slice_index m.fixed 15 ≡ r
+unfolding apdu_object
+apdu_is m r is = apdu_found m (header_at m (slice_index m.fixed 15)) r is
 
 -- exceptions of the card's framework have reasons
 reasoned_class : (of : PlatformClass) → part_of_class of ≡ CardExceptions → HasReason of
@@ -110,21 +133,56 @@ module _ (method : PlatformMethod) (args : List Cell) (p : Packages) (m : Memory
         (aid_fits p m known sound own bytes (called_on Aid (aid_minds method init) (class_init method init) own is) (receiver.owned init own is) there long);
     buffer = λ r is. elements_fit p m r 5 (data_of m.command) (inl is.kind)
         (let d = data_fits m.command sound.command in let l = is.long in omega (arith, d, l));
-    transient = λ kind count event o none fine room. transient_fits p m known sound steady kind count event o
-        (λ r. return_value (ReturnValue (Reference r))) none fine room (λ r v. tt);
+    transient = transient_fits p m known sound steady;
     starts = λ pin is limit maximum. starts p m sound steady pin limit maximum (object_of pin is);
     flags = λ pin is flag v. tt;
     counts = λ pin is n. (pin, refl, after_flag p m pin false (object_of pin is));
     refills = λ pin is n limit. (pin, refl, after_count p _ pin n (after_flag p m pin false (object_of pin is)));
     updates = λ pin is bytes owned short. OfValue (record { pin = pin; bytes = bytes; is = refl; object = object_of pin is; short = short });
-    own_registers = λ is aid instance own there. let named = entry_named p aids m.registers.installation aid there in
-        registered_due keeps_sound p m known sound steady aid instance named.0 named.1 (receiver.instance (minds_own method is) instance own)
-        (called_on Applet (minds_own method is) (class_own method is) instance own);
-    given_registers = λ is e instance own long.
-        registered_due keeps_sound p m known sound steady (bytes_in m e) instance (ap is_aid_length (length_bytes m e) ∙ long) (bytes_small m e)
-        (receiver.instance (minds_given method is) instance own) (called_on Applet (minds_given method is) (class_given method is) instance own);
   }
 
+  registers : RegistersSo (IsFit p) (IsCallResult m) method args p m
+  registers = record {
+    own = λ is aid instance own there k may r new. let named = entry_named p aids m.registers.installation aid there in
+        registering_fits keeps_sound p m known sound steady r new aid instance k may named.0 named.1 (receiver.instance (minds_own method is) instance own)
+        (called_on Applet (minds_own method is) (class_own method is) instance own) (IsCallResult m)
+        (registered_again p m sound steady aid instance k r (open_home m.registers.installation k may.opened_by));
+    given = λ is e instance own long k may r new. registering_fits keeps_sound p m known sound steady r new (bytes_in m e) instance k may
+        (ap is_aid_length (length_bytes m e) ∙ long) (bytes_small m e) (receiver.instance (minds_given method is) instance own)
+        (called_on Applet (minds_given method is) (class_given method is) instance own) (IsCallResult m)
+        (registered_again p m sound steady (bytes_in m e) instance k r (open_home m.registers.installation k may.opened_by));
+  }
+
+  module _ (environment : HasEnvironment p m) where
+    -- the references that are answered name what is there
+    refers : AnswersSo Lives m
+    refers = record {
+      buffer = λ r there. inr (subst (IsObject m.heap.now) (sym (buffer_is m r there).is) (environment.now.there 16 (omega arith)));
+      apdu = λ r there. inr (subst (IsObject m.heap.now) (apdu_is m r there) (environment.now.there 15 (omega arith)));
+      aid = or_null_refers p m sound;
+      null = inl refl;
+      new = λ o r new. inr (new_there o.event o m r new);
+    }
+
+    abbrev call : NativeProgram
+    call = native_call method args p m
+
+    -- a method that begins and ends no transaction, and registers nothing
+    plainly : IsPlainMethod method → DueThen (IsFit p) (IsCallResult m) call m
+    plainly plain =
+        let due = due_of (IsFit p) _ call m (method_called (IsFit p) Lives (IsSoundMemory p) (turns_of (IsFit p) (IsSoundMemory p) (bears p)) args p m sound refers
+        method plain passes) in
+        due_then (IsFit p) (IsCallResult m) call m due (still_left keeps_sound calm_stays p m sound steady call
+        (method_called IsStill Lives (λ v. Unit {0}) still_turns args p m tt refers method plain (still_passes m method args p)) due)
+
+    -- each effect of a call fits, and leaves what it finds steady
+    natively : DueThen (IsFit p) (IsCallResult m) call m
+    natively = method_then (IsFit p) (IsCallResult m) (IsSoundMemory p) (bears p) args p m sound (transactions_left p m sound steady) method registers plainly
+
 pub natives_are_fit : NativesFit
-natives_are_fit method args p m given = method_due (IsFit p) (IsSoundMemory p) (bears p) args p m given.sound method
-    (passes method args p m given.classes given.aids given.sound given.steady given.receiver)
+natives_are_fit method args p m given = due_of (IsFit p) (IsCallResult m) (native_call method args p m) m
+    (natively method args p m given.classes given.aids given.sound given.steady given.receiver given.environment)
+
+pub natives_leave : NativesLeave
+natives_leave method args p m given = results_of (IsFit p) (IsCallResult m) (native_call method args p m) m
+    (natively method args p m given.classes given.aids given.sound given.steady given.receiver given.environment)

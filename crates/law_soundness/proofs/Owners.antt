@@ -43,6 +43,16 @@ small_of most h n few packages known = elim (or_cases (n == 0) _ known) [
   ]
 ]
 
+named_zero : (n : ℕ) (a : Bool) → n == 0 ≡ a → (b : Bool) → owner_number (if a then Runtime else
+    (if b then Applet (record { 0 = n }) else Package (record { 0 = n % 256 }))) ≡ 0 → n ≡ 0
+named_zero n true is b zero = eqb-true n 0 is
+named_zero n false is true zero = zero
+named_zero n false is false zero = absurd (omega (arith, zero))
+
+-- only the runtime environment has number 0
+pub owner_zero : (n : ℕ) → owner_number (owner_of n) ≡ 0 → n ≡ 0
+owner_zero n zero = named_zero n (n == 0) refl (nat_lt n 256) zero
+
 most_if : (b : Bool) (x y : ℕ) → x ≤ 64 → y ≤ 64 → (if b then x + 1 else y) < 256
 most_if true x y first second = omega (arith, first)
 most_if false x y first second = omega (arith, second)

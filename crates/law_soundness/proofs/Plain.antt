@@ -27,12 +27,22 @@ use Rattle.jc_frames.specs.ConstantOps.{constant_instruction}
 use Rattle.jc_frames.specs.LocalOps.{local_instruction}
 use Rattle.jc_frames.specs.StackOps.{stack_instruction}
 use Rattle.jc_heap.specs.Heap.{HeapState}
-use Rattle.law_soundness.specs.Living.{AreLivingCells, IsLivingCell, IsLivingFrame}
-use Rattle.law_soundness.proofs.Living.{cell_taken, mapped_some, more_living, reference_living, reference_taken, short_taken, storable_taken}
-use Rattle.law_soundness.proofs.Living.{two_references_taken, two_shorts_taken}
-use Rattle.law_soundness.proofs.Quiet.{Keeps, with_cells, without_cells}
+use Rattle.jc_heap.specs.Whole.{IsReference}
+use Rattle.law_soundness.specs.Living.{AreLivingCells, IsLivingCell, IsLivingFrame, IsLivingOutcome}
+use Rattle.law_isolation.proofs.Taking.{cell_taken, mapped_some, reference_taken, short_taken, storable_taken, two_references_taken, two_shorts_taken}
+use Rattle.law_isolation.proofs.Taking.{with_cells, without_cells}
+use Rattle.law_soundness.proofs.Living.{more_living, reference_living}
+
+-- its method stays, and each reference in it is null or names an object
+abbrev pub Keeps : HeapState → Origin → Next Frame → Type 0
+Keeps h origin (GoesOn f) = (f.origin ≡ origin) × IsLivingFrame h f
+Keeps h origin (Throws e f) = (f.origin ≡ origin) × IsLivingFrame h f
+Keeps h origin (Ends o) = IsLivingOutcome h o
 
 module _ (h : HeapState) where
+  abbrev Refers : ℕ → Type 0
+  Refers = IsReference h
+
   keeps_if : (origin : Origin) (b : Bool) (x y : Next Frame) → Keeps h origin x → Keeps h origin y → Keeps h origin (if b then x else y)
   keeps_if origin true x y first second = first
   keeps_if origin false x y first second = second
@@ -45,7 +55,7 @@ module _ (h : HeapState) where
   module _ (s : Frame) (living : IsLivingFrame h s) where
     -- with other cells on the stack
     stacked : (cells : List Cell) → AreLivingCells h cells → Keeps h s.origin (GoesOn (record s { stack = cells }))
-    stacked cells all = (refl, with_cells h s cells living all)
+    stacked cells all = (refl, with_cells Refers s cells living all)
 
     pub keeps_pushed : (cell : Cell) → IsLivingCell h cell → Keeps h s.origin (push cell s)
     keeps_pushed cell one = keeps_if s.origin (nat_lt (length s.stack) s.limit) _ _ (stacked _ (more_living h cell s.stack one living.stack)) tt
@@ -72,25 +82,25 @@ module _ (h : HeapState) where
         (All-drop (IsLivingCell h) (m + n) s.stack living.stack)))) tt
 
     pub keeps_arranged : (stack : StackOp) → Keeps h s.origin (stack_instruction stack s)
-    keeps_arranged Pop = keeps_some s.origin (cell_on s.stack) _ (λ q on. stacked q.1 (cell_taken h s.stack q living.stack on).1)
+    keeps_arranged Pop = keeps_some s.origin (cell_on s.stack) _ (λ q on. stacked q.1 (cell_taken Refers s.stack q living.stack on).1)
     keeps_arranged Pop2 = keeps_some s.origin (cell_on s.stack) _ (λ q on. keeps_some s.origin (cell_on q.1) _
-        (λ r under. stacked r.1 (cell_taken h q.1 r (cell_taken h s.stack q living.stack on).1 under).1))
+        (λ r under. stacked r.1 (cell_taken Refers q.1 r (cell_taken Refers s.stack q living.stack on).1 under).1))
     keeps_arranged Dup = keeps_copied 1 0
     keeps_arranged Dup2 = keeps_copied 2 0
     keeps_arranged (DupX m n) = keeps_copied m n
     keeps_arranged (SwapX m n) = keeps_exchanged m n
 
     keeps_answered : (o : Option ℤ) (rest : List Cell) → AreLivingCells h rest → Keeps h s.origin (with_quotient o rest s)
-    keeps_answered None rest all = (refl, without_cells h s living)
+    keeps_answered None rest all = (refl, without_cells Refers s living)
     keeps_answered (Some r) rest all = stacked _ (more_living h (Short r) rest tt all)
 
     pub keeps_computed : (arithmetic : ArithmeticOp) → Keeps h s.origin (arithmetic_instruction arithmetic s)
     keeps_computed (Two operation) = keeps_some s.origin (two_shorts_on s.stack) _
-        (λ q on. keeps_answered (answer_of operation q.0 q.1) q.2 (two_shorts_taken h s.stack q living.stack on))
+        (λ q on. keeps_answered (answer_of operation q.0 q.1) q.2 (two_shorts_taken Refers s.stack q living.stack on))
     keeps_computed Negate = keeps_some s.origin (short_on s.stack) _
-        (λ q on. stacked _ (more_living h (Short _) q.1 tt (short_taken h s.stack q living.stack on)))
+        (λ q on. stacked _ (more_living h (Short _) q.1 tt (short_taken Refers s.stack q living.stack on)))
     keeps_computed S2b = keeps_some s.origin (short_on s.stack) _
-        (λ q on. stacked _ (more_living h (Short _) q.1 tt (short_taken h s.stack q living.stack on)))
+        (λ q on. stacked _ (more_living h (Short _) q.1 tt (short_taken Refers s.stack q living.stack on)))
 
     pub keeps_place : (o : Option ℕ) → Keeps h s.origin (at_target o s)
     keeps_place None = tt
@@ -98,26 +108,26 @@ module _ (h : HeapState) where
 
     condition_taken : (condition : Condition) (q : Bool × List Cell) → condition_on condition s.stack ≡ Some q → AreLivingCells h q.1
     condition_taken (Zero comparison) q on = mapped_some _ (short_on s.stack) q (λ x. AreLivingCells h x.1) on
-        (λ a is. short_taken h s.stack a living.stack is)
+        (λ a is. short_taken Refers s.stack a living.stack is)
     condition_taken IsNull q on = mapped_some _ (reference_on s.stack) q (λ x. AreLivingCells h x.1) on
-        (λ a is. (reference_taken h s.stack a living.stack is).1)
+        (λ a is. (reference_taken Refers s.stack a living.stack is).1)
     condition_taken NotNull q on = mapped_some _ (reference_on s.stack) q (λ x. AreLivingCells h x.1) on
-        (λ a is. (reference_taken h s.stack a living.stack is).1)
+        (λ a is. (reference_taken Refers s.stack a living.stack is).1)
     condition_taken SameReference q on = mapped_some _ (two_references_on s.stack) q (λ x. AreLivingCells h x.1) on
-        (λ a is. two_references_taken h s.stack a living.stack is)
+        (λ a is. two_references_taken Refers s.stack a living.stack is)
     condition_taken OtherReference q on = mapped_some _ (two_references_on s.stack) q (λ x. AreLivingCells h x.1) on
-        (λ a is. two_references_taken h s.stack a living.stack is)
+        (λ a is. two_references_taken Refers s.stack a living.stack is)
     condition_taken (Shorts comparison) q on = mapped_some _ (two_shorts_on s.stack) q (λ x. AreLivingCells h x.1) on
-        (λ a is. two_shorts_taken h s.stack a living.stack is)
+        (λ a is. two_shorts_taken Refers s.stack a living.stack is)
 
   pub keeps_accessed : (local : LocalOp) (s : Frame) → IsLivingFrame h s → Keeps h s.origin (local_instruction local s)
   keeps_accessed (Aload n) s living = keeps_some s.origin (option_and_then as_reference (slice_get s.locals n)) _
       (λ r there. keeps_pushed s living (Reference r) (reference_living h s.locals n r living.locals there))
   keeps_accessed (Sload n) s living = keeps_some s.origin (option_and_then as_short (slice_get s.locals n)) _ (λ x there. keeps_pushed s living (Short x) tt)
-  keeps_accessed (Astore n) s living = keeps_some s.origin (storable_on s.stack) _ (λ q on. (let taken = storable_taken h s.stack q living.stack on in
-      keeps_stored (record s { stack = q.1 }) (with_cells h s q.1 living taken.1) n q.0 taken.0))
+  keeps_accessed (Astore n) s living = keeps_some s.origin (storable_on s.stack) _ (λ q on. (let taken = storable_taken Refers s.stack q living.stack on in
+      keeps_stored (record s { stack = q.1 }) (with_cells Refers s q.1 living taken.1) n q.0 taken.0))
   keeps_accessed (Sstore n) s living = keeps_some s.origin (short_on s.stack) _
-      (λ q on. keeps_stored (record s { stack = q.1 }) (with_cells h s q.1 living (short_taken h s.stack q living.stack on)) n (Short q.0) tt)
+      (λ q on. keeps_stored (record s { stack = q.1 }) (with_cells Refers s q.1 living (short_taken Refers s.stack q living.stack on)) n (Short q.0) tt)
   keeps_accessed (Sinc n v) s living = keeps_some s.origin (option_and_then as_short (slice_get s.locals n)) _
       (λ x there. keeps_stored s living n (Short (wrap (x +ℤ v))) tt)
 
@@ -131,7 +141,7 @@ module _ (h : HeapState) where
   keeps_branched code pc (If condition offset) s living =
       keeps_some s.origin (condition_on condition s.stack) _ (λ q on.
       let all = condition_taken s living condition q on in
-      keeps_if s.origin q.0 _ _ (keeps_place (record s { stack = q.1 }) (with_cells h s q.1 living all) (branch_target s.origin.method code pc offset))
+      keeps_if s.origin q.0 _ _ (keeps_place (record s { stack = q.1 }) (with_cells Refers s q.1 living all) (branch_target s.origin.method code pc offset))
       (stacked s living q.1 all))
   keeps_branched code pc (Goto offset) s living = keeps_place s living (branch_target s.origin.method code pc offset)
   keeps_branched code pc (Jsr offset) s living = keeps_jumped s.origin _ (branch_target s.origin.method code pc offset)
@@ -140,9 +150,9 @@ module _ (h : HeapState) where
       (λ a there. keeps_place s living (place_in s.origin.method code (pos a)))
   keeps_branched code pc (Table otherwise low high) s living =
       keeps_some s.origin (short_on s.stack) _ (λ q on. keeps_some s.origin (table_offset code otherwise low high (pc + 7) q.0) _
-      (λ offset there. keeps_place (record s { stack = q.1 }) (with_cells h s q.1 living (short_taken h s.stack q living.stack on))
+      (λ offset there. keeps_place (record s { stack = q.1 }) (with_cells Refers s q.1 living (short_taken Refers s.stack q living.stack on))
       (branch_target s.origin.method code pc offset)))
   keeps_branched code pc (Lookup otherwise count) s living =
       keeps_some s.origin (short_on s.stack) _ (λ q on. keeps_some s.origin (pair_offset code otherwise count (pc + 5) q.0) _
-      (λ offset there. keeps_place (record s { stack = q.1 }) (with_cells h s q.1 living (short_taken h s.stack q living.stack on))
+      (λ offset there. keeps_place (record s { stack = q.1 }) (with_cells Refers s q.1 living (short_taken Refers s.stack q living.stack on))
       (branch_target s.origin.method code pc offset)))

@@ -9,18 +9,16 @@ use Rattle.jc_transient.specs.declared.cell.ClearEvent.{ClearEvent}
 use Rattle.jc_heap.specs.declared.object.Kind.{Kind}
 use Rattle.jc_heap.specs.declared.object.Kind.TheVariants.{Instance, ReferenceArray}
 use Rattle.jc_heap.specs.Heap.{IsObject, LacksCells, facts}
-use Rattle.jc_heap.specs.Moves.{new_move}
 use Rattle.jc_memory.specs.declared.making.NewObject.{NewObject}
 use Rattle.jc_memory.specs.Owners.{owner_number}
-use Rattle.jc_memory.specs.State.{MemoryState, HeapMove, IsNew, apply_effect}
-use Rattle.jc_memory.specs.Programs.{Program, Perform}
-use Rattle.jc_memory.specs.Reading.{AllDue}
+use Rattle.jc_memory.specs.State.{MemoryState, HeapMove}
 use Rattle.jc_memory.specs.Cells.{cell_effect_in, word_of}
-use Rattle.jc_memory.specs.Making.{object_creation, creation_move}
+use Rattle.jc_memory.specs.Making.{creation_move}
 use Rattle.jc_linker.specs.Classes.{is_class, size_of}
 use Rattle.jc_linker.specs.Resolves.{names_interface}
 use Rattle.jc_linker.specs.Values.{Packages}
 use Rattle.jc_card_checks.specs.Objects.{fits_class, is_instance, is_persistent_instance}
+use Rattle.law_isolation.proofs.Passing.{Makes}
 pub use Rattle.law_isolation.proofs.Reached.{instance_kind}
 use Rattle.law_soundness.specs.Classes.{has_instances}
 use Rattle.law_soundness.specs.Fit.{FitsFill, FitsNew, FitsValue, IsFit}
@@ -90,30 +88,20 @@ one_fits m r i v within value element = record { within = omega (arith, within);
     first_element array zero lt = element array
     first_element array (suc k) lt = absurd (omega (arith, lt))
 
--- a new object, in the memory that it leaves
-module _ {A : Type 0} (p : Packages) (o : NewObject) (rest : ℕ → Program A) (m : MemoryState)
-    (fits : FitsNew p m o.kind o.class (owner_number o.owner) o.length) where
-  abbrev pub with_new : MemoryState
-  with_new = apply_effect (HeapMove (new_move o.kind o.class (owner_number o.owner) o.length)) m
+-- a new object
+module _ (p : Packages) (m : MemoryState) (o : NewObject) (fits : FitsNew p m o.kind o.class (owner_number o.owner) o.length) where
+  kept_in : (event : Option ClearEvent) → event ≡ None → IsFit p (HeapMove (creation_move event o)) m
+  kept_in None is = record { kind = o.kind; class = o.class; owner = owner_number o.owner; long = o.length; is = refl; fits = fits }
+  kept_in (Some event) is = absurd cc
 
-  kept_in : (event : Option ClearEvent) → event ≡ None → (r : ℕ) → AllDue (IsFit p) (rest r) with_new
-      → AllDue (IsFit p) (Perform (HeapMove (creation_move event o)) (rest r)) m
-  kept_in None is r due = (record { kind = o.kind; class = o.class; owner = owner_number o.owner; long = o.length; is = refl; fits = fits }, due)
-  kept_in (Some event) is r due = absurd cc
+  pub new_kept : o.event ≡ None → Makes (IsFit p) m o
+  new_kept is r new = kept_in o.event is
 
-  pub new_kept : o.event ≡ None → ((r : ℕ) → IsNew m.heap.now r → AllDue (IsFit p) (rest r) with_new) → AllDue (IsFit p) (object_creation o rest) m
-  new_kept is due = λ r new. kept_in o.event is r (due r new)
-
-  transient_in : (event : ClearEvent) (kept : Option ClearEvent) → kept ≡ Some event → (LacksCells m.heap.now event o.length → ⊥)
-      → is_instance o.kind ≡ false → (r : ℕ)
-      → ((v : MemoryState) → AllDue (IsFit p) (rest r) v) →
-      AllDue (IsFit p) (Perform (HeapMove (creation_move kept o)) (rest r)) m
-  transient_in event None is room array r due = absurd cc
-  transient_in event (Some e) is room array r due = (
-    (fits, (λ lacks. room (subst (λ x. LacksCells m.heap.now x o.length) (same_Some e event is) lacks)), array),
-    due _,
-  )
+  transient_in : (event : ClearEvent) (kept : Option ClearEvent) → kept ≡ Some event → (LacksCells m.heap.now event o.length → ⊥) → is_instance o.kind ≡ false
+      → IsFit p (HeapMove (creation_move kept o)) m
+  transient_in event None is room array = absurd cc
+  transient_in event (Some e) is room array = (fits, (λ lacks. room (subst (λ x. LacksCells m.heap.now x o.length) (same_Some e event is) lacks)), array)
 
   pub new_transient : (event : ClearEvent) → o.event ≡ Some event → (LacksCells m.heap.now event o.length → ⊥) → is_instance o.kind ≡ false
-      → ((r : ℕ) (v : MemoryState) → AllDue (IsFit p) (rest r) v) → AllDue (IsFit p) (object_creation o rest) m
-  new_transient event is room array due = λ r new. transient_in event o.event is room array r (due r)
+      → Makes (IsFit p) m o
+  new_transient event is room array r new = transient_in event o.event is room array

@@ -3,7 +3,7 @@ use Rattle.std.proofs.Common.{◌≡◌, ℕ, ◌<◌, ◌≤◌, Bool, true, fa
 use Rattle.std.proofs.lemmas.Bool.{and_from, eq-eqb, false_from_ne_true, ne_eqb, true≢false}
 use Rattle.std.specs.Prelude.{is_none, slice_index}
 use Rattle.jc_heap.specs.declared.object.Kind.TheVariants.{ByteArray}
-use Rattle.jc_heap.specs.Object.{AnObject, Object, header_only, facts_of, is_object, new_object, object_size}
+use Rattle.jc_heap.specs.Object.{AnObject, Object, facts_of, is_object, new_object, object_size}
 use Rattle.jc_heap.specs.Heap.{HeapState, add_object, facts, heap_item_at, is_allocated, set_cell}
 use Rattle.jc_heap.specs.Moves.{WriteNonAtomic}
 use Rattle.jc_heap.proofs.Laws.{header_only-set_cell, facts-set_cell, heap_item_at-add_object, heap_item_at-add_other, object_named}
@@ -80,26 +80,28 @@ module _ (p : Packages) (m : MemoryState) (sound : IsSoundMemory p m) (steady : 
 
   pub starts : AllDue (IsFit p) (object_creation (value_array m maximum) (recorded r limit maximum)) m
   unfolding array with_array
-  starts = new_kept p (value_array m maximum) (recorded r limit maximum) m
-      (record {
-        there = refl;
-        known = active_known p m sound steady;
-        small = λ is. absurd (true≢false (sym is));
-        environments = λ is zero. absurd (true≢false (sym is));
-      }) refl (λ value new. (
-        OfPin (record {
-          pin = r;
-          limit = limit;
-          maximum = maximum;
-          value = value;
-          is = refl;
-          object = pin_stays p m _ r pin (ap facts_of (pin_there value new)) (ap is_object (pin_there value new)) refl;
-          array = ap is_object (array_at value new);
-          bytes = ap (λ t. is_byte_array (facts_of t) maximum) (array_at value new) ∙ is_bytes_new;
-          some = positive value new.some;
-        }),
-        (tt, tt),
-      ))
+  starts = λ value new. (
+    new_kept p m (value_array m maximum) (record {
+      there = refl;
+      known = active_known p m sound steady;
+      small = λ is. absurd (true≢false (sym is));
+      environments = λ is zero. absurd (true≢false (sym is));
+    }) refl value new,
+    (
+      OfPin (record {
+        pin = r;
+        limit = limit;
+        maximum = maximum;
+        value = value;
+        is = refl;
+        object = pin_stays p m _ r pin (ap facts_of (pin_there value new)) (ap is_object (pin_there value new)) refl;
+        array = ap is_object (array_at value new);
+        bytes = ap (λ t. is_byte_array (facts_of t) maximum) (array_at value new) ∙ is_bytes_new;
+        some = positive value new.some;
+      }),
+      (tt, tt),
+    ),
+  )
 
 -- a PIN of the class, or of one below it
 module _ (p : Packages) (m : MemoryState) (known : KnowsClasses p) (sound : IsSoundMemory p m) where

@@ -4,18 +4,14 @@ use Rattle.std.proofs.Common.{subst, arith, if◌then◌else◌}
 use Rattle.std.proofs.lemmas.Bool.{and_parts, both_ways, cases_order, eqb-false, leb-true, ltb-true}
 use Rattle.std.proofs.lemmas.Option.{cond_some, get_or_from_slice_get, none-some, option_and_then_some, same_Some, slice_get_within}
 use Rattle.std.specs.Option.{option_and_then}
-use Rattle.std.specs.Prelude.{◌==◌, ◌%◌, ◌/◌, nat_le, nat_lt, slice_get, slice_index}
+use Rattle.std.specs.Prelude.{◌==◌, ◌&&◌, ◌%◌, ◌/◌, nat_le, nat_lt, slice_get, slice_index}
 use Rattle.jc_transient.specs.declared.cell.CellValue.{CellValue}
 use Rattle.jc_heap.specs.Components.{record_of}
 use Rattle.jc_heap.specs.Heap.{HeapState, is_allocated}
-use Rattle.jc_heap.specs.Moves.{refusal_of_places}
-use Rattle.jc_heap.specs.Places.{places_of}
 use Rattle.jc_heap.specs.Statics.{statics_of}
 use Rattle.jc_opcodes.specs.declared.instr.ValueType.{ValueType}
 use Rattle.jc_opcodes.specs.declared.instr.ValueType.TheVariants as types
-use Rattle.jc_frames.specs.Frames.{Frames}
 use Rattle.jc_memory.specs.State.{MemoryState}
-use Rattle.jc_memory.specs.Reading.{AllDue}
 use Rattle.jc_memory.specs.Cells.{word_of}
 use Rattle.jc_linker.specs.declared.target.Target.{Target}
 use Rattle.jc_linker.specs.declared.target.Target.TheVariants as targets
@@ -27,10 +23,9 @@ use Rattle.jc_interp_objects.specs.declared.static_images.ImageWord.{ImageWord}
 use Rattle.jc_interp_objects.specs.declared.field_names.FieldOfImage.{FieldOfImage}
 use Rattle.jc_interp_objects.specs.StaticImages.{package_record_or_none, image_word, next_word, place_of, record_at, word_behind, word_in}
 use Rattle.jc_interp_objects.specs.FieldNames.{has_field, static_named, static_of}
-use Rattle.jc_interp_objects.specs.StaticFields.{halves, image_pair_write, image_write_of, static_write, image_word_write, image_words_write}
-use Rattle.law_soundness.specs.Fit.{FitsStatic, IsFit, OfStatics}
+use Rattle.law_soundness.specs.Fit.{AreStatics, FitsStatic}
 use Rattle.law_soundness.specs.State.{IsSoundMemory}
-use Rattle.law_isolation.proofs.Due.{due_if, due_some, due_unless}
+use Rattle.law_isolation.proofs.Passing.{IsWordOf}
 use Rattle.law_soundness.proofs.RunValues.{HasType, keepable_is}
 
 -- an entry names a static field, and the image has it
@@ -124,43 +119,47 @@ module _ (p : Packages) (m : MemoryState) (sound : IsSoundMemory p m) where
         ];
   }
 
-  word_due : (w : ImageWord) (v : ℕ) (s : Frames) → FitsStatic p m.heap.now w.owner w.offset v → AllDue (IsFit p) (image_word_write w v s m) m
-  word_due w v s fits = due_unless (IsFit p) m s (refusal_of_places m.heap (place_of w ∷ [])) _ (fits, tt)
-
-  halves_due : (w behind : ImageWord) (offset v : ℕ) (s : Frames) → ((x : ℕ) → FitsStatic p m.heap.now w.owner w.offset x)
-      → ((x : ℕ) → FitsStatic p m.heap.now behind.owner behind.offset x) → AllDue (IsFit p) (image_words_write (halves m.heap.now w behind offset v) s m) m
-  halves_due w behind offset v s first second = due_unless (IsFit p) m s (refusal_of_places m.heap (places_of (halves m.heap.now w behind offset v))) _
-      (OfStatics (first _, (second _, tt)), tt)
-
   -- behind the references
   past : (number k : ℕ) (w : ImageWord) → IsWord m.heap.now number k w → (statics_at p number).1 ≤ k → (x : ℕ) → FitsStatic p m.heap.now w.owner w.offset x
   past number k w is le x = word_fits number k x w is (λ lt. absurd (omega (arith, le, lt)))
 
-  pair_due : (of_type : ValueType) (number k offset v : ℕ) (w : ImageWord) (s : Frames) → IsWord m.heap.now number k w →
-      (((offset % 2 == 0) ≡ true) × (is_reference m.heap.now v ≡ true)) ⊎ ((statics_at p number).1 ≤ k) → AllDue (IsFit p) (image_pair_write w offset v s m) m
-  pair_due of_type number k offset v w s is (inl even) = due_if (IsFit p) m (offset % 2 == 0) _ _
-      (λ on. word_due w v s (word_fits number k v w is (λ lt. even.1))) (λ off. absurd (both_ways (offset % 2 == 0) off even.0))
-  pair_due of_type number k offset v w s is (inr le) = due_if (IsFit p) m (offset % 2 == 0) _ _ (λ on. word_due w v s (past number k w is le v)) (λ off.
-      due_some (IsFit p) m (next_word m.heap.now w) _ (λ behind there. halves_due w behind offset v s (past number k w is le)
-      (past number (k + 1) behind (word_next m.heap.now number k w behind is there) (omega (arith, le)))))
+  module _ (field : FieldOfImage) (w : ImageWord) (there : IsWordOf m field w) where
+    word : IsWord m.heap.now field.package_number (field.offset / 2) w
+    word = word_is m.heap.now field.package_number (field.offset / 2) w there
 
-  static_in_due : (of_type : ValueType) (field : FieldOfImage) (value v : CellValue) (w : ImageWord) (s : Frames) → HasStatic p of_type field
-      → HasType of_type value → keepable p m value ≡ Ok v →
-      IsWord m.heap.now field.package_number (field.offset / 2) w → AllDue (IsFit p) (image_write_of of_type w field.offset (word_of v) s m) m
-  static_in_due types.Byte field value v w s has of kept is =
-      let parts = and_parts (nat_le (2 * (statics_at p field.package_number).1) field.offset) _ has in
-      let le = leb-true (2 * (statics_at p field.package_number).1) field.offset parts.0 in
-      word_due w _ s (past field.package_number (field.offset / 2) w is (omega (arith, le)) _)
-  static_in_due types.Reference field value v w s has of kept is =
-      let parts = and_parts (field.offset % 2 == 0) _ has in
-      pair_due types.Reference field.package_number (field.offset / 2) field.offset (word_of v) w s is (inl (parts.0, keepable_is p m value v of kept))
-  static_in_due types.Short field value v w s has of kept is =
-      let parts = and_parts (nat_le (2 * (statics_at p field.package_number).1) field.offset) _ has in
-      let le = leb-true (2 * (statics_at p field.package_number).1) field.offset parts.0 in
-      pair_due types.Short field.package_number (field.offset / 2) field.offset (word_of v) w s is (inr (omega (arith, le)))
+    -- of a field that holds no reference
+    is_past : (rest : Bool) → (nat_le (2 * (statics_at p field.package_number).1) field.offset && rest) ≡ true
+        → (statics_at p field.package_number).1 ≤ field.offset / 2
+    is_past rest has =
+        let low = and_parts (nat_le (2 * (statics_at p field.package_number).1) field.offset) rest has in
+        let le = leb-true (2 * (statics_at p field.package_number).1) field.offset low.0 in
+        omega (arith, le)
 
-  pub static_due : (of_type : ValueType) (field : FieldOfImage) (value v : CellValue) (s : Frames) → HasStatic p of_type field → HasType of_type value
-      → keepable p m value ≡ Ok v → AllDue (IsFit p) (static_write of_type field (word_of v) s m) m
-  unfolding static_write
-  static_due of_type field value v s has of kept = due_some (IsFit p) m (image_word m.heap.now field.package_number (field.offset / 2)) _ (λ w there.
-      static_in_due of_type field value v w s has of kept (word_is m.heap.now field.package_number (field.offset / 2) w there))
+    number_fits : (x : ℕ) → (statics_at p field.package_number).1 ≤ field.offset / 2 → FitsStatic p m.heap.now w.owner w.offset x
+    number_fits x le = past field.package_number (field.offset / 2) w word le x
+
+    numbers_fit : (behind : ImageWord) (x y : ℕ) → next_word m.heap.now w ≡ Some behind → (statics_at p field.package_number).1 ≤ field.offset / 2
+        → AreStatics p m.heap.now ((place_of w, x) ∷ (place_of behind, y) ∷ [])
+    numbers_fit behind x y next le = (
+      number_fits x le,
+      (
+        past field.package_number (field.offset / 2 + 1) behind
+            (word_next m.heap.now field.package_number (field.offset / 2) w behind word next) (omega (arith, le)) y,
+        tt,
+      ),
+    )
+
+    -- a word that is set of a static field
+    pub word_set : (of_type : ValueType) (value v : CellValue) (x : ℕ) → HasStatic p of_type field → HasType of_type value → keepable p m value ≡ Ok v
+        → (of_type ≡ types.Byte) ⊎ (x ≡ word_of v) → FitsStatic p m.heap.now w.owner w.offset x
+    word_set types.Byte value v x has of kept whole = number_fits x (is_past _ has)
+    word_set types.Short value v x has of kept whole = number_fits x (is_past _ has)
+    word_set types.Reference value v x has of kept (inl byte) = absurd cc
+    word_set types.Reference value v x has of kept (inr same) = word_fits field.package_number (field.offset / 2) x w word
+        (λ lt. subst (λ n. is_reference m.heap.now n ≡ true) (sym same) (keepable_is p m value v of kept))
+
+    pub halves_set : (of_type : ValueType) (behind : ImageWord) (x y : ℕ) → HasStatic p of_type field → (field.offset % 2 == 0) ≡ false
+        → next_word m.heap.now w ≡ Some behind → AreStatics p m.heap.now ((place_of w, x) ∷ (place_of behind, y) ∷ [])
+    halves_set types.Byte behind x y has odd next = numbers_fit behind x y next (is_past _ has)
+    halves_set types.Short behind x y has odd next = numbers_fit behind x y next (is_past _ has)
+    halves_set types.Reference behind x y has odd next = absurd (both_ways (field.offset % 2 == 0) odd (and_parts (field.offset % 2 == 0) _ has).0)

@@ -13,9 +13,7 @@ use Rattle.jc_heap.specs.Heap.{LacksCells, area_end, facts}
 use Rattle.jc_memory.specs.declared.making.NewObject.{NewObject}
 use Rattle.jc_memory.specs.Owners.{owner_number}
 use Rattle.jc_memory.specs.State.{MemoryState}
-use Rattle.jc_memory.specs.Programs.{Program}
-use Rattle.jc_memory.specs.Making.{object_creation, creation_refusal, creation_refusal_in}
-use Rattle.jc_memory.specs.Reading.{AllDue}
+use Rattle.jc_memory.specs.Making.{creation_refusal, creation_refusal_in}
 use Rattle.jc_linker.specs.Classes.{is_class, reference_cell}
 use Rattle.jc_linker.specs.Values.{Packages}
 use Rattle.jc_platform.specs.declared.names.PlatformClass.{PlatformClass}
@@ -31,6 +29,7 @@ use Rattle.law_soundness.specs.Fit.{FitsNew, FitsValue, IsFit}
 use Rattle.law_soundness.specs.State.{IsSoundMemory, IsSteady, is_owner_up_to, most_new}
 use Rattle.law_isolation.proofs.Reaching.{same_Ok}
 use Rattle.law_isolation.proofs.Arguments.{both_ok}
+use Rattle.law_isolation.proofs.Passing.{Makes}
 use Rattle.law_soundness.proofs.RunObjects.{active_known, instance_kind, instance_no_array, kept_fits, new_transient}
 use Rattle.law_soundness.proofs.Below.{HasReason, reason_no_aid, reason_no_pin}
 
@@ -93,10 +92,9 @@ module _ (p : Packages) (m : MemoryState) (known : KnowsClasses p) (sound : IsSo
     environments = λ instance zero. absurd (none (sym is.kind_is ∙ instance_kind o.kind instance));
   }
 
-  pub transient_fits : {A : Type 0} (kind : Kind) (count event : ℤ) (o : NewObject) (rest : ℕ → Program A) → (kind ≡ Instance → ⊥)
-      → requested_array kind count event p m ≡ Ok o → creation_refusal m o ≡ None → ((r : ℕ) (v : MemoryState) → AllDue (IsFit p) (rest r) v)
-      → AllDue (IsFit p) (object_creation o rest) m
-  transient_fits kind count event o rest none fine room due =
+  pub transient_fits : (kind : Kind) (count event : ℤ) (o : NewObject) → (kind ≡ Instance → ⊥) → requested_array kind count event p m ≡ Ok o
+      → creation_refusal m o ≡ None → Makes (IsFit p) m o
+  transient_fits kind count event o none fine room =
       let asked = wanted_is kind count event p m o fine in
-      new_transient p o rest m (wanted_fits kind o none asked) asked.event asked.kept (has_space o asked.event asked.kept room)
-      (false_from_ne_true (is_instance o.kind) (λ instance. none (sym asked.kind_is ∙ instance_kind o.kind instance))) due
+      new_transient p m o (wanted_fits kind o none asked) asked.event asked.kept (has_space o asked.event asked.kept room)
+      (false_from_ne_true (is_instance o.kind) (λ instance. none (sym asked.kind_is ∙ instance_kind o.kind instance)))

@@ -6,6 +6,7 @@ use Rattle.jc_transient.specs.declared.cell.ClearEvent.{ClearEvent}
 use Rattle.jc_heap.specs.declared.place.Place.{Place}
 use Rattle.jc_heap.specs.Heap.{facts}
 use Rattle.jc_heap.specs.Places.{cell_changes}
+use Rattle.jc_heap.specs.Whole.{IsReference}
 use Rattle.jc_frames.specs.declared.cell.Cell.{Cell}
 use Rattle.jc_memory.specs.declared.making.NewObject.{NewObject}
 use Rattle.jc_memory.specs.Cells.{cell_effect_in, cells_effect_in}
@@ -14,15 +15,18 @@ use Rattle.jc_memory.specs.State.{MemoryState, Effect, HeapMove, apply_effect}
 use Rattle.jc_linker.specs.Values.{Packages}
 use Rattle.jc_pin.specs.Pins.{record_of}
 use Rattle.jc_platform.specs.declared.names.PlatformMethod.{PlatformMethod}
-use Rattle.jc_platform.specs.declared.names.PlatformMethod.TheVariants.{AppletRegister, AppletRegisterBytes}
 use Rattle.jc_api_data.specs.ApduBuffer.{data_of}
 use Rattle.jc_api_runtime.specs.AidCells.{cells_of_aid}
-use Rattle.law_isolation.proofs.Passing.{MethodPasses, Turns}
+use Rattle.law_isolation.proofs.Passing.{ArraysPass, FieldsPass, InstancesPass, MethodPasses, Turns}
 use Rattle.law_soundness.specs.LocalEffects.{AreElsewhere, IsLocalEffect}
 
 -- an effect is local, and behind it code runs for the same owner
 abbrev pub IsStill : Effect → MemoryState → Type 0
 IsStill e m = IsLocalEffect e m × ((apply_effect e m).registers.active ≡ m.registers.active)
+
+-- a reference is null or names an object of a memory
+abbrev pub Lives : MemoryState → ℕ → Type 0
+Lives m = IsReference m.heap.now
 
 pub still_turns : Turns IsStill (λ m. Unit {0})
 still_turns = record { keeps = λ e m still so. tt; turns = λ g m so active installation selected. (installation, active); sends = λ bytes m. (tt, refl) }
@@ -44,20 +48,35 @@ module _ (m : MemoryState) where
   made_still None o = (tt, refl)
   made_still (Some event) o = (tt, refl)
 
-  -- what methods set is still, but for those that register an applet
-  pub still_passes : (method : PlatformMethod) (args : List Cell) (p : Packages) → (method ≡ AppletRegister → ⊥) → (method ≡ AppletRegisterBytes → ⊥)
-      → MethodPasses IsStill method args p m
-  still_passes method args p not_own not_given = record {
+  -- what methods set is still
+  pub still_passes : (method : PlatformMethod) (args : List Cell) (p : Packages) → MethodPasses IsStill method args p m
+  still_passes method args p = record {
     reason = λ part sets own v is long. set_still (facts m.heap.now own).event own 0 (Short v);
     stretch = λ r count e words is long. run_still (facts m.heap.now e.array).event e.array e.start words;
     aid = λ init own bytes is long fine. run_still (facts m.heap.now own).event own 0 (cells_of_aid bytes);
     buffer = λ r is. run_still (facts m.heap.now r).event r 5 (data_of m.command);
-    transient = λ kind count event o none fine room r new. (made_still o.event o, tt);
+    transient = λ kind count event o none fine room r new. made_still o.event o;
     starts = λ pin is limit maximum value new. ((tt, refl), (((tt, (tt, (tt, (tt, (tt, tt))))), refl), ((tt, refl), tt)));
     flags = λ pin is flag v. (tt, refl);
     counts = λ pin is n. (tt, refl);
     refills = λ pin is n limit. (tt, refl);
     updates = λ pin is bytes owned short. (cells_elsewhere bytes (record_of m pin).value 0 _ (tt, (tt, tt)), refl);
-    own_registers = λ is aid instance own there. absurd (not_own is);
-    given_registers = λ is e instance own fine. absurd (not_given is);
   }
+
+  -- so is what instructions set, and make
+  pub still_fields : (p : Packages) → FieldsPass IsStill p m
+  still_fields p = record {
+    field = λ of_type number index r i field cells v k taken kept named cell. set_still (facts m.heap.now r).event r i k;
+    word = λ of_type number index field cells v k w x taken kept named there whole. (tt, refl);
+    halves = λ of_type number index field w behind x y named there odd next. ((tt, (tt, tt)), refl);
+  }
+
+  pub still_arrays : (p : Packages) → ArraysPass IsStill p m
+  still_arrays p = record {
+    element = λ of_type r f e cells v k w taken kept array inside fits. set_still (facts m.heap.now r).event r e.index w;
+    numbers = λ of_type n r new. (tt, refl);
+    references = λ number index class n named r new. (tt, refl);
+  }
+
+  pub still_instances : (p : Packages) → InstancesPass IsStill p m
+  still_instances p number index class n made few r new = (tt, refl)

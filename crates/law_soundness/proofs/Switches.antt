@@ -42,7 +42,7 @@ use Rattle.law_isolation.proofs.Receivers.{is_there}
 use Rattle.law_soundness.specs.Environment.{HasEnvironment}
 use Rattle.law_soundness.specs.Fit.{IsPlatformClass}
 use Rattle.law_soundness.specs.Platform.{KeepsPlatform}
-use Rattle.law_soundness.proofs.SteppedLeaves.{owner_zero}
+use Rattle.law_soundness.proofs.Owners.{owner_zero}
 
 -- the class by which a method of an object is found is one of the platform
 abbrev IsOfPlatform : Packages → ℕ → Type 0

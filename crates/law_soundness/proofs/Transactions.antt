@@ -1,24 +1,23 @@
 -- Transactions of JCSystem: one that begins or ends, which that of an installation never does.
-use Rattle.std.proofs.Common.{◌≡◌, ℕ, ◌+◌, false, inl, refl, sym, ◌∙◌, ap, if◌then◌else◌}
-use Rattle.std.proofs.lemmas.Bool.{both_ways, cond-false}
+use Rattle.std.proofs.Common.{◌≡◌, ℕ, ◌+◌, false, inl, None, refl, sym, ◌∙◌, ap, if◌then◌else◌}
+use Rattle.std.proofs.lemmas.Bool.{both_ways, cond-false, false_from_ne_true}
 use Rattle.std.specs.Prelude.{nat_lt}
 use Rattle.jc_heap.specs.Moves.{Begin, Commit, Abort}
 use Rattle.jc_heap.specs.Whole.{IsReference}
 use Rattle.jc_memory.specs.declared.registers.Depth.{Depth}
 use Rattle.jc_memory.specs.declared.registers.Depth.TheVariants.{Outside, Inside}
-use Rattle.jc_memory.specs.declared.registers.Installation.{Installation}
-use Rattle.jc_memory.specs.declared.registers.Installation.TheVariants.{Idle, Open, Registered}
 use Rattle.jc_memory.specs.State.{MemoryState, HeapMove, apply_effect}
-use Rattle.jc_memory.specs.Reading.{AllResults}
 use Rattle.jc_linker.specs.Values.{Packages}
-use Rattle.jc_api_runtime.specs.SystemTransactions.{jc_system_abort_transaction, after_abort, jc_system_begin_transaction, jc_system_commit_transaction}
-use Rattle.jc_api_runtime.specs.SystemTransactions.{commit_of_applet, set_level}
+use Rattle.jc_api_runtime.specs.Register.{open_installation}
+use Rattle.jc_api_runtime.specs.SystemTransactions.{set_level}
+use Rattle.law_isolation.proofs.Passing.{EndsSo}
 use Rattle.law_soundness.specs.State.{IsSoundMemory, IsSteady, is_open}
 use Rattle.law_soundness.specs.Calls.{IsCallResult, IsReadyAgain, IsSteadyAgain}
 use Rattle.law_soundness.specs.Living.{KeepsReferencesBelow}
 use Rattle.law_soundness.proofs.Memories.{choose}
 use Rattle.law_soundness.proofs.Transients.{left}
-use Rattle.law_soundness.proofs.Leaving.{left_if, same_owners, stays}
+use Rattle.law_soundness.proofs.Leaving.{exits_left, same_owners}
+use Rattle.law_soundness.proofs.Turning.{not_opened}
 
 module _ (p : Packages) (m : MemoryState) (sound : IsSoundMemory p m) (steady : IsSteady m) where
   -- a memory that is left so after an abort
@@ -49,10 +48,6 @@ module _ (p : Packages) (m : MemoryState) (sound : IsSoundMemory p m) (steady : 
     };
     references = λ r refers. refers;
   }
-
-  pub begun_left : (depth : Depth) → AllResults (jc_system_begin_transaction depth m) m (IsCallResult m)
-  begun_left Inside = stays m steady
-  begun_left Outside = left_if m m.heap.begun _ _ (λ on. level_set Inside) (λ off. begun_again)
 
   -- one ends, outside an installation
   module _ (closed : is_open m.registers.installation ≡ false) where
@@ -87,23 +82,17 @@ module _ (p : Packages) (m : MemoryState) (sound : IsSoundMemory p m) (steady : 
       λ r refers. left m.heap sound.whole m.ram sound.transients r (nat_lt r m.heap.durable.top) refl refers,
     )
 
-  committed_in_left : (installation : Installation) → m.registers.installation ≡ installation → AllResults (commit_of_applet installation m) m (IsCallResult m)
-  committed_in_left (Open home entry) is = level_set Outside
-  committed_in_left Idle is = left_if m m.heap.begun _ _ (λ on. committed_again (ap is_open is)) (λ off. level_set Outside)
-  committed_in_left (Registered home) is = left_if m m.heap.begun _ _ (λ on. committed_again (ap is_open is)) (λ off. level_set Outside)
-
-  pub committed_left : (depth : Depth) → AllResults (jc_system_commit_transaction depth m) m (IsCallResult m)
-  committed_left Outside = stays m steady
-  committed_left Inside = committed_in_left m.registers.installation refl
-
-  -- in an installation the run ends
-  after_left : (installation : Installation) → m.registers.installation ≡ installation → (v : MemoryState)
-      → (is_open m.registers.installation ≡ false → IsAbortedTo v) → AllResults (after_abort installation) v (IsCallResult m)
-  after_left Idle is v stands = stands (ap is_open is)
-  after_left (Open home entry) is v stands = tt
-  after_left (Registered home) is v stands = stands (ap is_open is)
-
-  pub aborted_left : (depth : Depth) → AllResults (jc_system_abort_transaction depth m) m (IsCallResult m)
-  aborted_left Outside = stays m steady
-  aborted_left Inside = left_if m m.heap.begun _ _ (λ on. after_left m.registers.installation refl _ aborted_again)
-      (λ off. after_left m.registers.installation refl _ (λ closed. ((level_set Outside).again, not_nulled)))
+  -- so it is of a call that begins or ends one
+  pub transactions_left : EndsSo (IsCallResult m) m
+  transactions_left = record {
+    exits = exits_left m steady;
+    faults = λ v. tt;
+    levels = level_set;
+    begins = begun_again;
+    commits = λ none. committed_again (closed_of none);
+    aborts = λ none. aborted_again (closed_of none);
+    stays = λ none. ((level_set Outside).again, not_nulled);
+  }
+    where
+      closed_of : open_installation m.registers.installation ≡ None → is_open m.registers.installation ≡ false
+      closed_of none = false_from_ne_true (is_open m.registers.installation) (not_opened m.registers.installation none)

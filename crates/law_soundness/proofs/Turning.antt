@@ -33,7 +33,7 @@ module _ (p : Packages) (m : MemoryState) (sound : IsSoundMemory p m) (g : Regis
     opens = λ on. ap is_open (sym installation) ∙ on;
   }
 
-not_opened : (i : Installation) → open_installation i ≡ None → is_open i ≡ true → ⊥
+pub not_opened : (i : Installation) → open_installation i ≡ None → is_open i ≡ true → ⊥
 not_opened Idle none on = absurd cc
 not_opened (Open home entry) none on = none-some home (sym none)
 not_opened (Registered home) none on = absurd cc

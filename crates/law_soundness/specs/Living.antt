@@ -4,25 +4,22 @@ use Rattle.std.specs.List.{All}
 use Rattle.jc_heap.specs.Heap.{HeapState}
 use Rattle.jc_heap.specs.Whole.{IsReference}
 use Rattle.jc_frames.specs.declared.cell.Cell.{Cell}
-use Rattle.jc_frames.specs.declared.cell.Cell.TheVariants.{Short, Reference, ReturnAddress}
 use Rattle.jc_frames.specs.declared.outcome.Outcome.{Outcome}
 use Rattle.jc_frames.specs.declared.outcome.Outcome.TheVariants as ends
 use Rattle.jc_frames.specs.Frames.{Caller, Frame, Frames}
+use Rattle.law_isolation.specs.Referring.{CellRefersSo, FrameRefersSo}
 
 -- a reference in a cell is null or names an object
 abbrev pub IsLivingCell : HeapState → Cell → Type 0
-IsLivingCell h (Short v) = Unit {0}
-IsLivingCell h (Reference r) = IsReference h r
-IsLivingCell h (ReturnAddress a) = Unit {0}
+IsLivingCell h = CellRefersSo (IsReference h)
 
 -- and so is each in these cells
 abbrev pub AreLivingCells : HeapState → List Cell → Type 0
 AreLivingCells h cells = All (IsLivingCell h) cells
 
 -- in the locals of a frame, and on its stack
-pub record IsLivingFrame (h : HeapState) (f : Frame) : Type 0 where
-  pub locals : AreLivingCells h f.locals
-  pub stack : AreLivingCells h f.stack
+abbrev pub IsLivingFrame : HeapState → Frame → Type 0
+IsLivingFrame h f = FrameRefersSo (IsReference h) f
 
 -- in the frames of callers
 abbrev pub AreLivingCallers : HeapState → List Caller → Type 0

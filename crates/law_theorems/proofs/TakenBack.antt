@@ -11,11 +11,8 @@ use Rattle.jc_dispatch.specs.Phases.{close, abort_if_open, then_with, registers_
 use Rattle.jc_card.specs.Answers.{exchange}
 use Rattle.jc_card.specs.CardState.{CardState}
 use Rattle.jc_card.specs.Dispatching.{with_response}
-use Rattle.jc_session.specs.declared.event.Event.{Event}
-use Rattle.jc_session.specs.declared.event.Event.TheVariants.{Command, Reset}
-use Rattle.jc_session.specs.declared.event.Answer.{Answer}
-use Rattle.jc_session.specs.declared.event.Answer.TheVariants.{Ready, Down}
-use Rattle.jc_session.specs.Power.{PowerState, Up, Off, KeptState}
+use Rattle.jc_session.specs.Requests.{Request, Command, Reset, ArmFuse, Reply, Response, Ready, Down, Armed}
+use Rattle.jc_session.specs.Power.{PowerState, Up, Off, KeptState, armed, durable_state}
 use Rattle.jc_session.specs.Serving.{AnswersReset, Serves, SessionRun}
 use Rattle.jc_session.specs.Starting.{IsPoweredUp}
 use Rattle.law_atomicity.specs.Orderly.{KeepsTransactionOrder}
@@ -24,7 +21,7 @@ use Rattle.law_atomicity.proofs.Torn.{begun_inside, behind, lost_at}
 use Rattle.law_images.specs.Loaded.{AreBytes}
 use Rattle.law_images.specs.Cards.{IsOfBytes, IsOwnCard}
 use Rattle.law_images.proofs.Rest.{leave_at_rest, rests_so}
-use Rattle.law_images.specs.Comes.{AreDown, ComesTo, memory_at}
+use Rattle.law_images.specs.Comes.{AreDown, ComesTo, IsDown, memory_at}
 use Rattle.law_images.specs.Left.{IsLeft, IsLeftBy, IsWhatWasFound}
 use Rattle.law_theorems.specs.TakenBack.{IsTakenBack}
 use Rattle.law_images.specs.Tries.{IsAsFound}
@@ -35,31 +32,38 @@ use Rattle.law_theorems.proofs.Coming.{comes_own, comes_rests}
 
 -- ---- while all is answered down
 
-down_off : (b : ℕ) (k : KeptState) (event : Event) (next : PowerState) → Serves (Off b k) event Down next
+down_off : (b : ℕ) (k : KeptState) (request : Request) (reply : Reply) (next : PowerState) → IsDown reply → Serves (Off b k) request reply next
     → (l : KeptState) × (next ≡ Off b l) × (l.durable ≡ k.durable)
-down_off b k (Command bytes) (Off d l) h = (l, ap (λ n. Off n l) h.1, ap (λ (x : KeptState). x.durable) h.0)
-down_off b k Reset (Off d l) h = (l, ap (λ n. Off n l) h.1, ap (λ (x : KeptState). x.durable) h.0)
-down_off b k (Command bytes) (Up card) h = absurd h
-down_off b k Reset (Up card) h = absurd h
+down_off b k (Command bytes) Down (Off d l) down h = (l, ap (λ n. Off n l) h.1, ap (λ (x : KeptState). x.durable) h.0)
+down_off b k Reset Down (Off d l) down h = (l, ap (λ n. Off n l) h.1, ap (λ (x : KeptState). x.durable) h.0)
+down_off b k (ArmFuse n) reply next down h = (durable_state (armed n (Off b k)), h.1, refl)
+down_off b k (Command bytes) (Response r) next down h = absurd down
+down_off b k (Command bytes) Ready next down h = absurd down
+down_off b k (Command bytes) (Armed n) next down h = absurd h
+down_off b k (Command bytes) Down (Up card) down h = absurd h
+down_off b k Reset (Response r) next down h = absurd down
+down_off b k Reset Ready next down h = absurd down
+down_off b k Reset (Armed n) next down h = absurd h
+down_off b k Reset Down (Up card) down h = absurd h
 
-no_more : (answers : List Answer) (s last : PowerState) → SessionRun s [] (answers ++ (Ready ∷ [])) last → ⊥
+no_more : (replies : List Reply) (s last : PowerState) → SessionRun s [] (replies ++ (Ready ∷ [])) last → ⊥
 no_more [] s last h = h
-no_more (answer ∷ answers) s last h = h
+no_more (reply ∷ replies) s last h = h
 
-no_answer : (events : List Event) (s last : PowerState) → SessionRun s (events ++ (Reset ∷ [])) [] last → ⊥
+no_answer : (requests : List Request) (s last : PowerState) → SessionRun s (requests ++ (Reset ∷ [])) [] last → ⊥
 no_answer [] s last h = h
-no_answer (event ∷ events) s last h = h
+no_answer (request ∷ requests) s last h = h
 
-resets : (events : List Event) (answers : List Answer) (b : ℕ) (k : KeptState) (next : CardState) → AreDown answers
-    → SessionRun (Off b k) (events ++ (Reset ∷ [])) (answers ++ (Ready ∷ [])) (Up next)
+resets : (requests : List Request) (replies : List Reply) (b : ℕ) (k : KeptState) (next : CardState) → AreDown replies
+    → SessionRun (Off b k) (requests ++ (Reset ∷ [])) (replies ++ (Ready ∷ [])) (Up next)
     → (l : KeptState) × (l.durable ≡ k.durable) × IsPoweredUp l b next
 resets [] [] b k next down h = (k, refl, subst (λ s. AnswersReset (Off b k) Ready s) (sym h.2) h.1)
-resets [] (answer ∷ answers) b k next down h = absurd (no_more answers h.0 (Up next) h.2)
-resets (event ∷ events) [] b k next down h = absurd (no_answer events h.0 (Up next) h.2)
-resets (event ∷ events) (answer ∷ answers) b k next down h =
-    let off = down_off b k event h.0 (subst (λ a. Serves (Off b k) event a h.0) down.0 h.1) in
-    let rest = resets events answers b off.0 next down.1
-    (subst (λ s. SessionRun s (events ++ (Reset ∷ [])) (answers ++ (Ready ∷ [])) (Up next)) off.1 h.2) in
+resets [] (reply ∷ replies) b k next down h = absurd (no_more replies h.0 (Up next) h.2)
+resets (request ∷ requests) [] b k next down h = absurd (no_answer requests h.0 (Up next) h.2)
+resets (request ∷ requests) (reply ∷ replies) b k next down h =
+    let off = down_off b k request reply h.0 down.0 h.1 in
+    let rest = resets requests replies b off.0 next down.1
+    (subst (λ s. SessionRun s (requests ++ (Reset ∷ [])) (replies ++ (Ready ∷ [])) (Up next)) off.1 h.2) in
     (rest.0, rest.1 ∙ off.2, rest.2)
 
 -- ---- within a command
@@ -106,14 +110,15 @@ module _ (t : Tokens) (card : CardState) (comes : ComesTo t (Up card)) where
   open_left es left stands (inl now) = absurd (true≢false (sym stands ∙ now.0))
   open_left es left stands (inr was) = was.1
 
-first_left : (t : Tokens) (card : CardState) (event : Event) (mid : PowerState) → ComesTo t (Up card) → IsOfBytes event → Serves (Up card) event Down mid
-    → (k : KeptState) × (mid ≡ Off card.budget k) × IsLeftBy card event k.durable
+first_left : (t : Tokens) (card : CardState) (request : Request) (mid : PowerState) → ComesTo t (Up card) → IsOfBytes request → Serves (Up card) request Down mid
+    → (k : KeptState) × (mid ≡ Off card.budget k) × IsLeftBy card request k.durable
 first_left t card (Command bytes) (Off b k) comes are h =
-    let p = lost_at (exchange bytes.items card) card.memory k.durable h.0 in
-    (k, ap (λ n. Off n k) h.5, (p.0, p.1, left_of t card comes bytes.items p.0 k.durable are p.1 p.2))
+    let p = lost_at (exchange bytes card) card.memory k.durable h.0 in
+    (k, ap (λ n. Off n k) h.5, (p.0, p.1, left_of t card comes bytes p.0 k.durable are p.1 p.2))
 first_left t card Reset (Off b k) comes are h = (k, ap (λ n. Off n k) h.1, ap (λ (x : KeptState). x.durable) h.0 ∙ settled t card comes (shut t card comes))
 first_left t card (Command bytes) (Up next) comes are h = absurd h
 first_left t card Reset (Up next) comes are h = absurd h
+first_left t card (ArmFuse n) mid comes are h = cc h.0
 
 closed_by : (b : Bool) (m new : MemoryState) → b ≡ true
     → Completes (abort_if_open b (λ v. then_with (SetRegisters (registers_released v.registers)) v (λ w. Finish (tt {0}))) m) m tt new
@@ -127,12 +132,12 @@ closed_so m new stands did = closed_by m.heap.begun m new stands did
 
 pub taken_back : IsTakenBack
 taken_back = record {
-  lost = λ t card next event events answers comes are down run.
-      let first = first_left t card event run.0 comes are run.1 in
-      let rest = resets events answers card.budget first.0 next down
-      (subst (λ s. SessionRun s (events ++ (Reset ∷ [])) (answers ++ (Ready ∷ [])) (Up next)) first.1 run.2) in
+  lost = λ t card next request requests replies comes are down run.
+      let first = first_left t card request run.0 comes are run.1 in
+      let rest = resets requests replies card.budget first.0 next down
+      (subst (λ s. SessionRun s (requests ++ (Reset ∷ [])) (replies ++ (Ready ∷ [])) (Up next)) first.1 run.2) in
       let now : next.memory.heap.now ≡ (first.0).durable = ap (λ (v : HeapView). v.now) rest.2.heap ∙ rest.1 in
-      (subst (IsLeftBy card event) (sym now) first.2, rests_so rest.0 card.budget next rest.2);
+      (subst (IsLeftBy card request) (sym now) first.2, rests_so rest.0 card.budget next rest.2);
   aborted = λ t card bytes es within.
       let begins = front (exchange bytes card) card.memory es (HeapMove Abort ∷ []) within.begins in
       let due = due_after KeepsTransactionOrder es (HeapMove Abort ∷ []) card.memory

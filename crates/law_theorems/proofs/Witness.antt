@@ -30,12 +30,10 @@ use Rattle.jc_card.specs.CardState.{CardState}
 use Rattle.jc_card.specs.Fixed.{fixed_of, last_fixed}
 use Rattle.jc_card.specs.Made.{IsCardHeap, new_card_heap}
 use Rattle.jc_card.specs.Reset.{ReadsAsZero}
-use Rattle.jc_session.specs.declared.event.Event.TheVariants.{Reset}
-use Rattle.jc_session.specs.declared.event.Answer.TheVariants.{Ready, Down}
+use Rattle.jc_session.specs.Requests.{Reset, Ready}
 use Rattle.jc_session.specs.Power.{KeptState, Up, Off, StoreState, durable_state, is_well_formed, with_refusal}
 use Rattle.jc_session.specs.Starting.{IsPoweredUp}
 use Rattle.jc_session.proofs.Laid.{if_laid}
-use Rattle.jcard_script.specs.Script.{down_text}
 use Rattle.law_soundness.specs.References.{MayBegin}
 use Rattle.law_soundness.specs.State.{IsFitObject}
 use Rattle.law_soundness.proofs.Living.{first_living, none_living}
@@ -161,14 +159,14 @@ module _ (budget n capacity : ℕ) (text : List ℕ) (t : Tokens) (enough : leas
   first = card 0 (heap_end n capacity) no_refusals
 
   comes_off : ComesTo t (Off budget (new_kept n capacity text t))
-  comes_off = record { budget = budget; first = new_kept n capacity text t; events = []; answers = []; own = own; bytes = tt; run = refl }
+  comes_off = record { budget = budget; first = new_kept n capacity text t; requests = []; replies = []; own = own; bytes = tt; run = refl }
 
   comes_up : ComesTo t (Up first)
   comes_up = record {
     budget = budget;
     first = new_kept n capacity text t;
-    events = Reset ∷ [];
-    answers = Ready ∷ [];
+    requests = Reset ∷ [];
+    replies = Ready ∷ [];
     own = own;
     bytes = (tt, tt);
     run = (Up first, powered 0 (heap_end n capacity) no_refusals true false 0, refl);
@@ -216,7 +214,7 @@ witnesses budget n capacity text t enough reads =
         steps = (refl, refl);
       };
       step = (refl, refl);
-      cut = (down_text, [], new_blown budget n capacity text t, refl, (Down, (refl, refl), refl), (refl, refl));
+      cut = (new_blown budget n capacity text t, (refl, refl), refl);
       none = (tt, tt);
       spared = refl;
       within = λ count is. absurd (none-some count is);

@@ -1,32 +1,58 @@
--- The fuse of a script's store.
-use Rattle.std.specs.Prelude.{ℕ, ◌≡◌, ◌⊎◌, ◌<◌, ◌≤◌, List, None}
+-- The fuse of a session's store.
+use Rattle.std.specs.Prelude.{ℕ, ◌≡◌, ◌⊎◌, ◌<◌, ◌≤◌, List, [], ◌∷◌, ◌++◌, None}
 use Rattle.jc_words.specs.Count.{saturating_count}
 use Rattle.jc_words.specs.Refusals.{IsWithinFuse, Refusals, with_fuse_at}
-use Rattle.jc_session.specs.Power.{PowerState, durable_state}
-use Rattle.jcard_script.specs.Script.{down_text}
-use Rattle.law_images.specs.Scripts.{ArmNone, ServeLines, ServeWithOne, armed}
+use Rattle.jc_session.specs.Requests.{Request, Command, Reset, ArmFuse, Reply, Down}
+use Rattle.jc_session.specs.Power.{PowerState, armed, durable_state}
+use Rattle.jc_session.specs.Serving.{Serves, SessionRun}
 
 -- what is told of the writes that its store refused
 abbrev pub refusals_of : PowerState → Refusals
 refusals_of s = (durable_state s).refusals
 
--- one of these lines is cut when exactly so many writes have passed, which burns the fuse out; no write is refused before it, and none behind it
-pub record IsCutAt (count : ℕ) (carried : List (List ℕ)) (s last : PowerState) (text : List ℕ) : Type 0 where
-  pub lines : ServeWithOne carried s last text down_text
-  pub none : refusals_of lines.mid ≡ refusals_of s
-  pub passed : (durable_state lines.next).passed ≡ count
-  pub cut : refusals_of lines.next ≡ record (refusals_of s) { count = saturating_count (refusals_of s).count 1; fuse = None }
-  pub still : refusals_of last ≡ refusals_of lines.next
+-- it arms no fuse
+abbrev pub ArmsNone : Request → Type 0
+ArmsNone (Command bytes) = Unit {0}
+ArmsNone Reset = Unit {0}
+ArmsNone (ArmFuse k) = ⊥
+
+-- none of these requests does
+abbrev pub ArmNone : List Request → Type 0
+ArmNone [] = Unit {0}
+ArmNone (request ∷ more) = ArmsNone request × ArmNone more
+
+-- these requests are served, and one of them is answered down
+pub record RunWithDown (requests : List Request) (replies : List Reply) (s last : PowerState) : Type 0 where
+  pub before : List Request
+  pub request : Request
+  pub after : List Request
+  pub first : List Reply
+  pub rest : List Reply
+  pub mid : PowerState
+  pub next : PowerState
+  pub are : requests ≡ before ++ request ∷ after
+  pub are_told : replies ≡ first ++ Down ∷ rest
+  pub up : SessionRun s before first mid
+  pub one : Serves mid request Down next
+  pub behind : SessionRun next after rest last
+
+-- one of them is cut when exactly so many writes have passed, which burns the fuse out; no write is refused before it, and none behind it
+pub record IsCutAt (count : ℕ) (requests : List Request) (replies : List Reply) (s last : PowerState) : Type 0 where
+  pub run : RunWithDown requests replies s last
+  pub none : refusals_of run.mid ≡ refusals_of s
+  pub passed : (durable_state run.next).passed ≡ count
+  pub cut : refusals_of run.next ≡ record (refusals_of s) { count = saturating_count (refusals_of s).count 1; fuse = None }
+  pub still : refusals_of last ≡ refusals_of run.next
 
 -- no write is refused, at most as many pass as the fuse lets pass, and it stands where it was set
 abbrev pub IsSpared : ℕ → PowerState → PowerState → Type 0
 IsSpared count s last = (refusals_of last ≡ with_fuse_at count (refusals_of s)) × ((durable_state last).passed ≤ count)
 
--- Behind `stop K`, while no line arms the fuse again and the store below refuses nothing by itself, over a store that lets no more writes pass
--- than its fuse: no write is refused, at most K more pass, and the fuse stands K writes ahead of those that had passed; or exactly one is
+-- Behind `stop K`, while no request arms the fuse again and the store below refuses nothing by itself, over a store that lets no more writes
+-- pass than its fuse: no write is refused, at most K more pass, and the fuse stands K writes ahead of those that had passed; or exactly one is
 -- refused, behind exactly K more. Resets in between change nothing of that
 abbrev pub FusesCut : Type 0
-FusesCut = (k : ℕ) (carried : List (List ℕ)) (s last : PowerState) (text : List ℕ) → ServeLines carried (armed k s) last text → ArmNone carried
+FusesCut = (k : ℕ) (requests : List Request) (replies : List Reply) (s last : PowerState) → SessionRun (armed k s) requests replies last → ArmNone requests
     → (refusals_of s).faults < 18446744073709551615 → (refusals_of last).faults ≡ (refusals_of s).faults
     → IsWithinFuse (durable_state last).passed (refusals_of last).fuse
-    → IsSpared (saturating_count (durable_state s).passed k) s last ⊎ IsCutAt (saturating_count (durable_state s).passed k) carried (armed k s) last text
+    → IsSpared (saturating_count (durable_state s).passed k) s last ⊎ IsCutAt (saturating_count (durable_state s).passed k) requests replies (armed k s) last

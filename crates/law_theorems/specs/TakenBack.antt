@@ -6,10 +6,7 @@ use Rattle.jc_memory.specs.Programs.{Completes}
 use Rattle.jc_platform.specs.Tokens.{Tokens}
 use Rattle.jc_card.specs.CardState.{CardState}
 use Rattle.jc_dispatch.specs.Phases.{close}
-use Rattle.jc_session.specs.declared.event.Event.{Event}
-use Rattle.jc_session.specs.declared.event.Event.TheVariants.{Reset}
-use Rattle.jc_session.specs.declared.event.Answer.{Answer}
-use Rattle.jc_session.specs.declared.event.Answer.TheVariants.{Response, Ready, Down}
+use Rattle.jc_session.specs.Requests.{Request, Reset, Reply, Response, Ready, Down}
 use Rattle.jc_session.specs.Power.{Up}
 use Rattle.jc_session.specs.Serving.{AnswersCommand, SessionRun}
 use Rattle.law_images.specs.Cards.{IsOfBytes}
@@ -19,10 +16,11 @@ use Rattle.law_images.specs.Loaded.{AreBytes}
 use Rattle.law_images.specs.Rest.{IsResting}
 
 pub record IsTakenBack : Type 0 where
-  -- the power is cut within an event, and within each of any number of resets; commands meanwhile are answered down. Then a reset completes
-  pub lost : (t : Tokens) (card next : CardState) (event : Event) (events : List Event) (answers : List Answer) → ComesTo t (Up card) → IsOfBytes event
-      → AreDown answers → SessionRun (Up card) (event ∷ (events ++ (Reset ∷ []))) (Down ∷ (answers ++ (Ready ∷ []))) (Up next)
-      → IsLeftBy card event next.memory.heap.now × IsResting next.memory.heap
+  -- the power is cut within a request, and within each of any number of resets; meanwhile commands are answered down, and the fuse may be
+  -- armed. Then a reset completes
+  pub lost : (t : Tokens) (card next : CardState) (request : Request) (requests : List Request) (replies : List Reply) → ComesTo t (Up card) → IsOfBytes request
+      → AreDown replies → SessionRun (Up card) (request ∷ (requests ++ (Reset ∷ []))) (Down ∷ (replies ++ (Ready ∷ []))) (Up next)
+      → IsLeftBy card request next.memory.heap.now × IsResting next.memory.heap
   -- a transaction is aborted, by code or as the runtime environment takes over
   pub aborted : (t : Tokens) (card : CardState) (bytes : List ℕ) (es : List Effect) → ComesWithin t card bytes (es ++ (HeapMove Abort ∷ []))
       → IsWhatWasFound card es (memory_at card (es ++ (HeapMove Abort ∷ []))).heap.now

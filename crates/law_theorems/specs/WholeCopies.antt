@@ -1,12 +1,11 @@
 -- Sessions whose store refused no write.
 use Rattle.std.specs.Prelude.{ℕ, List, Ok}
-use Rattle.jc_session.specs.declared.event.Event.{Event}
-use Rattle.jc_session.specs.declared.event.Answer.{Answer}
+use Rattle.jc_session.specs.Requests.{Request, Reply}
 use Rattle.jc_session.specs.Power.{StoreState}
 use Rattle.jc_session.specs.Sessions.{SessionEnds}
 use Rattle.jc_session.specs.WholeCopies.{IsWholeSession, RefusesNone}
 
 -- a session over a store that refused no write is that of a card that keeps whole copies of its heap
 abbrev pub AreOfWholeCopies : Type 0
-AreOfWholeCopies = (budget : ℕ) (before after : StoreState) (events : List Event) (answers : List Answer) → SessionEnds budget (Ok answers) before events after
-    → RefusesNone before.refusals.count after.refusals.count → IsWholeSession budget before events answers after
+AreOfWholeCopies = (budget : ℕ) (before after : StoreState) (requests : List Request) (replies : List Reply) → SessionEnds budget (Ok replies) before requests after
+    → RefusesNone before.refusals.count after.refusals.count → IsWholeSession budget before requests replies after

@@ -1,5 +1,5 @@
 -- The premises of the theorems can be met: a new image, its first reset, a cut one, a command, and code that begins to run within it.
-use Rattle.std.specs.Prelude.{ℕ, ◌≡◌, ◌≤◌, ◌<◌, true, false, List, [], ◌∷◌, length, codes, Ok}
+use Rattle.std.specs.Prelude.{ℕ, ◌≡◌, ◌≤◌, ◌<◌, true, false, List, [], ◌∷◌, length, Ok}
 use Rattle.jc_words.specs.Layout.{least_size}
 use Rattle.jc_words.specs.Refusals.{IsWithinFuse, no_refusals}
 use Rattle.jc_words.specs.Image.{heap_end}
@@ -14,16 +14,13 @@ use Rattle.jc_interp.specs.Running.{bare_frames}
 use Rattle.jc_interp.specs.Stepping.{machine_step}
 use Rattle.jc_card.specs.CardState.{CardState}
 use Rattle.jc_card.specs.Made.{IsMade, new_card_heap}
-use Rattle.jc_session.specs.declared.event.Event.TheVariants.{Reset}
-use Rattle.jc_session.specs.declared.event.Answer.TheVariants.{Response, Ready, Down}
-use Rattle.jc_session.specs.Power.{PowerState, Up, Off, KeptState, StoreState, durable_state, with_refusal}
+use Rattle.jc_session.specs.Requests.{Reset, Response, Ready, Down}
+use Rattle.jc_session.specs.Power.{PowerState, Up, Off, KeptState, StoreState, armed, durable_state, with_refusal}
 use Rattle.jc_session.specs.Serving.{AnswersCommand, Serves, SessionRun}
 use Rattle.jc_session.specs.Sessions.{SessionEnds}
-use Rattle.jcard_script.specs.Script.{down_text}
 use Rattle.law_images.specs.Comes.{ComesTo}
 use Rattle.law_images.specs.Loaded.{AreBytes}
-use Rattle.law_images.specs.Scripts.{ArmNone, ServeLines, armed}
-use Rattle.law_theorems.specs.Fuse.{refusals_of}
+use Rattle.law_theorems.specs.Fuse.{ArmNone, refusals_of}
 use Rattle.law_theorems.specs.References.{RunsFrom}
 
 -- what is kept of a new image
@@ -38,12 +35,9 @@ new_armed budget n capacity text t = armed 0 (Off budget (new_kept n capacity te
 abbrev pub new_blown : ℕ → ℕ → ℕ → List ℕ → Tokens → PowerState
 new_blown budget n capacity text t = Off budget (with_refusal 0 (durable_state (new_armed budget n capacity text t)))
 
--- a command that begins a load, and a line that asks for a reset
+-- a command that begins a load
 abbrev pub begin_load_bytes : List ℕ
 begin_load_bytes = 0x80 ∷ 0xB0 ∷ 0 ∷ 0 ∷ []
-
-abbrev pub reset_line : List ℕ
-reset_line = codes "reset"
 
 -- With any budget and any table that reads sessions come to a new image without power, and to the card behind its first reset
 pub record HaveWitness (budget n capacity : ℕ) (text : List ℕ) (t : Tokens) : Type 0 where
@@ -63,9 +57,9 @@ pub record HaveWitness (budget n capacity : ℕ) (text : List ℕ) (t : Tokens) 
   -- of `references_name_what_is_there`: within it code begins that was lent, and a step ends its run
   pub begins : RunsFrom t card begin_load_bytes [] 0 [] (bare_frames 0 0) (bare_frames 0 0) card.memory
   pub step : HasTrace (machine_step [] card.packages (bare_frames 0 0) card.memory) card.memory [] (Ends Fault)
-  -- of `fuses_cut_where_they_were_set`: a line is cut behind `stop 0`
-  pub cut : ServeLines (reset_line ∷ []) (new_armed budget n capacity text t) (new_blown budget n capacity text t) down_text
-  pub none : ArmNone (reset_line ∷ [])
+  -- of `fuses_cut_where_they_were_set`: a reset is cut behind `stop 0`
+  pub cut : SessionRun (new_armed budget n capacity text t) (Reset ∷ []) (Down ∷ []) (new_blown budget n capacity text t)
+  pub none : ArmNone (Reset ∷ [])
   pub spared : (refusals_of (new_blown budget n capacity text t)).faults ≡ 0
   pub within : IsWithinFuse (durable_state (new_blown budget n capacity text t)).passed (refusals_of (new_blown budget n capacity text t)).fuse
 

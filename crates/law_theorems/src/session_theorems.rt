@@ -40,7 +40,7 @@ pub fn sessions_change_tries_by_pin_calls_alone()
 /// refused, at most K more pass, and the fuse stands K writes ahead of those that had passed; or exactly one is, when K
 /// more have passed, and burns the fuse out. A reset in between changes nothing of that, and its own writes count. That
 /// the store lets no more writes pass than its fuse does is a premise that each store meets (`WordStore::passed_writes`),
-/// and that `run_script` tells of the one that it gives back.
+/// and that `run_script` and `session` tell of the one that they give back.
 pub fn fuses_cut_where_they_were_set()
     ensures { FusesCut }
 {}
@@ -60,8 +60,8 @@ pub fn references_name_what_is_there()
     ensures { ReferencesNameObjects }
 {}
 
-/// A new image powers up, and so does each that sessions leave of one, however they end and wherever the power
-/// was cut: only memory that is refused, or a refused write, stops it.
+/// A new image powers up, and so does each that sessions and scripts leave of one, however they end and wherever the
+/// power was cut: only memory that is refused, or a refused write, stops it.
 pub fn images_power_up_again()
     ensures { PowerUpAgain }
 {}

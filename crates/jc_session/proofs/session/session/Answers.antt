@@ -1,8 +1,9 @@
-use Rattle.std.proofs.Common.{◌<◌, ◌≤◌, ◌+◌, ◌++◌, ◌∷◌, [], ◌∙◌, length, take, inr, sym, ap, arith}
-use Rattle.std.proofs.lemmas.List.{take_more}
+use Rattle.std.proofs.Common.{◌<◌, ◌≤◌, length, map, inr, arith}
 use Rattle.jc_card.specs.Dispatching.{usual_budget}
 use Rattle.jc_session.specs.SessionStates.{power_of}
 use Rattle.jc_session.specs.Power.{StoreState}
+use Rattle.jc_session.specs.Requests.{reply_of}
+use Rattle.jc_session.specs.Sessions.{requests_of}
 use Rattle.jc_session.proofs.SessionRuns.{session_ended, session_more, stops_at_reset}
 use Rattle.jc_session.proofs.WholeSessions.{are_whole}
 use Rattle.jc_session.proofs.session.session.Goals as goal
@@ -10,7 +11,6 @@ use Rattle.jc_session.proofs.session.session.Goals as goal
 pub loop-event-preserved : goal.loop-event-preserved
 loop-event-preserved g c =
     let i = c.loop-event.invariant in
-    let n = c.loop-event.event-index in
     let below : c.loop-event.event-index < length c.args.events.now = omega arith in
     let before : StoreState = record {
       words = g.S.WordStore.words c.args.store;
@@ -19,10 +19,9 @@ loop-event-preserved g c =
       refusals = g.S.WordStore.refusals c.args.store;
     } in
     record {
-      session = session_more usual_budget before (take n c.args.events.now) (take (n + 1) c.args.events.now) c.loop-event.answers.items c.push.new.self.items
-          (power_of c.loop-event.held) (power_of c.in-Ok-serve.next) c.event-item.result c.in-Ok-serve.answer
-          (take_more c.args.events.now n c.event-item.result below ∙ ap (λ x. take n c.args.events.now ++ x ∷ []) (sym c.event-item.is))
-          c.in-Ok-push.ensures.items i.session c.in-Ok-serve.ensures.served;
+      session = session_more usual_budget before c.args.events.now c.loop-event.event-index c.loop-event.answers.items c.push.new.self.items
+          (power_of c.loop-event.held) (power_of c.in-Ok-serve.next) c.event-item.result c.in-Ok-serve.answer below c.event-item.is c.in-Ok-push.ensures.items
+          i.session c.in-Ok-serve.ensures.served;
       count = omega (arith, c.in-Ok-push.ensures.len);
       room = omega (arith, c.in-Ok-push.ensures.capacity);
     }
@@ -43,7 +42,7 @@ returns-in-Err-serve-clause-session g c =
       passed = g.S.WordStore.passed c.in-Err-serve.store;
       refusals = g.S.WordStore.refusals c.in-Err-serve.store;
     } in
-    inr (stops_at_reset usual_budget before after c.args.events.now c.loop-event.answers.items (power_of c.loop-event.held) n c.event-item.result c.in-Err-serve.fault below
+    inr (stops_at_reset usual_budget before after c.args.events.now (map reply_of c.loop-event.answers.items) (power_of c.loop-event.held) n c.event-item.result c.in-Err-serve.fault below
     c.event-item.is c.loop-event.invariant.session c.in-Err-serve.ensures.fault)
 
 pub returns-clause-session : goal.returns-clause-session
@@ -56,9 +55,9 @@ returns-clause-session g c =
     } in
     let over : length c.args.events.now ≤ c.loop-event.event-index = omega arith in (
       power_of c.loop-event.held,
-      session_ended usual_budget before c.args.events.now c.loop-event.answers.items
+      session_ended usual_budget before c.args.events.now (map reply_of c.loop-event.answers.items)
           (power_of c.loop-event.held) c.loop-event.event-index over c.loop-event.invariant.session,
-      c.into_store-2.ensures,
+      c.into_store-store-2.ensures,
     )
 
 pub returns-clause-whole : goal.returns-clause-whole
@@ -70,12 +69,12 @@ returns-clause-whole g c = λ none.
       refusals = g.S.WordStore.refusals c.args.store;
     } in
     let after : StoreState = record {
-      words = g.S.WordStore.words c.into_store-2.result;
-      down = g.S.WordStore.down c.into_store-2.result;
-      passed = g.S.WordStore.passed c.into_store-2.result;
-      refusals = g.S.WordStore.refusals c.into_store-2.result;
+      words = g.S.WordStore.words c.into_store-store-2.result;
+      down = g.S.WordStore.down c.into_store-store-2.result;
+      passed = g.S.WordStore.passed c.into_store-store-2.result;
+      refusals = g.S.WordStore.refusals c.into_store-store-2.result;
     } in
     let over : length c.args.events.now ≤ c.loop-event.event-index = omega arith in
-    are_whole usual_budget before after c.args.events.now c.loop-event.answers.items (power_of c.loop-event.held)
-    (session_ended usual_budget before c.args.events.now c.loop-event.answers.items (power_of c.loop-event.held) c.loop-event.event-index over
-    c.loop-event.invariant.session) c.into_store-2.ensures none
+    are_whole usual_budget before after (requests_of c.args.events.now) (map reply_of c.loop-event.answers.items) (power_of c.loop-event.held)
+    (session_ended usual_budget before c.args.events.now (map reply_of c.loop-event.answers.items) (power_of c.loop-event.held) c.loop-event.event-index over
+    c.loop-event.invariant.session) c.into_store-store-2.ensures none

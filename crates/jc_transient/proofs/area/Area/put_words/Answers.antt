@@ -2,11 +2,18 @@ use Rattle.std.proofs.Common.{◌∙◌, ◌+◌, ap, arith, length, max, sym}
 use Rattle.std.proofs.lemmas.List.{length-map}
 use Rattle.jc_transient.specs.Cells.{number_of}
 use Rattle.jc_transient.proofs.Clearing.{lent_put}
+use Rattle.jc_transient.proofs.Numbers.{lent_numbers, numbers_words}
 use Rattle.jc_transient.proofs.area.Area.put_words.Goals as goal
 
 pub invariant_of-self : goal.invariant_of-self
 invariant_of-self c =
+    let area =
     lent_put c.self.inside.used c.max-self-inside.result c.args.place c.self.inside.cells.len c.self.inside.cells.items c.as_mut_slice.result.now _
     c.write_words.new.cells c.self.inside.cells.ok.0 c.as_mut_slice.ensures.value c.write_words.ensures c.write_words.auto.cells
     (omega (arith, length-map c.args.words.now number_of, ap length c.as_mut_slice.ensures.value, ap length c.self.view_is, c.requires))
-    (c.max-self-inside.ensures ∙ ap (λ k. max c.self.inside.used (c.args.place + k)) (sym (length-map c.args.words.now number_of))) c.self.invariant
+    (c.max-self-inside.ensures ∙ ap (λ k. max c.self.inside.used (c.args.place + k)) (sym (length-map c.args.words.now number_of))) (c.self.invariant.0, c.self.invariant.1) in (
+      area.0,
+      area.1,
+      λ e. lent_numbers c.args.place c.self.inside.cells.len c.self.inside.cells.items c.as_mut_slice.result.now _ c.write_words.new.cells
+          c.self.inside.cells.ok.0 c.as_mut_slice.ensures.value c.write_words.ensures c.write_words.auto.cells (numbers_words c.args.words.now) (c.self.invariant.2 e),
+    )
