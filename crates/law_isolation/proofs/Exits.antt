@@ -1,30 +1,20 @@
 -- What a check gives where code does not go on: an exception, or a code fault; no value, and no exception that nothing caught.
-use Rattle.std.specs.Prelude.{ℕ, ℤ, pos, negsuc, ◌/◌, ◌^◌, ◌==◌, nat_lt, not, Bool, true, false, List, Option, Some, None, Result, Ok, Err, if◌then◌else◌}
+use Rattle.std.specs.Prelude.{ℕ, ℤ, pos, negsuc, ◌^◌, ◌==◌, nat_lt, Bool, true, false, Option, Some, None, Result, Ok, Err, if◌then◌else◌}
 use Rattle.jc_transient.specs.declared.cell.CellValue.{CellValue}
 use Rattle.jc_transient.specs.declared.cell.CellValue.TheVariants as kept
 use Rattle.jc_heap.specs.declared.object.Facts.{Facts}
 use Rattle.jc_memory.specs.Cells.{header_at}
 use Rattle.jc_memory.specs.State.{MemoryState}
-use Rattle.jc_cap_linkage.specs.declared.pool.VirtualToken.{VirtualToken}
-use Rattle.jc_linker.specs.declared.target.Method.{Method}
-use Rattle.jc_linker.specs.declared.target.Target.{Target}
-use Rattle.jc_linker.specs.declared.target.Target.TheVariants.{Class, VirtualMethod, SuperMethod, StaticMethod}
 use Rattle.jc_linker.specs.Values.{Packages}
-use Rattle.jc_linker.specs.Lookups.{target_at}
-use Rattle.jc_linker.specs.Methods.{interface_method_at, method_at}
-use Rattle.jc_opcodes.specs.declared.instr.InvokeOp.{InvokeOp}
-use Rattle.jc_opcodes.specs.declared.instr.InvokeOp.TheVariants.{Virtual, Special, Static, Interface}
 use Rattle.jc_opcodes.specs.declared.instr.ValueType.{ValueType}
 use Rattle.jc_firewall.specs.declared.access.Access.{Access}
-use Rattle.jc_firewall.specs.declared.access.Access.TheVariants.{ArrayElement, InstanceField, StoreReference, VirtualCall}
+use Rattle.jc_firewall.specs.declared.access.Access.TheVariants.{ArrayElement, InstanceField, StoreReference}
 use Rattle.jc_firewall.specs.declared.decide.Decision.{Decision}
 use Rattle.jc_firewall.specs.declared.decide.Decision.TheVariants.{Allow, Switch, Deny}
-use Rattle.jc_frames.specs.declared.cell.Cell.{Cell}
 use Rattle.jc_frames.specs.declared.outcome.FrameExit.{FrameExit}
 use Rattle.jc_frames.specs.declared.outcome.FrameExit.TheVariants.{Throw, End}
 use Rattle.jc_frames.specs.declared.outcome.Outcome.{Outcome}
 use Rattle.jc_frames.specs.declared.outcome.Outcome.TheVariants.{Void, Short, Reference, Thrown, Fault}
-use Rattle.jc_frames.specs.Frames.{Frames}
 use Rattle.jc_world.specs.Answers.{and_then}
 use Rattle.jc_world.specs.Contexts.{firewall_check, firewall_decision, unless_denied}
 use Rattle.jc_world.specs.Objects.{check_or_fault, object_at, some_or_fault, storable_in, storable_of}
@@ -38,10 +28,6 @@ use Rattle.jc_interp_objects.specs.Fields.{cell_if_allowed, cell_in, field_cell,
 use Rattle.jc_interp_objects.specs.ObjectCreation.{cells_for}
 use Rattle.jc_interp_objects.specs.ObjectTypes.{access_to, is_of_type}
 use Rattle.jc_interp_objects.specs.TypeChecks.{answer_if_allowed, type_test, type_test_of}
-use Rattle.jc_interp_calls.specs.Invoke.{arguments_of, call_decision, class_of, fits_at_null, interface_access, interface_by, invokeinterface, invokespecial}
-use Rattle.jc_interp_calls.specs.Invoke.{invokestatic, invokevirtual, is_native_constructor, is_of, is_of_any, method_selection, receiver_of, receiver_on}
-use Rattle.jc_interp_calls.specs.Invoke.{special_by, static_by, virtual_by}
-use Rattle.jc_interp_calls.specs.Parameters.{fits}
 
 -- an exception, or a code fault
 abbrev pub IsPlainExit : FrameExit → Type 0
@@ -182,81 +168,3 @@ plain_type null t p m r = plain_if (r == 0) _ _ tt (plain_type_of t p m (object_
 
 pub plain_size : (size : ℕ) → FaultsOnly (cells_for size)
 plain_size size = plain_if (nat_lt size (2 ^ 16)) _ _ tt tt
-
--- ---- methods
-
-plain_receiver : (n : ℕ) (stack : List Cell) (m : MemoryState) → FaultsOnly (receiver_of n stack m)
-unfolding receiver_of
-plain_receiver n stack m = plain_then (some_or_fault (receiver_on n stack)) _ (plain_some (receiver_on n stack)) (plain_object m)
-
-plain_decision : (d : Decision) (f : Facts) (method : Method) (n : ℕ) → FaultsOnly (call_decision d f method n)
-plain_decision Allow f method n = tt
-plain_decision (Switch c) f method n = tt
-plain_decision (Deny rule) f method n = tt
-
-module _ (p : Packages) where
-  arguments_plain : (method : Method) → FaultsOnly (some_or_fault (arguments_of p method))
-  arguments_plain method = plain_some (arguments_of p method)
-
-  plain_virtual : (class : ℕ) (token : VirtualToken) (method : Method) (stack : List Cell) (m : MemoryState)
-      → FaultsOnly (invokevirtual class token method p stack m)
-  unfolding invokevirtual
-  plain_virtual class token method stack m =
-      plain_then (some_or_fault (arguments_of p method)) _ (arguments_plain method) (λ n.
-      plain_then (check_or_fault (fits_at_null n method p stack m)) _ (plain_check (fits_at_null n method p stack m)) (λ u.
-      plain_then (receiver_of n stack m) _ (plain_receiver n stack m) (λ f.
-      plain_then (check_or_fault (is_of p f class)) _ (plain_check (is_of p f class)) (λ v.
-      plain_then (some_or_fault (method_at p (class_of p f) (class / 256) token)) _ (plain_some (method_at p (class_of p f) (class / 256) token)) (λ found.
-      plain_then (check_or_fault (fits found p m stack)) _ (plain_check (fits found p m stack)) (λ w.
-      plain_decision (firewall_decision VirtualCall p m f) f found n))))))
-
-  plain_special : (class : Option ℕ) (method : Method) (stack : List Cell) (m : MemoryState) → FaultsOnly (invokespecial class method p stack m)
-  unfolding invokespecial
-  plain_special class method stack m =
-      plain_then (some_or_fault (arguments_of p method)) _ (arguments_plain method) (λ n.
-      plain_then (check_or_fault (fits_at_null n method p stack m)) _ (plain_check (fits_at_null n method p stack m)) (λ u.
-      plain_then (receiver_of n stack m) _ (plain_receiver n stack m) (λ f.
-      plain_then (check_or_fault (is_of_any p f class)) _ (plain_check (is_of_any p f class)) (λ v.
-      plain_then (check_or_fault (fits method p m stack)) _ (plain_check (fits method p m stack)) (λ w.
-      plain_then (firewall_check InstanceField p m f) _ (plain_firewall InstanceField p m f) (λ x. tt))))))
-
-  plain_static : (method : Method) → FaultsOnly (invokestatic method p)
-  unfolding invokestatic
-  plain_static method =
-      plain_then (check_or_fault (not (is_native_constructor method))) _ (plain_check (not (is_native_constructor method))) (λ u.
-      plain_then (some_or_fault (arguments_of p method)) _ (arguments_plain method) (λ n. tt))
-
-  plain_interface : (interface n token : ℕ) (stack : List Cell) (m : MemoryState) → FaultsOnly (invokeinterface interface n token p stack m)
-  unfolding invokeinterface
-  plain_interface interface n token stack m =
-      plain_then (receiver_of n stack m) _ (plain_receiver n stack m) (λ f.
-      plain_then (check_or_fault (is_of p f interface)) _ (plain_check (is_of p f interface)) (λ u.
-      plain_then (some_or_fault (interface_method_at p (class_of p f) interface token)) _ (plain_some (interface_method_at p (class_of p f) interface token))
-      (λ found.
-      plain_then (check_or_fault (fits found p m stack)) _ (plain_check (fits found p m stack)) (λ v.
-      plain_decision (firewall_decision (interface_access p interface) p m f) f found n))))
-
-  module _ (stack : List Cell) (m : MemoryState) where
-    plain_virtual_by : (o : Option Target) → FaultsOnly (virtual_by o p stack m)
-    plain_virtual_by (Some (VirtualMethod class token method)) = plain_virtual class token method stack m
-    plain_virtual_by _ = tt
-
-    plain_special_by : (o : Option Target) → FaultsOnly (special_by o p stack m)
-    plain_special_by (Some (StaticMethod class method)) = plain_special class method stack m
-    plain_special_by (Some (SuperMethod class method)) = plain_special (Some class) method stack m
-    plain_special_by _ = tt
-
-    plain_interface_by : (n token : ℕ) (o : Option Target) → FaultsOnly (interface_by o n token p stack m)
-    plain_interface_by n token (Some (Class class)) = plain_interface class n token stack m
-    plain_interface_by n token _ = tt
-
-  plain_static_by : (o : Option Target) → FaultsOnly (static_by o p)
-  plain_static_by (Some (StaticMethod class method)) = plain_static method
-  plain_static_by _ = tt
-
-  pub plain_selection : (i : InvokeOp) (s : Frames) (m : MemoryState) → FaultsOnly (method_selection i p s m)
-  unfolding method_selection
-  plain_selection (Virtual index) s m = plain_virtual_by s.current.stack m (target_at p s.current.origin.package_number index)
-  plain_selection (Special index) s m = plain_special_by s.current.stack m (target_at p s.current.origin.package_number index)
-  plain_selection (Static index) s m = plain_static_by (target_at p s.current.origin.package_number index)
-  plain_selection (Interface n index token) s m = plain_interface_by s.current.stack m n token (target_at p s.current.origin.package_number index)

@@ -8,6 +8,7 @@ pub mod Due
 pub mod Taking
 pub mod Going
 pub mod Reaching
+pub mod Selecting
 pub mod Reached
 pub mod Arguments
 pub mod Applets

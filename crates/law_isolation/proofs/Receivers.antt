@@ -1,5 +1,5 @@
 -- What a call is made on: an object within reach, or nothing.
-use Rattle.std.proofs.Common.{◌≡◌, ◌⊎◌, ℕ, ◌-◌, ◌/◌, ◌<◌, ◌≤◌, Bool, true, false, inl, inr, List, length, take, reverse, get_or, Option, Some, None, Ok}
+use Rattle.std.proofs.Common.{◌≡◌, ◌⊎◌, ℕ, ◌-◌, ◌<◌, ◌≤◌, Bool, true, false, inl, inr, List, length, take, reverse, get_or, Option, Some, None, Ok}
 use Rattle.std.proofs.Common.{refl, sym, ◌∙◌, ap, subst, arith, if◌then◌else◌}
 use Rattle.std.proofs.lemmas.Bool.{eqb-false, leb-true, not-false}
 use Rattle.std.proofs.lemmas.List.{get_or-reverse, get_or-take, length-reverse, length-take-le}
@@ -10,20 +10,15 @@ use Rattle.jc_heap.specs.declared.object.Facts.{Facts}
 use Rattle.jc_heap.specs.Heap.{facts}
 use Rattle.jc_memory.specs.declared.registers.Owner.{Owner}
 use Rattle.jc_memory.specs.State.{MemoryState}
-use Rattle.jc_cap_linkage.specs.declared.pool.VirtualToken.{VirtualToken}
 use Rattle.jc_linker.specs.declared.target.Method.{Method}
 use Rattle.jc_linker.specs.declared.target.Method.TheVariants.{Native}
-use Rattle.jc_linker.specs.declared.target.Target.{Target}
-use Rattle.jc_linker.specs.declared.target.Target.TheVariants.{Class, VirtualMethod, SuperMethod, StaticMethod}
+use Rattle.jc_linker.specs.declared.target.Target.TheVariants.{StaticMethod}
 use Rattle.jc_linker.specs.Classes.{is_shareable}
-use Rattle.jc_linker.specs.Lookups.{target_at}
-use Rattle.jc_linker.specs.Methods.{interface_method_at, method_at}
 use Rattle.jc_linker.specs.Values.{Packages}
 use Rattle.jc_platform.specs.declared.names.MethodKind.TheVariants.{Static}
 use Rattle.jc_platform.specs.declared.names.PlatformMethod.{PlatformMethod}
 use Rattle.jc_platform.specs.Distinct.{kind_of_method}
 use Rattle.jc_opcodes.specs.declared.instr.InvokeOp.{InvokeOp}
-use Rattle.jc_opcodes.specs.declared.instr.InvokeOp.TheVariants as invoke
 use Rattle.jc_firewall.specs.declared.access.Access.{Access}
 use Rattle.jc_firewall.specs.declared.access.Access.TheVariants as access
 use Rattle.jc_firewall.specs.declared.access.Rule.{Rule}
@@ -41,20 +36,14 @@ use Rattle.jc_frames.specs.declared.cell.Cell.{Cell}
 use Rattle.jc_frames.specs.Calls.{arguments_on}
 use Rattle.jc_frames.specs.Cells.{as_reference}
 use Rattle.jc_frames.specs.Frames.{Frames}
-use Rattle.jc_world.specs.Contexts.{firewall_check, firewall_decision, situation_of}
-use Rattle.jc_world.specs.Objects.{check_or_fault, object_at, some_or_fault, reference_argument}
+use Rattle.jc_world.specs.Contexts.{firewall_decision, situation_of}
+use Rattle.jc_world.specs.Objects.{object_at, some_or_fault, reference_argument}
 use Rattle.jc_interp_calls.specs.declared.invoke.MethodCall.{MethodCall}
-use Rattle.jc_interp_calls.specs.Invoke.{arguments_of, call_of, invokeinterface, invokespecial, invokestatic, invokevirtual, method_selection, class_of}
-use Rattle.jc_interp_calls.specs.Invoke.{fits_at_null, interface_access, interface_by, is_native_constructor, is_of, is_of_any, call_decision, receiver_of}
-use Rattle.jc_interp_calls.specs.Invoke.{receiver_on, special_by, static_by, virtual_by}
-use Rattle.jc_interp_calls.specs.Parameters.{fits}
+use Rattle.jc_interp_calls.specs.Invoke.{call_decision, call_of, class_of, is_native_constructor, method_selection, receiver_of, receiver_on}
 use Rattle.law_isolation.proofs.Arguments.{both_ok}
-use Rattle.law_isolation.proofs.Reaching.{err_not_ok, field_allowed, object_is, one_context, own_reach, same_Ok}
+use Rattle.law_isolation.proofs.Reaching.{err_not_ok, object_is, one_context, own_reach, same_Ok}
+use Rattle.law_isolation.proofs.Selecting.{Bare, Found, IsByInterface, IsByToken, Named, Selected, is_there, selected}
 use Rattle.law_isolation.specs.Steps.{NamesStatics}
-
-pub is_there : {A : Type 0} (o : Option A) (a : A) → some_or_fault o ≡ Ok a → o ≡ Some a
-is_there None a e = absurd (err_not_ok e)
-is_there (Some x) a e = ap Some (same_Ok x a e)
 
 -- ---- what the firewall allows without a switch
 
@@ -136,86 +125,29 @@ module _ (p : Packages) (m : MemoryState) (stack : List Cell) (c : MethodCall) (
   judged_on (Switch context) f found n reach there e = absurd (owner_none (ap (λ x. x.switches_to) (same_Ok _ c e) ∙ here))
   judged_on (Deny rule) f found n reach there e = absurd (err_not_ok e)
 
-  virtually_on : (class : ℕ) (token : VirtualToken) (method : Method) → invokevirtual class token method p stack m ≡ Ok c → IsFit p m stack c
-  unfolding invokevirtual
-  virtually_on class token method e =
-      let one = both_ok (some_or_fault (arguments_of p method)) _ c e in
-      let kinds = both_ok (check_or_fault (fits_at_null one.0 method p stack m)) _ c one.2 in
-      let two = both_ok (receiver_of one.0 stack m) _ c kinds.2 in
-      let three = both_ok (check_or_fault (is_of p two.0 class)) _ c two.2 in
-      let four = both_ok (some_or_fault (method_at p (class_of p two.0) (class / 256) token)) _ c three.2 in
-      let five = both_ok (check_or_fault (fits four.0 p m stack)) _ c four.2 in
-      inl (judged_on (firewall_decision access.VirtualCall p m two.0) two.0 four.0 one.0 (virtual_allowed p m two.0) two.1 five.2)
-
-  specially_on : (class : Option ℕ) (method : Method) → invokespecial class method p stack m ≡ Ok c → IsFit p m stack c
-  unfolding invokespecial
-  specially_on class method e =
-      let one = both_ok (some_or_fault (arguments_of p method)) _ c e in
-      let kinds = both_ok (check_or_fault (fits_at_null one.0 method p stack m)) _ c one.2 in
-      let two = both_ok (receiver_of one.0 stack m) _ c kinds.2 in
-      let three = both_ok (check_or_fault (is_of_any p two.0 class)) _ c two.2 in
-      let four = both_ok (check_or_fault (fits method p m stack)) _ c three.2 in
-      let five = both_ok (firewall_check access.InstanceField p m two.0) _ c four.2 in
-      inl (found_on one.0 two.0 two.1 (field_allowed p m two.0 five.1) (ap (λ x. x.arguments) (sym (same_Ok (call_of method one.0 None) c five.2))))
-
   interface_decided : (interface : ℕ) (f : Facts) (b : Bool) → is_shareable p interface ≡ b
       → firewall_decision (if b then access.ShareableInterfaceCall else access.StandardInterfaceCall) p m f ≡ Allow → IsInReach (situation_of p m f)
   interface_decided interface f true is e = shareable_allowed p m f e
   interface_decided interface f false is e = standard_allowed p m f e
 
-  interface_on : (interface n token : ℕ) → invokeinterface interface n token p stack m ≡ Ok c → IsFit p m stack c
-  unfolding invokeinterface
-  interface_on interface n token e =
-      let one = both_ok (receiver_of n stack m) _ c e in
-      let two = both_ok (check_or_fault (is_of p one.0 interface)) _ c one.2 in
-      let three = both_ok (some_or_fault (interface_method_at p (class_of p one.0) interface token)) _ c two.2 in
-      let four = both_ok (check_or_fault (fits three.0 p m stack)) _ c three.2 in
-      inl (judged_on (firewall_decision (interface_access p interface) p m one.0) one.0 three.0 n
-      (interface_decided interface one.0 (is_shareable p interface) refl) one.1 four.2)
+  found_reach : (f : Facts) (method : Method) (a : Access) → IsByToken p (class_of p f) method a ⊎ IsByInterface p (class_of p f) method a
+      → firewall_decision a p m f ≡ Allow → IsInReach (situation_of p m f)
+  found_reach f method a (inl by) e = virtual_allowed p m f (subst (λ x. firewall_decision x p m f ≡ Allow) by.0 e)
+  found_reach f method a (inr by) e = interface_decided by.0 f (is_shareable p by.0) refl (subst (λ x. firewall_decision x p m f ≡ Allow) by.2 e)
 
-  no_constructor : (b : Bool) → (u : Unit {0}) → check_or_fault (not b) ≡ Ok u → b ≡ false
-  no_constructor false u e = refl
-  no_constructor true u e = absurd (err_not_ok e)
-
-  statically_on : (statics : NamesStatics p) (number index : ℕ) (class : Option ℕ) (method : Method)
-      → target_at p number index ≡ Some (StaticMethod class method) → invokestatic method p ≡ Ok c → IsFit p m stack c
-  unfolding invokestatic
-  statically_on statics number index class method target e =
-      let one = both_ok (check_or_fault (not (is_native_constructor method))) _ c e in
-      let two = both_ok (some_or_fault (arguments_of p method)) _ c one.2 in
-      let same : method ≡ c.method = ap (λ x. x.method) (same_Ok (call_of method two.0 None) c two.2) in
-      inr (λ native is. (
-        statics number index class native (target ∙ ap (λ x. Some (StaticMethod class x)) (same ∙ is)),
-        subst (λ x. is_native_constructor x ≡ false) (same ∙ is) (no_constructor (is_native_constructor method) one.0 one.1),
-      ))
-
-  virtual_on : (o : Option Target) → virtual_by o p stack m ≡ Ok c → IsFit p m stack c
-  virtual_on (Some (VirtualMethod class token method)) e = virtually_on class token method e
-  virtual_on _ e = absurd (err_not_ok e)
-
-  special_on : (o : Option Target) → special_by o p stack m ≡ Ok c → IsFit p m stack c
-  special_on (Some (StaticMethod class method)) e = specially_on class method e
-  special_on (Some (SuperMethod class method)) e = specially_on (Some class) method e
-  special_on _ e = absurd (err_not_ok e)
-
-  static_on : (statics : NamesStatics p) (number index : ℕ) (o : Option Target) → target_at p number index ≡ o → static_by o p ≡ Ok c → IsFit p m stack c
-  static_on statics number index (Some (StaticMethod class method)) target e = statically_on statics number index class method target e
-  static_on statics number index _ target e = absurd (err_not_ok e)
-
-  by_interface_on : (o : Option Target) (n token : ℕ) → interface_by o n token p stack m ≡ Ok c → IsFit p m stack c
-  by_interface_on (Some (Class class)) n token e = interface_on class n token e
-  by_interface_on _ n token e = absurd (err_not_ok e)
+  selected_on : (number : ℕ) → NamesStatics p → Selected p number stack m c → IsFit p m stack c
+  selected_on number statics (Found f) = inl (judged_on (firewall_decision f.access p m f.header) f.header f.method f.count
+      (found_reach f.header f.method f.access f.by) f.there f.judged)
+  selected_on number statics (Named n) = inl (found_on n.count n.header n.there n.reach (ap (λ x. x.arguments) (sym n.is)))
+  selected_on number statics (Bare b) = inr (λ native is. let same : b.method ≡ Native native = ap (λ x. x.method) b.is ∙ is in (
+    statics number b.index b.class native (b.target ∙ ap (λ x. Some (StaticMethod b.class x)) same),
+    subst (λ x. is_native_constructor x ≡ false) same b.made,
+  ))
 
 -- what a call that was chosen, and does not switch, is on
 pub chosen_fit : (p : Packages) (statics : NamesStatics p) (m : MemoryState) (s : Frames) (c : MethodCall) → c.switches_to ≡ None → (i : InvokeOp)
     → method_selection i p s m ≡ Ok c → IsFit p m s.current.stack c
-unfolding method_selection
-chosen_fit p statics m s c here (invoke.Virtual index) e = virtual_on p m s.current.stack c here (target_at p s.current.origin.package_number index) e
-chosen_fit p statics m s c here (invoke.Special index) e = special_on p m s.current.stack c here (target_at p s.current.origin.package_number index) e
-chosen_fit p statics m s c here (invoke.Static index) e = static_on p m s.current.stack c here statics s.current.origin.package_number index
-    (target_at p s.current.origin.package_number index) refl e
-chosen_fit p statics m s c here (invoke.Interface n index token) e = by_interface_on p m s.current.stack c here
-    (target_at p s.current.origin.package_number index) n token e
+chosen_fit p statics m s c here i e = selected_on p m s.current.stack c here s.current.origin.package_number statics (selected p i s m c e)
 
 -- ---- the first argument is the receiver
 

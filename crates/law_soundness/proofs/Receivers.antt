@@ -1,8 +1,8 @@
 -- What a call is made on: an instance of the method's class; and an owner that it switches to is known.
-use Rattle.std.proofs.Common.{◌≡◌, ℕ, ◌/◌, ◌≤◌, Bool, true, false, inl, inr, List, Option, Some, None, Ok, refl, sym, ◌∙◌, ap, subst, if◌then◌else◌}
-use Rattle.std.proofs.lemmas.Bool.{both_ways, false≢true, not-true}
+use Rattle.std.proofs.Common.{◌≡◌, ℕ, ◌≤◌, Bool, true, false, inl, inr, List, Option, Some, None, Ok, refl, sym, ◌∙◌, ap, subst, if◌then◌else◌}
+use Rattle.std.proofs.lemmas.Bool.{both_ways, false≢true}
 use Rattle.std.proofs.lemmas.Option.{none-some, same_Some}
-use Rattle.std.specs.Prelude.{not, ◌==◌}
+use Rattle.std.specs.Prelude.{◌==◌}
 use Rattle.jc_heap.specs.declared.object.Facts.{Facts}
 use Rattle.jc_heap.specs.declared.object.Kind.{Kind}
 use Rattle.jc_heap.specs.declared.object.Kind.TheVariants.{Instance}
@@ -11,14 +11,11 @@ use Rattle.jc_memory.specs.declared.registers.Owner.{Owner}
 use Rattle.jc_memory.specs.declared.registers.Owner.TheVariants.{Runtime, Applet, Package}
 use Rattle.jc_memory.specs.Owners.{owner_number, owner_of}
 use Rattle.jc_memory.specs.State.{MemoryState}
-use Rattle.jc_cap_linkage.specs.declared.pool.VirtualToken.{VirtualToken}
 use Rattle.jc_linker.specs.declared.target.Method.{Method}
 use Rattle.jc_linker.specs.declared.target.Method.TheVariants.{Native}
-use Rattle.jc_linker.specs.declared.target.Target.{Target}
-use Rattle.jc_linker.specs.declared.target.Target.TheVariants.{Class, VirtualMethod, SuperMethod, StaticMethod}
+use Rattle.jc_linker.specs.declared.target.Target.TheVariants.{SuperMethod, StaticMethod}
 use Rattle.jc_linker.specs.Classes.{is_below}
 use Rattle.jc_linker.specs.Lookups.{target_at}
-use Rattle.jc_linker.specs.Methods.{interface_method_at, method_at}
 use Rattle.jc_linker.specs.Values.{Packages}
 use Rattle.jc_platform.specs.declared.names.MethodKind.TheVariants.{Static}
 use Rattle.jc_platform.specs.declared.names.PlatformClass.{PlatformClass}
@@ -27,8 +24,6 @@ use Rattle.jc_platform.specs.declared.names.PlatformMethod.{PlatformMethod}
 use Rattle.jc_platform.specs.declared.names.PlatformMethod.TheVariants.{AidInit}
 use Rattle.jc_platform.specs.Distinct.{class_of as class_of_method, class_word, kind_of_method}
 use Rattle.jc_opcodes.specs.declared.instr.InvokeOp.{InvokeOp}
-use Rattle.jc_opcodes.specs.declared.instr.InvokeOp.TheVariants as invoke
-use Rattle.jc_firewall.specs.declared.access.Access.TheVariants as access
 use Rattle.jc_firewall.specs.declared.decide.Decision.{Decision}
 use Rattle.jc_firewall.specs.declared.decide.Decision.TheVariants.{Allow, Switch, Deny}
 use Rattle.jc_firewall.specs.declared.subject.Context.TheVariants.{Jcre}
@@ -37,28 +32,21 @@ use Rattle.jc_firewall.specs.declared.subject.Designation.TheVariants.{Ordinary,
 use Rattle.jc_firewall.specs.Situation.{global_array}
 use Rattle.jc_frames.specs.declared.cell.Cell.{Cell}
 use Rattle.jc_frames.specs.Frames.{Frames}
-use Rattle.jc_world.specs.Contexts.{firewall_check, context_of, firewall_decision, designation_of, own_designation, situation_of, subject_of}
-use Rattle.jc_world.specs.Objects.{check_or_fault, object_at, some_or_fault}
+use Rattle.jc_world.specs.Contexts.{context_of, firewall_decision, designation_of, own_designation, situation_of, subject_of}
+use Rattle.jc_world.specs.Objects.{object_at, some_or_fault}
 use Rattle.jc_world.specs.Objects as world
 use Rattle.jc_card_checks.specs.Objects.{is_a, is_instance}
 use Rattle.jc_interp_calls.specs.declared.invoke.MethodCall.{MethodCall}
-use Rattle.jc_interp_calls.specs.Invoke.{arguments_of, call_of, invokeinterface, invokespecial, invokestatic, invokevirtual, method_selection, class_of}
-use Rattle.jc_interp_calls.specs.Invoke.{fits_at_null, interface_access, interface_by, is_native_constructor, is_of, is_of_any, call_decision, receiver_of}
-use Rattle.jc_interp_calls.specs.Invoke.{receiver_on, special_by, static_by, virtual_by}
-use Rattle.jc_interp_calls.specs.Parameters.{fits}
-use Rattle.law_isolation.proofs.Reaching.{err_not_ok, field_allowed, object_is, same_Ok}
+use Rattle.jc_interp_calls.specs.Invoke.{call_decision, call_of, class_of, is_native_constructor, is_of_any, method_selection, receiver_of, receiver_on}
+use Rattle.law_isolation.proofs.Reaching.{err_not_ok, object_is, same_Ok}
+use Rattle.law_isolation.proofs.Selecting.{Bare, Found, Named, Selected, is_there, selected}
 use Rattle.law_isolation.proofs.Arguments.{both_ok}
-use Rattle.law_isolation.proofs.Receivers.{is_there}
 use Rattle.law_soundness.specs.Classes.{KnowsClasses}
 use Rattle.law_soundness.specs.State.{IsSoundMemory, is_owner_up_to, last_own, most_owner}
 use Rattle.law_soundness.specs.Natives.{minds_receiver}
 use Rattle.law_soundness.specs.Methods.{IsMethodOf, KnowsMethods}
 use Rattle.law_soundness.proofs.Minding.{aid_static, minds_below, minds_no_static}
 use Rattle.law_soundness.proofs.Owners.{known_again, object_owner}
-
-it_holds : (b : Bool) → (u : Unit {0}) → check_or_fault b ≡ Ok u → b ≡ true
-it_holds true u e = refl
-it_holds false u e = absurd (err_not_ok e)
 
 -- ---- the code that runs is a package's
 
@@ -153,80 +141,12 @@ module _ (p : Packages) (m : MemoryState) (known : KnowsClasses p) (methods : Kn
         switches = j.2;
       }
 
-  virtually_fit : (class : ℕ) (token : VirtualToken) (method : Method) → invokevirtual class token method p stack m ≡ Ok c → IsFitCall p m stack c
-  unfolding invokevirtual
-  virtually_fit class token method e =
-      let one = both_ok (some_or_fault (arguments_of p method)) _ c e in
-      let kinds = both_ok (check_or_fault (fits_at_null one.0 method p stack m)) _ c one.2 in
-      let two = both_ok (receiver_of one.0 stack m) _ c kinds.2 in
-      let three = both_ok (check_or_fault (is_of p two.0 class)) _ c two.2 in
-      let four = both_ok (some_or_fault (method_at p (class_of p two.0) (class / 256) token)) _ c three.2 in
-      let five = both_ok (check_or_fault (fits four.0 p m stack)) _ c four.2 in
-      judged_fit (firewall_decision access.VirtualCall p m two.0) two.0 four.0 one.0 two.1
-      (λ native is. methods.virtually (class_of p two.0) (class / 256) token native
-      (is_there (method_at p (class_of p two.0) (class / 256) token) four.0 four.1 ∙ ap Some is)) five.2
-
-  interface_fit : (interface n token : ℕ) → invokeinterface interface n token p stack m ≡ Ok c → IsFitCall p m stack c
-  unfolding invokeinterface
-  interface_fit interface n token e =
-      let one = both_ok (receiver_of n stack m) _ c e in
-      let two = both_ok (check_or_fault (is_of p one.0 interface)) _ c one.2 in
-      let three = both_ok (some_or_fault (interface_method_at p (class_of p one.0) interface token)) _ c two.2 in
-      let four = both_ok (check_or_fault (fits three.0 p m stack)) _ c three.2 in
-      judged_fit (firewall_decision (interface_access p interface) p m one.0) one.0 three.0 n one.1
-      (λ native is. methods.by_interface (class_of p one.0) interface token native (is_there
-      (interface_method_at p (class_of p one.0) interface token) three.0 three.1 ∙ ap Some is)) four.2
-
   -- an object whose fields the code may set is none of the runtime environment's
   not_own : (f : Facts) → is_instance f.kind ≡ true → f.owner ≡ 0 → IsInReach (situation_of p m f) → ⊥
   unfolding situation_of subject_of
   not_own f instance zero (inl environment) = not_jcre m m.registers.active runs environment
   not_own f instance zero (inr (inl same)) = not_jcre m m.registers.active runs (sym same ∙ ap (λ n. context_of m (owner_of n)) zero)
   not_own f instance zero (inr (inr global)) = both_ways (global_array (designation_of p f)) (no_global p f instance (f.owner == 0)) global
-
-  specially_fit : (class : Option ℕ) (by : Method) → ((f : Facts) (method : PlatformMethod) → by ≡ Native method → is_of_any p f class ≡ true
-      → is_a p (class_of p f) (class_of_method method) ≡ true) → invokespecial class by p stack m ≡ Ok c → IsFitCall p m stack c
-  unfolding invokespecial
-  specially_fit class by is e =
-      let one = both_ok (some_or_fault (arguments_of p by)) _ c e in
-      let kinds = both_ok (check_or_fault (fits_at_null one.0 by p stack m)) _ c one.2 in
-      let two = both_ok (receiver_of one.0 stack m) _ c kinds.2 in
-      let three = both_ok (check_or_fault (is_of_any p two.0 class)) _ c two.2 in
-      let four = both_ok (check_or_fault (fits by p m stack)) _ c three.2 in
-      let five = both_ok (firewall_check access.InstanceField p m two.0) _ c four.2 in
-      let same = same_Ok (call_of by one.0 None) c five.2 in
-      record {
-        on = λ method reached minds r on. (
-            let at = found one.0 two.0 two.1 r (ap (λ x. receiver_on x.arguments stack) same ∙ on) in
-            let of = of_class (class_of_method method) (minds_below method minds) two.0.kind two.0.class
-            (is two.0 method (ap (λ x. x.method) same ∙ reached) (it_holds (is_of_any p two.0 class) three.0 three.1)) in
-            record {
-              instance = subst (λ g. is_instance g.kind ≡ true) at of.0;
-              class = subst (λ g. is_a p g.class (class_of_method method) ≡ true) at of.1;
-              owned = λ aid zero. not_own two.0 of.0 (ap (λ g. g.owner) at ∙ zero) (field_allowed p m two.0 five.1);
-            });
-        switches = λ o to. absurd (none-some o (ap (λ x. x.switches_to) same ∙ to));
-      }
-
-  statically_fit : (number index : ℕ) (class : Option ℕ) (method : Method) → target_at p number index ≡ Some (StaticMethod class method)
-      → invokestatic method p ≡ Ok c → IsFitCall p m stack c
-  unfolding invokestatic
-  statically_fit number index class method target e =
-      let one = both_ok (check_or_fault (not (is_native_constructor method))) _ c e in
-      let two = both_ok (some_or_fault (arguments_of p method)) _ c one.2 in
-      let same = same_Ok (call_of method two.0 None) c two.2 in
-      record {
-        on = λ native reached minds r on. (
-            let is = ap (λ x. x.method) same ∙ reached in
-            absurd (minds_no_static native minds (known.receivers.statically number index class native (target ∙ ap (λ x. Some (StaticMethod class x)) is)).1
-            (subst (λ x. is_native_constructor x ≡ false) is (not-true (is_native_constructor method)
-            (it_holds (not (is_native_constructor method)) one.0 one.1)))));
-        switches = λ o to. absurd (none-some o (ap (λ x. x.switches_to) same ∙ to));
-      }
-
-  virtual_fit : (o : Option Target) → virtual_by o p stack m ≡ Ok c → IsFitCall p m stack c
-  virtual_fit (Some (VirtualMethod class token method)) e = virtually_fit class token method e
-  virtual_fit _ e = absurd (err_not_ok e)
 
   -- a static entry names the method's own class
   of_static : (number index : ℕ) (class : Option ℕ) (by : Method) → target_at p number index ≡ Some (StaticMethod class by)
@@ -239,29 +159,44 @@ module _ (p : Packages) (m : MemoryState) (known : KnowsClasses p) (methods : Kn
   of_above number index class by target f method is below = methods.above number index class (class_of p f) method
       (target ∙ ap (λ x. Some (SuperMethod class x)) is) below
 
-  special_fit : (number index : ℕ) (o : Option Target) → target_at p number index ≡ o → special_by o p stack m ≡ Ok c → IsFitCall p m stack c
-  special_fit number index (Some (StaticMethod class method)) target e = specially_fit class method (of_static number index class method target) e
-  special_fit number index (Some (SuperMethod class method)) target e = specially_fit (Some class) method (of_above number index class method target) e
-  special_fit number index _ target e = absurd (err_not_ok e)
-
-  static_fit : (number index : ℕ) (o : Option Target) → target_at p number index ≡ o → static_by o p ≡ Ok c → IsFitCall p m stack c
-  static_fit number index (Some (StaticMethod class method)) target e = statically_fit number index class method target e
-  static_fit number index _ target e = absurd (err_not_ok e)
-
-  by_interface_fit : (o : Option Target) (n token : ℕ) → interface_by o n token p stack m ≡ Ok c → IsFitCall p m stack c
-  by_interface_fit (Some (Class class)) n token e = interface_fit class n token e
-  by_interface_fit _ n token e = absurd (err_not_ok e)
+  selected_fit : (number : ℕ) → Selected p number stack m c → IsFitCall p m stack c
+  selected_fit number (Found f) = judged_fit (firewall_decision f.access p m f.header) f.header f.method f.count f.there found_as f.judged
+    where
+      found_as : (native : PlatformMethod) → f.method ≡ Native native → IsMethodOf p (class_of p f.header) native
+      found_as native is = elim f.by [
+        | inl by ↦ methods.virtually (class_of p f.header) by.1 by.2 native (by.3 ∙ ap Some is)
+        | inr by ↦ methods.by_interface (class_of p f.header) by.0 by.1 native (by.3 ∙ ap Some is)
+      ]
+  selected_fit number (Named n) = record {
+    on = λ method reached minds r on. (
+        let at = found n.count n.header n.there r (ap (λ x. receiver_on x.arguments stack) n.is ∙ on) in
+        let of = of_class (class_of_method method) (minds_below method minds) n.header.kind n.header.class
+        (named_as method (ap (λ x. x.method) n.is ∙ reached)) in
+        record {
+          instance = subst (λ g. is_instance g.kind ≡ true) at of.0;
+          class = subst (λ g. is_a p g.class (class_of_method method) ≡ true) at of.1;
+          owned = λ aid zero. not_own n.header of.0 (ap (λ g. g.owner) at ∙ zero) n.reach;
+        });
+    switches = λ o to. absurd (none-some o (ap (λ x. x.switches_to) n.is ∙ to));
+  }
+    where
+      named_as : (method : PlatformMethod) → n.method ≡ Native method → is_a p (class_of p n.header) (class_of_method method) ≡ true
+      named_as method is = elim n.target [
+        | inl static ↦ of_static number n.index n.class n.method static n.header method is n.of
+        | inr above ↦ of_above number n.index above.0 n.method above.2 n.header method is (subst (λ o. is_of_any p n.header o ≡ true) above.1 n.of)
+      ]
+  selected_fit number (Bare b) = record {
+    on = λ native reached minds r on. (
+        let is = ap (λ x. x.method) b.is ∙ reached in
+        absurd (minds_no_static native minds
+        (known.receivers.statically number b.index b.class native (b.target ∙ ap (λ x. Some (StaticMethod b.class x)) is)).1
+        (subst (λ x. is_native_constructor x ≡ false) is b.made)));
+    switches = λ o to. absurd (none-some o (ap (λ x. x.switches_to) b.is ∙ to));
+  }
 
 -- what a call that was chosen is on
 pub chosen_fit : (p : Packages) (m : MemoryState) (s : Frames) → KnowsClasses p → KnowsMethods p → IsSoundMemory p m
     → ((r : ℕ) → r ≤ last_own m → (facts m.heap.now r).owner ≡ 0) → (m.registers.active ≡ Runtime → ⊥) → (i : InvokeOp) (c : MethodCall)
     → method_selection i p s m ≡ Ok c → IsFitCall p m s.current.stack c
-unfolding method_selection
-chosen_fit p m s known methods sound own runs (invoke.Virtual index) c e = virtual_fit p m known methods sound own runs s.current.stack c
-    (target_at p s.current.origin.package_number index) e
-chosen_fit p m s known methods sound own runs (invoke.Special index) c e = special_fit p m known methods sound own runs s.current.stack c
-    s.current.origin.package_number index (target_at p s.current.origin.package_number index) refl e
-chosen_fit p m s known methods sound own runs (invoke.Static index) c e = static_fit p m known methods sound own runs s.current.stack c
-    s.current.origin.package_number index (target_at p s.current.origin.package_number index) refl e
-chosen_fit p m s known methods sound own runs (invoke.Interface n index token) c e =
-    by_interface_fit p m known methods sound own runs s.current.stack c (target_at p s.current.origin.package_number index) n token e
+chosen_fit p m s known methods sound own runs i c e = selected_fit p m known methods sound own runs s.current.stack c s.current.origin.package_number
+    (selected p i s m c e)

@@ -9,7 +9,8 @@ use Rattle.jc_session.specs.Requests.{Request, Command, Reset, ArmFuse, Reply, R
 use Rattle.jc_session.specs.Power.{PowerState, Up, Off, KeptState, armed, budget_of, durable_state}
 use Rattle.jc_session.specs.Serving.{AnswersCommand, AnswersReset, Serves, SessionRun}
 use Rattle.jc_session.proofs.Refusals.{done_refusals, one_more, powered_refusals}
-use Rattle.law_theorems.specs.Fuse.{ArmNone, ArmsNone, FusesCut, IsCutAt, refusals_of}
+use Rattle.law_theorems.specs.DownRuns.{ArmNone, ArmsNone}
+use Rattle.law_theorems.specs.Fuse.{FusesCut, IsCutAt, refusals_of}
 
 abbrev most : ℕ
 most = 18446744073709551615

@@ -1,42 +1,17 @@
 -- The fuse of a session's store.
-use Rattle.std.specs.Prelude.{ℕ, ◌≡◌, ◌⊎◌, ◌<◌, ◌≤◌, List, [], ◌∷◌, ◌++◌, None}
+use Rattle.std.specs.Prelude.{ℕ, ◌≡◌, ◌⊎◌, ◌<◌, ◌≤◌, List, None}
 use Rattle.jc_words.specs.Count.{saturating_count}
 use Rattle.jc_words.specs.Refusals.{IsWithinFuse, Refusals, with_fuse_at}
-use Rattle.jc_session.specs.Requests.{Request, Command, Reset, ArmFuse, Reply, Down}
+use Rattle.jc_session.specs.Requests.{Request, Reply}
 use Rattle.jc_session.specs.Power.{PowerState, armed, durable_state}
-use Rattle.jc_session.specs.Serving.{Serves, SessionRun}
+use Rattle.jc_session.specs.Serving.{SessionRun}
+use Rattle.law_theorems.specs.DownRuns.{ArmNone, RunWithDown}
 
 -- what is told of the writes that its store refused
 abbrev pub refusals_of : PowerState → Refusals
 refusals_of s = (durable_state s).refusals
 
--- it arms no fuse
-abbrev pub ArmsNone : Request → Type 0
-ArmsNone (Command bytes) = Unit {0}
-ArmsNone Reset = Unit {0}
-ArmsNone (ArmFuse k) = ⊥
-
--- none of these requests does
-abbrev pub ArmNone : List Request → Type 0
-ArmNone [] = Unit {0}
-ArmNone (request ∷ more) = ArmsNone request × ArmNone more
-
--- these requests are served, and one of them is answered down
-pub record RunWithDown (requests : List Request) (replies : List Reply) (s last : PowerState) : Type 0 where
-  pub before : List Request
-  pub request : Request
-  pub after : List Request
-  pub first : List Reply
-  pub rest : List Reply
-  pub mid : PowerState
-  pub next : PowerState
-  pub are : requests ≡ before ++ request ∷ after
-  pub are_told : replies ≡ first ++ Down ∷ rest
-  pub up : SessionRun s before first mid
-  pub one : Serves mid request Down next
-  pub behind : SessionRun next after rest last
-
--- one of them is cut when exactly so many writes have passed, which burns the fuse out; no write is refused before it, and none behind it
+-- one of these requests is cut when exactly so many writes have passed, which burns the fuse out; no write is refused before it, and none behind it
 pub record IsCutAt (count : ℕ) (requests : List Request) (replies : List Reply) (s last : PowerState) : Type 0 where
   pub run : RunWithDown requests replies s last
   pub none : refusals_of run.mid ≡ refusals_of s

@@ -4,6 +4,7 @@ pub mod Images
 pub mod TryChanges
 pub mod TakenBack
 pub mod Isolation
+pub mod DownRuns
 pub mod Fuse
 pub mod Witness
 pub mod References

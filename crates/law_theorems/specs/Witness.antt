@@ -20,7 +20,8 @@ use Rattle.jc_session.specs.Serving.{AnswersCommand, Serves, SessionRun}
 use Rattle.jc_session.specs.Sessions.{SessionEnds}
 use Rattle.law_images.specs.Comes.{ComesTo}
 use Rattle.law_images.specs.Loaded.{AreBytes}
-use Rattle.law_theorems.specs.Fuse.{ArmNone, refusals_of}
+use Rattle.law_theorems.specs.DownRuns.{ArmNone}
+use Rattle.law_theorems.specs.Fuse.{refusals_of}
 use Rattle.law_theorems.specs.References.{RunsFrom}
 
 -- what is kept of a new image
