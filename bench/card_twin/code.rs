@@ -10,6 +10,7 @@ pub enum Native {
     Send,
     MakeTransient,
     Copy,
+    GetShort,
     SetShort,
     ThrowIso,
     Begin,
@@ -163,6 +164,7 @@ pub enum Instr {
     Virtual(u16),
     Special(u16),
     Static(u16),
+    Interface(u8, u16),
     New(u16),
     NewArray(u8),
     Throw,
@@ -212,6 +214,7 @@ pub fn decode(code: &[u8], pc: usize) -> Option<(Instr, usize)> {
         0x8B => (Instr::Virtual(u2_at(code, at)?), at + 2),
         0x8C => (Instr::Special(u2_at(code, at)?), at + 2),
         0x8D => (Instr::Static(u2_at(code, at)?), at + 2),
+        0x8E => (Instr::Interface(u1_at(code, at)?, u2_at(code, at + 1)?), at + 4),
         0x8F => (Instr::New(u2_at(code, at)?), at + 2),
         0x90 => (Instr::NewArray(u1_at(code, at)?), at + 1),
         0x93 => (Instr::Throw, at),
@@ -221,11 +224,19 @@ pub fn decode(code: &[u8], pc: usize) -> Option<(Instr, usize)> {
     })
 }
 
+/// An interface that a class or an interface lists, with the token of the class's virtual method for each of its methods.
+pub struct Listed {
+    pub interface: u16,
+    pub tokens: Vec<u8>,
+}
+
 pub struct Package {
     pub methods: Vec<u8>,
     pub targets: Vec<Target>,
     pub base: u8,
     pub offsets: Vec<u16>,
+    /// What the class lists, and then what each interface does.
+    pub lists: Vec<Vec<Listed>>,
     pub cells: u16,
     pub references: (u16, u16),
     pub install: u16,
@@ -253,15 +264,37 @@ impl Package {
         match class {
             OWN => Some(APPLET),
             ISO_EXCEPTION | TRANSACTION_EXCEPTION => Some(THROWABLE),
-            OBJECT => None,
+            OBJECT | 0x0101..=0x01FF => None,
             _ => Some(OBJECT),
         }
+    }
+
+    /// The interfaces that a class or an interface lists; the platform's list none.
+    fn listed(&self, class: u16) -> &[Listed] {
+        self.lists.get(usize::from(class.wrapping_sub(OWN))).map_or(&[], Vec::as_slice)
+    }
+
+    fn implements(&self, class: u16, interface: u16) -> bool {
+        let extends = |listed: &Listed| listed.interface == interface || self.implements(listed.interface, interface);
+        self.listed(class).iter().any(extends)
     }
 
     pub fn is_below(&self, class: u16, of: u16) -> bool {
         let mut above = Some(class);
         while let Some(here) = above {
             if here == of {
+                return true;
+            }
+            above = self.superclass(here);
+        }
+        false
+    }
+
+    /// The class is below it, or it or one above lists the interface, or lists one that extends it.
+    pub fn is_instance(&self, class: u16, of: u16) -> bool {
+        let mut above = Some(class);
+        while let Some(here) = above {
+            if here == of || self.implements(here, of) {
                 return true;
             }
             above = self.superclass(here);
@@ -282,6 +315,18 @@ impl Package {
         }
         None
     }
+
+    /// The method of a class that carries out an interface's method.
+    pub fn interface_method(&self, class: u16, interface: u16, token: u8) -> Option<Method> {
+        let mut above = Some(class);
+        while let Some(here) = above {
+            if let Some(listed) = self.listed(here).iter().find(|listed| listed.interface == interface) {
+                return self.method_at(class, *listed.tokens.get(usize::from(token))?);
+            }
+            above = self.superclass(here);
+        }
+        None
+    }
 }
 
 /// The platform's methods by their tokens in the example table.
@@ -296,6 +341,7 @@ pub fn native(class: u16, token: u8, is_static: bool) -> Option<Method> {
         (0x4105, 2, true) => Method::Native(Native::Commit, 0),
         (0x4105, 12, true) => Method::Native(Native::MakeTransient, 2),
         (0x4106, 1, true) => Method::Native(Native::Copy, 5),
+        (0x4106, 2, true) => Method::Native(Native::GetShort, 2),
         (0x4106, 4, true) => Method::Native(Native::SetShort, 3),
         (ISO_EXCEPTION, 1, true) => Method::Native(Native::ThrowIso, 1),
         _ => return None,

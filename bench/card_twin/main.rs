@@ -159,7 +159,7 @@ impl Card {
             Instr::Virtual(index) => self.call_virtually(index, pc, frames),
             Instr::Special(index) => match self.target(index)? {
                 Target::Static(method) => {
-                    let receiver = self.receiver(method, frames)?;
+                    let receiver = self.receiver(self.arguments_of(method)?, frames)?;
                     let facts = self.memory.object(receiver)?;
                     self.memory.allow(Access::Field, facts)?;
                     self.call(method, pc, frames)
@@ -170,6 +170,7 @@ impl Card {
                 Target::Static(method) => self.call(method, pc, frames),
                 _ => Err(Break::Fault),
             },
+            Instr::Interface(arguments, index) => self.call_by_interface(arguments, index, pc, frames),
             Instr::New(index) => match self.target(index)? {
                 Target::Class(OWN) => {
                     let object = self.memory.make(1, 0, OWN, self.package.cells)?;
@@ -237,8 +238,8 @@ impl Card {
         }
     }
 
-    fn receiver(&self, method: Method, frames: &Frames) -> Result<u16, Break> {
-        let arguments = usize::from(self.arguments_of(method)?);
+    fn receiver(&self, arguments: u8, frames: &Frames) -> Result<u16, Break> {
+        let arguments = usize::from(arguments);
         if arguments == 0 || frames.len - frames.current.bottom < arguments {
             return Err(Break::Fault);
         }
@@ -252,29 +253,47 @@ impl Card {
         let Target::Virtual(class, token, method) = self.target(index)? else {
             return Err(Break::Fault);
         };
-        let receiver = self.receiver(method, frames)?;
+        let arguments = self.arguments_of(method)?;
+        let receiver = self.receiver(arguments, frames)?;
         let facts = self.memory.object(receiver)?;
-        let own = if facts.kind == Kind::Instance { facts.class } else { OBJECT };
+        let own = class_of(facts);
         if !self.package.is_below(own, class) {
             return Err(Break::Fault);
         }
         let found = self.package.method_at(own, token).ok_or(Break::Fault)?;
         self.memory.allow(Access::Virtual, facts)?;
-        self.call(found, pc, frames)
+        self.call_selected(found, arguments, pc, frames)
+    }
+
+    fn call_by_interface(&mut self, arguments: u8, index: u16, pc: u16, frames: &mut Frames) -> Result<(), Break> {
+        let Target::Class(interface) = self.target(index)? else {
+            return Err(Break::Fault);
+        };
+        let token = u1_at(&self.package.methods, usize::from(pc) + 4).ok_or(Break::Fault)?;
+        let receiver = self.receiver(arguments, frames)?;
+        let facts = self.memory.object(receiver)?;
+        let own = class_of(facts);
+        if !self.package.is_instance(own, interface) {
+            return Err(Break::Fault);
+        }
+        let found = self.package.interface_method(own, interface, token).ok_or(Break::Fault)?;
+        let is_shared = self.package.is_instance(interface, SHAREABLE) && self.package.is_instance(own, SHAREABLE);
+        self.memory.allow(if is_shared { Access::Shared } else { Access::Interface }, facts)?;
+        self.call_selected(found, arguments, pc, frames)
+    }
+
+    /// Calls a method that was selected by the receiver's class, and has to take as many cells as the one named.
+    fn call_selected(&mut self, found: Method, arguments: u8, pc: u16, frames: &mut Frames) -> Result<(), Break> {
+        match found {
+            Method::Code(offset) => self.enter(offset, arguments, pc, frames),
+            Method::Native(_, count) if count != arguments => Err(Break::Fault),
+            native => self.call(native, pc, frames),
+        }
     }
 
     fn call(&mut self, method: Method, pc: u16, frames: &mut Frames) -> Result<(), Break> {
         match method {
-            Method::Code(offset) => {
-                let expected = self.arguments_of(method)?;
-                let header = self.package.header(offset).ok_or(Break::Fault)?;
-                if header.is_abstract || header.arguments != expected {
-                    return Err(Break::Fault);
-                }
-                let Registers { active, previous, .. } = self.memory.registers;
-                let origin = Origin { package: 1, method: offset, owner: active };
-                frames.enter(header, origin, Resume { active, previous, place: pc })
-            }
+            Method::Code(offset) => self.enter(offset, self.arguments_of(method)?, pc, frames),
             Method::Native(native, count) => {
                 let begin = frames.len - usize::from(count).min(frames.len - frames.current.bottom);
                 let mut arguments = [Cell::Short(0); 5];
@@ -285,6 +304,18 @@ impl Card {
                 answer.map_or(Ok(()), |cell| frames.push(cell))
             }
         }
+    }
+
+    /// Begins the frame of a method that has to take so many cells.
+    #[inline(always)]
+    fn enter(&mut self, offset: u16, expected: u8, pc: u16, frames: &mut Frames) -> Result<(), Break> {
+        let header = self.package.header(offset).ok_or(Break::Fault)?;
+        if header.is_abstract || header.arguments != expected {
+            return Err(Break::Fault);
+        }
+        let Registers { active, previous, .. } = self.memory.registers;
+        let origin = Origin { package: 1, method: offset, owner: active };
+        frames.enter(header, origin, Resume { active, previous, place: pc })
     }
 
     fn stretch(&self, array: Cell, start: Cell, count: u16) -> Result<(u16, Facts, u16), Break> {
@@ -330,6 +361,12 @@ impl Card {
                 }
                 self.memory.set_bytes(to, to_facts, to_start, &bytes[..count.into()])?;
                 Ok(Some(Cell::Short((to_start + count) as i16)))
+            }
+            (Native::GetShort, [array, start]) => {
+                let (array, facts, start) = self.stretch(*array, *start, 2)?;
+                let high = self.memory.get(array, facts, start) as u8;
+                let low = self.memory.get(array, facts, start + 1) as u8;
+                Ok(Some(Cell::Short(i16::from_be_bytes([high, low]))))
             }
             (Native::SetShort, [array, start, Cell::Short(value)]) => {
                 let (array, facts, start) = self.stretch(*array, *start, 2)?;
@@ -409,21 +446,53 @@ impl Card {
     }
 }
 
-/// The components of a package that a script loads, and the length that each takes.
+/// The class of an object; arrays are instances of `Object`.
+fn class_of(facts: Facts) -> u16 {
+    if facts.kind == Kind::Instance { facts.class } else { OBJECT }
+}
+
+/// The package whose components a script loads: a class, and before it the interfaces of the package.
 fn linked(components: &[Vec<u8>]) -> Package {
     let info = |tag: usize| &components[tag][3..];
-    let class = info(6);
-    let offsets = class[10..].chunks(2).map(|pair| u16::from_be_bytes([pair[0], pair[1]])).collect();
+    let mut class = info(6);
+    let mut interfaces = Vec::new();
+    while class[0] & 0x80 != 0 {
+        let count = usize::from(class[0] % 16);
+        interfaces.push((info(6).len() - class.len(), &class[1..1 + 2 * count]));
+        class = &class[1 + 2 * count..];
+    }
+    let word = |high: u8, low: u8| {
+        let offset = usize::from(high) * 256 + usize::from(low);
+        match interfaces.iter().position(|(place, _)| *place == offset) {
+            Some(number) => OWN + 1 + number as u16,
+            None if high < 128 => OWN,
+            None => 0x4100 + u16::from(low),
+        }
+    };
+    let (offsets, mut rest) = class[10..].split_at(2 * usize::from(class[7]));
+    let mut lists = vec![Vec::new()];
+    while let [high, low, count, behind @ ..] = rest {
+        let (tokens, behind) = behind.split_at((*count).into());
+        lists[0].push(Listed { interface: word(*high, *low), tokens: tokens.to_vec() });
+        rest = behind;
+    }
+    for (_, superinterfaces) in &interfaces {
+        let mut list = Vec::new();
+        for pair in superinterfaces.chunks(2) {
+            list.push(Listed { interface: word(pair[0], pair[1]), tokens: Vec::new() });
+        }
+        lists.push(list);
+    }
     let mut package = Package {
         methods: info(7).to_vec(),
         targets: Vec::new(),
         base: class[6],
-        offsets,
+        offsets: offsets.chunks(2).map(|pair| u16::from_be_bytes([pair[0], pair[1]])).collect(),
+        lists,
         cells: class[3].into(),
         references: (class[4].into(), class[5].into()),
         install: u16::from_be_bytes([info(3)[8], info(3)[9]]),
     };
-    let word = |high: u8, low: u8| if high < 128 { OWN } else { 0x4100 + u16::from(low) };
     for entry in info(5)[2..].chunks(4) {
         let [kind, high, low, token] = *entry else { break };
         let class = word(high, low);

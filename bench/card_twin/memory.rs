@@ -201,6 +201,9 @@ pub enum Access {
     Field,
     Element,
     Virtual,
+    Interface,
+    /// A call by a shareable interface on an object whose class has such a one.
+    Shared,
     Throw,
 }
 
@@ -211,10 +214,11 @@ pub enum Cell {
     ReturnAddress(u16),
 }
 
-// The words of classes: the package's number times 256 and the class's.
+// The words of classes: the package's number times 256 and the class's. The package's interfaces come behind its class.
 pub const OWN: u16 = 0x0100;
 pub const OBJECT: u16 = 0x4000;
 pub const THROWABLE: u16 = 0x4001;
+pub const SHAREABLE: u16 = 0x4100;
 pub const APPLET: u16 = 0x4102;
 pub const APDU: u16 = 0x4103;
 pub const ISO_EXCEPTION: u16 = 0x410A;
@@ -399,6 +403,8 @@ impl Memory {
             Access::Field => own,
             Access::Element => own || global,
             Access::Virtual => own || entry || global,
+            Access::Interface => own,
+            Access::Shared => true,
             Access::Throw => own || entry,
         };
         let in_time = facts.event != 2 || active == selected;

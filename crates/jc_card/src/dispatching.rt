@@ -2,7 +2,7 @@
 ghost use Rattle.std.specs.Prelude.{◌≡◌, ◌≤◌, false, length, OnOk};
 ghost use Rattle.jc_memory.specs.Programs.{Executes};
 ghost use Rattle.jc_heap.specs.Completions.{after_step};
-ghost use Rattle.jc_card.specs.Answers.{after_exchange};
+ghost use Rattle.jc_card.specs.Answers.{after_exchange, answered};
 ghost use Rattle.jc_card.specs.Commands.{apdu_value};
 ghost use Rattle.jc_card.specs.Dispatching.{create_applet, dispatch, expected_by, is_select, route, status_of_ending, to_named, to_selected};
 
@@ -115,17 +115,18 @@ fn route<S: WordStore>(
 }
 
 impl<S: WordStore> Card<S> {
-    // The response of an applet, or to the command that selects one or the manager.
+    // Writes the response of an applet, or to the command that selects one or the manager.
     #[tactic(auto, unfolding(crate::specs::Dispatching::dispatch), using(jc_memory::proofs::ProgramLemmas::in_two_steps))]
     pub(crate) fn dispatch(
         &mut self,
         bytes: &[u8],
         command: Command<'_>,
-    ) -> Result<Response, StoreDown>
+        response: &mut Response,
+    ) -> Result<(), StoreDown>
         requires up { self.old.memory.heap.down ≡ false }
         requires long { length bytes.now ≤ 261 }
         ensures { Executes (dispatch bytes.now (apdu_value command.entry) self.old) self.old.memory
-            (after_exchange result self.new) }
+            (after_exchange (answered result response.new) self.new) }
     {
         self.memory.start(bytes);
         let expected = expected_by(bytes);
@@ -136,7 +137,8 @@ impl<S: WordStore> Card<S> {
             &mut self.memory,
             &self.linked,
         )?;
-        Ok(Response::new(self.memory.sent(), status_of(ending)))
+        response.set(self.memory.sent(), status_of(ending));
+        Ok(())
     }
 
     /// Command 80 B8 create applet: installs an applet.

@@ -1,5 +1,5 @@
 -- Installing an applet (runtime environment specification, applet installation).
-use Rattle.std.specs.Prelude.{ℕ, ◌+◌, false, pos, List, [], ◌∷◌, length, Option, Some, None}
+use Rattle.std.specs.Prelude.{ℕ, ◌+◌, false, pos, List, [], ◌∷◌, length}
 use Rattle.jc_transient.specs.declared.cell.ClearEvent.TheVariants.{Deselect}
 use Rattle.jc_heap.specs.Moves.{Begin}
 use Rattle.jc_frames.specs.declared.cell.Cell.TheVariants.{Short, Reference}

@@ -5,7 +5,6 @@ use Rattle.jc_transient.specs.declared.cell.ClearEvent.TheVariants.{Deselect}
 use Rattle.jc_frames.specs.declared.cell.Cell.TheVariants.{Reference}
 use Rattle.jc_memory.specs.declared.registers.ApduPhase.TheVariants.{Waiting}
 use Rattle.jc_memory.specs.declared.registers.AppletNumber.{AppletNumber}
-use Rattle.jc_memory.specs.declared.registers.Depth.TheVariants.{Outside}
 use Rattle.jc_memory.specs.declared.registers.Owner.TheVariants.{Applet}
 use Rattle.jc_memory.specs.declared.registers.Registers.{Registers}
 use Rattle.jc_memory.specs.State.{MemoryState, SetRegisters, ClearTransient}

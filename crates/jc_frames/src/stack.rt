@@ -1,12 +1,12 @@
 //! The stack of the frame that runs.
-ghost use Rattle.std.specs.Prelude.{IsTrue, ◌≡◌, ◌+◌, ◌<◌, ◌≤◌, [], ◌∷◌, ◌++◌, drop, length, option_copied, slice_get, OnOk, OnErr, IfOk};
+ghost use Rattle.std.specs.Prelude.{IsTrue, ◌≡◌, ◌+◌, ◌<◌, ◌≤◌, [], ◌∷◌, ◌++◌, ◌-◌, drop, take, length, option_copied, slice_get, OnOk, OnErr, IfOk};
 ghost use Rattle.jc_opcodes.specs.Table.{can_duplicate_below, can_swap};
 ghost use Rattle.jc_frames.specs.Cells.{cell_on, short_on, two_shorts_on, reference_on, storable_on, popped, popped_two};
 ghost use Rattle.jc_frames.specs.Calls.{arguments_on};
 ghost use Rattle.jc_frames.specs.Frames.{in_frame, with_stack, unless_fault, has_room, push, copy_below, exchange_cells};
 
 use crate::cell::Cell;
-use crate::frames::Frames;
+use crate::frames::{Frames, MOST_CELLS};
 use crate::outcome::CodeFault;
 use arrayvec::ArrayVec;
 use jc_transient::Ref;
@@ -97,11 +97,11 @@ impl Frames {
         ensures { result ≡ slice_get self.now.current.stack depth }
     {
         let depth = usize::from(depth);
-        let height = self.cells.len() - self.current.bottom;
-        if depth < height {
-            Some(self.cells[self.cells.len() - 1 - depth])
-        } else {
+        // As `pop` compares them, so that its own look is left out behind this one.
+        if self.cells.len() <= self.current.bottom + depth {
             None
+        } else {
+            Some(self.cells[self.cells.len() - 1 - depth])
         }
     }
 
@@ -123,8 +123,7 @@ impl Frames {
         requires { count ≤ length self.old.current.stack }
         ensures { self.new ≡ with_stack self.old (drop count self.old.current.stack) }
     {
-        let length = self.cells.len();
-        self.cells.truncate(length - usize::from(count));
+        pop_cells(&mut self.cells, count);
     }
 
     /// Whether there is room for one more cell.
@@ -219,5 +218,21 @@ impl Frames {
         ensures { result + length self.now.current.stack ≡ self.now.current.limit }
     {
         self.current.ceiling - self.cells.len()
+    }
+}
+
+// Takes so many cells off the end: few one by one, which is shorter than to blank a range.
+#[inline(always)]
+fn pop_cells(cells: &mut ArrayVec<Cell, MOST_CELLS>, count: u8)
+    requires { count ≤ length cells.old.items }
+    ensures { cells.new.items ≡ take (length cells.old.items - count) cells.old.items }
+{
+    if count > 3 {
+        let length = cells.len();
+        cells.truncate(length - usize::from(count));
+        return;
+    }
+    for _done in 0..count {
+        cells.pop();
     }
 }

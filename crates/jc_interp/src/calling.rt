@@ -127,6 +127,6 @@ pub(crate) fn invoke_instruction<S: WordStore>(
         let chosen = select_static_method(index, frames, linked)?;
         return invoke_selected(chosen, place, frames, memory, linked);
     }
-    let chosen = select_method(invoke, frames, memory, linked)?;
+    let chosen = select_method::<S, S>(invoke, frames, memory, linked)?;
     invoke_selected(chosen, place, frames, memory, linked)
 }

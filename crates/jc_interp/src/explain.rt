@@ -80,7 +80,7 @@ fn fault_of<S: WordStore>(
 ) -> FaultKind
     requires up { memory.now.heap.down ≡ false }
 {
-    let Some((instr, _)) = decode::<true>(code, usize::from(place)) else {
+    let Some((instr, _)) = decode::<FaultKind>(code, usize::from(place)) else {
         return FaultKind::NoInstruction;
     };
     if !is_plain(instr) && frames.origin().package_number == 0 {

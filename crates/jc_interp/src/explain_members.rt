@@ -286,7 +286,7 @@ pub(crate) fn call_fault<S: WordStore>(
 ) -> FaultKind
     requires up { memory.now.heap.down ≡ false }
 {
-    if let Ok(selected) = select_method(call, frames, memory, linked) {
+    if let Ok(selected) = select_method::<FaultKind, S>(call, frames, memory, linked) {
         return entry_fault(&selected, frames);
     }
     match wanted_by(call, frames, linked) {

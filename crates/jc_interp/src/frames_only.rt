@@ -64,11 +64,11 @@ impl From<FrameExit> for FramesExit {
     }
 }
 
-/// Where frames alone do not go on: the place of an instruction, behind which the next one stands.
+/// Where frames alone do not go on: why, and the place of an instruction, behind which the next one stands.
 #[derive(Clone, Copy)]
 pub(crate) struct PausedStep {
-    pub(crate) place: u16,
     pub(crate) why: FramesExit,
+    pub(crate) place: u16,
 }
 
 // Whether code that was lent has the instruction.
@@ -89,7 +89,12 @@ pub(crate) const fn is_plain(instr: Instr) -> bool
 // nothing but frames; else the exit says what it needs.
 #[tactic(auto, unfolding(crate::specs::Stepping::instruction_at))]
 #[inline(always)]
-fn carry_out(instr: Instr, code: &[u8], place: u16, frames: &mut Frames) -> Result<(), FramesExit>
+fn carry_out<C>(
+    instr: Instr,
+    code: &[u8],
+    place: u16,
+    frames: &mut Frames,
+) -> Result<(), FramesExit>
     requires short { length code.now < 2 ^ 16 }
     requires at { place < length code.now }
     requires listed { HasListedOperands instr }
@@ -103,7 +108,7 @@ fn carry_out(instr: Instr, code: &[u8], place: u16, frames: &mut Frames) -> Resu
         Instr::Local(local) => local_instruction(local, frames)?,
         Instr::Stack(stack) => stack_instruction(stack, frames)?,
         Instr::Arithmetic(arithmetic) => arithmetic_instruction(arithmetic, frames)?,
-        Instr::Branch(to) => branch_instruction(to, code, usize::from(place), frames)?,
+        Instr::Branch(to) => branch_instruction::<C>(to, code, usize::from(place), frames)?,
         Instr::Return(how) => return Err(FramesExit::Needs(MemoryInstr::Return(how))),
         Instr::Field(field) => return Err(FramesExit::Needs(MemoryInstr::Field(field))),
         Instr::Array(operation) => return Err(FramesExit::Needs(MemoryInstr::Array(operation))),
@@ -116,7 +121,7 @@ fn carry_out(instr: Instr, code: &[u8], place: u16, frames: &mut Frames) -> Resu
 // Carries out the instruction at the frame's place, if it needs nothing but frames.
 #[tactic(auto, unfolding(crate::specs::Stepping::instruction_step))]
 #[inline(always)]
-fn step_in_frames(code: &[u8], frames: &mut Frames) -> Result<(), PausedStep>
+fn step_in_frames<C>(code: &[u8], frames: &mut Frames) -> Result<(), PausedStep>
     requires short { length code.now < 2 ^ 16 }
     ensures same { (p : Packages) (m : MemoryState) → after_frames_step result p frames.new m
         ≡ instruction_step code.now p frames.old m }
@@ -124,7 +129,7 @@ fn step_in_frames(code: &[u8], frames: &mut Frames) -> Result<(), PausedStep>
     ensures origin { OnOk result (frames.new.current.origin ≡ frames.old.current.origin) }
 {
     let place = frames.place();
-    let Some((instr, next)) = decode::<false>(code, usize::from(place)) else {
+    let Some((instr, next)) = decode::<C>(code, usize::from(place)) else {
         return Err(PausedStep {
             place,
             why: FramesExit::from(CodeFault),
@@ -137,15 +142,16 @@ fn step_in_frames(code: &[u8], frames: &mut Frames) -> Result<(), PausedStep>
         });
     }
     frames.set_place(next as u16);
-    match carry_out(instr, code, place, frames) {
+    match carry_out::<C>(instr, code, place, frames) {
         Ok(()) => Ok(()),
         Err(why) => Err(PausedStep { place, why }),
     }
 }
 
 /// Carries out instructions that need nothing but frames, as many at most: `None` once they are used up, else
-/// how many are left and where something else is to be done.
-pub(crate) fn run_in_frames(
+/// how many are left and where something else is to be done. `C` says whose copy it is: each is called at one place alone, and
+/// stands in line there.
+pub(crate) fn run_in_frames<C>(
     code: &[u8],
     budget: u32,
     frames: &mut Frames,
@@ -158,15 +164,14 @@ pub(crate) fn run_in_frames(
     ensures origin { IsNone result → frames.new.current.origin ≡ frames.old.current.origin }
 {
     for turns in 0..budget {
-        if let Err(pause) = step_in_frames(code, frames) {
+        if let Err(pause) = step_in_frames::<C>(code, frames) {
             return Some((budget - (turns + 1), pause));
         }
     }
     None
 }
 
-// The same, with a note of each instruction before it is carried out. It is one call for each, so that the instructions stand in
-// line in one place alone.
+// The same, with a note of each instruction before it is carried out.
 #[cold]
 #[inline(never)]
 fn run_noted(
@@ -183,7 +188,7 @@ fn run_noted(
 {
     for turns in 0..budget {
         note_step(frames, notes);
-        if let Some((_, pause)) = run_in_frames(code, 1, frames) {
+        if let Some((_, pause)) = run_in_frames::<Notes>(code, 1, frames) {
             return Some((budget - (turns + 1), pause));
         }
     }
@@ -192,7 +197,7 @@ fn run_noted(
 
 /// Carries out instructions that need nothing but frames, as `run_in_frames` does. Each is noted before, where somebody asks for it.
 #[inline(always)]
-pub(crate) fn run_turn(
+pub(crate) fn run_turn<C>(
     code: &[u8],
     budget: u32,
     frames: &mut Frames,
@@ -207,5 +212,5 @@ pub(crate) fn run_turn(
     if notes.keep_steps() {
         return run_noted(code, budget, frames, notes);
     }
-    run_in_frames(code, budget, frames)
+    run_in_frames::<C>(code, budget, frames)
 }

@@ -32,7 +32,7 @@ pub fn run_of<S: WordStore>(
     let mut left = budget;
     let mut number = frames.origin().package_number;
     let mut code = code_of(lent, number, linked);
-    while let Some((rest, pause)) = run_turn(code, left, frames, memory.notes()) {
+    while let Some((rest, pause)) = run_turn::<S>(code, left, frames, memory.notes()) {
         left = rest;
         let PausedStep { place, .. } = pause;
         match finish(pause, frames, memory, linked) {

@@ -1,1 +1,2 @@
 pub mod Handlers
+pub mod Implementing

@@ -2,7 +2,10 @@
 ghost use Rattle.std.specs.Prelude.{◌≡◌, false, true, IfSome, None, option_copied};
 ghost use Rattle.std.specs.Option.{option_map};
 ghost use Rattle.jc_linker.specs.Classes.{is_below};
-ghost use Rattle.jc_world.specs.Objects.{check_or_fault};
+ghost use Rattle.jc_linker.specs.Methods.{interface_method_at};
+ghost use Rattle.jc_world.specs.Answers.{and_then};
+ghost use Rattle.jc_world.specs.Contexts.{firewall_decision};
+ghost use Rattle.jc_world.specs.Objects.{check_or_fault, some_or_fault};
 ghost use Rattle.jc_interp_calls.specs.Invoke.{arguments_of, invokeinterface, invokespecial, invokestatic, invokevirtual, call_of, method_selection};
 ghost use Rattle.jc_interp_calls.specs.Invoke.{static_selection, class_of, fits_at_null, header_of, interface_access, interface_by, is_native_constructor};
 ghost use Rattle.jc_interp_calls.specs.Invoke.{is_null_on, is_of_any, call_decision, receiver_of, receiver_on, special_by, virtual_by, with_header};
@@ -22,7 +25,7 @@ use jc_opcodes::{Header, header_at};
 use jc_platform::names::PlatformClass;
 use jc_transient::{ClassWord, Ref};
 use jc_words::WordStore;
-use jc_world::contexts::{allow, firewall_decision};
+use jc_world::contexts::{allow, firewall_decision, is_own};
 use jc_world::objects::{is_instance, object};
 
 /// A call whose method was found.
@@ -234,7 +237,7 @@ fn call_decision(
 
 // `invokevirtual`: selects the method by the receiver's class.
 #[tactic(auto, unfolding(crate::specs::Invoke::invokevirtual))]
-fn invokevirtual<S: WordStore>(
+fn invokevirtual<C, S: WordStore>(
     class: ClassWord,
     token: VirtualToken,
     method: Method,
@@ -295,7 +298,7 @@ fn invokespecial<S: WordStore>(
     Ok(SelectedCall { call, header })
 }
 
-#[inline(never)]
+#[inline(always)]
 fn is_native_constructor(method: Method) -> bool
     ensures { result ≡ is_native_constructor method }
 {
@@ -328,6 +331,42 @@ fn interface_access(interface: ClassWord, linked: &Linked) -> Access
     }
 }
 
+// What the firewall says of a call of an interface's method. Whether the interface is shareable matters only where the object
+// belongs to another owner.
+#[inline(always)]
+fn interface_decision<S: WordStore>(
+    interface: ClassWord,
+    facts: Facts,
+    memory: &Memory<S>,
+    linked: &Linked,
+) -> Decision
+    requires up { memory.now.heap.down ≡ false }
+    ensures { result ≡ firewall_decision (interface_access linked.now interface) linked.now
+        memory.now facts }
+{
+    if is_own(facts, memory) {
+        return Decision::Allow;
+    }
+    firewall_decision(interface_access(interface, linked), facts, memory, linked)
+}
+
+// The method of a class that implements an interface's. A class that has one is below the interface.
+#[tactic(auto, using(crate::proofs::Implementing::not_implemented))]
+#[inline(always)]
+fn implementation(
+    own: ClassWord,
+    interface: ClassWord,
+    token: u8,
+    linked: &Linked,
+) -> Result<Method, FrameExit>
+    ensures { result ≡ and_then (check_or_fault (is_below linked.now own interface))
+        (λ u. some_or_fault (interface_method_at linked.now own interface token)) }
+{
+    linked
+        .interface_method_at(own, interface, token)
+        .ok_or(FrameExit::End(Outcome::Fault))
+}
+
 // `invokeinterface`: selects the method of the receiver's class that implements an interface's.
 #[tactic(auto, unfolding(crate::specs::Invoke::invokeinterface))]
 fn invokeinterface<S: WordStore>(
@@ -343,13 +382,9 @@ fn invokeinterface<S: WordStore>(
         frames.now.current.stack memory.now) }
 {
     let facts = receiver_of(arguments, frames, memory)?;
-    let own = class_of(facts, linked);
-    check(linked.is_below(own, interface))?;
-    let found = linked
-        .interface_method_at(own, interface, token)
-        .ok_or(FrameExit::End(Outcome::Fault))?;
+    let found = implementation(class_of(facts, linked), interface, token, linked)?;
     check(fits(found, frames, memory, linked))?;
-    let decision = firewall_decision(interface_access(interface, linked), facts, memory, linked);
+    let decision = interface_decision(interface, facts, memory, linked);
     let call = call_decision(decision, facts, found, arguments)?;
     let header = header_of(found, linked);
     Ok(SelectedCall { call, header })
@@ -372,7 +407,7 @@ pub fn select_static_method(
 
 // The virtual method that an entry names.
 #[inline(always)]
-fn virtual_by<S: WordStore>(
+fn virtual_by<C, S: WordStore>(
     entry: Option<&Target>,
     frames: &Frames,
     memory: &Memory<S>,
@@ -389,7 +424,7 @@ fn virtual_by<S: WordStore>(
                 token,
                 method,
             },
-        ) => invokevirtual(*class, *token, *method, frames, memory, linked),
+        ) => invokevirtual::<C, S>(*class, *token, *method, frames, memory, linked),
         _ => Err(FrameExit::End(Outcome::Fault)),
     }
 }
@@ -445,10 +480,10 @@ fn interface_by<S: WordStore>(
 /// A code fault where the entry of the constant pool is another one, where the receiver is no reference
 /// or no instance of the class that the entry names, where its class has no such method, or where an
 /// argument of a method of the platform is of another kind; else a null receiver throws, and then a
-/// refused access does.
+/// refused access does. `C` says whose copy it is: the one of whoever carries calls out stands in line.
 #[tactic(auto, unfolding(crate::specs::Invoke::method_selection))]
 #[inline(always)]
-pub fn select_method<S: WordStore>(
+pub fn select_method<C, S: WordStore>(
     invoke: InvokeOp,
     frames: &Frames,
     memory: &Memory<S>,
@@ -461,7 +496,7 @@ pub fn select_method<S: WordStore>(
     let number = frames.origin().package_number;
     match invoke {
         InvokeOp::Virtual(index) => {
-            virtual_by(linked.target_at(number, index), frames, memory, linked)
+            virtual_by::<C, S>(linked.target_at(number, index), frames, memory, linked)
         }
         InvokeOp::Special(index) => {
             special_by(linked.target_at(number, index), frames, memory, linked)

@@ -171,6 +171,7 @@ impl Linked {
 
     /// The method that a call by token on an instance of a class runs, through a class of the package with this
     /// number. It takes time that grows with the number of classes above.
+    #[inline(always)]
     pub fn method_at(
         &self,
         class: ClassWord,

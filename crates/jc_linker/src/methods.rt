@@ -15,6 +15,7 @@ impl Scope<'_> {
     /// The method that a call by token on an instance of a class runs, through a class of the package with this
     /// number. It takes time that grows with the number of classes above.
     #[tactic(auto, unfolding(crate::specs::Methods::method_at))]
+    #[inline(always)]
     pub(crate) fn method_at(
         &self,
         class: ClassWord,

@@ -2,32 +2,35 @@
 use Rattle.std.specs.Prelude.{List, ◌++◌, map}
 use Rattle.jc_opcodes.specs.Table.{Row, arithmetic, arrays, calls, conditions, fields, in_short, in_wide, jumps, locals, objects, returns, stack}
 
+abbrev pub from_wide : List Row
+from_wide = map in_wide conditions
+
 abbrev pub from_objects : List Row
-from_objects = objects ++ calls
+from_objects = objects ++ from_wide
 
 abbrev pub from_arrays : List Row
 from_arrays = arrays ++ from_objects
 
+abbrev pub from_jumps : List Row
+from_jumps = jumps ++ from_arrays
+
+abbrev pub from_arithmetic : List Row
+from_arithmetic = arithmetic ++ from_jumps
+
 abbrev pub from_fields : List Row
-from_fields = fields ++ from_arrays
+from_fields = fields ++ from_arithmetic
 
 abbrev pub from_returns : List Row
 from_returns = returns ++ from_fields
 
-abbrev pub from_jumps : List Row
-from_jumps = jumps ++ from_returns
-
-abbrev pub from_wide : List Row
-from_wide = map in_wide conditions ++ from_jumps
+abbrev pub from_calls : List Row
+from_calls = calls ++ from_returns
 
 abbrev pub from_branches : List Row
-from_branches = map in_short conditions ++ from_wide
-
-abbrev pub from_arithmetic : List Row
-from_arithmetic = arithmetic ++ from_branches
+from_branches = map in_short conditions ++ from_calls
 
 abbrev pub from_stack : List Row
-from_stack = stack ++ from_arithmetic
+from_stack = stack ++ from_branches
 
 abbrev pub from_locals : List Row
 from_locals = locals ++ from_stack

@@ -175,9 +175,6 @@ jumps =
     (0x75, LookupSwitch) ∷  -- slookupswitch
     []
 
-abbrev pub branches : List Row
-branches = map in_short conditions ++ (map in_wide conditions ++ jumps)
-
 abbrev pub returns : List Row
 returns =
     (0x77, Bare (Return Areturn)) ∷  -- areturn
@@ -255,8 +252,11 @@ calls =
     (0x8E, U1U2U1 (λ arguments index token. Invoke (Interface arguments index token))) ∷  -- invokeinterface
     []
 
+-- the common groups first, as the decoder asks for them
 abbrev pub table : List Row
-table = constants ++ (locals ++ (stack ++ (arithmetic ++ (branches ++ (returns ++ (fields ++ (arrays ++ (objects ++ calls))))))))
+table =
+    constants ++ (locals ++ (stack ++ (map in_short conditions ++ (calls ++ (returns ++ (fields
+    ++ (arithmetic ++ (jumps ++ (arrays ++ (objects ++ map in_wide conditions))))))))))
 
 -- the form that belongs to an opcode, if it has one
 abbrev pub form_in : List Row → ℕ → Option Form

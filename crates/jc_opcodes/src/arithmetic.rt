@@ -4,15 +4,11 @@ ghost use Rattle.std.specs.Option.{option_and_then};
 ghost use Rattle.jc_opcodes.specs.Table.{HasListedOperands, form_in, instruction_with};
 ghost use Rattle.jc_opcodes.specs.Rows.{from_arithmetic};
 
-use crate::branches::decode_branch;
+use crate::branches::decode_jump;
 use crate::instr::{ArithmeticOp, BinaryOp, Instr};
 
 #[inline(always)]
-pub(crate) fn decode_arithmetic<const AGAIN: bool>(
-    opcode: u8,
-    code: &[u8],
-    at: usize,
-) -> Option<(Instr, usize)>
+pub(crate) fn decode_arithmetic<C>(opcode: u8, code: &[u8], at: usize) -> Option<(Instr, usize)>
     requires { at ≤ length code.now }
     ensures value { result ≡ option_and_then (instruction_with code.now at)
         (form_in from_arithmetic opcode) }
@@ -33,7 +29,7 @@ pub(crate) fn decode_arithmetic<const AGAIN: bool>(
         0x55 => ArithmeticOp::Two(BinaryOp::Or), // sor
         0x57 => ArithmeticOp::Two(BinaryOp::Xor), // sxor
         0x5B => ArithmeticOp::S2b, // s2b
-        _ => return decode_branch::<AGAIN>(opcode, code, at),
+        _ => return decode_jump::<C>(opcode, code, at),
     };
     Some((Instr::Arithmetic(operation), at))
 }

@@ -9,11 +9,7 @@ use crate::objects::decode_object;
 use crate::operands::{u1_at, u2_at};
 
 #[inline(always)]
-pub(crate) fn decode_array<const AGAIN: bool>(
-    opcode: u8,
-    code: &[u8],
-    at: usize,
-) -> Option<(Instr, usize)>
+pub(crate) fn decode_array<C>(opcode: u8, code: &[u8], at: usize) -> Option<(Instr, usize)>
     requires { at ≤ length code.now }
     ensures value { result ≡ option_and_then (instruction_with code.now at)
         (form_in from_arrays opcode) }
@@ -33,7 +29,7 @@ pub(crate) fn decode_array<const AGAIN: bool>(
         ),
         0x91 => (ArrayOp::ANewArray(u2_at(code, at)?), at + 2), // anewarray
         0x92 => (ArrayOp::ArrayLength, at), // arraylength
-        _ => return decode_object::<AGAIN>(opcode, code, at),
+        _ => return decode_object::<C>(opcode, code, at),
     };
     Some((Instr::Array(operation), next))
 }

@@ -4,16 +4,13 @@ ghost use Rattle.std.specs.Option.{option_and_then};
 ghost use Rattle.jc_opcodes.specs.Table.{HasListedOperands, Form, form_in, instruction_with};
 ghost use Rattle.jc_opcodes.specs.Rows.{from_branches, from_jumps, from_wide};
 
+use crate::arrays::decode_array;
+use crate::calls::decode_call;
 use crate::instr::{BranchOp, Comparison, Condition, Instr};
 use crate::operands::{s1_at, s2_at, u1_at, u2_at};
-use crate::returns::decode_return;
 
 #[inline(always)]
-pub(crate) fn decode_branch<const AGAIN: bool>(
-    opcode: u8,
-    code: &[u8],
-    at: usize,
-) -> Option<(Instr, usize)>
+pub(crate) fn decode_branch<C>(opcode: u8, code: &[u8], at: usize) -> Option<(Instr, usize)>
     requires { at ≤ length code.now }
     ensures value { result ≡ option_and_then (instruction_with code.now at)
         (form_in from_branches opcode) }
@@ -37,14 +34,14 @@ pub(crate) fn decode_branch<const AGAIN: bool>(
         0x6D => Condition::Shorts(Comparison::GreaterOrEqual), // if_scmpge
         0x6E => Condition::Shorts(Comparison::Greater), // if_scmpgt
         0x6F => Condition::Shorts(Comparison::LessOrEqual), // if_scmple
-        _ => return decode_wide_if::<AGAIN>(opcode, code, at),
+        _ => return decode_call::<C>(opcode, code, at),
     };
     let offset = s1_at(code, at)?;
     Some((Instr::Branch(BranchOp::If(condition, offset)), at + 1))
 }
 
 #[inline(always)]
-fn decode_wide_if<const AGAIN: bool>(opcode: u8, code: &[u8], at: usize) -> Option<(Instr, usize)>
+pub(crate) fn decode_wide_if<C>(opcode: u8, code: &[u8], at: usize) -> Option<(Instr, usize)>
     requires { at ≤ length code.now }
     ensures value { result ≡ option_and_then (instruction_with code.now at)
         (form_in from_wide opcode) }
@@ -68,14 +65,14 @@ fn decode_wide_if<const AGAIN: bool>(opcode: u8, code: &[u8], at: usize) -> Opti
         0xA5 => Condition::Shorts(Comparison::GreaterOrEqual), // if_scmpge_w
         0xA6 => Condition::Shorts(Comparison::Greater), // if_scmpgt_w
         0xA7 => Condition::Shorts(Comparison::LessOrEqual), // if_scmple_w
-        _ => return decode_jump::<AGAIN>(opcode, code, at),
+        _ => return None,
     };
     let offset = s2_at(code, at)?;
     Some((Instr::Branch(BranchOp::If(condition, offset)), at + 2))
 }
 
 #[inline(always)]
-fn decode_jump<const AGAIN: bool>(opcode: u8, code: &[u8], at: usize) -> Option<(Instr, usize)>
+pub(crate) fn decode_jump<C>(opcode: u8, code: &[u8], at: usize) -> Option<(Instr, usize)>
     requires { at ≤ length code.now }
     ensures value { result ≡ option_and_then (instruction_with code.now at)
         (form_in from_jumps opcode) }
@@ -87,15 +84,15 @@ fn decode_jump<const AGAIN: bool>(opcode: u8, code: &[u8], at: usize) -> Option<
         0xA8 => (BranchOp::Goto(s2_at(code, at)?), at + 2), // goto_w
         0x71 => (BranchOp::Jsr(s2_at(code, at)?), at + 2), // jsr
         0x72 => (BranchOp::Ret(u1_at(code, at)?), at + 1), // ret
-        0x73 => return decode_table_switch::<AGAIN>(code, at), // stableswitch
-        0x75 => return decode_lookup_switch::<AGAIN>(code, at), // slookupswitch
-        _ => return decode_return::<AGAIN>(opcode, code, at),
+        0x73 => return decode_table_switch::<C>(code, at), // stableswitch
+        0x75 => return decode_lookup_switch::<C>(code, at), // slookupswitch
+        _ => return decode_array::<C>(opcode, code, at),
     };
     Some((Instr::Branch(branch), next))
 }
 
 #[inline(always)]
-fn decode_table_switch<const AGAIN: bool>(code: &[u8], at: usize) -> Option<(Instr, usize)>
+fn decode_table_switch<C>(code: &[u8], at: usize) -> Option<(Instr, usize)>
     requires { at ≤ length code.now }
     ensures value { result ≡ instruction_with code.now at Form.TableSwitch }
     ensures within { IfSome result (λ p. p.1 ≤ length code.now) }
@@ -121,7 +118,7 @@ fn decode_table_switch<const AGAIN: bool>(code: &[u8], at: usize) -> Option<(Ins
 }
 
 #[inline(always)]
-fn decode_lookup_switch<const AGAIN: bool>(code: &[u8], at: usize) -> Option<(Instr, usize)>
+fn decode_lookup_switch<C>(code: &[u8], at: usize) -> Option<(Instr, usize)>
     requires { at ≤ length code.now }
     ensures value { result ≡ instruction_with code.now at Form.LookupSwitch }
     ensures within { IfSome result (λ p. p.1 ≤ length code.now) }

@@ -8,11 +8,7 @@ use crate::locals::decode_local;
 use crate::operands::{s1_at, s2_at};
 
 #[inline(always)]
-pub(crate) fn decode_constant<const AGAIN: bool>(
-    opcode: u8,
-    code: &[u8],
-    at: usize,
-) -> Option<(Instr, usize)>
+pub(crate) fn decode_constant<C>(opcode: u8, code: &[u8], at: usize) -> Option<(Instr, usize)>
     requires { at ≤ length code.now }
     ensures value { result ≡ option_and_then (instruction_with code.now at) (form_in table opcode) }
     ensures within { IfSome result (λ p. p.1 ≤ length code.now) }
@@ -36,6 +32,6 @@ pub(crate) fn decode_constant<const AGAIN: bool>(
             Instr::Constant(ConstantOp::Number(s2_at(code, at)?)),
             at + 2,
         )),
-        _ => decode_local::<AGAIN>(opcode, code, at),
+        _ => decode_local::<C>(opcode, code, at),
     }
 }

@@ -9,15 +9,15 @@ use crate::operands::u1_at;
 /// The instruction whose opcode stands at `pc`, and the place after its last byte.
 ///
 /// `None` where the opcode or an operand is not listed in the instruction table (opcodes of the int
-/// forms are not), or where the code ends before the instruction does. `AGAIN` says which copy of the decoder it is: the one of
-/// whoever carries instructions out, or the one of whoever explains afterwards. Each has one caller, in which it stands in line.
+/// forms are not), or where the code ends before the instruction does. `C` says whose copy of the decoder it is: a copy that is
+/// called at one place alone stands in line there.
 #[inline(always)]
-pub fn decode<const AGAIN: bool>(code: &[u8], pc: usize) -> Option<(Instr, usize)>
+pub fn decode<C>(code: &[u8], pc: usize) -> Option<(Instr, usize)>
     ensures value { result ≡ decode code.now pc }
     ensures within { IfSome result (λ p. (pc < length code.now) × (p.1 ≤ length code.now)) }
     ensures listed { IfSome result (λ p. HasListedOperands p.0) }
 {
     let opcode = u1_at(code, pc)?;
     let at = pc + 1;
-    decode_constant::<AGAIN>(opcode, code, at)
+    decode_constant::<C>(opcode, code, at)
 }

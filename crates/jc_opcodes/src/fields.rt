@@ -4,18 +4,14 @@ ghost use Rattle.std.specs.Option.{option_and_then};
 ghost use Rattle.jc_opcodes.specs.Table.{HasListedOperands, form_in, instruction_with};
 ghost use Rattle.jc_opcodes.specs.Rows.{from_fields};
 
-use crate::arrays::decode_array;
+use crate::arithmetic::decode_arithmetic;
 use crate::instr::FieldOp::{GetField, GetFieldThis, GetStatic, PutField, PutFieldThis, PutStatic};
 use crate::instr::Instr;
 use crate::instr::ValueType::{Byte, Reference, Short};
 use crate::operands::{u1_at, u2_at};
 
 #[inline(always)]
-pub(crate) fn decode_field<const AGAIN: bool>(
-    opcode: u8,
-    code: &[u8],
-    at: usize,
-) -> Option<(Instr, usize)>
+pub(crate) fn decode_field<C>(opcode: u8, code: &[u8], at: usize) -> Option<(Instr, usize)>
     requires { at ≤ length code.now }
     ensures value { result ≡ option_and_then (instruction_with code.now at)
         (form_in from_fields opcode) }
@@ -47,7 +43,7 @@ pub(crate) fn decode_field<const AGAIN: bool>(
         0xB5 => (PutFieldThis(Reference, u16::from(u1_at(code, at)?)), at + 1), // putfield_a_this
         0xB6 => (PutFieldThis(Byte, u16::from(u1_at(code, at)?)), at + 1), // putfield_b_this
         0xB7 => (PutFieldThis(Short, u16::from(u1_at(code, at)?)), at + 1), // putfield_s_this
-        _ => return decode_array::<AGAIN>(opcode, code, at),
+        _ => return decode_arithmetic::<C>(opcode, code, at),
     };
     Some((Instr::Field(field), next))
 }

@@ -9,11 +9,7 @@ use crate::operands::{s1_at, s2_at, u1_at};
 use crate::stack::decode_stack;
 
 #[inline(always)]
-pub(crate) fn decode_local<const AGAIN: bool>(
-    opcode: u8,
-    code: &[u8],
-    at: usize,
-) -> Option<(Instr, usize)>
+pub(crate) fn decode_local<C>(opcode: u8, code: &[u8], at: usize) -> Option<(Instr, usize)>
     requires { at ≤ length code.now }
     ensures value { result ≡ option_and_then (instruction_with code.now at)
         (form_in from_locals opcode) }
@@ -49,7 +45,7 @@ pub(crate) fn decode_local<const AGAIN: bool>(
             LocalOp::Sinc(u1_at(code, at)?, s2_at(code, at + 1)?),
             at + 3,
         ),
-        _ => return decode_stack::<AGAIN>(opcode, code, at),
+        _ => return decode_stack::<C>(opcode, code, at),
     };
     Some((Instr::Local(local), next))
 }

@@ -5,16 +5,12 @@ ghost use Rattle.jc_opcodes.specs.Table.{HasListedOperands, form_in, instruction
 ghost use Rattle.jc_opcodes.specs.Rows.{from_objects};
 
 use crate::arrays::primitive_array_of;
-use crate::calls::decode_call;
+use crate::branches::decode_wide_if;
 use crate::instr::{Instr, ObjectOp, TestedType};
 use crate::operands::{u1_at, u2_at};
 
 #[inline(always)]
-pub(crate) fn decode_object<const AGAIN: bool>(
-    opcode: u8,
-    code: &[u8],
-    at: usize,
-) -> Option<(Instr, usize)>
+pub(crate) fn decode_object<C>(opcode: u8, code: &[u8], at: usize) -> Option<(Instr, usize)>
     requires { at ≤ length code.now }
     ensures value { result ≡ option_and_then (instruction_with code.now at)
         (form_in from_objects opcode) }
@@ -32,7 +28,7 @@ pub(crate) fn decode_object<const AGAIN: bool>(
             ObjectOp::InstanceOf(tested_type_of(u1_at(code, at)?, u2_at(code, at + 1)?)?),
             at + 3,
         ),
-        _ => return decode_call::<AGAIN>(opcode, code, at),
+        _ => return decode_wide_if::<C>(opcode, code, at),
     };
     Some((Instr::Object(operation), next))
 }

@@ -8,11 +8,7 @@ use crate::fields::decode_field;
 use crate::instr::{Instr, ReturnOp};
 
 #[inline(always)]
-pub(crate) fn decode_return<const AGAIN: bool>(
-    opcode: u8,
-    code: &[u8],
-    at: usize,
-) -> Option<(Instr, usize)>
+pub(crate) fn decode_return<C>(opcode: u8, code: &[u8], at: usize) -> Option<(Instr, usize)>
     requires { at ≤ length code.now }
     ensures value { result ≡ option_and_then (instruction_with code.now at)
         (form_in from_returns opcode) }
@@ -23,6 +19,6 @@ pub(crate) fn decode_return<const AGAIN: bool>(
         0x77 => Some((Instr::Return(ReturnOp::Areturn), at)), // areturn
         0x78 => Some((Instr::Return(ReturnOp::Sreturn), at)), // sreturn
         0x7A => Some((Instr::Return(ReturnOp::Return), at)), // return
-        _ => decode_field::<AGAIN>(opcode, code, at),
+        _ => decode_field::<C>(opcode, code, at),
     }
 }

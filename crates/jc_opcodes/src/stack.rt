@@ -4,16 +4,12 @@ ghost use Rattle.std.specs.Option.{option_map, option_and_then};
 ghost use Rattle.jc_opcodes.specs.Table.{HasListedOperands, duplicate_below, form_in, instruction_with, swap};
 ghost use Rattle.jc_opcodes.specs.Rows.{from_stack};
 
-use crate::arithmetic::decode_arithmetic;
+use crate::branches::decode_branch;
 use crate::instr::{Instr, StackOp};
 use crate::operands::u1_at;
 
 #[inline(always)]
-pub(crate) fn decode_stack<const AGAIN: bool>(
-    opcode: u8,
-    code: &[u8],
-    at: usize,
-) -> Option<(Instr, usize)>
+pub(crate) fn decode_stack<C>(opcode: u8, code: &[u8], at: usize) -> Option<(Instr, usize)>
     requires { at ≤ length code.now }
     ensures value { result ≡ option_and_then (instruction_with code.now at)
         (form_in from_stack opcode) }
@@ -27,7 +23,7 @@ pub(crate) fn decode_stack<const AGAIN: bool>(
         0x3E => (StackOp::Dup2, at), // dup2
         0x3F => (duplicate_below_of(u1_at(code, at)?)?, at + 1), // dup_x
         0x40 => (swap_of(u1_at(code, at)?)?, at + 1), // swap_x
-        _ => return decode_arithmetic::<AGAIN>(opcode, code, at),
+        _ => return decode_branch::<C>(opcode, code, at),
     };
     Some((Instr::Stack(stack), next))
 }

@@ -1,7 +1,6 @@
 -- The methods of a class stand together in the list of all.
-use Rattle.std.proofs.Common.{◌≡◌, ◌≤◌, ◌+◌, ◌-◌, ◌&&◌, ◌||◌, ℕ, Bool, true, false, cond, List, [], ◌∷◌, Some, take, drop, map, get_or, arith, refl, ap, sym, ◌∙◌}
-use Rattle.std.proofs.lemmas.List.{drop-map, take-map}
-use Rattle.std.specs.List.{filter, find, list_any}
+use Rattle.std.proofs.Common.{◌≡◌, ◌≤◌, ◌+◌, ◌-◌, ◌&&◌, ◌||◌, ℕ, Bool, true, false, cond, List, [], ◌∷◌, take, drop, map, get_or, arith, refl, ap, ◌∙◌}
+use Rattle.std.specs.List.{filter, list_any}
 use Rattle.jc_platform.specs.declared.names.PlatformClass.{PlatformClass}
 use Rattle.jc_platform.specs.declared.names.PlatformClass.TheVariants.{Object, Throwable, Exception, RuntimeException, IndexOutOfBoundsException}
 use Rattle.jc_platform.specs.declared.names.PlatformClass.TheVariants.{ArithmeticException, ArrayIndexOutOfBoundsException, ArrayStoreException}
@@ -14,13 +13,7 @@ use Rattle.jc_platform.specs.declared.names.MethodName.{MethodName}
 use Rattle.jc_platform.specs.Seen.{method_value}
 use Rattle.jc_platform.specs.Names.{methods}
 use Rattle.jc_platform.specs.Rows.{methods_of}
-
--- a search for what passes three tests is one for two of them among those that pass the first
-pub find-filter : {X : Type 0} (p q r : X → Bool) (xs : List X) → find (λ x. p x && q x && r x) xs ≡ find (λ x. q x && r x) (filter p xs)
-find-filter p q r [] = refl
-find-filter p q r (x ∷ xs) =
-    elim (p x) as (λ b. cond (b && q x && r x) (Some x) (find (λ y. p y && q y && r y) xs) ≡ find (λ y. q y && r y) (cond b (x ∷ filter p xs) (filter p xs)))
-    [ true ↦ ap (λ f. cond (q x && r x) (Some x) f) (find-filter p q r xs) | false ↦ find-filter p q r xs ]
+use Rattle.jc_platform.proofs.Lists.{shown_between}
 
 pub any-filter : {X : Type 0} (p q r : X → Bool) (xs : List X) → list_any (λ x. p x && q x && r x) xs ≡ list_any (λ x. q x && r x) (filter p xs)
 any-filter p q r [] = refl
@@ -106,7 +99,4 @@ pub are_together : (c : PlatformClass) (n : ℕ) (all : List MethodName) → map
     → map method_value (take (get_or firsts (n + 1) 0 - get_or firsts n 0) (drop (get_or firsts n 0) all)) ≡ methods_of c
 are_together c n all is place =
     rw place
-    (sym (take-map method_value (get_or firsts (class_number c + 1) 0 - get_or firsts (class_number c) 0) (drop (get_or firsts (class_number c) 0) all))
-    ∙ ap (take (get_or firsts (class_number c + 1) 0 - get_or firsts (class_number c) 0)) (sym (drop-map method_value (get_or firsts (class_number c) 0) all)
-    ∙ ap (drop (get_or firsts (class_number c) 0)) is)
-    ∙ stand_together c)
+    (shown_between method_value (get_or firsts (class_number c) 0) (get_or firsts (class_number c + 1) 0) all methods is ∙ stand_together c)

@@ -9,3 +9,4 @@ pub mod Numbers
 pub mod NamesTold
 pub mod OneAnswer
 pub mod Versions
+pub mod PackageClasses

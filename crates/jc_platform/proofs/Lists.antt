@@ -1,11 +1,11 @@
 -- Look-ups in a list that is seen another way, and reads of a list after a write.
 use Rattle.std.proofs.Common.{◌≡◌, ◌<◌, ◌≤◌, ◌+◌, ◌-◌, ◌==◌, ℕ, zero, suc, Bool, true, false, cond, eqb, ltb, ◌||◌, ◌&&◌, List, [], ◌∷◌, Option, Some, None}
 use Rattle.std.proofs.Common.{length, get_or, set, take, drop, arith, subst, refl, ap, sym, ◌∙◌, map, replicate, Decides}
-use Rattle.std.specs.List.{find, list_all, list_any, position, position_or_len}
+use Rattle.std.specs.List.{filter, find, list_all, list_any, position, position_or_len}
 use Rattle.std.specs.Option.{option_map}
 use Rattle.std.proofs.lemmas.Bool.Decides.{Decides-eqb}
 use Rattle.std.proofs.lemmas.Bool.{false≢true, ltb-false, ltb-true}
-use Rattle.std.proofs.lemmas.List.{get_or-set_other, length-drop, take_all}
+use Rattle.std.proofs.lemmas.List.{drop-map, get_or-set_other, length-drop, take-map, take_all}
 use Rattle.std.proofs.lemmas.Grind.{get_or-set_at}
 use Rattle.std.proofs.lemmas.List.Splits.{slice_split_first, slice_split_none}
 use Rattle.std.proofs.lemmas.List.Sums.{fails_before_first}
@@ -27,6 +27,24 @@ list_any-map p f (x ∷ xs) = ap (λ b. p (f x) || b) (list_any-map p f xs)
 pub found_through : {X Y : Type 0} (p : Y → Bool) (f : X → Y) (xs : List X) (ys : List Y) (r : Option X) → map f xs ≡ ys → r ≡ find (λ x. p (f x)) xs
     → option_map f r ≡ find p ys
 found_through p f xs ys r e found = ap (option_map f) found ∙ sym (find-map p f xs) ∙ ap (find p) e
+
+-- three tests are two
+pub and_within : (a b c : Bool) → (a && b && c) ≡ (a && (b && c))
+and_within true b c = refl
+and_within false b c = refl
+
+-- a search for what passes two tests is one for the second among those that pass the first
+pub find-filter : {X : Type 0} (p q both : X → Bool) (xs : List X) → ((x : X) → both x ≡ (p x && q x)) → find both xs ≡ find q (filter p xs)
+find-filter p q both [] is = refl
+find-filter p q both (x ∷ xs) is =
+    ap (λ b. cond b (Some x) (find both xs)) (is x)
+    ∙ (elim (p x) as (λ b. cond (b && q x) (Some x) (find both xs) ≡ find q (cond b (x ∷ filter p xs) (filter p xs)))
+    [ true ↦ ap (λ f. cond (q x) (Some x) f) (find-filter p q both xs is) | false ↦ find-filter p q both xs is ])
+
+-- what stands from one place to another, seen in the list that f shows
+pub shown_between : {X Y : Type 0} (f : X → Y) (from to : ℕ) (xs : List X) (ys : List Y) → map f xs ≡ ys
+    → map f (take (to - from) (drop from xs)) ≡ take (to - from) (drop from ys)
+shown_between f from to xs ys e = sym (take-map f (to - from) (drop from xs)) ∙ ap (take (to - from)) (sym (drop-map f from xs) ∙ ap (drop from) e)
 
 -- whether an element of a list passes, seen in the list that f shows
 pub any_through : {X Y : Type 0} (p : Y → Bool) (f : X → Y) (xs : List X) (ys : List Y) (r : Bool) → map f xs ≡ ys → r ≡ list_any (λ x. p (f x)) xs

@@ -182,6 +182,10 @@ class_row a token name =
     if may_be_class a e t then Some (Class e.class t) else None)
     (find (λ e. bytes_eq e.name name) classes)) (number_of token)
 
+-- the entries of a package's classes
+abbrev pub classes_of : PlatformPackage → List ClassEntry
+classes_of p = filter (λ e. same_package e.home p) classes
+
 -- the entries of a class's methods
 abbrev pub methods_of : PlatformClass → List MethodEntry
 methods_of c = filter (λ e. same_class e.class c) methods

@@ -4,12 +4,12 @@ ghost use Rattle.std.specs.Prelude.{◌≡◌, ◌&&◌, find, map};
 ghost use Rattle.std.specs.Option.{option_map};
 ghost use Rattle.std.specs.Str.{bytes_eq};
 ghost use Rattle.jc_platform.specs.Names.{classes, methods, packages};
-ghost use Rattle.jc_platform.specs.Rows.{method_named, methods_of};
+ghost use Rattle.jc_platform.specs.Rows.{classes_of, method_named, methods_of};
 ghost use Rattle.jc_platform.specs.Seen.{class_value, method_value, package_value};
 
 use crate::names::{
-    CLASSES, ClassName, FIRST_METHODS, METHODS, MethodKind, MethodName, PACKAGES, PackageName,
-    PlatformClass,
+    CLASSES, ClassName, FIRST_CLASSES, FIRST_METHODS, METHODS, MethodKind, MethodName, PACKAGES,
+    PackageName, PlatformClass, PlatformPackage,
 };
 
 /// Every package.
@@ -24,6 +24,14 @@ pub(crate) fn all_classes() -> &'static [ClassName]
     ensures { map class_value result.now ≡ classes }
 {
     &CLASSES
+}
+
+/// The classes of a package.
+pub(crate) fn classes_of(home: PlatformPackage) -> &'static [ClassName]
+    ensures { map class_value result.now ≡ classes_of home }
+{
+    let place = home.index();
+    &all_classes()[FIRST_CLASSES[place]..FIRST_CLASSES[place + 1]]
 }
 
 /// Every method.

@@ -415,6 +415,9 @@ pub(crate) static CLASSES: [ClassName; CLASS_COUNT] = [
     optional_class!(JavacardxApdu ExtendedLength b"ExtendedLength"),
 ];
 
+/// The place of each package's first class, in the order of `PlatformPackage`; behind them how many classes there are.
+pub(crate) static FIRST_CLASSES: [usize; PACKAGE_COUNT + 1] = [0, 12, 31, CLASS_COUNT];
+
 /// The place of each class's first method, in the order of `PlatformClass`; behind them how many methods there are.
 pub(crate) static FIRST_METHODS: [usize; CLASS_COUNT + 1] = [
     0,

@@ -10,7 +10,7 @@ ghost use Rattle.jc_platform.specs.Rows.{is_token};
 ghost use Rattle.jc_platform.specs.Seen.{class_value, method_value};
 ghost use Rattle.jc_platform.specs.Tokens.{method_token, number_in, token_of_class, token_of_method, version_of_package};
 
-use crate::lookup::{all_classes, methods_of};
+use crate::lookup::{classes_of, methods_of};
 use crate::names::{
     ClassName, MethodKind, MethodName, PlatformClass, PlatformMethod, PlatformPackage,
 };
@@ -152,10 +152,9 @@ impl Platform {
             (λ e. same_package e.home home && is_token
             (token_of_class self.now e.class) token) classes }
     {
-        all_classes()
+        classes_of(home)
             .iter()
-            .find(|entry| entry.home.is(home)
-                && is_token(self.table.token_of_class(entry.class), token))
+            .find(|entry| is_token(self.table.token_of_class(entry.class), token))
             .copied()
     }
 

@@ -37,7 +37,7 @@ impl PlatformMethod {
 
     /// It is a constructor.
     #[tactic(auto, unfolding(crate::specs::Signatures::is_constructor))]
-    #[inline(always)]
+    #[inline(never)]
     pub fn is_constructor(self) -> bool
         ensures { result ≡ is_constructor self }
     {

@@ -44,7 +44,7 @@ done_refusals bytes r card next did = refusals_did (exchange bytes card) card.me
 command_grows : (s : PowerState) (bytes : List ℕ) (reply : Reply) (next : PowerState) → AnswersCommand s bytes reply next
     → (durable_state s).refusals.count ≤ (durable_state next).refusals.count
 command_grows (Up card) bytes (Response r) (Up next) h = is_same _ _ (ap (λ (x : Refusals). x.count) (done_refusals bytes r card next h))
-command_grows (Up card) bytes Down (Off b k) h = is_raised k.passed _ _ h.2
+command_grows (Up card) bytes Down (Off b k) h = is_raised k.passed _ _ h.1.2
 command_grows (Off b k) bytes Down (Off d l) h = is_same _ _ (ap (λ (x : KeptState). x.refusals.count) h.0)
 command_grows s bytes reply next h = absurd h
 

@@ -20,7 +20,7 @@ served_whole : (card : CardState) (request : Request) (reply : Reply) (next : Po
     → card.memory.heap.refusals.count < 18446744073709551615 → (durable_state next).refusals.count ≡ card.memory.heap.refusals.count →
     (mid : CardState) × (next ≡ Up mid) × ServesWhole card request reply mid
 served_whole card (Command bytes) (Response r) (Up next) h small same = (next, refl, h)
-served_whole card (Command bytes) Down (Off b k) h small same = absurd (no_rise k.passed card.memory.heap.refusals k.refusals small h.2 same)
+served_whole card (Command bytes) Down (Off b k) h small same = absurd (no_rise k.passed card.memory.heap.refusals k.refusals small h.1.2 same)
 served_whole card Reset Ready (Up next) h small same = (next, refl, h)
 served_whole card Reset Down (Off b k) h small same =
     absurd (no_rise k.passed card.memory.heap.refusals k.refusals small (ap (λ (x : KeptState). x.refusals) h.0) same)
@@ -88,7 +88,7 @@ told_by_reply s (ArmFuse k) reply next h = subst (λ r. IsToldByReply (ArmFuse k
 told_by_reply s request reply next h = absurd h
 
 told_down : (s : PowerState) (request : Request) (next : PowerState) → Serves s request Down next → IsToldOfRefusal request s next
-told_down (Up card) (Command bytes) (Off b k) h = h.2
+told_down (Up card) (Command bytes) (Off b k) h = h.1.2
 told_down (Off b k) (Command bytes) (Off d l) h = λ i. Off (h.1 i) (h.0 i)
 told_down (Up card) Reset (Off b k) h = ap (λ (x : KeptState). x.refusals) h.0
 told_down (Off d l) Reset (Off b k) h = ap (λ (x : KeptState). x.refusals) h.0

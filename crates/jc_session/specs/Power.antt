@@ -19,10 +19,14 @@ pub record KeptState : Type 0 where
   pub refusals : Refusals
   pub size : ℕ
 
--- a card is up, or it is off, with the budget that it has when it is up again
-pub data PowerState : Type 0 where
-  Up : CardState → PowerState
-  Off : ℕ → KeptState → PowerState
+-- a card is up, or it is off, with the budget that it has when it is up again and with what is kept of its store
+pub data PowerOver (V : Type 0) : Type 0 where
+  Up : CardState → PowerOver V
+  Off : ℕ → V → PowerOver V
+
+-- the same where what is left of it is kept
+abbrev pub PowerState : Type 0
+PowerState = PowerOver KeptState
 
 -- what a loss of power leaves of a heap, whose words are laid
 abbrev pub durable_rest : HeapView → KeptState
@@ -34,9 +38,9 @@ durable_state (Up card) = durable_rest card.memory.heap
 durable_state (Off budget k) = k
 
 -- the budget that a card has, or has when it is up again
-abbrev pub budget_of : PowerState → ℕ
+abbrev pub budget_of : {V : Type 0} → PowerOver V → ℕ
 budget_of (Up card) = card.budget
-budget_of (Off budget k) = budget
+budget_of (Off budget kept) = budget
 
 -- so many writes have passed, and one more was refused
 abbrev pub with_refusal : ℕ → KeptState → KeptState

@@ -1,5 +1,5 @@
 -- What a session holds.
-use Rattle.jc_session.specs.Power.{PowerState, Up, Off}
+use Rattle.jc_session.specs.Power.{PowerOver, PowerState, Up, Off}
 use Rattle.jc_session.specs.Requests.{Reply, Ready, Down}
 use Rattle.jc_session.specs.declared.state.SessionState.{SessionState}
 use Rattle.jc_session.specs.declared.state.SessionState.TheVariants.{Card, Store}
@@ -10,6 +10,6 @@ power_of (Card card) = Up card
 power_of (Store kept budget) = Off budget kept
 
 -- what is answered after a power up
-abbrev pub answer_of_power_up : PowerState → Reply
+abbrev pub answer_of_power_up : {V : Type 0} → PowerOver V → Reply
 answer_of_power_up (Up card) = Ready
-answer_of_power_up (Off budget k) = Down
+answer_of_power_up (Off budget kept) = Down

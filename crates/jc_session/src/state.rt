@@ -56,8 +56,9 @@ impl<S: WordStore> PoweredCard<S> {
             × (k.size ≡ self.memory.heap.size) × (k.laid ≡ true)) }
     {
         let PoweredCard { mut card } = self;
-        match card.exchange(command) {
-            Ok(response) => Ok((PoweredCard { card }, response)),
+        let mut response = Response::empty();
+        match card.exchange(command, &mut response) {
+            Ok(()) => Ok((PoweredCard { card }, response)),
             Err(StoreDown) => Err(DownStore::of_store(card.into_store())),
         }
     }

@@ -1,3 +1,4 @@
 pub mod Unasked
 pub mod Free
 pub mod Below
+pub mod Services

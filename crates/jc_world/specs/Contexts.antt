@@ -1,5 +1,5 @@
 -- Contexts: to whom objects belong, for whom code runs, and what the firewall answers.
-use Rattle.std.specs.Prelude.{ℕ, ◌+◌, ◌*◌, ◌-◌, ◌%◌, ◌==◌, ◌&&◌, nat_lt, nat_le, Bool, true, false, not, slice_index, Option, Some, None, Result, Ok, Err}
+use Rattle.std.specs.Prelude.{ℕ, ◌+◌, ◌*◌, ◌-◌, ◌%◌, ◌==◌, ◌&&◌, nat_le, Bool, true, false, not, slice_index, Option, Some, None, Result, Ok, Err}
 use Rattle.std.specs.Prelude.{if◌then◌else◌}
 use Rattle.jc_words.specs.Layout.{most_applets}
 use Rattle.jc_heap.specs.RegistryLayout.{entry_start, entry_package}

@@ -1,7 +1,6 @@
 -- How calls of the platform's methods are defined: what they may do, and what they answer.
 use Rattle.std.specs.Prelude.{Option, Result, Ok, Err}
 use Rattle.jc_heap.specs.declared.refusal.HeapRefusal.{HeapRefusal}
-use Rattle.jc_frames.specs.declared.cell.Cell.{Cell}
 use Rattle.jc_frames.specs.declared.outcome.Exception.{Exception}
 use Rattle.jc_frames.specs.declared.outcome.Outcome.TheVariants.{Fault}
 use Rattle.jc_frames.specs.declared.outcome.FrameExit.{FrameExit}
@@ -11,7 +10,6 @@ use Rattle.jc_memory.specs.State.{MemoryState}
 use Rattle.jc_memory.specs.Programs.{Program, Finish, unless_else}
 use Rattle.jc_heap.specs.Completions.{Completion, Completed, Torn}
 use Rattle.jc_world.specs.declared.native_result.NativeResult.{NativeResult}
-use Rattle.jc_world.specs.declared.native_result.NativeResult.TheVariants.{ReturnVoid, ReturnValue}
 use Rattle.jc_world.specs.declared.step_exit.StepExit.{StepExit}
 use Rattle.jc_world.specs.declared.step_exit.StepExit.TheVariants.{Throw, End, Down}
 use Rattle.jc_world.specs.StepExits.{exception_of}

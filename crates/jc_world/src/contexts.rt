@@ -1,8 +1,10 @@
 //! Contexts: to whom objects belong, for whom code runs, and what the firewall answers.
 ghost use Rattle.std.specs.Prelude.{◌≡◌, false, true};
 ghost use Rattle.jc_firewall.specs.Situation.{is_live_transient};
+ghost use Rattle.jc_firewall.specs.declared.access.Access.{Access};
 ghost use Rattle.jc_firewall.specs.declared.access.Access.TheVariants.{ArrayElement};
-ghost use Rattle.jc_firewall.specs.declared.decide.Decision.TheVariants.{Allow};
+ghost use Rattle.jc_firewall.specs.declared.decide.Decision.TheVariants.{Allow, Switch};
+ghost use Rattle.jc_firewall.specs.declared.subject.Context.TheVariants.{Jcre};
 ghost use Rattle.jc_world.specs.Objects.{is_instance};
 ghost use Rattle.jc_memory.specs.Owners.{owner_of};
 ghost use Rattle.jc_memory.specs.State.{MemoryState};
@@ -171,6 +173,17 @@ const fn is_owner(owner: Owner, word: OwnerWord) -> bool
     }
 }
 
+// It is the runtime environment.
+#[inline(always)]
+const fn is_runtime(owner: Owner) -> bool
+    ensures { result ≡ false → owner ≡ Owner.Runtime → ⊥ }
+{
+    match owner {
+        Owner::Runtime => true,
+        _ => false,
+    }
+}
+
 // Code of the selected applet runs.
 #[inline(always)]
 const fn is_selected(registers: Registers) -> bool
@@ -218,6 +231,19 @@ const fn is_free(access: Access, facts: Facts, registers: Registers) -> bool
 {
     has_time(facts, registers)
         && (is_owner(registers.active, facts.owner()) || is_shared(access, facts))
+}
+
+// It is a virtual call of an applet's code on an object of the runtime environment, which no deselection clears.
+#[inline(always)]
+#[tactic(auto, using(crate::proofs::Services::switched))]
+const fn is_service_call(access: Access, facts: Facts, registers: Registers) -> bool
+    ensures { (p : Packages) (m : MemoryState) → m.registers ≡ registers → result ≡ true
+        → firewall_decision access p m facts ≡ Switch Jcre }
+{
+    let Access::VirtualCall = access else {
+        return false;
+    };
+    !is_runtime(registers.active) && facts.owner().0 == 0 && !has_deselect_event(facts.event)
 }
 
 // What the rules answer to an access to an object with this kind, event, class and owner.
@@ -278,6 +304,17 @@ fn noted<S: WordStore>(
     decision
 }
 
+/// Whether the object belongs to the owner for whom code runs, and may be reached now: no rule refuses any access to it.
+#[inline(always)]
+#[tactic(auto, using(crate::proofs::Free::own_free))]
+pub fn is_own<S: WordStore>(facts: Facts, memory: &Memory<S>) -> bool
+    ensures { (access : Access) (p : Packages) → result ≡ true
+        → firewall_decision access p memory.now facts ≡ Allow }
+{
+    let registers = memory.registers();
+    has_time(facts, registers) && is_owner(registers.active, facts.owner())
+}
+
 /// What the firewall answers to an access of the code that runs to an object with this header.
 #[inline(always)]
 #[tactic(auto, unfolding(crate::specs::Contexts::firewall_decision, crate::specs::Contexts::situation_of, crate::specs::Contexts::subject_of))]
@@ -292,6 +329,9 @@ pub fn firewall_decision<S: WordStore>(
 {
     if is_free(access, facts, memory.registers()) {
         return Decision::Allow;
+    }
+    if is_service_call(access, facts, memory.registers()) {
+        return Decision::Switch(Context::Jcre);
     }
     judgement(
         access,

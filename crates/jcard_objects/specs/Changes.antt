@@ -4,7 +4,6 @@ use Rattle.hex.specs.Hex.{encode_upper}
 use Rattle.jc_words.specs.Layout.{addresses_start, text_length_address, top_address}
 use Rattle.jc_heap.specs.Heap.{facts}
 use Rattle.jc_heap.specs.Object.{is_packed}
-use Rattle.jc_heap.specs.declared.object.Facts.{Facts}
 use Rattle.jc_objects.specs.Cells.{HoldsNoCell, IsCellIn}
 use Rattle.jc_objects.specs.declared.image_objects.ImageObjects.{ImageObjects}
 use Rattle.jcard_objects.specs.ClassTexts.{kind_text}

@@ -2,8 +2,9 @@
 use Rattle.std.proofs.Common.{◌≡◌, ℕ, ◌+◌, List, [], ◌∷◌, ◌++◌, length, refl, sym, ◌∙◌, ap, subst, append_assoc, append-nil}
 use Rattle.jcard_script.specs.Texts.{IsCutOf}
 use Rattle.jc_card.specs.declared.power_up.PowerFault.{PowerFault}
+use Rattle.jc_session.specs.Requests.{Reset}
 use Rattle.jcard_script.specs.ScriptStates.{ScriptState, FailsReset}
-use Rattle.jcard_script.specs.Script.{Bad, Resets, form_of, IsWrittenFor, AreCarriedOut, FailsAtBadLine, FailsAtReset, EndsInsideLine}
+use Rattle.jcard_script.specs.Script.{Bad, Asks, form_of, IsWrittenFor, AreCarriedOut, FailsAtBadLine, FailsAtReset, EndsInsideLine}
 
 -- one more line is carried out
 pub carried_more : (all : List (List ℕ)) (line text more : List ℕ) (s t u : ScriptState) → AreCarriedOut all s t text → IsWrittenFor (form_of line) t u more
@@ -19,7 +20,7 @@ pub bad_more : (n : ℕ) (all : List (List ℕ)) (line text : List ℕ) (s t : S
 bad_more n all line text s t h bad number = (all, line, [], refl, number, bad, h)
 
 -- a reset that found a fault after those that were carried out
-pub reset_more : (fault : PowerFault) (all : List (List ℕ)) (line text : List ℕ) (s t u : ScriptState) → AreCarriedOut all s t text → form_of line ≡ Resets
+pub reset_more : (fault : PowerFault) (all : List (List ℕ)) (line text : List ℕ) (s t u : ScriptState) → AreCarriedOut all s t text → form_of line ≡ Asks Reset
     → FailsReset fault t u
     → FailsAtReset fault (all ++ line ∷ []) s u text
 reset_more fault all line text s t u h reset fails = (all, line, [], refl, reset, (t, h, fails))

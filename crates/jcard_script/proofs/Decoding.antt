@@ -8,7 +8,8 @@ use Rattle.std.proofs.lemmas.Bool.{eqb-false}
 use Rattle.hex.specs.Hex.{decode_of, decode_pairs, is_hex_digit, pair_value, IsBytes, ◌>>=◌}
 use Rattle.hex.specs.declared.error.FromHexError.{FromHexError}
 use Rattle.hex.proofs.HexLemmas.{decode_of-ok, decode_of-even, decode_of-digits, decode_of-same}
-use Rattle.jcard_script.specs.Script.{Command, Skipped, Bad, plain_form_of, form_of_decoded, without_spaces}
+use Rattle.jc_session.specs.Requests.{Command}
+use Rattle.jcard_script.specs.Script.{Asks, Skipped, Bad, plain_form_of, form_of_decoded, without_spaces}
 use Rattle.jcard_script.specs.Line.{IsPlain}
 
 step : (p : Result ℕ FromHexError) (r s : Result (List ℕ) FromHexError) (n : ℕ) (bytes : List ℕ)
@@ -53,7 +54,7 @@ bad_digits line plain h =
 pub good_digits : (line digits command : List ℕ) → IsPlain line → list_all is_hex_digit (without_spaces line) ≡ true
     → (length (without_spaces line) % 2 == 1) ≡ false
     → digits ≡ take 524 (without_spaces line) → decode_of digits ≡ Ok command
-    → (bytes : List ℕ) × (plain_form_of line ≡ Command bytes) × (command ≡ take 262 bytes)
+    → (bytes : List ℕ) × (plain_form_of line ≡ Asks (Command bytes)) × (command ≡ take 262 bytes)
 good_digits line digits command plain all even kept e =
     let s = without_spaces line in
     let ne = eqb-false (length s % 2) 1 even in
@@ -83,12 +84,12 @@ some_digits line digits all even kept =
 
 -- ---- a command's bytes are bytes
 
-decoded_command : (t : Bool) (r : Result (List ℕ) FromHexError) (bytes : List ℕ) → (if t then Skipped else form_of_decoded r) ≡ Command bytes → r ≡ Ok bytes
+decoded_command : (t : Bool) (r : Result (List ℕ) FromHexError) (bytes : List ℕ) → (if t then Skipped else form_of_decoded r) ≡ Asks (Command bytes) → r ≡ Ok bytes
 decoded_command true r bytes h = cc h
 decoded_command false (Ok b) bytes h = cc h
 decoded_command false (Err e) bytes h = cc h
 
-pub command_bytes : (line bytes : List ℕ) → plain_form_of line ≡ Command bytes → IsBytes bytes
+pub command_bytes : (line bytes : List ℕ) → plain_form_of line ≡ Asks (Command bytes) → IsBytes bytes
 command_bytes [] bytes h = cc h
 command_bytes (x ∷ line) bytes h =
     let s = without_spaces (x ∷ line) in

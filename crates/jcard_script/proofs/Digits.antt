@@ -9,7 +9,8 @@ use Rattle.std.proofs.lemmas.List.Sums.{list_all-from_AllPass}
 use Rattle.std.proofs.lemmas.List.{take_all}
 use Rattle.hex.specs.Hex.{decode_of, is_hex_digit}
 use Rattle.hex.proofs.HexLemmas.{decode_of-ok}
-use Rattle.jcard_script.specs.Script.{Command, form_of, plain_form_of, form_of_decoded, without_spaces}
+use Rattle.jc_session.specs.Requests.{Command}
+use Rattle.jcard_script.specs.Script.{Asks, form_of, plain_form_of, form_of_decoded, without_spaces}
 use Rattle.jcard_script.specs.Line.{IsPlain}
 use Rattle.jcard_script.proofs.Decoding.{form_plain}
 
@@ -59,11 +60,11 @@ no_word (c ∷ line) h some =
 
 -- such a line is the command that it spells
 pub spelt : (line bytes : List ℕ) → decode_of line ≡ Ok bytes → 0 < length line → length line ≤ 524
-    → (form_of (strip_carriage_return line) ≡ Command bytes) × (bytes ≡ take 262 bytes)
+    → (form_of (strip_carriage_return line) ≡ Asks (Command bytes)) × (bytes ≡ take 262 bytes)
 spelt line bytes h some few =
     let ok = decode_of-ok line bytes h in
     let all = list_all-from_AllPass is_hex_digit line ok.1 in
-    let form : form_of line ≡ Command bytes = no_word line all some ∙ form_plain line (plain_digits line all some)
+    let form : form_of line ≡ Asks (Command bytes) = no_word line all some ∙ form_plain line (plain_digits line all some)
     ∙ ap (λ l. form_of_decoded (decode_of l)) (spaceless line all) ∙ ap form_of_decoded h in
     (ap form_of (no_return line all) ∙ form, sym (take_all 262 bytes (omega (arith, ok.2, few))))
 

@@ -4,7 +4,10 @@ use Rattle.jc_words.specs.Stores.{FuseStoreValue}
 use Rattle.jc_card.specs.CardState.{CardState}
 use Rattle.jc_card.specs.PoweringUp.{IsPoweredOver, PowerUpFails}
 use Rattle.jc_card.specs.declared.power_up.PowerFault.{PowerFault as Fault}
-use Rattle.jcard_script.specs.ScriptStates.{Down, FailsOver, FailsUp, IsSessionStore, PowersUp, ScriptState, Up, with_power}
+use Rattle.jc_session.specs.SessionStates.{answer_of_power_up}
+use Rattle.jc_session.specs.Power.{Up, Off}
+use Rattle.jc_session.specs.Serving.{AnswersResetOver}
+use Rattle.jcard_script.specs.ScriptStates.{FailsOver, FailsUp, IsReset, IsSessionStore, PowersUp, ScriptState, fuse_kind, with_power}
 
 module _ (before mid : FuseStoreValue) (is : mid ≡ with_power before) where
   -- a card
@@ -18,8 +21,13 @@ module _ (before mid : FuseStoreValue) (is : mid ≡ with_power before) where
       subst (λ (m : FuseStoreValue). PowerUpFails (λ (f : FuseStoreValue). f.words) (λ f. f.down) (λ f. f.passed) (λ f. f.refusals) m fault after) is fails
 
 -- a session that a power up left down, and its store
-pub failed_store : (budget : ℕ) (s : ScriptState) (before after store : FuseStoreValue) (fault : Fault) → FailsUp before fault after → s ≡ Down budget after
+pub failed_store : (budget : ℕ) (s : ScriptState) (before after store : FuseStoreValue) (fault : Fault) → FailsUp before fault after → s ≡ Off budget after
     → IsSessionStore s store → FailsUp before fault store
 failed_store budget s before after store fault h down holds =
     let same : store ≡ after = subst (λ (t : ScriptState). IsSessionStore t store) down holds in
     subst (FailsUp before fault) (sym same) h
+
+-- a reset is answered by whether the card is up
+pub reset_answered : (s t : ScriptState) → IsReset s t → AnswersResetOver fuse_kind s (answer_of_power_up t) t
+reset_answered s (Up card) h = h
+reset_answered s (Off budget store) h = h

@@ -7,15 +7,16 @@ use Rattle.std.proofs.lemmas.List.{take_all}
 use Rattle.std.proofs.lemmas.Grind.{common_steps}
 use Rattle.hex.specs.Hex.{IsBytes}
 use Rattle.jc_card.specs.Apdu.{apdu_of, data_of}
-use Rattle.jc_memory.specs.Programs.{Executes}
-use Rattle.jc_memory.specs.State.{MemoryState}
-use Rattle.jc_heap.specs.Completions.{Completion}
+use Rattle.jc_memory.specs.Programs.{Completes, TearLeaves}
 use Rattle.jc_card.specs.CardState.{CardState}
-use Rattle.jc_card.specs.Loads.{LoadResponse}
 use Rattle.jc_card.specs.Answers.{exchange, exchange_of_apdu}
+use Rattle.jc_card.specs.Dispatching.{with_response}
+use Rattle.jc_session.specs.Power.{Up, Off}
+use Rattle.jc_session.specs.Requests.{Command, Reply, Response, Down}
+use Rattle.jc_session.specs.Serving.{AnswersCommandOver}
 use Rattle.jcard_script.specs.Line.{IsCommandOf}
 use Rattle.jcard_script.specs.Script.{IsAnswered, IsWrittenFor, form_of}
-use Rattle.jcard_script.specs.ScriptStates.{ScriptState, Up, Down, Exchanges}
+use Rattle.jcard_script.specs.ScriptStates.{ScriptState, IsStoreLeft, fuse_kind}
 use Rattle.jcard_script.proofs.Decoding.{command_bytes}
 use Rattle.jcard_script.proofs.Words.{form_command}
 
@@ -57,20 +58,21 @@ exchanging_whole whole given card bytes e =
     first_four : (whole : List ℕ) → slice_index (take 262 whole) 4 ≡ slice_index whole 4
     first_four whole = grind (arith, common_steps)
 
--- so the first 262 bytes may be carried out as the whole command
-pub exchanges_whole : (whole given : List ℕ) (card : CardState) (after : Completion MemoryState LoadResponse) → IsBytes whole → given ≡ take 262 whole
-    → Exchanges given card after → Exchanges whole card after
-exchanges_whole whole given card after bytes e h = subst (λ d. Executes d card.memory after) (exchanging_whole whole given card bytes e) h
-
--- the same of what a session writes
-pub answered_whole : (s t : ScriptState) (whole given text : List ℕ) → IsBytes whole → given ≡ take 262 whole → IsAnswered given s t text
-    → IsAnswered whole s t text
-answered_whole (Up card) t whole given text bytes same a = (a.0, exchanges_whole whole given card a.0 bytes same a.1, a.2)
-answered_whole (Down budget store) t whole given text bytes same a = a
+-- so the first 262 bytes are answered as the whole command
+pub answered_whole : (s t : ScriptState) (whole given : List ℕ) (reply : Reply) → IsBytes whole → given ≡ take 262 whole
+    → AnswersCommandOver fuse_kind s given reply t → AnswersCommandOver fuse_kind s whole reply t
+answered_whole (Up card) (Up next) whole given (Response r) bytes same h =
+    subst (λ d. Completes d card.memory (with_response next r) next.memory) (exchanging_whole whole given card bytes same) h
+answered_whole (Up card) (Off b store) whole given Down bytes same h =
+    (h.0, subst (λ d. IsStoreLeft (TearLeaves d card.memory) card.memory.heap store) (exchanging_whole whole given card bytes same) h.1)
+answered_whole (Off b store) (Off d next) whole given Down bytes same h = h
+answered_whole (Off b store) (Up next) whole given Down bytes same none = absurd none
+answered_whole s t whole given reply bytes same none = absurd none
 
 -- what is answered to a command is written for the line that is the command
-pub answered_line : (s t : ScriptState) (line given text : List ℕ) → IsCommandOf given (form_of line) → IsAnswered given s t text
+pub answered_line : (s t : ScriptState) (line given text : List ℕ) → IsCommandOf given (form_of line) → IsAnswered (Command given) s t text
     → IsWrittenFor (form_of line) s t text
 answered_line s t line given text k a =
-    let whole = answered_whole s t k.0 given text (command_bytes line k.0 (form_command line k.0 k.1)) k.2 a in
+    let whole : IsAnswered (Command k.0) s t text =
+    (a.0, answered_whole s t k.0 given a.0 (command_bytes line k.0 (form_command line k.0 k.1)) k.2 a.1, a.2) in
     rw k.1 whole

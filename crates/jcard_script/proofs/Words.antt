@@ -9,7 +9,8 @@ use Rattle.std.specs.List.{starts_with}
 use Rattle.std.proofs.lemmas.Bool.Decides.{nat_tests}
 use Rattle.std.proofs.lemmas.Grind.{common_steps}
 use Rattle.std.proofs.lemmas.Int.Digits.{digits_value_push}
-use Rattle.jcard_script.specs.Script.{Form, Command, Resets, ArmsFuse, Bad, form_of, plain_form_of, is_number}
+use Rattle.jc_session.specs.Requests.{Command, Reset, ArmFuse}
+use Rattle.jcard_script.specs.Script.{Form, Asks, Bad, form_of, plain_form_of, is_number}
 use Rattle.jcard_script.specs.Word.{number_so_far, next_number}
 
 -- ---- the number
@@ -60,13 +61,13 @@ drop_long line b h = grind (arith, common_steps)
 
 -- ---- a command is no word
 
-plain_left : (a b n : Bool) (k : ℕ) (f : Form) (bytes : List ℕ) → (if a then Resets else (if b then (if n then ArmsFuse k else Bad) else f)) ≡ Command bytes
-    → f ≡ Command bytes
+plain_left : (a b n : Bool) (k : ℕ) (f : Form) (bytes : List ℕ) → (if a then Asks Reset else (if b then (if n then Asks (ArmFuse k) else Bad) else f)) ≡ Asks (Command bytes)
+    → f ≡ Asks (Command bytes)
 plain_left true b n k f bytes h = cc h
 plain_left false true true k f bytes h = cc h
 plain_left false true false k f bytes h = cc h
 plain_left false false n k f bytes h = h
 
-pub form_command : (line bytes : List ℕ) → form_of line ≡ Command bytes → plain_form_of line ≡ Command bytes
+pub form_command : (line bytes : List ℕ) → form_of line ≡ Asks (Command bytes) → plain_form_of line ≡ Asks (Command bytes)
 form_command line bytes h = plain_left (bytes_eq line (codes "reset")) (starts_with nat_eq line (codes "stop ")) (is_number (drop 5 line))
     (digits_value 10 (drop 5 line)) (plain_form_of line) bytes h

@@ -2,7 +2,8 @@
 use Rattle.std.specs.Prelude.{ℕ, ◌≡◌, ◌==◌, ◌-◌, ◌%◌, Bool, true, false, List, [], ◌∷◌, length, take, slice_index}
 use Rattle.std.specs.List.{list_all}
 use Rattle.hex.specs.Hex.{is_hex_digit}
-use Rattle.jcard_script.specs.Script.{Form, Skipped, Command, Resets, ArmsFuse, Bad, form_of, plain_form_of, without_spaces}
+use Rattle.jc_session.specs.Requests.{Command, Reset as Resets, ArmFuse as ArmsFuse}
+use Rattle.jcard_script.specs.Script.{Form, Skipped, Asks, Bad, form_of, plain_form_of, without_spaces}
 use Rattle.jcard_script.specs.declared.line.Kind.{Kind}
 use Rattle.jcard_script.specs.declared.line.Kind.TheVariants.{Empty, Comment, Digits, Nonsense}
 use Rattle.jcard_script.specs.declared.line.LineRequest.{LineRequest}
@@ -31,14 +32,14 @@ ends_in_return line = slice_index line (length line - 1) == 13
 
 -- the form is a command, of which these are the first 262 bytes, more than any command has
 abbrev pub IsCommandOf : List ℕ → Form → Type 0
-IsCommandOf told form = (bytes : List ℕ) × (form ≡ Command bytes) × (told ≡ take 262 bytes)
+IsCommandOf told form = (bytes : List ℕ) × (form ≡ Asks (Command bytes)) × (told ≡ take 262 bytes)
 
 -- what is asked for is a form
 abbrev pub IsAsked : LineRequest → Form → Type 0
 IsAsked Nothing form = form ≡ Skipped
 IsAsked (Exchange command) form = IsCommandOf command.items form
-IsAsked Reset form = form ≡ Resets
-IsAsked (ArmFuse k) form = form ≡ ArmsFuse k
+IsAsked Reset form = form ≡ Asks Resets
+IsAsked (ArmFuse k) form = form ≡ Asks (ArmsFuse k)
 IsAsked Refused form = form ≡ Bad
 
 -- what a line asks for

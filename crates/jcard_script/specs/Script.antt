@@ -9,12 +9,11 @@ use Rattle.std.specs.Str.Lines.{lines, strip_carriage_return}
 use Rattle.hex.specs.Hex.{decode_of, encode_upper}
 use Rattle.hex.specs.declared.error.FromHexError.{FromHexError}
 use Rattle.jc_words.specs.Stores.{FuseStoreValue}
-use Rattle.jc_memory.specs.State.{MemoryState}
-use Rattle.jc_heap.specs.Completions.{Completion, Completed, Torn}
 use Rattle.jc_card.specs.Dispatching.{usual_budget}
-use Rattle.jc_card.specs.Loads.{LoadResponse}
 use Rattle.jc_card.specs.declared.power_up.PowerFault.{PowerFault as Fault}
-use Rattle.jcard_script.specs.ScriptStates.{ScriptState, Up, Down, Exchanges, IsSessionStore, IsStoreOf, PowersUp, FailsUp, IsReset, FailsReset, with_fuse}
+use Rattle.jc_session.specs.Requests.{Request, Command, Reset, ArmFuse, Reply, Response, Ready, Down, Armed}
+use Rattle.jc_session.specs.Serving.{ServesOver}
+use Rattle.jcard_script.specs.ScriptStates.{ScriptState, IsSessionStore, PowersUp, FailsUp, FailsReset, fuse_kind}
 use Rattle.jcard_script.specs.Texts.{IsCutOf}
 use Rattle.jcard_script.specs.declared.script.ScriptFault.{ScriptFault}
 use Rattle.jcard_script.specs.declared.script.ScriptFault.TheVariants.{ReadFailed, WriteFailed, BadLine, TooLong, PowerFault}
@@ -45,12 +44,10 @@ lines_so_far at_end script = if at_end then lines script else ended_lines (take 
 
 -- ---- what a line asks for
 
--- what a line asks for: nothing, a command of these bytes, a reset, arming the fuse with a number, or it has no form
+-- what a line asks for: nothing, a request, or it has no form
 pub data Form : Type 0 where
   Skipped : Form
-  Command : List ℕ → Form
-  Resets : Form
-  ArmsFuse : ℕ → Form
+  Asks : Request → Form
   Bad : Form
 
 -- a line without its spaces
@@ -59,7 +56,7 @@ without_spaces line = filter (λ c. not (c == 32)) line
 
 -- what hexadecimal text asks for
 abbrev pub form_of_decoded : Result (List ℕ) FromHexError → Form
-form_of_decoded (Ok bytes) = Command bytes
+form_of_decoded (Ok bytes) = Asks (Command bytes)
 form_of_decoded (Err e) = Bad
 
 -- what a line asks for that is no word: nothing if it is empty or begins with '#', else the command that its digits spell
@@ -73,11 +70,11 @@ is_number digits = nat_lt 0 (length digits) && (all_ascii_digits digits && nat_l
 
 -- Script line stop K: K, in decimal digits
 abbrev pub fuse_form_of : List ℕ → Form
-fuse_form_of digits = if is_number digits then ArmsFuse (digits_value 10 digits) else Bad
+fuse_form_of digits = if is_number digits then Asks (ArmFuse (digits_value 10 digits)) else Bad
 
 -- what a line asks for: "reset" and "stop " with a number are words, any other line is plain
 abbrev pub form_of : List ℕ → Form
-form_of line = if bytes_eq line (codes "reset") then Resets else (if starts_with nat_eq line (codes "stop ") then fuse_form_of
+form_of line = if bytes_eq line (codes "reset") then Asks Reset else (if starts_with nat_eq line (codes "stop ") then fuse_form_of
     (drop 5 line) else plain_form_of line)
 
 -- ---- what is written
@@ -96,29 +93,21 @@ down_text = codes "down\n"
 abbrev pub armed_text : ℕ → List ℕ
 armed_text k = codes "armed " ++ decimal k ++ codes "\n"
 
--- what is told after a power up
-abbrev pub power_text : ScriptState → List ℕ
-power_text (Up card) = ready_text
-power_text (Down budget store) = down_text
+-- the line of a reply
+abbrev pub text_of_reply : Reply → List ℕ
+text_of_reply (Response response) = text_of response
+text_of_reply Ready = ready_text
+text_of_reply Down = down_text
+text_of_reply (Armed k) = armed_text k
 
--- what is written for a command that ended so, with this budget, and how the session stands after it: the text of the response; or, where the
--- store refused a write, that the card is down
-abbrev pub IsToldOf : ℕ → Completion MemoryState LoadResponse → ScriptState → List ℕ → Type 0
-IsToldOf budget (Completed a memory) t text = (text ≡ text_of a.response)
-    × (t ≡ Up (record { memory = memory; packages = a.packages; load = a.load; budget = a.budget }))
-IsToldOf budget (Torn memory) t text = (text ≡ down_text) × (store : FuseStoreValue) × IsStoreOf memory.heap store × (t ≡ Down budget store)
-
--- what is written for a command, and how the session stands before and after it
-abbrev pub IsAnswered : List ℕ → ScriptState → ScriptState → List ℕ → Type 0
-IsAnswered bytes (Up card) t text = (after : Completion MemoryState LoadResponse) × Exchanges bytes card after × IsToldOf card.budget after t text
-IsAnswered bytes (Down budget store) t text = (text ≡ down_text) × (t ≡ Down budget store)
+-- what is written for a request: the line of its reply; and how the session stands before and after it
+abbrev pub IsAnswered : Request → ScriptState → ScriptState → List ℕ → Type 0
+IsAnswered request s t text = (reply : Reply) × ServesOver fuse_kind s request reply t × (text ≡ text_of_reply reply)
 
 -- what is written for a line, and how the session stands before and after it
 abbrev pub IsWrittenFor : Form → ScriptState → ScriptState → List ℕ → Type 0
 IsWrittenFor Skipped s t text = (t ≡ s) × (text ≡ [])
-IsWrittenFor (Command bytes) s t text = IsAnswered bytes s t text
-IsWrittenFor Resets s t text = IsReset s t × (text ≡ power_text t)
-IsWrittenFor (ArmsFuse k) s t text = (t ≡ with_fuse k s) × (text ≡ armed_text k)
+IsWrittenFor (Asks request) s t text = IsAnswered request s t text
 IsWrittenFor Bad s t text = ⊥
 
 -- the lines are carried out one after another, from one standing to the other, and this is what is written for them
@@ -135,7 +124,7 @@ FailsAtBadLine n all s t text = (before : List (List ℕ)) × (line : List ℕ) 
 -- a reset found this fault, and the lines before it were carried out
 abbrev pub FailsAtReset : Fault → List (List ℕ) → ScriptState → ScriptState → List ℕ → Type 0
 FailsAtReset fault all s t text = (before : List (List ℕ)) × (line : List ℕ) × (after : List (List ℕ)) × (all ≡ before ++ line ∷ after)
-    × (form_of line ≡ Resets)
+    × (form_of line ≡ Asks Reset)
     × ((u : ScriptState) × AreCarriedOut before s u text × FailsReset fault u t)
 
 -- some first lines were carried out, and of what is to be written for the next only a beginning was written

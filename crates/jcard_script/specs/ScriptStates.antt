@@ -1,34 +1,21 @@
--- How a session stands, and what a power up makes of it.
-use Rattle.std.specs.Prelude.{ℕ, ◌≡◌, List, false}
+-- How the session of a script stands, and what a power up makes of it.
+use Rattle.std.specs.Prelude.{ℕ, ◌≡◌, false}
 use Rattle.jc_words.specs.Count.{saturating_count}
 use Rattle.jc_words.specs.Refusals.{with_fuse_at}
 use Rattle.jc_words.specs.Stores.{FuseStoreValue, with_fuse_armed}
 use Rattle.jc_commit.specs.Image.{IsGoodLog, limit_of, recovered_of}
-use Rattle.jc_heap.specs.Heap.{HeapView, heap_of, heap_at_rest}
+use Rattle.jc_heap.specs.Heap.{HeapState, HeapView, heap_of, heap_at_rest}
 use Rattle.jc_heap.specs.Image.{IsWellFormed}
-use Rattle.jc_memory.specs.Programs.{Executes}
-use Rattle.jc_memory.specs.State.{MemoryState}
-use Rattle.jc_heap.specs.Completions.{Completion}
-use Rattle.jc_card.specs.Answers.{exchange}
-use Rattle.jc_card.specs.CardState.{CardState}
-use Rattle.jc_card.specs.Loads.{LoadResponse}
+use Rattle.jc_heap.specs.Moves.{IsTorn}
 use Rattle.jc_card.specs.PoweringUp.{IsPoweredOver, PowerUpFails}
 use Rattle.jc_card.specs.declared.power_up.PowerFault.{PowerFault as Fault}
 use Rattle.jc_card.specs.declared.power_up.PowerFault.TheVariants.{StoreDown}
+use Rattle.jc_session.specs.Power.{PowerOver, Up, Off, budget_of}
+use Rattle.jc_session.specs.Serving.{StoreKind}
 
--- the card is up, in this state; or it is down, with the budget that it has when it is up again, and its store is so
-pub data ScriptState : Type 0 where
-  Up : CardState → ScriptState
-  Down : ℕ → FuseStoreValue → ScriptState
-
--- the budget that the card has, or has when it is up again
-abbrev pub budget_of : ScriptState → ℕ
-budget_of (Up card) = card.budget
-budget_of (Down budget store) = budget
-
--- a card may carry a command of these bytes out so
-abbrev pub Exchanges : List ℕ → CardState → Completion MemoryState LoadResponse → Type 0
-Exchanges bytes card after = Executes (exchange bytes card) card.memory after
+-- a session that keeps the store of a card that is off as it is
+abbrev pub ScriptState : Type 0
+ScriptState = PowerOver FuseStoreValue
 
 -- the store of a heap: its words stand for the durable heap, and its counts and its fuse are the heap's
 pub record IsStoreOf (heap : HeapView) (store : FuseStoreValue) : Type 0 where
@@ -43,7 +30,7 @@ pub record IsStoreOf (heap : HeapView) (store : FuseStoreValue) : Type 0 where
 -- the session's store is so
 abbrev pub IsSessionStore : ScriptState → FuseStoreValue → Type 0
 IsSessionStore (Up card) store = IsStoreOf card.memory.heap store
-IsSessionStore (Down budget held) store = store ≡ held
+IsSessionStore (Off budget held) store = store ≡ held
 
 -- the power is back, in the store below too
 abbrev pub with_power : FuseStoreValue → FuseStoreValue
@@ -57,7 +44,7 @@ FailsOver before fault after = PowerUpFails (λ f. f.words) (λ f. f.down) (λ f
 -- and a part of the recovery was done, so that another leaves what this one would have left
 abbrev pub PowersUp : ℕ → FuseStoreValue → ScriptState → Type 0
 PowersUp budget before (Up card) = IsPoweredOver before.words false before.passed before.refusals budget card
-PowersUp budget before (Down b after) = FailsOver before StoreDown after × (b ≡ budget)
+PowersUp budget before (Off b after) = FailsOver before StoreDown after × (b ≡ budget)
 
 -- it finds another fault, so that no write was refused, and none passed but those of a recovery
 abbrev pub FailsUp : FuseStoreValue → Fault → FuseStoreValue → Type 0
@@ -69,7 +56,7 @@ IsReset s t = (store : FuseStoreValue) × IsSessionStore s store × PowersUp (bu
 
 -- a reset that finds a fault
 abbrev pub FailsReset : Fault → ScriptState → ScriptState → Type 0
-FailsReset fault s t = (before after : FuseStoreValue) × IsSessionStore s before × FailsUp before fault after × (t ≡ Down (budget_of s) after)
+FailsReset fault s t = (before after : FuseStoreValue) × IsSessionStore s before × FailsUp before fault after × (t ≡ Off (budget_of s) after)
 
 -- the fuse is armed: k further writes pass. A card that is up is as it was, at rest
 abbrev pub with_fuse : ℕ → ScriptState → ScriptState
@@ -79,4 +66,12 @@ with_fuse k (Up card) = Up (record card {
         (with_fuse_at (saturating_count card.memory.heap.passed k) card.memory.heap.refusals) card.memory.heap.size;
   };
 })
-with_fuse k (Down budget store) = Down budget (with_fuse_armed k store)
+with_fuse k (Off budget store) = Off budget (with_fuse_armed k store)
+
+-- the store of a heap that such a loss of power leaves
+abbrev pub IsStoreLeft : (HeapState → Type 0) → HeapView → FuseStoreValue → Type 0
+IsStoreLeft May heap store = (torn : HeapView) × IsTorn May heap torn × IsStoreOf torn store
+
+-- sessions that keep the store itself
+abbrev pub fuse_kind : StoreKind FuseStoreValue
+fuse_kind = record { IsLeft = IsStoreLeft; Resets = IsReset; armed = with_fuse }

@@ -3,10 +3,11 @@ use Rattle.std.specs.Prelude.{ℕ, ◌≡◌, ◌<◌, ◌==◌, false, List, []
 use Rattle.std.specs.List.{slice_split}
 use Rattle.std.specs.Io.KnownBytes.{Appends}
 use Rattle.std.specs.Str.Lines.{strip_carriage_return}
+use Rattle.jc_session.specs.Requests.{Reset}
 use Rattle.jcard_script.specs.CardOrStore.{state_of_held}
 use Rattle.jcard_script.specs.Line.{IsLineOf, ends_in_return}
 use Rattle.jcard_script.specs.ScriptStates.{ScriptState, FailsReset}
-use Rattle.jcard_script.specs.Script.{Form, Resets, Bad, IsWrittenFor, AreCarriedOut, FailsAtBadLine, FailsAtReset, EndsInsideLine, ended_lines}
+use Rattle.jcard_script.specs.Script.{Form, Asks, Bad, IsWrittenFor, AreCarriedOut, FailsAtBadLine, FailsAtReset, EndsInsideLine, ended_lines}
 use Rattle.jcard_script.specs.Texts.{AppendsCut, IsCutOf}
 use Rattle.jcard_script.specs.Word.{IsWordOf}
 use Rattle.jcard_script.specs.declared.line.Line.{Line}
@@ -41,7 +42,7 @@ StandsAt s first script text = IsKeptOf s.line (unfinished_line script) × (s.nu
 -- why nothing is written for line n: it has no form, or it is a reset that found a fault
 abbrev pub LineFails : ScriptFault → ℕ → Form → ScriptState → ScriptState → Type 0
 LineFails (BadLine k) n form s t = (form ≡ Bad) × (k ≡ n) × (t ≡ s)
-LineFails (PowerFault fault) n form s t = (form ≡ Resets) × FailsReset fault s t
+LineFails (PowerFault fault) n form s t = (form ≡ Asks Reset) × FailsReset fault s t
 LineFails ReadFailed n form s t = ⊥
 LineFails WriteFailed n form s t = ⊥
 LineFails TooLong n form s t = ⊥
@@ -50,7 +51,7 @@ LineFails TooLong n form s t = ⊥
 abbrev pub LineEnds : Result Unit ScriptFault → ℕ → Form → ScriptState → ScriptState → List ℕ → Type 0
 LineEnds (Ok done) n form s t text = IsWrittenFor form s t text
 LineEnds (Err (BadLine k)) n form s t text = (form ≡ Bad) × (k ≡ n) × (t ≡ s) × (text ≡ [])
-LineEnds (Err (PowerFault fault)) n form s t text = (form ≡ Resets) × FailsReset fault s t × (text ≡ [])
+LineEnds (Err (PowerFault fault)) n form s t text = (form ≡ Asks Reset) × FailsReset fault s t × (text ≡ [])
 LineEnds (Err WriteFailed) n form s t text = (answer : List ℕ) × IsWrittenFor form s t answer × IsCutOf answer text
 LineEnds (Err ReadFailed) n form s t text = ⊥
 LineEnds (Err TooLong) n form s t text = ⊥

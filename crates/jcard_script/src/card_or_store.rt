@@ -1,10 +1,15 @@
 //! A card, or the store of a card that does not power up.
-ghost use Rattle.std.specs.Prelude.{◌≡◌, false, OnOk, OnSome, IfErr, IfSome, IsNone};
+ghost use Rattle.std.specs.Prelude.{◌≡◌, ℕ, List, false, OnOk, IfErr};
+ghost use Rattle.std.specs.Bool.{OnTrue};
 ghost use Rattle.jc_words.specs.Stores.{FuseStoreValue};
-ghost use Rattle.jcard_script.specs.ScriptStates.{Down, IsSessionStore, PowersUp, FailsUp, budget_of, with_fuse};
+ghost use Rattle.jc_session.specs.Power.{Off, budget_of};
+ghost use Rattle.jc_session.specs.Requests.{Down, Response as Responds};
+ghost use Rattle.jc_session.specs.SessionStates.{answer_of_power_up};
+ghost use Rattle.jc_session.specs.Serving.{AnswersCommandOver};
+ghost use Rattle.jcard_script.specs.ScriptStates.{IsSessionStore, PowersUp, FailsUp, fuse_kind, with_fuse};
 ghost use Rattle.jcard_script.specs.CardOrStore.{IsUp, state_of_card};
-ghost use Rattle.jcard_script.specs.Reply.{text_of_reply};
-ghost use Rattle.jcard_script.specs.Script.{IsAnswered, down_text, power_text, text_of};
+ghost use Rattle.jcard_script.specs.Reply.{text_for_line};
+ghost use Rattle.jcard_script.specs.Script.{text_of_reply};
 
 use crate::explainer::Explainer;
 use crate::reply::Reply;
@@ -36,7 +41,7 @@ impl<S: WordStore> CardOrStore<S> {
         ensures up { IsUp result.0 }
         ensures powered { OnOk result.1 (PowersUp budget store (state_of_card result.0)) }
         ensures fault { IfErr result.1 (λ fault. (after : FuseStoreValue)
-            × FailsUp store fault after × (state_of_card result.0 ≡ Down budget after)) }
+            × FailsUp store fault after × (state_of_card result.0 ≡ Off budget after)) }
     {
         store.power_on();
         match Card::power_up(alloc, store, budget) {
@@ -129,30 +134,31 @@ impl<S: WordStore> CardOrStore<S> {
         }
     }
 
-    /// Carries a command out: the card's response. `None` where there is no card, or where its store refuses a
-    /// write, which then is all that is left of it.
-    pub(crate) fn exchange(&mut self, command: &[u8]) -> Option<Response>
+    /// Carries a command out: whether the card's response was written. It was not where there is no card, or where its store
+    /// refuses a write, which then is all that is left of it.
+    pub(crate) fn exchange(&mut self, command: &[u8], response: &mut Response) -> bool
         requires up { IsUp self.old }
-        ensures up { OnSome result (IsUp self.new) }
-        ensures answer { IfSome result (λ response. IsAnswered command.now (state_of_card self.old)
-            (state_of_card self.new) (text_of response)) }
-        ensures down { IsNone result → (store : FuseStoreValue)
+        ensures up { OnTrue result (IsUp self.new) }
+        ensures answer { OnTrue result (AnswersCommandOver fuse_kind (state_of_card self.old)
+            command.now (Responds response.new) (state_of_card self.new)) }
+        ensures down { result ≡ false → (store : FuseStoreValue)
             → IsSessionStore (state_of_card self.new) store
-            → IsAnswered command.now (state_of_card self.old)
-            (Down (budget_of (state_of_card self.old)) store) down_text }
+            → AnswersCommandOver fuse_kind (state_of_card self.old) command.now Down
+            (Off (budget_of (state_of_card self.old)) store) }
     {
         match self {
-            CardOrStore::Card(card) => match card.exchange(command) {
-                Ok(response) => Some(response),
-                Err(StoreDown) => None,
+            CardOrStore::Card(card) => match card.exchange(command, response) {
+                Ok(()) => true,
+                Err(StoreDown) => false,
             },
-            CardOrStore::Store(_, _) => None,
+            CardOrStore::Store(_, _) => false,
         }
     }
 
     /// What is told after a power up.
     pub(crate) fn power_up_answer(&self) -> Reply
-        ensures { text_of_reply result ≡ power_text (state_of_card self.now) }
+        ensures { (response : List ℕ) → text_for_line result response
+            ≡ text_of_reply (answer_of_power_up (state_of_card self.now)) }
     {
         match self {
             CardOrStore::Card(_) => Reply::Ready,

@@ -5,19 +5,19 @@ ghost use Rattle.hex.specs.Hex.{encode_upper};
 ghost use Rattle.jc_words.specs.Count.{failures_after};
 ghost use Rattle.jcard_script.specs.Texts.{AppendsCut};
 ghost use Rattle.jcard_script.specs.Script.{text_of, armed_text};
-ghost use Rattle.jcard_script.specs.Reply.{text_of_reply};
+ghost use Rattle.jcard_script.specs.Reply.{text_for_line};
 
 use crate::streams::{TextOut, WriteFailed, write_all, write_parts};
 use itoa::Buffer;
 use jc_card::response::Response;
 
 /// What is to be written for a line.
-#[derive(Drop)]
+#[derive(Clone, Copy, Drop)]
 pub(crate) enum Reply {
     /// Nothing.
     Silent,
-    /// A card's response.
-    Answer(Response),
+    /// The card's response.
+    Answer,
     /// The card is powered up.
     Ready,
     /// The store is down.
@@ -26,32 +26,32 @@ pub(crate) enum Reply {
     Armed(u16),
 }
 
-impl Reply {
-    /// The status word of a card's response.
-    pub(crate) fn status(&self) -> Option<u16> {
-        let Reply::Answer(response) = self else {
-            return None;
-        };
-        let bytes = response.as_bytes();
-        let high = bytes.get(bytes.len().checked_sub(2)?)?;
-        Some(u16::from_be_bytes([*high, *bytes.last()?]))
-    }
+/// The status word of a response.
+pub(crate) fn status_of(response: &Response) -> Option<u16> {
+    let bytes = response.as_bytes();
+    let high = bytes.get(bytes.len().checked_sub(2)?)?;
+    Some(u16::from_be_bytes([*high, *bytes.last()?]))
 }
 
-/// Writes a reply as its line of text; nothing for a silent one.
-pub(crate) fn write_reply<W: TextOut>(reply: &Reply, writer: &mut W) -> Result<(), WriteFailed>
+/// Writes a reply as its line of text, where the card's last response is this; nothing for a silent one.
+pub(crate) fn write_reply<W: TextOut>(
+    reply: Reply,
+    response: &Response,
+    writer: &mut W,
+) -> Result<(), WriteFailed>
     ensures text { MatchResult result
-        (λ _. Appends (W.contents writer.old) (W.contents writer.new) (text_of_reply reply.now))
+        (λ _. Appends (W.contents writer.old) (W.contents writer.new)
+        (text_for_line reply response.now))
         (λ _. AppendsCut (W.contents writer.old) (W.contents writer.new)
-        (text_of_reply reply.now)) }
+        (text_for_line reply response.now)) }
     ensures count { W.failures writer.new ≡ failures_after (W.failures writer.old) (is_err result) }
 {
     match reply {
         Reply::Silent => Ok(()),
-        Reply::Answer(response) => write_response(response, writer),
+        Reply::Answer => write_response(response, writer),
         Reply::Ready => write_all(writer, b"ready\n"),
         Reply::Down => write_all(writer, b"down\n"),
-        Reply::Armed(k) => write_armed(*k, writer),
+        Reply::Armed(k) => write_armed(k, writer),
     }
 }
 

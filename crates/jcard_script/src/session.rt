@@ -8,19 +8,22 @@ ghost use Rattle.jc_words.specs.Count.{failures_after};
 ghost use Rattle.jc_words.specs.Refusals.{IsWithinFuse};
 ghost use Rattle.jcard_script.specs.CardOrStore.{IsState, state_of_held};
 ghost use Rattle.jcard_script.specs.Line.{AsksFor, IsCommandOf};
-ghost use Rattle.jcard_script.specs.Reply.{text_of_reply};
-ghost use Rattle.jcard_script.specs.Script.{EndsFrom, IsAnswered, IsWholeScript, IsWrittenFor, armed_text, down_text, form_of, power_text, is_read_failed};
+ghost use Rattle.jcard_script.specs.Reply.{text_for_line};
+ghost use Rattle.jcard_script.specs.Script.{EndsFrom, IsAnswered, IsWholeScript, IsWrittenFor, armed_text, down_text, form_of, is_read_failed};
 ghost use Rattle.jcard_script.specs.Script.{is_write_failed, ended_lines};
-ghost use Rattle.jcard_script.specs.ScriptStates.{ScriptState, Down, IsSessionStore, PowersUp, FailsUp, IsReset, FailsReset, budget_of, with_fuse};
+ghost use Rattle.jc_session.specs.Power.{Off, budget_of};
+ghost use Rattle.jc_session.specs.Requests.{Command, Reset};
+ghost use Rattle.jcard_script.specs.ScriptStates.{ScriptState, IsSessionStore, PowersUp, FailsUp, FailsReset, with_fuse};
 ghost use Rattle.jcard_script.specs.Session.{StandsAt, IsUnbroken, IsWrittenOut, LineEnds, LineFails, LinesEnd};
 
 use crate::card_or_store::CardOrStore;
 use crate::explainer::Explainer;
 use crate::line::{BYTES, Line, LineRequest};
-use crate::reply::{Reply, write_reply};
+use crate::reply::{Reply, status_of, write_reply};
 use crate::script::{BOUND, ScriptFault};
 use crate::streams::{TextIn, TextOut, WriteFailed};
 use jc_card::power_up::PowerFault;
+use jc_card::response::Response;
 use jc_memory::Notes;
 use jc_words::{FuseStore, WordStore};
 use memchr::memchr;
@@ -40,6 +43,8 @@ pub(crate) struct Session<S: WordStore> {
     notes: Notes,
     // How many word writes had passed before the last command.
     passed_before: u64,
+    // The card's last response.
+    response: Response,
 }
 
 impl<S: WordStore + Drop> Session<S> {
@@ -54,7 +59,7 @@ impl<S: WordStore + Drop> Session<S> {
         ensures stands { StandsAt result.0 (state_of_held result.0.held) [] [] }
         ensures powered { OnOk result.1 (PowersUp budget fuse (state_of_held result.0.held)) }
         ensures fault { IfErr result.1 (λ fault. (after : FuseStoreValue) × FailsUp fuse fault after
-            × (state_of_held result.0.held ≡ Down budget after)) }
+            × (state_of_held result.0.held ≡ Off budget after)) }
     {
         let (mut held, started) = CardOrStore::power_up(alloc, fuse, budget);
         held.explain(&notes);
@@ -65,6 +70,7 @@ impl<S: WordStore + Drop> Session<S> {
             number: 0,
             notes,
             passed_before: 0,
+            response: Response::empty(),
         };
         (session, started)
     }
@@ -82,6 +88,7 @@ impl<S: WordStore + Drop> Session<S> {
             number: _,
             notes: _,
             passed_before: _,
+            response: _,
         } = self;
         let store = held.unwrap().into_store();
         let _within = store.passed_writes();
@@ -147,18 +154,20 @@ impl<S: WordStore + Drop> Session<S> {
             (is_write_failed result) }
     {
         let mut rest = piece;
+        let mut room = [0u8; BYTES];
         while let Some(end) = memchr(b'\n', rest) {
-            self.end_line(&rest[..end], writer, explainer)?;
+            self.end_line(&rest[..end], &mut room, writer, explainer)?;
             rest = &rest[end + 1..];
         }
         self.line.push_all(rest);
         Ok(())
     }
 
-    // Carries out the line that these bytes and a line feed end, and begins the next.
+    // Carries out the line that these bytes and a line feed end, and begins the next. There is room for the bytes of its command.
     fn end_line<W: TextOut, E: Explainer>(
         &mut self,
         bytes: &[u8],
+        room: &mut [u8; BYTES],
         writer: &mut W,
         explainer: &mut E,
     ) -> Result<(), ScriptFault>
@@ -176,8 +185,7 @@ impl<S: WordStore + Drop> Session<S> {
         ensures writes { W.failures writer.new ≡ failures_after (W.failures writer.old)
             (is_write_failed result) }
     {
-        let mut room = [0u8; BYTES];
-        match self.line.whole_command(bytes, &mut room) {
+        match self.line.whole_command(bytes, room) {
             Some(count) => {
                 self.number += 1;
                 self.answer_command(&room[..count], writer, explainer)
@@ -254,7 +262,7 @@ impl<S: WordStore + Drop> Session<S> {
             (is_write_failed result) }
     {
         match self.reply(asked) {
-            Ok(reply) => self.write(&reply, writer, explainer),
+            Ok(reply) => self.write(reply, writer, explainer),
             Err(fault) => Err(fault),
         }
     }
@@ -278,23 +286,23 @@ impl<S: WordStore + Drop> Session<S> {
             (is_write_failed result) }
     {
         let reply = self.exchange(command);
-        self.write(&reply, writer, explainer)
+        self.write(reply, writer, explainer)
     }
 
     // Writes a reply, and tells who asks what the command did that was answered so, if one was.
     fn write<W: TextOut, E: Explainer>(
         &self,
-        reply: &Reply,
+        reply: Reply,
         writer: &mut W,
         explainer: &mut E,
     ) -> Result<(), ScriptFault>
         requires held { IsState self.now.held }
         ensures text { IsWrittenOut result (W.contents writer.old) (W.contents writer.new)
-            (text_of_reply reply.now) }
+            (text_for_line reply self.now.response) }
         ensures writes { W.failures writer.new ≡ failures_after (W.failures writer.old)
             (is_write_failed result) }
     {
-        match write_reply(reply, writer) {
+        match write_reply(reply, &self.response, writer) {
             Ok(()) => {
                 self.tell_about(reply, explainer);
                 Ok(())
@@ -304,13 +312,16 @@ impl<S: WordStore + Drop> Session<S> {
     }
 
     // Tells who asks what the command did that was answered so, if one was.
-    fn tell_about<E: Explainer>(&self, reply: &Reply, explainer: &mut E)
+    fn tell_about<E: Explainer>(&self, reply: Reply, explainer: &mut E)
         requires held { IsState self.now.held }
     {
-        let Some(status) = reply.status() else {
+        let Reply::Answer = reply else {
             return;
         };
         let Some(note) = self.notes.take() else {
+            return;
+        };
+        let Some(status) = status_of(&self.response) else {
             return;
         };
         if let Some(held) = &self.held {
@@ -325,7 +336,7 @@ impl<S: WordStore + Drop> Session<S> {
         ensures number { self.new.number ≡ self.old.number }
         ensures goes { (line : List ℕ) → AsksFor asked line → MatchResult result
             (λ reply. IsWrittenFor (form_of line) (state_of_held self.old.held)
-            (state_of_held self.new.held) (text_of_reply reply))
+            (state_of_held self.new.held) (text_for_line reply self.new.response))
             (λ fault. LineFails fault self.old.number (form_of line) (state_of_held self.old.held)
             (state_of_held self.new.held)) }
         ensures unwritten { IfErr result (λ fault. is_write_failed (Err fault) ≡ false) }
@@ -342,21 +353,21 @@ impl<S: WordStore + Drop> Session<S> {
         }
     }
 
-    // The card's response to a command; `down` where the card is down, or goes down at it.
+    // What is to be written for a command: the card's response; `down` where the card is down, or goes down at it.
     fn exchange(&mut self, command: &[u8]) -> Reply
         requires held { IsState self.old.held }
         ensures held { IsState self.new.held }
         ensures number { self.new.number ≡ self.old.number }
         ensures line { self.new.line ≡ self.old.line }
-        ensures answer { IsAnswered command.now (state_of_held self.old.held)
-            (state_of_held self.new.held) (text_of_reply result) }
+        ensures answer { IsAnswered (Command command.now) (state_of_held self.old.held)
+            (state_of_held self.new.held) (text_for_line result self.new.response) }
     {
         self.notes.begin(self.number);
         let budget = self.budget();
         if let Some(held) = &mut self.held {
             self.passed_before = held.passed_writes();
-            if let Some(response) = held.exchange(command) {
-                return Reply::Answer(response);
+            if held.exchange(command, &mut self.response) {
+                return Reply::Answer;
             }
         }
         self.go_down(budget)
@@ -370,9 +381,9 @@ impl<S: WordStore + Drop> Session<S> {
         ensures held { IsState self.new.held }
         ensures number { self.new.number ≡ self.old.number }
         ensures line { self.new.line ≡ self.old.line }
-        ensures text { text_of_reply result ≡ down_text }
+        ensures text { text_for_line result self.new.response ≡ down_text }
         ensures down { (store : FuseStoreValue) × IsSessionStore (state_of_held self.old.held) store
-            × (state_of_held self.new.held ≡ Down budget store) }
+            × (state_of_held self.new.held ≡ Off budget store) }
     {
         let left = self.held.take().unwrap().into_store();
         self.held = Some(CardOrStore::Store(left, budget));
@@ -395,9 +406,8 @@ impl<S: WordStore + Drop> Session<S> {
         requires held { IsState self.old.held }
         ensures held { IsState self.new.held }
         ensures number { self.new.number ≡ self.old.number }
-        ensures powered { IfOk result (λ reply. IsReset (state_of_held self.old.held)
-            (state_of_held self.new.held)
-            × (text_of_reply reply ≡ power_text (state_of_held self.new.held))) }
+        ensures powered { IfOk result (λ reply. IsAnswered Reset (state_of_held self.old.held)
+            (state_of_held self.new.held) (text_for_line reply self.new.response)) }
         ensures fault { IfErr result (λ fault. FailsReset fault (state_of_held self.old.held)
             (state_of_held self.new.held)) }
     {
@@ -418,7 +428,7 @@ impl<S: WordStore + Drop> Session<S> {
         requires held { IsState self.old.held }
         ensures held { IsState self.new.held }
         ensures number { self.new.number ≡ self.old.number }
-        ensures armed { text_of_reply result ≡ armed_text k }
+        ensures armed { text_for_line result self.new.response ≡ armed_text k }
         ensures standing { state_of_held self.new.held ≡ with_fuse k (state_of_held self.old.held) }
     {
         let held = self.held.take().unwrap();

@@ -28,7 +28,7 @@ IsLaidIn s = (durable_state s).laid ≡ true
 
 command_laid : (s : PowerState) (bytes : List ℕ) (reply : Reply) (next : PowerState) → IsLaidIn s → AnswersCommand s bytes reply next → IsLaidIn next
 command_laid (Up card) bytes (Response r) (Up next) laid did = refl
-command_laid (Up card) bytes Down (Off b k) laid lost = lost.4
+command_laid (Up card) bytes Down (Off b k) laid lost = lost.1.4
 command_laid (Off b k) bytes Down (Off d l) laid same = ap (λ (x : KeptState). x.laid) same.0 ∙ laid
 command_laid s bytes reply next laid none = absurd none
 

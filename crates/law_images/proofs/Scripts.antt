@@ -10,14 +10,13 @@ use Rattle.jc_words.specs.Refusals.{with_fuse_at}
 use Rattle.jc_words.specs.Stores.{FuseStoreValue}
 use Rattle.jc_commit.specs.Image.{IsGoodLog, recovered_of}
 use Rattle.jc_heap.specs.Heap.{HeapView, heap_at_rest}
-use Rattle.jc_memory.specs.State.{MemoryState}
-use Rattle.jc_heap.specs.Completions.{Completion, Completed, Torn}
+use Rattle.jc_memory.specs.Programs.{TearLeaves}
+use Rattle.jc_card.specs.Answers.{exchange}
 use Rattle.jc_card.specs.CardState.{CardState}
-use Rattle.jc_card.specs.Loads.{LoadResponse}
-use Rattle.jc_session.specs.Requests.{Request, Command as Sends, Reset, ArmFuse, Reply, Response, Down, Armed}
-use Rattle.jc_session.specs.SessionStates.{answer_of_power_up}
+use Rattle.jc_card.specs.Dispatching.{with_response}
+use Rattle.jc_session.specs.Requests.{Request, Command, Reset, ArmFuse, Reply, Response, Ready, Down}
 use Rattle.jc_session.specs.Power.{PowerState, Up, Off, StoreState, IsStoreOf, armed, budget_of, durable_state, durable_rest, durable_state_in_store, with_refusal}
-use Rattle.jc_session.specs.Serving.{AnswersCommand, AnswersReset, Serves, SessionRun}
+use Rattle.jc_session.specs.Serving.{AnswersCommand, AnswersCommandOver, IsReset, Serves, ServesOver, SessionRun}
 use Rattle.jc_session.specs.declared.session.SessionFault.{SessionFault}
 use Rattle.jc_session.specs.declared.session.SessionFault.TheVariants.{PowerFault as NotPoweredUp}
 use Rattle.jc_session.specs.Sessions.{FailsAtReset, IsSession, SessionEnds}
@@ -29,10 +28,9 @@ use Rattle.jc_session.proofs.SessionRuns.{run_then}
 use Rattle.jc_session.proofs.WholeSessions.{are_whole}
 use Rattle.jcard_script.specs.declared.script.ScriptFault.{ScriptFault}
 use Rattle.jcard_script.specs.declared.script.ScriptFault.TheVariants.{ReadFailed, WriteFailed, BadLine, TooLong, PowerFault}
-use Rattle.jcard_script.specs.ScriptStates.{ScriptState, Up as UpIn, Down as DownIn, Exchanges, FailsReset, IsStoreOf as IsStoreOfHeap, IsSessionStore}
-use Rattle.jcard_script.specs.ScriptStates.{FailsUp, PowersUp, budget_of as budget_in, with_fuse, with_power}
-use Rattle.jcard_script.specs.Script.{AreCarriedOut, Form, Skipped, Command, Resets, ArmsFuse, Bad, IsAnswered, IsToldOf, IsWrittenFor}
-use Rattle.jcard_script.specs.Script.{form_of, lines_so_far, power_text}
+use Rattle.jcard_script.specs.ScriptStates.{ScriptState, FailsReset, FailsUp, IsReset as IsResetOf, IsStoreOf as IsStoreOfHeap, IsSessionStore}
+use Rattle.jcard_script.specs.ScriptStates.{PowersUp, fuse_kind, with_fuse, with_power}
+use Rattle.jcard_script.specs.Script.{AreCarriedOut, Form, Skipped, Asks, Bad, IsWrittenFor, form_of, lines_so_far, text_of_reply}
 use Rattle.jcard_script.specs.Texts.{IsCutOf}
 use Rattle.jcard_script.proofs.Decoding.{command_bytes}
 use Rattle.jcard_script.proofs.Words.{form_command}
@@ -42,17 +40,17 @@ use Rattle.law_images.proofs.Rest.{leave_at_rest, rests_so}
 use Rattle.law_images.proofs.Steps.{cut_kept}
 use Rattle.jc_session.proofs.Starts.{fault_starts, starts_off, starts_up}
 use Rattle.law_images.specs.Rest.{IsResting}
-use Rattle.law_images.specs.Scripts.{AreSessionsOfScript, AreSessions, AreWholeSessions, AskBytes, EndAsSessions, EndsAsSession, HaveForm, IsSameEnd, Leaves, asked_by, asked_by_form, state_of, text_of_replies, text_of_reply}
+use Rattle.law_images.specs.Scripts.{AreSessionsOfScript, AreSessions, AreWholeSessions, AskBytes, EndAsSessions, EndsAsSession, HaveForm, IsSameEnd, Leaves, asked_by, asked_by_form, state_of, text_of_replies}
 
 -- how the card of a script stands, as a session sees it
 abbrev power_in : ScriptState → PowerState
-power_in (UpIn card) = Up card
-power_in (DownIn budget store) = Off budget (durable_state_in_store (state_of store))
+power_in (Up card) = Up card
+power_in (Off budget store) = Off budget (durable_state_in_store (state_of store))
 
 -- the heap of a card that is up rests, and the journal of one that is down is good
 abbrev IsGood : ScriptState → Type 0
-IsGood (UpIn card) = IsResting card.memory.heap
-IsGood (DownIn budget store) = IsGoodLog store.words
+IsGood (Up card) = IsResting card.memory.heap
+IsGood (Off budget store) = IsGoodLog store.words
 
 same_kept : (heap : HeapView) (store : FuseStoreValue) → IsStoreOfHeap heap store → durable_state_in_store (state_of store) ≡ durable_rest heap
 same_kept heap store h = λ i. record {
@@ -65,53 +63,22 @@ same_kept heap store h = λ i. record {
 }
 
 kept_held : (s : ScriptState) (store : FuseStoreValue) → IsSessionStore s store → durable_state_in_store (state_of store) ≡ durable_state (power_in s)
-kept_held (UpIn card) store h = same_kept card.memory.heap store h
-kept_held (DownIn budget held) store h = ap (λ (f : FuseStoreValue). durable_state_in_store (state_of f)) h
+kept_held (Up card) store h = same_kept card.memory.heap store h
+kept_held (Off budget held) store h = ap (λ (f : FuseStoreValue). durable_state_in_store (state_of f)) h
 
 store_held : (s : ScriptState) (store : FuseStoreValue) → IsGood s → IsSessionStore s store → IsStoreOf (power_in s) (state_of store)
-store_held (UpIn card) store good h = record { good = h.good; kept = same_kept card.memory.heap store h }
-store_held (DownIn budget held) store good h = record {
+store_held (Up card) store good h = record { good = h.good; kept = same_kept card.memory.heap store h }
+store_held (Off budget held) store good h = record {
   good = subst (λ (f : FuseStoreValue). IsGoodLog f.words) (sym h) good;
   kept = ap (λ (f : FuseStoreValue). durable_state_in_store (state_of f)) h;
 }
 
--- a command is answered so, with this text, and leads there
-abbrev IsTold : List ℕ → PowerState → ScriptState → List ℕ → Type 0
-IsTold bytes s t text = (reply : Reply) × AnswersCommand s bytes reply (power_in t) × (text ≡ text_of_reply reply) × IsGood t
-
-told_after : (bytes : List ℕ) (card : CardState) (after : Completion MemoryState LoadResponse) (t : ScriptState) (text : List ℕ) → IsResting card.memory.heap
-    → Exchanges bytes card after → IsToldOf card.budget after t text → IsTold bytes (Up card) t text
-told_after bytes card (Completed a memory) t text rest made says = (
-  Response a.response,
-  subst (λ (u : ScriptState). AnswersCommand (Up card) bytes (Response a.response) (power_in u)) (sym says.1) made,
-  says.0,
-  subst IsGood (sym says.1) (leave_at_rest bytes card a memory rest made),
-)
-told_after bytes card (Torn memory) t text rest cut says =
-    let left = cut_kept card bytes memory (state_of says.1) (ap (λ (v : HeapView). v.down) rest) cut says.2.durable says.2.down says.2.passed says.2.refusals
-    says.2.size says.2.laid in (
-      Down,
-      subst (λ (u : ScriptState). AnswersCommand (Up card) bytes Down (power_in u)) (sym says.3)
-          (left.0, left.1, left.2, left.3, left.4, refl),
-      says.0,
-      subst IsGood (sym says.3) says.2.good,
-    )
-
-told_of : (bytes : List ℕ) (s t : ScriptState) (text : List ℕ) → IsGood s → IsAnswered bytes s t text → IsTold bytes (power_in s) t text
-told_of bytes (UpIn card) t text good h = told_after bytes card h.0 t text good h.1 h.2
-told_of bytes (DownIn budget store) t text good h = (
-  Down,
-  subst (λ (u : ScriptState). AnswersCommand (Off budget (durable_state_in_store (state_of store))) bytes Down (power_in u)) (sym h.1) (refl, refl),
-  h.0,
-  subst IsGood (sym h.1) good,
-)
-
 -- a power up over a store
 started : (budget : ℕ) (before : FuseStoreValue) (t : ScriptState) → PowersUp budget before t → Starts budget (state_of before) (power_in t) × IsGood t
-started budget before (UpIn card) h =
+started budget before (Up card) h =
     let up = starts_up budget (state_of before) before.passed card h.made h.heap h.reset h.budget in
     (up, rests_so (durable_state_in_store (state_of before)) budget card up.1)
-started budget before (DownIn b after) h =
+started budget before (Off b after) h =
     let off = starts_off budget (state_of before) (state_of after) h.0.0 h.0.1.still h.0.1.is_down (h.0.1.was_up refl) in ((off.0, off.1, h.1), h.0.1.still.good)
 
 -- or a fault was found
@@ -119,58 +86,64 @@ start_fails_so : (fault : Fault) (before after : FuseStoreValue) → FailsUp bef
 start_fails_so fault before after h = fault_starts (λ (f : FuseStoreValue). f.words) (λ f. f.down) (λ f. f.passed) (λ f. f.refusals) (with_power before) after
     (state_of before) fault refl refl refl h.0 h.1
 
-reset_by : (s : PowerState) (store : StoreState) (t : PowerState) → durable_state_in_store store ≡ durable_state s → Starts (budget_of s) store t
-    → AnswersReset s (answer_of_power_up t) t
+reset_by : (s : PowerState) (store : StoreState) (t : PowerState) → durable_state_in_store store ≡ durable_state s → Starts (budget_of s) store t → IsReset s t
 reset_by s store (Up card) same h = subst (λ k. IsPoweredUp k (budget_of s) card) same h.1
 reset_by s store (Off b k) same h = (h.1 ∙ ap (with_refusal k.passed) same, h.2)
 
 -- the budget is the one that a session sees
-same_budget : (s : ScriptState) → budget_in s ≡ budget_of (power_in s)
-same_budget (UpIn card) = refl
-same_budget (DownIn budget store) = refl
+same_budget : (s : ScriptState) → budget_of s ≡ budget_of (power_in s)
+same_budget (Up card) = refl
+same_budget (Off budget store) = refl
 
-text_told : (t : ScriptState) → power_text t ≡ text_of_reply (answer_of_power_up (power_in t))
-text_told (UpIn card) = refl
-text_told (DownIn budget store) = refl
+-- a reset
+reset_so : (s t : ScriptState) → IsGood s → IsResetOf s t → IsReset (power_in s) (power_in t) × IsGood t
+reset_so s t good h =
+    let up = started (budget_of s) h.0 t h.2 in
+    (reset_by (power_in s) (state_of h.0) (power_in t) (kept_held s h.0 h.1) (subst (λ n. Starts n (state_of h.0) (power_in t)) (same_budget s) up.0), up.1)
 
 -- arming the fuse leaves a card as it is but for that
 same_armed : (k : ℕ) (s : ScriptState) → IsGood s → power_in (with_fuse k s) ≡ armed k (power_in s)
-same_armed k (UpIn card) rest =
+same_armed k (Up card) rest =
     let heap = card.memory.heap in
     let fuse = with_fuse_at (saturating_count heap.passed k) heap.refusals in
     ap (λ (v : HeapView). Up (record card { memory = record card.memory { heap = v } }))
     (sym (ap (λ (v : HeapView). record v { refusals = fuse }) rest ∙ (λ i. heap_at_rest (sym (ap (λ (v : HeapView). v.durable) rest) i) heap.passed fuse heap.size)))
-same_armed k (DownIn budget store) good = refl
+same_armed k (Off budget store) good = refl
 
 good_armed : (k : ℕ) (s : ScriptState) → IsGood s → IsGood (with_fuse k s)
-good_armed k (UpIn card) rest = refl
-good_armed k (DownIn budget store) good = good
+good_armed k (Up card) rest = refl
+good_armed k (Off budget store) good = good
 
--- one request is served, and this is written for it
-one_asked : (request : Request) (reply : Reply) (s u : PowerState) (text : List ℕ) → Serves s request reply u → text ≡ text_of_reply reply
-    → (replies : List Reply) × SessionRun s (request ∷ []) replies u × (text ≡ text_of_replies replies)
-one_asked request reply s u text served told = (reply ∷ [], (u, served, refl), told ∙ sym (append-nil (text_of_reply reply)))
+-- a command is answered as in a session
+command_so : (s : ScriptState) (bytes : List ℕ) (reply : Reply) (t : ScriptState) → IsGood s → AnswersCommandOver fuse_kind s bytes reply t
+    → AnswersCommand (power_in s) bytes reply (power_in t) × IsGood t
+command_so (Up card) bytes (Response r) (Up next) rest h = (h, leave_at_rest bytes card (with_response next r) next.memory rest h)
+command_so (Up card) bytes Down (Off b store) rest h = (
+  (h.0, cut_kept (TearLeaves (exchange bytes card) card.memory) card.memory.heap h.1.0 store (ap (λ (v : HeapView). v.down) rest) h.1.1 h.1.2),
+  h.1.2.good,
+)
+command_so (Off b store) bytes Down (Off d next) good h = (
+  (ap (λ (f : FuseStoreValue). durable_state_in_store (state_of f)) h.0, h.1),
+  subst (λ (f : FuseStoreValue). IsGoodLog f.words) (sym h.0) good,
+)
+command_so s bytes reply t good none = absurd none
+
+-- so is a request
+served_so : (request : Request) (reply : Reply) (s t : ScriptState) → IsGood s → ServesOver fuse_kind s request reply t
+    → Serves (power_in s) request reply (power_in t) × IsGood t
+served_so (Command bytes) reply s t good h = command_so s bytes reply t good h
+served_so Reset Ready s (Up card) good h = reset_so s (Up card) good h
+served_so Reset Down s (Off b store) good h = reset_so s (Off b store) good h
+served_so Reset reply s t good none = absurd none
+served_so (ArmFuse k) reply s t good h = ((h.0, ap power_in h.1 ∙ same_armed k s good), subst IsGood (sym h.1) (good_armed k s good))
 
 -- a line, from one standing to the other
-abbrev IsAsked : Form → ScriptState → ScriptState → List ℕ → Type 0
-IsAsked form s u text = ((replies : List Reply) × SessionRun (power_in s) (asked_by_form form) replies (power_in u) × (text ≡ text_of_replies replies))
-    × (form ≢ Bad) × IsGood u
-
-one_line : (form : Form) (s u : ScriptState) (first : List ℕ) → IsGood s → IsWrittenFor form s u first → IsAsked form s u first
+one_line : (form : Form) (s u : ScriptState) (first : List ℕ) → IsGood s → IsWrittenFor form s u first
+    → ((replies : List Reply) × SessionRun (power_in s) (asked_by_form form) replies (power_in u) × (first ≡ text_of_replies replies)) × (form ≢ Bad) × IsGood u
 one_line Skipped s u first good h = (([], ap power_in h.0, h.1), (λ e. cc e), subst IsGood (sym h.0) good)
-one_line (ArmsFuse k) s u first good h = (
-  one_asked (ArmFuse k) (Armed k) (power_in s) (power_in u) first (refl, ap power_in h.0 ∙ same_armed k s good) h.1,
-  (λ e. cc e),
-  subst IsGood (sym h.0) (good_armed k s good),
-)
-one_line (Command bytes) s u first good h =
-    let said = told_of bytes s u first good h in
-    (one_asked (Sends bytes) said.0 (power_in s) (power_in u) first said.1 said.2, (λ e. cc e), said.3)
-one_line Resets s u first good h =
-    let up = started (budget_in s) h.0.0 u h.0.2 in
-    let served = reset_by (power_in s) (state_of h.0.0) (power_in u) (kept_held s h.0.0 h.0.1)
-    (subst (λ n. Starts n (state_of h.0.0) (power_in u)) (same_budget s) up.0) in
-    (one_asked Reset (answer_of_power_up (power_in u)) (power_in s) (power_in u) first served (h.1 ∙ text_told u), (λ e. cc e), up.1)
+one_line (Asks request) s u first good h =
+    let so = served_so request h.0 s u good h.1 in
+    ((h.0 ∷ [], (power_in u, so.0, refl), h.2 ∙ sym (append-nil (text_of_reply h.0))), (λ e. cc e), so.1)
 one_line Bad s u first good h = absurd h
 
 -- some lines
@@ -269,11 +242,11 @@ are_whole_sessions budget before after at_end script text ends none =
 all_bytes : (bytes : List ℕ) → ((i : ℕ) → slice_index bytes i < 256) → AreBytes bytes
 all_bytes bytes are = λ k d inside. subst (λ b. b < 256) (get_or_default bytes k 0 d inside) (are k)
 
-form_bytes : (form : Form) → ((bytes : List ℕ) → form ≡ Command bytes → AreBytes bytes) → AreOfBytes (asked_by_form form)
+form_bytes : (form : Form) → ((bytes : List ℕ) → form ≡ Asks (Command bytes) → AreBytes bytes) → AreOfBytes (asked_by_form form)
 form_bytes Skipped are = tt
-form_bytes (Command bytes) are = (are bytes refl, tt)
-form_bytes Resets are = (tt, tt)
-form_bytes (ArmsFuse k) are = (tt, tt)
+form_bytes (Asks (Command bytes)) are = (are bytes refl, tt)
+form_bytes (Asks Reset) are = (tt, tt)
+form_bytes (Asks (ArmFuse k)) are = (tt, tt)
 form_bytes Bad are = tt
 
 bytes_then : (requests more : List Request) → AreOfBytes requests → AreOfBytes more → AreOfBytes (requests ++ more)

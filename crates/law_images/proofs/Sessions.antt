@@ -145,8 +145,8 @@ module _ (t : Tokens) (card : CardState) (own : IsOwnCard t card) where
   command_own bytes Down (Off b k) are lost = record {
     packages = card.packages;
     linked = own.linked;
-    heap = own_at card.memory.heap.durable.head.1 t card.packages k.durable ((exchanging_does bytes are).lost k.durable lost.0).heap;
-    layout = ((exchanging_does bytes are).lost k.durable lost.0).layout;
+    heap = own_at card.memory.heap.durable.head.1 t card.packages k.durable ((exchanging_does bytes are).lost k.durable lost.1.0).heap;
+    layout = ((exchanging_does bytes are).lost k.durable lost.1.0).layout;
   }
   command_own bytes reply next are none = absurd none
 

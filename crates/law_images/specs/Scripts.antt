@@ -5,14 +5,14 @@ use Rattle.std.specs.Str.Lines.{lines}
 use Rattle.jc_words.specs.Stores.{FuseStoreValue}
 use Rattle.jc_session.specs.declared.session.SessionFault.{SessionFault}
 use Rattle.jc_session.specs.declared.session.SessionFault.TheVariants.{PowerFault as NotPoweredUp}
-use Rattle.jc_session.specs.Requests.{Request, Command as Sends, Reset, ArmFuse, Reply, Response, Ready, Down, Armed}
+use Rattle.jc_session.specs.Requests.{Request, Reset, Reply}
 use Rattle.jc_session.specs.Power.{PowerState, StoreState, IsStoreOf}
 use Rattle.jc_session.specs.Sessions.{IsSession, SessionEnds}
 use Rattle.jc_session.specs.Starting.{FailsToReset, FailsToStart}
 use Rattle.jc_session.specs.WholeCopies.{IsWholeSession, RefusesNone}
 use Rattle.jcard_script.specs.declared.script.ScriptFault.{ScriptFault}
 use Rattle.jcard_script.specs.declared.script.ScriptFault.TheVariants.{ReadFailed, WriteFailed, BadLine, TooLong, PowerFault}
-use Rattle.jcard_script.specs.Script.{EndsWithin, Form, Skipped, Command, Resets, ArmsFuse, Bad, armed_text, down_text, form_of, lines_so_far, ready_text, text_of}
+use Rattle.jcard_script.specs.Script.{EndsWithin, Form, Skipped, Asks, Bad, form_of, lines_so_far, text_of_reply}
 use Rattle.jcard_script.specs.Texts.{IsCutOf}
 use Rattle.law_images.specs.Cards.{AreOfBytes}
 
@@ -23,21 +23,12 @@ state_of store = record { words = store.words; down = store.down; passed = store
 -- what a line that asks for this asks in a session: nothing, where it is skipped
 abbrev pub asked_by_form : Form → List Request
 asked_by_form Skipped = []
-asked_by_form (Command bytes) = Sends bytes ∷ []
-asked_by_form Resets = Reset ∷ []
-asked_by_form (ArmsFuse k) = ArmFuse k ∷ []
+asked_by_form (Asks request) = request ∷ []
 asked_by_form Bad = []
 
 -- what these lines ask, one after another
 abbrev pub asked_by : List (List ℕ) → List Request
 asked_by carried = flat_map (λ line. asked_by_form (form_of line)) carried
-
--- the line of a reply
-abbrev pub text_of_reply : Reply → List ℕ
-text_of_reply (Response response) = text_of response
-text_of_reply Ready = ready_text
-text_of_reply Down = down_text
-text_of_reply (Armed k) = armed_text k
 
 -- the lines of replies
 abbrev pub text_of_replies : List Reply → List ℕ
@@ -77,7 +68,7 @@ EndsAsSession budget (Err (BadLine n)) before after at_end script text =
     × AreSessionsOfScript budget before carried text (Leaves after)
 EndsAsSession budget (Err (PowerFault fault)) before after at_end script text =
     (FailsToStart fault (state_of before) (state_of after) × (text ≡ [])) ⊎
-    ((carried : List (List ℕ)) × (line : List ℕ) × ComesBehind (lines_so_far at_end script) carried line × (form_of line ≡ Resets)
+    ((carried : List (List ℕ)) × (line : List ℕ) × ComesBehind (lines_so_far at_end script) carried line × (form_of line ≡ Asks Reset)
     × AreSessionsOfScript budget before carried text (λ last. FailsToReset fault last (state_of after)))
 EndsAsSession budget (Err WriteFailed) before after at_end script text =
     (carried : List (List ℕ)) × (line : List ℕ) × ComesBehind (lines_so_far at_end script) carried line ×

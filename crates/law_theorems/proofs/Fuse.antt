@@ -63,7 +63,7 @@ IsRefusing s next reply = (refusals_of next ≡ refusals_of s)
 
 command_refuses : (s : PowerState) (bytes : List ℕ) (reply : Reply) (next : PowerState) → AnswersCommand s bytes reply next → IsRefusing s next reply
 command_refuses (Up card) bytes (Response r) (Up next) h = inl (done_refusals bytes r card next h)
-command_refuses (Up card) bytes Down (Off b k) h = inr (refl, h.2)
+command_refuses (Up card) bytes Down (Off b k) h = inr (refl, h.1.2)
 command_refuses (Off b k) bytes Down (Off d l) h = inl (ap (λ (x : KeptState). x.refusals) h.0)
 command_refuses s bytes reply next h = absurd h
 

@@ -113,8 +113,8 @@ module _ (t : Tokens) (card : CardState) (comes : ComesTo t (Up card)) where
 first_left : (t : Tokens) (card : CardState) (request : Request) (mid : PowerState) → ComesTo t (Up card) → IsOfBytes request → Serves (Up card) request Down mid
     → (k : KeptState) × (mid ≡ Off card.budget k) × IsLeftBy card request k.durable
 first_left t card (Command bytes) (Off b k) comes are h =
-    let p = lost_at (exchange bytes card) card.memory k.durable h.0 in
-    (k, ap (λ n. Off n k) h.5, (p.0, p.1, left_of t card comes bytes p.0 k.durable are p.1 p.2))
+    let p = lost_at (exchange bytes card) card.memory k.durable h.1.0 in
+    (k, ap (λ n. Off n k) h.0, (p.0, p.1, left_of t card comes bytes p.0 k.durable are p.1 p.2))
 first_left t card Reset (Off b k) comes are h = (k, ap (λ n. Off n k) h.1, ap (λ (x : KeptState). x.durable) h.0 ∙ settled t card comes (shut t card comes))
 first_left t card (Command bytes) (Up next) comes are h = absurd h
 first_left t card Reset (Up next) comes are h = absurd h

@@ -1,5 +1,5 @@
 -- Sessions that arm no fuse, and that are answered down once.
-use Rattle.std.specs.Prelude.{ℕ, ◌≡◌, List, [], ◌∷◌, ◌++◌}
+use Rattle.std.specs.Prelude.{◌≡◌, List, [], ◌∷◌, ◌++◌}
 use Rattle.jc_session.specs.Requests.{Request, Command, Reset, ArmFuse, Reply, Down}
 use Rattle.jc_session.specs.Power.{PowerState}
 use Rattle.jc_session.specs.Serving.{Serves, SessionRun}

@@ -12,7 +12,7 @@ use Rattle.jc_interp.proofs.frames_only.carry_out.Goals.{in-Stack+in_ok-stack_in
 use Rattle.jc_interp.proofs.frames_only.carry_out.Goals.{in-Branch+in_ok-branch_instruction-in-Branch}
 
 pub returns-clause-origin : goal.returns-clause-origin
-returns-clause-origin c =
+returns-clause-origin g c =
     let s = c.args.frames.now in
     elim c.match-instr.branch [
       | in-Nop w ↦ rw w.frames-is refl

@@ -7,7 +7,7 @@ use Rattle.jc_interp.specs.Running.{run_of}
 use Rattle.jc_interp.proofs.frames_only.run_in_frames.Given as goal
 
 abbrev pub invariant-loop-turns : goal.invariant-loop-turns
-invariant-loop-turns l = record {
+invariant-loop-turns g l = record {
   same : (more : ℕ) (lent : List ℕ) (p : Packages) (m : MemoryState) → l.code ≡ code_of lent p l.fn.frames.current.origin.package_number
       → run_of (l.budget + more) lent p l.fn.frames m ≡ run_of (l.budget - l.turns + more) lent p l.frames m;
   origin : l.frames.current.origin ≡ l.fn.frames.current.origin;

@@ -7,8 +7,7 @@ use Rattle.jc_platform.specs.Names.{methods}
 use Rattle.jc_platform.specs.Numbers.{same_class, same_kind}
 use Rattle.jc_platform.specs.Rows.{methods_of}
 use Rattle.jc_platform.specs.Seen.{method_value}
-use Rattle.jc_platform.proofs.ClassMethods.{find-filter}
-use Rattle.jc_platform.proofs.Lists.{found_through}
+use Rattle.jc_platform.proofs.Lists.{and_within, find-filter, found_through}
 use Rattle.jc_platform.proofs.lookup.method_named.Goals as goal
 
 pub returns : goal.returns
@@ -20,4 +19,6 @@ returns c =
     (YieldsList-from_slice own cc) (λ x b q k. search (rules, tests))) in
     found_through (λ e. same_kind e.kind c.args.kind && bytes_eq e.name name) method_value own (methods_of c.args.class) c.copied.result
     c.methods_of.ensures found
-    ∙ sym (find-filter (λ e. same_class e.class c.args.class) (λ e. same_kind e.kind c.args.kind) (λ e. bytes_eq e.name name) methods)
+    ∙ sym (find-filter (λ e. same_class e.class c.args.class) (λ e. same_kind e.kind c.args.kind && bytes_eq e.name name)
+    (λ e. same_class e.class c.args.class && same_kind e.kind c.args.kind && bytes_eq e.name name) methods
+    (λ e. and_within (same_class e.class c.args.class) (same_kind e.kind c.args.kind) (bytes_eq e.name name)))

@@ -7,8 +7,7 @@ use Rattle.jc_platform.specs.Numbers.{same_class, same_kind}
 use Rattle.jc_platform.specs.Rows.{is_token, methods_of}
 use Rattle.jc_platform.specs.Seen.{method_value}
 use Rattle.jc_platform.specs.Tokens.{token_of_method}
-use Rattle.jc_platform.proofs.ClassMethods.{find-filter}
-use Rattle.jc_platform.proofs.Lists.{found_through}
+use Rattle.jc_platform.proofs.Lists.{and_within, find-filter, found_through}
 use Rattle.jc_platform.proofs.platform.Platform.method_entry.Goals as goal
 
 pub returns : goal.returns
@@ -20,5 +19,6 @@ returns c =
     c.find.ensures.ran (YieldsList-from_slice own cc) (λ x b q k. search (rules, tests))) in
     found_through (λ e. same_kind e.kind c.args.kind && is_token (token_of_method tokens e.method) c.args.token) method_value own
     (methods_of c.args.class) c.copied.result c.methods_of.ensures found
-    ∙ sym (find-filter (λ e. same_class e.class c.args.class) (λ e. same_kind e.kind c.args.kind)
-    (λ e. is_token (token_of_method tokens e.method) c.args.token) methods)
+    ∙ sym (find-filter (λ e. same_class e.class c.args.class) (λ e. same_kind e.kind c.args.kind && is_token (token_of_method tokens e.method) c.args.token)
+    (λ e. same_class e.class c.args.class && same_kind e.kind c.args.kind && is_token (token_of_method tokens e.method) c.args.token) methods
+    (λ e. and_within (same_class e.class c.args.class) (same_kind e.kind c.args.kind) (is_token (token_of_method tokens e.method) c.args.token)))
