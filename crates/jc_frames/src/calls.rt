@@ -8,6 +8,7 @@ use crate::cell::Cell;
 use crate::frames::{Frames, MOST_CELLS, MOST_FRAMES, Region, SavedFrame, push_zeros};
 use crate::method::{CallKind, Entry, ReturnPoint};
 use crate::outcome::CodeFault;
+use crate::stack::keep_cells;
 
 impl Frames {
     /// Begins the frame of a method that is called: the arguments on top of the caller's stack become
@@ -69,7 +70,7 @@ impl Frames {
         ensures same { IsNone result → self.new ≡ self.old }
     {
         let caller = self.saved.pop()?;
-        self.cells.truncate(self.current.base);
+        keep_cells(&mut self.cells, self.current.base);
         self.current = caller.region;
         Some(caller.resume)
     }

@@ -123,7 +123,8 @@ impl Frames {
         requires { count ≤ length self.old.current.stack }
         ensures { self.new ≡ with_stack self.old (drop count self.old.current.stack) }
     {
-        pop_cells(&mut self.cells, count);
+        let kept = self.cells.len() - usize::from(count);
+        keep_cells(&mut self.cells, kept);
     }
 
     /// Whether there is room for one more cell.
@@ -221,15 +222,18 @@ impl Frames {
     }
 }
 
-// Takes so many cells off the end: few one by one, which is shorter than to blank a range.
+// Keeps so many cells: few others are taken off one by one, which is shorter than to blank a range.
 #[inline(always)]
-fn pop_cells(cells: &mut ArrayVec<Cell, MOST_CELLS>, count: u8)
-    requires { count ≤ length cells.old.items }
-    ensures { cells.new.items ≡ take (length cells.old.items - count) cells.old.items }
+pub(crate) fn keep_cells(cells: &mut ArrayVec<Cell, MOST_CELLS>, kept: usize)
+    requires { kept ≤ length cells.old.items }
+    ensures { cells.new.items ≡ take kept cells.old.items }
 {
+    let count = cells.len() - kept;
+    if count == 0 {
+        return;
+    }
     if count > 3 {
-        let length = cells.len();
-        cells.truncate(length - usize::from(count));
+        cells.truncate(kept);
         return;
     }
     for _done in 0..count {

@@ -3,34 +3,35 @@ use Rattle.std.specs.Prelude.{ℕ, ◌+◌, List, Option, Some, None, Result, Ok
 use Rattle.jc_memory.specs.State.{MemoryState}
 use Rattle.jc_memory.specs.Programs.{Program, Finish, bind}
 use Rattle.jc_linker.specs.Values.{Packages}
+use Rattle.jc_opcodes.specs.declared.instr.Instr.{Instr}
+use Rattle.jc_opcodes.specs.declared.instr.Instr.TheVariants.{Return, Field, Array, Object, Invoke}
 use Rattle.jc_frames.specs.declared.outcome.Outcome.{Outcome}
 use Rattle.jc_frames.specs.declared.outcome.Outcome.TheVariants.{Fault}
-use Rattle.jc_frames.specs.Frames.{Frames, Next}
+use Rattle.jc_frames.specs.Frames.{Frames, Next, Ends}
 use Rattle.jc_interp_objects.specs.FieldOps.{field_instruction}
 use Rattle.jc_interp_objects.specs.ArrayOps.{array_instruction}
 use Rattle.jc_interp_calls.specs.MethodReturn.{method_return}
 use Rattle.jc_world.specs.Instructions.{continue_with, exit_of}
 use Rattle.jc_interp.specs.declared.frames_only.PausedStep.{PausedStep}
-use Rattle.jc_interp.specs.declared.frames_only.MemoryInstr.{MemoryInstr}
-use Rattle.jc_interp.specs.declared.frames_only.MemoryInstr.TheVariants.{Return, Field, Array, Object, Invoke}
 use Rattle.jc_interp.specs.declared.frames_only.FramesExit.{FramesExit}
 use Rattle.jc_interp.specs.declared.frames_only.FramesExit.TheVariants.{Exit, Needs}
 use Rattle.jc_interp.specs.Calling.{invoke_instruction}
 use Rattle.jc_interp.specs.Stepping.{throw_from, object_instruction}
 use Rattle.jc_interp.specs.Running.{or_end, run_of}
 
--- what an instruction at a place may do that needs more than frames, with the next instruction behind it
-abbrev pub memory_instruction : MemoryInstr → ℕ → Packages → Frames → MemoryState → Program (Next Frames)
+-- what an instruction at a place may do that needs more than frames, with the next instruction behind it; any other is no such one
+abbrev pub memory_instruction : Instr → ℕ → Packages → Frames → MemoryState → Program (Next Frames)
 memory_instruction (Return how) place p s m = method_return how s m
 memory_instruction (Field field) place p s m = field_instruction field p s m
 memory_instruction (Array operation) place p s m = array_instruction operation p s m
 memory_instruction (Object operation) place p s m = object_instruction operation place p s m
 memory_instruction (Invoke method) place p s m = invoke_instruction method place p s m
+memory_instruction other place p s m = Finish (Ends Fault)
 
 -- what is left of an instruction at a place
 abbrev pub paused_rest : FramesExit → ℕ → Packages → Frames → MemoryState → Program (Next Frames)
 paused_rest (Exit stop) place p s m = exit_of s stop
-paused_rest (Needs request) place p s m = memory_instruction request place p s m
+paused_rest (Needs instr) place p s m = memory_instruction instr place p s m
 
 -- an instruction at a place, of which frames did what they can
 abbrev pub after_part : Result (Unit {0}) FramesExit → ℕ → Packages → Frames → MemoryState → Program (Next Frames)

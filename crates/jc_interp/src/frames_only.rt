@@ -17,25 +17,15 @@ use jc_frames::stack_ops::stack_instruction;
 use jc_frames::{CodeFault, FrameExit, Frames, Outcome};
 use jc_memory::Notes;
 use jc_opcodes::decode::decode;
-use jc_opcodes::instr::{ArrayOp, FieldOp, Instr, InvokeOp, ObjectOp, ReturnOp};
-
-/// An instruction that needs more than frames.
-#[derive(Clone, Copy)]
-pub(crate) enum MemoryInstr {
-    Return(ReturnOp),
-    Field(FieldOp),
-    Array(ArrayOp),
-    Object(ObjectOp),
-    Invoke(InvokeOp),
-}
+use jc_opcodes::instr::{Instr, ReturnOp};
 
 /// Why frames alone do not go on.
 #[derive(Clone, Copy)]
 pub(crate) enum FramesExit {
     /// The runtime environment throws, or the run ends.
     Exit(FrameExit),
-    /// This instruction is to be carried out.
-    Needs(MemoryInstr),
+    /// This instruction needs more than frames.
+    Needs(Instr),
 }
 
 impl From<CodeFault> for FramesExit {
@@ -109,11 +99,11 @@ fn carry_out<C>(
         Instr::Stack(stack) => stack_instruction(stack, frames)?,
         Instr::Arithmetic(arithmetic) => arithmetic_instruction(arithmetic, frames)?,
         Instr::Branch(to) => branch_instruction::<C>(to, code, usize::from(place), frames)?,
-        Instr::Return(how) => return Err(FramesExit::Needs(MemoryInstr::Return(how))),
-        Instr::Field(field) => return Err(FramesExit::Needs(MemoryInstr::Field(field))),
-        Instr::Array(operation) => return Err(FramesExit::Needs(MemoryInstr::Array(operation))),
-        Instr::Object(operation) => return Err(FramesExit::Needs(MemoryInstr::Object(operation))),
-        Instr::Invoke(call) => return Err(FramesExit::Needs(MemoryInstr::Invoke(call))),
+        Instr::Return(_)
+        | Instr::Field(_)
+        | Instr::Array(_)
+        | Instr::Object(_)
+        | Instr::Invoke(_) => return Err(FramesExit::Needs(instr)),
     }
     Ok(())
 }

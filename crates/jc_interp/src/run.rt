@@ -5,7 +5,7 @@ ghost use Rattle.jc_heap.specs.Completions.{after_step};
 ghost use Rattle.jc_interp.specs.Running.{run_methods, run_of, run_ad_hoc};
 
 use crate::explain::{note_budget, note_end};
-use crate::frames_only::{PausedStep, run_turn};
+use crate::frames_only::run_turn;
 use crate::step::{code_of, finish};
 use jc_frames::{Frames, Origin, Outcome};
 use jc_linker::linked::Linked;
@@ -34,12 +34,11 @@ pub fn run_of<S: WordStore>(
     let mut code = code_of(lent, number, linked);
     while let Some((rest, pause)) = run_turn::<S>(code, left, frames, memory.notes()) {
         left = rest;
-        let PausedStep { place, .. } = pause;
-        match finish(pause, frames, memory, linked) {
+        match finish(&pause, frames, memory, linked) {
             Ok(()) => {}
             Err(StepExit::End(outcome)) => {
                 if memory.notes().are_kept() {
-                    note_end(&outcome, left, code, place, frames, memory, linked);
+                    note_end(&outcome, left, code, pause.place, frames, memory, linked);
                 }
                 return Ok((left, outcome));
             }

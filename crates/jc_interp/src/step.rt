@@ -6,8 +6,8 @@ ghost use Rattle.jc_interp.specs.Stepping.{code_of, object_instruction};
 ghost use Rattle.jc_interp.specs.PausedSteps.{step_rest, memory_instruction, paused_rest};
 
 use crate::calling::invoke_instruction;
-use crate::frames_only::{FramesExit, MemoryInstr, PausedStep};
-use jc_frames::Frames;
+use crate::frames_only::{FramesExit, PausedStep};
+use jc_frames::{Frames, Outcome};
 use jc_interp_calls::method_component::method_component_of;
 use jc_interp_calls::method_return::return_to_caller;
 use jc_interp_calls::throw::{athrow, throw};
@@ -16,7 +16,7 @@ use jc_interp_objects::{
 };
 use jc_linker::linked::Linked;
 use jc_memory::Memory;
-use jc_opcodes::instr::ObjectOp;
+use jc_opcodes::instr::{Instr, ObjectOp};
 use jc_words::WordStore;
 use jc_world::StepExit;
 
@@ -53,46 +53,45 @@ fn object_instruction<S: WordStore>(
     }
 }
 
-// Carries out an instruction at a place, behind which the next one stands.
+// Carries out an instruction at a place, behind which the next one stands. What frames alone carry out does not come here.
 #[inline(always)]
 fn execute<S: WordStore>(
-    request: MemoryInstr,
+    instr: &Instr,
     place: u16,
     frames: &mut Frames,
     memory: &mut Memory<S>,
     linked: &Linked,
 ) -> Result<(), StepExit>
     requires up { memory.old.heap.down ≡ false }
-    ensures { Executes (memory_instruction request place linked.now frames.old memory.old)
+    ensures { Executes (memory_instruction instr.now place linked.now frames.old memory.old)
         memory.old (after_instruction result frames.new memory.new) }
 {
-    match request {
-        MemoryInstr::Return(how) => return_to_caller(how, frames, memory),
-        MemoryInstr::Field(field) => field_instruction(field, frames, memory, linked),
-        MemoryInstr::Array(operation) => array_instruction(operation, frames, memory, linked),
-        MemoryInstr::Object(operation) => object_instruction(
-            operation, place, frames, memory, linked,
-        ),
-        MemoryInstr::Invoke(call) => invoke_instruction(call, place, frames, memory, linked),
+    match instr {
+        Instr::Return(how) => return_to_caller(*how, frames, memory),
+        Instr::Field(field) => field_instruction(*field, frames, memory, linked),
+        Instr::Array(operation) => array_instruction(*operation, frames, memory, linked),
+        Instr::Object(operation) => object_instruction(*operation, place, frames, memory, linked),
+        Instr::Invoke(call) => invoke_instruction(*call, place, frames, memory, linked),
+        _ => Err(StepExit::End(Outcome::Fault)),
     }
 }
 
 // Does what is left of an instruction at a place.
 #[inline(always)]
 fn resume<S: WordStore>(
-    why: FramesExit,
+    why: &FramesExit,
     place: u16,
     frames: &mut Frames,
     memory: &mut Memory<S>,
     linked: &Linked,
 ) -> Result<(), StepExit>
     requires up { memory.old.heap.down ≡ false }
-    ensures { Executes (paused_rest why place linked.now frames.old memory.old) memory.old
+    ensures { Executes (paused_rest why.now place linked.now frames.old memory.old) memory.old
         (after_instruction result frames.new memory.new) }
 {
     match why {
-        FramesExit::Exit(stop) => Err(StepExit::from(stop)),
-        FramesExit::Needs(request) => execute(request, place, frames, memory, linked),
+        FramesExit::Exit(stop) => Err(StepExit::from(*stop)),
+        FramesExit::Needs(instr) => execute(instr, place, frames, memory, linked),
     }
 }
 
@@ -100,20 +99,19 @@ fn resume<S: WordStore>(
 #[tactic(auto, using(jc_memory::proofs::ProgramLemmas::in_two_calls))]
 #[inline(always)]
 pub(crate) fn finish<S: WordStore>(
-    pause: PausedStep,
+    pause: &PausedStep,
     frames: &mut Frames,
     memory: &mut Memory<S>,
     linked: &Linked,
 ) -> Result<(), StepExit>
     requires up { memory.old.heap.down ≡ false }
-    ensures { Executes (step_rest pause linked.now frames.old memory.old) memory.old
+    ensures { Executes (step_rest pause.now linked.now frames.old memory.old) memory.old
         (after_instruction result frames.new memory.new) }
 {
-    let PausedStep { place, why, .. } = pause;
-    match resume(why, place, frames, memory, linked) {
+    match resume(&pause.why, pause.place, frames, memory, linked) {
         Err(StepExit::Throw(exception)) => {
             frames.clear_stack();
-            throw(exception, place, frames, memory, linked)
+            throw(exception, pause.place, frames, memory, linked)
         }
         other => other,
     }

@@ -494,25 +494,24 @@ pub fn select_method<C, S: WordStore>(
         memory.now) }
 {
     let number = frames.origin().package_number;
+    // What is called out of line hands its answer over in memory of its own, so that the others need none.
     match invoke {
         InvokeOp::Virtual(index) => {
             virtual_by::<C, S>(linked.target_at(number, index), frames, memory, linked)
         }
         InvokeOp::Special(index) => {
-            special_by(linked.target_at(number, index), frames, memory, linked)
+            let special = special_by(linked.target_at(number, index), frames, memory, linked)?;
+            Ok(special)
         }
         InvokeOp::Static(index) => select_static_method(index, frames, linked),
         InvokeOp::Interface {
             arguments,
             index,
             token,
-        } => interface_by(
-            linked.target_at(number, index),
-            arguments,
-            token,
-            frames,
-            memory,
-            linked,
-        ),
+        } => {
+            let entry = linked.target_at(number, index);
+            let selected = interface_by(entry, arguments, token, frames, memory, linked)?;
+            Ok(selected)
+        }
     }
 }
