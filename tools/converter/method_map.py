@@ -116,7 +116,7 @@ def map_of(aid, contents, exports):
     """The lines of the map of a package: its AID, and for each method an offset in the Method component, a name, and its instructions."""
     debug, descriptor = component(contents, cap.DEBUG, "Debug", Debug), component(contents, cap.DESCRIPTOR, "Descriptor", Descriptor)
     if debug is None and descriptor is None:
-        raise Refusal("the CAP file has neither a Descriptor nor a Debug component")
+        raise Refusal("the CAP file has neither a Descriptor nor a Debug component; of Java source tools/convert --map writes a map")
     names = ExportedNames(contents, exports)
     found = {offset: names.name(offset, *more) for offset, *more in descriptor.methods} if descriptor else {}
     found.update(debug.methods if debug else {})

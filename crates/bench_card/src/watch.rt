@@ -1,5 +1,5 @@
 //! Answers as they come, and the time between them.
-ghost use Rattle.std.specs.Prelude.{◌≡◌, None};
+ghost use Rattle.std.specs.Prelude.{None};
 
 use jcard_script::streams::{TextOut, WriteFailed};
 use std::rt::Clock;

@@ -1,5 +1,5 @@
 -- Turns: steps that need nothing but frames.
-use Rattle.std.proofs.Common.{◌≡◌, ℕ, suc, ◌+◌, ◌-◌, ◌<◌, List, Option, Some, None, refl, ◌∙◌, ap, arith}
+use Rattle.std.proofs.Common.{◌≡◌, ℕ, suc, ◌+◌, ◌-◌, ◌<◌, List, Some, None, refl, ◌∙◌, ap, arith}
 use Rattle.jc_memory.specs.State.{MemoryState}
 use Rattle.jc_linker.specs.Values.{Packages}
 use Rattle.jc_frames.specs.Frames.{Frames}
@@ -15,7 +15,7 @@ module _ (lent code : List ℕ) (p : Packages) (s t : Frames) (m : MemoryState) 
   one_goes e = rw (← own, ← e) refl
 
   one_pauses : (pause : PausedStep) → pause.place ≡ s.current.place → paused_rest pause.why pause.place p t m ≡ instruction_step code p s m
-      → run_of (suc n) lent p s m ≡ run_rest (Some (n, pause)) lent p t m
+      → run_of (suc n) lent p s m ≡ run_rest (n, pause) lent p t m
   unfolding run_of machine_step
   one_pauses pause at e = rw (← own, ← e, ← at) refl
 
@@ -35,29 +35,3 @@ module _ (lent code : List ℕ) (p : Packages) (s t : Frames) (m : MemoryState) 
 pub used_up : (n more : ℕ) (lent : List ℕ) (p : Packages) (s : Frames) (m : MemoryState) → n ≡ 0
     → run_of (n + more) lent p s m ≡ run_behind None more lent p s m
 used_up n more lent p s m e = ap (λ (k : ℕ). run_of k lent p s m) (omega (arith, e))
-
--- without steps more it is what is left of the run alone
-pub no_more : (r : Option (ℕ × PausedStep)) (lent : List ℕ) (p : Packages) (s : Frames) (m : MemoryState)
-    → run_behind r 0 lent p s m ≡ run_rest r lent p s m
-unfolding run_of
-no_more None lent p s m = refl
-no_more (Some r) lent p s m = ap (λ (n : ℕ). run_rest (Some (n, r.1)) lent p s m) (omega arith)
-
-pub none_added : (n : ℕ) (lent : List ℕ) (p : Packages) (s : Frames) (m : MemoryState) → run_of n lent p s m ≡ run_of (n + 0) lent p s m
-none_added n lent p s m = ap (λ (k : ℕ). run_of k lent p s m) (omega arith)
-
--- one step of a run after so many: all that are behind it are left
-module _ (limit turn : ℕ) (lt : turn < limit) (lent : List ℕ) (p : Packages) (s t : Frames) (m : MemoryState) where
-  pub one_more : run_of (1 + (limit - (turn + 1))) lent p s m ≡ run_of (limit - (turn + 1)) lent p t m
-      → run_of (limit - turn) lent p s m ≡ run_of (limit - (turn + 1)) lent p t m
-  one_more e = ap (λ (k : ℕ). run_of k lent p s m) (omega (arith, lt)) ∙ e
-
-  pub one_paused : (left : ℕ) (pause : PausedStep) → left < 1
-      → run_of (1 + (limit - (turn + 1))) lent p s m ≡ run_behind (Some (left, pause)) (limit - (turn + 1)) lent p t m
-      → run_of (limit - turn) lent p s m ≡ run_rest (Some (limit - (turn + 1), pause)) lent p t m
-  one_paused left pause few e = ap (λ (k : ℕ). run_of k lent p s m) (omega (arith, lt)) ∙ e
-      ∙ ap (λ (n : ℕ). run_rest (Some (n, pause)) lent p t m) (omega (arith, few))
-
-pub none_left : (n : ℕ) (lent : List ℕ) (p : Packages) (s : Frames) (m : MemoryState) → n ≡ 0 → run_of n lent p s m ≡ run_rest None lent p s m
-unfolding run_of
-none_left n lent p s m e = rw e refl

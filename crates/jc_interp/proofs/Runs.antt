@@ -1,5 +1,5 @@
 -- Runs, pause by pause.
-use Rattle.std.proofs.Common.{◌≡◌, ℕ, List, Some, refl, sym, subst}
+use Rattle.std.proofs.Common.{◌≡◌, ℕ, ◌+◌, ◌-◌, ◌<◌, List, Option, None, Result, Ok, refl, sym, subst, arith}
 use Rattle.jc_memory.specs.State.{MemoryState}
 use Rattle.jc_memory.specs.Programs.{Completes, IsTornIn, Executes}
 use Rattle.jc_heap.specs.Completions.{Completion, Completed, Torn}
@@ -10,18 +10,13 @@ use Rattle.jc_frames.specs.declared.outcome.Outcome.{Outcome}
 use Rattle.jc_frames.specs.declared.outcome.Outcome.TheVariants.{Fault}
 use Rattle.jc_frames.specs.Frames.{Frames, GoesOn, Throws, Ends}
 use Rattle.jc_interp.specs.declared.frames_only.PausedStep.{PausedStep}
-use Rattle.jc_interp.specs.Running.{or_end, run_of}
+use Rattle.jc_interp.specs.Running.{or_end, run_of, Continues, IsPartOfRun}
 use Rattle.jc_interp.specs.PausedSteps.{step_rest, run_rest}
-
--- what ends so from here ends so from the beginning
-abbrev pub Continues : ℕ → List ℕ → Packages → Frames → MemoryState → ℕ → Frames → MemoryState → Type 0
-Continues limit lent p first start left s m = (after : Completion MemoryState (ℕ × Outcome)) → Executes (run_of left lent p s m) m after
-    → Executes (run_of limit lent p first start) start after
 
 -- a run that so many steps are left of behind a pause
 module _ (n left : ℕ) (pause : PausedStep) (lent : List ℕ) (p : Packages) (s at : Frames) (m new : MemoryState)
-    (paused : run_of n lent p s m ≡ run_rest (Some (left, pause)) lent p at m) where
-  behind : (after : Completion MemoryState (ℕ × Outcome)) → Executes (run_rest (Some (left, pause)) lent p at m) m after
+    (paused : run_of n lent p s m ≡ run_rest (left, pause) lent p at m) where
+  behind : (after : Completion MemoryState (ℕ × Outcome)) → Executes (run_rest (left, pause) lent p at m) m after
       → Executes (run_of n lent p s m) m after
   behind after made = subst (λ d. Executes d m after) (sym paused) made
 
@@ -41,3 +36,19 @@ module _ (n left : ℕ) (pause : PausedStep) (lent : List ℕ) (p : Packages) (s
 
   pub run_cut : IsTornIn (step_rest pause p at m) m new → Executes (run_of n lent p s m) m (Torn new)
   run_cut cut = behind (Torn new) (bind_cut (λ next v. or_end left next (λ t. run_of left lent p t v)) (step_rest pause p at m) m new cut)
+
+-- one more step, which the store refused
+one_of : (limit turn : ℕ) → turn < limit → 1 + (limit - (turn + 1)) ≡ limit - turn
+one_of limit turn lt = omega (arith, lt)
+
+pub one_cut : (limit turn : ℕ) → turn < limit → (lent : List ℕ) (p : Packages) (first s : Frames) (start m new : MemoryState)
+    → Continues limit lent p first start (limit - turn) s m → IsTornIn (run_of (1 + (limit - (turn + 1))) lent p s m) m new
+    → IsTornIn (run_of limit lent p first start) start new
+one_cut limit turn lt lent p first s start m new so_far cut =
+    so_far (Torn new) (subst (λ (k : ℕ). IsTornIn (run_of k lent p s m) m new) (one_of limit turn lt) cut)
+
+-- what has not ended with its steps ends by a code fault
+pub not_ended : {E : Type 0} (r : Result (Option (ℕ × Outcome)) E) (limit : ℕ) (lent : List ℕ) (p : Packages) (first s : Frames)
+    (start m : MemoryState) → r ≡ Ok None → IsPartOfRun r limit 0 lent p first start s m → Completes (run_of limit lent p first start) start (0, Fault) m
+unfolding run_of
+not_ended r limit lent p first s start m e part = let none = rw e at part in none.1 (Completed (0, Fault) m) (refl, refl)

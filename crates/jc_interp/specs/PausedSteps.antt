@@ -47,12 +47,11 @@ after_frames_step (Err pause) p s m = paused_rest pause.why pause.place p s m
 abbrev pub step_rest : PausedStep → Packages → Frames → MemoryState → Program (Next Frames)
 step_rest pause p s m = bind (paused_rest pause.why pause.place p s m) m (λ next v. throw_from pause.place p next v)
 
--- what is left of a run of which so many steps are left behind a pause; without one, no step is left
-abbrev pub run_rest : Option (ℕ × PausedStep) → List ℕ → Packages → Frames → MemoryState → Program (ℕ × Outcome)
-run_rest None lent p s m = Finish (0, Fault)
-run_rest (Some r) lent p s m = bind (step_rest r.1 p s m) m (λ next v. or_end r.0 next (λ t. run_of r.0 lent p t v))
+-- what is left of a run of which so many steps are left behind a pause
+abbrev pub run_rest : ℕ × PausedStep → List ℕ → Packages → Frames → MemoryState → Program (ℕ × Outcome)
+run_rest r lent p s m = bind (step_rest r.1 p s m) m (λ next v. or_end r.0 next (λ t. run_of r.0 lent p t v))
 
 -- the same of a run of so many steps more, all of which are left where there was no pause
 abbrev pub run_behind : Option (ℕ × PausedStep) → ℕ → List ℕ → Packages → Frames → MemoryState → Program (ℕ × Outcome)
 run_behind None more lent p s m = run_of more lent p s m
-run_behind (Some r) more lent p s m = run_rest (Some (r.0 + more, r.1)) lent p s m
+run_behind (Some r) more lent p s m = run_rest (r.0 + more, r.1) lent p s m

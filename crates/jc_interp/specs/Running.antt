@@ -1,7 +1,8 @@
 -- Runs: so many steps at most.
-use Rattle.std.specs.Prelude.{ℕ, zero, suc, List, []}
+use Rattle.std.specs.Prelude.{ℕ, zero, suc, ◌≡◌, List, [], Option, Some, None, Result, Ok, Err}
 use Rattle.jc_memory.specs.State.{MemoryState}
-use Rattle.jc_memory.specs.Programs.{Program, Finish, bind}
+use Rattle.jc_heap.specs.Completions.{Completion, Completed, Torn}
+use Rattle.jc_memory.specs.Programs.{Program, Finish, Executes, bind}
 use Rattle.jc_linker.specs.Values.{Packages}
 use Rattle.jc_frames.specs.declared.method.Origin.{Origin}
 use Rattle.jc_frames.specs.declared.outcome.Outcome.{Outcome}
@@ -20,6 +21,18 @@ or_end left (Ends o) more = Finish (left, o)
 unfoldable pub run_of : ℕ → List ℕ → Packages → Frames → MemoryState → Program (ℕ × Outcome)
 run_of zero lent p s m = Finish (0, Fault)
 run_of (suc n) lent p s m = bind (machine_step lent p s m) m (λ next v. or_end n next (λ t. run_of n lent p t v))
+
+-- what ends so from here, with so many steps left, ends so from the beginning
+abbrev pub Continues : ℕ → List ℕ → Packages → Frames → MemoryState → ℕ → Frames → MemoryState → Type 0
+Continues limit lent p first start left s m = (after : Completion MemoryState (ℕ × Outcome)) → Executes (run_of left lent p s m) m after
+    → Executes (run_of limit lent p first start) start after
+
+-- a run of which all steps but so many were taken: it ended; or it has not, and goes on with these; or the store refused a write
+abbrev pub IsPartOfRun : {E : Type 0} → Result (Option (ℕ × Outcome)) E → ℕ → ℕ → List ℕ → Packages → Frames → MemoryState → Frames → MemoryState
+    → Type 0
+IsPartOfRun (Ok (Some end)) limit later lent p first start s m = Executes (run_of limit lent p first start) start (Completed end m)
+IsPartOfRun (Ok None) limit later lent p first start s m = (m.heap.down ≡ start.heap.down) × Continues limit lent p first start later s m
+IsPartOfRun (Err down) limit later lent p first start s m = Executes (run_of limit lent p first start) start (Torn m)
 
 -- a run of methods of packages
 abbrev pub run_methods : ℕ → Packages → Frames → MemoryState → Program (ℕ × Outcome)

@@ -8,7 +8,9 @@ ghost use Rattle.jc_interp.specs.Calling.{after_native_return, invoke_instructio
 use crate::natives::call_native;
 use jc_frames::{CallKind, Frames, Outcome};
 use jc_interp_calls::enter::{CallSite, Callee, enter};
-use jc_interp_calls::invoke::{SelectedCall, select_method, select_static_method};
+use jc_interp_calls::invoke::{
+    SelectedCall, select_method, select_static_method, select_virtual_method,
+};
 use jc_interp_calls::server_call::call_server;
 use jc_linker::linked::Linked;
 use jc_linker::target::Method;
@@ -109,7 +111,25 @@ fn invoke_selected<S: WordStore>(
     }
 }
 
-/// A call by the instruction at a place. Static calls take a path of their own, which looks at no receiver.
+// A call by the instruction at a place, out of line: it needs memory for what the choice of its method hands over.
+#[tactic(auto, unfolding(crate::specs::Calling::invoke_instruction))]
+#[inline(never)]
+fn invoke_other<S: WordStore>(
+    invoke: InvokeOp,
+    place: u16,
+    frames: &mut Frames,
+    memory: &mut Memory<S>,
+    linked: &Linked,
+) -> Result<(), StepExit>
+    requires up { memory.old.heap.down ≡ false }
+    ensures { Executes (invoke_instruction invoke place linked.now frames.old memory.old) memory.old
+        (after_instruction result frames.new memory.new) }
+{
+    let chosen = select_method::<InvokeOp, S>(invoke, frames, memory, linked)?;
+    invoke_selected(chosen, place, frames, memory, linked)
+}
+
+/// A call by the instruction at a place. Virtual and static calls take paths of their own.
 #[tactic(auto, unfolding(crate::specs::Calling::invoke_instruction, jc_interp_calls::specs::Invoke::method_selection))]
 #[inline(always)]
 pub(crate) fn invoke_instruction<S: WordStore>(
@@ -123,10 +143,13 @@ pub(crate) fn invoke_instruction<S: WordStore>(
     ensures { Executes (invoke_instruction invoke place linked.now frames.old memory.old) memory.old
         (after_instruction result frames.new memory.new) }
 {
+    if let InvokeOp::Virtual(index) = invoke {
+        let chosen = select_virtual_method::<S, S>(index, frames, memory, linked)?;
+        return invoke_selected(chosen, place, frames, memory, linked);
+    }
     if let InvokeOp::Static(index) = invoke {
         let chosen = select_static_method(index, frames, linked)?;
         return invoke_selected(chosen, place, frames, memory, linked);
     }
-    let chosen = select_method::<S, S>(invoke, frames, memory, linked)?;
-    invoke_selected(chosen, place, frames, memory, linked)
+    invoke_other(invoke, place, frames, memory, linked)
 }

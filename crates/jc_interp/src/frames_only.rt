@@ -1,21 +1,19 @@
 //! Turns: instructions that need nothing but the frames are carried out one after the other, up to one that
 //! needs more.
-ghost use Rattle.std.specs.Prelude.{◌≡◌, ◌<◌, ◌+◌, ◌^◌, ℕ, List, length, IfErr, IfSome, IsNone, OnOk};
+ghost use Rattle.std.specs.Prelude.{◌≡◌, ◌<◌, ◌+◌, ◌^◌, ℕ, List, length, IfErr, IfSome, OnOk};
 ghost use Rattle.jc_opcodes.specs.Table.{HasListedOperands};
 ghost use Rattle.jc_linker.specs.Values.{Packages};
 ghost use Rattle.jc_memory.specs.State.{MemoryState};
 ghost use Rattle.jc_interp.specs.Stepping.{code_of, instruction_at, instruction_step, is_plain};
 ghost use Rattle.jc_interp.specs.Running.{run_of};
-ghost use Rattle.jc_interp.specs.PausedSteps.{after_part, after_frames_step, run_behind, run_rest};
+ghost use Rattle.jc_interp.specs.PausedSteps.{after_part, after_frames_step, run_behind};
 
-use crate::explain::note_step;
 use jc_frames::arithmetic_ops::arithmetic_instruction;
 use jc_frames::branch_ops::branch_instruction;
 use jc_frames::constant_ops::constant_instruction;
 use jc_frames::local_ops::local_instruction;
 use jc_frames::stack_ops::stack_instruction;
 use jc_frames::{CodeFault, FrameExit, Frames, Outcome};
-use jc_memory::Notes;
 use jc_opcodes::decode::decode;
 use jc_opcodes::instr::{Instr, ReturnOp};
 
@@ -151,7 +149,6 @@ pub(crate) fn run_in_frames<C>(
         → code.now ≡ code_of lent p frames.old.current.origin.package_number
         → run_of (budget + more) lent p frames.old m ≡ run_behind result more lent p frames.new m }
     ensures fewer { IfSome result (λ r. r.0 < budget) }
-    ensures origin { IsNone result → frames.new.current.origin ≡ frames.old.current.origin }
 {
     for turns in 0..budget {
         if let Err(pause) = step_in_frames::<C>(code, frames) {
@@ -159,48 +156,4 @@ pub(crate) fn run_in_frames<C>(
         }
     }
     None
-}
-
-// The same, with a note of each instruction before it is carried out.
-#[cold]
-#[inline(never)]
-fn run_noted(
-    code: &[u8],
-    budget: u32,
-    frames: &mut Frames,
-    notes: &Notes,
-) -> Option<(u32, PausedStep)>
-    requires short { length code.now < 2 ^ 16 }
-    ensures same { (lent : List ℕ) (p : Packages) (m : MemoryState)
-        → code.now ≡ code_of lent p frames.old.current.origin.package_number
-        → run_of budget lent p frames.old m ≡ run_rest result lent p frames.new m }
-    ensures fewer { IfSome result (λ r. r.0 < budget) }
-{
-    for turns in 0..budget {
-        note_step(frames, notes);
-        if let Some((_, pause)) = run_in_frames::<Notes>(code, 1, frames) {
-            return Some((budget - (turns + 1), pause));
-        }
-    }
-    None
-}
-
-/// Carries out instructions that need nothing but frames, as `run_in_frames` does. Each is noted before, where somebody asks for it.
-#[inline(always)]
-pub(crate) fn run_turn<C>(
-    code: &[u8],
-    budget: u32,
-    frames: &mut Frames,
-    notes: &Notes,
-) -> Option<(u32, PausedStep)>
-    requires short { length code.now < 2 ^ 16 }
-    ensures same { (lent : List ℕ) (p : Packages) (m : MemoryState)
-        → code.now ≡ code_of lent p frames.old.current.origin.package_number
-        → run_of budget lent p frames.old m ≡ run_rest result lent p frames.new m }
-    ensures fewer { IfSome result (λ r. r.0 < budget) }
-{
-    if notes.keep_steps() {
-        return run_noted(code, budget, frames, notes);
-    }
-    run_in_frames::<C>(code, budget, frames)
 }

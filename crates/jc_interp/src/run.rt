@@ -1,11 +1,11 @@
 //! Runs: so many steps at most.
-ghost use Rattle.std.specs.Prelude.{◌≡◌, ◌<◌, ◌^◌, false, length};
+ghost use Rattle.std.specs.Prelude.{◌≡◌, ◌<◌, ◌+◌, ◌^◌, false, length};
 ghost use Rattle.jc_memory.specs.Programs.{Executes};
 ghost use Rattle.jc_heap.specs.Completions.{after_step};
-ghost use Rattle.jc_interp.specs.Running.{run_methods, run_of, run_ad_hoc};
+ghost use Rattle.jc_interp.specs.Running.{IsPartOfRun, run_methods, run_of, run_ad_hoc};
 
-use crate::explain::{note_budget, note_end};
-use crate::frames_only::run_turn;
+use crate::explain::{note_budget, note_end, note_step};
+use crate::frames_only::run_in_frames;
 use crate::step::{code_of, finish};
 use jc_frames::{Frames, Origin, Outcome};
 use jc_linker::linked::Linked;
@@ -13,6 +13,96 @@ use jc_memory::Memory;
 use jc_transient::RUNTIME_ENVIRONMENT;
 use jc_words::{StoreDown, WordStore};
 use jc_world::StepExit;
+
+// Carries out so many instructions of a run, behind which so many more may follow: how many are left of all, and how the
+// run ended; `None` where it has not ended.
+#[inline(never)]
+fn run_part<S: WordStore>(
+    lent: &[u8],
+    budget: u32,
+    later: u32,
+    frames: &mut Frames,
+    memory: &mut Memory<S>,
+    linked: &Linked,
+) -> Result<Option<(u32, Outcome)>, StoreDown>
+    requires up { memory.old.heap.down ≡ false }
+    requires short { length lent.now < 2 ^ 16 }
+    requires counted { budget + later < 2 ^ 32 }
+    ensures { IsPartOfRun result (budget + later) later lent.now linked.now frames.old memory.old
+        frames.new memory.new }
+{
+    let mut left = budget;
+    let mut number = frames.origin().package_number;
+    let mut code = code_of(lent, number, linked);
+    while let Some((rest, pause)) = run_in_frames::<S>(code, left, frames) {
+        left = rest;
+        match finish(&pause, frames, memory, linked) {
+            Ok(()) => {}
+            Err(StepExit::End(outcome)) => {
+                let left = left + later;
+                if memory.notes().are_kept() {
+                    note_end(&outcome, left, code, pause.place, frames, memory, linked);
+                }
+                return Ok(Some((left, outcome)));
+            }
+            Err(StepExit::Throw(_)) => return Ok(Some((left + later, Outcome::Fault))),
+            Err(StepExit::Down) => return Err(StoreDown),
+        }
+        if frames.origin().package_number != number {
+            number = frames.origin().package_number;
+            code = code_of(lent, number, linked);
+        }
+    }
+    Ok(None)
+}
+
+// Carries out a run of so many instructions, each of which is noted before it is carried out; `None` where it has not ended
+// then.
+#[cold]
+#[inline(never)]
+fn run_noted<S: WordStore>(
+    lent: &[u8],
+    budget: u32,
+    frames: &mut Frames,
+    memory: &mut Memory<S>,
+    linked: &Linked,
+) -> Result<Option<(u32, Outcome)>, StoreDown>
+    requires up { memory.old.heap.down ≡ false }
+    requires short { length lent.now < 2 ^ 16 }
+    ensures { IsPartOfRun result budget 0 lent.now linked.now frames.old memory.old frames.new
+        memory.new }
+{
+    for turns in 0..budget {
+        note_step(frames, memory.notes());
+        let later = budget - (turns + 1);
+        match run_part(lent, 1, later, frames, memory, linked) {
+            Ok(None) => {}
+            Ok(Some(end)) => return Ok(Some(end)),
+            Err(StoreDown) => return Err(StoreDown),
+        }
+    }
+    Ok(None)
+}
+
+// Carries out a run of so many instructions, each noted before where somebody asks for it; `None` where it has not ended then.
+#[inline(always)]
+fn run_whole<S: WordStore>(
+    lent: &[u8],
+    budget: u32,
+    frames: &mut Frames,
+    memory: &mut Memory<S>,
+    linked: &Linked,
+) -> Result<Option<(u32, Outcome)>, StoreDown>
+    requires up { memory.old.heap.down ≡ false }
+    requires short { length lent.now < 2 ^ 16 }
+    ensures { IsPartOfRun result budget 0 lent.now linked.now frames.old memory.old frames.new
+        memory.new }
+{
+    if memory.notes().keep_steps() {
+        return run_noted(lent, budget, frames, memory, linked);
+    }
+    run_part(lent, budget, 0, frames, memory, linked)
+}
 
 /// Carries out at most so many instructions: how many are left, and how the run ended. One that has not
 /// ended then is a code fault. Code of no package, in frames with the package number 0, is the one that is
@@ -29,29 +119,13 @@ pub fn run_of<S: WordStore>(
     ensures { Executes (run_of budget lent.now linked.now frames.old memory.old) memory.old
         (after_step result memory.new) }
 {
-    let mut left = budget;
-    let mut number = frames.origin().package_number;
-    let mut code = code_of(lent, number, linked);
-    while let Some((rest, pause)) = run_turn::<S>(code, left, frames, memory.notes()) {
-        left = rest;
-        match finish(&pause, frames, memory, linked) {
-            Ok(()) => {}
-            Err(StepExit::End(outcome)) => {
-                if memory.notes().are_kept() {
-                    note_end(&outcome, left, code, pause.place, frames, memory, linked);
-                }
-                return Ok((left, outcome));
-            }
-            Err(StepExit::Throw(_)) => return Ok((left, Outcome::Fault)),
-            Err(StepExit::Down) => return Err(StoreDown),
-        }
-        if frames.origin().package_number != number {
-            number = frames.origin().package_number;
-            code = code_of(lent, number, linked);
+    match run_whole(lent, budget, frames, memory, linked)? {
+        Some(end) => Ok(end),
+        None => {
+            note_budget(frames, memory);
+            Ok((0, Outcome::Fault))
         }
     }
-    note_budget(frames, memory);
-    Ok((0, Outcome::Fault))
 }
 
 /// The same for methods of packages.

@@ -148,13 +148,17 @@ abbrev pub interface_by : Option Target → ℕ → ℕ → Packages → List Ce
 interface_by (Some (Class class)) n token p stack m = invokeinterface class n token p stack m
 interface_by _ n token p stack m = Err (End Fault)
 
+-- which method a virtual call runs
+abbrev pub virtual_selection : ℕ → Packages → Frames → MemoryState → Result MethodCall FrameExit
+virtual_selection index p s m = virtual_by (target_at p s.current.origin.package_number index) p s.current.stack m
+
 -- which method a static call runs
 abbrev pub static_selection : ℕ → Packages → Frames → Result MethodCall FrameExit
 static_selection index p s = static_by (target_at p s.current.origin.package_number index) p
 
 -- which method a call runs, with how many arguments, and for whom
 unfoldable pub method_selection : InvokeOp → Packages → Frames → MemoryState → Result MethodCall FrameExit
-method_selection (Virtual index) p s m = virtual_by (target_at p s.current.origin.package_number index) p s.current.stack m
+method_selection (Virtual index) p s m = virtual_selection index p s m
 method_selection (Special index) p s m = special_by (target_at p s.current.origin.package_number index) p s.current.stack m
 method_selection (Static index) p s m = static_selection index p s
 method_selection (Interface n index token) p s m = interface_by (target_at p s.current.origin.package_number index) n token p s.current.stack m

@@ -8,7 +8,7 @@ ghost use Rattle.jc_world.specs.Contexts.{firewall_decision};
 ghost use Rattle.jc_world.specs.Objects.{check_or_fault, some_or_fault};
 ghost use Rattle.jc_interp_calls.specs.Invoke.{arguments_of, invokeinterface, invokespecial, invokestatic, invokevirtual, call_of, method_selection};
 ghost use Rattle.jc_interp_calls.specs.Invoke.{static_selection, class_of, fits_at_null, header_of, interface_access, interface_by, is_native_constructor};
-ghost use Rattle.jc_interp_calls.specs.Invoke.{is_null_on, is_of_any, call_decision, receiver_of, receiver_on, special_by, virtual_by, with_header};
+ghost use Rattle.jc_interp_calls.specs.Invoke.{is_null_on, is_of_any, call_decision, receiver_of, receiver_on, special_by, virtual_by, virtual_selection, with_header};
 
 use crate::method_component::method_component_of;
 use crate::parameters::fits;
@@ -475,6 +475,23 @@ fn interface_by<S: WordStore>(
     }
 }
 
+/// Which method a virtual call runs, as `select_method` says it, and what the method's header says. `C` says whose
+/// copy it is, as there.
+#[inline(always)]
+pub fn select_virtual_method<C, S: WordStore>(
+    index: u16,
+    frames: &Frames,
+    memory: &Memory<S>,
+    linked: &Linked,
+) -> Result<SelectedCall, FrameExit>
+    requires up { memory.now.heap.down ≡ false }
+    ensures { result ≡ with_header linked.now (virtual_selection index linked.now frames.now
+        memory.now) }
+{
+    let entry = linked.target_at(frames.origin().package_number, index);
+    virtual_by::<C, S>(entry, frames, memory, linked)
+}
+
 /// Which method a call runs, with how many arguments, and for whom; and what the method's header says.
 ///
 /// A code fault where the entry of the constant pool is another one, where the receiver is no reference
@@ -496,9 +513,7 @@ pub fn select_method<C, S: WordStore>(
     let number = frames.origin().package_number;
     // What is called out of line hands its answer over in memory of its own, so that the others need none.
     match invoke {
-        InvokeOp::Virtual(index) => {
-            virtual_by::<C, S>(linked.target_at(number, index), frames, memory, linked)
-        }
+        InvokeOp::Virtual(index) => { select_virtual_method::<C, S>(index, frames, memory, linked) }
         InvokeOp::Special(index) => {
             let special = special_by(linked.target_at(number, index), frames, memory, linked)?;
             Ok(special)

@@ -1,7 +1,7 @@
 //! What the words behind the script of a run ask for.
-ghost use Rattle.std.specs.Prelude.{◌≡◌, Bool, true, Some, None, IfSome, MatchOption, map, option_map, option_and_then, is_some, if◌then◌else◌, length};
+ghost use Rattle.std.specs.Prelude.{◌≡◌, true, Some, None, MatchOption, map, option_map, option_and_then, is_some, if◌then◌else◌};
 ghost use Rattle.std.specs.String.{string_bytes};
-ghost use Rattle.jcard_arguments.specs.RunLines.{are_together, asked_by, nothing_asked, run_asked, with_cover, with_flag, with_instructions, with_lines, with_map, with_options, with_trace, with_value, with_why, whole};
+ghost use Rattle.jcard_arguments.specs.RunLines.{asked_by, nothing_asked, run_asked, with_cover, with_flag, with_instructions, with_lines, with_map, with_options, with_trace, with_value, with_why, whole};
 
 use crate::numbers::{budget_of, number_of};
 

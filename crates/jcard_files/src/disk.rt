@@ -1,5 +1,5 @@
 //! The files that the program uses.
-ghost use Rattle.std.specs.Prelude.{◌≡◌, ◌⊎◌, ◌++◌, ◌*◌, ◌∷◌, [], List, ℕ, false, IfOk, IfErr, length, replicate};
+ghost use Rattle.std.specs.Prelude.{◌≡◌, ◌⊎◌, ◌++◌, ◌*◌, ◌∷◌, [], List, false, IfOk, IfErr, length, replicate};
 ghost use Rattle.jc_words.specs.Files.{IsImageSize};
 ghost use Rattle.jc_words.specs.Refusals.{no_refusals};
 ghost use Rattle.jc_words.specs.Stores.{refusals_of_file, store_value};

@@ -1,5 +1,5 @@
 //! Reading texts.
-ghost use Rattle.std.specs.Prelude.{ℕ, ◌≡◌, List, [], false, MatchResult, IfOk, IfErr, IfSome, OnOk, take};
+ghost use Rattle.std.specs.Prelude.{◌≡◌, List, [], false, MatchResult, IfOk, IfErr, IfSome, OnOk, take};
 ghost use Rattle.jcard_files.specs.FileDeeds.{FileDeed};
 ghost use Rattle.jcard_files.specs.Images.{IsNotRead, IsUnopened};
 ghost use Rattle.jcard_files.specs.Readings.{IsRead, IsUnread, IsUnreadFault, IsScriptRead};

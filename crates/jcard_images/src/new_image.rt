@@ -1,5 +1,5 @@
 //! Making an image.
-ghost use Rattle.std.specs.Prelude.{ℕ, ◌≡◌, ◌≤◌, List, [], None, false, IfSome, length, replicate};
+ghost use Rattle.std.specs.Prelude.{ℕ, ◌≡◌, ◌≤◌, List, None, false, IfSome, length, replicate};
 ghost use Rattle.jc_words.specs.Layout.{least_size};
 ghost use Rattle.jc_words.specs.Image.{IsCapacity};
 ghost use Rattle.jc_words.specs.Refusals.{no_refusals};

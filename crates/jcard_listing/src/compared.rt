@@ -1,10 +1,10 @@
 //! The objects of two images, compared.
-ghost use Rattle.std.specs.Prelude.{◌≡◌, ◌≤◌, ◌++◌, ◌==◌, Some, None, true, length, slice_index, IfOk, OnOk};
+ghost use Rattle.std.specs.Prelude.{◌≡◌, ◌≤◌, ◌++◌, ◌==◌, Some, None, true, length, IfOk, OnOk};
 ghost use Rattle.jc_words.specs.Layout.{text_start};
-ghost use Rattle.jc_heap.specs.Object.{cells_of, event_number, kind_number};
+ghost use Rattle.jc_heap.specs.Object.{event_number, kind_number};
 ghost use Rattle.jc_records.specs.Bounds.{has_bounds};
 ghost use Rattle.jc_records.specs.Places.{IsPlaceFor, IsStanding};
-ghost use Rattle.jc_records.specs.Records.{IsRecord, item_at, object_in};
+ghost use Rattle.jc_records.specs.Records.{IsRecord, item_at};
 ghost use Rattle.jcard_listing.specs.Compared.{alone_text, beside_text, change_line, change_text, changes_text, compared_lines, compared_text, heap_lines, is_same, kept_text};
 ghost use Rattle.jcard_listing.specs.Fault.{Lists};
 ghost use Rattle.jcard_listing.specs.Objects.{is_told};

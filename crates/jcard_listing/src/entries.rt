@@ -1,8 +1,8 @@
 //! The lines of the journal's entries that count.
-ghost use Rattle.std.specs.Prelude.{◌≡◌, ◌<◌, ◌≤◌, ◌+◌, ◌*◌, ◌-◌, ◌++◌, ◌∷◌, ◌^◌, true, length, slice_index, Option, OnOk};
+ghost use Rattle.std.specs.Prelude.{◌≡◌, ◌<◌, ◌≤◌, ◌+◌, ◌-◌, ◌++◌, true, length, Option, OnOk};
 ghost use Rattle.jc_words.specs.Image.{HasSize, log_of};
 ghost use Rattle.jc_words.specs.Layout.{text_start};
-ghost use Rattle.jc_commit.specs.Image.{address_at, capacity_of, count_of, old_at};
+ghost use Rattle.jc_commit.specs.Image.{capacity_of, count_of};
 ghost use Rattle.jc_records.specs.Bounds.{has_bounds};
 ghost use Rattle.jcard_listing.specs.Entries.{cell_text, entry_lines, entry_text, found_text};
 ghost use Rattle.jcard_listing.specs.Fault.{Lists, each_line};

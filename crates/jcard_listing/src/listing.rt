@@ -1,7 +1,6 @@
 //! All that is listed of an image.
 ghost use Rattle.std.specs.Prelude.{◌≡◌, Some, true, IfOk};
 ghost use Rattle.jc_words.specs.Image.{HasSize};
-ghost use Rattle.jc_words.specs.Layout.{applets_address, packages_address};
 ghost use Rattle.jc_records.specs.Bounds.{has_bounds};
 ghost use Rattle.jcard_listing.specs.Fault.{Lists};
 ghost use Rattle.jcard_listing.specs.Listing.{IsListed, IsListing, contents_lines};

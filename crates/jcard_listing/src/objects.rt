@@ -1,9 +1,7 @@
 //! The lines of the objects.
-ghost use Rattle.std.specs.Prelude.{◌≡◌, ◌<◌, ◌≤◌, ◌+◌, ◌++◌, ◌&&◌, ◌==◌, Some, None, true, false, length, slice_index, IfSome, Option, OnOk};
+ghost use Rattle.std.specs.Prelude.{◌≡◌, ◌<◌, ◌≤◌, ◌+◌, ◌++◌, ◌&&◌, ◌==◌, Some, None, true, length, Option, OnOk};
 ghost use Rattle.jc_words.specs.Layout.{text_start};
 ghost use Rattle.jc_heap.specs.Object.{cells_of};
-ghost use Rattle.jc_cap_linkage.specs.Packages.{NamedPackage};
-ghost use Rattle.jc_image.specs.Listed.{NamedApplet};
 ghost use Rattle.jc_records.specs.Bounds.{has_bounds};
 ghost use Rattle.jc_records.specs.Records.{IsRecord, item_at, object_in};
 ghost use Rattle.jcard_listing.specs.Fault.{Lists};

@@ -1,9 +1,9 @@
 //! The numbered lines of two images, compared.
-ghost use Rattle.std.specs.Prelude.{◌≡◌, ◌<◌, ◌≤◌, ◌+◌, ◌++◌, true, length, slice_index, IfOk, OnOk};
+ghost use Rattle.std.specs.Prelude.{◌≡◌, ◌<◌, ◌≤◌, ◌+◌, ◌++◌, true, length, IfOk, OnOk};
 ghost use Rattle.jc_words.specs.Image.{HasSize};
 ghost use Rattle.jc_words.specs.Layout.{text_start};
 ghost use Rattle.jc_records.specs.Bounds.{has_bounds};
-ghost use Rattle.jcard_listing.specs.Fault.{Lists, each_line};
+ghost use Rattle.jcard_listing.specs.Fault.{Lists};
 ghost use Rattle.jcard_listing.specs.Pairs.{lines_of};
 ghost use Rattle.jcard_listing.specs.Parts.{larger, line_among, pair_at, part_count, part_line, part_lines, size_text};
 

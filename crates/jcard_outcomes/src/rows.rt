@@ -1,5 +1,5 @@
 //! The rows: what cuts left, one row for those that follow one another and left the same.
-ghost use Rattle.std.specs.Prelude.{◌≡◌, ◌++◌, map, IfOk, OnOk, if◌then◌else◌, ◌==◌, decimal};
+ghost use Rattle.std.specs.Prelude.{◌≡◌, ◌++◌, IfOk, OnOk, ◌==◌, decimal};
 ghost use Rattle.std.specs.Str.{bytes_eq};
 ghost use Rattle.jcard_outcomes.specs.Reports.{ended, in_line, labelled, numbers_text, outcome_text, row_text, rows_from, rows_text, standing_text};
 

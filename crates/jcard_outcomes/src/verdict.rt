@@ -1,5 +1,5 @@
 //! The verdict over all cuts of a command.
-ghost use Rattle.std.specs.Prelude.{◌≡◌, ◌++◌, ◌==◌, ◌||◌, IfOk, OnOk, length, is_none, option_map, if◌then◌else◌};
+ghost use Rattle.std.specs.Prelude.{◌≡◌, ◌++◌, ◌==◌, ◌||◌, IfOk, OnOk, is_none, option_map, if◌then◌else◌};
 ghost use Rattle.jcard_outcomes.specs.Reports.{any_but_tries, are_whole, broken_told, broken_text, claim_text, count_before, cuts_text, first_broken, is_after, is_before, is_but_tries, shares_text, verdict_text, whole_text};
 
 use crate::recoveries::first_difference;

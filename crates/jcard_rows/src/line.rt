@@ -1,6 +1,6 @@
 //! The lines of a row file.
 ghost use Rattle.std.specs.Prelude.{ℕ, List, Option, IfSome, MatchOption};
-ghost use Rattle.jcard_rows.specs.Lines.{HasText, IsDirective, IsLoopLine, IsNoDirective, IsNumberedLoop, IsPartedAt, IsRowLine, Says};
+ghost use Rattle.jcard_rows.specs.Lines.{IsDirective, IsLoopLine, IsNoDirective, IsNumberedLoop, IsPartedAt, IsRowLine, Says};
 
 /// What a line says.
 #[derive(Drop)]

@@ -1,5 +1,5 @@
 -- A script that is being carried out.
-use Rattle.std.specs.Prelude.{ℕ, ◌≡◌, ◌<◌, ◌==◌, false, List, [], ◌∷◌, length, slice_index, Option, Result, Ok, Err}
+use Rattle.std.specs.Prelude.{ℕ, ◌≡◌, ◌<◌, ◌==◌, false, List, [], ◌∷◌, ◌++◌, length, slice_index, Option, Result, Ok, Err, OnOk}
 use Rattle.std.specs.List.{slice_split}
 use Rattle.std.specs.Io.KnownBytes.{Appends}
 use Rattle.std.specs.Str.Lines.{strip_carriage_return}
@@ -73,3 +73,9 @@ LinesEnd (Err (PowerFault fault)) all s t text = FailsAtReset fault all s t text
 LinesEnd (Err WriteFailed) all s t text = EndsInsideLine all s t text
 LinesEnd (Err ReadFailed) all s t text = ⊥
 LinesEnd (Err TooLong) all s t text = ⊥
+
+-- behind any part of a script with which the session stood so, the line that these bytes and a line feed end is carried out
+abbrev pub EndsLine : {S : Type 0} → Result Unit ScriptFault → Session S → Session S → Option (List ℕ) → Option (List ℕ) → List ℕ → Type 0
+EndsLine result old new before after bytes = (script text : List ℕ) → (first : ScriptState) → StandsAt old first script text
+    → (more : List ℕ) × Appends before after more × OnOk result (StandsAt new first (script ++ bytes ++ 10 ∷ []) (text ++ more))
+    × LinesEnd result (ended_lines (script ++ bytes ++ 10 ∷ [])) first (state_of_held new.held) (text ++ more)

@@ -1,5 +1,5 @@
 //! One line of a script, in fixed room.
-ghost use Rattle.std.specs.Prelude.{◌≡◌, ◌≢◌, ◌≤◌, ℕ, List, [], ◌∷◌, ◌++◌, length, take, IsErr, IsSome, IfSome, MatchOption, Ok, true};
+ghost use Rattle.std.specs.Prelude.{◌≡◌, ◌≤◌, ℕ, List, [], ◌∷◌, ◌++◌, length, take, IsErr, IsSome, IfSome, MatchOption, Ok, true};
 ghost use Rattle.std.specs.Str.Lines.{strip_carriage_return};
 ghost use Rattle.hex.specs.Hex.{decode_of, is_hex_digit};
 ghost use Rattle.jcard_script.specs.Line.{IsCommandOf, IsLineOf, IsPlain, HasDigits, AsksFor, PlainlyAsksFor};

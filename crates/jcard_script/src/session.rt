@@ -1,5 +1,5 @@
 //! A script that is being carried out.
-ghost use Rattle.std.specs.Prelude.{◌≡◌, ◌+◌, ◌-◌, ◌^◌, ◌<◌, ◌≤◌, ℕ, List, [], ◌∷◌, ◌++◌, Bool, length, IfOk, IfErr, OnOk, MatchResult, IsSome, Err, false};
+ghost use Rattle.std.specs.Prelude.{◌≡◌, ◌+◌, ◌-◌, ◌^◌, ◌<◌, ℕ, List, [], ◌++◌, Bool, length, IfOk, IfErr, OnOk, MatchResult, IsSome, Err, false};
 ghost use Rattle.std.specs.Bool.{OnTrue};
 ghost use Rattle.std.specs.Io.KnownBytes.{Appends, Consumes};
 ghost use Rattle.std.specs.Str.Lines.{lines};
@@ -14,7 +14,7 @@ ghost use Rattle.jcard_script.specs.Script.{is_write_failed, ended_lines};
 ghost use Rattle.jc_session.specs.Power.{Off, budget_of};
 ghost use Rattle.jc_session.specs.Requests.{Command, Reset};
 ghost use Rattle.jcard_script.specs.ScriptStates.{ScriptState, IsSessionStore, PowersUp, FailsUp, FailsReset, with_fuse};
-ghost use Rattle.jcard_script.specs.Session.{StandsAt, IsUnbroken, IsWrittenOut, LineEnds, LineFails, LinesEnd};
+ghost use Rattle.jcard_script.specs.Session.{EndsLine, StandsAt, IsUnbroken, IsWrittenOut, LineEnds, LineFails, LinesEnd};
 
 use crate::card_or_store::CardOrStore;
 use crate::explainer::Explainer;
@@ -176,12 +176,8 @@ impl<S: WordStore + Drop> Session<S> {
         requires held { IsState self.old.held }
         ensures held { IsState self.new.held }
         ensures number { OnOk result (self.new.number ≡ self.old.number + 1) }
-        ensures goes { (script text : List ℕ) → (first : ScriptState)
-            → StandsAt self.old first script text
-            → (more : List ℕ) × Appends (W.contents writer.old) (W.contents writer.new) more
-            × OnOk result (StandsAt self.new first (script ++ bytes.now ++ 10 ∷ []) (text ++ more))
-            × LinesEnd result (ended_lines (script ++ bytes.now ++ 10 ∷ [])) first
-            (state_of_held self.new.held) (text ++ more) }
+        ensures goes { EndsLine result self.old self.new (W.contents writer.old)
+            (W.contents writer.new) bytes.now }
         ensures writes { W.failures writer.new ≡ failures_after (W.failures writer.old)
             (is_write_failed result) }
     {
@@ -207,12 +203,8 @@ impl<S: WordStore + Drop> Session<S> {
         requires held { IsState self.old.held }
         ensures held { IsState self.new.held }
         ensures number { OnOk result (self.new.number ≡ self.old.number + 1) }
-        ensures goes { (script text : List ℕ) → (first : ScriptState)
-            → StandsAt self.old first script text
-            → (more : List ℕ) × Appends (W.contents writer.old) (W.contents writer.new) more
-            × OnOk result (StandsAt self.new first (script ++ bytes.now ++ 10 ∷ []) (text ++ more))
-            × LinesEnd result (ended_lines (script ++ bytes.now ++ 10 ∷ [])) first
-            (state_of_held self.new.held) (text ++ more) }
+        ensures goes { EndsLine result self.old self.new (W.contents writer.old)
+            (W.contents writer.new) bytes.now }
         ensures writes { W.failures writer.new ≡ failures_after (W.failures writer.old)
             (is_write_failed result) }
     {

@@ -1,7 +1,5 @@
 //! A text that grows in memory as it is written.
-ghost use Rattle.std.specs.Prelude.{◌≡◌, ◌<◌, ◌≤◌, Some, [], length, is_err, IfOk};
-ghost use Rattle.std.specs.Io.KnownBytes.{WriteAppends};
-ghost use Rattle.jc_words.specs.Count.{failures_after};
+ghost use Rattle.std.specs.Prelude.{◌≡◌, ◌<◌, Some, []};
 
 use jcard_script::streams::{TextOut, WriteFailed};
 use std::alloc::Global;

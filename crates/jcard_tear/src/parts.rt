@@ -1,5 +1,5 @@
 //! A part of the cuts of a command, so that several runs share a large sweep.
-ghost use Rattle.std.specs.Prelude.{◌≡◌, ◌<◌, ◌+◌, ◌*◌, ℕ, List, length, option_map, IfOk, MatchResult};
+ghost use Rattle.std.specs.Prelude.{◌<◌, ◌+◌, ◌*◌, ℕ, List, length, option_map, IfOk, MatchResult};
 ghost use Rattle.std.specs.Borrow.{Bor};
 ghost use Rattle.jcard_tear.specs.Faults.{IsLineUncut, IsUncutFor};
 ghost use Rattle.jcard_tear.specs.Parts.{AreEvery, IsLinePart, IsPartSwept};

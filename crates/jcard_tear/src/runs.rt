@@ -1,5 +1,5 @@
 //! Running a script on a card in memory, and what a reset finds then.
-ghost use Rattle.std.specs.Prelude.{◌≡◌, ◌<◌, length, vec_len, IfOk, MatchResult, [], false};
+ghost use Rattle.std.specs.Prelude.{◌≡◌, ◌<◌, length, vec_len, IfOk, MatchResult};
 ghost use Rattle.jcard_tear.specs.declared.runs.RunFault.TheVariants.{NoMemory};
 ghost use Rattle.jcard_tear.specs.Runs.{HasRun, IsLeft, IsRunFault};
 ghost use Rattle.jc_commit.specs.Image.{plain_of, recovered_of};
