@@ -11,12 +11,11 @@ from .library import APPLET
 from .map_lines import map_text, told_method
 from .package import INSTALL, Package
 from .platform import read_table
-from .refusal import Refusal, class_name
+from .refusal import OF_API, Refusal, class_name
 from .style import SHORT
 
 UNREGISTERED = b"\xF0"  # begins the AIDs that nobody has registered
 SHORTEST_AID, LONGEST_AID = 5, 16
-OF_OTHERS = ("java/", "javacard/", "javacardx/")
 
 
 class Converted:
@@ -53,7 +52,7 @@ def read_classes(folder):
                 path = os.path.join(place, name)
                 with open(path, "rb") as file:
                     found = read_class(file.read(), path)
-                if name != "package-info.class" and not found.name.startswith(OF_OTHERS):
+                if name != "package-info.class" and not found.name.startswith(OF_API):
                     packages.setdefault(found.package, {})[found.name] = found
     if not packages:
         raise Refusal(f"{folder} has no class files")

@@ -3,7 +3,7 @@ from dataclasses import dataclass, field
 
 from .class_file import NATIVE, SYNCHRONIZED
 from .library import OBJECT, Classes, ClassInfo, PackageInfo
-from .refusal import Reasons, Refusal, class_name, fault_of_type, is_reference, method_name, types_of
+from .refusal import Reasons, Refusal, class_name, fault_of_type, is_reference, lacking, method_name, types_of
 from .statics import StaticImage
 from .translation import Translation
 
@@ -261,7 +261,7 @@ class Package:
                     return self.entry(STATIC_METHOD, OWN, each.name, name, descriptor)
             elif (name, descriptor) in each.static_methods:
                 return self.entry(STATIC_METHOD, self.reference(each, where), each.static_methods[name, descriptor])
-        raise Refusal(f"{where}: {method_name(owner, name, descriptor)} is not on the card")
+        raise Refusal(f"{where}: {lacking(owner, name, descriptor)}")
 
     def private_method_entry(self, owner, name, descriptor):
         """Of a private method of the package; None where the method is another one."""
@@ -288,7 +288,7 @@ class Package:
         found, token = self.lookup(info, (name, descriptor), "package_methods")
         if found is not None and self.is_own(found):
             return token | OF_PACKAGE
-        raise Refusal(f"{where}: {method_name(info.name, name, descriptor)} is not on the card")
+        raise Refusal(f"{where}: {lacking(info.name, name, descriptor)}")
 
     def virtual_method_entry(self, owner, name, descriptor, where):
         info = self.classes.find(OBJECT if owner[0] == "[" else owner, where)
@@ -298,5 +298,5 @@ class Package:
         info = self.classes.find(owner, where)
         token = info.interface_methods.get((name, descriptor))
         if token is None:
-            raise Refusal(f"{where}: {method_name(owner, name, descriptor)} is not on the card")
+            raise Refusal(f"{where}: {lacking(owner, name, descriptor)}")
         return self.entry(CLASS, self.reference(info, where)), token

@@ -2,6 +2,7 @@
 
 PRIMITIVE = {"B": "byte", "S": "short", "Z": "boolean", "V": "void", "I": "int", "J": "long", "F": "float", "D": "double", "C": "char"}
 CARD_TYPES = ("B", "S", "Z")
+OF_API = ("java/", "javacard/", "javacardx/")
 
 
 class Refusal(Exception):
@@ -66,6 +67,12 @@ def method_name(owner, name, descriptor):
     parameters = ", ".join(map(type_name, types_of(descriptor)[0]))
     called = class_name(owner) if name == "<init>" else f"{class_name(owner)}.{name}"
     return f"{called}({parameters})"
+
+
+def lacking(owner, name, descriptor):
+    """That the card has no such method, and where those of the API are listed."""
+    listed = " (docs/api.table lists what can be)" if owner.startswith(OF_API) else ""
+    return f"{method_name(owner, name, descriptor)} is not on the card{listed}"
 
 
 def fault_of_type(descriptor):

@@ -51,11 +51,11 @@ class Objects {
     }
 
     boolean same() {
-        return thing.getClass() == null; //! same: java.lang.Object.getClass() is not on the card
+        return thing.getClass() == null; //! same: java.lang.Object.getClass() is not on the card (docs/api.table lists what can be)
     }
 
     void copied() {
-        thing = new byte[1].clone(); //! copied: java.lang.Object.clone() is not on the card
+        thing = new byte[1].clone(); //! copied: java.lang.Object.clone() is not on the card (docs/api.table lists what can be)
     }
 
     void caught() {
@@ -71,6 +71,6 @@ class Objects {
     }
 
     void cause() {
-        throw new RuntimeException((Throwable) null); //! cause: java.lang.RuntimeException(java.lang.Throwable) is not on the card
+        throw new RuntimeException((Throwable) null); //! cause: java.lang.RuntimeException(java.lang.Throwable) is not on the card (docs/api.table lists what can be)
     }
 }
