@@ -7,32 +7,27 @@ mod linking;
 mod loading;
 mod platform;
 
-use std::fmt::Write;
-
-fn loads(script: &[u8]) -> String {
+/// Each answer is written at once, as the card writes it.
+fn loads(script: &[u8]) {
     let digit = |byte: u8| (byte as char).to_digit(16).expect("a digit") as u8;
     let mut card = loading::Card::default();
-    let mut out = String::new();
     for line in script.split(|byte| *byte == b'\n').filter(|line| !line.is_empty()) {
         let command: Vec<u8> = line.chunks_exact(2).map(|pair| digit(pair[0]) * 16 + digit(pair[1])).collect();
-        writeln!(out, "{:04X}", card.exchange(&command)).expect("memory");
+        println!("{:04X}", card.exchange(&command));
     }
-    out
 }
 
-fn resets(image: &[u8], count: usize) -> String {
+fn resets(image: &[u8], count: usize) {
     let mut words: Vec<u16> = image.chunks_exact(2).map(|pair| u16::from_be_bytes([pair[0], pair[1]])).collect();
-    let mut out = String::new();
     for _ in 0..count {
         match heap::power_up(&mut words) {
             Ok(card) => {
                 std::hint::black_box(&card);
-                out.push_str("ready\n");
+                println!("ready");
             }
-            Err(number) => writeln!(out, "bad image {number}").expect("memory"),
+            Err(number) => println!("bad image {number}"),
         }
     }
-    out
 }
 
 fn main() {
@@ -40,8 +35,8 @@ fn main() {
     let words: Vec<&str> = words.iter().map(String::as_str).collect();
     let file = |name: &str| std::fs::read(name).expect("a file");
     match words[..] {
-        ["loads", script] => print!("{}", loads(&file(script))),
-        ["resets", image, count] => print!("{}", resets(&file(image), count.parse().expect("a number"))),
+        ["loads", script] => loads(&file(script)),
+        ["resets", image, count] => resets(&file(image), count.parse().expect("a number")),
         _ => std::process::exit(2),
     }
 }
