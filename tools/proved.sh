@@ -1,18 +1,35 @@
 # Sourced by ./jcard, ./test and some tools: whether the program is the one that the toolchain proved, from the sources as
-# they are now. It uses $here, the top of the tree.
+# they are now; and its proof. It uses $here, the top of the tree.
 #
 # The stamp beside the program says so. It has two checksums: one over the sources of the crates that the program stands
-# on, crates.txt and the kit's identity; and one over the program. It is written only where the toolchain said "proved".
-# Where a proof was begun and did not end well, the file jcard.unproved has the first checksum in its place.
+# on, crates.txt and the kit's identity; and one over the program. It is written only where the toolchain said "passed".
+# Where it refused these sources, the file jcard.refused has the first checksum.
 program=$here/crates/jcard/out/jcard
 stamp=$program.proved
-unproved=$program.unproved
+refused=$program.refused
 rt=$(type -P "${RT:-rt}" || true)
 rt=${rt:+$(realpath "$rt")}
 
 # What `rt version` prints. A kit has that line in a file, and reading it takes a hundredth of the time.
 kit_identity() {
     [ -n "$rt" ] && { cat "${rt%/*}/../KIT-ID" 2>/dev/null || "$rt" version; }
+}
+
+has_toolchain() {
+    [ -n "$rt" ] || { echo "jcard: the toolchain's command rt is not on the path" >&2; return 1; }
+}
+
+# Prints this user's folder for what is made once and kept. Where there is none at home, it is among the temporary files.
+cache_folder() {
+    local folder
+    for folder in "${XDG_CACHE_HOME:-${HOME:-/nonexistent}/.cache}/jcard" "${TMPDIR:-/tmp}/jcard-$(id -u)"; do
+        if (umask 077 && mkdir -p "$folder") 2>/dev/null && [ ! -L "$folder" ] && [ -O "$folder" ] && [ -w "$folder" ]; then
+            printf '%s\n' "$folder"
+            return
+        fi
+    done
+    echo "jcard: there is no folder to keep things in: neither ~/.cache nor the folder of temporary files can be written" >&2
+    return 1
 }
 
 # A crate and those that it stands on, by crates.txt.
@@ -69,45 +86,80 @@ note_proved() {
         echo "jcard: the sources changed while they were proved" >&2
         return 1
     fi
-    made=$(checksum_of_program) && printf '%s\n%s\n' "$sources" "$made" >"$stamp" && rm -f "$unproved"
+    made=$(checksum_of_program) && printf '%s\n%s\n' "$sources" "$made" >"$stamp" && rm -f "$refused"
 }
 
-# Whether the last proof was of the sources as they are, and was refused or broken off.
+# Whether the toolchain refused the sources as they are, when they were last proved.
 is_refused() {
-    [ -s "$unproved" ] && [ "$(cat "$unproved")" = "$(checksum_of_sources)" ]
+    [ -s "$refused" ] && [ "$(cat "$refused")" = "$(checksum_of_sources)" ]
 }
 
-# Proves and builds the program. What an earlier proof left goes first, so that only this one can leave a program.
+# One proof at a time. ./jcard --prove and ./test hold the lock of the folder crates/ while they prove, as descriptor 9,
+# which nothing that they start inherits. `rt` holds that of each crate's folder that it works in.
+begin_proof() {
+    exec 9<"$here/crates"
+    # 99: another has it. A file system without locks has no turns.
+    flock -n -E 99 9 || [ $? -ne 99 ] || {
+        echo "jcard: waiting for the proof that is under way here to end" >&2
+        flock 9
+    }
+}
+
+end_proof() {
+    exec 9<&-
+}
+
+is_proof_under_way() {
+    local folder
+    for folder in crates crates/jcard; do
+        flock -s -n -E 99 "$here/$folder" true || [ $? -ne 99 ] || return 0
+    done
+    return 1
+}
+
+# Copies what the program is made from into a tree of its own: its crates, their lines of crates.txt, and HANDLES.
+copy_for_proof() {
+    local crates
+    mapfile -t crates < <(crates_of jcard)
+    # rt wants the top of a repository.
+    mkdir -p "$1/.git" "$1/crates" &&
+        tar -C "$here/crates" --anchored --no-wildcards-match-slash --exclude='*/out' --exclude='*/must-fail' -cf - "${crates[@]}" |
+        tar -C "$1/crates" -xf - &&
+        awk -F: -v names="${crates[*]}" 'BEGIN { split(names, list, " "); for (i in list) wanted[list[i]] } { split($1, words, " ") } words[1] in wanted' \
+            "$here/crates.txt" >"$1/crates.txt" &&
+        { [ ! -e "$here/HANDLES" ] || cp "$here/HANDLES" "$1/HANDLES"; }
+}
+
+# Proves and builds the program in a copy of its crates by the toolchain's gate, in as many lanes as there are processors and
+# memory, over what earlier gates on this machine kept. Only then it takes the place of an earlier one.
 prove() {
-    local sources said status word
-    sources=$(checksum_of_sources) || return 1
-    rm -f "$program" "$program.stamp" "$stamp" && echo "$sources" >"$unproved" || return 1
-    said=$(mktemp)
-    # Without words the program prints a line on its standard output, and ends with status 2.
-    (cd "$here/crates/jcard" && "$rt" run </dev/null 2>&1 >/dev/null 9>&-) | tee "$said" >&2
+    local room=$1 sources last status
+    sources=$(checksum_of_sources) && copy_for_proof "$room/tree" && [ "$(checksum_of_sources)" = "$sources" ] || return 1
+    (cd "$room/tree" && "$rt" ci 2>&1 </dev/null 9>&-) | "$here/tools/clock" "$room/tree" --log "$room/log" >&2 9>&-
     status=${PIPESTATUS[0]}
-    word=$(grep '^logic=' "$said" | tail -n 1)
-    rm -f "$said"
-    if [ "$status" -eq 2 ] && [ "${word%% *}" = logic=proved ] && [ -x "$program" ]; then
-        note_proved "$sources"
-    else
-        rm -f "$program" "$program.stamp"
-        return 1
+    last=$(tail -n 1 "$room/log")
+    if [ "$status" -eq 0 ] && [[ $last =~ ^[1-9][0-9]*' passed, 0 failed'$ ]] && [ -x "$room/tree/crates/jcard/out/jcard" ]; then
+        mkdir -p "${program%/*}" && cp "$room/tree/crates/jcard/out/jcard" "$program.new" && rm -f "$stamp" &&
+            mv "$program.new" "$program" && note_proved "$sources"
+        return
     fi
+    [[ ! $last =~ ^[0-9]+' passed, '[1-9][0-9]*' failed'$ ]] || { mkdir -p "${program%/*}" && echo "$sources" >"$refused"; }
+    return 1
 }
 
 # Proves the program unless that is done. Two of these take turns.
 ensure_proved() {
+    local cache
     is_current && return
-    if [ -z "$rt" ]; then
-        echo "jcard: the toolchain's command rt is not on the path" >&2
-        return 1
-    fi
-    mkdir -p "${program%/*}"
+    has_toolchain && cache=$(cache_folder) || return 1
+    begin_proof
     (
-        flock 9
         is_current && exit
+        rm -f "$refused"
         echo "jcard: proving and building the program; the first time this takes long" >&2
-        prove || { echo "jcard: the toolchain did not prove the program" >&2; exit 1; }
-    ) 9>"$program.lock"
+        room=$(mktemp -d "$cache/proof-XXXXXX") || exit 1
+        trap 'rm -rf "$room"' EXIT
+        trap 'exit 130' INT TERM HUP
+        prove "$room" || { echo "jcard: the toolchain did not prove the program" >&2; exit 1; }
+    )
 }

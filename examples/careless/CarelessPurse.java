@@ -18,6 +18,7 @@ public class CarelessPurse extends Applet {
     private static final byte BALANCE = 0x50;
     private static final byte LOG = 0x60;
     private static final byte LINES = 4;
+    private static final short MOST_CHANGES = 32767; // one less than a multiple of LINES
 
     private short balance;
     private short changes;
@@ -60,7 +61,7 @@ public class CarelessPurse extends Applet {
         short line = (short) (changes % LINES);
         amounts[line] = amount;
         balances[line] = balance;
-        changes++;
+        changes = changes == MOST_CHANGES ? LINES : (short) (changes + 1);
     }
 
     private void send(APDU apdu, short first, short second) {

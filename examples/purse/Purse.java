@@ -18,7 +18,7 @@ import javacard.framework.Util;
  *   20 VERIFY    with a PIN as data
  *   30 CREDIT    with an amount as data, after VERIFY
  *   40 DEBIT     with an amount as data, after VERIFY
- *   50 BALANCE   answers the balance and the number of changes
+ *   50 BALANCE   answers the balance and the number of changes; after 32767 comes 4, so that the log goes on
  *   60 LOG       with P1 as the age of a line, 0 for the newest: answers the amount and the balance behind it
  */
 public class Purse extends Applet {
@@ -36,6 +36,7 @@ public class Purse extends Applet {
     private static final byte LONGEST_PIN = 8;
     private static final short MOST = 30000;
     private static final byte LINES = 4;
+    private static final short MOST_CHANGES = 32767; // one less than a multiple of LINES
     private static final byte[] FIRST_PIN = {'1', '2', '3', '4'};
 
     private final OwnerPIN pin;
@@ -137,7 +138,7 @@ public class Purse extends Applet {
         short line = (short) (changes % LINES);
         amounts[line] = amount;
         balances[line] = balance;
-        changes++;
+        changes = changes == MOST_CHANGES ? LINES : (short) (changes + 1);
         JCSystem.commitTransaction();
     }
 

@@ -1,8 +1,8 @@
 #!/usr/bin/python3
 """Tests of the purse: pytest test_purse.py, or python3 test_purse.py.
 
-They need the proved program, as ./jcard --prove leaves it. The environment may name another file of it as JCARD, and as PURSE an image
-that has the purse.
+They run the program that ./jcard --program prints. The environment may name another file of it as JCARD, and as PURSE an image that
+has the purse.
 """
 import os
 import struct
@@ -17,7 +17,8 @@ sys.path.insert(0, HERE)
 
 from jcard import Card
 
-PROGRAM = os.environ.get("JCARD", os.path.join(os.path.dirname(EXAMPLES), "crates/jcard/out/jcard"))
+LAUNCHER = os.path.join(os.path.dirname(EXAMPLES), "jcard")
+PROGRAM = os.environ.get("JCARD") or subprocess.run([LAUNCHER, "--program"], check=True, stdout=subprocess.PIPE, text=True).stdout.strip()
 ROOM = tempfile.TemporaryDirectory()
 DEBIT = "80400000 02 0078"
 BEFORE, AFTER = (500, 1, 500, 500), (380, 2, -120, 380)

@@ -49,6 +49,7 @@ class Components:
         self.indices = {entry: index for index, entry in enumerate(entries)}
         self.one_byte_places, self.two_byte_places = [], []
         self.methods = {}  # offsets in the Method component, by class and key
+        self.java_lines = {}  # lines of the Java source, by the offsets of the instructions with which they begin
         infos = {METHOD: self.method_component()}
         self.set_class_offsets()
         infos[CLASSES] = self.class_component()
@@ -96,6 +97,7 @@ class Components:
             methods += header
             if body is not None:
                 methods += contents[id(body)]
+                self.java_lines.update((start + offset, line) for offset, line in body.java_lines())
                 handlers += b"".join(self.handler(start, *row) for row in rows[id(body)])
                 for offset, size in body.layout.index_places:
                     (self.one_byte_places if size == 1 else self.two_byte_places).append(start + offset)

@@ -9,7 +9,7 @@ from .code import TooManyFields
 from .components import METHOD, Components
 from .library import APPLET
 from .map_lines import map_text, told_method
-from .package import INSTALL, Package
+from .package import INSTALL, NO_INSTALL, Package
 from .platform import read_table
 from .refusal import OF_API, Refusal, class_name
 from .style import SHORT
@@ -29,6 +29,7 @@ class Converted:
             self.package = Package(request, files, packages, replace(style, this_forms=False))
             components = Components(self.package, minor)
         self.request, self.contents, self.methods = request, components.contents, components.methods
+        self.java_lines = components.java_lines
         self.cap = cap_file(request.name, self.contents)
 
     def export(self):
@@ -37,7 +38,8 @@ class Converted:
 
     def map(self):
         """Where the methods and their instructions stand in the Method component, as tools/cap2script --map tells it."""
-        return map_text(self.request.aid, self.contents[METHOD][3:], {offset: told_method(*method) for method, offset in self.methods.items()})
+        names = {offset: told_method(*method) for method, offset in self.methods.items()}
+        return map_text(self.request.aid, self.contents[METHOD][3:], names, self.java_lines)
 
 
 def read_classes(folder):
@@ -74,17 +76,22 @@ def superclasses(packages, imported):
     return found
 
 
-def is_applet(file, above):
-    """Whether a class can be installed."""
+def is_below_applet(file, above):
+    """Whether a class can have instances that are applets."""
     name = file.name
     while name not in (APPLET, None):
         name = above.get(name)
-    return name == APPLET and not file.flags & (ABSTRACT | INTERFACE) and file.method(INSTALL) is not None
+    return name == APPLET and not file.flags & (ABSTRACT | INTERFACE)
 
 
 def applets_of(files, above):
-    """The names of the applets among classes; `above` tells the superclass of each class."""
-    return [name for name in sorted(files) if is_applet(files[name], above)]
+    """The names of the applets among classes: each class below Applet that has a method `install`. `above` has the superclass of each
+    class. Where classes below Applet have none at all, that is refused, since no applet would come onto the card."""
+    found = [name for name in sorted(files) if is_below_applet(files[name], above)]
+    applets = [name for name in found if files[name].method(INSTALL) is not None]
+    if found and not applets:
+        raise Refusal(*(f"{files[name].place()}: {NO_INSTALL}" for name in found))
+    return applets
 
 
 def default_aid(package_name):

@@ -1,5 +1,5 @@
 """What is known of packages and their classes: those of the platform, those that are imported, and the one in work."""
-from .refusal import Refusal, class_name
+from .refusal import Refusal, class_name, unknown_class
 
 OBJECT = "java/lang/Object"
 APPLET = "javacard/framework/Applet"
@@ -39,16 +39,16 @@ class ClassInfo:
 
 
 class Classes:
-    """All classes that a package can name."""
+    """All classes that a package can name. `extended` are the names of those that an extended platform table can have."""
 
-    def __init__(self, packages):
-        self.packages = list(packages)
+    def __init__(self, packages, extended=()):
+        self.packages, self.extended = list(packages), extended
         self.known = {name: info for package in self.packages for name, info in package.classes.items()}
 
     def find(self, name, where):
         info = self.known.get(name)
         if info is None:
-            raise Refusal(f"{where}: class {class_name(name)} is neither on the card nor in an export file")
+            raise Refusal(f"{where}: {unknown_class(name, name in self.extended)}")
         return info
 
     def above(self, info):

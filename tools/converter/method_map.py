@@ -11,7 +11,8 @@ What they are taken to be, of formats 2.1 and 2.2 (u1, u2, u4 are numbers of so 
       u2 method_count; u2 interface_name_indices; fields; methods
     field: 10 bytes
     method: u2 name_index, u2 descriptor_index, u2 flags, u2 location, u1 header_size, u2 body_size, u2 variable_count, u2 line_count;
-      variables of 9 bytes, lines of 6 bytes
+      variables of 9 bytes
+    line: u2 start, u2 end, of the method's code from 0, u2 line of the source
 
 A method of an interface is at no offset, which is told by 0.
 """
@@ -23,7 +24,7 @@ from .map_lines import map_text, told_method
 from .refusal import Refusal, class_name
 
 ACC_STATIC, ACC_INIT = 0x08, 0x80
-FIELD_IN_DESCRIPTOR, FIELD_IN_DEBUG, VARIABLE, LINE = 7, 10, 9, 6
+FIELD_IN_DESCRIPTOR, FIELD_IN_DEBUG, VARIABLE = 7, 10, 9
 NO_METHOD = (0, 0xFFFF)
 
 
@@ -31,7 +32,7 @@ class Debug:
     """The names of classes and methods, by the offsets of the methods."""
 
     def __init__(self, source):
-        self.source, self.methods = source, {}
+        self.source, self.methods, self.java_lines = source, {}, {}
         self.strings = [source.take(source.number(2)).decode("utf-8", "replace") for _ in range(source.number(2))]
         source.take(2)
         for _ in range(source.number(2)):
@@ -55,11 +56,19 @@ class Debug:
         source, name, descriptor = self.source, self.string(), self.string()
         source.take(2)
         offset = source.number(2)
-        source.take(3)
+        start = offset + source.number(1)
+        source.take(2)
         variables, lines = source.numbers(2)
-        source.take(VARIABLE * variables + LINE * lines)
+        source.take(VARIABLE * variables)
+        self.line_infos(start, lines)
         if offset not in NO_METHOD:
             self.methods[offset] = told_method(owner, name, descriptor)
+
+    def line_infos(self, start, count):
+        for _ in range(count):
+            begin, _, line = (self.source.number(2) for _ in range(3))
+            if line:
+                self.java_lines[start + begin] = line
 
 
 class Descriptor:
@@ -120,4 +129,4 @@ def map_of(aid, contents, exports):
     names = ExportedNames(contents, exports)
     found = {offset: names.name(offset, *more) for offset, *more in descriptor.methods} if descriptor else {}
     found.update(debug.methods if debug else {})
-    return map_text(aid, contents[METHOD][3:], found)
+    return map_text(aid, contents[METHOD][3:], found, debug.java_lines if debug else {})

@@ -3,6 +3,7 @@ from dataclasses import dataclass, field
 
 from .class_file import NATIVE, SYNCHRONIZED
 from .library import OBJECT, Classes, ClassInfo, PackageInfo
+from .platform import extended_classes, is_extended
 from .refusal import Reasons, Refusal, class_name, fault_of_type, is_reference, lacking, method_name, types_of
 from .statics import StaticImage
 from .translation import Translation
@@ -11,6 +12,7 @@ from .translation import Translation
 CLASS, INSTANCE_FIELD, VIRTUAL_METHOD, SUPER_METHOD, STATIC_FIELD, STATIC_METHOD = 1, 2, 3, 4, 5, 6
 OWN = "own"
 INSTALL = ("install", "([BSB)V")
+NO_INSTALL = "the applet has no method public static void install(byte[], short, byte)"
 OF_PACKAGE = 0x80  # set in the token of a method that the package alone may call
 LARGEST_TOKEN = 127
 
@@ -34,10 +36,11 @@ class Package:
     def __init__(self, request, files, imported, style):
         self.request, self.files, self.style = request, files, style
         self.info = PackageInfo(request.name, request.aid, request.version)
-        self.classes = Classes(imported)
+        self.classes = Classes(imported, extended_classes().known)
         self.imports = []  # packages in the order of their tokens
         self.entries = {}  # of the constant pool, in the order in which they are met
         self.missing = {}  # the abstract methods that a class has of its interfaces without a declaration
+        self.refused = set()  # the methods whose head is refused, by class and key: nothing is said of their code
         self.order = self.ordered()
         reasons = Reasons()
         for name in self.order:
@@ -45,9 +48,8 @@ class Package:
                 self.declare(self.files[name])
         reasons.end()
         for name in self.order:
-            with reasons:
-                self.give_tokens(self.files[name])
-        reasons.end()
+            self.check_members(self.files[name], reasons)
+        self.give_all_tokens(reasons)
         self.exports = self.exported()
         with reasons:
             self.check_applets()
@@ -81,21 +83,28 @@ class Package:
             self.classes.find(name, file.place())
         self.info.add(info)
         self.classes.known[file.name] = info
-        reasons = Reasons()
+
+    def check_members(self, file, reasons):
         for each in file.fields:
             with reasons:
                 if each.name == "$assertionsDisabled":
                     raise Refusal(f"{file.place()}: assert, which the card does not have")
-                self.check_type(each.descriptor, f"{file.place()}: the field {each.name} has ")
+                self.check_type(each.descriptor, file.place(), f"the field {each.name} has ")
         for method in file.methods:
+            before = len(reasons.reasons)
             with reasons:
                 self.check_method(file, method)
-        reasons.end()
+            if len(reasons.reasons) > before:
+                self.refused.add((file.name, method.key))
 
-    def check_type(self, descriptor, where):
+    def check_type(self, descriptor, where, what):
+        """That the card has the type, and its class is known."""
         fault = fault_of_type(descriptor)
         if fault:
-            raise Refusal(f"{where}{fault}, which the card does not have")
+            raise Refusal(f"{where}: {what}{fault}, which the card does not have")
+        element = descriptor.lstrip("[")
+        if element[0] == "L":
+            self.classes.find(element[1:-1], f"{where}: {what.strip()} a type that is not there")
 
     def check_method(self, file, method):
         where = file.place(method)
@@ -107,7 +116,7 @@ class Package:
             raise Refusal(f"{where}: an interface has code, which the card does not have")
         parameters, result = types_of(method.descriptor)
         for descriptor in parameters + [result]:
-            self.check_type(descriptor, f"{where}: a parameter or the result has ")
+            self.check_type(descriptor, where, "a parameter or the result has ")
 
     def is_own(self, info):
         return info.package is self.info
@@ -123,6 +132,15 @@ class Package:
         return None, None
 
     # Tokens
+
+    def give_all_tokens(self, reasons):
+        """Gives the tokens of all classes, without which no code can be made."""
+        lacking_tokens = Reasons()
+        for name in self.order:
+            with lacking_tokens:
+                self.give_tokens(self.files[name])
+        if lacking_tokens.reasons:
+            raise Refusal(*reasons.reasons, *lacking_tokens.reasons)
 
     def give_tokens(self, file):
         info = self.classes.known[file.name]
@@ -203,7 +221,7 @@ class Package:
                     raise Refusal(f"the package has no class {class_name(name)}")
                 method = self.files[name].method(INSTALL)
                 if method is None or not method.is_static or not method.is_visible:
-                    raise Refusal(f"{self.files[name].place()}: the applet has no method public static void install(byte[], short, byte)")
+                    raise Refusal(f"{self.files[name].place()}: {NO_INSTALL}")
         reasons.end()
 
     def translate(self, file, reasons):
@@ -214,7 +232,7 @@ class Package:
                 continue
             translation = None
             with reasons:
-                if file.code(method):
+                if file.code(method) and (file.name, method.key) not in self.refused:
                     translation = Translation(self, file, method, self.style)
             self.bodies.append((file.name, method.key, translation, method.arguments))
         for key in self.missing[file.name]:
@@ -261,7 +279,7 @@ class Package:
                     return self.entry(STATIC_METHOD, OWN, each.name, name, descriptor)
             elif (name, descriptor) in each.static_methods:
                 return self.entry(STATIC_METHOD, self.reference(each, where), each.static_methods[name, descriptor])
-        raise Refusal(f"{where}: {lacking(owner, name, descriptor)}")
+        raise Refusal(f"{where}: {lacking(owner, name, descriptor, is_extended(owner, (name, descriptor)))}")
 
     def private_method_entry(self, owner, name, descriptor):
         """Of a private method of the package; None where the method is another one."""
@@ -288,7 +306,7 @@ class Package:
         found, token = self.lookup(info, (name, descriptor), "package_methods")
         if found is not None and self.is_own(found):
             return token | OF_PACKAGE
-        raise Refusal(f"{where}: {lacking(info.name, name, descriptor)}")
+        raise Refusal(f"{where}: {lacking(info.name, name, descriptor, is_extended(info.name, (name, descriptor)))}")
 
     def virtual_method_entry(self, owner, name, descriptor, where):
         info = self.classes.find(OBJECT if owner[0] == "[" else owner, where)
@@ -298,5 +316,5 @@ class Package:
         info = self.classes.find(owner, where)
         token = info.interface_methods.get((name, descriptor))
         if token is None:
-            raise Refusal(f"{where}: {lacking(owner, name, descriptor)}")
+            raise Refusal(f"{where}: {lacking(owner, name, descriptor, is_extended(owner, (name, descriptor)))}")
         return self.entry(CLASS, self.reference(info, where)), token

@@ -12,6 +12,7 @@ from .refusal import Refusal, class_name
 
 HERE = os.path.dirname(os.path.realpath(__file__))
 STUBS = os.path.join(HERE, "stubs")
+ABSENT = os.path.join(HERE, "absent")  # stubs of classes that no card has
 NEEDED = os.path.join(HERE, "../../examples/platform.table")  # has the names that each table has
 ALLOWED = os.path.join(HERE, "../../examples/extended.table")  # has all names that an extended table may have
 EXTENDED = "extended"  # the first line of such a table
@@ -208,3 +209,17 @@ def read_table(path):
     table = read_lines(path)[1]
     Classes(table.packages).set_ends()
     return table.packages
+
+
+@functools.cache
+def extended_classes():
+    """All classes and methods that an extended platform table can have."""
+    return Classes(read_table(ALLOWED))
+
+
+def is_extended(owner, key):
+    """Whether an extended platform table can have a method, by its name and its descriptor."""
+    info = extended_classes().known.get(owner)
+    return info is not None and any(
+        key in methods for each in extended_classes().chain(info)
+        for methods in (each.static_methods, each.virtual_methods, each.interface_methods))

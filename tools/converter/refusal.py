@@ -3,6 +3,8 @@
 PRIMITIVE = {"B": "byte", "S": "short", "Z": "boolean", "V": "void", "I": "int", "J": "long", "F": "float", "D": "double", "C": "char"}
 CARD_TYPES = ("B", "S", "Z")
 OF_API = ("java/", "javacard/", "javacardx/")
+CRYPTOGRAPHY = ("javacard/security/", "javacardx/crypto/", "javacardx/security/")
+EXTENDED_TABLE = "examples/extended.table"
 
 
 class Refusal(Exception):
@@ -69,10 +71,23 @@ def method_name(owner, name, descriptor):
     return f"{called}({parameters})"
 
 
-def lacking(owner, name, descriptor):
-    """That the card has no such method, and where those of the API are listed."""
-    listed = " (docs/api.table lists what can be)" if owner.startswith(OF_API) else ""
+def lacking(owner, name, descriptor, is_extended=False):
+    """That the card has no such method, and where those of the API are listed. An extended one stands in an extended table."""
+    if is_extended:
+        listed = f" of this platform table; {EXTENDED_TABLE} has it"
+    else:
+        listed = " (docs/api.table lists what can be)" if owner.startswith(OF_API) else ""
     return f"{method_name(owner, name, descriptor)} is not on the card{listed}"
+
+
+def unknown_class(name, is_extended=False):
+    """That no package has the class. An extended one stands in an extended table."""
+    called = f"class {class_name(name)}"
+    if is_extended:
+        return f"{called} is not on the card of this platform table; {EXTENDED_TABLE} has it"
+    if name.startswith(CRYPTOGRAPHY):
+        return f"{called} is not on the card, which has no cryptography (docs/api.table lists what can be)"
+    return f"{called} is neither on the card nor in an export file"
 
 
 def fault_of_type(descriptor):

@@ -1,7 +1,7 @@
 """The static fields of a package, and their first values."""
 from .bytecode import decode
 from .code import two_bytes
-from .refusal import Reasons, Refusal, is_reference
+from .refusal import Reasons, Refusal, fault_of_type, is_reference
 
 SIZES = {"S": 2, "B": 1, "Z": 1}
 ELEMENTS = {4: 2, 8: 3, 9: 4}  # of newarray: boolean, byte and short, and their numbers in the StaticField component
@@ -98,6 +98,9 @@ class StaticImage:
         """Gives tokens to the fields of a class that other packages may name, and sorts its fields by how they begin."""
         info, found = package.classes.known[file.name], []
         for each in file.fields:
+            if each.is_static and fault_of_type(each.descriptor):
+                info.static_fields[each.name] = None  # Package refuses its type
+                continue
             constant = file.constant(each) if each.is_static else None
             if not each.is_static or constant is not None and each.is_final:
                 continue  # javac puts the value of a constant wherever it is named

@@ -1,7 +1,7 @@
 """Makes the card's instructions of a method from those of its class file."""
 from . import code
 from .bytecode import BRANCHES, SWITCHES
-from .refusal import types_of
+from .refusal import Reasons, types_of
 from .walk import Walk
 
 PLAIN = {
@@ -69,12 +69,14 @@ class Translation:
     def translate(self):
         reached = [instruction for instruction in self.walk.instructions if self.is_reached(instruction.pc)]
         self.this = self.this_accesses()
-        targets, left_out, at = self.targets(), set(self.this.values()), 0
+        targets, left_out, at, reasons = self.targets(), set(self.this.values()), 0, Reasons()
         while at < len(reached):
             taken = self.increment(reached[at:at + 6], targets) if self.style.increments else 0
             if taken == 0 and reached[at].pc not in left_out:
-                self.one(reached[at])
+                with reasons:
+                    self.one(reached[at])
             at += taken or 1
+        reasons.end()
 
     def increment(self, begin, targets):
         """Makes sinc of a variable that is loaded, changed by a constant, cut to a short and stored; how many were taken."""
@@ -258,6 +260,15 @@ class Translation:
     def lay_out(self, indices):
         self.layout = code.Layout(self.instructions, self.first, indices, self.style)
         return self.layout.content
+
+    def java_lines(self):
+        """The offset of each instruction with which another line of the Java source begins, and the line."""
+        last = 0
+        for instruction in self.instructions:
+            line = self.walk.code.line(instruction.pc)
+            if line not in (0, last):
+                last = line
+                yield instruction.offset, line
 
     def handler_rows(self):
         """The handlers that can be reached, in their order: where each begins, ends and goes on, what it catches, and whether

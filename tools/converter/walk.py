@@ -3,7 +3,7 @@ from . import arithmetic
 from .arithmetic import BOOLEAN, REFERENCE, SHORT, between, value_of_type
 from .bytecode import ENDS, decode
 from .class_file import FLOAT, INTEGER, STRING, CLASS
-from .refusal import Refusal, class_name, fault_of_type, is_reference, types_of
+from .refusal import Reasons, Refusal, class_name, fault_of_type, is_reference, types_of
 
 ELEMENTS = {4: "Z", 8: "B", 9: "S", 5: "C", 6: "F", 7: "D", 10: "I", 11: "J"}  # of newarray
 CONSTANTS = {STRING: "a string", CLASS: "a class literal", FLOAT: "a float"}
@@ -15,6 +15,9 @@ NOT_THERE = {
     "ret": "a subroutine of old class files (ret)", "i2c": "type char", "caload": "type char[]", "castore": "type char[]",
     "iaload": "type int[]", "iastore": "type int[]", "ldc2_w": "a long or double",
 }
+FIELD_ACCESSES = ("getstatic", "putstatic", "getfield", "putfield")
+CALLS = ("invokevirtual", "invokespecial", "invokestatic", "invokeinterface")
+TYPE_USES = {"anewarray": ("[", ""), "checkcast": ("", "a cast to "), "instanceof": ("", "instanceof of ")}
 OPPOSITES = {"eq": "ne", "ne": "eq", "lt": "ge", "ge": "lt", "gt": "le", "le": "gt"}
 LETTERS = {"l": "long", "f": "float", "d": "double"}
 
@@ -34,11 +37,10 @@ class Walk:
     def __init__(self, owner, method, code):
         self.owner, self.method, self.code, self.constants = owner, method, code, owner.constants
         parameters, _ = types_of(method.descriptor)
-        for variable in code.variables:  # one begins behind the instruction that first stores it
-            self.check_type(variable.descriptor, f"the variable {variable.name} has ", max(variable.start - 1, 0))
         self.types = ([] if method.is_static else [f"L{owner.name};"]) + parameters
         self.instructions = decode(code.bytes)
         self.at = {instruction.pc: instruction for instruction in self.instructions}
+        self.check_names()
         self.states, self.visits, self.waiting = {}, {}, []
         self.uses = {}  # where a loaded `this` is used
         self.objects = {}  # the loads of `this` that an access to a field may take its object from
@@ -58,6 +60,52 @@ class Walk:
         fault = fault_of_type(descriptor)
         if fault:
             self.refuse(f"{what}{fault}, which the card does not have", pc)
+
+    def check_names(self):
+        """That the card has the types and the instructions that the code names, whatever values they meet. Of instructions one a
+        line is refused, and none where a variable of the line is."""
+        reasons, refused = Reasons(), set()
+        for variable in self.code.variables:
+            if variable.start and fault_of_type(variable.descriptor):  # at 0 stand parameters
+                pc = variable.start - 1  # in the instruction that first stores it
+                refused.add(self.code.line(pc))
+                with reasons:
+                    self.check_type(variable.descriptor, f"the variable {variable.name} has ", pc)
+        for instruction in self.instructions:
+            line = self.code.line(instruction.pc)
+            if line not in refused:
+                before = len(reasons.reasons)
+                with reasons:
+                    self.check_instruction(instruction.name, instruction.operand, instruction.pc)
+                if len(reasons.reasons) > before:
+                    refused.add(line)
+        reasons.end()
+
+    def check_instruction(self, name, operand, pc):
+        if name == "ldc":
+            tag, _ = self.constants.entries[operand]
+            if tag != INTEGER:
+                self.refuse(f"{CONSTANTS.get(tag, 'a constant')}, which the card does not have", pc)
+        elif name in FIELD_ACCESSES:
+            owner, field, descriptor = self.constants.member_at(operand)
+            self.check_type(descriptor, f"{class_name(owner)}.{field} has ", pc)
+        elif name in CALLS:
+            owner, method, descriptor = self.constants.member_at(operand)
+            parameters, result = types_of(descriptor)
+            called = class_name(owner) if method == "<init>" else f"{class_name(owner)}.{method}"
+            for each in parameters + [result]:
+                self.check_type(each, f"a parameter or the result of {called} has ", pc)
+        elif name == "newarray":
+            self.check_type("[" + ELEMENTS[operand], "", pc)
+        elif name in TYPE_USES:
+            self.check_type(TYPE_USES[name][0] + self.type_named(operand), TYPE_USES[name][1], pc)
+        elif not (name in GROUPS or name in arithmetic.OPERATIONS or name in DUPLICATES or name.startswith("if") or name == "monitorexit"):
+            self.refuse(f"{what_is_not_there(name)}, which the card does not have", pc)
+
+    def type_named(self, operand):
+        """The type whose class the operand names."""
+        name = self.constants.class_at(operand)
+        return name if name[0] == "[" else f"L{name};"
 
     def go(self, pc, variables, stack):
         """Goes to an instruction with these values."""
@@ -164,10 +212,8 @@ class Step:
             self.reference()
         elif name in ("ifnull", "ifnonnull"):
             self.reference()
-        elif name.startswith("if"):
+        else:  # if and a condition
             self.condition, self.compared = name[-2:], (self.exact("a condition"), between(0, 0))
-        else:
-            self.refuse(f"{what_is_not_there(name)}, which the card does not have")
 
     def top(self, depth):
         """The values on the top, which from now on stand in several places."""
@@ -186,9 +232,7 @@ class Step:
         self.push(between(self.operand, self.operand))
 
     def loaded_constant(self):
-        tag, value = self.walk.constants.entries[self.operand]
-        if tag != INTEGER:
-            self.refuse(f"{CONSTANTS.get(tag, 'a constant')}, which the card does not have")
+        _, value = self.walk.constants.entries[self.operand]
         self.push(between(value, value))
 
     def load(self):
@@ -258,8 +302,7 @@ class Step:
             self.reference()
 
     def access_field(self):
-        owner, field, descriptor = self.walk.constants.member_at(self.operand)
-        self.walk.check_type(descriptor, f"{class_name(owner)}.{field} has ", self.pc)
+        descriptor = self.walk.constants.member_at(self.operand)[2]
         if self.name.startswith("put"):
             self.of_type(descriptor, "the value of a field")
         if self.name.endswith("field"):
@@ -268,11 +311,7 @@ class Step:
             self.push(value_of_type(descriptor))
 
     def invoke(self):
-        owner, method, descriptor = self.walk.constants.member_at(self.operand)
-        parameters, result = types_of(descriptor)
-        called = class_name(owner) if method == "<init>" else f"{class_name(owner)}.{method}"
-        for each in parameters + [result]:
-            self.walk.check_type(each, f"a parameter or the result of {called} has ", self.pc)
+        parameters, result = types_of(self.walk.constants.member_at(self.operand)[2])
         for parameter in reversed(parameters):
             self.of_type(parameter, "an argument")
         if self.name != "invokestatic":
@@ -284,17 +323,8 @@ class Step:
         self.push(REFERENCE)
 
     def make_array(self):
-        if self.name == "newarray":
-            self.walk.check_type("[" + ELEMENTS[self.operand], "", self.pc)
-        else:
-            self.walk.check_type("[" + self.type_named(), "", self.pc)
         self.exact("the length of an array")
         self.push(REFERENCE)
-
-    def type_named(self):
-        """The type whose class the operand names."""
-        name = self.walk.constants.class_at(self.operand)
-        return name if name[0] == "[" else f"L{name};"
 
     def length(self):
         self.reference()
@@ -304,12 +334,10 @@ class Step:
         self.reference()
 
     def check_cast(self):
-        self.walk.check_type(self.type_named(), "a cast to ", self.pc)
         self.reference()
         self.push(REFERENCE)
 
     def is_instance(self):
-        self.walk.check_type(self.type_named(), "instanceof of ", self.pc)
         self.reference()
         self.push(BOOLEAN)
 
@@ -322,8 +350,7 @@ GROUPS = {
         ("aaload baload saload", Step.load_element), ("aastore bastore sastore", Step.store_element), ("pop pop2", Step.pop),
         ("swap", Step.swap), ("ineg", Step.negate), ("i2b i2s", Step.cast), ("iinc", Step.increment),
         ("tableswitch lookupswitch", Step.switch), ("ireturn areturn return", Step.give_back),
-        ("getstatic putstatic getfield putfield", Step.access_field),
-        ("invokevirtual invokespecial invokestatic invokeinterface", Step.invoke), ("new", Step.make_object),
+        (" ".join(FIELD_ACCESSES), Step.access_field), (" ".join(CALLS), Step.invoke), ("new", Step.make_object),
         ("newarray anewarray", Step.make_array), ("arraylength", Step.length), ("athrow", Step.throw),
         ("checkcast", Step.check_cast), ("instanceof", Step.is_instance),
     )

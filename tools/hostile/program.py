@@ -5,7 +5,7 @@ import subprocess
 
 TOP = os.path.dirname(os.path.dirname(os.path.dirname(os.path.realpath(__file__))))
 TABLE = os.path.join(TOP, "examples/platform.table")
-CARDS = os.path.join(TOP, "crates/test_rows_run/data/cards")
+CARDS = os.path.join(TOP, "rows/cards")
 LONGEST = 10  # seconds that a run may take
 MOST_SENT = 256  # bytes before a status word
 ANSWER = re.compile("(?:[0-9A-F]{2}){2,%d}" % (MOST_SENT + 2))
@@ -13,6 +13,7 @@ COMMAND = re.compile("(?: *[0-9A-Fa-f] *[0-9A-Fa-f])* *")
 STOP = re.compile("stop ([0-9]+)")
 DUMP = re.compile(r"words [0-9]+\njournal [0-9]+ of [0-9]+\npackages ([0-9]+)\napplets ([0-9]+)\n"
                   r"((?:package [0-9]+ [0-9A-F]{10,32} [0-9]+\.[0-9]+\n)*)((?:applet [0-9]+ [0-9A-F]{10,32} package [0-9]+\n)*)")
+REMARK = re.compile(r"jcard: line ([0-9]+)(?:, column [0-9]+)?: .+\n")
 BAD_IMAGE = re.compile("jcard: bad image [1-6]")
 BYTES, END = "80B4", "80BA"  # the commands that may tell want of memory
 WANT = ("640B", "6424")
@@ -42,6 +43,12 @@ def is_said(line):
     return bool(line) and not line.startswith("#")
 
 
+def is_remark(printed, said):
+    """Whether standard error says why the line of a script is refused that the last line of the output names."""
+    remark, last = REMARK.fullmatch(said), printed.rpartition("jcard: ")[2]
+    return remark is not None and last == f"line {remark[1]}: bad command\n"
+
+
 class Program:
     """The program, with a folder for its files."""
 
@@ -61,9 +68,9 @@ class Program:
             done = subprocess.run([self.path, *words], stdin=subprocess.DEVNULL, capture_output=True, timeout=LONGEST, check=False)
         except subprocess.TimeoutExpired:
             raise Failed(f"{words[0]} had not ended after {LONGEST} seconds") from None
-        text = done.stdout.decode("ascii", "replace")
-        if done.returncode not in (0, 1) or done.stderr:
-            raise Failed(f"{words[0]} ended with status {done.returncode}: {text[-200:]} {done.stderr.decode('ascii', 'replace')[-200:]}")
+        text, said = done.stdout.decode("ascii", "replace"), done.stderr.decode("ascii", "replace")
+        if done.returncode not in (0, 1) or said and not is_remark(text, said):
+            raise Failed(f"{words[0]} ended with status {done.returncode}: {text[-200:]} {said[-200:]}")
         return done.returncode, text
 
     def new(self, image, words, *options):

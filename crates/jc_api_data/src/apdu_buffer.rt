@@ -1,8 +1,7 @@
 //! The APDU buffer, and the data of a command.
 ghost use Rattle.std.specs.Prelude.{◌≡◌, ◌≤◌, false, length, IfOk};
 ghost use Rattle.jc_frames.specs.Cells.{result_or_none};
-ghost use Rattle.jc_memory.specs.Cells.{header_at};
-ghost use Rattle.jc_api_data.specs.ApduBuffer.{buffer_of, data_of, is_buffer, IsBuffer};
+ghost use Rattle.jc_api_data.specs.ApduBuffer.{buffer_of, data_of, IsBuffer};
 
 use jc_frames::CodeFault;
 use jc_heap::Kind;

@@ -22,7 +22,7 @@ use jc_world::{NativeResult, StepExit};
 pub(crate) const MOST_SENT: u16 = 256;
 
 /// Bytes of the buffer, from one on.
-#[derive(Clone, Copy, Debug, PartialEq, Eq)]
+#[derive(Clone, Copy, PartialEq, Eq)]
 pub(crate) struct Piece {
     pub start: u16,
     pub count: u16,

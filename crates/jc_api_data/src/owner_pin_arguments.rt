@@ -19,7 +19,7 @@ use jc_world::contexts::context_of;
 use jc_world::{Stretch, bytes_argument, elements};
 
 /// An array of bytes with its header, none for null; an offset and a length.
-#[derive(Clone, Copy, Debug, PartialEq, Eq)]
+#[derive(Clone, Copy, PartialEq, Eq)]
 pub(crate) struct ArrayArguments {
     pub array: Ref,
     pub header: Option<Facts>,

@@ -1,5 +1,5 @@
 //! The array arguments of `Util`'s methods, all checked.
-ghost use Rattle.std.specs.Prelude.{◌≡◌, ◌≤◌, false, IfOk, pos};
+ghost use Rattle.std.specs.Prelude.{◌≡◌, ◌≤◌, false, IfOk};
 ghost use Rattle.jc_world.specs.Arrays.{IsInArray};
 ghost use Rattle.jc_api_data.specs.UtilArguments.{pair_arguments, pair_of, two_of, counted_of};
 
@@ -13,7 +13,7 @@ use jc_world::arguments::{reference_argument, short_argument};
 use jc_world::{Stretch, bytes_argument, elements};
 
 /// The arguments of a method of two arrays, each with an offset, and a length.
-#[derive(Clone, Copy, Debug, PartialEq, Eq)]
+#[derive(Clone, Copy, PartialEq, Eq)]
 pub(crate) struct PairArguments {
     pub(crate) source: Ref,
     pub(crate) source_start: i16,
@@ -23,7 +23,7 @@ pub(crate) struct PairArguments {
 }
 
 /// The elements of two arrays, as many of the one as of the other.
-#[derive(Clone, Copy, Debug, PartialEq, Eq)]
+#[derive(Clone, Copy, PartialEq, Eq)]
 pub(crate) struct Pair {
     pub(crate) from: Stretch,
     pub(crate) to: Stretch,

@@ -1,5 +1,5 @@
 //! Copying between arrays of bytes.
-ghost use Rattle.std.specs.Prelude.{◌≡◌, ◌≤◌, false, length};
+ghost use Rattle.std.specs.Prelude.{◌≡◌, ◌≤◌, false};
 ghost use Rattle.jc_memory.specs.Programs.{Executes};
 ghost use Rattle.jc_heap.specs.Completions.{after_change};
 ghost use Rattle.jc_memory.specs.Cells.{cells_store};

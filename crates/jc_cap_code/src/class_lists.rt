@@ -63,7 +63,7 @@ impl<'a> ClassRefs<'a> {
 }
 
 /// An interface that a class implements (`implemented_interface_info` of the Java Card CAP format).
-#[derive(Clone, Copy, Debug, Drop)]
+#[derive(Clone, Copy, Drop)]
 pub struct ImplementedInterface<'a> {
     pub interface: ClassRef,
     /// For each method of the interface, by its token, the token of the class's virtual method.

@@ -15,7 +15,7 @@ use jc_cap_linkage::fields::u1;
 use jc_cap_linkage::lists::u2_list;
 
 /// The bases and the lengths of a class's method tables.
-#[derive(Clone, Copy, Debug, Drop)]
+#[derive(Clone, Copy, Drop)]
 pub(crate) struct TableSizes {
     public_base: u8,
     public_count: u8,
@@ -25,7 +25,7 @@ pub(crate) struct TableSizes {
 }
 
 /// Which classes may be named as a superclass or a superinterface.
-#[derive(Clone, Copy, Debug, Drop)]
+#[derive(Clone, Copy, Drop)]
 pub(crate) enum Known<'a> {
     /// Those of other packages, and those of this one at these offsets.
     Earlier(&'a [u16]),

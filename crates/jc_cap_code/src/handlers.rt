@@ -10,7 +10,7 @@ use jc_cap_linkage::fields::{u1, u2};
 use std::marker::Model;
 
 /// An exception handler (`exception_handler_info` of the Java Card CAP format).
-#[derive(Clone, Copy, Debug, Drop, PartialEq, Eq)]
+#[derive(Clone, Copy, Drop, PartialEq, Eq)]
 pub struct Handler {
     /// The offset of the first byte that it watches over, in the component's info.
     pub start_offset: u16,

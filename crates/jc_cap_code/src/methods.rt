@@ -12,7 +12,7 @@ use jc_cap_linkage::fault::CapFault;
 use jc_cap_linkage::fields::u1;
 
 /// The header of a method (`method_header_info` and `extended_method_header_info` of the Java Card CAP format).
-#[derive(Clone, Copy, Debug, Drop, PartialEq, Eq)]
+#[derive(Clone, Copy, Drop, PartialEq, Eq)]
 pub struct MethodHeader {
     /// Whether it has four bytes in place of two.
     pub extended: bool,
@@ -26,7 +26,7 @@ pub struct MethodHeader {
 }
 
 /// A method. It is lent from the component.
-#[derive(Clone, Copy, Debug, Drop)]
+#[derive(Clone, Copy, Drop)]
 pub struct Method<'a> {
     pub header: MethodHeader,
     /// The bytes from the header to the end of the component.

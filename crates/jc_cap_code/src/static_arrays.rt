@@ -11,7 +11,7 @@ use jc_cap_linkage::fields::{run, u1, u2};
 use std::marker::Model;
 
 /// What an initialised array holds.
-#[derive(Clone, Copy, Debug, Drop, PartialEq, Eq)]
+#[derive(Clone, Copy, Drop, PartialEq, Eq)]
 pub enum ElementType {
     Boolean,
     Byte,
@@ -32,7 +32,7 @@ impl ElementType {
 }
 
 /// An initialised array (`array_init_info` of the Java Card CAP format). Its bytes are lent from the component.
-#[derive(Clone, Copy, Debug, Drop)]
+#[derive(Clone, Copy, Drop)]
 pub struct ArrayInit<'a> {
     pub element_type: ElementType,
     /// The elements, one behind the other; a short has its high byte first.

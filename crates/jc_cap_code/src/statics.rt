@@ -92,7 +92,7 @@ pub fn read_static_field(info: &[u8]) -> Result<StaticFields<'_>, CapFault>
 }
 
 /// The numbers that a StaticField component tells. Where they are kept once it was read, it is not read a second time.
-#[derive(Clone, Copy, Debug, Drop)]
+#[derive(Clone, Copy, Drop)]
 pub struct StaticCounts {
     pub image_size: u16,
     pub reference_count: u16,

@@ -11,7 +11,7 @@ use crate::fields::{aid, u1, u2};
 use std::marker::Model;
 
 /// An applet of the package.
-#[derive(Clone, Copy, Debug, Drop)]
+#[derive(Clone, Copy, Drop)]
 pub struct AppletInfo<'a> {
     /// 5 to 16 bytes.
     pub aid: &'a [u8],

@@ -12,7 +12,7 @@ use crate::tags;
 use std::marker::Model;
 
 /// A custom component that the package says that it has.
-#[derive(Clone, Copy, Debug, Drop)]
+#[derive(Clone, Copy, Drop)]
 pub struct CustomComponent<'a> {
     /// `FIRST_CUSTOM` or above.
     pub tag: u8,

@@ -12,7 +12,7 @@ use crate::formats::Format;
 use crate::lists::{U2List, u2_list};
 
 /// What the package says of its static image (`static_field_size_info` of the Java Card CAP format).
-#[derive(Clone, Copy, Debug, Drop, PartialEq, Eq)]
+#[derive(Clone, Copy, Drop, PartialEq, Eq)]
 pub struct StaticFieldSize {
     /// How many bytes the static image has.
     pub image_size: u16,

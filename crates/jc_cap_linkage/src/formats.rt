@@ -2,7 +2,7 @@
 
 /// A format, by its major and minor version. A package's Header component tells it, and its Directory and Class components
 /// are read by it.
-#[derive(Clone, Copy, Debug, Drop, PartialEq, Eq)]
+#[derive(Clone, Copy, Drop, PartialEq, Eq)]
 pub enum Format {
     /// Version 2.1.
     V2_1,

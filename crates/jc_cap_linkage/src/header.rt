@@ -11,7 +11,7 @@ use crate::formats::Format;
 use crate::packages::{PackageInfo, package_info};
 
 /// What a package says of itself. That it does without int is checked as it is read.
-#[derive(Clone, Copy, Debug, Drop)]
+#[derive(Clone, Copy, Drop)]
 pub struct Header<'a> {
     /// The format of its components.
     pub format: Format,

@@ -8,7 +8,7 @@ use crate::fault::CapFault;
 use crate::fields::{aid, u1};
 
 /// The version and the AID of a package (`package_info` of the Java Card CAP format).
-#[derive(Clone, Copy, Debug, Drop)]
+#[derive(Clone, Copy, Drop)]
 pub struct PackageInfo<'a> {
     pub minor_version: u8,
     pub major_version: u8,

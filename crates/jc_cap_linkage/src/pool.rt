@@ -12,7 +12,7 @@ use crate::fields::{u1, u2};
 use std::marker::Model;
 
 /// The token of a virtual method, 0 to 127, and who may see the method.
-#[derive(Clone, Copy, Debug, Drop, PartialEq, Eq)]
+#[derive(Clone, Copy, Drop, PartialEq, Eq)]
 pub enum VirtualToken {
     /// It is public or protected.
     Public(u8),
@@ -21,7 +21,7 @@ pub enum VirtualToken {
 }
 
 /// A static field or a static method.
-#[derive(Clone, Copy, Debug, Drop, PartialEq, Eq)]
+#[derive(Clone, Copy, Drop, PartialEq, Eq)]
 pub enum StaticRef {
     /// In this package: its offset in the static image or in the Method component's info.
     Internal(u16),
@@ -34,7 +34,7 @@ pub enum StaticRef {
 }
 
 /// An entry of the constant pool.
-#[derive(Clone, Copy, Debug, Drop, PartialEq, Eq)]
+#[derive(Clone, Copy, Drop, PartialEq, Eq)]
 pub enum Entry {
     /// A class or an interface.
     Class(ClassRef),

@@ -66,7 +66,7 @@ only_torn reason refusal.HeapFull old new m a none did = absurd (none-some refus
 only_torn reason refusal.NoTransientSpace old new m a none did = absurd (none-some refusal.NoTransientSpace (sym none ∙ did.0))
 
 pub torn_head : (m : Move) (old new : HeapView) → AreTornMoves (m ∷ []) old new → new.durable.head ≡ old.durable.head
-torn_head m old new torn = elim torn.left [ inl same ↦ ap (λ (h : HeapState). h.head) same | inr none ↦ absurd none ]
+torn_head m old new torn = elim torn.left [ inl cut ↦ ap (λ (h : HeapState). h.head) cut.0 | inr none ↦ absurd none ]
 
 -- ---- what is made stands there
 

@@ -6,7 +6,7 @@ ghost use Rattle.jc_card.specs.Commands.{apdu_value};
 ghost use Rattle.jc_dispatch.specs.Slices.{slice_bytes};
 
 /// A command APDU in its short form (ISO/IEC 7816-4).
-#[derive(Clone, Copy, Debug)]
+#[derive(Clone, Copy)]
 pub struct Command<'a> {
     pub class: u8,
     pub instruction: u8,

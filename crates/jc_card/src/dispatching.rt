@@ -1,10 +1,10 @@
 //! Commands that applets answer, and "create applet".
-ghost use Rattle.std.specs.Prelude.{◌≡◌, ◌≤◌, false, length, OnOk};
+ghost use Rattle.std.specs.Prelude.{◌≡◌, ◌≤◌, false, length, OnErr, OnOk};
 ghost use Rattle.jc_memory.specs.Programs.{Executes};
 ghost use Rattle.jc_heap.specs.Completions.{after_step};
 ghost use Rattle.jc_card.specs.Answers.{after_exchange, answered};
 ghost use Rattle.jc_card.specs.Commands.{apdu_value};
-ghost use Rattle.jc_card.specs.Dispatching.{create_applet, dispatch, expected_by, is_select, route, status_of_ending, to_named, to_selected};
+ghost use Rattle.jc_card.specs.Dispatching.{create_applet, dispatch, expected_by, is_select, route, status_of_ending, to_selected};
 
 use crate::card::Card;
 use crate::command::Command;
@@ -125,8 +125,9 @@ impl<S: WordStore> Card<S> {
     ) -> Result<(), StoreDown>
         requires up { self.old.memory.heap.down ≡ false }
         requires long { length bytes.now ≤ 261 }
-        ensures { Executes (dispatch bytes.now (apdu_value command.entry) self.old) self.old.memory
-            (after_exchange (answered result response.new) self.new) }
+        ensures executes { Executes (dispatch bytes.now (apdu_value command.entry) self.old)
+            self.old.memory (after_exchange (answered result response.new) self.new) }
+        ensures unanswered { OnErr result (response.new ≡ response.old) }
     {
         self.memory.start(bytes);
         let expected = expected_by(bytes);

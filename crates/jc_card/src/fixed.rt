@@ -22,7 +22,7 @@ pub(crate) const FIXED_COUNT: usize = 17;
 pub(crate) const LAST_FIXED: usize = FIXED_COUNT - 1;
 
 /// An object that the runtime environment owns.
-#[derive(Clone, Copy, Debug)]
+#[derive(Clone, Copy)]
 pub(crate) struct FixedObject {
     pub(crate) kind: Kind,
     /// The class of an instance; none of an array.

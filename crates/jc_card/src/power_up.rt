@@ -1,5 +1,5 @@
 //! Powering a card up over the words of its image.
-ghost use Rattle.std.specs.Prelude.{ℕ, List, ◌≡◌, ◌⊎◌, ◌+◌, ◌/◌, ◌≤◌, ◌↔◌, [], length, slice_index, None, Some, Ok, IsOk, IfOk, IfErr, OnOk, false, true, MatchResult};
+ghost use Rattle.std.specs.Prelude.{ℕ, List, ◌≡◌, ◌⊎◌, ◌+◌, ◌/◌, ◌≤◌, ◌↔◌, [], length, slice_index, None, Some, Ok, IsOk, IfOk, IfErr, OnOk, false, MatchResult};
 ghost use Rattle.jc_words.specs.Layout.{text_length_address, text_start, version, version_address};
 ghost use Rattle.jc_heap.specs.Heap.{heap_view};
 ghost use Rattle.jc_heap.specs.Image.{IsWellFormed, table_text};

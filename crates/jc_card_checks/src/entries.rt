@@ -1,5 +1,5 @@
 //! Whether each entry of the registry is that of an applet, and no AID stands there twice.
-ghost use Rattle.std.specs.Prelude.{ℕ, ◌≡◌, ◌<◌, ◌≤◌, ◌↔◌, IsTrue, ◌&&◌, false, true, drop, length, slice_index, nat_lt};
+ghost use Rattle.std.specs.Prelude.{ℕ, ◌≡◌, ◌<◌, ◌≤◌, ◌↔◌, IsTrue, ◌&&◌, false, true, drop, length, slice_index};
 ghost use Rattle.std.specs.List.{list_any};
 ghost use Rattle.std.specs.Str.{bytes_eq};
 ghost use Rattle.jc_words.specs.Layout.{most_applets};

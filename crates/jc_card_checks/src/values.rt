@@ -1,7 +1,6 @@
 //! Whether what a persistent instance holds fits its class.
-ghost use Rattle.std.specs.Prelude.{◌≡◌, ◌<◌, ◌↔◌, IsTrue, false, length, slice_index, None};
-ghost use Rattle.jc_heap.specs.Heap.{cells, facts, IsObject};
-ghost use Rattle.jc_heap.specs.Whole.{IsConsistent};
+ghost use Rattle.std.specs.Prelude.{◌≡◌, ◌<◌, ◌↔◌, IsTrue, false, length, slice_index};
+ghost use Rattle.jc_heap.specs.Heap.{cells, facts};
 ghost use Rattle.jc_card_checks.specs.Objects.{HoldsReferences, HoldsValues, fits_aid, fits_pin, has_value, is_a, is_byte_array, is_reference};
 ghost use Rattle.jc_card_checks.specs.Objects.{is_object_address};
 

@@ -1,5 +1,5 @@
 //! Linking a package that was put together.
-ghost use Rattle.std.specs.Prelude.{◌≡◌, ◌<◌, ◌≤◌, length, is_some, OnOk};
+ghost use Rattle.std.specs.Prelude.{◌<◌, ◌≤◌, length, is_some, OnOk};
 ghost use Rattle.jc_cap.specs.Views.{package_contents};
 ghost use Rattle.jc_linker.specs.Lookups.{package_with_aid};
 ghost use Rattle.jc_linker.specs.Linking.{link_result};

@@ -12,7 +12,7 @@ use crate::linking::link_package;
 use crate::load::OpenLoad;
 use crate::load_refusal::LoadRefusal;
 use crate::record_contents::{RecordContents, record_contents_of};
-use crate::refusals::{note_full_heap, note_refusal};
+use crate::refusals::{note_full_heap, note_missing, note_refusal, note_sizes};
 use jc_cap::assembling::Package;
 use jc_cap::texts::LoadedComponents;
 use jc_heap::HeapRefusal;
@@ -60,9 +60,15 @@ fn assemble_and_add<S: WordStore>(
     ensures { Executes (assembly_result linked.old memory.old load) memory.old
         (after_end result linked.new None memory.new) }
 {
+    if memory.notes().are_kept() {
+        note_sizes(&load, memory.notes());
+    }
     match Package::of(load) {
         Ok(whole) => link_and_add(alloc, memory, linked, &whole),
-        Err(fault) => Ok(Err(LoadRefusal::BadComponents(fault))),
+        Err(fault) => {
+            note_missing(fault, memory.notes());
+            Ok(Err(LoadRefusal::BadComponents(fault)))
+        }
     }
 }
 
@@ -81,7 +87,7 @@ fn link_and_add<S: WordStore>(
         Ok(addition) => add(alloc, memory, linked, whole, addition),
         Err(refusal) => {
             if memory.notes().are_kept() {
-                note_refusal(refusal, whole, memory.notes());
+                note_refusal(refusal, whole, linked, memory.notes());
             }
             Ok(Err(refusal))
         }

@@ -24,7 +24,7 @@ use jc_words::WordStore;
 use std::alloc::{AllocError, Global};
 
 /// Why packages are not read.
-#[derive(Clone, Copy, Debug, PartialEq, Eq)]
+#[derive(Clone, Copy, PartialEq, Eq)]
 pub enum RecordFault {
     /// A record holds no package that links.
     Damaged,

@@ -5,17 +5,24 @@ use crate::load::OpenLoad;
 use crate::load_refusal::LoadRefusal;
 use crate::record_contents::RecordContents;
 use jc_cap::assembling::Package;
+use jc_cap::component::Component;
 use jc_cap::contents::Contents;
 use jc_cap::texts::LoadedComponents;
 use jc_cap_linkage::class_refs::ClassRef;
 use jc_cap_linkage::fault::CapFault;
 use jc_cap_linkage::formats::Format;
+use jc_cap_linkage::packages::PackageInfo;
 use jc_cap_linkage::pool::{Entry, StaticRef, VirtualToken};
+use jc_cap_linkage::tags;
 use jc_heap::layout::HEADER;
 use jc_linker::fault::LinkFault;
+use jc_linker::linked::Linked;
 use jc_memory::{Memory, Notes, RefusedLoad, Shortage, Space};
 use jc_words::WordStore;
 use std::alloc::{AllocError, Global};
+
+/// In place of the number of an entry where none is meant.
+const NO_ENTRY: u16 = 65_535;
 
 // The first bytes of a component.
 fn beginning(alloc: Global, bytes: &[u8], count: usize) -> Result<Vec<u8>, AllocError>
@@ -79,8 +86,15 @@ impl OpenLoad {
         let Some(coming) = &self.coming else {
             return;
         };
-        let format = self.format.unwrap_or(Format::V2_1);
         let (tag, bytes) = (coming.tag(), coming.bytes());
+        if self.format.is_none() && (tag == tags::DIRECTORY || tag == tags::CLASS) {
+            notes.refused_load(RefusedLoad::Component {
+                tag: tags::HEADER,
+                offset: 0,
+            });
+            return;
+        }
+        let format = self.format.unwrap_or(Format::V2_1);
         let Ok(copy) = beginning(alloc, bytes, bytes.len()) else {
             return;
         };
@@ -163,16 +177,168 @@ fn package_named<'a>(contents: &Contents<'a>, package_token: Option<u8>) -> &'a 
     }
 }
 
-/// Notes which entry of the pool of a package does not resolve, where that is why it was refused.
+// The size of the info of a component with these bytes: tag and size stand before it.
+fn size_of_info(bytes: &[u8]) -> usize {
+    bytes.len().saturating_sub(3)
+}
+
+// The size of a component's info; 0 where it did not come.
+fn info_size<const TAG: u8>(component: &Option<Component<TAG>>) -> usize {
+    match component {
+        Some(component) => size_of_info(component.bytes()),
+        None => 0,
+    }
+}
+
+// The size of the Class component's info; 0 where it did not come.
+fn size_of_classes(load: &LoadedComponents) -> usize {
+    match &load.classes {
+        Some(classes) => size_of_info(classes.bytes()),
+        None => 0,
+    }
+}
+
+// The size of the StaticField component's info; 0 where it did not come.
+fn size_of_statics(load: &LoadedComponents) -> usize {
+    match &load.statics {
+        Some(statics) => size_of_info(statics.bytes()),
+        None => 0,
+    }
+}
+
+// The size of the component with a tag that the Directory is compared with; none where it is not.
+fn size_that_came(load: &LoadedComponents, tag: u8) -> Option<usize> {
+    match tag {
+        tags::HEADER => Some(info_size(&load.header)),
+        tags::DIRECTORY => Some(info_size(&load.directory)),
+        tags::APPLET => Some(info_size(&load.applets)),
+        tags::IMPORT => Some(info_size(&load.imports)),
+        tags::CONSTANT_POOL => Some(info_size(&load.pool)),
+        tags::CLASS => Some(size_of_classes(load)),
+        tags::METHOD => Some(info_size(&load.methods)),
+        tags::STATIC_FIELD => Some(size_of_statics(load)),
+        tags::EXPORT => Some(info_size(&load.exports)),
+        tags::REFERENCE_LOCATION => Some(usize::from(load.reference_location?)),
+        tags::DESCRIPTOR => Some(usize::from(load.descriptor?)),
+        _ => None,
+    }
+}
+
+// The size that the Directory tells of the component with a tag.
+fn size_that_is_told(load: &LoadedComponents, tag: u8) -> Option<usize> {
+    let Some(directory) = &load.directory else {
+        return None;
+    };
+    let bytes = directory.bytes();
+    let at = 1 + 2 * usize::from(tag);
+    let high = *bytes.get(at)?;
+    let low = *bytes.get(at + 1)?;
+    Some(usize::from(u16::from_be_bytes([high, low])))
+}
+
+// Whether the Directory tells another size of the component with a tag than came.
+fn disagrees(load: &LoadedComponents, tag: u8) -> bool {
+    match (size_that_came(load, tag), size_that_is_told(load, tag)) {
+        (Some(came), Some(told)) => came != told,
+        _ => false,
+    }
+}
+
+/// Notes the first component of which the Directory tells another size, if there is one.
 #[cold]
 #[inline(never)]
-pub(crate) fn note_refusal(refusal: LoadRefusal, whole: &Package, notes: &Notes) {
-    let LoadRefusal::LinkFailed(LinkFault::Unresolved(index)) = refusal else {
+pub(crate) fn note_sizes(load: &LoadedComponents, notes: &Notes) {
+    for tag in tags::HEADER..tags::DEBUG {
+        if disagrees(load, tag) {
+            notes.refused_load(RefusedLoad::Component { tag, offset: 0 });
+            return;
+        }
+    }
+}
+
+/// Notes which component did not come, where that is why the package was refused.
+#[cold]
+#[inline(never)]
+pub(crate) fn note_missing(fault: CapFault, notes: &Notes) {
+    if let CapFault::Missing(tag) = fault {
+        notes.refused_load(RefusedLoad::Component { tag, offset: 0 });
+    }
+}
+
+// Notes the first imported package that is not there.
+fn note_absent_import(contents: &Contents<'_>, linked: &Linked, notes: &Notes) {
+    for token in 0..contents.imports.count() {
+        let import = contents.imports.get(token);
+        if linked.package_with_aid(import.aid).is_none() {
+            notes.refused_load(RefusedLoad::of_entry(NO_ENTRY, import.aid, None, None));
+            return;
+        }
+    }
+}
+
+// Whether a package is one of the platform, whose version fits.
+fn fits_platform(import: PackageInfo<'_>, linked: &Linked) -> Option<bool> {
+    let platform = linked.platform();
+    let named = platform.package_with_aid(import.aid)?;
+    Some(match platform.version(named) {
+        Some(version) => {
+            import.major_version == version.major && import.minor_version <= version.minor
+        }
+        None => false,
+    })
+}
+
+// Notes the imported package that has another version: the first of the platform's whose version does not fit; else the package
+// that was loaded, where one alone was. Of several nothing is noted.
+fn note_other_version(contents: &Contents<'_>, linked: &Linked, notes: &Notes) {
+    let mut loaded = None;
+    let mut count = 0u16;
+    for token in 0..contents.imports.count() {
+        let import = contents.imports.get(token);
+        match fits_platform(import, linked) {
+            Some(true) => {}
+            Some(false) => {
+                notes.refused_load(RefusedLoad::of_entry(NO_ENTRY, import.aid, None, None));
+                return;
+            }
+            None => {
+                loaded = Some(token);
+                count = count.saturating_add(1);
+            }
+        }
+    }
+    if count != 1 {
+        return;
+    }
+    if let Some(token) = loaded {
+        if token < contents.imports.count() {
+            let import = contents.imports.get(token);
+            notes.refused_load(RefusedLoad::of_entry(NO_ENTRY, import.aid, None, None));
+        }
+    }
+}
+
+/// Notes which package that is imported is not there or has another version, or which entry of the pool of a package does not
+/// resolve, where that is why it was refused.
+#[cold]
+#[inline(never)]
+pub(crate) fn note_refusal(refusal: LoadRefusal, whole: &Package, linked: &Linked, notes: &Notes) {
+    let LoadRefusal::LinkFailed(fault) = refusal else {
         return;
     };
     let contents = whole.contents();
+    match fault {
+        LinkFault::ImportMissing => note_absent_import(&contents, linked, notes),
+        LinkFault::ImportVersion => note_other_version(&contents, linked, notes),
+        LinkFault::Unresolved(index) => note_entry(index, &contents, notes),
+        LinkFault::NoMemory => {}
+    }
+}
+
+// Notes which entry of the pool does not resolve.
+fn note_entry(index: u16, contents: &Contents<'_>, notes: &Notes) {
     if index >= contents.pool.count() {
-        let own = package_named(&contents, None);
+        let own = package_named(contents, None);
         notes.refused_load(RefusedLoad::of_entry(index, own, None, None));
         return;
     }
@@ -181,7 +347,7 @@ pub(crate) fn note_refusal(refusal: LoadRefusal, whole: &Package, notes: &Notes)
         class,
         token,
     } = named_by(contents.pool.get(index));
-    let package = package_named(&contents, package_token);
+    let package = package_named(contents, package_token);
     notes.refused_load(RefusedLoad::of_entry(index, package, class, token));
 }
 

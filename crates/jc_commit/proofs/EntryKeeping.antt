@@ -17,7 +17,7 @@ use Rattle.jc_words.specs.declared.log.Log.{Log}
 use Rattle.jc_commit.specs.Image.{address_at, old_at, entries, old_value, count_of, capacity_of, limit_of, plain_of, recovered_of, touched_of, top_of, IsPlace}
 use Rattle.jc_commit.specs.Image.{IsGoodLog}
 use Rattle.jc_commit.specs.Entries.{addresses_of, AreDistinct, ArePlaces, IsBeside, AreBeside, SameBefore, HasEntries}
-use Rattle.jc_commit.specs.State.{State, live_words, born_of}
+use Rattle.jc_commit.specs.State.{State, IsShort, live_words, born_of}
 use Rattle.jc_commit.specs.Keeping.{writes_inside, is_taken_back}
 use Rattle.jc_commit.specs.EntryIndex.{named_by, needing, with_entries, IsIndexOf, GoBack, KeepsAddresses}
 use Rattle.jc_commit.proofs.Words.{Spot, bounds_of, place_spot, log-set}
@@ -499,3 +499,35 @@ index_none l w n numbers none empty = subst (λ (ns : List ℕ). IsIndexOf l w n
   rising = λ i j less within. absurd (omega (arith, within));
   all = λ k below. absurd (omega (arith, below, none));
 })
+
+-- a refused write came behind fewer than all writes: as the old values were kept; as they were counted; as the words were written
+most_kept : (n m : ℕ) → 2 * m ≤ writes_inside n m
+most_kept n m = elim (cases_eq m 0) [
+  | inl none ↦ omega (arith, none)
+  | inr some ↦
+      let cost : writes_inside n m ≡ n + (2 * m + 1) = ap (λ (b : Bool). n + (if b then 0 else 2 * m + 1)) (ne_eqb m 0 some) in
+      omega (arith, cost)
+]
+
+pub short_keeping : (p q n m k : ℕ) → k ≡ m → IsShort (2 * k) p q → IsShort (writes_inside n m) p q
+short_keeping p q n m k same short small = omega (arith, same, short small, most_kept n m)
+
+pub short_counting : (p q r first behind n m : ℕ) → behind ≡ first + m → q ≡ saturating_count p (2 * m)
+    → IsShort (if first == behind then 0 else 1) q r → q ≤ r → IsShort (writes_inside n m) p r
+short_counting p q r first behind n m all put short from small = elim (cases_eq m 0) [
+  | inl none ↦
+      let same : (first == behind) ≡ true = eq-eqb first behind (omega (arith, all, none)) in
+      let no_more : r < q + 0 = subst (λ (b : Bool). r < q + (if b then 0 else 1)) same (short small) in
+      absurd (omega (arith, no_more, from))
+  | inr some ↦
+      let other : (first == behind) ≡ false = ne_eqb first behind (λ e. some (omega (arith, all, e))) in
+      let one : r < q + 1 = subst (λ (b : Bool). r < q + (if b then 0 else 1)) other (short small) in
+      let cost : writes_inside n m ≡ n + (2 * m + 1) = ap (λ (b : Bool). n + (if b then 0 else 2 * m + 1)) (ne_eqb m 0 some) in
+      omega (arith, one, from, put, cost, small)
+]
+
+pub short_writing : (p q r s first behind n m : ℕ) → behind ≡ first + m → q ≡ saturating_count p (2 * m) → r ≡ saturating_count q (if first == behind then 0 else 1)
+    → IsShort n r s → IsShort (writes_inside n m) p s
+short_writing p q r s first behind n m all put count short small =
+    let sum : saturating_count r n ≡ saturating_count p (writes_inside n m) = writes_sum p q r (saturating_count r n) first behind n m all put count refl in
+    omega (arith, sum, short small, small)

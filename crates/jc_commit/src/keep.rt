@@ -6,7 +6,7 @@ ghost use Rattle.jc_words.specs.Layout.{count_address, log_end, most_capacity};
 ghost use Rattle.jc_words.specs.Image.{log_of};
 ghost use Rattle.jc_commit.specs.Image.{count_of, limit_of, entries, plain_of, recovered_of, touched_of, top_of, with_words, IsGoodLog};
 ghost use Rattle.jc_commit.specs.Entries.{addresses_of, AreDistinct, ArePlaces, IsBeside, AreBeside, SameBefore};
-ghost use Rattle.jc_commit.specs.State.{live_words};
+ghost use Rattle.jc_commit.specs.State.{live_words, IsShort};
 ghost use Rattle.jc_commit.specs.Keeping.{is_taken_back, writes_inside};
 ghost use Rattle.jc_commit.specs.EntryIndex.{named_by, needing, with_entries, IsIndexOf, GoBack, KeepsAddresses};
 
@@ -94,6 +94,8 @@ fn put_entry<S: WordStore>(store: &mut S, log: Log, k: u16, address: u16) -> Res
     ensures same { SameBefore log k (S.words store.old) (S.words store.new) }
     ensures passed { OnOk result (S.passed store.new ≡ saturating_count (S.passed store.old) 2) }
     ensures down { S.down store.new ≡ (if is_ok result then S.down store.old else true) }
+    ensures from { S.passed store.old ≤ S.passed store.new }
+    ensures short { OnErr result (IsShort 2 (S.passed store.old) (S.passed store.new)) }
     ensures refusals { S.refusals store.new ≡ (if is_ok result then S.refusals store.old else
         refused_once (S.down store.old) (S.passed store.new) (S.refusals store.old)) }
 {
@@ -131,6 +133,10 @@ fn put_change<S: WordStore>(
     ensures passed { OnOk result (S.passed store.new ≡ saturating_count (S.passed store.old)
         (2 * length (needing (named_by log (S.words store.old) k) born (change ∷ [])))) }
     ensures down { S.down store.new ≡ (if is_ok result then S.down store.old else true) }
+    ensures from { S.passed store.old ≤ S.passed store.new }
+    ensures short { OnErr result (IsShort
+        (2 * length (needing (named_by log (S.words store.old) k) born (change ∷ [])))
+        (S.passed store.old) (S.passed store.new)) }
     ensures refusals { S.refusals store.new ≡ (if is_ok result then S.refusals store.old else
         refused_once (S.down store.old) (S.passed store.new) (S.refusals store.old)) }
 {
@@ -170,6 +176,10 @@ fn put_needing<S: WordStore, C: WordChanges>(
     ensures passed { OnOk result (S.passed store.new ≡ saturating_count (S.passed store.old)
         (2 * length (needing (named_by log (S.words store.old) first) born (C.changes changes.now)))) }
     ensures down { S.down store.new ≡ (if is_ok result then S.down store.old else true) }
+    ensures from { S.passed store.old ≤ S.passed store.new }
+    ensures short { OnErr result (IsShort
+        (2 * length (needing (named_by log (S.words store.old) first) born (C.changes changes.now)))
+        (S.passed store.old) (S.passed store.new)) }
     ensures refusals { S.refusals store.new ≡ (if is_ok result then S.refusals store.old else
         refused_once (S.down store.old) (S.passed store.new) (S.refusals store.old)) }
 {
@@ -208,6 +218,10 @@ fn put_counted<S: WordStore, C: WordChanges>(
     ensures passed { OnOk result (S.passed store.new ≡ saturating_count (S.passed store.old)
         (2 * length (needing (named_by log (S.words store.old) first) born (C.changes changes.now)))) }
     ensures down { S.down store.new ≡ (if is_ok result then S.down store.old else true) }
+    ensures from { S.passed store.old ≤ S.passed store.new }
+    ensures short { OnErr result (IsShort
+        (2 * length (needing (named_by log (S.words store.old) first) born (C.changes changes.now)))
+        (S.passed store.old) (S.passed store.new)) }
     ensures refusals { S.refusals store.new ≡ (if is_ok result then S.refusals store.old else
         refused_once (S.down store.old) (S.passed store.new) (S.refusals store.old)) }
 {
@@ -227,6 +241,9 @@ fn count_entries<S: WordStore>(store: &mut S, before: u16, behind: u16) -> Resul
     ensures passed { OnOk result (S.passed store.new ≡ saturating_count (S.passed store.old)
         (if before == behind then 0 else 1)) }
     ensures down { S.down store.new ≡ (if is_ok result then S.down store.old else true) }
+    ensures from { S.passed store.old ≤ S.passed store.new }
+    ensures short { OnErr result (IsShort (if before == behind then 0 else 1)
+        (S.passed store.old) (S.passed store.new)) }
     ensures refusals { S.refusals store.new ≡ (if is_ok result then S.refusals store.old else
         refused_once (S.down store.old) (S.passed store.new) (S.refusals store.old)) }
 {
@@ -263,6 +280,9 @@ fn write_through<S: WordStore, C: WordChanges>(
     ensures passed { OnOk result (S.passed store.new ≡ saturating_count (S.passed store.old)
         (length (C.changes changes.now))) }
     ensures down { S.down store.new ≡ (if is_ok result then S.down store.old else true) }
+    ensures from { S.passed store.old ≤ S.passed store.new }
+    ensures short { OnErr result (IsShort (length (C.changes changes.now))
+        (S.passed store.old) (S.passed store.new)) }
     ensures refusals { S.refusals store.new ≡ (if is_ok result then S.refusals store.old else
         refused_once (S.down store.old) (S.passed store.new) (S.refusals store.old)) }
 {
@@ -315,6 +335,10 @@ pub(crate) fn keep_and_write<S: WordStore, C: WordChanges>(
         (writes_inside (length (C.changes changes.now)) (length (needing (touched_of (S.words store.old)) born
         (C.changes changes.now))))) }
     ensures down { S.down store.new ≡ (if is_ok result then S.down store.old else true) }
+    ensures from { S.passed store.old ≤ S.passed store.new }
+    ensures short { OnErr result (IsShort (writes_inside (length (C.changes changes.now))
+        (length (needing (touched_of (S.words store.old)) born (C.changes changes.now))))
+        (S.passed store.old) (S.passed store.new)) }
     ensures refusals { S.refusals store.new ≡ (if is_ok result then S.refusals store.old else
         refused_once (S.down store.old) (S.passed store.new) (S.refusals store.old)) }
 {

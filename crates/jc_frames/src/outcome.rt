@@ -7,7 +7,7 @@ use jc_transient::Ref;
 
 /// An exception that the runtime environment throws, by its class: an instance of its own. Those of
 /// the card's framework carry a reason.
-#[derive(Clone, Copy, PartialEq, Eq, Debug)]
+#[derive(Clone, Copy, PartialEq, Eq)]
 pub enum Exception {
     ArithmeticException,
     ArrayIndexOutOfBoundsException,
@@ -27,7 +27,7 @@ pub enum Exception {
 }
 
 /// How a run ended.
-#[derive(Clone, Copy, PartialEq, Eq, Debug)]
+#[derive(Clone, Copy, PartialEq, Eq)]
 pub enum Outcome {
     /// By `return`.
     Void,
@@ -60,11 +60,11 @@ impl Outcome {
 
 /// A code fault: a stack over or under its limits, a cell of the wrong kind, a jump outside the method,
 /// an instruction that is not one or is cut, too many frames or cells.
-#[derive(Clone, Copy, PartialEq, Eq, Debug)]
+#[derive(Clone, Copy, PartialEq, Eq)]
 pub struct CodeFault;
 
 /// Why a method does not go on with its next instruction.
-#[derive(Clone, Copy, PartialEq, Eq, Debug)]
+#[derive(Clone, Copy, PartialEq, Eq)]
 pub enum FrameExit {
     /// The runtime environment throws.
     Throw(Exception),

@@ -4,16 +4,16 @@ use Rattle.std.proofs.Common.{Some, None, Ok, Err}
 use Rattle.std.specs.Prelude.{is_ok, Result, IsErrAnd}
 use Rattle.std.proofs.lemmas.Bool.{lt-ltb, le-ltb, true≢false}
 use Rattle.jc_words.specs.Layout.{top_address}
-use Rattle.jc_commit.specs.Keeping.{has_room_for as journal_room}
+use Rattle.jc_commit.specs.Keeping.{has_room_for as journal_room, writes_for as journal_writes}
 use Rattle.jc_commit.specs.State.{State, keeping as journal_keeping, IsTornWrite as JournalStopped}
 use Rattle.jc_transient.specs.State.{area_size}
 use Rattle.jc_transient.specs.declared.cell.ClearEvent.{ClearEvent}
 use Rattle.jc_heap.specs.declared.refusal.HeapRefusal.{HeapRefusal}
 use Rattle.jc_heap.specs.declared.refusal.HeapRefusal.TheVariants.{CommitFull, HeapFull, NoTransientSpace}
 use Rattle.jc_heap.specs.Object.{Object, AnObject, facts_of, is_object, transient_size}
-use Rattle.jc_heap.specs.Heap.{HeapState, HeapView, IsObject, heap_item_at, facts, heap_view, has_room_for, area_end, area_end_address, end_address}
+use Rattle.jc_heap.specs.Heap.{HeapState, HeapView, IsObject, heap_item_at, facts, heap_view, has_room_for, writes_for, area_end, area_end_address, end_address}
 use Rattle.jc_heap.specs.Heap.{IsTornChange, LacksSpace, LacksCells}
-use Rattle.jc_heap.specs.Moves.{Move, PerformsMovesUnless, AreTornMoves, apply_move, refusal_at, refusal_of_space, refusal_of_transient}
+use Rattle.jc_heap.specs.Moves.{Move, PerformsMovesUnless, AreTornMoves, apply_move, writes_of, refusal_at, refusal_of_space, refusal_of_transient}
 use Rattle.jc_heap.specs.Completions.{Completed, Torn, Done, Refused, after_change}
 use Rattle.jc_heap.specs.Image.{IsWellFormed}
 use Rattle.jc_commit.specs.declared.refusal.WriteRefusal.{WriteRefusal}
@@ -23,15 +23,15 @@ use Rattle.jc_heap.specs.Refusals.{change_refusal}
 use Rattle.jc_heap.proofs.JournalViews.{keeping_view}
 use Rattle.jc_heap.proofs.Changing.{stopped_view}
 
-pub cut_one : (m : Move) (old new : HeapView) → IsTornChange old new → AreTornMoves (m ∷ []) old new
-cut_one m old new st = record { left = inl st.durable; down = st.down; refusals = st.refusals; size = st.size }
+pub cut_one : (m : Move) (old new : HeapView) → IsTornChange (writes_of m old) old new → AreTornMoves (m ∷ []) old new
+cut_one m old new st = record { left = inl (st.durable, (st.from, st.short)); down = st.down; refusals = st.refusals; size = st.size }
 
 module _ {A : Type 0} (reason : Option HeapRefusal) (old new : HeapView) where
   pub unless_refused : (r : HeapRefusal) (ms : List Move) (a : A) → reason ≡ Some r → new ≡ old
       → PerformsMovesUnless reason old (Completed (Refused r) new) ms a
   unless_refused r ms a is e = (is, e)
 
-  pub unless_cut : (m : Move) (a : A) → reason ≡ None → IsTornChange old new → PerformsMovesUnless reason old (Torn new) (m ∷ []) a
+  pub unless_cut : (m : Move) (a : A) → reason ≡ None → IsTornChange (writes_of m old) old new → PerformsMovesUnless reason old (Torn new) (m ∷ []) a
   unless_cut m a is st = (is, cut_one m old new st)
 
   pub unless_done : (m : Move) (r a : A) → reason ≡ None → r ≡ a → new ≡ apply_move m old → PerformsMovesUnless reason old (Completed (Done r) new) (m ∷ []) a
@@ -43,6 +43,11 @@ ok_not_err x y e = true≢false (ap is_ok e)
 pub not_false : (b : Bool) → (b ≡ false → ⊥) → b ≡ true
 not_false true n = refl
 not_false false n = absurd (n refl)
+
+-- the counts
+pub count_is : (j : State) (v : HeapView) (n : ℕ) (places : List ℕ) → IsWellFormed j.recovered → heap_view j n ≡ v
+    → journal_writes (journal_keeping j) places ≡ writes_for v places
+count_is j v n places back is = sym (ap (λ k. journal_writes k places) (keeping_view j n back)) ∙ ap (λ u. writes_for u places) is
 
 -- the reasons
 pub room_is : (j : State) (v : HeapView) (n : ℕ) (places : List ℕ) → IsWellFormed j.recovered → heap_view j n ≡ v
@@ -107,25 +112,25 @@ down_not_full : ended StoreDown ≡ ended Full → ⊥
 down_not_full e = cc
 
 -- a change that the journal refuses: there is no room, or the store refused a write
-change_stops : (m : Move) (v : HeapView) (j k : State) (n : ℕ) (places : List ℕ) (room : Bool) (r : WriteRefusal) → heap_view j n ≡ v
+change_stops : (m : Move) (v : HeapView) (j k : State) (n : ℕ) (places : List ℕ) (room : Bool) (r : WriteRefusal) (writes : ℕ) → writes ≡ writes_of m v → heap_view j n ≡ v
     → has_room_for v places ≡ room → (ended r ≡ ended Full → room ≡ false) → (room ≡ false → ended r ≡ ended Full)
-    → (ended r ≡ ended Full → k ≡ j) → (ended r ≡ ended StoreDown → JournalStopped j k)
+    → (ended r ≡ ended Full → k ≡ j) → (ended r ≡ ended StoreDown → JournalStopped writes j k)
     → PerformsMovesUnless (refusal_at v places) v (after_change {A = Unit {0}} (Err (change_refusal r)) (heap_view k n)) (m ∷ []) tt
-change_stops m v j k n places room StoreDown is there full has kept stopped =
+change_stops m v j k n places room StoreDown writes count is there full has kept stopped =
     let st = stopped refl in
     unless_cut {A = Unit {0}} (refusal_at v places) v (heap_view k n) m tt
     (not_full v places (there ∙ not_false room (λ none. down_not_full (has none))))
-    (stopped_view j k v n is st.recovered st.down st.refusals)
-change_stops m v j k n places room Full is there full has kept stopped =
+    (subst (λ w. IsTornChange w v (heap_view k n)) count (stopped_view writes j k v n is st.recovered st.down st.from st.short st.refusals))
+change_stops m v j k n places room Full writes count is there full has kept stopped =
     unless_refused {A = Unit {0}} (refusal_at v places) v (heap_view k n) CommitFull (m ∷ []) tt
     (is_full v places (there ∙ full refl)) (ap (λ (i : State). heap_view i n) (kept refl) ∙ is)
 
-pub change_refused : (x : Result (Unit {0}) ChangeRefusal) (m : Move) (v : HeapView) (j k : State) (n : ℕ) (places : List ℕ) (room : Bool) (r : WriteRefusal)
+pub change_refused : (x : Result (Unit {0}) ChangeRefusal) (m : Move) (v : HeapView) (j k : State) (n : ℕ) (places : List ℕ) (room : Bool) (r : WriteRefusal) (writes : ℕ) → writes ≡ writes_of m v
     → IsErrAnd x (λ e. e ≡ change_refusal r) → heap_view j n ≡ v → has_room_for v places ≡ room
     → (ended r ≡ ended Full → room ≡ false) → (room ≡ false → ended r ≡ ended Full) → (ended r ≡ ended Full → k ≡ j)
-    → (ended r ≡ ended StoreDown → JournalStopped j k)
+    → (ended r ≡ ended StoreDown → JournalStopped writes j k)
     → PerformsMovesUnless (refusal_at v places) v (after_change x (heap_view k n)) (m ∷ []) (tt {0})
-change_refused (Ok a) m v j k n places room r gave is there full has kept stopped = absurd gave
-change_refused (Err e) m v j k n places room r gave is there full has kept stopped =
+change_refused (Ok a) m v j k n places room r writes count gave is there full has kept stopped = absurd gave
+change_refused (Err e) m v j k n places room r writes count gave is there full has kept stopped =
     subst (λ (d : ChangeRefusal). PerformsMovesUnless (refusal_at v places) v (after_change {A = Unit {0}} (Err d) (heap_view k n)) (m ∷ []) (tt {0}))
-    (sym gave) (change_stops m v j k n places room r is there full has kept stopped)
+    (sym gave) (change_stops m v j k n places room r writes count is there full has kept stopped)

@@ -10,7 +10,7 @@ use Rattle.jc_words.specs.Layout.{top_address, text_start}
 use Rattle.jc_commit.specs.Image.{with_words, top_of}
 use Rattle.jc_commit.specs.Entries.{addresses_of}
 use Rattle.jc_commit.specs.Keeping.{Keeping, unlogged_addresses, writes_for as journal_writes}
-use Rattle.jc_commit.specs.State.{State, keeping as journal_keeping, live_words, Changes, IsTornWrite as JournalStopped}
+use Rattle.jc_commit.specs.State.{State, keeping as journal_keeping, live_words, Changes, IsShort, IsTornWrite as JournalStopped}
 use Rattle.jc_commit.specs.declared.refusal.WriteRefusal.{WriteRefusal}
 use Rattle.jc_commit.specs.declared.refusal.WriteRefusal.TheVariants.{StoreDown, Full}
 use Rattle.jc_heap.specs.Image.{image, base, missing_words_of_image, package_addresses, is_package, IsWellFormed}
@@ -131,13 +131,14 @@ stopped_sound k m n same long down back size small = record {
   settled = λ up _. absurd (false≢true (sym up ∙ down));
 }
 
-pub stopped_view : (k m : State) (v : HeapView) (n : ℕ) → heap_view k n ≡ v → live_words m.recovered ≡ live_words k.recovered → m.down ≡ true
-    → m.refusals ≡ refused_once k.down m.passed k.refusals → IsTornChange v (heap_view m n)
-stopped_view k m v n is same down refusals = subst (λ u. IsTornChange u (heap_view m n)) is
-    (record { durable = heap_of-live_words k.recovered m.recovered same; down = down; refusals = refusals; size = refl })
+pub stopped_view : (writes : ℕ) (k m : State) (v : HeapView) (n : ℕ) → heap_view k n ≡ v → live_words m.recovered ≡ live_words k.recovered → m.down ≡ true
+    → k.passed ≤ m.passed → IsShort writes k.passed m.passed → m.refusals ≡ refused_once k.down m.passed k.refusals
+    → IsTornChange writes v (heap_view m n)
+stopped_view writes k m v n is same down from short refusals = subst (λ u. IsTornChange writes u (heap_view m n)) is
+    (record { durable = heap_of-live_words k.recovered m.recovered same; down = down; from = from; short = short; refusals = refusals; size = refl })
 
-pub journal_stopped_sound : (k m : State) (n : ℕ) → JournalStopped k m → IsSound k n → IsSound m n
-journal_stopped_sound k m n st s = stopped_sound k m n st.recovered st.size_recovered st.down s.back s.size_recovered s.small
+pub journal_stopped_sound : (writes : ℕ) (k m : State) (n : ℕ) → JournalStopped writes k m → IsSound k n → IsSound m n
+journal_stopped_sound writes k m n st s = stopped_sound k m n st.recovered st.size_recovered st.down s.back s.size_recovered s.small
 
 pub refusal_cases : (e : WriteRefusal) → (e ≡ StoreDown) ⊎ (e ≡ Full)
 refusal_cases StoreDown = inl refl

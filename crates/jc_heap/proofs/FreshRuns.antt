@@ -3,8 +3,10 @@ use Rattle.std.proofs.Common.{◌≡◌, ℕ, ◌+◌, ◌<◌, ◌≤◌, ◌&&
 use Rattle.std.proofs.Common.{if◌then◌else◌}
 use Rattle.std.proofs.lemmas.List.{take-set-le, take_more_set, length-set, length_push, take-take, length-append}
 use Rattle.jc_words.specs.Layout.{top_address}
-use Rattle.jc_commit.specs.State.{State, after_write_in_place, is_touched}
-use Rattle.jc_heap.specs.Fresh.{IsFree, KeepsBelow, Fills}
+use Rattle.jc_words.specs.Refusals.{refused_once}
+use Rattle.std.specs.Prelude.{Result, Ok, Err, OnErr}
+use Rattle.jc_commit.specs.State.{State, after_refusal, after_write_in_place, is_touched}
+use Rattle.jc_heap.specs.Fresh.{IsFree, KeepsBelow, Fills, IsTornFresh}
 use Rattle.jc_heap.proofs.Added.{top-same_below}
 
 pub keeps_more : (at : ℕ) (old j : State) (a v : ℕ) → KeepsBelow at old j → at ≤ a → KeepsBelow at old (after_write_in_place j a v)
@@ -65,3 +67,25 @@ fills_then at xs ys a b c f g =
       passed = omega (arith, g.passed, f.passed, length-append xs ys);
       refusals = g.refusals ∙ f.refusals;
     }
+
+-- a write of a piece was refused, behind other words: fewer passed than all are
+pub torn_piece : (at n piece : ℕ) (xs : List ℕ) (a b c : State) → Fills at xs a b → IsTornFresh piece b c → length xs + piece ≤ n → IsTornFresh n a c
+torn_piece at n piece xs a b c f st le = record {
+  down = st.down;
+  from = omega (arith, f.passed, st.from);
+  short = λ small. omega (arith, small, st.short small, f.passed, st.from, le);
+  refusals = st.refusals ∙ (λ i. refused_once (f.down i) c.passed (f.refusals i));
+}
+
+-- one word
+pub torn_word : (b c : State) → c ≡ after_refusal b → IsTornFresh 1 b c
+torn_word b c is = record {
+  down = ap (λ (s : State). s.down) is;
+  from = omega (arith, ap (λ (s : State). s.passed) is);
+  short = λ small. omega (arith, ap (λ (s : State). s.passed) is);
+  refusals = ap (λ (s : State). s.refusals) is ∙ (λ i. refused_once b.down (sym (ap (λ (s : State). s.passed) is) i) b.refusals);
+}
+
+pub anyway : {A E : Type 0} (r : Result A E) (P : Type 0) → P → OnErr r P
+anyway (Ok a) P p = tt
+anyway (Err e) P p = p

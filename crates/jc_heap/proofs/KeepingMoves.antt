@@ -201,11 +201,11 @@ keep_all : (ms : List Move) (v : HeapView) → MovesAreLegal ms v → AreConsist
 keep_all [] v suit w = w
 keep_all (m ∷ ms) v suit w = keep_all ms (apply_move m v) suit.1 (keeps m v suit.0 w)
 
-keep_lost : (ms : List Move) (v : HeapView) (d : HeapState) → MovesAreLegal ms v → AreConsistent v → TornMovesLeave ms v d → IsConsistentHeap d
-keep_lost [] v d suit w left = absurd left
-keep_lost (m ∷ ms) v d suit w left = elim left [
-  | inl e ↦ subst IsConsistentHeap (sym e) w.durable
-  | inr later ↦ keep_lost ms (apply_move m v) d suit.1 (keeps m v suit.0 w) later
+keep_lost : (ms : List Move) (v : HeapView) (p : ℕ) (d : HeapState) → MovesAreLegal ms v → AreConsistent v → TornMovesLeave ms v p d → IsConsistentHeap d
+keep_lost [] v p d suit w left = absurd left
+keep_lost (m ∷ ms) v p d suit w left = elim left [
+  | inl e ↦ subst IsConsistentHeap (sym e.0) w.durable
+  | inr later ↦ keep_lost ms (apply_move m v) p d suit.1 (keeps m v suit.0 w) later
 ]
 
 empty_end : (h : HeapState) → h.items ≡ [] → HasEnd h

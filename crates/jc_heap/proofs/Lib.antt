@@ -36,6 +36,7 @@ pub mod RunsSet
 pub mod AreaEnds
 pub mod Places
 pub mod MoveLaws
+pub mod Losses
 pub mod Calls
 pub mod RawWords
 pub mod Holding

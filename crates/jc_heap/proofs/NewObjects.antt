@@ -82,7 +82,7 @@ own-new_record ByteArray class owner n = omega (arith, length-replicate {A = ℕ
 own-new_record ShortArray class owner n = omega (arith, length-replicate {A = ℕ} n 0)
 own-new_record ReferenceArray class owner n = omega (arith, length-replicate {A = ℕ} n 0)
 
-length-new_record : (kind : Kind) (class owner n : ℕ) → length (new_record kind class owner n) ≡ object_size kind n
+pub length-new_record : (kind : Kind) (class owner n : ℕ) → length (new_record kind class owner n) ≡ object_size kind n
 unfolding new_record
 length-new_record kind class owner n = omega (arith, length-replicate {A = ℕ} (words_of_cells (has_bytes kind) n) 0)
 
@@ -102,19 +102,19 @@ module _ (j k : State) (n : ℕ) (s : IsSound j n) (up : j.down ≡ false) (b : 
       (sym (capacity_is k.recovered laid_back) ∙ ap (λ ws. (read_image ws).capacity) live_back ∙ capacity_is j.recovered s.back)
 
   -- the store refused a fresh word
-  pub fresh_stopped_sound : IsTornFresh j k → IsSound k n
+  pub fresh_stopped_sound : {writes : ℕ} → IsTornFresh writes j k → IsSound k n
   fresh_stopped_sound st = stopped_sound j k n live_back b.size_recovered st.down s.back s.size_recovered s.small
 
-  pub fresh_stopped_view : (v : HeapView) → heap_view j n ≡ v → IsTornFresh j k → IsTornChange v (heap_view k n)
-  fresh_stopped_view v is st = stopped_view j k v n is live_back st.down st.refusals
+  pub fresh_stopped_view : {fresh : ℕ} (writes : ℕ) → fresh ≤ writes → (v : HeapView) → heap_view j n ≡ v → IsTornFresh fresh j k → IsTornChange writes v (heap_view k n)
+  fresh_stopped_view writes most v is st = stopped_view writes j k v n is live_back st.down st.from (λ small. omega (arith, small, st.short small, most)) st.refusals
 
   module _ (rec : List ℕ) (f : Fills (get_or j.plain top_address 0) rec j k) where
     -- the store refused the top's change
-    pub top_stopped_sound : (m : State) → JournalStopped k m → IsSound m n
+    pub top_stopped_sound : {writes : ℕ} (m : State) → JournalStopped writes k m → IsSound m n
     top_stopped_sound m st = stopped_sound k m n st.recovered st.size_recovered st.down laid_back (b.size_recovered ∙ s.size_recovered) s.small
 
-    pub top_stopped_view : (m : State) (v : HeapView) → heap_view j n ≡ v → JournalStopped k m → IsTornChange v (heap_view m n)
-    top_stopped_view m v is st = stopped_view j m v n is (st.recovered ∙ live_back) st.down (st.refusals ∙ (λ i. refused_once (f.down i) m.passed (f.refusals i)))
+    pub top_stopped_view : (writes : ℕ) (m : State) (v : HeapView) → heap_view j n ≡ v → JournalStopped writes k m → IsTornChange (length rec + writes) v (heap_view m n)
+    top_stopped_view writes m v is st = stopped_view (length rec + writes) j m v n is (st.recovered ∙ live_back) st.down (omega (arith, f.passed, st.from)) (λ small. omega (arith, small, st.short small, f.passed, st.from)) (st.refusals ∙ (λ i. refused_once (f.down i) m.passed (f.refusals i)))
 
     raised_twice : (p q a w : ℕ) → q ≡ saturating_count p a → saturating_count q (0 + w) ≡ saturating_count p (a + w)
     raised_twice p q a w e = omega (arith, e)

@@ -5,19 +5,19 @@ use Rattle.std.proofs.lemmas.List.{length-append, map-append, get_or_append_left
 use Rattle.jc_words.specs.Layout.{top_address}
 use Rattle.jc_commit.specs.Image.{with_words, IsPlace}
 use Rattle.jc_commit.specs.Entries.{addresses_of, ArePlaces, AreDistinct}
-use Rattle.jc_commit.specs.Keeping.{has_room_for as journal_room}
+use Rattle.jc_commit.specs.Keeping.{has_room_for as journal_room, writes_for as journal_writes}
 use Rattle.jc_commit.specs.State.{State, Changes, keeping as journal_keeping, IsTornWrite as JournalStopped}
 use Rattle.jc_heap.specs.Image.{IsWellFormed}
-use Rattle.jc_heap.specs.Heap.{HeapState, HeapView, heap_view, heap_of, heap_after_change, has_room_for, SameShape, IsSound}
+use Rattle.jc_heap.specs.Heap.{HeapState, HeapView, heap_view, heap_of, heap_after_change, has_room_for, writes_for, SameShape, IsSound}
 use Rattle.jc_heap.proofs.Changing.{change_view, change_sound}
-use Rattle.jc_heap.specs.Moves.{Move, PerformsMovesUnless, apply_move, refusal_at}
+use Rattle.jc_heap.specs.Moves.{Move, PerformsMovesUnless, apply_move, writes_of, refusal_at}
 use Rattle.jc_heap.specs.Completions.{Completed, Done, after_change}
 use Rattle.jc_heap.specs.Refusals.{change_refusal}
 use Rattle.jc_heap.specs.declared.refusal.ChangeRefusal.{ChangeRefusal}
 use Rattle.jc_commit.specs.declared.refusal.WriteRefusal.{WriteRefusal}
 use Rattle.jc_commit.specs.declared.refusal.WriteRefusal.TheVariants.{StoreDown, Full}
 use Rattle.std.specs.Prelude.{Result, IsErrAnd}
-use Rattle.jc_heap.proofs.Calls.{room_is, not_false, not_full, unless_done, change_refused, ended}
+use Rattle.jc_heap.proofs.Calls.{room_is, count_is, not_false, not_full, unless_done, change_refused, ended}
 use Rattle.jc_heap.proofs.Changing.{refusal_cases, journal_stopped_sound}
 
 -- words stand for a heap, and have the top that these have
@@ -49,6 +49,9 @@ module _ (j : State) (v : HeapView) (n : ℕ) (words : List (ℕ × ℕ)) (h : H
   pub written_room : IsWellFormed j.recovered → has_room_for v places ≡ journal_room (journal_keeping j) (addresses_of words)
   written_room back = room_is j v n places back is ∙ ap (journal_room (journal_keeping j)) (sym w.addresses)
 
+  pub written_count : IsWellFormed j.recovered → journal_writes (journal_keeping j) (addresses_of words) ≡ writes_for v places
+  written_count back = ap (journal_writes (journal_keeping j)) w.addresses ∙ count_is j v n places back is
+
   -- the call that wrote them made its move
   pub written_done : (k : State) (m : Move) → IsWellFormed j.recovered → (journal_room (journal_keeping j) (addresses_of words) ≡ false → ⊥)
       → Changes words j k → heap_after_change v h places 0 ≡ apply_move m v
@@ -62,16 +65,16 @@ module _ (j : State) (v : HeapView) (n : ℕ) (words : List (ℕ × ℕ)) (h : H
       → IsErrAnd x (λ e. e ≡ change_refusal r)
       → (ended r ≡ ended Full → journal_room (journal_keeping j) (addresses_of words) ≡ false)
       × (journal_room (journal_keeping j) (addresses_of words) ≡ false → ended r ≡ ended Full)
-      → (ended r ≡ ended Full → k ≡ j) → (ended r ≡ ended StoreDown → JournalStopped j k)
-      → PerformsMovesUnless (refusal_at v places) v (after_change x (heap_view k n)) (m ∷ []) (tt {0})
-  written_refused x m k r back gave full kept stopped =
-      change_refused x m v j k n places (journal_room (journal_keeping j) (addresses_of words)) r gave is (written_room back) full.0 full.1 kept stopped
+      → (ended r ≡ ended Full → k ≡ j) → (ended r ≡ ended StoreDown → JournalStopped (journal_writes (journal_keeping j) (addresses_of words)) j k)
+      → writes_for v places ≡ writes_of m v → PerformsMovesUnless (refusal_at v places) v (after_change x (heap_view k n)) (m ∷ []) (tt {0})
+  written_refused x m k r back gave full kept stopped count =
+      change_refused x m v j k n places (journal_room (journal_keeping j) (addresses_of words)) r (journal_writes (journal_keeping j) (addresses_of words)) (written_count back ∙ count) gave is (written_room back) full.0 full.1 kept stopped
 
 -- a heap whose journal refused a write is sound
-pub refused_sound : (j k : State) (n : ℕ) (r : WriteRefusal) → IsSound j n → (ended r ≡ ended Full → k ≡ j) → (ended r ≡ ended StoreDown → JournalStopped j k)
+pub refused_sound : {writes : ℕ} (j k : State) (n : ℕ) (r : WriteRefusal) → IsSound j n → (ended r ≡ ended Full → k ≡ j) → (ended r ≡ ended StoreDown → JournalStopped writes j k)
     → IsSound k n
-refused_sound j k n r s kept stopped = elim (refusal_cases r) [
-  | inl e ↦ journal_stopped_sound j k n (stopped (ap ended e)) s
+refused_sound {writes = writes} j k n r s kept stopped = elim (refusal_cases r) [
+  | inl e ↦ journal_stopped_sound writes j k n (stopped (ap ended e)) s
   | inr e ↦ subst (λ (i : State). IsSound i n) (sym (kept (ap ended e))) s
 ]
 

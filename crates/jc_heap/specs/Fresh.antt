@@ -4,7 +4,7 @@ use Rattle.jc_words.specs.Count.{saturating_count}
 use Rattle.jc_words.specs.Refusals.{refused_once}
 use Rattle.jc_words.specs.Layout.{addresses_start}
 use Rattle.jc_commit.specs.Image.{top_of}
-use Rattle.jc_commit.specs.State.{State}
+use Rattle.jc_commit.specs.State.{State, IsShort}
 
 -- so many words from this address on have no meaning: they lie above both tops
 pub record IsFree (at count : ℕ) (j : State) : Type 0 where
@@ -31,7 +31,9 @@ pub record Fills (at : ℕ) (run : List ℕ) (old new : State) : Type 0 where
   pub passed : new.passed ≡ saturating_count old.passed (length run)
   pub refusals : new.refusals ≡ old.refusals
 
--- the store refused a write on the way
-pub record IsTornFresh (old new : State) : Type 0 where
+-- the store refused one of so many writes on the way
+pub record IsTornFresh (writes : ℕ) (old new : State) : Type 0 where
   pub down : new.down ≡ true
+  pub from : old.passed ≤ new.passed
+  pub short : IsShort writes old.passed new.passed
   pub refusals : new.refusals ≡ refused_once old.down new.passed old.refusals

@@ -6,7 +6,7 @@ use Rattle.jc_words.specs.Refusals.{Refusals, refused_once}
 use Rattle.jc_words.specs.Layout.{magic_address, size_address, top_address, packages_address, applets_address, reset_end_address, deselect_end_address}
 use Rattle.jc_words.specs.Layout.{registry_start, registry_length, addresses_start}
 use Rattle.jc_commit.specs.Image.{top_of}
-use Rattle.jc_commit.specs.State.{State, undo_writes}
+use Rattle.jc_commit.specs.State.{State, IsShort, undo_writes}
 use Rattle.jc_commit.specs.Keeping as journal
 use Rattle.jc_heap.specs.declared.object.Facts.{Facts}
 use Rattle.jc_transient.specs.declared.cell.ClearEvent.{ClearEvent}
@@ -228,10 +228,12 @@ heap_after_commit v = record v { begun = false; durable = v.now; touched = []; p
 abbrev pub heap_after_abort : HeapView → HeapView
 heap_after_abort v = record v { begun = false; now = v.durable; touched = []; passed = saturating_count v.passed (undo_writes (length v.touched)) }
 
--- the store refused a write: a recovery leaves what it would have left before
-pub record IsTornChange (old new : HeapView) : Type 0 where
+-- the store refused one of so many writes: a recovery leaves what it would have left before
+pub record IsTornChange (writes : ℕ) (old new : HeapView) : Type 0 where
   pub durable : new.durable ≡ old.durable
   pub down : new.down ≡ true
+  pub from : old.passed ≤ new.passed
+  pub short : IsShort writes old.passed new.passed
   pub refusals : new.refusals ≡ refused_once old.down new.passed old.refusals
   pub size : new.size ≡ old.size
 

@@ -60,4 +60,4 @@ pub record AreConsistent (v : HeapView) : Type 0 where
 pub record KeepsConsistent : Type 0 where
   pub empty : (h : HeapState) → h.items ≡ [] → h.counts ≡ (0, 0) → h.packages ≡ [] → h.area_ends ≡ (0, 0) → 0 < h.top → IsConsistentHeap h
   pub moves : (ms : List Move) (v : HeapView) → MovesAreLegal ms v → AreConsistent v → AreConsistent (apply_moves ms v)
-  pub loss : (ms : List Move) (v : HeapView) (d : HeapState) → MovesAreLegal ms v → AreConsistent v → TornMovesLeave ms v d → IsConsistentHeap d
+  pub loss : (ms : List Move) (v : HeapView) (passed : ℕ) (d : HeapState) → MovesAreLegal ms v → AreConsistent v → TornMovesLeave ms v passed d → IsConsistentHeap d

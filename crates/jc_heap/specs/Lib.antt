@@ -15,6 +15,7 @@ pub mod Components
 pub mod Statics
 pub mod Completions
 pub mod Moves
+pub mod Losses
 pub mod Packed
 pub mod Elements
 pub mod RegistryLayout

@@ -1,15 +1,16 @@
 -- Moves of a heap as data: what a power loss within some of them leaves.
-use Rattle.std.specs.Prelude.{ℕ, ◌+◌, ◌≡◌, ◌⊎◌, if◌then◌else◌, true, List, [], ◌∷◌, Option, Some, None, nat_lt, length}
+use Rattle.std.specs.Prelude.{ℕ, ◌+◌, ◌≤◌, ◌==◌, ◌≡◌, ◌⊎◌, if◌then◌else◌, true, List, [], ◌∷◌, Option, Some, None, nat_lt, length}
 use Rattle.jc_transient.specs.State.{area_size}
 use Rattle.jc_words.specs.Refusals.{refused_once}
+use Rattle.jc_commit.specs.State.{undo_writes, IsShort}
 use Rattle.jc_transient.specs.declared.cell.ClearEvent.{ClearEvent}
 use Rattle.jc_heap.specs.declared.object.Kind.{Kind}
 use Rattle.jc_heap.specs.Object.{Object, new_object, object_size, transient_size}
-use Rattle.jc_heap.specs.Heap.{HeapState, HeapView, limit, set_cells, add_object, add_transient, area_end_address, area_end, goes_back, has_room_for}
+use Rattle.jc_heap.specs.Heap.{HeapState, HeapView, limit, set_cells, add_object, add_transient, area_end_address, area_end, goes_back, has_room_for, writes_for}
 use Rattle.jc_heap.specs.Heap.{heap_after_change, heap_after_begin, heap_after_commit, heap_after_abort, end_address}
 use Rattle.jc_heap.specs.declared.place.Place.{Place}
 use Rattle.jc_heap.specs.declared.place.AppletEntry.{AppletEntry}
-use Rattle.jc_heap.specs.Places.{place_word, words_at, cells_from, set_place, write_place, write_nonatomic, places_of, set_places, applet_changes}
+use Rattle.jc_heap.specs.Places.{place_word, place_at, words_at, cells_from, set_place, write_place, write_nonatomic, places_of, set_places, applet_changes}
 use Rattle.jc_heap.specs.Packages.{add_package, addresses_of_package, package_size}
 use Rattle.jc_heap.specs.Completions.{Completion, Completed, Torn, Attempt, Done, Refused}
 use Rattle.jc_heap.specs.declared.refusal.HeapRefusal.{HeapRefusal}
@@ -44,6 +45,25 @@ apply_move Begin h = heap_after_begin h
 apply_move Commit h = heap_after_commit h
 apply_move Abort h = heap_after_abort h
 
+-- how many word writes a move is, in the heap that it finds: the words of what is new, and those of its change. A change of n words is n
+-- writes where n is 0 or 1 and no transaction is open, and else 3n + 2: an entry of two words for each, the count, the words, and the
+-- count 0. In a transaction it is n, and 2m + 1 more where the old values of m words, not 0, are kept by it first: their entries, and the count
+abbrev pub writes_of : Move → HeapView → ℕ
+writes_of (Write p v) h = writes_for h (place_at h.now p ∷ [])
+writes_of (SetPlaces changes) h = writes_for h (words_at h.now (places_of changes))
+writes_of (WriteNonAtomic p v) h = 1
+writes_of (SetCells r i vs) h = writes_for h (words_at h.now (cells_from r i (length vs)))
+writes_of (AddObject o size) h = size + writes_for h (end_address ∷ [])
+writes_of (AddTransient kind event class owner long) h = transient_size + writes_for h (end_address ∷ area_end_address event ∷ [])
+writes_of (AddPackage components arrays rest) h = package_size components arrays rest + writes_for h (addresses_of_package h.now)
+writes_of Begin h = 0
+writes_of Commit h = if length h.touched == 0 then 0 else 1
+writes_of Abort h = undo_writes (length h.touched)
+
+-- the store refused a write of this move when so many had passed in all: fewer of the move's own than it is
+abbrev pub IsCutIn : Move → HeapView → ℕ → Type 0
+IsCutIn m h passed = (h.passed ≤ passed) × IsShort (writes_of m h) h.passed passed
+
 -- the heap after these moves
 abbrev pub apply_moves : List Move → HeapView → HeapView
 apply_moves [] h = h
@@ -68,14 +88,14 @@ with_nonatomic_writes (m ∷ ms) h d = with_nonatomic_writes ms (apply_move m h)
 abbrev pub KeepsDurable : Type 0
 KeepsDurable = (moves : List Move) (h : HeapView) → h.begun ≡ true → IsInside moves → (apply_moves moves h).durable ≡ with_nonatomic_writes moves h h.durable
 
--- a loss of power within these moves may leave this durable heap: that before one of them
-abbrev pub TornMovesLeave : List Move → HeapView → HeapState → Type 0
-TornMovesLeave [] h d = ⊥
-TornMovesLeave (m ∷ ms) h d = (d ≡ h.durable) ⊎ TornMovesLeave ms (apply_move m h) d
+-- a loss of power within these moves, when so many writes had passed, leaves this durable heap: that before the move in which it falls
+abbrev pub TornMovesLeave : List Move → HeapView → ℕ → HeapState → Type 0
+TornMovesLeave [] h passed d = ⊥
+TornMovesLeave (m ∷ ms) h passed d = ((d ≡ h.durable) × IsCutIn m h passed) ⊎ TornMovesLeave ms (apply_move m h) passed d
 
--- the store, which keeps its size, refused a write, and the durable heap that it left is one of those that may be left
-pub record IsTorn (May : HeapState → Type 0) (old new : HeapView) : Type 0 where
-  pub left : May new.durable
+-- the store, which keeps its size, refused a write, and the durable heap that it left is the one that may be left when so many had passed
+pub record IsTorn (May : ℕ → HeapState → Type 0) (old new : HeapView) : Type 0 where
+  pub left : May new.passed new.durable
   pub down : new.down ≡ true
   pub refusals : new.refusals ≡ refused_once old.down new.passed old.refusals
   pub size : new.size ≡ old.size

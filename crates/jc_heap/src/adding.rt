@@ -1,13 +1,13 @@
 //! New packages.
-ghost use Rattle.std.specs.Prelude.{[], ◌∷◌, ◌≡◌, ◌<◌, ◌+◌, false, length, Err, OnOk, OnErr, IfOk, ◌↔◌};
+ghost use Rattle.std.specs.Prelude.{[], ◌∷◌, ◌≡◌, ◌<◌, ◌+◌, false, Err, OnOk, OnErr, IfOk};
 ghost use Rattle.jc_words.specs.Layout.{most_packages};
 ghost use Rattle.jc_heap.specs.Fresh.{IsFree, KeepsBelow, Fills, IsTornFresh};
 ghost use Rattle.jc_heap.specs.Object.{APackage};
 ghost use Rattle.jc_heap.specs.Moves.{AddPackage, PerformsMovesUnless, refusal_of_package};
 ghost use Rattle.jc_heap.specs.Completions.{after_making};
-ghost use Rattle.jc_heap.specs.Heap.{heap_after_change, IsTornChange, has_room_for, LacksSpace, is_allocated, heap_item_at};
+ghost use Rattle.jc_heap.specs.Heap.{is_allocated, heap_item_at};
 ghost use Rattle.jc_heap.specs.Packages.{parts, array_inits, AreComponents, AreArrays, image_size, record_size, package_record, package_size, package_words};
-ghost use Rattle.jc_heap.specs.Packages.{add_package, addresses_of_package, AreArraysOfBytes};
+ghost use Rattle.jc_heap.specs.Packages.{add_package, AreArraysOfBytes};
 
 use crate::heap::Heap;
 use crate::package::{RecordComponent, StaticArray, size_of_arrays, size_of_record};
@@ -41,7 +41,7 @@ fn write_package<S: WordStore>(
     ensures done { OnOk result (Fills at (package_words at number (parts components.now)
         (array_inits arrays.now) image.now) journal.old journal.new) }
     ensures bytes { OnOk result (AreArraysOfBytes (array_inits arrays.now)) }
-    ensures stopped { OnErr result (IsTornFresh journal.old journal.new) }
+    ensures stopped { OnErr result (IsTornFresh (package_size (parts components.now) (array_inits arrays.now) image.now) journal.old journal.new) }
 {
     write_package_record(journal, at, size, components, arrays, image)?;
     write_arrays(journal, at + size, arrays, OwnerWord(FIRST_OWNER + number))?;

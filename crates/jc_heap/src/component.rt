@@ -10,7 +10,7 @@ use jc_transient::Ref;
 use jc_words::WordStore;
 
 /// Where the info of a component stands in its package's record.
-#[derive(Clone, Copy, Debug, PartialEq, Eq)]
+#[derive(Clone, Copy, PartialEq, Eq)]
 pub struct Span {
     /// The first word, counted from the record's first.
     pub at: u16,

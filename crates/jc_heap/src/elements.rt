@@ -1,7 +1,7 @@
 //! The cells of persistent objects in words: one in a word, or two in a word of a packed array.
 ghost use Rattle.std.specs.Prelude.{ℕ, ◌≡◌, ◌<◌, ◌≤◌, ◌+◌, ◌↔◌, true, false, length, slice_index, Err, OnOk};
 ghost use Rattle.jc_commit.specs.Entries.{addresses_of, AreDistinct, ArePlaces};
-ghost use Rattle.jc_commit.specs.Keeping.{has_room_for};
+ghost use Rattle.jc_commit.specs.Keeping.{has_room_for, writes_for};
 ghost use Rattle.jc_commit.specs.State.{keeping, Changes, IsTornWrite};
 ghost use Rattle.jc_heap.specs.Object.{IsElement, is_packed};
 ghost use Rattle.jc_heap.specs.Image.{IsWellFormed};
@@ -242,7 +242,7 @@ pub(crate) fn change_run<S: WordStore>(
     ensures full { (result ≡ Err WriteRefusal.Full)
         ↔ (has_room_for (keeping journal.old) (addresses_of run.entry) ≡ false) }
     ensures kept { result ≡ Err WriteRefusal.Full → journal.new ≡ journal.old }
-    ensures stopped { result ≡ Err WriteRefusal.StoreDown → IsTornWrite journal.old journal.new }
+    ensures stopped { result ≡ Err WriteRefusal.StoreDown → IsTornWrite (writes_for (keeping journal.old) (addresses_of run.entry)) journal.old journal.new }
 {
     if let Some(whole) = run.whole() {
         return journal.write_all(&whole);

@@ -1,5 +1,5 @@
 //! Runs of words at or above the top, which have no meaning until the top moves.
-ghost use Rattle.std.specs.Prelude.{◌≡◌, ◌≤◌, ◌+◌, ◌++◌, length, replicate, OnOk, OnErr};
+ghost use Rattle.std.specs.Prelude.{◌+◌, ◌++◌, length, replicate, OnOk, OnErr};
 ghost use Rattle.jc_heap.specs.Fresh.{IsFree, KeepsBelow, Fills, IsTornFresh};
 
 use jc_commit::Journal;
@@ -14,7 +14,7 @@ pub(crate) fn write_run<S: WordStore>(
     requires { IsFree at (length words.now) journal.old }
     ensures below { KeepsBelow at journal.old journal.new }
     ensures done { OnOk result (Fills at words.now journal.old journal.new) }
-    ensures stopped { OnErr result (IsTornFresh journal.old journal.new) }
+    ensures stopped { OnErr result (IsTornFresh (length words.now) journal.old journal.new) }
 {
     for (k, word) in words.iter().enumerate() {
         journal.write_fresh(at + k as u16, *word)?;
@@ -31,7 +31,7 @@ pub(crate) fn write_zeros<S: WordStore>(
     requires { IsFree at count journal.old }
     ensures below { KeepsBelow at journal.old journal.new }
     ensures done { OnOk result (Fills at (replicate count 0) journal.old journal.new) }
-    ensures stopped { OnErr result (IsTornFresh journal.old journal.new) }
+    ensures stopped { OnErr result (IsTornFresh count journal.old journal.new) }
 {
     for k in 0..count {
         journal.write_fresh(at + k, 0)?;
@@ -50,7 +50,7 @@ pub(crate) fn write_record<S: WordStore>(
     ensures below { KeepsBelow at journal.old journal.new }
     ensures done { OnOk result (Fills at (header.now ++ replicate zeros 0) journal.old
         journal.new) }
-    ensures stopped { OnErr result (IsTornFresh journal.old journal.new) }
+    ensures stopped { OnErr result (IsTornFresh (length header.now + zeros) journal.old journal.new) }
 {
     write_run(journal, at, header)?;
     write_zeros(journal, at + header.len() as u16, zeros)?;

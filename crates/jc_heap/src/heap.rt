@@ -1,6 +1,5 @@
 //! A heap: reading, cells, transactions.
 ghost use Rattle.std.specs.Prelude.{ℕ, ◌≡◌, ◌<◌, ◌≤◌, [], ◌∷◌, true, false, length, slice_index, OnOk, ◌+◌, ◌↔◌, IsTrue, None, IfSome};
-ghost use Rattle.jc_words.specs.Layout.{text_start};
 ghost use Rattle.jc_words.specs.Layout.{least_capacity, most_capacity};
 ghost use Rattle.jc_heap.specs.Object.{IsElement};
 ghost use Rattle.jc_heap.specs.Image.{IsWellFormed};

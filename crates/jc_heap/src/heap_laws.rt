@@ -3,6 +3,7 @@ ghost use Rattle.jc_heap.specs.Alike.{MigrationsKeepHeaps};
 ghost use Rattle.jc_heap.specs.Components.{ReadsBack};
 ghost use Rattle.jc_heap.specs.Heap.{HeapState};
 ghost use Rattle.jc_heap.specs.Keeping.{KeepsConsistent};
+ghost use Rattle.jc_heap.specs.Losses.{LeaveWhatIsComplete};
 ghost use Rattle.jc_heap.specs.Moves.{KeepsDurable};
 ghost use Rattle.jc_heap.specs.Places.{HaveOwnWords};
 ghost use Rattle.jc_heap.specs.Whole.{IsConsistent, OwnsCells};
@@ -11,6 +12,12 @@ ghost use Rattle.jc_heap.specs.Whole.{IsConsistent, OwnsCells};
 /// the places that were set for good and that no earlier change of it had touched.
 pub fn transactions_keep_what_is_durable()
     ensures { KeepsDurable }
+{}
+
+/// A loss of power within moves, when so many writes have passed, leaves exactly the heap behind those moves that are
+/// complete by then. So what is complete stays, wherever a later move is cut.
+pub fn losses_leave_what_is_complete()
+    ensures { LeaveWhatIsComplete }
 {}
 
 /// A heap in which nothing stands is whole, and whatever moves follow leave it whole, now and after a loss of

@@ -28,8 +28,8 @@ pub use changes::Elements;
 pub use component::Span;
 pub use heap::Heap;
 pub use heap_laws::{
-    changes_keep_a_heap_whole, components_are_read_back, migrations_keep_heaps,
-    places_have_words_of_their_own, transactions_keep_what_is_durable,
+    changes_keep_a_heap_whole, components_are_read_back, losses_leave_what_is_complete,
+    migrations_keep_heaps, places_have_words_of_their_own, transactions_keep_what_is_durable,
     transient_objects_own_their_cells,
 };
 pub use object::{Facts, Kind};

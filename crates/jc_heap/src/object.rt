@@ -1,11 +1,11 @@
 //! What an object is.
 ghost use Rattle.std.specs.Prelude.{◌≡◌, false};
-ghost use Rattle.jc_heap.specs.Object.{kind_number, header_number, kind_of, event_of, is_header, is_packed_header, has_bytes, is_packed, words_of_cells};
+ghost use Rattle.jc_heap.specs.Object.{kind_number, header_number, kind_of, event_of, is_header, is_packed_header, has_bytes, words_of_cells};
 
 use jc_transient::{ClassWord, ClearEvent, OwnerWord};
 
 /// What an object holds.
-#[derive(Clone, Copy, Debug, Default, PartialEq, Eq)]
+#[derive(Clone, Copy, Default, PartialEq, Eq)]
 pub enum Kind {
     #[default]
     Instance,
@@ -100,7 +100,7 @@ pub(crate) fn event_of_number(number: u16) -> Option<ClearEvent>
 }
 
 /// What an object's header says.
-#[derive(Clone, Copy, Debug, Default, PartialEq, Eq)]
+#[derive(Clone, Copy, Default, PartialEq, Eq)]
 pub struct Facts {
     pub kind: Kind,
     /// What clears the object's cells; none, where it is persistent.

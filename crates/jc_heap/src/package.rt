@@ -1,6 +1,6 @@
 //! What a package is made from, and how many words it takes.
 ghost use Rattle.std.specs.Prelude.{◌≡◌, ◌<◌, length};
-ghost use Rattle.jc_heap.specs.Packages.{part, parts, array_init, array_inits, elements, component_words, components_words, arrays_size, AreComponents};
+ghost use Rattle.jc_heap.specs.Packages.{parts, array_init, array_inits, elements, components_words, arrays_size, AreComponents};
 ghost use Rattle.jc_heap.specs.Packages.{AreArrays, record_size, image_size};
 
 use crate::layout::HEADER;

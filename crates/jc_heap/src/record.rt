@@ -1,5 +1,5 @@
 //! The words of a package above the top: its record and its initialised arrays.
-ghost use Rattle.std.specs.Prelude.{ℕ, ◌≡◌, ◌<◌, ◌+◌, ◌*◌, [], ◌∷◌, ◌++◌, length, slice_index, slice_index_or, OnOk, OnErr, IfOk};
+ghost use Rattle.std.specs.Prelude.{ℕ, ◌≡◌, ◌<◌, ◌+◌, length, slice_index, OnOk, OnErr, IfOk};
 ghost use Rattle.jc_heap.specs.Fresh.{IsFree, KeepsBelow, Fills, IsTornFresh};
 ghost use Rattle.jc_heap.specs.Packages.{part, parts, array_init, array_inits, AreArrays, AreArraysOfBytes, component_words, components_words, array_addresses, arrays_size};
 ghost use Rattle.jc_heap.specs.Packages.{image_words, record_size, package_record, AreComponents, array_words, arrays_words};
@@ -23,7 +23,7 @@ fn write_packed<S: WordStore>(
     ensures below { KeepsBelow at journal.old journal.new }
     ensures done { OnOk result (Fills at (packed_words bytes.now) journal.old journal.new) }
     ensures bytes { OnOk result ((i : ℕ) → slice_index bytes.now i < 256) }
-    ensures stopped { OnErr result (IsTornFresh journal.old journal.new) }
+    ensures stopped { OnErr result (IsTornFresh (length (packed_words bytes.now)) journal.old journal.new) }
 {
     for k in 0..packed_size(bytes) {
         journal.write_fresh(at + k as u16, packed_word(bytes, k as u16))?;
@@ -42,7 +42,7 @@ fn write_component<S: WordStore>(
     ensures below { KeepsBelow at journal.old journal.new }
     ensures done { OnOk result (Fills at (component_words (part component.now)) journal.old
         journal.new) }
-    ensures stopped { OnErr result (IsTornFresh journal.old journal.new) }
+    ensures stopped { OnErr result (IsTornFresh (length (component_words (part component.now))) journal.old journal.new) }
 {
     let info = component.info;
     write_run(journal, at, &[u16::from(component.tag), info.len() as u16])?;
@@ -63,7 +63,7 @@ fn write_components<S: WordStore>(
     ensures below { KeepsBelow at journal.old journal.new }
     ensures done { OnOk result (Fills at (components_words (parts components.now)) journal.old
         journal.new) }
-    ensures stopped { OnErr result (IsTornFresh journal.old journal.new) }
+    ensures stopped { OnErr result (IsTornFresh (length (components_words (parts components.now))) journal.old journal.new) }
 {
     let mut next = at;
     for component in components {
@@ -85,7 +85,7 @@ fn write_references<S: WordStore>(
     ensures below { KeepsBelow at journal.old journal.new }
     ensures done { OnOk result (Fills at (array_addresses first (array_inits arrays.now))
         journal.old journal.new) }
-    ensures stopped { OnErr result (IsTornFresh journal.old journal.new) }
+    ensures stopped { OnErr result (IsTornFresh (length arrays.now) journal.old journal.new) }
 {
     let mut address = first;
     for (k, array) in arrays.iter().enumerate() {
@@ -108,7 +108,7 @@ fn write_static_image<S: WordStore>(
     ensures below { KeepsBelow at journal.old journal.new }
     ensures done { OnOk result (Fills at (image_words first (array_inits arrays.now) image.now)
         journal.old journal.new) }
-    ensures stopped { OnErr result (IsTornFresh journal.old journal.new) }
+    ensures stopped { OnErr result (IsTornFresh (length arrays.now + length (packed_words image.now)) journal.old journal.new) }
 {
     write_references(journal, at, arrays, first)?;
     write_packed(journal, at + arrays.len() as u16, image)?;
@@ -128,7 +128,7 @@ fn write_array<S: WordStore>(
     ensures done { OnOk result (Fills at (array_words owner (array_init array.now)) journal.old
         journal.new) }
     ensures bytes { OnOk result ((i : ℕ) → slice_index (array_init array.now).1 i < 256) }
-    ensures stopped { OnErr result (IsTornFresh journal.old journal.new) }
+    ensures stopped { OnErr result (IsTornFresh (length (array_words owner (array_init array.now))) journal.old journal.new) }
 {
     let cells = cell_count(array) as u16;
     write_run(
@@ -153,7 +153,7 @@ pub(crate) fn write_arrays<S: WordStore>(
     ensures done { OnOk result (Fills at (arrays_words owner (array_inits arrays.now)) journal.old
         journal.new) }
     ensures bytes { OnOk result (AreArraysOfBytes (array_inits arrays.now)) }
-    ensures stopped { OnErr result (IsTornFresh journal.old journal.new) }
+    ensures stopped { OnErr result (IsTornFresh (length (arrays_words owner (array_inits arrays.now))) journal.old journal.new) }
 {
     let mut next = at;
     for array in arrays {
@@ -179,7 +179,7 @@ pub(crate) fn write_package_record<S: WordStore>(
     ensures below { KeepsBelow at journal.old journal.new }
     ensures done { OnOk result (Fills at (package_record at (parts components.now)
         (array_inits arrays.now) image.now) journal.old journal.new) }
-    ensures stopped { OnErr result (IsTornFresh journal.old journal.new) }
+    ensures stopped { OnErr result (IsTornFresh size journal.old journal.new) }
 {
     write_run(journal, at, &[size])?;
     let next = write_components(journal, at + 1, components)?;

@@ -1,7 +1,7 @@
 //! The walk over the heap's records.
-ghost use Rattle.std.specs.Prelude.{◌≡◌, ◌<◌, ◌&&◌, nat_lt, not, map, ◌≤◌, ◌+◌, ◌↔◌, IsTrue, length, slice_index, drop, take};
+ghost use Rattle.std.specs.Prelude.{◌≡◌, ◌<◌, ◌&&◌, nat_lt, not, map, ◌≤◌, ◌+◌, length, slice_index, drop};
 ghost use Rattle.jc_words.specs.Layout.{top_address, text_start};
-ghost use Rattle.jc_heap.specs.Image.{IsWellFormed, image, base, missing_words_of_image, package_addresses, is_package, sizes};
+ghost use Rattle.jc_heap.specs.Image.{IsWellFormed, image, package_addresses, is_package, sizes};
 ghost use Rattle.jc_heap.specs.Cut.{records_from, missing_words};
 ghost use Rattle.jc_heap.specs.Table.{has_entry};
 ghost use Rattle.jc_heap.specs.Image.{item_entry};

@@ -1,5 +1,5 @@
 //! Opening an image, and whether its heap is whole.
-ghost use Rattle.std.specs.Prelude.{ℕ, ◌+◌, ◌/◌, ◌≡◌, ◌<◌, ◌≤◌, ◌↔◌, IsTrue, IsOk, IfOk, IfErr, OnOk, true, false, length, slice_index, slice_index_or};
+ghost use Rattle.std.specs.Prelude.{ℕ, ◌+◌, ◌/◌, ◌≡◌, ◌<◌, ◌≤◌, ◌↔◌, IsTrue, IsOk, IfOk, IfErr, true, false, length, slice_index, slice_index_or};
 ghost use Rattle.jc_words.specs.Layout.{top_address, text_length_address, text_start, version, version_address};
 ghost use Rattle.jc_commit.specs.Image.{IsGoodLog, count_of};
 ghost use Rattle.jc_commit.specs.Opening.{Opens};

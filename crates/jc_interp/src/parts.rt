@@ -5,7 +5,7 @@ ghost use Rattle.jc_interp.specs.Parts.{part_of, part_of_class};
 use jc_platform::names::{PlatformClass, PlatformMethod};
 
 /// A part of the platform.
-#[derive(Clone, Copy, PartialEq, Eq, Debug)]
+#[derive(Clone, Copy, PartialEq, Eq)]
 pub enum Part {
     /// `Object`, and the constructors of instances without cells.
     Objects,

@@ -1,5 +1,5 @@
 -- What the methods of the platform take behind their receivers (API specification).
-use Rattle.std.specs.Prelude.{ℕ, ◌-◌, ◌==◌, ◌&&◌, ◌||◌, nat_le, Bool, true, false, is_some, List, slice_get, Option, Some, None, if◌then◌else◌}
+use Rattle.std.specs.Prelude.{ℕ, ◌+◌, ◌-◌, ◌==◌, ◌&&◌, ◌||◌, nat_le, Bool, true, false, is_some, List, slice_get, Option, Some, None, if◌then◌else◌}
 use Rattle.std.specs.Option.{option_and_then}
 use Rattle.jc_heap.specs.declared.object.Facts.{Facts}
 use Rattle.jc_heap.specs.declared.object.Kind.{Kind}
@@ -34,17 +34,20 @@ is_present_and None so = false
 is_present_and (Some a) so = so a
 
 abbrev pub numbers : ℕ → Parameters
-numbers n = record { reference = None; numbers = n }
+numbers n = record { first_number = None; reference = None; numbers = n }
 
 abbrev pub reference_and : ReferenceType → ℕ → Parameters
-reference_and wanted n = record { reference = Some wanted; numbers = n }
+reference_and wanted n = record { first_number = None; reference = Some wanted; numbers = n }
 
--- the parameters of a method behind its receiver; a method without a receiver has none here, and the first number of
--- getPartialBytes, below its reference, is not told
+-- a number, a reference, and so many numbers
+abbrev pub number_and_reference_and : ReferenceType → ℕ → Parameters
+number_and_reference_and wanted n = record { first_number = Some (n + 1); reference = Some wanted; numbers = n }
+
+-- the parameters of a method behind its receiver; a method without a receiver has none here
 unfoldable pub parameters_of : PlatformMethod → Parameters
 parameters_of ObjectEquals = reference_and Anything 0
 parameters_of AidEquals = reference_and Anything 0
-parameters_of AidRidEquals = reference_and Anything 0
+parameters_of AidRidEquals = reference_and (Class Aid) 0
 parameters_of AppletProcess = reference_and (Class Apdu) 0
 parameters_of AppletGetShareableInterfaceObject = reference_and (Class Aid) 1
 parameters_of AidGetBytes = reference_and Bytes 1
@@ -55,7 +58,7 @@ parameters_of AidEqualsBytes = reference_and Bytes 2
 parameters_of OwnerPinCheck = reference_and Bytes 2
 parameters_of OwnerPinUpdate = reference_and Bytes 2
 parameters_of AidPartialEquals = reference_and Bytes 2
-parameters_of AidGetPartialBytes = reference_and Bytes 2
+parameters_of AidGetPartialBytes = number_and_reference_and Bytes 2
 parameters_of ApduSendBytesLong = reference_and Bytes 2
 parameters_of ApduReceiveBytes = numbers 1
 parameters_of ApduSetOutgoingLength = numbers 1
@@ -110,9 +113,16 @@ has_reference (Some wanted) i p m stack = is_present_and (reference_at i stack) 
 abbrev pub has_numbers : ℕ → List Cell → Bool
 has_numbers n stack = (n == 0 || is_number_at 0 stack) && (nat_le n 1 || is_number_at 1 stack)
 
--- the arguments on the stack have the kinds of the parameters: the numbers on the top, the reference below them
+-- a short stands there, where a place is named
+abbrev pub has_number : Option ℕ → List Cell → Bool
+has_number None stack = true
+has_number (Some i) stack = is_number_at i stack
+
+-- the arguments on the stack have the kinds of the parameters: the numbers on the top, the reference below them, and below
+-- it the first number
 abbrev pub has_kinds : Parameters → Packages → MemoryState → List Cell → Bool
 has_kinds ps p m stack = has_numbers ps.numbers stack && has_reference ps.reference ps.numbers p m stack
+    && has_number ps.first_number stack
 
 -- methods in bytecode look at what they are given as they use it
 unfoldable pub fits : Method → Packages → MemoryState → List Cell → Bool

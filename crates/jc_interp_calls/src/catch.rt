@@ -1,5 +1,5 @@
 //! Which handler of a method catches what is thrown.
-ghost use Rattle.std.specs.Prelude.{◌≡◌, ◌<◌, ◌^◌, Some, length, option_copied};
+ghost use Rattle.std.specs.Prelude.{◌≡◌, ◌<◌, ◌^◌, Some, option_copied};
 ghost use Rattle.jc_interp_calls.specs.Catching.{catch_in_component, catch_by_class, catch_by_handler, catch_in_method, handler_target, catch_by_entry};
 ghost use Rattle.jc_opcodes.specs.Handlers.{handler_in};
 
@@ -12,7 +12,7 @@ use jc_opcodes::operands::u1_at;
 use jc_transient::ClassWord;
 
 /// What the handlers of a method do with an exception.
-#[derive(Clone, Copy, PartialEq, Eq, Debug)]
+#[derive(Clone, Copy, PartialEq, Eq)]
 pub enum HandlerResult {
     /// One catches it, and goes on at this place.
     Caught(u16),

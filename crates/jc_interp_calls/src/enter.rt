@@ -1,5 +1,5 @@
 //! How the frame of a method in bytecode begins.
-ghost use Rattle.std.specs.Prelude.{OnErr, ◌≡◌, false};
+ghost use Rattle.std.specs.Prelude.{OnErr, ◌≡◌};
 ghost use Rattle.std.specs.Option.{option_map};
 ghost use Rattle.std.specs.Result.{result_ok};
 ghost use Rattle.jc_memory.specs.Programs.{Executes};
@@ -18,7 +18,7 @@ use jc_words::WordStore;
 use jc_world::StepExit;
 
 /// A method in bytecode that is called.
-#[derive(Clone, Copy, PartialEq, Eq, Debug)]
+#[derive(Clone, Copy, PartialEq, Eq)]
 pub struct Callee {
     pub package_number: u8,
     /// Where its header begins in the package's Method component.
@@ -30,7 +30,7 @@ pub struct Callee {
 }
 
 /// Where a call comes from.
-#[derive(Clone, Copy, PartialEq, Eq, Debug)]
+#[derive(Clone, Copy, PartialEq, Eq)]
 pub struct CallSite {
     /// Where the instruction stands that calls.
     pub place: u16,

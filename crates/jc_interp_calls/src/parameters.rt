@@ -1,7 +1,7 @@
 //! What the methods of the platform take behind their receivers.
-ghost use Rattle.std.specs.Prelude.{◌≡◌, false};
-ghost use Rattle.jc_interp_calls.specs.Parameters.{fits, has_kinds, has_numbers, has_reference, is_number_at, is_of_parameter, numbers, parameters_of};
-ghost use Rattle.jc_interp_calls.specs.Parameters.{reference_and, reference_at, refers_to};
+ghost use Rattle.std.specs.Prelude.{◌≡◌, ◌≤◌, false};
+ghost use Rattle.jc_interp_calls.specs.Parameters.{fits, has_kinds, has_number, has_numbers, has_reference, is_number_at, is_of_parameter, numbers};
+ghost use Rattle.jc_interp_calls.specs.Parameters.{number_and_reference_and, parameters_of, reference_and, reference_at, refers_to};
 
 use jc_frames::{Cell, Frames};
 use jc_heap::{Facts, Kind};
@@ -14,7 +14,7 @@ use jc_words::WordStore;
 use jc_world::objects::is_instance_of;
 
 /// What a reference parameter wants, if it is not null.
-#[derive(Clone, Copy, PartialEq, Eq, Debug)]
+#[derive(Clone, Copy, PartialEq, Eq)]
 pub enum ReferenceType {
     Anything,
     /// An instance of the class.
@@ -23,11 +23,14 @@ pub enum ReferenceType {
     Bytes,
 }
 
-/// The parameters of a method behind its receiver: a reference, if there is one, and then numbers.
-#[derive(Clone, Copy, PartialEq, Eq, Debug)]
+/// The parameters of a method behind its receiver: a number, if there is one before the reference, the
+/// reference, if there is one, and then numbers.
+#[derive(Clone, Copy, PartialEq, Eq)]
 pub struct Parameters {
+    /// How many cells below the top of the stack the number before the reference stands, if there is one.
+    pub first_number: Option<u8>,
     pub reference: Option<ReferenceType>,
-    /// How many numbers, at most two.
+    /// How many numbers follow, at most two.
     pub numbers: u8,
 }
 
@@ -35,6 +38,7 @@ const fn numbers(count: u8) -> Parameters
     ensures { result ≡ numbers count }
 {
     Parameters {
+        first_number: None,
         reference: None,
         numbers: count,
     }
@@ -44,6 +48,18 @@ const fn reference_and(wanted: ReferenceType, count: u8) -> Parameters
     ensures { result ≡ reference_and wanted count }
 {
     Parameters {
+        first_number: None,
+        reference: Some(wanted),
+        numbers: count,
+    }
+}
+
+const fn number_and_reference_and(wanted: ReferenceType, count: u8) -> Parameters
+    requires few { count ≤ 2 }
+    ensures { result ≡ number_and_reference_and wanted count }
+{
+    Parameters {
+        first_number: Some(count + 1),
         reference: Some(wanted),
         numbers: count,
     }
@@ -56,9 +72,10 @@ pub const fn parameters_of(method: PlatformMethod) -> Parameters
     ensures { result ≡ parameters_of method }
 {
     match method {
-        PlatformMethod::ObjectEquals | PlatformMethod::AidEquals | PlatformMethod::AidRidEquals => {
+        PlatformMethod::ObjectEquals | PlatformMethod::AidEquals => {
             reference_and(ReferenceType::Anything, 0)
         }
+        PlatformMethod::AidRidEquals => reference_and(ReferenceType::Class(PlatformClass::Aid), 0),
         PlatformMethod::AppletProcess => reference_and(
             ReferenceType::Class(PlatformClass::Apdu),
             0,
@@ -74,8 +91,8 @@ pub const fn parameters_of(method: PlatformMethod) -> Parameters
         | PlatformMethod::OwnerPinCheck
         | PlatformMethod::OwnerPinUpdate
         | PlatformMethod::AidPartialEquals
-        | PlatformMethod::AidGetPartialBytes
         | PlatformMethod::ApduSendBytesLong => reference_and(ReferenceType::Bytes, 2),
+        PlatformMethod::AidGetPartialBytes => number_and_reference_and(ReferenceType::Bytes, 2),
         PlatformMethod::ApduReceiveBytes
         | PlatformMethod::ApduSetOutgoingLength
         | PlatformMethod::CardExceptionInit
@@ -176,6 +193,16 @@ fn has_numbers(count: u8, frames: &Frames) -> bool
     (count == 0 || is_number_at(0, frames)) && (count <= 1 || is_number_at(1, frames))
 }
 
+// A short stands there, where a place is named.
+fn has_number(place: Option<u8>, frames: &Frames) -> bool
+    ensures { result ≡ has_number place frames.now.current.stack }
+{
+    match place {
+        Some(place) => is_number_at(place, frames),
+        None => true,
+    }
+}
+
 // The arguments on the stack have the kinds of the parameters.
 fn has_kinds<S: WordStore>(
     parameters: Parameters,
@@ -194,6 +221,7 @@ fn has_kinds<S: WordStore>(
             memory,
             linked,
         )
+        && has_number(parameters.first_number, frames)
 }
 
 /// Whether the arguments on the stack behind the receiver have the kinds that a method of the platform

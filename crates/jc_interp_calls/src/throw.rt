@@ -1,6 +1,6 @@
 //! Exceptions: whose instance is thrown, and which frame goes on with it.
 ghost use Rattle.std.specs.Prelude.{◌≡◌, ◌<◌, false};
-ghost use Rattle.jc_frames.specs.Frames.{in_frame, unless_fault, with_stack};
+ghost use Rattle.jc_frames.specs.Frames.{unless_fault};
 ghost use Rattle.jc_memory.specs.Programs.{Executes};
 ghost use Rattle.jc_world.specs.Instructions.{after_instruction};
 ghost use Rattle.jc_interp_calls.specs.Throwing.{has_reason_cell, handler_entry, number_of, reason_of, athrow, exception_throw, object_unwind, unwind};

@@ -2,7 +2,6 @@
 ghost use Rattle.std.specs.Prelude.{◌≡◌, ◌<◌, false, true, Some, IfOk, OnOk};
 ghost use Rattle.jc_heap.specs.Heap.{IsObject, facts};
 ghost use Rattle.jc_heap.specs.Whole.{IsReference};
-ghost use Rattle.jc_memory.specs.Cells.{IsHeaderOf};
 ghost use Rattle.jc_interp_objects.specs.ArrayElements.{has_elements, is_array, array_at, with_index, element_at, assignable_or_null, element_value, Refers};
 
 use jc_firewall::access::Access;
@@ -18,7 +17,7 @@ use jc_world::objects::{is_instance, object};
 use jc_world::types::is_a;
 
 /// An element of an array.
-#[derive(Clone, Copy, Debug, PartialEq, Eq)]
+#[derive(Clone, Copy, PartialEq, Eq)]
 pub struct Element {
     /// Its index.
     pub index: u16,

@@ -1,9 +1,9 @@
 //! Static fields: `getstatic` and `putstatic`.
-ghost use Rattle.std.specs.Prelude.{◌≡◌, ◌+◌, ◌<◌, ◌%◌, ◌==◌, false, length, IfOk};
+ghost use Rattle.std.specs.Prelude.{◌≡◌, ◌+◌, ◌<◌, ◌%◌, ◌==◌, false};
 ghost use Rattle.jc_memory.specs.Programs.{Executes};
 ghost use Rattle.jc_world.specs.Instructions.{after_instruction};
 ghost use Rattle.jc_interp_objects.specs.StaticImages.{IsImageWord};
-ghost use Rattle.jc_interp_objects.specs.StaticFields.{static_value, getstatic, image_word_write, image_byte_write, image_pair_write, image_write_of};
+ghost use Rattle.jc_interp_objects.specs.StaticFields.{static_value, getstatic, image_word_write, image_byte_write, image_pair_write};
 ghost use Rattle.jc_interp_objects.specs.StaticFields.{static_write, putstatic};
 
 use crate::field_names::{FieldOfImage, static_named};

@@ -1,7 +1,6 @@
 //! Static images: where their words stand, and what these hold.
 ghost use Rattle.std.specs.Prelude.{◌≡◌, ◌<◌, ◌≤◌, false, length, IfSome};
 ghost use Rattle.jc_heap.specs.Components.{record_of};
-ghost use Rattle.jc_heap.specs.Heap.{is_allocated};
 ghost use Rattle.jc_interp_objects.specs.StaticImages.{record_at, image_word, next_word, place_of, word_value, byte_of, with_byte, image_byte, image_pair};
 ghost use Rattle.jc_interp_objects.specs.StaticImages.{IsImageWord};
 
@@ -11,7 +10,7 @@ use jc_transient::Ref;
 use jc_words::WordStore;
 
 /// A word of a package's static image.
-#[derive(Clone, Copy, Debug, PartialEq, Eq)]
+#[derive(Clone, Copy, PartialEq, Eq)]
 pub struct ImageWord {
     /// The package's record.
     pub owner: Ref,

@@ -1,5 +1,5 @@
 -- Laws of what may be done, by induction on it.
-use Rattle.std.proofs.Common.{◌≡◌, List, [], ◌∷◌, ◌++◌, refl, sym, subst, ap, ◌∙◌, inl, inr}
+use Rattle.std.proofs.Common.{◌≡◌, ℕ, List, [], ◌∷◌, ◌++◌, refl, sym, subst, ap, ◌∙◌, inl, inr}
 use Rattle.std.specs.Prelude.{◌⊎◌}
 use Rattle.jc_words.specs.Refusals.{refused_once}
 use Rattle.jc_heap.specs.Heap.{HeapState, HeapView}
@@ -29,51 +29,51 @@ module _ {A B : Type 0} (more : A → MemoryState → Program B) where
   did_bind (Either x y) s new b (inl did) = let p = did_bind x s new b did in (p.0, p.1, inl p.2, p.3)
   did_bind (Either x y) s new b (inr did) = let p = did_bind y s new b did in (p.0, p.1, inr p.2, p.3)
 
-  pub left_before : (d : Program A) (s : MemoryState) (h : HeapState) → TearLeaves d s h → TearLeaves (bind d s more) s h
-  left_before (Finish x) s h left = absurd left
-  left_before (Perform (HeapMove m) rest) s h (inl e) = inl e
-  left_before (Perform (HeapMove m) rest) s h (inr left) = inr (left_before rest (apply_effect (HeapMove m) s) h left)
-  left_before (Perform e rest) s h left = left_before rest (apply_effect e s) h left
-  left_before (Choose choose) s h left = (left.0, left.1, left_before (choose left.0) s h left.2)
-  left_before (Either x y) s h (inl left) = inl (left_before x s h left)
-  left_before (Either x y) s h (inr left) = inr (left_before y s h left)
+  pub left_before : (d : Program A) (s : MemoryState) (p : ℕ) (h : HeapState) → TearLeaves d s p h → TearLeaves (bind d s more) s p h
+  left_before (Finish x) s p h left = absurd left
+  left_before (Perform (HeapMove m) rest) s p h (inl e) = inl e
+  left_before (Perform (HeapMove m) rest) s p h (inr left) = inr (left_before rest (apply_effect (HeapMove m) s) p h left)
+  left_before (Perform e rest) s p h left = left_before rest (apply_effect e s) p h left
+  left_before (Choose choose) s p h left = (left.0, left.1, left_before (choose left.0) s p h left.2)
+  left_before (Either x y) s p h (inl left) = inl (left_before x s p h left)
+  left_before (Either x y) s p h (inr left) = inr (left_before y s p h left)
 
-  pub left_after : (d : Program A) (s mid : MemoryState) (a : A) (h : HeapState) → Completes d s a mid → TearLeaves (more a mid) mid h
-      → TearLeaves (bind d s more) s h
-  left_after (Finish x) s mid a h first left = subst (λ v. TearLeaves (more x v) v h) first.1 (subst (λ y. TearLeaves (more y mid) mid h) first.0 left)
-  left_after (Perform (HeapMove m) rest) s mid a h first left = inr (left_after rest (apply_effect (HeapMove m) s) mid a h first left)
-  left_after (Perform e rest) s mid a h first left = left_after rest (apply_effect e s) mid a h first left
-  left_after (Choose choose) s mid a h first left = (first.0, first.1, left_after (choose first.0) s mid a h first.2 left)
-  left_after (Either x y) s mid a h (inl first) left = inl (left_after x s mid a h first left)
-  left_after (Either x y) s mid a h (inr first) left = inr (left_after y s mid a h first left)
+  pub left_after : (d : Program A) (s mid : MemoryState) (a : A) (p : ℕ) (h : HeapState) → Completes d s a mid → TearLeaves (more a mid) mid p h
+      → TearLeaves (bind d s more) s p h
+  left_after (Finish x) s mid a p h first left = subst (λ v. TearLeaves (more x v) v p h) first.1 (subst (λ y. TearLeaves (more y mid) mid p h) first.0 left)
+  left_after (Perform (HeapMove m) rest) s mid a p h first left = inr (left_after rest (apply_effect (HeapMove m) s) mid a p h first left)
+  left_after (Perform e rest) s mid a p h first left = left_after rest (apply_effect e s) mid a p h first left
+  left_after (Choose choose) s mid a p h first left = (first.0, first.1, left_after (choose first.0) s mid a p h first.2 left)
+  left_after (Either x y) s mid a p h (inl first) left = inl (left_after x s mid a p h first left)
+  left_after (Either x y) s mid a p h (inr first) left = inr (left_after y s mid a p h first left)
 
-  abbrev pub LostIn : Program A → MemoryState → HeapState → Type 0
-  LostIn d s h = TearLeaves d s h ⊎ ((a : A) × (mid : MemoryState) × Completes d s a mid × TearLeaves (more a mid) mid h)
+  abbrev pub LostIn : Program A → MemoryState → ℕ → HeapState → Type 0
+  LostIn d s p h = TearLeaves d s p h ⊎ ((a : A) × (mid : MemoryState) × Completes d s a mid × TearLeaves (more a mid) mid p h)
 
-  pub left_bind : (d : Program A) (s : MemoryState) (h : HeapState) → TearLeaves (bind d s more) s h → LostIn d s h
-  left_bind (Finish x) s h left = inr (x, s, (refl, refl), left)
-  left_bind (Perform (HeapMove m) rest) s h (inl e) = inl (inl e)
-  left_bind (Perform (HeapMove m) rest) s h (inr left) = later (left_bind rest (apply_effect (HeapMove m) s) h left)
+  pub left_bind : (d : Program A) (s : MemoryState) (p : ℕ) (h : HeapState) → TearLeaves (bind d s more) s p h → LostIn d s p h
+  left_bind (Finish x) s p h left = inr (x, s, (refl, refl), left)
+  left_bind (Perform (HeapMove m) rest) s p h (inl e) = inl (inl e)
+  left_bind (Perform (HeapMove m) rest) s p h (inr left) = later (left_bind rest (apply_effect (HeapMove m) s) p h left)
     where
-      later : LostIn rest (apply_effect (HeapMove m) s) h → LostIn (Perform (HeapMove m) rest) s h
+      later : LostIn rest (apply_effect (HeapMove m) s) p h → LostIn (Perform (HeapMove m) rest) s p h
       later (inl l) = inl (inr l)
-      later (inr p) = inr p
-  left_bind (Perform e rest) s h left = left_bind rest (apply_effect e s) h left
-  left_bind (Choose choose) s h left = chosen (left_bind (choose left.0) s h left.2)
+      later (inr q) = inr q
+  left_bind (Perform e rest) s p h left = left_bind rest (apply_effect e s) p h left
+  left_bind (Choose choose) s p h left = chosen (left_bind (choose left.0) s p h left.2)
     where
-      chosen : LostIn (choose left.0) s h → LostIn (Choose choose) s h
+      chosen : LostIn (choose left.0) s p h → LostIn (Choose choose) s p h
       chosen (inl l) = inl (left.0, left.1, l)
-      chosen (inr p) = inr (p.0, p.1, (left.0, left.1, p.2), p.3)
-  left_bind (Either x y) s h (inl left) = first (left_bind x s h left)
+      chosen (inr q) = inr (q.0, q.1, (left.0, left.1, q.2), q.3)
+  left_bind (Either x y) s p h (inl left) = first (left_bind x s p h left)
     where
-      first : LostIn x s h → LostIn (Either x y) s h
+      first : LostIn x s p h → LostIn (Either x y) s p h
       first (inl l) = inl (inl l)
-      first (inr p) = inr (p.0, p.1, inl p.2, p.3)
-  left_bind (Either x y) s h (inr left) = second (left_bind y s h left)
+      first (inr q) = inr (q.0, q.1, inl q.2, q.3)
+  left_bind (Either x y) s p h (inr left) = second (left_bind y s p h left)
     where
-      second : LostIn y s h → LostIn (Either x y) s h
+      second : LostIn y s p h → LostIn (Either x y) s p h
       second (inl l) = inl (inr l)
-      second (inr p) = inr (p.0, p.1, inr p.2, p.3)
+      second (inr q) = inr (q.0, q.1, inr q.2, q.3)
 
 -- what no move changes of a heap, nothing that may be done changes
 module _ {B : Type 0} (f : HeapView → B) (kept : (m : Move) (h : HeapView) → f (apply_move m h) ≡ f h) where
@@ -97,7 +97,7 @@ size_did d s new a did = kept_did (λ v. v.size) (λ m h. size-apply_moves (m �
 -- two calls one after the other: the first was cut; the first was made, and the second ends as it ends
 pub bind_cut : {A B : Type 0} (more : A → MemoryState → Program B) (d : Program A) (s new : MemoryState) → IsTornIn d s new → IsTornIn (bind d s more) s new
 bind_cut more d s new cut = record {
-  left = left_before more d s new.heap.durable cut.left;
+  left = left_before more d s new.heap.passed new.heap.durable cut.left;
   down = cut.down;
   refusals = cut.refusals;
   size = cut.size;
@@ -107,7 +107,7 @@ pub bind_made : {A B : Type 0} (more : A → MemoryState → Program B) (d : Pro
     → Completes d s a mid → Executes (more a mid) mid after → Executes (bind d s more) s after
 bind_made more d s mid a (Completed b new) first second = bind_did more d s mid new a b first second
 bind_made more d s mid a (Torn new) first second = record {
-  left = left_after more d s mid a new.heap.durable first second.left;
+  left = left_after more d s mid a new.heap.passed new.heap.durable first second.left;
   down = second.down;
   refusals = second.refusals
       ∙ (λ i. refused_once (down_did d s mid a first i) new.heap.passed (refusals_did d s mid a first i));
@@ -123,14 +123,14 @@ pub ruleset in_two_calls = (bind_made, bind_cut, down_did)
 pub in_sequence : {A B : Type 0} → IsSequence A B
 in_sequence {A = A} {B = B} = record {
   done = λ d more s new b. (did_bind more d s new b, λ p. bind_did more d s p.1 new p.0 b p.2 p.3);
-  lost = λ d more s h. (left_bind more d s h, either d more s h);
+  lost = λ d more s p h. (left_bind more d s p h, either d more s p h);
   made = λ d more s mid a after. bind_made more d s mid a after;
   cut = λ d more s new. bind_cut more d s new;
 }
   where
-    either : (d : Program A) (more : A → MemoryState → Program B) (s : MemoryState) (h : HeapState) → LostIn more d s h → TearLeaves (bind d s more) s h
-    either d more s h (inl left) = left_before more d s h left
-    either d more s h (inr p) = left_after more d s p.1 p.0 h p.2 p.3
+    either : (d : Program A) (more : A → MemoryState → Program B) (s : MemoryState) (p : ℕ) (h : HeapState) → LostIn more d s p h → TearLeaves (bind d s more) s p h
+    either d more s p h (inl left) = left_before more d s p h left
+    either d more s p h (inr q) = left_after more d s q.1 q.0 p h q.2 q.3
 
 -- what is so of each
 pub each_did : {A : Type 0} (P : A → MemoryState → Type 0) (d : Program A) (s new : MemoryState) (a : A) → AllResults d s P → Completes d s a new → P a new
@@ -179,16 +179,16 @@ module _ (P : Effect → MemoryState → Type 0) (Q : MemoryState → Type 0) (k
   due_keeps (Either x y) s new a due (inr did) q = due_keeps y s new a due.1 did q
 
   -- what a loss leaves is as each memory on the way has it
-  pub due_left : {A : Type 0} (R : HeapState → Type 0) → ((s : MemoryState) → Q s → R s.heap.durable) → (d : Program A) (s : MemoryState) (h : HeapState)
-      → AllDue P d s → TearLeaves d s h → Q s → R h
-  due_left R lasts (Finish x) s h due left q = absurd left
-  due_left R lasts (Perform (HeapMove m) rest) s h due (inl e) q = subst R (sym e) (lasts s q)
-  due_left R lasts (Perform (HeapMove m) rest) s h due (inr left) q = due_left R lasts rest (apply_effect (HeapMove m) s) h due.1 left
+  pub due_left : {A : Type 0} (R : HeapState → Type 0) → ((s : MemoryState) → Q s → R s.heap.durable) → (d : Program A) (s : MemoryState) (p : ℕ) (h : HeapState)
+      → AllDue P d s → TearLeaves d s p h → Q s → R h
+  due_left R lasts (Finish x) s p h due left q = absurd left
+  due_left R lasts (Perform (HeapMove m) rest) s p h due (inl e) q = subst R (sym e.0) (lasts s q)
+  due_left R lasts (Perform (HeapMove m) rest) s p h due (inr left) q = due_left R lasts rest (apply_effect (HeapMove m) s) p h due.1 left
       (keeps (HeapMove m) s due.0 q)
-  due_left R lasts (Perform e rest) s h due left q = due_left R lasts rest (apply_effect e s) h due.1 left (keeps e s due.0 q)
-  due_left R lasts (Choose choose) s h due left q = due_left R lasts (choose left.0) s h (due left.0 left.1) left.2 q
-  due_left R lasts (Either x y) s h due (inl left) q = due_left R lasts x s h due.0 left q
-  due_left R lasts (Either x y) s h due (inr left) q = due_left R lasts y s h due.1 left q
+  due_left R lasts (Perform e rest) s p h due left q = due_left R lasts rest (apply_effect e s) p h due.1 left (keeps e s due.0 q)
+  due_left R lasts (Choose choose) s p h due left q = due_left R lasts (choose left.0) s p h (due left.0 left.1) left.2 q
+  due_left R lasts (Either x y) s p h due (inl left) q = due_left R lasts x s p h due.0 left q
+  due_left R lasts (Either x y) s p h due (inr left) q = due_left R lasts y s p h due.1 left q
 
 -- what was done was done by some effects
 pub took : {A : Type 0} (d : Program A) (s new : MemoryState) (a : A) → Completes d s a new
@@ -235,22 +235,23 @@ begins (Choose choose) s = tt
 begins (Either x y) s = tt
 
 -- what a loss within it leaves, a loss within the moves of its first effects leaves
-abbrev pub LostBy : {A : Type 0} → Program A → MemoryState → HeapState → Type 0
-LostBy d s h = (e : Effect) × (es : List Effect) × HasTracePrefix d s (e ∷ es) × TornMovesLeave (moves_of (e ∷ es)) s.heap h
+abbrev pub LostBy : {A : Type 0} → Program A → MemoryState → ℕ → HeapState → Type 0
+LostBy d s p h = (e : Effect) × (es : List Effect) × HasTracePrefix d s (e ∷ es) × TornMovesLeave (moves_of (e ∷ es)) s.heap p h
 
-pub lost_by : {A : Type 0} (d : Program A) (s : MemoryState) (h : HeapState) → TearLeaves d s h → LostBy d s h
-lost_by (Finish x) s h left = absurd left
-lost_by (Perform (HeapMove m) rest) s h (inl e) = (HeapMove m, [], (refl, begins rest (apply_effect (HeapMove m) s)), inl e)
-lost_by (Perform (HeapMove m) rest) s h (inr left) = let p = lost_by rest (apply_effect (HeapMove m) s) h left in (HeapMove m, p.0 ∷ p.1, (refl, p.2), inr p.3)
-lost_by (Perform e rest) s h left = let p = lost_by rest (apply_effect e s) h left in (e, p.0 ∷ p.1, (refl, p.2), p.3)
-lost_by (Choose choose) s h left = let p = lost_by (choose left.0) s h left.2 in (p.0, p.1, (left.0, left.1, p.2), p.3)
-lost_by (Either x y) s h (inl left) = let p = lost_by x s h left in (p.0, p.1, inl p.2, p.3)
-lost_by (Either x y) s h (inr left) = let p = lost_by y s h left in (p.0, p.1, inr p.2, p.3)
+pub lost_by : {A : Type 0} (d : Program A) (s : MemoryState) (p : ℕ) (h : HeapState) → TearLeaves d s p h → LostBy d s p h
+lost_by (Finish x) s p h left = absurd left
+lost_by (Perform (HeapMove m) rest) s p h (inl e) = (HeapMove m, [], (refl, begins rest (apply_effect (HeapMove m) s)), inl e)
+lost_by (Perform (HeapMove m) rest) s p h (inr left) =
+    let q = lost_by rest (apply_effect (HeapMove m) s) p h left in (HeapMove m, q.0 ∷ q.1, (refl, q.2), inr q.3)
+lost_by (Perform e rest) s p h left = let q = lost_by rest (apply_effect e s) p h left in (e, q.0 ∷ q.1, (refl, q.2), q.3)
+lost_by (Choose choose) s p h left = let q = lost_by (choose left.0) s p h left.2 in (q.0, q.1, (left.0, left.1, q.2), q.3)
+lost_by (Either x y) s p h (inl left) = let q = lost_by x s p h left in (q.0, q.1, inl q.2, q.3)
+lost_by (Either x y) s p h (inr left) = let q = lost_by y s p h left in (q.0, q.1, inr q.2, q.3)
 
 pub by_effects : {A : Type 0} → IsByEffects A
 by_effects {A = A} = record {
   took = λ d s new a. took d s new a;
   did = λ d s es a. taken_did d s es a;
   heap = heap_after;
-  lost = λ d s h left. let p = lost_by d s h left in (p.0 ∷ p.1, p.2, p.3);
+  lost = λ d s p h left. let q = lost_by d s p h left in (q.0 ∷ q.1, q.2, q.3);
 }

@@ -12,8 +12,8 @@ use Rattle.jc_memory.specs.Reading.{HasTrace, HasTracePrefix}
 pub record IsSequence (A B : Type 0) : Type 0 where
   pub done : (d : Program A) (more : A → MemoryState → Program B) (s new : MemoryState) (b : B) →
       Completes (bind d s more) s b new ↔ ((a : A) × (mid : MemoryState) × Completes d s a mid × Completes (more a mid) mid b new)
-  pub lost : (d : Program A) (more : A → MemoryState → Program B) (s : MemoryState) (h : HeapState) →
-      TearLeaves (bind d s more) s h ↔ (TearLeaves d s h ⊎ ((a : A) × (mid : MemoryState) × Completes d s a mid × TearLeaves (more a mid) mid h))
+  pub lost : (d : Program A) (more : A → MemoryState → Program B) (s : MemoryState) (p : ℕ) (h : HeapState) →
+      TearLeaves (bind d s more) s p h ↔ (TearLeaves d s p h ⊎ ((a : A) × (mid : MemoryState) × Completes d s a mid × TearLeaves (more a mid) mid p h))
   -- so it ends as the second does, where the first was done; and is cut where the first is
   pub made : (d : Program A) (more : A → MemoryState → Program B) (s mid : MemoryState) (a : A) (after : Completion MemoryState B) →
       Completes d s a mid → Executes (more a mid) mid after → Executes (bind d s more) s after
@@ -25,8 +25,8 @@ pub record IsByEffects (A : Type 0) : Type 0 where
   pub took : (d : Program A) (s new : MemoryState) (a : A) → Completes d s a new → (es : List Effect) × HasTrace d s es a × (new ≡ apply_effects es s)
   pub did : (d : Program A) (s : MemoryState) (es : List Effect) (a : A) → HasTrace d s es a → Completes d s a (apply_effects es s)
   pub heap : (es : List Effect) (s : MemoryState) → (apply_effects es s).heap ≡ apply_moves (moves_of es) s.heap
-  pub lost : (d : Program A) (s : MemoryState) (h : HeapState) → TearLeaves d s h
-      → (es : List Effect) × HasTracePrefix d s es × TornMovesLeave (moves_of es) s.heap h
+  pub lost : (d : Program A) (s : MemoryState) (p : ℕ) (h : HeapState) → TearLeaves d s p h
+      → (es : List Effect) × HasTracePrefix d s es × TornMovesLeave (moves_of es) s.heap p h
 
 -- a new reference is not null, and nothing stood there
 abbrev pub IsFresh : Type 0

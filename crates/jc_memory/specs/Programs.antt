@@ -2,7 +2,7 @@
 use Rattle.std.specs.Prelude.{ℕ, ◌≡◌, ◌⊎◌, Option, Some, None}
 use Rattle.jc_heap.specs.declared.refusal.HeapRefusal.{HeapRefusal}
 use Rattle.jc_heap.specs.Heap.{HeapState}
-use Rattle.jc_heap.specs.Moves.{IsTorn}
+use Rattle.jc_heap.specs.Moves.{IsTorn, IsCutIn}
 use Rattle.jc_heap.specs.Completions.{Completion, Completed, Torn, Attempt, Refused}
 use Rattle.jc_memory.specs.State.{MemoryState, Effect, HeapMove, apply_effect, IsNew}
 
@@ -22,12 +22,12 @@ Completes (Choose choose) s answer new = (r : ℕ) × IsNew s.heap.now r × Comp
 Completes (Either x y) s answer new = Completes x s answer new ⊎ Completes y s answer new
 
 -- a loss of power within it may leave this durable heap: the one before one of its moves
-abbrev pub TearLeaves : {A : Type 0} → Program A → MemoryState → HeapState → Type 0
-TearLeaves (Finish a) s h = ⊥
-TearLeaves (Perform (HeapMove m) rest) s h = (h ≡ s.heap.durable) ⊎ TearLeaves rest (apply_effect (HeapMove m) s) h
-TearLeaves (Perform e rest) s h = TearLeaves rest (apply_effect e s) h
-TearLeaves (Choose choose) s h = (r : ℕ) × IsNew s.heap.now r × TearLeaves (choose r) s h
-TearLeaves (Either x y) s h = TearLeaves x s h ⊎ TearLeaves y s h
+abbrev pub TearLeaves : {A : Type 0} → Program A → MemoryState → ℕ → HeapState → Type 0
+TearLeaves (Finish a) s p h = ⊥
+TearLeaves (Perform (HeapMove m) rest) s p h = ((h ≡ s.heap.durable) × IsCutIn m s.heap p) ⊎ TearLeaves rest (apply_effect (HeapMove m) s) p h
+TearLeaves (Perform e rest) s p h = TearLeaves rest (apply_effect e s) p h
+TearLeaves (Choose choose) s p h = (r : ℕ) × IsNew s.heap.now r × TearLeaves (choose r) s p h
+TearLeaves (Either x y) s p h = TearLeaves x s p h ⊎ TearLeaves y s p h
 
 -- the store refused a write within it
 abbrev pub IsTornIn : {A : Type 0} → Program A → MemoryState → MemoryState → Type 0

@@ -16,7 +16,7 @@ pub const MOST_SPOTS: usize = 32;
 pub const MOST_AID: usize = 16;
 
 /// What the runtime environment had begun.
-#[derive(Clone, Copy, PartialEq, Eq, Debug)]
+#[derive(Clone, Copy, PartialEq, Eq)]
 pub enum Phase {
     /// A package's method `install`.
     Install,
@@ -31,7 +31,7 @@ pub enum Phase {
 }
 
 /// Where a frame stands.
-#[derive(Clone, Copy, PartialEq, Eq, Debug, Default)]
+#[derive(Clone, Copy, PartialEq, Eq, Default)]
 pub struct Spot {
     /// The number of the package that its method belongs to; 0 for code that was lent.
     pub package_number: u8,
@@ -42,7 +42,7 @@ pub struct Spot {
 }
 
 /// Why code ended by a fault.
-#[derive(Clone, Copy, PartialEq, Eq, Debug)]
+#[derive(Clone, Copy, PartialEq, Eq)]
 pub enum FaultKind {
     /// No instruction stands there, or it is cut.
     NoInstruction,
@@ -79,7 +79,7 @@ pub enum FaultKind {
 }
 
 /// What kept code from going on.
-#[derive(Clone, Copy, PartialEq, Eq, Debug)]
+#[derive(Clone, Copy, PartialEq, Eq)]
 pub enum Cause {
     /// Nothing is noted.
     Nothing,
@@ -90,7 +90,7 @@ pub enum Cause {
 }
 
 /// An access that the firewall refused.
-#[derive(Clone, Copy, PartialEq, Eq, Debug)]
+#[derive(Clone, Copy, PartialEq, Eq)]
 pub struct Denial {
     pub access: Access,
     pub rule: Rule,
@@ -101,7 +101,7 @@ pub struct Denial {
 }
 
 /// Where room was asked for and was not there.
-#[derive(Clone, Copy, PartialEq, Eq, Debug)]
+#[derive(Clone, Copy, PartialEq, Eq)]
 pub enum Space {
     /// Words of the heap.
     Heap,
@@ -114,7 +114,7 @@ pub enum Space {
 }
 
 /// What was asked for, and what was left.
-#[derive(Clone, Copy, PartialEq, Eq, Debug)]
+#[derive(Clone, Copy, PartialEq, Eq)]
 pub struct Shortage {
     pub space: Space,
     pub asked: u32,
@@ -160,7 +160,7 @@ impl RefusedLoad {
 }
 
 /// The cell on top of a stack.
-#[derive(Clone, Copy, PartialEq, Eq, Debug)]
+#[derive(Clone, Copy, PartialEq, Eq)]
 pub enum TopCell {
     Empty,
     Short(i16),
@@ -169,7 +169,7 @@ pub enum TopCell {
 }
 
 /// An instruction that is carried out, and the stack as it found it.
-#[derive(Clone, Copy, PartialEq, Eq, Debug)]
+#[derive(Clone, Copy, PartialEq, Eq)]
 pub struct Step {
     pub spot: Spot,
     pub top: TopCell,

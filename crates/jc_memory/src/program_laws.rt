@@ -20,7 +20,7 @@ pub fn new_references_are_fresh()
 {}
 
 /// A reference that named an object before an abort is null behind it where the object is no longer there, and else as
-/// it was. That the references in frames and in transient cells are null or name an object is not proved.
+/// it was. That the references in frames and in transient cells are null or name an object is a premise here.
 pub fn aborts_null_dead_references()
     ensures { NullsDeadReferences }
 {}

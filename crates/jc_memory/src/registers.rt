@@ -5,15 +5,15 @@ ghost use Rattle.jc_memory.specs.Owners.{owner_number, owner_of, at_reset};
 use jc_transient::{OwnerWord, RUNTIME_ENVIRONMENT};
 
 /// An applet instance by its number in the registry, 1 to 64.
-#[derive(Clone, Copy, Debug, PartialEq, Eq)]
+#[derive(Clone, Copy, PartialEq, Eq)]
 pub struct AppletNumber(pub u8);
 
 /// A package by its number.
-#[derive(Clone, Copy, Debug, PartialEq, Eq)]
+#[derive(Clone, Copy, PartialEq, Eq)]
 pub struct PackageNumber(pub u8);
 
 /// Who owns objects, and for whom code runs.
-#[derive(Clone, Copy, Debug, PartialEq, Eq)]
+#[derive(Clone, Copy, PartialEq, Eq)]
 pub enum Owner {
     /// The runtime environment.
     Runtime,
@@ -53,14 +53,14 @@ impl Owner {
 }
 
 /// Whether the applet has begun a transaction: the nesting level 1 or 0.
-#[derive(Clone, Copy, Debug, PartialEq, Eq)]
+#[derive(Clone, Copy, PartialEq, Eq)]
 pub enum Depth {
     Outside,
     Inside,
 }
 
 /// Whether an applet is being installed.
-#[derive(Clone, Copy, Debug, PartialEq, Eq)]
+#[derive(Clone, Copy, PartialEq, Eq)]
 pub enum Installation {
     /// None is.
     Idle,
@@ -72,7 +72,7 @@ pub enum Installation {
 }
 
 /// How far an APDU has come.
-#[derive(Clone, Copy, Debug, PartialEq, Eq)]
+#[derive(Clone, Copy, PartialEq, Eq)]
 pub enum ApduPhase {
     /// Nothing but the header has been received.
     Waiting,
@@ -85,7 +85,7 @@ pub enum ApduPhase {
 }
 
 /// The APDU that is carried out.
-#[derive(Clone, Copy, Debug, PartialEq, Eq)]
+#[derive(Clone, Copy, PartialEq, Eq)]
 pub struct ApduState {
     /// How many bytes the command expects, 0 to 256.
     pub expected: u16,
@@ -93,7 +93,7 @@ pub struct ApduState {
 }
 
 /// What is known of running code besides objects.
-#[derive(Clone, Copy, Debug, PartialEq, Eq)]
+#[derive(Clone, Copy, PartialEq, Eq)]
 pub struct Registers {
     /// For whom code runs.
     pub active: Owner,

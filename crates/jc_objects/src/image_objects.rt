@@ -16,7 +16,7 @@ use jc_words::{MemStore, WordStore};
 use std::alloc::{AllocError, Global};
 
 /// Why nothing is told of an image.
-#[derive(Clone, Copy, Debug, PartialEq, Eq, Drop)]
+#[derive(Clone, Copy, PartialEq, Eq, Drop)]
 pub enum ImageFault {
     NoMemory,
     /// The words are no image, or its heap or its packages are damaged.

@@ -4,3 +4,4 @@ pub mod Short
 pub mod Rows
 pub mod Headers
 pub mod Handlers
+pub mod Accesses

@@ -182,32 +182,43 @@ returns =
     (0x7A, Bare (Return Return)) ∷  -- return
     []
 
-abbrev pub fields : List Row
-fields =
+-- reads and writes of static fields
+abbrev pub static_fields : List Row
+static_fields =
     (0x7B, U2 (λ index. Field (GetStatic Reference index))) ∷  -- getstatic_a
     (0x7C, U2 (λ index. Field (GetStatic Byte index))) ∷  -- getstatic_b
     (0x7D, U2 (λ index. Field (GetStatic Short index))) ∷  -- getstatic_s
     (0x7F, U2 (λ index. Field (PutStatic Reference index))) ∷  -- putstatic_a
     (0x80, U2 (λ index. Field (PutStatic Byte index))) ∷  -- putstatic_b
     (0x81, U2 (λ index. Field (PutStatic Short index))) ∷  -- putstatic_s
+    []
+
+-- of fields of objects, with an index of one byte
+abbrev pub instance_fields : List Row
+instance_fields =
     (0x83, U1 (λ index. Field (GetField Reference index))) ∷  -- getfield_a
     (0x84, U1 (λ index. Field (GetField Byte index))) ∷  -- getfield_b
     (0x85, U1 (λ index. Field (GetField Short index))) ∷  -- getfield_s
     (0x87, U1 (λ index. Field (PutField Reference index))) ∷  -- putfield_a
     (0x88, U1 (λ index. Field (PutField Byte index))) ∷  -- putfield_b
     (0x89, U1 (λ index. Field (PutField Short index))) ∷  -- putfield_s
-    (0xA9, U2 (λ index. Field (GetField Reference index))) ∷  -- getfield_a_w
-    (0xAA, U2 (λ index. Field (GetField Byte index))) ∷  -- getfield_b_w
-    (0xAB, U2 (λ index. Field (GetField Short index))) ∷  -- getfield_s_w
     (0xAD, U1 (λ index. Field (GetFieldThis Reference index))) ∷  -- getfield_a_this
     (0xAE, U1 (λ index. Field (GetFieldThis Byte index))) ∷  -- getfield_b_this
     (0xAF, U1 (λ index. Field (GetFieldThis Short index))) ∷  -- getfield_s_this
-    (0xB1, U2 (λ index. Field (PutField Reference index))) ∷  -- putfield_a_w
-    (0xB2, U2 (λ index. Field (PutField Byte index))) ∷  -- putfield_b_w
-    (0xB3, U2 (λ index. Field (PutField Short index))) ∷  -- putfield_s_w
     (0xB5, U1 (λ index. Field (PutFieldThis Reference index))) ∷  -- putfield_a_this
     (0xB6, U1 (λ index. Field (PutFieldThis Byte index))) ∷  -- putfield_b_this
     (0xB7, U1 (λ index. Field (PutFieldThis Short index))) ∷  -- putfield_s_this
+    []
+
+-- of fields of objects, with an index of two bytes
+abbrev pub wide_instance_fields : List Row
+wide_instance_fields =
+    (0xA9, U2 (λ index. Field (GetField Reference index))) ∷  -- getfield_a_w
+    (0xAA, U2 (λ index. Field (GetField Byte index))) ∷  -- getfield_b_w
+    (0xAB, U2 (λ index. Field (GetField Short index))) ∷  -- getfield_s_w
+    (0xB1, U2 (λ index. Field (PutField Reference index))) ∷  -- putfield_a_w
+    (0xB2, U2 (λ index. Field (PutField Byte index))) ∷  -- putfield_b_w
+    (0xB3, U2 (λ index. Field (PutField Short index))) ∷  -- putfield_s_w
     []
 
 -- what newarray makes
@@ -255,8 +266,8 @@ calls =
 -- the common groups first, as the decoder asks for them
 abbrev pub table : List Row
 table =
-    constants ++ (locals ++ (stack ++ (map in_short conditions ++ (calls ++ (returns ++ (fields
-    ++ (arithmetic ++ (jumps ++ (arrays ++ (objects ++ map in_wide conditions))))))))))
+    constants ++ (locals ++ (stack ++ (map in_short conditions ++ (calls ++ (returns ++ (static_fields
+    ++ (instance_fields ++ (wide_instance_fields ++ (arithmetic ++ (jumps ++ (arrays ++ (objects ++ map in_wide conditions))))))))))))
 
 -- the form that belongs to an opcode, if it has one
 abbrev pub form_in : List Row → ℕ → Option Form

@@ -4,7 +4,7 @@ ghost use Rattle.std.specs.Option.{option_and_then};
 ghost use Rattle.jc_opcodes.specs.Table.{HasListedOperands, form_in, instruction_with};
 ghost use Rattle.jc_opcodes.specs.Rows.{from_returns};
 
-use crate::fields::decode_field;
+use crate::fields::decode_static_field;
 use crate::instr::{Instr, ReturnOp};
 
 #[inline(always)]
@@ -19,6 +19,6 @@ pub(crate) fn decode_return<C>(opcode: u8, code: &[u8], at: usize) -> Option<(In
         0x77 => Some((Instr::Return(ReturnOp::Areturn), at)), // areturn
         0x78 => Some((Instr::Return(ReturnOp::Sreturn), at)), // sreturn
         0x7A => Some((Instr::Return(ReturnOp::Return), at)), // return
-        _ => decode_field::<C>(opcode, code, at),
+        _ => decode_static_field::<C>(opcode, code, at),
     }
 }

@@ -1,7 +1,7 @@
 //! The stack's order: `pop`, `pop2`, `dup`, `dup2`, `dup_x`, `swap_x`.
 ghost use Rattle.std.specs.Prelude.{IfSome, ◌≡◌, ◌/◌, ◌%◌, ◌≤◌, length};
 ghost use Rattle.std.specs.Option.{option_map, option_and_then};
-ghost use Rattle.jc_opcodes.specs.Table.{HasListedOperands, duplicate_below, form_in, instruction_with, swap};
+ghost use Rattle.jc_opcodes.specs.Table.{HasListedOperands, can_duplicate_below, duplicate_below, form_in, instruction_with, swap};
 ghost use Rattle.jc_opcodes.specs.Rows.{from_stack};
 
 use crate::branches::decode_branch;
@@ -37,12 +37,22 @@ fn duplicate_below_of(halves: u8) -> Option<StackOp>
 {
     let count = halves / 16;
     let depth = halves % 16;
-    let listed = (1..=4).contains(&count) && (depth == 0 || (count..=count + 4).contains(&depth));
-    if listed {
+    if can_duplicate_below(count, depth) {
         Some(StackOp::DupX { count, depth })
     } else {
         None
     }
+}
+
+// `dup_x` takes this count and this depth.
+#[inline(always)]
+fn can_duplicate_below(count: u8, depth: u8) -> bool
+    ensures { result ≡ can_duplicate_below count depth }
+{
+    if !(1..=4).contains(&count) {
+        return false;
+    }
+    depth == 0 || (count..=count + 4).contains(&depth)
 }
 
 // The operand of `swap_x`, if it is one: the high four bits are the count, the low four the cells below.

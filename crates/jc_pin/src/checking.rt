@@ -1,8 +1,8 @@
 //! A PIN is checked.
-ghost use Rattle.std.specs.Prelude.{◌≡◌, ◌≤◌, false, length};
+ghost use Rattle.std.specs.Prelude.{◌≡◌, false, length};
 ghost use Rattle.std.specs.Str.{bytes_eq};
 ghost use Rattle.std.specs.Option.{option_copied};
-ghost use Rattle.jc_heap.specs.declared.object.Kind.TheVariants.{Instance, ByteArray};
+ghost use Rattle.jc_heap.specs.declared.object.Kind.TheVariants.{ByteArray};
 ghost use Rattle.jc_memory.specs.Cells.{bytes_at};
 ghost use Rattle.jc_memory.specs.Programs.{Executes};
 ghost use Rattle.jc_heap.specs.Completions.{after_step};
@@ -65,9 +65,9 @@ fn compare<S: WordStore>(
     Ok(true)
 }
 
-/// Compares bytes with the value of a PIN; `None` stands for arguments that are bad, which no value equals. Before
-/// anything is compared the flag is taken away and a try is counted, which no abort gives back. The value gives all
-/// tries back, and sets the flag. Without a try left nothing is done.
+/// Compares bytes with the value of a PIN; `None` stands for arguments that are bad, which no value equals. First the
+/// flag is taken away and a try is counted, before anything that the card does shows the comparison; no abort gives it
+/// back. The value gives all tries back, and sets the flag. Without a try left nothing is done.
 #[tactic(auto, unfolding(crate::specs::Checking::pin_check))]
 pub fn check<S: WordStore>(
     memory: &mut Memory<S>,

@@ -4,7 +4,7 @@ ghost use Rattle.std.specs.Bool.{OnTrue};
 ghost use Rattle.jc_heap.specs.declared.object.Kind.TheVariants.{Instance, ByteArray};
 ghost use Rattle.jc_transient.specs.State.{flag_of};
 ghost use Rattle.jc_memory.specs.Cells.{header_at};
-ghost use Rattle.jc_pin.specs.Pins.{is_persistent_with, has_value, is_pin, record_of, IsPersistentWith, IsPin, cell_count};
+ghost use Rattle.jc_pin.specs.Pins.{is_persistent_with, is_pin, record_of, IsPersistentWith, IsPin, cell_count};
 
 use jc_heap::Kind;
 use jc_memory::Memory;
@@ -30,7 +30,7 @@ pub(crate) const VALUE: u16 = 4;
 const CELL_COUNT: u16 = 5;
 
 /// The record of a PIN: the cells of an `OwnerPIN`, in their order.
-#[derive(Clone, Copy, Debug, PartialEq, Eq)]
+#[derive(Clone, Copy, PartialEq, Eq)]
 pub struct PinRecord {
     /// How many tries there are after the value was given.
     pub limit: u16,

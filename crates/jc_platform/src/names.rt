@@ -6,7 +6,7 @@ ghost use Rattle.jc_platform.specs.Numbers.{class_number, kind_number, method_nu
 ghost use Rattle.jc_platform.specs.Rows.{largest_token};
 
 /// A package of the platform.
-#[derive(Clone, Copy, PartialEq, Eq, Debug)]
+#[derive(Clone, Copy, PartialEq, Eq)]
 pub enum PlatformPackage {
     /// `java.lang`
     JavaLang,
@@ -17,7 +17,7 @@ pub enum PlatformPackage {
 }
 
 /// A class or an interface of the platform, in Rust's spelling of its name: `Pin` is `PIN`.
-#[derive(Clone, Copy, PartialEq, Eq, Debug)]
+#[derive(Clone, Copy, PartialEq, Eq)]
 pub enum PlatformClass {
     Object,
     Throwable,
@@ -54,7 +54,7 @@ pub enum PlatformClass {
 }
 
 /// What kind of method a name stands for. Constructors are static here, as their tokens are.
-#[derive(Clone, Copy, PartialEq, Eq, Debug)]
+#[derive(Clone, Copy, PartialEq, Eq)]
 pub enum MethodKind {
     Static,
     Virtual,
@@ -63,7 +63,7 @@ pub enum MethodKind {
 
 /// A method of the platform, by its class and its name: `OwnerPinCheck` is `check` of `OwnerPIN`, and
 /// `ObjectInit` the constructor `<init>` of `Object`.
-#[derive(Clone, Copy, PartialEq, Eq, Debug)]
+#[derive(Clone, Copy, PartialEq, Eq)]
 pub enum PlatformMethod {
     ObjectInit,
     ObjectEquals,

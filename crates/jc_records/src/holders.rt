@@ -12,7 +12,7 @@ use jc_words::WordStore;
 use jc_words::layout::TOP;
 
 /// A cell of a persistent object, and what the object's header says. Of two elements that stand in a word it is the first.
-#[derive(Clone, Copy, Debug, PartialEq, Eq)]
+#[derive(Clone, Copy, PartialEq, Eq)]
 pub struct Holder {
     /// The address of the object.
     pub object: u16,

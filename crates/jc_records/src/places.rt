@@ -11,7 +11,7 @@ use jc_words::WordStore;
 use jc_words::layout::TOP;
 
 /// What begins at an address of a heap.
-#[derive(Clone, Copy, Debug, PartialEq, Eq)]
+#[derive(Clone, Copy, PartialEq, Eq)]
 pub enum Standing {
     /// An object with this header.
     Object(Facts),

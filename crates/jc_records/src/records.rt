@@ -1,6 +1,6 @@
 //! The records of a heap, one after another: objects, and packages.
-ghost use Rattle.std.specs.Prelude.{◌≡◌, ◌<◌, ◌≤◌, ◌+◌, ◌/◌, ◌==◌, if◌then◌else◌, None, Some, false, true, length, slice_index, drop, IfSome};
-ghost use Rattle.jc_words.specs.Layout.{text_start, top_address};
+ghost use Rattle.std.specs.Prelude.{◌≡◌, ◌<◌, ◌+◌, ◌/◌, ◌==◌, if◌then◌else◌, None, Some, false, true, length, slice_index, IfSome};
+ghost use Rattle.jc_words.specs.Layout.{top_address};
 ghost use Rattle.jc_heap.specs.Image.{image, is_package, package_addresses};
 ghost use Rattle.jc_heap.specs.Object.{cells_of, event_of, header_size, is_header, is_packed, is_packed_header, kind_of, words_of_cells};
 ghost use Rattle.jc_heap.specs.Packed.{byte_in};

@@ -10,9 +10,9 @@ use Rattle.jc_session.specs.Power.{KeptState, PowerOver, PowerState, Up, Off, ar
 use Rattle.jc_session.specs.Starting.{IsPoweredUp}
 
 -- how a session keeps the store of a card that is off, by such a value: what a loss of power keeps of a heap, where the durable heap is
--- one of these; what a reset leads to, up or off; and what arming the fuse does
+-- one of these for the writes that had passed; what a reset leads to, up or off; and what arming the fuse does
 pub record StoreKind (V : Type 0) : Type 1 where
-  pub IsLeft : (HeapState → Type 0) → HeapView → V → Type 0
+  pub IsLeft : (ℕ → HeapState → Type 0) → HeapView → V → Type 0
   pub Resets : PowerOver V → PowerOver V → Type 0
   pub armed : ℕ → PowerOver V → PowerOver V
 
@@ -20,7 +20,7 @@ pub record StoreKind (V : Type 0) : Type 1 where
 abbrev pub AnswersCommandOver : {V : Type 0} → StoreKind V → PowerOver V → List ℕ → Reply → PowerOver V → Type 0
 -- no write was refused: all of it was done
 AnswersCommandOver kind (Up card) bytes (Response r) (Up next) = Completes (exchange bytes card) card.memory (with_response next r) next.memory
--- a write was refused within it: the heap is one that a loss within it may leave
+-- a write was refused within it: the heap is the one that a loss leaves when so many writes have passed
 AnswersCommandOver kind (Up card) bytes Down (Off b kept) =
     (b ≡ card.budget) × kind.IsLeft (TearLeaves (exchange bytes card) card.memory) card.memory.heap kept
 -- without power nothing is done
@@ -60,9 +60,9 @@ RunOver kind s (request ∷ requests) [] last = ⊥
 -- ---- where what is left of a card is kept
 
 -- a loss of power leaves the words of the heap laid, in a store of the same size that has refused one more write
-abbrev pub IsKeptOf : (HeapState → Type 0) → HeapView → KeptState → Type 0
+abbrev pub IsKeptOf : (ℕ → HeapState → Type 0) → HeapView → KeptState → Type 0
 IsKeptOf May heap k =
-    May k.durable × (k.down ≡ true) × (k.refusals ≡ refused_once false k.passed heap.refusals) × (k.size ≡ heap.size) × (k.laid ≡ true)
+    May k.passed k.durable × (k.down ≡ true) × (k.refusals ≡ refused_once false k.passed heap.refusals) × (k.size ≡ heap.size) × (k.laid ≡ true)
 
 -- a reset led there: no write was refused; or one was, and the same is left
 abbrev pub IsReset : PowerState → PowerState → Type 0

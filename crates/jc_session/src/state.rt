@@ -51,7 +51,7 @@ impl<S: WordStore> PoweredCard<S> {
         ensures { MatchResult result
             (λ r. Completes (exchange command.now self) self.memory
             (with_response r.0 r.1) r.0.memory)
-            (λ k. TearLeaves (exchange command.now self) self.memory k.durable × (k.down ≡ true)
+            (λ k. TearLeaves (exchange command.now self) self.memory k.passed k.durable × (k.down ≡ true)
             × (k.refusals ≡ refused_once false k.passed self.memory.heap.refusals)
             × (k.size ≡ self.memory.heap.size) × (k.laid ≡ true)) }
     {

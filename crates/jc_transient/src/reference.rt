@@ -5,7 +5,7 @@ use std::marker::Model;
 
 /// A reference: the word address of an object's header in the image. 0 is null. It is a name only:
 /// the object need not be there.
-#[derive(Clone, Copy, Debug, PartialEq, Eq)]
+#[derive(Clone, Copy, PartialEq, Eq)]
 pub struct Ref(u16);
 
 impl Model for Ref {

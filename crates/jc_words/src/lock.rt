@@ -7,7 +7,7 @@ use std::fs::{File, TryLockError};
 use thiserror::Error;
 
 /// How a file is locked until it is closed.
-#[derive(Clone, Copy, Debug, PartialEq, Eq)]
+#[derive(Clone, Copy, PartialEq, Eq)]
 pub enum Lock {
     /// Nobody else has it locked.
     Exclusive,

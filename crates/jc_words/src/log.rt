@@ -11,7 +11,7 @@ use crate::layout::{
 
 /// What an image's words tell of its journal: where the entries stand, two words each, and how many there
 /// can be.
-#[derive(Clone, Copy, Debug, PartialEq, Eq, Drop)]
+#[derive(Clone, Copy, PartialEq, Eq, Drop)]
 pub struct Log {
     /// The version of the image.
     pub version: u16,

@@ -7,7 +7,7 @@ use std::fs::{File, Files};
 use thiserror::Error;
 
 /// How a file is opened. It then stands at its first byte.
-#[derive(Clone, Copy, Debug, PartialEq, Eq)]
+#[derive(Clone, Copy, PartialEq, Eq)]
 pub enum Opening {
     /// To read it alone.
     ToRead,

@@ -1,5 +1,5 @@
 -- Contexts: to whom objects belong, for whom code runs, and what the firewall answers.
-use Rattle.std.specs.Prelude.{ℕ, ◌+◌, ◌*◌, ◌-◌, ◌%◌, ◌==◌, ◌&&◌, nat_le, Bool, true, false, not, slice_index, Option, Some, None, Result, Ok, Err}
+use Rattle.std.specs.Prelude.{ℕ, ◌≡◌, ◌+◌, ◌*◌, ◌-◌, ◌%◌, ◌==◌, ◌&&◌, nat_le, Bool, true, false, not, slice_index, Option, Some, None, Result, Ok, Err}
 use Rattle.std.specs.Prelude.{if◌then◌else◌}
 use Rattle.jc_words.specs.Layout.{most_applets}
 use Rattle.jc_heap.specs.RegistryLayout.{entry_start, entry_package}
@@ -13,7 +13,8 @@ use Rattle.jc_memory.specs.declared.registers.Installation.{Installation}
 use Rattle.jc_memory.specs.declared.registers.Installation.TheVariants.{Idle, Open, Registered}
 use Rattle.jc_memory.specs.declared.registers.Owner.{Owner}
 use Rattle.jc_memory.specs.declared.registers.Owner.TheVariants.{Runtime, Applet, Package}
-use Rattle.jc_memory.specs.Owners.{owner_of}
+use Rattle.jc_memory.specs.declared.registers.Registers.{Registers}
+use Rattle.jc_memory.specs.Owners.{owner_number, owner_of}
 use Rattle.jc_memory.specs.State.{MemoryState}
 use Rattle.jc_platform.specs.declared.names.PlatformClass.TheVariants.{Aid}
 use Rattle.jc_platform.specs.Distinct.{class_word}
@@ -86,6 +87,17 @@ abbrev pub has_deselect_event : Option ClearEvent → Bool
 has_deselect_event None = false
 has_deselect_event (Some Reset) = false
 has_deselect_event (Some Deselect) = true
+
+-- code of the selected applet runs, and no applet is being installed
+abbrev pub SelectedRuns : Registers → Type 0
+SelectedRuns g = (g.installation ≡ Idle) × (a : AppletNumber) × (g.active ≡ Applet a) × (g.selected ≡ Some a)
+
+-- an object with this header belongs to the owner for whom code runs; and if it is cleared as its applet is deselected, code of the selected
+-- applet runs
+pub record IsOwn (g : Registers) (f : Facts) : Type 0 where
+  pub number : f.owner ≡ owner_number g.active
+  pub owner : owner_of f.owner ≡ g.active
+  pub time : has_deselect_event f.event ≡ true → SelectedRuns g
 
 -- what the firewall sees of an object
 unfoldable pub subject_of : Packages → MemoryState → Facts → Subject

@@ -1,5 +1,5 @@
 //! Arrays of bytes as arguments, and their elements.
-ghost use Rattle.std.specs.Prelude.{◌≡◌, ◌≤◌, false, length, IfOk, pos};
+ghost use Rattle.std.specs.Prelude.{◌≡◌, false, length, IfOk, pos};
 ghost use Rattle.jc_memory.specs.Programs.{Executes};
 ghost use Rattle.jc_heap.specs.Completions.{after_change};
 ghost use Rattle.jc_memory.specs.Cells.{cells_store};
@@ -17,7 +17,7 @@ use jc_transient::Ref;
 use jc_words::WordStore;
 
 /// Elements of an array, from one on.
-#[derive(Clone, Copy, Debug, PartialEq, Eq)]
+#[derive(Clone, Copy, PartialEq, Eq)]
 pub struct Stretch {
     pub array: Ref,
     pub start: u16,

@@ -1,16 +1,16 @@
 //! Contexts: to whom objects belong, for whom code runs, and what the firewall answers.
-ghost use Rattle.std.specs.Prelude.{◌≡◌, false, true};
+ghost use Rattle.std.specs.Prelude.{◌≡◌, ◌↔◌, IsTrue, false, true};
 ghost use Rattle.jc_firewall.specs.Situation.{is_live_transient};
 ghost use Rattle.jc_firewall.specs.declared.access.Access.{Access};
 ghost use Rattle.jc_firewall.specs.declared.access.Access.TheVariants.{ArrayElement};
 ghost use Rattle.jc_firewall.specs.declared.decide.Decision.TheVariants.{Allow, Switch};
 ghost use Rattle.jc_firewall.specs.declared.subject.Context.TheVariants.{Jcre};
 ghost use Rattle.jc_world.specs.Objects.{is_instance};
-ghost use Rattle.jc_memory.specs.Owners.{owner_of};
+ghost use Rattle.jc_memory.specs.Owners.{owner_number, owner_of};
 ghost use Rattle.jc_memory.specs.State.{MemoryState};
 ghost use Rattle.jc_linker.specs.Values.{Packages};
 ghost use Rattle.jc_world.specs.Contexts.{firewall_check, context_of, firewall_decision, needs_shareable, designation_of, installed_package};
-ghost use Rattle.jc_world.specs.Contexts.{has_deselect_event, package_of_applet, selected_context, is_shareable_instance, situation_of, subject_of};
+ghost use Rattle.jc_world.specs.Contexts.{IsOwn, SelectedRuns, has_deselect_event, package_of_applet, selected_context, is_shareable_instance, situation_of, subject_of};
 
 use crate::objects::is_instance;
 use jc_firewall::access::Access;
@@ -164,7 +164,7 @@ pub fn subject_of<S: WordStore>(facts: Facts, memory: &Memory<S>, linked: &Linke
 // The word in a header names this owner.
 #[inline(always)]
 const fn is_owner(owner: Owner, word: OwnerWord) -> bool
-    ensures { result ≡ true → owner_of word ≡ owner }
+    ensures { IsTrue result ↔ ((word ≡ owner_number owner) × (owner_of word ≡ owner)) }
 {
     match owner {
         Owner::Runtime => word.0 == 0,
@@ -187,7 +187,8 @@ const fn is_runtime(owner: Owner) -> bool
 // Code of the selected applet runs.
 #[inline(always)]
 const fn is_selected(registers: Registers) -> bool
-    ensures { (m : MemoryState) → m.registers ≡ registers → result ≡ true
+    ensures both { IsTrue result ↔ SelectedRuns registers }
+    ensures context { (m : MemoryState) → m.registers ≡ registers → result ≡ true
         → selected_context m ≡ context_of m registers.active }
 {
     let Installation::Idle = registers.installation else {
@@ -203,7 +204,8 @@ const fn is_selected(registers: Registers) -> bool
 #[inline(always)]
 #[tactic(auto, using(crate::proofs::Free::same), unfolding(crate::specs::Contexts::situation_of, crate::specs::Contexts::subject_of))]
 const fn has_time(facts: Facts, registers: Registers) -> bool
-    ensures { (p : Packages) (m : MemoryState) → m.registers ≡ registers → result ≡ true
+    ensures both { IsTrue result ↔ (has_deselect_event facts.event ≡ true → SelectedRuns registers) }
+    ensures live { (p : Packages) (m : MemoryState) → m.registers ≡ registers → result ≡ true
         → is_live_transient (situation_of p m facts) ≡ true }
 {
     !has_deselect_event(facts.event) || is_selected(registers)
@@ -308,7 +310,8 @@ fn noted<S: WordStore>(
 #[inline(always)]
 #[tactic(auto, using(crate::proofs::Free::own_free))]
 pub fn is_own<S: WordStore>(facts: Facts, memory: &Memory<S>) -> bool
-    ensures { (access : Access) (p : Packages) → result ≡ true
+    ensures both { IsTrue result ↔ IsOwn memory.now.registers facts }
+    ensures free { (access : Access) (p : Packages) → result ≡ true
         → firewall_decision access p memory.now facts ≡ Allow }
 {
     let registers = memory.registers();

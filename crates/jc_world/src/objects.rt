@@ -1,7 +1,7 @@
 //! Objects behind references.
 ghost use Rattle.std.specs.Prelude.{◌≡◌, false, IfOk};
 ghost use Rattle.jc_heap.specs.Heap.{IsObject};
-ghost use Rattle.jc_memory.specs.Cells.{IsHeaderOf, header_at};
+ghost use Rattle.jc_memory.specs.Cells.{IsHeaderOf};
 ghost use Rattle.jc_world.specs.Objects.{object_at, is_instance, is_instance_of, storable_of};
 
 use crate::contexts::allow;

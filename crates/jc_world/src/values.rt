@@ -1,5 +1,5 @@
 //! Values of fields and of elements of arrays.
-ghost use Rattle.std.specs.Prelude.{◌≡◌, ◌<◌, ◌≤◌, false, length, OnOk, IfOk};
+ghost use Rattle.std.specs.Prelude.{◌≡◌, ◌<◌, false, length, IfOk};
 ghost use Rattle.jc_heap.specs.Heap.{IsObject, facts};
 ghost use Rattle.jc_frames.specs.Cells.{popped};
 ghost use Rattle.jc_frames.specs.Frames.{with_stack};

@@ -8,7 +8,8 @@ use Rattle.clap.specs.Simple.{App, Shape, built, entered, names_of}
 use Rattle.clap.specs.Faults.{check_fault, defaults_fault, entered_fault, settle_fault, turn_fault, walk_fault}
 use Rattle.clap.proofs.WalkLemmas.{walk_stopped}
 use Rattle.clap.proofs.FaultLemmas.{stopped_fault}
-use Rattle.jcard_arguments.specs.CommandLine.{CommandLineRequest, program_grammar, request_of, unless_faulty}
+use Rattle.jcard_arguments.specs.CommandLine.{CommandLineRequest, request_of, unless_faulty}
+use Rattle.jcard_arguments.specs.Grammar.{program_grammar}
 
 abbrev pub whole : App
 whole = built program_grammar

@@ -2,10 +2,10 @@ pub mod CommandLine
 pub mod CommandWalk
 pub mod Digits
 pub mod Dumps
-pub mod FlagWords
+pub mod EntryRules
+pub mod Hyphens
 pub mod OptionLines
-pub mod RunLines
-pub mod RunOptions
+pub mod PlainLines
 pub mod Runs
 pub mod TearLines
 pub mod TestLines

@@ -6,11 +6,12 @@ use Rattle.clap.specs.Walk.{Waiting, Walk, finished, idle, nothing_held, option,
 use Rattle.clap.specs.Simple.{Shape, built_leaf, inherited, marked_built, names_of, on_top, with_leaf_noted}
 use Rattle.clap.specs.Faults.{defaults_fault, turn_fault, walk_fault}
 use Rattle.clap.proofs.OnLiterals.{clap_on_literals}
-use Rattle.jcard_arguments.proofs.Runs.{no_hyphen}
+use Rattle.jcard_arguments.proofs.Hyphens.{no_hyphen}
 use Rattle.jcard_arguments.proofs.CommandWalk.{after_next, as_ended, causes_of, met, none_more, opened_by, request_after, whole}
-use Rattle.jcard_arguments.specs.CommandLine.{IsNoFlag, CommandLineRequest, TakesNews, TakesTries, ToMake, ToTry, new_grammar, new_of, program_grammar}
-use Rattle.jcard_arguments.specs.CommandLine.{JournalTableWords, JournalWordsTable, NewOrder, TableJournalWords, TableWordsJournal, WordsJournalTable}
-use Rattle.jcard_arguments.specs.CommandLine.{WordsTableJournal, in_order, request_of_words, try_grammar, try_of}
+use Rattle.jcard_arguments.specs.CommandLine.{CommandLineRequest, ToMake, ToTry, new_of, request_of_words, try_of}
+use Rattle.jcard_arguments.specs.Grammar.{new_grammar, program_grammar, try_grammar}
+use Rattle.jcard_arguments.specs.PlainLines.{IsNoFlag, JournalTableWords, JournalWordsTable, NewOrder, TableJournalWords, TableWordsJournal, TakesNews}
+use Rattle.jcard_arguments.specs.PlainLines.{TakesTries, WordsJournalTable, WordsTableJournal, in_order}
 
 data OptionCommand : Type 0 where
   NewCommand : OptionCommand
@@ -34,8 +35,13 @@ taken_by TryCommand rows = try_of rows
 
 -- what it asks for, with this operand, these words, this table and no other option
 abbrev request_by : OptionCommand → Text → Text → Text → CommandLineRequest
-request_by NewCommand operand words table = ToMake operand words (codes "256") table
-request_by TryCommand operand words table = ToTry operand words table
+request_by NewCommand operand words table = ToMake operand words (codes "256") (Some table)
+request_by TryCommand operand words table = ToTry operand words (Some table) None
+
+-- with this operand and no option
+abbrev alone_by : OptionCommand → Text → CommandLineRequest
+alone_by NewCommand operand = ToMake operand (codes "8192") (codes "256") None
+alone_by TryCommand operand = ToTry operand (codes "8192") None None
 
 -- the command, as the build leaves it
 abbrev shape_of : OptionCommand → Shape
@@ -159,11 +165,19 @@ words_last NewCommand operand words table = refl
 words_last TryCommand operand words table = refl
 
 table_alone : (script table : Text)
-    → after TryCommand (given (operand_read TryCommand script) (codes "table") table) [] ≡ Some (ToTry script (codes "8192") table)
+    → after TryCommand (given (operand_read TryCommand script) (codes "table") table) [] ≡ Some (ToTry script (codes "8192") (Some table) None)
 unfolding request_after clap_on_literals
 table_alone script table = refl
 
+operand_alone : (c : OptionCommand) (operand : Text) → after c (given [] (operand_of c) operand) [] ≡ Some (alone_by c operand)
+unfolding request_after clap_on_literals
+operand_alone NewCommand operand = refl
+operand_alone TryCommand operand = refl
+
 -- ---- the lines
+
+no_option : (c : OptionCommand) (name operand : Text) → IsNoFlag operand → request_of_words (name ∷ name_of c ∷ operand ∷ []) ≡ Some (alone_by c operand)
+no_option c name operand ho = opened c name (operand ∷ []) ∙ (step (at_operand c operand ho) [] ∙ operand_alone c operand)
 
 words_before_table : (c : OptionCommand) (name operand words table : Text) → IsNoFlag operand → IsNoFlag words → IsNoFlag table
     → request_of_words (name ∷ name_of c ∷ operand ∷ codes "--words" ∷ words ∷ codes "--table" ∷ table ∷ []) ≡ Some (request_by c operand words table)
@@ -282,7 +296,7 @@ at_value Journal rows (x ∷ xs) h = record { fault = simp (no_hyphen x xs h); w
 -- the last word
 order_last : (o : NewOrder) (image words table journal : Text) → after NewCommand
     (given (second_read o image (value_of words table journal (first o)) (value_of words table journal (second o))) (id_of (third o))
-    (value_of words table journal (third o))) [] ≡ Some (ToMake image words journal table)
+    (value_of words table journal (third o))) [] ≡ Some (ToMake image words journal (Some table))
 unfolding request_after clap_on_literals
 order_last WordsTableJournal image words table journal = refl
 order_last WordsJournalTable image words table journal = refl
@@ -308,7 +322,7 @@ no_flags Table words table journal hw ht hj = ht
 no_flags Journal words table journal hw ht hj = hj
 
 in_any_order : (name image words table journal : Text) → IsNoFlag image → IsNoFlag words → IsNoFlag table → IsNoFlag journal → (o : NewOrder)
-    → request_of_words (name ∷ codes "new" ∷ image ∷ in_order o words table journal) ≡ Some (ToMake image words journal table)
+    → request_of_words (name ∷ codes "new" ∷ image ∷ in_order o words table journal) ≡ Some (ToMake image words journal (Some table))
 in_any_order name image words table journal hi hw ht hj o =
     let value = value_of words table journal in
     let first_value = value (first o) in
@@ -329,6 +343,7 @@ in_any_order name image words table journal hi hw ht hj o =
 
 pub news : TakesNews
 news name image words table journal hi hw ht hj = (
+  no_option NewCommand name image hi,
   words_before_table NewCommand name image words table hi hw ht,
   table_before_words NewCommand name image words table hi hw ht,
   in_any_order name image words table journal hi hw ht hj,
@@ -336,6 +351,7 @@ news name image words table journal hi hw ht hj = (
 
 pub tries : TakesTries
 tries name script words table hs hw ht = (
+  no_option TryCommand name script hs,
   opened TryCommand name (script ∷ codes "--table" ∷ table ∷ [])
       ∙ (step (at_operand TryCommand script hs) (codes "--table" ∷ table ∷ [])
       ∙ (step (table_first TryCommand script) (table ∷ [])

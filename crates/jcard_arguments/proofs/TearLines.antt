@@ -1,15 +1,19 @@
--- Plain lines of the command `tear`, which takes two operands, the options `--probe`, `--line`, `--recovery` and `--part`, and the flags `--each` and `--objects`.
-use Rattle.std.proofs.Common.{◌≡◌, ◌∙◌, ℕ, false, true, List, [], ◌∷◌, Option, Some, None, ap, refl, codes}
-use Rattle.std.specs.Prelude.{fold}
+-- Plain lines of the command `tear`: an image, a script and options, or files to join.
+use Rattle.std.proofs.Common.{◌≡◌, ◌∙◌, false, true, List, [], ◌∷◌, ◌++◌, Option, Some, None, ap, refl, codes, append_assoc}
+use Rattle.std.specs.Prelude.{All, fold, option_map}
+use Rattle.std.proofs.lemmas.List.Elements.{All-head, All-tail}
 use Rattle.clap.specs.Words.{Row, Text}
-use Rattle.clap.specs.Walk.{Waiting, Walk, finished, idle, nothing_held, option, settled, walk_from, walked}
+use Rattle.clap.specs.Walk.{Waiting, Walk, finished, idle, nothing_held, option, positional, reading_by, settled, walk_from, walked}
 use Rattle.clap.specs.Simple.{Shape, built_leaf, inherited, marked_built, names_of, on_top, with_leaf_noted}
 use Rattle.clap.specs.Faults.{defaults_fault, turn_fault, walk_fault}
+use Rattle.clap.specs.declared.parser.matches.ValueSource.TheVariants.{CommandLine}
 use Rattle.clap.proofs.OnLiterals.{clap_on_literals}
-use Rattle.jcard_arguments.proofs.Runs.{no_hyphen}
+use Rattle.jcard_arguments.proofs.Hyphens.{no_hyphen}
 use Rattle.jcard_arguments.proofs.CommandWalk.{after_next, as_ended, causes_of, met, none_more, opened_by, request_after, whole}
-use Rattle.jcard_outcomes.specs.declared.recoveries.Depth.TheVariants.{Zero}
-use Rattle.jcard_arguments.specs.CommandLine.{IsNoFlag, CommandLineRequest, TakesTears, ToTear, depth_of, program_grammar, request_of_words, tear_by, tear_grammar, tear_of}
+use Rattle.jcard_outcomes.specs.declared.recoveries.Depth.{Depth}
+use Rattle.jcard_arguments.specs.CommandLine.{CommandLineRequest, ToJoin, ToTear, depth_of, request_of_words, tear_by, tear_of, tear_with}
+use Rattle.jcard_arguments.specs.Grammar.{operands, program_grammar, tear_grammar}
+use Rattle.jcard_arguments.specs.PlainLines.{IsNoFlag, TakesJoins, TakesTears, plain_tear}
 
 -- the command, as the build leaves it
 abbrev shape : Shape
@@ -36,35 +40,49 @@ opened name words = opened_by shape tear_of (codes "tear") (request_of_words (na
 
 -- ---- the words
 
--- with these values of an argument that is being read, before the operand at this position
-abbrev reading : ℕ → List Row → Text → List Text → Waiting → Walk
-reading position rows id values waiting = record {
-  held = record { rows = rows; pending = Some (id, values); skip = 0 };
+-- the row of these files
+abbrev rows : List Text → List Row
+rows [] = []
+rows (file ∷ files) = record {
+  id = codes "file";
+  values = file ∷ files;
+  count = None;
+  source = Some CommandLine;
+  reading = reading_by (operands (codes "file"));
+} ∷ []
+
+-- with these values of an argument that is being read
+abbrev reading : List Row → Text → List Text → Waiting → Walk
+reading rs id values waiting = record {
+  held = record { rows = rs; pending = Some (id, values); skip = 0 };
   waiting = waiting;
-  position = position;
+  position = 1;
   is_trailing = false;
   stopped = None;
 }
 
--- the rows after an argument was read
-abbrev read : List Row → Text → Text → List Row
-read rows id value = (settled shape.rules (record { rows = rows; pending = Some (id, value ∷ []); skip = 0 })).rows
-
--- those after both operands
-abbrev operands_read : Text → Text → List Row
-operands_read image script = read (read [] (codes "image") image) (codes "script") script
-
--- after the name of an option
-abbrev named : List Row → Text → Walk
-named rows id = reading 3 rows id [] (option id)
-
--- after a value
-abbrev given : List Row → Text → Text → Walk
-given rows id value = reading 3 rows id (value ∷ []) idle
+-- after these files and one more
+abbrev at_file : List Text → Text → Walk
+at_file files last = reading (rows files) (codes "file") (last ∷ []) positional
 
 -- after both operands
 abbrev at_options : Text → Text → Walk
-at_options image script = given (read [] (codes "image") image) (codes "script") script
+at_options image script = at_file (image ∷ []) script
+
+abbrev operands_read : Text → Text → List Row
+operands_read image script = rows (image ∷ script ∷ [])
+
+-- the rows after an option was read
+abbrev read : List Row → Text → Text → List Row
+read rs id value = (settled shape.rules (record { rows = rs; pending = Some (id, value ∷ []); skip = 0 })).rows
+
+-- after the name of an option
+abbrev named : List Row → Text → Walk
+named rs id = reading rs id [] (option id)
+
+-- after a value
+abbrev given : List Row → Text → Text → Walk
+given rs id value = reading rs id (value ∷ []) idle
 
 -- a word is no fault, and the walk then stands there
 record Goes (w : Walk) (word : Text) (next : Walk) : Type 0 where
@@ -74,25 +92,27 @@ record Goes (w : Walk) (word : Text) (next : Walk) : Type 0 where
 step : {w next : Walk} {word : Text} → Goes w word next → (words : List Text) → after w (word ∷ words) ≡ after next words
 step {w = w} {next = next} {word = word} goes words = after_next shape tear_of w next word words goes.fault goes.walk
 
-at_image : (image : Text) → IsNoFlag image → Goes (walk_from nothing_held) image (reading 2 [] (codes "image") (image ∷ []) idle)
+first_file : (file : Text) → IsNoFlag file → Goes (walk_from nothing_held) file (at_file [] file)
 unfolding clap_on_literals
-at_image [] h = record { fault = refl; walk = refl }
-at_image (x ∷ xs) h = record { fault = simp (no_hyphen x xs h); walk = simp (no_hyphen x xs h) }
+first_file [] h = record { fault = refl; walk = refl }
+first_file (x ∷ xs) h = record { fault = simp (no_hyphen x xs h); walk = simp (no_hyphen x xs h) }
 
-at_script : (image script : Text) → IsNoFlag script → Goes (reading 2 [] (codes "image") (image ∷ []) idle) script (at_options image script)
+next_file : (files : List Text) (last file : Text) → IsNoFlag file → Goes (at_file files last) file (at_file (files ++ last ∷ []) file)
 unfolding clap_on_literals
-at_script image [] h = record { fault = refl; walk = refl }
-at_script image (x ∷ xs) h = record { fault = simp (no_hyphen x xs h); walk = simp (no_hyphen x xs h) }
+next_file [] last [] h = record { fault = refl; walk = refl }
+next_file [] last (x ∷ xs) h = record { fault = simp (no_hyphen x xs h); walk = simp (no_hyphen x xs h) }
+next_file (f ∷ fs) last [] h = record { fault = refl; walk = refl }
+next_file (f ∷ fs) last (x ∷ xs) h = record { fault = simp (no_hyphen x xs h); walk = simp (no_hyphen x xs h) }
 
-at_probe : (rows : List Row) (value : Text) → IsNoFlag value → Goes (named rows (codes "probe")) value (given rows (codes "probe") value)
+at_probe : (rs : List Row) (value : Text) → IsNoFlag value → Goes (named rs (codes "probe")) value (given rs (codes "probe") value)
 unfolding clap_on_literals
-at_probe rows [] h = record { fault = refl; walk = refl }
-at_probe rows (x ∷ xs) h = record { fault = simp (no_hyphen x xs h); walk = simp (no_hyphen x xs h) }
+at_probe rs [] h = record { fault = refl; walk = refl }
+at_probe rs (x ∷ xs) h = record { fault = simp (no_hyphen x xs h); walk = simp (no_hyphen x xs h) }
 
-at_line : (rows : List Row) (value : Text) → IsNoFlag value → Goes (named rows (codes "line")) value (given rows (codes "line") value)
+at_line : (rs : List Row) (value : Text) → IsNoFlag value → Goes (named rs (codes "line")) value (given rs (codes "line") value)
 unfolding clap_on_literals
-at_line rows [] h = record { fault = refl; walk = refl }
-at_line rows (x ∷ xs) h = record { fault = simp (no_hyphen x xs h); walk = simp (no_hyphen x xs h) }
+at_line rs [] h = record { fault = refl; walk = refl }
+at_line rs (x ∷ xs) h = record { fault = simp (no_hyphen x xs h); walk = simp (no_hyphen x xs h) }
 
 -- the name of an option after the operands, and after the other option
 probe_first : (image script : Text) → Goes (at_options image script) (codes "--probe") (named (operands_read image script) (codes "probe"))
@@ -109,21 +129,21 @@ unfolding clap_on_literals
 line_second image script probe = record { fault = refl; walk = refl }
 
 -- the last word
-operands_last : (image script : Text) → after (at_options image script) [] ≡ Some (ToTear image script None None false Zero false None)
+operands_last : (image script : Text) → after (at_options image script) [] ≡ Some (ToTear image script plain_tear)
 unfolding request_after clap_on_literals
 operands_last image script = refl
 
 probe_last : (image script probe : Text)
-    → after (given (operands_read image script) (codes "probe") probe) [] ≡ Some (ToTear image script (Some probe) None false Zero false None)
+    → after (given (operands_read image script) (codes "probe") probe) [] ≡ Some (ToTear image script (record plain_tear { probe = Some probe }))
 unfolding request_after clap_on_literals
 probe_last image script probe = refl
 
-line_last : (image script line : Text) → after (given (operands_read image script) (codes "line") line) [] ≡ Some (ToTear image script None (Some line) false Zero false None)
+line_last : (image script line : Text) → after (given (operands_read image script) (codes "line") line) [] ≡ Some (ToTear image script (record plain_tear { line = Some line }))
 unfolding request_after clap_on_literals
 line_last image script line = refl
 
 both_last : (image script probe line : Text) → after (given (read (operands_read image script) (codes "probe") probe) (codes "line") line) []
-    ≡ Some (ToTear image script (Some probe) (Some line) false Zero false None)
+    ≡ Some (ToTear image script (record plain_tear { probe = Some probe; line = Some line }))
 unfolding request_after clap_on_literals
 both_last image script probe line = refl
 
@@ -132,15 +152,24 @@ recovery_first : (image script : Text) → Goes (at_options image script) (codes
 unfolding clap_on_literals
 recovery_first image script = record { fault = refl; walk = refl }
 
-at_recovery : (rows : List Row) (value : Text) → IsNoFlag value → Goes (named rows (codes "recovery")) value (given rows (codes "recovery") value)
+at_recovery : (rs : List Row) (value : Text) → IsNoFlag value → Goes (named rs (codes "recovery")) value (given rs (codes "recovery") value)
 unfolding clap_on_literals
-at_recovery rows [] h = record { fault = refl; walk = refl }
-at_recovery rows (x ∷ xs) h = record { fault = simp (no_hyphen x xs h); walk = simp (no_hyphen x xs h) }
+at_recovery rs [] h = record { fault = refl; walk = refl }
+at_recovery rs (x ∷ xs) h = record { fault = simp (no_hyphen x xs h); walk = simp (no_hyphen x xs h) }
+
+-- what is asked for with this number of recoveries
+abbrev by_depth : Text → Text → Option Depth → Option CommandLineRequest
+by_depth image script depth = option_map (λ d. ToTear image script (record plain_tear { depth = d })) depth
+
+recovered : (image script : Text) (depth : Option Depth)
+    → tear_by (Some (image, script)) (tear_with false false None None depth None (Some None)) ≡ by_depth image script depth
+recovered image script None = refl
+recovered image script (Some depth) = refl
 
 recovery_last : (image script recovery : Text) → after (given (operands_read image script) (codes "recovery") recovery) []
-    ≡ tear_by (Some image) (Some script) None None false (depth_of (Some recovery)) false None
+    ≡ by_depth image script (depth_of (Some recovery))
 unfolding request_after clap_on_literals
-recovery_last image script recovery = refl
+recovery_last image script recovery = recovered image script (depth_of (Some recovery))
 
 -- the flag, after the operands, and after the probe
 with_each : Walk → Walk
@@ -155,27 +184,27 @@ each_second : (image script probe : Text) → Goes (given (operands_read image s
 unfolding clap_on_literals with_each
 each_second image script probe = record { fault = refl; walk = refl }
 
-each_last : (image script : Text) → after (with_each (at_options image script)) [] ≡ Some (ToTear image script None None true Zero false None)
+each_last : (image script : Text) → after (with_each (at_options image script)) [] ≡ Some (ToTear image script (record plain_tear { each = true }))
 unfolding request_after clap_on_literals with_each
 each_last image script = refl
 
 each_behind_probe : (image script probe : Text)
-    → after (with_each (given (operands_read image script) (codes "probe") probe)) [] ≡ Some (ToTear image script (Some probe) None true Zero false None)
+    → after (with_each (given (operands_read image script) (codes "probe") probe)) [] ≡ Some (ToTear image script (record plain_tear { probe = Some probe; each = true }))
 unfolding request_after clap_on_literals with_each
 each_behind_probe image script probe = refl
 
 -- a part, after the operands
-at_part : (rows : List Row) (value : Text) → IsNoFlag value → Goes (named rows (codes "part")) value (given rows (codes "part") value)
+at_part : (rs : List Row) (value : Text) → IsNoFlag value → Goes (named rs (codes "part")) value (given rs (codes "part") value)
 unfolding clap_on_literals
-at_part rows [] h = record { fault = refl; walk = refl }
-at_part rows (x ∷ xs) h = record { fault = simp (no_hyphen x xs h); walk = simp (no_hyphen x xs h) }
+at_part rs [] h = record { fault = refl; walk = refl }
+at_part rs (x ∷ xs) h = record { fault = simp (no_hyphen x xs h); walk = simp (no_hyphen x xs h) }
 
 part_first : (image script : Text) → Goes (at_options image script) (codes "--part") (named (operands_read image script) (codes "part"))
 unfolding clap_on_literals
 part_first image script = record { fault = refl; walk = refl }
 
 part_last : (image script part : Text)
-    → after (given (operands_read image script) (codes "part") part) [] ≡ Some (ToTear image script None None false Zero false (Some part))
+    → after (given (operands_read image script) (codes "part") part) [] ≡ Some (ToTear image script (record plain_tear { part = Some part }))
 unfolding request_after clap_on_literals
 part_last image script part = refl
 
@@ -192,12 +221,12 @@ objects_second : (image script probe : Text) → Goes (given (operands_read imag
 unfolding clap_on_literals with_objects
 objects_second image script probe = record { fault = refl; walk = refl }
 
-objects_last : (image script : Text) → after (with_objects (at_options image script)) [] ≡ Some (ToTear image script None None false Zero true None)
+objects_last : (image script : Text) → after (with_objects (at_options image script)) [] ≡ Some (ToTear image script (record plain_tear { objects = true }))
 unfolding request_after clap_on_literals with_objects
 objects_last image script = refl
 
 objects_behind_probe : (image script probe : Text) → after (with_objects (given (operands_read image script) (codes "probe") probe)) []
-    ≡ Some (ToTear image script (Some probe) None false Zero true None)
+    ≡ Some (ToTear image script (record plain_tear { probe = Some probe; objects = true }))
 unfolding request_after clap_on_literals with_objects
 objects_behind_probe image script probe = refl
 
@@ -206,7 +235,7 @@ objects_behind_probe image script probe = refl
 at_operands : (name image script : Text) (words : List Text) → IsNoFlag image → IsNoFlag script
     → request_of_words (name ∷ codes "tear" ∷ image ∷ script ∷ words) ≡ after (at_options image script) words
 at_operands name image script words hi hs = opened name (image ∷ script ∷ words)
-    ∙ (step (at_image image hi) (script ∷ words) ∙ step (at_script image script hs) words)
+    ∙ (step (first_file image hi) (script ∷ words) ∙ step (next_file [] image script hs) words)
 
 pub tears : TakesTears
 tears name image script probe line recovery hi hs hp hl hr = (
@@ -237,7 +266,7 @@ tears name image script probe line recovery hi hs hp hl hr = (
       ∙ (step (recovery_first image script) (recovery ∷ [])
       ∙ (step (at_recovery (operands_read image script) recovery hr) []
       ∙ (recovery_last image script recovery
-      ∙ ap (λ d. tear_by (Some image) (Some script) None None false d false None) is))),
+      ∙ ap (by_depth image script) is))),
   at_operands name image script (codes "--part" ∷ line ∷ []) hi hs
       ∙ (step (part_first image script) (line ∷ [])
       ∙ (step (at_part (operands_read image script) line hl) []
@@ -250,4 +279,65 @@ tears name image script probe line recovery hi hs hp hl hr = (
       ∙ (step (at_probe (operands_read image script) probe hp) (codes "--objects" ∷ [])
       ∙ (step (objects_second image script probe) []
       ∙ objects_behind_probe image script probe))),
+)
+
+-- ---- files to join
+
+-- the flag
+with_join : Walk → Walk
+with_join w = walked shape.rules [] w (codes "--join")
+
+-- after it, these files and one more
+joined_file : List Text → Text → Walk
+joined_file files last = reading ((with_join (walk_from nothing_held)).held.rows ++ rows files) (codes "file") (last ∷ []) positional
+
+join_first : Goes (walk_from nothing_held) (codes "--join") (with_join (walk_from nothing_held))
+unfolding clap_on_literals with_join
+join_first = record { fault = refl; walk = refl }
+
+first_joined : (file : Text) → IsNoFlag file → Goes (with_join (walk_from nothing_held)) file (joined_file [] file)
+unfolding clap_on_literals with_join joined_file
+first_joined [] h = record { fault = refl; walk = refl }
+first_joined (x ∷ xs) h = record { fault = simp (no_hyphen x xs h); walk = simp (no_hyphen x xs h) }
+
+next_joined : (files : List Text) (last file : Text) → IsNoFlag file → Goes (joined_file files last) file (joined_file (files ++ last ∷ []) file)
+unfolding clap_on_literals with_join joined_file
+next_joined [] last [] h = record { fault = refl; walk = refl }
+next_joined [] last (x ∷ xs) h = record { fault = simp (no_hyphen x xs h); walk = simp (no_hyphen x xs h) }
+next_joined (f ∷ fs) last [] h = record { fault = refl; walk = refl }
+next_joined (f ∷ fs) last (x ∷ xs) h = record { fault = simp (no_hyphen x xs h); walk = simp (no_hyphen x xs h) }
+
+last_joined : (files : List Text) (last : Text) → after (joined_file files last) [] ≡ Some (ToJoin (files ++ last ∷ []))
+unfolding request_after clap_on_literals with_join joined_file
+last_joined [] last = refl
+last_joined (f ∷ fs) last = refl
+
+join_last : (files : List Text) (last : Text) → Goes (at_file files last) (codes "--join") (with_join (at_file files last))
+unfolding clap_on_literals with_join
+join_last [] last = record { fault = refl; walk = refl }
+join_last (f ∷ fs) last = record { fault = refl; walk = refl }
+
+join_behind : (files : List Text) (last : Text) → after (with_join (at_file files last)) [] ≡ Some (ToJoin (files ++ last ∷ []))
+unfolding request_after clap_on_literals with_join
+join_behind [] last = refl
+join_behind (f ∷ fs) last = refl
+
+-- more files
+more_joined : (files : List Text) (last : Text) (more : List Text) → All IsNoFlag more → after (joined_file files last) more ≡ Some (ToJoin (files ++ last ∷ more))
+more_joined files last [] all = last_joined files last
+more_joined files last (f ∷ fs) all = step (next_joined files last f (All-head IsNoFlag f fs all)) fs
+    ∙ (more_joined (files ++ last ∷ []) f fs (All-tail IsNoFlag f fs all)
+    ∙ ap (λ (l : List Text). Some (ToJoin l)) (append_assoc files (last ∷ []) (f ∷ fs)))
+
+more_before : (files : List Text) (last : Text) (more : List Text) → All IsNoFlag more
+    → after (at_file files last) (more ++ codes "--join" ∷ []) ≡ Some (ToJoin (files ++ last ∷ more))
+more_before files last [] all = step (join_last files last) [] ∙ join_behind files last
+more_before files last (f ∷ fs) all = step (next_file files last f (All-head IsNoFlag f fs all)) (fs ++ codes "--join" ∷ [])
+    ∙ (more_before (files ++ last ∷ []) f fs (All-tail IsNoFlag f fs all)
+    ∙ ap (λ (l : List Text). Some (ToJoin l)) (append_assoc files (last ∷ []) (f ∷ fs)))
+
+pub joins : TakesJoins
+joins name file files hf all = (
+  opened name (codes "--join" ∷ file ∷ files) ∙ (step join_first (file ∷ files) ∙ (step (first_joined file hf) files ∙ more_joined [] file files all)),
+  opened name (file ∷ (files ++ codes "--join" ∷ [])) ∙ (step (first_file file hf) (files ++ codes "--join" ∷ []) ∙ more_before [] file files all),
 )

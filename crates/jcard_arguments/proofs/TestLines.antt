@@ -8,9 +8,11 @@ use Rattle.clap.specs.Simple.{Shape, built_leaf, inherited, marked_built, names_
 use Rattle.clap.specs.Faults.{defaults_fault, turn_fault, walk_fault}
 use Rattle.clap.specs.declared.parser.matches.ValueSource.TheVariants.{CommandLine}
 use Rattle.clap.proofs.OnLiterals.{clap_on_literals}
-use Rattle.jcard_arguments.proofs.Runs.{no_hyphen}
+use Rattle.jcard_arguments.proofs.Hyphens.{no_hyphen}
 use Rattle.jcard_arguments.proofs.CommandWalk.{after_next, as_ended, causes_of, met, none_more, opened_by, request_after, whole}
-use Rattle.jcard_arguments.specs.CommandLine.{IsNoFlag, CommandLineRequest, TakesTests, ToTest, operands_rule, program_grammar, request_of_words, test_grammar, test_of}
+use Rattle.jcard_arguments.specs.CommandLine.{CommandLineRequest, ToTest, request_of_words, test_of}
+use Rattle.jcard_arguments.specs.Grammar.{operands, program_grammar, test_grammar}
+use Rattle.jcard_arguments.specs.PlainLines.{IsNoFlag, TakesTests, plain_test}
 
 -- the command, as the build leaves it
 abbrev shape : Shape
@@ -45,7 +47,7 @@ rows (file ∷ files) = record {
   values = file ∷ files;
   count = None;
   source = Some CommandLine;
-  reading = reading_by (operands_rule (codes "file"));
+  reading = reading_by (operands (codes "file"));
 } ∷ []
 
 -- with this value of an argument that is being read, behind these files
@@ -100,12 +102,12 @@ junit_given file files [] h = record { fault = refl; walk = refl }
 junit_given file files (x ∷ xs) h = record { fault = simp (no_hyphen x xs h); walk = simp (no_hyphen x xs h) }
 
 -- the last word
-last_file : (files : List Text) (last : Text) → after (at_file files last) [] ≡ Some (ToTest (files ++ last ∷ []) None)
+last_file : (files : List Text) (last : Text) → after (at_file files last) [] ≡ Some (ToTest (files ++ last ∷ []) plain_test)
 unfolding request_after clap_on_literals
 last_file [] last = refl
 last_file (f ∷ fs) last = refl
 
-last_junit : (file : Text) (files : List Text) (junit : Text) → after (behind_junit (file ∷ files) junit) [] ≡ Some (ToTest (file ∷ files) (Some junit))
+last_junit : (file : Text) (files : List Text) (junit : Text) → after (behind_junit (file ∷ files) junit) [] ≡ Some (ToTest (file ∷ files) (record plain_test { junit = Some junit }))
 unfolding request_after clap_on_literals
 last_junit file files junit = refl
 
@@ -113,25 +115,25 @@ last_junit file files junit = refl
 
 -- the report behind these files
 junit_behind : (files : List Text) (last junit : Text) → IsNoFlag junit
-    → after (at_file files last) (codes "--junit" ∷ junit ∷ []) ≡ Some (ToTest (files ++ last ∷ []) (Some junit))
+    → after (at_file files last) (codes "--junit" ∷ junit ∷ []) ≡ Some (ToTest (files ++ last ∷ []) (record plain_test { junit = Some junit }))
 junit_behind [] last junit h = step (junit_named [] last) (junit ∷ []) ∙ (step (junit_given last [] junit h) [] ∙ last_junit last [] junit)
 junit_behind (f ∷ fs) last junit h = step (junit_named (f ∷ fs) last) (junit ∷ [])
     ∙ (step (junit_given f (fs ++ last ∷ []) junit h) [] ∙ last_junit f (fs ++ last ∷ []) junit)
 
 -- more files
 files_more : (files : List Text) (last : Text) (more : List Text) → All IsNoFlag more
-    → after (at_file files last) more ≡ Some (ToTest (files ++ last ∷ more) None)
+    → after (at_file files last) more ≡ Some (ToTest (files ++ last ∷ more) plain_test)
 files_more files last [] all = last_file files last
 files_more files last (f ∷ fs) all = step (next_file files last f (All-head IsNoFlag f fs all)) fs
     ∙ (files_more (files ++ last ∷ []) f fs (All-tail IsNoFlag f fs all)
-    ∙ ap (λ (l : List Text). Some (ToTest l None)) (append_assoc files (last ∷ []) (f ∷ fs)))
+    ∙ ap (λ (l : List Text). Some (ToTest l plain_test)) (append_assoc files (last ∷ []) (f ∷ fs)))
 
 files_and_junit : (files : List Text) (last : Text) (more : List Text) (junit : Text) → All IsNoFlag more → IsNoFlag junit
-    → after (at_file files last) (more ++ codes "--junit" ∷ junit ∷ []) ≡ Some (ToTest (files ++ last ∷ more) (Some junit))
+    → after (at_file files last) (more ++ codes "--junit" ∷ junit ∷ []) ≡ Some (ToTest (files ++ last ∷ more) (record plain_test { junit = Some junit }))
 files_and_junit files last [] junit all h = junit_behind files last junit h
 files_and_junit files last (f ∷ fs) junit all h = step (next_file files last f (All-head IsNoFlag f fs all)) (fs ++ codes "--junit" ∷ junit ∷ [])
     ∙ (files_and_junit (files ++ last ∷ []) f fs junit (All-tail IsNoFlag f fs all) h
-    ∙ ap (λ (l : List Text). Some (ToTest l (Some junit))) (append_assoc files (last ∷ []) (f ∷ fs)))
+    ∙ ap (λ (l : List Text). Some (ToTest l (record plain_test { junit = Some junit }))) (append_assoc files (last ∷ []) (f ∷ fs)))
 
 pub tests : TakesTests
 tests name file junit files hf all hj = (

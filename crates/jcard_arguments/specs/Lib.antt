@@ -1,3 +1,4 @@
 pub mod CommandLine
-pub mod JoinLines
-pub mod RunLines
+pub mod Grammar
+pub mod Numbers
+pub mod PlainLines

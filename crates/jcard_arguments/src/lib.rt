@@ -1,7 +1,9 @@
-//! What the words of a command line are taken for.
+//! What the words of a command line ask for, by one grammar.
 #![tactic(auto)]
 
+mod actions;
 pub mod arguments;
-pub mod join_line;
+mod grammar;
 mod numbers;
-pub mod run_options;
+pub mod options;
+mod values;

@@ -1,21 +1,23 @@
 -- How the program ends where nothing was done.
-use Rattle.std.proofs.Common.{◌≡◌, ℕ, Bool, List, [], ◌++◌, Option, Result, Err, refl, sym, subst, ap, ◌∙◌, inl, inr}
+use Rattle.std.proofs.Common.{◌≡◌, ℕ, Bool, List, [], ◌++◌, Option, Result, Err, refl, sym, ap, ◌∙◌, inl, inr}
 use Rattle.std.specs.Io.KnownBytes.{Appends}
 use Rattle.jc_words.specs.Count.{failures_after}
 use Rattle.jcard_files.specs.FileDeeds.{FileDeed}
-use Rattle.jcard_arguments.specs.CommandLine.{CommandLineRequest, IsTakenAs, request_of_words}
 use Rattle.jcard_faults.specs.Faults.{failures_of, is_unwritten, status_of, IsLastLine}
-use Rattle.jcard_commands.specs.Commands.{IsDone, IsDoneOrNoMemory, IsPerformed, IsStarted, IsUnbegun}
+use Rattle.jcard_arguments.specs.CommandLine.{IsTakenAs}
+use Rattle.jcard_arguments.specs.declared.arguments.NoAction.{NoAction}
+use Rattle.jcard_arguments.specs.declared.arguments.NoAction.TheVariants.{Help, Refused, Misused, NoMemory as NoRoom}
+use Rattle.jcard_commands.specs.Commands.{IsAnswered, IsPerformed, IsStarted, IsUnbegun}
 use Rattle.jcard_faults.specs.declared.fault.Fault.{Fault}
 use Rattle.jcard_faults.specs.declared.fault.Fault.TheVariants.{BadCommandLine, NoMemory, CannotRead}
 
--- words that are taken for nothing, or memory that was refused
-pub nothing_done : (budget : ℕ) (words : List (List ℕ)) (fault : Fault) → IsTakenAs (request_of_words words) (Err fault)
-    → IsDoneOrNoMemory budget words (Err fault) [] []
-nothing_done budget words BadCommandLine h = inr (subst (λ (o : Option CommandLineRequest). IsDone budget o (Err BadCommandLine) [] []) (sym h)
-    (refl, refl, refl))
-nothing_done budget words NoMemory h = inl (refl, refl, refl)
-nothing_done budget words other h = absurd h
+-- words that ask for no action
+pub nothing_done : (words : List (List ℕ)) (why : NoAction) (ended : Result (Unit {0}) Fault) (text : List ℕ) → IsTakenAs words (Err why)
+    → IsAnswered why ended text → IsPerformed words ended text []
+nothing_done words (Help help) ended text taken answered = inr (inl (taken, answered, refl))
+nothing_done words (Refused told) ended text taken answered = inr (inr (inl (taken, (answered.0, answered.1, refl))))
+nothing_done words (Misused told) ended text taken answered = inr (inr (inl (taken, (answered.0, answered.1, refl))))
+nothing_done words NoRoom ended text taken answered = inl (answered.0, answered.1, refl)
 
 -- where nothing was begun, nothing was written that failed
 begun_unwritten : (count : ℕ) (ended : Result (Unit {0}) Fault) → IsUnbegun ended → failures_after count (is_unwritten ended) ≡ count

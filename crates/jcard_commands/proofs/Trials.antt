@@ -6,8 +6,8 @@ use Rattle.jcard_faults.specs.declared.fault.Fault.{Fault}
 use Rattle.jcard_faults.specs.declared.fault.Fault.TheVariants.{ImageTooSmall, NoMemory}
 
 -- a script that was not tried, since there is no new image in memory
-pub not_tried : (script : List ℕ) (n : ℕ) (table : List ℕ) (fault : Fault) (known : Option (List ℕ)) → IsNewImageInMemory n table (Err fault)
-    → IsTriedOn script n table (Err fault) [] (Ok known)
-not_tried script n table NoMemory known h = inr (known, known, refl, inl (refl, refl))
-not_tried script n table ImageTooSmall known h = inr (known, known, refl, inr (inl (refl, h, refl)))
-not_tried script n table other known h = absurd h
+pub not_tried : (budget : ℕ) (script : List ℕ) (n : ℕ) (table : List ℕ) (fault : Fault) (known : Option (List ℕ)) → IsNewImageInMemory n table (Err fault)
+    → IsTriedOn budget script n table (Err fault) [] (Ok known)
+not_tried budget script n table NoMemory known h = inr (known, known, refl, inl (refl, refl))
+not_tried budget script n table ImageTooSmall known h = inr (known, known, refl, inr (inl (refl, h, refl)))
+not_tried budget script n table other known h = absurd h

@@ -1,4 +1,4 @@
 pub mod Commands
+pub mod RunOptions
 pub mod Runs
-pub mod ToldRuns
 pub mod Trials

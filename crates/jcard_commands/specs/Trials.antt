@@ -1,38 +1,36 @@
 -- `jcard try`: what is read, what is done with it, and what is told.
-use Rattle.std.specs.Prelude.{ℕ, ◌≡◌, ◌⊎◌, ◌+◌, ◌<◌, List, [], length, codes, Result, Ok, Err, Option}
-use Rattle.std.specs.Prelude.{◌∷◌}
+use Rattle.std.specs.Prelude.{ℕ, ◌≡◌, ◌⊎◌, ◌+◌, ◌<◌, List, [], ◌∷◌, ◌++◌, length, codes, Result, Ok, Err, Option}
+use Rattle.jc_words.specs.Image.{heap_end}
 use Rattle.jc_words.specs.Stores.{FuseStoreValue}
-use Rattle.jc_card.specs.Dispatching.{usual_budget}
 use Rattle.jc_image.specs.Laying.{first_free}
 use Rattle.jc_platform.specs.Table.{Reads}
 use Rattle.jc_platform.specs.declared.fault.TableFault.TheVariants.{BadTable as BadLine}
 use Rattle.jc_card.specs.Fixed.{fixed_size}
 use Rattle.jcard_files.specs.FileDeeds.{FileDeed, ReadsText, fresh_store}
 use Rattle.jcard_files.specs.Images.{IsUnopened}
-use Rattle.jcard_images.specs.NewImages.{IsNewImage, IsTable, IsWordCount}
-use Rattle.jcard_files.specs.Readings.{IsTextOf, IsUnread}
+use Rattle.jcard_images.specs.NewImages.{IsNewImage, IsTable, IsWordCount, usual_capacity}
+use Rattle.jcard_images.specs.UsualTables.{IsNoPlatform, IsPlatform}
 use Rattle.jcard_faults.specs.declared.fault.Fault.{Fault}
 use Rattle.jcard_faults.specs.declared.fault.Fault.TheVariants.{NoMemory, BadWords, BadTable, ImageTooSmall}
 use Rattle.jcard_commands.specs.Runs.{IsCarriedOut}
 
--- the script in the file of this name was tried on a new card of n words with the platform table of this text, of whose bytes so much
--- was known, if it was opened: it was not, or memory was refused; or the table and the objects of the runtime environment do not fit,
--- and nothing was written; or it was carried out to this end over the words of a new image, and this text was written
-abbrev pub IsTriedOn : List ℕ → ℕ → List ℕ → Result Unit Fault → List ℕ → Result (Option (List ℕ)) Fault → Type 0
-IsTriedOn script n table ended text opened = ((fault : Fault) × (ended ≡ Err fault) × IsUnopened script fault × (text ≡ []) × (opened ≡ Err fault))
+-- the script in the file of this name was tried, with this budget, on a new card of n words with the platform table of this text, of whose
+-- bytes so much was known, if it was opened: it was not, or memory was refused; or the table and the objects of the runtime environment do
+-- not fit, and nothing was written; or it was carried out to this end over the words of a new image, and this text was written
+abbrev pub IsTriedOn : ℕ → List ℕ → ℕ → List ℕ → Result Unit Fault → List ℕ → Result (Option (List ℕ)) Fault → Type 0
+IsTriedOn budget script n table ended text opened = ((fault : Fault) × (ended ≡ Err fault) × IsUnopened script fault × (text ≡ []) × (opened ≡ Err fault))
     ⊎ ((known left : Option (List ℕ)) × (opened ≡ Ok known) × (((ended ≡ Err NoMemory) × (text ≡ []))
-    ⊎ ((ended ≡ Err ImageTooSmall) × (n < first_free (length table) + fixed_size) × (text ≡ []))
+    ⊎ ((ended ≡ Err ImageTooSmall) × (heap_end n usual_capacity < first_free (length table) + fixed_size) × (text ≡ []))
     ⊎ ((w : List ℕ) × (after : FuseStoreValue) × IsNewImage n table w
-    × IsCarriedOut usual_budget (codes "memory") script known left (fresh_store w) after ended text)))
+    × IsCarriedOut budget (codes "memory") script known left (fresh_store w) after ended text)))
 
 -- a script was tried: an image cannot have so many words, and no file was asked for; or after that the table was not read, or it is
 -- none, and no other file was asked for; or the script was tried, and its file was the only other
-abbrev pub IsTrial : List ℕ → List ℕ → List ℕ → Result Unit Fault → List ℕ → List FileDeed → Type 0
-IsTrial script words table ended text deeds =
+abbrev pub IsTrial : ℕ → List ℕ → List ℕ → Option (List ℕ) → Result Unit Fault → List ℕ → List FileDeed → Type 0
+IsTrial budget script words table ended text deeds =
     ((ended ≡ Err BadWords) × ((n : ℕ) → IsWordCount words n → ⊥) × (text ≡ []) × (deeds ≡ []))
-    ⊎ ((fault : Fault) × (ended ≡ Err fault) × (text ≡ []) × IsUnread table fault deeds)
-    ⊎ ((platform : List ℕ) × (known : Option (List ℕ)) × (line : ℕ) × (ended ≡ Err (BadTable line)) × IsTextOf platform known
-    × Reads platform (Err (BadLine line)) × (text ≡ []) × (deeds ≡ ReadsText table (Ok known) ∷ []))
-    ⊎ ((n : ℕ) × (platform : List ℕ) × (known : Option (List ℕ)) × (opened : Result (Option (List ℕ)) Fault) × IsWordCount words n
-    × IsTextOf platform known × IsTable platform × IsTriedOn script n platform ended text opened
-    × (deeds ≡ ReadsText table (Ok known) ∷ ReadsText script opened ∷ []))
+    ⊎ ((fault : Fault) × (ended ≡ Err fault) × (text ≡ []) × IsNoPlatform table fault deeds)
+    ⊎ ((platform : List ℕ) × (line : ℕ) × (ended ≡ Err (BadTable line)) × IsPlatform table platform deeds × Reads platform (Err (BadLine line)) × (text ≡ []))
+    ⊎ ((n : ℕ) × (platform : List ℕ) × (reads : List FileDeed) × (opened : Result (Option (List ℕ)) Fault) × IsWordCount words n
+    × IsPlatform table platform reads × IsTable platform × IsTriedOn budget script n platform ended text opened
+    × (deeds ≡ reads ++ ReadsText script opened ∷ []))

@@ -4,6 +4,7 @@
 pub mod program;
 mod progress_line;
 pub mod run;
+mod run_files;
+mod script_run;
 pub mod told;
-mod told_run;
 pub mod trial;

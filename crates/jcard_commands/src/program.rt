@@ -8,7 +8,7 @@ ghost use Rattle.jcard_faults.specs.declared.fault.Fault.{Fault};
 
 use crate::progress_line::ProgressLine;
 use crate::run::perform;
-use jc_words::LockFile;
+use jc_words::{EmptyFile, FlushFile, LockFile};
 use jcard_faults::fault::{Fault, tell};
 use jcard_files::disk::SystemDisk;
 use jcard_script::streams::TextOut;
@@ -16,7 +16,7 @@ use std::alloc::AllocError;
 use std::env::{self, Env};
 use std::fs;
 use std::io::{self, ErrorKind};
-use std::rt::Files;
+use std::rt::{Clock, Files};
 
 // A folder that is opened in the place of closed standard streams: reads and writes of it fail.
 const FOLDER: &str = "/";
@@ -25,13 +25,13 @@ const FOLDER: &str = "/";
 /// text are a bad command line. Before any other file is opened, standard streams that are closed
 /// are opened on a folder, so that none of these files stands in their place. Where standard error is a terminal, it shows how far a
 /// sweep has come.
-pub fn run_program<R: Env + Files + Eprint + AllocGlobal, W: TextOut>(
+pub fn run_program<R: Env + Files + Clock + Eprint + AllocGlobal, W: TextOut>(
     rt: &R,
     is_terminal: bool,
     out: &mut W,
 ) -> u8
 where
-    R::File: LockFile,
+    R::File: LockFile + EmptyFile + FlushFile,
     ensures { (text last : List ℕ) × (ended : Result Unit Fault) × (deeds : List FileDeed)
         × (failed : Bool)
         × Appends (W.contents out.old) (W.contents out.new) (text ++ last)
@@ -48,8 +48,10 @@ where
                 let mut progress = ProgressLine::new(rt, is_terminal);
                 let ended = perform(&mut SystemDisk::new(rt), &words, out, &mut progress);
                 progress.clear();
+                let status = tell(ended, out);
                 explain(rt, ended);
-                tell(ended, out)
+                progress.write_remarks();
+                status
             }
             Err(error) => tell(Err(words_fault(error)), out),
         },

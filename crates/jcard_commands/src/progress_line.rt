@@ -1,26 +1,35 @@
-//! A line on a terminal that tells how far a sweep has come.
+//! What standard error is told: how far a sweep has come, what commands of a run did, and what is wrong.
 
 use crate::told::Listener;
+use jcard_faults::remarks::Remarks;
 use jcard_tear::progress::Progress;
+use jcard_tests::timer::Timer;
+use std::rt::Clock;
+use std::time::Instant;
 
 /// Of so many cuts one is told.
 const EACH: u16 = 128;
 
-/// A line on standard error that tells how far a sweep has come; nothing where that is no terminal.
+/// A line on standard error that tells how far a sweep has come; nothing where that is no terminal. Remarks are kept until the last line
+/// of standard output is written.
 #[derive(Drop)]
 pub(crate) struct ProgressLine<'a, R> {
     rt: &'a R,
     is_terminal: bool,
     is_told: bool,
+    remarks: Vec<u8>,
+    start: Option<Instant>,
 }
 
-impl<'a, R: Eprint> ProgressLine<'a, R> {
+impl<'a, R: Eprint + AllocGlobal + Clock> ProgressLine<'a, R> {
     /// Nothing is told yet.
     pub(crate) fn new(rt: &'a R, is_terminal: bool) -> Self {
         ProgressLine {
             rt,
             is_terminal,
             is_told: false,
+            remarks: Vec::new(rt.alloc()),
+            start: Instant::now(rt).ok(),
         }
     }
 
@@ -28,6 +37,13 @@ impl<'a, R: Eprint> ProgressLine<'a, R> {
     pub(crate) fn clear(&self) {
         if self.is_told {
             let _ = eprint!(self.rt; "{}", "            \r");
+        }
+    }
+
+    /// Writes the remarks.
+    pub(crate) fn write_remarks(&self) {
+        if let Ok(text) = str::from_utf8(&self.remarks) {
+            let _ = eprint!(self.rt; "{text}");
         }
     }
 }
@@ -47,6 +63,26 @@ impl<'a, R: Eprint> Listener for ProgressLine<'a, R> {
     fn tell(&mut self, text: &[u8]) {
         if let Ok(text) = str::from_utf8(text) {
             let _ = eprint!(self.rt; "{text}");
+        }
+    }
+}
+
+impl<'a, R: Eprint> Remarks for ProgressLine<'a, R> {
+    // What there is no memory for is left out.
+    fn remark(&mut self, text: &[u8]) {
+        let _ = self.remarks.extend_from_slice(text);
+    }
+}
+
+impl<'a, R: Clock> Timer for ProgressLine<'a, R> {
+    // 0 where the clock cannot be read.
+    fn microseconds(&self) -> u64 {
+        let Some(start) = &self.start else {
+            return 0;
+        };
+        match start.elapsed(self.rt) {
+            Ok(time) => u64::try_from(time.as_micros()).unwrap_or(u64::MAX),
+            Err(_) => 0,
         }
     }
 }

@@ -1,9 +1,11 @@
 //! Who is told what the commands of a run did.
 
-use jcard_arguments::run_options::RunOptions;
+use jcard_arguments::options::RunOptions;
+use jcard_faults::remarks::Remarks;
+use jcard_script::expectations::Expectations;
 use jcard_script::explainer::Explainer;
 use jcard_why::covers::Cover;
-use jcard_why::explanation::Wanted;
+use jcard_why::explanation::{TracedLines, Wanted};
 use std::alloc::Global;
 
 /// So many instructions of a command are told at most, where the words say nothing of it.
@@ -22,6 +24,8 @@ pub(crate) struct Told<'a, L> {
     names: &'a [u8],
     wanted: Wanted,
     cover: Cover,
+    expect: bool,
+    expectations: Expectations,
 }
 
 impl<'a, L: Listener> Told<'a, L> {
@@ -37,16 +41,23 @@ impl<'a, L: Listener> Told<'a, L> {
             names,
             wanted: wanted_by(options),
             cover: Cover::new(alloc),
+            expect: options.expect,
+            expectations: Expectations::new(),
         }
     }
 
     /// How often instructions were carried out.
-    pub(crate) fn into_cover(self) -> Cover {
-        self.cover
+    pub(crate) fn cover(&self) -> &Cover {
+        &self.cover
+    }
+
+    /// What the script expected.
+    pub(crate) fn expectations(&self) -> &Expectations {
+        &self.expectations
     }
 }
 
-impl<'a, L: Listener> Explainer for Told<'a, L> {
+impl<'a, L: Listener + Remarks> Explainer for Told<'a, L> {
     fn wanted(&self) -> Option<Wanted> {
         Some(self.wanted)
     }
@@ -65,21 +76,68 @@ impl<'a, L: Listener> Explainer for Told<'a, L> {
         }
         None
     }
+
+    fn expectations(&mut self) -> Option<&mut Expectations> {
+        if self.expect {
+            return Some(&mut self.expectations);
+        }
+        None
+    }
+
+    fn remark(&mut self, text: &[u8]) {
+        self.listener.remark(text);
+    }
+}
+
+/// Nobody asks what commands did, but what is wrong with a line is passed on.
+#[derive(Drop)]
+pub(crate) struct OnlyRemarks<'a, M> {
+    remarks: &'a mut M,
+}
+
+impl<'a, M: Remarks> OnlyRemarks<'a, M> {
+    pub(crate) fn new(remarks: &'a mut M) -> Self {
+        OnlyRemarks { remarks }
+    }
+}
+
+impl<'a, M: Remarks> Explainer for OnlyRemarks<'a, M> {
+    fn wanted(&self) -> Option<Wanted> {
+        None
+    }
+
+    fn map(&self) -> &[u8] {
+        b""
+    }
+
+    fn tell(&mut self, _text: &[u8]) {}
+
+    fn cover(&mut self) -> Option<&mut Cover> {
+        None
+    }
+
+    fn expectations(&mut self) -> Option<&mut Expectations> {
+        None
+    }
+
+    fn remark(&mut self, text: &[u8]) {
+        self.remarks.remark(text);
+    }
 }
 
 // What these options ask for.
 fn wanted_by(options: &RunOptions<'_>) -> Wanted {
     Wanted {
         why: options.why,
-        trace: most_traced(options),
+        trace: traced_lines(options),
         cover: options.cover.is_some(),
     }
 }
 
 // How many instructions of a command are told at most, where they are asked for.
-fn most_traced(options: &RunOptions<'_>) -> Option<u32> {
+fn traced_lines(options: &RunOptions<'_>) -> Option<TracedLines> {
     if options.trace {
-        return Some(options.lines.unwrap_or(USUAL_LINES));
+        return Some(TracedLines::First(options.lines.unwrap_or(USUAL_LINES)));
     }
     None
 }

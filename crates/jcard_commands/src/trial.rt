@@ -1,5 +1,6 @@
 //! Trying a script on a new card in memory.
 ghost use Rattle.std.specs.Prelude.{◌≡◌, ◌≤◌, ◌∷◌, [], ℕ, List, Option, Result};
+ghost use Rattle.jcard_arguments.specs.CommandLine.{text_of};
 ghost use Rattle.std.specs.Io.KnownBytes.{Appends};
 ghost use Rattle.jc_words.specs.Count.{failures_after};
 ghost use Rattle.jc_words.specs.Layout.{least_size};
@@ -9,33 +10,36 @@ ghost use Rattle.jcard_faults.specs.declared.fault.Fault.{Fault};
 ghost use Rattle.jcard_files.specs.FileDeeds.{FileDeed, ReadsText};
 ghost use Rattle.jcard_images.specs.NewImages.{IsTable};
 
-use crate::run::run_named;
-use jc_card::card::USUAL_BUDGET;
+use crate::script_run::run_named;
+use crate::told::OnlyRemarks;
 use jc_platform::fault::TableFault;
 use jc_platform::read::read_table;
 use jc_words::FuseStore;
 use jcard_faults::fault::Fault;
+use jcard_faults::remarks::Remarks;
 use jcard_faults::script_fault::Names;
 use jcard_files::disk::Disk;
-use jcard_files::reading::text_of;
 use jcard_images::memory_image::new_image;
 use jcard_images::new_image::word_count;
-use jcard_script::explainer::Unasked;
+use jcard_images::usual_table::platform_of;
 use jcard_script::std_text::StdText;
 use jcard_script::streams::TextOut;
 
 /// Carries out the script in the file of the first name, on a new card in memory of so many words, a
-/// decimal number, with the platform table in the file of the last name. No file is changed.
-pub fn try_script<'n, D: Disk, W: TextOut>(
+/// decimal number, with the platform table in the file of the last name, or the usual one. A command carries out at most `budget`
+/// instructions. No file is changed. What is wrong with a line goes to `remarks`.
+pub fn try_script<'n, D: Disk, W: TextOut, M: Remarks>(
     disk: &mut D,
     script: &'n str,
     words: &str,
-    table: &'n str,
+    table: Option<&'n str>,
+    budget: u32,
     out: &mut W,
+    remarks: &mut M,
 ) -> Result<(), Fault<'n>>
     ensures done { (text : List ℕ) × (deeds : List FileDeed)
         × Appends (W.contents out.old) (W.contents out.new) text
-        × IsTrial script.now words.now table.now result text deeds
+        × IsTrial budget script.now words.now (text_of table.entry) result text deeds
         × D.does disk.old deeds disk.new }
     ensures writes { W.failures out.new ≡ failures_after (W.failures out.old)
         (is_unwritten result) }
@@ -43,29 +47,31 @@ pub fn try_script<'n, D: Disk, W: TextOut>(
     let Some(count) = word_count(words) else {
         return Err(Fault::BadWords);
     };
-    let text = match text_of(disk, table) {
+    let text = match platform_of(disk, table) {
         Ok(text) => text,
         Err(fault) => return Err(fault),
     };
     match read_table(&text) {
-        Ok(_) => try_on(disk, script, count, &text, out),
+        Ok(_) => try_on(disk, script, count, &text, budget, out, remarks),
         Err(TableFault::BadTable(line)) => Err(Fault::BadTable(line)),
     }
 }
 
 // Carries out the script in the file of this name, on a new card of so many words with this platform table.
-fn try_on<'n, D: Disk, W: TextOut>(
+fn try_on<'n, D: Disk, W: TextOut, M: Remarks>(
     disk: &mut D,
     script: &'n str,
     count: u16,
     table: &[u8],
+    budget: u32,
     out: &mut W,
+    remarks: &mut M,
 ) -> Result<(), Fault<'n>>
     requires enough { least_size ≤ count }
     requires table { IsTable table.now }
     ensures done { (text : List ℕ) × (opened : Result (Option (List ℕ)) Fault)
         × Appends (W.contents out.old) (W.contents out.new) text
-        × IsTriedOn script.now count table.now result text opened
+        × IsTriedOn budget script.now count table.now result text opened
         × D.does disk.old (ReadsText script.now opened ∷ []) disk.new }
     ensures writes { W.failures out.new ≡ failures_after (W.failures out.old)
         (is_unwritten result) }
@@ -88,10 +94,10 @@ fn try_on<'n, D: Disk, W: TextOut>(
         disk.alloc(),
         names,
         FuseStore::new(store),
-        USUAL_BUDGET,
+        budget,
         &mut reader,
         out,
-        &mut Unasked,
+        &mut OnlyRemarks::new(remarks),
     );
     ended
 }

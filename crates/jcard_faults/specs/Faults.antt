@@ -5,11 +5,13 @@ use Rattle.jc_words.specs.Count.{failures_after}
 use Rattle.jcard_script.specs.Texts.{IsCutOf}
 use Rattle.jcard_faults.specs.declared.fault.Damage.{Damage}
 use Rattle.jcard_faults.specs.declared.fault.Damage.TheVariants.{Magic, Version, Size, Log, Table, Package}
+use Rattle.jcard_faults.specs.declared.fault.FileKind.{FileKind}
+use Rattle.jcard_faults.specs.declared.fault.FileKind.TheVariants as kind
 use Rattle.jcard_faults.specs.declared.fault.Fault.{Fault}
 use Rattle.jcard_faults.specs.declared.fault.Fault.TheVariants.{BadCommandLine, NoMemory, BadWords, BadTable, ImageTooSmall, CannotRead, CannotOpenToWrite}
-use Rattle.jcard_faults.specs.declared.fault.Fault.TheVariants.{CannotWrite, ImageInUse, BadImage, BadCommand, ScriptTooLong, WriteFailed}
-use Rattle.jcard_faults.specs.declared.fault.Fault.TheVariants.{Down, NoCommand, TooManyCuts, NotAllOrNothing, CannotInclude, RowsFailed}
-use Rattle.jcard_faults.specs.declared.fault.Fault.TheVariants.{BadCut, BadJournal, BadPart, CutMissing, CutTwice, OtherPart, OtherSweep}
+use Rattle.jcard_faults.specs.declared.fault.Fault.TheVariants.{CannotWrite, NotReplaced, ImageInUse, BadImage, BadCommand, ScriptTooLong, WriteFailed}
+use Rattle.jcard_faults.specs.declared.fault.Fault.TheVariants.{Down, NoCommand, TooManyCuts, NotAllOrNothing, CannotInclude, RowsFailed, OtherAnswer, NothingExpected}
+use Rattle.jcard_faults.specs.declared.fault.Fault.TheVariants.{BadCut, BadJournal, BadProbeCommand, ProbeTooLong, BadPart, CutMissing, CutTwice, OtherPart, OtherSweep}
 
 -- the exit status
 abbrev pub status_of : Result Unit Fault → ℕ
@@ -23,10 +25,13 @@ status_of (Err ImageTooSmall) = 1
 status_of (Err (CannotRead path)) = 1
 status_of (Err (CannotOpenToWrite path)) = 1
 status_of (Err (CannotWrite path)) = 1
+status_of (Err (NotReplaced path what)) = 1
 status_of (Err ImageInUse) = 1
 status_of (Err (BadImage damage)) = 1
 status_of (Err (BadCommand n)) = 1
 status_of (Err ScriptTooLong) = 1
+status_of (Err (BadProbeCommand n)) = 1
+status_of (Err ProbeTooLong) = 1
 status_of (Err WriteFailed) = 1
 status_of (Err Down) = 1
 status_of (Err NoCommand) = 1
@@ -34,6 +39,8 @@ status_of (Err TooManyCuts) = 1
 status_of (Err NotAllOrNothing) = 3
 status_of (Err (CannotInclude path number)) = 1
 status_of (Err RowsFailed) = 4
+status_of (Err (OtherAnswer line)) = 4
+status_of (Err NothingExpected) = 4
 status_of (Err BadPart) = 1
 status_of (Err (CutMissing k)) = 1
 status_of (Err (CutTwice k)) = 1
@@ -62,6 +69,14 @@ unincluded_text path number = (codes "jcard: " ++ path ++ codes ": line ") ++ (d
 abbrev pub cut_line : ℕ → List ℕ → List ℕ
 cut_line k wrong = codes "jcard: cut " ++ decimal k ++ wrong
 
+-- the end of the line that tells what a file is
+abbrev pub ending_of : FileKind → List ℕ
+ending_of kind.Image = codes " is an image\n"
+ending_of kind.Script = codes " is a script\n"
+ending_of kind.Rows = codes " is a row file\n"
+ending_of kind.Map = codes " is a map\n"
+ending_of kind.Table = codes " is a platform table\n"
+
 -- the line that tells a fault; none tells a failed write, and a cut that was not all or nothing, or a row that failed, is told by the report
 abbrev pub line_of : Fault → List ℕ
 line_of BadCommandLine = codes "jcard: bad command line\n"
@@ -73,10 +88,13 @@ line_of ImageTooSmall = codes "jcard: image too small\n"
 line_of (CannotRead path) = unread_text path.now
 line_of (CannotOpenToWrite path) = unread_text path.now
 line_of (CannotWrite path) = codes "jcard: cannot write " ++ path.now ++ codes "\n"
+line_of (NotReplaced path what) = codes "jcard: " ++ path.now ++ ending_of what
 line_of ImageInUse = codes "jcard: image in use\n"
 line_of (BadImage damage) = codes "jcard: bad image " ++ decimal (check_of damage) ++ codes "\n"
 line_of (BadCommand n) = codes "jcard: line " ++ decimal n ++ codes ": bad command\n"
 line_of ScriptTooLong = codes "jcard: script too long\n"
+line_of (BadProbeCommand n) = codes "jcard: probe line " ++ decimal n ++ codes ": bad command\n"
+line_of ProbeTooLong = codes "jcard: probe too long\n"
 line_of WriteFailed = []
 line_of Down = codes "jcard: the card is down at the command\n"
 line_of NoCommand = codes "jcard: no command to cut\n"
@@ -84,6 +102,8 @@ line_of TooManyCuts = codes "jcard: more than 65535 cuts\n"
 line_of NotAllOrNothing = []
 line_of (CannotInclude path number) = unincluded_text path.now number
 line_of RowsFailed = []
+line_of (OtherAnswer line) = codes "jcard: line " ++ decimal line ++ codes ": another answer than expected\n"
+line_of NothingExpected = codes "jcard: no answer is expected\n"
 line_of BadPart = codes "jcard: part must be 1/N to N/N\n"
 line_of (CutMissing k) = cut_line k (codes " is missing\n")
 line_of (CutTwice k) = cut_line k (codes " stands twice\n")

@@ -3,7 +3,7 @@ ghost use Rattle.std.specs.Prelude.{◌≡◌, ℕ, List, Bool, is_err, MatchRes
 ghost use Rattle.std.specs.Io.KnownBytes.{Appends};
 ghost use Rattle.jcard_script.specs.Texts.{AppendsCut};
 ghost use Rattle.jc_words.specs.Count.{failures_after};
-ghost use Rattle.jcard_faults.specs.Faults.{check_of, cut_line, status_of, line_of, unincluded_text, unread_text, IsLastLine};
+ghost use Rattle.jcard_faults.specs.Faults.{check_of, cut_line, ending_of, status_of, line_of, unincluded_text, unread_text, IsLastLine};
 
 use itoa::Buffer;
 use jcard_script::streams::{TextOut, WriteFailed, write_all, write_parts};
@@ -23,6 +23,21 @@ pub enum Damage {
     Table,
     /// Its heap or its packages.
     Package,
+}
+
+/// What a file is to the command that names it.
+#[derive(Clone, Copy, Debug, PartialEq, Eq, Drop)]
+pub enum FileKind {
+    /// An image.
+    Image,
+    /// A script.
+    Script,
+    /// A file of rows.
+    Rows,
+    /// A map of names.
+    Map,
+    /// A platform table.
+    Table,
 }
 
 /// Why the program ended early.
@@ -46,6 +61,8 @@ pub enum Fault<'a> {
     CannotOpenToWrite(&'a str),
     /// This file cannot be made or written.
     CannotWrite(&'a str),
+    /// This file, which was to be written, is that, and was left as it is.
+    NotReplaced(&'a str, FileKind),
     /// Another program has the image open.
     ImageInUse,
     /// The image is damaged.
@@ -54,6 +71,10 @@ pub enum Fault<'a> {
     BadCommand(u32),
     /// The script is longer than its bound.
     ScriptTooLong,
+    /// This line of the probe, counted from 1, has no form.
+    BadProbeCommand(u32),
+    /// The probe is longer than a script may be.
+    ProbeTooLong,
     /// Standard output cannot be written.
     WriteFailed,
     /// The card is down at the command that is to be cut.
@@ -68,6 +89,10 @@ pub enum Fault<'a> {
     CannotInclude(&'a str, usize),
     /// A row is not answered as it says.
     RowsFailed,
+    /// This comment of a script, counted in lines from 1, expects another answer.
+    OtherAnswer(u32),
+    /// No comment of a script expects an answer.
+    NothingExpected,
     /// No part is named so.
     BadPart,
     /// No part tells of this cut.
@@ -83,7 +108,7 @@ pub enum Fault<'a> {
 }
 
 /// Writes the last line, if there is a fault that has one, and answers the exit status: 0, 2 for
-/// a bad command line, 3 where a cut left something else, 4 where a row failed, 1 for every other fault.
+/// a bad command line, 3 where a cut left something else, 4 where a row failed or an answer is another one than expected, 1 for every other fault.
 pub fn tell<W: TextOut>(ended: Result<(), Fault>, out: &mut W) -> u8
     ensures status { result ≡ status_of ended.entry }
     ensures line { (text : List ℕ) × (failed : Bool)
@@ -98,7 +123,7 @@ pub fn tell<W: TextOut>(ended: Result<(), Fault>, out: &mut W) -> u8
     match fault {
         Fault::BadCommandLine => 2,
         Fault::NotAllOrNothing => 3,
-        Fault::RowsFailed => 4,
+        Fault::RowsFailed | Fault::OtherAnswer(_) | Fault::NothingExpected => 4,
         _ => 1,
     }
 }
@@ -127,6 +152,9 @@ fn write_line<W: TextOut>(fault: Fault, out: &mut W) -> Result<(), WriteFailed>
         Fault::CannotWrite(path) => {
             write_parts(out, b"jcard: cannot write ", path.as_bytes(), b"\n")
         }
+        Fault::NotReplaced(path, kind) => {
+            write_parts(out, b"jcard: ", path.as_bytes(), ending_of(kind))
+        }
         Fault::ImageInUse => write_all(out, b"jcard: image in use\n"),
         Fault::BadImage(damage) => write_parts(
             out,
@@ -141,10 +169,24 @@ fn write_line<W: TextOut>(fault: Fault, out: &mut W) -> Result<(), WriteFailed>
             b": bad command\n",
         ),
         Fault::ScriptTooLong => write_all(out, b"jcard: script too long\n"),
+        Fault::BadProbeCommand(n) => write_parts(
+            out,
+            b"jcard: probe line ",
+            digits.format(n).as_bytes(),
+            b": bad command\n",
+        ),
+        Fault::ProbeTooLong => write_all(out, b"jcard: probe too long\n"),
         Fault::Down => write_all(out, b"jcard: the card is down at the command\n"),
         Fault::NoCommand => write_all(out, b"jcard: no command to cut\n"),
         Fault::TooManyCuts => write_all(out, b"jcard: more than 65535 cuts\n"),
         Fault::CannotInclude(path, number) => write_unincluded(path, number, out),
+        Fault::OtherAnswer(n) => write_parts(
+            out,
+            b"jcard: line ",
+            digits.format(n).as_bytes(),
+            b": another answer than expected\n",
+        ),
+        Fault::NothingExpected => write_all(out, b"jcard: no answer is expected\n"),
         Fault::BadPart => write_all(out, b"jcard: part must be 1/N to N/N\n"),
         Fault::CutMissing(k) => write_cut(out, k, b" is missing\n"),
         Fault::CutTwice(k) => write_cut(out, k, b" stands twice\n"),
@@ -198,6 +240,19 @@ fn write_cut<W: TextOut>(out: &mut W, number: usize, wrong: &[u8]) -> Result<(),
     let mut digits = Buffer::new();
     let digits = digits.format(number).as_bytes();
     write_parts(out, b"jcard: cut ", digits, wrong)
+}
+
+// The end of the line that tells what a file is.
+fn ending_of(kind: FileKind) -> &'static [u8]
+    ensures { result.now ≡ ending_of kind }
+{
+    match kind {
+        FileKind::Image => b" is an image\n",
+        FileKind::Script => b" is a script\n",
+        FileKind::Rows => b" is a row file\n",
+        FileKind::Map => b" is a map\n",
+        FileKind::Table => b" is a platform table\n",
+    }
 }
 
 // The number of the check that finds a damage.

@@ -13,10 +13,14 @@ use Rattle.jc_words.specs.declared.lock.Lock.{Lock}
 use Rattle.jc_words.specs.declared.lock.LockFault.{LockFault}
 use Rattle.jc_words.specs.declared.lock.LockFault.TheVariants as locking
 use Rattle.jc_words.specs.declared.opening.NotOpened.{NotOpened}
+use Rattle.jc_words.specs.declared.word_file.FileFailed.{FileFailed}
 use Rattle.jc_words.specs.declared.word_file.StdFile.{StdFile}
 use Rattle.jcard_faults.specs.declared.fault.Damage.TheVariants.{Size}
+use Rattle.jcard_faults.specs.declared.fault.FileKind.TheVariants.{Image}
 use Rattle.jcard_faults.specs.declared.fault.Fault.{Fault}
-use Rattle.jcard_faults.specs.declared.fault.Fault.TheVariants.{NoMemory, CannotRead, CannotOpenToWrite, CannotWrite, BadImage, ImageInUse}
+use Rattle.jcard_faults.specs.declared.fault.Fault.TheVariants.{NoMemory, CannotRead, CannotOpenToWrite, CannotWrite, NotReplaced, BadImage, ImageInUse}
+use Rattle.jcard_files.specs.declared.replacing.ReplaceFault.{ReplaceFault}
+use Rattle.jcard_files.specs.declared.replacing.ReplaceFault.TheVariants as replacing
 
 -- why a file of this name was not read
 abbrev pub IsNotRead : List ℕ → Fault → Type 0
@@ -46,10 +50,12 @@ IsNotMade name ImageInUse = Unit {0}
 IsNotMade name NoMemory = Unit {0}
 IsNotMade name other = ⊥
 
--- why a text of this name was not written
+-- why a text of this name was not written: it is another file of the command, or holds an image; or another has it open
 abbrev pub IsUnwritten : List ℕ → Fault → Type 0
 IsUnwritten name (CannotWrite path) = path.now ≡ name
 IsUnwritten name NoMemory = Unit {0}
+IsUnwritten name ImageInUse = Unit {0}
+IsUnwritten name (NotReplaced path kind) = path.now ≡ name
 IsUnwritten name other = ⊥
 
 -- ---- causes
@@ -78,6 +84,13 @@ IsCreateFault name (making.NotHeld (holding.NotLocked locking.CannotLock)) fault
 IsCreateFault name (making.NotHeld holding.NotOpened) fault = IsNotWritten name fault
 IsCreateFault name making.NotWritten fault = IsNotWritten name fault
 
+-- what is told where a text of this name was not written
+abbrev pub IsReplaceFault : List ℕ → ReplaceFault → Fault → Type 0
+IsReplaceFault name replacing.NoMemory fault = fault ≡ NoMemory
+IsReplaceFault name replacing.InUse fault = fault ≡ ImageInUse
+IsReplaceFault name replacing.IsImage fault = (path : Bor (List ℕ)) × (fault ≡ NotReplaced path Image) × (path.now ≡ name)
+IsReplaceFault name replacing.Failed fault = IsNotWritten name fault
+
 -- the file of an image was opened as a store, and where it was not, that is told so
 abbrev pub IsOpenedAs : {F : Type 0} → (FileOpenFault → Fault → Type 0) → (Result F NotOpened → Type 0) → (F → Lock → Result Unit LockFault → Type 0)
     → (F → Option (List ℕ)) → Lock → Result (FileStoreValue (StdFile F)) Fault → Type 0
@@ -87,6 +100,8 @@ IsOpenedAs {F = F} tells opens gives unread lock (Err fault) = (unopened : Unope
 
 -- the file of an image was made, and where it was not, that is told so
 abbrev pub IsCreatedAs : {F : Type 0} → (FileCreateFault → Fault → Type 0) → (Result F NotOpened → Type 0) → (F → Lock → Result Unit LockFault → Type 0)
-    → (F → Option (List ℕ)) → ℕ → Result (FileStoreValue (StdFile F)) Fault → Type 0
-IsCreatedAs tells opens gives contents n (Ok store) = IsCreated opens gives contents n (Ok store)
-IsCreatedAs tells opens gives contents n (Err fault) = (cause : FileCreateFault) × IsCreated opens gives contents n (Err cause) × tells cause fault
+    → (F → Result Unit FileFailed → F → Type 0) → (F → Option (List ℕ)) → (F → Result Unit FileFailed → F → Type 0) → ℕ
+    → Result (FileStoreValue (StdFile F)) Fault → Type 0
+IsCreatedAs tells opens gives empties contents flushes n (Ok store) = IsCreated opens gives empties contents flushes n (Ok store)
+IsCreatedAs tells opens gives empties contents flushes n (Err fault) =
+    (cause : FileCreateFault) × IsCreated opens gives empties contents flushes n (Err cause) × tells cause fault

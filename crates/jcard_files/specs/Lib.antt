@@ -1,4 +1,6 @@
 pub mod FileDeeds
 pub mod Images
 pub mod MemDisks
+pub mod Operands
 pub mod Readings
+pub mod Replacing

@@ -65,7 +65,7 @@ abbrev pub IsClosed : List ℕ → StoreValue → MemDiskValue → MemDiskValue 
 IsClosed name store old new = MatchOption (image_place name old.images) (new ≡ old) (λ i. (image : ImageFileValue) × (slice_get old.images i ≡ Some image)
     × (new ≡ record old { images = slice_set old.images i (image_after store image) }))
 
--- the text of these bytes was written
+-- the text of these bytes was written, and stands behind those that were before
 abbrev pub IsWritten : List ℕ → List ℕ → MemDiskValue → MemDiskValue → Type 0
 IsWritten name bytes old new = (text : WrittenText) × (string_bytes text.name ≡ name) × (text.bytes.items ≡ bytes)
     × (new ≡ record old { written = old.written ++ text ∷ [] })
@@ -78,7 +78,7 @@ IsDeed (MakesImage name n (Ok made)) old new = new ≡ record old { images = ima
 IsDeed (MakesImage name n (Err fault)) old new = new ≡ old
 IsDeed (ClosesImage name store) old new = IsClosed name store old new
 IsDeed (ReadsText name told) old new = IsGiven name told old × (new ≡ old)
-IsDeed (WritesText name bytes (Ok done)) old new = IsWritten name bytes old new
+IsDeed (WritesText name bytes (Ok done)) old new = (image_place name old.images ≡ None) × IsWritten name bytes old new
 IsDeed (WritesText name bytes (Err fault)) old new = new ≡ old
 
 -- exactly these things were done, in this order

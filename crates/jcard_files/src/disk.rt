@@ -1,20 +1,24 @@
 //! The files that the program uses.
-ghost use Rattle.std.specs.Prelude.{◌≡◌, ◌⊎◌, ◌++◌, ◌*◌, ◌∷◌, [], List, false, IfOk, IfErr, length, replicate};
+ghost use Rattle.std.specs.Prelude.{◌≡◌, ◌⊎◌, ◌++◌, ◌*◌, ◌∷◌, [], List, Any, false, IfOk, IfErr, IfSome, length, replicate};
 ghost use Rattle.jc_words.specs.Files.{IsImageSize};
 ghost use Rattle.jc_words.specs.Refusals.{no_refusals};
 ghost use Rattle.jc_words.specs.Stores.{refusals_of_file, store_value};
 ghost use Rattle.jcard_files.specs.FileDeeds.{FileDeed, ClosesImage, MakesImage, OpensImage, ReadsImage, ReadsText, WritesText, told_of};
-ghost use Rattle.jcard_files.specs.Images.{IsCreateFault, IsCreatedAs, IsNotMade, IsNotOpened, IsNotOpenedToWrite, IsNotWritten, IsOpenedAs, IsOpenFault, IsReadFault, IsUnopened, IsUnwritten};
+ghost use Rattle.jcard_files.specs.Images.{IsCreateFault, IsCreatedAs, IsNotMade, IsNotOpened, IsNotOpenedToWrite, IsNotWritten, IsOpenedAs, IsOpenFault, IsReadFault, IsReplaceFault, IsUnopened, IsUnwritten};
+ghost use Rattle.jcard_files.specs.Operands.{IsNoOperand};
 
 use crate::closed_store::ClosedStore;
+use crate::operand::{Operand, operand_named};
+use crate::replacing::{ReplaceFault, replace_file};
 use jc_words::{
-    FileCreateFault, FileLockFault, FileOpenFault, FileStore, Lock, LockFault, LockFile, OpenPath,
-    Opening, StdFile, WordStore, ZeroWords,
+    EmptyFile, FileCreateFault, FileLockFault, FileOpenFault, FileStore, FlushFile, Lock,
+    LockFault, LockFile, OpenPath, Opening, StdFile, WordStore, ZeroWords,
 };
-use jcard_faults::fault::{Damage, Fault};
+use jcard_faults::fault::{Damage, Fault, FileKind};
 use std::alloc::{AllocError, Global};
 use std::fs;
 use std::io::Read;
+use std::os::unix::fs::MetadataExt;
 use std::rt::Files;
 
 /// The files that the program uses, by their names.
@@ -72,8 +76,15 @@ pub trait Disk {
         ensures does { does self.old (ReadsText name.now (told_of Self.Text.remaining result) ∷ [])
             self.new };
 
-    /// Makes a file of this name with these bytes, in place of any file of that name.
-    fn write_text<'n>(&mut self, name: &'n str, bytes: &[u8]) -> Result<(), Fault<'n>>
+    /// Makes a file of this name with these bytes, in place of what a file of that name holds: but for one of these, which the command
+    /// names besides, for an image, and for a file that somebody has open.
+    fn write_text<'n>(
+        &mut self,
+        name: &'n str,
+        operands: &[Operand],
+        bytes: &[u8],
+    ) -> Result<(), Fault<'n>>
+        ensures spared { IfOk result (λ _. IsNoOperand name.now operands.now) }
         ensures refused { IfErr result (λ fault. IsUnwritten name.now fault) }
         ensures does { does self.old (WritesText name.now bytes.now result ∷ []) self.new };
 
@@ -100,7 +111,7 @@ impl<'a, R: Files + AllocGlobal> SystemDisk<'a, R> {
 
 impl<'a, R: Files + AllocGlobal> SystemDisk<'a, R>
 where
-    R::File: LockFile,
+    R::File: LockFile + EmptyFile + FlushFile,
 {
     // Makes a file of this name with these zero words. No memory is asked for.
     fn make_of<'n>(
@@ -110,7 +121,7 @@ where
     ) -> Result<FileStore<StdFile<R::File>>, Fault<'n>>
         ensures created { IsCreatedAs (IsCreateFault image.now)
             (⟦<R as OpenPath>⟧.open_gives self.old.rt.now image.now Opening.ToMake)
-            R.File.lock_gives R.File.contents zeros result }
+            R.File.lock_gives R.File.empties R.File.contents R.File.flushes zeros result }
         ensures refused { IfErr result (λ fault. IsNotMade image.now fault) }
     {
         match FileStore::create(self.rt, image, zeros) {
@@ -122,7 +133,7 @@ where
 
 impl<'a, R: Files + AllocGlobal> Disk for SystemDisk<'a, R>
 where
-    R::File: LockFile,
+    R::File: LockFile + EmptyFile + FlushFile,
 {
     type Image = FileStore<StdFile<R::File>>;
 
@@ -181,7 +192,8 @@ where
         ensures does { Unit {0} }
         ensures created { IsCreatedAs (IsCreateFault image.now)
             (⟦<R as OpenPath>⟧.open_gives self.old.rt.now image.now Opening.ToMake)
-            R.File.lock_gives R.File.contents n result ⊎ (result ≡ Err Fault.NoMemory) }
+            R.File.lock_gives R.File.empties R.File.contents R.File.flushes n result
+            ⊎ (result ≡ Err Fault.NoMemory) }
     {
         match ZeroWords::new(self.rt.alloc(), n) {
             Ok(zeros) => self.make_of(image, zeros),
@@ -200,15 +212,93 @@ where
         }
     }
 
-    fn write_text<'n>(&mut self, name: &'n str, bytes: &[u8]) -> Result<(), Fault<'n>>
+    fn write_text<'n>(
+        &mut self,
+        name: &'n str,
+        operands: &[Operand],
+        bytes: &[u8],
+    ) -> Result<(), Fault<'n>>
+        ensures spared { IfOk result (λ _. IsNoOperand name.now operands.now) }
         ensures refused { IfErr result (λ fault. IsUnwritten name.now fault) }
         ensures does { Unit {0} }
-        ensures told { IfErr result (λ fault. IsNotWritten name.now fault) }
     {
-        match fs::write(self.rt, name, bytes) {
-            Ok(()) => Ok(()),
-            Err(_) => Err(Fault::CannotWrite(name)),
+        match operand_named(name, operands) {
+            Some(kind) => Err(Fault::NotReplaced(name, kind)),
+            None => write_spared(self.rt, name, operands, bytes),
         }
+    }
+}
+
+// Writes a text of this name, unless that is another name of one of these files.
+fn write_spared<'n, R: Files + AllocGlobal>(
+    rt: &R,
+    name: &'n str,
+    operands: &[Operand],
+    bytes: &[u8],
+) -> Result<(), Fault<'n>>
+where
+    R::File: LockFile,
+    ensures { IfErr result (λ fault. IsUnwritten name.now fault) }
+{
+    if let Some(kind) = operand_at(rt, name, operands) {
+        return Err(Fault::NotReplaced(name, kind));
+    }
+    if is_no_regular_file(rt, name) {
+        return written_to(rt, name, bytes);
+    }
+    match replace_file(rt, name, bytes) {
+        Ok(()) => Ok(()),
+        Err(cause) => Err(replace_fault(name, cause)),
+    }
+}
+
+// What the file at this path is to a command that names these files, if it is one of them, under any name.
+fn operand_at<R: Files>(rt: &R, path: &str, operands: &[Operand]) -> Option<FileKind>
+    ensures { IfSome result (λ kind. Any (λ o. o.kind ≡ kind) operands.now) }
+{
+    for operand in operands {
+        if is_same_file(rt, path, operand.name) {
+            return Some(operand.kind);
+        }
+    }
+    None
+}
+
+// Whether two paths lead to one file.
+fn is_same_file<R: Files>(rt: &R, path: &str, other: &str) -> bool {
+    match (fs::metadata(rt, path), fs::metadata(rt, other)) {
+        (Ok(one), Ok(two)) => one.dev() == two.dev() && one.ino() == two.ino(),
+        _ => false,
+    }
+}
+
+// Whether a pipe or a device stands at this path, which has nothing to lose.
+fn is_no_regular_file<R: Files>(rt: &R, path: &str) -> bool {
+    match fs::metadata(rt, path) {
+        Ok(found) => !found.is_file(),
+        Err(_) => false,
+    }
+}
+
+// Writes these bytes to a pipe or a device.
+fn written_to<'n, R: Files>(rt: &R, path: &'n str, bytes: &[u8]) -> Result<(), Fault<'n>>
+    ensures { IfErr result (λ fault. IsNotWritten path.now fault) }
+{
+    match fs::write(rt, path, bytes) {
+        Ok(()) => Ok(()),
+        Err(_) => Err(Fault::CannotWrite(path)),
+    }
+}
+
+// What it means that a text of this name was not written.
+fn replace_fault(name: &str, cause: ReplaceFault) -> Fault<'_>
+    ensures { IsReplaceFault name.now cause result }
+{
+    match cause {
+        ReplaceFault::NoMemory => Fault::NoMemory,
+        ReplaceFault::InUse => Fault::ImageInUse,
+        ReplaceFault::IsImage => Fault::NotReplaced(name, FileKind::Image),
+        ReplaceFault::Failed => Fault::CannotWrite(name),
     }
 }
 

@@ -5,5 +5,7 @@ pub mod closed_store;
 pub mod disk;
 pub mod image_file;
 pub mod mem_disk;
+pub mod operand;
 pub mod reading;
+mod replacing;
 pub mod text_file;

@@ -5,14 +5,16 @@ ghost use Rattle.jc_words.specs.Files.{IsImageSize};
 ghost use Rattle.jc_words.specs.Refusals.{no_refusals};
 ghost use Rattle.jcard_files.specs.FileDeeds.{ClosesImage, MakesImage, OpensImage, ReadsImage, ReadsText, WritesText, told_of};
 ghost use Rattle.jcard_files.specs.Images.{IsNotMade, IsNotOpened, IsNotOpenedToWrite, IsUnopened, IsUnwritten};
+ghost use Rattle.jcard_files.specs.Operands.{IsNoOperand};
 ghost use Rattle.jcard_files.specs.MemDisks.{AreDeeds, deeds_then, image_place, images_with, text_place};
 
 use crate::closed_store::ClosedStore;
 use crate::disk::Disk;
 use crate::image_file::ImageFile;
+use crate::operand::{Operand, operand_named};
 use crate::text_file::{TextFile, WrittenText};
 use jc_words::MemStore;
-use jcard_faults::fault::Fault;
+use jcard_faults::fault::{Fault, FileKind};
 use std::alloc::{AllocError, Global};
 use std::marker::Model;
 
@@ -76,6 +78,32 @@ impl<'a> MemDisk<'a> {
     {
         self.written.push(text)?;
         Ok(())
+    }
+
+    // Keeps a text of this name that is written, unless it is an image's.
+    fn write_new<'n>(&mut self, name: &'n str, bytes: &[u8]) -> Result<(), Fault<'n>>
+        ensures refused { IfErr result (λ fault. IsUnwritten name.now fault) }
+        ensures does { AreDeeds (WritesText name.now bytes.now result ∷ []) self.old self.new }
+    {
+        match place_of_image(self.images.as_slice(), name) {
+            Some(_) => Err(Fault::NotReplaced(name, FileKind::Image)),
+            None => self.keep_new(name, bytes),
+        }
+    }
+
+    // Keeps a text of this name that is written, which is no image's.
+    fn keep_new<'n>(&mut self, name: &'n str, bytes: &[u8]) -> Result<(), Fault<'n>>
+        requires { image_place name.now self.old.images ≡ None }
+        ensures refused { IfErr result (λ fault. IsUnwritten name.now fault) }
+        ensures does { AreDeeds (WritesText name.now bytes.now result ∷ []) self.old self.new }
+    {
+        let Ok(text) = written_text(self.alloc, name, bytes) else {
+            return Err(Fault::NoMemory);
+        };
+        match self.keep_text(text) {
+            Ok(()) => Ok(()),
+            Err(AllocError) => Err(Fault::NoMemory),
+        }
     }
 
     /// Gives the images back.
@@ -213,17 +241,20 @@ impl<'a> Disk for MemDisk<'a> {
         }
     }
 
-    fn write_text<'n>(&mut self, name: &'n str, bytes: &[u8]) -> Result<(), Fault<'n>>
+    fn write_text<'n>(
+        &mut self,
+        name: &'n str,
+        operands: &[Operand],
+        bytes: &[u8],
+    ) -> Result<(), Fault<'n>>
+        ensures spared { IfOk result (λ _. IsNoOperand name.now operands.now) }
         ensures refused { IfErr result (λ fault. IsUnwritten name.now fault) }
         ensures does { AreDeeds (WritesText name.now bytes.now result ∷ [])
             self.old self.new }
     {
-        let Ok(text) = written_text(self.alloc, name, bytes) else {
-            return Err(Fault::NoMemory);
-        };
-        match self.keep_text(text) {
-            Ok(()) => Ok(()),
-            Err(AllocError) => Err(Fault::NoMemory),
+        match operand_named(name, operands) {
+            Some(kind) => Err(Fault::NotReplaced(name, kind)),
+            None => self.write_new(name, bytes),
         }
     }
 }

@@ -1,7 +1,7 @@
 -- Images that were made, and that were not.
 use Rattle.std.proofs.Common.{◌≡◌, ◌∙◌, ◌⊎◌, ℕ, Bool, true, List, Result, Ok, Err, sym, subst, inl, inr, arith}
 use Rattle.std.specs.Prelude.{◌<◌, ◌≤◌, ◌+◌, ◌≢◌, length, replicate, slice_index}
-use Rattle.jc_words.specs.Image.{IsCapacity}
+use Rattle.jc_words.specs.Image.{IsCapacity, heap_end}
 use Rattle.jc_words.specs.Layout.{least_size, magic, magic_address}
 use Rattle.jc_words.specs.Refusals.{Refusals}
 use Rattle.jc_words.specs.Stores.{MemStoreValue, StoreValue}
@@ -13,7 +13,7 @@ use Rattle.jc_card.specs.Formatting.{Formats, IsStoppedFormat}
 use Rattle.jc_card.specs.declared.formatting.FormatFault.{FormatFault}
 use Rattle.jc_card.specs.declared.formatting.FormatFault.TheVariants.{StoreDown, BadSize, BadCapacity, BadTable, TooSmall}
 use Rattle.jcard_files.specs.FileDeeds.{untouched}
-use Rattle.jcard_images.specs.NewImages.{IsFormatFault, IsLaid, IsLaidInMemory, IsNewImage, IsNewImageInMemory, IsNewImageOf, IsTable, usual_capacity}
+use Rattle.jcard_images.specs.NewImages.{IsFormatFault, IsLaid, IsLaidInMemory, IsNewImageInMemoryOf, IsNewImageOf, IsTable}
 use Rattle.jcard_faults.specs.declared.fault.Fault.{Fault}
 use Rattle.jcard_faults.specs.declared.fault.Fault.TheVariants.{ImageTooSmall}
 
@@ -53,20 +53,21 @@ stopped_words n w v after same zeros (inl e) = inl (same ∙ (e ∙ zeros))
 stopped_words n w v after same zeros (inr h) = inr (subst (λ (x : List ℕ). slice_index x magic_address ≢ magic) (sym same) h)
 
 -- a format in memory that ended by a fault
-pub not_in_memory : {S : Type 0} (words : S → List ℕ) (down : S → Bool) (passed : S → ℕ) (refusals : S → Refusals) (old new : S) (text image : List ℕ)
-    (cause : FormatFault) (fault : Fault) → Formats words down passed refusals old usual_capacity text new (Err cause)
-    → IsTable text → least_size ≤ length (words old) → (down new ≡ true → ⊥)
-    → IsFormatFault image cause fault → IsLaidInMemory (length (words old)) text (Err fault)
-not_in_memory words down passed refusals old new text image StoreDown fault came table enough up told = absurd (up came.1.is_down)
-not_in_memory words down passed refusals old new text image BadSize fault came table enough up told = absurd (omega (arith, enough, came.0))
-not_in_memory words down passed refusals old new text image BadCapacity fault came table enough up told = absurd (came.0.1 (omega arith, omega arith))
-not_in_memory words down passed refusals old new text image (BadTable k) fault came table enough up told =
+pub not_in_memory : {S : Type 0} (words : S → List ℕ) (down : S → Bool) (passed : S → ℕ) (refusals : S → Refusals) (old new : S) (capacity : ℕ)
+    (text image : List ℕ) (cause : FormatFault) (fault : Fault) → Formats words down passed refusals old capacity text new (Err cause)
+    → IsTable text → least_size ≤ length (words old) → IsCapacity capacity → (down new ≡ true → ⊥)
+    → IsFormatFault image cause fault → IsLaidInMemory (length (words old)) capacity text (Err fault)
+not_in_memory words down passed refusals old new capacity text image StoreDown fault came table enough journal up told = absurd (up came.1.is_down)
+not_in_memory words down passed refusals old new capacity text image BadSize fault came table enough journal up told = absurd (omega (arith, enough, came.0))
+not_in_memory words down passed refusals old new capacity text image BadCapacity fault came table enough journal up told = absurd (came.0.1 journal)
+not_in_memory words down passed refusals old new capacity text image (BadTable k) fault came table enough journal up told =
     absurd (no_fault text table.0 (BadLine k) table.1 came.0.2)
-not_in_memory words down passed refusals old new text image TooSmall fault came table enough up told =
-    subst (λ f. IsLaidInMemory (length (words old)) text (Err f)) (sym told) came.0.2
+not_in_memory words down passed refusals old new capacity text image TooSmall fault came table enough journal up told =
+    subst (λ f. IsLaidInMemory (length (words old)) capacity text (Err f)) (sym told) came.0.2
 
 -- an image that is laid in memory is a new one
-pub laid_is_new : (m n : ℕ) (text : List ℕ) (made : Result MemStoreValue Fault) → m ≡ n → IsLaidInMemory m text made → IsNewImageInMemory n text made
-laid_is_new m n text (Ok store) same h = subst (λ k. IsNewImage k text store.words × (store.passed ≡ 0)) same h
-laid_is_new m n text (Err ImageTooSmall) same h = subst (λ k. k < first_free (length text) + fixed_size) same h
-laid_is_new m n text (Err other) same h = absurd h
+pub laid_is_new : (m n capacity : ℕ) (text : List ℕ) (made : Result MemStoreValue Fault) → m ≡ n → IsLaidInMemory m capacity text made
+    → IsNewImageInMemoryOf n capacity text made
+laid_is_new m n capacity text (Ok store) same h = subst (λ k. IsNewImageOf k capacity text store.words × (store.passed ≡ 0)) same h
+laid_is_new m n capacity text (Err ImageTooSmall) same h = subst (λ k. heap_end k capacity < first_free (length text) + fixed_size) same h
+laid_is_new m n capacity text (Err other) same h = absurd h

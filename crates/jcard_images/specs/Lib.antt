@@ -1,3 +1,4 @@
 pub mod Dumps
 pub mod Listings
 pub mod NewImages
+pub mod UsualTables

@@ -1,5 +1,5 @@
 -- Making an image.
-use Rattle.std.specs.Prelude.{ℕ, ◌≡◌, ◌≢◌, ◌⊎◌, ◌+◌, ◌<◌, ◌≤◌, true, false, List, [], ◌∷◌, length, replicate, slice_index, Option, Result, Ok, Err}
+use Rattle.std.specs.Prelude.{ℕ, ◌≡◌, ◌≢◌, ◌⊎◌, ◌+◌, ◌<◌, ◌≤◌, true, false, List, [], ◌∷◌, ◌++◌, length, replicate, slice_index, Option, Result, Ok, Err}
 use Rattle.std.specs.Borrow.{Bor}
 use Rattle.std.specs.Str.Parse.{IsNumeral, digits_value}
 use Rattle.jc_words.specs.Image.{heap_end}
@@ -15,11 +15,11 @@ use Rattle.jc_card.specs.Fixed.{fixed_size}
 use Rattle.jc_card.specs.Made.{IsMade, new_card_heap}
 use Rattle.jc_card.specs.declared.formatting.FormatFault.{FormatFault}
 use Rattle.jc_card.specs.declared.formatting.FormatFault.TheVariants as format
-use Rattle.jcard_files.specs.Readings.{IsTextOf, IsUnread}
-use Rattle.jcard_files.specs.FileDeeds.{FileDeed, ClosesImage, MakesImage, ReadsText, untouched}
+use Rattle.jcard_files.specs.FileDeeds.{FileDeed, ClosesImage, MakesImage, untouched}
 use Rattle.jcard_files.specs.Images.{IsNotMade}
 use Rattle.jcard_faults.specs.declared.fault.Fault.{Fault}
 use Rattle.jcard_faults.specs.declared.fault.Fault.TheVariants.{NoMemory, BadJournal, BadWords, BadTable, ImageTooSmall, CannotWrite}
+use Rattle.jcard_images.specs.UsualTables.{IsNoPlatform, IsPlatform}
 
 -- the text is decimal digits, and tells a number that is neither below the least nor above the most
 pub record IsNumberAmong (least most : ℕ) (text : List ℕ) (n : ℕ) : Type 0 where
@@ -54,17 +54,22 @@ pub record IsNewImageOf (n capacity : ℕ) (text w : List ℕ) : Type 0 where
 abbrev pub IsNewImage : ℕ → List ℕ → List ℕ → Type 0
 IsNewImage n = IsNewImageOf n usual_capacity
 
--- a store in memory holds a new image, and no write of it counts yet; or the table and the objects of the runtime environment do not fit
-abbrev pub IsLaidInMemory : ℕ → List ℕ → Result MemStoreValue Fault → Type 0
-IsLaidInMemory n text (Ok store) = IsNewImage n text store.words × (store.passed ≡ 0)
-IsLaidInMemory n text (Err ImageTooSmall) = n < first_free (length text) + fixed_size
-IsLaidInMemory n text (Err other) = ⊥
+-- a store in memory holds a new image, with such a journal, and no write of it counts yet; or the table and the objects of the runtime
+-- environment do not fit
+abbrev pub IsLaidInMemory : ℕ → ℕ → List ℕ → Result MemStoreValue Fault → Type 0
+IsLaidInMemory n capacity text (Ok store) = IsNewImageOf n capacity text store.words × (store.passed ≡ 0)
+IsLaidInMemory n capacity text (Err ImageTooSmall) = heap_end n capacity < first_free (length text) + fixed_size
+IsLaidInMemory n capacity text (Err other) = ⊥
 
 -- so it is; or memory was refused for the words
+abbrev pub IsNewImageInMemoryOf : ℕ → ℕ → List ℕ → Result MemStoreValue Fault → Type 0
+IsNewImageInMemoryOf n capacity text (Ok store) = IsLaidInMemory n capacity text (Ok store)
+IsNewImageInMemoryOf n capacity text (Err NoMemory) = Unit {0}
+IsNewImageInMemoryOf n capacity text (Err fault) = IsLaidInMemory n capacity text (Err fault)
+
+-- with the usual journal
 abbrev pub IsNewImageInMemory : ℕ → List ℕ → Result MemStoreValue Fault → Type 0
-IsNewImageInMemory n text (Ok store) = IsLaidInMemory n text (Ok store)
-IsNewImageInMemory n text (Err NoMemory) = Unit {0}
-IsNewImageInMemory n text (Err fault) = IsLaidInMemory n text (Err fault)
+IsNewImageInMemory n = IsNewImageInMemoryOf n usual_capacity
 
 -- what is told where the image of this name was not made of its file's words
 abbrev pub IsFormatFault : List ℕ → FormatFault → Fault → Type 0
@@ -93,12 +98,12 @@ IsMadeFrom image n capacity text ended deeds =
     ⊎ ((fault : Fault) × (ended ≡ Err fault) × IsTable text × IsNotMade image fault × (deeds ≡ MakesImage image n (Err fault) ∷ []))
     ⊎ ((store : StoreValue) × IsTable text × IsLaid image n capacity text ended store × (deeds ≡ MakesImage image n (Ok tt) ∷ ClosesImage image store ∷ []))
 
--- the image of the first name was made, with so many words and such a journal, from the text in the file of the last; or an image cannot
--- have so many words, or its journal so many entries, and no file was asked for; or after that the file was not read, and no other was
--- asked for
-abbrev pub IsNew : List ℕ → List ℕ → List ℕ → List ℕ → Result Unit Fault → List FileDeed → Type 0
+-- the image of this name was made, with so many words and such a journal, from the platform table that is named last, or the usual one; or an
+-- image cannot have so many words, or its journal so many entries, and no file was asked for; or after that the table was not read, and no
+-- other file was asked for
+abbrev pub IsNew : List ℕ → List ℕ → List ℕ → Option (List ℕ) → Result Unit Fault → List FileDeed → Type 0
 IsNew image words journal table ended deeds = ((ended ≡ Err BadWords) × ((n : ℕ) → IsWordCount words n → ⊥) × (deeds ≡ []))
     ⊎ ((n : ℕ) × IsWordCount words n × (((ended ≡ Err BadJournal) × ((c : ℕ) → IsJournalCapacity journal c → ⊥) × (deeds ≡ []))
-    ⊎ ((c : ℕ) × IsJournalCapacity journal c × (((fault : Fault) × (ended ≡ Err fault) × IsUnread table fault deeds)
-    ⊎ ((text : List ℕ) × (known : Option (List ℕ)) × (then : List FileDeed) × IsTextOf text known × IsMadeFrom image n c text ended then
-    × (deeds ≡ ReadsText table (Ok known) ∷ then))))))
+    ⊎ ((c : ℕ) × IsJournalCapacity journal c × (((fault : Fault) × (ended ≡ Err fault) × IsNoPlatform table fault deeds)
+    ⊎ ((text : List ℕ) × (reads then : List FileDeed) × IsPlatform table text reads × IsMadeFrom image n c text ended then
+    × (deeds ≡ reads ++ then))))))

@@ -5,3 +5,4 @@ pub mod dump;
 mod listing;
 pub mod memory_image;
 pub mod new_image;
+pub mod usual_table;

@@ -1,5 +1,6 @@
 //! Making an image.
-ghost use Rattle.std.specs.Prelude.{ℕ, ◌≡◌, ◌≤◌, List, None, false, IfSome, length, replicate};
+ghost use Rattle.std.specs.Prelude.{ℕ, ◌≡◌, ◌≤◌, List, None, false, IfSome, length, option_map, replicate};
+ghost use Rattle.std.specs.Borrow.{Bor};
 ghost use Rattle.jc_words.specs.Layout.{least_size};
 ghost use Rattle.jc_words.specs.Image.{IsCapacity};
 ghost use Rattle.jc_words.specs.Refusals.{no_refusals};
@@ -7,6 +8,7 @@ ghost use Rattle.jc_words.specs.Stores.{store_value};
 ghost use Rattle.jcard_files.specs.FileDeeds.{FileDeed};
 ghost use Rattle.jcard_images.specs.NewImages.{IsFormatFault, IsJournalCapacity, IsLaid, IsMadeFrom, IsNew, IsNumberAmong, IsTable, IsWordCount};
 
+use crate::usual_table::platform_of;
 use jc_platform::fault::TableFault;
 use jc_platform::read::read_table;
 use jc_words::WordStore;
@@ -14,7 +16,6 @@ use jc_words::layout::{LEAST_CAPACITY, LEAST_SIZE, MOST_CAPACITY};
 use jcard_faults::fault::Fault;
 use jcard_files::closed_store::ClosedStore;
 use jcard_files::disk::Disk;
-use jcard_files::reading::text_of;
 use jcard_script::card::formatting::{FormatFault, format};
 
 // How many words an image has, and how many entries its journal can have.
@@ -25,16 +26,17 @@ struct Extent {
 }
 
 /// Makes an image of this name with so many words and a journal of so many entries, decimal numbers,
-/// from the platform table in the file of the last name. A file that is there is replaced, but only
+/// from the platform table in the file of the last name, or the usual one. A file that is there is replaced, but only
 /// where the numbers and the table are good and nobody has it open.
 pub fn make_image<'n, D: Disk>(
     disk: &mut D,
     image: &'n str,
     words: &str,
     journal: &str,
-    table: &'n str,
+    table: Option<&'n str>,
 ) -> Result<(), Fault<'n>>
-    ensures { (deeds : List FileDeed) × IsNew image.now words.now journal.now table.now result deeds
+    ensures { (deeds : List FileDeed) × IsNew image.now words.now journal.now
+        (option_map (λ (name : Bor (List ℕ)). name.now) table.entry) result deeds
         × D.does disk.old deeds disk.new }
 {
     let Some(count) = word_count(words) else {
@@ -43,7 +45,7 @@ pub fn make_image<'n, D: Disk>(
     let Some(capacity) = journal_capacity(journal) else {
         return Err(Fault::BadJournal);
     };
-    match text_of(disk, table) {
+    match platform_of(disk, table) {
         Ok(text) => make_from(disk, image, Extent { count, capacity }, &text),
         Err(fault) => Err(fault),
     }

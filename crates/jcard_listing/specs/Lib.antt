@@ -1,6 +1,5 @@
 pub mod Applets
 pub mod Areas
-pub mod Asked
 pub mod Compared
 pub mod Comparisons
 pub mod Differences

@@ -3,7 +3,6 @@
 
 mod applets;
 mod areas;
-pub mod asked;
 mod compared;
 pub mod comparison;
 pub mod differences;

@@ -6,9 +6,8 @@ use Rattle.std.specs.List.{All}
 use Rattle.std.proofs.lemmas.Bool.{cases_lt}
 use Rattle.std.proofs.lemmas.List.{length-map, map-append, take-append-drop, take_more}
 use Rattle.std.proofs.lemmas.List.Elements.{All-push}
-use Rattle.jcard_outcomes.specs.Joins.{AreTold, IsUncutTold, TellCuts}
-use Rattle.jcard_outcomes.specs.Parts.{IsOfWords, has, told_cut}
-use Rattle.jcard_outcomes.specs.Reports.{standing_text}
+use Rattle.jcard_outcomes.specs.Joins.{AreTold, IsBadLine, IsUncutTold, TellCuts}
+use Rattle.jcard_outcomes.specs.Parts.{IsCutOfWords, IsReadCut, has, told_cut}
 use Rattle.jcard_outcomes.specs.declared.standing.Cut.{Cut}
 use Rattle.jcard_outcomes.proofs.Dealt.{from_next}
 use Rattle.jcard_outcomes.proofs.Ends.{lent, lent_at, lent_length, nothing}
@@ -16,7 +15,7 @@ use Rattle.jcard_outcomes.proofs.SweepLines.{cut_is_no_end, cut_line, end_line}
 
 -- the lines up to one that tells of no cut
 pub cuts_told : (lines : List (Bor (List ℕ))) (i : ℕ) (cuts : List Cut) → i < length lines → take i (lent lines) ≡ map told_cut cuts
-    → All (λ c. has 44 (standing_text c.standing) ≡ false) cuts → IsUncutTold (get_or lines i nothing).now → TellCuts (lent lines) cuts
+    → All IsReadCut cuts → IsUncutTold (get_or lines i nothing).now → TellCuts (lent lines) cuts
 cuts_told lines i cuts h told lacking uncut = (
   drop i (lent lines),
   sym (take-append-drop i (lent lines)) ∙ ap (λ l. l ++ drop i (lent lines)) told,
@@ -47,7 +46,7 @@ cuts_whole lines i now h told uncut cuts u n t low = by (cases_lt i (length cuts
 
 -- a line that tells of neither is none of the sweep
 pub no_line : (lines : List (Bor (List ℕ))) (i : ℕ) → i < length lines → (IsUncutTold (get_or lines i nothing).now → ⊥)
-    → ((c : Cut) → IsOfWords c.standing → (get_or lines i nothing).now ≡ told_cut c → ⊥)
+    → ((c : Cut) → IsCutOfWords c → (get_or lines i nothing).now ≡ told_cut c → ⊥)
     → (cuts : List Cut) (u : List ℕ) (n : ℕ) → AreTold cuts u n (lent lines) → ⊥
 no_line lines i h uncut none cuts u n t = by (cases_lt i (length cuts))
   where
@@ -62,10 +61,18 @@ cut_next lines i cuts more c h told e pushed =
     take_more (lent lines) i [] (omega (arith, lent_length lines, h)) ∙ ap (λ l. l ++ get_or (lent lines) i [] ∷ []) told
     ∙ ap (λ x. map told_cut cuts ++ x ∷ []) (lent_at lines i h ∙ e) ∙ sym (map-append told_cut cuts (c ∷ [])) ∙ ap (map told_cut) (sym pushed)
 
-pub lacking_next : (cuts more : List Cut) (c : Cut) → All (λ c. has 44 (standing_text c.standing) ≡ false) cuts
-    → has 44 (standing_text c.standing) ≡ false → more ≡ cuts ++ c ∷ [] → All (λ c. has 44 (standing_text c.standing) ≡ false) more
-lacking_next cuts more c all one pushed =
-    subst (All (λ c. has 44 (standing_text c.standing) ≡ false)) (sym pushed) (All-push (λ c. has 44 (standing_text c.standing) ≡ false) cuts c all one)
+pub lacking_next : (cuts more : List Cut) (c : Cut) → All IsReadCut cuts → IsReadCut c → more ≡ cuts ++ c ∷ [] → All IsReadCut more
+lacking_next cuts more c all one pushed = subst (All IsReadCut) (sym pushed) (All-push IsReadCut cuts c all one)
+
+-- a line that tells neither of a cut nor of a command that is not cut
+pub bad_line : (lines : List (Bor (List ℕ))) (i : ℕ) → i < length lines → (IsUncutTold (get_or lines i nothing).now → ⊥)
+    → ((c : Cut) → IsCutOfWords c → (get_or lines i nothing).now ≡ told_cut c → ⊥) → IsBadLine (lent lines) i
+bad_line lines i h uncut none =
+    let at = lent_at lines i h in (
+      omega (arith, lent_length lines, h),
+      (λ c words e. none c words (sym at ∙ e)),
+      (λ answer told. uncut (answer ++ 58 ∷ told.0, sym at ∙ told.1)),
+    )
 
 pub behind_next : (lines : List (Bor (List ℕ))) (i : ℕ) → i < length lines → (IsUncutTold (get_or lines i nothing).now → ⊥)
     → ((cuts : List Cut) (u : List ℕ) (n : ℕ) → AreTold cuts u n (lent lines) → i ≤ length cuts)

@@ -1,7 +1,8 @@
 -- Steps of the search for a difference, and of the count of ways.
-use Rattle.std.proofs.Common.{◌≡◌, ◌∙◌, ℕ, ◌+◌, ◌<◌, ◌≤◌, List, length, get_or, drop, min, ap, Option, Some, None}
+use Rattle.std.proofs.Common.{◌≡◌, ◌∙◌, ℕ, ◌+◌, ◌<◌, ◌≤◌, List, length, get_or, drop, max, min, ap, Option, Some, None}
 use Rattle.std.proofs.lemmas.List.{drop_all}
 use Rattle.jcard_outcomes.specs.Recoveries.{difference_or, first_difference, ways_from}
+use Rattle.jcard_outcomes.specs.Reports.{most_lost_from}
 use Rattle.jcard_outcomes.specs.declared.standing.Cut.{Cut}
 use Rattle.jcard_outcomes.proofs.Items.{drop_at}
 
@@ -22,6 +23,16 @@ difference_passed cuts k i c h e none = ap (first_difference k) (drop_at cuts i 
 pub difference_end : (cuts : List Cut) (k i : ℕ) → length cuts ≤ i → first_difference k (drop i cuts) ≡ None
 unfolding first_difference
 difference_end cuts k i h = ap (first_difference k) (drop_all i cuts h)
+
+-- the most that cuts lost, with one more
+pub most_next : (cuts : List Cut) (n i : ℕ) (c : Cut) → i < length cuts → c ≡ get_or cuts i c
+    → most_lost_from n (drop i cuts) ≡ most_lost_from (max n c.lost) (drop (i + 1) cuts)
+unfolding most_lost_from
+most_next cuts n i c h e = ap (most_lost_from n) (drop_at cuts i c h e)
+
+pub most_end : (cuts : List Cut) (n i : ℕ) → length cuts ≤ i → most_lost_from n (drop i cuts) ≡ n
+unfolding most_lost_from
+most_end cuts n i h = ap (most_lost_from n) (drop_all i cuts h)
 
 -- the ways behind one cut more
 pub ways_next : (cuts : List Cut) (n i : ℕ) (c : Cut) → i < length cuts → c ≡ get_or cuts i c

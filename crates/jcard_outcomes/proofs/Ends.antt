@@ -1,9 +1,11 @@
 -- Lines that are lent, and those behind the cuts.
-use Rattle.std.proofs.Common.{arith, ◌≡◌, ◌∙◌, ℕ, zero, suc, ◌+◌, ◌-◌, ◌<◌, ◌≤◌, Bool, true, false, List, [], ◌∷◌, ◌++◌, length, get_or, take, drop, replicate, ap, sym, refl}
+use Rattle.std.proofs.Common.{arith, ◌≡◌, ◌∙◌, inl, inr, ℕ, zero, suc, ◌+◌, ◌-◌, ◌<◌, ◌≤◌, Bool, true, false, List, [], ◌∷◌, ◌++◌, length, get_or, take, drop, replicate, ap, sym, refl}
 use Rattle.std.specs.Prelude.{map}
 use Rattle.std.specs.Borrow.{Bor}
 use Rattle.std.specs.Str.{bytes_eq}
-use Rattle.std.proofs.lemmas.List.{get_or-map, get_or-replicate, length-drop, length-map, length-replicate, map-append, take_all, take_more, replicate_more}
+use Rattle.std.proofs.lemmas.List.{get_or-drop, get_or-map, get_or-replicate, length-drop, length-map, length-replicate, map-append, take_all, take_more, replicate_more}
+use Rattle.jcard_outcomes.specs.Joins.{IsNoEnd}
+use Rattle.jcard_outcomes.specs.declared.join_fault.JoinFault.TheVariants.{Missing, OtherSweep}
 use Rattle.jcard_outcomes.proofs.Splits.{other, same}
 
 abbrev pub lent : List (Bor (List ℕ)) → List (List ℕ)
@@ -50,30 +52,37 @@ all_same count parts i lines u e h low high =
     sym (ends_lent count lines) ∙ sym (take_all i (lent (ends count lines)) (omega (arith, lent_length (ends count lines), h))) ∙ e
     ∙ ap (λ k. replicate k u) exact
 
+-- a line behind the cuts
+end_at : (count i : ℕ) (lines : List (Bor (List ℕ))) → i < length (ends count lines) → get_or (lent lines) (count + i) [] ≡ (get_or (ends count lines) i nothing).now
+end_at count i lines h = sym (get_or-drop count (lent lines) i []) ∙ ap (λ l. get_or l i []) (sym (ends_lent count lines)) ∙ lent_at (ends count lines) i h
+
+end_within : (count i : ℕ) (lines : List (Bor (List ℕ))) → i < length (ends count lines) → count + i < length (lent lines)
+end_within count i lines h =
+    omega (arith, sym (lent_length (ends count lines)) ∙ ap length (ends_lent count lines) ∙ length-drop count (lent lines), h)
+
 -- there are more than there are parts
-pub too_many : (count parts i : ℕ) (lines : List (Bor (List ℕ))) → i < length (ends count lines) → parts ≤ i → (u : List ℕ)
-    → drop count (lent lines) ≡ replicate parts u → ⊥
-too_many count parts i lines h past u e =
-    let all : length (ends count lines) ≡ parts = sym (lent_length (ends count lines)) ∙ ap length (ends_lent count lines ∙ e) ∙ length-replicate parts u in
-    absurd (omega (arith, all, h, past))
+pub too_many : (count parts i : ℕ) (lines : List (Bor (List ℕ))) → i < length (ends count lines) → parts ≤ i → IsNoEnd parts count (lent lines) (OtherSweep (count + i))
+too_many count parts i lines h past = (omega arith, end_within count i lines h, inl (omega (arith, past)))
 
 -- or fewer
-pub too_few : (count parts : ℕ) (lines : List (Bor (List ℕ))) → length (ends count lines) < parts → (u : List ℕ) → drop count (lent lines) ≡ replicate parts u → ⊥
-too_few count parts lines h u e =
-    let all : length (ends count lines) ≡ parts = sym (lent_length (ends count lines)) ∙ ap length (ends_lent count lines ∙ e) ∙ length-replicate parts u in
-    absurd (omega (arith, all, h))
+pub too_few : (count parts m : ℕ) (lines : List (Bor (List ℕ))) → m ≡ length lines → count ≤ length lines → length (ends count lines) < parts
+    → IsNoEnd parts count (lent lines) (Missing m)
+too_few count parts m lines e low h =
+    let all : length (ends count lines) ≡ length (lent lines) - count =
+    sym (lent_length (ends count lines)) ∙ ap length (ends_lent count lines) ∙ length-drop count (lent lines) in
+    (omega (arith, e, lent_length lines), omega (arith, all, h, low, lent_length lines))
 
 -- or one is another
 pub another : (count parts i : ℕ) (lines : List (Bor (List ℕ))) (r : Bool) → i < length (ends count lines) → 0 < length (ends count lines)
-    → r ≡ bytes_eq (get_or (ends count lines) i nothing).now (get_or (ends count lines) 0 nothing).now → r ≡ false → (u : List ℕ)
-    → drop count (lent lines) ≡ replicate parts u → ⊥
-another count parts i lines r h some b n u e =
-    let all : length (ends count lines) ≡ parts = sym (lent_length (ends count lines)) ∙ ap length (ends_lent count lines ∙ e) ∙ length-replicate parts u in
-    let one : (get_or (ends count lines) i nothing).now ≡ u =
-    sym (lent_at (ends count lines) i h) ∙ ap (λ l. get_or l i []) (ends_lent count lines ∙ e) ∙ get_or-replicate parts i u [] (omega (arith, all, h)) in
-    let first : (get_or (ends count lines) 0 nothing).now ≡ u =
-    sym (lent_at (ends count lines) 0 some) ∙ ap (λ l. get_or l 0 []) (ends_lent count lines ∙ e) ∙ get_or-replicate parts 0 u [] (omega (arith, all, some)) in
-    other (get_or (ends count lines) i nothing).now (get_or (ends count lines) 0 nothing).now r b n (one ∙ sym first)
+    → r ≡ bytes_eq (get_or (ends count lines) i nothing).now (get_or (ends count lines) 0 nothing).now → r ≡ false
+    → IsNoEnd parts count (lent lines) (OtherSweep (count + i))
+another count parts i lines r h some b n =
+    let first : get_or (lent lines) count [] ≡ (get_or (ends count lines) 0 nothing).now =
+    ap (λ k. get_or (lent lines) k []) (let here : count ≡ count + 0 = omega arith in here) ∙ end_at count 0 lines some in (
+      omega arith,
+      end_within count i lines h,
+      inr (λ e. other (get_or (ends count lines) i nothing).now (get_or (ends count lines) 0 nothing).now r b n (sym (end_at count i lines h) ∙ e ∙ first)),
+    )
 
 -- one more text is lent
 pub lent_next : {A : Type 0} (f : A → List ℕ) (texts : List A) (i : ℕ) (x : A) (old new : List (List ℕ)) (t : List ℕ) → i < length texts → x ≡ get_or texts i x

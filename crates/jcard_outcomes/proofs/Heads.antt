@@ -5,8 +5,8 @@ use Rattle.std.specs.Borrow.{Bor}
 use Rattle.std.proofs.lemmas.Bool.{eqb-true, eq-eqb, false≢true}
 use Rattle.jcard_outcomes.specs.Joins.{IsHeadFault, IsNextLine}
 use Rattle.jcard_outcomes.specs.Parts.{has, line_start, line_text}
-use Rattle.jcard_outcomes.specs.declared.join.JoinFault.{JoinFault}
-use Rattle.jcard_outcomes.specs.declared.join.JoinFault.TheVariants.{BadLine, Missing, NoMemory, OtherSweep, Twice}
+use Rattle.jcard_outcomes.specs.declared.join_fault.JoinFault.{JoinFault}
+use Rattle.jcard_outcomes.specs.declared.join_fault.JoinFault.TheVariants.{BadLine, Missing, NoMemory, OtherSweep, Twice}
 use Rattle.jcard_outcomes.proofs.Dealt.{line_read}
 use Rattle.jcard_outcomes.proofs.Ends.{lent, lent_length}
 use Rattle.jcard_outcomes.proofs.Splits.{not_lacking, rest_again}
@@ -49,7 +49,7 @@ fault_of : (n k : ℕ) (rests left : List (List ℕ)) (f : JoinFault) → n ≡ 
     → (get_or rests (k % length rests) [] ≡ [] → ⊥) → ((told rest : List ℕ) → get_or rests (k % length rests) [] ≡ line_text k told ++ rest → ⊥)
     → IsNextLine k rests left (Err f)
 fault_of n k rests left NoMemory e h some none = tt
-fault_of n k rests left (Missing m) e h some none = (h, some, none)
+fault_of n k rests left (Missing m) e h some none = (subst (λ x. IsHeadFault x k (get_or rests (k % length rests) []) (Missing m)) e h, some, none)
 fault_of n k rests left (Twice m) e h some none = (subst (λ x. IsHeadFault x k (get_or rests (k % length rests) []) (Twice m)) e h, some, none)
 fault_of n k rests left (BadLine m) e h some none = absurd h
 fault_of n k rests left (OtherSweep m) e h some none = absurd h

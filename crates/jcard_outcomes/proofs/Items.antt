@@ -17,3 +17,11 @@ pub appended_again : {E : Type 0} (r : Result Unit E) (end second first start a 
     → OnOk r (end ≡ second ++ c) → OnOk r (end ≡ start ++ (a ++ b ++ c))
 appended_again r end second first start a b c e f p =
     appended r end second start (a ++ b) c (f ∙ ap (λ l. l ++ b) e ∙ append_assoc start a b) p
+
+-- text in three pieces that was appended behind another
+pub appended_flat : {E : Type 0} (r : Result Unit E) (end between start first a b c : List ℕ) → between ≡ start ++ first
+    → OnOk r (end ≡ between ++ a ++ b ++ c) → OnOk r (end ≡ start ++ (first ++ (a ++ b ++ c)))
+appended_flat (Ok done) end between start first a b c e p =
+    p ∙ append_assoc (between ++ a) b c ∙ append_assoc between a (b ++ c) ∙ ap (λ l. between ++ l) (sym (append_assoc a b c))
+    ∙ ap (λ l. l ++ (a ++ b ++ c)) e ∙ append_assoc start first (a ++ b ++ c)
+appended_flat (Err fault) end between start first a b c e p = tt

@@ -1,21 +1,23 @@
 -- Sweeps that are told in the same lines have the same report.
-use Rattle.std.proofs.Common.{arith, ◌≡◌, ◌∙◌, ℕ, suc, zero, ◌+◌, ◌<◌, ◌||◌, false, List, [], ◌∷◌, ◌++◌, if◌then◌else◌, length, drop, replicate, ap, sym, refl, codes, append_assoc, append-nil, Some, None, Option}
-use Rattle.std.specs.Prelude.{map}
+use Rattle.std.proofs.Common.{arith, ◌≡◌, ◌∙◌, inl, ℕ, suc, zero, ◌+◌, ◌-◌, ◌==◌, ◌<◌, ◌||◌, ◌&&◌, false, List, [], ◌∷◌, ◌++◌, if◌then◌else◌, length, get_or, drop, replicate, ap, sym, refl, subst, codes, append_assoc, append-nil, Some, None, Option}
+use Rattle.std.specs.Prelude.{decimal, map, max}
+use Rattle.std.proofs.lemmas.Fmt.{decimal_injective}
 use Rattle.std.specs.List.{All}
 use Rattle.std.specs.Str.{bytes_eq}
-use Rattle.std.proofs.lemmas.List.{append_cancel_left, length-map}
+use Rattle.std.proofs.lemmas.List.{append_cancel_left, length-drop, length-map, length-replicate}
 use Rattle.std.proofs.lemmas.List.Elements.{All-cons, All-head, All-nil, All-tail}
-use Rattle.jcard_outcomes.specs.Joins.{IsTellable, IsUncutTold, TellCuts, joined_text}
-use Rattle.jcard_outcomes.specs.Parts.{IsOfWords, has, told_cut, told_sweep, told_uncut}
-use Rattle.jcard_outcomes.specs.Reports.{any_but_tries, count_before, first_broken, in_line, is_after, is_before, is_but_tries, outcome_text, report_text, row_text, rows_from, rows_text, standing_text, uncut_text, verdict_by, verdict_text, whole_text}
+use Rattle.jcard_outcomes.specs.Joins.{IsAnswerTold, IsTellable, IsUncutTold, TellCuts, joined_text}
+use Rattle.jcard_outcomes.specs.Parts.{IsCutOfWords, IsReadCut, cut_tail, has, told_cut, told_sweep, told_uncut}
+use Rattle.jcard_outcomes.specs.Reports.{any_but_tries, count_before, first_broken, in_line, is_after, is_before, is_but_tries, is_refused, is_refused_at_once, lost_text, most_lost_from, no_write_text, outcome_text, report_text, row_text, rows_from, rows_text, standing_text, uncut_text, verdict_by, verdict_text, whole_text}
 use Rattle.jcard_outcomes.specs.Recoveries.{recoveries_text}
 use Rattle.jcard_outcomes.specs.declared.recoveries.Depth.TheVariants.{Zero}
 use Rattle.jcard_outcomes.specs.declared.report.Sweep.{Sweep}
 use Rattle.jcard_outcomes.specs.declared.standing.Cut.{Cut}
 use Rattle.jcard_outcomes.specs.declared.standing.Standing.{Standing}
 use Rattle.jcard_outcomes.specs.declared.standing.Standing.TheVariants.{Before, BeforeButTries, After, AfterButTries, Answers, Changed}
-use Rattle.jcard_outcomes.proofs.Splits.{cut_unique}
-use Rattle.jcard_outcomes.proofs.Told.{standing_has_no_comma, told_parts}
+use Rattle.jcard_outcomes.proofs.Dealt.{from_next}
+use Rattle.jcard_outcomes.proofs.Splits.{cut_unique, decimal_lacks}
+use Rattle.jcard_outcomes.proofs.Told.{answer_of_uncut, answer_unique, standing_has_no_comma, told_parts}
 
 -- ---- one cut
 
@@ -59,17 +61,30 @@ tries_alike a b e = tries_told a
 -- two cuts leave the same
 record Alike (a b : Cut) : Type 0 where
   standing : standing_text a.standing ≡ standing_text b.standing
+  lost : a.lost ≡ b.lost
   outcome : outcome_text a ≡ outcome_text b
 
-alike : (a b : Cut) → told_cut a ≡ told_cut b → has 44 (standing_text a.standing) ≡ false → has 44 (standing_text b.standing) ≡ false → Alike a b
+tails_alike : (m n : ℕ) (x y : List ℕ) → m < 65536 → n < 65536 → cut_tail m x ≡ cut_tail n y → (m ≡ n) × (x ≡ y)
+tails_alike m n x y small fits e =
+    let parts = cut_unique 32 (decimal m) (decimal n) (codes "words lost, answers " ++ x) (codes "words lost, answers " ++ y)
+    (decimal_lacks 32 m (inl (omega arith)) (omega (arith, small))) (decimal_lacks 32 n (inl (omega arith)) (omega (arith, fits)))
+    (append_cancel_left (codes " ") (decimal m ++ 32 ∷ (codes "words lost, answers " ++ x)) (decimal n ++ 32 ∷ (codes "words lost, answers " ++ y)) e) in (
+      decimal_injective m n (omega (arith, small)) (omega (arith, fits)) parts.0,
+      append_cancel_left (codes "words lost, answers ") x y parts.1,
+    )
+
+alike : (a b : Cut) → told_cut a ≡ told_cut b → IsReadCut a → IsReadCut b → Alike a b
 unfolding outcome_text
 alike a b e p q =
-    let parts = cut_unique 44 (standing_text a.standing) (standing_text b.standing) (codes " answers " ++ in_line a.answers.items)
-    (codes " answers " ++ in_line b.answers.items) p q (sym (told_parts a) ∙ e ∙ told_parts b) in
-    let answers = append_cancel_left (codes " answers ") (in_line a.answers.items) (in_line b.answers.items) parts.1 in
+    let parts = cut_unique 44 (standing_text a.standing) (standing_text b.standing) (cut_tail a.lost (in_line a.answers.items))
+    (cut_tail b.lost (in_line b.answers.items)) p.0 q.0 (sym (told_parts a) ∙ e ∙ told_parts b) in
+    let tails = tails_alike a.lost b.lost (in_line a.answers.items) (in_line b.answers.items) p.1 q.1 parts.1 in
     record {
       standing = parts.0;
-      outcome = ap (λ l. l ++ standing_text a.standing) answers ∙ ap (λ l. in_line b.answers.items ++ l) parts.0;
+      lost = tails.0;
+      outcome = ap (λ l. l ++ standing_text a.standing ++ lost_text a.lost) tails.1
+          ∙ ap (λ l. in_line b.answers.items ++ l ++ lost_text a.lost) parts.0
+          ∙ ap (λ n. in_line b.answers.items ++ standing_text b.standing ++ lost_text n) tails.0;
     }
 
 -- ---- all cuts
@@ -79,7 +94,7 @@ AreAlike [] [] = Unit {0}
 AreAlike (c ∷ cs) (d ∷ ds) = Alike c d × AreAlike cs ds
 AreAlike cs ds = ⊥
 
-all_alike : (cs ds : List Cut) → All (λ c. has 44 (standing_text c.standing) ≡ false) cs → All (λ c. has 44 (standing_text c.standing) ≡ false) ds
+all_alike : (cs ds : List Cut) → All IsReadCut cs → All IsReadCut ds
     → map told_cut cs ≡ map told_cut ds → AreAlike cs ds
 all_alike [] [] p q e = tt
 all_alike [] (d ∷ ds) p q e = let h : [] ≡ told_cut d ∷ map told_cut ds = e in absurd cc
@@ -88,8 +103,8 @@ all_alike (c ∷ cs) (d ∷ ds) p q e =
     let whole : told_cut c ∷ map told_cut cs ≡ told_cut d ∷ map told_cut ds = e in
     let head : told_cut c ≡ told_cut d = cc in
     let tail : map told_cut cs ≡ map told_cut ds = cc in (
-      alike c d head (All-head (λ c. has 44 (standing_text c.standing) ≡ false) c cs p) (All-head (λ c. has 44 (standing_text c.standing) ≡ false) d ds q),
-      all_alike cs ds (All-tail (λ c. has 44 (standing_text c.standing) ≡ false) c cs p) (All-tail (λ c. has 44 (standing_text c.standing) ≡ false) d ds q) tail,
+      alike c d head (All-head IsReadCut c cs p) (All-head IsReadCut d ds q),
+      all_alike cs ds (All-tail IsReadCut c cs p) (All-tail IsReadCut d ds q) tail,
     )
 
 rows_alike : (cs ds : List Cut) → AreAlike cs ds → (first last : ℕ) (o : List ℕ) → rows_from first last o cs ≡ rows_from first last o ds
@@ -143,13 +158,25 @@ lengths_alike [] (d ∷ ds) h = absurd h
 lengths_alike (c ∷ cs) [] h = absurd h
 lengths_alike (c ∷ cs) (d ∷ ds) h = ap suc (lengths_alike cs ds h.1)
 
+most_alike : (cs ds : List Cut) → AreAlike cs ds → (n : ℕ) → most_lost_from n cs ≡ most_lost_from n ds
+unfolding most_lost_from
+most_alike [] [] h n = refl
+most_alike [] (d ∷ ds) h n = absurd h
+most_alike (c ∷ cs) [] h n = absurd h
+most_alike (c ∷ cs) (d ∷ ds) h n = ap (λ l. most_lost_from (max n l) cs) h.0.lost ∙ most_alike cs ds h.1 (max n d.lost)
+
 verdict_alike : (f : Option ℕ) (cs ds : List Cut) → AreAlike cs ds → verdict_by f cs ≡ verdict_by f ds
 verdict_alike (Some k) cs ds h = refl
-verdict_alike None cs ds h = ap (λ n. whole_text n (count_before cs) (any_but_tries cs)) (lengths_alike cs ds h)
-    ∙ ap (λ n. whole_text (length ds) n (any_but_tries cs)) (counts_alike cs ds h) ∙ ap (λ t. whole_text (length ds) (count_before ds) t) (any_alike cs ds h)
+verdict_alike None cs ds h = ap (λ n. whole_text n (count_before cs) (any_but_tries cs) (most_lost_from 0 cs)) (lengths_alike cs ds h)
+    ∙ ap (λ n. whole_text (length ds) n (any_but_tries cs) (most_lost_from 0 cs)) (counts_alike cs ds h)
+    ∙ ap (λ t. whole_text (length ds) (count_before ds) t (most_lost_from 0 cs)) (any_alike cs ds h)
+    ∙ ap (λ n. whole_text (length ds) (count_before ds) (any_but_tries ds) n) (most_alike cs ds h 0)
 
-all_verdicts_alike : (cs ds : List Cut) → AreAlike cs ds → verdict_text cs ≡ verdict_text ds
-all_verdicts_alike cs ds h = ap (λ f. verdict_by f cs) (broken_alike cs ds h 0) ∙ verdict_alike (first_broken 0 ds) cs ds h
+all_verdicts_alike : (answer : List ℕ) (cs ds : List Cut) → AreAlike cs ds → verdict_text answer cs ≡ verdict_text answer ds
+all_verdicts_alike answer cs ds h =
+    ap (λ f. if is_refused_at_once answer cs then no_write_text answer else verdict_by f cs) (broken_alike cs ds h 0)
+    ∙ ap (λ v. if is_refused_at_once answer cs then no_write_text answer else v) (verdict_alike (first_broken 0 ds) cs ds h)
+    ∙ ap (λ n. if (n == 0) && is_refused answer then no_write_text answer else verdict_by (first_broken 0 ds) ds) (lengths_alike cs ds h)
 
 -- ---- the report
 
@@ -158,15 +185,16 @@ uncut_line : (answer answers : List ℕ) → told_uncut answer answers ++ codes 
 unfolding told_uncut
 uncut_line answer answers = simp append_assoc
 
-report_alike : (s : Sweep) (cuts : List Cut) (uncut : List ℕ) → AreAlike cuts s.cuts.items → uncut ≡ told_uncut s.answer.items s.after.answers.items
-    → s.depth ≡ Zero → joined_text cuts uncut ≡ report_text s
-report_alike s cuts uncut h e none =
-    ap (λ r. r ++ uncut ++ codes "\n" ++ verdict_text cuts) (all_rows_alike cuts s.cuts.items h)
-    ∙ ap (λ v. rows_text s.cuts.items ++ uncut ++ codes "\n" ++ v) (all_verdicts_alike cuts s.cuts.items h)
-    ∙ ap (λ l. l ++ verdict_text s.cuts.items) (append_assoc (rows_text s.cuts.items) uncut (codes "\n")
+report_alike : (s : Sweep) (cuts : List Cut) (answer uncut : List ℕ) → AreAlike cuts s.cuts.items → answer ≡ s.answer.items
+    → uncut ≡ told_uncut s.answer.items s.after.answers.items → s.depth ≡ Zero → joined_text cuts answer uncut ≡ report_text s
+report_alike s cuts answer uncut h f e none =
+    ap (λ r. r ++ uncut ++ codes "\n" ++ verdict_text answer cuts) (all_rows_alike cuts s.cuts.items h)
+    ∙ ap (λ v. rows_text s.cuts.items ++ uncut ++ codes "\n" ++ v) (all_verdicts_alike answer cuts s.cuts.items h)
+    ∙ ap (λ a. rows_text s.cuts.items ++ uncut ++ codes "\n" ++ verdict_text a s.cuts.items) f
+    ∙ ap (λ l. l ++ verdict_text s.answer.items s.cuts.items) (append_assoc (rows_text s.cuts.items) uncut (codes "\n")
     ∙ ap (λ u. rows_text s.cuts.items ++ u) (ap (λ u. u ++ codes "\n") e ∙ uncut_line s.answer.items s.after.answers.items))
-    ∙ sym (append-nil (rows_text s.cuts.items ++ uncut_text s.answer.items s.after.answers.items ++ verdict_text s.cuts.items))
-    ∙ ap (λ r. rows_text s.cuts.items ++ uncut_text s.answer.items s.after.answers.items ++ verdict_text s.cuts.items ++ r)
+    ∙ sym (append-nil (rows_text s.cuts.items ++ uncut_text s.answer.items s.after.answers.items ++ verdict_text s.answer.items s.cuts.items))
+    ∙ ap (λ r. rows_text s.cuts.items ++ uncut_text s.answer.items s.after.answers.items ++ verdict_text s.answer.items s.cuts.items ++ r)
     (sym (ap (λ depth. recoveries_text depth s.cuts.items) none))
 
 -- ---- the lines behind the cuts
@@ -190,28 +218,58 @@ pub same_lengths : (cs ds : List Cut) → map told_cut cs ≡ map told_cut ds �
 same_lengths cs ds e = sym (length-map cs told_cut) ∙ ap length e ∙ length-map ds told_cut
 
 -- the lines tell a sweep
-pub joined_read : (n : ℕ) (lines : List (List ℕ)) (cuts : List Cut) (uncut : List ℕ) → 0 < n → TellCuts lines cuts
-    → drop (length cuts) lines ≡ replicate n uncut → (lines ≡ told_sweep n cuts uncut) × IsUncutTold uncut
-joined_read n lines cuts uncut some t e =
+pub joined_read : (n : ℕ) (lines : List (List ℕ)) (cuts : List Cut) (uncut : List ℕ) → TellCuts lines cuts
+    → drop (length cuts) lines ≡ replicate n uncut → lines ≡ told_sweep n cuts uncut
+joined_read n lines cuts uncut t e =
+    let rest : t.0 ≡ replicate n uncut = sym (behind_cuts cuts t.0) ∙ ap (drop (length cuts)) (sym t.1) ∙ e in
+    t.1 ∙ ap (λ l. map told_cut cuts ++ l) rest
+
+-- the line behind the cuts tells of none
+pub uncut_told : (n : ℕ) (lines : List (List ℕ)) (cuts : List Cut) (uncut : List ℕ) → 0 < n → TellCuts lines cuts
+    → drop (length cuts) lines ≡ replicate n uncut → IsUncutTold uncut
+uncut_told n lines cuts uncut some t e =
     let rest : t.0 ≡ replicate n uncut = sym (behind_cuts cuts t.0) ∙ ap (drop (length cuts)) (sym t.1) ∙ e in
     let first = begins_with n uncut t.0 some rest in
-    (t.1 ∙ ap (λ l. map told_cut cuts ++ l) rest, t.2 uncut first.0 first.1)
+    t.2 uncut first.0 first.1
 
-no_commas : (cuts : List Cut) → All (λ c. IsOfWords c.standing) cuts → All (λ c. has 44 (standing_text c.standing) ≡ false) cuts
-no_commas [] w = All-nil (λ c. has 44 (standing_text c.standing) ≡ false)
-no_commas (c ∷ cuts) w = All-cons (λ c. has 44 (standing_text c.standing) ≡ false) c cuts
-    (standing_has_no_comma c.standing (All-head (λ c. IsOfWords c.standing) c cuts w)) (no_commas cuts (All-tail (λ c. IsOfWords c.standing) c cuts w))
+-- it stands there
+pub uncut_stands : (n : ℕ) (lines : List (List ℕ)) (count : ℕ) (uncut : List ℕ) → 0 < n → drop count lines ≡ replicate n uncut
+    → (count < length lines) × (get_or lines count [] ≡ uncut)
+uncut_stands n lines count uncut some e =
+    let size : length lines - count ≡ n = sym (length-drop count lines) ∙ ap length e ∙ length-replicate n uncut in
+    let within : count < length lines = omega (arith, size, some) in
+    let next : drop count lines ≡ get_or lines count [] ∷ drop (count + 1) lines = from_next lines count within in
+    let first = begins_with n uncut (drop count lines) some e in
+    let both : get_or lines count [] ∷ drop (count + 1) lines ≡ uncut ∷ first.0 = sym next ∙ first.1 in
+    let same : get_or lines count [] ≡ uncut = cc in
+    (within, same)
 
--- the report of a sweep that the lines tell is the one that is told
-pub joined_whole : (s : Sweep) (lines : List (List ℕ)) (n : ℕ) (cuts : List Cut) (uncut : List ℕ) → IsTellable s → 0 < n
-    → lines ≡ told_sweep n s.cuts.items (told_uncut s.answer.items s.after.answers.items)
-    → All (λ c. has 44 (standing_text c.standing) ≡ false) cuts → map told_cut cuts ≡ map told_cut s.cuts.items
-    → drop (length cuts) lines ≡ replicate n uncut
-    → (joined_text cuts uncut ≡ report_text s) × (first_broken 0 cuts ≡ first_broken 0 s.cuts.items)
-joined_whole s lines n cuts uncut tellable some e lacking same behind =
-    let alikes = all_alike cuts s.cuts.items lacking (no_commas s.cuts.items tellable.0) same in
+read_cuts : (cuts : List Cut) → All IsCutOfWords cuts → All IsReadCut cuts
+read_cuts [] w = All-nil IsReadCut
+read_cuts (c ∷ cuts) w =
+    let one = All-head IsCutOfWords c cuts w in
+    All-cons IsReadCut c cuts (standing_has_no_comma c.standing one.0, one.1) (read_cuts cuts (All-tail IsCutOfWords c cuts w))
+
+-- the lines behind those that tell the cuts of a sweep tell its answer
+pub uncut_is : (s : Sweep) (lines : List (List ℕ)) (n : ℕ) (cuts : List Cut) (uncut : List ℕ) → 0 < n
+    → lines ≡ told_sweep n s.cuts.items (told_uncut s.answer.items s.after.answers.items) → map told_cut cuts ≡ map told_cut s.cuts.items
+    → drop (length cuts) lines ≡ replicate n uncut → uncut ≡ told_uncut s.answer.items s.after.answers.items
+uncut_is s lines n cuts uncut some e same behind =
     let u = told_uncut s.answer.items s.after.answers.items in
     let at : drop (length cuts) lines ≡ replicate n u =
     ap (drop (length cuts)) e ∙ ap (λ m. drop m (told_sweep n s.cuts.items u)) (same_lengths cuts s.cuts.items same)
     ∙ behind_cuts s.cuts.items (replicate n u) in
-    (report_alike s cuts uncut alikes (first_of_all n uncut u some (sym behind ∙ at)) tellable.2, broken_alike cuts s.cuts.items alikes 0)
+    first_of_all n uncut u some (sym behind ∙ at)
+
+-- the report of a sweep that the lines tell is the one that is told
+pub joined_whole : (s : Sweep) (lines : List (List ℕ)) (n : ℕ) (cuts : List Cut) (answer uncut : List ℕ) → IsTellable s → 0 < n
+    → lines ≡ told_sweep n s.cuts.items (told_uncut s.answer.items s.after.answers.items)
+    → All IsReadCut cuts → map told_cut cuts ≡ map told_cut s.cuts.items
+    → drop (length cuts) lines ≡ replicate n uncut → IsAnswerTold answer uncut
+    → (joined_text cuts answer uncut ≡ report_text s) × (first_broken 0 cuts ≡ first_broken 0 s.cuts.items)
+joined_whole s lines n cuts answer uncut tellable some e lacking same behind told =
+    let alikes = all_alike cuts s.cuts.items lacking (read_cuts s.cuts.items tellable.0) same in
+    let u = told_uncut s.answer.items s.after.answers.items in
+    let it : uncut ≡ u = uncut_is s lines n cuts uncut some e same behind in
+    let own : IsAnswerTold s.answer.items uncut = subst (IsAnswerTold s.answer.items) (sym it) (answer_of_uncut s.answer.items s.after.answers.items tellable.2) in
+    (report_alike s cuts answer uncut alikes (answer_unique uncut answer s.answer.items told own) it tellable.3, broken_alike cuts s.cuts.items alikes 0)

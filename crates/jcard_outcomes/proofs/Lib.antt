@@ -5,6 +5,7 @@ pub mod Verdicts
 pub mod Differences
 pub mod PartSteps
 pub mod Splits
+pub mod Orders
 pub mod Told
 pub mod Dealt
 pub mod Joined

@@ -1,14 +1,14 @@
 -- Reading the lines of all parts.
 use Rattle.std.proofs.Common.{arith, ◌≡◌, ◌∙◌, ℕ, ◌+◌, ◌%◌, ◌<◌, ◌≤◌, List, [], ◌∷◌, ◌++◌, length, get_or, ap, sym, refl, subst, Some, None, Result, Ok, Err}
-use Rattle.std.specs.Prelude.{IfErr, IfOk, MatchResult}
+use Rattle.std.specs.Prelude.{IfErr, IfOk, IsErrAnd, MatchResult}
 use Rattle.std.specs.Borrow.{Bor}
 use Rattle.std.specs.List.{All}
 use Rattle.std.proofs.lemmas.List.{get_or-map}
 use Rattle.std.proofs.Math.Nat.{mod-lt}
-use Rattle.jcard_outcomes.specs.Joins.{AreOrdered, IsNextLine}
+use Rattle.jcard_outcomes.specs.Joins.{AreOrdered, IsHeadFault, IsNextFault, IsNextLine, IsReadTo}
 use Rattle.jcard_outcomes.specs.Parts.{line_text}
-use Rattle.jcard_outcomes.specs.declared.join.JoinFault.{JoinFault}
-use Rattle.jcard_outcomes.specs.declared.join.JoinFault.TheVariants.{BadLine, Missing, NoMemory, OtherSweep, Twice}
+use Rattle.jcard_outcomes.specs.declared.join_fault.JoinFault.{JoinFault}
+use Rattle.jcard_outcomes.specs.declared.join_fault.JoinFault.TheVariants.{BadLine, Missing, NoMemory, OtherSweep, Twice}
 use Rattle.jcard_outcomes.proofs.Dealt.{Reading, begun, line_some, next, none_left, read_whole, stuck}
 use Rattle.jcard_outcomes.proofs.Ends.{lent, lent_at, lent_length, nothing}
 
@@ -51,6 +51,55 @@ reads_fault texts lines rests left k (Missing m) r some n all o = absurd (refuse
 reads_fault texts lines rests left k (Twice m) r some n all o = absurd (refused texts lines rests k r some n.1 n.2 all o)
 reads_fault texts lines rests left k (BadLine m) r some n all o = absurd (refused texts lines rests k r some n.1 n.2 all o)
 reads_fault texts lines rests left k (OtherSweep m) r some n all o = absurd (refused texts lines rests k r some n.1 n.2 all o)
+
+-- what was read of the texts, and what is left of them
+read_to : (texts : List (List ℕ)) (lines rests : List (List ℕ)) (k : ℕ) → Reading texts lines rests k → IsReadTo texts rests k
+read_to texts lines rests k r = record { read = (lines, r.count, r.so_far); all = r.parts }
+
+-- the text that has the next line does not begin with it
+pub next_of_fault : (texts : List (List ℕ)) (lines rests left : List (Bor (List ℕ))) (k : ℕ) (f : JoinFault) → Reading texts (lent lines) (lent rests) k
+    → IsNextLine k (lent rests) (lent left) (Err f) → IsNextFault texts f
+next_of_fault texts lines rests left k NoMemory r n = (lent rests, k, read_to texts (lent lines) (lent rests) k r, tt)
+next_of_fault texts lines rests left k (Missing m) r n = (
+  lent rests,
+  k,
+  read_to texts (lent lines) (lent rests) k r,
+  subst (λ p. IsHeadFault p k (get_or (lent rests) (k % p) []) (Missing m)) r.parts n.0,
+)
+next_of_fault texts lines rests left k (Twice m) r n = (
+  lent rests,
+  k,
+  read_to texts (lent lines) (lent rests) k r,
+  subst (λ p. IsHeadFault p k (get_or (lent rests) (k % p) []) (Twice m)) r.parts n.0,
+)
+next_of_fault texts lines rests left k (BadLine m) r n = absurd n.0
+next_of_fault texts lines rests left k (OtherSweep m) r n = absurd n.0
+
+-- nothing is left of it
+pub none_of_fault : (texts : List (List ℕ)) (lines rests left : List (Bor (List ℕ))) (k : ℕ) → Reading texts (lent lines) (lent rests) k
+    → IsNextLine k (lent rests) (lent left) (Ok None) → IsNextFault texts (Missing k)
+none_of_fault texts lines rests left k r n = (
+  lent rests,
+  k,
+  read_to texts (lent lines) (lent rests) k r,
+  subst (λ p. IsHeadFault p k (get_or (lent rests) (k % p) []) (Missing k)) r.parts
+      (refl, (λ i told rest e begins. line_some i told rest (sym begins ∙ n.0))),
+)
+
+-- memory was refused
+pub no_room : (texts : List (List ℕ)) (f : JoinFault) → f ≡ NoMemory → IsNextFault texts f
+no_room texts f e = subst (IsNextFault texts) (sym e) (texts, 0, read_to texts [] texts 0 (begun texts texts refl), tt)
+
+-- a `?` passes on what is known of the cause
+pub refused_on : {A F : Type 0} {Q : F → Type 0} (R : F → Type 0) (r : Result A F) → IsErrAnd r Q → ((fault : F) → Q fault → R fault) → IfErr r R
+refused_on R (Ok x) is to = absurd is
+refused_on R (Err fault) is to = to fault is
+
+pub ended_of_fault : {V : Type 0} (items : V → List (Bor (List ℕ))) (texts : List (List ℕ)) (lines : V) (rests left : List (Bor (List ℕ))) (k : ℕ)
+    (r : Result V JoinFault) → Reading texts (lent (items lines)) (lent rests) k → IsNextLine k (lent rests) (lent left) (Ok None)
+    → IfErr r (λ f. (f ≡ Missing k) × (All (λ t. t.now ≡ []) left → ⊥)) → IfErr r (λ f. IsNextFault texts f)
+ended_of_fault items texts lines rests left k (Ok v) r n g = tt
+ended_of_fault items texts lines rests left k (Err f) r n g = subst (IsNextFault texts) (sym g.0) (none_of_fault texts (items lines) rests left k r n)
 
 -- ---- the end, for lists of any kind
 

@@ -6,6 +6,7 @@ use Rattle.std.proofs.Math.Seq.{get_or-append_seam}
 use Rattle.std.proofs.lemmas.Bool.{cases_lt}
 use Rattle.std.proofs.lemmas.List.{append_cancel_left, get_or-map, get_or_append_left}
 use Rattle.jcard_outcomes.specs.Joins.{AreBodiesOf, ArePartsOf, IsPartOf}
+use Rattle.jcard_outcomes.specs.Orders.{ArePlaces}
 use Rattle.jcard_outcomes.specs.Parts.{body_text, has, head_text, part_text}
 use Rattle.jcard_outcomes.specs.SweepHeads.{AreBehindHeads, AreOfOthers, IsBehindHead, IsOfOther}
 use Rattle.jcard_outcomes.specs.declared.part.Part.{Part}
@@ -92,21 +93,36 @@ first_other texts some none = (some, λ name x y e f. none name x e, λ i low ot
 pub bodies_of_parts : (s : Sweep) (name other : List ℕ) (texts bodies : List (List ℕ)) → has 10 name ≡ false → ArePartsOf s name texts
     → AreBehindHeads other texts bodies → AreBodiesOf s bodies
 unfolding part_text
-bodies_of_parts s name other texts bodies plain parts behind = λ j h.
-    let within : j < length texts = omega (arith, behind.all, h) in
-    let part = parts j within in
-    let mine : IsBehindHead name (get_or texts j []) (body_text part.0) =
-    (part.3 ∙ ap (λ n. head_text n ++ body_text part.0) part.2, plain) in
-    let one = head_unique (get_or texts j []) name other (body_text part.0) (get_or bodies j []) mine (behind.each j within) in
-    (part.0, subst (λ n. IsPartOf s n j part.0) (sym behind.all) part.1, sym one.1)
+bodies_of_parts s name other texts bodies plain parts behind = (
+  parts.0,
+  subst (λ n. ArePlaces n parts.0) (sym behind.all) parts.1,
+  (λ j h.
+      let within : j < length texts = omega (arith, behind.all, h) in
+      let part = parts.2 j within in
+      let at : ℕ = parts.0 j in
+      let there : at < length texts = parts.1.within j within in
+      let mine : IsBehindHead name (get_or texts at []) (body_text part.0) =
+      (part.3 ∙ ap (λ n. head_text n ++ body_text part.0) part.2, plain) in
+      let one = head_unique (get_or texts at []) name other (body_text part.0) (get_or bodies at []) mine (behind.each at there) in
+      (part.0, subst (λ n. IsPartOf s n j part.0) (sym behind.all) part.1, sym one.1)),
+)
+
+-- the text at a place is that of a part
+part_there : (s : Sweep) (name : List ℕ) (texts : List (List ℕ)) → has 10 name ≡ false → ArePartsOf s name texts → (i : ℕ) → i < length texts
+    → (body : List ℕ) × IsBehindHead name (get_or texts i []) body
+unfolding part_text
+part_there s name texts plain parts i h =
+    let from = parts.1.all i h in
+    let part = parts.2 from.0 from.1 in (
+      body_text part.0,
+      (ap (λ k. get_or texts k []) (sym from.2) ∙ part.3 ∙ ap (λ n. head_text n ++ body_text part.0) part.2, plain),
+    )
 
 -- they are all of one
 pub parts_of_one : (s : Sweep) (name : List ℕ) (texts : List (List ℕ)) (fault : HeadFault) → 0 < length texts → has 10 name ≡ false → ArePartsOf s name texts
     → AreOfOthers texts fault → fault ≡ NoMemory
-unfolding part_text
 parts_of_one s name texts NoMemory some plain parts h = refl
 parts_of_one s name texts (OtherSweep j) some plain parts h =
-    let first = parts 0 some in
-    let part = parts j h.0 in
-    absurd (h.1 name (body_text first.0) (body_text part.0) (first.3 ∙ ap (λ n. head_text n ++ body_text first.0) first.2, plain)
-    (part.3 ∙ ap (λ n. head_text n ++ body_text part.0) part.2, plain))
+    let first = part_there s name texts plain parts 0 some in
+    let part = part_there s name texts plain parts j h.0 in
+    absurd (h.1 name first.0 part.0 first.1 part.1)

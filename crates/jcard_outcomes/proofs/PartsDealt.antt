@@ -4,7 +4,7 @@ use Rattle.std.specs.Prelude.{slice_get}
 use Rattle.std.proofs.lemmas.Bool.{cases_lt}
 use Rattle.std.proofs.lemmas.List.{drop_all}
 use Rattle.std.proofs.Math.Nat.{mod-lt, mod-eq_of_lt, mod_self, suc-mod, suc-mul}
-use Rattle.jcard_outcomes.specs.Joins.{AreBodiesOf, IsEvery}
+use Rattle.jcard_outcomes.specs.Joins.{AreBodiesInOrder, IsEvery}
 use Rattle.jcard_outcomes.specs.Parts.{AreDealt, dealt, line_text, lines_text, told_cut, told_sweep, told_uncut}
 use Rattle.jcard_outcomes.specs.declared.report.Sweep.{Sweep}
 use Rattle.jcard_outcomes.specs.declared.standing.Cut.{Cut}
@@ -121,7 +121,7 @@ lines_dealt (suc fuel) m zero k n rest j whole (c ∷ part) u all low small at f
 
 -- ---- all parts
 
-pub parts_dealt : (s : Sweep) (texts : List (List ℕ)) → 0 < length texts → AreBodiesOf s texts
+pub parts_dealt : (s : Sweep) (texts : List (List ℕ)) → 0 < length texts → AreBodiesInOrder s texts
     → AreDealt texts (told_sweep (length texts) s.cuts.items (told_uncut s.answer.items s.after.answers.items))
 parts_dealt s texts some parts j small =
     let p = (parts j small).0 in

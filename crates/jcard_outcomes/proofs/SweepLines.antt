@@ -5,9 +5,10 @@ use Rattle.std.specs.List.{All}
 use Rattle.std.proofs.lemmas.List.{get_or-replicate, length-append, length-map, length-replicate}
 use Rattle.std.proofs.lemmas.List.Elements.{All-head, All-tail}
 use Rattle.jcard_outcomes.specs.Joins.{AreTold, IsUncutTold}
-use Rattle.jcard_outcomes.specs.Parts.{IsOfWords, told_cut, told_sweep}
+use Rattle.jcard_outcomes.specs.Parts.{IsCutOfWords, cut_tail, told_cut, told_sweep}
 use Rattle.jcard_outcomes.specs.Reports.{in_line, standing_text}
 use Rattle.jcard_outcomes.specs.declared.standing.Cut.{Cut}
+use Rattle.jcard_outcomes.proofs.Told.{told_parts}
 use Rattle.jcard_outcomes.specs.declared.standing.Standing.{Standing}
 use Rattle.jcard_outcomes.specs.declared.standing.Standing.TheVariants.{Before, BeforeButTries, After, AfterButTries, Answers, Changed}
 
@@ -45,14 +46,14 @@ got [] i h = absurd (omega arith)
 got (c ∷ cuts) zero h = (c, refl)
 got (c ∷ cuts) (suc i) h = got cuts i (omega arith)
 
-got_words : (cuts : List Cut) (i : ℕ) (c : Cut) → slice_get cuts i ≡ Some c → All (λ c. IsOfWords c.standing) cuts → IsOfWords c.standing
+got_words : (cuts : List Cut) (i : ℕ) (c : Cut) → slice_get cuts i ≡ Some c → All IsCutOfWords cuts → IsCutOfWords c
 got_words [] i c e w = absurd cc
-got_words (d ∷ cuts) zero c e w = let same : d ≡ c = cc in subst (λ x. IsOfWords x.standing) same (All-head (λ c. IsOfWords c.standing) d cuts w)
-got_words (d ∷ cuts) (suc i) c e w = got_words cuts i c e (All-tail (λ c. IsOfWords c.standing) d cuts w)
+got_words (d ∷ cuts) zero c e w = let same : d ≡ c = cc in subst IsCutOfWords same (All-head IsCutOfWords d cuts w)
+got_words (d ∷ cuts) (suc i) c e w = got_words cuts i c e (All-tail IsCutOfWords d cuts w)
 
 -- a line of a cut tells of one
 pub cut_line : (cuts : List Cut) (u : List ℕ) (n : ℕ) (lines : List (List ℕ)) (i : ℕ) → AreTold cuts u n lines → i < length cuts
-    → (c : Cut) × (get_or lines i [] ≡ told_cut c) × IsOfWords c.standing
+    → (c : Cut) × (get_or lines i [] ≡ told_cut c) × IsCutOfWords c
 cut_line cuts u n lines i t h =
     let found = got cuts i h in (
       found.0,
@@ -78,6 +79,4 @@ first_byte (Changed d) rest e = absurd (omega (arith, e))
 
 -- no cut is told so
 pub cut_is_no_end : (c : Cut) → IsUncutTold (told_cut c) → ⊥
-unfolding told_cut
-cut_is_no_end c h = first_byte c.standing (codes ", answers " ++ in_line c.answers.items)
-    (ap (λ l. get_or l 0 0) (sym (append_assoc (standing_text c.standing) (codes ", answers ") (in_line c.answers.items)) ∙ h.1))
+cut_is_no_end c h = first_byte c.standing (44 ∷ cut_tail c.lost (in_line c.answers.items)) (ap (λ l. get_or l 0 0) (sym (told_parts c) ∙ h.1))

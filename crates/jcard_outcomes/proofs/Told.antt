@@ -2,13 +2,14 @@
 use Rattle.std.proofs.Common.{arith, ◌≡◌, inl, ◌∙◌, ℕ, ◌<◌, ◌==◌, ◌||◌, Bool, true, false, List, [], ◌∷◌, ◌++◌, if◌then◌else◌, ap, sym, refl, codes, decimal, append_assoc}
 use Rattle.std.proofs.lemmas.Bool.{false≢true}
 use Rattle.std.proofs.lemmas.List.Folds.{list_any-append}
-use Rattle.jcard_outcomes.specs.Parts.{AreWords, IsOfWords, has, told_cut}
+use Rattle.jcard_outcomes.specs.Joins.{IsAnswerTold}
+use Rattle.jcard_outcomes.specs.Parts.{AreWords, IsCutOfWords, IsOfWords, cut_tail, has, told_cut, told_uncut}
 use Rattle.jcard_outcomes.specs.Reports.{in_line, standing_text}
 use Rattle.jcard_outcomes.specs.declared.heaps.Difference.{Difference}
 use Rattle.jcard_outcomes.specs.declared.standing.Cut.{Cut}
 use Rattle.jcard_outcomes.specs.declared.standing.Standing.{Standing}
 use Rattle.jcard_outcomes.specs.declared.standing.Standing.TheVariants.{Before, BeforeButTries, After, AfterButTries, Answers, Changed}
-use Rattle.jcard_outcomes.proofs.Splits.{cut_again, decimal_lacks, not_lacking, rest_again}
+use Rattle.jcard_outcomes.proofs.Splits.{cut_again, cut_unique, decimal_lacks, not_lacking, rest_again}
 
 -- ---- words behind labels
 
@@ -149,43 +150,79 @@ in_line_same (x ∷ xs) n = same_step x xs (x == 10) refl n (in_line_same xs)
 
 -- ---- cuts
 
-pub told_parts : (c : Cut) → told_cut c ≡ standing_text c.standing ++ 44 ∷ (codes " answers " ++ in_line c.answers.items)
+pub told_parts : (c : Cut) → told_cut c ≡ standing_text c.standing ++ 44 ∷ cut_tail c.lost (in_line c.answers.items)
 unfolding told_cut
-told_parts c = append_assoc (standing_text c.standing) (codes ", answers ") (in_line c.answers.items)
+told_parts c = simp append_assoc
 
-pub told_in_one_line : (c : Cut) → IsOfWords c.standing → has 10 (told_cut c) ≡ false
+tail_in_one_line : (lost : ℕ) (answers : List ℕ) → lost < 65536 → has 10 answers ≡ false → has 10 (44 ∷ cut_tail lost answers) ≡ false
+tail_in_one_line lost answers small h =
+    lacks_both 10 (decimal lost) (32 ∷ (codes "words lost, answers " ++ answers)) (decimal_lacks 10 lost (inl (omega arith)) (omega (arith, small)))
+    (lacks_both 10 (codes "words lost, answers ") answers refl h)
+
+pub told_in_one_line : (c : Cut) → IsCutOfWords c → has 10 (told_cut c) ≡ false
 told_in_one_line c words = ap (has 10) (told_parts c)
-    ∙ lacks_both 10 (standing_text c.standing) (44 ∷ (codes " answers " ++ in_line c.answers.items)) (standing_in_one_line c.standing words) (in_line_has_none c.answers.items)
+    ∙ lacks_both 10 (standing_text c.standing) (44 ∷ cut_tail c.lost (in_line c.answers.items)) (standing_in_one_line c.standing words.0)
+    (tail_in_one_line c.lost (in_line c.answers.items) words.1 (in_line_has_none c.answers.items))
 
 -- no cut is told in parts that are none
-pub no_parts : (told : List ℕ) → ((standing answers : List ℕ) → told ≡ standing ++ 44 ∷ (codes " answers " ++ answers) → has 44 standing ≡ false → ⊥)
-    → (c : Cut) → IsOfWords c.standing → told ≡ told_cut c → ⊥
-no_parts told none c words e = none (standing_text c.standing) (in_line c.answers.items) (e ∙ told_parts c) (standing_has_no_comma c.standing words)
+pub no_parts : (told : List ℕ) → ((standing answers : List ℕ) (lost : ℕ) → lost < 65536 → told ≡ standing ++ 44 ∷ cut_tail lost answers
+    → has 44 standing ≡ false → ⊥) → (c : Cut) → IsCutOfWords c → told ≡ told_cut c → ⊥
+no_parts told none c words e = none (standing_text c.standing) (in_line c.answers.items) c.lost words.1 (e ∙ told_parts c) (standing_has_no_comma c.standing words.0)
 
-pub no_cut : (told standing answers : List ℕ) → told ≡ standing ++ 44 ∷ (codes " answers " ++ answers) → has 44 standing ≡ false
-    → ((s : Standing) → IsOfWords s → standing ≡ standing_text s → ⊥) → (c : Cut) → IsOfWords c.standing → told ≡ told_cut c → ⊥
-no_cut told standing answers e lacking none c words h =
-    none c.standing words ((cut_again 44 told standing (standing_text c.standing) _ _ e lacking (h ∙ told_parts c) (standing_has_no_comma c.standing words)).0)
+pub no_cut : (told standing answers : List ℕ) (lost : ℕ) → told ≡ standing ++ 44 ∷ cut_tail lost answers → has 44 standing ≡ false
+    → ((s : Standing) → IsOfWords s → standing ≡ standing_text s → ⊥) → (c : Cut) → IsCutOfWords c → told ≡ told_cut c → ⊥
+no_cut told standing answers lost e lacking none c words h =
+    none c.standing words.0 ((cut_again 44 told standing (standing_text c.standing) _ _ e lacking (h ∙ told_parts c) (standing_has_no_comma c.standing words.0)).0)
 
-pub cut_there : (told standing : List ℕ) (c : Cut) → told ≡ standing ++ 44 ∷ (codes " answers " ++ c.answers.items) → standing ≡ standing_text c.standing
+pub cut_there : (told standing : List ℕ) (c : Cut) → told ≡ standing ++ 44 ∷ cut_tail c.lost c.answers.items → standing ≡ standing_text c.standing
     → has 10 told ≡ false → told ≡ told_cut c
 cut_there told standing c e f n =
-    let more : has 10 (44 ∷ (codes " answers " ++ c.answers.items)) ≡ false =
-    end_lacks 10 standing (44 ∷ (codes " answers " ++ c.answers.items)) (ap (has 10) (sym e) ∙ n) in
-    e ∙ ap (λ l. l ++ 44 ∷ (codes " answers " ++ c.answers.items)) f
-    ∙ ap (λ l. standing_text c.standing ++ 44 ∷ (codes " answers " ++ l)) (sym (in_line_same c.answers.items more)) ∙ sym (told_parts c)
+    let tail : has 10 (44 ∷ cut_tail c.lost c.answers.items) ≡ false =
+    end_lacks 10 standing (44 ∷ cut_tail c.lost c.answers.items) (ap (has 10) (sym e) ∙ n) in
+    let more : has 10 (32 ∷ (codes "words lost, answers " ++ c.answers.items)) ≡ false =
+    end_lacks 10 (decimal c.lost) (32 ∷ (codes "words lost, answers " ++ c.answers.items)) tail in
+    let answers : has 10 c.answers.items ≡ false = end_lacks 10 (codes " words lost, answers ") c.answers.items more in
+    e ∙ ap (λ l. l ++ 44 ∷ cut_tail c.lost c.answers.items) f
+    ∙ ap (λ l. standing_text c.standing ++ 44 ∷ cut_tail c.lost l) (sym (in_line_same c.answers.items answers)) ∙ sym (told_parts c)
 
 -- ---- parts
 
-pub no_comma : (told : List ℕ) → has 44 told ≡ false → (standing answers : List ℕ) → told ≡ standing ++ 44 ∷ (codes " answers " ++ answers)
+pub no_comma : (told : List ℕ) → has 44 told ≡ false → (standing answers : List ℕ) (lost : ℕ) → lost < 65536 → told ≡ standing ++ 44 ∷ cut_tail lost answers
     → has 44 standing ≡ false → ⊥
-no_comma told n standing answers e lacking = not_lacking 44 told standing _ n e
+no_comma told n standing answers lost small e lacking = not_lacking 44 told standing _ n e
 
-pub no_answers : (told front rest : List ℕ) → told ≡ front ++ 44 ∷ rest → has 44 front ≡ false → ((more : List ℕ) → rest ≡ codes " answers " ++ more → ⊥)
-    → (standing answers : List ℕ) → told ≡ standing ++ 44 ∷ (codes " answers " ++ answers) → has 44 standing ≡ false → ⊥
-no_answers told front rest e lacking none standing answers h lacks =
-    none answers ((cut_again 44 told front standing rest _ e lacking h lacks).1)
+pub no_lost : (told front rest : List ℕ) → told ≡ front ++ 44 ∷ rest → has 44 front ≡ false
+    → ((n : ℕ) (more : List ℕ) → n < 65536 → rest ≡ codes " " ++ (decimal n ++ 32 ∷ more) → ⊥)
+    → (standing answers : List ℕ) (lost : ℕ) → lost < 65536 → told ≡ standing ++ 44 ∷ cut_tail lost answers → has 44 standing ≡ false → ⊥
+no_lost told front rest e lacking none standing answers lost small h lacks =
+    none lost (codes "words lost, answers " ++ answers) small ((cut_again 44 told front standing rest _ e lacking h lacks).1)
 
-pub parts_there : (told front rest answers : List ℕ) → told ≡ front ++ 44 ∷ rest → rest ≡ codes " answers " ++ answers
-    → told ≡ front ++ 44 ∷ (codes " answers " ++ answers)
-parts_there told front rest answers e f = e ∙ ap (λ l. front ++ 44 ∷ l) f
+pub no_answers : (told front rest more : List ℕ) (n : ℕ) → told ≡ front ++ 44 ∷ rest → has 44 front ≡ false → n < 65536
+    → rest ≡ codes " " ++ (decimal n ++ 32 ∷ more) → ((end : List ℕ) → more ≡ codes "words lost, answers " ++ end → ⊥)
+    → (standing answers : List ℕ) (lost : ℕ) → lost < 65536 → told ≡ standing ++ 44 ∷ cut_tail lost answers → has 44 standing ≡ false → ⊥
+no_answers told front rest more n e lacking fits f none standing answers lost small h lacks =
+    none answers (word_again rest (codes " ") n lost more _ fits small f ((cut_again 44 told front standing rest _ e lacking h lacks).1))
+
+pub parts_there : (told front rest more answers : List ℕ) (n : ℕ) → told ≡ front ++ 44 ∷ rest → rest ≡ codes " " ++ (decimal n ++ 32 ∷ more)
+    → more ≡ codes "words lost, answers " ++ answers → told ≡ front ++ 44 ∷ cut_tail n answers
+parts_there told front rest more answers n e f g =
+    e ∙ ap (λ l. front ++ 44 ∷ l) (f ∙ ap (λ l. codes " " ++ (decimal n ++ 32 ∷ l)) g)
+
+-- ---- the command that is not cut
+
+-- no answer is told where none of these is found
+pub no_colon : (told rest : List ℕ) → told ≡ codes "no cut, answer " ++ rest → has 58 rest ≡ false → (answer : List ℕ) → IsAnswerTold answer told → ⊥
+no_colon told rest e n answer h = not_lacking 58 rest answer h.0 n (rest_again told (codes "no cut, answer ") rest (answer ++ 58 ∷ h.0) e h.1)
+
+-- one answer is told
+pub answer_unique : (told a b : List ℕ) → IsAnswerTold a told → IsAnswerTold b told → a ≡ b
+answer_unique told a b g h = (cut_unique 58 a b g.0 h.0 g.2 h.2 (rest_again told (codes "no cut, answer ") (a ++ 58 ∷ g.0) (b ++ 58 ∷ h.0) g.1 h.1)).0
+
+pub answer_of_uncut : (answer answers : List ℕ) → has 58 answer ≡ false → IsAnswerTold answer (told_uncut answer answers)
+unfolding told_uncut
+answer_of_uncut answer answers h = (
+  32 ∷ (in_line answers ++ codes "as after"),
+  ap (λ l. codes "no cut, answer " ++ l) (append_assoc (answer ++ codes ": ") (in_line answers) (codes "as after")
+      ∙ append_assoc answer (codes ": ") (in_line answers ++ codes "as after")),
+  h,
+)

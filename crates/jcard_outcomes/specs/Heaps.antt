@@ -1,5 +1,5 @@
 -- How the heaps of two images compare. The words that hold the tries of PINs are spared: a try counts before the PIN is compared.
-use Rattle.std.specs.Prelude.{ℕ, ◌≡◌, ◌<◌, ◌≤◌, ◌==◌, ◌&&◌, not, Bool, false, List, EachIndex, slice_index}
+use Rattle.std.specs.Prelude.{ℕ, ◌≡◌, ◌<◌, ◌≤◌, ◌-◌, ◌==◌, ◌&&◌, not, Bool, false, List, EachIndex, slice_index}
 use Rattle.std.specs.List.{list_any}
 use Rattle.jc_words.specs.Layout.{addresses_start, packages_address, reset_end_address, text_length_address, top_address}
 use Rattle.jcard_outcomes.specs.declared.heaps.Difference.{Difference}
@@ -34,6 +34,11 @@ pub record IsDifference (spared before heap : List ℕ) (d : Difference) : Type 
   pub is : d.now ≡ slice_index heap d.address
   pub changed : StandsAsBefore spared before heap → ⊥
 
--- the words that are spared are the same
+-- the words that are spared, as far as they stand below the top of the first, are the same: those of a PIN that is made later do not count
 abbrev pub AgreeAtSpared : List ℕ → List ℕ → List ℕ → Type 0
-AgreeAtSpared spared a b = EachIndex spared (λ k. slice_index a (slice_index spared k) ≡ slice_index b (slice_index spared k))
+AgreeAtSpared spared a b = EachIndex spared (λ k. slice_index spared k < slice_index a top_address
+    → slice_index a (slice_index spared k) ≡ slice_index b (slice_index spared k))
+
+-- how many words stand above what stood before
+abbrev pub words_above : List ℕ → List ℕ → ℕ
+words_above before heap = slice_index heap top_address - slice_index before top_address

@@ -1,11 +1,12 @@
 -- What the texts of all parts of a sweep are joined to.
-use Rattle.std.specs.Prelude.{ℕ, ◌≡◌, ◌+◌, ◌*◌, ◌%◌, ◌<◌, false, List, [], ◌∷◌, ◌++◌, All, map, length, codes, is_none, Option, Some, None, Result, Ok, Err, slice_get, slice_set, IfOk, MatchResult}
+use Rattle.std.specs.Prelude.{ℕ, ◌≡◌, ◌⊎◌, ◌+◌, ◌*◌, ◌%◌, ◌<◌, ◌≤◌, false, List, [], ◌∷◌, ◌++◌, All, map, length, codes, is_none, Option, Some, None, Result, Ok, Err, slice_get, slice_set, IfErr, IfOk, MatchResult}
 use Rattle.std.specs.List.{slice_index_or}
 use Rattle.std.specs.Borrow.{Bor}
-use Rattle.jcard_outcomes.specs.Parts.{AreDealt, IsOfWords, body_text, has, line_text, part_text, told_cut, told_sweep, told_uncut}
-use Rattle.jcard_outcomes.specs.Reports.{first_broken, report_text, rows_text, standing_text, verdict_text}
-use Rattle.jcard_outcomes.specs.declared.join.JoinFault.{JoinFault}
-use Rattle.jcard_outcomes.specs.declared.join.JoinFault.TheVariants.{Missing, NoMemory, Twice}
+use Rattle.jcard_outcomes.specs.Orders.{AreInOrder, ArePlaces, AreUnplaced}
+use Rattle.jcard_outcomes.specs.Parts.{AreDealt, IsCutOfWords, IsReadCut, body_text, dealt, has, line_text, part_text, told_cut, told_sweep, told_uncut}
+use Rattle.jcard_outcomes.specs.Reports.{first_broken, report_text, rows_text, verdict_text}
+use Rattle.jcard_outcomes.specs.declared.join_fault.JoinFault.{JoinFault}
+use Rattle.jcard_outcomes.specs.declared.join_fault.JoinFault.TheVariants.{BadLine, Missing, NoMemory, OtherSweep, Twice}
 use Rattle.jcard_outcomes.specs.declared.join.Joined.{Joined}
 use Rattle.jcard_outcomes.specs.declared.part.Part.{Part}
 use Rattle.jcard_outcomes.specs.Recoveries.{first_difference}
@@ -19,11 +20,11 @@ use Rattle.jcard_outcomes.specs.declared.standing.Cut.{Cut}
 abbrev pub AreOrdered : List (List ℕ) → List (List ℕ) → Type 0
 AreOrdered texts lines = AreDealt texts lines × All (λ told. has 10 told ≡ false) lines
 
--- a text does not begin with the line about k writes, which some text of n has: that line is missing, or the one that the text had
--- before it stands there again
+-- a text does not begin with the line about k writes, which some text of n has: the one that the text had before it stands there
+-- again; or it does not, and the line is missing
 abbrev pub IsHeadFault : ℕ → ℕ → List ℕ → JoinFault → Type 0
 IsHeadFault n k text NoMemory = Unit {0}
-IsHeadFault n k text (Missing m) = m ≡ k
+IsHeadFault n k text (Missing m) = (m ≡ k) × ((i : ℕ) (told rest : List ℕ) → i + n ≡ k → text ≡ line_text i told ++ rest → ⊥)
 IsHeadFault n k text (Twice m) = (m + n ≡ k) × (told rest : List ℕ) × (text ≡ line_text m told ++ rest)
 IsHeadFault n k text other = ⊥
 
@@ -44,40 +45,112 @@ IsNextLine k rests left (Err fault) = IsHeadFault (length rests) k (slice_index_
 abbrev pub IsUncutTold : List ℕ → Type 0
 IsUncutTold told = (rest : List ℕ) × (told ≡ codes "no cut, answer " ++ rest)
 
+-- it tells this answer, in which no colon stands
+abbrev pub IsAnswerTold : List ℕ → List ℕ → Type 0
+IsAnswerTold answer told = (rest : List ℕ) × (told ≡ codes "no cut, answer " ++ (answer ++ 58 ∷ rest)) × (has 58 answer ≡ false)
+
 -- the lines tell these cuts, and then of a number that does not cut, if of any
 abbrev pub TellCuts : List (List ℕ) → List Cut → Type 0
 TellCuts lines cuts = (rest : List (List ℕ)) × (lines ≡ map told_cut cuts ++ rest)
-    × ((told : List ℕ) (more : List (List ℕ)) → rest ≡ told ∷ more → IsUncutTold told) × All (λ c. has 44 (standing_text c.standing) ≡ false) cuts
+    × ((told : List ℕ) (more : List (List ℕ)) → rest ≡ told ∷ more → IsUncutTold told) × All IsReadCut cuts
 
 -- the lines tell these cuts, and this of n numbers that do not cut
 abbrev pub AreTold : List Cut → List ℕ → ℕ → List (List ℕ) → Type 0
-AreTold cuts uncut n lines = (0 < n) × (lines ≡ told_sweep n cuts uncut) × IsUncutTold uncut × All (λ c. IsOfWords c.standing) cuts
+AreTold cuts uncut n lines = (0 < n) × (lines ≡ told_sweep n cuts uncut) × IsUncutTold uncut × All IsCutOfWords cuts
 
--- the report of these cuts, with this line of the command that is not cut
-abbrev pub joined_text : List Cut → List ℕ → List ℕ
-joined_text cuts uncut = rows_text cuts ++ uncut ++ codes "\n" ++ verdict_text cuts
+-- the report of these cuts, with this line of the command that is not cut, which tells this answer
+abbrev pub joined_text : List Cut → List ℕ → List ℕ → List ℕ
+joined_text cuts answer uncut = rows_text cuts ++ uncut ++ codes "\n" ++ verdict_text answer cuts
 
--- these texts, which have no heads, tell a sweep in parts, and this is its report
+-- that is the report, and says whether each cut was all or nothing
+abbrev pub IsReportOf : List Cut → List ℕ → Joined → Type 0
+IsReportOf cuts uncut joined = (answer : List ℕ) × IsAnswerTold answer uncut × (joined.text.items ≡ joined_text cuts answer uncut)
+    × (joined.is_all_or_nothing ≡ is_none (first_broken 0 cuts))
+
+-- these texts, which have no heads, tell a sweep in parts, from the first on, and this is its report
+abbrev pub AreJoinedInOrder : List (List ℕ) → Joined → Type 0
+AreJoinedInOrder texts joined = (cuts : List Cut) × (uncut : List ℕ) × AreDealt texts (told_sweep (length texts) cuts uncut)
+    × IsReportOf cuts uncut joined
+
+-- these texts, in the order of the lines with which they begin, do so
 abbrev pub AreJoined : List (List ℕ) → Joined → Type 0
-AreJoined texts joined = (cuts : List Cut) × (uncut : List ℕ) × AreDealt texts (told_sweep (length texts) cuts uncut) × IsUncutTold uncut
-    × (joined.text.items ≡ joined_text cuts uncut) × (joined.is_all_or_nothing ≡ is_none (first_broken 0 cuts))
+AreJoined texts joined = (ordered : List (List ℕ)) × AreInOrder texts ordered × AreJoinedInOrder ordered joined
 
--- a sweep is told in lines: its differences are of words, its answer is of one line, and no recovery was cut, so that none made a difference
+-- the line of the command that is not cut tells no answer; or memory was refused
+abbrev pub IsNoReport : List Cut → List ℕ → JoinFault → Type 0
+IsNoReport cuts uncut NoMemory = Unit {0}
+IsNoReport cuts uncut (BadLine m) = (m ≡ length cuts) × ((answer : List ℕ) → IsAnswerTold answer uncut → ⊥)
+IsNoReport cuts uncut other = ⊥
+
+-- this line tells neither of a cut nor an answer
+abbrev pub IsBadLine : List (List ℕ) → ℕ → Type 0
+IsBadLine lines m = (m < length lines) × ((c : Cut) → IsCutOfWords c → slice_index_or lines m [] ≡ told_cut c → ⊥)
+    × ((answer : List ℕ) → IsAnswerTold answer (slice_index_or lines m []) → ⊥)
+
+-- this line stands behind one that tells of no cut, and is another, or is one more than there are parts
+abbrev pub IsOtherLine : ℕ → List (List ℕ) → ℕ → Type 0
+IsOtherLine n lines m = (first : ℕ) × IsUncutTold (slice_index_or lines first []) × (first ≤ m) × (m < length lines)
+    × ((first + n ≤ m) ⊎ (slice_index_or lines m [] ≡ slice_index_or lines first [] → ⊥))
+
+-- why the lines of n parts are not those of a sweep: one more is missing, one has no form, or one is another; or memory was refused
+abbrev pub IsLinesFault : ℕ → List (List ℕ) → JoinFault → Type 0
+IsLinesFault n lines NoMemory = Unit {0}
+IsLinesFault n lines (Missing m) = m ≡ length lines
+IsLinesFault n lines (Twice m) = ⊥
+IsLinesFault n lines (BadLine m) = IsBadLine lines m
+IsLinesFault n lines (OtherSweep m) = IsOtherLine n lines m
+
+-- a line tells of no cut, and of no command that is not cut; or memory was refused
+abbrev pub IsNoCut : List (List ℕ) → JoinFault → Type 0
+IsNoCut lines NoMemory = Unit {0}
+IsNoCut lines (BadLine m) = IsBadLine lines m
+IsNoCut lines other = ⊥
+
+-- the lines behind so many are not n that are the same: there are fewer; or one is another, or one more than n
+abbrev pub IsNoEnd : ℕ → ℕ → List (List ℕ) → JoinFault → Type 0
+IsNoEnd n count lines (Missing m) = (m ≡ length lines) × (length lines < count + n)
+IsNoEnd n count lines (OtherSweep m) = (count ≤ m) × (m < length lines)
+    × ((count + n ≤ m) ⊎ (slice_index_or lines m [] ≡ slice_index_or lines count [] → ⊥))
+IsNoEnd n count lines other = ⊥
+
+-- the lines about fewer than k writes were read, and this is left of the texts
+pub record IsReadTo (texts rests : List (List ℕ)) (k : ℕ) : Type 0 where
+  pub read : (lines : List (List ℕ)) × (length lines ≡ k) × ((j : ℕ) → j < length texts
+      → slice_index_or texts j [] ≡ dealt j (length texts) 0 lines ++ slice_index_or rests j [])
+  pub all : length rests ≡ length texts
+
+-- the text that has the next line does not begin with it
+abbrev pub IsNextFault : List (List ℕ) → JoinFault → Type 0
+IsNextFault texts fault = (rests : List (List ℕ)) × (k : ℕ) × IsReadTo texts rests k
+    × IsHeadFault (length texts) k (slice_index_or rests (k % length texts) []) fault
+
+-- why texts that begin in their order are not joined
+abbrev pub IsUnjoined : List (List ℕ) → JoinFault → Type 0
+IsUnjoined texts fault = IsNextFault texts fault ⊎ ((lines : List (List ℕ)) × AreOrdered texts lines × IsLinesFault (length texts) lines fault)
+
+-- why texts are not joined: the order of their beginnings has a gap, or two of them begin so; or they begin in their order
+abbrev pub IsJoinFault : List (List ℕ) → JoinFault → Type 0
+IsJoinFault texts fault = AreUnplaced texts fault ⊎ ((ordered : List (List ℕ)) × AreInOrder texts ordered × IsUnjoined ordered fault)
+
+-- a sweep is told in lines: its differences are of words, its answer is of one line and has no colon, and no recovery was cut, so that
+-- none made a difference
 abbrev pub IsTellable : Sweep → Type 0
-IsTellable s = All (λ c. IsOfWords c.standing) s.cuts.items × (has 10 s.answer.items ≡ false) × (s.depth ≡ Zero)
+IsTellable s = All IsCutOfWords s.cuts.items × (has 10 s.answer.items ≡ false) × (has 58 s.answer.items ≡ false) × (s.depth ≡ Zero)
     × (first_difference 0 s.cuts.items ≡ None)
 
 -- the lines of n parts tell a sweep, and this is its report; where they are those of a sweep, it is that of the sweep
 pub record IsJoinOf (n : ℕ) (lines : List (List ℕ)) (result : Result Joined JoinFault) : Type 0 where
-  pub joined : IfOk result (λ j. (cuts : List Cut) × (uncut : List ℕ) × (lines ≡ told_sweep n cuts uncut) × IsUncutTold uncut
-      × (j.text.items ≡ joined_text cuts uncut) × (j.is_all_or_nothing ≡ is_none (first_broken 0 cuts)))
+  pub fault : IfErr result (λ f. IsLinesFault n lines f)
+  pub joined : IfOk result (λ j. (cuts : List Cut) × (uncut : List ℕ) × (lines ≡ told_sweep n cuts uncut)
+      × IsReportOf cuts uncut j)
   pub whole : (s : Sweep) → IsTellable s → lines ≡ told_sweep n s.cuts.items (told_uncut s.answer.items s.after.answers.items)
       → MatchResult result (λ j. (j.text.items ≡ report_text s) × (j.is_all_or_nothing ≡ is_none (first_broken 0 s.cuts.items))) (λ fault. fault ≡ NoMemory)
 
 -- the same of lines that tell these cuts
 pub record IsJoinOfCuts (n : ℕ) (lines : List (List ℕ)) (cuts : List Cut) (result : Result Joined JoinFault) : Type 0 where
-  pub joined : IfOk result (λ j. (uncut : List ℕ) × (lines ≡ told_sweep n cuts uncut) × IsUncutTold uncut
-      × (j.text.items ≡ joined_text cuts uncut) × (j.is_all_or_nothing ≡ is_none (first_broken 0 cuts)))
+  pub fault : IfErr result (λ f. IsLinesFault n lines f)
+  pub joined : IfOk result (λ j. (uncut : List ℕ) × (lines ≡ told_sweep n cuts uncut)
+      × IsReportOf cuts uncut j)
   pub whole : (s : Sweep) → IsTellable s → lines ≡ told_sweep n s.cuts.items (told_uncut s.answer.items s.after.answers.items)
       → map told_cut cuts ≡ map told_cut s.cuts.items
       → MatchResult result (λ j. (j.text.items ≡ report_text s) × (j.is_all_or_nothing ≡ is_none (first_broken 0 s.cuts.items))) (λ fault. fault ≡ NoMemory)
@@ -95,10 +168,16 @@ pub record IsPartOf (s : Sweep) (n first : ℕ) (p : Part) : Type 0 where
   pub cuts : IsEvery first n s.cuts.items p.sweep.cuts.items
 
 -- the texts are those of all parts of a sweep without their heads, from the first on
-abbrev pub AreBodiesOf : Sweep → List (List ℕ) → Type 0
-AreBodiesOf s texts = (j : ℕ) → j < length texts → (p : Part) × IsPartOf s (length texts) j p × (slice_index_or texts j [] ≡ body_text p)
+abbrev pub AreBodiesInOrder : Sweep → List (List ℕ) → Type 0
+AreBodiesInOrder s texts = (j : ℕ) → j < length texts → (p : Part) × IsPartOf s (length texts) j p × (slice_index_or texts j [] ≡ body_text p)
 
--- the texts are those of all parts of a sweep with this name, from the first on
+-- they are those, in any order: each part has the text at a place of its own
+abbrev pub AreBodiesOf : Sweep → List (List ℕ) → Type 0
+AreBodiesOf s texts = (place : ℕ → ℕ) × ArePlaces (length texts) place
+    × ((j : ℕ) → j < length texts → (p : Part) × IsPartOf s (length texts) j p × (slice_index_or texts (place j) [] ≡ body_text p))
+
+-- the texts are those of all parts of a sweep with this name, in any order
 abbrev pub ArePartsOf : Sweep → List ℕ → List (List ℕ) → Type 0
-ArePartsOf s name texts = (j : ℕ) → j < length texts
-    → (p : Part) × IsPartOf s (length texts) j p × (p.name.items ≡ name) × (slice_index_or texts j [] ≡ part_text p)
+ArePartsOf s name texts = (place : ℕ → ℕ) × ArePlaces (length texts) place
+    × ((j : ℕ) → j < length texts
+    → (p : Part) × IsPartOf s (length texts) j p × (p.name.items ≡ name) × (slice_index_or texts (place j) [] ≡ part_text p))

@@ -1,7 +1,7 @@
 -- Parts of a sweep: what each tells, and what all of them tell together.
-use Rattle.std.specs.Prelude.{ℕ, ◌≡◌, ◌+◌, ◌%◌, ◌<◌, ◌==◌, Bool, List, [], ◌∷◌, ◌++◌, map, replicate, length, codes, decimal, if◌then◌else◌}
+use Rattle.std.specs.Prelude.{ℕ, ◌≡◌, ◌+◌, ◌%◌, ◌<◌, ◌==◌, Bool, false, List, [], ◌∷◌, ◌++◌, map, replicate, length, codes, decimal, if◌then◌else◌}
 use Rattle.std.specs.List.{list_any, slice_index_or}
-use Rattle.jcard_outcomes.specs.Reports.{in_line, standing_text}
+use Rattle.jcard_outcomes.specs.Reports.{in_line, standing_text, words_lost_text}
 use Rattle.jcard_outcomes.specs.declared.heaps.Difference.{Difference}
 use Rattle.jcard_outcomes.specs.declared.part.Part.{Part}
 use Rattle.jcard_outcomes.specs.declared.part.Share.{Share}
@@ -23,9 +23,13 @@ line_start k = codes "cut after " ++ decimal k ++ codes ": "
 abbrev pub line_text : ℕ → List ℕ → List ℕ
 line_text k told = line_start k ++ (told ++ codes "\n")
 
--- what it tells of a cut: how what is left stands, and the answers
+-- what it tells of a cut: how what is left stands, how many words are lost, and the answers
 unfoldable pub told_cut : Cut → List ℕ
-told_cut c = standing_text c.standing ++ codes ", answers " ++ in_line c.answers.items
+told_cut c = standing_text c.standing ++ codes ", " ++ words_lost_text c.lost ++ codes ", answers " ++ in_line c.answers.items
+
+-- what stands behind the first comma of it
+abbrev pub cut_tail : ℕ → List ℕ → List ℕ
+cut_tail lost answers = codes " " ++ (decimal lost ++ 32 ∷ (codes "words lost, answers " ++ answers))
 
 -- what it tells where the command is not cut: its answer, and those after it
 unfoldable pub told_uncut : List ℕ → List ℕ → List ℕ
@@ -71,6 +75,14 @@ AreWords d = (d.address < 65536) × (d.before < 65536) × (d.now < 65536)
 abbrev pub IsOfWords : Standing → Type 0
 IsOfWords (Changed d) = AreWords d
 IsOfWords other = Unit {0}
+
+-- so are those of a cut, and the words that it lost are as many as an image may have
+abbrev pub IsCutOfWords : Cut → Type 0
+IsCutOfWords c = IsOfWords c.standing × (c.lost < 65536)
+
+-- a cut that a line tells
+abbrev pub IsReadCut : Cut → Type 0
+IsReadCut c = (has 44 (standing_text c.standing) ≡ false) × (c.lost < 65536)
 
 -- ---- the name of a part
 

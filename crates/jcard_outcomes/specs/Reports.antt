@@ -1,10 +1,13 @@
 -- The text that tells what cuts left.
-use Rattle.std.specs.Prelude.{ℕ, ◌+◌, ◌==◌, ◌||◌, ◌&&◌, Bool, true, false, List, [], ◌∷◌, ◌++◌, map, codes, decimal, length, is_none, Option, Some, None, if◌then◌else◌}
+use Rattle.std.specs.Prelude.{ℕ, ◌+◌, ◌-◌, ◌==◌, ◌||◌, ◌&&◌, not, max, Bool, true, false, List, [], ◌∷◌, ◌++◌, map, codes, decimal, drop, length, is_none, Option, Some, None, if◌then◌else◌}
+use Rattle.std.specs.List.{starts_with}
 use Rattle.std.specs.Str.{bytes_eq}
 use Rattle.jcard_outcomes.specs.Recoveries.{first_difference, recoveries_text}
 use Rattle.jcard_outcomes.specs.declared.recoveries.Depth.{Depth}
 use Rattle.jcard_outcomes.specs.declared.recoveries.Depth.TheVariants.{Zero}
 use Rattle.jcard_outcomes.specs.declared.standing.Cut.{Cut}
+use Rattle.jcard_outcomes.specs.declared.each.LineOutcome.{LineOutcome}
+use Rattle.jcard_outcomes.specs.declared.each.LineOutcome.TheVariants.{Down, Swept}
 use Rattle.jcard_outcomes.specs.declared.each.LineSweep.{LineSweep}
 use Rattle.jcard_outcomes.specs.declared.report.Sweep.{Sweep}
 use Rattle.jcard_outcomes.specs.declared.standing.Standing.{Standing}
@@ -29,9 +32,17 @@ standing_text AfterButTries = codes "as after but for PIN tries"
 standing_text Answers = codes "with other answers"
 standing_text (Changed d) = labelled (codes "changed: word ") d.address ++ labelled (codes " was ") d.before ++ labelled (codes " and is ") d.now
 
--- what a row tells of a cut: the answers, and how what is left stands
+-- so many words
+abbrev pub words_lost_text : ℕ → List ℕ
+words_lost_text lost = decimal lost ++ codes " words lost"
+
+-- how many words are lost, if any are
+abbrev pub lost_text : ℕ → List ℕ
+lost_text lost = if lost == 0 then [] else codes ", " ++ words_lost_text lost
+
+-- what a row tells of a cut: the answers, how what is left stands, and what is lost
 unfoldable pub outcome_text : Cut → List ℕ
-outcome_text c = in_line c.answers.items ++ standing_text c.standing
+outcome_text c = in_line c.answers.items ++ standing_text c.standing ++ lost_text c.lost
 
 -- the numbers of the cuts of a row
 abbrev pub numbers_text : ℕ → ℕ → List ℕ
@@ -95,14 +106,23 @@ unfoldable pub first_broken : ℕ → List Cut → Option ℕ
 first_broken k [] = None
 first_broken k (c ∷ more) = if is_before c.standing || is_after c.standing then first_broken (k + 1) more else Some k
 
+-- the most words that one of them lost, or so many
+unfoldable pub most_lost_from : ℕ → List Cut → ℕ
+most_lost_from n [] = n
+most_lost_from n (c ∷ more) = most_lost_from (max n c.lost) more
+
 -- each cut left what was before or what comes after, and no recovery made a difference
 abbrev pub are_whole : List Cut → Bool
 are_whole cuts = is_none (first_broken 0 cuts) && is_none (first_difference 0 cuts)
 
 -- how many cuts left which
 abbrev pub shares_text : ℕ → ℕ → List ℕ
-shares_text total before = if before == total then codes "each as before\n" else (if before == 0 then codes "each as after\n"
-    else decimal before ++ codes " as before, the others as after\n")
+shares_text total before = if before == total then codes "each as before" else (if before == 0 then codes "each as after"
+    else decimal before ++ codes " as before, the others as after")
+
+-- the most words that one of them lost, if any did
+abbrev pub most_lost_text : ℕ → List ℕ
+most_lost_text most = if most == 0 then codes "\n" else codes ", at most " ++ words_lost_text most ++ codes "\n"
 
 -- what is claimed, with or without the tries of PINs
 abbrev pub claim_text : Bool → List ℕ
@@ -113,8 +133,8 @@ abbrev pub cuts_text : ℕ → List ℕ
 cuts_text total = decimal total ++ (if total == 1 then codes " cut, " else codes " cuts, ")
 
 -- all cuts left what was before or what comes after
-abbrev pub whole_text : ℕ → ℕ → Bool → List ℕ
-whole_text total before tries = claim_text tries ++ cuts_text total ++ shares_text total before
+abbrev pub whole_text : ℕ → ℕ → Bool → ℕ → List ℕ
+whole_text total before tries lost = claim_text tries ++ cuts_text total ++ shares_text total before ++ most_lost_text lost
 
 -- one of them left something else
 abbrev pub broken_told : ℕ → List ℕ
@@ -125,32 +145,69 @@ broken_text k = broken_told k ++ codes "\n"
 
 abbrev pub verdict_by : Option ℕ → List Cut → List ℕ
 verdict_by (Some k) cuts = broken_text k
-verdict_by None cuts = whole_text (length cuts) (count_before cuts) (any_but_tries cuts)
+verdict_by None cuts = whole_text (length cuts) (count_before cuts) (any_but_tries cuts) (most_lost_from 0 cuts)
 
-abbrev pub verdict_text : List Cut → List ℕ
-verdict_text cuts = verdict_by (first_broken 0 cuts) cuts
+-- the status word of an answer, its last four digits
+abbrev pub status_text : List ℕ → List ℕ
+status_text answer = drop (length answer - 4) answer
+
+-- a command with this answer was refused: its status word is neither 9000 nor 61xx
+abbrev pub is_refused : List ℕ → Bool
+is_refused answer = not (bytes_eq (status_text answer) (codes "9000") || starts_with (λ a b. a == b) (status_text answer) (codes "61"))
+
+-- it was, and made no write that could be cut
+abbrev pub is_refused_at_once : List ℕ → List Cut → Bool
+is_refused_at_once answer cuts = (length cuts == 0) && is_refused answer
+
+abbrev pub no_write_text : List ℕ → List ℕ
+no_write_text answer = codes "no write: answered " ++ (answer ++ codes "\n")
+
+-- the verdict over a command with this answer
+abbrev pub verdict_text : List ℕ → List Cut → List ℕ
+verdict_text answer cuts = if is_refused_at_once answer cuts then no_write_text answer else verdict_by (first_broken 0 cuts) cuts
 
 -- all that is told of the cuts of a command
 abbrev pub report_text : Sweep → List ℕ
-report_text s = rows_text s.cuts.items ++ uncut_text s.answer.items s.after.answers.items ++ verdict_text s.cuts.items
+report_text s = rows_text s.cuts.items ++ uncut_text s.answer.items s.after.answers.items ++ verdict_text s.answer.items s.cuts.items
     ++ recoveries_text s.depth s.cuts.items
 
 -- ---- the commands of a script
 
--- what is told before the verdict of a command in a line
-abbrev pub line_number_text : ℕ → List ℕ
-line_number_text n = codes "line " ++ decimal n ++ codes ": "
+-- a command by the number of its line
+abbrev pub line_command_text : ℕ → List ℕ → List ℕ
+line_command_text n command = codes "line " ++ decimal n ++ codes ": " ++ command
+
+-- it, and its answer, before what is told of it
+abbrev pub line_answer_text : ℕ → List ℕ → List ℕ → List ℕ
+line_answer_text n command answer = line_command_text n command ++ codes " = " ++ answer ++ codes ": "
 
 -- what is told of recoveries behind the cuts of a command in a line, if any were cut
-abbrev pub line_recoveries_text : Depth → ℕ → List Cut → List ℕ
-line_recoveries_text Zero n cuts = []
-line_recoveries_text depth n cuts = line_number_text n ++ recoveries_text depth cuts
+abbrev pub line_recoveries_text : Depth → List ℕ → List Cut → List ℕ
+line_recoveries_text Zero head cuts = []
+line_recoveries_text depth head cuts = head ++ recoveries_text depth cuts
 
--- the verdict of a command, behind the number of its line
-unfoldable pub line_verdict_text : LineSweep → List ℕ
-line_verdict_text s = line_number_text s.number ++ verdict_text s.sweep.cuts.items ++ line_recoveries_text s.sweep.depth s.number s.sweep.cuts.items
+-- the rows of a command, where they are asked for
+abbrev pub line_rows_text : Bool → Sweep → List ℕ
+line_rows_text rows s = if rows then rows_text s.cuts.items ++ uncut_text s.answer.items s.after.answers.items else []
+
+-- the verdict over a command in a line
+abbrev pub swept_text : List ℕ → Sweep → List ℕ
+swept_text head s = head ++ verdict_text s.answer.items s.cuts.items ++ line_recoveries_text s.depth head s.cuts.items
+
+-- what is told of a command in a line; one at which the card is down was not cut
+abbrev pub line_outcome_text : Bool → ℕ → List ℕ → LineOutcome → List ℕ
+line_outcome_text rows n command (Swept s) = line_rows_text rows s ++ swept_text (line_answer_text n command s.answer.items) s
+line_outcome_text rows n command Down = line_command_text n command ++ codes ": the card is down at the command\n"
+
+unfoldable pub line_verdict_text : Bool → LineSweep → List ℕ
+line_verdict_text rows s = line_outcome_text rows s.number s.command.items s.outcome
 
 -- the verdicts of all commands
-unfoldable pub verdicts_text : List LineSweep → List ℕ
-verdicts_text [] = []
-verdicts_text (s ∷ more) = line_verdict_text s ++ verdicts_text more
+unfoldable pub verdicts_text : Bool → List LineSweep → List ℕ
+verdicts_text rows [] = []
+verdicts_text rows (s ∷ more) = line_verdict_text rows s ++ verdicts_text rows more
+
+-- a command in a line was all or nothing, or was not cut
+abbrev pub is_whole_outcome : LineOutcome → Bool
+is_whole_outcome (Swept s) = are_whole s.cuts.items
+is_whole_outcome Down = true

@@ -1,6 +1,6 @@
 -- How what a cut left compares with what stood before the command, and with what it leaves where it is not cut.
 use Rattle.std.specs.Prelude.{ℕ, ◌≡◌, List, Option, IfSome, MatchOption}
-use Rattle.jcard_outcomes.specs.Heaps.{AgreeAtSpared, IsDifference, StandsAsAfter, StandsAsBefore}
+use Rattle.jcard_outcomes.specs.Heaps.{AgreeAtSpared, IsDifference, StandsAsAfter, StandsAsBefore, words_above}
 use Rattle.jcard_outcomes.specs.declared.heaps.Difference.{Difference}
 use Rattle.jcard_outcomes.specs.declared.standing.Left.{Left}
 use Rattle.jcard_outcomes.specs.declared.standing.Likeness.{Likeness}
@@ -37,6 +37,12 @@ IsJudged changed Other Same s = s ≡ After
 IsJudged changed Other ButTries s = s ≡ AfterButTries
 IsJudged changed Other ButAnswers s = s ≡ Answers
 IsJudged changed Other Other s = IfSome changed (λ d. s ≡ Changed d)
+
+-- how many words are lost of a heap that stands so: where it is as before, nothing names those that stand above what stood before
+abbrev pub lost_of : Standing → List ℕ → List ℕ → ℕ
+lost_of Before before heap = words_above before heap
+lost_of BeforeButTries before heap = words_above before heap
+lost_of other before heap = 0
 
 -- what a cut left, a heap and answers, stands so beside what was before and what comes after; where the heap is not as before, this
 -- word shows it

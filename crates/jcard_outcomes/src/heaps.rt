@@ -1,6 +1,7 @@
 //! Comparing the heaps of two images, word by word.
 ghost use Rattle.std.specs.Prelude.{◌≡◌, ◌≤◌, ◌<◌, ◌↔◌, slice_index, true, IsTrue, MatchOption};
-ghost use Rattle.jcard_outcomes.specs.Heaps.{AgreeAtSpared, AgreeBetween, IsDifference, StandsAsAfter, StandsAsBefore, differ_at};
+ghost use Rattle.jc_words.specs.Layout.{top_address};
+ghost use Rattle.jcard_outcomes.specs.Heaps.{AgreeAtSpared, AgreeBetween, IsDifference, StandsAsAfter, StandsAsBefore, differ_at, words_above};
 
 use jc_words::layout::{ADDRESSES, PACKAGES, RESET_END, TEXT_LENGTH, TOP};
 
@@ -40,13 +41,29 @@ pub fn is_as_after(spared: &[u16], after: &[u16], heap: &[u16]) -> bool
         && first_difference(spared, after, heap, ADDRESSES, top).is_none()
 }
 
-/// Whether two images have the same words at the spared addresses.
+/// Whether two images have the same words at those of the spared addresses that lie below the top of the first.
 pub fn agree_at_spared(spared: &[u16], a: &[u16], b: &[u16]) -> bool
     ensures { IsTrue result ↔ AgreeAtSpared spared.now a.now b.now }
 {
-    spared
-        .iter()
-        .all(|address| word_at(a, *address) == word_at(b, *address))
+    spared.iter().all(|address| agree_at(a, b, *address))
+}
+
+// Whether two images have the same word at an address, if it lies below the top of the first.
+fn agree_at(a: &[u16], b: &[u16], address: u16) -> bool
+    ensures { IsTrue result ↔ (address < slice_index a.now top_address
+        → slice_index a.now address ≡ slice_index b.now address) }
+{
+    if address >= word_at(a, TOP) {
+        return true;
+    }
+    word_at(a, address) == word_at(b, address)
+}
+
+/// How many words of a heap stand above those that stood before.
+pub fn words_above(before: &[u16], heap: &[u16]) -> u16
+    ensures { result ≡ words_above before.now heap.now }
+{
+    word_at(heap, TOP).saturating_sub(word_at(before, TOP))
 }
 
 // The word at an address, 0 past the end.

@@ -2,14 +2,16 @@
 ghost use Rattle.std.specs.Prelude.{◌≡◌, ◌++◌, ◌∷◌, ◌<◌, ◌≤◌, ◌↔◌, [], ℕ, List, All, map, drop, replicate, false, length, slice_index_or, is_none, IsTrue, IfOk, IfErr, OnOk, MatchOption, MatchResult};
 ghost use Rattle.std.specs.Bool.{MatchBool};
 ghost use Rattle.std.specs.Borrow.{Bor};
-ghost use Rattle.jcard_outcomes.specs.Joins.{AreJoined, AreOrdered, AreBodiesOf, AreTold, IsHeadFault, IsJoinOf, IsJoinOfCuts, IsNextLine, IsTellable, IsUncutTold, TellCuts, joined_text};
+ghost use Rattle.jcard_outcomes.specs.Joins.{AreBodiesInOrder, AreBodiesOf, AreJoined, AreJoinedInOrder, AreOrdered, AreTold, IsAnswerTold, IsHeadFault};
+ghost use Rattle.jcard_outcomes.specs.Joins.{IsJoinFault, IsJoinOf, IsJoinOfCuts, IsNextFault, IsNextLine, IsNoCut, IsNoEnd, IsNoReport, IsReportOf, IsTellable, IsUncutTold, IsUnjoined, TellCuts, joined_text};
 ghost use Rattle.jcard_outcomes.specs.Parts.{has, line_start, told_cut};
 ghost use Rattle.jcard_outcomes.specs.Reports.{first_broken, report_text};
-ghost use Rattle.jcard_outcomes.specs.declared.join.JoinFault.TheVariants.{NoMemory};
 ghost use Rattle.jcard_outcomes.specs.declared.report.Sweep.{Sweep as ASweep};
 ghost use Rattle.jcard_outcomes.specs.declared.standing.Cut.{Cut as ACut};
 
+use crate::join_fault::JoinFault;
 use crate::line::{after, cut_of, cut_once};
+use crate::order::{in_order, push_text, text_at};
 use crate::part::push_line_start;
 use crate::rows::{is_same, push_rows};
 use crate::standing::Cut;
@@ -23,27 +25,31 @@ pub struct Joined {
     pub is_all_or_nothing: bool,
 }
 
-/// Why texts are not the parts of a sweep.
-#[derive(Clone, Copy, Debug, PartialEq, Eq, Drop)]
-pub enum JoinFault {
-    NoMemory,
-    /// The line about so many writes is missing.
-    Missing(usize),
-    /// It stands twice.
-    Twice(usize),
-    /// It tells of no cut.
-    BadLine(usize),
-    /// It is one of another sweep.
-    OtherSweep(usize),
-}
-
-/// Joins what the texts of all parts of a sweep tell behind their heads, from the first part on, to what one run tells of it.
+/// Joins what the texts of all parts of a sweep tell behind their heads, in any order, to what one run tells of it.
 pub fn join(alloc: Global, texts: &[&[u8]]) -> Result<Joined, JoinFault>
     requires { 0 < length texts.now }
-    ensures joined { IfOk result (λ joined. AreJoined
-        (map (λ (t : Bor (List ℕ)). t.now) texts.now) joined) }
+    ensures joined { MatchResult result
+        (λ joined. AreJoined (map (λ (t : Bor (List ℕ)). t.now) texts.now) joined)
+        (λ fault. IsJoinFault (map (λ (t : Bor (List ℕ)). t.now) texts.now) fault) }
     ensures parts { (sweep : ASweep) → IsTellable sweep
         → AreBodiesOf sweep (map (λ (t : Bor (List ℕ)). t.now) texts.now) → MatchResult result (λ joined. (joined.text.items ≡ report_text sweep)
+        × (joined.is_all_or_nothing ≡ is_none (first_broken 0 sweep.cuts.items)))
+        (λ fault. fault ≡ JoinFault.NoMemory) }
+{
+    match in_order(alloc, texts) {
+        Ok(ordered) => joined_in_order(alloc, &ordered),
+        Err(fault) => Err(fault),
+    }
+}
+
+// Joins them, from the first part on.
+fn joined_in_order(alloc: Global, texts: &[&[u8]]) -> Result<Joined, JoinFault>
+    requires { 0 < length texts.now }
+    ensures joined { MatchResult result
+        (λ joined. AreJoinedInOrder (map (λ (t : Bor (List ℕ)). t.now) texts.now) joined)
+        (λ fault. IsUnjoined (map (λ (t : Bor (List ℕ)). t.now) texts.now) fault) }
+    ensures parts { (sweep : ASweep) → IsTellable sweep
+        → AreBodiesInOrder sweep (map (λ (t : Bor (List ℕ)). t.now) texts.now) → MatchResult result (λ joined. (joined.text.items ≡ report_text sweep)
         × (joined.is_all_or_nothing ≡ is_none (first_broken 0 sweep.cuts.items)))
         (λ fault. fault ≡ JoinFault.NoMemory) }
 {
@@ -84,15 +90,31 @@ fn joined_cuts(
 }
 
 fn joined_report(alloc: Global, cuts: &[Cut], uncut: &[u8]) -> Result<Joined, JoinFault>
-    ensures { MatchResult result (λ joined. (joined.text.items ≡ joined_text cuts.now uncut.now)
-        × (joined.is_all_or_nothing ≡ is_none (first_broken 0 cuts.now)))
-        (λ fault. fault ≡ JoinFault.NoMemory) }
+    ensures { MatchResult result (λ joined. IsReportOf cuts.now uncut.now joined)
+        (λ fault. IsNoReport cuts.now uncut.now fault) }
 {
-    let text = joined_text(alloc, cuts, uncut)?;
+    let Some(answer) = answer_of(uncut) else {
+        return Err(JoinFault::BadLine(cuts.len()));
+    };
+    let text = joined_text(alloc, cuts, answer, uncut)?;
     Ok(Joined {
         text,
         is_all_or_nothing: is_each_whole(cuts),
     })
+}
+
+// The answer that is told of the command that is not cut; none where its line has no form.
+fn answer_of(uncut: &[u8]) -> Option<&[u8]>
+    ensures { MatchOption result ((answer : List ℕ) → IsAnswerTold answer uncut.now → ⊥)
+        (λ answer. IsAnswerTold answer.now uncut.now) }
+{
+    let Some(rest) = after(uncut, b"no cut, answer ") else {
+        return None;
+    };
+    match cut_once(rest, b':') {
+        Some((answer, _rest)) => Some(answer),
+        None => None,
+    }
 }
 
 // What the lines of all parts tell, in the order of their numbers.
@@ -100,6 +122,8 @@ fn ordered<'a>(alloc: Global, texts: &[&'a [u8]]) -> Result<Vec<&'a [u8]>, JoinF
     requires { 0 < length texts.now }
     ensures read { IfOk result (λ lines. AreOrdered (map (λ (t : Bor (List ℕ)). t.now) texts.now)
         (map (λ (t : Bor (List ℕ)). t.now) lines.items)) }
+    ensures fault { IfErr result (λ fault. IsNextFault (map (λ (t : Bor (List ℕ)). t.now) texts.now)
+        fault) }
     ensures whole { (lines : List (List ℕ)) → AreOrdered (map (λ (t : Bor (List ℕ)). t.now) texts.now) lines
         → MatchResult result (λ r. map (λ (t : Bor (List ℕ)). t.now) r.items ≡ lines)
         (λ fault. fault ≡ JoinFault.NoMemory) }
@@ -108,7 +132,7 @@ fn ordered<'a>(alloc: Global, texts: &[&'a [u8]]) -> Result<Vec<&'a [u8]>, JoinF
     let mut lines = Vec::new(alloc);
     for number in 0..usize::MAX {
         match next_line(alloc, &mut rests, number) {
-            Ok(Some(told)) => push_told(&mut lines, told)?,
+            Ok(Some(told)) => push_text(&mut lines, told)?,
             Ok(None) => return ended(lines, &rests, number),
             Err(fault) => return Err(fault),
         }
@@ -133,17 +157,6 @@ fn ended<'a>(
     Err(JoinFault::Missing(number))
 }
 
-fn push_told<'a>(lines: &mut Vec<&'a [u8]>, told: &'a [u8]) -> Result<(), JoinFault>
-    ensures pushed { OnOk result (map (λ (t : Bor (List ℕ)). t.now) lines.new.items
-        ≡ map (λ (t : Bor (List ℕ)). t.now) lines.old.items ++ told.entry.now ∷ []) }
-    ensures refused { IfErr result (λ fault. fault ≡ JoinFault.NoMemory) }
-{
-    match lines.push(told) {
-        Ok(()) => Ok(()),
-        Err(_) => Err(JoinFault::NoMemory),
-    }
-}
-
 // Reads the line about so many writes from the text that has it; none where that text is read whole.
 fn next_line<'a>(
     alloc: Global,
@@ -156,7 +169,7 @@ fn next_line<'a>(
 {
     let parts = rests.len();
     let place = number % parts;
-    let rest = rest_at(rests, place);
+    let rest = text_at(rests, place);
     if rest.is_empty() {
         return Ok(None);
     }
@@ -165,13 +178,6 @@ fn next_line<'a>(
     };
     rests[place] = more;
     Ok(Some(told))
-}
-
-fn rest_at<'a>(rests: &[&'a [u8]], place: usize) -> &'a [u8]
-    requires { place < length rests.now }
-    ensures { result.now ≡ slice_index_or (map (λ (t : Bor (List ℕ)). t.now) rests.now) place [] }
-{
-    rests[place]
 }
 
 // What the line about so many writes tells, with which a text begins, and what follows it.
@@ -217,6 +223,7 @@ fn cuts_of(alloc: Global, lines: &[&[u8]]) -> Result<Vec<Cut>, JoinFault>
     requires { All (λ t. has 10 t ≡ false) (map (λ (t : Bor (List ℕ)). t.now) lines.now) }
     ensures told { IfOk result (λ cuts. TellCuts (map (λ (t : Bor (List ℕ)). t.now) lines.now)
         cuts.items) }
+    ensures fault { IfErr result (λ fault. IsNoCut (map (λ (t : Bor (List ℕ)). t.now) lines.now) fault) }
     ensures whole { (cuts : List ACut) (uncut : List ℕ) (parts : ℕ)
         → AreTold cuts uncut parts (map (λ (t : Bor (List ℕ)). t.now) lines.now)
         → MatchResult result (λ r. map told_cut r.items ≡ map told_cut cuts)
@@ -261,12 +268,12 @@ fn uncut_of<'a>(lines: &[&'a [u8]], count: usize, parts: usize) -> Result<&'a [u
     requires within { count ≤ length lines.now }
     ensures { MatchResult result
         (λ uncut. drop count (map (λ (t : Bor (List ℕ)). t.now) lines.now) ≡ replicate parts uncut.now)
-        (λ fault. (uncut : List ℕ) → drop count (map (λ (t : Bor (List ℕ)). t.now) lines.now)
-        ≡ replicate parts uncut → ⊥) }
+        (λ fault. IsNoEnd parts count (map (λ (t : Bor (List ℕ)). t.now) lines.now) fault) }
 {
+    let total = lines.len();
     let ends = &lines[count..];
     if ends.len() < parts {
-        return Err(JoinFault::Missing(lines.len()));
+        return Err(JoinFault::Missing(total));
     }
     let uncut = ends[0];
     for (place, told) in ends.iter().enumerate() {
@@ -277,22 +284,19 @@ fn uncut_of<'a>(lines: &[&'a [u8]], count: usize, parts: usize) -> Result<&'a [u
     Ok(uncut)
 }
 
-// The report of these cuts, with this line of the command that is not cut.
-fn joined_text(alloc: Global, cuts: &[Cut], uncut: &[u8]) -> Result<Vec<u8>, AllocError>
-    ensures { IfOk result (λ text. text.items ≡ joined_text cuts.now uncut.now) }
+// The report of these cuts, with this line of the command that is not cut, which tells this answer.
+fn joined_text(
+    alloc: Global,
+    cuts: &[Cut],
+    answer: &[u8],
+    uncut: &[u8],
+) -> Result<Vec<u8>, AllocError>
+    ensures { IfOk result (λ text. text.items ≡ joined_text cuts.now answer.now uncut.now) }
 {
     let mut text = Vec::new(alloc);
     push_rows(alloc, &mut text, cuts)?;
     text.extend_from_slice(uncut)?;
     text.extend_from_slice(b"\n")?;
-    push_verdict(&mut text, cuts)?;
+    push_verdict(&mut text, answer, cuts)?;
     Ok(text)
-}
-
-impl From<AllocError> for JoinFault {
-    ghost from_gives = { λ _ fault. fault ≡ NoMemory };
-
-    fn from(_: AllocError) -> Self {
-        JoinFault::NoMemory
-    }
 }

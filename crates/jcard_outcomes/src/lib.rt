@@ -5,7 +5,9 @@
 pub mod each;
 pub mod heaps;
 pub mod join;
+pub mod join_fault;
 mod line;
+mod order;
 pub mod part;
 pub mod recoveries;
 pub mod report;

@@ -1,7 +1,7 @@
 //! Reading back what the line of a part tells of a cut.
 ghost use Rattle.std.specs.Prelude.{◌≡◌, ◌++◌, ◌∷◌, ◌<◌, ℕ, List, Some, false, codes, decimal, MatchOption, IfOk};
 ghost use Rattle.std.specs.Str.{bytes_eq};
-ghost use Rattle.jcard_outcomes.specs.Parts.{AreWords, IsOfWords, has, told_cut};
+ghost use Rattle.jcard_outcomes.specs.Parts.{AreWords, IsCutOfWords, IsOfWords, IsReadCut, cut_tail, has, told_cut};
 ghost use Rattle.jcard_outcomes.specs.Reports.{standing_text};
 ghost use Rattle.jcard_outcomes.specs.declared.heaps.Difference.{Difference as ADifference};
 ghost use Rattle.jcard_outcomes.specs.declared.standing.Cut.{Cut as ACut};
@@ -18,10 +18,10 @@ use std::alloc::{AllocError, Global};
 pub(crate) fn cut_of(alloc: Global, told: &[u8]) -> Result<Option<Cut>, AllocError>
     requires { has 10 told.now ≡ false }
     ensures { IfOk result (λ found. MatchOption found
-        ((c : ACut) → IsOfWords c.standing → told.now ≡ told_cut c → ⊥)
-        (λ c. (told.now ≡ told_cut c) × (has 44 (standing_text c.standing) ≡ false))) }
+        ((c : ACut) → IsCutOfWords c → told.now ≡ told_cut c → ⊥)
+        (λ c. (told.now ≡ told_cut c) × IsReadCut c)) }
 {
-    let Some((standing, answers)) = parts_of(told) else {
+    let Some((standing, lost, answers)) = parts_of(told) else {
         return Ok(None);
     };
     let Some(standing) = standing_of(standing) else {
@@ -30,6 +30,7 @@ pub(crate) fn cut_of(alloc: Global, told: &[u8]) -> Result<Option<Cut>, AllocErr
     let answers = Vec::from_slice(alloc, answers)?;
     Ok(Some(Cut {
         standing,
+        lost,
         answers,
         recoveries: Recoveries {
             ways: 0,
@@ -38,19 +39,22 @@ pub(crate) fn cut_of(alloc: Global, told: &[u8]) -> Result<Option<Cut>, AllocErr
     }))
 }
 
-// How it stands, and the answers.
-fn parts_of(told: &[u8]) -> Option<(&[u8], &[u8])>
+// How it stands, how many words are lost, and the answers.
+fn parts_of(told: &[u8]) -> Option<(&[u8], u16, &[u8])>
     ensures { MatchOption result
-        ((standing answers : List ℕ) → told.now ≡ standing ++ 44 ∷ (codes " answers " ++ answers)
+        ((standing answers : List ℕ) (lost : ℕ) → lost < 65536 → told.now ≡ standing ++ 44 ∷ cut_tail lost answers
         → has 44 standing ≡ false → ⊥)
-        (λ r. (told.now ≡ r.0.now ++ 44 ∷ (codes " answers " ++ r.1.now))
-        × (has 44 r.0.now ≡ false)) }
+        (λ r. (told.now ≡ r.0.now ++ 44 ∷ cut_tail r.1 r.2.now) × (has 44 r.0.now ≡ false)
+        × (r.1 < 65536)) }
 {
     let Some((standing, rest)) = cut_once(told, b',') else {
         return None;
     };
-    match after(rest, b" answers ") {
-        Some(answers) => Some((standing, answers)),
+    let Some((lost, rest)) = labelled_word(rest, b" ") else {
+        return None;
+    };
+    match after(rest, b"words lost, answers ") {
+        Some(answers) => Some((standing, lost, answers)),
         None => None,
     }
 }

@@ -1,11 +1,11 @@
 //! The text of a part of a sweep, with a line for each of its cuts.
-ghost use Rattle.std.specs.Prelude.{◌≡◌, ◌++◌, ◌+◌, ◌*◌, ◌<◌, ◌^◌, codes, length, IfOk, MatchOption, OnOk};
+ghost use Rattle.std.specs.Prelude.{◌≡◌, ◌++◌, ◌+◌, ◌*◌, ◌<◌, ◌^◌, length, IfOk, MatchOption, OnOk};
 ghost use Rattle.jcard_outcomes.specs.Parts.{IsShareText, head_text, line_start, line_text, lines_text, part_text, told_cut, told_uncut};
 ghost use Rattle.jcard_outcomes.specs.declared.part.Share.{Share as AShare};
 
 use crate::line::{cut_once, word_of};
 use crate::report::Sweep;
-use crate::rows::{push_in_line, push_number, push_standing};
+use crate::rows::{push_ending, push_in_line, push_number, push_standing, push_words_lost};
 use crate::standing::Cut;
 use std::alloc::{AllocError, Global};
 
@@ -106,13 +106,6 @@ fn push_line(text: &mut Vec<u8>, number: usize, told: &[u8]) -> Result<(), Alloc
     push_ending(text, told)
 }
 
-fn push_ending(text: &mut Vec<u8>, told: &[u8]) -> Result<(), AllocError>
-    ensures { OnOk result (text.new.items ≡ text.old.items ++ (told.now ++ codes "\n")) }
-{
-    text.extend_from_slice(told)?;
-    text.extend_from_slice(b"\n")
-}
-
 /// Writes how the line begins about this number.
 #[tactic(auto, unfolding(crate::specs::Parts::line_start))]
 pub(crate) fn push_line_start(text: &mut Vec<u8>, number: usize) -> Result<(), AllocError>
@@ -129,6 +122,8 @@ fn cut_told(alloc: Global, cut: &Cut) -> Result<Vec<u8>, AllocError>
 {
     let mut text = Vec::new(alloc);
     push_standing(&mut text, cut.standing)?;
+    text.extend_from_slice(b", ")?;
+    push_words_lost(&mut text, cut.lost)?;
     text.extend_from_slice(b", answers ")?;
     push_in_line(&mut text, &cut.answers)?;
     Ok(text)

@@ -1,6 +1,6 @@
 //! The report: rows, the command that is not cut, and the verdict.
 ghost use Rattle.std.specs.Prelude.{◌≡◌, ◌++◌, codes, IfOk, OnOk};
-ghost use Rattle.jcard_outcomes.specs.Reports.{ended, in_line, report_text};
+ghost use Rattle.jcard_outcomes.specs.Reports.{ended, in_line, report_text, rows_text, uncut_text};
 
 use crate::recoveries::{Depth, push_recoveries};
 use crate::rows::{push_ended, push_in_line, push_rows};
@@ -24,12 +24,24 @@ pub fn report(alloc: Global, sweep: &Sweep) -> Result<Vec<u8>, AllocError>
     ensures { IfOk result (λ text. text.items ≡ report_text sweep.now) }
 {
     let mut text = Vec::new(alloc);
-    push_rows(alloc, &mut text, &sweep.cuts)?;
-    let outcome = uncut_outcome(alloc, &sweep.after.answers)?;
-    push_uncut(&mut text, &sweep.answer, &outcome)?;
-    push_verdict(&mut text, &sweep.cuts)?;
+    push_told_rows(alloc, &mut text, sweep)?;
+    push_verdict(&mut text, &sweep.answer, &sweep.cuts)?;
     push_recoveries(&mut text, sweep.depth, &sweep.cuts)?;
     Ok(text)
+}
+
+/// Writes the rows of a command, and of it where it is not cut.
+pub(crate) fn push_told_rows(
+    alloc: Global,
+    text: &mut Vec<u8>,
+    sweep: &Sweep,
+) -> Result<(), AllocError>
+    ensures { OnOk result (text.new.items ≡ text.old.items ++ (rows_text sweep.now.cuts.items
+        ++ uncut_text sweep.now.answer.items sweep.now.after.answers.items)) }
+{
+    push_rows(alloc, text, &sweep.cuts)?;
+    let outcome = uncut_outcome(alloc, &sweep.after.answers)?;
+    push_uncut(text, &sweep.answer, &outcome)
 }
 
 // What a row tells of the command that is not cut.

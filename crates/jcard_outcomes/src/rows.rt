@@ -1,7 +1,7 @@
 //! The rows: what cuts left, one row for those that follow one another and left the same.
-ghost use Rattle.std.specs.Prelude.{◌≡◌, ◌++◌, IfOk, OnOk, ◌==◌, decimal};
+ghost use Rattle.std.specs.Prelude.{◌≡◌, ◌++◌, IfOk, OnOk, ◌==◌, codes, decimal};
 ghost use Rattle.std.specs.Str.{bytes_eq};
-ghost use Rattle.jcard_outcomes.specs.Reports.{ended, in_line, labelled, numbers_text, outcome_text, row_text, rows_from, rows_text, standing_text};
+ghost use Rattle.jcard_outcomes.specs.Reports.{ended, in_line, labelled, lost_text, numbers_text, outcome_text, row_text, rows_from, rows_text, standing_text, words_lost_text};
 
 use crate::heaps::Difference;
 use crate::standing::{Cut, Standing};
@@ -58,7 +58,35 @@ fn outcome_of(alloc: Global, cut: &Cut) -> Result<Vec<u8>, AllocError>
     let mut text = Vec::new(alloc);
     push_in_line(&mut text, &cut.answers)?;
     push_standing(&mut text, cut.standing)?;
+    push_lost(&mut text, cut.lost)?;
     Ok(text)
+}
+
+// Writes how many words are lost, if any are.
+fn push_lost(text: &mut Vec<u8>, lost: u16) -> Result<(), AllocError>
+    ensures { OnOk result (text.new.items ≡ text.old.items ++ lost_text lost) }
+{
+    if lost == 0 {
+        return Ok(());
+    }
+    text.extend_from_slice(b", ")?;
+    push_words_lost(text, lost)
+}
+
+/// Writes a text and a line feed.
+pub(crate) fn push_ending(text: &mut Vec<u8>, told: &[u8]) -> Result<(), AllocError>
+    ensures { OnOk result (text.new.items ≡ text.old.items ++ (told.now ++ codes "\n")) }
+{
+    text.extend_from_slice(told)?;
+    text.extend_from_slice(b"\n")
+}
+
+/// Writes so many words that are lost.
+pub(crate) fn push_words_lost(text: &mut Vec<u8>, lost: u16) -> Result<(), AllocError>
+    ensures { OnOk result (text.new.items ≡ text.old.items ++ words_lost_text lost) }
+{
+    push_number(text, usize::from(lost))?;
+    text.extend_from_slice(b" words lost")
 }
 
 // Writes the row of the cuts with these numbers, which left this.

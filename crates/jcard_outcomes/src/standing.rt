@@ -1,9 +1,9 @@
 //! How what a cut left stands beside what was there before the command, and beside what it leaves where it is not cut.
 ghost use Rattle.std.specs.Prelude.{◌≡◌, IsTrue, IsSome};
 ghost use Rattle.jcard_outcomes.specs.Heaps.{AgreeAtSpared};
-ghost use Rattle.jcard_outcomes.specs.Standings.{IsJudged, IsLikeness, IsStanding};
+ghost use Rattle.jcard_outcomes.specs.Standings.{IsJudged, IsLikeness, IsStanding, lost_of};
 
-use crate::heaps::{Difference, agree_at_spared, changed_since, is_as_after};
+use crate::heaps::{Difference, agree_at_spared, changed_since, is_as_after, words_above};
 use crate::recoveries::Recoveries;
 
 /// What a reset found, and what a probe was answered then.
@@ -18,6 +18,8 @@ pub struct Left {
 #[derive(Drop)]
 pub struct Cut {
     pub standing: Standing,
+    /// How many words were made that nothing names.
+    pub lost: u16,
     /// The answers of the probe and, where objects are asked for, behind them the cells that changed.
     pub answers: Vec<u8>,
     pub recoveries: Recoveries,
@@ -64,6 +66,16 @@ pub fn standing_of(
     let like_before = compared(spared, before, changed.is_none(), heap, answers);
     let like_after = compared(spared, after, is_after, heap, answers);
     judge(changed, like_before, like_after)
+}
+
+/// How many words of a heap that stands so are lost: they were made, and nothing names them.
+pub fn lost_of(standing: Standing, before: &Left, heap: &[u16]) -> u16
+    ensures { result ≡ lost_of standing before.now.words.items heap.now }
+{
+    match standing {
+        Standing::Before | Standing::BeforeButTries => words_above(&before.words, heap),
+        Standing::After | Standing::AfterButTries | Standing::Answers | Standing::Changed(_) => 0,
+    }
 }
 
 // How a heap and answers compare with what is left of a state, in which the heap stands or not.

@@ -1,9 +1,10 @@
 //! The verdict over all cuts of a command.
-ghost use Rattle.std.specs.Prelude.{◌≡◌, ◌++◌, ◌==◌, ◌||◌, IfOk, OnOk, is_none, option_map, if◌then◌else◌};
-ghost use Rattle.jcard_outcomes.specs.Reports.{any_but_tries, are_whole, broken_told, broken_text, claim_text, count_before, cuts_text, first_broken, is_after, is_before, is_but_tries, shares_text, verdict_text, whole_text};
+ghost use Rattle.std.specs.Prelude.{◌≡◌, ◌++◌, ◌==◌, ◌||◌, IfOk, OnOk, is_none, max, option_map, if◌then◌else◌};
+ghost use Rattle.jcard_outcomes.specs.Reports.{any_but_tries, are_whole, broken_told, broken_text, claim_text, count_before, cuts_text, first_broken, is_after, is_before, is_but_tries};
+ghost use Rattle.jcard_outcomes.specs.Reports.{is_refused, is_refused_at_once, most_lost_from, most_lost_text, no_write_text, shares_text, verdict_text, whole_text};
 
 use crate::recoveries::first_difference;
-use crate::rows::push_number;
+use crate::rows::{is_same, push_ending, push_number, push_words_lost};
 use crate::standing::{Cut, Standing};
 use std::alloc::{AllocError, Global};
 
@@ -21,14 +22,49 @@ pub(crate) fn is_each_whole(cuts: &[Cut]) -> bool
     first_broken(cuts).is_none()
 }
 
-/// Writes the verdict behind a text.
-pub(crate) fn push_verdict(text: &mut Vec<u8>, cuts: &[Cut]) -> Result<(), AllocError>
-    ensures { OnOk result (text.new.items ≡ text.old.items ++ verdict_text cuts.now) }
+/// Writes the verdict over a command with this answer behind a text.
+pub(crate) fn push_verdict(
+    text: &mut Vec<u8>,
+    answer: &[u8],
+    cuts: &[Cut],
+) -> Result<(), AllocError>
+    ensures { OnOk result (text.new.items ≡ text.old.items ++ verdict_text answer.now cuts.now) }
 {
+    if is_refused_at_once(answer, cuts) {
+        return push_no_write(text, answer);
+    }
     match first_broken(cuts) {
         Some(number) => push_broken(text, number),
-        None => push_whole(text, cuts.len(), count_before(cuts), any_but_tries(cuts)),
+        None => push_whole(
+            text,
+            cuts.len(),
+            count_before(cuts),
+            any_but_tries(cuts),
+            most_lost(cuts),
+        ),
     }
+}
+
+// Whether a command with this answer was refused, and made no write that could be cut.
+fn is_refused_at_once(answer: &[u8], cuts: &[Cut]) -> bool
+    ensures { result ≡ is_refused_at_once answer.now cuts.now }
+{
+    cuts.is_empty() && is_refused(answer)
+}
+
+// Whether the status word of an answer is neither 9000 nor 61xx.
+fn is_refused(answer: &[u8]) -> bool
+    ensures { result ≡ is_refused answer.now }
+{
+    let status = &answer[answer.len().saturating_sub(4)..];
+    !(is_same(status, b"9000") || status.starts_with(b"61"))
+}
+
+fn push_no_write(text: &mut Vec<u8>, answer: &[u8]) -> Result<(), AllocError>
+    ensures { OnOk result (text.new.items ≡ text.old.items ++ no_write_text answer.now) }
+{
+    text.extend_from_slice(b"no write: answered ")?;
+    push_ending(text, answer)
 }
 
 /// What is told, without a line feed, where a cut left something else; none where each left what was before or what comes after.
@@ -63,12 +99,25 @@ fn push_whole(
     total: usize,
     before: usize,
     tries: bool,
+    lost: u16,
 ) -> Result<(), AllocError>
-    ensures { OnOk result (text.new.items ≡ text.old.items ++ whole_text total before tries) }
+    ensures { OnOk result (text.new.items ≡ text.old.items ++ whole_text total before tries lost) }
 {
     push_claim(text, tries)?;
     push_cuts(text, total)?;
-    push_shares(text, total, before)
+    push_shares(text, total, before)?;
+    push_most_lost(text, lost)
+}
+
+fn push_most_lost(text: &mut Vec<u8>, lost: u16) -> Result<(), AllocError>
+    ensures { OnOk result (text.new.items ≡ text.old.items ++ most_lost_text lost) }
+{
+    if lost == 0 {
+        return text.extend_from_slice(b"\n");
+    }
+    text.extend_from_slice(b", at most ")?;
+    push_words_lost(text, lost)?;
+    text.extend_from_slice(b"\n")
 }
 
 fn push_claim(text: &mut Vec<u8>, tries: bool) -> Result<(), AllocError>
@@ -102,13 +151,13 @@ fn push_shares(text: &mut Vec<u8>, total: usize, before: usize) -> Result<(), Al
     ensures { OnOk result (text.new.items ≡ text.old.items ++ shares_text total before) }
 {
     if before == total {
-        return text.extend_from_slice(b"each as before\n");
+        return text.extend_from_slice(b"each as before");
     }
     if before == 0 {
-        return text.extend_from_slice(b"each as after\n");
+        return text.extend_from_slice(b"each as after");
     }
     push_number(text, before)?;
-    text.extend_from_slice(b" as before, the others as after\n")
+    text.extend_from_slice(b" as before, the others as after")
 }
 
 // The first cut that left something else.
@@ -145,6 +194,23 @@ fn any_but_tries(cuts: &[Cut]) -> bool
         }
     }
     false
+}
+
+// The most words that a cut lost.
+fn most_lost(cuts: &[Cut]) -> u16
+    ensures { result ≡ most_lost_from 0 cuts.now }
+{
+    let mut most = 0;
+    for cut in cuts {
+        most = larger(most, cut.lost);
+    }
+    most
+}
+
+fn larger(a: u16, b: u16) -> u16
+    ensures { result ≡ max a b }
+{
+    if a < b { b } else { a }
 }
 
 // Whether a cut left what was before or what comes after.

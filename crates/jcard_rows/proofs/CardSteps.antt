@@ -49,12 +49,12 @@ module _ (lines : List Numbered) (i : ℕ) (line : Numbered) (h : i < length lin
       (inr (r, says, inl (size, card, more, new, refl, (w, rs), a)))
 
 -- one card more before others
-pub card_pushed : (lines : List Numbered) (cards next : List CardRows) (card : CardRows) (more : List CardRows) → next ≡ cards ++ card ∷ []
-    → AreCards lines 8192 [] (cards ++ card ∷ more) → AreCards lines 8192 [] (next ++ more)
-card_pushed lines cards next card more e a = subst (λ (cs : List CardRows). AreCards lines 8192 [] (cs ++ more)) (sym e)
-    (subst (λ (cs : List CardRows). AreCards lines 8192 [] cs) (sym (append_assoc cards (card ∷ []) more)) a)
+pub card_pushed : (lines : List Numbered) (first : ℕ) (cards next : List CardRows) (card : CardRows) (more : List CardRows) → next ≡ cards ++ card ∷ []
+    → AreCards lines first [] (cards ++ card ∷ more) → AreCards lines first [] (next ++ more)
+card_pushed lines first cards next card more e a = subst (λ (cs : List CardRows). AreCards lines first [] (cs ++ more)) (sym e)
+    (subst (λ (cs : List CardRows). AreCards lines first [] cs) (sym (append_assoc cards (card ∷ []) more)) a)
 
 -- the last card
-pub card_ended : (lines : List Numbered) (cards next : List CardRows) (card : CardRows) → next ≡ cards ++ card ∷ [] → AreCards lines 8192 [] (cards ++ card ∷ [])
-    → AreCards lines 8192 [] next
-card_ended lines cards next card e a = subst (λ (cs : List CardRows). AreCards lines 8192 [] cs) (sym e) a
+pub card_ended : (lines : List Numbered) (first : ℕ) (cards next : List CardRows) (card : CardRows) → next ≡ cards ++ card ∷ []
+    → AreCards lines first [] (cards ++ card ∷ []) → AreCards lines first [] next
+card_ended lines first cards next card e a = subst (λ (cs : List CardRows). AreCards lines first [] cs) (sym e) a

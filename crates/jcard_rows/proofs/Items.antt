@@ -1,11 +1,17 @@
 -- Lists from an item on, and texts that grow by what belongs to it.
-use Rattle.std.proofs.Common.{◌≡◌, ◌∙◌, ℕ, suc, ◌+◌, ◌<◌, ◌≤◌, List, [], ◌∷◌, ◌++◌, length, get_or, drop, ap, sym, add-one, append_assoc, append-nil, drop-cons, Result, Ok, Err}
+use Rattle.std.proofs.Common.{◌≡◌, ◌∙◌, ℕ, suc, ◌+◌, ◌-◌, take, length-drop, arith, ◌<◌, ◌≤◌, List, [], ◌∷◌, ◌++◌, length, get_or, drop, ap, sym, add-one, append_assoc, append-nil, drop-cons, Result, Ok, Err}
 use Rattle.std.specs.Prelude.{OnOk}
-use Rattle.std.proofs.lemmas.List.{drop_all}
+use Rattle.std.proofs.lemmas.List.{drop_all, take_all}
 
 -- from an item on: the item, and those behind it
 pub drop_at : {A : Type 0} (xs : List A) (i : ℕ) (x : A) → i < length xs → x ≡ get_or xs i x → drop i xs ≡ x ∷ drop (i + 1) xs
 drop_at xs i x h e = rw add-one (drop-cons xs i x h ∙ ap (λ y. y ∷ drop (suc i) xs) (sym e))
+
+-- a slice up to the end
+pub slice_rest : {A : Type 0} (xs : List A) (i : ℕ) → take (length xs - i) (drop i xs) ≡ drop i xs
+slice_rest xs i =
+    let short : length (drop i xs) ≤ length xs - i = omega (arith, length-drop i xs) in
+    take_all (length xs - i) (drop i xs) short
 
 -- texts of items, one after the other
 module _ {A : Type 0} (text_of : A → List ℕ) (texts_of : List A → List ℕ) (none : texts_of [] ≡ []) (more : (x : A) (xs : List A) → texts_of (x ∷ xs) ≡ text_of x ++ texts_of xs) where

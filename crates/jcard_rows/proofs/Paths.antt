@@ -1,5 +1,5 @@
 -- Paths of files beside others.
-use Rattle.std.proofs.Common.{◌≡◌, ◌∙◌, ◌==◌, ℕ, List, [], ◌∷◌, ◌++◌, take, drop, refl, ap, ap₂, sym, subst, inl, inr, append_assoc, lit<}
+use Rattle.std.proofs.Common.{◌≡◌, ◌∙◌, ◌==◌, ℕ, List, [], ◌∷◌, ◌++◌, take, drop, refl, ap, ap₂, sym, subst, inr, append_assoc, lit<}
 use Rattle.std.specs.Str.{NoCharPasses}
 use Rattle.std.specs.Str.Pattern.{RFindsChar, SplitsAroundMatch}
 use Rattle.std.proofs.lemmas.List.{take-append-drop}

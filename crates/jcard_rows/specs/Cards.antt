@@ -70,6 +70,6 @@ AreCards [] words rows cards = (card : CardRows) × (cards ≡ card ∷ []) × I
 AreCards (line ∷ lines) words rows cards = (IsRowOfLine line None × AreCards lines words rows cards)
     ⊎ ((r : Row) × IsRowOfLine line (Some r) × GoesOn (AreCards lines) words rows r cards)
 
--- the cards of a file
-abbrev pub AreCardsOf : List Numbered → List CardRows → Type 0
-AreCardsOf lines cards = AreCards lines 8192 [] cards
+-- the cards of a file, whose first has so many words
+abbrev pub AreCardsOf : ℕ → List Numbered → List CardRows → Type 0
+AreCardsOf first lines cards = AreCards lines first [] cards

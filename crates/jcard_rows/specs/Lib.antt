@@ -1,9 +1,12 @@
 pub mod Answers
 pub mod Cards
 pub mod Comparing
+pub mod Escapes
 pub mod Junit
 pub mod Lines
+pub mod NamedTables
 pub mod Outcomes
 pub mod Reports
 pub mod Rows
+pub mod Seconds
 pub mod Unrolled

@@ -3,16 +3,18 @@ use Rattle.std.specs.Prelude.{ℕ, ◌+◌, ◌==◌, Bool, true, false, List, [
 use Rattle.std.specs.String.{string_bytes}
 use Rattle.jcard_rows.specs.declared.outcome.Failure.{Failure}
 use Rattle.jcard_rows.specs.declared.outcome.Outcome.{Outcome}
-use Rattle.jcard_rows.specs.declared.outcome.Outcome.TheVariants.{Held, Failed}
+use Rattle.jcard_rows.specs.declared.outcome.Outcome.TheVariants.{NoRow, Held, Failed}
 use Rattle.jcard_rows.specs.declared.outcome.Tested.{Tested}
 
 -- how many rows hold, up to the first that is not answered as it says
 abbrev pub passed_in : Outcome → ℕ
+passed_in NoRow = 0
 passed_in (Held rows) = rows
 passed_in (Failed failure) = failure.passed
 
--- whether there is such a row
+-- whether there is such a row, or none at all
 abbrev pub is_failed : Outcome → Bool
+is_failed NoRow = true
 is_failed (Held rows) = false
 is_failed (Failed failure) = true
 
@@ -21,7 +23,7 @@ unfoldable pub passed_of : List Tested → ℕ
 passed_of [] = 0
 passed_of (t ∷ ts) = passed_in t.outcome + passed_of ts
 
--- how many files have such a row
+-- how many files have such a row, or none at all
 abbrev pub failed_of : List Tested → ℕ
 failed_of ts = count_by (λ t. is_failed t.outcome) ts
 
@@ -49,6 +51,7 @@ abbrev pub failure_text : Failure → List ℕ
 failure_text f = codes " line " ++ decimal f.number ++ row_text (string_bytes f.command) (string_bytes f.wanted) ++ told_text f.told.items
 
 abbrev pub outcome_text : Outcome → List ℕ
+outcome_text NoRow = codes ": there is no row\n"
 outcome_text (Held rows) = holds_text rows
 outcome_text (Failed failure) = failure_text failure
 

@@ -1,5 +1,5 @@
 //! New cards, and the rows that each is told.
-ghost use Rattle.std.specs.Prelude.{◌≡◌, ℕ, List, codes, IfOk, OnOk, MatchOption, option_map, unwrap_or};
+ghost use Rattle.std.specs.Prelude.{◌≡◌, ◌≤◌, ℕ, List, codes, IfOk, OnOk, MatchOption, option_map, unwrap_or};
 ghost use Rattle.std.specs.Borrow.{Bor};
 ghost use Rattle.jcard_rows.specs.Cards.{AddsRow, AreCardsOf, IsNewCard, IsRow, IsRowOfLine, ends_with_tear, is_tear, torn};
 
@@ -9,19 +9,17 @@ use crate::numbered::Numbered;
 use crate::row::Row;
 use std::alloc::{AllocError, Global};
 
-/// How many words the card has with which a file begins.
-const WORDS: u16 = 8192;
-
 /// The fewest words that a card has.
 const LEAST: u16 = 4096;
 
-/// The cards that lines make by `card WORDS`, behind one with which they begin, and the rows of each; 9000 is wanted where a row
-/// says nothing. The row behind a line `tear all-or-nothing` is torn. A directive that is left is a row too, which no card answers.
-pub fn cards_of(alloc: Global, lines: &[Numbered]) -> Result<Vec<CardRows>, AllocError>
-    ensures { IfOk result (λ cards. AreCardsOf lines.now cards.items) }
+/// The cards that lines make by `card WORDS`, behind one of so many words with which they begin, and the rows of each; 9000 is wanted where a
+/// row says nothing. The row behind a line `tear all-or-nothing` is torn. A directive that is left is a row too, which no card answers.
+pub fn cards_of(alloc: Global, first: u16, lines: &[Numbered]) -> Result<Vec<CardRows>, AllocError>
+    requires { 4096 ≤ first }
+    ensures { IfOk result (λ cards. AreCardsOf first lines.now cards.items) }
 {
     let mut cards = Vec::new(alloc);
-    let mut words = WORDS;
+    let mut words = first;
     let mut rows = Vec::new(alloc);
     for line in lines {
         let Some(row) = row_of(alloc, line)? else {

@@ -1,8 +1,12 @@
 //! What came of files of rows.
 
+use crate::card_rows::CardRows;
+
 /// What came of a file of rows.
 #[derive(Drop)]
 pub enum Outcome {
+    /// It has no row, which is a failure.
+    NoRow,
     /// All its rows hold, of which there are so many.
     Held(usize),
     /// A row is not answered as it says.
@@ -20,9 +24,11 @@ pub struct Failure {
     pub told: Vec<u8>,
 }
 
-/// A file of rows, by its name, and what came of it.
+/// A file of rows, by its name: its cards, the microseconds that each of their rows took to be answered, and what came of them.
 #[derive(Drop)]
 pub struct Tested<'a> {
     pub name: &'a str,
+    pub cards: Vec<CardRows>,
+    pub times: Vec<u64>,
     pub outcome: Outcome,
 }

@@ -16,7 +16,7 @@ pub fn report(alloc: Global, tested: &[Tested]) -> Result<Vec<u8>, AllocError>
     Ok(text)
 }
 
-/// How many files have a row that is not answered as it says.
+/// How many files have no row, or one that is not answered as it says.
 pub fn failed(tested: &[Tested]) -> usize
     ensures { result ≡ failed_of tested.now }
 {
@@ -26,10 +26,11 @@ pub fn failed(tested: &[Tested]) -> usize
         .count()
 }
 
-fn is_failed(outcome: &Outcome) -> bool
+/// Whether a file failed.
+pub(crate) fn is_failed(outcome: &Outcome) -> bool
     ensures { result ≡ is_failed outcome.now }
 {
-    matches!(outcome, Outcome::Failed(_))
+    matches!(outcome, Outcome::Failed(_) | Outcome::NoRow)
 }
 
 // How many rows hold, up to the first of each file that does not.
@@ -47,6 +48,7 @@ fn passed_in(outcome: &Outcome) -> usize
     ensures { result ≡ passed_in outcome.now }
 {
     match outcome {
+        Outcome::NoRow => 0,
         Outcome::Held(rows) => *rows,
         Outcome::Failed(failure) => failure.passed,
     }
@@ -68,6 +70,7 @@ fn push_tested(text: &mut Vec<u8>, file: &Tested) -> Result<(), AllocError>
 {
     text.extend_from_slice(file.name.as_bytes())?;
     match &file.outcome {
+        Outcome::NoRow => text.extend_from_slice(b": there is no row\n"),
         Outcome::Held(rows) => push_held(text, *rows),
         Outcome::Failed(failure) => push_failure(text, failure),
     }

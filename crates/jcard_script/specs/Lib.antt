@@ -6,3 +6,4 @@ pub mod Session
 pub mod ScriptStates
 pub mod Texts
 pub mod Word
+pub mod RefusedLines

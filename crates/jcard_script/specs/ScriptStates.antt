@@ -69,7 +69,7 @@ with_fuse k (Up card) = Up (record card {
 with_fuse k (Off budget store) = Off budget (with_fuse_armed k store)
 
 -- the store of a heap that such a loss of power leaves
-abbrev pub IsStoreLeft : (HeapState → Type 0) → HeapView → FuseStoreValue → Type 0
+abbrev pub IsStoreLeft : (ℕ → HeapState → Type 0) → HeapView → FuseStoreValue → Type 0
 IsStoreLeft May heap store = (torn : HeapView) × IsTorn May heap torn × IsStoreOf torn store
 
 -- sessions that keep the store itself

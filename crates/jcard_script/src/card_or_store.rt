@@ -71,14 +71,15 @@ impl<S: WordStore> CardOrStore<S> {
         }
     }
 
-    /// Tells an explainer what it wants to be told of a command, by its note, its status word and how many word writes had passed
-    /// before it.
+    /// Tells an explainer what it wants to be told of a command, by its note, its status word, how many word writes had passed before
+    /// it, and the code that came with it.
     pub(crate) fn tell<E: Explainer>(
         &self,
         alloc: Global,
         note: &Note,
         status: u16,
         passed_before: u64,
+        lent_code: &[u8],
         explainer: &mut E,
     )
         requires up { IsUp self.now }
@@ -87,7 +88,15 @@ impl<S: WordStore> CardOrStore<S> {
             return;
         };
         let word_writes = card.passed_writes().saturating_sub(passed_before);
-        if let Some(text) = text_about(alloc, card, note, status, word_writes, explainer) {
+        if let Some(text) = text_about(
+            alloc,
+            card,
+            note,
+            status,
+            word_writes,
+            lent_code,
+            explainer,
+        ) {
             explainer.tell(&text);
         }
         if let Some(cover) = explainer.cover() {
@@ -174,6 +183,7 @@ fn text_about<S: WordStore, E: Explainer>(
     note: &Note,
     status: u16,
     word_writes: u64,
+    lent_code: &[u8],
     explainer: &E,
 ) -> Option<Vec<u8>>
     requires up { card.now.memory.heap.down ≡ false }
@@ -188,6 +198,7 @@ fn text_about<S: WordStore, E: Explainer>(
         word_writes,
         free_words: card.free_words(),
         map: explainer.map(),
+        lent_code,
     };
     told(&asked, wanted).ok()
 }

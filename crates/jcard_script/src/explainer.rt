@@ -1,5 +1,6 @@
 //! Who asks what commands of a script did.
 
+use crate::expectations::Expectations;
 use jcard_why::covers::Cover;
 use jcard_why::explanation::Wanted;
 
@@ -16,6 +17,12 @@ pub trait Explainer {
 
     /// Where it counts instructions, where it wants that.
     fn cover(&mut self) -> Option<&mut Cover>;
+
+    /// Where it compares answers, where it wants that.
+    fn expectations(&mut self) -> Option<&mut Expectations>;
+
+    /// A remark on the script: a whole line.
+    fn remark(&mut self, text: &[u8]);
 }
 
 /// Nobody asks.
@@ -36,4 +43,10 @@ impl Explainer for Unasked {
     fn cover(&mut self) -> Option<&mut Cover> {
         None
     }
+
+    fn expectations(&mut self) -> Option<&mut Expectations> {
+        None
+    }
+
+    fn remark(&mut self, _text: &[u8]) {}
 }

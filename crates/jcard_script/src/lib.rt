@@ -2,9 +2,12 @@
 #![tactic(auto)]
 
 mod card_or_store;
+pub mod expectations;
 pub mod explainer;
 mod line;
+mod line_text;
 pub mod mem_text;
+pub mod refused_line;
 mod reply;
 pub mod script;
 mod session;

@@ -7,6 +7,7 @@ ghost use Rattle.jcard_script.specs.Script.{form_of};
 ghost use Rattle.jcard_script.specs.Session.{IsKeptOf};
 ghost use Rattle.jcard_script.specs.Word.{IsWordOf};
 
+use crate::line_text::LineText;
 use crate::word::Word;
 use arrayvec::ArrayVec;
 
@@ -58,6 +59,7 @@ pub(crate) struct Content {
 pub(crate) struct Line {
     content: Content,
     word: Word,
+    text: LineText,
     carriage_return: bool,
 }
 
@@ -145,6 +147,7 @@ impl Line {
         Line {
             content: Content::empty(),
             word: Word::empty(),
+            text: LineText::empty(),
             carriage_return: false,
         }
     }
@@ -155,6 +158,7 @@ impl Line {
     {
         self.content.clear();
         self.word.clear();
+        self.text.clear();
         self.carriage_return = false;
     }
 
@@ -167,6 +171,7 @@ impl Line {
         if !self.carriage_return {
             self.content.push(byte);
             self.word.push(byte);
+            self.text.push(byte);
         }
     }
 
@@ -217,6 +222,11 @@ impl Line {
         asked_by(&self.content, &self.word)
     }
 
+    /// What is kept of it for who is told of it.
+    pub(crate) fn text(&self) -> &LineText {
+        &self.text
+    }
+
     // A carriage return at the end belongs to the line.
     fn settle(&mut self)
         ensures { (line : List ℕ) → IsKeptOf self.old line
@@ -226,6 +236,7 @@ impl Line {
         if self.carriage_return {
             self.content.push(b'\r');
             self.word.push(b'\r');
+            self.text.push(b'\r');
         }
     }
 }

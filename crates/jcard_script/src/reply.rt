@@ -33,6 +33,39 @@ pub(crate) fn status_of(response: &Response) -> Option<u16> {
     Some(u16::from_be_bytes([*high, *bytes.last()?]))
 }
 
+/// The most bytes of the text of a reply, without its line feed.
+pub(crate) const MOST_TEXT: usize = 516;
+
+/// The text of a reply without its line feed, at the front of the room; nothing for a silent one.
+pub(crate) fn reply_text<'a>(
+    reply: Reply,
+    response: &Response,
+    room: &'a mut [u8; 516],
+) -> &'a [u8] {
+    match reply {
+        Reply::Silent => b"",
+        Reply::Answer => {
+            let bytes = response.as_bytes();
+            let end = 2 * bytes.len();
+            encode(bytes, &mut room[..end]);
+            &room[..end]
+        }
+        Reply::Ready => b"ready",
+        Reply::Down => b"down",
+        Reply::Armed(k) => armed_bytes(k, room),
+    }
+}
+
+// `armed` and a number.
+fn armed_bytes(k: u16, room: &mut [u8; 516]) -> &[u8] {
+    let mut digits = Buffer::new();
+    let number = digits.format(k).as_bytes();
+    room[..6].copy_from_slice(b"armed ");
+    let count = number.len().min(5);
+    room[6..6 + count].copy_from_slice(&number[..count]);
+    &room[..6 + count]
+}
+
 /// Writes a reply as its line of text, where the card's last response is this; nothing for a silent one.
 pub(crate) fn write_reply<W: TextOut>(
     reply: Reply,

@@ -17,11 +17,14 @@ ghost use Rattle.jcard_script.specs.ScriptStates.{ScriptState, IsSessionStore, P
 ghost use Rattle.jcard_script.specs.Session.{EndsLine, StandsAt, IsUnbroken, IsWrittenOut, LineEnds, LineFails, LinesEnd};
 
 use crate::card_or_store::CardOrStore;
+use crate::expectations::Expectations;
 use crate::explainer::Explainer;
 use crate::line::{BYTES, Line, LineRequest};
-use crate::reply::{Reply, status_of, write_reply};
+use crate::refused_line::remark_of;
+use crate::reply::{MOST_TEXT, Reply, reply_text, status_of, write_reply};
 use crate::script::{BOUND, ScriptFault};
 use crate::streams::{TextIn, TextOut, WriteFailed};
+use arrayvec::ArrayVec;
 use jc_card::power_up::PowerFault;
 use jc_card::response::Response;
 use jc_memory::Notes;
@@ -45,6 +48,8 @@ pub(crate) struct Session<S: WordStore> {
     passed_before: u64,
     // The card's last response.
     response: Response,
+    // The last command, where notes are kept.
+    command: ArrayVec<u8, 262>,
 }
 
 impl<S: WordStore + Drop> Session<S> {
@@ -71,6 +76,7 @@ impl<S: WordStore + Drop> Session<S> {
             notes,
             passed_before: 0,
             response: Response::empty(),
+            command: ArrayVec::new(),
         };
         (session, started)
     }
@@ -89,6 +95,7 @@ impl<S: WordStore + Drop> Session<S> {
             notes: _,
             passed_before: _,
             response: _,
+            command: _,
         } = self;
         let store = held.unwrap().into_store();
         let _within = store.passed_writes();
@@ -255,7 +262,20 @@ impl<S: WordStore + Drop> Session<S> {
     {
         match self.reply(asked) {
             Ok(reply) => self.write(reply, writer, explainer),
-            Err(fault) => Err(fault),
+            Err(fault) => {
+                self.remark_on(fault, explainer);
+                Err(fault)
+            }
+        }
+    }
+
+    // Tells why the line has no form, where that is the fault.
+    fn remark_on<E: Explainer>(&self, fault: ScriptFault, explainer: &mut E) {
+        let ScriptFault::BadLine(number) = fault else {
+            return;
+        };
+        if let Ok(text) = remark_of(self.alloc, number, self.line.text().fault()) {
+            explainer.remark(&text);
         }
     }
 
@@ -303,10 +323,13 @@ impl<S: WordStore + Drop> Session<S> {
         }
     }
 
-    // Tells who asks what the command did that was answered so, if one was.
+    // Tells who asks what the command did that was answered so, if one was, and what was answered.
     fn tell_about<E: Explainer>(&self, reply: Reply, explainer: &mut E)
         requires held { IsState self.now.held }
     {
+        if let Some(expectations) = explainer.expectations() {
+            self.compare(reply, expectations);
+        }
         let Reply::Answer = reply else {
             return;
         };
@@ -317,7 +340,25 @@ impl<S: WordStore + Drop> Session<S> {
             return;
         };
         if let Some(held) = &self.held {
-            held.tell(self.alloc, &note, status, self.passed_before, explainer);
+            held.tell(
+                self.alloc,
+                &note,
+                status,
+                self.passed_before,
+                code_of(&self.command),
+                explainer,
+            );
+        }
+    }
+
+    // Compares an answer with what the next comment expects, and this with a comment.
+    fn compare(&self, reply: Reply, expectations: &mut Expectations) {
+        match reply {
+            Reply::Silent => expectations.comment(self.number, self.line.text().beginning()),
+            _ => {
+                let mut room = [0u8; MOST_TEXT];
+                expectations.answer(reply_text(reply, &self.response, &mut room));
+            }
         }
     }
 
@@ -355,6 +396,7 @@ impl<S: WordStore + Drop> Session<S> {
             (state_of_held self.new.held) (text_for_line result self.new.response) }
     {
         self.notes.begin(self.number);
+        self.command = kept_command(command, &self.notes);
         let budget = self.budget();
         if let Some(held) = &mut self.held {
             self.passed_before = held.passed_writes();
@@ -426,5 +468,26 @@ impl<S: WordStore + Drop> Session<S> {
         let held = self.held.take().unwrap();
         self.held = Some(held.with_fuse(u64::from(k)));
         Reply::Armed(k)
+    }
+}
+
+// A command, where notes are kept.
+fn kept_command(command: &[u8], notes: &Notes) -> ArrayVec<u8, 262> {
+    let mut kept = ArrayVec::new();
+    if notes.are_kept() {
+        let _ = kept.try_extend_from_slice(&command[..command.len().min(BYTES)]);
+    }
+    kept
+}
+
+// The code that comes with a command: its data.
+fn code_of(command: &ArrayVec<u8, 262>) -> &[u8] {
+    let bytes = command.as_slice();
+    match bytes.get(4) {
+        None => b"",
+        Some(length) => {
+            let end = bytes.len().min(5 + usize::from(*length));
+            if end < 5 { b"" } else { &bytes[5..end] }
+        }
     }
 }

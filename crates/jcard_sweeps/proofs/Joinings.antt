@@ -1,14 +1,15 @@
 -- Reading the texts of parts, and joining them.
 use Rattle.std.proofs.Common.{arith, ◌≡◌, ◌∙◌, ◌⊎◌, inl, inr, ℕ, suc, Bool, add-one, drop-cons, ◌+◌, ◌<◌, ◌≤◌, List, [], ◌∷◌, ◌++◌, length, get_or, take, drop, map, ap, sym, refl, subst, append_assoc, append-nil, Ok, Err, Result, None, true, false, ◌&&◌}
+use Rattle.std.specs.Borrow.{Bor}
 use Rattle.std.specs.Option.{is_none}
 use Rattle.std.specs.Prelude.{if◌then◌else◌, is_err, is_ok}
 use Rattle.std.proofs.lemmas.Bool.{true≢false}
 use Rattle.std.proofs.lemmas.List.{map-append, take-append-drop, take_more}
-use Rattle.jcard_outcomes.specs.Joins.{AreBodiesOf, AreJoined, ArePartsOf, IsTellable}
+use Rattle.jcard_outcomes.specs.Joins.{AreBodiesOf, AreJoined, ArePartsOf, IsJoinFault, IsTellable}
 use Rattle.jcard_outcomes.specs.Recoveries.{first_difference}
 use Rattle.jcard_outcomes.specs.Reports.{first_broken, report_text}
-use Rattle.jcard_outcomes.specs.declared.join.JoinFault.{JoinFault}
-use Rattle.jcard_outcomes.specs.declared.join.JoinFault.TheVariants as joining
+use Rattle.jcard_outcomes.specs.declared.join_fault.JoinFault.{JoinFault}
+use Rattle.jcard_outcomes.specs.declared.join_fault.JoinFault.TheVariants as joining
 use Rattle.jcard_outcomes.specs.declared.join.Joined.{Joined}
 use Rattle.jcard_outcomes.specs.declared.report.Sweep.{Sweep}
 use Rattle.jcard_outcomes.specs.SweepHeads.{AreBehindHeads, AreOfOthers}
@@ -60,14 +61,14 @@ pub joined_told : (texts : List (List ℕ)) (j : Joined) (ended : Result (Unit {
     → (j.text.items ≡ report_text s) × (j.is_all_or_nothing ≡ is_none (first_broken 0 s.cuts.items))) → IsJoinTold j ended text → AreBodiesJoinedTo texts ended text
 joined_told texts j ended text joined parts told = record {
   joined = inl (j, joined, told);
-  whole = λ s tellable h. let of = parts s tellable h in inl (reported s j ended text of.0 of.1 tellable.3 told);
+  whole = λ s tellable h. let of = parts s tellable h in inl (reported s j ended text of.0 of.1 tellable.4 told);
 }
 
 -- the texts were not joined
-pub unjoined : (texts : List (List ℕ)) (cause : JoinFault) (fault : Fault) → fault ≡ told_join_fault cause
+pub unjoined : (texts : List (List ℕ)) (cause : JoinFault) (fault : Fault) → fault ≡ told_join_fault cause → IsJoinFault texts cause
     → ((s : Sweep) → IsTellable s → AreBodiesOf s texts → cause ≡ joining.NoMemory) → AreBodiesJoinedTo texts (Err fault) []
-unjoined texts cause fault e none = record {
-  joined = inr (cause, ap Err e, refl);
+unjoined texts cause fault e why none = record {
+  joined = inr (cause, why, ap Err e, refl);
   whole = λ s tellable h. inr (ap Err (e ∙ ap told_join_fault (none s tellable h)), refl);
 }
 
@@ -103,18 +104,26 @@ pub pushed : {A E V : Type 0} (r : Result A E) (b : Bool) (new old : List V) (v 
 pushed (Ok x) b new old v e n h = h
 pushed (Err f) b new old v e n h = absurd (true≢false (sym e ∙ n))
 
--- the names up to the next, and around it
-pub names_next : {S : Type 0} (f : S → List ℕ) (files : List S) (i : ℕ) (x : S) → i < length files → x ≡ get_or files i x
-    → map f (take (i + 1) files) ≡ map f (take i files) ++ f x ∷ []
-names_next f files i x h e = ap (map f) (take_more files i x h) ∙ map-append f (take i files) (get_or files i x ∷ [])
-    ∙ ap (λ y. map f (take i files) ++ f y ∷ []) (sym e)
+-- no name
+abbrev pub nothing : Bor (List ℕ)
+nothing = record { ref_ptr = (0, 0); now = [] }
 
-pub names_around : {S : Type 0} (f : S → List ℕ) (files : List S) (i : ℕ) (x : S) → i < length files → x ≡ get_or files i x
-    → map f files ≡ map f (take i files) ++ f x ∷ map f (drop (i + 1) files)
-names_around f files i x h e =
-    let at : drop i files ≡ get_or files i x ∷ drop (i + 1) files = rw add-one (drop-cons files i x h) in
-    sym (ap (map f) (take-append-drop i files)) ∙ map-append f (take i files) (drop i files)
-    ∙ ap (λ l. map f (take i files) ++ l) (ap (map f) at ∙ ap (λ y. f y ∷ map f (drop (i + 1) files)) (sym e))
+-- these names
+abbrev pub named : List (Bor (List ℕ)) → List (List ℕ)
+named files = map (λ (f : Bor (List ℕ)). f.now) files
+
+-- the names up to the next, and around it
+pub names_next : (files : List (Bor (List ℕ))) (i : ℕ) → i < length files
+    → named (take (i + 1) files) ≡ named (take i files) ++ (get_or files i nothing).now ∷ []
+names_next files i h = ap named (take_more files i nothing h)
+    ∙ map-append (λ (f : Bor (List ℕ)). f.now) (take i files) (get_or files i nothing ∷ [])
+
+pub names_around : (files : List (Bor (List ℕ))) (i : ℕ) → i < length files
+    → named files ≡ named (take i files) ++ (get_or files i nothing).now ∷ named (drop (i + 1) files)
+names_around files i h =
+    let at : drop i files ≡ get_or files i nothing ∷ drop (i + 1) files = rw add-one (drop-cons files i nothing h) in
+    sym (ap named (take-append-drop i files)) ∙ map-append (λ (f : Bor (List ℕ)). f.now) (take i files) (drop i files)
+    ∙ ap (λ l. named (take i files) ++ l) (ap named at)
 
 -- the names up to the next, and those behind it
 pub names_split : {S : Type 0} (f : S → List ℕ) (files : List S) (i : ℕ) → map f files ≡ map f (take i files) ++ map f (drop i files)

@@ -2,13 +2,13 @@
 use Rattle.std.specs.Prelude.{ℕ, ◌≡◌, ◌⊎◌, true, false, List, [], ◌∷◌, ◌++◌, Result, Ok, Err}
 use Rattle.std.specs.Borrow.{Bor}
 use Rattle.std.specs.List.{slice_index_or}
-use Rattle.jcard_outcomes.specs.Joins.{AreBodiesOf, AreJoined, ArePartsOf, IsTellable}
+use Rattle.jcard_outcomes.specs.Joins.{AreBodiesOf, AreJoined, ArePartsOf, IsJoinFault, IsTellable}
 use Rattle.jcard_outcomes.specs.Parts.{has}
 use Rattle.jcard_outcomes.specs.SweepHeads.{AreBehindHeads, AreOfOthers}
 use Rattle.jcard_outcomes.specs.declared.sweep_head.HeadFault.{HeadFault}
 use Rattle.jcard_outcomes.specs.declared.sweep_head.HeadFault.TheVariants as heading
-use Rattle.jcard_outcomes.specs.declared.join.JoinFault.{JoinFault}
-use Rattle.jcard_outcomes.specs.declared.join.JoinFault.TheVariants as joining
+use Rattle.jcard_outcomes.specs.declared.join_fault.JoinFault.{JoinFault}
+use Rattle.jcard_outcomes.specs.declared.join_fault.JoinFault.TheVariants as joining
 use Rattle.jcard_outcomes.specs.declared.join.Joined.{Joined}
 use Rattle.jcard_outcomes.specs.declared.report.Sweep.{Sweep}
 use Rattle.jcard_script.specs.Texts.{IsCutOf}
@@ -52,7 +52,8 @@ IsJoinTold j (Err other) text = ⊥
 -- texts without heads were joined to a report; or they are not the parts of a sweep, or memory was refused. The parts of a sweep are joined to
 -- what is told of it, or memory was refused
 pub record AreBodiesJoinedTo (texts : List (List ℕ)) (ended : Result Unit Fault) (text : List ℕ) : Type 0 where
-  pub joined : ((j : Joined) × AreJoined texts j × IsJoinTold j ended text) ⊎ ((cause : JoinFault) × (ended ≡ Err (told_join_fault cause)) × (text ≡ []))
+  pub joined : ((j : Joined) × AreJoined texts j × IsJoinTold j ended text)
+      ⊎ ((cause : JoinFault) × IsJoinFault texts cause × (ended ≡ Err (told_join_fault cause)) × (text ≡ []))
   pub whole : (s : Sweep) → IsTellable s → AreBodiesOf s texts → IsReported s ended text ⊎ ((ended ≡ Err NoMemory) × (text ≡ []))
 
 -- the text of one of the files of these names is of another sweep than that of the first: the file is told; or memory was refused

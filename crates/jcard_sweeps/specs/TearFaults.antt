@@ -6,7 +6,7 @@ use Rattle.jcard_tear.specs.declared.tearing.TearFault.{TearFault}
 use Rattle.jcard_tear.specs.declared.tearing.TearFault.TheVariants as tear
 use Rattle.jcard_faults.specs.ScriptFaults.{IsUnpowered}
 use Rattle.jcard_faults.specs.declared.fault.Fault.{Fault}
-use Rattle.jcard_faults.specs.declared.fault.Fault.TheVariants.{BadCommand, Down, NoMemory, ScriptTooLong, TooManyCuts}
+use Rattle.jcard_faults.specs.declared.fault.Fault.TheVariants.{BadCommand, BadProbeCommand, Down, NoMemory, ProbeTooLong, ScriptTooLong, TooManyCuts}
 
 -- what is told where lines were not carried out in memory over the image of this name, where a text is read and written as long as
 -- there is memory
@@ -17,10 +17,16 @@ IsFaultInMemory image (script.BadLine n) fault = fault ≡ BadCommand n
 IsFaultInMemory image script.TooLong fault = fault ≡ ScriptTooLong
 IsFaultInMemory image (script.PowerFault cause) fault = IsUnpowered image cause fault
 
+-- the same of the lines of a probe, which are told as the probe's
+abbrev pub IsProbeFaultInMemory : List ℕ → ScriptFault → Fault → Type 0
+IsProbeFaultInMemory image (script.BadLine n) fault = fault ≡ BadProbeCommand n
+IsProbeFaultInMemory image script.TooLong fault = fault ≡ ProbeTooLong
+IsProbeFaultInMemory image other fault = IsFaultInMemory image other fault
+
 -- what is told where a command was not cut over the image of this name: the fault of the script or of the probe, or the cause itself
 abbrev pub IsTearFault : List ℕ → TearFault → Fault → Type 0
 IsTearFault image tear.NoMemory fault = fault ≡ NoMemory
 IsTearFault image (tear.Script cause) fault = IsFaultInMemory image cause fault
-IsTearFault image (tear.Probe cause) fault = IsFaultInMemory image cause fault
+IsTearFault image (tear.Probe cause) fault = IsProbeFaultInMemory image cause fault
 IsTearFault image tear.Down fault = fault ≡ Down
 IsTearFault image tear.TooManyCuts fault = fault ≡ TooManyCuts

@@ -2,7 +2,6 @@
 ghost use Rattle.std.specs.Prelude.{◌≡◌, ◌⊎◌, ◌<◌, ℕ, List, Err, MatchResult, IfErr, map, false, length};
 ghost use Rattle.std.specs.Borrow.{Bor};
 ghost use Rattle.std.specs.Io.KnownBytes.{Appends};
-ghost use Rattle.std.specs.String.{string_bytes};
 ghost use Rattle.jc_words.specs.Count.{failures_after};
 ghost use Rattle.jcard_faults.specs.Faults.{is_unwritten};
 ghost use Rattle.jcard_files.specs.FileDeeds.{FileDeed};
@@ -12,21 +11,22 @@ ghost use Rattle.jcard_sweeps.specs.Joinings.{AreBodiesJoinedTo, AreFirstRead, A
 use jcard_faults::fault::Fault;
 use jcard_files::disk::Disk;
 use jcard_files::reading::script_of;
-use jcard_outcomes::join::{JoinFault, Joined, join};
+use jcard_outcomes::join::{Joined, join};
+use jcard_outcomes::join_fault::JoinFault;
 use jcard_outcomes::sweep_head::{HeadFault, bodies_of};
 use jcard_script::streams::{TextOut, write_all};
 use std::alloc::Global;
 
-/// Joins the texts in the files of these names, which tell the parts of a sweep, to what one run tells of it.
+/// Joins the texts in the files of these names, which tell the parts of a sweep, in any order, to what one run tells of it.
 pub fn join_files<'n, D: Disk, W: TextOut>(
     disk: &mut D,
-    files: &'n [String],
+    files: &[&'n str],
     out: &mut W,
 ) -> Result<(), Fault<'n>>
     requires { 0 < length files.now }
     ensures done { (text : List ℕ) × (deeds : List FileDeed)
         × Appends (W.contents out.old) (W.contents out.new) text
-        × IsJoining (map string_bytes files.now) result text deeds
+        × IsJoining (map (λ (f : Bor (List ℕ)). f.now) files.now) result text deeds
         × D.does disk.old deeds disk.new }
     ensures writes { W.failures out.new ≡ failures_after (W.failures out.old)
         (is_unwritten result) }
@@ -38,16 +38,16 @@ pub fn join_files<'n, D: Disk, W: TextOut>(
 }
 
 // What the files of these names hold.
-fn texts_of<'n, D: Disk>(disk: &mut D, files: &'n [String]) -> Result<Vec<Vec<u8>>, Fault<'n>>
+fn texts_of<'n, D: Disk>(disk: &mut D, files: &[&'n str]) -> Result<Vec<Vec<u8>>, Fault<'n>>
     ensures read { (deeds : List FileDeed) × D.does disk.old deeds disk.new × MatchResult result
-        (λ texts. AreRead (map string_bytes files.now) (map (λ t. t.items) texts.items) deeds)
-        (λ fault. ((fault ≡ Fault.NoMemory) × AreFirstRead (map string_bytes files.now) deeds)
-        ⊎ AreUnread (map string_bytes files.now) fault deeds) }
+        (λ texts. AreRead (map (λ (f : Bor (List ℕ)). f.now) files.now) (map (λ t. t.items) texts.items) deeds)
+        (λ fault. ((fault ≡ Fault.NoMemory) × AreFirstRead (map (λ (f : Bor (List ℕ)). f.now) files.now) deeds)
+        ⊎ AreUnread (map (λ (f : Bor (List ℕ)). f.now) files.now) fault deeds) }
     ensures unwritten { IfErr result (λ fault. is_unwritten (Err fault) ≡ false) }
 {
     let mut texts = Vec::new(disk.alloc());
     for file in files {
-        let text = match script_of(disk, file.as_str()) {
+        let text = match script_of(disk, *file) {
             Ok(text) => text,
             Err(fault) => return Err(fault),
         };
@@ -61,14 +61,14 @@ fn texts_of<'n, D: Disk>(disk: &mut D, files: &'n [String]) -> Result<Vec<Vec<u8
 // Joins the texts of the files of these names, and writes the report.
 fn join_texts<'n, W: TextOut>(
     alloc: Global,
-    files: &'n [String],
+    files: &[&'n str],
     texts: &[Vec<u8>],
     out: &mut W,
 ) -> Result<(), Fault<'n>>
     requires some { 0 < length texts.now }
     requires all { length files.now ≡ length texts.now }
     ensures done { (text : List ℕ) × Appends (W.contents out.old) (W.contents out.new) text
-        × IsJoinedTo (map string_bytes files.now) (map (λ t. t.items) texts.now) result text }
+        × IsJoinedTo (map (λ (f : Bor (List ℕ)). f.now) files.now) (map (λ t. t.items) texts.now) result text }
     ensures writes { W.failures out.new ≡ failures_after (W.failures out.old)
         (is_unwritten result) }
 {
@@ -79,15 +79,15 @@ fn join_texts<'n, W: TextOut>(
 }
 
 // What it means that the texts of these files are not of one sweep.
-fn head_fault<'n>(files: &'n [String], texts: &[Vec<u8>], cause: HeadFault) -> Fault<'n>
+fn head_fault<'n>(files: &[&'n str], texts: &[Vec<u8>], cause: HeadFault) -> Fault<'n>
     requires all { length files.now ≡ length texts.now }
     requires others { AreOfOthers (map (λ t. t.items) texts.now) cause }
-    ensures told { IsOtherTold (map string_bytes files.now) cause result }
+    ensures told { IsOtherTold (map (λ (f : Bor (List ℕ)). f.now) files.now) cause result }
     ensures unwritten { is_unwritten (Err result) ≡ false }
 {
     match cause {
         HeadFault::NoMemory => Fault::NoMemory,
-        HeadFault::OtherSweep(place) => Fault::OtherPart(files[place].as_str()),
+        HeadFault::OtherSweep(place) => Fault::OtherPart(files[place]),
     }
 }
 

@@ -5,9 +5,10 @@ ghost use Rattle.std.specs.Io.KnownBytes.{Appends};
 ghost use Rattle.jc_words.specs.Count.{failures_after};
 ghost use Rattle.jcard_faults.specs.Faults.{is_unwritten};
 ghost use Rattle.jcard_files.specs.FileDeeds.{FileDeed};
-ghost use Rattle.jcard_sweeps.specs.Tears.{AreReported, AreTornOf, EndsUntold, IsImageRead, IsImageUnread, IsLineNumber, IsMeantBy, IsProbeRead, IsProbeUnread, IsProbed, IsReported};
-ghost use Rattle.jcard_sweeps.specs.Tears.{IsTear, IsTearOver, IsTornEach, IsTornIn, IsTornOne};
-ghost use Rattle.jcard_sweeps.specs.TearFaults.{IsFaultInMemory, IsTearFault};
+ghost use Rattle.jcard_sweeps.specs.Tears.{AreReported, AreTornOf, AreTornThrough, EndsUntold, IsImageRead, IsImageUnread, IsLineNumber, IsMeantBy, IsProbeRead, IsProbeUnread, IsProbed, IsReported};
+ghost use Rattle.jcard_sweeps.specs.Tears.{IsTear, IsTearOver, IsTearRead, is_deep, is_unshared, IsTornEach, IsTornIn, IsTornOne};
+ghost use Rattle.jcard_sweeps.specs.TearFaults.{IsFaultInMemory, IsProbeFaultInMemory, IsTearFault};
+ghost use Rattle.jcard_tear.specs.Faults.{told_run_fault};
 ghost use Rattle.jcard_sweeps.specs.Tears.{IsPartTold, IsTornPart, IsTornShare};
 ghost use Rattle.jcard_tear.specs.ScriptLines.{line_of};
 ghost use Rattle.jcard_outcomes.specs.Reports.{report_text, verdicts_text};
@@ -19,6 +20,7 @@ use jcard_files::disk::Disk;
 use jcard_files::reading::script_of;
 use jcard_outcomes::each::{LineSweep, are_all_or_nothing, verdicts};
 use jcard_outcomes::part::{Part, Share, part_lines, share_of};
+use jcard_outcomes::recoveries::Depth;
 use jcard_outcomes::report::{Sweep, report};
 use jcard_outcomes::verdict::is_all_or_nothing;
 use jcard_script::script::ScriptFault;
@@ -27,14 +29,14 @@ use jcard_tear::cuts::Behind;
 use jcard_tear::each::{tear_each, tear_line};
 use jcard_tear::parts::tear_line_part;
 use jcard_tear::progress::Progress;
-use jcard_tear::runs::copied;
+use jcard_tear::runs::{RunFault, carried_through, copied};
 use jcard_tear::script_lines::{ScriptLine, chosen, commands};
 use jcard_tear::tearing::TearFault;
 use std::alloc::{AllocError, Global};
 
 /// What is torn of an image: the names of a script and perhaps of a probe, the command in the line of a number, the last
 /// command, or each, and what comes behind each cut.
-#[derive(Clone, Copy, Debug, PartialEq, Eq, Drop)]
+#[derive(Clone, Copy, Drop)]
 pub struct Asked<'a> {
     pub script: &'a str,
     pub probe: Option<&'a str>,
@@ -45,7 +47,8 @@ pub struct Asked<'a> {
 }
 
 /// `jcard tear`: cuts a command of the script, or each, after each number of its writes, each time on a card of a copy of the image's
-/// words, and tells what is left. The image is read, and never written.
+/// words, and tells what is left. The whole script is carried out before, and refused as `jcard run` refuses it. The image is read, and
+/// never written. A part is told of one command alone, and without recoveries that are cut: else the words are no command line.
 pub fn tear_image<'n, D: Disk, W: TextOut, P: Progress>(
     disk: &mut D,
     image: &'n str,
@@ -56,6 +59,51 @@ pub fn tear_image<'n, D: Disk, W: TextOut, P: Progress>(
     ensures done { (text : List ℕ) × (deeds : List FileDeed)
         × Appends (W.contents out.old) (W.contents out.new) text
         × IsTear image.now asked.entry.script.now
+        (option_map (λ (name : Bor (List ℕ)). name.now) asked.entry.line) asked.entry.each asked.entry.behind
+        (option_map (λ (name : Bor (List ℕ)). name.now) asked.entry.part)
+        (option_map (λ (name : Bor (List ℕ)). name.now) asked.entry.probe) result text deeds
+        × D.does disk.old deeds disk.new }
+    ensures writes { W.failures out.new ≡ failures_after (W.failures out.old)
+        (is_unwritten result) }
+{
+    if is_unshared(asked.each, asked.behind.depth, asked.part) {
+        return Err(Fault::BadCommandLine);
+    }
+    tear_read(disk, image, asked, out, progress)
+}
+
+// Whether a part is asked for of what no part can be told: of each command, or with recoveries that are cut.
+fn is_unshared(each: bool, depth: Depth, part: Option<&str>) -> bool
+    ensures { result ≡ is_unshared each depth
+        (option_map (λ (name : Bor (List ℕ)). name.now) part.entry) }
+{
+    match part {
+        Some(_name) => each || is_deep(depth),
+        None => false,
+    }
+}
+
+// Whether recoveries are cut.
+fn is_deep(depth: Depth) -> bool
+    ensures { result ≡ is_deep depth }
+{
+    match depth {
+        Depth::Zero => false,
+        Depth::One | Depth::Two | Depth::Three => true,
+    }
+}
+
+// Reads the image, and cuts the commands that are meant.
+fn tear_read<'n, D: Disk, W: TextOut, P: Progress>(
+    disk: &mut D,
+    image: &'n str,
+    asked: Asked<'n>,
+    out: &mut W,
+    progress: &mut P,
+) -> Result<(), Fault<'n>>
+    ensures done { (text : List ℕ) × (deeds : List FileDeed)
+        × Appends (W.contents out.old) (W.contents out.new) text
+        × IsTearRead image.now asked.entry.script.now
         (option_map (λ (name : Bor (List ℕ)). name.now) asked.entry.line) asked.entry.each asked.entry.behind
         (option_map (λ (name : Bor (List ℕ)). name.now) asked.entry.part)
         (option_map (λ (name : Bor (List ℕ)). name.now) asked.entry.probe) result text deeds
@@ -128,8 +176,37 @@ fn tear_in<'n, D: Disk, W: TextOut, P: Progress>(
         (is_unwritten result) }
 {
     match commands(disk.alloc(), script) {
-        Ok(commands) => tear_meant(disk, names, words, &commands, asked, out, progress),
+        Ok(commands) => tear_through(disk, names, words, script, &commands, asked, out, progress),
         Err(AllocError) => Err(Fault::NoMemory),
+    }
+}
+
+// Carries the whole script out, so that a line that has no form is refused wherever it stands, and cuts those commands of it that are
+// meant.
+fn tear_through<'n, D: Disk, W: TextOut, P: Progress>(
+    disk: &mut D,
+    names: Names<'n>,
+    words: &[u16],
+    script: &[u8],
+    commands: &[ScriptLine],
+    asked: Asked<'n>,
+    out: &mut W,
+    progress: &mut P,
+) -> Result<(), Fault<'n>>
+    requires { length words.now < 65536 }
+    ensures done { (text : List ℕ) × (deeds : List FileDeed)
+        × Appends (W.contents out.old) (W.contents out.new) text
+        × AreTornThrough words.now script.now commands.now
+        (option_map (λ (name : Bor (List ℕ)). name.now) asked.entry.line) asked.entry.each asked.entry.behind
+        (option_map (λ (name : Bor (List ℕ)). name.now) asked.entry.part)
+        (option_map (λ (name : Bor (List ℕ)). name.now) asked.entry.probe) result text deeds
+        × D.does disk.old deeds disk.new }
+    ensures writes { W.failures out.new ≡ failures_after (W.failures out.old)
+        (is_unwritten result) }
+{
+    match carried_through(disk.alloc(), words, script, asked.behind.instructions) {
+        Ok(()) => tear_meant(disk, names, words, commands, asked, out, progress),
+        Err(cause) => Err(run_fault(names, cause)),
     }
 }
 
@@ -180,7 +257,7 @@ fn tear_part<'n, D: Disk, W: TextOut, P: Progress>(
     requires { length words.now < 65536 }
     ensures done { (text : List ℕ) × (deeds : List FileDeed)
         × Appends (W.contents out.old) (W.contents out.new) text
-        × IsTornPart words.now (line_of found.entry) asked.entry.behind.objects part.now
+        × IsTornPart words.now (line_of found.entry) asked.entry.behind part.now
         (option_map (λ (name : Bor (List ℕ)). name.now) asked.entry.probe) result text deeds
         × D.does disk.old deeds disk.new }
     ensures writes { W.failures out.new ≡ failures_after (W.failures out.old)
@@ -196,7 +273,7 @@ fn tear_part<'n, D: Disk, W: TextOut, P: Progress>(
             words,
             found,
             lent(&probe),
-            asked.behind.objects,
+            asked.behind,
             share,
             out,
             progress,
@@ -304,14 +381,14 @@ fn cut_part<'n, W: TextOut, P: Progress>(
     words: &[u16],
     found: ScriptLine,
     probe: Option<&[u8]>,
-    objects: bool,
+    behind: Behind,
     share: Share,
     out: &mut W,
     progress: &mut P,
 ) -> Result<(), Fault<'n>>
     requires { length words.now < 65536 }
     ensures done { (text : List ℕ) × Appends (W.contents out.old) (W.contents out.new) text
-        × IsTornShare words.now (line_of found.entry) objects share
+        × IsTornShare words.now (line_of found.entry) behind share
         (option_map (λ (text : Bor (List ℕ)). text.now) probe.entry) result text }
     ensures writes { W.failures out.new ≡ failures_after (W.failures out.old)
         (is_unwritten result) }
@@ -321,7 +398,8 @@ fn cut_part<'n, W: TextOut, P: Progress>(
         words,
         found,
         probe,
-        objects,
+        behind.objects,
+        behind.instructions,
         share.first,
         share.step,
         progress,
@@ -367,7 +445,7 @@ fn cut_each<'n, W: TextOut, P: Progress>(
         (is_unwritten result) }
 {
     match tear_each(alloc, words, commands, probe, behind, progress) {
-        Ok(sweeps) => tell_verdicts(alloc, &sweeps, out),
+        Ok(sweeps) => tell_verdicts(alloc, &sweeps, behind.objects, out),
         Err(cause) => Err(tear_fault(names, cause)),
     }
 }
@@ -400,29 +478,30 @@ fn all_or_nothing<'n>(sweep: &Sweep) -> Result<(), Fault<'n>>
     }
 }
 
-// Writes the verdicts over the commands of a script.
+// Writes the verdicts over the commands of a script, with the rows of each or without.
 fn tell_verdicts<'n, W: TextOut>(
     alloc: Global,
     sweeps: &[LineSweep],
+    rows: bool,
     out: &mut W,
 ) -> Result<(), Fault<'n>>
     ensures done { (text : List ℕ) × Appends (W.contents out.old) (W.contents out.new) text
-        × (AreReported sweeps.now result text ⊎ EndsUntold result text) }
+        × (AreReported rows sweeps.now result text ⊎ EndsUntold result text) }
     ensures writes { W.failures out.new ≡ failures_after (W.failures out.old)
         (is_unwritten result) }
 {
-    let Ok(verdicts) = verdicts(alloc, sweeps) else {
+    let Ok(verdicts) = verdicts(alloc, sweeps, rows) else {
         return Err(Fault::NoMemory);
     };
     match write_all(out, &verdicts) {
-        Ok(()) => each_all_or_nothing(sweeps),
+        Ok(()) => each_all_or_nothing(sweeps, rows),
         Err(_) => Err(Fault::WriteFailed),
     }
 }
 
 // Whether the cuts of each command were all or nothing.
-fn each_all_or_nothing<'n>(sweeps: &[LineSweep]) -> Result<(), Fault<'n>>
-    ensures reported { AreReported sweeps.now result (verdicts_text sweeps.now) }
+fn each_all_or_nothing<'n>(sweeps: &[LineSweep], rows: bool) -> Result<(), Fault<'n>>
+    ensures reported { AreReported rows sweeps.now result (verdicts_text rows sweeps.now) }
     ensures unwritten { is_unwritten result ≡ false }
 {
     if !are_all_or_nothing(sweeps) {
@@ -438,7 +517,8 @@ fn tear_fault<'n>(names: Names<'n>, cause: TearFault) -> Fault<'n>
 {
     match cause {
         TearFault::NoMemory => Fault::NoMemory,
-        TearFault::Script(fault) | TearFault::Probe(fault) => tear_script_fault(names, fault),
+        TearFault::Script(fault) => tear_script_fault(names, fault),
+        TearFault::Probe(fault) => tear_probe_fault(names, fault),
         TearFault::Down => Fault::Down,
         TearFault::TooManyCuts => Fault::TooManyCuts,
     }
@@ -455,6 +535,31 @@ fn tear_script_fault<'n>(names: Names<'n>, fault: ScriptFault) -> Fault<'n>
         ScriptFault::BadLine(n) => Fault::BadCommand(n),
         ScriptFault::TooLong => Fault::ScriptTooLong,
         ScriptFault::PowerFault(cause) => power_up_fault(names.image, cause),
+    }
+}
+
+// What it means that the lines of a probe were not.
+fn tear_probe_fault<'n>(names: Names<'n>, fault: ScriptFault) -> Fault<'n>
+    ensures told { IsProbeFaultInMemory names.entry.image.now fault result }
+    ensures unwritten { is_unwritten (Err result) ≡ false }
+{
+    match fault {
+        ScriptFault::BadLine(n) => Fault::BadProbeCommand(n),
+        ScriptFault::TooLong => Fault::ProbeTooLong,
+        ScriptFault::ReadFailed | ScriptFault::WriteFailed | ScriptFault::PowerFault(_) => {
+            tear_script_fault(names, fault)
+        }
+    }
+}
+
+// What it means that the whole script was not.
+fn run_fault<'n>(names: Names<'n>, cause: RunFault) -> Fault<'n>
+    ensures told { IsTearFault names.entry.image.now (told_run_fault cause) result }
+    ensures unwritten { is_unwritten (Err result) ≡ false }
+{
+    match cause {
+        RunFault::NoMemory => Fault::NoMemory,
+        RunFault::Script(fault) => tear_script_fault(names, fault),
     }
 }
 

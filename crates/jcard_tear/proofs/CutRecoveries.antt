@@ -196,48 +196,48 @@ leave_as_one w n (next ∷ more) good once cut =
 -- ---- what comes of them
 
 -- a recovery comes to the same behind others that are cut, where it does behind each one that is cut as early as those
-come_to_the_same : (words probe : List ℕ) (left : Left) (bound : ℕ) (stops : List ℕ) → (0 < length (replay_writes words) → IsGoodLog words)
-    → NamesEachOnce words → IsLeft words probe left → AreTheSame words probe left bound → AreCutAfter words stops
-    → ((m : ℕ) → LeaveAsOne words stops m → m < bound) → ComesToTheSame (after_replays stops words) probe left
+come_to_the_same : (budget : ℕ) (words probe : List ℕ) (left : Left) (bound : ℕ) (stops : List ℕ) → (0 < length (replay_writes words) → IsGoodLog words)
+    → NamesEachOnce words → IsLeft budget words probe left → AreTheSame budget words probe left bound → AreCutAfter words stops
+    → ((m : ℕ) → LeaveAsOne words stops m → m < bound) → ComesToTheSame budget (after_replays stops words) probe left
 unfolding AreCutAfter
-come_to_the_same words probe left bound [] good once is same cut below = (left, is, (refl, refl))
-come_to_the_same words probe left bound (n ∷ more) good once is same cut below =
+come_to_the_same budget words probe left bound [] good once is same cut below = (left, is, (refl, refl))
+come_to_the_same budget words probe left bound (n ∷ more) good once is same cut below =
     let h : n < length (replay_writes words) = cut.0 in
     let one = leave_as_one words n more (good (omega (arith, h))) once cut in
-    subst (λ (w : List ℕ). ComesToTheSame w probe left) (sym one.1.words) (same one.0 (below one.0 one.1))
+    subst (λ (w : List ℕ). ComesToTheSame budget w probe left) (sym one.1.words) (same one.0 (below one.0 one.1))
 
 -- so it is however many are cut, if it is with one
-pub recoveries_told : (words probe : List ℕ) (left : Left) (writes depth : ℕ) (found : Option ℕ) → writes ≡ length (replay_writes words)
-    → (0 < writes → IsGoodLog words) → NamesEachOnce words → IsLeft words probe left
-    → MatchOption found (AreTheSame words probe left writes)
-    (λ n. (n < writes) × ComesToAnother (torn_replay n words) probe left × AreTheSame words probe left n)
-    → MatchOption found (MakeNoDifference depth words probe left) (λ n. IsFirstDifference depth words probe left n)
-recoveries_told words probe left writes depth None many good once is same = λ stops long cut.
-    come_to_the_same words probe left writes stops (λ h. good (omega (arith, many, h))) once is same cut (λ m one. omega (arith, many, one.within))
-recoveries_told words probe left writes depth (Some n) many good once is found = record {
+pub recoveries_told : (budget : ℕ) (words probe : List ℕ) (left : Left) (writes depth : ℕ) (found : Option ℕ) → writes ≡ length (replay_writes words)
+    → (0 < writes → IsGoodLog words) → NamesEachOnce words → IsLeft budget words probe left
+    → MatchOption found (AreTheSame budget words probe left writes)
+    (λ n. (n < writes) × ComesToAnother budget (torn_replay n words) probe left × AreTheSame budget words probe left n)
+    → MatchOption found (MakeNoDifference depth budget words probe left) (λ n. IsFirstDifference depth budget words probe left n)
+recoveries_told budget words probe left writes depth None many good once is same = λ stops long cut.
+    come_to_the_same budget words probe left writes stops (λ h. good (omega (arith, many, h))) once is same cut (λ m one. omega (arith, many, one.within))
+recoveries_told budget words probe left writes depth (Some n) many good once is found = record {
   cut = omega (arith, many, found.0);
   other = found.1;
-  earlier = λ stops long cut all. come_to_the_same words probe left n stops (λ h. good (omega (arith, many, h))) once is found.2 cut
+  earlier = λ stops long cut all. come_to_the_same budget words probe left n stops (λ h. good (omega (arith, many, h))) once is found.2 cut
       (λ m one. one.one n all);
 }
 
 -- none is cut, and one that is whole comes to what is left
-pub none_cut : (words probe : List ℕ) (left : Left) → IsLeft words probe left → MakeNoDifference 0 words probe left
-none_cut words probe left is [] long cut = (left, is, (refl, refl))
-none_cut words probe left is (n ∷ more) long cut = absurd (omega (arith, long))
+pub none_cut : (budget : ℕ) (words probe : List ℕ) (left : Left) → IsLeft budget words probe left → MakeNoDifference 0 budget words probe left
+none_cut budget words probe left is [] long cut = (left, is, (refl, refl))
+none_cut budget words probe left is (n ∷ more) long cut = absurd (omega (arith, long))
 
 -- what is compared with what is left
-pub compared : (b : Bool) (words probe : List ℕ) (left found : Left) → IsTrue b ↔ IsSameLeft left found → IsLeft words probe found
-    → MatchBool b (ComesToTheSame words probe left) (ComesToAnother words probe left)
-compared true words probe left found same is = (found, is, same.0 refl)
-compared false words probe left found same is = (found, is, λ e. absurd (false≢true (same.1 e)))
+pub compared : (b : Bool) (budget : ℕ) (words probe : List ℕ) (left found : Left) → IsTrue b ↔ IsSameLeft left found → IsLeft budget words probe found
+    → MatchBool b (ComesToTheSame budget words probe left) (ComesToAnother budget words probe left)
+compared true budget words probe left found same is = (found, is, same.0 refl)
+compared false budget words probe left found same is = (found, is, λ e. absurd (false≢true (same.1 e)))
 
 -- behind one more number of writes it is the same
-pub same_more : (words probe : List ℕ) (left : Left) (n : ℕ) → AreTheSame words probe left n → ComesToTheSame (torn_replay n words) probe left
-    → AreTheSame words probe left (n + 1)
-same_more words probe left n same here m below =
+pub same_more : (budget : ℕ) (words probe : List ℕ) (left : Left) (n : ℕ) → AreTheSame budget words probe left n → ComesToTheSame budget (torn_replay n words) probe left
+    → AreTheSame budget words probe left (n + 1)
+same_more budget words probe left n same here m below =
     ⊎_elim (λ before. same m before)
-    (λ behind. let is : n ≡ m = omega (arith, below, behind) in subst (λ (i : ℕ). ComesToTheSame (torn_replay i words) probe left) is here)
+    (λ behind. let is : n ≡ m = omega (arith, below, behind) in subst (λ (i : ℕ). ComesToTheSame budget (torn_replay i words) probe left) is here)
     (cases_lt m n)
 
 -- how many writes a recovery makes that has entries

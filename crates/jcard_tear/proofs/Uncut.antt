@@ -1,10 +1,10 @@
 -- Why a command was not cut.
-use Rattle.std.proofs.Common.{◌≡◌, ◌⊎◌, ◌++◌, ◌+◌, ◌*◌, ◌<◌, ◌≤◌, ℕ, zero, suc, true, List, [], ◌∷◌, Option, Result, Ok, Err, IsErrAnd, MatchResult, length, refl, sym, subst, inl, inr, arith}
+use Rattle.std.proofs.Common.{◌≡◌, ◌⊎◌, ◌++◌, ◌+◌, ◌*◌, ◌<◌, ◌≤◌, ℕ, zero, suc, true, List, [], ◌∷◌, Option, Result, Ok, Err, IfErr, IsErrAnd, MatchResult, length, refl, sym, subst, inl, inr, arith}
 use Rattle.std.proofs.Math.Nat.{mul-suc, suc-mul}
 use Rattle.jc_objects.specs.declared.image_objects.ImageObjects.{ImageObjects}
 use Rattle.jcard_outcomes.specs.declared.standing.Cut.{Cut}
 use Rattle.jcard_outcomes.specs.declared.standing.Left.{Left}
-use Rattle.jcard_tear.specs.Faults.{IsCarriedOut, IsCutPast, IsProbeFault, IsScriptFor, IsUncutFor, told_run_fault}
+use Rattle.jcard_tear.specs.Faults.{IsCarriedOut, IsCutPast, IsImageFault, IsLeftFault, IsLogFault, IsProbeFault, IsScriptFor, IsUncutFor, told_probe_fault, told_run_fault}
 use Rattle.jcard_tear.specs.Parts.{AreEvery}
 use Rattle.jc_words.specs.Stores.{FuseStoreValue}
 use Rattle.jcard_tear.specs.Runs.{IsRunFault, Runs}
@@ -13,7 +13,7 @@ use Rattle.jcard_tear.specs.declared.cuts.Command.{Command}
 use Rattle.jcard_tear.specs.declared.runs.RunFault.{RunFault}
 use Rattle.jcard_tear.specs.declared.runs.RunFault.TheVariants as run
 use Rattle.jcard_tear.specs.declared.tearing.TearFault.{TearFault}
-use Rattle.jcard_tear.specs.declared.tearing.TearFault.TheVariants.{Down, NoMemory, Probe}
+use Rattle.jcard_tear.specs.declared.tearing.TearFault.TheVariants.{Down, NoMemory, Probe, Script, TooManyCuts}
 
 -- memory was refused
 pub memory_uncut : (words : List ℕ) (c : Command) (step : ℕ) (fault : TearFault) → fault ≡ NoMemory → IsUncutFor words c step fault
@@ -21,18 +21,19 @@ memory_uncut words c step fault e = subst (λ (f : TearFault). IsUncutFor words 
 
 -- a script was not carried out to its end
 pub run_uncut : (words : List ℕ) (c : Command) (step : ℕ) (script : List ℕ) (cause : RunFault) (fault : TearFault) → IsScriptFor c script
-    → IsRunFault words script cause → fault ≡ told_run_fault cause → IsUncutFor words c step fault
+    → IsRunFault c.behind.instructions words script cause → fault ≡ told_run_fault cause → IsUncutFor words c step fault
 run_uncut words c step script run.NoMemory fault for is e = memory_uncut words c step fault e
 run_uncut words c step script (run.Script x) fault for is e = subst (λ (f : TearFault). IsUncutFor words c step f) (sym e) (script, for, is)
 
 -- a recovery or the probe behind it was not
-pub probe_uncut : (words : List ℕ) (c : Command) (step : ℕ) (fault : TearFault) → IsCarriedOut words c → IsProbeFault fault → IsUncutFor words c step fault
+pub probe_uncut : (words : List ℕ) (c : Command) (step : ℕ) (fault : TearFault) → IsCarriedOut words c
+    → IsProbeFault c.behind.instructions c.probe.now fault → IsUncutFor words c step fault
 probe_uncut words c step NoMemory done is = tt
-probe_uncut words c step (Probe x) done is = done
+probe_uncut words c step (Probe x) done is = (done, is)
 probe_uncut words c step other done is = absurd is
 
 -- the card is down at the command
-pub down_uncut : (words : List ℕ) (c : Command) (step : ℕ) (text : List ℕ) (after : FuseStoreValue) → Runs words (c.before.now ++ c.line.now) text after
+pub down_uncut : (words : List ℕ) (c : Command) (step : ℕ) (text : List ℕ) (after : FuseStoreValue) → Runs c.behind.instructions words (c.before.now ++ c.line.now) text after
     → after.down ≡ true → IsUncutFor words c step Down
 down_uncut words c step text after runs down = (text, after, runs, down)
 
@@ -45,9 +46,42 @@ pub passed_on : {A F : Type 0} (P : A → Type 0) {Q : F → Type 0} (R : F → 
 passed_on P R (Ok x) is to = absurd is
 passed_on P R (Err fault) is to = to fault is
 
--- memory was refused for a recovery or the probe
-pub memory_probed : (fault : TearFault) → fault ≡ NoMemory → IsProbeFault fault
-memory_probed fault e = subst IsProbeFault (sym e) tt
+-- the same of a fault alone
+pub refused_on : {A F : Type 0} {Q : F → Type 0} (R : F → Type 0) (r : Result A F) → IsErrAnd r Q → ((fault : F) → Q fault → R fault) → IfErr r R
+refused_on R (Ok x) is to = tt
+refused_on R (Err fault) is to = to fault is
+
+-- memory was refused for what stands in an image
+pub memory_imaged : (fault : TearFault) → fault ≡ NoMemory → IsImageFault fault
+memory_imaged fault e = subst IsImageFault (sym e) tt
+
+-- what stands in an image behind a cut is bad
+pub image_probed : (budget : ℕ) (probe : List ℕ) (fault : TearFault) → IsImageFault fault → IsProbeFault budget probe fault
+image_probed budget probe NoMemory is = tt
+image_probed budget probe (Probe x) is = inr (inr is)
+image_probed budget probe (Script x) is = absurd is
+image_probed budget probe Down is = absurd is
+image_probed budget probe TooManyCuts is = absurd is
+
+-- a recovery or the lines of a probe were not carried out to their end
+pub left_probed : (budget : ℕ) (probe : List ℕ) (cause : RunFault) → IsLeftFault budget probe cause → (fault : TearFault) → fault ≡ told_probe_fault cause
+    → IsProbeFault budget probe fault
+left_probed budget probe run.NoMemory is fault e = subst (IsProbeFault budget probe) (sym e) tt
+left_probed budget probe (run.Script x) is fault e = subst (IsProbeFault budget probe) (sym e) is
+
+pub memory_left : (budget : ℕ) (probe : List ℕ) (fault : RunFault) → fault ≡ run.NoMemory → IsLeftFault budget probe fault
+memory_left budget probe fault e = subst (IsLeftFault budget probe) (sym e) tt
+
+pub run_left : (budget : ℕ) (words probe : List ℕ) (fault : RunFault) → IsRunFault budget words probe fault → IsLeftFault budget probe fault
+run_left budget words probe run.NoMemory is = tt
+run_left budget words probe (run.Script x) is = inl (words, is)
+
+pub log_left : (budget : ℕ) (probe : List ℕ) (fault : RunFault) → IsLogFault fault → IsLeftFault budget probe fault
+log_left budget probe run.NoMemory is = tt
+log_left budget probe (run.Script x) is = inr (inl is)
+
+pub memory_logged : (fault : RunFault) → fault ≡ run.NoMemory → IsLogFault fault
+memory_logged fault e = subst IsLogFault (sym e) tt
 
 -- ---- too many cuts
 

@@ -6,6 +6,9 @@ use Rattle.jcard_outcomes.specs.declared.standing.Left.{Left}
 use Rattle.jcard_tear.specs.Runs.{IsRunFault, Runs}
 use Rattle.jcard_tear.specs.ScriptLines.{Line}
 use Rattle.jcard_tear.specs.Sweeps.{IsCutAt, cut_script, probe_of}
+use Rattle.jc_card.specs.declared.power_up.PowerFault.TheVariants.{BadLog, BadPackage}
+use Rattle.jcard_script.specs.declared.script.ScriptFault.TheVariants.{PowerFault}
+use Rattle.jcard_tear.specs.declared.cuts.Behind.{Behind}
 use Rattle.jcard_tear.specs.declared.cuts.Command.{Command}
 use Rattle.jcard_tear.specs.declared.runs.RunFault.{RunFault}
 use Rattle.jcard_tear.specs.declared.runs.RunFault.TheVariants as run
@@ -22,11 +25,29 @@ abbrev pub told_probe_fault : RunFault → TearFault
 told_probe_fault run.NoMemory = NoMemory
 told_probe_fault (run.Script fault) = Probe fault
 
--- memory was refused for a recovery or the probe, or one of them was not carried out to its end
-abbrev pub IsProbeFault : TearFault → Type 0
-IsProbeFault NoMemory = Unit {0}
-IsProbeFault (Probe fault) = Unit {0}
-IsProbeFault other = ⊥
+-- memory was refused for a recovery or the probe; or, with at most so many instructions a command, one of them was not carried out to its end:
+-- a recovery because the log is bad, an image because what stands in it is, and the lines of the probe, over some words, as this says
+abbrev pub IsProbeFault : ℕ → List ℕ → TearFault → Type 0
+IsProbeFault budget probe NoMemory = Unit {0}
+IsProbeFault budget probe (Probe fault) = ((words : List ℕ) × IsRunFault budget words probe (run.Script fault)) ⊎ (fault ≡ PowerFault BadLog)
+    ⊎ (fault ≡ PowerFault BadPackage)
+IsProbeFault budget probe other = ⊥
+
+-- memory was refused, or what stands in an image is bad
+abbrev pub IsImageFault : TearFault → Type 0
+IsImageFault NoMemory = Unit {0}
+IsImageFault (Probe fault) = fault ≡ PowerFault BadPackage
+IsImageFault other = ⊥
+
+-- memory was refused, or the log of an image is bad
+abbrev pub IsLogFault : RunFault → Type 0
+IsLogFault run.NoMemory = Unit {0}
+IsLogFault (run.Script fault) = fault ≡ PowerFault BadLog
+
+-- memory was refused for a recovery or the lines of a probe, or one of them was not carried out to its end
+abbrev pub IsLeftFault : ℕ → List ℕ → RunFault → Type 0
+IsLeftFault budget probe run.NoMemory = Unit {0}
+IsLeftFault budget probe (run.Script fault) = IsProbeFault budget probe (Probe fault)
 
 -- a script that is carried out for the cuts of a command: the lines before it; those and it; or those and it, with the power cut after
 -- some number of its writes
@@ -35,7 +56,7 @@ IsScriptFor c script = (script ≡ c.before.now) ⊎ (script ≡ c.before.now ++
 
 -- one of them was carried out to its end over these words
 abbrev pub IsCarriedOut : List ℕ → Command → Type 0
-IsCarriedOut words c = (script text : List ℕ) × (after : FuseStoreValue) × IsScriptFor c script × Runs words script text after
+IsCarriedOut words c = (script text : List ℕ) × (after : FuseStoreValue) × IsScriptFor c script × Runs c.behind.instructions words script text after
 
 -- the command is cut after a number of writes, and so many more are not counted
 abbrev pub IsCutPast : List ℕ → Command → ℕ → Type 0
@@ -45,16 +66,17 @@ IsCutPast words c step = (k : ℕ) × (left : Left) × (recoveries : Recoveries)
 -- carried out, but not a recovery or a probe behind it; the card is down at the command; or there are too many cuts
 abbrev pub IsUncutFor : List ℕ → Command → ℕ → TearFault → Type 0
 IsUncutFor words c step NoMemory = Unit {0}
-IsUncutFor words c step (Script fault) = (script : List ℕ) × IsScriptFor c script × IsRunFault words script (run.Script fault)
-IsUncutFor words c step (Probe fault) = IsCarriedOut words c
-IsUncutFor words c step Down = (text : List ℕ) × (after : FuseStoreValue) × Runs words (c.before.now ++ c.line.now) text after × (after.down ≡ true)
+IsUncutFor words c step (Script fault) = (script : List ℕ) × IsScriptFor c script × IsRunFault c.behind.instructions words script (run.Script fault)
+IsUncutFor words c step (Probe fault) = IsCarriedOut words c × IsProbeFault c.behind.instructions c.probe.now (Probe fault)
+IsUncutFor words c step Down = (text : List ℕ) × (after : FuseStoreValue) × Runs c.behind.instructions words (c.before.now ++ c.line.now) text after × (after.down ≡ true)
 IsUncutFor words c step TooManyCuts = IsCutPast words c step
 
--- the same of the command in a line
-abbrev pub IsLineUncut : List ℕ → Option (List ℕ) → Line → ℕ → TearFault → Type 0
-IsLineUncut words given l step fault = (c : Command) × (c.before.now ≡ l.before) × (c.line.now ≡ l.text) × (c.probe.now ≡ probe_of given l.before)
-    × IsUncutFor words c step fault
+-- the same of the command in a line, behind whose cuts this was to come
+abbrev pub IsLineUncut : List ℕ → Option (List ℕ) → Behind → Line → ℕ → TearFault → Type 0
+IsLineUncut words given behind l step fault = (c : Command) × (c.before.now ≡ l.before) × (c.line.now ≡ l.text) × (c.probe.now ≡ probe_of given l.before)
+    × (c.behind ≡ behind) × IsUncutFor words c step fault
 
 -- one of the commands in these lines was not cut after each of its writes; or memory was refused for them
-abbrev pub IsOneUncut : List ℕ → Option (List ℕ) → List Line → TearFault → Type 0
-IsOneUncut words given lines fault = (fault ≡ NoMemory) ⊎ ((l : Line) × (k : ℕ) × (slice_get lines k ≡ Some l) × IsLineUncut words given l 1 fault)
+abbrev pub IsOneUncut : List ℕ → Option (List ℕ) → Behind → List Line → TearFault → Type 0
+IsOneUncut words given behind lines fault = (fault ≡ NoMemory) ⊎ ((l : Line) × (k : ℕ) × (slice_get lines k ≡ Some l)
+    × IsLineUncut words given behind l 1 fault)

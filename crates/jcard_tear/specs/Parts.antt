@@ -27,7 +27,8 @@ pub record IsPartSwept (words : List ℕ) (c : Command) (first n : ℕ) (p : Par
   pub uncut : IsUncutAt words c (first + n * length p.sweep.cuts.items)
   pub depth : p.sweep.depth ≡ c.behind.depth
 
--- a part of the cuts of the command in this line, behind which no recovery is cut, and changes are told or not
-abbrev pub IsLinePart : List ℕ → Option (List ℕ) → Bool → Line → ℕ → ℕ → Part → Type 0
-IsLinePart words given objects l first n p = (c : Command) × (c.before.now ≡ l.before) × (c.line.now ≡ l.text) × (c.probe.now ≡ probe_of given l.before)
-    × (c.behind ≡ record { depth = Zero; objects = objects }) × IsPartSwept words c first n p
+-- a part of the cuts of the command in this line, behind which no recovery is cut, and changes are told or not, with at most so many
+-- instructions a command
+abbrev pub IsLinePart : List ℕ → Option (List ℕ) → Bool → ℕ → Line → ℕ → ℕ → Part → Type 0
+IsLinePart words given objects instructions l first n p = (c : Command) × (c.before.now ≡ l.before) × (c.line.now ≡ l.text) × (c.probe.now ≡ probe_of given l.before)
+    × (c.behind ≡ record { depth = Zero; objects = objects; instructions = instructions }) × IsPartSwept words c first n p

@@ -19,33 +19,33 @@ abbrev pub IsSameLeft : Left → Left → Type 0
 IsSameLeft a b = (a.words.items ≡ b.words.items) × (a.answers.items ≡ b.answers.items)
 
 -- a recovery over these words, and a probe, come to the same as is left
-abbrev pub ComesToTheSame : List ℕ → List ℕ → Left → Type 0
-ComesToTheSame words probe left = (found : Left) × IsLeft words probe found × IsSameLeft left found
+abbrev pub ComesToTheSame : ℕ → List ℕ → List ℕ → Left → Type 0
+ComesToTheSame budget words probe left = (found : Left) × IsLeft budget words probe found × IsSameLeft left found
 
 -- they come to something else
-abbrev pub ComesToAnother : List ℕ → List ℕ → Left → Type 0
-ComesToAnother words probe left = (found : Left) × IsLeft words probe found × (IsSameLeft left found → ⊥)
+abbrev pub ComesToAnother : ℕ → List ℕ → List ℕ → Left → Type 0
+ComesToAnother budget words probe left = (found : Left) × IsLeft budget words probe found × (IsSameLeft left found → ⊥)
 
 -- of each recovery of these words that is cut earlier than after n writes this holds
-abbrev pub AreTheSame : List ℕ → List ℕ → Left → ℕ → Type 0
-AreTheSame words probe left n = (m : ℕ) → m < n → ComesToTheSame (torn_replay m words) probe left
+abbrev pub AreTheSame : ℕ → List ℕ → List ℕ → Left → ℕ → Type 0
+AreTheSame budget words probe left n = (m : ℕ) → m < n → ComesToTheSame budget (torn_replay m words) probe left
 
 -- wherever so many recoveries are cut, one after the other, the next comes to the same
-abbrev pub MakeNoDifference : ℕ → List ℕ → List ℕ → Left → Type 0
-MakeNoDifference depth words probe left = (stops : List ℕ) → length stops ≡ depth → AreCutAfter words stops
-    → ComesToTheSame (after_replays stops words) probe left
+abbrev pub MakeNoDifference : ℕ → ℕ → List ℕ → List ℕ → Left → Type 0
+MakeNoDifference depth budget words probe left = (stops : List ℕ) → length stops ≡ depth → AreCutAfter words stops
+    → ComesToTheSame budget (after_replays stops words) probe left
 
 -- the recovery that is cut after n writes makes a difference, and none that are cut earlier, one after the other, do
-pub record IsFirstDifference (depth : ℕ) (words probe : List ℕ) (left : Left) (n : ℕ) : Type 0 where
+pub record IsFirstDifference (depth budget : ℕ) (words probe : List ℕ) (left : Left) (n : ℕ) : Type 0 where
   pub cut : n < length (replay_writes words)
-  pub other : ComesToAnother (torn_replay n words) probe left
+  pub other : ComesToAnother budget (torn_replay n words) probe left
   pub earlier : (stops : List ℕ) → length stops ≡ depth → AreCutAfter words stops → All (λ m. m < n) stops
-      → ComesToTheSame (after_replays stops words) probe left
+      → ComesToTheSame budget (after_replays stops words) probe left
 
 -- in how many ways recoveries of these words were cut, as deep as this, and whether one made a difference
-abbrev pub AreRecoveries : Depth → List ℕ → List ℕ → Left → Recoveries → Type 0
-AreRecoveries depth words probe left r = (r.ways ≡ length (replay_writes words) ^ recoveries_of depth)
-    × MatchOption r.difference (MakeNoDifference (recoveries_of depth) words probe left) (λ n. IsFirstDifference (recoveries_of depth) words probe left n)
+abbrev pub AreRecoveries : Depth → ℕ → List ℕ → List ℕ → Left → Recoveries → Type 0
+AreRecoveries depth budget words probe left r = (r.ways ≡ length (replay_writes words) ^ recoveries_of depth)
+    × MatchOption r.difference (MakeNoDifference (recoveries_of depth) budget words probe left) (λ n. IsFirstDifference (recoveries_of depth) budget words probe left n)
 
 -- no two entries that count name the same word
 abbrev pub NamesEachOnce : List ℕ → Type 0

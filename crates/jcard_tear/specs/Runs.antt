@@ -5,7 +5,7 @@ use Rattle.jc_words.specs.Stores.{FuseStoreValue}
 use Rattle.jc_commit.specs.Image.{plain_of, recovered_of}
 use Rattle.jc_commit.specs.Migration.{migrated}
 use Rattle.jcard_outcomes.specs.declared.standing.Left.{Left}
-use Rattle.jcard_script.specs.Script.{Ends}
+use Rattle.jcard_script.specs.Script.{EndsWithin}
 use Rattle.jcard_tear.specs.declared.runs.Ran.{Ran}
 use Rattle.jcard_tear.specs.declared.runs.RunFault.{RunFault}
 use Rattle.jcard_tear.specs.declared.runs.RunFault.TheVariants.{NoMemory, Script}
@@ -14,21 +14,26 @@ use Rattle.jcard_tear.specs.declared.runs.RunFault.TheVariants.{NoMemory, Script
 abbrev pub store_of : List ℕ → FuseStoreValue
 store_of words = record { words = words; down = false; passed = 0; refusals = no_refusals; down_below = false; passed_below = 0 }
 
--- the script, from a power up over these words on, was carried out to its end, printed this text, and left this store
-abbrev pub Runs : List ℕ → List ℕ → List ℕ → FuseStoreValue → Type 0
-Runs words script text after = Ends (Ok tt) (store_of words) after true script text
+-- the script, from a power up over these words on, with at most so many instructions a command, was carried out to its end, printed this text,
+-- and left this store
+abbrev pub Runs : ℕ → List ℕ → List ℕ → List ℕ → FuseStoreValue → Type 0
+Runs budget words script text after = EndsWithin budget (Ok tt) (store_of words) after true script text
 
 -- it was, and this is known of what it left
-abbrev pub HasRun : List ℕ → List ℕ → Ran → Type 0
-HasRun words script ran = (after : FuseStoreValue) × Runs words script ran.text.items after × (ran.words.items ≡ after.words)
+abbrev pub HasRun : ℕ → List ℕ → List ℕ → Ran → Type 0
+HasRun budget words script ran = (after : FuseStoreValue) × Runs budget words script ran.text.items after × (ran.words.items ≡ after.words)
     × (ran.is_down ≡ after.down)
 
 -- it was not: memory was refused, or it ended so, somewhere
-abbrev pub IsRunFault : List ℕ → List ℕ → RunFault → Type 0
-IsRunFault words script NoMemory = Unit {0}
-IsRunFault words script (Script fault) = (read rest text : List ℕ) × (at_end : Bool) × (after : FuseStoreValue) × (script ≡ read ++ rest)
-    × Ends (Err fault) (store_of words) after at_end read text
+abbrev pub IsRunFault : ℕ → List ℕ → List ℕ → RunFault → Type 0
+IsRunFault budget words script NoMemory = Unit {0}
+IsRunFault budget words script (Script fault) = (read rest text : List ℕ) × (at_end : Bool) × (after : FuseStoreValue) × (script ≡ read ++ rest)
+    × EndsWithin budget (Err fault) (store_of words) after at_end read text
 
 -- a power up over these words leaves this heap, and behind it a card gives the lines of the probe these answers
-abbrev pub IsLeft : List ℕ → List ℕ → Left → Type 0
-IsLeft words probe left = (last : FuseStoreValue) × (plain_of left.words.items ≡ migrated 3 (recovered_of words)) × Runs words probe left.answers.items last
+abbrev pub IsLeft : ℕ → List ℕ → List ℕ → Left → Type 0
+IsLeft budget words probe left = (last : FuseStoreValue) × (plain_of left.words.items ≡ migrated 3 (recovered_of words)) × Runs budget words probe left.answers.items last
+
+-- the whole script was carried out to its end over these words
+abbrev pub IsCarriedThrough : ℕ → List ℕ → List ℕ → Type 0
+IsCarriedThrough budget words script = (text : List ℕ) × (after : FuseStoreValue) × Runs budget words script text after

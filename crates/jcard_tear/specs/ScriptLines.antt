@@ -25,6 +25,15 @@ abbrev pub is_command : List ℕ → Bool
 is_command [] = false
 is_command (x ∷ xs) = (x == 32) || is_ascii_hexdigit x
 
+-- a byte of a line is a space, or belongs to its end
+abbrev pub is_blank : ℕ → Bool
+is_blank x = (x == 32) || (x == 10) || (x == 13)
+
+-- the text of a command: its line without those
+unfoldable pub command_text : List ℕ → List ℕ
+command_text [] = []
+command_text (x ∷ xs) = if is_blank x then command_text xs else x ∷ command_text xs
+
 -- the commands among these lines, from the one with this number on, behind this text
 unfoldable pub commands_from : ℕ → List ℕ → List (List ℕ) → List Line
 commands_from n before [] = []

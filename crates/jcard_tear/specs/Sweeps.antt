@@ -1,25 +1,28 @@
 -- A command of a script that is cut after each number of its word writes.
 use Rattle.std.specs.Prelude.{ℕ, ◌≡◌, ◌+◌, ◌-◌, ◌<◌, ◌≤◌, ◌≢◌, ◌⊎◌, true, false, List, [], ◌∷◌, ◌++◌, codes, decimal, drop, take, length, slice_index, Option, Some, None}
 use Rattle.jc_words.specs.Stores.{FuseStoreValue}
+use Rattle.jc_card.specs.Dispatching.{usual_budget}
 use Rattle.jc_objects.specs.Pins.{AreTriesIn}
 use Rattle.jc_objects.specs.declared.image_objects.ImageObjects.{ImageObjects}
-use Rattle.jcard_outcomes.specs.Standings.{IsStanding}
+use Rattle.jcard_outcomes.specs.Standings.{IsStanding, lost_of}
 use Rattle.jcard_outcomes.specs.declared.recoveries.Depth.TheVariants.{Zero}
 use Rattle.jcard_outcomes.specs.declared.recoveries.Recoveries.{Recoveries}
 use Rattle.jcard_outcomes.specs.declared.standing.Cut.{Cut}
 use Rattle.jcard_outcomes.specs.declared.standing.Left.{Left}
+use Rattle.jcard_outcomes.specs.declared.each.LineOutcome.{LineOutcome}
+use Rattle.jcard_outcomes.specs.declared.each.LineOutcome.TheVariants.{Down, Swept}
 use Rattle.jcard_outcomes.specs.declared.each.LineSweep.{LineSweep}
 use Rattle.jcard_outcomes.specs.declared.report.Sweep.{Sweep}
 use Rattle.jcard_tear.specs.Recoveries.{AreRecoveries}
 use Rattle.jcard_tear.specs.Runs.{IsLeft, Runs}
-use Rattle.jcard_tear.specs.ScriptLines.{Line, last_select}
+use Rattle.jcard_tear.specs.ScriptLines.{Line, command_text, last_select}
 use Rattle.jcard_tear.specs.Told.{AreObjectsAsked, IsTold}
 use Rattle.jcard_tear.specs.declared.cuts.Behind.{Behind}
 use Rattle.jcard_tear.specs.declared.cuts.Command.{Command}
 
 -- nothing but the answers of the probe
 abbrev pub nothing_more : Behind
-nothing_more = record { depth = Zero; objects = false }
+nothing_more = record { depth = Zero; objects = false; instructions = usual_budget }
 
 -- the script up to the command, with the power cut after so many of its writes
 abbrev pub cut_script : Command → ℕ → List ℕ
@@ -27,17 +30,21 @@ cut_script c k = c.before.now ++ (codes "stop " ++ decimal k ++ codes "\n") ++ c
 
 -- with the power cut after k writes of the command the card is down, this is left, and so it is with recoveries that are cut
 abbrev pub IsCutAt : List ℕ → Command → ℕ → Left → Recoveries → Type 0
-IsCutAt words c k left recoveries = (text : List ℕ) × (after : FuseStoreValue) × Runs words (cut_script c k) text after × (after.down ≡ true)
-    × IsLeft after.words c.probe.now left × AreRecoveries c.behind.depth after.words c.probe.now left recoveries
+IsCutAt words c k left recoveries = (text : List ℕ) × (after : FuseStoreValue) × Runs c.behind.instructions words (cut_script c k) text after × (after.down ≡ true)
+    × IsLeft c.behind.instructions after.words c.probe.now left × AreRecoveries c.behind.depth c.behind.instructions after.words c.probe.now left recoveries
 
 -- the command makes no more writes than k, and is not cut
 abbrev pub IsUncutAt : List ℕ → Command → ℕ → Type 0
-IsUncutAt words c k = (text : List ℕ) × (after : FuseStoreValue) × Runs words (cut_script c k) text after × (after.down ≡ false)
+IsUncutAt words c k = (text : List ℕ) × (after : FuseStoreValue) × Runs c.behind.instructions words (cut_script c k) text after × (after.down ≡ false)
+
+-- a cut that left this is told so
+abbrev pub IsToldAs : List ℕ → Option ImageObjects → Left → Left → Left → Cut → Type 0
+IsToldAs spared objects before after left cut = IsTold objects left cut.answers.items
+    × IsStanding spared before after left.words.items left.answers.items cut.standing × (cut.lost ≡ lost_of cut.standing before.words.items left.words.items)
 
 -- what a cut left is told so
 abbrev pub IsToldCut : List ℕ → Command → List ℕ → Option ImageObjects → Left → Left → ℕ → Cut → Type 0
-IsToldCut words c spared objects before after k cut = (left : Left) × IsCutAt words c k left cut.recoveries × IsTold objects left cut.answers.items
-    × IsStanding spared before after left.words.items left.answers.items cut.standing
+IsToldCut words c spared objects before after k cut = (left : Left) × IsCutAt words c k left cut.recoveries × IsToldAs spared objects before after left cut
 
 -- what the cuts after k, k + 1, .. writes left is told so
 unfoldable pub AreCuts : List ℕ → Command → List ℕ → Option ImageObjects → Left → Left → ℕ → List Cut → Type 0
@@ -51,12 +58,12 @@ IsLastLine text line = (start : ℕ) × (start ≤ length text - 1) × (line ≡
 
 -- the command was not cut: this is its answer, and this is left
 abbrev pub IsDone : List ℕ → Command → List ℕ → Left → Type 0
-IsDone words c answer left = (text : List ℕ) × (after : FuseStoreValue) × Runs words (c.before.now ++ c.line.now) text after × (after.down ≡ false)
-    × IsLastLine text answer × IsLeft after.words c.probe.now left
+IsDone words c answer left = (text : List ℕ) × (after : FuseStoreValue) × Runs c.behind.instructions words (c.before.now ++ c.line.now) text after × (after.down ≡ false)
+    × IsLastLine text answer × IsLeft c.behind.instructions after.words c.probe.now left
 
 -- the lines before the command were carried out: this is left
 abbrev pub IsBegun : List ℕ → Command → Left → Type 0
-IsBegun words c left = (text : List ℕ) × (after : FuseStoreValue) × Runs words c.before.now text after × IsLeft after.words c.probe.now left
+IsBegun words c left = (text : List ℕ) × (after : FuseStoreValue) × Runs c.behind.instructions words c.before.now text after × IsLeft c.behind.instructions after.words c.probe.now left
 
 -- a command that is not cut has this answer and leaves this, of which it is told with these objects, and with which cuts are compared that
 -- spare these words
@@ -85,9 +92,18 @@ abbrev pub IsLineSwept : List ℕ → Option (List ℕ) → Behind → Line → 
 IsLineSwept words given behind l sweep = (c : Command) × (c.before.now ≡ l.before) × (c.line.now ≡ l.text) × (c.probe.now ≡ probe_of given l.before)
     × (c.behind ≡ behind) × IsSwept words c sweep
 
+-- the command in this line was cut, or the card is down at it
+abbrev pub IsLineOutcome : List ℕ → Option (List ℕ) → Behind → Line → LineOutcome → Type 0
+IsLineOutcome words given behind l (Swept sweep) = IsLineSwept words given behind l sweep
+IsLineOutcome words given behind l Down = (text : List ℕ) × (after : FuseStoreValue) × Runs behind.instructions words (l.before ++ l.text) text after
+    × (after.down ≡ true)
+
+-- of this line this is told
+abbrev pub IsLineTold : List ℕ → Option (List ℕ) → Behind → Line → LineSweep → Type 0
+IsLineTold words given behind l s = (s.number ≡ l.number) × (s.command.items ≡ command_text l.text) × IsLineOutcome words given behind l s.outcome
+
 -- the commands in these lines were cut, one after the other
 unfoldable pub AreSwept : List ℕ → Option (List ℕ) → Behind → List Line → List LineSweep → Type 0
 AreSwept words given behind [] [] = Unit {0}
-AreSwept words given behind (l ∷ lines) (s ∷ sweeps) = (s.number ≡ l.number) × IsLineSwept words given behind l s.sweep
-    × AreSwept words given behind lines sweeps
+AreSwept words given behind (l ∷ lines) (s ∷ sweeps) = IsLineTold words given behind l s × AreSwept words given behind lines sweeps
 AreSwept words given behind lines sweeps = ⊥

@@ -2,7 +2,7 @@
 ghost use Rattle.std.specs.Prelude.{◌≡◌, ◌<◌, ◌++◌, ◌∷◌, ℕ, [], length, IfOk, MatchOption, MatchResult};
 ghost use Rattle.jcard_tear.specs.declared.tearing.TearFault.TheVariants.{NoMemory};
 ghost use Rattle.jcard_tear.specs.Faults.{IsUncutFor};
-ghost use Rattle.jcard_tear.specs.Sweeps.{AreCuts, IsCutAt, IsUncutAt, cut_script};
+ghost use Rattle.jcard_tear.specs.Sweeps.{AreCuts, IsCutAt, IsToldAs, IsUncutAt, cut_script};
 ghost use Rattle.jcard_tear.specs.Told.{AreOfImage};
 
 use crate::progress::Progress;
@@ -11,25 +11,30 @@ use crate::runs::run_copy;
 use crate::tearing::{TearFault, left_by_probe, probe_fault};
 use crate::told::told;
 use itoa::Buffer;
+use jc_card::card::USUAL_BUDGET;
 use jc_objects::image_objects::ImageObjects;
 use jcard_outcomes::recoveries::{Depth, Recoveries};
-use jcard_outcomes::standing::{Cut, Left, standing_of};
+use jcard_outcomes::standing::{Cut, Left, lost_of, standing_of};
 use std::alloc::{AllocError, Global};
 
 /// The most cuts of a command.
 pub(crate) const MOST: u16 = 65_535;
 
-/// What comes behind each cut of a command: how many recoveries are cut, and whether the cells that changed are told.
+/// What comes behind each cut of a command: how many recoveries are cut, whether the cells that changed are told, and with how many
+/// instructions a command may run.
 #[derive(Clone, Copy, Debug, PartialEq, Eq, Drop)]
 pub struct Behind {
     pub depth: Depth,
     pub objects: bool,
+    /// The most instructions of a command, those of the script and of the probe too.
+    pub instructions: u32,
 }
 
 /// What comes behind a cut where only the answers of the probe are asked for.
 pub const NOTHING_MORE: Behind = Behind {
     depth: Depth::Zero,
     objects: false,
+    instructions: USUAL_BUDGET,
 };
 
 /// A command of a script: the text before its line, its line, what is asked after a reset, and what else comes behind each of its
@@ -66,15 +71,36 @@ pub(crate) fn cut_all<P: Progress>(
         let Some((left, recoveries)) = cut_at(alloc, words, command, number)? else {
             return Ok(cuts);
         };
-        let standing = standing_of(spared, before, after, &left.words, &left.answers);
-        let cut = Cut {
-            standing,
-            answers: told(alloc, objects, &left)?,
-            recoveries,
-        };
+        let cut = told_cut(alloc, spared, objects, before, after, &left, recoveries)?;
         push_cut(&mut cuts, cut)?;
     }
     Err(TearFault::TooManyCuts)
+}
+
+/// What is told of a cut that left this, and behind which recoveries were like this.
+pub(crate) fn told_cut(
+    alloc: Global,
+    spared: &[u16],
+    objects: &Option<ImageObjects>,
+    before: &Left,
+    after: &Left,
+    left: &Left,
+    recoveries: Recoveries,
+) -> Result<Cut, AllocError>
+    requires { AreOfImage objects.now }
+    ensures told { IfOk result
+        (λ cut. IsToldAs spared.now objects.now before.now after.now left.now cut) }
+    ensures recoveries { IfOk result (λ cut. cut.recoveries ≡ recoveries) }
+{
+    let answers = told(alloc, objects, left)?;
+    let standing = standing_of(spared, before, after, &left.words, &left.answers);
+    let lost = lost_of(standing, before, &left.words);
+    Ok(Cut {
+        standing,
+        lost,
+        answers,
+        recoveries,
+    })
 }
 
 pub(crate) fn push_cut(cuts: &mut Vec<Cut>, cut: Cut) -> Result<(), TearFault>
@@ -101,13 +127,20 @@ pub(crate) fn cut_at(
         (λ fault. (step : ℕ) → IsUncutFor words.now command.entry step fault) }
 {
     let script = cut_script(alloc, command, number)?;
-    let ran = run_copy(alloc, words, &script)?;
+    let ran = run_copy(alloc, words, &script, command.behind.instructions)?;
     if !ran.is_down {
         return Ok(None);
     }
     let torn = Vec::from_slice(alloc, &ran.words)?;
-    let left = left_by_probe(alloc, ran.words, command.probe)?;
-    match recoveries(alloc, &torn, command.probe, command.behind.depth, &left) {
+    let left = left_by_probe(alloc, ran.words, command.probe, command.behind.instructions)?;
+    match recoveries(
+        alloc,
+        &torn,
+        command.probe,
+        command.behind.instructions,
+        command.behind.depth,
+        &left,
+    ) {
         Ok(recoveries) => Ok(Some((left, recoveries))),
         Err(fault) => Err(probe_fault(fault)),
     }

@@ -1,10 +1,11 @@
 //! The name of a sweep, by which its parts know one another.
 ghost use Rattle.std.specs.Prelude.{◌≡◌, ◌++◌, ◌<◌, flat_map, length, IfOk, OnOk};
 ghost use Rattle.byteorder.specs.Endian.{big_bytes};
-ghost use Rattle.jcard_tear.specs.Names.{measured, options_text, sweep_name, swept_text};
+ghost use Rattle.jcard_tear.specs.Names.{instructions_text, measured, options_text, sweep_name, swept_text};
 
 use crate::cuts::Command;
 use itoa::Buffer;
+use jc_card::card::USUAL_BUDGET;
 use jc_words::put_words;
 use sha1::Sha1;
 use std::alloc::{AllocError, Global};
@@ -41,7 +42,12 @@ fn swept_text(
     push_measured(&mut text, command.before)?;
     push_measured(&mut text, command.line)?;
     push_measured(&mut text, command.probe)?;
-    push_options(&mut text, command.behind.objects, parts)?;
+    push_options(
+        &mut text,
+        command.behind.objects,
+        command.behind.instructions,
+        parts,
+    )?;
     Ok(text)
 }
 
@@ -65,11 +71,31 @@ fn push_measured(text: &mut Vec<u8>, piece: &[u8]) -> Result<(), AllocError>
     text.extend_from_slice(piece)
 }
 
-// Writes whether changes are told, and the number of parts.
-fn push_options(text: &mut Vec<u8>, objects: bool, parts: u16) -> Result<(), AllocError>
-    ensures { OnOk result (text.new.items ≡ text.old.items ++ options_text objects parts) }
+// Writes whether changes are told, the most instructions a command, and the number of parts.
+fn push_options(
+    text: &mut Vec<u8>,
+    objects: bool,
+    instructions: u32,
+    parts: u16,
+) -> Result<(), AllocError>
+    ensures { OnOk result (text.new.items ≡ text.old.items
+        ++ options_text objects instructions parts) }
 {
     let mut digits = Buffer::new();
     text.extend_from_slice(if objects { b"objects " } else { b"" })?;
+    push_instructions(text, instructions)?;
     text.extend_from_slice(digits.format(parts).as_bytes())
+}
+
+// Writes the most instructions a command, where they are not the usual ones.
+fn push_instructions(text: &mut Vec<u8>, instructions: u32) -> Result<(), AllocError>
+    ensures { OnOk result (text.new.items ≡ text.old.items ++ instructions_text instructions) }
+{
+    if instructions == USUAL_BUDGET {
+        return Ok(());
+    }
+    let mut digits = Buffer::new();
+    text.extend_from_slice(b"instructions ")?;
+    text.extend_from_slice(digits.format(instructions).as_bytes())?;
+    text.extend_from_slice(b" ")
 }

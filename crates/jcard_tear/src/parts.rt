@@ -7,39 +7,41 @@ ghost use Rattle.jcard_tear.specs.ScriptLines.{line_of};
 ghost use Rattle.jcard_tear.specs.Sweeps.{IsUncutAt};
 ghost use Rattle.jcard_tear.specs.Told.{AreOfImage};
 
-use crate::cuts::{Behind, Command, MOST, cut_at, push_cut};
+use crate::cuts::{Behind, Command, MOST, cut_at, push_cut, told_cut};
 use crate::each::probe_for;
 use crate::names::sweep_name;
 use crate::progress::Progress;
 use crate::script_lines::ScriptLine;
 use crate::tearing::{TearFault, begun, done, tries_in};
-use crate::told::{left_told, objects_asked, told};
+use crate::told::{left_told, objects_asked};
 use jc_objects::image_objects::ImageObjects;
 use jcard_outcomes::part::Part;
 use jcard_outcomes::recoveries::Depth;
 use jcard_outcomes::report::Sweep;
-use jcard_outcomes::standing::{Cut, Left, standing_of};
+use jcard_outcomes::standing::{Cut, Left};
 use std::alloc::Global;
 
 /// Cuts the command in a line after `first` writes, and each `step`-th number behind it. Behind each cut come these lines of a
 /// probe; or, where none are given, the last SELECT before the command. No recovery is cut;
-/// with objects, the cells that changed are told.
+/// with objects, the cells that changed are told. No command has more than so many instructions.
 pub fn tear_line_part<P: Progress>(
     alloc: Global,
     words: &[u16],
     line: ScriptLine,
     probe: Option<&[u8]>,
     objects: bool,
+    instructions: u32,
     first: u16,
     step: u16,
     progress: &mut P,
 ) -> Result<Part, TearFault>
     requires { length words.now < 65536 }
     ensures swept { MatchResult result (λ part. IsLinePart words.now
-        (option_map (λ (text : Bor (List ℕ)). text.now) probe.entry) objects
+        (option_map (λ (text : Bor (List ℕ)). text.now) probe.entry) objects instructions
         (line_of line.entry) first step part) (λ fault. IsLineUncut words.now
-        (option_map (λ (text : Bor (List ℕ)). text.now) probe.entry) (line_of line.entry) step
-        fault) }
+        (option_map (λ (text : Bor (List ℕ)). text.now) probe.entry)
+        (record { depth = Depth.Zero; objects = objects; instructions = instructions })
+        (line_of line.entry) step fault) }
     ensures below { IfOk result (λ part. part.first + part.step * length part.sweep.cuts.items < 65536) }
 {
     let command = Command {
@@ -49,6 +51,7 @@ pub fn tear_line_part<P: Progress>(
         behind: Behind {
             depth: Depth::Zero,
             objects,
+            instructions,
         },
     };
     tear_part(alloc, words, command, first, step, progress)
@@ -120,12 +123,7 @@ fn cut_every<P: Progress>(
         let Some((left, recoveries)) = cut_at(alloc, words, command, number)? else {
             return Ok(cuts);
         };
-        let standing = standing_of(spared, before, after, &left.words, &left.answers);
-        let cut = Cut {
-            standing,
-            answers: told(alloc, objects, &left)?,
-            recoveries,
-        };
+        let cut = told_cut(alloc, spared, objects, before, after, &left, recoveries)?;
         push_cut(&mut cuts, cut)?;
         let Some(next) = number.checked_add(step) else {
             return Err(TearFault::TooManyCuts);

@@ -1,15 +1,15 @@
 //! Recoveries of what a cut left, which are cut themselves, and what comes of the one behind them.
-ghost use Rattle.std.specs.Prelude.{◌≡◌, ◌≢◌, ◌≤◌, ◌<◌, ◌+◌, ◌*◌, ◌^◌, ◌↔◌, ℕ, false, length, slice_index, vec_len, IfOk, IfSome, IsTrue, MatchBool, MatchOption, OnOk};
+ghost use Rattle.std.specs.Prelude.{◌≡◌, ◌≢◌, ◌≤◌, ◌<◌, ◌+◌, ◌*◌, ◌^◌, ◌↔◌, ℕ, false, length, slice_index, vec_len, IfErr, IfOk, IfSome, IsTrue, MatchBool, MatchOption, MatchResult, OnOk};
 ghost use Rattle.jc_words.specs.Image.{IsLogAmong, log_of};
 ghost use Rattle.jc_words.specs.Layout.{first_version, least_size, most_capacity, version_address};
 ghost use Rattle.jc_commit.specs.Image.{IsGoodLog, address_at, count_of};
 ghost use Rattle.jc_commit.specs.Replay.{replay_writes, torn_replay};
 ghost use Rattle.jcard_outcomes.specs.Recoveries.{recoveries_of};
+ghost use Rattle.jcard_tear.specs.Faults.{IsLeftFault, IsLogFault};
 ghost use Rattle.jcard_tear.specs.Recoveries.{AreRecoveries, AreTheSame, ComesToAnother, ComesToTheSame, IsSameLeft, NamesEachOnce};
 ghost use Rattle.jcard_tear.specs.Runs.{IsLeft};
 
-use crate::runs::{RunFault, left, words_of};
-use jc_card::power_up::PowerFault;
+use crate::runs::{BAD_LOG, RunFault, left, words_of};
 use jc_commit::{Journal, OpenRefusal};
 use jc_words::layout::{
     CAPACITY_WORD, COUNT, FIRST_VERSION, JOURNAL_WORD, LEAST_SIZE, VERSION_WORD,
@@ -17,11 +17,7 @@ use jc_words::layout::{
 use jc_words::{FuseStore, Log, MemStore};
 use jcard_outcomes::recoveries::{Depth, Recoveries};
 use jcard_outcomes::standing::Left;
-use jcard_script::script::ScriptFault;
 use std::alloc::Global;
-
-/// The entries cannot be taken back, or two of them name the same word, as no transaction leaves them.
-const BAD_LOG: RunFault = RunFault::Script(ScriptFault::PowerFault(PowerFault::BadLog));
 
 /// Cuts recoveries of these words, as many as this one after the other, and compares what the next one comes to with what
 /// is left where none is cut. However many are cut, they leave what one of them leaves that is cut: each of these images is
@@ -30,19 +26,23 @@ pub(crate) fn recoveries(
     alloc: Global,
     words: &[u16],
     probe: &[u8],
+    budget: u32,
     depth: Depth,
     whole: &Left,
 ) -> Result<Recoveries, RunFault>
     requires small { length words.now < 65536 }
-    requires left { IsLeft words.now probe.now whole.now }
-    ensures { IfOk result (λ found. AreRecoveries depth words.now probe.now whole.now found) }
+    requires left { IsLeft budget words.now probe.now whole.now }
+    ensures { MatchResult result (λ found. AreRecoveries depth budget words.now probe.now whole.now found)
+        (λ fault. IsLeftFault budget probe.now fault) }
 {
     match depth {
         Depth::Zero => Ok(Recoveries {
             ways: 1,
             difference: None,
         }),
-        Depth::One | Depth::Two | Depth::Three => cut_deep(alloc, words, probe, depth, whole),
+        Depth::One | Depth::Two | Depth::Three => {
+            cut_deep(alloc, words, probe, budget, depth, whole)
+        },
     }
 }
 
@@ -51,15 +51,17 @@ fn cut_deep(
     alloc: Global,
     words: &[u16],
     probe: &[u8],
+    budget: u32,
     depth: Depth,
     whole: &Left,
 ) -> Result<Recoveries, RunFault>
     requires small { length words.now < 65536 }
-    requires left { IsLeft words.now probe.now whole.now }
-    ensures { IfOk result (λ found. AreRecoveries depth words.now probe.now whole.now found) }
+    requires left { IsLeft budget words.now probe.now whole.now }
+    ensures { MatchResult result (λ found. AreRecoveries depth budget words.now probe.now whole.now found)
+        (λ fault. IsLeftFault budget probe.now fault) }
 {
     let writes = recovery_writes(words)?;
-    let difference = first_difference(alloc, words, probe, writes, whole)?;
+    let difference = first_difference(alloc, words, probe, budget, writes, whole)?;
     Ok(Recoveries {
         ways: ways(writes, depth),
         difference,
@@ -84,23 +86,25 @@ fn first_difference(
     alloc: Global,
     words: &[u16],
     probe: &[u8],
+    budget: u32,
     writes: u16,
     whole: &Left,
 ) -> Result<Option<u16>, RunFault>
     requires small { length words.now < 65536 }
     requires version { slice_index words.now version_address ≢ first_version }
-    requires left { IsLeft words.now probe.now whole.now }
+    requires left { IsLeft budget words.now probe.now whole.now }
     ensures difference { IfOk result (λ found. MatchOption found
-        (AreTheSame words.now probe.now whole.now writes)
-        (λ n. (n < writes) × ComesToAnother (torn_replay n words.now) probe.now whole.now
-        × AreTheSame words.now probe.now whole.now n)) }
+        (AreTheSame budget words.now probe.now whole.now writes)
+        (λ n. (n < writes) × ComesToAnother budget (torn_replay n words.now) probe.now whole.now
+        × AreTheSame budget words.now probe.now whole.now n)) }
     ensures good { OnOk result (0 < writes → IsGoodLog words.now) }
+    ensures fault { IfErr result (λ fault. IsLeftFault budget probe.now fault) }
 {
     let mut tried = Vec::from_slice(alloc, words)?;
     for number in 0..writes {
         let torn = cut_recovery(alloc, words, number)?;
         if !are_equal(&torn, &tried) {
-            if !comes_to_the_same(alloc, &torn, probe, whole)? {
+            if !comes_to_the_same(alloc, &torn, probe, budget, whole)? {
                 return Ok(Some(number));
             }
             tried = torn;
@@ -116,6 +120,7 @@ fn cut_recovery(alloc: Global, words: &[u16], number: u16) -> Result<Vec<u16>, R
     ensures torn { IfOk result (λ torn. torn.items ≡ torn_replay number words.now) }
     ensures good { OnOk result (IsGoodLog words.now) }
     ensures short { IfOk result (λ torn. vec_len torn < 65536) }
+    ensures fault { IfErr result (λ fault. IsLogFault fault) }
 {
     let copy = Vec::from_slice(alloc, words)?;
     let mut store = FuseStore::new(MemStore::of(copy));
@@ -131,14 +136,16 @@ fn comes_to_the_same(
     alloc: Global,
     words: &[u16],
     probe: &[u8],
+    budget: u32,
     whole: &Left,
 ) -> Result<bool, RunFault>
     requires { length words.now < 65536 }
-    ensures { IfOk result (λ same. MatchBool same (ComesToTheSame words.now probe.now whole.now)
-        (ComesToAnother words.now probe.now whole.now)) }
+    ensures { MatchResult result (λ same. MatchBool same (ComesToTheSame budget words.now probe.now whole.now)
+        (ComesToAnother budget words.now probe.now whole.now))
+        (λ fault. IsLeftFault budget probe.now fault) }
 {
     let copy = Vec::from_slice(alloc, words)?;
-    let found = left(alloc, copy, probe)?;
+    let found = left(alloc, copy, probe, budget)?;
     Ok(is_same(whole, &found))
 }
 
@@ -161,6 +168,7 @@ fn recovery_writes(words: &[u16]) -> Result<u16, RunFault>
     ensures writes { IfOk result (λ n. n ≡ length (replay_writes words.now)) }
     ensures once { OnOk result (NamesEachOnce words.now) }
     ensures version { OnOk result (slice_index words.now version_address ≢ first_version) }
+    ensures fault { IfErr result (λ fault. IsLogFault fault) }
 {
     match entries(words) {
         Some(0) => Ok(0),

@@ -1,7 +1,8 @@
 //! Running a script on a card in memory, and what a reset finds then.
 ghost use Rattle.std.specs.Prelude.{◌≡◌, ◌<◌, length, vec_len, IfOk, MatchResult};
 ghost use Rattle.jcard_tear.specs.declared.runs.RunFault.TheVariants.{NoMemory};
-ghost use Rattle.jcard_tear.specs.Runs.{HasRun, IsLeft, IsRunFault};
+ghost use Rattle.jcard_tear.specs.Faults.{IsLeftFault, IsLogFault};
+ghost use Rattle.jcard_tear.specs.Runs.{HasRun, IsCarriedThrough, IsLeft, IsRunFault};
 ghost use Rattle.jc_commit.specs.Image.{plain_of, recovered_of};
 ghost use Rattle.jc_commit.specs.Migration.{migrated};
 
@@ -10,9 +11,13 @@ use jc_card::power_up::PowerFault;
 use jc_commit::Journal;
 use jc_words::{FuseStore, MemStore, WordStore};
 use jcard_outcomes::standing::Left;
+use jcard_script::explainer::Unasked;
 use jcard_script::mem_text::MemText;
-use jcard_script::script::{ScriptFault, run_script};
+use jcard_script::script::{ScriptFault, run_script_explained};
 use std::alloc::{AllocError, Global};
+
+/// The entries of a journal cannot be taken back, or two of them name the same word, as no transaction leaves them.
+pub(crate) const BAD_LOG: RunFault = RunFault::Script(ScriptFault::PowerFault(PowerFault::BadLog));
 
 /// What a script left: the words, whether the card is down, and what was printed.
 #[derive(Drop)]
@@ -37,17 +42,29 @@ impl From<AllocError> for RunFault {
     }
 }
 
-/// Carries out a script on the card of these words.
-pub(crate) fn run(alloc: Global, words: Vec<u16>, script: &[u8]) -> Result<Ran, RunFault>
+/// Carries out a script on the card of these words, with at most so many instructions a command.
+pub(crate) fn run(
+    alloc: Global,
+    words: Vec<u16>,
+    script: &[u8],
+    budget: u32,
+) -> Result<Ran, RunFault>
     requires { vec_len words < 65536 }
-    ensures ran { MatchResult result (λ ran. HasRun words.items script.now ran)
-        (λ fault. IsRunFault words.items script.now fault) }
+    ensures ran { MatchResult result (λ ran. HasRun budget words.items script.now ran)
+        (λ fault. IsRunFault budget words.items script.now fault) }
     ensures short { IfOk result (λ ran. vec_len ran.words < 65536) }
 {
     let mut reader = MemText::new(alloc, script, 0)?;
     let mut writer = KeptText::new(alloc);
     let store = FuseStore::new(MemStore::of(words));
-    let (store, ended) = run_script(alloc, store, &mut reader, &mut writer);
+    let (store, ended) = run_script_explained(
+        alloc,
+        store,
+        budget,
+        &mut reader,
+        &mut writer,
+        &mut Unasked,
+    );
     match ended {
         Ok(()) => Ok(Ran {
             is_down: store.is_down(),
@@ -60,24 +77,52 @@ pub(crate) fn run(alloc: Global, words: Vec<u16>, script: &[u8]) -> Result<Ran, 
 }
 
 /// Carries out a script on the card of a copy of these words.
-pub(crate) fn run_copy(alloc: Global, words: &[u16], script: &[u8]) -> Result<Ran, RunFault>
+pub(crate) fn run_copy(
+    alloc: Global,
+    words: &[u16],
+    script: &[u8],
+    budget: u32,
+) -> Result<Ran, RunFault>
     requires { length words.now < 65536 }
-    ensures ran { MatchResult result (λ ran. HasRun words.now script.now ran)
-        (λ fault. IsRunFault words.now script.now fault) }
+    ensures ran { MatchResult result (λ ran. HasRun budget words.now script.now ran)
+        (λ fault. IsRunFault budget words.now script.now fault) }
     ensures short { IfOk result (λ ran. vec_len ran.words < 65536) }
 {
     let copy = Vec::from_slice(alloc, words)?;
-    run(alloc, copy, script)
+    run(alloc, copy, script, budget)
+}
+
+/// Carries out a whole script, to see whether that can be done.
+pub fn carried_through(
+    alloc: Global,
+    words: &[u16],
+    script: &[u8],
+    budget: u32,
+) -> Result<(), RunFault>
+    requires { length words.now < 65536 }
+    ensures { MatchResult result (λ _. IsCarriedThrough budget words.now script.now)
+        (λ fault. IsRunFault budget words.now script.now fault) }
+{
+    match run_copy(alloc, words, script, budget) {
+        Ok(_ran) => Ok(()),
+        Err(fault) => Err(fault),
+    }
 }
 
 /// What a power up over these words leaves, and what the lines of a probe are answered behind it.
-pub(crate) fn left(alloc: Global, words: Vec<u16>, probe: &[u8]) -> Result<Left, RunFault>
+pub(crate) fn left(
+    alloc: Global,
+    words: Vec<u16>,
+    probe: &[u8],
+    budget: u32,
+) -> Result<Left, RunFault>
     requires { vec_len words < 65536 }
-    ensures { IfOk result (λ left. IsLeft words.items probe.now left) }
+    ensures { MatchResult result (λ left. IsLeft budget words.items probe.now left)
+        (λ fault. IsLeftFault budget probe.now fault) }
 {
     let copy = Vec::from_slice(alloc, &words)?;
     let found = recovered(copy)?;
-    let probed = run(alloc, words, probe)?;
+    let probed = run(alloc, words, probe, budget)?;
     Ok(Left {
         words: found,
         answers: probed.text,
@@ -87,12 +132,12 @@ pub(crate) fn left(alloc: Global, words: Vec<u16>, probe: &[u8]) -> Result<Left,
 // The words that a recovery and a migration of these leave.
 fn recovered(words: Vec<u16>) -> Result<Vec<u16>, RunFault>
     requires { vec_len words < 65536 }
-    ensures { IfOk result (λ found. plain_of found.items
-        ≡ migrated 3 (recovered_of words.items)) }
+    ensures { MatchResult result (λ found. plain_of found.items
+        ≡ migrated 3 (recovered_of words.items)) (λ fault. IsLogFault fault) }
 {
     match Journal::open(MemStore::of(words)) {
         Ok(journal) => Ok(journal.into_store().into_words()),
-        Err(_) => Err(RunFault::Script(ScriptFault::PowerFault(PowerFault::BadLog))),
+        Err(_) => Err(BAD_LOG),
     }
 }
 

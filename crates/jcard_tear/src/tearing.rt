@@ -3,7 +3,7 @@ ghost use Rattle.std.specs.Prelude.{◌≡◌, ◌<◌, ℕ, length, vec_len, Ma
 ghost use Rattle.jcard_tear.specs.declared.tearing.TearFault.TheVariants.{NoMemory};
 ghost use Rattle.jcard_tear.specs.Sweeps.{IsBegun, IsDone, IsLastLine, IsSwept};
 ghost use Rattle.jcard_tear.specs.Runs.{IsLeft};
-ghost use Rattle.jcard_tear.specs.Faults.{IsProbeFault, IsUncutFor, told_probe_fault, told_run_fault};
+ghost use Rattle.jcard_tear.specs.Faults.{IsImageFault, IsProbeFault, IsUncutFor, told_probe_fault, told_run_fault};
 ghost use Rattle.jc_objects.specs.Pins.{AreTriesIn};
 
 use crate::cuts::{Command, cut_all};
@@ -80,12 +80,12 @@ pub(crate) fn done(
 {
     let mut script = Vec::from_slice(alloc, command.before)?;
     script.extend_from_slice(command.line)?;
-    let ran = run_copy(alloc, words, &script)?;
+    let ran = run_copy(alloc, words, &script, command.behind.instructions)?;
     if ran.is_down {
         return Err(TearFault::Down);
     }
     let answer = Vec::from_slice(alloc, last_line(&ran.text))?;
-    let left = left_by_probe(alloc, ran.words, command.probe)?;
+    let left = left_by_probe(alloc, ran.words, command.probe, command.behind.instructions)?;
     Ok((answer, left))
 }
 
@@ -95,17 +95,22 @@ pub(crate) fn begun(alloc: Global, words: &[u16], command: Command) -> Result<Le
     ensures { MatchResult result (λ left. IsBegun words.now command.entry left)
         (λ fault. (step : ℕ) → IsUncutFor words.now command.entry step fault) }
 {
-    let ran = run_copy(alloc, words, command.before)?;
-    left_by_probe(alloc, ran.words, command.probe)
+    let ran = run_copy(alloc, words, command.before, command.behind.instructions)?;
+    left_by_probe(alloc, ran.words, command.probe, command.behind.instructions)
 }
 
 // What a reset finds and the probe is answered; what is wrong then is wrong with the probe.
-pub(crate) fn left_by_probe(alloc: Global, words: Vec<u16>, probe: &[u8]) -> Result<Left, TearFault>
+pub(crate) fn left_by_probe(
+    alloc: Global,
+    words: Vec<u16>,
+    probe: &[u8],
+    budget: u32,
+) -> Result<Left, TearFault>
     requires { vec_len words < 65536 }
-    ensures { MatchResult result (λ left. IsLeft words.items probe.now left)
-        (λ fault. IsProbeFault fault) }
+    ensures { MatchResult result (λ left. IsLeft budget words.items probe.now left)
+        (λ fault. IsProbeFault budget probe.now fault) }
 {
-    match left(alloc, words, probe) {
+    match left(alloc, words, probe, budget) {
         Ok(left) => Ok(left),
         Err(fault) => Err(probe_fault(fault)),
     }
@@ -113,8 +118,7 @@ pub(crate) fn left_by_probe(alloc: Global, words: Vec<u16>, probe: &[u8]) -> Res
 
 // What it means that a recovery, or the probe behind it, was not carried out to its end.
 pub(crate) fn probe_fault(fault: RunFault) -> TearFault
-    ensures told { result ≡ told_probe_fault fault }
-    ensures probe { IsProbeFault result }
+    ensures { result ≡ told_probe_fault fault }
 {
     match fault {
         RunFault::NoMemory => TearFault::NoMemory,
@@ -125,7 +129,7 @@ pub(crate) fn probe_fault(fault: RunFault) -> TearFault
 // The words with the tries of the OwnerPINs in what is left.
 pub(crate) fn tries_in(alloc: Global, left: &Left) -> Result<Vec<u16>, TearFault>
     ensures { MatchResult result (λ tries. AreTriesIn left.now.words.items tries.items)
-        (λ fault. IsProbeFault fault) }
+        (λ fault. IsImageFault fault) }
 {
     let copy = Vec::from_slice(alloc, &left.words)?;
     match try_words(alloc, copy) {

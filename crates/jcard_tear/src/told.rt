@@ -1,7 +1,7 @@
 //! What is told of what a cut left: the answers of a probe and, where they are asked for, the cells that changed.
 ghost use Rattle.std.specs.Prelude.{ℕ, List, ◌≡◌, Some, IfOk, MatchResult};
 ghost use Rattle.jc_objects.specs.ImageObjects.{AreObjectsOf};
-ghost use Rattle.jcard_tear.specs.Faults.{IsProbeFault};
+ghost use Rattle.jcard_tear.specs.Faults.{IsImageFault};
 ghost use Rattle.jcard_tear.specs.Told.{AreObjectsAsked, AreOfImage, IsTold};
 
 use crate::tearing::{DAMAGED, TearFault};
@@ -17,7 +17,7 @@ pub(crate) fn objects_asked(
     before: &Left,
 ) -> Result<Option<ImageObjects>, TearFault>
     ensures asked { MatchResult result (λ objects. AreObjectsAsked asked before.now objects)
-        (λ fault. IsProbeFault fault) }
+        (λ fault. IsImageFault fault) }
     ensures whole { IfOk result AreOfImage }
 {
     if !asked {

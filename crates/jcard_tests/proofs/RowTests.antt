@@ -1,6 +1,8 @@
 -- Files of rows that were read and answered, one after the other.
-use Rattle.std.proofs.Common.{Bool, true, false, ⊎_elim, Result, Ok, Err, ◌≡◌, ◌∙◌, ◌⊎◌, ℕ, zero, suc, ◌+◌, ◌<◌, ◌≤◌, List, [], ◌∷◌, ◌++◌, length, get_or, take, drop, map, min, Option, Some, None, IfSome, refl, ap, ap₂, sym, subst, inl, inr, append-nil, append_assoc, arith}
-use Rattle.std.specs.Prelude.{All, Any, IfOk, IfErr, IsSomeAnd, MatchResult, OnOk, option_map, slice_index_or}
+use Rattle.std.proofs.Common.{Bool, true, false, cond, nat_lt, not, ⊎_elim, Result, Ok, Err, ◌≡◌, ◌∙◌, ◌⊎◌, ℕ, zero, suc, ◌+◌, ◌<◌, ◌≤◌, List, [], ◌∷◌, ◌++◌, length, get_or, take, drop, map, min, Option, Some, None, IfSome, refl, ap, ap₂, sym, subst, inl, inr, append-nil, append_assoc, arith}
+use Rattle.std.specs.Str.{bytes_eq}
+use Rattle.std.specs.List.{position_or_len}
+use Rattle.std.specs.Prelude.{position, All, Any, IfOk, IfErr, IsSomeAnd, MatchResult, OnOk, option_map, slice_index_or}
 use Rattle.std.specs.declared.alloc.AllocError.{AllocError}
 use Rattle.jcard_outcomes.specs.Reports.{broken_told, first_broken}
 use Rattle.jcard_outcomes.specs.declared.report.Sweep.{Sweep}
@@ -26,17 +28,22 @@ use Rattle.jcard_rows.specs.declared.outcome.Failure.{Failure}
 use Rattle.jcard_rows.specs.declared.outcome.Outcome.{Outcome}
 use Rattle.jcard_rows.specs.declared.outcome.Outcome.TheVariants.{Held, Failed}
 use Rattle.jcard_rows.specs.declared.outcome.Tested.{Tested}
+use Rattle.jcard_rows.specs.Junit.{junit_text}
+use Rattle.jcard_rows.specs.NamedTables.{IsNamed}
 use Rattle.jcard_rows.specs.declared.row.Row.{Row}
-use Rattle.jc_platform.specs.declared.example.TheConstants.{EXAMPLE}
+use Rattle.jcard_rows.specs.declared.table_line.TableLine.{TableLine}
+use Rattle.jcard_files.specs.Operands.{IsNoOperand}
+use Rattle.jcard_files.specs.declared.operand.Operand.{Operand}
 use Rattle.jc_words.specs.Stores.{FuseStoreValue, MemStoreValue}
-use Rattle.jcard_script.specs.Script.{Ends}
+use Rattle.jcard_script.specs.Script.{EndsWithin}
 use Rattle.jcard_script.specs.declared.script.ScriptFault.{ScriptFault}
 use Rattle.jcard_faults.specs.Faults.{is_unwritten}
-use Rattle.jcard_files.specs.FileDeeds.{FileDeed, ReadsText, fresh_store}
-use Rattle.jcard_files.specs.Images.{IsNotRead}
-use Rattle.jcard_images.specs.NewImages.{IsNewImage, IsNewImageInMemory}
+use Rattle.jcard_files.specs.FileDeeds.{FileDeed, ReadsText, WritesText, fresh_store}
+use Rattle.jcard_files.specs.Images.{IsNotRead, IsUnwritten}
+use Rattle.jcard_images.specs.NewImages.{IsNewImageInMemoryOf}
 use Rattle.jcard_files.specs.Readings.{IsUnread, IsScriptRead}
-use Rattle.jcard_tests.specs.Tests.{AreAnsweredOn, AreCut, AreCutWell, AreFileLines, EndsOn, IsCutWell, IsToldOf, IsToldOfLine, IsTornFailure, AreIncluded, AreTested, IsFilePlace, IsPlace, IsPrinted, AreNoFileLines, IsNoRowsText, IsNoText, IsNotIncluded, IsOneUntested, IsReading, IsRowsText, IsTested, IsUnanswered, IsUntested, lacked_memory}
+use Rattle.jcard_tests.specs.Tests.{AreAnswered, AreAnsweredOn, AreCut, AreCutWell, EndsOn, IsFile, IsFileBehind, IsFileOf, IsJunit, IsNewCard, IsPlanFor, IsCutWell, IsToldOf, IsToldOfLine, IsTornFailure, AreIncluded, AreTested, IsFilePlace, IsPlace, IsPrinted, AreNoFileLines, IsNoRowsText, IsNoText, IsNotIncluded, IsOneUntested, IsReading, IsRowsText, IsTested, IsUnanswered, IsUntested, lacked_memory, rows_operand}
+use Rattle.jcard_tests.specs.declared.plan.Plan.{Plan}
 use Rattle.jcard_faults.specs.declared.fault.Fault.{Fault}
 use Rattle.jcard_faults.specs.declared.fault.Fault.TheVariants.{BadTable, CannotRead, ImageTooSmall, NoMemory, WriteFailed}
 
@@ -88,37 +95,37 @@ included_next name own i line lines next deeds here last h e a p n =
     (included_more name (take i own) lines deeds line here last a p))
 
 -- one file more
-tested_more : (names : List (List ℕ)) (ts : List Tested) (deeds : List FileDeed) (name : List ℕ) (t : Tested) (last : List FileDeed)
-    → AreTested names ts deeds → IsTested name t last → AreTested (names ++ name ∷ []) (ts ++ t ∷ []) (deeds ++ last)
+tested_more : (q : Plan) (names : List (List ℕ)) (ts : List Tested) (deeds : List FileDeed) (name : List ℕ) (t : Tested) (last : List FileDeed)
+    → AreTested q names ts deeds → IsTested q name t last → AreTested q (names ++ name ∷ []) (ts ++ t ∷ []) (deeds ++ last)
 unfolding AreTested
-tested_more [] [] deeds name t last a p = (last, [], p, refl, ap (λ (ds : List FileDeed). ds ++ last) a ∙ sym (append-nil last))
-tested_more [] (y ∷ ys) deeds name t last a p = absurd a
-tested_more (x ∷ xs) [] deeds name t last a p = absurd a
-tested_more (x ∷ xs) (y ∷ ys) deeds name t last a p = (
+tested_more q [] [] deeds name t last a p = (last, [], p, refl, ap (λ (ds : List FileDeed). ds ++ last) a ∙ sym (append-nil last))
+tested_more q [] (y ∷ ys) deeds name t last a p = absurd a
+tested_more q (x ∷ xs) [] deeds name t last a p = absurd a
+tested_more q (x ∷ xs) (y ∷ ys) deeds name t last a p = (
   a.0,
   a.1 ++ last,
   a.2,
-  tested_more xs ys a.1 name t last a.3 p,
+  tested_more q xs ys a.1 name t last a.3 p,
   ap (λ (ds : List FileDeed). ds ++ last) a.4 ∙ append_assoc a.0 a.1 last,
 )
 
-pub tested_none : AreTested [] [] []
+pub tested_none : (q : Plan) → AreTested q [] [] []
 unfolding AreTested
-tested_none = refl
+tested_none q = refl
 
 -- the names of files
 abbrev pub names_of : List (Bor (List ℕ)) → List (List ℕ)
 names_of files = map (λ (name : Bor (List ℕ)). name.now) files
 
-pub tested_next : (files : List (Bor (List ℕ))) (i : ℕ) (d : Bor (List ℕ)) (ts next : List Tested) (deeds : List FileDeed) (t : Tested)
-    (last : List FileDeed) → i < length files → AreTested (names_of (take i files)) ts deeds
-    → IsTested (get_or files i d).now t last → next ≡ ts ++ t ∷ [] → AreTested (names_of (take (i + 1) files)) next (deeds ++ last)
-tested_next files i d ts next deeds t last h a p n =
+pub tested_next : (q : Plan) (files : List (Bor (List ℕ))) (i : ℕ) (d : Bor (List ℕ)) (ts next : List Tested) (deeds : List FileDeed) (t : Tested)
+    (last : List FileDeed) → i < length files → AreTested q (names_of (take i files)) ts deeds
+    → IsTested q (get_or files i d).now t last → next ≡ ts ++ t ∷ [] → AreTested q (names_of (take (i + 1) files)) next (deeds ++ last)
+tested_next q files i d ts next deeds t last h a p n =
     let step : names_of (take (i + 1) files) ≡ names_of (take i files) ++ (get_or files i d).now ∷ [] = ap names_of (take_more files i d h)
     ∙ map-append (λ (name : Bor (List ℕ)). name.now) (take i files) (get_or files i d ∷ []) in
-    subst (λ (ns : List (List ℕ)). AreTested ns next (deeds ++ last)) (sym step)
-    (subst (λ (xs : List Tested). AreTested (names_of (take i files) ++ (get_or files i d).now ∷ []) xs (deeds ++ last)) (sym n)
-    (tested_more (names_of (take i files)) ts deeds (get_or files i d).now t last a p))
+    subst (λ (ns : List (List ℕ)). AreTested q ns next (deeds ++ last)) (sym step)
+    (subst (λ (xs : List Tested). AreTested q (names_of (take i files) ++ (get_or files i d).now ∷ []) xs (deeds ++ last)) (sym n)
+    (tested_more q (names_of (take i files)) ts deeds (get_or files i d).now t last a p))
 
 -- deeds that read texts, and more of them
 pub reads_more : (first more : List FileDeed) → All IsReading first → All IsReading more → All IsReading (first ++ more)
@@ -136,32 +143,32 @@ any_at P files i d h p =
 -- ---- cards
 
 -- no card is left
-pub answered_all : (cards : List CardRows) (i passed : ℕ) (outcome : Outcome) → length cards ≤ i → outcome ≡ Held passed
-    → AreAnsweredOn (drop i cards) passed outcome
+pub answered_all : (p : Plan) (cards : List CardRows) (i passed : ℕ) (outcome : Outcome) → length cards ≤ i → outcome ≡ Held passed
+    → AreAnsweredOn p (drop i cards) passed outcome
 unfolding AreAnsweredOn
-answered_all cards i passed outcome h e = subst (λ (cs : List CardRows). AreAnsweredOn cs passed outcome) (sym (drop_all i cards h)) e
+answered_all p cards i passed outcome h e = subst (λ (cs : List CardRows). AreAnsweredOn p cs passed outcome) (sym (drop_all i cards h)) e
 
 -- the card at this place
-module _ (cards : List CardRows) (i : ℕ) (card : CardRows) (h : i < length cards) (e : card ≡ get_or cards i card) (passed : ℕ) (outcome : Outcome) where
+module _ (p : Plan) (cards : List CardRows) (i : ℕ) (card : CardRows) (h : i < length cards) (e : card ≡ get_or cards i card) (passed : ℕ) (outcome : Outcome) where
   -- all its rows hold
-  pub answered_next : EndsOn card passed None → AreAnsweredOn (drop (i + 1) cards) (min (passed + length card.rows.items) 18446744073709551615) outcome
-      → AreAnsweredOn (drop i cards) passed outcome
+  pub answered_next : EndsOn p card passed None → AreAnsweredOn p (drop (i + 1) cards) (min (passed + length card.rows.items) 18446744073709551615) outcome
+      → AreAnsweredOn p (drop i cards) passed outcome
   unfolding AreAnsweredOn
-  answered_next all more = subst (λ (cs : List CardRows). AreAnsweredOn cs passed outcome) (sym (drop_at cards i card h e)) (inl (all, more))
+  answered_next all more = subst (λ (cs : List CardRows). AreAnsweredOn p cs passed outcome) (sym (drop_at cards i card h e)) (inl (all, more))
 
   -- one does not
-  pub answered_not : (failure : Failure) → outcome ≡ Failed failure → EndsOn card passed (Some failure) → AreAnsweredOn (drop i cards) passed outcome
+  pub answered_not : (failure : Failure) → outcome ≡ Failed failure → EndsOn p card passed (Some failure) → AreAnsweredOn p (drop i cards) passed outcome
   unfolding AreAnsweredOn
-  answered_not failure is first = subst (λ (cs : List CardRows). AreAnsweredOn cs passed outcome) (sym (drop_at cards i card h e)) (inr (failure, is, first))
+  answered_not failure is first = subst (λ (cs : List CardRows). AreAnsweredOn p cs passed outcome) (sym (drop_at cards i card h e)) (inr (failure, is, first))
 
 -- a card whose rows are all answered ends as its torn rows do
-pub ended_by : (card : CardRows) (passed : ℕ) (r : Result (Option Failure) Fault)
-    → (text : List ℕ) × IsPrinted card.words (script_text card.rows.items) text × AllAnswered card.rows.items text
-    → MatchResult r (λ failure. AreCut card.words card.rows.items passed failure) (λ f. IsUnanswered f)
-    → MatchResult r (λ failure. EndsOn card passed failure) (λ f. IsUnanswered f)
-ended_by card passed (Ok None) e p = (e.0, e.1, (e.2, p))
-ended_by card passed (Ok (Some f)) e p = (e.0, e.1, inr (e.2, p))
-ended_by card passed (Err fault) e p = p
+pub ended_by : (p : Plan) (card : CardRows) (passed : ℕ) (r : Result (Option Failure) Fault)
+    → (text : List ℕ) × IsPrinted p card.words (script_text card.rows.items) text × AllAnswered card.rows.items text
+    → MatchResult r (λ failure. AreCut p card.words card.rows.items passed failure) (λ f. IsUnanswered p f)
+    → MatchResult r (λ failure. EndsOn p card passed failure) (λ f. IsUnanswered p f)
+ended_by p card passed (Ok None) e h = (e.0, e.1, (e.2, h))
+ended_by p card passed (Ok (Some f)) e h = (e.0, e.1, inr (e.2, h))
+ended_by p card passed (Err fault) e h = h
 
 -- what is told of the cuts of a line
 told_by : (w : List ℕ) (l : TornLine) (sweep : Sweep) (found : Option (List ℕ)) (first : Option ℕ) → IsLineSwept w None nothing_more l sweep
@@ -182,39 +189,31 @@ told_on items w x l m r same line p = subst (λ (u : List ℕ). IfOk r (λ found
     (subst (λ (k : TornLine). IfOk r (λ found. IsToldOfLine w k (option_map items found))) line p)
 
 -- the first row that was cut badly is the failure
-pub torn_first : (words : ℕ) (rows : List Row) (passed place : ℕ) (q : Row) (told : List ℕ) (r : Result (Option Failure) Fault)
-    → AreCutWell words rows place → place < length rows → q ≡ slice_index_or rows place q → IsToldOf words (take place rows) q (Some told)
-    → MatchResult r (λ failure. IsSomeAnd failure (λ f. IsTornFailure q (min (passed + place) 18446744073709551615) told f)) (λ f. IsUnanswered f)
-    → MatchResult r (λ failure. AreCut words rows passed failure) (λ f. IsUnanswered f)
-torn_first words rows passed place q told (Ok (Some f)) well below at is p = (place, q, told, well, below, at, is.0, is.1, p)
-torn_first words rows passed place q told (Ok None) well below at is p = absurd p
-torn_first words rows passed place q told (Err fault) well below at is p = p
+pub torn_first : (p : Plan) (words : ℕ) (rows : List Row) (passed place : ℕ) (q : Row) (told : List ℕ) (r : Result (Option Failure) Fault)
+    → AreCutWell p words rows place → place < length rows → q ≡ slice_index_or rows place q → IsToldOf p words (take place rows) q (Some told)
+    → MatchResult r (λ failure. IsSomeAnd failure (λ f. IsTornFailure q (min (passed + place) 18446744073709551615) told f)) (λ f. f ≡ NoMemory)
+    → MatchResult r (λ failure. AreCut p words rows passed failure) (λ f. IsUnanswered p f)
+torn_first p words rows passed place q told (Ok (Some f)) well below at is h = (place, q, told, well, below, at, is.0, is.1, h)
+torn_first p words rows passed place q told (Ok None) well below at is h = absurd h
+torn_first p words rows passed place q told (Err fault) well below at is h = subst (λ f. IsUnanswered p f) (sym h) tt
 
 -- one more row was looked at: it is not torn, or was cut well
-pub cut_more : (words : ℕ) (rows : List Row) (n : ℕ) (r : Row) → r ≡ slice_index_or rows n r → n < length rows → AreCutWell words rows n
-    → (r.torn ≡ true → IsCutWell words (take n rows) r) → AreCutWell words rows (n + 1)
-cut_more words rows n r at here before this k q below is torn = ⊎_elim
+pub cut_more : (p : Plan) (words : ℕ) (rows : List Row) (n : ℕ) (r : Row) → r ≡ slice_index_or rows n r → n < length rows → AreCutWell p words rows n
+    → (r.torn ≡ true → IsCutWell p words (take n rows) r) → AreCutWell p words rows (n + 1)
+cut_more p words rows n r at here before this k q below is torn = ⊎_elim
     (λ (less : k < n). before k q less is torn)
     (λ (past : n ≤ k). let same : n ≡ k = omega arith in
     let one : r ≡ q = at ∙ get_or_default rows n r q here ∙ ap (λ i. slice_index_or rows i q) same ∙ sym is in
-    subst (λ (i : ℕ). IsCutWell words (take i rows) q) same (subst (λ (x : Row). IsCutWell words (take n rows) x) one (this (ap (λ (x : Row). x.torn) one ∙ torn))))
+    subst (λ (i : ℕ). IsCutWell p words (take i rows) q) same (subst (λ (x : Row). IsCutWell p words (take n rows) x) one (this (ap (λ (x : Row). x.torn) one ∙ torn))))
     (cases_lt k n)
 
--- a new card in memory, of the table of the example
-pub new_card_of : (words : ℕ) (made : Result MemStoreValue Fault) → IsNewImageInMemory words EXAMPLE.now made
-    → MatchResult made (λ store. IsNewImage words EXAMPLE.now store.words × (store.passed ≡ 0)) (λ fault. IsUnanswered fault)
-new_card_of words (Ok store) new = new
-new_card_of words (Err NoMemory) new = tt
-new_card_of words (Err ImageTooSmall) new = tt
-new_card_of words (Err other) new = absurd new
-
--- what a script printed on it
-pub printed_on : {V : Type 0} (items : V → List ℕ) (words : ℕ) (w script : List ℕ) (r : Result V Fault) → IsNewImage words EXAMPLE.now w
-    → MatchResult r (λ text. (read rest : List ℕ) × (carried : Result (Unit {0}) ScriptFault) × (at_end : Bool) × (after : FuseStoreValue)
-    × (script ≡ read ++ rest) × Ends carried (fresh_store w) after at_end read (items text) × (lacked_memory carried ≡ false)) (λ fault. IsUnanswered fault)
-    → MatchResult r (λ text. IsPrinted words script (items text)) (λ fault. IsUnanswered fault)
-printed_on items words w script (Ok text) new p = (w, p.0, p.1, p.2, p.3, p.4, new, p.5, p.6, p.7)
-printed_on items words w script (Err fault) new p = p
+-- a new card in memory
+pub new_card_of : (p : Plan) (words : ℕ) (made : Result MemStoreValue Fault) → IsNewImageInMemoryOf words p.capacity p.table.items made
+    → MatchResult made (λ store. IsNewCard p words store.words × (store.passed ≡ 0)) (λ fault. IsUnanswered p fault)
+new_card_of p words (Ok store) new = new
+new_card_of p words (Err NoMemory) new = tt
+new_card_of p words (Err ImageTooSmall) new = tt
+new_card_of p words (Err other) new = absurd new
 
 -- ---- files that are read
 
@@ -248,16 +247,20 @@ not_included_unwritten : (name : List ℕ) (fault : Fault) → IsNotIncluded nam
 not_included_unwritten name WriteFailed h = absurd h
 not_included_unwritten name other h = refl
 
-unanswered_unwritten : (fault : Fault) → IsUnanswered fault → is_unwritten (Err fault) ≡ false
-unanswered_unwritten WriteFailed h = absurd h
-unanswered_unwritten other h = refl
+unanswered_unwritten : (p : Plan) (fault : Fault) → IsUnanswered p fault → is_unwritten (Err fault) ≡ false
+unanswered_unwritten p WriteFailed h = absurd h
+unanswered_unwritten p other h = refl
+
+pub unread_unwritten : (name : List ℕ) (fault : Fault) (deeds : List FileDeed) → IsUnread name fault deeds → is_unwritten (Err fault) ≡ false
+unread_unwritten name fault deeds (inl u) = ap (λ (f : Fault). is_unwritten (Err f)) u.0.1
+unread_unwritten name fault deeds (inr u) = not_read_unwritten name fault u.0
 
 untested_unwritten : (name : List ℕ) (fault : Fault) (deeds : List FileDeed) → IsUntested name fault deeds → is_unwritten (Err fault) ≡ false
 untested_unwritten name fault deeds (inl (inl (inl (inl u)))) = ap (λ (f : Fault). is_unwritten (Err f)) u.0.1
 untested_unwritten name fault deeds (inl (inl (inl (inr u)))) = not_read_unwritten name fault u.0
 untested_unwritten name fault deeds (inl (inl (inr t))) = no_text_unwritten name t.0 fault t.2
 untested_unwritten name fault deeds (inl (inr n)) = not_included_unwritten name fault n
-untested_unwritten name fault deeds (inr n) = unanswered_unwritten fault n
+untested_unwritten name fault deeds (inr n) = unanswered_unwritten n.0 fault n.1
 
 -- ---- results of calls, from what their parts are
 
@@ -271,18 +274,31 @@ text_read bytes_of (Ok t) name bytes deeds read same refused = (
 )
 text_read bytes_of (Err f) name bytes deeds read same refused = inr (bytes, read, refused)
 
-pub unrolled_lines : {V : Type 0} (items : V → List Numbered) (r : Result V Fault) (name text : List ℕ) (own : List Numbered) (deeds : List FileDeed)
-    → IsUnrolled text own → MatchResult r (λ ls. AreIncluded name own (items ls) deeds) (λ f. IsNotIncluded name f)
-    → MatchResult r (λ ls. (o : List Numbered) × IsUnrolled text o × AreIncluded name o (items ls) deeds) (λ f. IsNotIncluded name f)
-unrolled_lines items (Ok ls) name text own deeds u p = (own, u, p)
-unrolled_lines items (Err f) name text own deeds u p = p
+pub unrolled_file : {V : Type 0} (table_of : V → Option (List ℕ)) (lines_of : V → List Numbered) (r : Result V Fault) (name text : List ℕ) (own : List Numbered)
+    (deeds : List FileDeed) → IsUnrolled text own → MatchResult r (λ v. IsFileOf name own (table_of v) (lines_of v) deeds) (λ f. IsNotIncluded name f)
+    → MatchResult r (λ v. (o : List Numbered) × IsUnrolled text o × IsFileOf name o (table_of v) (lines_of v) deeds) (λ f. IsNotIncluded name f)
+unrolled_file table_of lines_of (Ok v) name text own deeds u p = (own, u, p)
+unrolled_file table_of lines_of (Err f) name text own deeds u p = p
 
-pub file_lines : {V : Type 0} (items : V → List Numbered) (r : Result V Fault) (name text shown : List ℕ) (first more : List FileDeed)
-    → IsRowsText name text first → shown ≡ text
-    → MatchResult r (λ ls. (o : List Numbered) × IsUnrolled shown o × AreIncluded name o (items ls) more) (λ f. IsNotIncluded name f)
-    → MatchResult r (λ ls. AreFileLines name (items ls) (first ++ more)) (λ f. AreNoFileLines name f (first ++ more))
-file_lines items (Ok ls) name text shown first more read e p = (text, p.0, first, more, read, subst (λ (t : List ℕ). IsUnrolled t p.0) e p.1, p.2, refl)
-file_lines items (Err f) name text shown first more read e p = inr p
+pub file_read : {V : Type 0} (table_of : V → Option (List ℕ)) (lines_of : V → List Numbered) (r : Result V Fault) (name text shown : List ℕ)
+    (first more : List FileDeed) → IsRowsText name text first → shown ≡ text
+    → MatchResult r (λ v. (o : List Numbered) × IsUnrolled shown o × IsFileOf name o (table_of v) (lines_of v) more) (λ f. IsNotIncluded name f)
+    → MatchResult r (λ v. IsFile name (table_of v) (lines_of v) (first ++ more)) (λ f. AreNoFileLines name f (first ++ more))
+file_read table_of lines_of (Ok v) name text shown first more read e p = (text, p.0, first, more, read, subst (λ (t : List ℕ). IsUnrolled t p.0) e p.1, p.2, refl)
+file_read table_of lines_of (Err f) name text shown first more read e p = inr p
+
+-- a platform table is named
+by_table : (name : List ℕ) (own lines : List Numbered) (line : TableLine) (table : Option (List ℕ)) (deeds : List FileDeed) → IsNamed own line
+    → IsFileBehind name line table lines deeds → IsFileOf name own table lines deeds
+by_table name own lines line None deeds named h = absurd h
+by_table name own lines line (Some table) deeds named h = (line, named, h)
+
+pub named_file : {V : Type 0} (table_of : V → Option (List ℕ)) (lines_of : V → List Numbered) (r : Result V Fault) (name : List ℕ) (own : List Numbered)
+    (line : TableLine) (deeds : List FileDeed) → IsNamed own line
+    → MatchResult r (λ v. IsFileBehind name line (table_of v) (lines_of v) deeds) (λ f. IsNotIncluded name f)
+    → MatchResult r (λ v. IsFileOf name own (table_of v) (lines_of v) deeds) (λ f. IsNotIncluded name f)
+named_file table_of lines_of (Ok v) name own line deeds named p = by_table name own (lines_of v) line (table_of v) deeds named p
+named_file table_of lines_of (Err f) name own line deeds named p = p
 
 pub place_of_file : (r : Result (Unit {0}) Fault) (name : List ℕ) (line : Numbered) (file : Bor (List ℕ)) (deeds : List FileDeed) (old new : List Numbered)
     → Says (string_bytes line.text) (Include file)
@@ -297,19 +313,51 @@ pub place_of_other : (name : List ℕ) (line : Numbered) (said : Line) (here : L
 place_of_other name line (Include file) here other says same is e = absurd (other file refl)
 place_of_other name line said here other says same is e = (said, says, (same, is, e, refl))
 
-pub file_tested : (r : Result Tested Fault) (name : List ℕ) (lines : List Numbered) (deeds : List FileDeed) → AreFileLines name lines deeds
-    → MatchResult r (λ file. (file.name.now ≡ name) × (cards : List CardRows) × AreCardsOf lines cards × AreAnsweredOn cards 0 file.outcome) (λ f. IsUnanswered f)
-    → MatchResult r (λ file. IsTested name file deeds) (λ f. IsUntested name f deeds)
-file_tested (Ok file) name lines deeds read p = (p.0, lines, p.1, read, p.2, p.3)
-file_tested (Err f) name lines deeds read p = inr p
+pub file_tested : (r : Result Tested Fault) (p : Plan) (name : List ℕ) (table : Option (List ℕ)) (lines : List Numbered) (deeds : List FileDeed)
+    → IsFile name table lines deeds
+    → MatchResult r (λ t. (t.name.now ≡ name) × (q : Plan) × IsPlanFor p table q × AreAnswered q lines t) (λ f. (q : Plan) × IsUnanswered q f)
+    → MatchResult r (λ t. IsTested p name t deeds) (λ f. IsUntested name f deeds)
+file_tested (Ok t) p name table lines deeds read h = (h.0, table, lines, read, h.1, h.2, h.3)
+file_tested (Err f) p name table lines deeds read h = inr h
 
 -- no write failed where a file was not tested
 pub any_unwritten : (names : List (List ℕ)) (fault : Fault) (reads : List FileDeed) → IsOneUntested names fault reads → is_unwritten (Err fault) ≡ false
 any_unwritten names fault reads one = untested_unwritten one.3.1 fault one.1 one.3.4
 
 -- a file was tested, and kept behind others
-pub file_pushed : (r : Result (Unit {0}) Fault) (name : List ℕ) (old new : List Tested) (file : Tested) (deeds : List FileDeed) → IsTested name file deeds
-    → OnOk r (new ≡ old ++ file ∷ []) → IfErr r (λ f. f ≡ NoMemory)
-    → MatchResult r (λ _. (f : Tested) × IsTested name f deeds × (new ≡ old ++ f ∷ [])) (λ f. IsUntested name f deeds)
-file_pushed (Ok done) name old new file deeds t e refused = (file, t, e)
-file_pushed (Err f) name old new file deeds t e refused = inr (subst IsUnanswered (sym refused) tt)
+pub file_pushed : (r : Result (Unit {0}) Fault) (p : Plan) (name : List ℕ) (old new : List Tested) (file : Tested) (deeds : List FileDeed)
+    → IsTested p name file deeds → OnOk r (new ≡ old ++ file ∷ []) → IfErr r (λ f. f ≡ NoMemory)
+    → MatchResult r (λ _. (f : Tested) × IsTested p name f deeds × (new ≡ old ++ f ∷ [])) (λ f. IsUntested name f deeds)
+file_pushed (Ok done) p name old new file deeds t e refused = (file, t, e)
+file_pushed (Err f) p name old new file deeds t e refused = inr (p, subst (λ x. IsUnanswered p x) (sym refused) tt)
+
+-- the place of a name among the files of a command
+place_same : (files : List (Bor (List ℕ))) (name : List ℕ) → position_or_len (λ (o : Operand). bytes_eq o.name.now name) (map rows_operand files)
+    ≡ position_or_len (λ (f : List ℕ). bytes_eq f name) (names_of files)
+place_same [] name = refl
+place_same (x ∷ xs) name = ap (λ (n : ℕ). cond (not (bytes_eq x.now name)) (1 + n) 0) (place_same xs name)
+
+-- none of these files is named so
+pub no_file : (files : List (Bor (List ℕ))) (name : List ℕ) → IsNoOperand name (map rows_operand files)
+    → position (λ (f : List ℕ). bytes_eq f name) (names_of files) ≡ None
+no_file files name none =
+    let long : length (names_of files) ≡ length (map rows_operand files) = length-map files (λ (b : Bor (List ℕ)). b.now) ∙ sym (length-map files rows_operand) in
+    ap₂ (λ (n l : ℕ). cond (nat_lt n l) (Some n) None) (sym (place_same files name)) long ∙ none
+
+-- the report for build servers
+pub junit_kept : (r : Result (Unit {0}) Fault) (files : List (Bor (List ℕ))) (operands : List Operand) (name text : List ℕ) (ts : List Tested)
+    → operands ≡ map rows_operand files → text ≡ junit_text ts → IfOk r (λ _. IsNoOperand name operands) → IfErr r (λ f. IsUnwritten name f)
+    → IsJunit (names_of files) name ts r (WritesText name text r ∷ [])
+junit_kept (Ok done) files operands name text ts named is spared refused = (
+  no_file files name (subst (λ (os : List Operand). IsNoOperand name os) named spared),
+  ap (λ (t : List ℕ). WritesText name t (Ok tt) ∷ []) is,
+)
+junit_kept (Err f) files operands name text ts named is spared refused = inr (refused, ap (λ (t : List ℕ). WritesText name t (Err f) ∷ []) is)
+
+unwritten_fault : (fault : Fault) (name : List ℕ) → IsUnwritten name fault → is_unwritten (Err fault) ≡ false
+unwritten_fault WriteFailed name h = absurd h
+unwritten_fault other name h = refl
+
+pub junit_unwritten : (r : Result (Unit {0}) Fault) (name : List ℕ) → IfErr r (λ f. IsUnwritten name f) → is_unwritten r ≡ false
+junit_unwritten (Ok done) name h = refl
+junit_unwritten (Err f) name h = unwritten_fault f name h

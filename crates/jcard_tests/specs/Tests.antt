@@ -1,15 +1,14 @@
 -- `jcard test`: what is read, which cards are told it, and what is told of them.
-use Rattle.std.specs.Prelude.{ℕ, ◌≡◌, ◌≤◌, ◌<◌, ◌⊎◌, ◌+◌, Any, All, Bool, true, false, List, [], ◌∷◌, ◌++◌, codes, length, min, Option, Some, None, IfSome}
+use Rattle.std.specs.Prelude.{ℕ, ◌≡◌, position, ◌==◌, if◌then◌else◌, option_map, ◌≤◌, ◌<◌, ◌⊎◌, ◌+◌, Any, All, Bool, true, false, List, [], ◌∷◌, ◌++◌, codes, length, min, Option, Some, None, IfSome}
 use Rattle.std.specs.Prelude.{Result, Ok, Err, slice_index_or, take}
-use Rattle.std.specs.Str.{IsUtf8}
+use Rattle.std.specs.Str.{IsUtf8, bytes_eq}
 use Rattle.std.specs.String.{string_bytes}
 use Rattle.std.specs.Borrow.{Bor}
-use Rattle.jc_platform.specs.declared.example.TheConstants.{EXAMPLE}
 use Rattle.jc_platform.specs.Table.{Reads}
 use Rattle.jc_platform.specs.declared.fault.TableFault.TheVariants.{BadTable as BadLine}
 use Rattle.jc_card.specs.declared.power_up.PowerFault.TheVariants as power
 use Rattle.jc_words.specs.Stores.{FuseStoreValue}
-use Rattle.jcard_script.specs.Script.{Ends}
+use Rattle.jcard_script.specs.Script.{EndsWithin}
 use Rattle.jcard_script.specs.Texts.{IsCutOf}
 use Rattle.jcard_script.specs.declared.script.ScriptFault.{ScriptFault}
 use Rattle.jcard_script.specs.declared.script.ScriptFault.TheVariants.{PowerFault as NotPoweredUp, WriteFailed as NotWritten}
@@ -23,6 +22,7 @@ use Rattle.jcard_outcomes.specs.declared.report.Sweep.{Sweep}
 use Rattle.jcard_tear.specs.ScriptLines.{Line}
 use Rattle.jcard_tear.specs.Sweeps.{IsLineSwept, nothing_more}
 use Rattle.jcard_rows.specs.Rows.{line_text, script_text}
+use Rattle.jcard_rows.specs.NamedTables.{IsNamed, IsUnnamed}
 use Rattle.jcard_rows.specs.Unrolled.{AreLinesOf, IsBeside, IsLineOf, IsUnrolled}
 use Rattle.jcard_rows.specs.declared.card_rows.CardRows.{CardRows}
 use Rattle.jcard_rows.specs.declared.line.Line.{Line as RowLine}
@@ -30,14 +30,20 @@ use Rattle.jcard_rows.specs.declared.line.Line.TheVariants.{Include}
 use Rattle.jcard_rows.specs.declared.numbered.Numbered.{Numbered}
 use Rattle.jcard_rows.specs.declared.outcome.Failure.{Failure}
 use Rattle.jcard_rows.specs.declared.outcome.Outcome.{Outcome}
-use Rattle.jcard_rows.specs.declared.outcome.Outcome.TheVariants.{Held, Failed}
+use Rattle.jcard_rows.specs.declared.outcome.Outcome.TheVariants.{NoRow, Held, Failed}
 use Rattle.jcard_rows.specs.declared.outcome.Tested.{Tested}
 use Rattle.jcard_rows.specs.declared.row.Row.{Row}
+use Rattle.jcard_rows.specs.declared.table_line.TableLine.{TableLine}
+use Rattle.jcard_files.specs.declared.operand.Operand.{Operand}
 use Rattle.jcard_files.specs.FileDeeds.{FileDeed, ReadsText, WritesText, fresh_store}
 use Rattle.jcard_files.specs.Images.{IsUnwritten}
-use Rattle.jcard_files.specs.Readings.{IsScriptRead, IsUnread}
-use Rattle.jcard_images.specs.NewImages.{IsNewImage}
+use Rattle.jcard_files.specs.Readings.{IsRead, IsScriptRead, IsUnread}
+use Rattle.jcard_images.specs.NewImages.{IsNewImageOf}
+use Rattle.jcard_faults.specs.declared.fault.FileKind.TheVariants.{Rows}
 use Rattle.jcard_faults.specs.declared.fault.Fault.{Fault}
+use Rattle.jcard_tests.specs.Plans.{IsPlanned, IsUnplanned}
+use Rattle.jcard_tests.specs.declared.asked.Asked.{Asked}
+use Rattle.jcard_tests.specs.declared.plan.Plan.{Plan}
 use Rattle.jcard_faults.specs.declared.fault.Fault.TheVariants.{BadTable, CannotInclude, CannotRead, ImageTooSmall, NoMemory, RowsFailed, ScriptTooLong}
 use Rattle.jcard_faults.specs.declared.fault.Fault.TheVariants.{WriteFailed}
 
@@ -65,10 +71,25 @@ AreIncluded name [] lines deeds = (lines ≡ []) × (deeds ≡ [])
 AreIncluded name (line ∷ own) lines deeds = (here rest : List Numbered) × (first more : List FileDeed) × IsPlace name line here first
     × AreIncluded name own rest more × (lines ≡ here ++ rest) × (deeds ≡ first ++ more)
 
--- these are the lines of the file of this name, with those of the files that it includes
-abbrev pub AreFileLines : List ℕ → List Numbered → List FileDeed → Type 0
-AreFileLines name lines deeds = (text : List ℕ) × (own : List Numbered) × (first more : List FileDeed) × IsRowsText name text first
-    × IsUnrolled text own × AreIncluded name own lines more × (deeds ≡ first ++ more)
+-- this text of a platform table was read: it is looked for by that name beside the file of the first name
+abbrev pub IsTableBeside : List ℕ → List ℕ → List ℕ → List FileDeed → Type 0
+IsTableBeside name file text deeds = (path : List ℕ) × IsBeside name file path × IsRead path text deeds
+
+-- behind the line that names a platform table, its text was read, and then these are the lines, with those of the files that are included
+abbrev pub IsFileBehind : List ℕ → TableLine → Option (List ℕ) → List Numbered → List FileDeed → Type 0
+IsFileBehind name line None lines deeds = ⊥
+IsFileBehind name line (Some table) lines deeds = (first more : List FileDeed) × IsTableBeside name line.name.now table first
+    × AreIncluded name line.rest.now lines more × (deeds ≡ first ++ more)
+
+-- so it is with the lines of a file that names one, or names none
+abbrev pub IsFileOf : List ℕ → List Numbered → Option (List ℕ) → List Numbered → List FileDeed → Type 0
+IsFileOf name own None lines deeds = IsUnnamed own × AreIncluded name own lines deeds
+IsFileOf name own (Some table) lines deeds = (line : TableLine) × IsNamed own line × IsFileBehind name line (Some table) lines deeds
+
+-- this platform table is named in the file of this name, and these are its lines, with those of the files that it includes
+abbrev pub IsFile : List ℕ → Option (List ℕ) → List Numbered → List FileDeed → Type 0
+IsFile name table lines deeds = (text : List ℕ) × (own : List Numbered) × (first more : List FileDeed) × IsRowsText name text first
+    × IsUnrolled text own × IsFileOf name own table lines more × (deeds ≡ first ++ more)
 
 -- ---- cards
 
@@ -78,11 +99,14 @@ lacked_memory (Err NotWritten) = true
 lacked_memory (Err (NotPoweredUp power.NoMemory)) = true
 lacked_memory other = false
 
--- on a new card of so many words, with the table of the example, a script was carried out, up to its end or to a line that ended it,
--- and printed this text
-abbrev pub IsPrinted : ℕ → List ℕ → List ℕ → Type 0
-IsPrinted words script text = (w read rest : List ℕ) × (carried : Result Unit ScriptFault) × (at_end : Bool) × (after : FuseStoreValue)
-    × IsNewImage words EXAMPLE.now w × (script ≡ read ++ rest) × Ends carried (fresh_store w) after at_end read text × (lacked_memory carried ≡ false)
+-- these are so many words of a new card as planned
+abbrev pub IsNewCard : Plan → ℕ → List ℕ → Type 0
+IsNewCard p words w = IsNewImageOf words p.capacity p.table.items w
+
+-- on a new card of so many words a script was carried out, up to its end or to a line that ended it, and printed this text
+abbrev pub IsPrinted : Plan → ℕ → List ℕ → List ℕ → Type 0
+IsPrinted p words script text = (w read rest : List ℕ) × (carried : Result Unit ScriptFault) × (at_end : Bool) × (after : FuseStoreValue)
+    × IsNewCard p words w × (script ≡ read ++ rest) × EndsWithin p.budget carried (fresh_store w) after at_end read text × (lacked_memory carried ≡ false)
 
 -- ---- rows that are torn
 
@@ -101,21 +125,21 @@ abbrev pub IsToldOfCuts : List ℕ → List Row → Row → Option (List ℕ) �
 IsToldOfCuts w before r told = IsToldOfLine w (record { number = r.number; before = script_text before; text = line_text r }) told
 
 -- over a new card of so many words each cut of the row behind these left what was before or what comes after
-abbrev pub IsCutWell : ℕ → List Row → Row → Type 0
-IsCutWell words before r = (w : List ℕ) × IsNewImage words EXAMPLE.now w × IsToldOfCuts w before r None
+abbrev pub IsCutWell : Plan → ℕ → List Row → Row → Type 0
+IsCutWell p words before r = (w : List ℕ) × IsNewCard p words w × IsToldOfCuts w before r None
 
 -- one did not, and that is told; or it could not be cut
-abbrev pub IsCutBadly : ℕ → List Row → Row → List ℕ → Type 0
-IsCutBadly words before r told = (w : List ℕ) × IsNewImage words EXAMPLE.now w × IsToldOfCuts w before r (Some told)
+abbrev pub IsCutBadly : Plan → ℕ → List Row → Row → List ℕ → Type 0
+IsCutBadly p words before r told = (w : List ℕ) × IsNewCard p words w × IsToldOfCuts w before r (Some told)
 
 -- a row that is not torn is not cut; of one that is, this is told of its cuts
-abbrev pub IsToldOf : ℕ → List Row → Row → Option (List ℕ) → Type 0
-IsToldOf words before r None = r.torn ≡ true → IsCutWell words before r
-IsToldOf words before r (Some told) = (r.torn ≡ true) × IsCutBadly words before r told
+abbrev pub IsToldOf : Plan → ℕ → List Row → Row → Option (List ℕ) → Type 0
+IsToldOf p words before r None = r.torn ≡ true → IsCutWell p words before r
+IsToldOf p words before r (Some told) = (r.torn ≡ true) × IsCutBadly p words before r told
 
 -- of these rows the torn ones among the first so many were cut well
-abbrev pub AreCutWell : ℕ → List Row → ℕ → Type 0
-AreCutWell words rows n = (k : ℕ) (r : Row) → k < n → r ≡ slice_index_or rows k r → r.torn ≡ true → IsCutWell words (take k rows) r
+abbrev pub AreCutWell : Plan → ℕ → List Row → ℕ → Type 0
+AreCutWell p words rows n = (k : ℕ) (r : Row) → k < n → r ≡ slice_index_or rows k r → r.torn ≡ true → IsCutWell p words (take k rows) r
 
 -- a row was cut badly, behind so many that hold, and this was told
 pub record IsTornFailure (r : Row) (passed : ℕ) (told : List ℕ) (f : Failure) : Type 0 where
@@ -126,52 +150,71 @@ pub record IsTornFailure (r : Row) (passed : ℕ) (told : List ℕ) (f : Failure
   pub told_so : f.told.items ≡ told
 
 -- this failure is of the first of these rows that is torn and was cut badly, behind so many more that hold; as far as 64 bits count
-abbrev pub IsFirstTorn : ℕ → List Row → ℕ → Failure → Type 0
-IsFirstTorn words rows passed f = (k : ℕ) × (r : Row) × (told : List ℕ) × AreCutWell words rows k × (k < length rows) × (r ≡ slice_index_or rows k r)
-    × (r.torn ≡ true) × IsCutBadly words (take k rows) r told × IsTornFailure r (min (passed + k) 18446744073709551615) told f
+abbrev pub IsFirstTorn : Plan → ℕ → List Row → ℕ → Failure → Type 0
+IsFirstTorn p words rows passed f = (k : ℕ) × (r : Row) × (told : List ℕ) × AreCutWell p words rows k × (k < length rows) × (r ≡ slice_index_or rows k r)
+    × (r.torn ≡ true) × IsCutBadly p words (take k rows) r told × IsTornFailure r (min (passed + k) 18446744073709551615) told f
 
 -- the torn rows were cut well, or this failure is of the first that was not
-abbrev pub AreCut : ℕ → List Row → ℕ → Option Failure → Type 0
-AreCut words rows passed None = AreCutWell words rows (length rows)
-AreCut words rows passed (Some f) = IsFirstTorn words rows passed f
+abbrev pub AreCut : Plan → ℕ → List Row → ℕ → Option Failure → Type 0
+AreCut p words rows passed None = AreCutWell p words rows (length rows)
+AreCut p words rows passed (Some f) = IsFirstTorn p words rows passed f
 
 -- what came of the rows of a card that printed this text: all are answered as they say, and those that are torn were cut well; or this is
 -- the first that is not answered so, or else the first that was cut badly
-abbrev pub IsCardEnd : CardRows → List ℕ → ℕ → Option Failure → Type 0
-IsCardEnd card text passed None = AllAnswered card.rows.items text × AreCutWell card.words card.rows.items (length card.rows.items)
-IsCardEnd card text passed (Some f) = IsFirstFailure card.rows.items text passed f
-    ⊎ (AllAnswered card.rows.items text × IsFirstTorn card.words card.rows.items passed f)
+abbrev pub IsCardEnd : Plan → CardRows → List ℕ → ℕ → Option Failure → Type 0
+IsCardEnd p card text passed None = AllAnswered card.rows.items text × AreCutWell p card.words card.rows.items (length card.rows.items)
+IsCardEnd p card text passed (Some f) = IsFirstFailure card.rows.items text passed f
+    ⊎ (AllAnswered card.rows.items text × IsFirstTorn p card.words card.rows.items passed f)
 
 -- so it came of the rows of a new card
-abbrev pub EndsOn : CardRows → ℕ → Option Failure → Type 0
-EndsOn card passed failure = (text : List ℕ) × IsPrinted card.words (script_text card.rows.items) text × IsCardEnd card text passed failure
+abbrev pub EndsOn : Plan → CardRows → ℕ → Option Failure → Type 0
+EndsOn p card passed failure = (text : List ℕ) × IsPrinted p card.words (script_text card.rows.items) text × IsCardEnd p card text passed failure
 
 -- what came of the rows of these cards, behind so many rows that hold, counted up to 2^64 - 1: those of each hold, or not
-unfoldable pub AreAnsweredOn : List CardRows → ℕ → Outcome → Type 0
-AreAnsweredOn [] passed outcome = outcome ≡ Held passed
-AreAnsweredOn (card ∷ cards) passed outcome =
-    (EndsOn card passed None × AreAnsweredOn cards (min (passed + length card.rows.items) 18446744073709551615) outcome)
-    ⊎ ((failure : Failure) × (outcome ≡ Failed failure) × EndsOn card passed (Some failure))
+unfoldable pub AreAnsweredOn : Plan → List CardRows → ℕ → Outcome → Type 0
+AreAnsweredOn p [] passed outcome = outcome ≡ Held passed
+AreAnsweredOn p (card ∷ cards) passed outcome =
+    (EndsOn p card passed None × AreAnsweredOn p cards (min (passed + length card.rows.items) 18446744073709551615) outcome)
+    ⊎ ((failure : Failure) × (outcome ≡ Failed failure) × EndsOn p card passed (Some failure))
+
+-- that no row is there is a failure
+abbrev pub with_a_row : Outcome → Outcome
+with_a_row NoRow = NoRow
+with_a_row (Held rows) = if rows == 0 then NoRow else Held rows
+with_a_row (Failed failure) = Failed failure
+
+-- what came of the rows of these cards
+abbrev pub IsOutcome : Plan → List CardRows → Outcome → Type 0
+IsOutcome p cards outcome = (all : Outcome) × AreAnsweredOn p cards 0 all × (outcome ≡ with_a_row all)
 
 -- ---- the command
 
+-- the rows of these lines were answered so
+abbrev pub AreAnswered : Plan → List Numbered → Tested → Type 0
+AreAnswered p lines t = AreCardsOf p.words lines t.cards.items × IsOutcome p t.cards.items t.outcome
+
+-- the cards of a file are as planned, but for the platform table that it names
+abbrev pub IsPlanFor : Plan → Option (List ℕ) → Plan → Type 0
+IsPlanFor p None q = q ≡ p
+IsPlanFor p (Some table) q = (q.table.items ≡ table) × (q.words ≡ p.words) × (q.capacity ≡ p.capacity) × (q.budget ≡ p.budget)
+
 -- the rows of the file of this name were answered so
-abbrev pub IsTested : List ℕ → Tested → List FileDeed → Type 0
-IsTested name t deeds = (t.name.now ≡ name) × (lines : List Numbered) × (cards : List CardRows) × AreFileLines name lines deeds
-    × AreCardsOf lines cards × AreAnsweredOn cards 0 t.outcome
+abbrev pub IsTested : Plan → List ℕ → Tested → List FileDeed → Type 0
+IsTested p name t deeds = (t.name.now ≡ name) × (table : Option (List ℕ)) × (lines : List Numbered) × IsFile name table lines deeds
+    × (q : Plan) × IsPlanFor p table q × AreAnswered q lines t
 
 -- those of the files of these names, one after the other
-unfoldable pub AreTested : List (List ℕ) → List Tested → List FileDeed → Type 0
-AreTested [] [] deeds = deeds ≡ []
-AreTested (name ∷ names) (t ∷ ts) deeds = (first more : List FileDeed) × IsTested name t first × AreTested names ts more × (deeds ≡ first ++ more)
-AreTested names ts deeds = ⊥
+unfoldable pub AreTested : Plan → List (List ℕ) → List Tested → List FileDeed → Type 0
+AreTested p [] [] deeds = deeds ≡ []
+AreTested p (name ∷ names) (t ∷ ts) deeds = (first more : List FileDeed) × IsTested p name t first × AreTested p names ts more × (deeds ≡ first ++ more)
+AreTested p names ts deeds = ⊥
 
--- why the rows of cards were not answered: memory was refused, or the example is no platform table or does not fit
-abbrev pub IsUnanswered : Fault → Type 0
-IsUnanswered NoMemory = Unit {0}
-IsUnanswered (BadTable line) = Reads EXAMPLE.now (Err (BadLine line))
-IsUnanswered ImageTooSmall = Unit {0}
-IsUnanswered other = ⊥
+-- why the rows of cards were not answered: memory was refused, or the platform table is none, or does not fit
+abbrev pub IsUnanswered : Plan → Fault → Type 0
+IsUnanswered p NoMemory = Unit {0}
+IsUnanswered p (BadTable line) = Reads p.table.items (Err (BadLine line))
+IsUnanswered p ImageTooSmall = Unit {0}
+IsUnanswered p other = ⊥
 
 -- why the bytes of the file of this name are no text of rows: they are more than a script may have; or they are not, and are no text
 abbrev pub IsNoText : List ℕ → List ℕ → Fault → Type 0
@@ -195,7 +238,7 @@ AreNoFileLines name fault deeds = IsNoRowsText name fault deeds ⊎ IsNotInclude
 
 -- why its rows were not answered
 abbrev pub IsUntested : List ℕ → Fault → List FileDeed → Type 0
-IsUntested name fault deeds = AreNoFileLines name fault deeds ⊎ IsUnanswered fault
+IsUntested name fault deeds = AreNoFileLines name fault deeds ⊎ ((q : Plan) × IsUnanswered q fault)
 
 -- those of one of these files were not, and it was the last that was read
 abbrev pub IsOneUntested : List (List ℕ) → Fault → List FileDeed → Type 0
@@ -217,28 +260,38 @@ IsVerdict ts (Ok done) = failed_of ts ≡ 0
 IsVerdict ts (Err RowsFailed) = 0 < failed_of ts
 IsVerdict ts (Err other) = ⊥
 
--- the report for build servers was written to the file of this name; or memory was refused for it, and no file was asked for; or it
--- could not be written
-abbrev pub IsJunit : List ℕ → List Tested → Result Unit Fault → List FileDeed → Type 0
-IsJunit name ts (Ok done) deeds = deeds ≡ WritesText name (junit_text ts) (Ok tt) ∷ []
-IsJunit name ts (Err fault) deeds = ((fault ≡ NoMemory) × (deeds ≡ []))
+-- the report for build servers was written to the file of this name, which is none of these; or memory was refused for it, and no file was
+-- asked for; or it could not be written
+abbrev pub IsJunit : List (List ℕ) → List ℕ → List Tested → Result Unit Fault → List FileDeed → Type 0
+IsJunit names name ts (Ok done) deeds = (position (λ (file : List ℕ). bytes_eq file name) names ≡ None) × (deeds ≡ WritesText name (junit_text ts) (Ok tt) ∷ [])
+IsJunit names name ts (Err fault) deeds = ((fault ≡ NoMemory) × (deeds ≡ []))
     ⊎ (IsUnwritten name fault × (deeds ≡ WritesText name (junit_text ts) (Err fault) ∷ []))
 
 -- so it was, if a file was named for it
-abbrev pub IsKept : Option (List ℕ) → List Tested → Result Unit Fault → List FileDeed → Type 0
-IsKept None ts ended deeds = IsVerdict ts ended × (deeds ≡ [])
-IsKept (Some name) ts ended deeds = (IsVerdict ts ended × IsJunit name ts (Ok tt) deeds)
-    ⊎ ((fault : Fault) × (ended ≡ Err fault) × IsJunit name ts (Err fault) deeds)
+abbrev pub IsKept : List (List ℕ) → Option (List ℕ) → List Tested → Result Unit Fault → List FileDeed → Type 0
+IsKept names None ts ended deeds = IsVerdict ts ended × (deeds ≡ [])
+IsKept names (Some name) ts ended deeds = (IsVerdict ts ended × IsJunit names name ts (Ok tt) deeds)
+    ⊎ ((fault : Fault) × (ended ≡ Err fault) × IsJunit names name ts (Err fault) deeds)
 
 -- the report over these files was not written, for memory or since a write failed within it; or it was, and then that for build servers
-abbrev pub IsTold : List Tested → Option (List ℕ) → Result Unit Fault → List ℕ → List FileDeed → Type 0
-IsTold ts junit ended text deeds = ((ended ≡ Err NoMemory) × (text ≡ []) × (deeds ≡ []))
+abbrev pub IsTold : List (List ℕ) → List Tested → Option (List ℕ) → Result Unit Fault → List ℕ → List FileDeed → Type 0
+IsTold names ts junit ended text deeds = ((ended ≡ Err NoMemory) × (text ≡ []) × (deeds ≡ []))
     ⊎ ((ended ≡ Err WriteFailed) × IsCutOf (report_text ts) text × (deeds ≡ []))
-    ⊎ ((text ≡ report_text ts) × IsKept junit ts ended deeds)
+    ⊎ ((text ≡ report_text ts) × IsKept names junit ts ended deeds)
 
--- the rows of the files of these names were answered, and that was told; or those of one were not, and nothing was written. Until then
--- texts were read, and no file was asked for in another way
-abbrev pub IsTest : List (List ℕ) → Option (List ℕ) → Result Unit Fault → List ℕ → List FileDeed → Type 0
-IsTest names junit ended text deeds = (reads more : List FileDeed) × (deeds ≡ reads ++ more) × All IsReading reads
+-- the rows of the files of these names were answered by cards as planned, and that was told; or those of one were not, and nothing was
+-- written. Until then texts were read, and no file was asked for in another way
+abbrev pub IsTestBy : Plan → List (List ℕ) → Option (List ℕ) → Result Unit Fault → List ℕ → List FileDeed → Type 0
+IsTestBy p names junit ended text deeds = (reads more : List FileDeed) × (deeds ≡ reads ++ more) × All IsReading reads
     × (((fault : Fault) × (ended ≡ Err fault) × IsOneUntested names fault reads × (text ≡ []) × (more ≡ []))
-    ⊎ ((ts : List Tested) × AreTested names ts reads × IsTold ts junit ended text more))
+    ⊎ ((ts : List Tested) × AreTested p names ts reads × IsTold names ts junit ended text more))
+
+-- so they were by the cards that were asked for; or no card can be as it was asked for, and nothing was written
+abbrev pub IsTest : List (List ℕ) → Asked → Result Unit Fault → List ℕ → List FileDeed → Type 0
+IsTest names a ended text deeds = ((fault : Fault) × (ended ≡ Err fault) × IsUnplanned a fault deeds × (text ≡ []))
+    ⊎ ((p : Plan) × (first more : List FileDeed) × (deeds ≡ first ++ more) × IsPlanned a p first
+    × IsTestBy p names (option_map (λ (name : Bor (List ℕ)). name.now) a.junit) ended text more)
+
+-- a file of rows, as a file that the command names
+abbrev pub rows_operand : Bor (List ℕ) → Operand
+rows_operand name = record { name = name; kind = Rows }

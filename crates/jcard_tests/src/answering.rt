@@ -1,47 +1,87 @@
 //! Rows that are answered by new cards in memory.
 ghost use Rattle.std.specs.Prelude.{◌≡◌, ◌≤◌, ◌<◌, ◌++◌, length, ℕ, List, Bool, Result, MatchResult, IfOk, IsSomeAnd, option_map, false};
 ghost use Rattle.jc_words.specs.Stores.{FuseStoreValue};
-ghost use Rattle.jcard_script.specs.Script.{Ends};
+ghost use Rattle.jcard_script.specs.Script.{EndsWithin};
 ghost use Rattle.jcard_script.specs.declared.script.ScriptFault.{ScriptFault};
 ghost use Rattle.jcard_rows.specs.Outcomes.{IsCompared};
 ghost use Rattle.jcard_rows.specs.Rows.{script_text};
 ghost use Rattle.jcard_tear.specs.ScriptLines.{line_of};
 ghost use Rattle.jcard_files.specs.FileDeeds.{fresh_store};
-ghost use Rattle.jcard_images.specs.NewImages.{IsNewImage};
-ghost use Rattle.jcard_tests.specs.Tests.{AreAnsweredOn, AreCut, EndsOn, IsPrinted, IsToldOf, IsToldOfCuts, IsToldOfLine, IsTornFailure, IsUnanswered, lacked_memory};
+ghost use Rattle.jcard_images.specs.NewImages.{IsNewImageOf};
+ghost use Rattle.jcard_tests.specs.Tests.{AreAnsweredOn, AreCut, EndsOn, IsOutcome, IsPrinted, IsToldOf, IsToldOfCuts, IsToldOfLine, IsTornFailure, IsUnanswered, lacked_memory, with_a_row};
 
-use jc_platform::example::EXAMPLE;
+use crate::plan::Plan;
+use crate::timed_text::{Printed, TimedText};
+use crate::timer::Timer;
 use jc_platform::fault::TableFault;
 use jc_platform::read::read_table;
 use jc_words::{FuseStore, MemStore, WordStore};
 use jcard_faults::fault::Fault;
-use jcard_images::memory_image::new_image;
+use jcard_images::memory_image::new_image_of;
 use jcard_outcomes::verdict::broken;
 use jcard_rows::card_rows::CardRows;
 use jcard_rows::failing::first_failure;
 use jcard_rows::outcome::{Failure, Outcome};
 use jcard_rows::row::{Row, line, script};
 use jcard_script::card::power_up::PowerFault;
+use jcard_script::explainer::Unasked;
 use jcard_script::mem_text::MemText;
-use jcard_script::script::{ScriptFault, run_script};
+use jcard_script::script::{ScriptFault, run_script_explained};
 use jcard_tear::cuts::NOTHING_MORE;
 use jcard_tear::each::tear_line;
-use jcard_tear::kept_text::KeptText;
 use jcard_tear::progress::Nobody;
 use jcard_tear::script_lines::ScriptLine;
 use jcard_tear::tearing::TearFault;
 use std::alloc::{AllocError, Global};
 
-/// What comes of the rows of these cards, each of which is new, has the platform table of the example, and is told its rows: the first
-/// row that is not answered as it says, or, where all are, the first that is torn and whose cuts are not all or nothing; or how many
-/// hold.
-pub(crate) fn outcome_of<'n>(alloc: Global, cards: &[CardRows]) -> Result<Outcome, Fault<'n>>
-    ensures { MatchResult result (λ outcome. AreAnsweredOn cards.now 0 outcome)
-        (λ fault. IsUnanswered fault) }
+/// What comes of the rows of these cards, each of which is new, is as planned, and is told its rows: the first row that is not answered
+/// as it says, or, where all are, the first that is torn and whose cuts are not all or nothing; or how many hold. Without a row that is a
+/// failure. The time that each took is added to those.
+pub(crate) fn outcome_of<'n, T: Timer>(
+    alloc: Global,
+    plan: &Plan,
+    cards: &[CardRows],
+    timer: &T,
+    times: &mut Vec<u64>,
+) -> Result<Outcome, Fault<'n>>
+    ensures { MatchResult result (λ outcome. IsOutcome plan.now cards.now outcome)
+        (λ fault. IsUnanswered plan.now fault) }
+{
+    match rows_outcome(alloc, plan, cards, timer, times) {
+        Ok(outcome) => Ok(with_a_row(outcome)),
+        Err(fault) => Err(fault),
+    }
+}
+
+// That no row is there is a failure.
+fn with_a_row(outcome: Outcome) -> Outcome
+    ensures { result ≡ with_a_row outcome }
+{
+    match outcome {
+        Outcome::Held(rows) => {
+            if rows == 0 {
+                return Outcome::NoRow;
+            }
+            Outcome::Held(rows)
+        }
+        other => other,
+    }
+}
+
+// What comes of the rows, of which none can be there.
+fn rows_outcome<'n, T: Timer>(
+    alloc: Global,
+    plan: &Plan,
+    cards: &[CardRows],
+    timer: &T,
+    times: &mut Vec<u64>,
+) -> Result<Outcome, Fault<'n>>
+    ensures { MatchResult result (λ outcome. AreAnsweredOn plan.now cards.now 0 outcome)
+        (λ fault. IsUnanswered plan.now fault) }
 {
     let mut passed = 0usize;
     for card in cards {
-        match first_failure_on(alloc, card, passed) {
+        match first_failure_on(alloc, plan, card, passed, timer, times) {
             Ok(Some(failure)) => return Ok(Outcome::Failed(failure)),
             Ok(None) => passed = passed.saturating_add(card.rows.as_slice().len()),
             Err(fault) => return Err(fault),
@@ -51,34 +91,41 @@ pub(crate) fn outcome_of<'n>(alloc: Global, cards: &[CardRows]) -> Result<Outcom
 }
 
 // The first row of a card that does not hold, behind so many that do.
-fn first_failure_on<'n>(
+fn first_failure_on<'n, T: Timer>(
     alloc: Global,
+    plan: &Plan,
     card: &CardRows,
     passed: usize,
+    timer: &T,
+    times: &mut Vec<u64>,
 ) -> Result<Option<Failure>, Fault<'n>>
-    ensures { MatchResult result (λ failure. EndsOn card.now passed failure) (λ fault. IsUnanswered fault) }
+    ensures { MatchResult result (λ failure. EndsOn plan.now card.now passed failure)
+        (λ fault. IsUnanswered plan.now fault) }
 {
-    match failure_on(alloc, card, passed) {
+    match failure_on(alloc, plan, card, passed, timer, times) {
         Ok(Some(failure)) => Ok(Some(failure)),
-        Ok(None) => torn_failure_on(alloc, card.words, &card.rows, passed),
+        Ok(None) => torn_failure_on(alloc, plan, card.words, &card.rows, passed),
         Err(fault) => Err(fault),
     }
 }
 
 // The first row of a card that is not answered as it says, behind so many that hold.
-fn failure_on<'n>(
+fn failure_on<'n, T: Timer>(
     alloc: Global,
+    plan: &Plan,
     card: &CardRows,
     passed: usize,
+    timer: &T,
+    times: &mut Vec<u64>,
 ) -> Result<Option<Failure>, Fault<'n>>
     ensures { MatchResult result (λ failure. (text : List ℕ)
-        × IsPrinted card.now.words (script_text card.now.rows.items) text
-        × IsCompared card.now.rows.items text passed failure) (λ fault. IsUnanswered fault) }
+        × IsPrinted plan.now card.now.words (script_text card.now.rows.items) text
+        × IsCompared card.now.rows.items text passed failure) (λ fault. IsUnanswered plan.now fault) }
 {
     let Ok(script) = script(alloc, &card.rows) else {
         return Err(Fault::NoMemory);
     };
-    match answers(alloc, card.words, &script) {
+    match answers(alloc, plan, card.words, &script, timer, times) {
         Ok(text) => match first_failure(alloc, &card.rows, &text, passed) {
             Ok(failure) => Ok(failure),
             Err(AllocError) => Err(Fault::NoMemory),
@@ -87,48 +134,75 @@ fn failure_on<'n>(
     }
 }
 
-// What a script prints on a new card of so many words.
-fn answers<'n>(alloc: Global, words: u16, script: &[u8]) -> Result<Vec<u8>, Fault<'n>>
+// What a script prints on a new card of so many words. When its lines came is added to those times, where there is memory for that.
+fn answers<'n, T: Timer>(
+    alloc: Global,
+    plan: &Plan,
+    words: u16,
+    script: &[u8],
+    timer: &T,
+    times: &mut Vec<u64>,
+) -> Result<Vec<u8>, Fault<'n>>
     requires { 4096 ≤ words }
-    ensures { MatchResult result (λ text. IsPrinted words script.now text.items)
-        (λ fault. IsUnanswered fault) }
+    ensures { MatchResult result (λ text. IsPrinted plan.now words script.now text.items)
+        (λ fault. IsUnanswered plan.now fault) }
 {
-    match new_card(alloc, words) {
-        Ok(store) => printed(alloc, store, script),
+    match new_card(alloc, plan, words) {
+        Ok(store) => match printed(alloc, store, script, plan.budget, timer) {
+            Ok(mut printed) => {
+                let _ = times.append(&mut printed.times);
+                Ok(printed.text)
+            }
+            Err(fault) => Err(fault),
+        },
         Err(fault) => Err(fault),
     }
 }
 
 // The store of a new card of so many words.
-fn new_card<'n>(alloc: Global, words: u16) -> Result<MemStore, Fault<'n>>
+fn new_card<'n>(alloc: Global, plan: &Plan, words: u16) -> Result<MemStore, Fault<'n>>
     requires { 4096 ≤ words }
-    ensures { MatchResult result (λ store. IsNewImage words EXAMPLE.now store.words
-        × (store.passed ≡ 0)) (λ fault. IsUnanswered fault) }
+    ensures { MatchResult result (λ store. IsNewImageOf words plan.now.capacity
+        plan.now.table.items store.words × (store.passed ≡ 0))
+        (λ fault. IsUnanswered plan.now fault) }
 {
-    match read_table(EXAMPLE.as_bytes()) {
-        Ok(_) => new_image(alloc, words, EXAMPLE.as_bytes()),
+    match read_table(&plan.table) {
+        Ok(_) => new_image_of(alloc, words, plan.capacity, &plan.table),
         Err(TableFault::BadTable(line)) => Err(Fault::BadTable(line)),
     }
 }
 
 // What a script prints on the card of this store, up to its end or to a line that is not carried out.
-fn printed<'n>(alloc: Global, store: MemStore, script: &[u8]) -> Result<Vec<u8>, Fault<'n>>
+fn printed<'n, T: Timer>(
+    alloc: Global,
+    store: MemStore,
+    script: &[u8],
+    budget: u32,
+    timer: &T,
+) -> Result<Printed, Fault<'n>>
     requires { store.passed ≡ 0 }
-    ensures { MatchResult result (λ text. (read rest : List ℕ) × (carried : Result Unit ScriptFault)
-        × (at_end : Bool) × (after : FuseStoreValue) × (script.now ≡ read ++ rest)
-        × Ends carried (fresh_store store.words) after at_end read text.items
-        × (lacked_memory carried ≡ false))
-        (λ fault. IsUnanswered fault) }
+    ensures { MatchResult result (λ printed. (read rest : List ℕ)
+        × (carried : Result Unit ScriptFault) × (at_end : Bool) × (after : FuseStoreValue)
+        × (script.now ≡ read ++ rest)
+        × EndsWithin budget carried (fresh_store store.words) after at_end read printed.text.items
+        × (lacked_memory carried ≡ false)) (λ fault. fault ≡ Fault.NoMemory) }
 {
     let Ok(mut reader) = MemText::new(alloc, script, 0) else {
         return Err(Fault::NoMemory);
     };
-    let mut writer = KeptText::new(alloc);
-    let (_store, ended) = run_script(alloc, FuseStore::new(store), &mut reader, &mut writer);
+    let mut writer = TimedText::new(alloc, timer);
+    let (_store, ended) = run_script_explained(
+        alloc,
+        FuseStore::new(store),
+        budget,
+        &mut reader,
+        &mut writer,
+        &mut Unasked,
+    );
     if lacked_memory(ended) {
         return Err(Fault::NoMemory);
     }
-    Ok(writer.into_bytes())
+    Ok(writer.into_printed())
 }
 
 // Whether a script came to this end for want of memory.
@@ -145,16 +219,17 @@ fn lacked_memory(ended: Result<(), ScriptFault>) -> bool
 // The first of these rows, on a card of so many words, that is torn and whose cuts are not all or nothing, behind so many rows that hold.
 fn torn_failure_on<'n>(
     alloc: Global,
+    plan: &Plan,
     words: u16,
     rows: &[Row],
     passed: usize,
 ) -> Result<Option<Failure>, Fault<'n>>
     requires { 4096 ≤ words }
-    ensures { MatchResult result (λ failure. AreCut words rows.now passed failure)
-        (λ fault. IsUnanswered fault) }
+    ensures { MatchResult result (λ failure. AreCut plan.now words rows.now passed failure)
+        (λ fault. IsUnanswered plan.now fault) }
 {
     for (place, row) in rows.iter().enumerate() {
-        match told_of_cuts(alloc, words, &rows[..place], row) {
+        match told_of_cuts(alloc, plan, words, &rows[..place], row) {
             Ok(Some(told)) => return failure_of(alloc, row, passed.saturating_add(place), told),
             Ok(None) => (),
             Err(fault) => return Err(fault),
@@ -169,8 +244,8 @@ fn failure_of<'n>(
     passed: usize,
     told: Vec<u8>,
 ) -> Result<Option<Failure>, Fault<'n>>
-    ensures { MatchResult result (λ failure. IsSomeAnd failure (λ f. IsTornFailure row.now passed told.items f))
-        (λ fault. IsUnanswered fault) }
+    ensures { MatchResult result (λ failure. IsSomeAnd failure (λ f. IsTornFailure row.now passed
+        told.items f)) (λ fault. fault ≡ Fault.NoMemory) }
 {
     match torn_failure(alloc, row, passed, told) {
         Ok(failure) => Ok(Some(failure)),
@@ -199,18 +274,19 @@ fn torn_failure(
 // What is told of the cuts of the row behind these, if it is torn and they are not all or nothing.
 fn told_of_cuts<'n>(
     alloc: Global,
+    plan: &Plan,
     words: u16,
     before: &[Row],
     row: &Row,
 ) -> Result<Option<Vec<u8>>, Fault<'n>>
     requires { 4096 ≤ words }
-    ensures { MatchResult result (λ found. IsToldOf words before.now row.now
-        (option_map (λ told. told.items) found)) (λ fault. IsUnanswered fault) }
+    ensures { MatchResult result (λ found. IsToldOf plan.now words before.now row.now
+        (option_map (λ told. told.items) found)) (λ fault. IsUnanswered plan.now fault) }
 {
     if !row.torn {
         return Ok(None);
     }
-    match new_card(alloc, words) {
+    match new_card(alloc, plan, words) {
         Ok(store) => match told_of_cuts_on(alloc, &store, before, row) {
             Ok(found) => Ok(found),
             Err(AllocError) => Err(Fault::NoMemory),

@@ -2,5 +2,10 @@
 #![tactic(auto)]
 
 mod answering;
+pub mod asked;
+mod plan;
+mod planning;
 mod rows_file;
 pub mod testing;
+mod timed_text;
+pub mod timer;

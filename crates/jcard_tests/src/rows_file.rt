@@ -1,26 +1,36 @@
 //! The lines of files of rows.
-ghost use Rattle.std.specs.Prelude.{◌≡◌, ◌<◌, ◌++◌, ◌∷◌, [], OnOk, List, All, length, ◌≤◌, IfOk, IfErr, MatchResult};
+ghost use Rattle.std.specs.Prelude.{◌≡◌, ◌<◌, ◌++◌, ◌∷◌, [], OnOk, List, All, length, ◌≤◌, IfOk, IfErr, MatchResult, option_map};
 ghost use Rattle.std.specs.String.{string_bytes};
 ghost use Rattle.jcard_files.specs.FileDeeds.{FileDeed};
-ghost use Rattle.jcard_tests.specs.Tests.{AreFileLines, AreIncluded, AreNoFileLines, IsFilePlace, IsIncludeFault, IsNoRowsText, IsNoText, IsNotIncluded, IsPlace, IsReading, IsRowsText};
+ghost use Rattle.jcard_tests.specs.Tests.{AreIncluded, AreNoFileLines, IsFile, IsFileBehind, IsFileOf, IsFilePlace, IsIncludeFault, IsNoRowsText, IsNoText, IsNotIncluded, IsPlace, IsReading, IsRowsText, IsTableBeside};
 ghost use Rattle.jcard_rows.specs.Unrolled.{IsLineOf, IsUnrolled};
 ghost use Rattle.jcard_rows.specs.declared.numbered.Numbered.{Numbered};
 
 use jcard_faults::fault::Fault;
 use jcard_files::disk::Disk;
-use jcard_files::reading::script_of;
+use jcard_files::reading::{script_of, text_of};
 use jcard_rows::line::{Line, read_line};
 use jcard_rows::lines::{add_lines, beside, unroll};
+use jcard_rows::named_table::named_table;
 use jcard_rows::numbered::Numbered;
+use jcard_rows::table_line::TableLine;
 use jcard_script::script::BOUND;
 use std::alloc::{AllocError, Global};
 
-/// The lines of the file of this name, those of loops as often as they stand there, with the lines of each file that it includes in
-/// the place of the line that names it. Such a file stands in the same folder, and has rows and comments alone.
-pub(crate) fn lines_of<'n, D: Disk>(disk: &mut D, name: &'n str) -> Result<Vec<Numbered>, Fault<'n>>
+/// A file of rows: the text of the platform table that it names, and its lines.
+#[derive(Drop)]
+pub(crate) struct RowFile {
+    pub(crate) table: Option<Vec<u8>>,
+    pub(crate) lines: Vec<Numbered>,
+}
+
+/// The file of rows of this name: its lines, those of loops as often as they stand there, with the lines of each file that it includes in
+/// the place of the line that names it. Such a file stands in the same folder, and has rows and comments alone; so does the platform table
+/// that the first line can name.
+pub(crate) fn file_of<'n, D: Disk>(disk: &mut D, name: &'n str) -> Result<RowFile, Fault<'n>>
     ensures { (deeds : List FileDeed) × D.does disk.old deeds disk.new × All IsReading deeds
-        × MatchResult result (λ lines. AreFileLines name.now lines.items deeds)
-        (λ fault. AreNoFileLines name.now fault deeds) }
+        × MatchResult result (λ file. IsFile name.now (option_map (λ text. text.items) file.table)
+        file.lines.items deeds) (λ fault. AreNoFileLines name.now fault deeds) }
 {
     match rows_text(disk, name) {
         Ok(text) => unrolled(disk, name, text.as_str()),
@@ -28,19 +38,80 @@ pub(crate) fn lines_of<'n, D: Disk>(disk: &mut D, name: &'n str) -> Result<Vec<N
     }
 }
 
-// The lines of this text in the file of this name.
-fn unrolled<'n, D: Disk>(
-    disk: &mut D,
-    name: &'n str,
-    text: &str,
-) -> Result<Vec<Numbered>, Fault<'n>>
+// The file of this name that has this text.
+fn unrolled<'n, D: Disk>(disk: &mut D, name: &'n str, text: &str) -> Result<RowFile, Fault<'n>>
     ensures { (deeds : List FileDeed) × D.does disk.old deeds disk.new × All IsReading deeds
-        × MatchResult result (λ lines. (own : List Numbered) × IsUnrolled text.now own
-        × AreIncluded name.now own lines.items deeds) (λ fault. IsNotIncluded name.now fault) }
+        × MatchResult result (λ file. (own : List Numbered) × IsUnrolled text.now own
+        × IsFileOf name.now own (option_map (λ text. text.items) file.table) file.lines.items deeds)
+        (λ fault. IsNotIncluded name.now fault) }
 {
     match unroll(disk.alloc(), text) {
-        Ok(lines) => with_included(disk, name, &lines),
+        Ok(lines) => of_lines(disk, name, &lines),
         Err(AllocError) => Err(Fault::NoMemory),
+    }
+}
+
+// The file of this name that has these lines.
+fn of_lines<'n, D: Disk>(
+    disk: &mut D,
+    name: &'n str,
+    own: &[Numbered],
+) -> Result<RowFile, Fault<'n>>
+    ensures { (deeds : List FileDeed) × D.does disk.old deeds disk.new × All IsReading deeds
+        × MatchResult result (λ file. IsFileOf name.now own.now
+        (option_map (λ text. text.items) file.table) file.lines.items deeds)
+        (λ fault. IsNotIncluded name.now fault) }
+{
+    match named_table(own) {
+        Some(line) => with_table(disk, name, line),
+        None => match with_included(disk, name, own) {
+            Ok(lines) => Ok(RowFile { table: None, lines }),
+            Err(fault) => Err(fault),
+        },
+    }
+}
+
+// The file of this name, one of whose lines names that platform table.
+fn with_table<'n, D: Disk>(
+    disk: &mut D,
+    name: &'n str,
+    line: TableLine,
+) -> Result<RowFile, Fault<'n>>
+    ensures { (deeds : List FileDeed) × D.does disk.old deeds disk.new × All IsReading deeds
+        × MatchResult result (λ file. IsFileBehind name.now line.entry
+        (option_map (λ text. text.items) file.table) file.lines.items deeds)
+        (λ fault. IsNotIncluded name.now fault) }
+{
+    let table = match table_beside(disk, name, line.name, line.number) {
+        Ok(table) => table,
+        Err(fault) => return Err(fault),
+    };
+    match with_included(disk, name, line.rest) {
+        Ok(lines) => Ok(RowFile {
+            table: Some(table),
+            lines,
+        }),
+        Err(fault) => Err(fault),
+    }
+}
+
+// The text of the platform table that the line of this number in the file of this name names.
+fn table_beside<'n, D: Disk>(
+    disk: &mut D,
+    name: &'n str,
+    file: &str,
+    number: usize,
+) -> Result<Vec<u8>, Fault<'n>>
+    ensures { (deeds : List FileDeed) × D.does disk.old deeds disk.new × All IsReading deeds
+        × MatchResult result (λ text. IsTableBeside name.now file.now text.items deeds)
+        (λ fault. IsNotIncluded name.now fault) }
+{
+    let Ok(table) = beside(disk.alloc(), name, file) else {
+        return Err(Fault::NoMemory);
+    };
+    match text_of(disk, table.as_str()) {
+        Ok(text) => Ok(text),
+        Err(fault) => Err(include_fault(name, number, fault)),
     }
 }
 

@@ -1,19 +1,23 @@
 //! `jcard test`: rows of files, answered by cards in memory.
-ghost use Rattle.std.specs.Prelude.{◌≡◌, ◌++◌, ◌∷◌, [], ℕ, List, All, map, option_map, false, IfErr, MatchResult, OnOk};
+ghost use Rattle.std.specs.Prelude.{◌≡◌, ◌++◌, ◌∷◌, [], ℕ, List, All, map, option_map, false, Some, IfErr, IfOk, MatchResult, OnOk};
 ghost use Rattle.std.specs.Borrow.{Bor};
 ghost use Rattle.std.specs.Io.KnownBytes.{Appends};
 ghost use Rattle.jc_words.specs.Count.{failures_after};
 ghost use Rattle.jcard_faults.specs.Faults.{is_unwritten};
 ghost use Rattle.jcard_files.specs.FileDeeds.{FileDeed};
-ghost use Rattle.jcard_tests.specs.Tests.{AreTested, IsJunit, IsKept, IsReading, IsUnanswered, AreAnsweredOn, IsOneUntested, IsTest, IsTested, IsTold, IsUntested, IsVerdict};
-ghost use Rattle.jcard_rows.specs.Cards.{AreCardsOf};
-ghost use Rattle.jcard_rows.specs.declared.card_rows.CardRows.{CardRows};
+ghost use Rattle.jcard_tests.specs.Tests.{AreAnswered, AreTested, IsJunit, IsKept, IsOneUntested, IsOutcome, IsPlanFor, IsReading, IsTest, IsTestBy, IsTested, IsTold, IsUnanswered, IsUntested, IsVerdict, rows_operand};
 ghost use Rattle.jcard_rows.specs.declared.outcome.Tested.{Tested};
 
 use crate::answering::outcome_of;
-use crate::rows_file::lines_of;
-use jcard_faults::fault::Fault;
+use crate::asked::Asked;
+use crate::plan::Plan;
+use crate::planning::plan_of;
+use crate::rows_file::{RowFile, file_of};
+use crate::timer::Timer;
+use jcard_faults::fault::{Fault, FileKind};
 use jcard_files::disk::Disk;
+use jcard_files::operand::Operand;
+use jcard_rows::card_rows::CardRows;
 use jcard_rows::cards::cards_of;
 use jcard_rows::junit::junit;
 use jcard_rows::numbered::Numbered;
@@ -23,38 +27,66 @@ use jcard_script::streams::{TextOut, write_all};
 use std::alloc::{AllocError, Global};
 
 /// `jcard test`: tells for each of these files how many of its rows hold, or the first that is not answered as it says, and how many
-/// passed and failed in all. The cards are new ones in memory. Behind it the report for build servers is written to the file of the last
-/// name, if there is one.
-pub fn test_files<'n, D: Disk, W: TextOut>(
+/// passed and failed in all. The cards are new ones in memory, as they are asked for, or as a file says. Behind it the report for build
+/// servers is written to the file that is named for it, if there is one.
+pub fn test_files<'n, D: Disk, W: TextOut, T: Timer>(
     disk: &mut D,
     files: &[&'n str],
-    junit: Option<&'n str>,
+    asked: Asked<'n>,
     out: &mut W,
+    timer: &T,
 ) -> Result<(), Fault<'n>>
     ensures done { (text : List ℕ) × (deeds : List FileDeed)
         × Appends (W.contents out.old) (W.contents out.new) text
-        × IsTest (map (λ (name : Bor (List ℕ)). name.now) files.now)
+        × IsTest (map (λ (name : Bor (List ℕ)). name.now) files.now) asked.entry result text deeds
+        × D.does disk.old deeds disk.new }
+    ensures writes { W.failures out.new ≡ failures_after (W.failures out.old)
+        (is_unwritten result) }
+{
+    match plan_of(disk, asked) {
+        Ok(plan) => test_by(disk, files, &plan, asked.junit, out, timer),
+        Err(fault) => Err(fault),
+    }
+}
+
+// Does so with cards as they are planned.
+fn test_by<'n, D: Disk, W: TextOut, T: Timer>(
+    disk: &mut D,
+    files: &[&'n str],
+    plan: &Plan,
+    junit: Option<&'n str>,
+    out: &mut W,
+    timer: &T,
+) -> Result<(), Fault<'n>>
+    ensures done { (text : List ℕ) × (deeds : List FileDeed)
+        × Appends (W.contents out.old) (W.contents out.new) text
+        × IsTestBy plan.now (map (λ (name : Bor (List ℕ)). name.now) files.now)
         (option_map (λ (name : Bor (List ℕ)). name.now) junit.entry) result text deeds
         × D.does disk.old deeds disk.new }
     ensures writes { W.failures out.new ≡ failures_after (W.failures out.old)
         (is_unwritten result) }
 {
-    match tested_files(disk, files) {
-        Ok(tested) => tell_tested(disk, &tested, junit, out),
+    match tested_files(disk, files, plan, timer) {
+        Ok(tested) => tell_tested(disk, &tested, junit, files, out),
         Err(fault) => Err(fault),
     }
 }
 
 // What comes of the rows of these files.
-fn tested_files<'n, D: Disk>(disk: &mut D, files: &[&'n str]) -> Result<Vec<Tested<'n>>, Fault<'n>>
+fn tested_files<'n, D: Disk, T: Timer>(
+    disk: &mut D,
+    files: &[&'n str],
+    plan: &Plan,
+    timer: &T,
+) -> Result<Vec<Tested<'n>>, Fault<'n>>
     ensures { (deeds : List FileDeed) × D.does disk.old deeds disk.new × All IsReading deeds
-        × MatchResult result (λ tested. AreTested (map (λ (name : Bor (List ℕ)). name.now) files.now)
-        tested.items deeds) (λ fault. IsOneUntested
-        (map (λ (name : Bor (List ℕ)). name.now) files.now) fault deeds) }
+        × MatchResult result (λ tested. AreTested plan.now
+        (map (λ (name : Bor (List ℕ)). name.now) files.now) tested.items deeds)
+        (λ fault. IsOneUntested (map (λ (name : Bor (List ℕ)). name.now) files.now) fault deeds) }
 {
     let mut tested = Vec::new(disk.alloc());
     for name in files {
-        match add_tested(disk, *name, &mut tested) {
+        match add_tested(disk, *name, plan, timer, &mut tested) {
             Ok(()) => (),
             Err(fault) => return Err(fault),
         }
@@ -63,17 +95,19 @@ fn tested_files<'n, D: Disk>(disk: &mut D, files: &[&'n str]) -> Result<Vec<Test
 }
 
 // Adds what comes of the rows of a file.
-fn add_tested<'n, D: Disk>(
+fn add_tested<'n, D: Disk, T: Timer>(
     disk: &mut D,
     name: &'n str,
+    plan: &Plan,
+    timer: &T,
     tested: &mut Vec<Tested<'n>>,
 ) -> Result<(), Fault<'n>>
     ensures { (deeds : List FileDeed) × D.does disk.old deeds disk.new × All IsReading deeds
-        × MatchResult result (λ _. (file : Tested) × IsTested name.now file deeds
+        × MatchResult result (λ _. (file : Tested) × IsTested plan.now name.now file deeds
         × (tested.new.items ≡ tested.old.items ++ file ∷ []))
         (λ fault. IsUntested name.now fault deeds) }
 {
-    match tested_file(disk, name) {
+    match tested_file(disk, name, plan, timer) {
         Ok(file) => push_tested(tested, file),
         Err(fault) => Err(fault),
     }
@@ -90,33 +124,91 @@ fn push_tested<'n>(tested: &mut Vec<Tested<'n>>, file: Tested<'n>) -> Result<(),
 }
 
 // What comes of the rows of a file.
-fn tested_file<'n, D: Disk>(disk: &mut D, name: &'n str) -> Result<Tested<'n>, Fault<'n>>
+fn tested_file<'n, D: Disk, T: Timer>(
+    disk: &mut D,
+    name: &'n str,
+    plan: &Plan,
+    timer: &T,
+) -> Result<Tested<'n>, Fault<'n>>
     ensures { (deeds : List FileDeed) × D.does disk.old deeds disk.new × All IsReading deeds
-        × MatchResult result (λ file. IsTested name.now file deeds)
+        × MatchResult result (λ file. IsTested plan.now name.now file deeds)
         (λ fault. IsUntested name.now fault deeds) }
 {
-    match lines_of(disk, name) {
-        Ok(lines) => tested_lines(disk.alloc(), name, &lines),
+    match file_of(disk, name) {
+        Ok(file) => tested_rows(disk.alloc(), name, file, plan, timer),
         Err(fault) => Err(fault),
     }
 }
 
+// What comes of the rows of a file that was read: its cards have the platform table that it names.
+fn tested_rows<'n, T: Timer>(
+    alloc: Global,
+    name: &'n str,
+    file: RowFile,
+    plan: &Plan,
+    timer: &T,
+) -> Result<Tested<'n>, Fault<'n>>
+    ensures { MatchResult result (λ tested. (tested.name.now ≡ name.now) × (q : Plan)
+        × IsPlanFor plan.now (option_map (λ text. text.items) file.table) q
+        × AreAnswered q file.lines.items tested) (λ fault. (q : Plan) × IsUnanswered q fault) }
+{
+    let RowFile { table, lines } = file;
+    match table {
+        Some(text) => tested_lines(alloc, name, &lines, &with_table(plan, text), timer),
+        None => tested_lines(alloc, name, &lines, plan, timer),
+    }
+}
+
+// The plan with another platform table.
+fn with_table(plan: &Plan, table: Vec<u8>) -> Plan
+    ensures { IsPlanFor plan.now (Some table.items) result }
+{
+    Plan {
+        table,
+        words: plan.words,
+        capacity: plan.capacity,
+        budget: plan.budget,
+    }
+}
+
 // What comes of the rows that these lines of the file of this name make.
-fn tested_lines<'n>(
+fn tested_lines<'n, T: Timer>(
     alloc: Global,
     name: &'n str,
     lines: &[Numbered],
+    plan: &Plan,
+    timer: &T,
 ) -> Result<Tested<'n>, Fault<'n>>
-    ensures { MatchResult result (λ file. (file.name.now ≡ name.now) × (cards : List CardRows)
-        × AreCardsOf lines.now cards × AreAnsweredOn cards 0 file.outcome)
-        (λ fault. IsUnanswered fault) }
+    ensures { MatchResult result (λ tested. (tested.name.now ≡ name.now)
+        × AreAnswered plan.now lines.now tested) (λ fault. (q : Plan) × IsUnanswered q fault) }
 {
-    match cards_of(alloc, lines) {
-        Ok(cards) => match outcome_of(alloc, &cards) {
-            Ok(outcome) => Ok(Tested { name, outcome }),
-            Err(fault) => Err(fault),
-        },
+    match cards_of(alloc, plan.words, lines) {
+        Ok(cards) => tested_cards(alloc, name, cards, plan, timer),
         Err(AllocError) => Err(Fault::NoMemory),
+    }
+}
+
+// What comes of the rows of these cards.
+fn tested_cards<'n, T: Timer>(
+    alloc: Global,
+    name: &'n str,
+    cards: Vec<CardRows>,
+    plan: &Plan,
+    timer: &T,
+) -> Result<Tested<'n>, Fault<'n>>
+    ensures { MatchResult result (λ tested. (tested.name.now ≡ name.now)
+        × (tested.cards.items ≡ cards.items) × IsOutcome plan.now cards.items tested.outcome)
+        (λ fault. IsUnanswered plan.now fault) }
+{
+    let mut times = Vec::new(alloc);
+    match outcome_of(alloc, plan, &cards, timer, &mut times) {
+        Ok(outcome) => Ok(Tested {
+            name,
+            cards,
+            times,
+            outcome,
+        }),
+        Err(fault) => Err(fault),
     }
 }
 
@@ -125,12 +217,14 @@ fn tell_tested<'n, D: Disk, W: TextOut>(
     disk: &mut D,
     tested: &[Tested],
     junit: Option<&'n str>,
+    files: &[&str],
     out: &mut W,
 ) -> Result<(), Fault<'n>>
     ensures done { (text : List ℕ) × (deeds : List FileDeed)
         × Appends (W.contents out.old) (W.contents out.new) text
-        × IsTold tested.now (option_map (λ (name : Bor (List ℕ)). name.now) junit.entry) result
-        text deeds × D.does disk.old deeds disk.new }
+        × IsTold (map (λ (name : Bor (List ℕ)). name.now) files.now) tested.now
+        (option_map (λ (name : Bor (List ℕ)). name.now) junit.entry) result text deeds
+        × D.does disk.old deeds disk.new }
     ensures writes { W.failures out.new ≡ failures_after (W.failures out.old)
         (is_unwritten result) }
 {
@@ -138,7 +232,7 @@ fn tell_tested<'n, D: Disk, W: TextOut>(
         return Err(Fault::NoMemory);
     };
     match write_all(out, &text) {
-        Ok(()) => keep_junit(disk, tested, junit),
+        Ok(()) => keep_junit(disk, tested, junit, files),
         Err(_) => Err(Fault::WriteFailed),
     }
 }
@@ -148,13 +242,16 @@ fn keep_junit<'n, D: Disk>(
     disk: &mut D,
     tested: &[Tested],
     junit: Option<&'n str>,
+    files: &[&str],
 ) -> Result<(), Fault<'n>>
-    ensures kept { (deeds : List FileDeed) × IsKept (option_map (λ (name : Bor (List ℕ)). name.now)
-        junit.entry) tested.now result deeds × D.does disk.old deeds disk.new }
+    ensures kept { (deeds : List FileDeed)
+        × IsKept (map (λ (name : Bor (List ℕ)). name.now) files.now)
+        (option_map (λ (name : Bor (List ℕ)). name.now) junit.entry) tested.now result deeds
+        × D.does disk.old deeds disk.new }
     ensures unwritten { is_unwritten result ≡ false }
 {
     match junit {
-        Some(name) => match write_junit(disk, tested, name) {
+        Some(name) => match write_junit(disk, tested, name, files) {
             Ok(()) => all_passed(tested),
             Err(fault) => Err(fault),
         },
@@ -162,16 +259,42 @@ fn keep_junit<'n, D: Disk>(
     }
 }
 
-// Writes the report for build servers to the file of this name.
-fn write_junit<'n, D: Disk>(disk: &mut D, tested: &[Tested], name: &'n str) -> Result<(), Fault<'n>>
-    ensures written { (deeds : List FileDeed) × IsJunit name.now tested.now result deeds
+// Writes the report for build servers to the file of this name, which is none of these.
+fn write_junit<'n, D: Disk>(
+    disk: &mut D,
+    tested: &[Tested],
+    name: &'n str,
+    files: &[&str],
+) -> Result<(), Fault<'n>>
+    ensures written { (deeds : List FileDeed)
+        × IsJunit (map (λ (name : Bor (List ℕ)). name.now) files.now) name.now tested.now result deeds
         × D.does disk.old deeds disk.new }
     ensures unwritten { is_unwritten result ≡ false }
 {
+    let Ok(operands) = operands_of(disk.alloc(), files) else {
+        return Err(Fault::NoMemory);
+    };
     match junit(disk.alloc(), tested) {
-        Ok(text) => disk.write_text(name, &text),
+        Ok(text) => {
+            let kept = operands.as_slice();
+            let shown = text.as_slice();
+            disk.write_text(name, kept, shown)
+        }
         Err(AllocError) => Err(Fault::NoMemory),
     }
+}
+
+// These files, which are files of rows.
+fn operands_of<'a>(alloc: Global, files: &[&'a str]) -> Result<Vec<Operand<'a>>, AllocError>
+    ensures { IfOk result (λ operands. operands.items ≡ map rows_operand files.now) }
+{
+    files
+        .iter()
+        .map(|name| Operand {
+            name: *name,
+            kind: FileKind::Rows,
+        })
+        .collect(alloc)
 }
 
 // Whether no row failed.

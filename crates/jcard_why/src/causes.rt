@@ -1,5 +1,6 @@
 //! The first line: what kept a command from being answered by 9000, and in which method of the applet.
 
+use crate::callees::{is_special_call, platform_callee};
 use crate::explanation::Asked;
 use crate::places::push_package;
 use crate::reasons::reason_name;
@@ -8,7 +9,7 @@ use crate::text::Text;
 use jc_linker::linked::Linked;
 use jc_memory::{Cause, FaultKind, Phase};
 use jc_objects::class_names::class_name;
-use jc_platform::names::PlatformClass;
+use jc_platform::names::{PlatformClass, PlatformMethod};
 use jc_transient::ClassWord;
 use std::alloc::AllocError;
 
@@ -25,7 +26,7 @@ pub(crate) fn push_cause(text: &mut Text, asked: &Asked<'_>) -> Result<(), Alloc
             text.push(b"code fault")?;
             push_phase(text, phase)?;
             text.push(b": ")?;
-            text.push(fault_text(kind))
+            text.push(told_text(told_fault(kind, asked)))
         }
     }
 }
@@ -77,8 +78,8 @@ fn push_exception(
     }
 }
 
-// A class of the platform by its name, another by its package's AID and its number there.
-fn push_class(
+/// Adds a class: of the platform by its name, another by its package's AID and its number there.
+pub(crate) fn push_class(
     text: &mut Text,
     class: ClassWord,
     named: Option<PlatformClass>,
@@ -90,6 +91,39 @@ fn push_class(
     push_package(text, (class.0 / 256) as u8, linked)?;
     text.push(b".")?;
     text.push_number(u32::from(class.0 % 256))
+}
+
+// Why code ended, as far as the call at which it ended tells more.
+enum ToldFault {
+    /// As it was noted.
+    Noted(FaultKind),
+    /// An installation ended by an abort.
+    AbortOfInstallation,
+}
+
+// What a fault is told as. A call of `abortTransaction`, which takes and returns nothing, ends code only within an installation, and
+// one of the superclass's `process` because `Applet` has no code for it.
+fn told_fault(kind: FaultKind, asked: &Asked<'_>) -> ToldFault {
+    let (FaultKind::WrongArguments | FaultKind::FullStack) = kind else {
+        return ToldFault::Noted(kind);
+    };
+    let Some(spot) = asked.note.spots.as_slice().first() else {
+        return ToldFault::Noted(kind);
+    };
+    match platform_callee(*spot, asked) {
+        Some(PlatformMethod::JcSystemAbortTransaction) => ToldFault::AbortOfInstallation,
+        Some(PlatformMethod::AppletProcess) if is_special_call(*spot, asked) => {
+            ToldFault::Noted(FaultKind::NoMethod)
+        }
+        _ => ToldFault::Noted(kind),
+    }
+}
+
+const fn told_text(fault: ToldFault) -> &'static [u8] {
+    match fault {
+        ToldFault::Noted(kind) => fault_text(kind),
+        ToldFault::AbortOfInstallation => b"abortTransaction within an installation",
+    }
 }
 
 const fn fault_text(kind: FaultKind) -> &'static [u8] {

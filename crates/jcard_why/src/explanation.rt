@@ -1,14 +1,14 @@
 //! What a command did, and why it was not answered by 9000, as a text.
-ghost use Rattle.std.specs.Prelude.{◌≡◌, if◌then◌else◌};
-ghost use Rattle.std.specs.Option.{unwrap_or};
+ghost use Rattle.std.specs.Prelude.{◌≡◌};
+ghost use Rattle.jcard_why.specs.Wanted.{most_noted};
 
 use crate::causes::push_cause;
-use crate::places::push_spot;
+use crate::places::push_spots;
 use crate::refusals::push_refusals;
 use crate::text::Text;
 use crate::traces::push_trace;
 use jc_linker::linked::Linked;
-use jc_memory::Note;
+use jc_memory::{Note, Spot};
 use std::alloc::{AllocError, Global};
 
 /// The status word of a command that was carried out.
@@ -35,6 +35,27 @@ pub struct Asked<'a> {
     pub free_words: u16,
     /// A map of methods; empty where there is none.
     pub map: &'a [u8],
+    /// The code that came with the command; empty where none did.
+    pub lent_code: &'a [u8],
+}
+
+/// Which of the instructions that a command carried out are told.
+#[derive(Clone, Copy, Debug, PartialEq, Eq, Drop)]
+pub enum TracedLines {
+    /// So many at most, from the first on.
+    First(u32),
+    /// So many at most, up to the last.
+    Last(u32),
+}
+
+impl<'a> Asked<'a> {
+    /// The code that the offset of a frame counts in.
+    pub(crate) fn code_at(&self, spot: Spot) -> &[u8] {
+        if spot.package_number == 0 {
+            return self.lent_code;
+        }
+        self.linked.code_at(spot.package_number, 0)
+    }
 }
 
 /// What is wanted to be told of a command.
@@ -42,8 +63,8 @@ pub struct Asked<'a> {
 pub struct Wanted {
     /// Why it was not answered by 9000.
     pub why: bool,
-    /// At most so many of the instructions that it carried out.
-    pub trace: Option<u32>,
+    /// These of the instructions that it carried out.
+    pub trace: Option<TracedLines>,
     /// How often each instruction was carried out.
     pub cover: bool,
 }
@@ -51,20 +72,24 @@ pub struct Wanted {
 impl Wanted {
     /// How many instructions of a command are noted at most.
     pub fn most_noted(&self) -> u32
-        ensures { result ≡ (if self.now.cover then 10000000 else unwrap_or self.now.trace 0) }
+        ensures { result ≡ most_noted self.now }
     {
         if self.cover {
             return MOST_COUNTED;
         }
-        self.trace.unwrap_or(0)
+        match self.trace {
+            None => 0,
+            Some(TracedLines::First(most)) => most,
+            Some(TracedLines::Last(_)) => MOST_COUNTED,
+        }
     }
 }
 
 /// Tells what is wanted of a command: its instructions; and behind them, where it was not answered by 9000, why.
 pub fn told(asked: &Asked<'_>, wanted: Wanted) -> Result<Vec<u8>, AllocError> {
     let mut text = Text::new(asked.alloc);
-    if let Some(most) = wanted.trace {
-        push_trace(&mut text, asked, most)?;
+    if let Some(lines) = wanted.trace {
+        push_trace(&mut text, asked, lines)?;
     }
     if wanted.why && asked.status != SUCCESS {
         push_why(&mut text, asked)?;
@@ -80,9 +105,7 @@ fn push_why(text: &mut Text, asked: &Asked<'_>) -> Result<(), AllocError> {
     push_cause(text, asked)?;
     text.push(b"\n")?;
     push_refusals(text, asked)?;
-    for spot in asked.note.spots.as_slice() {
-        push_spot(text, *spot, asked)?;
-    }
+    push_spots(text, asked)?;
     push_cost(text, asked)
 }
 

@@ -1,10 +1,12 @@
 //! Texts that say what a command did, and why it was not answered by 9000.
 #![tactic(auto)]
 
+mod callees;
 mod causes;
 pub mod covers;
 pub mod explanation;
 pub mod maps;
+mod method_names;
 pub mod mnemonics;
 mod places;
 mod reasons;

@@ -26,6 +26,60 @@ pub fn name_at<'a>(map: &'a [u8], aid: &[u8], offset: &[u8]) -> Option<&'a [u8]>
     None
 }
 
+/// The line that follows the one with the name of a method, where a blank begins it, without that: where its instructions stand.
+pub(crate) fn places_at<'a>(map: &'a [u8], aid: &[u8], offset: &[u8]) -> Option<&'a [u8]> {
+    let mut rest = map;
+    let mut is_inside = false;
+    let mut is_named = false;
+    while let Some((line, more)) = split_line(rest) {
+        if is_named {
+            return behind(line, b" ");
+        }
+        is_named = is_inside && named_by(line, offset).is_some();
+        is_inside = is_of(line, is_inside, aid);
+        rest = more;
+    }
+    if is_named { behind(rest, b" ") } else { None }
+}
+
+/// The line of the source to which the instruction at a place belongs, by words `OFFSET` and `OFFSET:LINE` in the order of the offsets:
+/// the last line up to it.
+pub(crate) fn java_line(places: &[u8], place: u32) -> Option<u32> {
+    let mut found = None;
+    for word in places.split(|byte| *byte == b' ') {
+        if let Some((offset, line)) = split_word(word) {
+            if offset > place {
+                return found;
+            }
+            found = Some(line);
+        }
+    }
+    found
+}
+
+// The offset and the line in a word with both.
+fn split_word(word: &[u8]) -> Option<(u32, u32)> {
+    let at = word.iter().position(|byte| *byte == b':')?;
+    Some((number_of(&word[..at])?, number_of(&word[at + 1..])?))
+}
+
+// A decimal number below ten million.
+fn number_of(digits: &[u8]) -> Option<u32> {
+    if digits.is_empty() || digits.len() > 7 {
+        return None;
+    }
+    let mut number = 0u32;
+    for digit in digits {
+        if !digit.is_ascii_digit() {
+            return None;
+        }
+        number = number
+            .saturating_mul(10)
+            .saturating_add(u32::from(*digit - b'0'));
+    }
+    Some(number)
+}
+
 // The first line of a text and what follows; none where no line feed ends it.
 fn split_line(text: &[u8]) -> Option<(&[u8], &[u8])>
     ensures parts { MatchOption result

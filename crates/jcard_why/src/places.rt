@@ -1,7 +1,8 @@
 //! Where code stood.
 
+use crate::callees::push_callee;
 use crate::explanation::Asked;
-use crate::maps::name_at;
+use crate::maps::{java_line, name_at, places_at};
 use crate::mnemonics::mnemonic;
 use crate::text::Text;
 use itoa::Buffer;
@@ -30,13 +31,22 @@ pub(crate) fn push_context(
     }
 }
 
-/// Adds a line for a frame.
-pub(crate) fn push_spot(text: &mut Text, spot: Spot, asked: &Asked<'_>) -> Result<(), AllocError> {
-    push_place(text, spot, asked)?;
-    text.push(b"\n")
+/// Adds a line for each frame: of the innermost one with what it calls.
+pub(crate) fn push_spots(text: &mut Text, asked: &Asked<'_>) -> Result<(), AllocError> {
+    let mut is_innermost = true;
+    for spot in asked.note.spots.as_slice() {
+        push_place(text, *spot, asked)?;
+        if is_innermost {
+            push_callee(text, *spot, asked)?;
+        }
+        text.push(b"\n")?;
+        is_innermost = false;
+    }
+    Ok(())
 }
 
-/// Adds the package of a frame, where its instruction stands, its method and the instruction's mnemonic.
+/// Adds the package of a frame, where its instruction stands, its method with the line of its source, and the instruction's
+/// mnemonic.
 pub(crate) fn push_place(text: &mut Text, spot: Spot, asked: &Asked<'_>) -> Result<(), AllocError> {
     text.push(b"  at ")?;
     push_package(text, spot.package_number, asked.linked)?;
@@ -44,18 +54,30 @@ pub(crate) fn push_place(text: &mut Text, spot: Spot, asked: &Asked<'_>) -> Resu
     text.push_number(u32::from(spot.place))?;
     if spot.package_number != 0 {
         text.push(b" in ")?;
-        push_method(text, spot, asked)?;
+        push_method_at(text, spot.package_number, spot.method, asked)?;
+        push_java_line(text, spot, asked)?;
     }
-    push_instruction(text, spot, asked.linked)
+    push_instruction(text, spot, asked)
 }
 
-// A method by the name that the map has of it, or by where it begins.
-fn push_method(text: &mut Text, spot: Spot, asked: &Asked<'_>) -> Result<(), AllocError> {
+// A package's AID as a map tells it.
+fn aid_text(number: u8, asked: &Asked<'_>) -> Result<Vec<u8>, AllocError> {
     let mut aid = Text::new(asked.alloc);
-    push_package(&mut aid, spot.package_number, asked.linked)?;
+    push_package(&mut aid, number, asked.linked)?;
+    Ok(aid.into_bytes())
+}
+
+/// Adds a method by the name that the map has of it, or by where it begins.
+pub(crate) fn push_method_at(
+    text: &mut Text,
+    package_number: u8,
+    method: u16,
+    asked: &Asked<'_>,
+) -> Result<(), AllocError> {
+    let aid = aid_text(package_number, asked)?;
     let mut digits = Buffer::new();
-    let offset = digits.format(u32::from(spot.method)).as_bytes();
-    match name_at(asked.map, &aid.into_bytes(), offset) {
+    let offset = digits.format(u32::from(method)).as_bytes();
+    match name_at(asked.map, &aid, offset) {
         Some(name) => text.push(name),
         None => {
             text.push(b"method ")?;
@@ -64,10 +86,23 @@ fn push_method(text: &mut Text, spot: Spot, asked: &Asked<'_>) -> Result<(), All
     }
 }
 
-// Code that came with a command is there no longer.
-fn push_instruction(text: &mut Text, spot: Spot, linked: &Linked) -> Result<(), AllocError> {
-    let code = linked.code_at(spot.package_number, 0);
-    let Some(opcode) = code.get(usize::from(spot.place)) else {
+// The line of the source, where the map has it.
+fn push_java_line(text: &mut Text, spot: Spot, asked: &Asked<'_>) -> Result<(), AllocError> {
+    let aid = aid_text(spot.package_number, asked)?;
+    let mut digits = Buffer::new();
+    let offset = digits.format(u32::from(spot.method)).as_bytes();
+    let Some(places) = places_at(asked.map, &aid, offset) else {
+        return Ok(());
+    };
+    let Some(line) = java_line(places, u32::from(spot.place)) else {
+        return Ok(());
+    };
+    text.push(b" line ")?;
+    text.push_number(line)
+}
+
+fn push_instruction(text: &mut Text, spot: Spot, asked: &Asked<'_>) -> Result<(), AllocError> {
+    let Some(opcode) = asked.code_at(spot).get(usize::from(spot.place)) else {
         return Ok(());
     };
     let Some(name) = mnemonic(*opcode) else {

@@ -61,6 +61,8 @@ const fn pin_reason(reason: i16) -> Option<&'static [u8]> {
 // The constants of the interface ISO7816.
 const fn status_name(status: u16) -> Option<&'static [u8]> {
     match status {
+        0x6100 => Some(b"SW_BYTES_REMAINING_00"),
+        0x6200 => Some(b"SW_WARNING_STATE_UNCHANGED"),
         0x6700 => Some(b"SW_WRONG_LENGTH"),
         0x6881 => Some(b"SW_LOGICAL_CHANNEL_NOT_SUPPORTED"),
         0x6882 => Some(b"SW_SECURE_MESSAGING_NOT_SUPPORTED"),
@@ -79,6 +81,7 @@ const fn status_name(status: u16) -> Option<&'static [u8]> {
         0x6A84 => Some(b"SW_FILE_FULL"),
         0x6A86 => Some(b"SW_INCORRECT_P1P2"),
         0x6B00 => Some(b"SW_WRONG_P1P2"),
+        0x6C00 => Some(b"SW_CORRECT_LENGTH_00"),
         0x6D00 => Some(b"SW_INS_NOT_SUPPORTED"),
         0x6E00 => Some(b"SW_CLA_NOT_SUPPORTED"),
         0x6F00 => Some(b"SW_UNKNOWN"),

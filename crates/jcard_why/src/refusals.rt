@@ -6,11 +6,23 @@ use crate::text::Text;
 use jc_firewall::access::Access;
 use jc_linker::linked::Linked;
 use jc_memory::{Cause, Denial, RefusedLoad, Shortage, Space};
+use jc_objects::class_names::class_name;
 use jc_platform::names::PlatformClass;
 use std::alloc::AllocError;
 
 /// The status word of a component that ends too early.
 const TRUNCATED: u16 = 0x6401;
+
+/// The status word where the Directory tells another size of a component.
+const SIZES_DISAGREE: u16 = 0x6407;
+
+/// The status word where a component did not come.
+const MISSING: u16 = 0x6408;
+
+/// The status words where an imported package is not there, or has another version.
+const NO_PACKAGE: u16 = 0x6421;
+
+const OTHER_VERSION: u16 = 0x6422;
 
 /// The number in place of an entry's where it is none of the constant pool.
 const NO_ENTRY: u16 = 65_535;
@@ -22,7 +34,7 @@ pub(crate) fn push_refusals(text: &mut Text, asked: &Asked<'_>) -> Result<(), Al
         push_shortage(text, shortage)?;
     }
     match &asked.note.refused_load {
-        Some(refused) => push_load(text, refused, asked.status),
+        Some(refused) => push_load(text, refused, asked),
         None => Ok(()),
     }
 }
@@ -97,33 +109,76 @@ const fn space_text(space: Space) -> &'static [u8] {
     }
 }
 
-fn push_load(text: &mut Text, refused: &RefusedLoad, status: u16) -> Result<(), AllocError> {
+fn push_load(text: &mut Text, refused: &RefusedLoad, asked: &Asked<'_>) -> Result<(), AllocError> {
     match refused {
-        RefusedLoad::Component { tag, offset } => {
-            text.push(b"  component ")?;
-            text.push_number(u32::from(*tag))?;
-            text.push(if status == TRUNCATED {
-                b", which ends at offset ".as_slice()
-            } else {
-                b", wrong at offset ".as_slice()
-            })?;
-            text.push_number(u32::from(*offset))?;
-            text.push(b" from its tag")?;
-        }
+        RefusedLoad::Component { tag, offset } => push_component(text, *tag, *offset, asked.status),
         RefusedLoad::Entry {
             entry,
             package,
             class,
             token,
         } => {
+            if let NO_PACKAGE | OTHER_VERSION = asked.status {
+                text.push(b"  package ")?;
+                text.push_hex(package.as_slice())?;
+                return text.push(b"\n");
+            }
             push_entry(text, *entry)?;
-            text.push(b": package ")?;
-            text.push_hex(package.as_slice())?;
+            push_home(text, package.as_slice())?;
             push_token(text, b", class ", *class)?;
+            push_class_name(text, package.as_slice(), *class, asked.linked)?;
             push_token(text, b", token ", *token)?;
+            text.push(b"\n")
         }
     }
-    text.push(b"\n")
+}
+
+// A component, and where it is wrong.
+fn push_component(text: &mut Text, tag: u8, offset: u16, status: u16) -> Result<(), AllocError> {
+    text.push(b"  component ")?;
+    text.push_number(u32::from(tag))?;
+    match (status, offset) {
+        (MISSING, 0) => return text.push(b" did not come\n"),
+        (SIZES_DISAGREE, 0) => {
+            return text.push(b" has another size than the Directory tells\n");
+        }
+        (TRUNCATED, _) => text.push(b", which ends at offset ")?,
+        _ => text.push(b", wrong at offset ")?,
+    }
+    text.push_number(u32::from(offset))?;
+    text.push(b" from its tag\n")
+}
+
+// The package that an entry names.
+fn push_home(text: &mut Text, package: &[u8]) -> Result<(), AllocError> {
+    if package.is_empty() {
+        return text.push(b": a package that is not imported");
+    }
+    text.push(b": package ")?;
+    text.push_hex(package)
+}
+
+// The name of a class of the platform, where the card has it.
+fn push_class_name(
+    text: &mut Text,
+    package: &[u8],
+    class: Option<u8>,
+    linked: &Linked,
+) -> Result<(), AllocError> {
+    match named_class(package, class, linked) {
+        None => Ok(()),
+        Some(named) => {
+            text.push(b" (")?;
+            text.push(class_name(named))?;
+            text.push(b")")
+        }
+    }
+}
+
+fn named_class(package: &[u8], class: Option<u8>, linked: &Linked) -> Option<PlatformClass> {
+    let platform = linked.platform();
+    let home = platform.package_with_aid(package)?;
+    platform.class_by_token(home, class?)
 }
 
 fn push_entry(text: &mut Text, entry: u16) -> Result<(), AllocError> {

@@ -1,34 +1,80 @@
 //! The instructions of a command, as a text.
 
-use crate::explanation::Asked;
+use crate::callees::push_callee;
+use crate::explanation::{Asked, TracedLines};
 use crate::places::push_place;
 use crate::text::Text;
 use jc_memory::{Step, TopCell};
 use jc_transient::Ref;
 use std::alloc::AllocError;
 
-/// Adds the instructions that a command carried out, at most so many: a line that begins with `trace:`, and a line for each, with the
+/// Adds the wanted ones of the instructions that a command carried out: a line that begins with `trace:`, and a line for each, with the
 /// top of the stack that it found. Of a command that ran no code nothing is told.
-pub(crate) fn push_trace(text: &mut Text, asked: &Asked<'_>, most: u32) -> Result<(), AllocError> {
+pub(crate) fn push_trace(
+    text: &mut Text,
+    asked: &Asked<'_>,
+    lines: TracedLines,
+) -> Result<(), AllocError> {
     let steps = asked.note.steps.as_slice();
-    let told = steps.len().min(most as usize);
-    let untold = u32::try_from(steps.len() - told).unwrap_or(u32::MAX);
-    let left_out = asked.note.steps_left_out.saturating_add(untold);
-    if told == 0 && left_out == 0 {
+    if steps.is_empty() && asked.note.steps_left_out == 0 {
         return Ok(());
     }
     text.push(b"trace: line ")?;
     text.push_number(asked.note.line)?;
     text.push(b"\n")?;
-    for step in &steps[..told] {
-        push_step(text, *step, asked)?;
+    match lines {
+        TracedLines::First(most) => push_first(text, steps, most, asked),
+        TracedLines::Last(most) => push_last(text, steps, most, asked),
     }
-    push_left_out(text, left_out)
 }
 
-// An instruction, and the top of the stack that it finds.
+// The first so many, and how many follow.
+fn push_first(
+    text: &mut Text,
+    steps: &[Step],
+    most: u32,
+    asked: &Asked<'_>,
+) -> Result<(), AllocError> {
+    let told = steps.len().min(most as usize);
+    push_steps(text, &steps[..told], asked)?;
+    let untold = u32::try_from(steps.len() - told).unwrap_or(u32::MAX);
+    push_left_out(text, asked.note.steps_left_out.saturating_add(untold))
+}
+
+// The last so many behind how many come before them.
+fn push_last(
+    text: &mut Text,
+    steps: &[Step],
+    most: u32,
+    asked: &Asked<'_>,
+) -> Result<(), AllocError> {
+    let before = steps.len().saturating_sub(most as usize);
+    push_before(text, u32::try_from(before).unwrap_or(u32::MAX))?;
+    push_steps(text, &steps[before..], asked)?;
+    push_left_out(text, asked.note.steps_left_out)
+}
+
+// How many instructions came before those that are told.
+fn push_before(text: &mut Text, before: u32) -> Result<(), AllocError> {
+    if before == 0 {
+        return Ok(());
+    }
+    text.push(b"  behind ")?;
+    text.push_count(before, b"instruction")?;
+    text.push(b"\n")
+}
+
+fn push_steps(text: &mut Text, steps: &[Step], asked: &Asked<'_>) -> Result<(), AllocError> {
+    for step in steps {
+        push_step(text, *step, asked)?;
+    }
+    Ok(())
+}
+
+// An instruction, what it calls, and the top of the stack that it finds.
 fn push_step(text: &mut Text, step: Step, asked: &Asked<'_>) -> Result<(), AllocError> {
     push_place(text, step.spot, asked)?;
+    push_callee(text, step.spot, asked)?;
     push_top(text, step.top)?;
     text.push(b"\n")
 }

@@ -188,14 +188,15 @@ due_begun P (Either x y) s (e ∷ es) due (inr begins) = due_begun P y s (e ∷ 
 abbrev pub LostAt : {A : Type 0} → Program A → MemoryState → HeapState → Type 0
 LostAt d s h = (es : List Effect) × HasTracePrefix d s es × (h ≡ (apply_effects es s).heap.durable)
 
-pub lost_at : {A : Type 0} (d : Program A) (s : MemoryState) (h : HeapState) → TearLeaves d s h → LostAt d s h
-lost_at (Finish x) s h left = absurd left
-lost_at (Perform (HeapMove m) rest) s h (inl e) = ([], tt, e)
-lost_at (Perform (HeapMove m) rest) s h (inr left) = let p = lost_at rest (apply_effect (HeapMove m) s) h left in (HeapMove m ∷ p.0, (refl, p.1), p.2)
-lost_at (Perform e rest) s h left = let p = lost_at rest (apply_effect e s) h left in (e ∷ p.0, (refl, p.1), p.2)
-lost_at (Choose choose) s h left = let p = lost_at (choose left.0) s h left.2 in (p.0, begins_chosen choose s left.0 p.0 left.1 p.1, p.2)
-lost_at (Either x y) s h (inl left) = let p = lost_at x s h left in (p.0, begins_first x y s p.0 p.1, p.2)
-lost_at (Either x y) s h (inr left) = let p = lost_at y s h left in (p.0, begins_second x y s p.0 p.1, p.2)
+pub lost_at : {A : Type 0} (d : Program A) (s : MemoryState) (p : ℕ) (h : HeapState) → TearLeaves d s p h → LostAt d s h
+lost_at (Finish x) s p h left = absurd left
+lost_at (Perform (HeapMove m) rest) s p h (inl e) = ([], tt, e.0)
+lost_at (Perform (HeapMove m) rest) s p h (inr left) =
+    let q = lost_at rest (apply_effect (HeapMove m) s) p h left in (HeapMove m ∷ q.0, (refl, q.1), q.2)
+lost_at (Perform e rest) s p h left = let q = lost_at rest (apply_effect e s) p h left in (e ∷ q.0, (refl, q.1), q.2)
+lost_at (Choose choose) s p h left = let q = lost_at (choose left.0) s p h left.2 in (q.0, begins_chosen choose s left.0 q.0 left.1 q.1, q.2)
+lost_at (Either x y) s p h (inl left) = let q = lost_at x s p h left in (q.0, begins_first x y s q.0 q.1, q.2)
+lost_at (Either x y) s p h (inr left) = let q = lost_at y s p h left in (q.0, begins_second x y s q.0 q.1, q.2)
 
 -- ---- the law
 
@@ -204,8 +205,8 @@ torn {A = A} = record {
   within = λ d s es due stands begins inside. saved_within es s (due_begun KeepsTransactionOrder d s es due begins) stands inside;
   behind = λ d s es due settled begins. behind es s (due_begun KeepsTransactionOrder d s es due begins) settled;
   aborted = λ s. refl;
-  lost = λ d s h due settled left.
-      let p = lost_at d s h left in
+  lost = λ d s passed h due settled left.
+      let p = lost_at d s passed h left in
       (p.0, p.1, subst (λ x. TearLeavesAfter p.0 s x) (sym p.2) (behind p.0 s (due_begun KeepsTransactionOrder d s p.0 due p.1) settled));
   done = λ d s new a due settled did.
       let t = took d s new a did in

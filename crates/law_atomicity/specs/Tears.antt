@@ -1,5 +1,5 @@
 -- What a loss of power, or an abort, leaves.
-use Rattle.std.specs.Prelude.{◌≡◌, ◌⊎◌, ◌++◌, true, false, List, [], ◌∷◌, if◌then◌else◌}
+use Rattle.std.specs.Prelude.{ℕ, ◌≡◌, ◌⊎◌, ◌++◌, true, false, List, [], ◌∷◌, if◌then◌else◌}
 use Rattle.jc_heap.specs.Heap.{HeapState, goes_back}
 use Rattle.jc_heap.specs.Places.{place_word, set_place}
 use Rattle.jc_heap.specs.Moves.{WriteNonAtomic, Begin, Abort, IsInside}
@@ -48,7 +48,7 @@ pub record TransactionsAreAtomic (A : Type 0) : Type 0 where
   pub behind : (d : Program A) (s : MemoryState) (es : List Effect) → AllDue KeepsTransactionOrder d s → IsDurableOutside s → HasTracePrefix d s es
       → TearLeavesAfter es s (apply_effects es s).heap.durable
   pub aborted : (s : MemoryState) → (apply_effect (HeapMove Abort) s).heap.now ≡ s.heap.durable
-  pub lost : (d : Program A) (s : MemoryState) (h : HeapState) → AllDue KeepsTransactionOrder d s → IsDurableOutside s → TearLeaves d s h
+  pub lost : (d : Program A) (s : MemoryState) (passed : ℕ) (h : HeapState) → AllDue KeepsTransactionOrder d s → IsDurableOutside s → TearLeaves d s passed h
       → (es : List Effect) × HasTracePrefix d s es × TearLeavesAfter es s h
   pub done : (d : Program A) (s new : MemoryState) (a : A) → AllDue KeepsTransactionOrder d s → IsDurableOutside s → Completes d s a new →
       (es : List Effect) × HasTrace d s es a × (new ≡ apply_effects es s) × TearLeavesAfter es s new.heap.durable

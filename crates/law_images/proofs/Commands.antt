@@ -81,9 +81,9 @@ module _ (begins : EffectsKeepBeginnings) (t : Tokens) (card : CardState) (own :
       })
 
   -- the power was lost within it
-  pub lost_own : (h : HeapState) → TearLeaves d card.memory h → IsLeft card.memory.heap.durable.head.1 t card.packages h
-  lost_own h left = due_left (IsServed card.packages) (IsOwnMemory card.memory.heap.durable.head.1 t card.packages) keeps (IsLeft card.memory.heap.durable.head.1 t card.packages)
-      (λ s o. left_own card.memory.heap.durable.head.1 t card.packages s o) d card.memory h good.due left (own_memory t card own)
+  pub lost_own : (passed : ℕ) (h : HeapState) → TearLeaves d card.memory passed h → IsLeft card.memory.heap.durable.head.1 t card.packages h
+  lost_own passed h left = due_left (IsServed card.packages) (IsOwnMemory card.memory.heap.durable.head.1 t card.packages) keeps (IsLeft card.memory.heap.durable.head.1 t card.packages)
+      (λ s o. left_own card.memory.heap.durable.head.1 t card.packages s o) d card.memory passed h good.due left (own_memory t card own)
 
 -- ---- the buffer has room for a command
 

@@ -36,33 +36,33 @@ writes p q m reason cs xs image = bind (unless_refused reason (Choose (λ r. Per
 
 -- ---- what a loss of power leaves
 
-module _ (t : Tokens) (p : Packages) (m : MemoryState) (h : HeapState) (r : IsReadAs t p m) where
+module _ (t : Tokens) (p : Packages) (m : MemoryState) (passed : ℕ) (h : HeapState) (r : IsReadAs t p m) where
   abbrev Before : Type 0
   Before = packages_of t h ≡ Some p
 
   lost_writing : (q : PendingPackageValue) (reason : Option HeapRefusal) (cs : List (ℕ × List ℕ)) (xs : List (Kind × List ℕ)) (image : List ℕ)
-      → TearLeaves (writes p q m reason cs xs image) m h → Before
-  lost_writing q None cs xs image (at, new, inl e) = ap (packages_of t) e ∙ r.durable
+      → TearLeaves (writes p q m reason cs xs image) m passed h → Before
+  lost_writing q None cs xs image (at, new, inl e) = ap (packages_of t) e.0 ∙ r.durable
   lost_writing q None cs xs image (at, new, inr none) = absurd none
   lost_writing q (Some reason) cs xs image none = absurd none
 
-  lost_prepared : (said : Result PendingPackageValue LoadRefusal) → TearLeaves (after_preparation p m said) m h → Before
+  lost_prepared : (said : Result PendingPackageValue LoadRefusal) → TearLeaves (after_preparation p m said) m passed h → Before
   lost_prepared (Err refusal) none = absurd none
   lost_prepared (Ok q) d =
       let cs : List (ℕ × List ℕ) = parts_of q.texts in
       let xs : List (Kind × List ℕ) = arrays_of (statics_of q.texts) in
       let image : List ℕ = image_of (statics_of q.texts) in
-      either (λ x. TearLeaves x m h) Before (nat_le 32 (length m.heap.now.packages)) _ _ (λ none. absurd none)
+      either (λ x. TearLeaves x m passed h) Before (nat_le 32 (length m.heap.now.packages)) _ _ (λ none. absurd none)
       (lost_writing q (refusal_of_package m.heap cs xs image) cs xs image) d
 
-  lost_coming : (texts : LoadedComponents) → TearLeaves (assembly_result p m texts) m h → Before
+  lost_coming : (texts : LoadedComponents) → TearLeaves (assembly_result p m texts) m passed h → Before
   unfolding assembly_result
   lost_coming texts (inl d) = lost_prepared (linked_components p texts) d
   lost_coming texts (inr none) = absurd none
 
-  lost_ending : (load : Option OpenLoad) → TearLeaves (end_of_load p m load) m h → Before
+  lost_ending : (load : Option OpenLoad) → TearLeaves (end_of_load p m load) m passed h → Before
   lost_ending None none = absurd none
-  lost_ending (Some load) d = either (λ x. TearLeaves x m h) Before (is_none load.coming) _ _ (lost_coming load.texts) (λ none. absurd none) d
+  lost_ending (Some load) d = either (λ x. TearLeaves x m passed h) Before (is_none load.coming) _ _ (lost_coming load.texts) (λ none. absurd none) d
 
 -- ---- what the end leaves
 
@@ -102,5 +102,5 @@ module _ (t : Tokens) (p : Packages) (m new : MemoryState) (left : LoadResult) (
 pub ends_keep : LoadEndsKeepReading
 ends_keep = record {
   done = λ t p load m new left readable w off r d. done_ending t p m new left w off r load readable d;
-  lost = λ t p load m h r d. lost_ending t p m h r load d;
+  lost = λ t p load m passed h r d. lost_ending t p m passed h r load d;
 }

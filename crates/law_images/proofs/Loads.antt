@@ -96,19 +96,19 @@ module _ (begins : EffectsKeepBeginnings) (loads : LoadsKeepSound) (t : Tokens) 
         (apply_effect (HeapMove (load_move q.texts)) m) new (more few none) did.2
     adds_ended (Some reason) none few left new did = drops_ended HeapFull left new did
 
-    adds_lost : (reason : Option HeapRefusal) (h : HeapState) → TearLeaves (adds reason) m h → h ≡ m.heap.durable
-    adds_lost None h (r, new, inl e) = e
-    adds_lost None h (r, new, inr none) = absurd none
-    adds_lost (Some reason) h none = absurd none
+    adds_lost : (reason : Option HeapRefusal) (passed : ℕ) (h : HeapState) → TearLeaves (adds reason) m passed h → h ≡ m.heap.durable
+    adds_lost None passed h (r, new, inl e) = e.0
+    adds_lost None passed h (r, new, inr none) = absurd none
+    adds_lost (Some reason) passed h none = absurd none
 
     added_ended : (full : Bool) → nat_le 32 (length m.heap.now.packages) ≡ full → (left : LoadResult) (new : MemoryState)
         → Completes (if full then with_dropped_load p Full else adds reason_of) m left new → HasEnded left.packages new
     added_ended true e left new did = drops_ended Full left new did
     added_ended false e left new did = adds_ended reason_of refl (let a = leb-false 32 (length m.heap.now.packages) e in omega (arith, a)) left new did
 
-    added_lost : (full : Bool) (h : HeapState) → TearLeaves (if full then with_dropped_load p Full else adds reason_of) m h → h ≡ m.heap.durable
-    added_lost true h none = absurd none
-    added_lost false h lost = adds_lost reason_of h lost
+    added_lost : (full : Bool) (passed : ℕ) (h : HeapState) → TearLeaves (if full then with_dropped_load p Full else adds reason_of) m passed h → h ≡ m.heap.durable
+    added_lost true passed h none = absurd none
+    added_lost false passed h lost = adds_lost reason_of passed h lost
 
   prepared_ended : (texts : LoadedComponents) → IsReadable texts → (r : Result PendingPackageValue LoadRefusal) → linked_components p texts ≡ r
       → (left : LoadResult) (new : MemoryState) → Completes (after_preparation p m r) m left new → HasEnded left.packages new
@@ -116,9 +116,9 @@ module _ (begins : EffectsKeepBeginnings) (loads : LoadsKeepSound) (t : Tokens) 
   prepared_ended texts readable (Ok q) is left new did = added_ended texts readable q is (nat_le 32 (length m.heap.now.packages)) refl left new did
 
   prepared_lost : (texts : LoadedComponents) → IsReadable texts → (r : Result PendingPackageValue LoadRefusal) → linked_components p texts ≡ r
-      → (h : HeapState) → TearLeaves (after_preparation p m r) m h → h ≡ m.heap.durable
-  prepared_lost texts readable (Err refusal) is h none = absurd none
-  prepared_lost texts readable (Ok q) is h lost = added_lost texts readable q is (nat_le 32 (length m.heap.now.packages)) h lost
+      → (passed : ℕ) (h : HeapState) → TearLeaves (after_preparation p m r) m passed h → h ≡ m.heap.durable
+  prepared_lost texts readable (Err refusal) is passed h none = absurd none
+  prepared_lost texts readable (Ok q) is passed h lost = added_lost texts readable q is (nat_le 32 (length m.heap.now.packages)) passed h lost
 
   comes_ended : (texts : LoadedComponents) → IsReadable texts → (left : LoadResult) (new : MemoryState) → Completes (assembly_result p m texts) m left new
       → HasEnded left.packages new
@@ -126,10 +126,10 @@ module _ (begins : EffectsKeepBeginnings) (loads : LoadsKeepSound) (t : Tokens) 
   comes_ended texts readable left new (inl did) = prepared_ended texts readable (linked_components p texts) refl left new did
   comes_ended texts readable left new (inr did) = drops_ended (LinkFailed link.NoMemory) left new did
 
-  comes_lost : (texts : LoadedComponents) → IsReadable texts → (h : HeapState) → TearLeaves (assembly_result p m texts) m h → h ≡ m.heap.durable
+  comes_lost : (texts : LoadedComponents) → IsReadable texts → (passed : ℕ) (h : HeapState) → TearLeaves (assembly_result p m texts) m passed h → h ≡ m.heap.durable
   unfolding assembly_result
-  comes_lost texts readable h (inl lost) = prepared_lost texts readable (linked_components p texts) refl h lost
-  comes_lost texts readable h (inr none) = absurd none
+  comes_lost texts readable passed h (inl lost) = prepared_lost texts readable (linked_components p texts) refl passed h lost
+  comes_lost texts readable passed h (inr none) = absurd none
 
   open_ended : (load : OpenLoad) → IsOpenReadable load → (b : Bool) (left : LoadResult) (new : MemoryState)
       → Completes (if b then assembly_result p m load.texts else Finish (record { ended = Err OutOfSequence; packages = p; load = Some load })) m left new
@@ -137,20 +137,20 @@ module _ (begins : EffectsKeepBeginnings) (loads : LoadsKeepSound) (t : Tokens) 
   open_ended load readable true left new did = comes_ended load.texts readable.texts left new did
   open_ended load readable false left new did = gives_ended _ left m new itself did
 
-  open_lost : (load : OpenLoad) → IsOpenReadable load → (b : Bool) (h : HeapState)
-      → TearLeaves (if b then assembly_result p m load.texts else Finish (record { ended = Err OutOfSequence; packages = p; load = Some load })) m h
+  open_lost : (load : OpenLoad) → IsOpenReadable load → (b : Bool) (passed : ℕ) (h : HeapState)
+      → TearLeaves (if b then assembly_result p m load.texts else Finish (record { ended = Err OutOfSequence; packages = p; load = Some load })) m passed h
       → h ≡ m.heap.durable
-  open_lost load readable true h lost = comes_lost load.texts readable.texts h lost
-  open_lost load readable false h none = absurd none
+  open_lost load readable true passed h lost = comes_lost load.texts readable.texts passed h lost
+  open_lost load readable false passed h none = absurd none
 
   ended : (load : Option OpenLoad) → IfSome load IsOpenReadable → (left : LoadResult) (new : MemoryState) → Completes (end_of_load p m load) m left new
       → HasEnded left.packages new
   ended None readable left new did = gives_ended _ left m new itself did
   ended (Some load) readable left new did = open_ended load readable (is_none load.coming) left new did
 
-  left_by : (load : Option OpenLoad) → IfSome load IsOpenReadable → (h : HeapState) → TearLeaves (end_of_load p m load) m h → h ≡ m.heap.durable
-  left_by None readable h none = absurd none
-  left_by (Some load) readable h lost = open_lost load readable (is_none load.coming) h lost
+  left_by : (load : Option OpenLoad) → IfSome load IsOpenReadable → (passed : ℕ) (h : HeapState) → TearLeaves (end_of_load p m load) m passed h → h ≡ m.heap.durable
+  left_by None readable passed h none = absurd none
+  left_by (Some load) readable passed h lost = open_lost load readable (is_none load.coming) passed h lost
 
   pub ends_own : (ans : LoadResponse) (new : MemoryState) → Completes (end_load card) m ans new
       → IsOwnCard t (record { memory = new; packages = ans.packages; load = ans.load; budget = ans.budget })
@@ -171,8 +171,8 @@ module _ (begins : EffectsKeepBeginnings) (loads : LoadsKeepSound) (t : Tokens) 
       subst (λ v. IsOwnCard t (record { memory = v; packages = ans.packages; load = ans.load; budget = ans.budget })) (sym both.3.1)
       (subst (λ a. IsOwnCard t (record { memory = mid; packages = a.packages; load = a.load; budget = a.budget })) (sym both.3.0) here)
 
-  pub ends_lost : (h : HeapState) → TearLeaves (end_load card) m h → IsLeft n t p h
-  ends_lost h lost = subst (IsLeft n t p) (sym (elim (left_bind (λ left s. Finish (answer_of_left card.budget left)) (end_of_load p m card.load) m h lost) [
-    | inl first ↦ left_by card.load own.load h first
+  pub ends_lost : (passed : ℕ) (h : HeapState) → TearLeaves (end_load card) m passed h → IsLeft n t p h
+  ends_lost passed h lost = subst (IsLeft n t p) (sym (elim (left_bind (λ left s. Finish (answer_of_left card.budget left)) (end_of_load p m card.load) m passed h lost) [
+    | inl first ↦ left_by card.load own.load passed h first
     | inr later ↦ absurd later.3
   ])) (left_own n t p m (own_memory t card own))

@@ -95,7 +95,7 @@ module _ (t : Tokens) (card : CardState) (own : IsOwnCard t card) where
   record Does (d : Program LoadResponse) : Type 0 where
     did : (ans : LoadResponse) (new : MemoryState) → Completes d card.memory ans new
         → IsOwnCard t (record { memory = new; packages = ans.packages; load = ans.load; budget = ans.budget })
-    lost : (h : HeapState) → TearLeaves d card.memory h → IsLeft card.memory.heap.durable.head.1 t card.packages h
+    lost : (passed : ℕ) (h : HeapState) → TearLeaves d card.memory passed h → IsLeft card.memory.heap.durable.head.1 t card.packages h
 
   are_known : AreKnown card.packages
   are_known = linked_known card.packages own.linked
@@ -145,8 +145,8 @@ module _ (t : Tokens) (card : CardState) (own : IsOwnCard t card) where
   command_own bytes Down (Off b k) are lost = record {
     packages = card.packages;
     linked = own.linked;
-    heap = own_at card.memory.heap.durable.head.1 t card.packages k.durable ((exchanging_does bytes are).lost k.durable lost.1.0).heap;
-    layout = ((exchanging_does bytes are).lost k.durable lost.1.0).layout;
+    heap = own_at card.memory.heap.durable.head.1 t card.packages k.durable ((exchanging_does bytes are).lost k.passed k.durable lost.1.0).heap;
+    layout = ((exchanging_does bytes are).lost k.passed k.durable lost.1.0).layout;
   }
   command_own bytes reply next are none = absurd none
 

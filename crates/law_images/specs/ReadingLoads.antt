@@ -31,5 +31,6 @@ pub record LoadEndsKeepReading : Type 0 where
   pub done : (t : Tokens) (p : Packages) (load : Option OpenLoad) (m new : MemoryState) (left : LoadResult) → IfSome load IsOpenReadable → AreConsistent m.heap
       → m.heap.begun ≡ false → IsReadAs t p m → Completes (end_of_load p m load) m left new →
       IsReadAs t left.packages new × IfSome left.load IsOpenReadable
-  pub lost : (t : Tokens) (p : Packages) (load : Option OpenLoad) (m : MemoryState) (h : HeapState) → IsReadAs t p m → TearLeaves (end_of_load p m load) m h
+  pub lost : (t : Tokens) (p : Packages) (load : Option OpenLoad) (m : MemoryState) (passed : ℕ) (h : HeapState) → IsReadAs t p m
+      → TearLeaves (end_of_load p m load) m passed h
       → packages_of t h ≡ Some p

@@ -38,7 +38,7 @@ module _ (passed : ℕ) (old new : Refusals) (refused : new ≡ refused_once fal
   faults_grow = let is = ap (λ (r : Refusals). r.faults) refused in let le = grows_if (is_at passed old.fuse) old.faults in omega (arith, is, le)
 
   -- it was the fuse that refused it
-  by_fuse : old.faults < most → new.faults ≡ old.faults → is_at passed old.fuse ≡ true
+  pub by_fuse : old.faults < most → new.faults ≡ old.faults → is_at passed old.fuse ≡ true
   unfolding refused_once
   by_fuse small same = fault_if (is_at passed old.fuse) old.faults small (sym (ap (λ (r : Refusals). r.faults) refused) ∙ same)
 
@@ -47,7 +47,7 @@ module _ (passed : ℕ) (old new : Refusals) (refused : new ≡ refused_once fal
   unfolding refused_once
   burns on = refused ∙ ap (λ b. refused_if b old) on
 
-at_count : (passed count : ℕ) (fuse : Option ℕ) → fuse ≡ Some count → is_at passed fuse ≡ true → passed ≡ count
+pub at_count : (passed count : ℕ) (fuse : Option ℕ) → fuse ≡ Some count → is_at passed fuse ≡ true → passed ≡ count
 at_count passed count None is on = absurd (none-some count is)
 at_count passed count (Some n) is on = sym (eqb-true n passed on) ∙ same_Some n count is
 

@@ -15,5 +15,8 @@ pub mod TakenBack
 pub mod Isolated
 pub mod Living
 pub mod Fuse
+pub mod Complete
+pub mod Counted
+pub mod Cuts
 pub mod References
 pub mod Witness

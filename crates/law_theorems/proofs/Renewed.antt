@@ -3,6 +3,7 @@ use Rattle.std.proofs.Common.{◌≡◌, ◌+◌, false, ℕ, suc, ◌<◌, ◌�
 use Rattle.std.proofs.lemmas.Bool.{and_parts, cases_eq, true≢false}
 use Rattle.std.proofs.lemmas.List.{get_or-set_other}
 use Rattle.std.proofs.lemmas.Option.{none-some}
+use Rattle.jc_heap.specs.declared.object.Facts.{Facts}
 use Rattle.jc_heap.specs.declared.object.Kind.{Kind}
 use Rattle.jc_heap.specs.declared.place.Place.{Place}
 use Rattle.jc_heap.specs.declared.place.Place.TheVariants.{Cell, Static, Registry, AppletCount}
@@ -70,43 +71,45 @@ no_cell q place none e = none (subst is_cell (sym e) tt)
 
 -- ---- the third cell stays
 
--- a persistent object stands there, with this in its third cell
-record Holds (q n : ℕ) (h : HeapState) : Type 0 where
-  object : Object
-  item : heap_item_at h q ≡ AnObject object
-  persistent : object.facts.event ≡ None
-  tries : get_or object.cells 2 0 ≡ n
+-- a persistent object with these facts stands there, with this in its third cell
+pub record Holds (q n : ℕ) (f : Facts) (h : HeapState) : Type 0 where
+  pub object : Object
+  pub item : heap_item_at h q ≡ AnObject object
+  pub persistent : object.facts.event ≡ None
+  pub tries : get_or object.cells 2 0 ≡ n
+  pub same : object.facts ≡ f
 
-module _ (q n : ℕ) where
+module _ (q n : ℕ) (f : Facts) where
   -- where its item stays it holds the same
-  as_it_stands : (h new : HeapState) (held : Holds q n h) → heap_item_at new q ≡ AnObject held.object → Holds q n new
-  as_it_stands h new held item = record { object = held.object; item = item; persistent = held.persistent; tries = held.tries }
+  as_it_stands : (h new : HeapState) (held : Holds q n f h) → heap_item_at new q ≡ AnObject held.object → Holds q n f new
+  as_it_stands h new held item = record { object = held.object; item = item; persistent = held.persistent; tries = held.tries; same = held.same }
 
-  beside : (h : HeapState) (held : Holds q n h) → StandsBeside q held.object h
+  beside : (h : HeapState) (held : Holds q n f h) → StandsBeside q held.object h
   beside h held = record {
     item = held.item;
     beside = λ event e r ne is. absurd (none-some event (sym held.persistent ∙ e));
     below = λ event e. absurd (none-some event (sym held.persistent ∙ e));
   }
 
-  own_cell : (h : HeapState) (i v : ℕ) → (i ≡ 2 → ⊥) → Holds q n h → Holds q n (set_cell h q i v)
+  own_cell : (h : HeapState) (i v : ℕ) → (i ≡ 2 → ⊥) → Holds q n f h → Holds q n f (set_cell h q i v)
   own_cell h i v other held = record {
     object = record (held.object) { cells = set (held.object).cells i v };
     item = heap_item_at-set_cell h q i v (object_named h q (ap is_object held.item)) ∙ ap (λ t. with_cell t i v) held.item;
     persistent = held.persistent;
     tries = get_or-set_other (held.object).cells i 2 v 0 (λ e. other (sym e)) ∙ held.tries;
+    same = held.same;
   }
 
-  held_place : (h : HeapState) (place : Place) (v : ℕ) → IsBeside q place → Holds q n h → Holds q n (set_place h place v)
+  pub held_place : (h : HeapState) (place : Place) (v : ℕ) → IsBeside q place → Holds q n f h → Holds q n f (set_place h place v)
   held_place h (Cell r i) v other held = elim (cases_eq r q) [
-    | inl same ↦ subst (λ x. Holds q n (set_cell h x i v)) (sym same) (own_cell h i v (λ two. other (ap (λ x. Cell x i) same ∙ ap (Cell q) two)) held)
+    | inl same ↦ subst (λ x. Holds q n f (set_cell h x i v)) (sym same) (own_cell h i v (λ two. other (ap (λ x. Cell x i) same ∙ ap (Cell q) two)) held)
     | inr ne ↦ as_it_stands h (set_cell h r i v) held (place_set q held.object h (Cell r i) v ne (beside h held)).item
   ]
   held_place h (Static r j) v other held = as_it_stands h (set_place h (Static r j) v) held (place_set q held.object h (Static r j) v tt (beside h held)).item
   held_place h (Registry k) v other held = as_it_stands h (set_place h (Registry k) v) held (registry_set q held.object h k v (beside h held)).item
   held_place h AppletCount v other held = as_it_stands h (set_place h AppletCount v) held (count_set q held.object h v (beside h held)).item
 
-  held_places : (cs : List (Place × ℕ)) (h : HeapState) → AreBeside q cs → Holds q n h → Holds q n (set_places h cs)
+  held_places : (cs : List (Place × ℕ)) (h : HeapState) → AreBeside q cs → Holds q n f h → Holds q n f (set_places h cs)
   held_places [] h other held = held
   held_places (c ∷ cs) h other held = held_places cs (set_place h c.0 c.1) other.1 (held_place h c.0 c.1 other.0 held)
 
@@ -174,26 +177,26 @@ module _ (p : Packages) (m : MemoryState) (s : IsSoundMemory p m) (q : ℕ) (pin
   changes_beside cs (OfRegistry f) = inr (subst (AreBeside q) (sym f.is)
       (no_cell q (Registry _) (λ x. x), (no_cell q (Registry _) (λ x. x), (no_cell q (Registry _) (λ x. x), (no_cell q AppletCount (λ x. x), tt)))))
 
-  module _ (n : ℕ) (held : Holds q n m.heap.now) where
+  module _ (n : ℕ) (f : Facts) (held : Holds q n f m.heap.now) where
     held_changes : (cs : List (Place × ℕ)) → SetsAnew q (HeapMove (SetPlaces cs)) m ⊎ AreBeside q cs → (Renews q (HeapMove (SetPlaces cs)) m → ⊥)
-        → Holds q n (set_places m.heap.now cs)
+        → Holds q n f (set_places m.heap.now cs)
     held_changes cs (inl anew) none = absurd (none anew)
-    held_changes cs (inr others) none = held_places q n cs m.heap.now others held
+    held_changes cs (inr others) none = held_places q n f cs m.heap.now others held
 
     free : is_allocated m.heap.now m.heap.now.top ≡ false
     free = s.whole.now.end m.heap.now.top (omega arith)
 
-    held_behind : (e : Effect) → IsServed p e m → (Renews q e m → ⊥) → Holds q n (apply_effect e m).heap.now
-    held_behind (HeapMove (Write place v)) fits none = held_place q n m.heap.now place v (place_beside place v fits) held
+    pub held_behind : (e : Effect) → IsServed p e m → (Renews q e m → ⊥) → Holds q n f (apply_effect e m).heap.now
+    held_behind (HeapMove (Write place v)) fits none = held_place q n f m.heap.now place v (place_beside place v fits) held
     held_behind (HeapMove (SetPlaces cs)) fits none = held_changes cs (changes_beside cs fits) none
-    held_behind (HeapMove (WriteNonAtomic place v)) fits none = held_place q n m.heap.now place v none held
-    held_behind (HeapMove (SetCells r i vs)) fits none = as_it_stands q n m.heap.now (set_cells m.heap.now r i vs) held
-        (cells_set q held.object vs m.heap.now r i (λ same. true≢false (sym (class_of r same) ∙ (fits.1.0 (kept_of r same)).pin)) (beside q n m.heap.now held)).item
-    held_behind (HeapMove (AddObject o size)) fits none = as_it_stands q n m.heap.now (add_object m.heap.now o size) held
+    held_behind (HeapMove (WriteNonAtomic place v)) fits none = held_place q n f m.heap.now place v none held
+    held_behind (HeapMove (SetCells r i vs)) fits none = as_it_stands q n f m.heap.now (set_cells m.heap.now r i vs) held
+        (cells_set q held.object vs m.heap.now r i (λ same. true≢false (sym (class_of r same) ∙ (fits.1.0 (kept_of r same)).pin)) (beside q n f m.heap.now held)).item
+    held_behind (HeapMove (AddObject o size)) fits none = as_it_stands q n f m.heap.now (add_object m.heap.now o size) held
         (heap_item_at-add_other m.heap.now o size q (not_top q held.object m.heap.now free held.item) ∙ held.item)
     held_behind (HeapMove (AddTransient kind event class owner long)) fits none =
-        as_it_stands q n m.heap.now (add_transient m.heap.now kind event class owner long) held
-        (transient_added q held.object m.heap.now kind event class owner long free (beside q n m.heap.now held)).item
+        as_it_stands q n f m.heap.now (add_transient m.heap.now kind event class owner long) held
+        (transient_added q held.object m.heap.now kind event class owner long free (beside q n f m.heap.now held)).item
     held_behind (HeapMove (AddPackage components arrays rest)) fits none = absurd fits
     held_behind (HeapMove Begin) fits none = held
     held_behind (HeapMove Commit) fits none = held
@@ -212,13 +215,15 @@ served_tries : (p : Packages) (e : Effect) (m : MemoryState) (q : ℕ) → IsSou
 served_tries p e m q s pin served none =
     let found = an_object (heap_item_at m.heap.now q) pin.there in
     let n = get_or (cells_of (heap_item_at m.heap.now q)) 2 0 in
-    let held : Holds q n m.heap.now = record {
+    let f = facts m.heap.now q in
+    let held : Holds q n f m.heap.now = record {
       object = found.0;
       item = found.1;
       persistent = ap (λ t. (facts_of t).event) (sym found.1) ∙ event_none (facts m.heap.now q) pin.kept;
       tries = ap (λ t. get_or (cells_of t) 2 0) (sym found.1);
+      same = ap facts_of (sym found.1);
     } in
-    let behind = held_behind p m s q pin n held e served none in
+    let behind = held_behind p m s q pin n f held e served none in
     ap (λ t. get_or (cells_of t) 2 0) behind.item ∙ behind.tries
 
 -- a package leaves what stands below the end, and has its own

@@ -152,7 +152,7 @@ same_pin p g h r e is =
     and_from (is_object_address g r) _ (same_object (heap_item_at g r) (heap_item_at h r) e ∙ parts.0)
     (subst (λ f. (is_persistent_instance f && is_a p f.class OwnerPin) ≡ true) (sym (same_facts (heap_item_at g r) (heap_item_at h r) e)) parts.1)
 
-pin_now : (p : Packages) (m : MemoryState) (r : ℕ) → IsSoundMemory p m → is_owner_pin p m.heap.durable r ≡ true → is_owner_pin p m.heap.now r ≡ true
+pub pin_now : (p : Packages) (m : MemoryState) (r : ℕ) → IsSoundMemory p m → is_owner_pin p m.heap.durable r ≡ true → is_owner_pin p m.heap.now r ≡ true
 pin_now p m r s is = same_pin p m.heap.now m.heap.durable r
     (s.whole.shape.items r (below_end m.heap.durable r s.whole.durable.end (and_parts (is_object_address m.heap.durable r) _ is).0)) is
 

@@ -54,7 +54,7 @@ no_answer : (requests : List Request) (s last : PowerState) → SessionRun s (re
 no_answer [] s last h = h
 no_answer (request ∷ requests) s last h = h
 
-resets : (requests : List Request) (replies : List Reply) (b : ℕ) (k : KeptState) (next : CardState) → AreDown replies
+pub resets : (requests : List Request) (replies : List Reply) (b : ℕ) (k : KeptState) (next : CardState) → AreDown replies
     → SessionRun (Off b k) (requests ++ (Reset ∷ [])) (replies ++ (Ready ∷ [])) (Up next)
     → (l : KeptState) × (l.durable ≡ k.durable) × IsPoweredUp l b next
 resets [] [] b k next down h = (k, refl, subst (λ s. AnswersReset (Off b k) Ready s) (sym h.2) h.1)
@@ -83,7 +83,7 @@ module _ (t : Tokens) (card : CardState) (comes : ComesTo t (Up card)) where
   orderly bytes es are begins = commands_orderly t card own bytes es are begins
 
   -- what stands durable behind effects of a command
-  left_of : (bytes : List ℕ) (es : List Effect) (left : HeapState) → AreBytes bytes → HasTracePrefix (exchange bytes card) card.memory es
+  pub left_of : (bytes : List ℕ) (es : List Effect) (left : HeapState) → AreBytes bytes → HasTracePrefix (exchange bytes card) card.memory es
       → left ≡ (memory_at card es).heap.durable → IsLeft card es left
   left_of bytes es left are begins is = by (behind es card.memory (orderly bytes es are begins) settled)
     where
@@ -113,7 +113,7 @@ module _ (t : Tokens) (card : CardState) (comes : ComesTo t (Up card)) where
 first_left : (t : Tokens) (card : CardState) (request : Request) (mid : PowerState) → ComesTo t (Up card) → IsOfBytes request → Serves (Up card) request Down mid
     → (k : KeptState) × (mid ≡ Off card.budget k) × IsLeftBy card request k.durable
 first_left t card (Command bytes) (Off b k) comes are h =
-    let p = lost_at (exchange bytes card) card.memory k.durable h.1.0 in
+    let p = lost_at (exchange bytes card) card.memory k.passed k.durable h.1.0 in
     (k, ap (λ n. Off n k) h.0, (p.0, p.1, left_of t card comes bytes p.0 k.durable are p.1 p.2))
 first_left t card Reset (Off b k) comes are h = (k, ap (λ n. Off n k) h.1, ap (λ (x : KeptState). x.durable) h.0 ∙ settled t card comes (shut t card comes))
 first_left t card (Command bytes) (Up next) comes are h = absurd h

@@ -3,6 +3,7 @@ pub mod Refusals
 pub mod Images
 pub mod TryChanges
 pub mod TakenBack
+pub mod Cuts
 pub mod Isolation
 pub mod DownRuns
 pub mod Fuse

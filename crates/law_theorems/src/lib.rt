@@ -4,8 +4,9 @@
 mod session_theorems;
 
 pub use session_theorems::{
-    down_tells_of_refused_writes, fuses_cut_where_they_were_set, images_power_up_again,
-    premises_can_be_met, references_name_what_is_there, sessions_change_tries_by_pin_calls_alone,
+    a_cut_leaves_the_changes_before_it, down_tells_of_refused_writes,
+    fuses_cut_where_they_were_set, images_power_up_again, premises_can_be_met,
+    references_name_what_is_there, sessions_change_tries_by_pin_calls_alone,
     sessions_keep_contexts_apart, sessions_take_back_what_is_not_committed,
     sessions_without_refused_writes_are_of_whole_copies,
 };

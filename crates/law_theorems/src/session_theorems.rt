@@ -1,5 +1,6 @@
 //! Laws of whole sessions.
 ghost use Rattle.law_images.specs.Comes.{StoresCome};
+ghost use Rattle.law_theorems.specs.Cuts.{KeepWhatWasDone, LeaveTheChangesBeforeThem};
 ghost use Rattle.law_theorems.specs.Fuse.{FusesCut};
 ghost use Rattle.law_theorems.specs.Images.{PowerUpAgain};
 ghost use Rattle.law_theorems.specs.Isolation.{StayApart};
@@ -28,6 +29,15 @@ pub fn down_tells_of_refused_writes()
 /// constructor stay counted, and no others. Where no transaction is open, all changes before the loss stay.
 pub fn sessions_take_back_what_is_not_committed()
     ensures { IsTakenBack }
+{}
+
+/// A cut leaves the changes before it: where the power is cut in a command when exactly k of its writes have passed, the
+/// next reset that completes, behind any number of cut ones, finds the heap behind those changes that are complete by
+/// then, and no other. With a fuse of K writes k is K. So what was committed before the cut stays; and so does a try of an
+/// OwnerPIN that was counted, until something else sets its tries, unless the open transaction had changed the PIN before.
+pub fn a_cut_leaves_the_changes_before_it()
+    ensures cut { LeaveTheChangesBeforeThem }
+    ensures stays { KeepWhatWasDone }
 {}
 
 /// At whatever moment of whatever command of a session, the tries of an OwnerPIN change only as they are counted, by an

@@ -11,7 +11,8 @@ use Rattle.jc_commit.proofs.Words.{bounds_of}
 use Rattle.jc_commit.proofs.Steps.{limit-same}
 use Rattle.jc_commit.proofs.Entries.{places_beside}
 use Rattle.jc_commit.proofs.Counted.{kept_before, touched_counted, touched_same}
-use Rattle.jc_commit.proofs.EntryKeeping.{Ready, ready_by_log, names_touched, all_go_back, count_by, index_of_all, writes_sum}
+use Rattle.jc_commit.proofs.EntryKeeping.{Ready, ready_by_log, names_touched, all_go_back, count_by, index_of_all, writes_sum, short_keeping, short_counting, short_writing}
+use Rattle.jc_commit.proofs.Refusals.{anyway}
 use Rattle.jc_commit.proofs.keep.keep_and_write.Goals as goal
 
 pub put_counted-requires-clause-needed : goal.put_counted-requires-clause-needed
@@ -240,3 +241,34 @@ returns-in_err-write_through-clause-log g c =
     (omega (arith, long, c.read-first.ensures, c.requires.needed, c.requires.room)) c.in_ok-behind.ensures.words c.in_ok-behind.ensures.behind c.in_ok-count_entries.ensures.words
     in
     c.requires.log ∙ sym now.log ∙ sym c.write_through.ensures.log
+
+pub returns-in_err-behind-clause-short : goal.returns-in_err-behind-clause-short
+returns-in_err-behind-clause-short g c =
+    let w = g.S.WordStore.words c.args.store.now in
+    let names : named_by c.args.log w c.read-first.result ≡ _ = ap (named_by c.args.log w) c.read-first.ensures ∙ names_touched c.args.log w c.requires.log in
+    let long = ap (λ (t : List ℕ). length (needing t c.args.born (g.C.WordChanges.changes c.args.changes.now))) names in
+    anyway c.from_residual.result _ (short_keeping (g.S.WordStore.passed c.args.store.now) (g.S.WordStore.passed c.put_counted.new.store)
+    (length (g.C.WordChanges.changes c.args.changes.now)) _ _ long c.in_err-behind.ensures.short)
+
+pub returns-in_err-count_entries-clause-short : goal.returns-in_err-count_entries-clause-short
+returns-in_err-count_entries-clause-short g c =
+    let w = g.S.WordStore.words c.args.store.now in
+    let names : named_by c.args.log w c.read-first.result ≡ _ = ap (named_by c.args.log w) c.read-first.ensures ∙ names_touched c.args.log w c.requires.log in
+    let long = ap (λ (t : List ℕ). length (needing t c.args.born (g.C.WordChanges.changes c.args.changes.now))) names in
+    anyway c.from_residual-in_err-count_entries.result _ (short_counting (g.S.WordStore.passed c.args.store.now) (g.S.WordStore.passed c.put_counted.new.store)
+    (g.S.WordStore.passed c.count_entries.new.store) c.read-first.result c.in_ok-behind.behind (length (g.C.WordChanges.changes c.args.changes.now)) _
+    (c.in_ok-behind.ensures.behind ∙ ap (λ (n : ℕ). c.read-first.result + n) long)
+    (c.in_ok-behind.ensures.passed ∙ ap (λ (n : ℕ). saturating_count (g.S.WordStore.passed c.args.store.now) (2 * n)) long)
+    c.in_err-count_entries.ensures.short c.count_entries.ensures.from)
+
+pub returns-in_err-write_through-clause-short : goal.returns-in_err-write_through-clause-short
+returns-in_err-write_through-clause-short g c =
+    let w = g.S.WordStore.words c.args.store.now in
+    let names : named_by c.args.log w c.read-first.result ≡ _ = ap (named_by c.args.log w) c.read-first.ensures ∙ names_touched c.args.log w c.requires.log in
+    let long = ap (λ (t : List ℕ). length (needing t c.args.born (g.C.WordChanges.changes c.args.changes.now))) names in
+    anyway c.from_residual-in_err-write_through.result _ (short_writing (g.S.WordStore.passed c.args.store.now) (g.S.WordStore.passed c.put_counted.new.store)
+    (g.S.WordStore.passed c.count_entries.new.store) (g.S.WordStore.passed c.write_through.new.store) c.read-first.result c.in_ok-behind.behind
+    (length (g.C.WordChanges.changes c.args.changes.now)) _
+    (c.in_ok-behind.ensures.behind ∙ ap (λ (n : ℕ). c.read-first.result + n) long)
+    (c.in_ok-behind.ensures.passed ∙ ap (λ (n : ℕ). saturating_count (g.S.WordStore.passed c.args.store.now) (2 * n)) long)
+    c.in_ok-count_entries.ensures.passed c.in_err-write_through.ensures.short)

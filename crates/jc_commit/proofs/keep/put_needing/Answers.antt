@@ -2,6 +2,7 @@ use Rattle.std.proofs.Common.{◌≡◌, ◌<◌, ◌≤◌, ◌+◌, ◌++◌, 
 use Rattle.std.proofs.lemmas.List.{length-append}
 use Rattle.jc_commit.specs.EntryIndex.{named_by, needing, with_entries}
 use Rattle.jc_commit.proofs.EntryKeeping.{needing_more, needing_part, needing_still, same_more, with_entries-append, names_with}
+use Rattle.jc_commit.proofs.Refusals.{anyway}
 use Rattle.jc_commit.proofs.keep.put_needing.Goals as goal
 
 pub put_change-requires-clause-few : goal.put_change-requires-clause-few
@@ -66,3 +67,20 @@ loop-i-preserved g c =
       down = search rules;
       refusals = search rules;
     }
+
+pub returns-in_err-k-clause-short : goal.returns-in_err-k-clause-short
+returns-in_err-k-clause-short g c =
+    let t = named_by c.args.log (g.S.WordStore.words c.args.store.now) c.args.first in
+    let b = c.args.born in
+    let changes = g.C.WordChanges.changes c.args.changes.now in
+    let j = c.loop-i.i in
+    let i = c.loop-i.invariant in
+    let x = get_or changes j (0, 0) in
+    let within : j < length changes = omega arith in
+    let still : needing (named_by c.args.log (g.S.WordStore.words c.loop-i.store) c.loop-i.k) b (c.change.result ∷ []) ≡ needing t b (x ∷ []) =
+    ap (λ (d : ℕ × ℕ). needing (named_by c.args.log (g.S.WordStore.words c.loop-i.store) c.loop-i.k) b (d ∷ [])) c.change.ensures ∙ ap (λ (n : List ℕ). needing n b (x ∷ [])) i.names ∙ needing_still t b changes j within c.requires.distinct in
+    let long : length (needing (named_by c.args.log (g.S.WordStore.words c.loop-i.store) c.loop-i.k) b (c.change.result ∷ [])) ≡ length (needing t b (x ∷ [])) =
+    ap (λ (l : List (ℕ × ℕ)). length l) still in
+    let more : length (needing t b (take (j + 1) changes)) ≡ length (needing t b (take j changes)) + length (needing t b (x ∷ [])) =
+    ap (λ (l : List (ℕ × ℕ)). length l) (needing_more t b changes j within) ∙ length-append (needing t b (take j changes)) (needing t b (x ∷ [])) in
+    anyway c.from_residual.result _ (λ small. omega (arith, small, c.in_err-k.ensures.short small, i.passed, long, more, needing_part t b changes (j + 1)))

@@ -3,6 +3,7 @@ use Rattle.jc_heap.specs.Fresh.{Fills}
 use Rattle.jc_heap.specs.Packages.{array_init, array_inits, array_words, arrays_words}
 use Rattle.jc_heap.proofs.Packing.{no_array, values_small, are_bytes-step, arrays-step, arrays-within}
 use Rattle.jc_heap.proofs.Streams.{piece_below, piece_more, free_left}
+use Rattle.jc_heap.proofs.FreshRuns.{anyway, torn_piece}
 use Rattle.jc_heap.proofs.record.write_arrays.Goals as goal
 
 pub write_array-requires-clause-free : goal.write_array-requires-clause-free
@@ -39,3 +40,10 @@ loop-array-preserved g c =
       bytes = are_bytes-step c.args.arrays.now c.loop-array.array-index c.loop-array-test.true c.loop-array.invariant.bytes c.in_ok-write_array.ensures.bytes;
       done = done.0;
     }
+
+pub returns-in_err-write_array-clause-stopped : goal.returns-in_err-write_array-clause-stopped
+returns-in_err-write_array-clause-stopped g c = anyway c.from_residual.result _
+    (torn_piece c.args.at (length (arrays_words c.args.owner (array_inits c.args.arrays.now))) _
+    (arrays_words c.args.owner (array_inits (take c.loop-array.array-index c.args.arrays.now))) c.args.journal.now c.loop-array.journal
+    c.write_array.new.journal c.loop-array.invariant.done c.in_err-write_array.ensures.stopped
+    (arrays-within c.args.owner c.args.arrays.now c.loop-array.array-index c.loop-array-test.true))

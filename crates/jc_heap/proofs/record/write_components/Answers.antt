@@ -3,6 +3,7 @@ use Rattle.jc_heap.specs.Fresh.{Fills}
 use Rattle.jc_heap.specs.Packages.{part, parts, component_words, components_words}
 use Rattle.jc_heap.proofs.Packing.{no_component, components-step, components-within, info_small}
 use Rattle.jc_heap.proofs.Streams.{piece_below, piece_more, free_left}
+use Rattle.jc_heap.proofs.FreshRuns.{anyway, torn_piece}
 use Rattle.jc_heap.proofs.record.write_components.Goals as goal
 
 pub write_component-requires-clause-free : goal.write_component-requires-clause-free
@@ -38,3 +39,10 @@ loop-component-preserved g c =
           c.write_component.ensures.below;
       done = done.0;
     }
+
+pub returns-in_err-write_component-clause-stopped : goal.returns-in_err-write_component-clause-stopped
+returns-in_err-write_component-clause-stopped g c = anyway c.from_residual.result _
+    (torn_piece c.args.at (length (components_words (parts c.args.components.now))) _
+    (components_words (parts (take c.loop-component.component-index c.args.components.now))) c.args.journal.now c.loop-component.journal
+    c.write_component.new.journal c.loop-component.invariant.done c.in_err-write_component.ensures.stopped
+    (components-within c.args.components.now c.loop-component.component-index c.loop-component-test.true))

@@ -1,8 +1,9 @@
-use Rattle.std.proofs.Common.{◌+◌, ◌++◌, [], ◌∷◌, take, sym, subst, arith}
+use Rattle.std.proofs.Common.{◌+◌, ◌++◌, length, [], ◌∷◌, take, sym, subst, arith}
 use Rattle.jc_heap.specs.Fresh.{KeepsBelow, Fills}
 use Rattle.jc_heap.specs.Packages.{array_inits, array_addresses}
 use Rattle.jc_heap.proofs.Packing.{arrays-counted, arrays-below, addresses-step, length-addresses_taken}
 use Rattle.jc_heap.proofs.Streams.{word_push}
+use Rattle.jc_heap.proofs.FreshRuns.{anyway, torn_piece, torn_word}
 use Rattle.jc_heap.proofs.record.write_references.Goals as goal
 
 pub overflow_cast-address : goal.overflow_cast-address
@@ -48,3 +49,9 @@ loop-k-preserved g c =
       done = subst (λ l. Fills c.args.at l c.args.journal.now c.write_fresh.new.self)
           (sym (addresses-step c.args.first c.loop-k.address c.args.arrays.now c.loop-k.k c.loop-k-test.true c.loop-k.invariant.address)) p.1;
     }
+
+pub returns-in_err-write_fresh-clause-stopped : goal.returns-in_err-write_fresh-clause-stopped
+returns-in_err-write_fresh-clause-stopped g c = anyway c.from_residual.result _
+    (torn_piece c.args.at (length c.args.arrays.now) 1 (array_addresses c.args.first (array_inits (take c.loop-k.k c.args.arrays.now))) c.args.journal.now
+    c.loop-k.journal c.write_fresh.new.self c.loop-k.invariant.done (torn_word c.loop-k.journal c.write_fresh.new.self c.in_err-write_fresh.ensures.err)
+    (omega (arith, length-addresses_taken c.args.first c.args.arrays.now c.loop-k.k c.loop-k-test.true, c.loop-k-test.true)))

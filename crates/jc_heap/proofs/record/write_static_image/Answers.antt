@@ -1,7 +1,7 @@
 use Rattle.std.proofs.Common.{◌+◌, length, refl, arith}
 use Rattle.jc_heap.specs.Packages.{array_inits, array_addresses, image_words}
 use Rattle.jc_heap.specs.Packed.{packed_words}
-use Rattle.jc_heap.proofs.FreshRuns.{keeps_then}
+use Rattle.jc_heap.proofs.FreshRuns.{anyway, keeps_then, torn_piece}
 use Rattle.jc_heap.proofs.Packing.{length-addresses}
 use Rattle.jc_heap.proofs.Streams.{piece_more}
 use Rattle.jc_heap.proofs.record.write_static_image.Goals as goal
@@ -19,3 +19,9 @@ returns-clause-done g c = (piece_more c.args.at (c.args.at + length c.args.array
     (packed_words c.args.image.now) (image_words c.args.first (array_inits c.args.arrays.now) c.args.image.now) c.args.journal.now
     c.write_references.new.journal c.write_packed.new.journal
     c.in_ok-write_references.ensures.done (omega (arith, length-addresses c.args.first c.args.arrays.now)) c.in_ok-write_packed.ensures.done refl).0
+
+pub returns-in_err-write_packed-clause-stopped : goal.returns-in_err-write_packed-clause-stopped
+returns-in_err-write_packed-clause-stopped g c = anyway c.from_residual-in_err-write_packed.result _
+    (torn_piece c.args.at (length c.args.arrays.now + length (packed_words c.args.image.now)) _ (array_addresses c.args.first (array_inits c.args.arrays.now))
+    c.args.journal.now c.write_references.new.journal c.write_packed.new.journal c.in_ok-write_references.ensures.done c.in_err-write_packed.ensures.stopped
+    (omega (arith, length-addresses c.args.first c.args.arrays.now)))

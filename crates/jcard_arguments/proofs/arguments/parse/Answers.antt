@@ -1,40 +1,17 @@
-use Rattle.jcard_arguments.proofs.OptionLines.{news, tries}
-use Rattle.jcard_arguments.proofs.TearLines.{tears}
-use Rattle.jcard_arguments.proofs.TestLines.{tests}
+use Rattle.std.proofs.Common.{map}
+use Rattle.std.specs.String.{string_bytes}
+use Rattle.jcard_arguments.proofs.CommandLine.{taken, told}
+use Rattle.jcard_arguments.proofs.PlainLines.{plain_lines}
 use Rattle.jcard_arguments.proofs.arguments.parse.Goals as goal
 
-pub returns-in-Ok-Some-clause-plain_news : goal.returns-in-Ok-Some-clause-plain_news
-returns-in-Ok-Some-clause-plain_news c = news
+pub returns-in-Ok-clause-taken : goal.returns-in-Ok-clause-taken
+returns-in-Ok-clause-taken c = taken (map string_bytes c.args.words.now) _ _ c.in-Ok.ensures.found.0 c.in-Ok.ensures.found.1 c.action_in.ensures
 
-pub returns-in-Ok-None-clause-plain_news : goal.returns-in-Ok-None-clause-plain_news
-returns-in-Ok-None-clause-plain_news c = news
+pub returns-in-Ok-clause-plain : goal.returns-in-Ok-clause-plain
+returns-in-Ok-clause-plain c = plain_lines
 
-pub returns-in-Err-clause-plain_news : goal.returns-in-Err-clause-plain_news
-returns-in-Err-clause-plain_news c = news
+pub returns-in-Err-clause-taken : goal.returns-in-Err-clause-taken
+returns-in-Err-clause-taken c = told (map string_bytes c.args.words.now) _ _ c.in-Err.ensures.refused c.refusal_by.ensures
 
-pub returns-in-Ok-Some-clause-plain_tries : goal.returns-in-Ok-Some-clause-plain_tries
-returns-in-Ok-Some-clause-plain_tries c = tries
-
-pub returns-in-Ok-None-clause-plain_tries : goal.returns-in-Ok-None-clause-plain_tries
-returns-in-Ok-None-clause-plain_tries c = tries
-
-pub returns-in-Err-clause-plain_tries : goal.returns-in-Err-clause-plain_tries
-returns-in-Err-clause-plain_tries c = tries
-
-pub returns-in-Ok-Some-clause-plain_tears : goal.returns-in-Ok-Some-clause-plain_tears
-returns-in-Ok-Some-clause-plain_tears c = tears
-
-pub returns-in-Ok-None-clause-plain_tears : goal.returns-in-Ok-None-clause-plain_tears
-returns-in-Ok-None-clause-plain_tears c = tears
-
-pub returns-in-Err-clause-plain_tears : goal.returns-in-Err-clause-plain_tears
-returns-in-Err-clause-plain_tears c = tears
-
-pub returns-in-Ok-Some-clause-plain_tests : goal.returns-in-Ok-Some-clause-plain_tests
-returns-in-Ok-Some-clause-plain_tests c = tests
-
-pub returns-in-Ok-None-clause-plain_tests : goal.returns-in-Ok-None-clause-plain_tests
-returns-in-Ok-None-clause-plain_tests c = tests
-
-pub returns-in-Err-clause-plain_tests : goal.returns-in-Err-clause-plain_tests
-returns-in-Err-clause-plain_tests c = tests
+pub returns-in-Err-clause-plain : goal.returns-in-Err-clause-plain
+returns-in-Err-clause-plain c = plain_lines

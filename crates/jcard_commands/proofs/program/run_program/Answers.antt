@@ -14,7 +14,7 @@ returns-in_default g c =
 pub returns-in-Ok-collect : goal.returns-in-Ok-collect
 returns-in-Ok-collect g c =
     let done = c.perform-ended.ensures.done in
-    let told = c.tell-in-Ok-collect.ensures.line in
+    let told = c.tell-status.ensures.line in
     let failures = told.4 ∙ ap (λ n. failures_after n told.1) c.perform-ended.ensures.writes in (
       done.0,
       told.0,
@@ -25,7 +25,7 @@ returns-in-Ok-collect g c =
       inl (map string_bytes c.deref.result.now, done.3),
       told.3,
       failures,
-      c.tell-in-Ok-collect.ensures.status,
+      c.tell-status.ensures.status,
     )
 
 pub returns-in-Ok-args : goal.returns-in-Ok-args

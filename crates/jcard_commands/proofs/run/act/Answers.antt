@@ -1,8 +1,9 @@
-use Rattle.std.proofs.Common.{ℕ, List, [], map, refl, subst}
-use Rattle.std.specs.Prelude.{option_map}
+use Rattle.std.proofs.Common.{ℕ, List, [], refl, subst}
 use Rattle.std.specs.Borrow.{Bor}
 use Rattle.jcard_script.proofs.Known.{appends_same}
-use Rattle.jcard_tests.specs.Tests.{IsTest}
+use Rattle.jcard_arguments.specs.CommandLine.{ToJoin, test_asked_by, text_of, texts_of}
+use Rattle.jcard_commands.specs.Commands.{IsDone, IsTestWith}
+use Rattle.jcard_commands.specs.Trials.{IsTrial}
 use Rattle.jcard_commands.proofs.run.act.Goals as goal
 
 pub returns-in-New-clause-done : goal.returns-in-New-clause-done
@@ -12,23 +13,45 @@ returns-in-New-clause-done g c =
 
 pub returns-in-Run-clause-done : goal.returns-in-Run-clause-done
 returns-in-Run-clause-done g c =
-    let done = c.run_file.ensures.done in
+    let done = c.run_with.ensures.done in
     (done.0, done.1, done.2, rw c.in-Run.is done.3, done.4)
+
+pub returns-in-Dump-clause-done : goal.returns-in-Dump-clause-done
+returns-in-Dump-clause-done g c =
+    let done = c.dump_image.ensures.told in
+    (done.0, done.1, done.2, rw c.in-Dump.is done.3, done.4)
+
+pub returns-in-DumpObjects-clause-done : goal.returns-in-DumpObjects-clause-done
+returns-in-DumpObjects-clause-done g c =
+    let done = c.dump_objects.ensures.told in
+    (done.0, done.1, done.2, rw c.in-DumpObjects.is done.3, done.4)
+
+pub returns-in-Compare-clause-done : goal.returns-in-Compare-clause-done
+returns-in-Compare-clause-done g c =
+    let done = c.compare_images.ensures.told in
+    (done.0, done.1, done.2, rw c.in-Compare.is done.3, done.4)
 
 pub returns-in-Try-clause-done : goal.returns-in-Try-clause-done
 returns-in-Try-clause-done g c =
     let done = c.try_script.ensures.done in
-    (done.0, done.1, done.2, rw c.in-Try.is done.3, done.4)
+    let trial = subst (λ (n : ℕ). IsTrial n c.in-Try.script.now c.in-Try.words.now (text_of c.in-Try.table) c.try_script.result done.0 done.1)
+    c.unwrap_or-budget.ensures done.3 in
+    (done.0, done.1, done.2, rw c.in-Try.is trial, done.4)
 
 pub returns-in-Tear-clause-done : goal.returns-in-Tear-clause-done
 returns-in-Tear-clause-done g c =
-    let done = c.tear_image.ensures.done in
+    let done = c.tear.ensures.done in
     (done.0, done.1, done.2, rw c.in-Tear.is done.3, done.4)
+
+pub returns-in-Join-clause-done : goal.returns-in-Join-clause-done
+returns-in-Join-clause-done g c =
+    let done = c.join.ensures.done in
+    let joined = subst (λ (files : List (Bor (List ℕ))). IsDone (ToJoin (texts_of files)) c.join.result done.0 done.1) c.deref.ensures.value done.3 in
+    (done.0, done.1, done.2, rw c.in-Join.is joined, done.4)
 
 pub returns-in-Test-clause-done : goal.returns-in-Test-clause-done
 returns-in-Test-clause-done g c =
-    let done = c.test_files.ensures.done in
-    let test = subst (λ (files : List (Bor (List ℕ))). IsTest (map (λ (name : Bor (List ℕ)). name.now) files)
-    (option_map (λ (name : Bor (List ℕ)). name.now) c.in-Test.junit) c.test_files.result done.0 done.1)
-    c.deref.ensures.value done.3 in
-    (done.0, done.1, done.2, rw c.in-Test.is test, done.4)
+    let done = c.test.ensures.done in
+    let tested = subst (λ (files : List (Bor (List ℕ))). IsTestWith (texts_of files) (test_asked_by c.in-Test.options) c.test.result done.0 done.1)
+    c.deref-in-Test.ensures.value done.3 in
+    (done.0, done.1, done.2, rw c.in-Test.is tested, done.4)

@@ -1,25 +1,14 @@
-use Rattle.std.proofs.Common.{sym, subst, Bool, List, ℕ}
-use Rattle.std.specs.Prelude.{Option, map}
-use Rattle.std.specs.String.{string_bytes}
-use Rattle.jcard_commands.specs.Commands.{IsComparedBy}
+use Rattle.std.proofs.Common.{[], inr}
+use Rattle.jcard_arguments.specs.CommandLine.{request_by}
+use Rattle.jcard_commands.proofs.Ends.{nothing_done}
 use Rattle.jcard_commands.proofs.run.perform.Goals as goal
 
-pub returns-in-Some-clause-done : goal.returns-in-Some-clause-done
-returns-in-Some-clause-done g c =
-    let done = c.compare_images.ensures.told in (
-      done.0,
-      done.1,
-      done.2,
-      subst (λ (asked : Option (List ℕ × List ℕ × Bool)). IsComparedBy asked (map string_bytes c.args.words.now) c.compare_images.result done.0 done.1) (sym c.in-Some.ensures) done.3,
-      done.4,
-    )
+pub returns-in-Ok-clause-done : goal.returns-in-Ok-clause-done
+returns-in-Ok-clause-done g c =
+    let done = c.act.ensures.done in
+    (done.0, done.1, done.2, inr (inr (inr (request_by c.in-Ok.action, c.in-Ok.ensures.taken, done.3))), done.4)
 
-pub returns-in-None-clause-done : goal.returns-in-None-clause-done
-returns-in-None-clause-done g c =
-    let done = c.perform_alone.ensures.done in (
-      done.0,
-      done.1,
-      done.2,
-      subst (λ (asked : Option (List ℕ × List ℕ × Bool)). IsComparedBy asked (map string_bytes c.args.words.now) c.perform_alone.result done.0 done.1) (sym c.in-None.ensures) done.3,
-      done.4,
-    )
+pub returns-in-Err-clause-done : goal.returns-in-Err-clause-done
+returns-in-Err-clause-done g c =
+    let done = c.answer.ensures.done in
+    (done.0, [], done.1, nothing_done _ c.in-Err.why c.answer.result done.0 c.in-Err.ensures.taken done.2, g.met.D.Disk.none c.args.disk.now)

@@ -1,6 +1,5 @@
 use Rattle.std.proofs.Common.{◌≡◌, ◌∙◌, [], Ok, Err, refl, subst, inl, inr}
 use Rattle.std.specs.Prelude.{codes}
-use Rattle.jc_card.specs.Dispatching.{usual_budget}
 use Rattle.jcard_script.proofs.Known.{appends_same}
 use Rattle.jcard_files.specs.FileDeeds.{fresh_store}
 use Rattle.jcard_commands.specs.Runs.{IsCarriedOut}
@@ -17,7 +16,7 @@ returns-in-Err-new_image-clause-done g c =
       [],
       Ok known,
       appends_same _,
-      not_tried c.args.script.now c.args.count c.args.table.now c.in-Err-new_image.fault known c.in-Err-new_image.ensures,
+      not_tried c.args.budget c.args.script.now c.args.count c.args.table.now c.in-Err-new_image.fault known c.in-Err-new_image.ensures,
       c.in-Ok.ensures.does,
     )
 
@@ -33,8 +32,8 @@ returns-clause-done g c =
     let made = c.in-Ok-new_image.ensures in
     let fresh : c.new.result ≡ fresh_store words = c.new.ensures ∙ fresh_under_fuse words _ _ _ refl made.1 refl in
     let done = c.run_named.ensures.done in
-    let over = subst (λ f. IsCarriedOut usual_budget (codes "memory") script (unread f) left c.new.result after ended done.0) c.new-reader.ensures.inner done.2 in
-    let carried = subst (λ s. IsCarriedOut usual_budget (codes "memory") script known left s after ended done.0) fresh over in (
+    let over = subst (λ f. IsCarriedOut c.args.budget (codes "memory") script (unread f) left c.new.result after ended done.0) c.new-reader.ensures.inner done.2 in
+    let carried = subst (λ s. IsCarriedOut c.args.budget (codes "memory") script known left s after ended done.0) fresh over in (
       done.0,
       Ok known,
       done.1,

@@ -25,3 +25,34 @@ returns-in-CannotInclude-clause-text g c = rw c.in-CannotInclude.is c.write_unin
 
 pub returns-in-OtherPart-clause-text : goal.returns-in-OtherPart-clause-text
 returns-in-OtherPart-clause-text g c = rw c.in-OtherPart.is (rw c.as_bytes-in-OtherPart.ensures.value at c.write_parts-in-OtherPart.ensures.text)
+
+pub returns-in-BadProbeCommand-clause-text : goal.returns-in-BadProbeCommand-clause-text
+returns-in-BadProbeCommand-clause-text g c =
+    let number = c.as_bytes-in-BadProbeCommand.ensures.value ∙ c.format-in-BadProbeCommand.ensures.text in
+    rw c.in-BadProbeCommand.is (rw number at c.write_parts-in-BadProbeCommand.ensures.text)
+
+pub returns-in-ProbeTooLong-clause-text : goal.returns-in-ProbeTooLong-clause-text
+returns-in-ProbeTooLong-clause-text g c = rw c.in-ProbeTooLong.is c.write_all-in-ProbeTooLong.ensures.text
+
+pub returns-in-OtherAnswer-clause-text : goal.returns-in-OtherAnswer-clause-text
+returns-in-OtherAnswer-clause-text g c =
+    let number = c.as_bytes-in-OtherAnswer.ensures.value ∙ c.format-in-OtherAnswer.ensures.text in
+    rw c.in-OtherAnswer.is (rw number at c.write_parts-in-OtherAnswer.ensures.text)
+
+pub returns-in-NothingExpected-clause-text : goal.returns-in-NothingExpected-clause-text
+returns-in-NothingExpected-clause-text g c = rw c.in-NothingExpected.is c.write_all-in-NothingExpected.ensures.text
+
+pub returns-in-BadPart-clause-text : goal.returns-in-BadPart-clause-text
+returns-in-BadPart-clause-text g c = rw c.in-BadPart.is c.write_all-in-BadPart.ensures.text
+
+pub returns-in-CutMissing-clause-text : goal.returns-in-CutMissing-clause-text
+returns-in-CutMissing-clause-text g c = rw c.in-CutMissing.is c.write_cut.ensures.text
+
+pub returns-in-CutTwice-clause-text : goal.returns-in-CutTwice-clause-text
+returns-in-CutTwice-clause-text g c = rw c.in-CutTwice.is c.write_cut-in-CutTwice.ensures.text
+
+pub returns-in-BadCut-clause-text : goal.returns-in-BadCut-clause-text
+returns-in-BadCut-clause-text g c = rw c.in-BadCut.is c.write_cut-in-BadCut.ensures.text
+
+pub returns-in-OtherSweep-clause-text : goal.returns-in-OtherSweep-clause-text
+returns-in-OtherSweep-clause-text g c = rw c.in-OtherSweep.is c.write_cut-in-OtherSweep.ensures.text

@@ -1,28 +1,26 @@
-use Rattle.std.proofs.Common.{rules, List, [], ◌∷◌, Ok, refl, sym, subst, inl, inr}
-use Rattle.jcard_files.specs.FileDeeds.{FileDeed, ReadsText}
-use Rattle.jcard_files.specs.Readings.{IsTextOf}
+use Rattle.std.proofs.Common.{rules, ℕ, List, [], ◌++◌, refl, sym, subst, inl, inr}
+use Rattle.std.specs.Prelude.{option_map}
+use Rattle.std.specs.Borrow.{Bor}
+use Rattle.jcard_images.specs.UsualTables.{IsPlatform}
 use Rattle.jcard_images.proofs.new_image.make_image.Goals as goal
 
 pub returns-in-Ok : goal.returns-in-Ok
 returns-in-Ok g c =
-    let table = c.args.table.now in
+    let table = option_map (λ (name : Bor (List ℕ)). name.now) c.args.table in
     let text = c.in-Ok.ensures in
-    let read = text.2 in
     let made = c.make_from.ensures in
-    let is_text = subst (λ t. IsTextOf t read.0) (sym c.deref.ensures.value) read.1 in
-    let does = subst (λ d. g.D.Disk.does c.args.disk.now d c.text_of.new.disk) read.2 text.1 in
-    let reads : List FileDeed = ReadsText table (Ok read.0) ∷ [] in (
-      ReadsText table (Ok read.0) ∷ made.0,
+    let is_text = subst (λ t. IsPlatform table t text.0) (sym c.deref.ensures.value) text.2 in (
+      text.0 ++ made.0,
       inr (
         c.in-Some.count,
         c.in-Some.ensures.some,
         inr (
           c.in-Some-journal_capacity.capacity,
           c.in-Some-journal_capacity.ensures.some,
-          inr (c.deref.result.now, read.0, made.0, is_text, made.1, refl),
+          inr (c.deref.result.now, text.0, made.0, is_text, made.1, refl),
         ),
       ),
-      g.met.D.Disk.then _ _ _ reads made.0 does made.2,
+      g.met.D.Disk.then _ _ _ text.0 made.0 text.1 made.2,
     )
 
 pub returns-in_default-journal_capacity : goal.returns-in_default-journal_capacity
@@ -43,3 +41,6 @@ returns-in-Err g c =
       ),
       unread.1,
     )
+
+pub returns-in_default : goal.returns-in_default
+returns-in_default g c = ([], inl (refl, c.word_count.ensures.none (search rules), refl), g.met.D.Disk.none c.args.disk.now)

@@ -1,4 +1,4 @@
-use Rattle.jcard_outcomes.proofs.CutLines.{behind_next, cut_next, cuts_told, cuts_whole, lacking_next, line_plain, no_line}
+use Rattle.jcard_outcomes.proofs.CutLines.{bad_line, behind_next, cut_next, cuts_told, cuts_whole, lacking_next, line_plain, no_line}
 use Rattle.jcard_outcomes.proofs.join.cuts_of.Goals as goal
 
 pub returns-then-is_uncut-clause-told : goal.returns-then-is_uncut-clause-told
@@ -15,6 +15,10 @@ cut_of-requires c = line_plain c.args.lines.now c.loop-number.number c.loop-numb
 pub returns-in-None-clause-whole : goal.returns-in-None-clause-whole
 returns-in-None-clause-whole c = λ cuts u n t. absurd (no_line c.args.lines.now c.loop-number.number c.loop-number-test.true c.if-is_uncut.ensures
     (rw c.in-None.is at c.in_ok-cut.ensures) cuts u n t)
+
+pub returns-in-None-clause-fault : goal.returns-in-None-clause-fault
+returns-in-None-clause-fault c = bad_line c.args.lines.now c.loop-number.number c.loop-number-test.true c.if-is_uncut.ensures
+    (rw c.in-None.is at c.in_ok-cut.ensures)
 
 pub loop-number-preserved : goal.loop-number-preserved
 loop-number-preserved c =

@@ -7,4 +7,4 @@ returns-in-Ok c = of_report c.args.parts (lent c.args.lines.now) c.args.cuts.now
     c.in-Ok.ensures c.joined_report.ensures
 
 pub returns-in-Err : goal.returns-in-Err
-returns-in-Err c = of_none c.args.parts (lent c.args.lines.now) c.args.cuts.now c.in-Err.fault c.in-Err.ensures
+returns-in-Err c = of_none c.args.parts (lent c.args.lines.now) c.args.cuts.now c.in-Err.fault c.requires.some c.requires.told c.in-Err.ensures

@@ -7,4 +7,4 @@ returns-in-Ok c = of_cuts c.args.parts (lent c.args.lines.now) c.in-Ok.cuts.item
     (rw c.deref.ensures.value at c.joined_cuts.ensures)
 
 pub returns-in-Err : goal.returns-in-Err
-returns-in-Err c = of_no_cuts c.args.parts (lent c.args.lines.now) c.in-Err.fault c.requires.some c.in-Err.ensures.whole
+returns-in-Err c = of_no_cuts c.args.parts (lent c.args.lines.now) c.in-Err.fault c.requires.some c.in-Err.ensures.fault c.in-Err.ensures.whole

@@ -1,7 +1,10 @@
-use Rattle.std.proofs.Common.{arith, length, get_or, ◌<◌}
-use Rattle.jcard_outcomes.proofs.Ends.{all_same, another, ends, nothing, same_next, too_many}
+use Rattle.std.proofs.Common.{refl, arith, length, get_or, ◌<◌}
+use Rattle.jcard_outcomes.proofs.Ends.{all_same, another, ends, nothing, same_next, too_few, too_many}
 use Rattle.jcard_outcomes.proofs.join.uncut_of.Goals as goal
 use Rattle.jcard_outcomes.proofs.join.uncut_of.Goals.{then-place-parts-via-then-place-parts, then-place-parts-via-else-place-parts+then-not-is_same}
+
+pub returns-then-ends-parts : goal.returns-then-ends-parts
+returns-then-ends-parts c = too_few c.args.count c.args.parts (length c.args.lines.now) c.args.lines.now refl c.requires.within c.if-ends-parts.true
 
 pub returns-then-place-parts : goal.returns-then-place-parts
 returns-then-place-parts c =

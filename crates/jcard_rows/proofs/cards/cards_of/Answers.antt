@@ -1,7 +1,5 @@
-use Rattle.std.proofs.Common.{◌∙◌, ◌∷◌, ◌++◌, ◌+◌, List, [], drop, refl, subst, sym}
-use Rattle.std.specs.String.{string_bytes}
-use Rattle.jcard_rows.specs.Cards.{AreCards, IsNewCard, IsRowOfLine}
-use Rattle.jcard_rows.specs.declared.row.Row.{Row}
+use Rattle.std.proofs.Common.{◌∷◌, [], refl, subst, sym}
+use Rattle.jcard_rows.specs.Cards.{IsNewCard}
 use Rattle.jcard_rows.proofs.CardSteps.{card_ended, card_last, card_next, card_pushed, card_row, card_same}
 use Rattle.jcard_rows.proofs.cards.cards_of.Goals as goal
 use Rattle.jcard_rows.proofs.cards.cards_of.Goals.{in-Some-card_size+in_ok-push-in-Some-card_size, in-None+in_ok-push_row-in-None}
@@ -25,7 +23,7 @@ loop-line-preserved c =
           let new = subst (λ t. IsNewCard t size) c.as_str.ensures.value w.in-Some-card_size.ensures in
           rw (w.cards-is, w.words-is, w.rows-is, w.new-rows-in-Some-card_size.ensures.items) (
             new.3,
-            λ more a. card_pushed lines c.loop-line.cards.items _ _ more w.in_ok-push-in-Some-card_size.ensures.items
+            λ more a. card_pushed lines c.args.first c.loop-line.cards.items _ _ more w.in_ok-push-in-Some-card_size.ensures.items
                 (c.loop-line.invariant.1 (_ ∷ more) (card_next lines i c.line-item.result c.loop-line-test.true c.line-item.is c.loop-line.words
                 c.loop-line.rows.items more row size _ says new refl refl a)),
           )
@@ -38,5 +36,5 @@ loop-line-preserved c =
     ]
 
 pub returns : goal.returns
-returns c = card_ended c.args.lines.now c.loop-line.cards.items _ _ c.in_ok-push.ensures.items
+returns c = card_ended c.args.lines.now c.args.first c.loop-line.cards.items _ _ c.in_ok-push.ensures.items
     (c.loop-line.invariant.1 (_ ∷ []) (card_last c.args.lines.now c.loop-line.line-index c.loop-line.words c.loop-line.rows.items _ c.loop-line-test.false refl refl))

@@ -1,4 +1,4 @@
-use Rattle.std.proofs.Common.{◌∙◌, ◌+◌, ◌++◌, ◌∷◌, ℕ, List, [], get_or, min, subst, sym, take}
+use Rattle.std.proofs.Common.{◌∙◌, ◌+◌, ℕ, List, [], get_or, subst, sym, take}
 use Rattle.std.specs.Borrow.{Bor}
 use Rattle.std.proofs.lemmas.List.{take_all}
 use Rattle.jcard_rows.specs.Lines.{Says}

@@ -1,7 +1,7 @@
-use Rattle.std.proofs.Common.{◌∙◌, ◌<◌, arith, length, refl, sym}
-use Rattle.std.specs.String.{string_bytes}
-use Rattle.std.proofs.lemmas.List.{length-map}
-use Rattle.jcard_outcomes.proofs.PartHeads.{text_at}
+use Rattle.std.proofs.Common.{[], ◌<◌, ℕ, List, arith, get_or, length, refl, sym}
+use Rattle.std.specs.Borrow.{Bor}
+use Rattle.std.proofs.lemmas.List.{get_or-map, length-map}
+use Rattle.jcard_sweeps.proofs.Joinings.{nothing}
 use Rattle.jcard_sweeps.proofs.joining.head_fault.Goals as goal
 
 pub bounds-files-place : goal.bounds-files-place
@@ -14,8 +14,7 @@ returns-in-OtherSweep-clause-told c =
     let others = rw c.in-OtherSweep.is at c.requires.others in
     let within : c.in-OtherSweep.place < length c.args.files.now = omega (arith, others.0, length-map c.args.texts.now (λ t. t.items), c.requires.all) in
     rw c.in-OtherSweep.is (
-      c.as_str.result,
+      get_or c.args.files.now c.in-OtherSweep.place nothing,
       refl,
-      c.as_str.ensures.value
-          ∙ sym (text_at string_bytes c.args.files.now c.in-OtherSweep.place c.index-files-place.result within c.index-files-place.is),
+      sym (get_or-map (λ (f : Bor (List ℕ)). f.now) c.args.files.now c.in-OtherSweep.place nothing [] within),
     )

@@ -10,5 +10,9 @@ returns-in-Ok-clause-done g c =
     (told.0, told.1, joined_told (map (λ (t : Bor (List ℕ)). t.now) c.args.texts.now) c.in-Ok.joined c.tell_joined.result told.0 c.in-Ok.ensures.joined c.in-Ok.ensures.parts told.2)
 
 pub returns-in-Err-clause-done : goal.returns-in-Err-clause-done
-returns-in-Err-clause-done g c =
-    ([], appends_same _, unjoined (map (λ (t : Bor (List ℕ)). t.now) c.args.texts.now) c.in-Err.cause c.join_fault.result c.join_fault.ensures.told c.in-Err.ensures.parts)
+returns-in-Err-clause-done g c = (
+  [],
+  appends_same _,
+  unjoined (map (λ (t : Bor (List ℕ)). t.now) c.args.texts.now) c.in-Err.cause c.join_fault.result c.join_fault.ensures.told c.in-Err.ensures.joined
+      c.in-Err.ensures.parts,
+)

@@ -1,6 +1,5 @@
 use Rattle.std.proofs.Common.{[], ℕ, List, arith, length, map, refl}
 use Rattle.std.specs.Borrow.{Bor}
-use Rattle.std.specs.String.{string_bytes}
 use Rattle.std.proofs.lemmas.List.{length-map}
 use Rattle.jcard_script.proofs.Known.{appends_same}
 use Rattle.jcard_sweeps.proofs.Joinings.{heads_joined, others_told}
@@ -23,7 +22,7 @@ returns-in-Ok-clause-done g c =
     let behind = c.in-Ok.ensures in (
       told.0,
       told.1,
-      heads_joined (map string_bytes c.args.files.now) (map (λ t. t.items) c.args.texts.now)
+      heads_joined (map (λ (f : Bor (List ℕ)). f.now) c.args.files.now) (map (λ t. t.items) c.args.texts.now)
           (map (λ (t : Bor (List ℕ)). t.now) c.in-Ok.bodies.items) behind.0 c.join_bodies.result told.0 behind.1 (rw c.deref.ensures.value at told.2),
     )
 
@@ -31,6 +30,6 @@ pub returns-in-Err-clause-done : goal.returns-in-Err-clause-done
 returns-in-Err-clause-done g c = (
   [],
   appends_same _,
-  others_told (map string_bytes c.args.files.now) (map (λ t. t.items) c.args.texts.now) c.in-Err.cause c.head_fault.result
+  others_told (map (λ (f : Bor (List ℕ)). f.now) c.args.files.now) (map (λ t. t.items) c.args.texts.now) c.in-Err.cause c.head_fault.result
       (omega (arith, length-map c.args.texts.now (λ t. t.items), c.requires.some)) c.in-Err.ensures c.head_fault.ensures.told,
 )

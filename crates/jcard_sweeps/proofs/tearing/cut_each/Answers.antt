@@ -11,7 +11,7 @@ returns-in-Ok-clause-done g c =
       inl (
         c.in-Ok.sweeps.items,
         c.in-Ok.ensures,
-        subst (λ sweeps. AreReported sweeps c.tell_verdicts.result told.0 ⊎ EndsUntold c.tell_verdicts.result told.0) c.deref.ensures.value told.2,
+        subst (λ sweeps. AreReported c.args.behind.objects sweeps c.tell_verdicts.result told.0 ⊎ EndsUntold c.tell_verdicts.result told.0) c.deref.ensures.value told.2,
       ),
     )
 

@@ -11,7 +11,7 @@ pub returns-in-Ok-clause-done : goal.returns-in-Ok-clause-done
 returns-in-Ok-clause-done g c =
     let read = c.in-Ok.ensures.read in
     let done = c.cut_part.ensures.done in
-    let torn = subst (λ given. IsTornShare c.args.words.now (line_of c.args.found) c.args.asked.behind.objects c.in-Some.share given c.cut_part.result done.0) c.lent.ensures done.2 in
+    let torn = subst (λ given. IsTornShare c.args.words.now (line_of c.args.found) c.args.asked.behind c.in-Some.share given c.cut_part.result done.0) c.lent.ensures done.2 in
     (done.0, read.0, done.1, inr (c.in-Some.share, rw c.as_bytes.ensures.value at c.in-Some.ensures, inr (_, read.2, torn)), read.1)
 
 pub returns-in-Err-clause-done : goal.returns-in-Err-clause-done

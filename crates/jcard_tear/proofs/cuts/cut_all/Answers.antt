@@ -17,14 +17,14 @@ returns-in_default g c =
 pub loop-number-preserved : goal.loop-number-preserved
 loop-number-preserved g c =
     let cuts = c.loop-number.cuts.items in
-    let cut : Cut = record { standing = c.standing_of-standing.result; answers = c.in_ok-told.field-0; recoveries = c.in-Some.recoveries } in
+    let cut : Cut = c.in_ok-cut.cut in
     let left = rw c.in-Some.is at c.in_ok-left.ensures in
-    let standing = rw (c.deref.ensures.value, c.deref-in-loop-number.ensures.value) at c.standing_of-standing.ensures in
     let place : c.loop-number.number ≡ 0 + length cuts = omega (arith, c.loop-number.invariant.count) in
     let here = subst (λ n. IsCutAt c.args.words.now c.args.command n c.in-Some.left c.in-Some.recoveries) place left in
+    let told = subst (λ r. IsCutAt c.args.words.now c.args.command (0 + length cuts) c.in-Some.left r) (sym c.in_ok-cut.ensures.recoveries) here in
     record {
       cuts = rw c.in_ok-push_cut.ensures (cuts_more c.args.words.now c.args.command c.args.spared.now c.args.objects.now c.args.before.now c.args.after.now 0 cuts cut
-          c.loop-number.invariant.cuts (c.in-Some.left, here, c.in_ok-told.ensures, standing));
+          c.loop-number.invariant.cuts (c.in-Some.left, told, c.in_ok-cut.ensures.told));
       count = rw c.in_ok-push_cut.ensures (omega (arith, length-append cuts (cut ∷ []), c.loop-number.invariant.count));
     }
 
@@ -32,8 +32,8 @@ pub returns-in_err-left : goal.returns-in_err-left
 returns-in_err-left g c = passed_on _ _ c.from_residual.result c.from_residual.ensures.1
     (λ fault e. subst (IsUncutFor c.args.words.now c.args.command 1) (sym e) (c.in_err-left.ensures 1))
 
-pub returns-in_err-told : goal.returns-in_err-told
-returns-in_err-told g c = passed_on _ _ c.from_residual-in_err-told.result c.from_residual-in_err-told.ensures.1
+pub returns-in_err-cut : goal.returns-in_err-cut
+returns-in_err-cut g c = passed_on _ _ c.from_residual-in_err-cut.result c.from_residual-in_err-cut.ensures.1
     (λ fault e. memory_uncut c.args.words.now c.args.command 1 fault e)
 
 pub returns-in_err-push_cut : goal.returns-in_err-push_cut

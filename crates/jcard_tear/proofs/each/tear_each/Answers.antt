@@ -1,7 +1,6 @@
 use Rattle.std.proofs.Common.{◌∙◌, [], ap, refl, sym, subst, inl, inr, get_or}
 use Rattle.std.proofs.lemmas.Option.{slice_get-get_or, slice_get-map}
 use Rattle.std.specs.Prelude.{option_map}
-use Rattle.jcard_outcomes.specs.declared.each.LineSweep.{LineSweep}
 use Rattle.jcard_tear.specs.Faults.{IsLineUncut}
 use Rattle.jcard_tear.specs.ScriptLines.{line_of}
 use Rattle.jcard_tear.specs.declared.script_lines.ScriptLine.{ScriptLine}
@@ -15,10 +14,8 @@ loop-line-init g c = rw c.new-sweeps.ensures.items (swept_none _ _ _)
 pub loop-line-preserved : goal.loop-line-preserved
 loop-line-preserved g c =
     let none : ScriptLine = record { number = 0; before = record { ref_ptr = (0, 0); now = [] }; line = record { ref_ptr = (0, 0); now = [] } } in
-    let line = get_or c.args.lines.now c.loop-line.line-index none in
-    let swept : LineSweep = record { number = line.number; sweep = c.in_ok-sweep.sweep } in
     swept_next c.args.words.now (option_map (λ text. text.now) c.args.probe) c.args.behind c.args.lines.now c.loop-line.line-index none
-    c.loop-line.sweeps.items c.push_sweep.new.sweeps.items swept c.loop-line-test.true c.loop-line.invariant refl c.in_ok-sweep.ensures
+    c.loop-line.sweeps.items c.push_sweep.new.sweeps.items c.in_ok-sweep.sweep c.loop-line-test.true c.loop-line.invariant c.in_ok-sweep.ensures
     c.in_ok-push_sweep.ensures
 
 pub returns-in_err-sweep : goal.returns-in_err-sweep
@@ -33,7 +30,7 @@ returns-in_err-sweep g c =
       line_of line,
       i,
       at,
-      subst (IsLineUncut c.args.words.now (option_map (λ text. text.now) c.args.probe) (line_of line) 1) (sym e)
+      subst (IsLineUncut c.args.words.now (option_map (λ text. text.now) c.args.probe) c.args.behind (line_of line) 1) (sym e)
           c.in_err-sweep.ensures,
     ))
 

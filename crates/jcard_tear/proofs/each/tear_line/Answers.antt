@@ -7,4 +7,4 @@ pub returns : goal.returns
 returns g c =
     let command : Command = record { before = c.args.line.before; line = c.args.line.line; probe = c.probe_for.result; behind = c.args.behind } in
     MatchResult-weaker c.tear.result c.tear.ensures (λ sweep is. (command, refl, refl, c.probe_for.ensures, refl, is))
-    (λ fault is. (command, refl, refl, c.probe_for.ensures, is))
+    (λ fault is. (command, refl, refl, c.probe_for.ensures, refl, is))

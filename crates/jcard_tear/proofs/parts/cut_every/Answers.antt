@@ -20,14 +20,15 @@ returns-in_default-clause-below g c = omega (arith, c.loop-place.invariant.count
 pub loop-place-preserved : goal.loop-place-preserved
 loop-place-preserved g c =
     let cuts = c.loop-place.cuts.items in
-    let cut : Cut = record { standing = c.standing_of-standing.result; answers = c.in_ok-told.field-0; recoveries = c.in-Some.recoveries } in
+    let cut : Cut = c.in_ok-cut.cut in
     let left = rw c.in-Some.is at c.in_ok-left.ensures in
-    let standing = rw (c.deref.ensures.value, c.deref-in-loop-place.ensures.value) at c.standing_of-standing.ensures in
     let here = subst (λ n. IsCutAt c.args.words.now c.args.command n c.in-Some.left c.in-Some.recoveries) c.loop-place.invariant.count left in
+    let told = subst (λ r. IsCutAt c.args.words.now c.args.command (c.args.first + c.args.step * length cuts) c.in-Some.left r)
+    (sym c.in_ok-cut.ensures.recoveries) here in
     let next : c.in-Some-checked_add.next ≡ c.loop-place.number + c.args.step = search rules in
     record {
       cuts = rw c.in_ok-push_cut.ensures (every_more c.args.words.now c.args.command c.args.spared.now c.args.objects.now c.args.before.now c.args.after.now c.args.first c.args.step
-          cuts cut c.loop-place.invariant.cuts (c.in-Some.left, here, c.in_ok-told.ensures, standing));
+          cuts cut c.loop-place.invariant.cuts (c.in-Some.left, told, c.in_ok-cut.ensures.told));
       count = number_more c.args.first c.args.step (length cuts) c.loop-place.number c.in-Some-checked_add.next c.loop-place.invariant.count next
           ∙ ap (λ n. c.args.first + c.args.step * n) (sym (ap length c.in_ok-push_cut.ensures ∙ length-append cuts (cut ∷ [])));
       fits = search rules;
@@ -38,8 +39,8 @@ pub returns-in_err-left-clause-cut : goal.returns-in_err-left-clause-cut
 returns-in_err-left-clause-cut g c = passed_on _ _ c.from_residual.result c.from_residual.ensures.1
     (λ fault e. subst (IsUncutFor c.args.words.now c.args.command c.args.step) (sym e) (c.in_err-left.ensures c.args.step))
 
-pub returns-in_err-told-clause-cut : goal.returns-in_err-told-clause-cut
-returns-in_err-told-clause-cut g c = passed_on _ _ c.from_residual-in_err-told.result c.from_residual-in_err-told.ensures.1
+pub returns-in_err-cut-clause-cut : goal.returns-in_err-cut-clause-cut
+returns-in_err-cut-clause-cut g c = passed_on _ _ c.from_residual-in_err-cut.result c.from_residual-in_err-cut.ensures.1
     (λ fault e. memory_uncut c.args.words.now c.args.command c.args.step fault e)
 
 pub returns-in_err-push_cut-clause-cut : goal.returns-in_err-push_cut-clause-cut

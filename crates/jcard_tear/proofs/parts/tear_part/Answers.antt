@@ -1,7 +1,7 @@
 use Rattle.std.proofs.Common.{refl, subst, sym}
-use Rattle.jcard_tear.specs.Faults.{IsProbeFault, IsUncutFor}
+use Rattle.jcard_tear.specs.Faults.{IsImageFault, IsUncutFor}
 use Rattle.jcard_tear.specs.Parts.{AreEvery}
-use Rattle.jcard_tear.proofs.Uncut.{done_carried, memory_uncut, passed_on, probe_uncut}
+use Rattle.jcard_tear.proofs.Uncut.{done_carried, image_probed, memory_uncut, passed_on, probe_uncut}
 use Rattle.jcard_tear.proofs.parts.tear_part.Goals as goal
 
 pub returns-clause-swept : goal.returns-clause-swept
@@ -34,12 +34,12 @@ returns-in_err-before-clause-swept g c = passed_on _ _ c.from_residual-in_err-be
 pub returns-in_err-spared-clause-swept : goal.returns-in_err-spared-clause-swept
 returns-in_err-spared-clause-swept g c = passed_on _ _ c.from_residual-in_err-spared.result c.from_residual-in_err-spared.ensures.1
     (λ fault e. probe_uncut c.args.words.now c.args.command c.args.step fault (done_carried c.args.words.now c.args.command c.in_ok-answer.answer.items c.in_ok-answer.after c.in_ok-answer.ensures)
-    (subst IsProbeFault (sym e) c.in_err-spared.ensures))
+    (image_probed c.args.command.behind.instructions c.args.command.probe.now fault (subst IsImageFault (sym e) c.in_err-spared.ensures)))
 
 pub returns-in_err-objects-clause-swept : goal.returns-in_err-objects-clause-swept
 returns-in_err-objects-clause-swept g c = passed_on _ _ c.from_residual-in_err-objects.result c.from_residual-in_err-objects.ensures.1
     (λ fault e. probe_uncut c.args.words.now c.args.command c.args.step fault (done_carried c.args.words.now c.args.command c.in_ok-answer.answer.items c.in_ok-answer.after c.in_ok-answer.ensures)
-    (subst IsProbeFault (sym e) c.in_err-objects.ensures.asked))
+    (image_probed c.args.command.behind.instructions c.args.command.probe.now fault (subst IsImageFault (sym e) c.in_err-objects.ensures.asked)))
 
 pub returns-in_err-cuts-clause-swept : goal.returns-in_err-cuts-clause-swept
 returns-in_err-cuts-clause-swept g c = passed_on _ _ c.from_residual-in_err-cuts.result c.from_residual-in_err-cuts.ensures.1

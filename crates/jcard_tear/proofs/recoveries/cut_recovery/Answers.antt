@@ -5,6 +5,7 @@ use Rattle.jc_commit.specs.Opening.{OpeningFails}
 use Rattle.jc_commit.specs.declared.refusal.OpenRefusal.TheVariants.{StoreDown}
 use Rattle.jcard_tear.specs.Runs.{store_of}
 use Rattle.jcard_tear.proofs.Fuses.{torn_at}
+use Rattle.jcard_tear.proofs.Uncut.{memory_logged, refused_on}
 use Rattle.jcard_tear.proofs.WholeRuns.{under_fuse}
 use Rattle.jcard_tear.proofs.recoveries.cut_recovery.Goals as goal
 
@@ -31,3 +32,6 @@ returns-in-Err-StoreDown-default-clause-good c =
     c.new-store.ensures ∙ ap under_fuse c.of.ensures ∙ ap store_of c.in_ok-copy.ensures.items in
     let armed : c.arm.new.self ≡ with_fuse_armed c.args.number (store_of c.args.words.now) = c.arm.ensures ∙ ap₂ with_fuse_armed c.from.ensures fresh in
     subst (λ (s : FuseStoreValue). IsGoodLog s.words) armed fails.good
+
+pub returns-in_err-copy-clause-fault : goal.returns-in_err-copy-clause-fault
+returns-in_err-copy-clause-fault c = refused_on _ c.from_residual.result c.from_residual.ensures.1 memory_logged

@@ -12,5 +12,5 @@ pub returns : goal.returns
 returns c =
     let ran = c.in_ok-ran.ensures.ran in
     MatchResult-weaker c.left_by_probe.result c.left_by_probe.ensures
-    (λ left is. (c.in_ok-ran.ran.text.items, ran.0, ran.1, subst (λ w. IsLeft w c.args.command.probe.now left) ran.2 is))
+    (λ left is. (c.in_ok-ran.ran.text.items, ran.0, ran.1, subst (λ w. IsLeft c.args.command.behind.instructions w c.args.command.probe.now left) ran.2 is))
     (λ fault is step. probe_uncut c.args.words.now c.args.command step fault (_, c.in_ok-ran.ran.text.items, ran.0, inl refl, ran.1) is)

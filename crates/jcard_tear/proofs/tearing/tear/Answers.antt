@@ -1,7 +1,7 @@
 use Rattle.std.proofs.Common.{refl, subst, sym}
-use Rattle.jcard_tear.specs.Faults.{IsProbeFault, IsUncutFor}
+use Rattle.jcard_tear.specs.Faults.{IsImageFault, IsUncutFor}
 use Rattle.jcard_tear.specs.Sweeps.{AreCuts}
-use Rattle.jcard_tear.proofs.Uncut.{done_carried, memory_uncut, passed_on, probe_uncut}
+use Rattle.jcard_tear.proofs.Uncut.{done_carried, image_probed, memory_uncut, passed_on, probe_uncut}
 use Rattle.jcard_tear.proofs.tearing.tear.Goals as goal
 
 pub returns : goal.returns
@@ -30,12 +30,12 @@ returns-in_err-before g c = passed_on _ _ c.from_residual-in_err-before.result c
 pub returns-in_err-spared : goal.returns-in_err-spared
 returns-in_err-spared g c = passed_on _ _ c.from_residual-in_err-spared.result c.from_residual-in_err-spared.ensures.1
     (λ fault e. probe_uncut c.args.words.now c.args.command 1 fault (done_carried c.args.words.now c.args.command c.in_ok-answer.answer.items c.in_ok-answer.after c.in_ok-answer.ensures)
-    (subst IsProbeFault (sym e) c.in_err-spared.ensures))
+    (image_probed c.args.command.behind.instructions c.args.command.probe.now fault (subst IsImageFault (sym e) c.in_err-spared.ensures)))
 
 pub returns-in_err-objects : goal.returns-in_err-objects
 returns-in_err-objects g c = passed_on _ _ c.from_residual-in_err-objects.result c.from_residual-in_err-objects.ensures.1
     (λ fault e. probe_uncut c.args.words.now c.args.command 1 fault (done_carried c.args.words.now c.args.command c.in_ok-answer.answer.items c.in_ok-answer.after c.in_ok-answer.ensures)
-    (subst IsProbeFault (sym e) c.in_err-objects.ensures.asked))
+    (image_probed c.args.command.behind.instructions c.args.command.probe.now fault (subst IsImageFault (sym e) c.in_err-objects.ensures.asked)))
 
 pub returns-in_err-cuts : goal.returns-in_err-cuts
 returns-in_err-cuts g c = passed_on _ _ c.from_residual-in_err-cuts.result c.from_residual-in_err-cuts.ensures.1

@@ -1,5 +1,11 @@
-use Rattle.jcard_tests.proofs.RowTests.{printed_on}
+use Rattle.std.proofs.Common.{subst, sym}
+use Rattle.jcard_tests.specs.Tests.{IsUnanswered}
 use Rattle.jcard_tests.proofs.answering.answers.Goals as goal
 
-pub returns-in-Ok : goal.returns-in-Ok
-returns-in-Ok c = printed_on (λ v. v.items) c.args.words c.in-Ok.store.words c.args.script.now c.printed.result c.in-Ok.ensures.0 c.printed.ensures
+pub returns-in-Ok-printed : goal.returns-in-Ok-printed
+returns-in-Ok-printed g c =
+    let e = c.in-Ok-printed.ensures in
+    (c.in-Ok.store.words, e.0, e.1, e.2, e.3, e.4, c.in-Ok.ensures.0, e.5, e.6, e.7)
+
+pub returns-in-Err-printed : goal.returns-in-Err-printed
+returns-in-Err-printed g c = subst (λ f. IsUnanswered c.args.plan.now f) (sym c.in-Err-printed.ensures) tt

@@ -6,12 +6,12 @@ pub loop-place-init : goal.loop-place-init
 loop-place-init c = λ k r h at torn. absurd (omega (arith, h))
 
 pub returns-in-Ok-Some : goal.returns-in-Ok-Some
-returns-in-Ok-Some c = torn_first c.args.words c.args.rows.now c.args.passed c.loop-place.place c.index-rows-place.result c.in-Ok-Some.told.items
+returns-in-Ok-Some c = torn_first c.args.plan.now c.args.words c.args.rows.now c.args.passed c.loop-place.place c.index-rows-place.result c.in-Ok-Some.told.items
     c.failure_of.result c.loop-place.invariant c.loop-place-test.true c.index-rows-place.is (rw c.in-Ok-Some.field-0-is at c.in-Ok-Some.ensures)
     (rw c.saturating_add.ensures at c.failure_of.ensures)
 
 pub loop-place-preserved : goal.loop-place-preserved
-loop-place-preserved c = cut_more c.args.words c.args.rows.now c.loop-place.place c.index-rows-place.result c.index-rows-place.is c.loop-place-test.true
+loop-place-preserved c = cut_more c.args.plan.now c.args.words c.args.rows.now c.loop-place.place c.index-rows-place.result c.index-rows-place.is c.loop-place-test.true
     c.loop-place.invariant (rw c.in-Ok-None.field-0-is at c.in-Ok-None.ensures)
 
 pub returns : goal.returns

@@ -1,15 +1,21 @@
 use Rattle.std.proofs.Common.{[], sym, subst}
-use Rattle.std.specs.Prelude.{MatchResult}
-use Rattle.jcard_tests.specs.Tests.{AreIncluded, IsNotIncluded}
-use Rattle.jcard_tests.proofs.RowTests.{no_reading, unrolled_lines}
+use Rattle.std.specs.Prelude.{MatchResult, option_map}
+use Rattle.jcard_tests.specs.Tests.{IsFileOf, IsNotIncluded}
+use Rattle.jcard_tests.proofs.RowTests.{no_reading, unrolled_file}
 use Rattle.jcard_tests.proofs.rows_file.unrolled.Goals as goal
 
 pub returns-in-Ok : goal.returns-in-Ok
 returns-in-Ok g c =
-    let more = c.with_included.ensures in
-    let included = subst (λ own. MatchResult c.with_included.result (λ ls. AreIncluded c.args.name.now own ls.items more.0) (λ f. IsNotIncluded c.args.name.now f))
-    c.deref.ensures.value more.3 in
-    (more.0, more.1, more.2, unrolled_lines (λ v. v.items) c.with_included.result c.args.name.now c.args.text.now c.in-Ok.lines.items more.0 c.in-Ok.ensures included)
+    let more = c.of_lines.ensures in
+    let name = c.args.name.now in
+    let file = subst (λ own. MatchResult c.of_lines.result (λ f. IsFileOf name own (option_map (λ t. t.items) f.table) f.lines.items more.0)
+    (λ f. IsNotIncluded name f)) c.deref.ensures.value more.3 in (
+      more.0,
+      more.1,
+      more.2,
+      unrolled_file (λ f. option_map (λ t. t.items) f.table) (λ f. f.lines.items) c.of_lines.result name c.args.text.now c.in-Ok.lines.items
+          more.0 c.in-Ok.ensures file,
+    )
 
 pub returns-in-Err : goal.returns-in-Err
 returns-in-Err g c = ([], g.met.D.Disk.none c.args.disk.now, no_reading, tt)

@@ -1,26 +1,23 @@
-use Rattle.std.proofs.Common.{[], ◌++◌, refl, sym, subst, inl, inr, append-nil}
-use Rattle.std.specs.Prelude.{option_map}
+use Rattle.std.proofs.Common.{[], ◌++◌, refl, inl, inr}
 use Rattle.jcard_script.proofs.Known.{appends_same}
-use Rattle.jcard_tests.specs.Tests.{IsTold}
-use Rattle.jcard_tests.proofs.RowTests.{any_unwritten, names_of}
+use Rattle.jcard_tests.proofs.Planned.{unplanned_unwritten}
 use Rattle.jcard_tests.proofs.testing.test_files.Goals as goal
 
 pub returns-in-Ok-clause-done : goal.returns-in-Ok-clause-done
 returns-in-Ok-clause-done g c =
-    let read = c.in-Ok.ensures in
-    let told = c.tell_tested.ensures.done in
-    let over = subst (λ ts. IsTold ts (option_map (λ name. name.now) c.args.junit) c.tell_tested.result told.0 told.1) c.deref.ensures.value told.3 in (
-      told.0,
-      read.0 ++ told.1,
-      told.2,
-      (read.0, told.1, refl, read.2, inr (c.in-Ok.tested.items, read.3, over)),
-      g.met.D.Disk.then _ _ _ read.0 told.1 read.1 told.4,
+    let planned = c.in-Ok.ensures in
+    let done = c.test_by.ensures.done in (
+      done.0,
+      planned.0 ++ done.1,
+      done.2,
+      inr (c.in-Ok.plan, planned.0, done.1, refl, planned.3, done.3),
+      g.met.D.Disk.then _ _ _ planned.0 done.1 planned.1 done.4,
     )
 
 pub returns-in-Err-clause-done : goal.returns-in-Err-clause-done
 returns-in-Err-clause-done g c =
-    let read = c.in-Err.ensures in
-    ([], read.0, appends_same _, (read.0, [], sym (append-nil read.0), read.2, inl (c.in-Err.fault, refl, read.3, refl, refl)), read.1)
+    let unplanned = c.in-Err.ensures in
+    ([], unplanned.0, appends_same _, inl (c.in-Err.fault, refl, unplanned.3, refl), unplanned.1)
 
 pub returns-in-Err-clause-writes : goal.returns-in-Err-clause-writes
-returns-in-Err-clause-writes g c = rw (any_unwritten (names_of c.args.files.now) c.in-Err.fault c.in-Err.ensures.0 c.in-Err.ensures.3) refl
+returns-in-Err-clause-writes g c = rw (unplanned_unwritten c.args.asked c.in-Err.fault c.in-Err.ensures.0 c.in-Err.ensures.3) refl

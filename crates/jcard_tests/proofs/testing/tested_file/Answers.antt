@@ -1,13 +1,17 @@
 use Rattle.std.proofs.Common.{inl}
-use Rattle.jcard_tests.specs.Tests.{AreFileLines}
+use Rattle.std.specs.Prelude.{option_map}
 use Rattle.jcard_tests.proofs.RowTests.{file_tested}
 use Rattle.jcard_tests.proofs.testing.tested_file.Goals as goal
 
 pub returns-in-Ok : goal.returns-in-Ok
 returns-in-Ok g c =
-    let read = c.in-Ok.ensures in
-    let lines : AreFileLines c.args.name.now c.deref.result.now read.0 = rw c.deref.ensures.value read.3 in
-    (read.0, read.1, read.2, file_tested c.tested_lines.result c.args.name.now c.deref.result.now read.0 lines c.tested_lines.ensures)
+    let read = c.in-Ok.ensures in (
+      read.0,
+      read.1,
+      read.2,
+      file_tested c.tested_rows.result c.args.plan.now c.args.name.now (option_map (λ t. t.items) c.in-Ok.file.table) c.in-Ok.file.lines.items
+          read.0 read.3 c.tested_rows.ensures,
+    )
 
 pub returns-in-Err : goal.returns-in-Err
 returns-in-Err g c =

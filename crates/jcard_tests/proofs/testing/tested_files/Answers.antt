@@ -6,7 +6,7 @@ use Rattle.jcard_tests.proofs.RowTests.{any_at, no_reading, names_of, reads_more
 use Rattle.jcard_tests.proofs.testing.tested_files.Goals as goal
 
 pub loop-name-init : goal.loop-name-init
-loop-name-init g c = ([], g.met.D.Disk.none c.args.disk.now, no_reading, rw c.new-tested.ensures.items tested_none)
+loop-name-init g c = ([], g.met.D.Disk.none c.args.disk.now, no_reading, rw c.new-tested.ensures.items (tested_none c.args.plan.now))
 
 pub loop-name-preserved : goal.loop-name-preserved
 loop-name-preserved g c =
@@ -16,7 +16,7 @@ loop-name-preserved g c =
       so_far.0 ++ next.0,
       g.met.D.Disk.then _ _ _ so_far.0 next.0 so_far.1 next.1,
       reads_more so_far.0 next.0 so_far.2 next.2,
-      tested_next c.args.files.now c.loop-name.name-index none c.loop-name.tested.items _ so_far.0 next.3.0 next.0
+      tested_next c.args.plan.now c.args.files.now c.loop-name.name-index none c.loop-name.tested.items _ so_far.0 next.3.0 next.0
           c.loop-name-test.true so_far.3 next.3.1 next.3.2,
     )
 
@@ -37,6 +37,6 @@ returns g c =
       all.0,
       all.1,
       all.2,
-      subst (λ files. AreTested (names_of files) c.loop-name.tested.items all.0)
+      subst (λ files. AreTested c.args.plan.now (names_of files) c.loop-name.tested.items all.0)
           (take_all c.loop-name.name-index c.args.files.now c.loop-name-test.false) all.3,
     )

@@ -7,4 +7,4 @@ use Rattle.jcard_tests.proofs.testing.tested_files.Given as goal
 
 abbrev pub invariant-loop-name : goal.invariant-loop-name
 invariant-loop-name g l = (deeds : List FileDeed) × g.D.Disk.does l.fn.disk deeds l.disk × All IsReading deeds
-    × AreTested (names_of (take l.name-index l.files)) l.tested.items deeds
+    × AreTested l.plan (names_of (take l.name-index l.files)) l.tested.items deeds

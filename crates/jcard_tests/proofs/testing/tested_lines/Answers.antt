@@ -1,12 +1,8 @@
-use Rattle.std.proofs.Common.{refl, subst}
-use Rattle.jcard_tests.specs.Tests.{AreAnsweredOn}
+use Rattle.jcard_tests.proofs.Planned.{answered_cards}
 use Rattle.jcard_tests.proofs.testing.tested_lines.Goals as goal
 
-pub returns-in-Ok-outcome_of : goal.returns-in-Ok-outcome_of
-returns-in-Ok-outcome_of c = (
-  refl,
-  c.in-Ok.cards.items,
-  c.in-Ok.ensures,
-  subst (λ cs. AreAnsweredOn cs 0 c.in-Ok-outcome_of.outcome) c.deref.ensures.value
-      c.in-Ok-outcome_of.ensures,
-)
+pub returns-in-Ok : goal.returns-in-Ok
+returns-in-Ok g c = answered_cards c.tested_cards.result c.args.plan.now c.args.name.now c.args.lines.now c.in-Ok.cards.items c.in-Ok.ensures c.tested_cards.ensures
+
+pub returns-in-Err : goal.returns-in-Err
+returns-in-Err g c = (c.args.plan.now, tt)

@@ -67,7 +67,7 @@ class Objects {
     }
 
     void message() {
-        throw new RuntimeException((String) null); //! message: class java.lang.String is neither on the card nor in an export file
+        throw new RuntimeException((String) null); //! message: class java.lang.String is neither on the card nor in an export file //! message: java.lang.RuntimeException(java.lang.String) is not on the card (docs/api.table lists what can be)
     }
 
     void cause() {

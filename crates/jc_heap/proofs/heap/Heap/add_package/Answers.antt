@@ -1,19 +1,19 @@
-use Rattle.std.proofs.Common.{◌≡◌, ◌≤◌, ◌<◌, ◌+◌, ◌∙◌, [], ◌∷◌, get_or, arith, refl, sym, ap, subst, true, Err}
+use Rattle.std.proofs.Common.{◌≡◌, ◌≤◌, ◌<◌, ◌+◌, ◌∙◌, [], ◌∷◌, length, get_or, arith, refl, sym, ap, subst, true, Err}
 use Rattle.jc_words.specs.Layout.{top_address, packages_address, addresses_start, most_packages}
-use Rattle.jc_commit.specs.Keeping.{has_room_for}
+use Rattle.jc_commit.specs.Keeping.{has_room_for, writes_for as journal_writes}
 use Rattle.jc_commit.specs.State.{Changes, keeping as journal_keeping}
 use Rattle.jc_commit.specs.declared.refusal.WriteRefusal.TheVariants.{StoreDown}
 use Rattle.jc_heap.specs.Fresh.{KeepsBelow, Fills}
 use Rattle.jc_heap.specs.Object.{APackage}
-use Rattle.jc_heap.specs.Heap.{heap_view, heap_after_change, heap_item_at, IsTornChange}
+use Rattle.jc_heap.specs.Heap.{heap_view, heap_after_change, heap_item_at, end_address, writes_for, IsTornChange}
 use Rattle.jc_heap.specs.Packages.{parts, array_inits, package_record, package_size, package_words, addresses_of_package, add_package}
 use Rattle.jc_heap.proofs.Changing.{up_is}
 use Rattle.jc_heap.proofs.Views.{nothing_at_top, view_top}
-use Rattle.jc_heap.proofs.NewObjects.{lacks_space, has_space, only_down, fresh_stopped_sound, fresh_stopped_view, top_stopped_sound, top_stopped_view}
-use Rattle.jc_heap.proofs.Calls.{unless_refused, unless_cut, unless_done, has_no_space, object_full, object_fits}
+use Rattle.jc_heap.proofs.NewObjects.{kept_alike, lacks_space, has_space, only_down, fresh_stopped_sound, fresh_stopped_view, top_stopped_sound, top_stopped_view}
+use Rattle.jc_heap.proofs.Calls.{unless_refused, unless_cut, unless_done, has_no_space, object_full, object_fits, count_is}
 use Rattle.jc_heap.specs.Moves.{AddPackage, refusal_of_package}
 use Rattle.jc_heap.specs.declared.refusal.HeapRefusal.TheVariants.{CommitFull, HeapFull}
-use Rattle.jc_heap.proofs.NewPackages.{view_count, view_no_room, view_room, package_are_places, package_sound, package_view, item-package}
+use Rattle.jc_heap.proofs.NewPackages.{length-package_words, view_count, view_no_room, view_room, package_are_places, package_sound, package_view, item-package}
 use Rattle.jc_heap.proofs.heap.Heap.add_package.Goals as goal
 
 pub returns-then-end-from-clause-free : goal.returns-then-end-from-clause-free
@@ -168,9 +168,9 @@ pub returns-in_default-clause-moves : goal.returns-in_default-clause-moves
 returns-in_default-clause-moves g c =
     let below : KeepsBelow (get_or c.self.inside.journal.plain top_address 0) c.self.inside.journal c.write_package-written.new.journal =
     subst (λ t. KeepsBelow t c.self.inside.journal c.write_package-written.new.journal) c.read-top.ensures c.write_package-written.ensures.below in
-    let st : IsTornChange c.args.self.now (heap_view c.write_package-written.new.journal c.self.inside.size) =
+    let st : IsTornChange (package_size (parts c.args.components.now) (array_inits c.args.arrays.now) c.args.image.now + writes_for c.args.self.now (addresses_of_package c.args.self.now.now)) c.args.self.now (heap_view c.write_package-written.new.journal c.self.inside.size) =
     fresh_stopped_view c.self.inside.journal c.write_package-written.new.journal c.self.inside.size c.self.invariant
-    (up_is c.self.inside.journal c.args.self.now c.self.inside.size c.self.view_is c.requires.up) below c.args.self.now c.self.view_is
+    (up_is c.self.inside.journal c.args.self.now c.self.inside.size c.self.view_is c.requires.up) below _ (omega arith) c.args.self.now c.self.view_is
     c.in_default.ensures.stopped in
     unless_cut (refusal_of_package c.args.self.now (parts c.args.components.now) (array_inits c.args.arrays.now) c.args.image.now) c.args.self.now
     (heap_view c.write_package-written.new.journal c.self.inside.size) (AddPackage (parts c.args.components.now)
@@ -186,6 +186,7 @@ returns-in_default-clause-moves g c =
     ((sym c.fits.ensures ∙ c.if-not-fits.false)))) st
 
 pub returns-in_default-write_all-clause-moves : goal.returns-in_default-write_all-clause-moves
+unfolding addresses_of_package end_address
 returns-in_default-write_all-clause-moves g c =
     let below : KeepsBelow (get_or c.self.inside.journal.plain top_address 0) c.self.inside.journal c.write_package-written.new.journal =
     subst (λ t. KeepsBelow t c.self.inside.journal c.write_package-written.new.journal) c.read-top.ensures c.write_package-written.ensures.below in
@@ -200,12 +201,24 @@ returns-in_default-write_all-clause-moves g c =
     c.self.inside.size c.self.invariant (up_is c.self.inside.journal c.args.self.now c.self.inside.size c.self.view_is c.requires.up) below
     ((addresses_start + c.read-count.result) ∷ packages_address ∷ top_address ∷ []) fit
     c.in_default-write_all.field-0 (λ e. c.in_default-write_all.ensures.full.0 (ap Err e)) in
-    let st : IsTornChange c.args.self.now (heap_view c.write_all.new.self c.self.inside.size) =
-    top_stopped_view c.self.inside.journal c.write_package-written.new.journal c.self.inside.size c.self.invariant
+    let counted : c.args.self.now.now.counts.0 ≡ c.read-count.result =
+    view_count c.self.inside.journal c.args.self.now c.self.inside.size c.self.view_is
+    (c.self.invariant.now (up_is c.self.inside.journal c.args.self.now c.self.inside.size c.self.view_is c.requires.up)) ∙ sym c.read-count.ensures in
+    let count : length (package_words (get_or c.self.inside.journal.plain top_address 0) (c.read-count.result + 1) (parts c.args.components.now)
+    (array_inits c.args.arrays.now) c.args.image.now) + journal_writes (journal_keeping c.write_package-written.new.journal)
+    ((addresses_start + c.read-count.result) ∷ packages_address ∷ top_address ∷ []) ≡ (package_size (parts c.args.components.now) (array_inits c.args.arrays.now) c.args.image.now + writes_for c.args.self.now (addresses_of_package c.args.self.now.now)) =
+    (λ i. length-package_words (get_or c.self.inside.journal.plain top_address 0) (c.read-count.result + 1) (parts c.args.components.now)
+    (array_inits c.args.arrays.now) c.args.image.now i + (ap (λ p. journal_writes p ((addresses_start + c.read-count.result) ∷ packages_address ∷ top_address ∷ []))
+    (kept_alike c.self.inside.journal c.write_package-written.new.journal c.self.inside.size c.self.invariant
+    (up_is c.self.inside.journal c.args.self.now c.self.inside.size c.self.view_is c.requires.up) below)
+    ∙ count_is c.self.inside.journal c.args.self.now c.self.inside.size ((addresses_start + c.read-count.result) ∷ packages_address ∷ top_address ∷ []) c.self.invariant.back c.self.view_is
+    ∙ ap (λ k. writes_for c.args.self.now ((addresses_start + k) ∷ packages_address ∷ top_address ∷ [])) (sym counted)) i) in
+    let st : IsTornChange (package_size (parts c.args.components.now) (array_inits c.args.arrays.now) c.args.image.now + writes_for c.args.self.now (addresses_of_package c.args.self.now.now)) c.args.self.now (heap_view c.write_all.new.self c.self.inside.size) =
+    subst (λ w. IsTornChange w c.args.self.now (heap_view c.write_all.new.self c.self.inside.size)) count (top_stopped_view c.self.inside.journal c.write_package-written.new.journal c.self.inside.size c.self.invariant
     (up_is c.self.inside.journal c.args.self.now c.self.inside.size c.self.view_is c.requires.up) below
     (package_words (get_or c.self.inside.journal.plain top_address 0) (c.read-count.result + 1) (parts c.args.components.now)
-    (array_inits c.args.arrays.now) c.args.image.now) fills c.write_all.new.self c.args.self.now c.self.view_is
-    (c.in_default-write_all.ensures.stopped (ap Err down)) in
+    (array_inits c.args.arrays.now) c.args.image.now) fills _ c.write_all.new.self c.args.self.now c.self.view_is
+    (c.in_default-write_all.ensures.stopped (ap Err down))) in
     unless_cut (refusal_of_package c.args.self.now (parts c.args.components.now) (array_inits c.args.arrays.now) c.args.image.now) c.args.self.now
     (heap_view c.write_all.new.self c.self.inside.size) (AddPackage (parts c.args.components.now) (array_inits c.args.arrays.now) c.args.image.now)
     c.args.self.now.now.top

@@ -1,18 +1,18 @@
 use Rattle.std.proofs.Common.{◌≡◌, ◌≤◌, ◌+◌, ◌∙◌, [], ◌∷◌, get_or, arith, refl, sym, ap, subst, true, Err}
 use Rattle.jc_words.specs.Layout.{top_address}
-use Rattle.jc_commit.specs.Keeping.{has_room_for}
+use Rattle.jc_commit.specs.Keeping.{has_room_for, writes_for as journal_writes}
 use Rattle.jc_commit.specs.State.{Changes, keeping as journal_keeping}
 use Rattle.jc_commit.specs.declared.refusal.WriteRefusal.TheVariants.{StoreDown}
 use Rattle.jc_heap.specs.Fresh.{KeepsBelow, Fills}
-use Rattle.jc_heap.specs.Heap.{area_end_address, area_end, end_address, heap_view}
+use Rattle.jc_heap.specs.Heap.{area_end_address, area_end, end_address, heap_view, writes_for, IsTornChange}
 use Rattle.jc_heap.specs.Object.{transient_size}
 use Rattle.jc_heap.proofs.Changing.{up_is}
 use Rattle.jc_heap.proofs.Views.{nothing_at_top, view_top}
 use Rattle.jc_heap.proofs.NewObjects.{fills_same, lacks_space, has_space, transient_record, only_down, fresh_stopped_sound, fresh_stopped_view}
-use Rattle.jc_heap.proofs.NewObjects.{top_stopped_sound, top_stopped_view, transient_sound, transient_view, view_area, made_transient}
+use Rattle.jc_heap.proofs.NewObjects.{kept_alike, top_stopped_sound, top_stopped_view, transient_sound, transient_view, view_area, made_transient}
 use Rattle.jc_heap.specs.declared.refusal.HeapRefusal.TheVariants.{HeapFull, CommitFull, NoTransientSpace}
 use Rattle.jc_heap.specs.Moves.{AddTransient, refusal_of_transient}
-use Rattle.jc_heap.proofs.Calls.{unless_refused, unless_cut, unless_done, has_no_cells, has_some_cells, has_no_space, object_full, object_fits, ends_room}
+use Rattle.jc_heap.proofs.Calls.{unless_refused, unless_cut, unless_done, has_no_cells, has_some_cells, has_no_space, object_full, object_fits, ends_room, count_is}
 use Rattle.jc_heap.proofs.heap.Heap.new_transient.Goals as goal
 
 pub returns-then-area_end-from-clause-free : goal.returns-then-area_end-from-clause-free
@@ -154,10 +154,11 @@ returns-in_default-clause-moves g c =
     (ends_room c.self.inside.journal c.args.self.now c.self.inside.size c.args.event c.area_word-end_word.result c.self.invariant.back c.self.view_is
     c.area_word-end_word.ensures
     ∙ (sym c.fits.ensures ∙ c.if-not-fits.false))) (fresh_stopped_view c.self.inside.journal c.write_run.new.journal c.self.inside.size c.self.invariant
-    (up_is c.self.inside.journal c.args.self.now c.self.inside.size c.self.view_is c.requires) below c.args.self.now c.self.view_is
+    (up_is c.self.inside.journal c.args.self.now c.self.inside.size c.self.view_is c.requires) below _ (omega arith) c.args.self.now c.self.view_is
     c.in_default.ensures.stopped)
 
 pub returns-in_default-write_all-clause-moves : goal.returns-in_default-write_all-clause-moves
+unfolding end_address
 returns-in_default-write_all-clause-moves g c =
     let at : c.read-place.result ≡ get_or c.self.inside.journal.plain (area_end_address c.args.event) 0 = c.read-place.ensures
     ∙ ap (λ a. get_or c.self.inside.journal.plain a 0) c.area_word-end_word.ensures in
@@ -179,6 +180,13 @@ returns-in_default-write_all-clause-moves g c =
     c.self.inside.size c.self.invariant (up_is c.self.inside.journal c.args.self.now c.self.inside.size c.self.view_is c.requires) below
     (top_address ∷ c.area_word-end_word.result ∷ []) fit c.in_default-write_all.field-0
     (λ e. c.in_default-write_all.ensures.full.0 (ap Err e)) in
+    let count : transient_size + journal_writes (journal_keeping c.write_run.new.journal) (top_address ∷ c.area_word-end_word.result ∷ [])
+    ≡ transient_size + writes_for c.args.self.now (top_address ∷ area_end_address c.args.event ∷ []) =
+    ap (λ n. transient_size + n) (ap (λ p. journal_writes p (top_address ∷ c.area_word-end_word.result ∷ []))
+    (kept_alike c.self.inside.journal c.write_run.new.journal c.self.inside.size c.self.invariant
+    (up_is c.self.inside.journal c.args.self.now c.self.inside.size c.self.view_is c.requires) below)
+    ∙ ap (λ a. journal_writes (journal_keeping c.self.inside.journal) (top_address ∷ a ∷ [])) c.area_word-end_word.ensures
+    ∙ count_is c.self.inside.journal c.args.self.now c.self.inside.size (top_address ∷ area_end_address c.args.event ∷ []) c.self.invariant.back c.self.view_is) in
     unless_cut (refusal_of_transient c.args.self.now c.args.event c.args.length) c.args.self.now (heap_view c.write_all.new.self c.self.inside.size)
     (AddTransient c.args.kind c.args.event c.args.class c.args.owner c.args.length) c.args.self.now.now.top
     (has_some_cells c.args.self.now c.args.event c.args.length (λ l. omega (arith, l, va, at))
@@ -187,10 +195,10 @@ returns-in_default-write_all-clause-moves g c =
     (c.self.invariant.now (up_is c.self.inside.journal c.args.self.now c.self.inside.size c.self.view_is c.requires)) (omega arith))
     (ends_room c.self.inside.journal c.args.self.now c.self.inside.size c.args.event c.area_word-end_word.result c.self.invariant.back c.self.view_is
     c.area_word-end_word.ensures
-    ∙ (sym c.fits.ensures ∙ c.if-not-fits.false))) (top_stopped_view c.self.inside.journal c.write_run.new.journal c.self.inside.size c.self.invariant
+    ∙ (sym c.fits.ensures ∙ c.if-not-fits.false))) (subst (λ w. IsTornChange w c.args.self.now (heap_view c.write_all.new.self c.self.inside.size)) count (top_stopped_view c.self.inside.journal c.write_run.new.journal c.self.inside.size c.self.invariant
     (up_is c.self.inside.journal c.args.self.now c.self.inside.size c.self.view_is c.requires) below
-    (transient_record c.args.kind c.args.event c.args.class c.args.owner c.args.length c.read-place.result) fills c.write_all.new.self c.args.self.now
-    c.self.view_is (c.in_default-write_all.ensures.stopped (ap Err down)))
+    (transient_record c.args.kind c.args.event c.args.class c.args.owner c.args.length c.read-place.result) fills _ c.write_all.new.self c.args.self.now
+    c.self.view_is (c.in_default-write_all.ensures.stopped (ap Err down))))
 
 pub returns-clause-moves : goal.returns-clause-moves
 returns-clause-moves g c =

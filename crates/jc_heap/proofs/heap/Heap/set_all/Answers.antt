@@ -59,4 +59,4 @@ returns-in_err-write_all g c =
     c.self.view_is c.self.invariant c.requires.up c.requires.there c.requires.plain c.requires.apart c.words_of_places-words.ensures in
     written_refused j v n c.words_of_places-words.result _ _ c.self.view_is w c.from_residual.result (SetPlaces c.args.changes.now) c.write_all.new.self
     c.in_err-write_all.field-0.0 c.self.invariant.back c.from_residual.ensures.1 c.in_err-write_all.ensures.full c.in_err-write_all.ensures.kept
-    c.in_err-write_all.ensures.stopped
+    c.in_err-write_all.ensures.stopped refl

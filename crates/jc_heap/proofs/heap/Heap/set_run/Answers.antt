@@ -61,4 +61,4 @@ returns-in_err-change_run g c =
     c.self.view_is c.self.invariant c.requires.up c.requires.cells c.requires.values c.run_for-run.ensures in
     written_refused j v n c.run_for-run.result _ _ c.self.view_is w c.from_residual.result (SetCells c.args.object c.args.i (elements_of c.args.values))
     c.change_run.new.journal c.in_err-change_run.field-0.0 c.self.invariant.back c.from_residual.ensures.1 c.in_err-change_run.ensures.full
-    c.in_err-change_run.ensures.kept c.in_err-change_run.ensures.stopped
+    c.in_err-change_run.ensures.kept c.in_err-change_run.ensures.stopped refl

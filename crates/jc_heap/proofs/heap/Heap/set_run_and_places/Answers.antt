@@ -70,7 +70,7 @@ returns-in_err-write_all g c =
     written_refused j v n c.new-both.result _ _ c.self.view_is w c.from_residual.result (SetPlaces (cell_changes c.args.object c.args.i (elements_of
     c.args.values) ++ c.args.places.now)) c.write_all.new.self
     c.in_err-write_all.field-0.0 c.self.invariant.back c.from_residual.ensures.1 c.in_err-write_all.ensures.full c.in_err-write_all.ensures.kept
-    c.in_err-write_all.ensures.stopped
+    c.in_err-write_all.ensures.stopped refl
 
 pub new-both-requires : goal.new-both-requires
 new-both-requires g c =

@@ -1,12 +1,12 @@
 use Rattle.std.proofs.Common.{◌≡◌, ◌∙◌, [], ◌∷◌, length, refl, subst, sym, ap, inl, inr, Err, true, List, ℕ}
-use Rattle.jc_commit.specs.Keeping.{has_room_for as journal_room}
+use Rattle.jc_commit.specs.Keeping.{has_room_for as journal_room, writes_for as journal_writes}
 use Rattle.jc_commit.specs.State.{Changes, keeping as journal_keeping}
 use Rattle.jc_heap.specs.Heap.{IsSound, heap_view, has_room_for}
 use Rattle.jc_heap.specs.Moves.{Write, refusal_at}
 use Rattle.jc_heap.specs.Places.{place_at}
 use Rattle.jc_heap.specs.Elements.{word_for}
 use Rattle.jc_heap.proofs.Changing.{up_is, refusal_cases, journal_stopped_sound}
-use Rattle.jc_heap.proofs.Calls.{ok_not_err, not_false, room_is, not_full, unless_done, change_refused}
+use Rattle.jc_heap.proofs.Calls.{ok_not_err, not_false, room_is, count_is, not_full, unless_done, change_refused}
 use Rattle.jc_heap.proofs.Places.{PlaceSpot, place_spot, place_logged, place_view, place_sound}
 use Rattle.jc_heap.proofs.heap.Heap.write.Goals as goal
 
@@ -19,7 +19,7 @@ write-requires-clause-place g c =
 
 pub invariant_of-self : goal.invariant_of-self
 invariant_of-self g c = elim (refusal_cases c.in_err-write.field-0.0) [
-  | inl e ↦ journal_stopped_sound c.self.inside.journal c.write.new.self c.self.inside.size (c.in_err-write.ensures.stopped (ap Err e)) c.self.invariant
+  | inl e ↦ journal_stopped_sound _ c.self.inside.journal c.write.new.self c.self.inside.size (c.in_err-write.ensures.stopped (ap Err e)) c.self.invariant
   | inr e ↦ subst (λ j. IsSound j c.self.inside.size) (sym (c.in_err-write.ensures.kept (ap Err e))) c.self.invariant
 ]
 
@@ -54,5 +54,5 @@ returns-in_err-write g c =
     room_is c.self.inside.journal c.args.self.now c.self.inside.size places c.self.invariant.back c.self.view_is
     ∙ ap (λ a. journal_room (journal_keeping c.self.inside.journal) (a ∷ [])) (sym c.place_word-word.ensures) in
     change_refused c.from_residual.result (Write c.args.place c.args.v) c.args.self.now c.self.inside.journal c.write.new.self c.self.inside.size places
-    (journal_room (journal_keeping c.self.inside.journal) (c.place_word-word.result ∷ [])) c.in_err-write.field-0.0 c.from_residual.ensures.1 c.self.view_is
+    (journal_room (journal_keeping c.self.inside.journal) (c.place_word-word.result ∷ [])) c.in_err-write.field-0.0 _ (ap (λ a. journal_writes (journal_keeping c.self.inside.journal) (a ∷ [])) c.place_word-word.ensures ∙ count_is c.self.inside.journal c.args.self.now c.self.inside.size places c.self.invariant.back c.self.view_is) c.from_residual.ensures.1 c.self.view_is
     there e.full.0 e.full.1 e.kept e.stopped

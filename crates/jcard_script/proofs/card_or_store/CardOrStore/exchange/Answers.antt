@@ -6,4 +6,4 @@ use Rattle.jcard_script.proofs.card_or_store.CardOrStore.exchange.Goals as goal
 pub returns-in-Ok-clause-up : goal.returns-in-Ok-clause-up
 returns-in-Ok-clause-up g c =
     let up = rw c.in-Card.is at c.requires.up in
-    down_did (exchange c.args.command.now c.in-Card.card) c.in-Card.card.memory c.exchange.new.self.memory _ c.in-Ok.ensures ∙ up
+    down_did (exchange c.args.command.now c.in-Card.card) c.in-Card.card.memory c.exchange.new.self.memory _ c.in-Ok.ensures.executes ∙ up

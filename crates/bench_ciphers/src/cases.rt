@@ -1,0 +1,171 @@
+//! The cases, by their first words.
+
+ghost use Rattle.std.specs.Prelude.{◌≤◌};
+
+use crate::loops::timed;
+use crate::messages::{hmac, mac};
+use crate::words::{bytes, pieces};
+use jc_aes::aes::Aes;
+use jc_des::des::Des;
+use jc_des::triple::TripleDes;
+use jc_digests::checksums::{update_16, update_32};
+use jc_digests::digest::Digest;
+use jc_digests::md_5::Md5;
+use jc_digests::sha_1::Sha1;
+use jc_digests::sha_256::{Sha224, Sha256};
+use jc_digests::sha_512::{Sha384, Sha512};
+use std::alloc::{AllocError, Global};
+
+/// The answer of a line, which is empty where the line is no case.
+pub fn answer(alloc: Global, line: &str) -> Result<String, AllocError> {
+    let words = line.split(' ').collect::<Vec<&str>>(alloc)?;
+    match words.as_slice() {
+        ["digest", name, cuts, message] => {
+            let pieces = pieces(alloc, cuts, message)?;
+            digest(alloc, name, pieces.as_slice())
+        }
+        ["crc16", cuts, message] => {
+            let mut register = 0xffffu16;
+            for piece in pieces(alloc, cuts, message)?.as_slice() {
+                register = update_16(register, piece.as_slice());
+            }
+            hex::encode(alloc, (!register).to_be_bytes())
+        }
+        ["crc32", cuts, message] => {
+            let mut register = 0xffff_ffffu32;
+            for piece in pieces(alloc, cuts, message)?.as_slice() {
+                register = update_32(register, piece.as_slice());
+            }
+            hex::encode(alloc, (!register).to_be_bytes())
+        }
+        ["block", name, way, key, block] => {
+            let key = bytes(alloc, key)?;
+            let block = bytes(alloc, block)?;
+            match *name {
+                "aes" => aes(alloc, way, key.as_slice(), block.as_slice()),
+                _ => des(alloc, way, key.as_slice(), block.as_slice()),
+            }
+        }
+        [
+            mode @ ("ecb" | "cbc"),
+            name,
+            way,
+            padding,
+            key,
+            first,
+            cuts,
+            message,
+        ] => {
+            let pieces = pieces(alloc, cuts, message)?;
+            crate::messages::mode(
+                alloc,
+                [mode, name, way, padding, key, first],
+                pieces.as_slice(),
+            )
+        }
+        [
+            code @ ("mac1" | "mac3" | "cmac"),
+            name,
+            padding,
+            key,
+            cuts,
+            message,
+        ] => {
+            let pieces = pieces(alloc, cuts, message)?;
+            mac(alloc, [code, name, padding, key], pieces.as_slice())
+        }
+        ["hmac", name, key, cuts, message] => {
+            let key = bytes(alloc, key)?;
+            let pieces = pieces(alloc, cuts, message)?;
+            keyed(alloc, name, key.as_slice(), pieces.as_slice())
+        }
+        ["time", name, count] => {
+            let count = count.parse::<u32>().unwrap_or(0);
+            hex::encode(alloc, timed(name, count))
+        }
+        _ => Ok(String::new(alloc)),
+    }
+}
+
+fn digest(alloc: Global, name: &str, pieces: &[Vec<u8>]) -> Result<String, AllocError> {
+    match name {
+        "md5" => digest_of::<Md5>(alloc, pieces),
+        "sha1" => digest_of::<Sha1>(alloc, pieces),
+        "sha224" => digest_of::<Sha224>(alloc, pieces),
+        "sha256" => digest_of::<Sha256>(alloc, pieces),
+        "sha384" => digest_of::<Sha384>(alloc, pieces),
+        _ => digest_of::<Sha512>(alloc, pieces),
+    }
+}
+
+fn keyed(alloc: Global, name: &str, key: &[u8], pieces: &[Vec<u8>]) -> Result<String, AllocError> {
+    match name {
+        "md5" => hmac::<Md5>(alloc, key, pieces),
+        "sha1" => hmac::<Sha1>(alloc, key, pieces),
+        "sha224" => hmac::<Sha224>(alloc, key, pieces),
+        "sha256" => hmac::<Sha256>(alloc, key, pieces),
+        "sha384" => hmac::<Sha384>(alloc, key, pieces),
+        _ => hmac::<Sha512>(alloc, key, pieces),
+    }
+}
+
+fn digest_of<D: Digest>(alloc: Global, pieces: &[Vec<u8>]) -> Result<String, AllocError>
+    requires { D.size ≤ 64 }
+{
+    let mut digest = D::new();
+    for piece in pieces {
+        digest.update(piece.as_slice());
+    }
+    let mut bytes = [0; 64];
+    let bytes = &mut bytes[..D::size()];
+    digest.finish(bytes);
+    hex::encode(alloc, &*bytes)
+}
+
+fn aes(alloc: Global, way: &str, key: &[u8], block: &[u8]) -> Result<String, AllocError> {
+    let Ok(block) = <[u8; 16]>::try_from(block) else {
+        return Ok(String::new(alloc));
+    };
+    if key.len() != 16 && key.len() != 24 && key.len() != 32 {
+        return Ok(String::new(alloc));
+    }
+    let cipher = Aes::new(key);
+    hex::encode(
+        alloc,
+        if way == "encrypt" {
+            cipher.encrypt(&block)
+        } else {
+            cipher.decrypt(&block)
+        },
+    )
+}
+
+// A key of 8 bytes is one of DES, of 16 and 24 one of triple DES.
+fn des(alloc: Global, way: &str, key: &[u8], block: &[u8]) -> Result<String, AllocError> {
+    let Ok(block) = <[u8; 8]>::try_from(block) else {
+        return Ok(String::new(alloc));
+    };
+    if let Ok(key) = <[u8; 8]>::try_from(key) {
+        let cipher = Des::new(&key);
+        return hex::encode(
+            alloc,
+            if way == "encrypt" {
+                cipher.encrypt(&block)
+            } else {
+                cipher.decrypt(&block)
+            },
+        );
+    }
+    if key.len() != 16 && key.len() != 24 {
+        return Ok(String::new(alloc));
+    }
+    let cipher = TripleDes::new(key);
+    hex::encode(
+        alloc,
+        if way == "encrypt" {
+            cipher.encrypt(&block)
+        } else {
+            cipher.decrypt(&block)
+        },
+    )
+}

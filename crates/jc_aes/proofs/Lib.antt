@@ -1,0 +1,5 @@
+pub mod Tables
+pub mod Products
+pub mod Xor
+pub mod Undoing
+pub mod StandardFacts

@@ -1,0 +1,4 @@
+pub mod Field
+pub mod Aes
+pub mod Keys
+pub mod Laws

@@ -1,0 +1,6 @@
+pub mod Listed
+pub mod Numbers
+pub mod Gathered
+pub mod Halves
+pub mod Undoing
+pub mod StandardFacts

@@ -1,0 +1,29 @@
+use Rattle.std.proofs.Common.{◌≡◌, ◌∙◌, ◌+◌, ◌*◌, ◌++◌, ℕ, suc, List, length, take, refl, sym, ap, arith}
+use Rattle.std.specs.Int.{to_le_bytes, w32}
+use Rattle.std.proofs.lemmas.List.{take_all}
+use Rattle.jc_digests.specs.Pieces.{bytes_of_words}
+use Rattle.jc_digests.proofs.absorbing.put_words_32_low_first.Goals as goal
+
+pub words-init : goal.words-init
+unfolding bytes_of_words
+words-init c = (refl, c.requires.room)
+
+pub words-preserved : goal.words-preserved
+unfolding bytes_of_words
+words-preserved c =
+    let i = c.words.i in
+    let inv = c.words.invariant in
+    let next : suc i ≡ i + 1 = omega arith in
+    let long : length c.to_le_bytes.result ≡ 4 = ap length c.to_le_bytes.ensures in
+    let end : 4 * (i + 1) ≡ 4 * i + length c.to_le_bytes.result = omega (arith, long) in (
+      ap (λ (n : ℕ). take n c.put.new.block) end ∙ c.put.ensures ∙ (λ j. inv.0 j ++ c.to_le_bytes.ensures j)
+          ∙ ap (bytes_of_words (to_le_bytes w32) c.args.words.now) next,
+      c.put.auto.block ∙ inv.1,
+    )
+
+pub returns : goal.returns
+returns c =
+    let i = c.words.i in
+    let inv = c.words.invariant in
+    let all : i ≡ c.args.count = omega arith in
+    sym (take_all (4 * i) c.words.to (omega (arith, inv.1, all))) ∙ inv.0 ∙ ap (bytes_of_words (to_le_bytes w32) c.args.words.now) all

@@ -1,0 +1,6 @@
+use Rattle.std.proofs.Common.{◌≡◌}
+use Rattle.jc_digests.specs.Remainders.{bits_in, generator_32}
+use Rattle.jc_digests.proofs.checksums.byte_into_32.Given as goal
+
+abbrev pub invariant-bits : goal.invariant-bits
+invariant-bits l = l.next ≡ bits_in generator_32 l.fn.register l.byte l.n

@@ -1,0 +1,6 @@
+use Rattle.std.proofs.Common.{◌≡◌, take}
+use Rattle.jc_digests.specs.Remainders.{generator_16, remainder}
+use Rattle.jc_digests.proofs.checksums.update_16.Given as goal
+
+abbrev pub invariant-loop-byte : goal.invariant-loop-byte
+invariant-loop-byte l = l.next ≡ remainder generator_16 l.fn.register (take l.byte-index l.piece)

@@ -1,0 +1,17 @@
+use Rattle.std.proofs.Common.{◌≡◌, ◌∙◌, ◌+◌, ℕ, List, length, slice_index, take, refl, sym, ap, arith}
+use Rattle.std.proofs.lemmas.List.{take_all}
+use Rattle.jc_digests.specs.Remainders.{bits_in, generator_32, remainder}
+use Rattle.jc_digests.proofs.Remainders.{remainder_more}
+use Rattle.jc_digests.proofs.checksums.update_32.Goals as goal
+
+pub loop-byte-init : goal.loop-byte-init
+unfolding remainder
+loop-byte-init c = refl
+
+pub loop-byte-preserved : goal.loop-byte-preserved
+loop-byte-preserved c =
+    let piece = c.args.piece.now in
+    let i = c.loop-byte.byte-index in
+    c.byte_into_32-next.ensures
+    ∙ ap (λ (r : ℕ). bits_in generator_32 r (slice_index piece i) 8) c.loop-byte.invariant
+    ∙ sym (remainder_more generator_32 c.args.register piece i c.loop-byte-test.true)

@@ -1,0 +1,5 @@
+use Rattle.sha2.specs.Sha256.{initial_hash_256}
+use Rattle.jc_digests.proofs.sha_256.Sha256Digest.update.Goals as goal
+
+pub returns : goal.returns
+returns c = λ m held. c.update_64.ensures initial_hash_256 m held

@@ -1,0 +1,4 @@
+pub mod Modes
+pub mod Paddings
+pub mod Macs
+pub mod Laws

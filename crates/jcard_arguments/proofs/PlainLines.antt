@@ -1,0 +1,10 @@
+-- The plain lines of every command.
+use Rattle.jcard_arguments.proofs.Dumps.{dumps}
+use Rattle.jcard_arguments.proofs.OptionLines.{news, tries}
+use Rattle.jcard_arguments.proofs.Runs.{runs}
+use Rattle.jcard_arguments.proofs.TearLines.{joins, tears}
+use Rattle.jcard_arguments.proofs.TestLines.{tests}
+use Rattle.jcard_arguments.specs.PlainLines.{TakesPlainLines}
+
+pub plain_lines : TakesPlainLines
+plain_lines = (runs, dumps, news, tries, tears, joins, tests)

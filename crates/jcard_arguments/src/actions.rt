@@ -1,0 +1,278 @@
+//! What the values of a command's operands and options ask for.
+ghost use Rattle.std.specs.Prelude.{◌≡◌, ℕ, List, codes, IfErr, IfOk, None, Some, option_map};
+ghost use Rattle.std.specs.Borrow.{Bor};
+ghost use Rattle.clap.specs.Words.{all_of, found_of, rows_of};
+ghost use Rattle.jcard_arguments.specs.CommandLine.{IsReadAs, depth_of, dump_of, is_bare, join_by, new_of, request_of, run_asked, run_asked_by, run_of};
+ghost use Rattle.jcard_arguments.specs.CommandLine.{tear_asked, tear_asked_by, tear_of, test_of, text_of, texts_of, try_of, two_of};
+
+use crate::arguments::{Action, NoAction};
+use crate::numbers::{budget_given, number_given};
+use crate::options::{RunOptions, TearOptions, TestOptions};
+use crate::values::{is_given, value_of, values_of};
+use clap::ArgMatches;
+use jcard_outcomes::recoveries::Depth;
+use std::alloc::Global;
+
+const NO_OPERAND: &str = "an operand is missing";
+
+const BAD_INSTRUCTIONS: &str = "--instructions takes a number from 1 to 4294967295";
+
+/// What the command of this name asks for, with these values.
+pub(crate) fn action_of<'a>(
+    alloc: Global,
+    name: &str,
+    values: &ArgMatches<'a>,
+) -> Result<Action<'a>, NoAction>
+    ensures { IsReadAs (request_of (name.now, rows_of (found_of values.now))) result }
+{
+    match name {
+        "new" => new_action(values),
+        "run" => run_action(values),
+        "dump" => dump_action(values),
+        "try" => try_action(values),
+        "tear" => tear_action(alloc, values),
+        "test" => test_action(alloc, values),
+        _ => Err(NoAction::Misused("no such command")),
+    }
+}
+
+fn new_action<'a>(values: &ArgMatches<'a>) -> Result<Action<'a>, NoAction>
+    ensures { IsReadAs (new_of (rows_of (found_of values.now))) result }
+{
+    let Some(image) = value_of(values, "image") else {
+        return Err(NoAction::Misused(NO_OPERAND));
+    };
+    let words = value_of(values, "words").unwrap_or("8192");
+    let journal = value_of(values, "journal").unwrap_or("256");
+    let table = value_of(values, "table");
+    Ok(Action::New {
+        image,
+        words,
+        journal,
+        table,
+    })
+}
+
+fn run_action<'a>(values: &ArgMatches<'a>) -> Result<Action<'a>, NoAction>
+    ensures { IsReadAs (run_of (rows_of (found_of values.now))) result }
+{
+    let Some(image) = value_of(values, "image") else {
+        return Err(NoAction::Misused(NO_OPERAND));
+    };
+    let Some(script) = value_of(values, "script") else {
+        return Err(NoAction::Misused(NO_OPERAND));
+    };
+    match run_options(values) {
+        Ok(options) => Ok(Action::Run {
+            image,
+            script,
+            options,
+        }),
+        Err(why) => Err(NoAction::Misused(why)),
+    }
+}
+
+// What a run is asked for besides its answers.
+fn run_options<'a>(values: &ArgMatches<'a>) -> Result<RunOptions<'a>, &'static str>
+    ensures ok { IfOk result (λ options. run_asked (rows_of (found_of values.now))
+        ≡ Some (run_asked_by options)) }
+    ensures none { IfErr result (λ _. run_asked (rows_of (found_of values.now)) ≡ None) }
+{
+    let why = is_given(values, "why");
+    let trace = is_given(values, "trace");
+    let expect = is_given(values, "expect");
+    let lines = value_of(values, "lines");
+    let map = value_of(values, "map");
+    let cover = value_of(values, "cover");
+    let instructions = value_of(values, "instructions");
+    if map.is_some() && !why && !trace {
+        return Err("--map goes with --why or --trace");
+    }
+    if lines.is_some() && !trace {
+        return Err("--lines goes with --trace");
+    }
+    let Some(lines) = number_given(lines) else {
+        return Err("--lines takes a number below 4294967296");
+    };
+    let Some(instructions) = budget_given(instructions) else {
+        return Err(BAD_INSTRUCTIONS);
+    };
+    Ok(RunOptions {
+        why,
+        trace,
+        expect,
+        lines,
+        map,
+        cover,
+        instructions,
+    })
+}
+
+fn dump_action<'a>(values: &ArgMatches<'a>) -> Result<Action<'a>, NoAction>
+    ensures { IsReadAs (dump_of (rows_of (found_of values.now))) result }
+{
+    let Some(image) = value_of(values, "image") else {
+        return Err(NoAction::Misused(NO_OPERAND));
+    };
+    let objects = is_given(values, "objects");
+    let against = value_of(values, "against");
+    let all = is_given(values, "all");
+    match (objects, against) {
+        (false, None) if !all => Ok(Action::Dump { image }),
+        (false, None) => Err(NoAction::Misused("--all goes with --objects or --against")),
+        (true, None) => Ok(Action::DumpObjects { image, all }),
+        (false, Some(other)) => Ok(Action::Compare { image, other, all }),
+        (true, Some(_)) => Err(NoAction::Misused("--objects does not go with --against")),
+    }
+}
+
+fn try_action<'a>(values: &ArgMatches<'a>) -> Result<Action<'a>, NoAction>
+    ensures { IsReadAs (try_of (rows_of (found_of values.now))) result }
+{
+    let Some(script) = value_of(values, "script") else {
+        return Err(NoAction::Misused(NO_OPERAND));
+    };
+    let words = value_of(values, "words").unwrap_or("8192");
+    let table = value_of(values, "table");
+    let Some(instructions) = budget_given(value_of(values, "instructions")) else {
+        return Err(NoAction::Misused(BAD_INSTRUCTIONS));
+    };
+    Ok(Action::Try {
+        script,
+        words,
+        table,
+        instructions,
+    })
+}
+
+fn tear_action<'a>(alloc: Global, values: &ArgMatches<'a>) -> Result<Action<'a>, NoAction>
+    ensures { IsReadAs (tear_of (rows_of (found_of values.now))) result }
+{
+    if is_given(values, "join") {
+        return join_action(alloc, values);
+    }
+    let Some((image, script)) = two_of(values_of(values, "file")) else {
+        return Err(NoAction::Misused("tear takes an image and a script"));
+    };
+    match tear_options(values) {
+        Ok(options) => Ok(Action::Tear {
+            image,
+            script,
+            options,
+        }),
+        Err(why) => Err(NoAction::Misused(why)),
+    }
+}
+
+// Two texts that are all.
+fn two_of<'a>(texts: Option<&[&'a str]>) -> Option<(&'a str, &'a str)>
+    ensures { option_map (λ (two : Bor (List ℕ) × Bor (List ℕ)). (two.0.now, two.1.now)) result
+        ≡ two_of (option_map (λ (all : Bor (List (Bor (List ℕ)))). texts_of all.now) texts.entry) }
+{
+    match texts {
+        Some(&[first, second]) => Some((first, second)),
+        _ => None,
+    }
+}
+
+// What is done with the files to join, beside which no other option stands.
+fn join_action<'a>(alloc: Global, values: &ArgMatches<'a>) -> Result<Action<'a>, NoAction>
+    ensures { IsReadAs (join_by (is_bare (rows_of (found_of values.now)))
+        (all_of (codes "file") (rows_of (found_of values.now)))) result }
+{
+    if !is_bare(values) {
+        return Err(NoAction::Misused("--join goes with no other option"));
+    }
+    let Some(files) = values_of(values, "file") else {
+        return Err(NoAction::Misused(NO_OPERAND));
+    };
+    match Vec::from_slice(alloc, files) {
+        Ok(files) => Ok(Action::Join { files }),
+        Err(_) => Err(NoAction::NoMemory),
+    }
+}
+
+// Whether no option of a sweep is given.
+fn is_bare(values: &ArgMatches<'_>) -> bool
+    ensures { result ≡ is_bare (rows_of (found_of values.now)) }
+{
+    !(is_given(values, "each")
+        || is_given(values, "objects")
+        || value_of(values, "probe").is_some()
+        || value_of(values, "line").is_some()
+        || value_of(values, "recovery").is_some()
+        || value_of(values, "part").is_some()
+        || value_of(values, "instructions").is_some())
+}
+
+// Which commands are cut, and what is done after each cut.
+fn tear_options<'a>(values: &ArgMatches<'a>) -> Result<TearOptions<'a>, &'static str>
+    ensures ok { IfOk result (λ options. tear_asked (rows_of (found_of values.now))
+        ≡ Some (tear_asked_by options)) }
+    ensures none { IfErr result (λ _. tear_asked (rows_of (found_of values.now)) ≡ None) }
+{
+    let each = is_given(values, "each");
+    let objects = is_given(values, "objects");
+    let probe = value_of(values, "probe");
+    let line = value_of(values, "line");
+    let part = value_of(values, "part");
+    if each && line.is_some() {
+        return Err("--line does not go with --each");
+    }
+    let Some(depth) = depth_of(value_of(values, "recovery")) else {
+        return Err("--recovery takes 1, 2 or 3");
+    };
+    let Some(instructions) = budget_given(value_of(values, "instructions")) else {
+        return Err(BAD_INSTRUCTIONS);
+    };
+    Ok(TearOptions {
+        each,
+        objects,
+        probe,
+        line,
+        depth,
+        part,
+        instructions,
+    })
+}
+
+// How many recoveries are cut: none, or the number that this text tells, 1 to 3.
+fn depth_of(text: Option<&str>) -> Option<Depth>
+    ensures { result ≡ depth_of (text_of text.entry) }
+{
+    match text {
+        Some(text) => match text {
+            "1" => Some(Depth::One),
+            "2" => Some(Depth::Two),
+            "3" => Some(Depth::Three),
+            _ => None,
+        },
+        None => Some(Depth::Zero),
+    }
+}
+
+fn test_action<'a>(alloc: Global, values: &ArgMatches<'a>) -> Result<Action<'a>, NoAction>
+    ensures { IsReadAs (test_of (rows_of (found_of values.now))) result }
+{
+    let Some(files) = values_of(values, "file") else {
+        return Err(NoAction::Misused(NO_OPERAND));
+    };
+    let junit = value_of(values, "junit");
+    let table = value_of(values, "table");
+    let words = value_of(values, "words");
+    let journal = value_of(values, "journal");
+    let Some(instructions) = budget_given(value_of(values, "instructions")) else {
+        return Err(NoAction::Misused(BAD_INSTRUCTIONS));
+    };
+    let options = TestOptions {
+        junit,
+        table,
+        words,
+        journal,
+        instructions,
+    };
+    match Vec::from_slice(alloc, files) {
+        Ok(files) => Ok(Action::Test { files, options }),
+        Err(_) => Err(NoAction::NoMemory),
+    }
+}

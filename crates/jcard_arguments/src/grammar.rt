@@ -1,0 +1,407 @@
+//! The grammar of the command line: which commands there are, their operands and options, and their help.
+ghost use Rattle.std.specs.Prelude.{◌≡◌, false, true, IfOk};
+ghost use Rattle.clap.specs.Words.{app_of, new_app, rule_of, with_rule, with_subcommand};
+ghost use Rattle.jcard_arguments.specs.Grammar.{dump_grammar, flag, new_grammar, operand, operands, program_alone, program_grammar};
+ghost use Rattle.jcard_arguments.specs.Grammar.{rule_by, rules_of, run_grammar, tear_grammar, test_grammar, try_grammar, value_option, with_rules};
+
+use clap::{Arg, ArgAction, Command};
+use std::alloc::{AllocError, Global};
+
+/// What an entry of a command is.
+#[derive(Clone, Copy, Drop)]
+pub(crate) enum Kind {
+    /// An operand that must stand there.
+    Operand,
+    /// One operand or more.
+    Operands,
+    /// An option with a value.
+    Value,
+    /// An option with none.
+    Flag,
+}
+
+/// An operand or an option of a command, and its help.
+#[derive(Clone, Copy, Drop)]
+pub(crate) struct Entry<'a> {
+    kind: Kind,
+    name: &'a str,
+    help: &'a str,
+}
+
+const IMAGE: Entry<'static> = Entry {
+    kind: Kind::Operand,
+    name: "image",
+    help: "The image",
+};
+
+const SCRIPT: Entry<'static> = Entry {
+    kind: Kind::Operand,
+    name: "script",
+    help: "The script",
+};
+
+const WORDS: Entry<'static> = Entry {
+    kind: Kind::Value,
+    name: "words",
+    help: "Words of the card's image, 4096 to 65535 [default: 8192]",
+};
+
+const TABLE: Entry<'static> = Entry {
+    kind: Kind::Value,
+    name: "table",
+    help: "Platform table [default: one with the extended calls]",
+};
+
+const JOURNAL: Entry<'static> = Entry {
+    kind: Kind::Value,
+    name: "journal",
+    help: "Entries of the journal, 16 to 1024: the most words that a transaction changes [default: 256]",
+};
+
+const INSTRUCTIONS: Entry<'static> = Entry {
+    kind: Kind::Value,
+    name: "instructions",
+    help: "The most instructions that a command carries out [default: 100000]",
+};
+
+const WHY: Entry<'static> = Entry {
+    kind: Kind::Flag,
+    name: "why",
+    help: "Says on standard error why an answer is not 9000",
+};
+
+const TRACE: Entry<'static> = Entry {
+    kind: Kind::Flag,
+    name: "trace",
+    help: "Prints the instructions of each command on standard error",
+};
+
+const EXPECT: Entry<'static> = Entry {
+    kind: Kind::Flag,
+    name: "expect",
+    help: "Compares the answers with the script's comments # = ANSWER",
+};
+
+const LINES: Entry<'static> = Entry {
+    kind: Kind::Value,
+    name: "lines",
+    help: "With --trace: the most instructions of a command that are printed",
+};
+
+const MAP: Entry<'static> = Entry {
+    kind: Kind::Value,
+    name: "map",
+    help: "Map whose names stand in what --why and --trace print",
+};
+
+const COVER: Entry<'static> = Entry {
+    kind: Kind::Value,
+    name: "cover",
+    help: "Writes how often each instruction was carried out to this file",
+};
+
+const OBJECTS: Entry<'static> = Entry {
+    kind: Kind::Flag,
+    name: "objects",
+    help: "Lists the objects too",
+};
+
+const AGAINST: Entry<'static> = Entry {
+    kind: Kind::Value,
+    name: "against",
+    help: "Lists what differs in this other image",
+};
+
+const ALL: Entry<'static> = Entry {
+    kind: Kind::Flag,
+    name: "all",
+    help: "With --objects or --against: also the objects of the runtime environment",
+};
+
+const PARTS: Entry<'static> = Entry {
+    kind: Kind::Operands,
+    name: "file",
+    help: "The image and the script; with --join, what the parts of a sweep have printed",
+};
+
+const JOIN: Entry<'static> = Entry {
+    kind: Kind::Flag,
+    name: "join",
+    help: "Prints of the parts of a sweep what one run prints",
+};
+
+const EACH: Entry<'static> = Entry {
+    kind: Kind::Flag,
+    name: "each",
+    help: "Cuts each command of the script",
+};
+
+const CELLS: Entry<'static> = Entry {
+    kind: Kind::Flag,
+    name: "objects",
+    help: "Lists the cells that changed",
+};
+
+const PROBE: Entry<'static> = Entry {
+    kind: Kind::Value,
+    name: "probe",
+    help: "Script that is answered after each cut",
+};
+
+const LINE: Entry<'static> = Entry {
+    kind: Kind::Value,
+    name: "line",
+    help: "Cuts the command in this line of the script",
+};
+
+const RECOVERY: Entry<'static> = Entry {
+    kind: Kind::Value,
+    name: "recovery",
+    help: "Cuts 1, 2 or 3 recoveries after each cut",
+};
+
+const PART: Entry<'static> = Entry {
+    kind: Kind::Value,
+    name: "part",
+    help: "Makes this part of the cuts, as 1/4",
+};
+
+const ROWS: Entry<'static> = Entry {
+    kind: Kind::Operands,
+    name: "file",
+    help: "Files of rows",
+};
+
+const JUNIT: Entry<'static> = Entry {
+    kind: Kind::Value,
+    name: "junit",
+    help: "Writes a report for build servers to this file",
+};
+
+/// The program's commands.
+pub(crate) fn program<'a>(alloc: Global) -> Result<Command<'a>, AllocError>
+    ensures { IfOk result (λ c. app_of c ≡ program_grammar) }
+{
+    let new = new_command(alloc)?;
+    let run = run_command(alloc)?;
+    let dump = dump_command(alloc)?;
+    let trial = try_command(alloc)?;
+    let tear = tear_command(alloc)?;
+    let test = test_command(alloc)?;
+    let program = with_command(program_alone(alloc), new)?;
+    let program = with_command(program, run)?;
+    let program = with_command(program, dump)?;
+    let program = with_command(program, trial)?;
+    let program = with_command(program, tear)?;
+    with_command(program, test)
+}
+
+// The program with no command.
+fn program_alone<'a>(alloc: Global) -> Command<'a>
+    ensures { app_of result ≡ program_alone }
+{
+    plain_command(
+        alloc,
+        "jcard",
+        "A Java Card simulator whose behaviour is proved",
+    )
+    .disable_help_subcommand(true)
+}
+
+// The program with one command more.
+fn with_command<'a>(program: Command<'a>, command: Command<'a>) -> Result<Command<'a>, AllocError>
+    requires { (app_of command).top.is_plain ≡ true }
+    ensures { IfOk result (λ c. app_of c ≡ with_subcommand (app_of program.entry)
+        (app_of command.entry).top) }
+{
+    program.subcommand(command)
+}
+
+fn new_command<'a>(alloc: Global) -> Result<Command<'a>, AllocError>
+    ensures { IfOk result (λ c. app_of c ≡ new_grammar) }
+{
+    command(
+        alloc,
+        "new",
+        "Makes the image of a new card, in place of any file of that name",
+        &[IMAGE, WORDS, TABLE, JOURNAL],
+    )
+}
+
+fn run_command<'a>(alloc: Global) -> Result<Command<'a>, AllocError>
+    ensures { IfOk result (λ c. app_of c ≡ run_grammar) }
+{
+    command(
+        alloc,
+        "run",
+        "Powers up the card of an image and carries out a script on it",
+        &[
+            IMAGE,
+            SCRIPT,
+            WHY,
+            TRACE,
+            EXPECT,
+            LINES,
+            MAP,
+            COVER,
+            INSTRUCTIONS,
+        ],
+    )
+}
+
+fn dump_command<'a>(alloc: Global) -> Result<Command<'a>, AllocError>
+    ensures { IfOk result (λ c. app_of c ≡ dump_grammar) }
+{
+    command(
+        alloc,
+        "dump",
+        "Lists what an image holds, or what differs in two images",
+        &[IMAGE, OBJECTS, AGAINST, ALL],
+    )
+}
+
+fn try_command<'a>(alloc: Global) -> Result<Command<'a>, AllocError>
+    ensures { IfOk result (λ c. app_of c ≡ try_grammar) }
+{
+    command(
+        alloc,
+        "try",
+        "Carries out a script on a new card in memory",
+        &[SCRIPT, WORDS, TABLE, INSTRUCTIONS],
+    )
+}
+
+fn tear_command<'a>(alloc: Global) -> Result<Command<'a>, AllocError>
+    ensures { IfOk result (λ c. app_of c ≡ tear_grammar) }
+{
+    command(
+        alloc,
+        "tear",
+        "Cuts the power after each word write of a script's last command, and says what is left",
+        &[
+            PARTS,
+            JOIN,
+            EACH,
+            CELLS,
+            PROBE,
+            LINE,
+            RECOVERY,
+            PART,
+            INSTRUCTIONS,
+        ],
+    )
+}
+
+fn test_command<'a>(alloc: Global) -> Result<Command<'a>, AllocError>
+    ensures { IfOk result (λ c. app_of c ≡ test_grammar) }
+{
+    command(
+        alloc,
+        "test",
+        "Says which rows of files hold, on new cards in memory",
+        &[ROWS, JUNIT, TABLE, WORDS, JOURNAL, INSTRUCTIONS],
+    )
+}
+
+// A command of this name, what it does, and its entries.
+fn command<'a>(
+    alloc: Global,
+    name: &'a str,
+    about: &'a str,
+    entries: &[Entry<'a>],
+) -> Result<Command<'a>, AllocError>
+    ensures { IfOk result (λ c. app_of c ≡ with_rules (new_app name.entry.now)
+        (rules_of entries.now)) }
+{
+    with_entries(alloc, plain_command(alloc, name, about), entries)
+}
+
+// The command with these entries more.
+fn with_entries<'a>(
+    alloc: Global,
+    command: Command<'a>,
+    entries: &[Entry<'a>],
+) -> Result<Command<'a>, AllocError>
+    ensures { IfOk result (λ c. app_of c ≡ with_rules (app_of command.entry)
+        (rules_of entries.now)) }
+{
+    let Some((entry, others)) = entries.split_first() else {
+        return Ok(command);
+    };
+    let command = with_entry(alloc, command, *entry)?;
+    with_entries(alloc, command, others)
+}
+
+// The command with one entry more.
+fn with_entry<'a>(
+    alloc: Global,
+    command: Command<'a>,
+    item: Entry<'a>,
+) -> Result<Command<'a>, AllocError>
+    ensures { IfOk result (λ c. app_of c ≡ with_rule (app_of command.entry)
+        (rule_by item.entry.kind item.entry.name.now)) }
+{
+    command.arg(arg_of(alloc, item))
+}
+
+fn arg_of<'a>(alloc: Global, item: Entry<'a>) -> Arg<'a>
+    ensures rule { rule_of result ≡ rule_by item.entry.kind item.entry.name.now }
+    ensures local { result.global ≡ false }
+{
+    match item.kind {
+        Kind::Operand => operand(alloc, item.name, item.help),
+        Kind::Operands => operands(alloc, item.name, item.help),
+        Kind::Value => value_option(alloc, item.name, item.help),
+        Kind::Flag => flag(alloc, item.name, item.help),
+    }
+}
+
+// A command of this name with no entry, and what it does.
+fn plain_command<'a>(alloc: Global, name: &'a str, about: &'a str) -> Command<'a>
+    ensures { app_of result ≡ new_app name.entry.now }
+{
+    Command::new(alloc, name).about(about)
+}
+
+// An operand that must stand there.
+fn operand<'a>(alloc: Global, name: &'a str, help: &'a str) -> Arg<'a>
+    ensures rule { rule_of result ≡ operand name.entry.now }
+    ensures local { result.global ≡ false }
+{
+    Arg::new(alloc, name)
+        .required(true)
+        .action(ArgAction::Set)
+        .help(help)
+}
+
+// One operand or more.
+fn operands<'a>(alloc: Global, name: &'a str, help: &'a str) -> Arg<'a>
+    ensures rule { rule_of result ≡ operands name.entry.now }
+    ensures local { result.global ≡ false }
+{
+    Arg::new(alloc, name)
+        .required(true)
+        .action(ArgAction::Append)
+        .help(help)
+}
+
+// An option with a value.
+fn value_option<'a>(alloc: Global, name: &'a str, help: &'a str) -> Arg<'a>
+    ensures rule { rule_of result ≡ value_option name.entry.now }
+    ensures local { result.global ≡ false }
+{
+    Arg::new(alloc, name)
+        .action(ArgAction::Set)
+        .long(name)
+        .help(help)
+}
+
+fn flag<'a>(alloc: Global, name: &'a str, help: &'a str) -> Arg<'a>
+    ensures rule { rule_of result ≡ flag name.entry.now }
+    ensures local { result.global ≡ false }
+{
+    Arg::new(alloc, name)
+        .action(ArgAction::SetTrue)
+        .long(name)
+        .help(help)
+}

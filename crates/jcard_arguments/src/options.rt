@@ -1,0 +1,56 @@
+//! The options of the commands that have many.
+
+use jcard_outcomes::recoveries::Depth;
+
+/// What a run is asked for besides its answers.
+#[derive(Clone, Copy, Drop)]
+pub struct RunOptions<'a> {
+    /// Why answers are not 9000.
+    pub why: bool,
+    /// The instructions of each command.
+    pub trace: bool,
+    /// Whether answers are those that the script's comments expect.
+    pub expect: bool,
+    /// At most this number of instructions of each command is traced.
+    pub lines: Option<u32>,
+    /// The file whose names of methods are used.
+    pub map: Option<&'a str>,
+    /// The file that how often each instruction was carried out is written to.
+    pub cover: Option<&'a str>,
+    /// At most this number of instructions of each command is carried out.
+    pub instructions: Option<u32>,
+}
+
+/// Which commands of a script are cut, and what is done after each cut.
+#[derive(Clone, Copy, Drop)]
+pub struct TearOptions<'a> {
+    /// Each command, and not one alone.
+    pub each: bool,
+    /// The cells that changed are listed.
+    pub objects: bool,
+    /// The file with the lines that are answered after a cut.
+    pub probe: Option<&'a str>,
+    /// The line of the command, a decimal number; else the last command.
+    pub line: Option<&'a str>,
+    /// How many recoveries are cut, one after the other.
+    pub depth: Depth,
+    /// The part of the cuts, as 1/4; else all.
+    pub part: Option<&'a str>,
+    /// At most this number of instructions of each command is carried out.
+    pub instructions: Option<u32>,
+}
+
+/// The cards that answer rows, and the report.
+#[derive(Clone, Copy, Drop)]
+pub struct TestOptions<'a> {
+    /// The file that the report for build servers is written to.
+    pub junit: Option<&'a str>,
+    /// The file with the platform table.
+    pub table: Option<&'a str>,
+    /// The words of a card, a decimal number.
+    pub words: Option<&'a str>,
+    /// The entries of its journal, a decimal number.
+    pub journal: Option<&'a str>,
+    /// At most this number of instructions of each command is carried out.
+    pub instructions: Option<u32>,
+}

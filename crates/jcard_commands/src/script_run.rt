@@ -1,0 +1,142 @@
+//! Carrying out a script on the card of an image.
+ghost use Rattle.std.specs.Prelude.{◌≡◌, ℕ, List};
+ghost use Rattle.std.specs.Io.KnownBytes.{Appends};
+ghost use Rattle.jc_words.specs.Count.{failures_after};
+ghost use Rattle.jcard_arguments.specs.CommandLine.{run_asked_by};
+ghost use Rattle.jcard_files.specs.FileDeeds.{FileDeed};
+ghost use Rattle.jcard_faults.specs.Faults.{is_unwritten};
+ghost use Rattle.jcard_commands.specs.Commands.{IsRunWith};
+ghost use Rattle.jcard_commands.specs.RunOptions.{IsCompared};
+ghost use Rattle.jcard_commands.specs.Runs.{IsCarriedOut, IsRun};
+
+use crate::run_files::{keep_cover, names_of, operands_of};
+use crate::told::{Listener, Told};
+use jc_card::card::USUAL_BUDGET;
+use jc_words::{FuseStore, WordStore};
+use jcard_arguments::options::RunOptions;
+use jcard_faults::fault::Fault;
+use jcard_faults::remarks::Remarks;
+use jcard_faults::script_fault::{Names, script_fault};
+use jcard_files::closed_store::ClosedStore;
+use jcard_files::disk::Disk;
+use jcard_script::expectations::Expectations;
+use jcard_script::explainer::Explainer;
+use jcard_script::script::run_script_explained;
+use jcard_script::std_text::StdText;
+use jcard_script::streams::{TextIn, TextOut};
+use std::alloc::Global;
+
+/// Carries out the script in the file of the second name, on the card of the image of the first, as the options ask.
+pub(crate) fn run_with<'n, D: Disk, W: TextOut, L: Listener + Remarks>(
+    disk: &mut D,
+    image: &'n str,
+    script: &'n str,
+    options: RunOptions<'n>,
+    out: &mut W,
+    listener: &mut L,
+) -> Result<(), Fault<'n>>
+    ensures done { (text : List ℕ) × (deeds : List FileDeed)
+        × Appends (W.contents out.old) (W.contents out.new) text
+        × IsRunWith image.now script.now (run_asked_by options.entry) result text deeds
+        × D.does disk.old deeds disk.new }
+    ensures writes { W.failures out.new ≡ failures_after (W.failures out.old)
+        (is_unwritten result) }
+{
+    let names = match names_of(disk, options.map) {
+        Ok(names) => names,
+        Err(fault) => return Err(fault),
+    };
+    let mut told = Told::new(disk.alloc(), listener, &names, &options);
+    let budget = options.instructions.unwrap_or(USUAL_BUDGET);
+    let ran = run_file(disk, image, script, budget, out, &mut told);
+    let compared = compared(options.expect, told.expectations(), ran);
+    let operands = operands_of(image, script, options.map);
+    keep_cover(disk, told.cover(), options.cover, &operands, compared)
+}
+
+// The end of a run whose answers were compared with what its script expects, if that is asked for.
+fn compared<'n>(
+    expect: bool,
+    expectations: &Expectations,
+    ran: Result<(), Fault<'n>>,
+) -> Result<(), Fault<'n>>
+    ensures compared { IsCompared expect ran.entry result }
+    ensures unwritten { is_unwritten result ≡ is_unwritten ran.entry }
+{
+    ran?;
+    if !expect {
+        return Ok(());
+    }
+    if let Some(line) = expectations.first_difference() {
+        return Err(Fault::OtherAnswer(line));
+    }
+    if expectations.compared() == 0 {
+        return Err(Fault::NothingExpected);
+    }
+    Ok(())
+}
+
+// Carries out the script in the file of the second name, on the card of the image of the first.
+fn run_file<'n, D: Disk, W: TextOut, E: Explainer>(
+    disk: &mut D,
+    image: &'n str,
+    script: &'n str,
+    budget: u32,
+    out: &mut W,
+    explainer: &mut E,
+) -> Result<(), Fault<'n>>
+    ensures done { (text : List ℕ) × (deeds : List FileDeed)
+        × Appends (W.contents out.old) (W.contents out.new) text
+        × IsRun budget image.now script.now result text deeds × D.does disk.old deeds disk.new }
+    ensures writes { W.failures out.new ≡ failures_after (W.failures out.old)
+        (is_unwritten result) }
+{
+    let store = match disk.open_image(image) {
+        Ok(store) => FuseStore::new(store),
+        Err(fault) => return Err(fault),
+    };
+    match disk.open_text(script) {
+        Ok(file) => {
+            let names = Names { image, script };
+            let mut reader = StdText::new(file);
+            let (store, ended) = run_named(
+                disk.alloc(),
+                names,
+                store,
+                budget,
+                &mut reader,
+                out,
+                explainer,
+            );
+            disk.close_image(image, ClosedStore::new(store.into_store()));
+            ended
+        }
+        Err(fault) => {
+            disk.close_image(image, ClosedStore::new(store.into_store()));
+            Err(fault)
+        }
+    }
+}
+
+/// Carries out the script on the card of this store, and gives the store back.
+pub(crate) fn run_named<'a, S: WordStore + Drop, I: TextIn, W: TextOut, E: Explainer>(
+    alloc: Global,
+    names: Names<'a>,
+    store: FuseStore<S>,
+    budget: u32,
+    script: &mut I,
+    out: &mut W,
+    explainer: &mut E,
+) -> (FuseStore<S>, Result<(), Fault<'a>>)
+    ensures done { (text : List ℕ) × Appends (W.contents out.old) (W.contents out.new) text
+        × IsCarriedOut budget names.entry.image.now names.entry.script.now (I.remaining script.old)
+        (I.remaining script.new) store result.0 result.1 text }
+    ensures writes { W.failures out.new ≡ failures_after (W.failures out.old)
+        (is_unwritten result.1) }
+{
+    let (store, ended) = run_script_explained(alloc, store, budget, script, out, explainer);
+    match ended {
+        Ok(()) => (store, Ok(())),
+        Err(cause) => (store, Err(script_fault(names, cause))),
+    }
+}

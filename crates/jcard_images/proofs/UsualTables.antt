@@ -1,0 +1,13 @@
+-- The usual platform table.
+use Rattle.std.proofs.Common.{◌≡◌, ℕ, List, [], Result, Ok, Err, None, refl}
+use Rattle.std.specs.Prelude.{MatchResult}
+use Rattle.jcard_faults.specs.declared.fault.Fault.{Fault}
+use Rattle.jcard_faults.specs.declared.fault.Fault.TheVariants.{NoMemory}
+use Rattle.jcard_images.specs.UsualTables.{IsNoPlatform, IsPlatform}
+use Rattle.jcard_images.specs.declared.usual_table.TheConstants.{USUAL_TABLE}
+
+-- no file is asked for it
+pub usual_platform : {V : Type 0} (items : V → List ℕ) (r : Result V Fault) → MatchResult r (λ t. items t ≡ USUAL_TABLE.now) (λ f. f ≡ NoMemory)
+    → MatchResult r (λ t. IsPlatform None (items t) []) (λ f. IsNoPlatform None f [])
+usual_platform items (Ok t) h = (h, refl)
+usual_platform items (Err f) h = (h, refl)

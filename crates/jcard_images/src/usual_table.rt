@@ -1,0 +1,192 @@
+//! The platform table of cards for which none is named.
+ghost use Rattle.std.specs.Prelude.{◌≡◌, ℕ, List, MatchResult, option_map};
+ghost use Rattle.std.specs.Borrow.{Bor};
+ghost use Rattle.jcard_files.specs.FileDeeds.{FileDeed};
+ghost use Rattle.jcard_images.specs.UsualTables.{IsNoPlatform, IsPlatform};
+
+use jcard_faults::fault::Fault;
+use jcard_files::disk::Disk;
+use jcard_files::reading::text_of;
+use std::alloc::{AllocError, Global};
+
+/// The text of the platform table in the file of this name, up to one byte more than one can have; without a name the usual one.
+pub fn platform_of<'n, D: Disk>(disk: &mut D, table: Option<&'n str>) -> Result<Vec<u8>, Fault<'n>>
+    ensures { (deeds : List FileDeed) × D.does disk.old deeds disk.new × MatchResult result
+        (λ text. IsPlatform (option_map (λ (name : Bor (List ℕ)). name.now) table.entry) text.items
+        deeds)
+        (λ fault. IsNoPlatform (option_map (λ (name : Bor (List ℕ)). name.now) table.entry) fault
+        deeds) }
+{
+    match table {
+        Some(name) => text_of(disk, name),
+        None => usual_text(disk.alloc()),
+    }
+}
+
+fn usual_text<'n>(alloc: Global) -> Result<Vec<u8>, Fault<'n>>
+    ensures { MatchResult result (λ text. text.items ≡ USUAL_TABLE.now)
+        (λ fault. fault ≡ Fault.NoMemory) }
+{
+    match Vec::from_slice(alloc, USUAL_TABLE.as_bytes()) {
+        Ok(text) => Ok(text),
+        Err(AllocError) => Err(Fault::NoMemory),
+    }
+}
+
+/// The text of `examples/extended.table`, 3,472 bytes: each name that can stand, with a token.
+pub const USUAL_TABLE: &str = "\
+extended
+package A0000000620001 1 0
+class 0 Object
+static 0 <init>
+virtual 0 equals
+class 1 Throwable
+static 0 <init>
+class 2 Exception
+static 0 <init>
+class 3 RuntimeException
+static 0 <init>
+class 4 IndexOutOfBoundsException
+static 0 <init>
+class 5 ArithmeticException
+static 0 <init>
+class 6 ArrayIndexOutOfBoundsException
+static 0 <init>
+class 7 ArrayStoreException
+static 0 <init>
+class 8 ClassCastException
+static 0 <init>
+class 9 NegativeArraySizeException
+static 0 <init>
+class 10 NullPointerException
+static 0 <init>
+class 11 SecurityException
+static 0 <init>
+package A0000000620101 1 0
+class 0 Shareable
+class 1 PIN
+interface 0 check
+interface 1 getTriesRemaining
+interface 2 isValidated
+interface 3 reset
+class 2 Applet
+static 0 <init>
+virtual 1 deselect
+virtual 2 getShareableInterfaceObject
+virtual 3 register
+virtual 4 registerBytes
+virtual 5 select
+virtual 6 selectingApplet
+virtual 7 process
+virtual 8 reSelectingApplet
+class 3 APDU
+virtual 1 getBuffer
+virtual 2 receiveBytes
+virtual 3 sendBytes
+virtual 4 setIncomingAndReceive
+virtual 5 setOutgoing
+virtual 6 setOutgoingAndSend
+virtual 7 setOutgoingLength
+virtual 8 getIncomingLength
+virtual 9 getOffsetCdata
+virtual 10 sendBytesLong
+virtual 11 getCurrentState
+static 0 getProtocol
+virtual 12 getNAD
+static 1 getCLAChannel
+static 2 getInBlockSize
+static 3 getOutBlockSize
+virtual 13 isISOInterindustryCLA
+virtual 14 isCommandChainingCLA
+virtual 15 isSecureMessagingCLA
+virtual 16 isValidCLA
+virtual 17 setOutgoingNoChaining
+static 4 waitExtension
+static 5 getCurrentAPDU
+static 6 getCurrentAPDUBuffer
+class 4 AID
+static 0 <init>
+virtual 0 equals
+virtual 1 equalsBytes
+virtual 2 getBytes
+virtual 3 RIDEquals
+virtual 4 partialEquals
+virtual 5 getPartialBytes
+class 5 JCSystem
+static 0 abortTransaction
+static 1 beginTransaction
+static 2 commitTransaction
+static 3 getAID
+static 4 getAppletShareableInterfaceObject
+static 5 getMaxCommitCapacity
+static 6 getPreviousContextAID
+static 7 getTransactionDepth
+static 8 getUnusedCommitCapacity
+static 9 isTransient
+static 10 lookupAID
+static 11 makeTransientBooleanArray
+static 12 makeTransientByteArray
+static 13 makeTransientObjectArray
+static 14 makeTransientShortArray
+static 15 getVersion
+static 16 getAvailableMemory
+static 17 getAvailableMemoryShorts
+static 18 requestObjectDeletion
+static 19 isObjectDeletionSupported
+static 20 isAppletActive
+static 21 getAssignedChannel
+class 6 Util
+static 0 arrayCompare
+static 1 arrayCopy
+static 2 getShort
+static 3 makeShort
+static 4 setShort
+static 5 arrayFill
+class 7 OwnerPIN
+static 0 <init>
+virtual 1 check
+virtual 2 getTriesRemaining
+virtual 3 isValidated
+virtual 4 reset
+virtual 5 resetAndUnblock
+virtual 6 update
+virtual 7 getValidatedFlag
+virtual 8 setValidatedFlag
+class 8 CardException
+static 0 <init>
+static 1 throwIt
+virtual 1 getReason
+virtual 2 setReason
+class 9 CardRuntimeException
+static 0 <init>
+static 1 throwIt
+virtual 1 getReason
+virtual 2 setReason
+class 10 ISOException
+static 0 <init>
+static 1 throwIt
+class 11 PINException
+static 0 <init>
+static 1 throwIt
+class 12 SystemException
+static 0 <init>
+static 1 throwIt
+class 13 TransactionException
+static 0 <init>
+static 1 throwIt
+class 14 APDUException
+static 0 <init>
+static 1 throwIt
+class 15 UserException
+static 0 <init>
+static 1 throwIt
+static 2 <init>WithoutReason
+class 16 ISO7816
+class 17 MultiSelectable
+interface 0 select
+interface 1 deselect
+class 18 AppletEvent
+interface 0 uninstall
+package A0000000620209 1 0
+class 0 ExtendedLength
+";

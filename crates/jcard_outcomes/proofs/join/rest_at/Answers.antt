@@ -1,6 +1,0 @@
-use Rattle.std.proofs.Common.{sym}
-use Rattle.jcard_outcomes.proofs.Ends.{lent_at}
-use Rattle.jcard_outcomes.proofs.join.rest_at.Goals as goal
-
-pub returns : goal.returns
-returns c = sym (lent_at c.args.rests.now c.args.place c.requires)

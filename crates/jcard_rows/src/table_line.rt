@@ -1,0 +1,13 @@
+//! The line of a file of rows that names its platform table.
+ghost use Rattle.std.specs.Prelude.{◌<◌};
+
+use crate::numbered::Numbered;
+
+/// The line that names the file of a platform table: its number, the file's name, and the lines behind it.
+#[derive(Drop)]
+pub struct TableLine<'a> {
+    pub number: usize,
+    pub name: &'a str,
+    pub rest: &'a [Numbered],
+    ghost counted: { 0 < number },
+}

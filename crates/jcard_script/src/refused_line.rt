@@ -1,0 +1,118 @@
+//! Why a line of a script has no form.
+ghost use Rattle.std.specs.Prelude.{◌≡◌, ◌<◌, not, length, IfSome};
+ghost use Rattle.std.specs.List.{position};
+ghost use Rattle.jcard_script.specs.RefusedLines.{fault_at, fault_of, is_of_command};
+
+use itoa::Buffer;
+use std::alloc::{AllocError, Global};
+
+/// Why a line has no form.
+#[derive(Clone, Copy, Drop)]
+pub enum LineFault {
+    /// The byte in this column, counted from 1, is no hexadecimal digit.
+    NoDigit { column: usize, byte: u8 },
+    /// A comment begins in this column, counted from 1, behind other bytes.
+    CommentBehind { column: usize },
+    /// The digits are odd in number.
+    OddDigits,
+    /// Behind `stop` stands no number from 0 to 65535.
+    NoNumber,
+}
+
+/// Why a line has no form, where it has none: the first byte that no command has, else the number of its digits.
+pub fn fault_of(line: &[u8]) -> LineFault
+    ensures { result ≡ fault_of line.now }
+{
+    if line.starts_with(b"stop ") {
+        return LineFault::NoNumber;
+    }
+    fault_at(line, first_other(line))
+}
+
+// What is wrong at the first byte that no command has, if there is one.
+fn fault_at(line: &[u8], at: Option<usize>) -> LineFault
+    requires within { IfSome at (λ i. i < length line.now) }
+    ensures { result ≡ fault_at line.now at }
+{
+    let Some(at) = at else {
+        return LineFault::OddDigits;
+    };
+    let byte = line[at];
+    if byte == b'#' {
+        return LineFault::CommentBehind { column: at + 1 };
+    }
+    LineFault::NoDigit {
+        column: at + 1,
+        byte,
+    }
+}
+
+// The place of the first byte that no command has.
+fn first_other(line: &[u8]) -> Option<usize>
+    ensures place { result ≡ position (λ b. not (is_of_command b)) line.now }
+    ensures within { IfSome result (λ i. i < length line.now) }
+{
+    line.iter().position(|byte| !is_of_command(*byte))
+}
+
+// A hexadecimal digit or a space.
+pub(crate) fn is_of_command(byte: u8) -> bool
+    ensures { result ≡ is_of_command byte }
+{
+    byte == b' ' || byte.is_ascii_hexdigit()
+}
+
+/// The text of a remark on a line, counted from 1, that has no form: `jcard: line 3, column 17: 'O' is no hexadecimal digit` and its
+/// like, with a line feed.
+pub fn remark_of(alloc: Global, line: u32, fault: LineFault) -> Result<Vec<u8>, AllocError> {
+    let mut text = Vec::new(alloc);
+    text.extend_from_slice(b"jcard: line ")?;
+    push_number(&mut text, u64::from(line))?;
+    match fault {
+        LineFault::NoDigit { column, byte } => {
+            push_column(&mut text, column)?;
+            push_byte(&mut text, byte)?;
+            text.extend_from_slice(b" is no hexadecimal digit\n")?;
+        }
+        LineFault::CommentBehind { column } => {
+            push_column(&mut text, column)?;
+            text.extend_from_slice(b"a comment stands in a line of its own\n")?;
+        }
+        LineFault::OddDigits => text.extend_from_slice(b": an odd number of digits\n")?,
+        LineFault::NoNumber => {
+            text.extend_from_slice(b": stop takes a number from 0 to 65535\n")?;
+        }
+    }
+    Ok(text)
+}
+
+fn push_number(text: &mut Vec<u8>, number: u64) -> Result<(), AllocError> {
+    let mut digits = Buffer::new();
+    text.extend_from_slice(digits.format(number).as_bytes())
+}
+
+fn push_column(text: &mut Vec<u8>, column: usize) -> Result<(), AllocError> {
+    text.extend_from_slice(b", column ")?;
+    push_number(text, column as u64)?;
+    text.extend_from_slice(b": ")
+}
+
+// A printable byte between quotes, another by its number.
+fn push_byte(text: &mut Vec<u8>, byte: u8) -> Result<(), AllocError> {
+    if byte > b' ' && byte < 127 {
+        return text.extend_from_slice(&[b'\'', byte, b'\'']);
+    }
+    let digits = [hex_digit(byte / 16), hex_digit(byte % 16)];
+    text.extend_from_slice(b"byte ")?;
+    text.extend_from_slice(&digits)
+}
+
+fn hex_digit(value: u8) -> u8
+    requires small { value < 16 }
+{
+    if value < 10 {
+        b'0' + value
+    } else {
+        b'A' + (value - 10)
+    }
+}

@@ -1,0 +1,65 @@
+-- Cards that are planned.
+use Rattle.std.proofs.Common.{◌≡◌, ℕ, List, Result, Ok, Err, Option, Some, None, false, refl, ap, subst, sym, inl, inr}
+use Rattle.std.specs.Prelude.{All, IfSome, MatchOption, MatchResult}
+use Rattle.jcard_rows.specs.Cards.{AreCardsOf}
+use Rattle.jcard_rows.specs.declared.card_rows.CardRows.{CardRows}
+use Rattle.jcard_rows.specs.declared.numbered.Numbered.{Numbered}
+use Rattle.jcard_rows.specs.declared.outcome.Tested.{Tested}
+use Rattle.jcard_faults.specs.declared.fault.Fault.{Fault}
+use Rattle.jcard_tests.specs.Tests.{AreAnswered, IsOutcome, IsPlanFor, IsReading, IsUnanswered}
+use Rattle.jcard_faults.specs.Faults.{is_unwritten}
+use Rattle.jcard_files.specs.FileDeeds.{FileDeed}
+use Rattle.jcard_images.specs.UsualTables.{IsNoPlatform, IsPlatform}
+use Rattle.jcard_tests.specs.Plans.{IsUnplanned, table_asked}
+use Rattle.jcard_tests.specs.declared.asked.Asked.{Asked}
+use Rattle.jcard_tests.proofs.RowTests.{no_reading, one_reading, unread_reading, unread_unwritten}
+use Rattle.jcard_tests.specs.declared.plan.Plan.{Plan}
+
+-- a file that names a platform table
+pub answered_with : (r : Result Tested Fault) (p q : Plan) (name table : List ℕ) (lines : List Numbered) → IsPlanFor p (Some table) q
+    → MatchResult r (λ t. (t.name.now ≡ name) × AreAnswered q lines t) (λ f. (x : Plan) × IsUnanswered x f)
+    → MatchResult r (λ t. (t.name.now ≡ name) × (x : Plan) × IsPlanFor p (Some table) x × AreAnswered x lines t) (λ f. (x : Plan) × IsUnanswered x f)
+answered_with (Ok t) p q name table lines plan h = (h.0, q, plan, h.1)
+answered_with (Err f) p q name table lines plan h = h
+
+-- one that names none
+pub answered_as : (r : Result Tested Fault) (p : Plan) (name : List ℕ) (lines : List Numbered)
+    → MatchResult r (λ t. (t.name.now ≡ name) × AreAnswered p lines t) (λ f. (x : Plan) × IsUnanswered x f)
+    → MatchResult r (λ t. (t.name.now ≡ name) × (x : Plan) × IsPlanFor p None x × AreAnswered x lines t) (λ f. (x : Plan) × IsUnanswered x f)
+answered_as (Ok t) p name lines h = (h.0, p, refl, h.1)
+answered_as (Err f) p name lines h = h
+
+-- the cards that lines make
+pub answered_cards : (r : Result Tested Fault) (p : Plan) (name : List ℕ) (lines : List Numbered) (cards : List CardRows) → AreCardsOf p.words lines cards
+    → MatchResult r (λ t. (t.name.now ≡ name) × (t.cards.items ≡ cards) × IsOutcome p cards t.outcome) (λ f. IsUnanswered p f)
+    → MatchResult r (λ t. (t.name.now ≡ name) × AreAnswered p lines t) (λ f. (q : Plan) × IsUnanswered q f)
+answered_cards (Ok t) p name lines cards made h = (
+  h.0,
+  (subst (λ (cs : List CardRows). AreCardsOf p.words lines cs) (sym h.1) made, subst (λ (cs : List CardRows). IsOutcome p cs t.outcome) (sym h.1) h.2),
+)
+answered_cards (Err f) p name lines cards made h = (p, h)
+
+-- no write failed where no cards were planned
+platform_unwritten : (table : Option (List ℕ)) (fault : Fault) (deeds : List FileDeed) → IsNoPlatform table fault deeds → is_unwritten (Err fault) ≡ false
+platform_unwritten None fault deeds h = ap (λ (f : Fault). is_unwritten (Err f)) h.0
+platform_unwritten (Some name) fault deeds h = unread_unwritten name fault deeds h
+
+pub unplanned_unwritten : (a : Asked) (fault : Fault) (deeds : List FileDeed) → IsUnplanned a fault deeds → is_unwritten (Err fault) ≡ false
+unplanned_unwritten a fault deeds (inl h) = ap (λ (f : Fault). is_unwritten (Err f)) h.0
+unplanned_unwritten a fault deeds (inr (inl h)) = ap (λ (f : Fault). is_unwritten (Err f)) h.0
+unplanned_unwritten a fault deeds (inr (inr h)) = platform_unwritten (table_asked a) fault deeds h
+
+-- for the platform table a text was read, or nothing
+pub platform_reading : (table : Option (List ℕ)) (text : List ℕ) (deeds : List FileDeed) → IsPlatform table text deeds → All IsReading deeds
+platform_reading None text deeds h = subst (λ (ds : List FileDeed). All IsReading ds) (sym h.1) no_reading
+platform_reading (Some name) text deeds h = one_reading name (Ok h.0) deeds h.2
+
+pub no_platform_reading : (table : Option (List ℕ)) (fault : Fault) (deeds : List FileDeed) → IsNoPlatform table fault deeds → All IsReading deeds
+no_platform_reading None fault deeds h = subst (λ (ds : List FileDeed). All IsReading ds) (sym h.1) no_reading
+no_platform_reading (Some name) fault deeds h = unread_reading name fault deeds h
+
+-- a number that a text tells
+pub number_told : (r : Option ℕ) (Tells Good : ℕ → Type 0) → IfSome r (λ n. Tells n) → (r ≡ None → (n : ℕ) → Tells n → ⊥) → ((n : ℕ) → Tells n → Good n)
+    → MatchOption r ((n : ℕ) → Tells n → ⊥) (λ n. Tells n × Good n)
+number_told None Tells Good some none good = none refl
+number_told (Some n) Tells Good some none good = (some, good n some)

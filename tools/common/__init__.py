@@ -1,0 +1,1 @@
+"""What several tools share: which file the program is, and how files are written."""

@@ -1,0 +1,7 @@
+package javacard.security;
+
+public interface DESKey extends SecretKey {
+    void setKey(byte[] keyData, short kOff);
+
+    byte getKey(byte[] keyData, short kOff);
+}

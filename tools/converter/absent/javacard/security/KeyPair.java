@@ -1,0 +1,26 @@
+package javacard.security;
+
+public final class KeyPair {
+    public static final byte ALG_RSA = 1;
+    public static final byte ALG_RSA_CRT = 2;
+    public static final byte ALG_DSA = 3;
+    public static final byte ALG_EC_F2M = 4;
+    public static final byte ALG_EC_FP = 5;
+
+    public KeyPair(byte algorithm, short keyLength) {
+    }
+
+    public KeyPair(PublicKey publicKey, PrivateKey privateKey) {
+    }
+
+    public void genKeyPair() {
+    }
+
+    public PublicKey getPublic() {
+        return null;
+    }
+
+    public PrivateKey getPrivate() {
+        return null;
+    }
+}

@@ -1,0 +1,11 @@
+package javacard.security;
+
+public interface RSAPublicKey extends PublicKey {
+    void setModulus(byte[] buffer, short offset, short length);
+
+    short getModulus(byte[] buffer, short offset);
+
+    void setExponent(byte[] buffer, short offset, short length);
+
+    short getExponent(byte[] buffer, short offset);
+}

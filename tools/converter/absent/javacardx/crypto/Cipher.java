@@ -1,0 +1,50 @@
+package javacardx.crypto;
+
+import javacard.security.Key;
+
+public abstract class Cipher {
+    public static final byte MODE_DECRYPT = 1;
+    public static final byte MODE_ENCRYPT = 2;
+    public static final byte ALG_DES_CBC_NOPAD = 1;
+    public static final byte ALG_DES_CBC_ISO9797_M1 = 2;
+    public static final byte ALG_DES_CBC_ISO9797_M2 = 3;
+    public static final byte ALG_DES_CBC_PKCS5 = 4;
+    public static final byte ALG_DES_ECB_NOPAD = 5;
+    public static final byte ALG_DES_ECB_ISO9797_M1 = 6;
+    public static final byte ALG_DES_ECB_ISO9797_M2 = 7;
+    public static final byte ALG_DES_ECB_PKCS5 = 8;
+    public static final byte ALG_RSA_ISO14888 = 9;
+    public static final byte ALG_RSA_PKCS1 = 10;
+    public static final byte ALG_RSA_ISO9796 = 11;
+    public static final byte ALG_RSA_NOPAD = 12;
+    public static final byte ALG_AES_BLOCK_128_CBC_NOPAD = 13;
+    public static final byte ALG_AES_BLOCK_128_ECB_NOPAD = 14;
+    public static final byte ALG_RSA_PKCS1_OAEP = 15;
+    public static final byte ALG_AES_CBC_ISO9797_M1 = 22;
+    public static final byte ALG_AES_CBC_ISO9797_M2 = 23;
+    public static final byte ALG_AES_CBC_PKCS5 = 24;
+    public static final byte ALG_AES_ECB_ISO9797_M1 = 25;
+    public static final byte ALG_AES_ECB_ISO9797_M2 = 26;
+    public static final byte ALG_AES_ECB_PKCS5 = 27;
+
+    protected Cipher() {
+    }
+
+    public static final Cipher getInstance(byte algorithm, boolean externalAccess) {
+        return null;
+    }
+
+    public static final Cipher getInstance(byte cipherAlgorithm, byte paddingAlgorithm, boolean externalAccess) {
+        return null;
+    }
+
+    public abstract void init(Key theKey, byte theMode);
+
+    public abstract void init(Key theKey, byte theMode, byte[] bArray, short bOff, short bLen);
+
+    public abstract byte getAlgorithm();
+
+    public abstract short doFinal(byte[] inBuff, short inOffset, short inLength, byte[] outBuff, short outOffset);
+
+    public abstract short update(byte[] inBuff, short inOffset, short inLength, byte[] outBuff, short outOffset);
+}

@@ -1,0 +1,7 @@
+package javacardx.crypto;
+
+public interface KeyEncryption {
+    void setKeyCipher(Cipher keyCipher);
+
+    Cipher getKeyCipher();
+}

@@ -1,0 +1,30 @@
+# Completion of jcard's words for bash.
+_jcard() {
+    local word=${COMP_WORDS[COMP_CWORD]} before=${COMP_WORDS[COMP_CWORD - 1]} words=""
+    case $before in
+    --words | --journal | --line | --lines | --recovery | --part | --instructions) return ;;
+    --table | --probe | --junit | --map | --cover | --against) ;;
+    *)
+        if [ "$COMP_CWORD" -eq 1 ]; then
+            words="new run dump try tear test --help --version --program --reader"
+        elif [[ $word == -* ]]; then
+            case ${COMP_WORDS[1]} in
+            new) words="--words --table --journal --help" ;;
+            run) words="--why --trace --lines --map --cover --instructions --expect --help" ;;
+            dump) words="--objects --all --against --help" ;;
+            try) words="--words --table --instructions --help" ;;
+            tear) words="--probe --line --each --recovery --part --join --objects --instructions --help" ;;
+            test) words="--junit --table --words --journal --instructions --help" ;;
+            --reader) words="--port --atr --log --help" ;;
+            esac
+        fi
+        ;;
+    esac
+    if [ -n "$words" ]; then
+        mapfile -t COMPREPLY < <(compgen -W "$words" -- "$word")
+    else
+        compopt -o filenames
+        mapfile -t COMPREPLY < <(compgen -f -- "$word")
+    fi
+}
+complete -F _jcard jcard
