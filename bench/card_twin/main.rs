@@ -306,7 +306,7 @@ impl Card {
         }
     }
 
-    /// Begins the frame of a method that has to take so many cells.
+    /// Begins the frame of a method that has to take `expected` cells.
     #[inline(always)]
     fn enter(&mut self, offset: u16, expected: u8, pc: u16, frames: &mut Frames) -> Result<(), Break> {
         let header = self.package.header(offset).ok_or(Break::Fault)?;

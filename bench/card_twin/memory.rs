@@ -51,7 +51,7 @@ impl Store {
     }
 }
 
-/// A new store: in memory, or over a file of this name, whose zeros are written at once, as the card's are. In a file of
+/// A new store: in memory, or over the file `image`, whose zeros are written at once, as the card's are. In a file of
 /// holes the system would keep each page apart, and write a word faster.
 pub fn new_store(image: &str) -> Store {
     let file = (image != "memory").then(|| {

@@ -269,7 +269,7 @@ impl Linked {
             })
     }
 
-    /// Links a package behind those that are there.
+    /// Links a package after those that are there.
     pub fn link(&mut self, contents: &Contents<'_>) -> Option<()> {
         if self.platform.package_with_aid(contents.header.this.aid).is_some()
             || self.loaded.iter().any(|package| package.aid == contents.header.this.aid)

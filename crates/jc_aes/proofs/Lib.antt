@@ -3,3 +3,4 @@ pub mod Products
 pub mod Xor
 pub mod Undoing
 pub mod StandardFacts
+pub mod Places

@@ -24,8 +24,3 @@ decrypted_example = refl
 pub inverses : list_all (λ b. nat_eq (times b (inverse b)) 1) (range_with_len 1 255) ≡ true
 unfolding xtimes times_power times_low times squared inverse
 inverses = refl
-
--- each of the two substitutions undoes the other
-pub substitutions : list_all (λ b. nat_eq (inv_sub_byte (sub_byte b)) b) (range_with_len 0 256) ≡ true
-unfolding xtimes times_power times_low times squared inverse affine inverse_affine sub_byte inv_sub_byte
-substitutions = refl

@@ -2,3 +2,4 @@ pub mod Field
 pub mod Aes
 pub mod Keys
 pub mod Laws
+pub mod Places

@@ -1,9 +1,11 @@
 //! AES on a block, with the key's schedule made once.
 
 ghost use Rattle.std.specs.Prelude.{◌≡◌, ◌≤◌, ◌<◌, ◌+◌, ◌-◌, ◌*◌, ◌/◌, ◌^◌, length, take, ◌++◌};
+ghost use Rattle.jc_aes.specs.Places.{IsPlace};
 ghost use Rattle.jc_aes.specs.Aes.{IsKeyLength, IsRoundCount, cipher_with, decrypted, encrypted, inv_cipher_with, mixed_word, next_word, schedule};
 
 use crate::field::sub_byte;
+use crate::place::{Place, next_place};
 use crate::rounds::{
     add_round_key, inv_mix_columns, inv_shift_and_sub, sub_and_shift, sub_shift_and_mix,
 };
@@ -28,23 +30,24 @@ pub struct Aes {
 
 // What is added to the word a key's length before word `i`.
 #[tactic(auto, using(crate::proofs::Tables::round_constants_at, crate::proofs::Products::xor_zero))]
-fn mixed_word(w: &[u8], key_words: usize, i: usize) -> [u8; 4]
+fn mixed_word(w: &[u8], key_words: usize, i: usize, place: &Place) -> [u8; 4]
     requires words { 4 ≤ key_words }
     requires low { key_words ≤ i }
     requires long { length w.now ≡ 4 * i }
     requires fits { i < 2 ^ 32 }
+    requires place { IsPlace key_words i place.now }
     requires turns { i / key_words ≤ 10 }
     ensures { result ≡ mixed_word key_words w.now i }
 {
     let before = 4 * (i - 1);
-    if i % key_words == 0 {
+    if place.rest == 0 {
         [
-            sub_byte(w[before + 1]) ^ ROUND_CONSTANTS[i / key_words],
+            sub_byte(w[before + 1]) ^ ROUND_CONSTANTS[place.turn],
             sub_byte(w[before + 2]),
             sub_byte(w[before + 3]),
             sub_byte(w[before]),
         ]
-    } else if key_words > 6 && i % key_words == 4 {
+    } else if key_words > 6 && place.rest == 4 {
         [
             sub_byte(w[before]),
             sub_byte(w[before + 1]),
@@ -57,10 +60,11 @@ fn mixed_word(w: &[u8], key_words: usize, i: usize) -> [u8; 4]
 }
 
 // Word `i` of the schedule.
-fn next_word(key: &[u8], w: &[u8], i: usize) -> [u8; 4]
+fn next_word(key: &[u8], w: &[u8], i: usize, place: &Place) -> [u8; 4]
     requires key { IsKeyLength (length key.now) }
-    requires place { i < length key.now + 28 }
+    requires within { i < length key.now + 28 }
     requires long { length w.now ≡ 4 * i }
+    requires place { IsPlace (length key.now / 4) i place.now }
     ensures { result ≡ next_word key.now w.now i }
 {
     let key_words = key.len() / 4;
@@ -68,7 +72,7 @@ fn next_word(key: &[u8], w: &[u8], i: usize) -> [u8; 4]
         [key[4 * i], key[4 * i + 1], key[4 * i + 2], key[4 * i + 3]]
     } else {
         let old = 4 * (i - key_words);
-        let mixed = mixed_word(w, key_words, i);
+        let mixed = mixed_word(w, key_words, i, place);
         [
             w[old] ^ mixed[0],
             w[old + 1] ^ mixed[1],
@@ -125,9 +129,11 @@ fn expanded(key: &[u8], rounds: usize) -> [u8; 240]
     ensures { take (16 * (rounds + 1)) result ≡ schedule key.now (4 * (rounds + 1)) }
 {
     let mut words = [0; 240];
+    let mut place = Place { turn: 0, rest: 0 };
     'expansion: for i in 0..4 * (rounds + 1) {
-        let word = next_word(key, &words[..4 * i], i);
+        let word = next_word(key, &words[..4 * i], i, &place);
         put_word(&mut words, 4 * i, &word);
+        place = next_place(place, i, key.len() / 4);
     }
     words
 }
@@ -135,7 +141,7 @@ fn expanded(key: &[u8], rounds: usize) -> [u8; 240]
 impl Aes {
     ghost use Rattle.jc_aes.specs.Keys.{key_of};
 
-    /// A key of 16, 24 or 32 bytes.
+    /// Makes the schedule of a key of 16, 24 or 32 bytes.
     pub fn new(key: &[u8]) -> Aes
         requires { IsKeyLength (length key.now) }
         ensures { key_of result ≡ key.now }
@@ -151,14 +157,14 @@ impl Aes {
         }
     }
 
-    /// A block under the key.
+    /// Enciphers a block.
     pub fn encrypt(&self, block: &[u8; 16]) -> [u8; 16]
         ensures { result ≡ encrypted (key_of self.now) block.now }
     {
         cipher_with(&self.words[..16 * (self.rounds + 1)], self.rounds, block)
     }
 
-    /// The block that is this one under the key.
+    /// Deciphers a block.
     pub fn decrypt(&self, block: &[u8; 16]) -> [u8; 16]
         ensures { result ≡ decrypted (key_of self.now) block.now }
     {

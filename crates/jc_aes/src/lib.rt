@@ -4,4 +4,5 @@
 pub mod aes;
 mod field;
 pub mod laws;
+mod place;
 mod rounds;

@@ -22,13 +22,12 @@ zero_blank s blank r i event e = ap (λ o. word_in o s r i) e ∙ ap word_of (bl
 pub is_at_reset : {E : Type 0} (w : List ℕ) (t u : Tokens) (heap : HeapView) (ram : RamState) (r : Result CardState E) → u ≡ t → heap.now ≡ heap_of w
     → IsWellFormed w → Reads (table_text w) (Ok t) → IsCleared ram →
     IfOk r (λ card. packages_of u heap.now ≡ Some card.packages) →
-    IfOk r (λ card. card.memory ≡ record { heap = heap; ram = ram; fixed = fixed_of heap.now; registers = at_reset; command = []; sent = [] }) →
+    IfOk r (λ card. card.memory ≡ record { heap = heap; ram = ram; fixed = fixed_of u heap.now; registers = at_reset; command = []; sent = [] }) →
     IfOk r (λ card. card.load ≡ None) → IfOk r (λ card. IsAtReset (heap_of w) card)
 is_at_reset w t u heap ram (Err e) same now laid reads blank linked memory load = tt
 is_at_reset w t u heap ram (Ok card) same now laid reads blank linked memory load = record {
   ram = subst IsCleared (sym (ap (λ (m : MemoryState). m.ram) memory)) blank;
   cells = zero_blank card.memory (subst IsCleared (sym (ap (λ (m : MemoryState). m.ram) memory)) blank);
-  fixed = ap (λ (m : MemoryState). m.fixed) memory ∙ ap fixed_of now;
   registers = ap (λ (m : MemoryState). m.registers) memory;
   command = ap (λ (m : MemoryState). m.command) memory;
   sent = ap (λ (m : MemoryState). m.sent) memory;
@@ -37,23 +36,28 @@ is_at_reset w t u heap ram (Ok card) same now laid reads blank linked memory loa
     subst (λ l. Reads l (Ok t)) (sym (text_is w laid)) reads,
     ap (λ x. packages_of x (heap_of w)) (sym same)
         ∙ (ap (packages_of u) (sym now) ∙ linked),
+    ap (λ (m : MemoryState). m.fixed) memory ∙ ap (fixed_of u) now ∙ ap (λ x. fixed_of x (heap_of w)) same,
   );
   load = load;
 }
 
 -- so is one of another heap view with the same packages and transient contents
-pub reset_over : (h : HeapState) (heap : HeapView) (ram : RamState) (p : Packages) (lent card : CardState) → IsAtReset h lent → ram ≡ lent.memory.ram
-    → p ≡ lent.packages → card.memory ≡ record { heap = heap; ram = ram; fixed = fixed_of h; registers = at_reset; command = []; sent = [] }
+pub reset_over : (h : HeapState) (heap : HeapView) (ram : RamState) (p : Packages) (fixed : List ℕ) (lent card : CardState) → IsAtReset h lent
+    → ram ≡ lent.memory.ram → p ≡ lent.packages → fixed ≡ lent.memory.fixed → card.memory ≡ record { heap = heap; ram = ram; fixed = fixed; registers = at_reset; command = []; sent = [] }
     → card.packages ≡ p → card.load ≡ None → IsAtReset h card
-reset_over h heap ram p lent card reset same linked memory packages load =
+reset_over h heap ram p fixed lent card reset same linked known memory packages load =
     let blank : IsCleared card.memory.ram = subst IsCleared (sym (ap (λ (m : MemoryState). m.ram) memory ∙ same)) reset.ram in
     record {
       ram = blank;
       cells = zero_blank card.memory blank;
-      fixed = ap (λ (m : MemoryState). m.fixed) memory;
       registers = ap (λ (m : MemoryState). m.registers) memory;
       command = ap (λ (m : MemoryState). m.command) memory;
       sent = ap (λ (m : MemoryState). m.sent) memory;
-      packages = (reset.packages.0, reset.packages.1, reset.packages.2 ∙ ap Some (sym (packages ∙ linked)));
+      packages = (
+        reset.packages.0,
+        reset.packages.1,
+        reset.packages.2 ∙ ap Some (sym (packages ∙ linked)),
+        ap (λ (m : MemoryState). m.fixed) memory ∙ known ∙ reset.packages.3,
+      );
       load = load;
     }

@@ -12,8 +12,10 @@ use Rattle.jc_heap.proofs.Laws.{object_named}
 use Rattle.jc_image.specs.Laying.{unsealed_heap, sealed_heap}
 use Rattle.jc_platform.specs.Tokens.{Tokens}
 use Rattle.jc_card_load.specs.Reading.{packages_of, with_records}
-use Rattle.jc_card.specs.declared.fixed.FixedObject.{FixedObject}
-use Rattle.jc_card.specs.Fixed.{class_number_of, fixed_objects, last_fixed, next_or_null, object_number, with_objects}
+use Rattle.jc_environment.specs.declared.objects.FixedObject.{FixedObject}
+use Rattle.jc_environment.specs.Objects.{fixed_count, fixed_objects}
+use Rattle.jc_environment.proofs.Counts.{least_count}
+use Rattle.jc_card.specs.Fixed.{class_number_of, last_fixed, next_or_null, object_number, with_objects}
 use Rattle.jc_card.specs.Made.{new_card_heap}
 use Rattle.jc_card.specs.PowerUp.{HasPackages}
 use Rattle.jc_card.proofs.FixedObjects.{IsBelow, below-one, found-first, has_entry-push, items-all, items-one, next_is, next_sealed, none-push, top-add}
@@ -84,15 +86,11 @@ last_all t h (o ∷ os) k e some b none below x above object =
     let zeroth : object_number (with_objects t h (o ∷ os)) 0 ≡ 0 = number_zero (with_objects t h (o ∷ os)) in
     last_made t h 0 k o os (omega (arith, e)) b (subst (λ r. first_above h.items r ≡ None) (sym zeroth) none) (omega (arith, zeroth, below)) x above object
 
-fixed_count : 17 ≡ length fixed_objects
-unfolding fixed_objects
-fixed_count = refl
-
-pub alone : (n capacity : ℕ) (text : List ℕ) (t : Tokens) (x : ℕ) → last_fixed (new_card_heap n capacity text t) < x → IsObject (new_card_heap n capacity text t) x → ⊥
+pub alone : (n capacity : ℕ) (text : List ℕ) (t : Tokens) (x : ℕ) → last_fixed t (new_card_heap n capacity text t) < x → IsObject (new_card_heap n capacity text t) x → ⊥
 alone n capacity text t x above object =
-    let h : HeapState = with_objects t (unsealed_heap n capacity text) fixed_objects in
-    last_all t (unsealed_heap n capacity text) fixed_objects 17 fixed_count (omega arith) (record { absent = λ q le. refl; none = λ q le. refl }) refl (omega arith)
-    x (omega (arith, number_sealed h 17, above)) (object_sealed h x object)
+    let h : HeapState = with_objects t (unsealed_heap n capacity text) (fixed_objects t) in
+    last_all t (unsealed_heap n capacity text) (fixed_objects t) (fixed_count t) refl (omega (arith, least_count t)) (record { absent = λ q le. refl; none = λ q le. refl }) refl (omega arith)
+    x (omega (arith, number_sealed h (fixed_count t), above)) (object_sealed h x object)
 
 pub packages_add : (t : Tokens) (h : HeapState) (os : List FixedObject) → (with_objects t h os).packages ≡ h.packages
 unfolding add_transient add_object
@@ -109,12 +107,12 @@ pub no_packages : (t : Tokens) (h : HeapState) → h.packages ≡ [] → package
 unfolding packages_of
 no_packages t h none = ap (λ ps. with_records (record { platform = t; loaded = [] }) (map (record_of h) ps)) none
 
-pub fits-new_card_heap : (n capacity : ℕ) (text : List ℕ) (t u : Tokens) → HasPackages u (new_card_heap n capacity text t)
-fits-new_card_heap n capacity text t u =
-    let none : (new_card_heap n capacity text t).packages ≡ [] = packages_add t (unsealed_heap n capacity text) fixed_objects in
-    let counts : (new_card_heap n capacity text t).counts ≡ (0, 0) = counts_add t (unsealed_heap n capacity text) fixed_objects in (
-      record { platform = u; loaded = [] },
-      no_packages u (new_card_heap n capacity text t) none,
+pub fits-new_card_heap : (n capacity : ℕ) (text : List ℕ) (t : Tokens) → HasPackages t (new_card_heap n capacity text t)
+fits-new_card_heap n capacity text t =
+    let none : (new_card_heap n capacity text t).packages ≡ [] = packages_add t (unsealed_heap n capacity text) (fixed_objects t) in
+    let counts : (new_card_heap n capacity text t).counts ≡ (0, 0) = counts_add t (unsealed_heap n capacity text) (fixed_objects t) in (
+      record { platform = t; loaded = [] },
+      no_packages t (new_card_heap n capacity text t) none,
       record {
         objects = λ r above object. absurd (alone n capacity text t r above object);
         statics = λ k below. absurd (omega (arith, ap length none));

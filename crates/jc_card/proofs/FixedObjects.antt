@@ -1,7 +1,7 @@
 -- The objects of the runtime environment, as they are made.
 use Rattle.std.proofs.Common.{◌≡◌, ℕ, Bool, ◌+◌, ◌<◌, ◌≤◌, ◌&&◌, ◌||◌, ◌==◌, nat_lt, false, true, List, [], ◌∷◌, ◌++◌, Option, Some, None, Err, inl, inr}
 use Rattle.std.proofs.Common.{refl, sym, ◌∙◌, ap}
-use Rattle.std.proofs.Common.{subst, arith, lit≤, if◌then◌else◌}
+use Rattle.std.proofs.Common.{subst, arith, if◌then◌else◌}
 use Rattle.std.proofs.lemmas.Bool.{lt-ltb, le-ltb, eq-eqb, ne_eqb, true≢false}
 use Rattle.std.proofs.lemmas.List.{append-nil, append_assoc}
 use Rattle.std.proofs.lemmas.Option.{none-some}
@@ -26,8 +26,10 @@ use Rattle.jc_image.specs.Laying.{unsealed_heap, sealed_heap}
 use Rattle.jc_image.specs.Beginning.{HeadersFollow, HeapBeginsWith}
 use Rattle.jc_heap.specs.declared.object.Facts.{Facts}
 use Rattle.jc_platform.specs.Tokens.{Tokens}
-use Rattle.jc_card.specs.declared.fixed.FixedObject.{FixedObject}
-use Rattle.jc_card.specs.Fixed.{fixed_objects, class_number_of, cells_of_all, fixed_facts, BeginsWithFixed, with_objects}
+use Rattle.jc_environment.specs.declared.objects.FixedObject.{FixedObject}
+use Rattle.jc_environment.specs.Objects.{cells_of_all, fixed_objects}
+use Rattle.jc_environment.proofs.Counts.{most_cells}
+use Rattle.jc_card.specs.Fixed.{class_number_of, fixed_facts, BeginsWithFixed, with_objects}
 use Rattle.jc_card.specs.Made.{new_card_heap}
 
 -- what a new transient object changes
@@ -216,9 +218,8 @@ whole-sealed_heap h w = record {
 }
 
 pub whole-new_card_heap : (n capacity : ℕ) (text : List ℕ) (t : Tokens) → IsConsistent (new_card_heap n capacity text t)
-unfolding fixed_objects
-whole-new_card_heap n capacity text t = whole-sealed_heap (with_objects t (unsealed_heap n capacity text) fixed_objects)
-    (all_whole t (unsealed_heap n capacity text) fixed_objects (record { absent = λ q le. refl; none = λ q le. refl }) (lit≤ tt)
+whole-new_card_heap n capacity text t = whole-sealed_heap (with_objects t (unsealed_heap n capacity text) (fixed_objects t))
+    (all_whole t (unsealed_heap n capacity text) (fixed_objects t) (record { absent = λ q le. refl; none = λ q le. refl }) (omega (arith, most_cells t))
     (empty_whole (unsealed_heap n capacity text) refl refl refl refl))
 
 pub head-all : (t : Tokens) (h : HeapState) (os : List FixedObject) → (with_objects t h os).head ≡ h.head
@@ -247,11 +248,11 @@ sealed_heap-follow h r (d ∷ fs) f = (f.0, next_sealed h r ∙ f.1, facts_seale
 
 pub begins-new_card_heap : (n capacity : ℕ) (text : List ℕ) (t : Tokens) → BeginsWithFixed t (new_card_heap n capacity text t)
 unfolding HeapBeginsWith
-begins-new_card_heap n capacity text t = sealed_heap-follow (with_objects t (unsealed_heap n capacity text) fixed_objects) 0 (fixed_facts t 0 fixed_objects)
-    (follow-made t (unsealed_heap n capacity text) 0 fixed_objects (record { absent = λ q le. refl; none = λ q le. refl }) refl (omega arith))
+begins-new_card_heap n capacity text t = sealed_heap-follow (with_objects t (unsealed_heap n capacity text) (fixed_objects t)) 0 (fixed_facts t 0 (fixed_objects t))
+    (follow-made t (unsealed_heap n capacity text) 0 (fixed_objects t) (record { absent = λ q le. refl; none = λ q le. refl }) refl (omega arith))
 
 pub head-new_card_heap : (n capacity : ℕ) (text : List ℕ) (t : Tokens) → (new_card_heap n capacity text t).head ≡ (magic, n)
-head-new_card_heap n capacity text t = ap (λ (h : ℕ × ℕ). (magic, h.1)) (head-all t (unsealed_heap n capacity text) fixed_objects)
+head-new_card_heap n capacity text t = ap (λ (h : ℕ × ℕ). (magic, h.1)) (head-all t (unsealed_heap n capacity text) (fixed_objects t))
 
 pub text-new_card_heap : (n capacity : ℕ) (text : List ℕ) (t : Tokens) → (new_card_heap n capacity text t).text ≡ text
-text-new_card_heap n capacity text t = text-all t (unsealed_heap n capacity text) fixed_objects
+text-new_card_heap n capacity text t = text-all t (unsealed_heap n capacity text) (fixed_objects t)

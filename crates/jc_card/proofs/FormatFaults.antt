@@ -1,12 +1,15 @@
 -- Why no image is made: each cause shuts out the others, so that a fault comes exactly where its cause is.
-use Rattle.std.proofs.Common.{arith, ◌≡◌, ◌↔◌, ℕ, List, Ok, Err, length, refl, ap, subst, sym}
+use Rattle.std.proofs.Common.{arith, ◌≡◌, ◌↔◌, ◌+◌, ◌<◌, ℕ, List, Ok, Err, length, refl, ap, subst, sym}
 use Rattle.std.specs.Prelude.{Bool, Result}
 use Rattle.jc_words.specs.Refusals.{Refusals}
 use Rattle.jc_platform.specs.Table.{Reads}
 use Rattle.jc_platform.specs.Tokens.{Tokens}
 use Rattle.jc_platform.specs.declared.fault.TableFault.{TableFault}
 use Rattle.jc_platform.specs.declared.fault.TableFault.TheVariants.{BadTable as BadLine}
-use Rattle.jc_platform.proofs.OneAnswer.{no_fault, one_fault}
+use Rattle.jc_environment.specs.Objects.{fixed_size}
+use Rattle.jc_image.specs.Laying.{first_free}
+use Rattle.jc_words.specs.Image.{heap_end}
+use Rattle.jc_platform.proofs.OneAnswer.{no_fault, one_fault, one_table}
 use Rattle.jc_card.specs.Formatting.{FitsImage, FormatRefuses, Formats}
 use Rattle.jc_card.specs.declared.formatting.FormatFault.{FormatFault}
 use Rattle.jc_card.specs.declared.formatting.FormatFault.TheVariants.{StoreDown, BadSize, BadCapacity, BadTable, TooSmall}
@@ -23,7 +26,11 @@ module _ (n capacity : ℕ) (text : List ℕ) where
   fits_all BadSize other t fits cause = omega (arith, fits.enough, cause)
   fits_all BadCapacity other t fits cause = cause.1 fits.entries
   fits_all (BadTable line) other t fits cause = no_fault text t (BadLine line) fits.reads cause.2
-  fits_all TooSmall other t fits cause = omega (arith, fits.room, cause.2)
+  fits_all TooSmall other t fits cause =
+      let same : cause.2.0 ≡ t = one_table text cause.2.0 t cause.2.1 fits.reads in
+      let small : heap_end n capacity < first_free (length text) + fixed_size t =
+      subst (λ u. heap_end n capacity < first_free (length text) + fixed_size u) same cause.2.2 in
+      omega (arith, fits.room, small)
 
   one_cause : (f g : FormatFault) → (g ≡ StoreDown → ⊥) → FormatRefuses f n capacity text → FormatRefuses g n capacity text → f ≡ g
   one_cause StoreDown g other a b = absurd (fits_all g other a.0 a.1 b)
@@ -44,11 +51,11 @@ module _ (n capacity : ℕ) (text : List ℕ) where
       let one : BadLine k ≡ BadLine line = one_fault text (BadLine k) (BadLine line) a.2 b.2 in
       let same : k ≡ line = cc in
       ap BadTable same
-  one_cause (BadTable k) TooSmall other a b = absurd (no_fault text b.3.0 (BadLine k) b.3.1 a.2)
+  one_cause (BadTable k) TooSmall other a b = absurd (no_fault text b.2.0 (BadLine k) b.2.1 a.2)
   one_cause TooSmall StoreDown other a b = absurd (other refl)
   one_cause TooSmall BadSize other a b = absurd (omega (arith, a.0, b))
   one_cause TooSmall BadCapacity other a b = absurd (b.1 a.1)
-  one_cause TooSmall (BadTable line) other a b = absurd (no_fault text a.3.0 (BadLine line) a.3.1 b.2)
+  one_cause TooSmall (BadTable line) other a b = absurd (no_fault text a.2.0 (BadLine line) a.2.1 b.2)
   one_cause TooSmall TooSmall other a b = refl
 
 -- any fault but a refused write comes exactly where its cause is

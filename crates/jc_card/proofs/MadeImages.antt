@@ -17,7 +17,7 @@ card-new_card_heap : (n capacity : ℕ) (text : List ℕ) (t : Tokens) → least
 card-new_card_heap n capacity text t enough reads = record {
   head = head-new_card_heap n capacity text t;
   enough = enough;
-  platform = (t, subst (λ l. Reads l (Ok t)) (sym (text-new_card_heap n capacity text t)) reads, begins-new_card_heap n capacity text t, fits-new_card_heap n capacity text t t);
+  platform = (t, subst (λ l. Reads l (Ok t)) (sym (text-new_card_heap n capacity text t)) reads, begins-new_card_heap n capacity text t, fits-new_card_heap n capacity text t);
   whole = whole-new_card_heap n capacity text t;
 }
 

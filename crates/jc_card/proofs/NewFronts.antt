@@ -7,8 +7,9 @@ use Rattle.jc_heap.specs.declared.object.Kind.{Kind}
 use Rattle.jc_heap.specs.Heap.{HeapState, add_object, add_transient}
 use Rattle.jc_image.specs.Laying.{first_free, first_words_of, unsealed_heap}
 use Rattle.jc_platform.specs.Tokens.{Tokens}
-use Rattle.jc_card.specs.declared.fixed.FixedObject.{FixedObject}
-use Rattle.jc_card.specs.Fixed.{cells_of_all, class_number_of, fixed_objects, fixed_size, with_objects}
+use Rattle.jc_environment.specs.declared.objects.FixedObject.{FixedObject}
+use Rattle.jc_environment.specs.Objects.{cells_of_all, fixed_objects, fixed_size}
+use Rattle.jc_card.specs.Fixed.{class_number_of, with_objects}
 use Rattle.jc_card.specs.Made.{new_card_heap, new_front}
 use Rattle.jc_card.proofs.FixedObjects.{end-add, head-new_card_heap, text-new_card_heap, top-add}
 
@@ -66,21 +67,16 @@ end-all t h (o ∷ os) =
     let one = end-add h o.kind (class_number_of t o.class) 0 o.cells in
     omega (arith, more, one)
 
--- how many there are
-all-fixed : length fixed_objects ≡ 17
-unfolding fixed_objects
-all-fixed = refl
-
-pub front-new : (n capacity : ℕ) (text : List ℕ) (t : Tokens) → first_words_of (new_card_heap n capacity text t) ≡ new_front n capacity (length text)
+pub front-new : (n capacity : ℕ) (text : List ℕ) (t : Tokens) → first_words_of (new_card_heap n capacity text t) ≡ new_front n capacity (length text) t
 front-new n capacity text t =
     let h : HeapState = unsealed_heap n capacity text in
     let head = head-new_card_heap n capacity text t in
-    let counts = counts-all t h fixed_objects in
-    let unread = unread-all t h fixed_objects in
-    let top : (with_objects t h fixed_objects).top ≡ first_free (length text) + fixed_size = omega (arith, top-all t h fixed_objects, all-fixed) in
-    let first_end : (with_objects t h fixed_objects).area_ends.0 ≡ cells_of_all fixed_objects = omega (arith, end-all t h fixed_objects) in
-    let second_end = other_end-all t h fixed_objects in
+    let counts = counts-all t h (fixed_objects t) in
+    let unread = unread-all t h (fixed_objects t) in
+    let top : (with_objects t h (fixed_objects t)).top ≡ first_free (length text) + fixed_size t = omega (arith, top-all t h (fixed_objects t)) in
+    let first_end : (with_objects t h (fixed_objects t)).area_ends.0 ≡ cells_of_all (fixed_objects t) = omega (arith, end-all t h (fixed_objects t)) in
+    let second_end = other_end-all t h (fixed_objects t) in
     let long = ap (λ (l : List ℕ). length l) (text-new_card_heap n capacity text t) in
-    let capacities = capacity-all t h fixed_objects in
+    let capacities = capacity-all t h (fixed_objects t) in
     λ i. (head i).0 ∷ version ∷ (head i).1 ∷ 0 ∷ slice_index (unread i) 0 ∷ top i ∷ (counts i).0 ∷ (counts i).1 ∷ first_end i ∷ second_end i
     ∷ long i ∷ capacities i ∷ journal_start ((head i).1) (capacities i) ∷ slice_index (unread i) 1 ∷ slice_index (unread i) 2 ∷ slice_index (unread i) 3 ∷ []

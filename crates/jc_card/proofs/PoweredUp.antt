@@ -151,29 +151,29 @@ limit_still old new still =
     sym (length-recovered new) ∙ ap (λ (l : List ℕ). length l) still.recovered ∙ (migrated_alike (recovered_of old) still.done).size ∙ length-recovered old
 
 -- what does not fit the packages that are linked of it fits none
-pub none_fit : (t : Tokens) (h : HeapState) (p : Packages) → packages_of t h ≡ Some p → (IsSound p h (last_fixed h) → ⊥) → HasPackages t h → ⊥
+pub none_fit : (t : Tokens) (h : HeapState) (p : Packages) → packages_of t h ≡ Some p → (IsSound p h (last_fixed t h) → ⊥) → HasPackages t h → ⊥
 none_fit t h p linked misfit has =
     let both : Some has.0 ≡ Some p = sym has.1 ∙ linked in
     let same : has.0 ≡ p = cc in
-    misfit (subst (λ q. IsSound q h (last_fixed h)) same has.2)
+    misfit (subst (λ q. IsSound q h (last_fixed t h)) same has.2)
 
 -- the card of packages that a heap fits
 pub fits_linked : {E : Type 0} (r : Result CardState E) (m : MemoryState) (p : Packages) (t : Tokens) (h : HeapState) (own : ℕ)
-    → IfOk r (λ card. card ≡ record { memory = m; packages = p; load = None; budget = usual_budget }) → OnOk r (IsSound p m.heap.now own) → m.heap.now ≡ h → own ≡ last_fixed h
-    → packages_of t h ≡ Some p → IfOk r (λ card. (packages_of t h ≡ Some card.packages) × IsSound card.packages h (last_fixed h))
+    → IfOk r (λ card. card ≡ record { memory = m; packages = p; load = None; budget = usual_budget }) → OnOk r (IsSound p m.heap.now own) → m.heap.now ≡ h → own ≡ last_fixed t h
+    → packages_of t h ≡ Some p → IfOk r (λ card. (packages_of t h ≡ Some card.packages) × IsSound card.packages h (last_fixed t h))
 fits_linked (Err e) m p t h own is sound same at linked = tt
 fits_linked (Ok card) m p t h own is sound same at linked =
     let packages : p ≡ card.packages = ap (λ (c : CardState). c.packages) (sym is) in
-    let here : IsSound p h (last_fixed h) = subst (λ (o : ℕ). IsSound p h o) at (subst (λ (x : HeapState). IsSound p x own) same sound) in
-    (linked ∙ ap Some packages, subst (λ (q : Packages). IsSound q h (last_fixed h)) packages here)
+    let here : IsSound p h (last_fixed t h) = subst (λ (o : ℕ). IsSound p h o) at (subst (λ (x : HeapState). IsSound p x own) same sound) in
+    (linked ∙ ap Some packages, subst (λ (q : Packages). IsSound q h (last_fixed t h)) packages here)
 
 -- it does not fit them
 pub unfit : {A : Type 0} (r : Result A PowerFault) (m : MemoryState) (p : Packages) (t : Tokens) (h : HeapState) (own : ℕ)
-    → IfErr r (λ e. (e ≡ BadPackage) × (IsSound p m.heap.now own → ⊥)) → m.heap.now ≡ h → own ≡ last_fixed h → packages_of t h ≡ Some p
+    → IfErr r (λ e. (e ≡ BadPackage) × (IsSound p m.heap.now own → ⊥)) → m.heap.now ≡ h → own ≡ last_fixed t h → packages_of t h ≡ Some p
     → IfErr r (λ e. FailsToLink e t h)
 unfit (Ok card) m p t h own cause same at linked = tt
 unfit (Err e) m p t h own cause same at linked = subst (λ (f : PowerFault). FailsToLink f t h) (sym cause.0) (none_fit t h p linked
-    (λ (fit : IsSound p h (last_fixed h)). cause.1 (subst (λ (x : HeapState). IsSound p x own) (sym same) (subst (λ (o : ℕ). IsSound p h o) (sym at) fit))))
+    (λ (fit : IsSound p h (last_fixed t h)). cause.1 (subst (λ (x : HeapState). IsSound p x own) (sym same) (subst (λ (o : ℕ). IsSound p h o) (sym at) fit))))
 
 -- the text of a table, or of none
 pub table_told : (r : Result Tokens PowerFault) (w text : List ℕ) → text_start + (get_or w text_length_address 0 + 1) / 2 ≤ length w → text ≡ table_text w

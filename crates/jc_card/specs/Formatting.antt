@@ -6,10 +6,10 @@ use Rattle.jc_words.specs.Image.{IsCapacity, heap_end}
 use Rattle.jc_commit.specs.Image.{recovered_of}
 use Rattle.jc_heap.specs.Heap.{heap_of}
 use Rattle.jc_image.specs.Laying.{first_free}
+use Rattle.jc_environment.specs.Objects.{fixed_size}
 use Rattle.jc_platform.specs.Tokens.{Tokens}
 use Rattle.jc_platform.specs.Table.{Reads}
 use Rattle.jc_platform.specs.declared.fault.TableFault.TheVariants.{BadTable as BadLine}
-use Rattle.jc_card.specs.Fixed.{fixed_size}
 use Rattle.jc_card.specs.Made.{IsMade, new_card_heap, new_front}
 use Rattle.jc_card.specs.declared.formatting.FormatFault.{FormatFault}
 use Rattle.jc_card.specs.declared.formatting.FormatFault.TheVariants.{StoreDown, BadSize, BadCapacity, BadTable, TooSmall}
@@ -20,7 +20,11 @@ pub record FitsImage (n capacity : ℕ) (text : List ℕ) (t : Tokens) : Type 0 
   pub enough : least_size ≤ n
   pub entries : IsCapacity capacity
   pub reads : Reads text (Ok t)
-  pub room : first_free (length text) + fixed_size ≤ heap_end n capacity
+  pub room : first_free (length text) + fixed_size t ≤ heap_end n capacity
+
+-- this text tells a table, and the two and the objects of the runtime environment do not fit below the heap's end
+abbrev pub IsTooSmall : ℕ → ℕ → List ℕ → Type 0
+IsTooSmall n capacity text = (t : Tokens) × Reads text (Ok t) × (heap_end n capacity < first_free (length text) + fixed_size t)
 
 -- why no image of n words is made, with a journal of so many entries, from this text, each cause before the next; a store refuses a
 -- write where there is no other cause
@@ -28,8 +32,7 @@ abbrev pub FormatRefuses : FormatFault → ℕ → ℕ → List ℕ → Type 0
 FormatRefuses BadSize n capacity text = n < least_size
 FormatRefuses BadCapacity n capacity text = (least_size ≤ n) × (IsCapacity capacity → ⊥)
 FormatRefuses (BadTable line) n capacity text = (least_size ≤ n) × IsCapacity capacity × Reads text (Err (BadLine line))
-FormatRefuses TooSmall n capacity text = (least_size ≤ n) × IsCapacity capacity × (heap_end n capacity < first_free (length text) + fixed_size)
-    × ((t : Tokens) × Reads text (Ok t))
+FormatRefuses TooSmall n capacity text = (least_size ≤ n) × IsCapacity capacity × IsTooSmall n capacity text
 FormatRefuses StoreDown n capacity text = (t : Tokens) × FitsImage n capacity text t
 
 -- the store is up, has refused no write, and holds a new image, made of the old one's words with this journal, text and table
@@ -37,7 +40,7 @@ pub record HoldsNewImage {S : Type 0} (words : S → List ℕ) (down : S → Boo
     (t : Tokens) (new : S) : Type 0 where
   pub made : IsMade (words new)
   pub heap : heap_of (recovered_of (words new)) ≡ new_card_heap (length (words old)) capacity text t
-  pub front : take front_length (words new) ≡ new_front (length (words old)) capacity (length text)
+  pub front : take front_length (words new) ≡ new_front (length (words old)) capacity (length text) t
   pub size : length (words new) ≡ length (words old)
   pub is_up : down new ≡ false
   pub none_refused : refusals new ≡ refusals old

@@ -9,7 +9,8 @@ use Rattle.jc_heap.specs.Whole.{IsConsistent}
 use Rattle.jc_image.specs.Laying.{first_free, unsealed_heap, sealed_heap}
 use Rattle.jc_platform.specs.Tokens.{Tokens}
 use Rattle.jc_platform.specs.Table.{Reads}
-use Rattle.jc_card.specs.Fixed.{cells_of_all, fixed_objects, fixed_size, BeginsWithFixed, with_objects}
+use Rattle.jc_card.specs.Fixed.{BeginsWithFixed, with_objects}
+use Rattle.jc_environment.specs.Objects.{cells_of_all, fixed_objects, fixed_size}
 use Rattle.jc_card.specs.PowerUp.{HasPackages}
 
 -- a heap that begins with the objects of the runtime environment, whose classes its own table names, and that fits its packages
@@ -31,9 +32,9 @@ pub record IsMade (w : List ℕ) : Type 0 where
 
 -- the heap of a new image of n words, whose journal can have so many entries
 abbrev pub new_card_heap : ℕ → ℕ → List ℕ → Tokens → HeapState
-new_card_heap n capacity text t = sealed_heap (with_objects t (unsealed_heap n capacity text) fixed_objects)
+new_card_heap n capacity text t = sealed_heap (with_objects t (unsealed_heap n capacity text) (fixed_objects t))
 
--- the first sixteen words of a new image of n words, whose journal can have so many entries, and whose table text has so many bytes
-abbrev pub new_front : ℕ → ℕ → ℕ → List ℕ
-new_front n capacity long = magic ∷ version ∷ n ∷ 0 ∷ 0 ∷ (first_free long + fixed_size) ∷ 0 ∷ 0 ∷ cells_of_all fixed_objects ∷ 0 ∷ long
+-- the first sixteen words of a new image of n words, whose journal can have so many entries, whose table text has so many bytes, and whose table this is
+abbrev pub new_front : ℕ → ℕ → ℕ → Tokens → List ℕ
+new_front n capacity long t = magic ∷ version ∷ n ∷ 0 ∷ 0 ∷ (first_free long + fixed_size t) ∷ 0 ∷ 0 ∷ cells_of_all (fixed_objects t) ∷ 0 ∷ long
     ∷ capacity ∷ journal_start n capacity ∷ 0 ∷ 0 ∷ 0 ∷ []

@@ -36,7 +36,7 @@ HasTable w t = (text_start + (slice_index w text_length_address + 1) / 2 ≤ len
 
 -- its packages link, each against those before it, and what stands behind the objects of the runtime environment fits them
 abbrev pub HasPackages : Tokens → HeapState → Type 0
-HasPackages t h = (p : Packages) × (packages_of t h ≡ Some p) × IsSound p h (last_fixed h)
+HasPackages t h = (p : Packages) × (packages_of t h ≡ Some p) × IsSound p h (last_fixed t h)
 
 -- a whole heap that begins with the objects of the runtime environment, and that fits its packages
 abbrev pub HasHeap : Tokens → List ℕ → Type 0

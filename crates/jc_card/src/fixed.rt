@@ -1,94 +1,43 @@
-//! The objects that the runtime environment owns from an image's making on.
-ghost use Rattle.std.specs.Prelude.{◌≡◌, ◌≤◌, ◌<◌, ◌+◌, ◌*◌, false, true, OnOk, OnErr, is_ok, if◌then◌else◌, length, slice_index, [], ◌∷◌, ◌++◌};
+//! The objects that the runtime environment owns from an image's making on: made, and found again.
+ghost use Rattle.std.specs.Prelude.{◌≡◌, ◌≤◌, ◌<◌, ◌+◌, ◌*◌, false, true, OnOk, OnErr, is_ok, if◌then◌else◌, length, [], ◌∷◌, ◌++◌};
 ghost use Rattle.jc_words.specs.Refusals.{refused_once};
 ghost use Rattle.jc_transient.specs.State.{area_size};
 ghost use Rattle.jc_transient.specs.declared.cell.ClearEvent.TheVariants.{Reset};
 ghost use Rattle.jc_heap.specs.Object.{transient_size};
 ghost use Rattle.jc_heap.specs.Heap.{IsObject, area_end, limit};
-ghost use Rattle.jc_card.specs.Fixed.{fixed_objects, fixed_size, class_number_of, facts_of_fixed, cells_of_all, fixed_facts, fixed_of, last_fixed};
-ghost use Rattle.jc_card.specs.Fixed.{next_or_null, with_objects};
+ghost use Rattle.jc_environment.specs.Objects.{cells_of_all, fixed_objects, fixed_size};
+ghost use Rattle.jc_card.specs.Fixed.{class_number_of, facts_of_fixed, fixed_facts, next_or_null, numbered, object_number, with_objects};
 
 use arrayvec::ArrayVec;
-use jc_heap::{Facts, Heap, Kind};
+use jc_environment::{FixedObject, MOST_OBJECTS, fixed_objects};
+use jc_heap::{Facts, Heap};
+use jc_memory::MOST_FIXED;
 use jc_platform::names::PlatformClass;
 use jc_platform::table::Table;
-use jc_transient::{BUFFER_CELLS, ClassWord, ClearEvent, NO_CLASS, RUNTIME_ENVIRONMENT, Ref};
+use jc_transient::{ClassWord, ClearEvent, NO_CLASS, RUNTIME_ENVIRONMENT, Ref};
 use jc_words::{StoreDown, WordStore};
 
-/// How many objects the runtime environment owns from the beginning.
-pub(crate) const FIXED_COUNT: usize = 17;
-
-/// The place of the last of them.
-pub(crate) const LAST_FIXED: usize = FIXED_COUNT - 1;
-
-/// An object that the runtime environment owns.
-#[derive(Clone, Copy)]
-pub(crate) struct FixedObject {
-    pub(crate) kind: Kind,
-    /// The class of an instance; none of an array.
-    pub(crate) class: Option<PlatformClass>,
-    pub(crate) cells: u16,
-}
-
-// An instance of a class, with so many cells.
-macro_rules! instance {
-    ($class:ident $cells:literal) => {
-        FixedObject {
-            kind: Kind::Instance,
-            class: Some(PlatformClass::$class),
-            cells: $cells,
-        }
-    };
-}
-
-/// All of them, in their order.
-const FIXED_OBJECTS: [FixedObject; FIXED_COUNT] = [
-    instance!(ArithmeticException 0),
-    instance!(ArrayIndexOutOfBoundsException 0),
-    instance!(ArrayStoreException 0),
-    instance!(ClassCastException 0),
-    instance!(NegativeArraySizeException 0),
-    instance!(NullPointerException 0),
-    instance!(SecurityException 0),
-    instance!(CardException 1),
-    instance!(CardRuntimeException 1),
-    instance!(IsoException 1),
-    instance!(PinException 1),
-    instance!(SystemException 1),
-    instance!(TransactionException 1),
-    instance!(ApduException 1),
-    instance!(UserException 1),
-    instance!(Apdu 0),
-    FixedObject {
-        kind: Kind::ByteArray,
-        class: None,
-        cells: BUFFER_CELLS,
-    },
-];
-
-#[tactic(auto, unfolding(crate::specs::Fixed::fixed_objects))]
-fn all_fixed() -> &'static [FixedObject]
-    ensures all { result.now ≡ fixed_objects }
-    ensures count { length result.now ≡ 17 }
-    ensures cells { cells_of_all result.now ≡ 269 }
+/// How many words the objects of images with this table take.
+pub(crate) fn fixed_size(table: &Table) -> u32
+    ensures size { result ≡ fixed_size table.now }
+    ensures few { result ≤ 640 }
 {
-    &FIXED_OBJECTS
+    let objects = fixed_objects(table);
+    5 * objects.len() as u32
 }
 
-impl FixedObject {
-    // What the object's header says, whose first cell has this place.
-    fn facts(&self, table: &Table, place: u16) -> Facts
-        ensures { result ≡ facts_of_fixed table.now self.now place }
-    {
-        Facts::new(
-            self.kind,
-            Some(ClearEvent::Reset),
-            class_number(table, self.class),
-            RUNTIME_ENVIRONMENT,
-            self.cells,
-            place,
-        )
-    }
+// What the header of an object says, whose first cell has this place.
+fn facts_of(object: &FixedObject, table: &Table, place: u16) -> Facts
+    ensures { result ≡ facts_of_fixed table.now object.now place }
+{
+    Facts::new(
+        object.kind,
+        Some(ClearEvent::Reset),
+        class_number(table, object.class),
+        RUNTIME_ENVIRONMENT,
+        object.cells,
+        place,
+    )
 }
 
 fn class_number(table: &Table, class: Option<PlatformClass>) -> ClassWord
@@ -101,11 +50,12 @@ fn class_number(table: &Table, class: Option<PlatformClass>) -> ClassWord
 }
 
 /// What the headers of all of them say.
-pub(crate) fn fixed_headers(table: &Table) -> ArrayVec<Facts, FIXED_COUNT>
-    ensures { result.items ≡ fixed_facts table.now 0 fixed_objects }
+pub(crate) fn fixed_headers(table: &Table) -> ArrayVec<Facts, MOST_OBJECTS>
+    ensures { result.items ≡ fixed_facts table.now 0 (fixed_objects table.now) }
 {
+    let objects = fixed_objects(table);
     let mut headers = ArrayVec::new();
-    add_headers(table, 0, all_fixed(), &mut headers);
+    add_headers(table, 0, objects.as_slice(), &mut headers);
     headers
 }
 
@@ -114,27 +64,28 @@ fn add_headers(
     table: &Table,
     place: u16,
     objects: &[FixedObject],
-    headers: &mut ArrayVec<Facts, FIXED_COUNT>,
+    headers: &mut ArrayVec<Facts, MOST_OBJECTS>,
 )
     requires places { place + cells_of_all objects.now < 65536 }
-    requires room { length headers.old.items + length objects.now ≤ 17 }
+    requires room { length headers.old.items + length objects.now ≤ 128 }
     ensures { headers.new.items ≡ headers.old.items ++ fixed_facts table.now place objects.now }
 {
     let Some((first, more)) = objects.split_first() else {
         return;
     };
-    headers.push(first.facts(table, place));
+    headers.push(facts_of(first, table, place));
     add_headers(table, place + first.cells, more, headers);
 }
 
-/// Makes the objects of the runtime environment in a heap that has space for them.
+/// Makes the objects of the runtime environment in a heap that has space for them, and no transient cells.
 pub(crate) fn make_fixed<S: WordStore>(heap: &mut Heap<S>, table: &Table) -> Result<(), StoreDown>
     requires up { heap.old.down ≡ false }
     requires outside { heap.old.begun ≡ false }
     requires settled { heap.old.durable ≡ heap.old.now }
-    requires space { heap.old.now.top + fixed_size ≤ limit heap.old }
-    requires area { area_end heap.old.now Reset + 269 ≤ area_size }
-    ensures made { OnOk result (heap.new.now ≡ with_objects table.now heap.old.now fixed_objects) }
+    requires space { heap.old.now.top + fixed_size table.now ≤ limit heap.old }
+    requires area { area_end heap.old.now Reset ≡ 0 }
+    ensures made { OnOk result (heap.new.now ≡ with_objects table.now heap.old.now
+        (fixed_objects table.now)) }
     ensures size { heap.new.size ≡ heap.old.size }
     ensures up { OnOk result (heap.new.down ≡ false) }
     ensures outside { OnOk result (heap.new.begun ≡ false) }
@@ -144,7 +95,8 @@ pub(crate) fn make_fixed<S: WordStore>(heap: &mut Heap<S>, table: &Table) -> Res
         refused_once heap.old.down heap.new.passed heap.old.refusals) }
     ensures head { heap.new.durable.head ≡ heap.old.durable.head }
 {
-    make_all(heap, table, all_fixed())
+    let objects = fixed_objects(table);
+    make_all(heap, table, objects.as_slice())
 }
 
 // Makes these objects behind those that stand.
@@ -215,21 +167,25 @@ fn make<S: WordStore>(
     }
 }
 
-/// The objects of the runtime environment in a heap that begins with them, in their order.
-pub(crate) fn fixed_of<S: WordStore>(heap: &Heap<S>) -> [Ref; FIXED_COUNT]
-    requires { heap.now.down ≡ false }
-    ensures all { result ≡ fixed_of heap.now.now }
-    ensures last { slice_index result 16 ≡ last_fixed heap.now.now }
-    ensures object { (slice_index result 16 ≡ 0 → ⊥)
-        → IsObject heap.now.now (slice_index result 16) }
+/// The addresses of the first objects of a heap, as many as this says, in their order; and the last one; null, where there
+/// are not so many.
+pub(crate) fn first_objects<S: WordStore>(
+    heap: &Heap<S>,
+    count: usize,
+) -> (ArrayVec<u16, MOST_FIXED>, Ref)
+    requires up { heap.now.down ≡ false }
+    requires few { count ≤ 128 }
+    ensures all { result.0.items ≡ numbered heap.now.now count }
+    ensures last { result.1 ≡ object_number heap.now.now count }
+    ensures object { (result.1 ≡ 0 → ⊥) → IsObject heap.now.now result.1 }
 {
-    let mut fixed = [Ref::null(); FIXED_COUNT];
+    let mut fixed = ArrayVec::new();
     let mut at = Ref::null();
-    for k in 0..FIXED_COUNT {
+    for _ in 0..count {
         at = next_or_null(heap, at);
-        fixed[k] = at;
+        fixed.push(at.address());
     }
-    fixed
+    (fixed, at)
 }
 
 // The object behind another one, or the first one of all behind null; null, where there is none.

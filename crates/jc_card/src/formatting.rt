@@ -7,11 +7,11 @@ ghost use Rattle.jc_image.specs.Laying.{first_free};
 ghost use Rattle.jc_heap.specs.Heap.{heap_of};
 ghost use Rattle.jc_commit.specs.Image.{recovered_of};
 ghost use Rattle.jc_platform.specs.Table.{Reads};
-ghost use Rattle.jc_card.specs.Fixed.{fixed_size};
+ghost use Rattle.jc_environment.specs.Objects.{fixed_size};
 ghost use Rattle.jc_card.specs.Formatting.{Formats};
 ghost use Rattle.jc_card.specs.Made.{IsMade, new_card_heap, new_front};
 
-use crate::fixed::make_fixed;
+use crate::fixed::{fixed_size, make_fixed};
 use jc_heap::Heap;
 use jc_image::{first_free, lay, seal};
 use jc_platform::fault::TableFault;
@@ -20,9 +20,6 @@ use jc_platform::table::Table;
 use jc_words::layout::LEAST_SIZE;
 use jc_words::{Log, WordStore, is_capacity};
 use thiserror::Error;
-
-/// How many words the objects of the runtime environment take.
-const FIXED_WORDS: u32 = 85;
 
 /// Why no image was made.
 #[derive(Clone, Copy, Debug, PartialEq, Eq, Error)]
@@ -62,7 +59,7 @@ pub fn format<S: WordStore>(store: S, text: &[u8], capacity: u16) -> (S, Result<
         Err(TableFault::BadTable(line)) => return (store, Err(FormatFault::BadTable(line))),
     };
     let heap_end = Log::among(size, capacity).heap_end(size);
-    if u32::from(heap_end) < first_free(text.len() as u16) + FIXED_WORDS {
+    if u32::from(heap_end) < first_free(text.len() as u16) + fixed_size(&table) {
         return (store, Err(FormatFault::TooSmall));
     }
     match make_image(store, text, capacity, &table) {
@@ -75,13 +72,14 @@ pub fn format<S: WordStore>(store: S, text: &[u8], capacity: u16) -> (S, Result<
 fn make_image<S: WordStore>(store: S, text: &[u8], capacity: u16, table: &Table) -> Result<S, S>
     requires enough { least_size ≤ length (S.words store) }
     requires capacity { IsCapacity capacity }
-    requires fits { first_free (length text.now) + fixed_size ≤ heap_end (length (S.words store)) capacity }
+    requires fits { first_free (length text.now) + fixed_size table.now
+        ≤ heap_end (length (S.words store)) capacity }
     requires reads { Reads text.now (Ok table.now) }
     ensures made { IfOk result (λ s. IsMade (S.words s)) }
     ensures heap { IfOk result (λ s. heap_of (recovered_of (S.words s))
         ≡ new_card_heap (length (S.words store)) capacity text.now table.now) }
     ensures front { IfOk result (λ s. take front_length (S.words s)
-        ≡ new_front (length (S.words store)) capacity (length text.now)) }
+        ≡ new_front (length (S.words store)) capacity (length text.now) table.now) }
     ensures size { IfOk result (λ s. length (S.words s) ≡ length (S.words store)) }
     ensures up { IfOk result (λ s. S.down s ≡ false) }
     ensures none_refused { IfOk result (λ s. S.refusals s ≡ S.refusals store) }

@@ -17,22 +17,24 @@ ghost use Rattle.jc_memory.specs.Owners.{at_reset};
 ghost use Rattle.jc_card_load.specs.Reading.{packages_of};
 ghost use Rattle.jc_card_checks.specs.Sound.{IsSound};
 ghost use Rattle.jc_card.specs.Dispatching.{usual_budget};
-ghost use Rattle.jc_card.specs.Fixed.{fixed_facts, fixed_objects, fixed_of, last_fixed};
+ghost use Rattle.jc_card.specs.Fixed.{fixed_facts, fixed_of, last_fixed};
+ghost use Rattle.jc_environment.specs.Objects.{fixed_objects};
 ghost use Rattle.jc_card.specs.Reset.{IsAtReset};
 ghost use Rattle.jc_card.specs.PowerUp.{FailsToLink, HasHeap, HasTable, RecoveredWordsFail, fault_of};
 ghost use Rattle.jc_card.specs.PoweringUp.{PowersUpOver};
 
 use crate::card::{Card, USUAL_BUDGET};
-use crate::fixed::{LAST_FIXED, fixed_headers, fixed_of};
+use crate::fixed::{first_objects, fixed_headers};
 use crate::lent::LentStore;
+use arrayvec::ArrayVec;
 use jc_card_checks::sound::is_sound;
 use jc_card_load::reading::{RecordFault, read_packages};
 use jc_commit::OpenRefusal;
+use jc_environment::fixed_objects;
 use jc_heap::Heap;
 use jc_image::OpenImage;
 use jc_linker::linked::Linked;
-use jc_memory::{Marks, Memory, unset_flags};
-use jc_platform::platform::Platform;
+use jc_memory::{MOST_FIXED, Marks, Memory, unset_flags};
 use jc_platform::read::{LARGEST_TEXT, read_table};
 use jc_platform::table::Table;
 use jc_transient::{Ram, Ref};
@@ -115,8 +117,16 @@ fn start<S: WordStore>(alloc: Global, store: S, budget: u32) -> Result<Card<S>, 
     let image = OpenImage::resume(LentStore::of(&store));
     match lent_card(alloc, image, marks.as_mut_slice()) {
         Ok(card) => {
-            let (linked, ram) = parts_of(card);
-            Ok(card_over(alloc, store, linked, ram, Marks::of_flags(marks), budget))
+            let (linked, ram, fixed) = parts_of(card);
+            Ok(card_over(
+                alloc,
+                store,
+                linked,
+                ram,
+                fixed,
+                Marks::of_flags(marks),
+                budget,
+            ))
         }
         Err(fault) => Err((fault, store)),
     }
@@ -151,7 +161,7 @@ fn lent_card<S: WordStore + Drop>(
             let Ok(copy) = Vec::from_slice(alloc, marks) else {
                 return Err(PowerFault::NoMemory);
             };
-            link_packages(alloc, table.platform(), heap, ram, Marks::of_flags(copy))
+            link_packages(alloc, &table, heap, ram, Marks::of_flags(copy))
         }
         Err(fault) => Err(fault),
     }
@@ -170,7 +180,8 @@ fn whole_heap<S: WordStore + Drop>(
     ensures long { length marks.new ≡ mark_count }
     ensures marked { IfOk result (AreObjects marks.new) }
     ensures exact { IsOk result ↔ (IsWellFormed image.plain × IsConsistent (heap_of image.plain)
-        × HeapBeginsWith (heap_of image.plain) (fixed_facts table.now 0 fixed_objects)) }
+        × HeapBeginsWith (heap_of image.plain) (fixed_facts table.now 0
+        (fixed_objects table.now))) }
     ensures whole { IfOk result (λ heap. IsConsistent heap.now) }
     ensures heap { IfOk result (λ heap. heap ≡ heap_view image (length image.plain)) }
     ensures fault { IfErr result (λ fault. fault ≡ PowerFault.BadPackage) }
@@ -184,7 +195,7 @@ fn whole_heap<S: WordStore + Drop>(
 // The card of a whole heap, whose packages are read and linked, and which has to fit them.
 fn link_packages<S: WordStore + Drop>(
     alloc: Global,
-    platform: Platform,
+    table: &Table,
     heap: Heap<S>,
     ram: Ram,
     marks: Marks,
@@ -195,25 +206,26 @@ fn link_packages<S: WordStore + Drop>(
     requires whole { IsConsistent heap.now }
     requires words { (w : List ℕ) × (heap.now ≡ heap_of w) }
     requires sizes { HasSizes ram }
-    ensures packages { IfOk result (λ card. (packages_of platform heap.now ≡ Some card.packages)
-        × IsSound card.packages heap.now (last_fixed heap.now)) }
+    ensures packages { IfOk result (λ card. (packages_of table.now heap.now ≡ Some card.packages)
+        × IsSound card.packages heap.now (last_fixed table.now heap.now)) }
     ensures memory { IfOk result (λ card. card.memory
         ≡ record {
           heap = heap;
           ram = ram;
-          fixed = fixed_of heap.now;
+          fixed = fixed_of table.now heap.now;
           registers = at_reset;
           command = [];
           sent = [];
         }) }
     ensures load { IfOk result (λ card. card.load ≡ None) }
-    ensures cause { IfErr result (λ fault. FailsToLink fault platform heap.now) }
+    ensures cause { IfErr result (λ fault. FailsToLink fault table.now heap.now) }
 {
-    match read_packages(alloc, platform, &heap) {
+    let count = fixed_objects(table).len();
+    match read_packages(alloc, table.platform(), &heap) {
         Ok(linked) => {
-            let fixed = fixed_of(&heap);
+            let (fixed, own) = first_objects(&heap, count);
             let memory = Memory::new(heap, ram, fixed, marks);
-            sound_card(alloc, memory, linked, fixed[LAST_FIXED])
+            sound_card(alloc, memory, linked, own)
         }
         Err(fault) => Err(fault_of(fault)),
     }
@@ -251,22 +263,25 @@ fn sound_card<S: WordStore + Drop>(
     })
 }
 
-// The packages of a card, and its transient contents.
-fn parts_of<S: WordStore + Drop>(card: Card<S>) -> (Linked, Ram)
+// The packages of a card, its transient contents, and the addresses of the objects of the runtime environment.
+fn parts_of<S: WordStore + Drop>(card: Card<S>) -> (Linked, Ram, ArrayVec<u16, MOST_FIXED>)
     ensures packages { result.0 ≡ card.packages }
     ensures ram { result.1 ≡ card.memory.ram }
+    ensures fixed { result.2.items ≡ card.memory.fixed }
 {
     let Card { memory, linked, .. } = card;
-    let (_, ram) = memory.into_parts();
-    (linked, ram)
+    let (_, ram, fixed) = memory.into_parts();
+    (linked, ram, fixed)
 }
 
-// The card over a store at rest, with packages and transient contents that were found. No memory is asked for.
+// The card over a store at rest, with packages, transient contents and objects of the runtime environment that were found.
+// No memory is asked for.
 fn card_over<S: WordStore>(
     alloc: Global,
     store: S,
     linked: Linked,
     ram: Ram,
+    fixed: ArrayVec<u16, MOST_FIXED>,
     marks: Marks,
     budget: u32,
 ) -> Card<S>
@@ -279,7 +294,7 @@ fn card_over<S: WordStore>(
         ≡ record {
           heap = heap_of_store_at_rest (S.words store) (S.passed store) (S.refusals store);
           ram = ram;
-          fixed = fixed_of (heap_of (recovered_of (S.words store)));
+          fixed = fixed.items;
           registers = at_reset;
           command = [];
           sent = [];
@@ -289,7 +304,6 @@ fn card_over<S: WordStore>(
     ensures budget { result.budget ≡ budget }
 {
     let heap = Heap::resume(store);
-    let fixed = fixed_of(&heap);
     Card {
         alloc,
         memory: Memory::new(heap, ram, fixed, marks),

@@ -9,7 +9,7 @@ use Rattle.jc_heap.specs.declared.object.Kind.TheVariants.{Instance, ByteArray, 
 use Rattle.jc_heap.specs.Object.{is_object}
 use Rattle.jc_heap.specs.Heap.{HeapState, heap_item_at, facts, cells}
 use Rattle.jc_linker.specs.Values.{Packages}
-use Rattle.jc_linker.specs.Classes.{is_below, is_class, reference_cell, size_of}
+use Rattle.jc_linker.specs.Classes.{is_a, is_below, is_class, reference_cell, size_of}
 use Rattle.jc_linker.specs.Resolves.{names_interface}
 
 -- an object stands at this address
@@ -43,10 +43,6 @@ is_bytes _ = false
 -- a persistent array of so many bytes
 abbrev pub is_byte_array : Facts → ℕ → Bool
 is_byte_array f n = is_bytes f.kind && (is_none f.event && f.length == n)
-
--- a class of the platform, or one below it
-abbrev pub is_a : Packages → ℕ → PlatformClass → Bool
-is_a p class of = is_below p class (class_word p.platform of)
 
 -- the first cell of an AID is its length, 16 at most
 abbrev pub fits_aid : Packages → ℕ → List ℕ → Bool

@@ -10,7 +10,8 @@ use Rattle.jc_heap.specs.Packed.{bytes_of_packed}
 use Rattle.jc_heap.specs.Statics.{statics_of}
 use Rattle.jc_linker.specs.Lookups.{statics_at}
 use Rattle.jc_linker.specs.Values.{Packages}
-use Rattle.jc_card_checks.specs.Objects.{IsSoundObject, is_a, is_instance, is_persistent_instance, is_reference, is_object_address}
+use Rattle.jc_card_checks.specs.Objects.{IsSoundObject, is_instance, is_persistent_instance, is_reference, is_object_address}
+use Rattle.jc_linker.specs.Classes.{is_a}
 
 -- a record ends with its static image of so many bytes, whose first words are so many references
 pub record HoldsStatics (h : HeapState) (words : List ℕ) (s : ℕ × ℕ) : Type 0 where

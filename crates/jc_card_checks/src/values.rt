@@ -1,7 +1,8 @@
 //! Whether what a persistent instance holds fits its class.
 ghost use Rattle.std.specs.Prelude.{◌≡◌, ◌<◌, ◌↔◌, IsTrue, false, length, slice_index};
 ghost use Rattle.jc_heap.specs.Heap.{cells, facts};
-ghost use Rattle.jc_card_checks.specs.Objects.{HoldsReferences, HoldsValues, fits_aid, fits_pin, has_value, is_a, is_byte_array, is_reference};
+ghost use Rattle.jc_card_checks.specs.Objects.{HoldsReferences, HoldsValues, fits_aid, fits_pin, has_value, is_byte_array, is_reference};
+ghost use Rattle.jc_linker.specs.Classes.{is_a};
 ghost use Rattle.jc_card_checks.specs.Objects.{is_object_address};
 
 use jc_heap::{Facts, Kind};

@@ -5,14 +5,14 @@ use Rattle.std.proofs.Common.{◌≡◌, ◌≢◌, ℕ, zero, suc, ◌+◌, ◌
 use Rattle.std.proofs.Common.{refl, sym, ◌∙◌, ap, subst, arith, ⊎_elim, get_or-set_other, get_or-set_same}
 use Rattle.std.proofs.lemmas.List.{length-set, take-set-le}
 use Rattle.std.proofs.lemmas.Bool.{cases_Bool, false≢true, ne_eqb}
-use Rattle.jc_commit.specs.Image.{is_log, words_by, limit_of, capacity_of, count_of, address_at, old_at, IsReadable, IsGoodLog, entries, entries_from, old_value, plain_of}
+use Rattle.jc_commit.specs.Image.{is_log, words_by, limit_of, capacity_of, count_of, address_at, old_at, IsReadable, IsUnlogged, IsGoodLog, entries, entries_from, old_value, plain_of}
 use Rattle.jc_commit.specs.Image.{recovered_of, touched_of, top_of}
 use Rattle.jc_words.specs.Layout.{top_address, deselect_end_address, count_address, log_start, log_end, version_address, capacity_address, journal_address}
 use Rattle.jc_words.specs.Image.{log_of}
 use Rattle.jc_words.specs.declared.log.Log.{Log}
 use Rattle.jc_commit.specs.Entries.{ArePlaces}
 use Rattle.jc_commit.specs.State.{State, live_words}
-use Rattle.jc_commit.proofs.Words.{Spot, bounds_of, spot_within, is_log-beside, is_log-spot, is_log-readable, entries_in, get_or-words_by, words_by-set, length-words_by}
+use Rattle.jc_commit.proofs.Words.{Spot, bounds_of, spot_within, unlogged_spot, is_log-beside, is_log-spot, is_log-readable, entries_in, get_or-words_by, words_by-set, length-words_by}
 use Rattle.jc_commit.proofs.Words.{log-same, log-set}
 use Rattle.jc_commit.proofs.Steps.{recovered_at, recovered-set_named, entries-set_log, limit-same}
 
@@ -144,6 +144,23 @@ recovered-set_unnamed w a x good place none =
   where
     same : entries_in (log_of w) (set w a x) ≡ entries w
     same = entries-set_log w a x good place
+
+-- a recovery leaves a word that no entry names as it is
+unnamed_word : (w : List ℕ) (a : ℕ) → Spot w a → list_any (λ b. b == a) (touched_of w) ≡ false → slice_index (recovered_of w) a ≡ slice_index (plain_of w) a
+unfolding recovered_of plain_of touched_of
+unnamed_word w a place none =
+    get_or-words_by (log_of w) (limit_of w) (recovered_at (log_of w) w) a place.below (is_log-spot w a place)
+    ∙ ap (λ (o : Option ℕ). unwrap_or o (slice_index w a)) (unlisted (entries w) a none)
+    ∙ sym (get_or-words_by (log_of w) (limit_of w) (λ b. slice_index w b) a place.below (is_log-spot w a place))
+
+-- the same of a state and its words
+pub unkept_word : (s : State) (w : List ℕ) (a : ℕ) → IsGoodLog w → plain_of w ≡ s.plain → recovered_of w ≡ s.recovered → touched_of w ≡ s.touched
+    → IsUnlogged (length s.plain) a → list_any (λ b. b == a) s.touched ≡ false → slice_index s.recovered a ≡ slice_index s.plain a
+unkept_word s w a good plain recovered touched place none =
+    let spot = unlogged_spot w a good (subst (λ (n : ℕ). IsUnlogged n a) (limit_is s w plain) place) in
+    ap (λ (l : List ℕ). slice_index l a) (sym recovered)
+    ∙ unnamed_word w a spot (ap (λ (l : List ℕ). list_any (λ b. b == a) l) touched ∙ none)
+    ∙ ap (λ (l : List ℕ). slice_index l a) plain
 
 pub recovered-set_place : (w : List ℕ) (a x : ℕ) → IsGoodLog w → Spot w a
     → recovered_of (set w a x) ≡ (if list_any (λ b. b == a) (touched_of w) then recovered_of w else set (recovered_of w) a x)

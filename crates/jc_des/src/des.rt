@@ -84,7 +84,7 @@ fn crypted(keys: &[u8; 128], block: &[u8; 8], backwards: bool) -> [u8; 8]
 impl Des {
     ghost use Rattle.jc_des.specs.Keys.{key_of};
 
-    /// A key, whose parity bits do not count.
+    /// Makes the schedule of a key, whose parity bits do not count.
     pub fn new(key: &[u8; 8]) -> Des
         ensures { key_of result ≡ key.now }
     {
@@ -94,14 +94,14 @@ impl Des {
         }
     }
 
-    /// A block under the key.
+    /// Enciphers a block.
     pub fn encrypt(&self, block: &[u8; 8]) -> [u8; 8]
         ensures { result ≡ encrypted (key_of self.now) block.now }
     {
         crypted(&self.keys, block, false)
     }
 
-    /// The block that is this one under the key.
+    /// Deciphers a block.
     pub fn decrypt(&self, block: &[u8; 8]) -> [u8; 8]
         ensures { result ≡ decrypted (key_of self.now) block.now }
     {

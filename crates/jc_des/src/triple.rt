@@ -31,7 +31,7 @@ fn third_place(length: usize) -> usize
 impl TripleDes {
     ghost use Rattle.jc_des.specs.Keys.{keys_of};
 
-    /// A key of 16 bytes, which are two keys, or 24. The first of two is the third again.
+    /// Makes the schedules of a key of 16 bytes, which are two keys, or 24. The first of two is the third again.
     pub fn new(key: &[u8]) -> TripleDes
         requires { IsTripleLength (length key.now) }
         ensures { keys_of result ≡ parts_of key.now }
@@ -43,7 +43,7 @@ impl TripleDes {
         }
     }
 
-    /// A block under the keys.
+    /// Enciphers a block.
     pub fn encrypt(&self, block: &[u8; 8]) -> [u8; 8]
         ensures { result ≡ triple_encrypted (keys_of self.now) block.now }
     {
@@ -52,7 +52,7 @@ impl TripleDes {
         self.third.encrypt(&twice)
     }
 
-    /// The block that is this one under the keys.
+    /// Deciphers a block.
     pub fn decrypt(&self, block: &[u8; 8]) -> [u8; 8]
         ensures { result ≡ triple_decrypted (keys_of self.now) block.now }
     {

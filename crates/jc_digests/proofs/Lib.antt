@@ -1,3 +1,4 @@
 pub mod Pieces
 pub mod Remainders
 pub mod StandardFacts
+pub mod Examples

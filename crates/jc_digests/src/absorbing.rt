@@ -92,7 +92,7 @@ const FILLING: [u8; 128] = [
     0,
 ];
 
-// The byte 1000 0000 and so many zeros.
+// The byte 1000 0000 and zeros.
 fn filling(zeros: usize) -> &'static [u8]
     requires { zeros < 128 }
     ensures { result.now ≡ 0x80 ∷ replicate zeros 0 }

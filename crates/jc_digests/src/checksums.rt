@@ -1,18 +1,17 @@
 //! The checksums CRC-16 (CCITT) and CRC-32 of ISO 3309, over a remainder that the caller keeps. Both begin with all ones, and end with the
 //! remainder's complement.
 
-ghost use Rattle.std.specs.Prelude.{◌≡◌, ◌<◌};
+ghost use Rattle.std.specs.Prelude.{◌≡◌};
 ghost use Rattle.jc_digests.specs.Remainders.{bit_in, bits_in, generator_16, generator_32, remainder};
 
 const GENERATOR_16: u16 = 0x8408;
 
 const GENERATOR_32: u32 = 0xedb88320;
 
-fn bit_into_16(register: u16, bit: u16) -> u16
-    requires { bit < 2 }
-    ensures { result ≡ bit_in generator_16 register bit }
+fn zero_into_16(register: u16) -> u16
+    ensures { result ≡ bit_in generator_16 register 0 }
 {
-    if register % 2 == bit {
+    if register % 2 == 0 {
         return register / 2;
     }
     register / 2 ^ GENERATOR_16
@@ -21,18 +20,17 @@ fn bit_into_16(register: u16, bit: u16) -> u16
 fn byte_into_16(register: u16, byte: u8) -> u16
     ensures { result ≡ bits_in generator_16 register byte 8 }
 {
-    let mut next = register;
-    'bits: for n in 0..8u32 {
-        next = bit_into_16(next, u16::from((byte >> n) % 2));
+    let mut next = register ^ u16::from(byte);
+    'bits: for _bit in 0..8u32 {
+        next = zero_into_16(next);
     }
     next
 }
 
-fn bit_into_32(register: u32, bit: u32) -> u32
-    requires { bit < 2 }
-    ensures { result ≡ bit_in generator_32 register bit }
+fn zero_into_32(register: u32) -> u32
+    ensures { result ≡ bit_in generator_32 register 0 }
 {
-    if register % 2 == bit {
+    if register % 2 == 0 {
         return register / 2;
     }
     register / 2 ^ GENERATOR_32
@@ -41,9 +39,9 @@ fn bit_into_32(register: u32, bit: u32) -> u32
 fn byte_into_32(register: u32, byte: u8) -> u32
     ensures { result ≡ bits_in generator_32 register byte 8 }
 {
-    let mut next = register;
-    'bits: for n in 0..8u32 {
-        next = bit_into_32(next, u32::from((byte >> n) % 2));
+    let mut next = register ^ u32::from(byte);
+    'bits: for _bit in 0..8u32 {
+        next = zero_into_32(next);
     }
     next
 }

@@ -1,6 +1,6 @@
 //! SHA-1 (FIPS 180-4).
 
-ghost use Rattle.std.specs.Prelude.{◌≡◌, ◌≤◌, ◌+◌, ◌^◌, length};
+ghost use Rattle.std.specs.Prelude.{◌≡◌, ◌≤◌, ◌+◌, ◌^◌, ℕ, List, length};
 ghost use Rattle.sha1.specs.Sha1.{compress, initial_hash, next_word, round, round_constant, round_fn, rounds, schedule, sha1, word_at};
 ghost use Rattle.jc_digests.specs.Pieces.{Holds};
 
@@ -47,7 +47,7 @@ fn word_at(block: &[u8], i: usize) -> u32
     u32::from_be_bytes([block[i], block[i + 1], block[i + 2], block[i + 3]])
 }
 
-// The next word behind `words`, which has at least 16.
+// The word that follows `words`, of which there are at least 16.
 fn next_word(words: &[u32]) -> u32
     requires { 16 ≤ length words.now }
     ensures { result ≡ next_word words.now (length words.now) }
@@ -56,18 +56,18 @@ fn next_word(words: &[u32]) -> u32
     (words[t - 3] ^ words[t - 8] ^ words[t - 14] ^ words[t - 16]).rotate_left(1)
 }
 
-fn schedule(block: &[u8]) -> [u32; 80]
-    requires { length block.now ≡ 64 }
-    ensures { result ≡ schedule block.now 64 }
+// Writes the words of all rounds.
+fn schedule(block: &[u8], words: &mut [u32])
+    requires block { length block.now ≡ 64 }
+    requires words { length words.old ≡ 80 }
+    ensures { words.new ≡ schedule block.now 64 }
 {
-    let mut words = [0; 80];
     'first: for i in 0..16 {
         words[i] = word_at(block, 4 * i);
     }
     'next: for t in 16..80 {
         words[t] = next_word(&words[..t]);
     }
-    words
 }
 
 #[inline(always)]
@@ -82,6 +82,25 @@ fn round(v: [u32; 5], f: u32, k: u32, word: u32) -> [u32; 5]
         .wrapping_add(k)
         .wrapping_add(word);
     [next, a, b.rotate_left(30), c, d]
+}
+
+// Takes the working variables after the rounds before `from` through those before `to`.
+#[inline(always)]
+fn rounds(v: [u32; 5], words: &[u32; 80], from: usize, to: usize) -> [u32; 5]
+    requires order { from ≤ to }
+    requires within { to ≤ 80 }
+    ensures { (h : List ℕ) → v ≡ rounds h words.now from → result ≡ rounds h words.now to }
+{
+    let mut v = v;
+    'rounds: for t in from..to {
+        v = round(
+            v,
+            round_fn(t, v[1], v[2], v[3]),
+            round_constant(t),
+            words[t],
+        );
+    }
+    v
 }
 
 /// A hash value.
@@ -99,16 +118,12 @@ impl Compression for Words160 {
     ghost size = { 64 };
 
     fn compress(&mut self, block: &[u8]) {
-        let words = schedule(block);
-        let mut v = self.words;
-        'rounds: for t in 0..80 {
-            v = round(
-                v,
-                round_fn(t, v[1], v[2], v[3]),
-                round_constant(t),
-                words[t],
-            );
-        }
+        let mut words = [0; 80];
+        schedule(block, &mut words);
+        let v = rounds(self.words, &words, 0, 20);
+        let v = rounds(v, &words, 20, 40);
+        let v = rounds(v, &words, 40, 60);
+        let v = rounds(v, &words, 60, 80);
         self.words = [
             self.words[0].wrapping_add(v[0]),
             self.words[1].wrapping_add(v[1]),

@@ -1,6 +1,7 @@
 -- The APDU buffer as the runtime environment fills it.
 use Rattle.std.specs.Prelude.{ℕ, ◌-◌, ◌==◌, ◌&&◌, nat_le, Bool, true, false, List, ◌++◌, length, replicate, is_some, slice_index, Option, Some, None}
 use Rattle.std.specs.Prelude.{if◌then◌else◌}
+use Rattle.jc_environment.specs.Objects.{apdu_place, buffer_place}
 use Rattle.jc_heap.specs.declared.object.Facts.{Facts}
 use Rattle.jc_heap.specs.declared.object.Kind.{Kind}
 use Rattle.jc_heap.specs.declared.object.Kind.TheVariants.{Instance, BooleanArray, ByteArray, ShortArray, ReferenceArray}
@@ -14,10 +15,10 @@ buffer_length = 261
 
 -- the APDU object, and the APDU buffer
 abbrev pub apdu_object : MemoryState → ℕ
-apdu_object m = slice_index m.fixed 15
+apdu_object m = slice_index m.fixed apdu_place
 
 abbrev pub apdu_buffer : MemoryState → ℕ
-apdu_buffer m = slice_index m.fixed 16
+apdu_buffer m = slice_index m.fixed buffer_place
 
 -- these bytes, and zeros behind them
 abbrev pub padded_bytes : List ℕ → List ℕ

@@ -20,7 +20,8 @@ use Rattle.jc_linker.specs.declared.target.Method.TheVariants.{Code, Native}
 use Rattle.jc_linker.specs.Methods.{method_at}
 use Rattle.jc_linker.specs.Values.{Packages}
 use Rattle.jc_platform.specs.declared.names.PlatformMethod.{PlatformMethod}
-use Rattle.jc_platform.specs.declared.names.PlatformMethod.TheVariants.{AppletSelect, AppletDeselect}
+use Rattle.jc_platform.specs.declared.names.PlatformMethod.TheVariants.{Applets}
+use Rattle.jc_platform.specs.declared.names.AppletsMethod.TheVariants.{AppletSelect, AppletDeselect}
 use Rattle.jc_platform.specs.Tokens.{method_token}
 use Rattle.jc_registry.specs.Registry.{instance_of_applet}
 use Rattle.jc_interp_calls.specs.Entering.{first_frames_of}
@@ -56,8 +57,8 @@ method_named p m applet name = option_and_then (λ f. method_at p f.class 0 (Pub
 -- what the platform's class Applet does itself: an applet may be selected, and does nothing as it is deselected. Its
 -- process is abstract
 abbrev pub default_of : PlatformMethod → Outcome
-default_of AppletSelect = Short (pos 1)
-default_of AppletDeselect = Void
+default_of (Applets AppletSelect) = Short (pos 1)
+default_of (Applets AppletDeselect) = Void
 default_of other = Fault
 
 abbrev pub run_method : ℕ → Packages → Option Method → List Cell → Owner → MemoryState → Program (ℕ × Outcome)

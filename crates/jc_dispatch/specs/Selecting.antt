@@ -10,7 +10,8 @@ use Rattle.jc_memory.specs.declared.registers.Registers.{Registers}
 use Rattle.jc_memory.specs.State.{MemoryState, SetRegisters, ClearTransient}
 use Rattle.jc_memory.specs.Programs.{Program, Finish, bind}
 use Rattle.jc_linker.specs.Values.{Packages}
-use Rattle.jc_platform.specs.declared.names.PlatformMethod.TheVariants.{AppletSelect, AppletDeselect, AppletProcess}
+use Rattle.jc_platform.specs.declared.names.PlatformMethod.TheVariants.{Applets}
+use Rattle.jc_platform.specs.declared.names.AppletsMethod.TheVariants.{AppletSelect, AppletDeselect, AppletProcess}
 use Rattle.jc_dispatch.specs.declared.applet_result.AppletResult.{AppletResult}
 use Rattle.jc_dispatch.specs.declared.applet_result.AppletResult.TheVariants.{Done, NotSelected}
 use Rattle.jc_dispatch.specs.Buffer.{apdu_object, buffer_fill}
@@ -42,7 +43,7 @@ header_of bytes = take 5 bytes
 unfoldable pub applet_left : ℕ → Packages → Option AppletNumber → MemoryState → Program ℕ
 applet_left budget p None m = then_with (ClearTransient Deselect) m (λ v. Finish budget)
 applet_left budget p (Some a) m =
-    bind (applet_method_call budget p AppletDeselect (instance_of m a.0) (Reference (instance_of m a.0) ∷ []) (Applet a) m) m (λ end v.
+    bind (applet_method_call budget p (Applets AppletDeselect) (instance_of m a.0) (Reference (instance_of m a.0) ∷ []) (Applet a) m) m (λ end v.
     bind (close v) v (λ u w.
     then_with (ClearTransient Deselect) w (λ x. Finish end.0)))
 
@@ -56,7 +57,7 @@ unfoldable pub process_command : ℕ → Packages → AppletNumber → Bool → 
 process_command budget p a selecting expected m =
     then_with (SetRegisters (with_command expected selecting m.registers)) m (λ v.
     bind (buffer_fill v (header_of v.command)) v (λ u w.
-    bind (applet_method_call budget p AppletProcess (instance_of w a.0) (Reference (instance_of w a.0) ∷ Reference (apdu_object w) ∷ []) (Applet a) w) w
+    bind (applet_method_call budget p (Applets AppletProcess) (instance_of w a.0) (Reference (instance_of w a.0) ∷ Reference (apdu_object w) ∷ []) (Applet a) w) w
     (λ end x.
     bind (close x) x (λ u y. Finish (result_of_run p x end.1)))))
 
@@ -71,7 +72,7 @@ unfoldable pub applet_selection : ℕ → Packages → AppletNumber → ℕ → 
 applet_selection budget p a expected m =
     bind (deselection budget p (Some a) m) m (λ rest v.
     then_with (SetRegisters (with_selected (Some a) v.registers)) v (λ w.
-    bind (applet_method_call rest p AppletSelect (instance_of w a.0) (Reference (instance_of w a.0) ∷ []) (Applet a) w) w (λ end x.
+    bind (applet_method_call rest p (Applets AppletSelect) (instance_of w a.0) (Reference (instance_of w a.0) ∷ []) (Applet a) w) w (λ end x.
     bind (close x) x (λ u y. after_select (is_select_accepted end.1) end.0 p a expected y))))
 
 -- the manager is selected: the applet that was is left, and none is

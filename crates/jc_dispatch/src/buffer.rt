@@ -4,6 +4,7 @@ ghost use Rattle.jc_memory.specs.Programs.{Executes};
 ghost use Rattle.jc_heap.specs.Completions.{Completed};
 ghost use Rattle.jc_dispatch.specs.Buffer.{apdu_buffer, apdu_object, buffer_fill, is_buffer};
 
+use jc_environment::{APDU_BUFFER, APDU_OBJECT};
 use jc_heap::{Facts, Kind};
 use jc_memory::{MOST_COMMAND, Memory};
 use jc_transient::Ref;
@@ -12,13 +13,13 @@ use jc_words::WordStore;
 pub(crate) fn apdu_object<S: WordStore>(memory: &Memory<S>) -> Ref
     ensures { result ≡ apdu_object memory.now }
 {
-    memory.fixed(15)
+    memory.fixed(APDU_OBJECT)
 }
 
 pub(crate) fn apdu_buffer<S: WordStore>(memory: &Memory<S>) -> Ref
     ensures { result ≡ apdu_buffer memory.now }
 {
-    memory.fixed(16)
+    memory.fixed(APDU_BUFFER)
 }
 
 // A transient array of bytes that a command fits into.

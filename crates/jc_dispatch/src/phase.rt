@@ -11,7 +11,7 @@ use jc_interp::run::run_methods;
 use jc_linker::linked::Linked;
 use jc_linker::target::Method;
 use jc_memory::{AppletNumber, Memory, Notes, Owner, Phase, Registers};
-use jc_platform::names::PlatformMethod;
+use jc_platform::names::{AppletsMethod, PlatformMethod};
 use jc_registry::instance_of_applet;
 use jc_transient::Ref;
 use jc_words::{StoreDown, WordStore};
@@ -105,9 +105,9 @@ fn method_named<S: WordStore>(
 fn note_phase(name: PlatformMethod, notes: &Notes) {
     notes.forget();
     match name {
-        PlatformMethod::AppletSelect => notes.phase(Phase::Select),
-        PlatformMethod::AppletDeselect => notes.phase(Phase::Deselect),
-        PlatformMethod::AppletProcess => notes.phase(Phase::Process),
+        PlatformMethod::Applets(AppletsMethod::AppletSelect) => notes.phase(Phase::Select),
+        PlatformMethod::Applets(AppletsMethod::AppletDeselect) => notes.phase(Phase::Deselect),
+        PlatformMethod::Applets(AppletsMethod::AppletProcess) => notes.phase(Phase::Process),
         _ => {}
     }
 }
@@ -117,8 +117,8 @@ fn default_of(name: PlatformMethod) -> Outcome
     ensures { result ≡ default_of name }
 {
     match name {
-        PlatformMethod::AppletSelect => Outcome::Short(1),
-        PlatformMethod::AppletDeselect => Outcome::Void,
+        PlatformMethod::Applets(AppletsMethod::AppletSelect) => Outcome::Short(1),
+        PlatformMethod::Applets(AppletsMethod::AppletDeselect) => Outcome::Void,
         _ => Outcome::Fault,
     }
 }

@@ -12,7 +12,7 @@ use arrayvec::ArrayVec;
 use jc_frames::Cell;
 use jc_linker::linked::Linked;
 use jc_memory::{ApduPhase, ApduState, AppletNumber, Memory, Owner, Registers};
-use jc_platform::names::PlatformMethod;
+use jc_platform::names::{AppletsMethod, PlatformMethod};
 use jc_words::{StoreDown, WordStore};
 
 fn with_command(expected: u16, selecting: bool, registers: Registers) -> Registers
@@ -64,7 +64,7 @@ pub fn process<S: WordStore>(
         Cell::Reference(instance),
         Cell::Reference(apdu_object(memory)),
     ];
-    let name = PlatformMethod::AppletProcess;
+    let name = PlatformMethod::Applets(AppletsMethod::AppletProcess);
     let owner = Owner::Applet(applet);
     let (_, outcome) = call_applet_method(
         budget, name, instance, &arguments, owner, memory, linked,

@@ -11,7 +11,7 @@ use crate::process::process;
 use jc_frames::Cell;
 use jc_linker::linked::Linked;
 use jc_memory::{AppletNumber, Memory, Owner, Registers};
-use jc_platform::names::PlatformMethod;
+use jc_platform::names::{AppletsMethod, PlatformMethod};
 use jc_transient::ClearEvent;
 use jc_words::{StoreDown, WordStore};
 
@@ -54,7 +54,7 @@ fn leave_applet<S: WordStore>(
     };
     let instance = instance_of(applet, memory);
     let arguments = [Cell::Reference(instance)];
-    let name = PlatformMethod::AppletDeselect;
+    let name = PlatformMethod::Applets(AppletsMethod::AppletDeselect);
     let owner = Owner::Applet(applet);
     let (rest, _) = call_applet_method(budget, name, instance, &arguments, owner, memory, linked)?;
     close(memory)?;
@@ -106,7 +106,7 @@ pub fn select<S: WordStore>(
     });
     let instance = instance_of(applet, memory);
     let arguments = [Cell::Reference(instance)];
-    let name = PlatformMethod::AppletSelect;
+    let name = PlatformMethod::Applets(AppletsMethod::AppletSelect);
     let owner = Owner::Applet(applet);
     let (rest, outcome) = call_applet_method(
         rest, name, instance, &arguments, owner, memory, linked,

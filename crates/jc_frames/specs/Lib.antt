@@ -1,4 +1,5 @@
 pub mod Cells
+pub mod Exceptions
 pub mod Frames
 pub mod Layout
 pub mod Calls

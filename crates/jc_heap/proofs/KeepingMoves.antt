@@ -11,7 +11,7 @@ use Rattle.jc_heap.specs.Heap.{HeapState, HeapView, SameShape, heap_item_at, is_
 use Rattle.jc_heap.specs.Heap.{add_transient, HasEnd, heap_after_change, goes_back}
 use Rattle.jc_heap.specs.Packages.{add_package}
 use Rattle.jc_heap.specs.Statics.{set_word}
-use Rattle.jc_heap.specs.Places.{place_word, set_place, set_places}
+use Rattle.jc_heap.specs.Places.{place_at, set_place, set_places}
 use Rattle.jc_heap.specs.Moves.{Move, Write, SetPlaces, WriteNonAtomic, SetCells, AddObject, AddTransient, AddPackage, Begin, Commit, Abort, apply_move}
 use Rattle.jc_heap.specs.Moves.{apply_moves, TornMovesLeave}
 use Rattle.jc_heap.specs.Whole.{IsConsistent, IsReference}
@@ -154,15 +154,15 @@ keeps (SetPlaces cs) v suit w =
     (shape-places v.durable v.now cs w.shape) (omega (arith, w.order, top-places v.now cs)) w
 keeps (WriteNonAtomic p x) v suit w = record {
   now = place_whole v.now p x suit.0 w.now;
-  durable = elim (goes_back v (place_word p)) as (λ b. IsConsistentHeap (if b then v.durable else set_place v.durable p x)) [
+  durable = elim (goes_back v (place_at v.now p)) as (λ b. IsConsistentHeap (if b then v.durable else set_place v.durable p x)) [
     | true ↦ w.durable
     | false ↦ place_whole v.durable p x suit.1 w.durable
   ];
-  shape = elim (goes_back v (place_word p)) as (λ b. SameShape (if b then v.durable else set_place v.durable p x) (set_place v.now p x)) [
+  shape = elim (goes_back v (place_at v.now p)) as (λ b. SameShape (if b then v.durable else set_place v.durable p x) (set_place v.now p x)) [
     | true ↦ place_shape v.durable v.now p x w.shape
     | false ↦ place_shape_both v.durable v.now p x w.shape
   ];
-  order = elim (goes_back v (place_word p)) as (λ b. (if b then v.durable else set_place v.durable p x).top ≤ (set_place v.now p x).top) [
+  order = elim (goes_back v (place_at v.now p)) as (λ b. (if b then v.durable else set_place v.durable p x).top ≤ (set_place v.now p x).top) [
     | true ↦ omega (arith, w.order, top-place v.now p x)
     | false ↦ omega (arith, w.order, top-place v.now p x, top-place v.durable p x)
   ];

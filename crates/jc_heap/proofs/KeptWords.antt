@@ -1,4 +1,4 @@
--- What goes back at an abort, of a heap's view: it grows with each change in the transaction, and counted places leave it.
+-- What goes back at an abort, of a heap's view: it grows with each change in the transaction, and places set for good leave it.
 use Rattle.std.proofs.Common.{◌≡◌, ℕ, Bool, true, false, List, [], ◌++◌, refl, sym, ◌∙◌, ap, inl, inr, max, Contains, if◌then◌else◌}
 use Rattle.std.proofs.lemmas.Bool.{cases_Bool, false≢true}
 use Rattle.jc_words.specs.Layout.{addresses_start}
@@ -6,7 +6,7 @@ use Rattle.jc_commit.specs.Keeping.{Keeping, unlogged_addresses, with_kept, goes
 use Rattle.jc_commit.proofs.WhatIsKept.{keeps_old_values}
 use Rattle.jc_heap.specs.declared.place.Place.{Place}
 use Rattle.jc_heap.specs.Heap.{HeapState, HeapView, keeping, goes_back, has_room_for, heap_after_change}
-use Rattle.jc_heap.specs.Places.{place_word, set_place, write_nonatomic}
+use Rattle.jc_heap.specs.Places.{place_at, set_place, write_nonatomic}
 use Rattle.jc_heap.proofs.KeepingMoves.{top-place, capacity-place}
 
 pub outside_none_goes_back : (v : HeapView) (a : ℕ) → v.begun ≡ false → goes_back v a ≡ false
@@ -43,7 +43,7 @@ room_behind v h places fresh rest begun room =
 
 -- a place set for good changes nothing of it
 pub keeping_counted : (v : HeapView) (p : Place) (x : ℕ) → keeping (write_nonatomic v p x) ≡ keeping v
-keeping_counted v p x = λ i. keeping_with v v.touched (top_left (goes_back v (place_word p)) i) (capacity_left (goes_back v (place_word p)) i)
+keeping_counted v p x = λ i. keeping_with v v.touched (top_left (goes_back v (place_at v.now p)) i) (capacity_left (goes_back v (place_at v.now p)) i)
   where
     top_left : (b : Bool) → (if b then v.durable else set_place v.durable p x).top ≡ v.durable.top
     top_left true = refl

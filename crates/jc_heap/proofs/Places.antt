@@ -14,7 +14,7 @@ use Rattle.jc_heap.specs.declared.place.Place.TheVariants.{Cell, Static, Registr
 use Rattle.jc_heap.specs.Cut.{missing_words}
 use Rattle.jc_heap.specs.Object.{header_only, is_packed, has_bytes, IsElement}
 use Rattle.jc_heap.specs.Image.{IsWellFormed, image, base, package_addresses, is_package, sizes, missing_words_of_image}
-use Rattle.jc_heap.specs.Heap.{HeapState, HeapView, heap_view, heap_of, cells, cell_address, keeping, IsSound, SameShape, read_image, heap_item_at}
+use Rattle.jc_heap.specs.Heap.{HeapState, HeapView, heap_view, heap_of, cells, cell_address, keeping, IsSound, SameShape, read_image, heap_item_at, set_cell}
 use Rattle.jc_heap.specs.Heap.{is_allocated, facts}
 use Rattle.jc_heap.specs.Places.{place_word, place_at, cell_at, HasPlace, MayHold, IsPlain, set_place, write_place, write_nonatomic}
 use Rattle.jc_heap.specs.Elements.{word_for}
@@ -22,7 +22,7 @@ use Rattle.jc_heap.specs.Packed.{with_byte}
 use Rattle.jc_heap.specs.declared.object.Facts.{Facts}
 use Rattle.jc_heap.specs.Components.{record_of}
 use Rattle.jc_heap.specs.Statics.{set_word}
-use Rattle.jc_heap.proofs.Laws.{shape-set, shape-set_both, is_allocated-heap_of, header_only-set_cell, same_length}
+use Rattle.jc_heap.proofs.Laws.{shape-set, shape-set_both, is_allocated-heap_of, header_only-set_cell, same_length, same_facts, set_cell-absent}
 use Rattle.jc_heap.proofs.Images.{image-set, set_cell-heap_of, IsWellFormed-set, top-set, package_addresses-set, base-set, cell_at_of, cell_set_of, cell_set, cell_offset}
 use Rattle.jc_heap.proofs.Packages.{read-applet}
 use Rattle.jc_heap.proofs.AreaEnds.{read-applets, laid-front}
@@ -30,7 +30,7 @@ use Rattle.jc_heap.proofs.RecordReading.{record_low, record_within, record_view,
 use Rattle.jc_heap.proofs.RecordWords.{heap_of-set_word, laid-set_word, top-set_word, set_word-absent, same_words, shape-set_word, shape-set_word_both}
 use Rattle.jc_heap.proofs.RecordWords.{header_only-set_word}
 use Rattle.jc_heap.proofs.StaticImages.{static_behind}
-use Rattle.jc_heap.proofs.Views.{cell_spot, back_set, plain_set, top_is, above_top}
+use Rattle.jc_heap.proofs.Views.{cell_spot, plain_set, top_is, above_top}
 use Rattle.jc_heap.proofs.JournalViews.{keeping_view}
 use Rattle.jc_heap.proofs.Changing.{change_view, change_sound}
 
@@ -200,15 +200,61 @@ word_back j n r i x four h up s = elim (cases_lt r (get_or j.recovered top_addre
       (far.0 ∙ sym (set_word-absent (heap_of j.recovered) r i x absent), far.1, far.2)
 ]
 
--- in the recovered words too, or the place lies above their top
-place_back : (j : State) (n : ℕ) (p : Place) (x : ℕ) → HasPlace (heap_of j.plain) p → IsPlain (heap_of j.plain) p → j.down ≡ false → IsSound j n →
-    (heap_of (set j.recovered (place_word p) x) ≡ set_place (heap_of j.recovered) p x) × IsWellFormed (set j.recovered (place_word p) x)
-    × (get_or (set j.recovered (place_word p) x) top_address 0 ≡ get_or j.recovered top_address 0)
+-- a cell's word in the recovered words, which say there what the words say: it is the cell's in the same object, or it lies above their top
+cell_back : (j : State) (n r i x : ℕ) → i < length (cells (heap_of j.plain) r) → IsElement (facts (heap_of j.plain) r).kind x → j.down ≡ false → IsSound j n
+    → get_or j.recovered (cell_at_of j.plain r i) 0 ≡ get_or j.plain (cell_at_of j.plain r i) 0 →
+    (heap_of (set j.recovered (cell_at_of j.plain r i) (cell_set_of j.plain r i x)) ≡ set_cell (heap_of j.recovered) r i x)
+    × IsWellFormed (set j.recovered (cell_at_of j.plain r i) (cell_set_of j.plain r i x))
+    × (get_or (set j.recovered (cell_at_of j.plain r i) (cell_set_of j.plain r i x)) top_address 0 ≡ get_or j.recovered top_address 0)
+cell_back j n r i x h may up s agree = elim (cases_lt r (get_or j.recovered top_address 0)) [
+  | inl below ↦
+      let same = (s.shape up).items r (top_is j.recovered r s.back below) in
+      let header : facts (heap_of j.plain) r ≡ facts (heap_of j.recovered) r =
+      same_facts (heap_item_at (heap_of j.plain) r) (heap_item_at (heap_of j.recovered) r) same in
+      let there : i < length (cells (heap_of j.recovered) r) = omega (
+        arith,
+        h,
+        same_length (heap_item_at (heap_of j.plain) r) (heap_item_at (heap_of j.recovered) r) same,
+      ) in
+      let here : cell_at_of j.plain r i ≡ cell_at_of j.recovered r i = ap (λ (f : Facts). r + (4 + cell_offset (is_packed f) i)) header in
+      let said : get_or j.plain (cell_at_of j.plain r i) 0 ≡ get_or j.recovered (cell_at_of j.recovered r i) 0 =
+      sym agree ∙ ap (λ (a : ℕ). get_or j.recovered a 0) here in
+      let new : cell_set_of j.plain r i x ≡ cell_set_of j.recovered r i x = λ k. cell_set (is_packed (header k)) (said k) i x in
+      let at : (cell_at_of j.recovered r i, cell_set_of j.recovered r i x) ≡ (cell_at_of j.plain r i, cell_set_of j.plain r i x) = λ k. (sym here k, sym new k) in
+      subst (λ (c : ℕ × ℕ). (heap_of (set j.recovered c.0 c.1) ≡ set_cell (heap_of j.recovered) r i x) × IsWellFormed (set j.recovered c.0 c.1)
+      × (get_or (set j.recovered c.0 c.1) top_address 0 ≡ get_or j.recovered top_address 0)) at (
+        set_cell-heap_of j.recovered r i x there (byte_for (facts (heap_of j.recovered) r) x (subst (λ (f : Facts). IsElement f.kind x) header may)),
+        IsWellFormed-set j.recovered r i (cell_set_of j.recovered r i x) there s.back,
+        top-set j.recovered r i (cell_set_of j.recovered r i x) there,
+      )
+  | inr above ↦
+      let a : ℕ = cell_at_of j.plain r i in
+      let v : ℕ = cell_set_of j.plain r i x in
+      let far : (heap_of (set j.recovered a v) ≡ heap_of j.recovered) × IsWellFormed (set j.recovered a v)
+      × (get_or (set j.recovered a v) top_address 0 ≡ get_or j.recovered top_address 0) = above_top j.recovered a v s.back (omega (arith, above)) in
+      let long : length (image j.recovered) ≡ get_or j.recovered top_address 0 = length-take-le (get_or j.recovered top_address 0) j.recovered s.back.fits in
+      let absent : is_allocated (heap_of j.recovered) r ≡ false = is_allocated-heap_of j.recovered r (omega (arith, s.back.based, long))
+      (omega (arith, above, long)) in
+      (far.0 ∙ sym (set_cell-absent (heap_of j.recovered) r i x absent), far.1, far.2)
+]
+
+-- these words stand for the recovered heap with the place set, and their heap ends where it did
+abbrev IsSetBack : State → Place → ℕ → List ℕ → Type 0
+IsSetBack j p x words = (heap_of words ≡ set_place (heap_of j.recovered) p x) × IsWellFormed words
+    × (get_or words top_address 0 ≡ get_or j.recovered top_address 0)
+
+-- so does a place's word in the recovered words, or the place lies above their top
+place_back : (j : State) (n : ℕ) (p : Place) (x : ℕ) → HasPlace (heap_of j.plain) p → MayHold (heap_of j.plain) p x → j.down ≡ false → IsSound j n
+    → get_or j.recovered (place_at (heap_of j.plain) p) 0 ≡ get_or j.plain (place_at (heap_of j.plain) p) 0
+    → IsSetBack j p x (set j.recovered (place_at (heap_of j.plain) p) (word_for j.plain p x))
 unfolding cell_address
-place_back j n (Cell r i) x h plain up s = back_set j n r i x h plain up s
-place_back j n (Static r i) x h plain up s = word_back j n r i x (static_behind (record_of (heap_of j.plain) r) i h) h.within up s
-place_back j n (Registry a) x h plain up s = (registry-heap_of j.recovered a x s.back h, IsWellFormed-registry j.recovered a x s.back h, top-registry j.recovered a x)
-place_back j n AppletCount x h plain up s = count_set j.recovered x s.back
+place_back j n (Cell r i) x h may up s agree = subst (λ (w : ℕ). IsSetBack j (Cell r i) x (set j.recovered (cell_at_of j.plain r i) w))
+    (sym (cell_word_for j.plain r i x)) (cell_back j n r i x h may up s agree)
+place_back j n (Static r i) x h may up s agree =
+    word_back j n r i x (static_behind (record_of (heap_of j.plain) r) i h) h.within up s
+place_back j n (Registry a) x h may up s agree =
+    (registry-heap_of j.recovered a x s.back h, IsWellFormed-registry j.recovered a x s.back h, top-registry j.recovered a x)
+place_back j n AppletCount x h may up s agree = count_set j.recovered x s.back
 
 pub place_shape : (d h : HeapState) (p : Place) (x : ℕ) → SameShape d h → SameShape d (set_place h p x)
 unfolding heap_item_at is_allocated
@@ -273,101 +319,98 @@ place_sound j k v n p x is h may up s c =
     (λ _. omega (arith, s.order up, t.2))
     (λ _. subst (SameShape (heap_of j.recovered)) (sym t.0) (place_shape (heap_of j.recovered) (heap_of j.plain) p x (s.shape up)))
 
-if-map : {X Y : Type 0} (f : X → Y) (b : Bool) (x y : X) → f (if b then x else y) ≡ (if b then f x else f y)
-if-map f true x y = refl
-if-map f false x y = refl
-
 settled_both : (b c : Bool) (rec plain : List ℕ) (a x : ℕ) → b ≡ false → rec ≡ plain → (if b && c then rec else set rec a x) ≡ set plain a x
 settled_both true c rec plain a x f e = absurd (false≢true (sym f))
 settled_both false c rec plain a x f e = ap (λ l. set l a x) e
 
-both_at : (j : State) (n : ℕ) (p : Place) (x : ℕ) → HasPlace (heap_of j.plain) p → IsPlain (heap_of j.plain) p → j.down ≡ false → IsSound j n →
-    (heap_view (after_write_in_place j (place_word p) x) n ≡ record (heap_view j n) {
-      now = set_place (heap_of j.plain) p x;
-      durable = (if j.in_transaction && is_kept j (place_word p) then heap_of j.recovered else set_place
-          (heap_of j.recovered) p x);
-      passed = saturating_count j.passed 1;
-    })
-    × IsSound (after_write_in_place j (place_word p) x) n
-both_at j n p x h plain up s =
-    let b : (heap_of (set j.recovered (place_word p) x) ≡ set_place (heap_of j.recovered) p x) × IsWellFormed (set j.recovered (place_word p) x)
-    × (get_or (set j.recovered (place_word p) x) top_address 0 ≡ get_or j.recovered top_address 0) = place_back j n p x h plain up s in
-    let t : (heap_of (set j.plain (place_word p) x) ≡ set_place (heap_of j.plain) p x) × IsWellFormed (set j.plain (place_word p) x)
-    × (get_or (set j.plain (place_word p) x) top_address 0 ≡ get_or j.plain top_address 0) = plain_word_set j.plain p x (s.now up) (has_word (heap_of j.plain) p h) plain in
-    let now : heap_of (set j.plain (place_word p) x) ≡ set_place (heap_of j.plain) p x = t.0 in
-    let laid : IsWellFormed (set j.plain (place_word p) x) = t.1 in
-    let top : get_or (set j.plain (place_word p) x) top_address 0 ≡ get_or j.plain top_address 0 = t.2 in
-    let size : length (set j.plain (place_word p) x) ≡ length j.plain = length-set j.plain (place_word p) x in
-    let durable : heap_of (if j.in_transaction && is_kept j (place_word p) then j.recovered else set j.recovered (place_word p) x)
-    ≡ (if j.in_transaction && is_kept j (place_word p) then heap_of j.recovered else set_place (heap_of j.recovered) p x) =
-    if-map heap_of (j.in_transaction && is_kept j (place_word p)) j.recovered (set j.recovered (place_word p) x)
-    ∙ ap (λ t. if j.in_transaction && is_kept j (place_word p) then heap_of j.recovered else t) b.0 in (
-      (λ k. record {
-        now = now k;
-        durable = durable k;
-        begun = j.in_transaction;
-        touched = j.touched;
-        down = j.down;
-        passed = saturating_count j.passed 1;
-        refusals = j.refusals;
-        size = n;
-      }),
-      record {
-        back = elim (j.in_transaction && is_kept j (place_word p)) as (λ g. IsWellFormed (if g then j.recovered else set j.recovered (place_word p) x))
-            [ true ↦ s.back | false ↦ b.1 ];
-        size_recovered = elim (j.in_transaction && is_kept j (place_word p)) as (λ g. length (if g then j.recovered else set j.recovered (place_word p) x) ≡ n)
-            [ true ↦ s.size_recovered | false ↦ length-set j.recovered (place_word p) x ∙ s.size_recovered ];
-        small = s.small;
-        now = λ _. laid;
-        size_now = λ _. size ∙ s.size_now up;
-        order = λ _. elim (j.in_transaction && is_kept j (place_word p)) as (λ g. get_or
-            (if g then j.recovered else set j.recovered (place_word p) x) top_address 0 ≤ get_or (set j.plain (place_word p) x) top_address 0)
-            [ true ↦ omega (arith, s.order up, top) | false ↦ omega (arith, s.order up, top, b.2) ];
-        shape = λ _. elim (j.in_transaction && is_kept j (place_word p)) as (λ g. SameShape
-            (heap_of (if g then j.recovered else set j.recovered (place_word p) x)) (heap_of (set j.plain (place_word p) x))) [
-              | true ↦ subst (SameShape (heap_of j.recovered)) (sym now) (place_shape (heap_of j.recovered) (heap_of j.plain) p x (s.shape up))
-              | false ↦ subst (λ d. SameShape d (heap_of (set j.plain (place_word p) x))) (sym b.0)
-                  (subst (SameShape (set_place (heap_of j.recovered) p x)) (sym now) (place_shape_both (heap_of j.recovered) (heap_of j.plain) p x
-                  (s.shape up)))
-            ];
-        settled = λ _ closed. settled_both j.in_transaction (is_kept j (place_word p)) j.recovered j.plain (place_word p) x closed (s.settled up closed);
-      },
-    )
+-- what holds of both words holds of the one that is taken
+either_words : (P : List ℕ → Type 0) (b : Bool) (x y : List ℕ) → P x → (b ≡ false → P y) → P (if b then x else y)
+either_words P true x y one other = one
+either_words P false x y one other = other refl
+
+-- the heap of those that are taken
+either_heap : (b : Bool) (x y : List ℕ) (d : HeapState) → (b ≡ false → heap_of y ≡ d) → heap_of (if b then x else y) ≡ (if b then heap_of x else d)
+either_heap true x y d other = refl
+either_heap false x y d other = other refl
 
 -- where the word was born in the transaction, the recovered words stand for the same heap
-kept_or_born : (begun kept born : Bool) (old set_there d : HeapState) → set_there ≡ d → (born ≡ true → d ≡ old) →
+kept_or_born : (begun kept born : Bool) (old d : HeapState) → ((begun && kept) ≡ false → born ≡ true → d ≡ old) →
     (if begun && kept then old else d) ≡ (if begun && (kept || born) then old else d)
-kept_or_born true true born old set_there d is new = refl
-kept_or_born true false true old set_there d is new = new refl
-kept_or_born true false false old set_there d is new = refl
-kept_or_born false kept born old set_there d is new = refl
+kept_or_born true true born old d new = refl
+kept_or_born true false true old d new = new refl refl
+kept_or_born true false false old d new = refl
+kept_or_born false kept born old d new = refl
 
-both_back : (j : State) (n : ℕ) (p : Place) (x : ℕ) → HasPlace (heap_of j.plain) p → IsPlain (heap_of j.plain) p → j.down ≡ false → IsSound j n →
-    (if j.in_transaction && is_kept j (place_word p) then heap_of j.recovered else set_place (heap_of j.recovered) p x)
-    ≡ (if goes_back (keeping (heap_view j n)) (place_word p) then heap_of j.recovered else set_place (heap_of j.recovered) p x)
-unfolding goes_back
-both_back j n p x h plain up s =
-    let a = place_word p in
-    let same : goes_back (keeping (heap_view j n)) a ≡ goes_back (journal_keeping j) a = ap (λ k. goes_back k a) (keeping_view j n s.back) in
-    let b = place_back j n p x h plain up s in
-    kept_or_born j.in_transaction (is_kept j a) (nat_le (born_of j.recovered) a) (heap_of j.recovered) (set_place (heap_of j.recovered) p x)
-    (set_place (heap_of j.recovered) p x) refl
-    (λ born. sym b.0 ∙ (above_top j.recovered a x s.back (omega (arith, leb-true (born_of j.recovered) a born))).0)
-    ∙ sym (ap (λ (g : Bool). if g then heap_of j.recovered else set_place (heap_of j.recovered) p x) same)
+-- the word of a place is written in place, in a transaction that may keep its old value; else a recovery would have left it as it is
+module _ (j : State) (n : ℕ) (p : Place) (x : ℕ) (h : HasPlace (heap_of j.plain) p) (may : MayHold (heap_of j.plain) p x) (up : j.down ≡ false)
+    (s : IsSound j n) (unkept : is_kept j (place_at (heap_of j.plain) p) ≡ false
+    → get_or j.recovered (place_at (heap_of j.plain) p) 0 ≡ get_or j.plain (place_at (heap_of j.plain) p) 0) where
+  abbrev a : ℕ
+  a = place_at (heap_of j.plain) p
 
-both_here : (j : State) (n : ℕ) (p : Place) (x : ℕ) → HasPlace (heap_of j.plain) p → IsPlain (heap_of j.plain) p → j.down ≡ false → IsSound j n
-    → heap_view (after_write_in_place j (place_word p) x) n ≡ write_nonatomic (heap_view j n) p x
-both_here j n p x h plain up s = (both_at j n p x h plain up s).0 ∙ ap (λ (d : HeapState). record (heap_view j n) {
-  now = set_place (heap_of j.plain) p x;
-  durable = d;
-  passed = saturating_count j.passed 1;
-}) (both_back j n p x h plain up s)
+  abbrev word : ℕ
+  word = word_for j.plain p x
 
-pub both_view : (j : State) (v : HeapView) (n : ℕ) (p : Place) (x : ℕ) → heap_view j n ≡ v → HasPlace v.now p → IsPlain v.now p → j.down ≡ false → IsSound j n
-    → heap_view (after_write_in_place j (place_word p) x) n ≡ write_nonatomic v p x
-both_view j v n p x is h plain up s = subst (λ u. HasPlace (u.now) p → IsPlain (u.now) p
-    → heap_view (after_write_in_place j (place_word p) x) n ≡ write_nonatomic u p x) is (λ k own. both_here j n p x k own up s) h plain
+  abbrev stays : Bool
+  stays = j.in_transaction && is_kept j a
 
-pub both_sound : (j : State) (v : HeapView) (n : ℕ) (p : Place) (x : ℕ) → heap_view j n ≡ v → HasPlace v.now p → IsPlain v.now p → j.down ≡ false → IsSound j n
-    → IsSound (after_write_in_place j (place_word p) x) n
-both_sound j v n p x is h plain up s = (both_at j n p x (subst (λ u. HasPlace (u.now) p) (sym is) h) (subst (λ u. IsPlain (u.now) p) (sym is) plain) up s).1
+  agree_by : (b : Bool) → (b && is_kept j a) ≡ false → (b ≡ false → j.recovered ≡ j.plain) → get_or j.recovered a 0 ≡ get_or j.plain a 0
+  agree_by true loose settled = unkept loose
+  agree_by false loose settled = ap (λ (l : List ℕ). get_or l a 0) (settled refl)
+
+  back : stays ≡ false → IsSetBack j p x (set j.recovered a word)
+  back loose = place_back j n p x h may up s (agree_by j.in_transaction loose (s.settled up))
+
+  durable_is : heap_of (if stays then j.recovered else set j.recovered a word) ≡ (if stays then heap_of j.recovered else set_place (heap_of j.recovered) p x)
+  durable_is = either_heap stays j.recovered (set j.recovered a word) (set_place (heap_of j.recovered) p x) (λ loose. (back loose).0)
+
+  goes_back_so : (if stays then heap_of j.recovered else set_place (heap_of j.recovered) p x)
+      ≡ (if goes_back (keeping (heap_view j n)) a then heap_of j.recovered else set_place (heap_of j.recovered) p x)
+  unfolding goes_back
+  goes_back_so =
+      let same : goes_back (keeping (heap_view j n)) a ≡ goes_back (journal_keeping j) a = ap (λ k. goes_back k a) (keeping_view j n s.back) in
+      kept_or_born j.in_transaction (is_kept j a) (nat_le (born_of j.recovered) a) (heap_of j.recovered) (set_place (heap_of j.recovered) p x)
+      (λ loose born. sym (back loose).0 ∙ (above_top j.recovered a word s.back (omega (arith, leb-true (born_of j.recovered) a born))).0)
+      ∙ sym (ap (λ (g : Bool). if g then heap_of j.recovered else set_place (heap_of j.recovered) p x) same)
+
+  both_here : heap_view (after_write_in_place j a word) n ≡ write_nonatomic (heap_view j n) p x
+  both_here =
+      let set_there = place_set j.plain p x (s.now up) h may in
+      λ k. record (heap_view j n) {
+        now = set_there.0 k;
+        durable = (durable_is ∙ goes_back_so) k;
+        passed = saturating_count j.passed 1;
+      }
+
+  sound_here : IsSound (after_write_in_place j a word) n
+  sound_here =
+      let set_there = place_set j.plain p x (s.now up) h may in
+      let size : length (set j.plain a word) ≡ length j.plain = length-set j.plain a word in
+      record {
+        back = either_words IsWellFormed stays j.recovered (set j.recovered a word) s.back (λ loose. (back loose).1);
+        size_recovered = either_words (λ l. length l ≡ n) stays j.recovered (set j.recovered a word) s.size_recovered
+            (λ loose. length-set j.recovered a word ∙ s.size_recovered);
+        small = s.small;
+        now = λ _. set_there.1;
+        size_now = λ _. size ∙ s.size_now up;
+        order = λ _. either_words (λ l. get_or l top_address 0 ≤ get_or (set j.plain a word) top_address 0) stays j.recovered (set j.recovered a word)
+            (omega (arith, s.order up, set_there.2)) (λ loose. omega (arith, s.order up, set_there.2, (back loose).2));
+        shape = λ _. either_words (λ l. SameShape (heap_of l) (heap_of (set j.plain a word))) stays j.recovered (set j.recovered a word)
+            (subst (SameShape (heap_of j.recovered)) (sym set_there.0) (place_shape (heap_of j.recovered) (heap_of j.plain) p x (s.shape up)))
+            (λ loose. subst (λ d. SameShape d (heap_of (set j.plain a word))) (sym (back loose).0)
+            (subst (SameShape (set_place (heap_of j.recovered) p x)) (sym set_there.0)
+            (place_shape_both (heap_of j.recovered) (heap_of j.plain) p x (s.shape up))));
+        settled = λ _ closed. settled_both j.in_transaction (is_kept j a) j.recovered j.plain a word closed (s.settled up closed);
+      }
+
+-- the same of a heap's view, and of the word and the value that are written
+pub both_view : (j : State) (v : HeapView) (n : ℕ) (p : Place) (x a word : ℕ) → heap_view j n ≡ v → HasPlace v.now p → MayHold v.now p x → j.down ≡ false
+    → IsSound j n → a ≡ place_at v.now p → word ≡ word_for j.plain p x → (is_kept j a ≡ false → get_or j.recovered a 0 ≡ get_or j.plain a 0)
+    → (heap_view (after_write_in_place j a word) n ≡ write_nonatomic v p x) × IsSound (after_write_in_place j a word) n
+both_view j v n p x a word is h may up s at says unkept =
+    subst (λ u. HasPlace u.now p → MayHold u.now p x → a ≡ place_at u.now p
+    → (heap_view (after_write_in_place j a word) n ≡ write_nonatomic u p x) × IsSound (after_write_in_place j a word) n) is
+    (λ there fits here.
+    let loose = subst (λ (b : ℕ). is_kept j b ≡ false → get_or j.recovered b 0 ≡ get_or j.plain b 0) here unkept in
+    subst (λ (c : ℕ × ℕ). (heap_view (after_write_in_place j c.0 c.1) n ≡ write_nonatomic (heap_view j n) p x) × IsSound (after_write_in_place j c.0 c.1) n)
+    (λ k. (sym here k, sym says k)) (both_here j n p x there fits up s loose, sound_here j n p x there fits up s loose)) h may at

@@ -84,32 +84,6 @@ plain_set ws r i x h plain laid =
       subst (λ (a : ℕ). get_or (set ws a x) top_address 0 ≡ get_or ws top_address 0) here (top-set ws r i x h),
     )
 
--- a cell that has a word of its own, set in the recovered words: there too, or above their top
-pub back_set : (j : State) (n r i x : ℕ) → i < length (cells (heap_of j.plain) r) → is_packed (facts (heap_of j.plain) r) ≡ false → j.down ≡ false → IsSound j n →
-    (heap_of (set j.recovered (r + (4 + i)) x) ≡ set_cell (heap_of j.recovered) r i x) × IsWellFormed (set j.recovered (r + (4 + i)) x)
-    × (get_or (set j.recovered (r + (4 + i)) x) top_address 0 ≡ get_or j.recovered top_address 0)
-back_set j n r i x h plain up s =
-    let long : length (image j.recovered) ≡ get_or j.recovered top_address 0 = length-take-le (get_or j.recovered top_address 0) j.recovered s.back.fits in
-    elim (cases_lt r (get_or j.recovered top_address 0)) [
-      | inl below ↦
-          let same = (s.shape up).items r (top_is j.recovered r s.back below) in
-          let there : i < length (cells (heap_of j.recovered) r) = omega (
-            arith,
-            h,
-            same_length (heap_item_at (heap_of j.plain) r) (heap_item_at (heap_of j.recovered) r) same,
-          ) in
-          let apart : is_packed (facts (heap_of j.recovered) r) ≡ false =
-          ap is_packed (sym (same_facts (heap_item_at (heap_of j.plain) r) (heap_item_at (heap_of j.recovered) r) same)) ∙ plain in
-          plain_set j.recovered r i x there apart s.back
-      | inr above ↦
-          let far : (heap_of (set j.recovered (r + (4 + i)) x) ≡ heap_of j.recovered) × IsWellFormed (set j.recovered (r + (4 + i)) x)
-          × (get_or (set j.recovered (r + (4 + i)) x) top_address 0 ≡ get_or j.recovered top_address 0) =
-          above_top j.recovered (r + (4 + i)) x s.back (omega (arith, above)) in
-          let absent : is_allocated (heap_of j.recovered) r ≡ false = is_allocated-heap_of j.recovered r (omega (arith, s.back.based, long))
-          (omega (arith, above, long)) in
-          (far.0 ∙ sym (set_cell-absent (heap_of j.recovered) r i x absent), far.1, far.2)
-    ]
-
 -- what an abort leaves of the names
 pub abort_keeps : (j : State) (v : HeapView) (n : ℕ) → heap_view j n ≡ v → j.down ≡ false → IsSound j n → KeepsBelowTop v.now v.durable
 abort_keeps j v n is up s = subst (λ u. KeepsBelowTop (u.now) (u.durable)) is

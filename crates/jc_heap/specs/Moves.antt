@@ -10,7 +10,7 @@ use Rattle.jc_heap.specs.Heap.{HeapState, HeapView, limit, set_cells, add_object
 use Rattle.jc_heap.specs.Heap.{heap_after_change, heap_after_begin, heap_after_commit, heap_after_abort, end_address}
 use Rattle.jc_heap.specs.declared.place.Place.{Place}
 use Rattle.jc_heap.specs.declared.place.AppletEntry.{AppletEntry}
-use Rattle.jc_heap.specs.Places.{place_word, place_at, words_at, cells_from, set_place, write_place, write_nonatomic, places_of, set_places, applet_changes}
+use Rattle.jc_heap.specs.Places.{place_at, words_at, cells_from, set_place, write_place, write_nonatomic, places_of, set_places, applet_changes}
 use Rattle.jc_heap.specs.Packages.{add_package, addresses_of_package, package_size}
 use Rattle.jc_heap.specs.Completions.{Completion, Completed, Torn, Attempt, Done, Refused}
 use Rattle.jc_heap.specs.declared.refusal.HeapRefusal.{HeapRefusal}
@@ -77,14 +77,14 @@ IsInside (Commit ∷ ms) = ⊥
 IsInside (Abort ∷ ms) = ⊥
 IsInside (m ∷ ms) = IsInside ms
 
--- what the places counted among these moves make of a durable heap: those that no earlier change touched
+-- what the places set for good among these moves make of a durable heap: those whose words no earlier change touched
 abbrev pub with_nonatomic_writes : List Move → HeapView → HeapState → HeapState
 with_nonatomic_writes [] h d = d
 with_nonatomic_writes (WriteNonAtomic p v ∷ ms) h d = with_nonatomic_writes ms (apply_move (WriteNonAtomic p v) h)
-    (if goes_back h (place_word p) then d else set_place d p v)
+    (if goes_back h (place_at h.now p) then d else set_place d p v)
 with_nonatomic_writes (m ∷ ms) h d = with_nonatomic_writes ms (apply_move m h) d
 
--- inside a transaction the durable heap stays as it is but for counted places, whatever the moves are
+-- inside a transaction the durable heap stays as it is but for places set for good, whatever the moves are
 abbrev pub KeepsDurable : Type 0
 KeepsDurable = (moves : List Move) (h : HeapView) → h.begun ≡ true → IsInside moves → (apply_moves moves h).durable ≡ with_nonatomic_writes moves h h.durable
 

@@ -88,11 +88,11 @@ set_place h AppletCount v = record h { counts = (h.counts.0, v) }
 abbrev pub write_place : HeapView → Place → ℕ → HeapView
 write_place v p x = heap_after_change v (set_place v.now p x) (place_at v.now p ∷ []) 0
 
--- a place set for good, where an abort does not take it back already
+-- a place set for good, where an abort does not take its word back already
 abbrev pub write_nonatomic : HeapView → Place → ℕ → HeapView
 write_nonatomic v p x = record v {
   now = set_place v.now p x;
-  durable = (if goes_back v (place_word p) then v.durable else set_place v.durable p x);
+  durable = (if goes_back v (place_at v.now p) then v.durable else set_place v.durable p x);
   passed = saturating_count v.passed 1;
 }
 

@@ -6,7 +6,7 @@ ghost use Rattle.jc_heap.specs.Completions.{after_change, after_step};
 ghost use Rattle.jc_heap.specs.Object.{IsElement};
 ghost use Rattle.jc_heap.specs.Heap.{cells, facts};
 ghost use Rattle.jc_heap.specs.Elements.{elements_of};
-ghost use Rattle.jc_heap.specs.Places.{HasPlace, MayHold, AreThere, AreApart, IsPlain, ArePlain, place_at, places_of, words_of, cell_changes};
+ghost use Rattle.jc_heap.specs.Places.{HasPlace, MayHold, AreThere, AreApart, ArePlain, place_at, places_of, words_of, cell_changes};
 
 use crate::changes::{Elements, PlaceWords, RunAndPlaces};
 use crate::elements::{cell_word, run_for, word_for};
@@ -164,18 +164,18 @@ impl<S: WordStore> Heap<S> {
         Ok(number)
     }
 
-    /// Writes a place for good: no abort takes it back, unless an earlier change of the transaction
-    /// has touched it, or it was born in the transaction. It has a word of its own.
+    /// Writes a place for good, by one word write: no abort takes it back, unless an earlier change of the transaction
+    /// has touched its word, or that was born in the transaction. Another element in the word stays.
     pub fn write_both(&mut self, place: Place, v: u16) -> Result<(), StoreDown>
         requires up { self.old.down ≡ false }
         requires there { HasPlace self.old.now place }
-        requires plain { IsPlain self.old.now place }
         requires value { MayHold self.old.now place v }
         ensures { PerformsMoves self.old (after_step result self.new)
             (WriteNonAtomic place v ∷ []) tt }
     {
         let word = self.place_word(place);
-        self.journal.write_both(word, v)?;
+        let value = word_for(&self.journal, &place, v);
+        self.journal.write_both(word, value)?;
         Ok(())
     }
 }

@@ -4,12 +4,10 @@ ghost use Rattle.jc_memory.specs.Programs.{Executes};
 ghost use Rattle.jc_world.specs.NativeCalls.{after_call};
 ghost use Rattle.jc_interp.specs.Natives.{native_call};
 
-use crate::parts::{Part, part_of};
-use jc_api_data::exceptions::call_exception;
-use jc_api_data::objects::call_object;
-use jc_api_data::util::call_util;
-use jc_api_data::{call_apdu, call_pin};
-use jc_api_runtime::{call_aid, call_applet, call_system};
+use jc_api_framework::{
+    call_aid, call_apdu, call_applet, call_event, call_exception, call_object, call_pin,
+    call_system, call_util,
+};
 use jc_frames::Cell;
 use jc_linker::linked::Linked;
 use jc_memory::Memory;
@@ -30,14 +28,15 @@ pub fn call_native<S: WordStore>(
     ensures { Executes (native_call method args.now linked.now memory.old) memory.old
         (after_call result memory.new) }
 {
-    match part_of(method) {
-        Part::Objects => call_object(method, args, memory),
-        Part::CardExceptions => call_exception(method, args, memory),
-        Part::Utilities => call_util(method, args, memory, linked),
-        Part::System => call_system(method, args, memory, linked),
-        Part::Aids => call_aid(method, args, memory, linked),
-        Part::Pins => call_pin(method, args, memory, linked),
-        Part::Applets => call_applet(method, args, memory, linked),
-        Part::Apdus => call_apdu(method, args, memory, linked),
+    match method {
+        PlatformMethod::Objects(method) => call_object(method, args, memory),
+        PlatformMethod::Exceptions(method) => call_exception(method, args, memory),
+        PlatformMethod::Utilities(method) => call_util(method, args, memory, linked),
+        PlatformMethod::System(method) => call_system(method, args, memory, linked),
+        PlatformMethod::Aids(method) => call_aid(method, args, memory, linked),
+        PlatformMethod::Pins(method) => call_pin(method, args, memory, linked),
+        PlatformMethod::Applets(method) => call_applet(method, args, memory, linked),
+        PlatformMethod::Apdus(method) => call_apdu(method, args, memory, linked),
+        PlatformMethod::Events(method) => call_event(method, memory),
     }
 }

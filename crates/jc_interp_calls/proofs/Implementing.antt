@@ -7,7 +7,7 @@ use Rattle.std.proofs.lemmas.Bool.{false≢true}
 use Rattle.jc_platform.specs.declared.names.MethodKind.TheVariants as kinds
 use Rattle.jc_platform.specs.declared.names.PlatformClass.{PlatformClass}
 use Rattle.jc_platform.specs.Distinct.{class_word}
-use Rattle.jc_platform.specs.Hierarchy.{implementation_of, interface_of}
+use Rattle.jc_platform.specs.Hierarchy.{implementation_of, interfaces_of}
 use Rattle.jc_platform.specs.Platform.{class_by_word, method_by_token}
 use Rattle.jc_cap_linkage.specs.declared.pool.VirtualToken.TheVariants.{Public}
 use Rattle.jc_linker.specs.declared.search.Search.TheVariants.{Above}
@@ -29,20 +29,21 @@ module _ (p : Packages) (of token : ℕ) where
       let here = neither (x.interface == of) (extends p x.interface of) two.0 in
       ap (λ b. if b then Some x else find (λ i. i.interface == of) xs) here.0 ∙ none_found xs two.1
 
-  by_listed : (i : Option PlatformClass) → list_any (λ i. i.interface == of || extends p i.interface of) (platform_interfaces p i) ≡ false
-      → found_or_above (native_implementation p of token i) None ≡ None
-  by_listed None e = refl
-  by_listed (Some k) e =
-      let two = neither (class_word p.platform k == of || extends p (class_word p.platform k) of) false e in
+  by_listed : (is : List PlatformClass) → list_any (λ i. i.interface == of || extends p i.interface of) (platform_interfaces p is) ≡ false
+      → found_or_above (native_implementation p of token is) None ≡ None
+  by_listed [] e = refl
+  by_listed (k ∷ is) e =
+      let two = neither (class_word p.platform k == of || extends p (class_word p.platform k) of)
+      (list_any (λ i. i.interface == of || extends p i.interface of) (platform_interfaces p is)) e in
       let here = neither (class_word p.platform k == of) (extends p (class_word p.platform k) of) two.0 in
       ap (λ b. found_or_above (if b then by_token (option_map (token_of p) (option_and_then implementation_of
-      (method_by_token p.platform k kinds.Interface token))) else Above) None) here.0
+      (method_by_token p.platform k kinds.Interface token))) else native_implementation p of token is) None) here.0 ∙ by_listed is two.1
 
   by_class : (c : Option ClassValue) (named : Option PlatformClass) → list_any (λ i. i.interface == of || extends p i.interface of) (interfaces_by p c named) ≡ false
       → found_or_above (implementation_by p of token c named) None ≡ None
   by_class (Some c) named e = ap (λ i. found_or_above (in_list token i) None) (none_found c.interfaces e)
   by_class None None e = refl
-  by_class None (Some c) e = by_listed (interface_of c) e
+  by_class None (Some c) e = by_listed (interfaces_of c) e
 
   none_decided : (cs : List ℕ) → any_is p of cs ≡ false → first_decided (implementation_in p of token) cs ≡ None
   unfolding any_is first_decided implements implementation_in interfaces_in

@@ -1,2 +1,3 @@
+mod Few
 pub mod Handlers
 pub mod Implementing

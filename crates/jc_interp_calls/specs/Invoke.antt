@@ -34,9 +34,10 @@ use Rattle.jc_opcodes.specs.Headers.{header_in}
 use Rattle.jc_world.specs.Contexts.{firewall_check, firewall_decision}
 use Rattle.jc_world.specs.Answers.{and_then}
 use Rattle.jc_world.specs.Objects.{object_at, some_or_fault, check_or_fault, is_instance}
+use Rattle.jc_api.specs.Kinds.{is_present_and}
 use Rattle.jc_interp_calls.specs.declared.invoke.MethodCall.{MethodCall}
 use Rattle.jc_interp_calls.specs.declared.invoke.SelectedCall.{SelectedCall}
-use Rattle.jc_interp_calls.specs.Parameters.{fits, is_present_and}
+use Rattle.jc_interp_calls.specs.Parameters.{fits}
 use Rattle.jc_platform.specs.Signatures.{argument_cells, is_constructor}
 use Rattle.jc_interp_calls.specs.MethodComponent.{method_component_of}
 

@@ -6,7 +6,8 @@ use Rattle.jc_memory.specs.State.{MemoryState}
 use Rattle.jc_memory.specs.Programs.{Program, Finish}
 use Rattle.jc_memory.specs.Cells.{header_at}
 use Rattle.jc_cap_linkage.specs.declared.pool.VirtualToken.TheVariants.{Public}
-use Rattle.jc_platform.specs.declared.names.PlatformMethod.TheVariants.{AppletGetShareableInterfaceObject}
+use Rattle.jc_platform.specs.declared.names.PlatformMethod.TheVariants.{Applets}
+use Rattle.jc_platform.specs.declared.names.AppletsMethod.TheVariants.{AppletGetShareableInterfaceObject}
 use Rattle.jc_platform.specs.Tokens.{method_token}
 use Rattle.jc_linker.specs.declared.target.Method.{Method}
 use Rattle.jc_linker.specs.declared.target.Method.TheVariants.{Code, Native}
@@ -29,7 +30,7 @@ use Rattle.jc_interp_calls.specs.MethodComponent.{method_component_of}
 
 -- getShareableInterfaceObject, as the server's class has it
 abbrev pub sharing_method : Packages → ℕ → Option Method
-sharing_method p class = method_at p class 0 (Public (method_token p.platform AppletGetShareableInterfaceObject))
+sharing_method p class = method_at p class 0 (Public (method_token p.platform (Applets AppletGetShareableInterfaceObject)))
 
 -- a local is set in the frame that has begun
 abbrev pub with_local : ℕ → Cell → Next Frames → Next Frames

@@ -13,10 +13,8 @@ use Rattle.jc_frames.specs.declared.cell.Cell.TheVariants.{Reference}
 use Rattle.jc_frames.specs.declared.method.CallKind.{CallKind}
 use Rattle.jc_frames.specs.declared.method.CallKind.TheVariants.{Instruction, ShareableRequest}
 use Rattle.jc_frames.specs.declared.outcome.Exception.{Exception}
-use Rattle.jc_frames.specs.declared.outcome.Exception.TheVariants.{ArithmeticException, ArrayIndexOutOfBoundsException, ArrayStoreException, ClassCastException}
-use Rattle.jc_frames.specs.declared.outcome.Exception.TheVariants.{NegativeArraySizeException, NullPointerException, SecurityException, CardException}
-use Rattle.jc_frames.specs.declared.outcome.Exception.TheVariants.{CardRuntimeException, ISOException, PINException, SystemException, TransactionException}
-use Rattle.jc_frames.specs.declared.outcome.Exception.TheVariants.{APDUException, UserException}
+use Rattle.jc_frames.specs.Exceptions.{class_of_exception, reason_of}
+use Rattle.jc_environment.specs.Objects.{own_place}
 use Rattle.jc_frames.specs.declared.outcome.Outcome.TheVariants.{Fault, Thrown}
 use Rattle.jc_frames.specs.Cells.{reference_on}
 use Rattle.jc_frames.specs.Frames.{Frame, Caller, Frames, Next, Ends, in_frame, push, with_stack}
@@ -73,42 +71,6 @@ athrow place p s m =
 
 -- ---- exceptions of the runtime environment
 
--- the place of its own instance among the objects with which the heap begins
-abbrev pub number_of : Exception → ℕ
-number_of ArithmeticException = 0
-number_of ArrayIndexOutOfBoundsException = 1
-number_of ArrayStoreException = 2
-number_of ClassCastException = 3
-number_of NegativeArraySizeException = 4
-number_of NullPointerException = 5
-number_of SecurityException = 6
-number_of (CardException v) = 7
-number_of (CardRuntimeException v) = 8
-number_of (ISOException v) = 9
-number_of (PINException v) = 10
-number_of (SystemException v) = 11
-number_of (TransactionException v) = 12
-number_of (APDUException v) = 13
-number_of (UserException v) = 14
-
--- the reason that those of the card's framework carry
-abbrev pub reason_of : Exception → Option ℤ
-reason_of ArithmeticException = None
-reason_of ArrayIndexOutOfBoundsException = None
-reason_of ArrayStoreException = None
-reason_of ClassCastException = None
-reason_of NegativeArraySizeException = None
-reason_of NullPointerException = None
-reason_of SecurityException = None
-reason_of (CardException v) = Some v
-reason_of (CardRuntimeException v) = Some v
-reason_of (ISOException v) = Some v
-reason_of (PINException v) = Some v
-reason_of (SystemException v) = Some v
-reason_of (TransactionException v) = Some v
-reason_of (APDUException v) = Some v
-reason_of (UserException v) = Some v
-
 -- a transient instance with a cell, in which the reason stands
 abbrev pub has_reason_cell : Facts → Bool
 has_reason_cell f = is_instance f.kind && is_some f.event && nat_lt 0 f.length
@@ -120,6 +82,6 @@ with_reason (Some v) r place p s m =
     if_some (header_at m r) (λ f. if has_reason_cell f then Perform (SetTransient r 0 (Short v ∷ []))
     (object_unwind r place p s (apply_effect (SetTransient r 0 (Short v ∷ [])) m)) else Finish (Ends Fault))
 
--- the runtime environment throws, by the instruction at a place
+-- the runtime environment throws its own instance of the exception's class, by the instruction at a place; a class that the table lacks is a code fault
 unfoldable pub exception_throw : Exception → ℕ → Packages → Frames → MemoryState → Program (Next Frames)
-exception_throw e place p s m = with_reason (reason_of e) (slice_index m.fixed (number_of e)) place p s m
+exception_throw e place p s m = with_reason (reason_of e) (slice_index m.fixed (own_place p.platform (class_of_exception e))) place p s m

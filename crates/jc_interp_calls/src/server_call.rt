@@ -14,7 +14,7 @@ use jc_linker::linked::Linked;
 use jc_linker::target::Method;
 use jc_memory::{Memory, Owner, Registers};
 use jc_opcodes::{Header, header_at};
-use jc_platform::names::PlatformMethod;
+use jc_platform::names::{AppletsMethod, PlatformMethod};
 use jc_transient::{ClassWord, Ref};
 use jc_words::WordStore;
 use jc_world::{ServerCall, StepExit};
@@ -23,9 +23,9 @@ use jc_world::{ServerCall, StepExit};
 fn sharing_method(class: ClassWord, linked: &Linked) -> Option<Method>
     ensures { result ≡ sharing_method linked.now class }
 {
-    let token = linked
-        .platform()
-        .method_token(PlatformMethod::AppletGetShareableInterfaceObject);
+    let token = linked.platform().method_token(PlatformMethod::Applets(
+        AppletsMethod::AppletGetShareableInterfaceObject,
+    ));
     linked.method_at(class, 0, VirtualToken::Public(token))
 }
 

@@ -1,14 +1,15 @@
 //! Exceptions: whose instance is thrown, and which frame goes on with it.
-ghost use Rattle.std.specs.Prelude.{◌≡◌, ◌<◌, false};
+ghost use Rattle.std.specs.Prelude.{◌≡◌, false};
 ghost use Rattle.jc_frames.specs.Frames.{unless_fault};
 ghost use Rattle.jc_memory.specs.Programs.{Executes};
 ghost use Rattle.jc_world.specs.Instructions.{after_instruction};
-ghost use Rattle.jc_interp_calls.specs.Throwing.{has_reason_cell, handler_entry, number_of, reason_of, athrow, exception_throw, object_unwind, unwind};
+ghost use Rattle.jc_interp_calls.specs.Throwing.{has_reason_cell, handler_entry, athrow, exception_throw, object_unwind, unwind};
 ghost use Rattle.jc_interp_calls.specs.Throwing.{with_reason};
 
 use crate::catch::{HandlerResult, catch_in_method};
 use crate::method_return::registers_of_caller;
 use crate::notes::note_exception;
+use jc_environment::own_place;
 use jc_firewall::access::Access;
 use jc_frames::{CallKind, Cell, CodeFault, Exception, Frames, Outcome};
 use jc_heap::Facts;
@@ -116,47 +117,6 @@ pub fn athrow<S: WordStore>(
     throw_object(thrown, place, frames, memory, linked)
 }
 
-// The place of an exception's own instance among the objects with which the heap begins.
-const fn number_of(exception: Exception) -> usize
-    ensures number { result ≡ number_of exception }
-    ensures bound { result < 17 }
-{
-    match exception {
-        Exception::ArithmeticException => 0,
-        Exception::ArrayIndexOutOfBoundsException => 1,
-        Exception::ArrayStoreException => 2,
-        Exception::ClassCastException => 3,
-        Exception::NegativeArraySizeException => 4,
-        Exception::NullPointerException => 5,
-        Exception::SecurityException => 6,
-        Exception::CardException(_) => 7,
-        Exception::CardRuntimeException(_) => 8,
-        Exception::ISOException(_) => 9,
-        Exception::PINException(_) => 10,
-        Exception::SystemException(_) => 11,
-        Exception::TransactionException(_) => 12,
-        Exception::APDUException(_) => 13,
-        Exception::UserException(_) => 14,
-    }
-}
-
-// The reason that an exception carries.
-const fn reason_of(exception: Exception) -> Option<i16>
-    ensures { result ≡ reason_of exception }
-{
-    match exception {
-        Exception::CardException(reason) => Some(reason),
-        Exception::CardRuntimeException(reason) => Some(reason),
-        Exception::ISOException(reason) => Some(reason),
-        Exception::PINException(reason) => Some(reason),
-        Exception::SystemException(reason) => Some(reason),
-        Exception::TransactionException(reason) => Some(reason),
-        Exception::APDUException(reason) => Some(reason),
-        Exception::UserException(reason) => Some(reason),
-        _ => None,
-    }
-}
-
 // A transient instance with a cell.
 fn has_reason_cell(facts: Facts) -> bool
     ensures { result ≡ has_reason_cell facts }
@@ -189,7 +149,8 @@ fn throw_with<S: WordStore>(
     throw_object(thrown, place, frames, memory, linked)
 }
 
-/// The runtime environment throws its own instance, with its reason, by the instruction at a place.
+/// The runtime environment throws its own instance of an exception's class, with its reason, by the instruction at a
+/// place. A class that the table lacks is a code fault.
 #[tactic(auto, unfolding(crate::specs::Throwing::exception_throw))]
 pub fn throw<S: WordStore>(
     exception: Exception,
@@ -202,6 +163,7 @@ pub fn throw<S: WordStore>(
     ensures { Executes (exception_throw exception place linked.now frames.old memory.old) memory.old
         (after_instruction result frames.new memory.new) }
 {
-    let thrown = memory.fixed(number_of(exception));
-    throw_with(reason_of(exception), thrown, place, frames, memory, linked)
+    let number = own_place(linked.platform().table(), exception.class());
+    let thrown = memory.fixed(number);
+    throw_with(exception.reason(), thrown, place, frames, memory, linked)
 }

@@ -2,3 +2,4 @@ pub mod Walks
 pub mod Ontos
 pub mod Behind
 pub mod Extending
+pub mod PlatformLists

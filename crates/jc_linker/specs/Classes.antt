@@ -6,7 +6,7 @@ use Rattle.std.specs.Option.{option_map, option_and_then}
 use Rattle.jc_platform.specs.declared.names.PlatformClass.{PlatformClass}
 use Rattle.jc_platform.specs.declared.names.PlatformClass.TheVariants.{Shareable}
 use Rattle.jc_platform.specs.Distinct.{class_word}
-use Rattle.jc_platform.specs.Hierarchy.{cells_of, holds_reference, interface_of, is_instantiable, superclass_of}
+use Rattle.jc_platform.specs.Hierarchy.{cells_of, holds_reference, interfaces_of, is_instantiable, superclass_of}
 use Rattle.jc_platform.specs.Platform.{class_by_word}
 use Rattle.jc_linker.specs.Values.{ClassValue, Implementation, PackageValue, Packages}
 
@@ -44,16 +44,16 @@ most_classes = 8704
 abbrev pub lineage : Packages → ℕ → List ℕ
 lineage p class = lineage_from p most_classes (Some class)
 
--- the interface of the platform, if there is one
-abbrev pub platform_interfaces : Packages → Option PlatformClass → List Implementation
-platform_interfaces p None = []
-platform_interfaces p (Some c) = record { interface = class_word p.platform c; tokens = [] } ∷ []
+-- interfaces of the platform, of which no list tells who carries their methods out
+abbrev pub platform_interfaces : Packages → List PlatformClass → List Implementation
+platform_interfaces p [] = []
+platform_interfaces p (c ∷ cs) = record { interface = class_word p.platform c; tokens = [] } ∷ platform_interfaces p cs
 
 -- the interfaces that a loaded class lists, or else one of the platform
 abbrev pub interfaces_by : Packages → Option ClassValue → Option PlatformClass → List Implementation
 interfaces_by p (Some c) other = c.interfaces
 interfaces_by p None None = []
-interfaces_by p None (Some c) = platform_interfaces p (interface_of c)
+interfaces_by p None (Some c) = platform_interfaces p (interfaces_of c)
 
 -- the interfaces that a class or an interface lists
 unfoldable pub interfaces_in : Packages → ℕ → List Implementation
@@ -150,3 +150,7 @@ any_reference p cell classes = list_any (λ c. own_reference (class_in p c) (cla
 -- a cell of an instance holds a reference
 unfoldable pub reference_cell : Packages → ℕ → ℕ → Bool
 reference_cell p class cell = any_reference p cell (lineage p class)
+
+-- a class of the platform, or one below it
+abbrev pub is_a : Packages → ℕ → PlatformClass → Bool
+is_a p class of = is_below p class (class_word p.platform of)

@@ -5,7 +5,7 @@ use Rattle.jc_platform.specs.declared.names.PlatformClass.{PlatformClass}
 use Rattle.jc_platform.specs.declared.names.MethodKind.TheVariants as kinds
 use Rattle.jc_platform.specs.declared.names.PlatformMethod.{PlatformMethod}
 use Rattle.jc_platform.specs.Distinct.{class_word}
-use Rattle.jc_platform.specs.Hierarchy.{implementation_of, interface_of}
+use Rattle.jc_platform.specs.Hierarchy.{implementation_of, interfaces_of}
 use Rattle.jc_platform.specs.Tokens.{method_token}
 use Rattle.jc_platform.specs.Platform.{class_by_word, method_by_token}
 use Rattle.jc_linker.specs.declared.target.Method.{Method}
@@ -78,16 +78,17 @@ in_list token (Some i) = by_token (slice_get i.tokens token)
 abbrev pub token_of : Packages → PlatformMethod → ℕ
 token_of p m = method_token p.platform m
 
--- the method of the platform's interface with this token, by the platform's class that implements it
-abbrev pub native_implementation : Packages → ℕ → ℕ → Option PlatformClass → Search ℕ
-native_implementation p interface token None = Above
-native_implementation p interface token (Some i) = if class_word p.platform i == interface then by_token
-    (option_map (token_of p) (option_and_then implementation_of (method_by_token p.platform i kinds.Interface token))) else Above
+-- the method of the platform's interface with this token, by the platform's class that implements these interfaces
+abbrev pub native_implementation : Packages → ℕ → ℕ → List PlatformClass → Search ℕ
+native_implementation p interface token [] = Above
+native_implementation p interface token (i ∷ is) = if class_word p.platform i == interface then by_token
+    (option_map (token_of p) (option_and_then implementation_of (method_by_token p.platform i kinds.Interface token)))
+    else native_implementation p interface token is
 
 abbrev pub implementation_by : Packages → ℕ → ℕ → Option ClassValue → Option PlatformClass → Search ℕ
 implementation_by p interface token (Some c) other = in_list token (find (λ i. i.interface == interface) c.interfaces)
 implementation_by p interface token None None = Nowhere
-implementation_by p interface token None (Some c) = native_implementation p interface token (interface_of c)
+implementation_by p interface token None (Some c) = native_implementation p interface token (interfaces_of c)
 
 unfoldable pub implementation_in : Packages → ℕ → ℕ → ℕ → Search ℕ
 implementation_in p interface token word = implementation_by p interface token (class_in p word) (class_by_word p.platform word)

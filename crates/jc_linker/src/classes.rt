@@ -1,6 +1,7 @@
 //! Classes by their words.
-ghost use Rattle.std.specs.Prelude.{◌≡◌, ◌<◌};
-ghost use Rattle.jc_linker.specs.Classes.{extends, implements, interfaces_in, is_among, is_below, is_class, is_deep, is_listed, is_instantiable_class};
+ghost use Rattle.std.specs.Prelude.{◌≡◌, ◌<◌, ◌==◌, ◌||◌, ◌&&◌, nat_lt};
+ghost use Rattle.std.specs.List.{list_any};
+ghost use Rattle.jc_linker.specs.Classes.{extends, implements, interfaces_in, platform_interfaces, is_among, is_below, is_class, is_deep, is_listed, is_instantiable_class};
 ghost use Rattle.jc_linker.specs.Classes.{is_shareable, is_told, lineage, lists_some, own_reference, class_in, reference_cell, size_of, superclass_in};
 ghost use Rattle.jc_linker.specs.Tables.{extends_by};
 ghost use Rattle.jc_platform.specs.Platform.{class_by_word};
@@ -43,6 +44,16 @@ impl Scope<'_> {
         Some(self.platform.class_word(superclass))
     }
 
+    // One of these interfaces of the platform is it.
+    fn names(&self, listed: &[PlatformClass], interface: ClassWord) -> bool
+        ensures { result ≡ is_listed interface (platform_interfaces self.now listed.now) }
+    {
+        let Some((first, others)) = listed.split_first() else {
+            return false;
+        };
+        self.platform.class_word(*first) == interface || self.names(others, interface)
+    }
+
     // The class lists the interface.
     #[tactic(auto, unfolding(crate::specs::Classes::interfaces_in))]
     fn lists(&self, class: ClassWord, interface: ClassWord) -> bool
@@ -51,17 +62,14 @@ impl Scope<'_> {
         if let Some(loaded) = self.loaded_class(class) {
             return loaded.lists(interface);
         }
-        let Some(named) = self.platform.class_by_word(class) else {
-            return false;
-        };
-        match named.interface() {
-            Some(listed) => self.platform.class_word(listed) == interface,
+        match self.platform.class_by_word(class) {
+            Some(named) => self.names(named.interfaces(), interface),
             None => false,
         }
     }
 
     // A class or an interface lists some interface.
-    #[tactic(auto, unfolding(crate::specs::Classes::interfaces_in))]
+    #[tactic(auto, using(crate::proofs::PlatformLists::length_listed), unfolding(crate::specs::Classes::interfaces_in))]
     fn lists_some(&self, class: ClassWord) -> bool
         ensures { result ≡ lists_some self.now class }
     {
@@ -69,9 +77,21 @@ impl Scope<'_> {
             return !loaded.interfaces.is_empty();
         }
         match self.platform.class_by_word(class) {
-            Some(named) => named.interface().is_some(),
+            Some(named) => !named.interfaces().is_empty(),
             None => false,
         }
+    }
+
+    // One of these interfaces of the platform comes before the interface and has a list of its own.
+    fn names_deep(&self, listed: &[PlatformClass], interface: ClassWord) -> bool
+        ensures { result ≡ list_any (λ i. nat_lt i.interface interface
+            && lists_some self.now i.interface) (platform_interfaces self.now listed.now) }
+    {
+        let Some((first, others)) = listed.split_first() else {
+            return false;
+        };
+        let word = self.platform.class_word(*first);
+        (word.0 < interface.0 && self.lists_some(word)) || self.names_deep(others, interface)
     }
 
     // One of the interfaces that a loaded interface lists has a list of its own.
@@ -83,16 +103,30 @@ impl Scope<'_> {
             return loaded.interfaces.iter().any(|listed| listed.interface.0 < interface.0
                 && self.lists_some(listed.interface));
         }
-        let Some(named) = self.platform.class_by_word(interface) else {
-            return false;
-        };
-        match named.interface() {
-            Some(listed) => {
-                let word = self.platform.class_word(listed);
-                word.0 < interface.0 && self.lists_some(word)
-            }
+        match self.platform.class_by_word(interface) {
+            Some(named) => self.names_deep(named.interfaces(), interface),
             None => false,
         }
+    }
+
+    // One of these interfaces of the platform is the other one, or the table tells that it extends it.
+    fn names_told(
+        &self,
+        listed: &[PlatformClass],
+        interface: ClassWord,
+        of: ClassWord,
+        table: &[bool],
+    ) -> bool
+        ensures { result ≡ list_any (λ i. i.interface == of
+            || is_told table.now i.interface interface) (platform_interfaces self.now listed.now) }
+    {
+        let Some((first, others)) = listed.split_first() else {
+            return false;
+        };
+        let word = self.platform.class_word(*first);
+        word == of
+            || is_told(table, word, interface)
+            || self.names_told(others, interface, of, table)
     }
 
     // It lists the interface, or one of which the table tells that it extends it.
@@ -104,14 +138,8 @@ impl Scope<'_> {
             return loaded.interfaces.iter().any(|listed| listed.interface == of
                 || is_told(table, listed.interface, interface));
         }
-        let Some(named) = self.platform.class_by_word(interface) else {
-            return false;
-        };
-        match named.interface() {
-            Some(listed) => {
-                let word = self.platform.class_word(listed);
-                word == of || is_told(table, word, interface)
-            }
+        match self.platform.class_by_word(interface) {
+            Some(named) => self.names_told(named.interfaces(), interface, of, table),
             None => false,
         }
     }
@@ -143,6 +171,18 @@ impl Scope<'_> {
         self.extends_deep(interface, of)
     }
 
+    // One of these interfaces of the platform is the other one or extends it.
+    fn names_below(&self, listed: &[PlatformClass], interface: ClassWord) -> bool
+        ensures { result ≡ list_any (λ i. i.interface == interface
+            || extends self.now i.interface interface) (platform_interfaces self.now listed.now) }
+    {
+        let Some((first, others)) = listed.split_first() else {
+            return false;
+        };
+        let word = self.platform.class_word(*first);
+        word == interface || self.extends(word, interface) || self.names_below(others, interface)
+    }
+
     // The class itself lists the interface, or one that extends it.
     #[tactic(auto, unfolding(crate::specs::Classes::implements, crate::specs::Classes::interfaces_in))]
     fn implements(&self, class: ClassWord, interface: ClassWord) -> bool
@@ -152,14 +192,8 @@ impl Scope<'_> {
             return loaded.interfaces.iter().any(|listed| listed.interface == interface
                 || self.extends(listed.interface, interface));
         }
-        let Some(named) = self.platform.class_by_word(class) else {
-            return false;
-        };
-        match named.interface() {
-            Some(listed) => {
-                let word = self.platform.class_word(listed);
-                word == interface || self.extends(word, interface)
-            }
+        match self.platform.class_by_word(class) {
+            Some(named) => self.names_below(named.interfaces(), interface),
             None => false,
         }
     }

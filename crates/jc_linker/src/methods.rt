@@ -143,28 +143,29 @@ impl Scope<'_> {
             return loaded.implementing_token(interface, token);
         }
         match self.platform.class_by_word(class) {
-            Some(named) => self.native_implementation(interface, token, named.interface()),
+            Some(named) => self.native_implementation(interface, token, named.interfaces()),
             None => Search::Nowhere,
         }
     }
 
+    // The same by the first of these interfaces that is it.
     fn native_implementation(
         &self,
         interface: ClassWord,
         token: u8,
-        implemented: Option<PlatformClass>,
+        implemented: &[PlatformClass],
     ) -> Search<u8>
-        ensures { result ≡ native_implementation self.now interface token implemented }
+        ensures { result ≡ native_implementation self.now interface token implemented.now }
     {
-        let Some(named) = implemented else {
+        let Some((named, others)) = implemented.split_first() else {
             return Search::Above;
         };
-        if self.platform.class_word(named) != interface {
-            return Search::Above;
+        if self.platform.class_word(*named) != interface {
+            return self.native_implementation(interface, token, others);
         }
         let Some(method) = self
             .platform
-            .method_by_token(named, MethodKind::Interface, token)
+            .method_by_token(*named, MethodKind::Interface, token)
         else {
             return Search::Nowhere;
         };

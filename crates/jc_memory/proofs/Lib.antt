@@ -5,3 +5,4 @@ pub mod Burying
 pub mod Running
 pub mod Touched
 pub mod Room
+pub mod NonAtomicWrites

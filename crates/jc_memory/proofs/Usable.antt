@@ -9,7 +9,7 @@ use Rattle.jc_words.specs.Layout.{most_applets}
 use Rattle.jc_transient.specs.declared.cell.ClearEvent.{ClearEvent}
 use Rattle.jc_transient.specs.State.{area_size}
 use Rattle.jc_heap.specs.declared.object.Kind.{Kind}
-use Rattle.jc_heap.specs.declared.object.Kind.TheVariants.{Instance, ReferenceArray}
+use Rattle.jc_heap.specs.declared.object.Kind.TheVariants.{Instance, ByteArray, ReferenceArray}
 use Rattle.jc_heap.specs.declared.object.Facts.{Facts}
 use Rattle.jc_heap.specs.declared.place.AppletEntry.{AppletEntry}
 use Rattle.jc_heap.specs.declared.place.Place.TheVariants.{Cell}
@@ -109,16 +109,26 @@ transient_suits v kind event class owner long none lacks =
 no_array : (k : Kind) → k ≡ Instance → k ≡ ReferenceArray → ⊥
 no_array k i r = cc
 
--- an instance is one in the durable heap, too, if anything
-durable_kind : (d h : HeapState) (r : ℕ) → SameShape d h → HasEnd d → (facts h r).kind ≡ Instance → (facts d r).kind ≡ Instance
-durable_kind d h r shape end is = elim (cases_lt r d.top) [
-  | inl below ↦ ap (λ f. f.kind) (sym (same_facts (heap_item_at h r) (heap_item_at d r) (shape.items r below))) ∙ is
-  | inr above ↦ ap (λ t. (facts_of t).kind) (heap_item_at-absent d r (end r above))
+-- what is no array of references is none in the durable heap, too
+durable_none : (d h : HeapState) (r : ℕ) → SameShape d h → HasEnd d → ((facts h r).kind ≡ ReferenceArray → ⊥) → (facts d r).kind ≡ ReferenceArray → ⊥
+durable_none d h r shape end none is = elim (cases_lt r d.top) [
+  | inl below ↦ none (ap (λ f. f.kind) (same_facts (heap_item_at h r) (heap_item_at d r) (shape.items r below)) ∙ is)
+  | inr above ↦ no_array Instance refl (sym (ap (λ t. (facts_of t).kind) (heap_item_at-absent d r (end r above))) ∙ is)
 ]
 
--- a counter of an instance is no reference
+-- a cell of it is no reference
+number_suits : (v : HeapView) (r i x : ℕ) → AreConsistent v → ((facts v.now r).kind ≡ ReferenceArray → ⊥) → MoveIsLegal v (WriteNonAtomic (Cell r i) x)
+number_suits v r i x whole none = (λ e. absurd (none e), λ e. absurd (durable_none v.durable v.now r whole.shape whole.durable.end none e))
+
+-- nor is a counter of an instance, or an element of an array of bytes
 pub counter_suits : (v : HeapView) (r i x : ℕ) → AreConsistent v → (facts v.now r).kind ≡ Instance → MoveIsLegal v (WriteNonAtomic (Cell r i) x)
-counter_suits v r i x whole is = (λ e. absurd (no_array _ is e), λ e. absurd (no_array _ (durable_kind v.durable v.now r whole.shape whole.durable.end is) e))
+counter_suits v r i x whole is = number_suits v r i x whole (no_array (facts v.now r).kind is)
+
+no_references : (k : Kind) → k ≡ ByteArray → k ≡ ReferenceArray → ⊥
+no_references k b r = cc
+
+pub byte_suits : (v : HeapView) (r i x : ℕ) → AreConsistent v → (facts v.now r).kind ≡ ByteArray → MoveIsLegal v (WriteNonAtomic (Cell r i) x)
+byte_suits v r i x whole is = number_suits v r i x whole (no_references (facts v.now r).kind is)
 
 pub applet_suits : (v : HeapView) (entry : AppletEntry) → v.now.counts.1 < most_applets → MoveIsLegal v (applet_move v.now entry)
 applet_suits v entry few = (tt, (tt, (tt, (omega (arith, few), tt))))

@@ -25,7 +25,7 @@ pub use commit_capacity::{
 };
 pub use making::NewObject;
 pub use marks::{Marks, unset_flags};
-pub use memory::{FIXED_OBJECTS, MOST_COMMAND, MOST_SENT, Memory};
+pub use memory::{MOST_COMMAND, MOST_FIXED, MOST_SENT, Memory};
 pub use notes::{
     Cause, Denial, FaultKind, MOST_AID, MOST_SPOTS, Note, Notes, Phase, RefusedLoad, Shortage,
     Space, Spot, Step, TopCell,

@@ -22,8 +22,8 @@ pub const MOST_COMMAND: usize = 261;
 /// How many bytes are sent in answer to it at most.
 pub const MOST_SENT: usize = 256;
 
-/// With how many objects the heap begins.
-pub const FIXED_OBJECTS: usize = 17;
+/// With how many objects the heap begins at most.
+pub const MOST_FIXED: usize = 128;
 
 /// What running code sees and changes: the heap, the transient contents, for whom code runs, the
 /// command that is carried out, and what was sent in answer to it.
@@ -33,7 +33,7 @@ pub const FIXED_OBJECTS: usize = 17;
 pub struct Memory<S: WordStore> {
     pub(crate) heap: Heap<S>,
     pub(crate) ram: Ram,
-    pub(crate) fixed: [Ref; FIXED_OBJECTS],
+    pub(crate) fixed: ArrayVec<u16, MOST_FIXED>,
     pub(crate) marks: Marks,
     pub(crate) registers: Registers,
     pub(crate) command: ArrayVec<u8, MOST_COMMAND>,
@@ -51,7 +51,7 @@ impl<S: WordStore> Model for Memory<S> {
     ghost view = { λ m. record {
       heap = m.heap;
       ram = m.ram;
-      fixed = m.fixed;
+      fixed = m.fixed.items;
       registers = m.registers;
       command = m.command.items;
       sent = m.sent.items;
@@ -61,9 +61,9 @@ impl<S: WordStore> Model for Memory<S> {
 }
 
 impl<S: WordStore> Memory<S> {
-    /// A memory over a whole heap at rest, as a reset leaves it; with the objects with which the heap
+    /// A memory over a whole heap at rest, as a reset leaves it; with the addresses of the objects with which the heap
     /// begins, in their order, and with marks where objects stand.
-    pub fn new(heap: Heap<S>, ram: Ram, fixed: [Ref; FIXED_OBJECTS], marks: Marks) -> Memory<S>
+    pub fn new(heap: Heap<S>, ram: Ram, fixed: ArrayVec<u16, MOST_FIXED>, marks: Marks) -> Memory<S>
         requires up { heap.down ≡ false }
         requires rests { heap.begun ≡ false }
         requires whole { IsConsistent heap.now }
@@ -72,7 +72,7 @@ impl<S: WordStore> Memory<S> {
         ensures { result ≡ record {
           heap = heap;
           ram = ram;
-          fixed = fixed;
+          fixed = fixed.items;
           registers = at_reset;
           command = [];
           sent = [];
@@ -92,22 +92,23 @@ impl<S: WordStore> Memory<S> {
         }
     }
 
-    /// The parts that outlive a command.
-    pub fn into_parts(self) -> (Heap<S>, Ram)
+    /// The parts that outlive a command, and the addresses of the objects with which the heap begins.
+    pub fn into_parts(self) -> (Heap<S>, Ram, ArrayVec<u16, MOST_FIXED>)
         ensures heap { result.0 ≡ self.heap }
         ensures ram { result.1 ≡ self.ram }
+        ensures fixed { result.2.items ≡ self.fixed }
     {
         let Memory {
             heap,
             ram,
-            fixed: _,
+            fixed,
             marks: _,
             registers: _,
             command: _,
             sent: _,
             notes: _,
         } = self;
-        (heap, ram)
+        (heap, ram, fixed)
     }
 
     /// Where it is noted from now on what keeps code from going on.
@@ -131,12 +132,14 @@ impl<S: WordStore> Memory<S> {
         &self.heap
     }
 
-    /// The object with this number, from 0, among those with which the heap begins.
+    /// The object with this number, from 0, among those with which the heap begins; null where there are not so many.
     pub fn fixed(&self, number: usize) -> Ref
-        requires { number < 17 }
         ensures { result ≡ slice_index self.now.fixed number }
     {
-        self.fixed[number]
+        match self.fixed.get(number) {
+            Some(address) => Ref::at(*address),
+            None => Ref::null(),
+        }
     }
 
     /// What the header of the object behind a reference says; `None` where no object stands there.

@@ -7,12 +7,12 @@ ghost use Rattle.jc_heap.specs.Whole.{IsConsistent};
 ghost use Rattle.jc_memory.specs.Power.{resumed_memory, volatile_of};
 
 use crate::marks::Marks;
-use crate::memory::{FIXED_OBJECTS, MOST_COMMAND, MOST_SENT, Memory};
+use crate::memory::{MOST_COMMAND, MOST_FIXED, MOST_SENT, Memory};
 use crate::notes::Notes;
 use crate::registers::Registers;
 use arrayvec::ArrayVec;
 use jc_heap::Heap;
-use jc_transient::{Ram, Ref};
+use jc_transient::Ram;
 use jc_words::WordStore;
 use std::marker::Model;
 
@@ -20,7 +20,7 @@ use std::marker::Model;
 #[derive(Drop)]
 pub struct Volatile {
     ram: Ram,
-    fixed: [Ref; FIXED_OBJECTS],
+    fixed: ArrayVec<u16, MOST_FIXED>,
     marks: Marks,
     registers: Registers,
     command: ArrayVec<u8, MOST_COMMAND>,
@@ -36,7 +36,7 @@ impl Model for Volatile {
 
     ghost view = { λ m. record {
       ram = m.ram;
-      fixed = m.fixed;
+      fixed = m.fixed.items;
       registers = m.registers;
       command = m.command.items;
       sent = m.sent.items;

@@ -1,15 +1,15 @@
 //! Transactions, and changes of places: for a while, several as one, and for good.
 ghost use Rattle.std.specs.Prelude.{◌≡◌, ◌<◌, ◌≤◌, ◌+◌, ◌++◌, false, true, length};
 ghost use Rattle.jc_words.specs.Layout.{least_capacity, most_capacity};
-ghost use Rattle.jc_heap.specs.declared.object.Kind.TheVariants.{Instance};
-ghost use Rattle.jc_heap.specs.Heap.{cells, facts};
+ghost use Rattle.jc_heap.specs.declared.object.Kind.TheVariants.{Instance, ByteArray};
+ghost use Rattle.jc_heap.specs.Heap.{IsObject, cells, facts};
 ghost use Rattle.jc_heap.specs.Keeping.{IsLegalValue, AreLegalValues};
 ghost use Rattle.jc_heap.specs.Places.{HasPlace, MayHold, AreThere, AreApart, ArePlain, places_of, cell_changes};
 ghost use Rattle.jc_heap.specs.Moves.{Begin};
 ghost use Rattle.jc_memory.specs.State.{HeapMove, apply_effect};
 ghost use Rattle.jc_memory.specs.Programs.{Executes};
 ghost use Rattle.jc_heap.specs.Completions.{after_change, after_step};
-ghost use Rattle.jc_memory.specs.Changing.{place_write, places_write, nonatomic_write, commit, abort};
+ghost use Rattle.jc_memory.specs.Changing.{place_write, places_write, nonatomic_write, nonatomic_writes, nonatomic_store, commit, abort};
 
 use crate::memory::Memory;
 use jc_heap::{ChangeRefusal, Elements, Place};
@@ -115,6 +115,56 @@ impl<S: WordStore> Memory<S> {
         ensures { Executes (nonatomic_write object i v) self.old (after_step result self.new) }
     {
         self.heap.write_both(Place::Cell(object, i), v)
+    }
+
+    // Sets an element of a persistent array of bytes for good, likewise.
+    #[inline(always)]
+    fn write_byte_nonatomic(&mut self, array: Ref, i: u16, byte: u8) -> Result<(), StoreDown>
+        requires up { self.old.heap.down ≡ false }
+        requires cell { i < length (cells self.old.heap.now array) }
+        requires kind { (facts self.old.heap.now array).kind ≡ ByteArray }
+        ensures { Executes (nonatomic_write array i byte) self.old (after_step result self.new) }
+    {
+        self.heap.write_both(Place::Cell(array, i), u16::from(byte))
+    }
+
+    // Sets elements of a persistent array of bytes for good, one after another.
+    fn write_bytes_nonatomic(&mut self, array: Ref, i: u16, bytes: &[u8]) -> Result<(), StoreDown>
+        requires up { self.old.heap.down ≡ false }
+        requires cells { i + length bytes.now ≤ length (cells self.old.heap.now array) }
+        requires small { length (cells self.old.heap.now array) < 65536 }
+        requires kind { (facts self.old.heap.now array).kind ≡ ByteArray }
+        ensures { Executes (nonatomic_writes array i bytes.now) self.old
+            (after_step result self.new) }
+    {
+        for k in 0..bytes.len() {
+            match self.write_byte_nonatomic(array, i + k as u16, bytes[k]) {
+                Ok(()) => {}
+                Err(StoreDown) => return Err(StoreDown),
+            }
+        }
+        Ok(())
+    }
+
+    /// Sets elements of an array of bytes from an index on, outside the open transaction: each of a persistent array is a
+    /// change by itself, in their order, which no abort takes back, unless an earlier change of the transaction has touched
+    /// its word. No room is asked for.
+    pub fn set_bytes_nonatomic(&mut self, array: Ref, i: u16, bytes: &[u8]) -> Result<(), StoreDown>
+        requires up { self.old.heap.down ≡ false }
+        requires there { IsObject self.old.heap.now array }
+        requires kind { (facts self.old.heap.now array).kind ≡ ByteArray }
+        requires cells { i + length bytes.now ≤ (facts self.old.heap.now array).length }
+        ensures { Executes (nonatomic_store self.old array i bytes.now) self.old
+            (after_step result self.new) }
+    {
+        let facts = self.facts(array);
+        match facts.event {
+            None => self.write_bytes_nonatomic(array, i, bytes),
+            Some(event) => {
+                self.ram.put_bytes(event, facts.place + i, bytes);
+                Ok(())
+            }
+        }
     }
 
     /// How many words' old values a transaction can keep.

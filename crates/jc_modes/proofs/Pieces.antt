@@ -1,5 +1,5 @@
 -- Converting pieces block by block.
-use Rattle.std.proofs.Common.{◌≡◌, ℕ, zero, suc, ◌+◌, ◌-◌, ◌*◌, ◌<◌, ◌≤◌, List, [], ◌∷◌, ◌++◌, append_assoc, length, length-append, length-drop, take, drop, refl, sym, ap, ◌∙◌, arith}
+use Rattle.std.proofs.Common.{◌≡◌, ℕ, zero, suc, ◌+◌, ◌*◌, ◌≤◌, List, ◌++◌, append_assoc, length, length-append, length-drop, take, drop, refl, sym, ap, ◌∙◌, arith}
 use Rattle.std.proofs.Math.Seq.{take-add}
 use Rattle.std.proofs.lemmas.List.{drop_all, take_all, take-append-le, drop-append-le}
 use Rattle.jc_modes.specs.Modes.{IsUnderWay, block_at, chain_after, output}
@@ -33,7 +33,7 @@ output-append f g size first m p (suc n) fits =
     let before : n * size ≤ length m = omega (arith, more, fits) in
     λ j. output-append f g size first m p n before j ++ g (chain_after-append f size first m p n before j) (block-append size m p n fits j)
 
--- a part behind the open block
+-- a part after the open block
 pub part_put : (f g : List ℕ → List ℕ → List ℕ) (size : ℕ) (first m chain b b' part : List ℕ) (used end : ℕ) (out : List ℕ)
     → IsUnderWay f g size first m chain b used out → end ≡ used + length part → take (used + length part) b' ≡ take used b ++ part
     → IsUnderWay f g size first (m ++ part) chain b' end out
@@ -48,7 +48,7 @@ part_put f g size first m chain b b' part used end out was at put =
       out = was.out ∙ sym (output-append f g size first m part n fits);
     }
 
--- a part of a piece behind what was taken of it
+-- a part of a piece after what was taken of it
 pub joined : (m p : List ℕ) (d n k : ℕ) → k ≡ n → (m ++ take d p) ++ take k (drop d p) ≡ m ++ take (d + n) p
 joined m p d n k same =
     ap (λ (j : ℕ). (m ++ take d p) ++ take j (drop d p)) same ∙ append_assoc m (take d p) (take n (drop d p))

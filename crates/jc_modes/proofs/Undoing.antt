@@ -1,12 +1,12 @@
 -- Modes undo each other, block by block.
-use Rattle.std.proofs.Common.{◌≡◌, ℕ, zero, suc, ◌+◌, ◌-◌, ◌*◌, ◌^◌, ◌<◌, ◌≤◌, List, [], ◌∷◌, ◌++◌, bit_xor, get_or-drop, inl, inr, length, length-append, length-drop, length-take-le, slice_index, take, drop, refl, sym, ap, ◌∙◌, arith}
+use Rattle.std.proofs.Common.{◌≡◌, ℕ, zero, suc, ◌+◌, ◌-◌, ◌*◌, ◌<◌, ◌≤◌, List, [], ◌∷◌, ◌++◌, bit_xor, get_or-drop, inl, inr, length, length-append, length-drop, length-take-le, slice_index, take, drop, refl, sym, ap, ◌∙◌, arith}
 use Rattle.std.proofs.Math.Nat.{mul-le-mul_right}
 use Rattle.std.proofs.Math.Seq.{take-add, take-suc}
 use Rattle.std.proofs.lemmas.Bool.{cases_lt}
-use Rattle.std.proofs.lemmas.List.{drop_all, get_or-append_right, get_or-take, get_or_append_left, get_or_past, take_all, take-append-le, drop-append-le}
+use Rattle.std.proofs.lemmas.List.{drop_all, get_or-append_right, get_or-take, get_or_append_left, get_or_past, take_all, drop-append-le}
 use Rattle.std.proofs.lemmas.Nat.{xor_comm, xor_lt}
 use Rattle.std.specs.Int.Bits.{xor_assoc, xor_self, xor_zero_r}
-use Rattle.jc_modes.specs.Laws.{CbcIsUndone, EcbIsUndone, IsBlock, Undoes}
+use Rattle.jc_modes.specs.Laws.{CbcIsUndone, EcbIsUndone, IsBlock}
 use Rattle.jc_modes.specs.Modes.{block_at, chain_after, output, xor_first}
 use Rattle.jc_modes.proofs.Pieces.{block-append, rows_more}
 

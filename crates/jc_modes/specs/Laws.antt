@@ -2,7 +2,7 @@
 use Rattle.std.specs.Prelude.{◌≡◌, ℕ, ◌*◌, ◌<◌, List, length, slice_index}
 use Rattle.jc_modes.specs.Modes.{output, xor_first}
 
--- so many bytes
+-- a list of `size` bytes
 pub record IsBlock (size : ℕ) (b : List ℕ) : Type 0 where
   pub long : length b ≡ size
   pub byte : (i : ℕ) → slice_index b i < 256

@@ -1,5 +1,5 @@
 -- Message authentication codes over what a block cipher makes of a block.
-use Rattle.std.specs.Prelude.{◌≡◌, ℕ, zero, suc, ◌+◌, ◌-◌, ◌*◌, ◌/◌, ◌%◌, ◌^◌, List, [], ◌∷◌, ◌++◌, bit_xor, length, replicate, take, nat_eq, nat_le, nat_lt, if◌then◌else◌, slice_index}
+use Rattle.std.specs.Prelude.{ℕ, zero, suc, ◌+◌, ◌-◌, ◌*◌, ◌/◌, ◌%◌, List, [], ◌∷◌, ◌++◌, bit_xor, length, replicate, take, nat_eq, nat_le, nat_lt, if◌then◌else◌, slice_index}
 use Rattle.jc_modes.specs.Modes.{xor_first}
 
 -- the end of MAC algorithm 3 of ISO 9797-1, of the last chaining block: deciphered under the second key, and enciphered under the first
@@ -8,7 +8,7 @@ finished_3 encrypted decrypted chain = encrypted (decrypted chain)
 
 -- ---- CMAC (SP 800-38B)
 
--- byte i of a block moved left by a bit
+-- byte i of a block shifted left by a bit
 abbrev pub doubled_byte : ℕ → List ℕ → ℕ → ℕ
 doubled_byte size b i = slice_index b i * 2 % 256 + (if nat_lt (i + 1) size then slice_index b (i + 1) / 128 else 0)
 
@@ -24,7 +24,7 @@ unfoldable pub listed : (ℕ → ℕ) → ℕ → List ℕ
 listed f zero = []
 listed f (suc n) = listed f n ++ f n ∷ []
 
--- a block moved left by a bit, and R added if a bit went out (6.1)
+-- a block shifted left by a bit, exclusive-or R if the first bit was 1 (6.1)
 abbrev pub doubled : ℕ → List ℕ → List ℕ
 doubled size b = listed (reduced_byte size b) size
 
@@ -35,7 +35,7 @@ first_subkey encrypted size = doubled size (encrypted (replicate size 0))
 abbrev pub second_subkey : (List ℕ → List ℕ) → ℕ → List ℕ
 second_subkey encrypted size = doubled size (first_subkey encrypted size)
 
--- the last block of u bytes, of which b begins with, with its subkey (6.2, steps 3 and 4)
+-- the last block, the first u bytes of b, with its subkey (6.2, steps 3 and 4)
 abbrev pub last_block : (List ℕ → List ℕ) → ℕ → List ℕ → ℕ → List ℕ
 last_block encrypted size b u =
     if nat_eq u size then xor_first b (first_subkey encrypted size) size
@@ -52,7 +52,7 @@ abbrev pub key_block : (List ℕ → List ℕ) → ℕ → List ℕ → List ℕ
 key_block digest size key =
     if nat_lt size (length key) then digest key ++ replicate (size - length (digest key)) 0 else key ++ replicate (size - length key) 0
 
--- each byte with another one added
+-- the first bytes of a key, each exclusive-or the same byte
 abbrev pub marked : List ℕ → ℕ → ℕ → List ℕ
 marked key pad size = listed (λ (i : ℕ). bit_xor (slice_index key i) pad) size
 

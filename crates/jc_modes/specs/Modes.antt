@@ -1,7 +1,7 @@
 -- Modes of block ciphers, on lists of bytes.
 use Rattle.std.specs.Prelude.{◌≡◌, ℕ, zero, suc, ◌+◌, ◌*◌, List, [], ◌∷◌, ◌++◌, bit_xor, drop, length, take, slice_index}
 
--- the sums of bytes at the first n places
+-- the exclusive-or of bytes at the first n places
 unfoldable pub xor_first : List ℕ → List ℕ → ℕ → List ℕ
 xor_first xs ys zero = []
 xor_first xs ys (suc n) = xor_first xs ys n ++ bit_xor (slice_index xs n) (slice_index ys n) ∷ []
@@ -21,7 +21,7 @@ output chained written size first m zero = []
 output chained written size first m (suc n) =
     output chained written size first m n ++ written (chain_after chained size first m n) (block_at size m n)
 
--- of a message m the whole blocks but for the last bytes were converted, which are the first `used` of b; w is all that was written
+-- the blocks of a message m were converted but for its last bytes, the first `used` of b; w is all that was written
 pub record IsUnderWay (chained written : List ℕ → List ℕ → List ℕ) (size : ℕ) (first m c b : List ℕ) (used : ℕ) (w : List ℕ) : Type 0 where
   pub blocks : ℕ
   pub chain : c ≡ chain_after chained size first m blocks

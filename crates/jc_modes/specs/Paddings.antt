@@ -1,14 +1,14 @@
 -- Paddings. The last block of a message has u bytes: none if the message is empty, else from 1 to a whole block.
-use Rattle.std.specs.Prelude.{◌≡◌, ℕ, ◌-◌, List, [], ◌∷◌, ◌++◌, length, drop, replicate, nat_eq, if◌then◌else◌}
+use Rattle.std.specs.Prelude.{◌≡◌, ℕ, ◌-◌, List, [], ◌∷◌, length, drop, replicate, nat_eq, if◌then◌else◌}
 use Rattle.jc_modes.specs.declared.padding.Padding.{Padding}
 use Rattle.jc_modes.specs.declared.padding.Padding.TheVariants.{NoPadding, Method1, Method2, Pkcs5}
 
--- how many bytes of a block of this size are left, and a whole block behind one that is full
+-- how many bytes of a block are left after the first u; after a full block, a whole one
 abbrev pub space : ℕ → ℕ → ℕ
 space size u = if nat_eq u size then size else size - u
 
--- what follows the message: nothing; zeros, none behind a whole block (ISO 9797-1, method 1); a bit 1 and zeros (method 2); so many bytes
--- of the value of their number (PKCS 5)
+-- what follows the message: nothing; zeros, none after a whole block (ISO 9797-1, method 1); a bit 1 and zeros (method 2); n bytes of
+-- the value n (PKCS 5)
 abbrev pub padding_of : Padding → ℕ → ℕ → List ℕ
 padding_of NoPadding size u = []
 padding_of Method1 size u = replicate (size - u) 0

@@ -3,7 +3,7 @@
 ghost use Rattle.std.specs.Prelude.{◌≡◌, ◌≤◌, ◌<◌, ◌+◌, ◌-◌, ◌∷◌, ◌++◌, length, replicate, take};
 ghost use Rattle.jc_modes.specs.Modes.{xor_first};
 
-// Adds a block to another, bit by bit.
+// Exclusive-or of two blocks.
 pub(crate) fn add(to: &mut [u8], block: &[u8])
     requires { length to.old ≡ length block.now }
     ensures { to.new ≡ xor_first to.old block.now (length block.now) }
@@ -31,7 +31,7 @@ pub(crate) fn clear_from(to: &mut [u8], at: usize)
     }
 }
 
-// The byte 80 at a place, and zeros behind it.
+// The byte 80 at a place, and zeros after it.
 pub(crate) fn end_by_bit(to: &mut [u8], at: usize)
     requires { at < length to.old }
     ensures { to.new ≡ take at to.old ++ 0x80 ∷ replicate (length to.old - (at + 1)) 0 }

@@ -13,10 +13,10 @@ use jc_des::triple::TripleDes;
 
 /// A block cipher under a key.
 pub trait BlockCipher: Drop {
-    // What it makes of a block.
+    // The block enciphered.
     ghost encrypted: { Self → List ℕ → List ℕ };
 
-    // What it makes a block of.
+    // The block deciphered.
     ghost decrypted: { Self → List ℕ → List ℕ };
 
     // How many bytes a block has.

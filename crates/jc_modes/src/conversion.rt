@@ -18,7 +18,7 @@ pub struct Progress {
     pub written: usize,
 }
 
-/// Converts the open block, which is full, and writes it behind the first `written` bytes.
+/// Converts the open block, which is full, and writes it after the first `written` bytes.
 pub fn flush<S: Step>(
     step: &S,
     chain: &mut [u8],
@@ -74,8 +74,8 @@ fn make_room<S: Step>(
     flush(step, chain, block, to, progress.written)
 }
 
-/// Converts a piece, behind the `used` bytes of the open block, and writes the blocks that others follow. What is written of all pieces,
-/// one after the other, is what the mode makes of the message.
+/// Converts a piece, after the `used` bytes of the open block, and writes each block that another one follows. What is written of all
+/// pieces, one after the other, is what the mode makes of the message.
 pub fn convert<S: Step>(
     step: &S,
     chain: &mut [u8],
@@ -109,8 +109,8 @@ pub fn convert<S: Step>(
     progress
 }
 
-/// Pads the message and converts its last blocks, which it writes. It gives how many bytes it wrote, and nothing where the message is no
-/// whole blocks and is not padded. A block of the message must not have been flushed before.
+/// Pads the message and converts its last blocks, which it writes. It returns how many bytes it wrote, and nothing where the message is not
+/// whole blocks and has no padding. A block of the message must not have been flushed before.
 pub fn finish<S: Step>(
     step: &S,
     padding: Padding,

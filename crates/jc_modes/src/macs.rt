@@ -15,7 +15,7 @@ pub fn finish_3<C: BlockCipher>(first: &C, second: &C, chain: &mut [u8])
     first.encipher(chain);
 }
 
-// Byte `i` of a block that is moved left by a bit, with R.
+// Byte `i` of a block that is shifted left by a bit, with R.
 fn reduced_byte(block: &[u8], i: usize) -> u8
     requires { i < length block.now }
     ensures { result ≡ reduced_byte (length block.now) block.now i }
@@ -32,7 +32,7 @@ fn reduced_byte(block: &[u8], i: usize) -> u8
     doubled ^ added
 }
 
-// A block moved left by a bit, with R added if a bit went out.
+// A block shifted left by a bit, exclusive-or R if the first bit was 1.
 fn double(block: &[u8], to: &mut [u8])
     requires { length to.old ≡ length block.now }
     ensures { to.new ≡ doubled (length block.now) block.now }
@@ -55,7 +55,7 @@ fn first_subkey<C: BlockCipher>(cipher: &C, to: &mut [u8])
     double(zeros, to);
 }
 
-// Adds its subkey to the last block of a message, which has `used` bytes.
+// Pads the last block of a message, which has `used` bytes, and adds its subkey.
 fn complete<C: BlockCipher>(cipher: &C, block: &mut [u8], used: usize)
     requires size { length block.old ≡ C.size }
     requires fits { length block.old ≤ 16 }

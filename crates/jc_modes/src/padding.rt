@@ -8,11 +8,11 @@ ghost use Rattle.jc_modes.specs.Paddings.{EndsByPadding, padding_of, space};
 pub enum Padding {
     /// The message is whole blocks.
     NoPadding,
-    /// Zeros, as few as serve and a block of them behind an empty message (ISO 9797-1, method 1).
+    /// Zeros, as few as fill a block, and a block of them for an empty message (ISO 9797-1, method 1).
     Method1,
     /// The byte 80 and zeros (ISO 9797-1, method 2).
     Method2,
-    /// One to a block of bytes, each their number (PKCS 5).
+    /// From one byte to a block of them, each with their count as its value (PKCS 5).
     Pkcs5,
 }
 
@@ -41,7 +41,7 @@ fn fill_bit(to: &mut [u8; 16], count: usize)
     *to = [0x80, 0, 0, 0, 0, 0, 0, 0, 0, 0, 0, 0, 0, 0, 0, 0];
 }
 
-// Writes the padding behind `used` bytes of a block, and gives its length.
+// Writes the padding after `used` bytes of a block, and returns its length.
 pub(crate) fn pad(padding: Padding, size: usize, used: usize, to: &mut [u8; 16]) -> usize
     requires some { 1 ≤ size }
     requires size { size ≤ 16 }

@@ -9,7 +9,8 @@ use Rattle.jc_platform.specs.Table.{Reads}
 use Rattle.jc_platform.specs.Tokens.{Tokens}
 use Rattle.jc_platform.specs.declared.names.PlatformClass.TheVariants.{OwnerPin}
 use Rattle.jc_linker.specs.Values.{Packages}
-use Rattle.jc_card_checks.specs.Objects.{is_a, is_persistent_instance}
+use Rattle.jc_card_checks.specs.Objects.{is_persistent_instance}
+use Rattle.jc_linker.specs.Classes.{is_a}
 use Rattle.jc_card_load.specs.Reading.{packages_of}
 
 -- the object at this address is an OwnerPIN: a persistent instance of that class, or of one below it

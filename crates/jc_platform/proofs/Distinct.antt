@@ -1,5 +1,5 @@
 -- The tokens of one place are different.
-use Rattle.std.proofs.Common.{◌≡◌, ◌<◌, ◌==◌, ◌&&◌, ◌||◌, cond, not, ℕ, Bool, true, false, List, [], ◌∷◌, Option, Some, None, Ok, length, refl, ap, sym, subst, ◌∙◌}
+use Rattle.std.proofs.Common.{◌≡◌, ◌<◌, ◌==◌, ◌&&◌, ◌||◌, cond, not, ℕ, Bool, true, false, List, [], ◌∷◌, Option, Some, None, Ok, length, get_or, refl, ap, sym, subst, ◌∙◌}
 use Rattle.std.proofs.Common.{arith}
 use Rattle.std.specs.Prelude.{find, if◌then◌else◌, is_some, nat_le}
 use Rattle.std.specs.List.{list_all}
@@ -8,22 +8,19 @@ use Rattle.std.proofs.lemmas.Bool.{false≢true}
 use Rattle.std.proofs.lemmas.Bool.Decides.{Decides-eqb}
 use Rattle.std.proofs.lemmas.List.Folds.{list_any_at}
 use Rattle.jc_platform.specs.declared.names.PlatformClass.{PlatformClass}
-use Rattle.jc_platform.specs.declared.names.PlatformClass.TheVariants.{Object}
 use Rattle.jc_platform.specs.declared.names.MethodKind.{MethodKind}
 use Rattle.jc_platform.specs.declared.names.PlatformMethod.{PlatformMethod}
-use Rattle.jc_platform.specs.declared.names.PlatformMethod.TheVariants.{ObjectInit}
 use Rattle.jc_platform.specs.declared.names.PlatformPackage.{PlatformPackage}
-use Rattle.jc_platform.specs.declared.names.PlatformPackage.TheVariants.{JavaLang}
-use Rattle.jc_platform.specs.declared.names.MethodKind.TheVariants.{Static}
 use Rattle.jc_platform.specs.declared.row.Row.{Row}
 use Rattle.jc_platform.specs.declared.row.Row.TheVariants.{Extended, Package, Class, Method}
-use Rattle.jc_platform.specs.Distinct.{AreDistinct, class_of, entry_of_class, entry_of_method, home_of, kind_of_method}
-use Rattle.jc_platform.specs.Names.{class_entry, classes, method_entry, methods}
+use Rattle.jc_platform.specs.Distinct.{AreDistinct, class_of, entry_of_class, home_of, kind_of_method}
+use Rattle.jc_platform.specs.Names.{MethodEntry, classes, methods, no_class, no_method}
 use Rattle.jc_platform.specs.Numbers.{class_number, method_number, same_class, same_kind, same_package}
 use Rattle.jc_platform.specs.Rows.{Above, above, class_token_in, has_class_token, has_method_token, is_package, is_token, largest_token, method_token_in}
 use Rattle.jc_platform.specs.Rows.{parts_at}
 use Rattle.jc_platform.specs.Table.{Reads, Say}
 use Rattle.jc_platform.specs.Tokens.{Tokens}
+use Rattle.jc_platform.proofs.Facts.{at_number, class_at_place, class_places, homes, method_at_place, method_homes, method_places}
 use Rattle.jc_platform.proofs.Fitting.{IsFitting, row_fits}
 use Rattle.jc_platform.proofs.Lists.{and_true}
 use Rattle.jc_platform.proofs.Numbers.{class_below, method_below}
@@ -61,37 +58,14 @@ found_has q p (x ∷ xs) e all h =
     let parts = and_true (q x) (list_all q xs) all in
     found_case q p x xs e (p x) parts.0 (found_has q p xs e parts.1) h
 
-pub class_at_place : (c : PlatformClass) → (entry_of_class (class_number c)).class ≡ c
-unfolding classes
-class_at_place Object = refl
-class_at_place _ = refl
-
-pub method_at_place : (m : PlatformMethod) → (entry_of_method (method_number m)).method ≡ m
-unfolding methods
-method_at_place ObjectInit = refl
-method_at_place _ = refl
-
-pub class_places : length classes ≡ 32
-unfolding classes
-class_places = refl
-
-pub method_places : length methods ≡ 118
-unfolding methods
-method_places = refl
-
-pub homes : list_all (λ e. same_package (home_of e.class) e.home) classes ≡ true
-unfolding classes
-homes = refl
-
-pub method_homes : list_all (λ e. same_class (class_of e.method) e.class && same_kind (kind_of_method e.method) e.kind) methods ≡ true
-unfolding methods
-method_homes = refl
-
 pub class_by_number : (c d : PlatformClass) → class_number c ≡ class_number d → c ≡ d
-class_by_number c d e = sym (class_at_place c) ∙ ap (λ (n : ℕ). (entry_of_class n).class) e ∙ class_at_place d
+class_by_number c d e = sym (class_at_place c) ∙ ap (λ (n : ℕ). (get_or classes n no_class).class) e ∙ class_at_place d
+
+pub numbered_method : (m : PlatformMethod) → (get_or methods (method_number m) no_method).method ≡ m
+numbered_method m = ap (λ (e : MethodEntry). e.method) (at_number m) ∙ method_at_place m
 
 pub method_by_number : (m n : PlatformMethod) → method_number m ≡ method_number n → m ≡ n
-method_by_number m n e = sym (method_at_place m) ∙ ap (λ (k : ℕ). (entry_of_method k).method) e ∙ method_at_place n
+method_by_number m n e = sym (numbered_method m) ∙ ap (λ (k : ℕ). (get_or methods k no_method).method) e ∙ numbered_method n
 
 -- ---- a name that may stand has a free token
 
@@ -103,11 +77,11 @@ class_free a b s fit d k token =
     (and_true ((e.needed || a.extended) && is_package a.home e.home && not (is_some (a.class_token e.class))) (not (has_class_token a e.home s)) fit.4).1 in
     let place : class_number d < length classes = omega (arith, class_below d, class_places) in
     let home : same_package (home_of d) e.home ≡ true = subst (λ (p : PlatformPackage). same_package p e.home ≡ true) (ap home_of fit.1 ∙ k) here in
-    let has : is_token (a.class_token (entry_of_class (class_number d)).class) s ≡ true =
+    let has : is_token (a.class_token (entry_of_class d).class) s ≡ true =
     ap (λ (c : PlatformClass). is_token (a.class_token c) s) (class_at_place d) ∙ ap (λ (o : Option ℕ). is_token o s) token
     ∙ (Decides-eqb s s).1 refl in
     let yes : has_class_token a e.home s ≡ true = list_any_at (λ f. same_package f.home e.home && is_token (a.class_token f.class) s) classes (class_number d)
-    (class_entry JavaLang Object []) place (both _ _ home has) in
+    no_class place (both _ _ home has) in
     false≢true (sym no ∙ yes)
 
 method_free : (a : Above) (b : PlatformMethod) (s : ℕ) → IsFitting a (Method b s) → (d : PlatformMethod) → class_of b ≡ class_of d
@@ -122,11 +96,16 @@ method_free a b s fit d k l token =
     let place : method_number d < length methods = omega (arith, method_below d, method_places) in
     let class : same_class (class_of d) e.class ≡ true = subst (λ (c : PlatformClass). same_class c e.class ≡ true) (ap class_of fit.1 ∙ k) there.0 in
     let kind : same_kind (kind_of_method d) e.kind ≡ true = subst (λ (c : MethodKind). same_kind c e.kind ≡ true) (ap kind_of_method fit.1 ∙ l) there.1 in
-    let has : is_token (a.method_token (entry_of_method (method_number d)).method) s ≡ true =
-    ap (λ (m : PlatformMethod). is_token (a.method_token m) s) (method_at_place d) ∙ ap (λ (o : Option ℕ). is_token o s) token
+    let has : is_token (a.method_token (get_or methods (method_number d) no_method).method) s ≡ true =
+    ap (λ (m : PlatformMethod). is_token (a.method_token m) s) (numbered_method d) ∙ ap (λ (o : Option ℕ). is_token o s) token
     ∙ (Decides-eqb s s).1 refl in
+    let at = sym (at_number d) in
+    let class_at : same_class (class_of d) e.class ≡ true → same_class (get_or methods (method_number d) no_method).class e.class ≡ true =
+    λ is. subst (λ (x : MethodEntry). same_class x.class e.class ≡ true) at is in
+    let kind_at : same_kind (kind_of_method d) e.kind ≡ true → same_kind (get_or methods (method_number d) no_method).kind e.kind ≡ true =
+    λ is. subst (λ (x : MethodEntry). same_kind x.kind e.kind ≡ true) at is in
     let yes : has_method_token a e.class e.kind s ≡ true = list_any_at (λ f. same_class f.class e.class && same_kind f.kind e.kind && is_token
-    (a.method_token f.method) s) methods (method_number d) (method_entry Object Static ObjectInit 1 []) place (both _ _ (both _ _ class kind) has) in
+    (a.method_token f.method) s) methods (method_number d) no_method place (both _ _ (both _ _ (class_at class) (kind_at kind)) has) in
     false≢true (sym no ∙ yes)
 
 -- ---- all rows

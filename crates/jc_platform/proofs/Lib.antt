@@ -6,6 +6,8 @@ pub mod Fitting
 pub mod Lines
 pub mod Lists
 pub mod Numbers
+pub mod Facts
+pub mod EveryRow
 pub mod NamesTold
 pub mod OneAnswer
 pub mod Versions

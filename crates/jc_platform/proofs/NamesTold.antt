@@ -6,23 +6,21 @@ use Rattle.std.specs.Option.{option_map}
 use Rattle.std.proofs.lemmas.Bool.{false≢true}
 use Rattle.std.proofs.lemmas.Bool.Decides.{Decides-eqb}
 use Rattle.jc_platform.specs.declared.names.PlatformClass.{PlatformClass}
-use Rattle.jc_platform.specs.declared.names.PlatformClass.TheVariants.{Object}
 use Rattle.jc_platform.specs.declared.names.MethodKind.{MethodKind}
 use Rattle.jc_platform.specs.declared.names.MethodKind.TheVariants.{Static, Virtual, Interface}
 use Rattle.jc_platform.specs.declared.names.PlatformMethod.{PlatformMethod}
-use Rattle.jc_platform.specs.declared.names.PlatformMethod.TheVariants.{ObjectInit}
 use Rattle.jc_platform.specs.declared.names.PlatformPackage.{PlatformPackage}
 use Rattle.jc_platform.specs.declared.names.PlatformPackage.TheVariants.{JavaLang, JavacardFramework, JavacardxApdu}
 use Rattle.jc_platform.specs.Distinct.{AreDistinct, class_of, entry_of_class, entry_of_method, home_of, is_needed_class, is_needed_method}
 use Rattle.jc_platform.specs.Distinct.{kind_of_method}
-use Rattle.jc_platform.specs.Names.{ClassEntry, MethodEntry, class_entry, classes, method_entry, methods}
+use Rattle.jc_platform.specs.Names.{ClassEntry, MethodEntry, classes, methods, no_class, no_method}
 use Rattle.jc_platform.specs.Numbers.{class_number, method_number, same_class, same_kind, same_package}
 use Rattle.jc_platform.specs.Platform.{TellNames, class_by_token, method_by_token, package_by_number}
 use Rattle.jc_platform.specs.Rows.{Above, above, is_token}
 use Rattle.jc_platform.specs.Table.{AreThoseOf, Reads}
 use Rattle.jc_platform.specs.Tokens.{Tokens, number_in, token_of_class, token_of_method}
-use Rattle.jc_platform.proofs.Distinct.{both, class_at_place, class_by_number, class_places, distinct, found_has, homes, method_at_place, method_homes}
-use Rattle.jc_platform.proofs.Distinct.{method_places}
+use Rattle.jc_platform.proofs.Distinct.{both, class_by_number, distinct, found_has}
+use Rattle.jc_platform.proofs.Facts.{at_number, class_at_place, class_places, homes, method_at_place, method_homes, method_places}
 use Rattle.jc_platform.proofs.Lists.{and_true}
 use Rattle.jc_platform.proofs.Numbers.{class_below, method_below}
 use Rattle.jc_platform.proofs.Versions.{class_stands, method_stands, never_first}
@@ -97,9 +95,9 @@ told_class t distinct c k token =
     let passes : ClassEntry → Bool = λ e. same_package e.home (home_of c) && is_token (token_of_class t e.class) k in
     let place : class_number c < length classes = omega (arith, class_below c, class_places) in
     let home : same_package (home_of c) (home_of c) ≡ true = (Decides-eqb _ _).1 refl in
-    let there : passes (entry_of_class (class_number c)) ≡ true = both _ _ home (ap (λ (d : PlatformClass). is_token (token_of_class t d) k) (class_at_place c)
+    let there : passes (entry_of_class c) ≡ true = both _ _ home (ap (λ (d : PlatformClass). is_token (token_of_class t d) k) (class_at_place c)
     ∙ is_its_token (token_of_class t c) k token) in
-    let f : Found passes classes = found_at passes classes (class_number c) (class_entry JavaLang Object []) place there in
+    let f : Found passes classes = found_at passes classes (class_number c) no_class place there in
     let e = f.0 in
     let parts = and_true (same_package e.home (home_of c)) (is_token (token_of_class t e.class) k) f.2 in
     let its : same_package (home_of e.class) e.home ≡ true = found_has (λ g. same_package (home_of g.class) g.home) passes classes e homes f.1 in
@@ -115,9 +113,10 @@ told_method t distinct m k token =
     let place : method_number m < length methods = omega (arith, method_below m, method_places) in
     let class : same_class (class_of m) (class_of m) ≡ true = (Decides-eqb _ _).1 refl in
     let kind : same_kind (kind_of_method m) (kind_of_method m) ≡ true = (Decides-eqb _ _).1 refl in
-    let there : passes (entry_of_method (method_number m)) ≡ true = both _ _ (both _ _ class kind)
+    let own : passes (entry_of_method m) ≡ true = both _ _ (both _ _ class kind)
     (ap (λ (n : PlatformMethod). is_token (token_of_method t n) k) (method_at_place m) ∙ is_its_token (token_of_method t m) k token) in
-    let f : Found passes methods = found_at passes methods (method_number m) (method_entry Object Static ObjectInit 1 []) place there in
+    let there : passes (get_or methods (method_number m) no_method) ≡ true = ap passes (at_number m) ∙ own in
+    let f : Found passes methods = found_at passes methods (method_number m) no_method place there in
     let e = f.0 in
     let parts = and_true (same_class e.class (class_of m) && same_kind e.kind (kind_of_method m)) (is_token (token_of_method t e.method) k) f.2 in
     let places = and_true (same_class e.class (class_of m)) (same_kind e.kind (kind_of_method m)) parts.0 in

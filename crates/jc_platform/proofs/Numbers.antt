@@ -5,19 +5,29 @@ use Rattle.jc_platform.specs.declared.names.PlatformPackage.TheVariants.{JavaLan
 use Rattle.jc_platform.specs.declared.names.PlatformClass.{PlatformClass}
 use Rattle.jc_platform.specs.declared.names.PlatformClass.TheVariants.{Object}
 use Rattle.jc_platform.specs.declared.names.PlatformMethod.{PlatformMethod}
-use Rattle.jc_platform.specs.declared.names.PlatformMethod.TheVariants.{ObjectInit}
+use Rattle.jc_platform.specs.declared.names.PlatformMethod.TheVariants.{Objects, Exceptions, Utilities, System, Aids, Pins, Applets, Apdus, Events}
+use Rattle.jc_platform.specs.declared.names.ObjectsMethod.TheVariants.{ObjectInit}
+use Rattle.jc_platform.specs.declared.names.ExceptionsMethod.TheVariants.{CardExceptionInit}
+use Rattle.jc_platform.specs.declared.names.UtilitiesMethod.TheVariants.{UtilArrayCompare}
+use Rattle.jc_platform.specs.declared.names.SystemMethod.TheVariants.{JcSystemAbortTransaction}
+use Rattle.jc_platform.specs.declared.names.AidsMethod.TheVariants.{AidInit}
+use Rattle.jc_platform.specs.declared.names.PinsMethod.TheVariants.{PinCheck}
+use Rattle.jc_platform.specs.declared.names.AppletsMethod.TheVariants.{AppletInit}
+use Rattle.jc_platform.specs.declared.names.ApdusMethod.TheVariants.{ApduGetBuffer}
+use Rattle.jc_platform.specs.declared.names.EventsMethod.TheVariants.{MultiSelectableSelect}
 use Rattle.jc_platform.specs.Names.{classes, methods, packages}
-use Rattle.jc_platform.specs.Numbers.{package_number, class_number, method_number}
+use Rattle.jc_platform.specs.Names.{objects_rows, exceptions_rows, utilities_rows, system_rows, aids_rows, pins_rows, applets_rows, apdus_rows, events_rows}
+use Rattle.jc_platform.specs.Numbers.{package_number, class_count, class_number, method_count, method_number}
 use Rattle.jc_platform.proofs.Lists.{numbered_at}
 
-pub class_at : (k : ℕ) → k < 32 → (c : PlatformClass) × (class_number c ≡ k)
+pub class_at : (k : ℕ) → k < class_count → (c : PlatformClass) × (class_number c ≡ k)
 unfolding classes
 class_at k h =
     let w = numbered_at class_number (map (λ e. e.class) classes) 0 k refl h in
     (w.0, w.1 ∙ zero-add k)
 
-pub method_at : (k : ℕ) → k < 118 → (m : PlatformMethod) × (method_number m ≡ k)
-unfolding methods
+pub method_at : (k : ℕ) → k < method_count → (m : PlatformMethod) × (method_number m ≡ k)
+unfolding objects_rows exceptions_rows utilities_rows system_rows aids_rows pins_rows applets_rows apdus_rows events_rows
 method_at k h =
     let w = numbered_at method_number (map (λ e. e.method) methods) 0 k refl h in
     (w.0, w.1 ∙ zero-add k)
@@ -33,10 +43,26 @@ package_below JavaLang = lit< tt
 package_below JavacardFramework = lit< tt
 package_below JavacardxApdu = lit< tt
 
-pub class_below : (c : PlatformClass) → class_number c < 32
+pub class_below : (c : PlatformClass) → class_number c < class_count
 class_below Object = lit< tt
 class_below _ = lit< tt
 
-pub method_below : (m : PlatformMethod) → method_number m < 118
-method_below ObjectInit = lit< tt
-method_below _ = lit< tt
+pub method_below : (m : PlatformMethod) → method_number m < method_count
+method_below (Objects ObjectInit) = lit< tt
+method_below (Objects _) = lit< tt
+method_below (Exceptions CardExceptionInit) = lit< tt
+method_below (Exceptions _) = lit< tt
+method_below (Utilities UtilArrayCompare) = lit< tt
+method_below (Utilities _) = lit< tt
+method_below (System JcSystemAbortTransaction) = lit< tt
+method_below (System _) = lit< tt
+method_below (Aids AidInit) = lit< tt
+method_below (Aids _) = lit< tt
+method_below (Pins PinCheck) = lit< tt
+method_below (Pins _) = lit< tt
+method_below (Applets AppletInit) = lit< tt
+method_below (Applets _) = lit< tt
+method_below (Apdus ApduGetBuffer) = lit< tt
+method_below (Apdus _) = lit< tt
+method_below (Events MultiSelectableSelect) = lit< tt
+method_below (Events _) = lit< tt

@@ -1,6 +1,6 @@
 -- The classes of a package stand together in the list of all.
 use Rattle.std.proofs.Common.{◌≡◌, ◌≤◌, ◌+◌, ◌-◌, ℕ, List, [], ◌∷◌, take, drop, map, get_or, arith, refl, ◌∙◌}
-use Rattle.jc_platform.specs.declared.names.ClassName.{ClassName}
+use Rattle.jc_platform.specs.declared.rows.ClassRow.{ClassRow}
 use Rattle.jc_platform.specs.declared.names.PlatformPackage.{PlatformPackage}
 use Rattle.jc_platform.specs.declared.names.PlatformPackage.TheVariants.{JavaLang, JavacardFramework, JavacardxApdu}
 use Rattle.jc_platform.specs.Names.{classes}
@@ -25,7 +25,7 @@ stand_together JavaLang = refl
 stand_together JavacardFramework = refl
 stand_together JavacardxApdu = refl
 
-pub are_together : (p : PlatformPackage) (n : ℕ) (all : List ClassName) → map class_value all ≡ classes → n ≡ package_number p
+pub are_together : (p : PlatformPackage) (n : ℕ) (all : List ClassRow) → map class_value all ≡ classes → n ≡ package_number p
     → map class_value (take (get_or firsts (n + 1) 0 - get_or firsts n 0) (drop (get_or firsts n 0) all)) ≡ classes_of p
 are_together p n all is place =
     rw place

@@ -1,26 +1,22 @@
 -- What stands in a table: names that each table has, and javacardx.apdu below others.
-use Rattle.std.proofs.Common.{◌≡◌, ◌<◌, ◌&&◌, ◌||◌, length, not, ℕ, Bool, true, false, List, [], ◌∷◌, Option, Some, None, refl, ap, sym, ◌∙◌, arith}
+use Rattle.std.proofs.Common.{◌≡◌, ◌&&◌, ◌||◌, not, ℕ, Bool, true, false, List, [], ◌∷◌, Option, Some, None, refl, ap, sym, ◌∙◌, arith}
 use Rattle.std.specs.Prelude.{is_some, unwrap_or}
 use Rattle.std.proofs.lemmas.Bool.{false≢true}
 use Rattle.std.proofs.lemmas.Option.{same_Some}
 use Rattle.jc_platform.specs.declared.names.PlatformClass.{PlatformClass}
-use Rattle.jc_platform.specs.declared.names.PlatformClass.TheVariants.{Object}
-use Rattle.jc_platform.specs.declared.names.MethodKind.TheVariants.{Static}
 use Rattle.jc_platform.specs.declared.names.PlatformMethod.{PlatformMethod}
-use Rattle.jc_platform.specs.declared.names.PlatformMethod.TheVariants.{ObjectInit}
 use Rattle.jc_platform.specs.declared.names.PlatformPackage.{PlatformPackage}
 use Rattle.jc_platform.specs.declared.names.PlatformPackage.TheVariants.{JavaLang, JavacardFramework, JavacardxApdu}
 use Rattle.jc_platform.specs.declared.row.Row.{Row}
 use Rattle.jc_platform.specs.declared.row.Row.TheVariants.{Extended, Package, Class, Method}
 use Rattle.jc_platform.specs.Distinct.{entry_of_class, entry_of_method, is_needed_class, is_needed_method}
-use Rattle.jc_platform.specs.Names.{class_entry, classes, method_entry, methods}
-use Rattle.jc_platform.specs.Numbers.{class_number, method_number, package_number}
+use Rattle.jc_platform.specs.Numbers.{package_number}
 use Rattle.jc_platform.specs.Rows.{Above, above, first_package, has_needed_packages, is_extended, may_be_package, parts_at, version_in}
 use Rattle.jc_platform.specs.Table.{Say, has_needed_classes, has_needed_methods}
-use Rattle.jc_platform.proofs.Distinct.{class_at_place, class_places, method_at_place, method_places}
+use Rattle.jc_platform.proofs.EveryRow.{every_class, every_method}
+use Rattle.jc_platform.proofs.Facts.{class_at_place, method_at_place}
 use Rattle.jc_platform.proofs.Fitting.{row_fits}
-use Rattle.jc_platform.proofs.Numbers.{class_below, method_below}
-use Rattle.jc_platform.proofs.Lists.{all_at, and_true}
+use Rattle.jc_platform.proofs.Lists.{and_true}
 
 -- where a package has a version, some package stands first
 version_first : (rows : List Row) (p : PlatformPackage) → is_some (version_in rows p) ≡ true → first_package rows ≡ None → ⊥
@@ -64,15 +60,13 @@ of_needed false o all e = absurd (false≢true e)
 -- a class that each table has stands
 pub class_stands : (a : Above) → has_needed_classes a ≡ true → (c : PlatformClass) → is_needed_class c ≡ true → (k : ℕ) × (a.class_token c ≡ Some k)
 class_stands a has c e =
-    let place : class_number c < length classes = omega (arith, class_below c, class_places) in
-    let all = all_at (λ f. not f.needed || is_some (a.class_token f.class)) classes (class_number c) (class_entry JavaLang Object []) has place in
-    let own = of_needed (is_needed_class c) (a.class_token (entry_of_class (class_number c)).class) all e in
+    let all = every_class (λ f. not f.needed || is_some (a.class_token f.class)) has c in
+    let own = of_needed (is_needed_class c) (a.class_token (entry_of_class c).class) all e in
     (own.0, ap a.class_token (sym (class_at_place c)) ∙ own.1)
 
 -- so does a method
 pub method_stands : (a : Above) → has_needed_methods a ≡ true → (m : PlatformMethod) → is_needed_method m ≡ true → (k : ℕ) × (a.method_token m ≡ Some k)
 method_stands a has m e =
-    let place : method_number m < length methods = omega (arith, method_below m, method_places) in
-    let all = all_at (λ f. not f.needed || is_some (a.method_token f.method)) methods (method_number m) (method_entry Object Static ObjectInit 1 []) has place in
-    let own = of_needed (is_needed_method m) (a.method_token (entry_of_method (method_number m)).method) all e in
+    let all = every_method (λ f. not f.needed || is_some (a.method_token f.method)) has m in
+    let own = of_needed (is_needed_method m) (a.method_token (entry_of_method m).method) all e in
     (own.0, ap a.method_token (sym (method_at_place m)) ∙ own.1)

@@ -1,32 +1,42 @@
 -- Where names stand, and tokens that tell them apart.
-use Rattle.std.specs.Prelude.{ℕ, ◌≡◌, ◌+◌, ◌*◌, Bool, [], Some, slice_index_or}
+use Rattle.std.specs.Prelude.{ℕ, ◌≡◌, ◌+◌, ◌*◌, Bool, List, Some, slice_index_or}
 use Rattle.jc_platform.specs.declared.names.PlatformPackage.{PlatformPackage}
-use Rattle.jc_platform.specs.declared.names.PlatformPackage.TheVariants.{JavaLang}
 use Rattle.jc_platform.specs.declared.names.PlatformClass.{PlatformClass}
-use Rattle.jc_platform.specs.declared.names.PlatformClass.TheVariants.{Object}
 use Rattle.jc_platform.specs.declared.names.MethodKind.{MethodKind}
-use Rattle.jc_platform.specs.declared.names.MethodKind.TheVariants.{Static}
 use Rattle.jc_platform.specs.declared.names.PlatformMethod.{PlatformMethod}
-use Rattle.jc_platform.specs.declared.names.PlatformMethod.TheVariants.{ObjectInit}
-use Rattle.jc_platform.specs.Names.{ClassEntry, MethodEntry, class_entry, method_entry, classes, methods}
-use Rattle.jc_platform.specs.Numbers.{class_number, method_number}
+use Rattle.jc_platform.specs.declared.names.PlatformMethod.TheVariants.{Objects, Exceptions, Utilities, System, Aids, Pins, Applets, Apdus, Events}
+use Rattle.jc_platform.specs.Names.{ClassEntry, MethodEntry, classes, no_class, no_method, objects_rows, exceptions_rows, utilities_rows, system_rows}
+use Rattle.jc_platform.specs.Names.{aids_rows, pins_rows, applets_rows, apdus_rows, events_rows}
+use Rattle.jc_platform.specs.Numbers.{class_number, objects_number, exceptions_number, utilities_number, system_number, aids_number, pins_number, applets_number, apdus_number, events_number}
 use Rattle.jc_platform.specs.Tokens.{Tokens, class_token, number_in, token_of_class, token_of_method}
 
--- the entry of a class
-abbrev pub entry_of_class : ℕ → ClassEntry
-entry_of_class n = slice_index_or classes n (class_entry JavaLang Object [])
+-- the row of a class
+abbrev pub entry_of_class : PlatformClass → ClassEntry
+entry_of_class c = slice_index_or classes (class_number c) no_class
 
--- the entry of a method
-abbrev pub entry_of_method : ℕ → MethodEntry
-entry_of_method n = slice_index_or methods n (method_entry Object Static ObjectInit 1 [])
+-- the row of a method
+abbrev pub entry_of_method : PlatformMethod → MethodEntry
+entry_of_method (Objects m) = slice_index_or objects_rows (objects_number m) no_method
+entry_of_method (Exceptions m) = slice_index_or exceptions_rows (exceptions_number m) no_method
+entry_of_method (Utilities m) = slice_index_or utilities_rows (utilities_number m) no_method
+entry_of_method (System m) = slice_index_or system_rows (system_number m) no_method
+entry_of_method (Aids m) = slice_index_or aids_rows (aids_number m) no_method
+entry_of_method (Pins m) = slice_index_or pins_rows (pins_number m) no_method
+entry_of_method (Applets m) = slice_index_or applets_rows (applets_number m) no_method
+entry_of_method (Apdus m) = slice_index_or apdus_rows (apdus_number m) no_method
+entry_of_method (Events m) = slice_index_or events_rows (events_number m) no_method
 
 -- the package that a class is in
 abbrev pub home_of : PlatformClass → PlatformPackage
-home_of c = (entry_of_class (class_number c)).home
+home_of c = (entry_of_class c).home
+
+-- its name in platform tables
+abbrev pub name_of_class : PlatformClass → List ℕ
+name_of_class c = (entry_of_class c).name
 
 -- each table has the class
 abbrev pub is_needed_class : PlatformClass → Bool
-is_needed_class c = (entry_of_class (class_number c)).needed
+is_needed_class c = (entry_of_class c).needed
 
 -- a class as an object's header names it: the number of its package times 256, and its token
 abbrev pub class_word : Tokens → PlatformClass → ℕ
@@ -34,15 +44,19 @@ class_word t c = 256 * number_in t (home_of c) + class_token t c
 
 -- the class that a method is in
 abbrev pub class_of : PlatformMethod → PlatformClass
-class_of m = (entry_of_method (method_number m)).class
+class_of m = (entry_of_method m).class
 
 -- the kind of a method
 abbrev pub kind_of_method : PlatformMethod → MethodKind
-kind_of_method m = (entry_of_method (method_number m)).kind
+kind_of_method m = (entry_of_method m).kind
+
+-- its name in platform tables
+abbrev pub name_of_method : PlatformMethod → List ℕ
+name_of_method m = (entry_of_method m).name
 
 -- each table has the method
 abbrev pub is_needed_method : PlatformMethod → Bool
-is_needed_method m = (entry_of_method (method_number m)).needed
+is_needed_method m = (entry_of_method m).needed
 
 -- a token tells a class among those of its package, and a method among those of its class and kind
 pub record AreDistinct (t : Tokens) : Type 0 where

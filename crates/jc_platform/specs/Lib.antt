@@ -1,4 +1,5 @@
 pub mod Names
+pub mod Rooms
 pub mod Numbers
 pub mod Reading
 pub mod Rows

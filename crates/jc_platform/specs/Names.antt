@@ -1,5 +1,5 @@
--- The names of the platform: its packages, classes and methods.
-use Rattle.std.specs.Prelude.{ℕ, Bool, true, false, List, [], ◌∷◌, codes}
+-- The names of the platform as rows: its packages, classes and methods, and what is known of each.
+use Rattle.std.specs.Prelude.{ℕ, Bool, true, false, Option, None, Some, List, [], ◌∷◌, ◌++◌, codes}
 use Rattle.hex.specs.Hex.{encode_upper}
 use Rattle.jc_platform.specs.declared.names.PlatformPackage.{PlatformPackage}
 use Rattle.jc_platform.specs.declared.names.PlatformPackage.TheVariants.{JavaLang, JavacardFramework, JavacardxApdu}
@@ -11,80 +11,113 @@ use Rattle.jc_platform.specs.declared.names.PlatformClass.TheVariants.{Shareable
 use Rattle.jc_platform.specs.declared.names.PlatformClass.TheVariants.{CardRuntimeException, IsoException, PinException, SystemException, TransactionException}
 use Rattle.jc_platform.specs.declared.names.PlatformClass.TheVariants.{ApduException, UserException, Iso7816, MultiSelectable, AppletEvent, ExtendedLength}
 use Rattle.jc_platform.specs.declared.names.MethodKind.{MethodKind}
-use Rattle.jc_platform.specs.declared.names.MethodKind.TheVariants.{Static, Virtual, Interface}
+use Rattle.jc_platform.specs.declared.names.MethodKind.TheVariants as kind
 use Rattle.jc_platform.specs.declared.names.PlatformMethod.{PlatformMethod}
-use Rattle.jc_platform.specs.declared.names.PlatformMethod.TheVariants.{ObjectInit, ObjectEquals, ThrowableInit, ExceptionInit, RuntimeExceptionInit}
-use Rattle.jc_platform.specs.declared.names.PlatformMethod.TheVariants.{IndexOutOfBoundsExceptionInit, ArithmeticExceptionInit}
-use Rattle.jc_platform.specs.declared.names.PlatformMethod.TheVariants.{ArrayIndexOutOfBoundsExceptionInit, ArrayStoreExceptionInit, ClassCastExceptionInit}
-use Rattle.jc_platform.specs.declared.names.PlatformMethod.TheVariants.{NegativeArraySizeExceptionInit, NullPointerExceptionInit, SecurityExceptionInit}
-use Rattle.jc_platform.specs.declared.names.PlatformMethod.TheVariants.{PinCheck, PinGetTriesRemaining, PinIsValidated, PinReset, AppletInit, AppletDeselect}
-use Rattle.jc_platform.specs.declared.names.PlatformMethod.TheVariants.{AppletGetShareableInterfaceObject, AppletRegister, AppletRegisterBytes, AppletSelect}
-use Rattle.jc_platform.specs.declared.names.PlatformMethod.TheVariants.{AppletSelectingApplet, AppletProcess, AppletReSelectingApplet, ApduGetBuffer}
-use Rattle.jc_platform.specs.declared.names.PlatformMethod.TheVariants.{ApduReceiveBytes, ApduSendBytes, ApduSetIncomingAndReceive, ApduSetOutgoing}
-use Rattle.jc_platform.specs.declared.names.PlatformMethod.TheVariants.{ApduSetOutgoingAndSend, ApduSetOutgoingLength, ApduGetIncomingLength}
-use Rattle.jc_platform.specs.declared.names.PlatformMethod.TheVariants.{ApduGetOffsetCdata, ApduSendBytesLong, ApduGetCurrentState, ApduGetProtocol, ApduGetNad}
-use Rattle.jc_platform.specs.declared.names.PlatformMethod.TheVariants.{ApduGetClaChannel, ApduGetInBlockSize, ApduGetOutBlockSize, ApduIsIsoInterindustryCla}
-use Rattle.jc_platform.specs.declared.names.PlatformMethod.TheVariants.{ApduIsCommandChainingCla, ApduIsSecureMessagingCla, ApduIsValidCla}
-use Rattle.jc_platform.specs.declared.names.PlatformMethod.TheVariants.{ApduSetOutgoingNoChaining, ApduWaitExtension, ApduGetCurrentApdu}
-use Rattle.jc_platform.specs.declared.names.PlatformMethod.TheVariants.{ApduGetCurrentApduBuffer, AidInit, AidEquals, AidEqualsBytes, AidGetBytes, AidRidEquals}
-use Rattle.jc_platform.specs.declared.names.PlatformMethod.TheVariants.{AidPartialEquals, AidGetPartialBytes, JcSystemAbortTransaction}
-use Rattle.jc_platform.specs.declared.names.PlatformMethod.TheVariants.{JcSystemBeginTransaction, JcSystemCommitTransaction, JcSystemGetAid}
-use Rattle.jc_platform.specs.declared.names.PlatformMethod.TheVariants.{JcSystemGetAppletShareableInterfaceObject, JcSystemGetMaxCommitCapacity}
-use Rattle.jc_platform.specs.declared.names.PlatformMethod.TheVariants.{JcSystemGetPreviousContextAid, JcSystemGetTransactionDepth}
-use Rattle.jc_platform.specs.declared.names.PlatformMethod.TheVariants.{JcSystemGetUnusedCommitCapacity, JcSystemIsTransient, JcSystemLookupAid}
-use Rattle.jc_platform.specs.declared.names.PlatformMethod.TheVariants.{JcSystemMakeTransientBooleanArray, JcSystemMakeTransientByteArray}
-use Rattle.jc_platform.specs.declared.names.PlatformMethod.TheVariants.{JcSystemMakeTransientObjectArray, JcSystemMakeTransientShortArray, JcSystemGetVersion}
-use Rattle.jc_platform.specs.declared.names.PlatformMethod.TheVariants.{JcSystemGetAvailableMemory, JcSystemGetAvailableMemoryShorts}
-use Rattle.jc_platform.specs.declared.names.PlatformMethod.TheVariants.{JcSystemRequestObjectDeletion, JcSystemIsObjectDeletionSupported}
-use Rattle.jc_platform.specs.declared.names.PlatformMethod.TheVariants.{JcSystemIsAppletActive, JcSystemGetAssignedChannel, UtilArrayCompare, UtilArrayCopy}
-use Rattle.jc_platform.specs.declared.names.PlatformMethod.TheVariants.{UtilGetShort, UtilMakeShort, UtilSetShort, UtilArrayFill, OwnerPinInit, OwnerPinCheck}
-use Rattle.jc_platform.specs.declared.names.PlatformMethod.TheVariants.{OwnerPinGetTriesRemaining, OwnerPinIsValidated, OwnerPinReset, OwnerPinResetAndUnblock}
-use Rattle.jc_platform.specs.declared.names.PlatformMethod.TheVariants.{OwnerPinUpdate, OwnerPinGetValidatedFlag, OwnerPinSetValidatedFlag, CardExceptionInit}
-use Rattle.jc_platform.specs.declared.names.PlatformMethod.TheVariants.{CardExceptionThrowIt, CardExceptionGetReason, CardExceptionSetReason}
-use Rattle.jc_platform.specs.declared.names.PlatformMethod.TheVariants.{CardRuntimeExceptionInit, CardRuntimeExceptionThrowIt, CardRuntimeExceptionGetReason}
-use Rattle.jc_platform.specs.declared.names.PlatformMethod.TheVariants.{CardRuntimeExceptionSetReason, IsoExceptionInit, IsoExceptionThrowIt, PinExceptionInit}
-use Rattle.jc_platform.specs.declared.names.PlatformMethod.TheVariants.{PinExceptionThrowIt, SystemExceptionInit, SystemExceptionThrowIt}
-use Rattle.jc_platform.specs.declared.names.PlatformMethod.TheVariants.{TransactionExceptionInit, TransactionExceptionThrowIt, ApduExceptionInit}
-use Rattle.jc_platform.specs.declared.names.PlatformMethod.TheVariants.{ApduExceptionThrowIt, UserExceptionInit, UserExceptionThrowIt}
-use Rattle.jc_platform.specs.declared.names.PlatformMethod.TheVariants.{UserExceptionInitWithoutReason, MultiSelectableSelect, MultiSelectableDeselect}
-use Rattle.jc_platform.specs.declared.names.PlatformMethod.TheVariants.{AppletEventUninstall}
+use Rattle.jc_platform.specs.declared.names.PlatformMethod.TheVariants.{Objects, Exceptions, Utilities, System, Aids, Pins, Applets, Apdus, Events}
+use Rattle.jc_platform.specs.declared.names.ObjectsMethod.TheVariants.{ObjectInit, ObjectEquals, ThrowableInit, ExceptionInit, RuntimeExceptionInit}
+use Rattle.jc_platform.specs.declared.names.ObjectsMethod.TheVariants.{IndexOutOfBoundsExceptionInit, ArithmeticExceptionInit}
+use Rattle.jc_platform.specs.declared.names.ObjectsMethod.TheVariants.{ArrayIndexOutOfBoundsExceptionInit, ArrayStoreExceptionInit, ClassCastExceptionInit}
+use Rattle.jc_platform.specs.declared.names.ObjectsMethod.TheVariants.{NegativeArraySizeExceptionInit, NullPointerExceptionInit, SecurityExceptionInit}
+use Rattle.jc_platform.specs.declared.names.ExceptionsMethod.TheVariants.{CardExceptionInit, CardExceptionThrowIt, CardExceptionGetReason}
+use Rattle.jc_platform.specs.declared.names.ExceptionsMethod.TheVariants.{CardExceptionSetReason, CardRuntimeExceptionInit, CardRuntimeExceptionThrowIt}
+use Rattle.jc_platform.specs.declared.names.ExceptionsMethod.TheVariants.{CardRuntimeExceptionGetReason, CardRuntimeExceptionSetReason, IsoExceptionInit}
+use Rattle.jc_platform.specs.declared.names.ExceptionsMethod.TheVariants.{IsoExceptionThrowIt, PinExceptionInit, PinExceptionThrowIt, SystemExceptionInit}
+use Rattle.jc_platform.specs.declared.names.ExceptionsMethod.TheVariants.{SystemExceptionThrowIt, TransactionExceptionInit, TransactionExceptionThrowIt}
+use Rattle.jc_platform.specs.declared.names.ExceptionsMethod.TheVariants.{ApduExceptionInit, ApduExceptionThrowIt, UserExceptionInit, UserExceptionThrowIt}
+use Rattle.jc_platform.specs.declared.names.ExceptionsMethod.TheVariants.{UserExceptionInitWithoutReason}
+use Rattle.jc_platform.specs.declared.names.UtilitiesMethod.TheVariants.{UtilArrayCompare, UtilArrayCopy, UtilGetShort, UtilMakeShort, UtilSetShort}
+use Rattle.jc_platform.specs.declared.names.UtilitiesMethod.TheVariants.{UtilArrayCopyNonAtomic, UtilArrayFill, UtilArrayFillNonAtomic}
+use Rattle.jc_platform.specs.declared.names.SystemMethod.TheVariants.{JcSystemAbortTransaction, JcSystemBeginTransaction, JcSystemCommitTransaction}
+use Rattle.jc_platform.specs.declared.names.SystemMethod.TheVariants.{JcSystemGetAid, JcSystemGetAppletShareableInterfaceObject, JcSystemGetMaxCommitCapacity}
+use Rattle.jc_platform.specs.declared.names.SystemMethod.TheVariants.{JcSystemGetPreviousContextAid, JcSystemGetTransactionDepth}
+use Rattle.jc_platform.specs.declared.names.SystemMethod.TheVariants.{JcSystemGetUnusedCommitCapacity, JcSystemIsTransient, JcSystemLookupAid}
+use Rattle.jc_platform.specs.declared.names.SystemMethod.TheVariants.{JcSystemMakeTransientBooleanArray, JcSystemMakeTransientByteArray}
+use Rattle.jc_platform.specs.declared.names.SystemMethod.TheVariants.{JcSystemMakeTransientObjectArray, JcSystemMakeTransientShortArray, JcSystemGetVersion}
+use Rattle.jc_platform.specs.declared.names.SystemMethod.TheVariants.{JcSystemGetAvailableMemory, JcSystemGetAvailableMemoryShorts}
+use Rattle.jc_platform.specs.declared.names.SystemMethod.TheVariants.{JcSystemRequestObjectDeletion, JcSystemIsObjectDeletionSupported, JcSystemIsAppletActive}
+use Rattle.jc_platform.specs.declared.names.SystemMethod.TheVariants.{JcSystemGetAssignedChannel}
+use Rattle.jc_platform.specs.declared.names.AidsMethod.TheVariants.{AidInit, AidEquals, AidEqualsBytes, AidGetBytes, AidRidEquals, AidPartialEquals}
+use Rattle.jc_platform.specs.declared.names.AidsMethod.TheVariants.{AidGetPartialBytes}
+use Rattle.jc_platform.specs.declared.names.PinsMethod.TheVariants.{PinCheck, PinGetTriesRemaining, PinIsValidated, PinReset, OwnerPinInit, OwnerPinCheck}
+use Rattle.jc_platform.specs.declared.names.PinsMethod.TheVariants.{OwnerPinGetTriesRemaining, OwnerPinIsValidated, OwnerPinReset, OwnerPinResetAndUnblock}
+use Rattle.jc_platform.specs.declared.names.PinsMethod.TheVariants.{OwnerPinUpdate, OwnerPinGetValidatedFlag, OwnerPinSetValidatedFlag}
+use Rattle.jc_platform.specs.declared.names.AppletsMethod.TheVariants.{AppletInit, AppletDeselect, AppletGetShareableInterfaceObject, AppletRegister}
+use Rattle.jc_platform.specs.declared.names.AppletsMethod.TheVariants.{AppletRegisterBytes, AppletSelect, AppletSelectingApplet, AppletProcess}
+use Rattle.jc_platform.specs.declared.names.AppletsMethod.TheVariants.{AppletReSelectingApplet}
+use Rattle.jc_platform.specs.declared.names.ApdusMethod.TheVariants.{ApduGetBuffer, ApduReceiveBytes, ApduSendBytes, ApduSetIncomingAndReceive, ApduSetOutgoing}
+use Rattle.jc_platform.specs.declared.names.ApdusMethod.TheVariants.{ApduSetOutgoingAndSend, ApduSetOutgoingLength, ApduGetIncomingLength, ApduGetOffsetCdata}
+use Rattle.jc_platform.specs.declared.names.ApdusMethod.TheVariants.{ApduSendBytesLong, ApduGetCurrentState, ApduGetProtocol, ApduGetNad, ApduGetClaChannel}
+use Rattle.jc_platform.specs.declared.names.ApdusMethod.TheVariants.{ApduGetInBlockSize, ApduGetOutBlockSize, ApduIsIsoInterindustryCla}
+use Rattle.jc_platform.specs.declared.names.ApdusMethod.TheVariants.{ApduIsCommandChainingCla, ApduIsSecureMessagingCla, ApduIsValidCla}
+use Rattle.jc_platform.specs.declared.names.ApdusMethod.TheVariants.{ApduSetOutgoingNoChaining, ApduWaitExtension, ApduGetCurrentApdu, ApduGetCurrentApduBuffer}
+use Rattle.jc_platform.specs.declared.names.EventsMethod.TheVariants.{MultiSelectableSelect, MultiSelectableDeselect, AppletEventUninstall}
+use Rattle.jc_platform.specs.declared.kinds.ClassForm.{ClassForm}
+use Rattle.jc_platform.specs.declared.kinds.ClassForm.TheVariants as form
+use Rattle.jc_platform.specs.declared.kinds.CellKind.{CellKind}
+use Rattle.jc_platform.specs.declared.kinds.CellKind.TheVariants.{Number, Reference}
+use Rattle.jc_platform.specs.declared.kinds.ParameterKind.{ParameterKind}
+use Rattle.jc_platform.specs.declared.kinds.ParameterKind.TheVariants.{Byte, Short, Boolean, Bytes, Shorts, Anything, Instance}
+use Rattle.jc_platform.specs.declared.kinds.Answer.{Answer}
+use Rattle.jc_platform.specs.declared.kinds.Answer.TheVariants as answer
+use Rattle.jc_platform.specs.declared.kinds.Receiver.{Receiver}
+use Rattle.jc_platform.specs.declared.kinds.Receiver.TheVariants.{Absent, Kept, Registered, Changed}
 
 -- a package and its AID in upper case hexadecimal
 pub record PackageEntry : Type 0 where
   pub package_id : PlatformPackage
   pub aid_text : List ℕ
 
--- a class, the package that it is in, its name, and whether each table has it
+-- a class: the package that it is in, its name, whether each table has it, its superclass, the interfaces that it implements with those that they
+-- extend, its form, what the cells of an instance hold, whether code may make instances by `new`, and whether the runtime environment throws one of its own
 pub record ClassEntry : Type 0 where
   pub class : PlatformClass
   pub home : PlatformPackage
   pub name : List ℕ
   pub needed : Bool
+  pub superclass : Option PlatformClass
+  pub interfaces : List PlatformClass
+  pub form : ClassForm
+  pub cells : List CellKind
+  pub instantiable : Bool
+  pub thrown : Bool
 
--- a method, the class that it is in, its kind, how many cells its arguments have with its receiver, its name, and whether each table has it
+-- a method: the class that it is in, its kind, its name, whether each table has it, its parameters after its receiver, what it returns, what it does with
+-- its receiver, and the method that carries it out if it is one of an interface
 pub record MethodEntry : Type 0 where
   pub method : PlatformMethod
   pub class : PlatformClass
   pub kind : MethodKind
-  pub arguments : ℕ
   pub name : List ℕ
   pub needed : Bool
+  pub parameters : List ParameterKind
+  pub answer : Answer
+  pub receiver : Receiver
+  pub implementation : Option PlatformMethod
 
--- the entry of a class that each table has
-abbrev pub class_entry : PlatformPackage → PlatformClass → List ℕ → ClassEntry
-class_entry p c n = record { class = c; home = p; name = n; needed = true }
+-- the row of a class that each table has
+abbrev pub class_entry : PlatformPackage → PlatformClass → List ℕ → Option PlatformClass → List PlatformClass → ClassForm → List CellKind → Bool → Bool → ClassEntry
+class_entry p c n s is f cs made thrown =
+    record { class = c; home = p; name = n; needed = true; superclass = s; interfaces = is; form = f; cells = cs; instantiable = made; thrown = thrown }
 
--- the entry of a class that an extended table may have
-abbrev pub optional_class : PlatformPackage → PlatformClass → List ℕ → ClassEntry
-optional_class p c n = record { class = c; home = p; name = n; needed = false }
+-- the row of a class that an extended table may have
+abbrev pub optional_class : PlatformPackage → PlatformClass → List ℕ → Option PlatformClass → List PlatformClass → ClassForm → List CellKind → Bool → Bool → ClassEntry
+optional_class p c n s is f cs made thrown =
+    record { class = c; home = p; name = n; needed = false; superclass = s; interfaces = is; form = f; cells = cs; instantiable = made; thrown = thrown }
 
--- the entry of a method that each table has
-abbrev pub method_entry : PlatformClass → MethodKind → PlatformMethod → ℕ → List ℕ → MethodEntry
-method_entry c k m a n = record { method = m; class = c; kind = k; arguments = a; name = n; needed = true }
+-- the row of a method that each table has
+abbrev pub method_entry : PlatformClass → MethodKind → PlatformMethod → List ℕ → List ParameterKind → Answer → Receiver → MethodEntry
+method_entry c k m n ps a r =
+    record { method = m; class = c; kind = k; name = n; needed = true; parameters = ps; answer = a; receiver = r; implementation = None }
 
--- the entry of a method that an extended table may have
-abbrev pub optional_method : PlatformClass → MethodKind → PlatformMethod → ℕ → List ℕ → MethodEntry
-optional_method c k m a n = record { method = m; class = c; kind = k; arguments = a; name = n; needed = false }
+-- the row of a method that an extended table may have
+abbrev pub optional_method : PlatformClass → MethodKind → PlatformMethod → List ℕ → List ParameterKind → Answer → Receiver → MethodEntry
+optional_method c k m n ps a r =
+    record { method = m; class = c; kind = k; name = n; needed = false; parameters = ps; answer = a; receiver = r; implementation = None }
+
+-- the row of an interface's method, with the one that carries it out
+abbrev pub implemented_method : PlatformClass → MethodKind → PlatformMethod → List ℕ → List ParameterKind → Answer → Receiver → PlatformMethod → MethodEntry
+implemented_method c k m n ps a r i =
+    record { method = m; class = c; kind = k; name = n; needed = true; parameters = ps; answer = a; receiver = r; implementation = Some i }
 
 -- every package
 unfoldable pub packages : List PackageEntry
@@ -97,159 +130,213 @@ packages =
 -- every class
 unfoldable pub classes : List ClassEntry
 classes =
-    class_entry JavaLang Object (codes "Object") ∷
-    class_entry JavaLang Throwable (codes "Throwable") ∷
-    class_entry JavaLang Exception (codes "Exception") ∷
-    class_entry JavaLang RuntimeException (codes "RuntimeException") ∷
-    class_entry JavaLang IndexOutOfBoundsException (codes "IndexOutOfBoundsException") ∷
-    class_entry JavaLang ArithmeticException (codes "ArithmeticException") ∷
-    class_entry JavaLang ArrayIndexOutOfBoundsException (codes "ArrayIndexOutOfBoundsException") ∷
-    class_entry JavaLang ArrayStoreException (codes "ArrayStoreException") ∷
-    class_entry JavaLang ClassCastException (codes "ClassCastException") ∷
-    class_entry JavaLang NegativeArraySizeException (codes "NegativeArraySizeException") ∷
-    class_entry JavaLang NullPointerException (codes "NullPointerException") ∷
-    class_entry JavaLang SecurityException (codes "SecurityException") ∷
-    class_entry JavacardFramework Shareable (codes "Shareable") ∷
-    class_entry JavacardFramework Pin (codes "PIN") ∷
-    class_entry JavacardFramework Applet (codes "Applet") ∷
-    class_entry JavacardFramework Apdu (codes "APDU") ∷
-    class_entry JavacardFramework Aid (codes "AID") ∷
-    class_entry JavacardFramework JcSystem (codes "JCSystem") ∷
-    class_entry JavacardFramework Util (codes "Util") ∷
-    class_entry JavacardFramework OwnerPin (codes "OwnerPIN") ∷
-    class_entry JavacardFramework CardException (codes "CardException") ∷
-    class_entry JavacardFramework CardRuntimeException (codes "CardRuntimeException") ∷
-    class_entry JavacardFramework IsoException (codes "ISOException") ∷
-    class_entry JavacardFramework PinException (codes "PINException") ∷
-    class_entry JavacardFramework SystemException (codes "SystemException") ∷
-    class_entry JavacardFramework TransactionException (codes "TransactionException") ∷
-    class_entry JavacardFramework ApduException (codes "APDUException") ∷
-    class_entry JavacardFramework UserException (codes "UserException") ∷
-    optional_class JavacardFramework Iso7816 (codes "ISO7816") ∷
-    optional_class JavacardFramework MultiSelectable (codes "MultiSelectable") ∷
-    optional_class JavacardFramework AppletEvent (codes "AppletEvent") ∷
-    optional_class JavacardxApdu ExtendedLength (codes "ExtendedLength") ∷
+    class_entry JavaLang Object (codes "Object") None [] form.Object [] true false ∷
+    class_entry JavaLang Throwable (codes "Throwable") (Some Object) [] form.Exception [] true false ∷
+    class_entry JavaLang Exception (codes "Exception") (Some Throwable) [] form.Exception [] true false ∷
+    class_entry JavaLang RuntimeException (codes "RuntimeException") (Some Exception) [] form.Exception [] true false ∷
+    class_entry JavaLang IndexOutOfBoundsException (codes "IndexOutOfBoundsException") (Some RuntimeException) [] form.Exception [] true false ∷
+    class_entry JavaLang ArithmeticException (codes "ArithmeticException") (Some RuntimeException) [] form.Exception [] true true ∷
+    class_entry JavaLang ArrayIndexOutOfBoundsException (codes "ArrayIndexOutOfBoundsException") (Some IndexOutOfBoundsException) [] form.Exception [] true true ∷
+    class_entry JavaLang ArrayStoreException (codes "ArrayStoreException") (Some RuntimeException) [] form.Exception [] true true ∷
+    class_entry JavaLang ClassCastException (codes "ClassCastException") (Some RuntimeException) [] form.Exception [] true true ∷
+    class_entry JavaLang NegativeArraySizeException (codes "NegativeArraySizeException") (Some RuntimeException) [] form.Exception [] true true ∷
+    class_entry JavaLang NullPointerException (codes "NullPointerException") (Some RuntimeException) [] form.Exception [] true true ∷
+    class_entry JavaLang SecurityException (codes "SecurityException") (Some RuntimeException) [] form.Exception [] true true ∷
+    class_entry JavacardFramework Shareable (codes "Shareable") None [] form.Interface [] false false ∷
+    class_entry JavacardFramework Pin (codes "PIN") None [] form.Interface [] false false ∷
+    class_entry JavacardFramework Applet (codes "Applet") (Some Object) [] form.Object [] false false ∷
+    class_entry JavacardFramework Apdu (codes "APDU") (Some Object) [] form.Object [] false false ∷
+    class_entry JavacardFramework Aid (codes "AID") (Some Object) [] form.Object (Number ∷ Number ∷ Number ∷ Number ∷ Number ∷ Number ∷ Number ∷ Number ∷ Number ∷ []) true false ∷
+    class_entry JavacardFramework JcSystem (codes "JCSystem") (Some Object) [] form.Static [] false false ∷
+    class_entry JavacardFramework Util (codes "Util") (Some Object) [] form.Static [] false false ∷
+    class_entry JavacardFramework OwnerPin (codes "OwnerPIN") (Some Object) (Pin ∷ []) form.Object (Number ∷ Number ∷ Number ∷ Number ∷ Reference ∷ []) true false ∷
+    class_entry JavacardFramework CardException (codes "CardException") (Some Exception) [] form.Exception (Number ∷ []) true true ∷
+    class_entry JavacardFramework CardRuntimeException (codes "CardRuntimeException") (Some RuntimeException) [] form.Exception (Number ∷ []) true true ∷
+    class_entry JavacardFramework IsoException (codes "ISOException") (Some CardRuntimeException) [] form.Exception (Number ∷ []) true true ∷
+    class_entry JavacardFramework PinException (codes "PINException") (Some CardRuntimeException) [] form.Exception (Number ∷ []) true true ∷
+    class_entry JavacardFramework SystemException (codes "SystemException") (Some CardRuntimeException) [] form.Exception (Number ∷ []) true true ∷
+    class_entry JavacardFramework TransactionException (codes "TransactionException") (Some CardRuntimeException) [] form.Exception (Number ∷ []) true true ∷
+    class_entry JavacardFramework ApduException (codes "APDUException") (Some CardRuntimeException) [] form.Exception (Number ∷ []) true true ∷
+    class_entry JavacardFramework UserException (codes "UserException") (Some CardException) [] form.Exception (Number ∷ []) true true ∷
+    optional_class JavacardFramework Iso7816 (codes "ISO7816") None [] form.Interface [] false false ∷
+    optional_class JavacardFramework MultiSelectable (codes "MultiSelectable") None [] form.Interface [] false false ∷
+    optional_class JavacardFramework AppletEvent (codes "AppletEvent") None [] form.Interface [] false false ∷
+    optional_class JavacardxApdu ExtendedLength (codes "ExtendedLength") None [] form.Interface [] false false ∷
+    []
+
+-- the methods of java.lang
+unfoldable pub objects_rows : List MethodEntry
+objects_rows =
+    method_entry Object kind.Static (Objects ObjectInit) (codes "<init>") [] answer.Void Kept ∷
+    method_entry Object kind.Virtual (Objects ObjectEquals) (codes "equals") (Anything ∷ []) answer.Boolean Kept ∷
+    method_entry Throwable kind.Static (Objects ThrowableInit) (codes "<init>") [] answer.Void Kept ∷
+    method_entry Exception kind.Static (Objects ExceptionInit) (codes "<init>") [] answer.Void Kept ∷
+    method_entry RuntimeException kind.Static (Objects RuntimeExceptionInit) (codes "<init>") [] answer.Void Kept ∷
+    method_entry IndexOutOfBoundsException kind.Static (Objects IndexOutOfBoundsExceptionInit) (codes "<init>") [] answer.Void Kept ∷
+    method_entry ArithmeticException kind.Static (Objects ArithmeticExceptionInit) (codes "<init>") [] answer.Void Kept ∷
+    method_entry ArrayIndexOutOfBoundsException kind.Static (Objects ArrayIndexOutOfBoundsExceptionInit) (codes "<init>") [] answer.Void Kept ∷
+    method_entry ArrayStoreException kind.Static (Objects ArrayStoreExceptionInit) (codes "<init>") [] answer.Void Kept ∷
+    method_entry ClassCastException kind.Static (Objects ClassCastExceptionInit) (codes "<init>") [] answer.Void Kept ∷
+    method_entry NegativeArraySizeException kind.Static (Objects NegativeArraySizeExceptionInit) (codes "<init>") [] answer.Void Kept ∷
+    method_entry NullPointerException kind.Static (Objects NullPointerExceptionInit) (codes "<init>") [] answer.Void Kept ∷
+    method_entry SecurityException kind.Static (Objects SecurityExceptionInit) (codes "<init>") [] answer.Void Kept ∷
+    []
+
+-- the methods of an exception of the card
+unfoldable pub exceptions_rows : List MethodEntry
+exceptions_rows =
+    method_entry CardException kind.Static (Exceptions CardExceptionInit) (codes "<init>") (Short ∷ []) answer.Void Changed ∷
+    method_entry CardException kind.Static (Exceptions CardExceptionThrowIt) (codes "throwIt") (Short ∷ []) answer.Void Absent ∷
+    method_entry CardException kind.Virtual (Exceptions CardExceptionGetReason) (codes "getReason") [] answer.Short Kept ∷
+    method_entry CardException kind.Virtual (Exceptions CardExceptionSetReason) (codes "setReason") (Short ∷ []) answer.Void Changed ∷
+    method_entry CardRuntimeException kind.Static (Exceptions CardRuntimeExceptionInit) (codes "<init>") (Short ∷ []) answer.Void Changed ∷
+    method_entry CardRuntimeException kind.Static (Exceptions CardRuntimeExceptionThrowIt) (codes "throwIt") (Short ∷ []) answer.Void Absent ∷
+    method_entry CardRuntimeException kind.Virtual (Exceptions CardRuntimeExceptionGetReason) (codes "getReason") [] answer.Short Kept ∷
+    method_entry CardRuntimeException kind.Virtual (Exceptions CardRuntimeExceptionSetReason) (codes "setReason") (Short ∷ []) answer.Void Changed ∷
+    method_entry IsoException kind.Static (Exceptions IsoExceptionInit) (codes "<init>") (Short ∷ []) answer.Void Changed ∷
+    method_entry IsoException kind.Static (Exceptions IsoExceptionThrowIt) (codes "throwIt") (Short ∷ []) answer.Void Absent ∷
+    method_entry PinException kind.Static (Exceptions PinExceptionInit) (codes "<init>") (Short ∷ []) answer.Void Changed ∷
+    method_entry PinException kind.Static (Exceptions PinExceptionThrowIt) (codes "throwIt") (Short ∷ []) answer.Void Absent ∷
+    method_entry SystemException kind.Static (Exceptions SystemExceptionInit) (codes "<init>") (Short ∷ []) answer.Void Changed ∷
+    method_entry SystemException kind.Static (Exceptions SystemExceptionThrowIt) (codes "throwIt") (Short ∷ []) answer.Void Absent ∷
+    method_entry TransactionException kind.Static (Exceptions TransactionExceptionInit) (codes "<init>") (Short ∷ []) answer.Void Changed ∷
+    method_entry TransactionException kind.Static (Exceptions TransactionExceptionThrowIt) (codes "throwIt") (Short ∷ []) answer.Void Absent ∷
+    method_entry ApduException kind.Static (Exceptions ApduExceptionInit) (codes "<init>") (Short ∷ []) answer.Void Changed ∷
+    method_entry ApduException kind.Static (Exceptions ApduExceptionThrowIt) (codes "throwIt") (Short ∷ []) answer.Void Absent ∷
+    method_entry UserException kind.Static (Exceptions UserExceptionInit) (codes "<init>") (Short ∷ []) answer.Void Changed ∷
+    method_entry UserException kind.Static (Exceptions UserExceptionThrowIt) (codes "throwIt") (Short ∷ []) answer.Void Absent ∷
+    optional_method UserException kind.Static (Exceptions UserExceptionInitWithoutReason) (codes "<init>WithoutReason") [] answer.Void Changed ∷
+    []
+
+-- the methods of Util
+unfoldable pub utilities_rows : List MethodEntry
+utilities_rows =
+    method_entry Util kind.Static (Utilities UtilArrayCompare) (codes "arrayCompare") (Bytes ∷ Short ∷ Bytes ∷ Short ∷ Short ∷ []) answer.Byte Absent ∷
+    method_entry Util kind.Static (Utilities UtilArrayCopy) (codes "arrayCopy") (Bytes ∷ Short ∷ Bytes ∷ Short ∷ Short ∷ []) answer.Short Absent ∷
+    method_entry Util kind.Static (Utilities UtilGetShort) (codes "getShort") (Bytes ∷ Short ∷ []) answer.Short Absent ∷
+    method_entry Util kind.Static (Utilities UtilMakeShort) (codes "makeShort") (Byte ∷ Byte ∷ []) answer.Short Absent ∷
+    method_entry Util kind.Static (Utilities UtilSetShort) (codes "setShort") (Bytes ∷ Short ∷ Short ∷ []) answer.Short Absent ∷
+    optional_method Util kind.Static (Utilities UtilArrayFill) (codes "arrayFill") (Bytes ∷ Short ∷ Short ∷ Byte ∷ []) answer.Short Absent ∷
+    optional_method Util kind.Static (Utilities UtilArrayCopyNonAtomic) (codes "arrayCopyNonAtomic") (Bytes ∷ Short ∷ Bytes ∷ Short ∷ Short ∷ []) answer.Short Absent ∷
+    optional_method Util kind.Static (Utilities UtilArrayFillNonAtomic) (codes "arrayFillNonAtomic") (Bytes ∷ Short ∷ Short ∷ Byte ∷ []) answer.Short Absent ∷
+    []
+
+-- the methods of JCSystem
+unfoldable pub system_rows : List MethodEntry
+system_rows =
+    method_entry JcSystem kind.Static (System JcSystemAbortTransaction) (codes "abortTransaction") [] answer.Void Absent ∷
+    method_entry JcSystem kind.Static (System JcSystemBeginTransaction) (codes "beginTransaction") [] answer.Void Absent ∷
+    method_entry JcSystem kind.Static (System JcSystemCommitTransaction) (codes "commitTransaction") [] answer.Void Absent ∷
+    method_entry JcSystem kind.Static (System JcSystemGetAid) (codes "getAID") [] answer.Reference Absent ∷
+    method_entry JcSystem kind.Static (System JcSystemGetAppletShareableInterfaceObject) (codes "getAppletShareableInterfaceObject") (Instance Aid ∷ Byte ∷ []) answer.Reference Absent ∷
+    method_entry JcSystem kind.Static (System JcSystemGetMaxCommitCapacity) (codes "getMaxCommitCapacity") [] answer.Short Absent ∷
+    method_entry JcSystem kind.Static (System JcSystemGetPreviousContextAid) (codes "getPreviousContextAID") [] answer.Reference Absent ∷
+    method_entry JcSystem kind.Static (System JcSystemGetTransactionDepth) (codes "getTransactionDepth") [] answer.Byte Absent ∷
+    method_entry JcSystem kind.Static (System JcSystemGetUnusedCommitCapacity) (codes "getUnusedCommitCapacity") [] answer.Short Absent ∷
+    method_entry JcSystem kind.Static (System JcSystemIsTransient) (codes "isTransient") (Anything ∷ []) answer.Byte Absent ∷
+    method_entry JcSystem kind.Static (System JcSystemLookupAid) (codes "lookupAID") (Bytes ∷ Short ∷ Byte ∷ []) answer.Reference Absent ∷
+    method_entry JcSystem kind.Static (System JcSystemMakeTransientBooleanArray) (codes "makeTransientBooleanArray") (Short ∷ Byte ∷ []) answer.Reference Absent ∷
+    method_entry JcSystem kind.Static (System JcSystemMakeTransientByteArray) (codes "makeTransientByteArray") (Short ∷ Byte ∷ []) answer.Reference Absent ∷
+    method_entry JcSystem kind.Static (System JcSystemMakeTransientObjectArray) (codes "makeTransientObjectArray") (Short ∷ Byte ∷ []) answer.Reference Absent ∷
+    method_entry JcSystem kind.Static (System JcSystemMakeTransientShortArray) (codes "makeTransientShortArray") (Short ∷ Byte ∷ []) answer.Reference Absent ∷
+    optional_method JcSystem kind.Static (System JcSystemGetVersion) (codes "getVersion") [] answer.Short Absent ∷
+    optional_method JcSystem kind.Static (System JcSystemGetAvailableMemory) (codes "getAvailableMemory") (Byte ∷ []) answer.Short Absent ∷
+    optional_method JcSystem kind.Static (System JcSystemGetAvailableMemoryShorts) (codes "getAvailableMemoryShorts") (Shorts ∷ Short ∷ Byte ∷ []) answer.Void Absent ∷
+    optional_method JcSystem kind.Static (System JcSystemRequestObjectDeletion) (codes "requestObjectDeletion") [] answer.Void Absent ∷
+    optional_method JcSystem kind.Static (System JcSystemIsObjectDeletionSupported) (codes "isObjectDeletionSupported") [] answer.Boolean Absent ∷
+    optional_method JcSystem kind.Static (System JcSystemIsAppletActive) (codes "isAppletActive") (Instance Aid ∷ []) answer.Boolean Absent ∷
+    optional_method JcSystem kind.Static (System JcSystemGetAssignedChannel) (codes "getAssignedChannel") [] answer.Byte Absent ∷
+    []
+
+-- the methods of AID
+unfoldable pub aids_rows : List MethodEntry
+aids_rows =
+    method_entry Aid kind.Static (Aids AidInit) (codes "<init>") (Bytes ∷ Short ∷ Byte ∷ []) answer.Void Changed ∷
+    method_entry Aid kind.Virtual (Aids AidEquals) (codes "equals") (Anything ∷ []) answer.Boolean Kept ∷
+    method_entry Aid kind.Virtual (Aids AidEqualsBytes) (codes "equalsBytes") (Bytes ∷ Short ∷ Byte ∷ []) answer.Boolean Kept ∷
+    method_entry Aid kind.Virtual (Aids AidGetBytes) (codes "getBytes") (Bytes ∷ Short ∷ []) answer.Byte Kept ∷
+    optional_method Aid kind.Virtual (Aids AidRidEquals) (codes "RIDEquals") (Instance Aid ∷ []) answer.Boolean Kept ∷
+    optional_method Aid kind.Virtual (Aids AidPartialEquals) (codes "partialEquals") (Bytes ∷ Short ∷ Byte ∷ []) answer.Boolean Kept ∷
+    optional_method Aid kind.Virtual (Aids AidGetPartialBytes) (codes "getPartialBytes") (Short ∷ Bytes ∷ Short ∷ Byte ∷ []) answer.Byte Kept ∷
+    []
+
+-- the methods of PIN and OwnerPIN
+unfoldable pub pins_rows : List MethodEntry
+pins_rows =
+    implemented_method Pin kind.Interface (Pins PinCheck) (codes "check") (Bytes ∷ Short ∷ Byte ∷ []) answer.Boolean Kept (Pins OwnerPinCheck) ∷
+    implemented_method Pin kind.Interface (Pins PinGetTriesRemaining) (codes "getTriesRemaining") [] answer.Byte Kept (Pins OwnerPinGetTriesRemaining) ∷
+    implemented_method Pin kind.Interface (Pins PinIsValidated) (codes "isValidated") [] answer.Boolean Kept (Pins OwnerPinIsValidated) ∷
+    implemented_method Pin kind.Interface (Pins PinReset) (codes "reset") [] answer.Void Kept (Pins OwnerPinReset) ∷
+    method_entry OwnerPin kind.Static (Pins OwnerPinInit) (codes "<init>") (Byte ∷ Byte ∷ []) answer.Void Changed ∷
+    method_entry OwnerPin kind.Virtual (Pins OwnerPinCheck) (codes "check") (Bytes ∷ Short ∷ Byte ∷ []) answer.Boolean Changed ∷
+    method_entry OwnerPin kind.Virtual (Pins OwnerPinGetTriesRemaining) (codes "getTriesRemaining") [] answer.Byte Kept ∷
+    method_entry OwnerPin kind.Virtual (Pins OwnerPinIsValidated) (codes "isValidated") [] answer.Boolean Kept ∷
+    method_entry OwnerPin kind.Virtual (Pins OwnerPinReset) (codes "reset") [] answer.Void Changed ∷
+    method_entry OwnerPin kind.Virtual (Pins OwnerPinResetAndUnblock) (codes "resetAndUnblock") [] answer.Void Changed ∷
+    method_entry OwnerPin kind.Virtual (Pins OwnerPinUpdate) (codes "update") (Bytes ∷ Short ∷ Byte ∷ []) answer.Void Changed ∷
+    optional_method OwnerPin kind.Virtual (Pins OwnerPinGetValidatedFlag) (codes "getValidatedFlag") [] answer.Boolean Kept ∷
+    optional_method OwnerPin kind.Virtual (Pins OwnerPinSetValidatedFlag) (codes "setValidatedFlag") (Boolean ∷ []) answer.Void Changed ∷
+    []
+
+-- the methods of Applet
+unfoldable pub applets_rows : List MethodEntry
+applets_rows =
+    method_entry Applet kind.Static (Applets AppletInit) (codes "<init>") [] answer.Void Kept ∷
+    method_entry Applet kind.Virtual (Applets AppletDeselect) (codes "deselect") [] answer.Void Kept ∷
+    method_entry Applet kind.Virtual (Applets AppletGetShareableInterfaceObject) (codes "getShareableInterfaceObject") (Instance Aid ∷ Byte ∷ []) answer.Reference Kept ∷
+    method_entry Applet kind.Virtual (Applets AppletRegister) (codes "register") [] answer.Void Registered ∷
+    method_entry Applet kind.Virtual (Applets AppletRegisterBytes) (codes "registerBytes") (Bytes ∷ Short ∷ Byte ∷ []) answer.Void Registered ∷
+    method_entry Applet kind.Virtual (Applets AppletSelect) (codes "select") [] answer.Boolean Kept ∷
+    method_entry Applet kind.Virtual (Applets AppletSelectingApplet) (codes "selectingApplet") [] answer.Boolean Kept ∷
+    method_entry Applet kind.Virtual (Applets AppletProcess) (codes "process") (Instance Apdu ∷ []) answer.Void Kept ∷
+    optional_method Applet kind.Virtual (Applets AppletReSelectingApplet) (codes "reSelectingApplet") [] answer.Boolean Kept ∷
+    []
+
+-- the methods of APDU
+unfoldable pub apdus_rows : List MethodEntry
+apdus_rows =
+    method_entry Apdu kind.Virtual (Apdus ApduGetBuffer) (codes "getBuffer") [] answer.Reference Kept ∷
+    method_entry Apdu kind.Virtual (Apdus ApduReceiveBytes) (codes "receiveBytes") (Short ∷ []) answer.Short Kept ∷
+    method_entry Apdu kind.Virtual (Apdus ApduSendBytes) (codes "sendBytes") (Short ∷ Short ∷ []) answer.Void Kept ∷
+    method_entry Apdu kind.Virtual (Apdus ApduSetIncomingAndReceive) (codes "setIncomingAndReceive") [] answer.Short Kept ∷
+    method_entry Apdu kind.Virtual (Apdus ApduSetOutgoing) (codes "setOutgoing") [] answer.Short Kept ∷
+    method_entry Apdu kind.Virtual (Apdus ApduSetOutgoingAndSend) (codes "setOutgoingAndSend") (Short ∷ Short ∷ []) answer.Void Kept ∷
+    method_entry Apdu kind.Virtual (Apdus ApduSetOutgoingLength) (codes "setOutgoingLength") (Short ∷ []) answer.Void Kept ∷
+    optional_method Apdu kind.Virtual (Apdus ApduGetIncomingLength) (codes "getIncomingLength") [] answer.Short Kept ∷
+    optional_method Apdu kind.Virtual (Apdus ApduGetOffsetCdata) (codes "getOffsetCdata") [] answer.Short Kept ∷
+    optional_method Apdu kind.Virtual (Apdus ApduSendBytesLong) (codes "sendBytesLong") (Bytes ∷ Short ∷ Short ∷ []) answer.Void Kept ∷
+    optional_method Apdu kind.Virtual (Apdus ApduGetCurrentState) (codes "getCurrentState") [] answer.Byte Kept ∷
+    optional_method Apdu kind.Static (Apdus ApduGetProtocol) (codes "getProtocol") [] answer.Byte Absent ∷
+    optional_method Apdu kind.Virtual (Apdus ApduGetNad) (codes "getNAD") [] answer.Byte Kept ∷
+    optional_method Apdu kind.Static (Apdus ApduGetClaChannel) (codes "getCLAChannel") [] answer.Byte Absent ∷
+    optional_method Apdu kind.Static (Apdus ApduGetInBlockSize) (codes "getInBlockSize") [] answer.Short Absent ∷
+    optional_method Apdu kind.Static (Apdus ApduGetOutBlockSize) (codes "getOutBlockSize") [] answer.Short Absent ∷
+    optional_method Apdu kind.Virtual (Apdus ApduIsIsoInterindustryCla) (codes "isISOInterindustryCLA") [] answer.Boolean Kept ∷
+    optional_method Apdu kind.Virtual (Apdus ApduIsCommandChainingCla) (codes "isCommandChainingCLA") [] answer.Boolean Kept ∷
+    optional_method Apdu kind.Virtual (Apdus ApduIsSecureMessagingCla) (codes "isSecureMessagingCLA") [] answer.Boolean Kept ∷
+    optional_method Apdu kind.Virtual (Apdus ApduIsValidCla) (codes "isValidCLA") [] answer.Boolean Kept ∷
+    optional_method Apdu kind.Virtual (Apdus ApduSetOutgoingNoChaining) (codes "setOutgoingNoChaining") [] answer.Short Kept ∷
+    optional_method Apdu kind.Static (Apdus ApduWaitExtension) (codes "waitExtension") [] answer.Void Absent ∷
+    optional_method Apdu kind.Static (Apdus ApduGetCurrentApdu) (codes "getCurrentAPDU") [] answer.Reference Absent ∷
+    optional_method Apdu kind.Static (Apdus ApduGetCurrentApduBuffer) (codes "getCurrentAPDUBuffer") [] answer.Reference Absent ∷
+    []
+
+-- the methods of MultiSelectable and AppletEvent
+unfoldable pub events_rows : List MethodEntry
+events_rows =
+    optional_method MultiSelectable kind.Interface (Events MultiSelectableSelect) (codes "select") (Boolean ∷ []) answer.Boolean Kept ∷
+    optional_method MultiSelectable kind.Interface (Events MultiSelectableDeselect) (codes "deselect") (Boolean ∷ []) answer.Void Kept ∷
+    optional_method AppletEvent kind.Interface (Events AppletEventUninstall) (codes "uninstall") [] answer.Void Kept ∷
     []
 
 -- every method
-unfoldable pub methods : List MethodEntry
-methods =
-    method_entry Object Static ObjectInit 1 (codes "<init>") ∷
-    method_entry Object Virtual ObjectEquals 2 (codes "equals") ∷
-    method_entry Throwable Static ThrowableInit 1 (codes "<init>") ∷
-    method_entry Exception Static ExceptionInit 1 (codes "<init>") ∷
-    method_entry RuntimeException Static RuntimeExceptionInit 1 (codes "<init>") ∷
-    method_entry IndexOutOfBoundsException Static IndexOutOfBoundsExceptionInit 1 (codes "<init>") ∷
-    method_entry ArithmeticException Static ArithmeticExceptionInit 1 (codes "<init>") ∷
-    method_entry ArrayIndexOutOfBoundsException Static ArrayIndexOutOfBoundsExceptionInit 1 (codes "<init>") ∷
-    method_entry ArrayStoreException Static ArrayStoreExceptionInit 1 (codes "<init>") ∷
-    method_entry ClassCastException Static ClassCastExceptionInit 1 (codes "<init>") ∷
-    method_entry NegativeArraySizeException Static NegativeArraySizeExceptionInit 1 (codes "<init>") ∷
-    method_entry NullPointerException Static NullPointerExceptionInit 1 (codes "<init>") ∷
-    method_entry SecurityException Static SecurityExceptionInit 1 (codes "<init>") ∷
-    method_entry Pin Interface PinCheck 4 (codes "check") ∷
-    method_entry Pin Interface PinGetTriesRemaining 1 (codes "getTriesRemaining") ∷
-    method_entry Pin Interface PinIsValidated 1 (codes "isValidated") ∷
-    method_entry Pin Interface PinReset 1 (codes "reset") ∷
-    method_entry Applet Static AppletInit 1 (codes "<init>") ∷
-    method_entry Applet Virtual AppletDeselect 1 (codes "deselect") ∷
-    method_entry Applet Virtual AppletGetShareableInterfaceObject 3 (codes "getShareableInterfaceObject") ∷
-    method_entry Applet Virtual AppletRegister 1 (codes "register") ∷
-    method_entry Applet Virtual AppletRegisterBytes 4 (codes "registerBytes") ∷
-    method_entry Applet Virtual AppletSelect 1 (codes "select") ∷
-    method_entry Applet Virtual AppletSelectingApplet 1 (codes "selectingApplet") ∷
-    method_entry Applet Virtual AppletProcess 2 (codes "process") ∷
-    optional_method Applet Virtual AppletReSelectingApplet 1 (codes "reSelectingApplet") ∷
-    method_entry Apdu Virtual ApduGetBuffer 1 (codes "getBuffer") ∷
-    method_entry Apdu Virtual ApduReceiveBytes 2 (codes "receiveBytes") ∷
-    method_entry Apdu Virtual ApduSendBytes 3 (codes "sendBytes") ∷
-    method_entry Apdu Virtual ApduSetIncomingAndReceive 1 (codes "setIncomingAndReceive") ∷
-    method_entry Apdu Virtual ApduSetOutgoing 1 (codes "setOutgoing") ∷
-    method_entry Apdu Virtual ApduSetOutgoingAndSend 3 (codes "setOutgoingAndSend") ∷
-    method_entry Apdu Virtual ApduSetOutgoingLength 2 (codes "setOutgoingLength") ∷
-    optional_method Apdu Virtual ApduGetIncomingLength 1 (codes "getIncomingLength") ∷
-    optional_method Apdu Virtual ApduGetOffsetCdata 1 (codes "getOffsetCdata") ∷
-    optional_method Apdu Virtual ApduSendBytesLong 4 (codes "sendBytesLong") ∷
-    optional_method Apdu Virtual ApduGetCurrentState 1 (codes "getCurrentState") ∷
-    optional_method Apdu Static ApduGetProtocol 0 (codes "getProtocol") ∷
-    optional_method Apdu Virtual ApduGetNad 1 (codes "getNAD") ∷
-    optional_method Apdu Static ApduGetClaChannel 0 (codes "getCLAChannel") ∷
-    optional_method Apdu Static ApduGetInBlockSize 0 (codes "getInBlockSize") ∷
-    optional_method Apdu Static ApduGetOutBlockSize 0 (codes "getOutBlockSize") ∷
-    optional_method Apdu Virtual ApduIsIsoInterindustryCla 1 (codes "isISOInterindustryCLA") ∷
-    optional_method Apdu Virtual ApduIsCommandChainingCla 1 (codes "isCommandChainingCLA") ∷
-    optional_method Apdu Virtual ApduIsSecureMessagingCla 1 (codes "isSecureMessagingCLA") ∷
-    optional_method Apdu Virtual ApduIsValidCla 1 (codes "isValidCLA") ∷
-    optional_method Apdu Virtual ApduSetOutgoingNoChaining 1 (codes "setOutgoingNoChaining") ∷
-    optional_method Apdu Static ApduWaitExtension 0 (codes "waitExtension") ∷
-    optional_method Apdu Static ApduGetCurrentApdu 0 (codes "getCurrentAPDU") ∷
-    optional_method Apdu Static ApduGetCurrentApduBuffer 0 (codes "getCurrentAPDUBuffer") ∷
-    method_entry Aid Static AidInit 4 (codes "<init>") ∷
-    method_entry Aid Virtual AidEquals 2 (codes "equals") ∷
-    method_entry Aid Virtual AidEqualsBytes 4 (codes "equalsBytes") ∷
-    method_entry Aid Virtual AidGetBytes 3 (codes "getBytes") ∷
-    optional_method Aid Virtual AidRidEquals 2 (codes "RIDEquals") ∷
-    optional_method Aid Virtual AidPartialEquals 4 (codes "partialEquals") ∷
-    optional_method Aid Virtual AidGetPartialBytes 5 (codes "getPartialBytes") ∷
-    method_entry JcSystem Static JcSystemAbortTransaction 0 (codes "abortTransaction") ∷
-    method_entry JcSystem Static JcSystemBeginTransaction 0 (codes "beginTransaction") ∷
-    method_entry JcSystem Static JcSystemCommitTransaction 0 (codes "commitTransaction") ∷
-    method_entry JcSystem Static JcSystemGetAid 0 (codes "getAID") ∷
-    method_entry JcSystem Static JcSystemGetAppletShareableInterfaceObject 2 (codes "getAppletShareableInterfaceObject") ∷
-    method_entry JcSystem Static JcSystemGetMaxCommitCapacity 0 (codes "getMaxCommitCapacity") ∷
-    method_entry JcSystem Static JcSystemGetPreviousContextAid 0 (codes "getPreviousContextAID") ∷
-    method_entry JcSystem Static JcSystemGetTransactionDepth 0 (codes "getTransactionDepth") ∷
-    method_entry JcSystem Static JcSystemGetUnusedCommitCapacity 0 (codes "getUnusedCommitCapacity") ∷
-    method_entry JcSystem Static JcSystemIsTransient 1 (codes "isTransient") ∷
-    method_entry JcSystem Static JcSystemLookupAid 3 (codes "lookupAID") ∷
-    method_entry JcSystem Static JcSystemMakeTransientBooleanArray 2 (codes "makeTransientBooleanArray") ∷
-    method_entry JcSystem Static JcSystemMakeTransientByteArray 2 (codes "makeTransientByteArray") ∷
-    method_entry JcSystem Static JcSystemMakeTransientObjectArray 2 (codes "makeTransientObjectArray") ∷
-    method_entry JcSystem Static JcSystemMakeTransientShortArray 2 (codes "makeTransientShortArray") ∷
-    optional_method JcSystem Static JcSystemGetVersion 0 (codes "getVersion") ∷
-    optional_method JcSystem Static JcSystemGetAvailableMemory 1 (codes "getAvailableMemory") ∷
-    optional_method JcSystem Static JcSystemGetAvailableMemoryShorts 3 (codes "getAvailableMemoryShorts") ∷
-    optional_method JcSystem Static JcSystemRequestObjectDeletion 0 (codes "requestObjectDeletion") ∷
-    optional_method JcSystem Static JcSystemIsObjectDeletionSupported 0 (codes "isObjectDeletionSupported") ∷
-    optional_method JcSystem Static JcSystemIsAppletActive 1 (codes "isAppletActive") ∷
-    optional_method JcSystem Static JcSystemGetAssignedChannel 0 (codes "getAssignedChannel") ∷
-    method_entry Util Static UtilArrayCompare 5 (codes "arrayCompare") ∷
-    method_entry Util Static UtilArrayCopy 5 (codes "arrayCopy") ∷
-    method_entry Util Static UtilGetShort 2 (codes "getShort") ∷
-    method_entry Util Static UtilMakeShort 2 (codes "makeShort") ∷
-    method_entry Util Static UtilSetShort 3 (codes "setShort") ∷
-    optional_method Util Static UtilArrayFill 4 (codes "arrayFill") ∷
-    method_entry OwnerPin Static OwnerPinInit 3 (codes "<init>") ∷
-    method_entry OwnerPin Virtual OwnerPinCheck 4 (codes "check") ∷
-    method_entry OwnerPin Virtual OwnerPinGetTriesRemaining 1 (codes "getTriesRemaining") ∷
-    method_entry OwnerPin Virtual OwnerPinIsValidated 1 (codes "isValidated") ∷
-    method_entry OwnerPin Virtual OwnerPinReset 1 (codes "reset") ∷
-    method_entry OwnerPin Virtual OwnerPinResetAndUnblock 1 (codes "resetAndUnblock") ∷
-    method_entry OwnerPin Virtual OwnerPinUpdate 4 (codes "update") ∷
-    optional_method OwnerPin Virtual OwnerPinGetValidatedFlag 1 (codes "getValidatedFlag") ∷
-    optional_method OwnerPin Virtual OwnerPinSetValidatedFlag 2 (codes "setValidatedFlag") ∷
-    method_entry CardException Static CardExceptionInit 2 (codes "<init>") ∷
-    method_entry CardException Static CardExceptionThrowIt 1 (codes "throwIt") ∷
-    method_entry CardException Virtual CardExceptionGetReason 1 (codes "getReason") ∷
-    method_entry CardException Virtual CardExceptionSetReason 2 (codes "setReason") ∷
-    method_entry CardRuntimeException Static CardRuntimeExceptionInit 2 (codes "<init>") ∷
-    method_entry CardRuntimeException Static CardRuntimeExceptionThrowIt 1 (codes "throwIt") ∷
-    method_entry CardRuntimeException Virtual CardRuntimeExceptionGetReason 1 (codes "getReason") ∷
-    method_entry CardRuntimeException Virtual CardRuntimeExceptionSetReason 2 (codes "setReason") ∷
-    method_entry IsoException Static IsoExceptionInit 2 (codes "<init>") ∷
-    method_entry IsoException Static IsoExceptionThrowIt 1 (codes "throwIt") ∷
-    method_entry PinException Static PinExceptionInit 2 (codes "<init>") ∷
-    method_entry PinException Static PinExceptionThrowIt 1 (codes "throwIt") ∷
-    method_entry SystemException Static SystemExceptionInit 2 (codes "<init>") ∷
-    method_entry SystemException Static SystemExceptionThrowIt 1 (codes "throwIt") ∷
-    method_entry TransactionException Static TransactionExceptionInit 2 (codes "<init>") ∷
-    method_entry TransactionException Static TransactionExceptionThrowIt 1 (codes "throwIt") ∷
-    method_entry ApduException Static ApduExceptionInit 2 (codes "<init>") ∷
-    method_entry ApduException Static ApduExceptionThrowIt 1 (codes "throwIt") ∷
-    method_entry UserException Static UserExceptionInit 2 (codes "<init>") ∷
-    method_entry UserException Static UserExceptionThrowIt 1 (codes "throwIt") ∷
-    optional_method UserException Static UserExceptionInitWithoutReason 1 (codes "<init>WithoutReason") ∷
-    optional_method MultiSelectable Interface MultiSelectableSelect 2 (codes "select") ∷
-    optional_method MultiSelectable Interface MultiSelectableDeselect 2 (codes "deselect") ∷
-    optional_method AppletEvent Interface AppletEventUninstall 1 (codes "uninstall") ∷
-    []
+abbrev pub methods : List MethodEntry
+methods = objects_rows ++ (exceptions_rows ++ (utilities_rows ++ (system_rows ++ (aids_rows ++ (pins_rows ++ (applets_rows ++ (apdus_rows ++ (events_rows))))))))
+
+-- no class's row
+unfoldable pub no_class : ClassEntry
+no_class = class_entry JavaLang Object [] None [] form.Object [] false false
+
+-- no method's row
+unfoldable pub no_method : MethodEntry
+no_method = method_entry Object kind.Static (Objects ObjectInit) [] [] answer.Void Absent

@@ -1,5 +1,5 @@
--- The numbers of the platform's names: their places in the lists of all.
-use Rattle.std.specs.Prelude.{ℕ, Bool, ◌==◌}
+-- The numbers of the platform's names: their places in the lists of all, and of a method also its place in its room.
+use Rattle.std.specs.Prelude.{ℕ, Bool, ◌==◌, ◌+◌}
 use Rattle.jc_platform.specs.declared.names.PlatformPackage.{PlatformPackage}
 use Rattle.jc_platform.specs.declared.names.PlatformPackage.TheVariants.{JavaLang, JavacardFramework, JavacardxApdu}
 use Rattle.jc_platform.specs.declared.names.PlatformClass.{PlatformClass}
@@ -12,51 +12,117 @@ use Rattle.jc_platform.specs.declared.names.PlatformClass.TheVariants.{ApduExcep
 use Rattle.jc_platform.specs.declared.names.MethodKind.{MethodKind}
 use Rattle.jc_platform.specs.declared.names.MethodKind.TheVariants.{Static, Virtual, Interface}
 use Rattle.jc_platform.specs.declared.names.PlatformMethod.{PlatformMethod}
-use Rattle.jc_platform.specs.declared.names.PlatformMethod.TheVariants.{ObjectInit, ObjectEquals, ThrowableInit, ExceptionInit, RuntimeExceptionInit}
-use Rattle.jc_platform.specs.declared.names.PlatformMethod.TheVariants.{IndexOutOfBoundsExceptionInit, ArithmeticExceptionInit}
-use Rattle.jc_platform.specs.declared.names.PlatformMethod.TheVariants.{ArrayIndexOutOfBoundsExceptionInit, ArrayStoreExceptionInit, ClassCastExceptionInit}
-use Rattle.jc_platform.specs.declared.names.PlatformMethod.TheVariants.{NegativeArraySizeExceptionInit, NullPointerExceptionInit, SecurityExceptionInit}
-use Rattle.jc_platform.specs.declared.names.PlatformMethod.TheVariants.{PinCheck, PinGetTriesRemaining, PinIsValidated, PinReset, AppletInit, AppletDeselect}
-use Rattle.jc_platform.specs.declared.names.PlatformMethod.TheVariants.{AppletGetShareableInterfaceObject, AppletRegister, AppletRegisterBytes, AppletSelect}
-use Rattle.jc_platform.specs.declared.names.PlatformMethod.TheVariants.{AppletSelectingApplet, AppletProcess, AppletReSelectingApplet, ApduGetBuffer}
-use Rattle.jc_platform.specs.declared.names.PlatformMethod.TheVariants.{ApduReceiveBytes, ApduSendBytes, ApduSetIncomingAndReceive, ApduSetOutgoing}
-use Rattle.jc_platform.specs.declared.names.PlatformMethod.TheVariants.{ApduSetOutgoingAndSend, ApduSetOutgoingLength, ApduGetIncomingLength}
-use Rattle.jc_platform.specs.declared.names.PlatformMethod.TheVariants.{ApduGetOffsetCdata, ApduSendBytesLong, ApduGetCurrentState, ApduGetProtocol, ApduGetNad}
-use Rattle.jc_platform.specs.declared.names.PlatformMethod.TheVariants.{ApduGetClaChannel, ApduGetInBlockSize, ApduGetOutBlockSize, ApduIsIsoInterindustryCla}
-use Rattle.jc_platform.specs.declared.names.PlatformMethod.TheVariants.{ApduIsCommandChainingCla, ApduIsSecureMessagingCla, ApduIsValidCla}
-use Rattle.jc_platform.specs.declared.names.PlatformMethod.TheVariants.{ApduSetOutgoingNoChaining, ApduWaitExtension, ApduGetCurrentApdu}
-use Rattle.jc_platform.specs.declared.names.PlatformMethod.TheVariants.{ApduGetCurrentApduBuffer, AidInit, AidEquals, AidEqualsBytes, AidGetBytes, AidRidEquals}
-use Rattle.jc_platform.specs.declared.names.PlatformMethod.TheVariants.{AidPartialEquals, AidGetPartialBytes, JcSystemAbortTransaction}
-use Rattle.jc_platform.specs.declared.names.PlatformMethod.TheVariants.{JcSystemBeginTransaction, JcSystemCommitTransaction, JcSystemGetAid}
-use Rattle.jc_platform.specs.declared.names.PlatformMethod.TheVariants.{JcSystemGetAppletShareableInterfaceObject, JcSystemGetMaxCommitCapacity}
-use Rattle.jc_platform.specs.declared.names.PlatformMethod.TheVariants.{JcSystemGetPreviousContextAid, JcSystemGetTransactionDepth}
-use Rattle.jc_platform.specs.declared.names.PlatformMethod.TheVariants.{JcSystemGetUnusedCommitCapacity, JcSystemIsTransient, JcSystemLookupAid}
-use Rattle.jc_platform.specs.declared.names.PlatformMethod.TheVariants.{JcSystemMakeTransientBooleanArray, JcSystemMakeTransientByteArray}
-use Rattle.jc_platform.specs.declared.names.PlatformMethod.TheVariants.{JcSystemMakeTransientObjectArray, JcSystemMakeTransientShortArray, JcSystemGetVersion}
-use Rattle.jc_platform.specs.declared.names.PlatformMethod.TheVariants.{JcSystemGetAvailableMemory, JcSystemGetAvailableMemoryShorts}
-use Rattle.jc_platform.specs.declared.names.PlatformMethod.TheVariants.{JcSystemRequestObjectDeletion, JcSystemIsObjectDeletionSupported}
-use Rattle.jc_platform.specs.declared.names.PlatformMethod.TheVariants.{JcSystemIsAppletActive, JcSystemGetAssignedChannel, UtilArrayCompare, UtilArrayCopy}
-use Rattle.jc_platform.specs.declared.names.PlatformMethod.TheVariants.{UtilGetShort, UtilMakeShort, UtilSetShort, UtilArrayFill, OwnerPinInit, OwnerPinCheck}
-use Rattle.jc_platform.specs.declared.names.PlatformMethod.TheVariants.{OwnerPinGetTriesRemaining, OwnerPinIsValidated, OwnerPinReset, OwnerPinResetAndUnblock}
-use Rattle.jc_platform.specs.declared.names.PlatformMethod.TheVariants.{OwnerPinUpdate, OwnerPinGetValidatedFlag, OwnerPinSetValidatedFlag, CardExceptionInit}
-use Rattle.jc_platform.specs.declared.names.PlatformMethod.TheVariants.{CardExceptionThrowIt, CardExceptionGetReason, CardExceptionSetReason}
-use Rattle.jc_platform.specs.declared.names.PlatformMethod.TheVariants.{CardRuntimeExceptionInit, CardRuntimeExceptionThrowIt, CardRuntimeExceptionGetReason}
-use Rattle.jc_platform.specs.declared.names.PlatformMethod.TheVariants.{CardRuntimeExceptionSetReason, IsoExceptionInit, IsoExceptionThrowIt, PinExceptionInit}
-use Rattle.jc_platform.specs.declared.names.PlatformMethod.TheVariants.{PinExceptionThrowIt, SystemExceptionInit, SystemExceptionThrowIt}
-use Rattle.jc_platform.specs.declared.names.PlatformMethod.TheVariants.{TransactionExceptionInit, TransactionExceptionThrowIt, ApduExceptionInit}
-use Rattle.jc_platform.specs.declared.names.PlatformMethod.TheVariants.{ApduExceptionThrowIt, UserExceptionInit, UserExceptionThrowIt}
-use Rattle.jc_platform.specs.declared.names.PlatformMethod.TheVariants.{UserExceptionInitWithoutReason, MultiSelectableSelect, MultiSelectableDeselect}
-use Rattle.jc_platform.specs.declared.names.PlatformMethod.TheVariants.{AppletEventUninstall}
+use Rattle.jc_platform.specs.declared.names.PlatformMethod.TheVariants.{Objects, Exceptions, Utilities, System, Aids, Pins, Applets, Apdus, Events}
+use Rattle.jc_platform.specs.declared.names.ObjectsMethod.{ObjectsMethod}
+use Rattle.jc_platform.specs.declared.names.ObjectsMethod.TheVariants.{ObjectInit, ObjectEquals, ThrowableInit, ExceptionInit, RuntimeExceptionInit}
+use Rattle.jc_platform.specs.declared.names.ObjectsMethod.TheVariants.{IndexOutOfBoundsExceptionInit, ArithmeticExceptionInit}
+use Rattle.jc_platform.specs.declared.names.ObjectsMethod.TheVariants.{ArrayIndexOutOfBoundsExceptionInit, ArrayStoreExceptionInit, ClassCastExceptionInit}
+use Rattle.jc_platform.specs.declared.names.ObjectsMethod.TheVariants.{NegativeArraySizeExceptionInit, NullPointerExceptionInit, SecurityExceptionInit}
+use Rattle.jc_platform.specs.declared.names.ExceptionsMethod.{ExceptionsMethod}
+use Rattle.jc_platform.specs.declared.names.ExceptionsMethod.TheVariants.{CardExceptionInit, CardExceptionThrowIt, CardExceptionGetReason}
+use Rattle.jc_platform.specs.declared.names.ExceptionsMethod.TheVariants.{CardExceptionSetReason, CardRuntimeExceptionInit, CardRuntimeExceptionThrowIt}
+use Rattle.jc_platform.specs.declared.names.ExceptionsMethod.TheVariants.{CardRuntimeExceptionGetReason, CardRuntimeExceptionSetReason, IsoExceptionInit}
+use Rattle.jc_platform.specs.declared.names.ExceptionsMethod.TheVariants.{IsoExceptionThrowIt, PinExceptionInit, PinExceptionThrowIt, SystemExceptionInit}
+use Rattle.jc_platform.specs.declared.names.ExceptionsMethod.TheVariants.{SystemExceptionThrowIt, TransactionExceptionInit, TransactionExceptionThrowIt}
+use Rattle.jc_platform.specs.declared.names.ExceptionsMethod.TheVariants.{ApduExceptionInit, ApduExceptionThrowIt, UserExceptionInit, UserExceptionThrowIt}
+use Rattle.jc_platform.specs.declared.names.ExceptionsMethod.TheVariants.{UserExceptionInitWithoutReason}
+use Rattle.jc_platform.specs.declared.names.UtilitiesMethod.{UtilitiesMethod}
+use Rattle.jc_platform.specs.declared.names.UtilitiesMethod.TheVariants.{UtilArrayCompare, UtilArrayCopy, UtilGetShort, UtilMakeShort, UtilSetShort}
+use Rattle.jc_platform.specs.declared.names.UtilitiesMethod.TheVariants.{UtilArrayCopyNonAtomic, UtilArrayFill, UtilArrayFillNonAtomic}
+use Rattle.jc_platform.specs.declared.names.SystemMethod.{SystemMethod}
+use Rattle.jc_platform.specs.declared.names.SystemMethod.TheVariants.{JcSystemAbortTransaction, JcSystemBeginTransaction, JcSystemCommitTransaction}
+use Rattle.jc_platform.specs.declared.names.SystemMethod.TheVariants.{JcSystemGetAid, JcSystemGetAppletShareableInterfaceObject, JcSystemGetMaxCommitCapacity}
+use Rattle.jc_platform.specs.declared.names.SystemMethod.TheVariants.{JcSystemGetPreviousContextAid, JcSystemGetTransactionDepth}
+use Rattle.jc_platform.specs.declared.names.SystemMethod.TheVariants.{JcSystemGetUnusedCommitCapacity, JcSystemIsTransient, JcSystemLookupAid}
+use Rattle.jc_platform.specs.declared.names.SystemMethod.TheVariants.{JcSystemMakeTransientBooleanArray, JcSystemMakeTransientByteArray}
+use Rattle.jc_platform.specs.declared.names.SystemMethod.TheVariants.{JcSystemMakeTransientObjectArray, JcSystemMakeTransientShortArray, JcSystemGetVersion}
+use Rattle.jc_platform.specs.declared.names.SystemMethod.TheVariants.{JcSystemGetAvailableMemory, JcSystemGetAvailableMemoryShorts}
+use Rattle.jc_platform.specs.declared.names.SystemMethod.TheVariants.{JcSystemRequestObjectDeletion, JcSystemIsObjectDeletionSupported, JcSystemIsAppletActive}
+use Rattle.jc_platform.specs.declared.names.SystemMethod.TheVariants.{JcSystemGetAssignedChannel}
+use Rattle.jc_platform.specs.declared.names.AidsMethod.{AidsMethod}
+use Rattle.jc_platform.specs.declared.names.AidsMethod.TheVariants.{AidInit, AidEquals, AidEqualsBytes, AidGetBytes, AidRidEquals, AidPartialEquals}
+use Rattle.jc_platform.specs.declared.names.AidsMethod.TheVariants.{AidGetPartialBytes}
+use Rattle.jc_platform.specs.declared.names.PinsMethod.{PinsMethod}
+use Rattle.jc_platform.specs.declared.names.PinsMethod.TheVariants.{PinCheck, PinGetTriesRemaining, PinIsValidated, PinReset, OwnerPinInit, OwnerPinCheck}
+use Rattle.jc_platform.specs.declared.names.PinsMethod.TheVariants.{OwnerPinGetTriesRemaining, OwnerPinIsValidated, OwnerPinReset, OwnerPinResetAndUnblock}
+use Rattle.jc_platform.specs.declared.names.PinsMethod.TheVariants.{OwnerPinUpdate, OwnerPinGetValidatedFlag, OwnerPinSetValidatedFlag}
+use Rattle.jc_platform.specs.declared.names.AppletsMethod.{AppletsMethod}
+use Rattle.jc_platform.specs.declared.names.AppletsMethod.TheVariants.{AppletInit, AppletDeselect, AppletGetShareableInterfaceObject, AppletRegister}
+use Rattle.jc_platform.specs.declared.names.AppletsMethod.TheVariants.{AppletRegisterBytes, AppletSelect, AppletSelectingApplet, AppletProcess}
+use Rattle.jc_platform.specs.declared.names.AppletsMethod.TheVariants.{AppletReSelectingApplet}
+use Rattle.jc_platform.specs.declared.names.ApdusMethod.{ApdusMethod}
+use Rattle.jc_platform.specs.declared.names.ApdusMethod.TheVariants.{ApduGetBuffer, ApduReceiveBytes, ApduSendBytes, ApduSetIncomingAndReceive, ApduSetOutgoing}
+use Rattle.jc_platform.specs.declared.names.ApdusMethod.TheVariants.{ApduSetOutgoingAndSend, ApduSetOutgoingLength, ApduGetIncomingLength, ApduGetOffsetCdata}
+use Rattle.jc_platform.specs.declared.names.ApdusMethod.TheVariants.{ApduSendBytesLong, ApduGetCurrentState, ApduGetProtocol, ApduGetNad, ApduGetClaChannel}
+use Rattle.jc_platform.specs.declared.names.ApdusMethod.TheVariants.{ApduGetInBlockSize, ApduGetOutBlockSize, ApduIsIsoInterindustryCla}
+use Rattle.jc_platform.specs.declared.names.ApdusMethod.TheVariants.{ApduIsCommandChainingCla, ApduIsSecureMessagingCla, ApduIsValidCla}
+use Rattle.jc_platform.specs.declared.names.ApdusMethod.TheVariants.{ApduSetOutgoingNoChaining, ApduWaitExtension, ApduGetCurrentApdu, ApduGetCurrentApduBuffer}
+use Rattle.jc_platform.specs.declared.names.EventsMethod.{EventsMethod}
+use Rattle.jc_platform.specs.declared.names.EventsMethod.TheVariants.{MultiSelectableSelect, MultiSelectableDeselect, AppletEventUninstall}
 
--- how many packages, classes and methods there are
+-- how many packages and classes there are
 abbrev pub package_count : ℕ
 package_count = 3
 
 abbrev pub class_count : ℕ
 class_count = 32
 
+-- how many methods each room has
+abbrev pub objects_count : ℕ
+objects_count = 13
+
+abbrev pub exceptions_count : ℕ
+exceptions_count = 21
+
+abbrev pub utilities_count : ℕ
+utilities_count = 8
+
+abbrev pub system_count : ℕ
+system_count = 22
+
+abbrev pub aids_count : ℕ
+aids_count = 7
+
+abbrev pub pins_count : ℕ
+pins_count = 13
+
+abbrev pub applets_count : ℕ
+applets_count = 9
+
+abbrev pub apdus_count : ℕ
+apdus_count = 24
+
+abbrev pub events_count : ℕ
+events_count = 3
+
+-- the places of the first method of each room but the first
+abbrev pub exceptions_first : ℕ
+exceptions_first = objects_count
+
+abbrev pub utilities_first : ℕ
+utilities_first = exceptions_first + exceptions_count
+
+abbrev pub system_first : ℕ
+system_first = utilities_first + utilities_count
+
+abbrev pub aids_first : ℕ
+aids_first = system_first + system_count
+
+abbrev pub pins_first : ℕ
+pins_first = aids_first + aids_count
+
+abbrev pub applets_first : ℕ
+applets_first = pins_first + pins_count
+
+abbrev pub apdus_first : ℕ
+apdus_first = applets_first + applets_count
+
+abbrev pub events_first : ℕ
+events_first = apdus_first + apdus_count
+
+-- how many methods there are
 abbrev pub method_count : ℕ
-method_count = 118
+method_count = events_first + events_count
 
 -- the place of a package
 abbrev pub package_number : PlatformPackage → ℕ
@@ -117,126 +183,156 @@ kind_number Interface = 2
 abbrev pub same_kind : MethodKind → MethodKind → Bool
 same_kind a b = kind_number a == kind_number b
 
+-- the place of a method in its room
+abbrev pub objects_number : ObjectsMethod → ℕ
+objects_number ObjectInit = 0
+objects_number ObjectEquals = 1
+objects_number ThrowableInit = 2
+objects_number ExceptionInit = 3
+objects_number RuntimeExceptionInit = 4
+objects_number IndexOutOfBoundsExceptionInit = 5
+objects_number ArithmeticExceptionInit = 6
+objects_number ArrayIndexOutOfBoundsExceptionInit = 7
+objects_number ArrayStoreExceptionInit = 8
+objects_number ClassCastExceptionInit = 9
+objects_number NegativeArraySizeExceptionInit = 10
+objects_number NullPointerExceptionInit = 11
+objects_number SecurityExceptionInit = 12
+
+abbrev pub exceptions_number : ExceptionsMethod → ℕ
+exceptions_number CardExceptionInit = 0
+exceptions_number CardExceptionThrowIt = 1
+exceptions_number CardExceptionGetReason = 2
+exceptions_number CardExceptionSetReason = 3
+exceptions_number CardRuntimeExceptionInit = 4
+exceptions_number CardRuntimeExceptionThrowIt = 5
+exceptions_number CardRuntimeExceptionGetReason = 6
+exceptions_number CardRuntimeExceptionSetReason = 7
+exceptions_number IsoExceptionInit = 8
+exceptions_number IsoExceptionThrowIt = 9
+exceptions_number PinExceptionInit = 10
+exceptions_number PinExceptionThrowIt = 11
+exceptions_number SystemExceptionInit = 12
+exceptions_number SystemExceptionThrowIt = 13
+exceptions_number TransactionExceptionInit = 14
+exceptions_number TransactionExceptionThrowIt = 15
+exceptions_number ApduExceptionInit = 16
+exceptions_number ApduExceptionThrowIt = 17
+exceptions_number UserExceptionInit = 18
+exceptions_number UserExceptionThrowIt = 19
+exceptions_number UserExceptionInitWithoutReason = 20
+
+abbrev pub utilities_number : UtilitiesMethod → ℕ
+utilities_number UtilArrayCompare = 0
+utilities_number UtilArrayCopy = 1
+utilities_number UtilGetShort = 2
+utilities_number UtilMakeShort = 3
+utilities_number UtilSetShort = 4
+utilities_number UtilArrayFill = 5
+utilities_number UtilArrayCopyNonAtomic = 6
+utilities_number UtilArrayFillNonAtomic = 7
+
+abbrev pub system_number : SystemMethod → ℕ
+system_number JcSystemAbortTransaction = 0
+system_number JcSystemBeginTransaction = 1
+system_number JcSystemCommitTransaction = 2
+system_number JcSystemGetAid = 3
+system_number JcSystemGetAppletShareableInterfaceObject = 4
+system_number JcSystemGetMaxCommitCapacity = 5
+system_number JcSystemGetPreviousContextAid = 6
+system_number JcSystemGetTransactionDepth = 7
+system_number JcSystemGetUnusedCommitCapacity = 8
+system_number JcSystemIsTransient = 9
+system_number JcSystemLookupAid = 10
+system_number JcSystemMakeTransientBooleanArray = 11
+system_number JcSystemMakeTransientByteArray = 12
+system_number JcSystemMakeTransientObjectArray = 13
+system_number JcSystemMakeTransientShortArray = 14
+system_number JcSystemGetVersion = 15
+system_number JcSystemGetAvailableMemory = 16
+system_number JcSystemGetAvailableMemoryShorts = 17
+system_number JcSystemRequestObjectDeletion = 18
+system_number JcSystemIsObjectDeletionSupported = 19
+system_number JcSystemIsAppletActive = 20
+system_number JcSystemGetAssignedChannel = 21
+
+abbrev pub aids_number : AidsMethod → ℕ
+aids_number AidInit = 0
+aids_number AidEquals = 1
+aids_number AidEqualsBytes = 2
+aids_number AidGetBytes = 3
+aids_number AidRidEquals = 4
+aids_number AidPartialEquals = 5
+aids_number AidGetPartialBytes = 6
+
+abbrev pub pins_number : PinsMethod → ℕ
+pins_number PinCheck = 0
+pins_number PinGetTriesRemaining = 1
+pins_number PinIsValidated = 2
+pins_number PinReset = 3
+pins_number OwnerPinInit = 4
+pins_number OwnerPinCheck = 5
+pins_number OwnerPinGetTriesRemaining = 6
+pins_number OwnerPinIsValidated = 7
+pins_number OwnerPinReset = 8
+pins_number OwnerPinResetAndUnblock = 9
+pins_number OwnerPinUpdate = 10
+pins_number OwnerPinGetValidatedFlag = 11
+pins_number OwnerPinSetValidatedFlag = 12
+
+abbrev pub applets_number : AppletsMethod → ℕ
+applets_number AppletInit = 0
+applets_number AppletDeselect = 1
+applets_number AppletGetShareableInterfaceObject = 2
+applets_number AppletRegister = 3
+applets_number AppletRegisterBytes = 4
+applets_number AppletSelect = 5
+applets_number AppletSelectingApplet = 6
+applets_number AppletProcess = 7
+applets_number AppletReSelectingApplet = 8
+
+abbrev pub apdus_number : ApdusMethod → ℕ
+apdus_number ApduGetBuffer = 0
+apdus_number ApduReceiveBytes = 1
+apdus_number ApduSendBytes = 2
+apdus_number ApduSetIncomingAndReceive = 3
+apdus_number ApduSetOutgoing = 4
+apdus_number ApduSetOutgoingAndSend = 5
+apdus_number ApduSetOutgoingLength = 6
+apdus_number ApduGetIncomingLength = 7
+apdus_number ApduGetOffsetCdata = 8
+apdus_number ApduSendBytesLong = 9
+apdus_number ApduGetCurrentState = 10
+apdus_number ApduGetProtocol = 11
+apdus_number ApduGetNad = 12
+apdus_number ApduGetClaChannel = 13
+apdus_number ApduGetInBlockSize = 14
+apdus_number ApduGetOutBlockSize = 15
+apdus_number ApduIsIsoInterindustryCla = 16
+apdus_number ApduIsCommandChainingCla = 17
+apdus_number ApduIsSecureMessagingCla = 18
+apdus_number ApduIsValidCla = 19
+apdus_number ApduSetOutgoingNoChaining = 20
+apdus_number ApduWaitExtension = 21
+apdus_number ApduGetCurrentApdu = 22
+apdus_number ApduGetCurrentApduBuffer = 23
+
+abbrev pub events_number : EventsMethod → ℕ
+events_number MultiSelectableSelect = 0
+events_number MultiSelectableDeselect = 1
+events_number AppletEventUninstall = 2
+
 -- the place of a method
 abbrev pub method_number : PlatformMethod → ℕ
-method_number ObjectInit = 0
-method_number ObjectEquals = 1
-method_number ThrowableInit = 2
-method_number ExceptionInit = 3
-method_number RuntimeExceptionInit = 4
-method_number IndexOutOfBoundsExceptionInit = 5
-method_number ArithmeticExceptionInit = 6
-method_number ArrayIndexOutOfBoundsExceptionInit = 7
-method_number ArrayStoreExceptionInit = 8
-method_number ClassCastExceptionInit = 9
-method_number NegativeArraySizeExceptionInit = 10
-method_number NullPointerExceptionInit = 11
-method_number SecurityExceptionInit = 12
-method_number PinCheck = 13
-method_number PinGetTriesRemaining = 14
-method_number PinIsValidated = 15
-method_number PinReset = 16
-method_number AppletInit = 17
-method_number AppletDeselect = 18
-method_number AppletGetShareableInterfaceObject = 19
-method_number AppletRegister = 20
-method_number AppletRegisterBytes = 21
-method_number AppletSelect = 22
-method_number AppletSelectingApplet = 23
-method_number AppletProcess = 24
-method_number AppletReSelectingApplet = 25
-method_number ApduGetBuffer = 26
-method_number ApduReceiveBytes = 27
-method_number ApduSendBytes = 28
-method_number ApduSetIncomingAndReceive = 29
-method_number ApduSetOutgoing = 30
-method_number ApduSetOutgoingAndSend = 31
-method_number ApduSetOutgoingLength = 32
-method_number ApduGetIncomingLength = 33
-method_number ApduGetOffsetCdata = 34
-method_number ApduSendBytesLong = 35
-method_number ApduGetCurrentState = 36
-method_number ApduGetProtocol = 37
-method_number ApduGetNad = 38
-method_number ApduGetClaChannel = 39
-method_number ApduGetInBlockSize = 40
-method_number ApduGetOutBlockSize = 41
-method_number ApduIsIsoInterindustryCla = 42
-method_number ApduIsCommandChainingCla = 43
-method_number ApduIsSecureMessagingCla = 44
-method_number ApduIsValidCla = 45
-method_number ApduSetOutgoingNoChaining = 46
-method_number ApduWaitExtension = 47
-method_number ApduGetCurrentApdu = 48
-method_number ApduGetCurrentApduBuffer = 49
-method_number AidInit = 50
-method_number AidEquals = 51
-method_number AidEqualsBytes = 52
-method_number AidGetBytes = 53
-method_number AidRidEquals = 54
-method_number AidPartialEquals = 55
-method_number AidGetPartialBytes = 56
-method_number JcSystemAbortTransaction = 57
-method_number JcSystemBeginTransaction = 58
-method_number JcSystemCommitTransaction = 59
-method_number JcSystemGetAid = 60
-method_number JcSystemGetAppletShareableInterfaceObject = 61
-method_number JcSystemGetMaxCommitCapacity = 62
-method_number JcSystemGetPreviousContextAid = 63
-method_number JcSystemGetTransactionDepth = 64
-method_number JcSystemGetUnusedCommitCapacity = 65
-method_number JcSystemIsTransient = 66
-method_number JcSystemLookupAid = 67
-method_number JcSystemMakeTransientBooleanArray = 68
-method_number JcSystemMakeTransientByteArray = 69
-method_number JcSystemMakeTransientObjectArray = 70
-method_number JcSystemMakeTransientShortArray = 71
-method_number JcSystemGetVersion = 72
-method_number JcSystemGetAvailableMemory = 73
-method_number JcSystemGetAvailableMemoryShorts = 74
-method_number JcSystemRequestObjectDeletion = 75
-method_number JcSystemIsObjectDeletionSupported = 76
-method_number JcSystemIsAppletActive = 77
-method_number JcSystemGetAssignedChannel = 78
-method_number UtilArrayCompare = 79
-method_number UtilArrayCopy = 80
-method_number UtilGetShort = 81
-method_number UtilMakeShort = 82
-method_number UtilSetShort = 83
-method_number UtilArrayFill = 84
-method_number OwnerPinInit = 85
-method_number OwnerPinCheck = 86
-method_number OwnerPinGetTriesRemaining = 87
-method_number OwnerPinIsValidated = 88
-method_number OwnerPinReset = 89
-method_number OwnerPinResetAndUnblock = 90
-method_number OwnerPinUpdate = 91
-method_number OwnerPinGetValidatedFlag = 92
-method_number OwnerPinSetValidatedFlag = 93
-method_number CardExceptionInit = 94
-method_number CardExceptionThrowIt = 95
-method_number CardExceptionGetReason = 96
-method_number CardExceptionSetReason = 97
-method_number CardRuntimeExceptionInit = 98
-method_number CardRuntimeExceptionThrowIt = 99
-method_number CardRuntimeExceptionGetReason = 100
-method_number CardRuntimeExceptionSetReason = 101
-method_number IsoExceptionInit = 102
-method_number IsoExceptionThrowIt = 103
-method_number PinExceptionInit = 104
-method_number PinExceptionThrowIt = 105
-method_number SystemExceptionInit = 106
-method_number SystemExceptionThrowIt = 107
-method_number TransactionExceptionInit = 108
-method_number TransactionExceptionThrowIt = 109
-method_number ApduExceptionInit = 110
-method_number ApduExceptionThrowIt = 111
-method_number UserExceptionInit = 112
-method_number UserExceptionThrowIt = 113
-method_number UserExceptionInitWithoutReason = 114
-method_number MultiSelectableSelect = 115
-method_number MultiSelectableDeselect = 116
-method_number AppletEventUninstall = 117
+method_number (Objects m) = objects_number m
+method_number (Exceptions m) = exceptions_first + exceptions_number m
+method_number (Utilities m) = utilities_first + utilities_number m
+method_number (System m) = system_first + system_number m
+method_number (Aids m) = aids_first + aids_number m
+method_number (Pins m) = pins_first + pins_number m
+method_number (Applets m) = applets_first + applets_number m
+method_number (Apdus m) = apdus_first + apdus_number m
+method_number (Events m) = events_first + events_number m
 
 -- the two are one
 abbrev pub same_method : PlatformMethod → PlatformMethod → Bool

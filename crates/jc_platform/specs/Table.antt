@@ -8,7 +8,7 @@ use Rattle.jc_platform.specs.declared.names.PlatformMethod.{PlatformMethod}
 use Rattle.jc_platform.specs.declared.row.Row.{Row}
 use Rattle.jc_platform.specs.declared.fault.TableFault.{TableFault}
 use Rattle.jc_platform.specs.declared.fault.TableFault.TheVariants.{BadTable}
-use Rattle.jc_platform.specs.Names.{classes, methods}
+use Rattle.jc_platform.specs.Names.{MethodEntry, classes, methods}
 use Rattle.jc_platform.specs.Numbers.{class_count, method_count, package_count}
 use Rattle.jc_platform.specs.Rows.{Above, above, has_needed_packages, parts_at, row_of_line}
 use Rattle.jc_platform.specs.Tokens.{Tokens, token_of_class, token_of_method, version_of_package}
@@ -38,9 +38,13 @@ IsFirstBad text n = (lines : List (List ℕ)) × (rows : List Row) × (part : Li
 abbrev pub has_needed_classes : Above → Bool
 has_needed_classes a = list_all (λ e. not e.needed || is_some (a.class_token e.class)) classes
 
+-- each of these methods that each table has stands above
+abbrev pub has_needed_of : Above → List MethodEntry → Bool
+has_needed_of a es = list_all (λ e. not e.needed || is_some (a.method_token e.method)) es
+
 -- each method that each table has stands above
 abbrev pub has_needed_methods : Above → Bool
-has_needed_methods a = list_all (λ e. not e.needed || is_some (a.method_token e.method)) methods
+has_needed_methods a = has_needed_of a methods
 
 -- no package stands, or some package or name that each table has is missing
 abbrev pub IsMissing : Above → Type 0

@@ -4,13 +4,15 @@
 pub mod example;
 pub mod fault;
 pub mod hierarchy;
+pub mod kinds;
 pub mod laws;
-mod lookup;
+pub mod lookup;
 pub mod names;
 pub mod platform;
 pub mod read;
 mod reading;
 pub mod row;
+pub mod rows;
 pub mod signatures;
 pub mod table;
 mod words;

@@ -1,56 +1,260 @@
-//! Looking names up.
+//! Looking rows up.
 
 ghost use Rattle.std.specs.Prelude.{◌≡◌, ◌&&◌, find, map};
 ghost use Rattle.std.specs.Option.{option_map};
 ghost use Rattle.std.specs.Str.{bytes_eq};
-ghost use Rattle.jc_platform.specs.Names.{classes, methods, packages};
+ghost use Rattle.jc_platform.specs.Distinct.{entry_of_class, entry_of_method};
+ghost use Rattle.jc_platform.specs.Names.{classes, packages};
+ghost use Rattle.jc_platform.specs.Names.{objects_rows, exceptions_rows, utilities_rows, system_rows, aids_rows, pins_rows, applets_rows, apdus_rows, events_rows};
+ghost use Rattle.jc_platform.specs.Rooms.{rows_of};
 ghost use Rattle.jc_platform.specs.Rows.{classes_of, method_named, methods_of};
 ghost use Rattle.jc_platform.specs.Seen.{class_value, method_value, package_value};
+ghost use Rattle.jc_platform.specs.declared.names.PlatformMethod.TheVariants.{Objects, Exceptions, Utilities, System, Aids, Pins, Applets, Apdus, Events};
 
 use crate::names::{
-    CLASSES, ClassName, FIRST_CLASSES, FIRST_METHODS, METHODS, MethodKind, MethodName, PACKAGES,
-    PackageName, PlatformClass, PlatformPackage,
+    AidsMethod, ApdusMethod, AppletsMethod, EventsMethod, ExceptionsMethod, MethodKind,
+    ObjectsMethod, PinsMethod, PlatformClass, PlatformMethod, PlatformPackage, SystemMethod,
+    UtilitiesMethod,
+};
+use crate::rows::{
+    AIDS, APDUS, APPLETS, CLASSES, ClassRow, EVENTS, EXCEPTIONS, FIRST_CLASSES, MethodRow, OBJECTS,
+    PACKAGES, PINS, PackageRow, Room, STRETCHES, SYSTEM, UTILITIES,
 };
 
 /// Every package.
-pub(crate) fn all_packages() -> &'static [PackageName]
+pub(crate) fn all_packages() -> &'static [PackageRow]
     ensures { map package_value result.now ≡ packages }
 {
     &PACKAGES
 }
 
-/// Every class.
-pub(crate) fn all_classes() -> &'static [ClassName]
+/// Every class, in the order of `PlatformClass`.
+pub fn all_classes() -> &'static [ClassRow]
     ensures { map class_value result.now ≡ classes }
 {
     &CLASSES
 }
 
 /// The classes of a package.
-pub(crate) fn classes_of(home: PlatformPackage) -> &'static [ClassName]
+pub(crate) fn classes_of(home: PlatformPackage) -> &'static [ClassRow]
     ensures { map class_value result.now ≡ classes_of home }
 {
     let place = home.index();
     &all_classes()[FIRST_CLASSES[place]..FIRST_CLASSES[place + 1]]
 }
 
-/// Every method.
-pub(crate) fn all_methods() -> &'static [MethodName]
-    ensures { map method_value result.now ≡ methods }
+/// The methods of `java.lang`.
+pub(crate) fn objects_rows() -> &'static [MethodRow]
+    ensures { map method_value result.now ≡ objects_rows }
 {
-    &METHODS
+    &OBJECTS
+}
+
+/// The methods of an exception of the card.
+pub(crate) fn exceptions_rows() -> &'static [MethodRow]
+    ensures { map method_value result.now ≡ exceptions_rows }
+{
+    &EXCEPTIONS
+}
+
+/// The methods of `Util`.
+pub(crate) fn utilities_rows() -> &'static [MethodRow]
+    ensures { map method_value result.now ≡ utilities_rows }
+{
+    &UTILITIES
+}
+
+/// The methods of `JCSystem`.
+pub(crate) fn system_rows() -> &'static [MethodRow]
+    ensures { map method_value result.now ≡ system_rows }
+{
+    &SYSTEM
+}
+
+/// The methods of `AID`.
+pub(crate) fn aids_rows() -> &'static [MethodRow]
+    ensures { map method_value result.now ≡ aids_rows }
+{
+    &AIDS
+}
+
+/// The methods of `PIN` and `OwnerPIN`.
+pub(crate) fn pins_rows() -> &'static [MethodRow]
+    ensures { map method_value result.now ≡ pins_rows }
+{
+    &PINS
+}
+
+/// The methods of `Applet`.
+pub(crate) fn applets_rows() -> &'static [MethodRow]
+    ensures { map method_value result.now ≡ applets_rows }
+{
+    &APPLETS
+}
+
+/// The methods of `APDU`.
+pub(crate) fn apdus_rows() -> &'static [MethodRow]
+    ensures { map method_value result.now ≡ apdus_rows }
+{
+    &APDUS
+}
+
+/// The methods of `MultiSelectable` and `AppletEvent`.
+pub(crate) fn events_rows() -> &'static [MethodRow]
+    ensures { map method_value result.now ≡ events_rows }
+{
+    &EVENTS
+}
+
+impl Room {
+    /// Its methods.
+    pub(crate) fn rows(self) -> &'static [MethodRow]
+        ensures { map method_value result.now ≡ rows_of self }
+    {
+        match self {
+            Room::Objects => objects_rows(),
+            Room::Exceptions => exceptions_rows(),
+            Room::Utilities => utilities_rows(),
+            Room::System => system_rows(),
+            Room::Aids => aids_rows(),
+            Room::Pins => pins_rows(),
+            Room::Applets => applets_rows(),
+            Room::Apdus => apdus_rows(),
+            Room::Events => events_rows(),
+        }
+    }
 }
 
 /// The methods of a class.
-pub(crate) fn methods_of(class: PlatformClass) -> &'static [MethodName]
+pub(crate) fn methods_of(class: PlatformClass) -> &'static [MethodRow]
     ensures { map method_value result.now ≡ methods_of class }
 {
-    let place = class.index();
-    &all_methods()[FIRST_METHODS[place]..FIRST_METHODS[place + 1]]
+    let stretch = STRETCHES[class.index()];
+    &stretch.room.rows()[stretch.first..stretch.end]
+}
+
+impl PlatformClass {
+    /// Its row.
+    #[inline(always)]
+    pub(crate) fn row(self) -> &'static ClassRow
+        ensures { class_value result.now ≡ entry_of_class self }
+    {
+        &all_classes()[self.index()]
+    }
+}
+
+impl ObjectsMethod {
+    // Its row.
+    #[inline(always)]
+    fn row(self) -> &'static MethodRow
+        ensures { method_value result.now ≡ entry_of_method (Objects self) }
+    {
+        &objects_rows()[self.index()]
+    }
+}
+
+impl ExceptionsMethod {
+    // Its row.
+    #[inline(always)]
+    fn row(self) -> &'static MethodRow
+        ensures { method_value result.now ≡ entry_of_method (Exceptions self) }
+    {
+        &exceptions_rows()[self.index()]
+    }
+}
+
+impl UtilitiesMethod {
+    // Its row.
+    #[inline(always)]
+    fn row(self) -> &'static MethodRow
+        ensures { method_value result.now ≡ entry_of_method (Utilities self) }
+    {
+        &utilities_rows()[self.index()]
+    }
+}
+
+impl SystemMethod {
+    // Its row.
+    #[inline(always)]
+    fn row(self) -> &'static MethodRow
+        ensures { method_value result.now ≡ entry_of_method (System self) }
+    {
+        &system_rows()[self.index()]
+    }
+}
+
+impl AidsMethod {
+    // Its row.
+    #[inline(always)]
+    fn row(self) -> &'static MethodRow
+        ensures { method_value result.now ≡ entry_of_method (Aids self) }
+    {
+        &aids_rows()[self.index()]
+    }
+}
+
+impl PinsMethod {
+    // Its row.
+    #[inline(always)]
+    fn row(self) -> &'static MethodRow
+        ensures { method_value result.now ≡ entry_of_method (Pins self) }
+    {
+        &pins_rows()[self.index()]
+    }
+}
+
+impl AppletsMethod {
+    // Its row.
+    #[inline(always)]
+    fn row(self) -> &'static MethodRow
+        ensures { method_value result.now ≡ entry_of_method (Applets self) }
+    {
+        &applets_rows()[self.index()]
+    }
+}
+
+impl ApdusMethod {
+    // Its row.
+    #[inline(always)]
+    fn row(self) -> &'static MethodRow
+        ensures { method_value result.now ≡ entry_of_method (Apdus self) }
+    {
+        &apdus_rows()[self.index()]
+    }
+}
+
+impl EventsMethod {
+    // Its row.
+    #[inline(always)]
+    fn row(self) -> &'static MethodRow
+        ensures { method_value result.now ≡ entry_of_method (Events self) }
+    {
+        &events_rows()[self.index()]
+    }
+}
+
+impl PlatformMethod {
+    /// Its row.
+    #[inline(always)]
+    pub(crate) fn row(self) -> &'static MethodRow
+        ensures { method_value result.now ≡ entry_of_method self }
+    {
+        match self {
+            PlatformMethod::Objects(method) => method.row(),
+            PlatformMethod::Exceptions(method) => method.row(),
+            PlatformMethod::Utilities(method) => method.row(),
+            PlatformMethod::System(method) => method.row(),
+            PlatformMethod::Aids(method) => method.row(),
+            PlatformMethod::Pins(method) => method.row(),
+            PlatformMethod::Applets(method) => method.row(),
+            PlatformMethod::Apdus(method) => method.row(),
+            PlatformMethod::Events(method) => method.row(),
+        }
+    }
 }
 
 /// The package whose AID this is, in upper case hexadecimal.
-pub(crate) fn package_with(aid: &[u8]) -> Option<PackageName>
+pub(crate) fn package_with(aid: &[u8]) -> Option<PackageRow>
     ensures { option_map package_value result ≡ find (λ e. bytes_eq e.aid_text aid.now) packages }
 {
     all_packages()
@@ -60,7 +264,7 @@ pub(crate) fn package_with(aid: &[u8]) -> Option<PackageName>
 }
 
 /// The class with this name.
-pub(crate) fn class_named(name: &[u8]) -> Option<ClassName>
+pub(crate) fn class_named(name: &[u8]) -> Option<ClassRow>
     ensures { option_map class_value result ≡ find (λ e. bytes_eq e.name name.now) classes }
 {
     all_classes()
@@ -70,11 +274,7 @@ pub(crate) fn class_named(name: &[u8]) -> Option<ClassName>
 }
 
 /// The method of the class with this kind and name.
-pub(crate) fn method_named(
-    class: PlatformClass,
-    kind: MethodKind,
-    name: &[u8],
-) -> Option<MethodName>
+pub(crate) fn method_named(class: PlatformClass, kind: MethodKind, name: &[u8]) -> Option<MethodRow>
     ensures { option_map method_value result ≡ method_named class kind name.now }
 {
     methods_of(class)

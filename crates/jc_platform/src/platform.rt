@@ -11,10 +11,9 @@ ghost use Rattle.jc_platform.specs.Seen.{class_value, method_value};
 ghost use Rattle.jc_platform.specs.Tokens.{method_token, number_in, token_of_class, token_of_method, version_of_package};
 
 use crate::lookup::{classes_of, methods_of};
-use crate::names::{
-    ClassName, MethodKind, MethodName, PlatformClass, PlatformMethod, PlatformPackage,
-};
+use crate::names::{MethodKind, PlatformClass, PlatformMethod, PlatformPackage};
 use crate::row::Version;
+use crate::rows::{ClassRow, MethodRow};
 use crate::table::Table;
 use crate::words::is_token;
 use jc_transient::ClassWord;
@@ -53,6 +52,13 @@ impl Platform {
         ensures { result ≡ table }
     {
         Platform { table }
+    }
+
+    /// The table that gives the tokens.
+    pub fn table(&self) -> &Table
+        ensures { result.now ≡ self.now }
+    {
+        &self.table
     }
 
     /// The version of a package that the table has.
@@ -147,7 +153,7 @@ impl Platform {
         Some(self.method_entry(class, kind, token)?.method)
     }
 
-    fn class_entry(&self, home: PlatformPackage, token: u8) -> Option<ClassName>
+    fn class_entry(&self, home: PlatformPackage, token: u8) -> Option<ClassRow>
         ensures { option_map class_value result ≡ find
             (λ e. same_package e.home home && is_token
             (token_of_class self.now e.class) token) classes }
@@ -158,7 +164,7 @@ impl Platform {
             .copied()
     }
 
-    fn method_entry(&self, class: PlatformClass, kind: MethodKind, token: u8) -> Option<MethodName>
+    fn method_entry(&self, class: PlatformClass, kind: MethodKind, token: u8) -> Option<MethodRow>
         ensures { option_map method_value result ≡ find
             (λ e. same_class e.class class && same_kind e.kind kind && is_token
             (token_of_method self.now e.method) token) methods }

@@ -1,23 +1,25 @@
 //! What the lines so far say.
 
-ghost use Rattle.std.specs.Prelude.{◌≡◌, [], ◌∷◌, List, MatchOption, Some, slice_set, unwrap_or};
+ghost use Rattle.std.specs.Prelude.{◌≡◌, [], ◌∷◌, List, MatchOption, Some, map, slice_set, unwrap_or};
 ghost use Rattle.jc_platform.specs.Rows.{above, class_row, has_class_token, has_method_token, is_package, may_be_class, may_be_extended, may_be_method, method_row};
 ghost use Rattle.jc_platform.specs.Rows.{has_needed_packages, may_be_package};
 ghost use Rattle.jc_platform.specs.Rows.{allows, extended_row, package_row, row_of_line};
 ghost use Rattle.jc_platform.specs.Numbers.{package_number};
-ghost use Rattle.jc_platform.specs.Table.{AreThoseOf, IsMissing, has_needed_classes, has_needed_methods};
+ghost use Rattle.jc_platform.specs.Table.{AreThoseOf, IsMissing, has_needed_classes, has_needed_methods, has_needed_of};
 ghost use Rattle.jc_platform.specs.Reading.{above_of};
 ghost use Rattle.jc_platform.specs.Seen.{class_value, method_value};
 ghost use Rattle.jc_platform.specs.declared.row.Row.{Row};
 
 use crate::lookup::{
-    all_classes, all_methods, class_named, method_named, methods_of, package_with,
+    aids_rows, all_classes, apdus_rows, applets_rows, class_named, events_rows, exceptions_rows,
+    method_named, methods_of, objects_rows, package_with, pins_rows, system_rows, utilities_rows,
 };
 use crate::names::{
-    CLASS_COUNT, ClassName, METHOD_COUNT, MethodKind, MethodName, PACKAGE_COUNT, PlatformClass,
-    PlatformMethod, PlatformPackage,
+    CLASS_COUNT, METHOD_COUNT, MethodKind, PACKAGE_COUNT, PlatformClass, PlatformMethod,
+    PlatformPackage,
 };
 use crate::row::{Row, Version};
+use crate::rows::{ClassRow, MethodRow};
 use crate::table::Table;
 use crate::words::{is_token, kind, number, split_once};
 
@@ -176,7 +178,7 @@ impl Reading {
 
     /// A class may stand here: in a table that may have it, in its own package, nowhere above, and with a token of
     /// its own.
-    fn may_be_class(&self, entry: &ClassName, token: u8) -> bool
+    fn may_be_class(&self, entry: &ClassRow, token: u8) -> bool
         ensures { result ≡ may_be_class (above_of self.now) (class_value entry.now) token }
     {
         self.allows(entry.needed)
@@ -187,7 +189,7 @@ impl Reading {
 
     /// A method may stand here, in its own class: in a table that may have it, nowhere above, and with a token of its
     /// own that its kind may have.
-    fn may_be_method(&self, entry: &MethodName, token: u8) -> bool
+    fn may_be_method(&self, entry: &MethodRow, token: u8) -> bool
         ensures { result ≡ may_be_method (above_of self.now) (method_value entry.now) token }
     {
         self.allows(entry.needed)
@@ -270,7 +272,22 @@ impl Reading {
     fn has_needed_methods(&self) -> bool
         ensures { result ≡ has_needed_methods (above_of self.now) }
     {
-        all_methods().iter().all(|entry| !entry.needed || self.method_token(entry.method).is_some())
+        self.has_needed_of(objects_rows())
+            && self.has_needed_of(exceptions_rows())
+            && self.has_needed_of(utilities_rows())
+            && self.has_needed_of(system_rows())
+            && self.has_needed_of(aids_rows())
+            && self.has_needed_of(pins_rows())
+            && self.has_needed_of(applets_rows())
+            && self.has_needed_of(apdus_rows())
+            && self.has_needed_of(events_rows())
+    }
+
+    /// Each of these methods that each table has stands above.
+    fn has_needed_of(&self, rows: &[MethodRow]) -> bool
+        ensures { result ≡ has_needed_of (above_of self.now) (map method_value rows.now) }
+    {
+        rows.iter().all(|entry| !entry.needed || self.method_token(entry.method).is_some())
     }
 
     /// The table, if every package and name that each table has stands above.

@@ -10,7 +10,8 @@ use Rattle.clap.specs.declared.error.kind.ErrorKind.TheVariants.{DisplayHelp, Ou
 use Rattle.jcard_outcomes.specs.declared.recoveries.Depth.{Depth}
 use Rattle.jcard_outcomes.specs.declared.recoveries.Depth.TheVariants.{Zero, One, Two, Three}
 use Rattle.jcard_arguments.specs.Grammar.{program_grammar}
-use Rattle.jcard_arguments.specs.Numbers.{budget_given, number_given}
+use Rattle.jcard_arguments.specs.Numbers.{budget_given, lines_given}
+use Rattle.jcard_arguments.specs.declared.options.Lines.{Lines}
 use Rattle.jcard_arguments.specs.declared.options.RunOptions.{RunOptions}
 use Rattle.jcard_arguments.specs.declared.options.TearOptions.{TearOptions}
 use Rattle.jcard_arguments.specs.declared.options.TestOptions.{TestOptions}
@@ -24,7 +25,7 @@ pub record RunAsked : Type 0 where
   pub why : Bool
   pub trace : Bool
   pub expect : Bool
-  pub lines : Option ℕ
+  pub lines : Option Lines
   pub map : Option Text
   pub cover : Option Text
   pub instructions : Option ℕ
@@ -84,7 +85,7 @@ new_by None words journal table = None
 abbrev pub are_together : Bool → Bool → Option Text → Option Text → Bool
 are_together why trace lines map = (not (is_some map) || (why || trace)) && (not (is_some lines) || trace)
 
-abbrev pub run_with : Bool → Bool → Bool → Option (Option ℕ) → Option Text → Option Text → Option (Option ℕ) → Option RunAsked
+abbrev pub run_with : Bool → Bool → Bool → Option (Option Lines) → Option Text → Option Text → Option (Option ℕ) → Option RunAsked
 run_with why trace expect (Some lines) map cover (Some instructions) = Some (record {
   why = why;
   trace = trace;
@@ -100,7 +101,7 @@ abbrev pub run_asked : List Row → Option RunAsked
 run_asked rows =
     if are_together (is_given (first_of (codes "why") rows)) (is_given (first_of (codes "trace") rows)) (first_of (codes "lines") rows) (first_of (codes "map") rows)
     then run_with (is_given (first_of (codes "why") rows)) (is_given (first_of (codes "trace") rows)) (is_given (first_of (codes "expect") rows))
-    (number_given (first_of (codes "lines") rows)) (first_of (codes "map") rows) (first_of (codes "cover") rows)
+    (lines_given (first_of (codes "lines") rows)) (first_of (codes "map") rows) (first_of (codes "cover") rows)
     (budget_given (first_of (codes "instructions") rows))
     else None
 
@@ -138,9 +139,13 @@ tear_with each objects probe line (Some depth) part (Some instructions) = Some (
 })
 tear_with each objects probe line depth part instructions = None
 
--- a line and each command together are nothing
+-- a line and each command together are nothing, nor is a part of each command, or with recoveries
+abbrev pub are_apart : Bool → Option Text → Option Text → Option Text → Bool
+are_apart each line recovery part = (each && is_some line) || (is_some part && (each || is_some recovery))
+
 abbrev pub tear_asked : List Row → Option TearAsked
-tear_asked rows = if is_given (first_of (codes "each") rows) && is_some (first_of (codes "line") rows) then None
+tear_asked rows = if are_apart (is_given (first_of (codes "each") rows)) (first_of (codes "line") rows) (first_of (codes "recovery") rows)
+    (first_of (codes "part") rows) then None
     else tear_with (is_given (first_of (codes "each") rows)) (is_given (first_of (codes "objects") rows)) (first_of (codes "probe") rows)
     (first_of (codes "line") rows) (depth_of (first_of (codes "recovery") rows)) (first_of (codes "part") rows)
     (budget_given (first_of (codes "instructions") rows))

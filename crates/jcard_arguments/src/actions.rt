@@ -6,7 +6,7 @@ ghost use Rattle.jcard_arguments.specs.CommandLine.{IsReadAs, depth_of, dump_of,
 ghost use Rattle.jcard_arguments.specs.CommandLine.{tear_asked, tear_asked_by, tear_of, test_of, text_of, texts_of, try_of, two_of};
 
 use crate::arguments::{Action, NoAction};
-use crate::numbers::{budget_given, number_given};
+use crate::numbers::{budget_given, lines_given};
 use crate::options::{RunOptions, TearOptions, TestOptions};
 use crate::values::{is_given, value_of, values_of};
 use clap::ArgMatches;
@@ -91,8 +91,8 @@ fn run_options<'a>(values: &ArgMatches<'a>) -> Result<RunOptions<'a>, &'static s
     if lines.is_some() && !trace {
         return Err("--lines goes with --trace");
     }
-    let Some(lines) = number_given(lines) else {
-        return Err("--lines takes a number below 4294967296");
+    let Some(lines) = lines_given(lines) else {
+        return Err("--lines takes N or =-N, a number below 4294967296");
     };
     let Some(instructions) = budget_given(instructions) else {
         return Err(BAD_INSTRUCTIONS);
@@ -216,10 +216,14 @@ fn tear_options<'a>(values: &ArgMatches<'a>) -> Result<TearOptions<'a>, &'static
     let probe = value_of(values, "probe");
     let line = value_of(values, "line");
     let part = value_of(values, "part");
+    let recovery = value_of(values, "recovery");
     if each && line.is_some() {
         return Err("--line does not go with --each");
     }
-    let Some(depth) = depth_of(value_of(values, "recovery")) else {
+    if part.is_some() && (each || recovery.is_some()) {
+        return Err("--part goes with neither --each nor --recovery");
+    }
+    let Some(depth) = depth_of(recovery) else {
         return Err("--recovery takes 1, 2 or 3");
     };
     let Some(instructions) = budget_given(value_of(values, "instructions")) else {

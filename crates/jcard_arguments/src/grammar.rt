@@ -85,7 +85,7 @@ const EXPECT: Entry<'static> = Entry {
 const LINES: Entry<'static> = Entry {
     kind: Kind::Value,
     name: "lines",
-    help: "With --trace: the most instructions of a command that are printed",
+    help: "With --trace: prints the first N instructions of a command, or by --lines=-N the last N",
 };
 
 const MAP: Entry<'static> = Entry {

@@ -2,6 +2,15 @@
 
 use jcard_outcomes::recoveries::Depth;
 
+/// Which instructions of a command are traced.
+#[derive(Clone, Copy, Drop)]
+pub enum Lines {
+    /// At most this number, from the first on.
+    First(u32),
+    /// At most this number, up to the last.
+    Last(u32),
+}
+
 /// What a run is asked for besides its answers.
 #[derive(Clone, Copy, Drop)]
 pub struct RunOptions<'a> {
@@ -11,8 +20,8 @@ pub struct RunOptions<'a> {
     pub trace: bool,
     /// Whether answers are those that the script's comments expect.
     pub expect: bool,
-    /// At most this number of instructions of each command is traced.
-    pub lines: Option<u32>,
+    /// These instructions of each command are traced.
+    pub lines: Option<Lines>,
     /// The file whose names of methods are used.
     pub map: Option<&'a str>,
     /// The file that how often each instruction was carried out is written to.

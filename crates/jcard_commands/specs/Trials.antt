@@ -1,11 +1,9 @@
 -- `jcard try`: what is read, what is done with it, and what is told.
-use Rattle.std.specs.Prelude.{ℕ, ◌≡◌, ◌⊎◌, ◌+◌, ◌<◌, List, [], ◌∷◌, ◌++◌, length, codes, Result, Ok, Err, Option}
-use Rattle.jc_words.specs.Image.{heap_end}
+use Rattle.std.specs.Prelude.{ℕ, ◌≡◌, ◌⊎◌, List, [], ◌∷◌, ◌++◌, codes, Result, Ok, Err, Option}
 use Rattle.jc_words.specs.Stores.{FuseStoreValue}
-use Rattle.jc_image.specs.Laying.{first_free}
 use Rattle.jc_platform.specs.Table.{Reads}
 use Rattle.jc_platform.specs.declared.fault.TableFault.TheVariants.{BadTable as BadLine}
-use Rattle.jc_card.specs.Fixed.{fixed_size}
+use Rattle.jc_card.specs.Formatting.{IsTooSmall}
 use Rattle.jcard_files.specs.FileDeeds.{FileDeed, ReadsText, fresh_store}
 use Rattle.jcard_files.specs.Images.{IsUnopened}
 use Rattle.jcard_images.specs.NewImages.{IsNewImage, IsTable, IsWordCount, usual_capacity}
@@ -20,7 +18,7 @@ use Rattle.jcard_commands.specs.Runs.{IsCarriedOut}
 abbrev pub IsTriedOn : ℕ → List ℕ → ℕ → List ℕ → Result Unit Fault → List ℕ → Result (Option (List ℕ)) Fault → Type 0
 IsTriedOn budget script n table ended text opened = ((fault : Fault) × (ended ≡ Err fault) × IsUnopened script fault × (text ≡ []) × (opened ≡ Err fault))
     ⊎ ((known left : Option (List ℕ)) × (opened ≡ Ok known) × (((ended ≡ Err NoMemory) × (text ≡ []))
-    ⊎ ((ended ≡ Err ImageTooSmall) × (heap_end n usual_capacity < first_free (length table) + fixed_size) × (text ≡ []))
+    ⊎ ((ended ≡ Err ImageTooSmall) × IsTooSmall n usual_capacity table × (text ≡ []))
     ⊎ ((w : List ℕ) × (after : FuseStoreValue) × IsNewImage n table w
     × IsCarriedOut budget (codes "memory") script known left (fresh_store w) after ended text)))
 

@@ -1,6 +1,6 @@
 //! Who is told what the commands of a run did.
 
-use jcard_arguments::options::RunOptions;
+use jcard_arguments::options::{Lines, RunOptions};
 use jcard_faults::remarks::Remarks;
 use jcard_script::expectations::Expectations;
 use jcard_script::explainer::Explainer;
@@ -134,10 +134,14 @@ fn wanted_by(options: &RunOptions<'_>) -> Wanted {
     }
 }
 
-// How many instructions of a command are told at most, where they are asked for.
+// Which instructions of a command are told, where they are asked for.
 fn traced_lines(options: &RunOptions<'_>) -> Option<TracedLines> {
-    if options.trace {
-        return Some(TracedLines::First(options.lines.unwrap_or(USUAL_LINES)));
+    if !options.trace {
+        return None;
     }
-    None
+    match options.lines {
+        Some(Lines::First(most)) => Some(TracedLines::First(most)),
+        Some(Lines::Last(most)) => Some(TracedLines::Last(most)),
+        None => Some(TracedLines::First(USUAL_LINES)),
+    }
 }

@@ -1,15 +1,13 @@
 -- Images that were made, and that were not.
 use Rattle.std.proofs.Common.{◌≡◌, ◌∙◌, ◌⊎◌, ℕ, Bool, true, List, Result, Ok, Err, sym, subst, inl, inr, arith}
-use Rattle.std.specs.Prelude.{◌<◌, ◌≤◌, ◌+◌, ◌≢◌, length, replicate, slice_index}
-use Rattle.jc_words.specs.Image.{IsCapacity, heap_end}
+use Rattle.std.specs.Prelude.{◌<◌, ◌≤◌, ◌≢◌, length, replicate, slice_index}
+use Rattle.jc_words.specs.Image.{IsCapacity}
 use Rattle.jc_words.specs.Layout.{least_size, magic, magic_address}
 use Rattle.jc_words.specs.Refusals.{Refusals}
 use Rattle.jc_words.specs.Stores.{MemStoreValue, StoreValue}
-use Rattle.jc_image.specs.Laying.{first_free}
 use Rattle.jc_platform.specs.declared.fault.TableFault.TheVariants.{BadTable as BadLine}
 use Rattle.jc_platform.proofs.OneAnswer.{no_fault}
-use Rattle.jc_card.specs.Fixed.{fixed_size}
-use Rattle.jc_card.specs.Formatting.{Formats, IsStoppedFormat}
+use Rattle.jc_card.specs.Formatting.{Formats, IsStoppedFormat, IsTooSmall}
 use Rattle.jc_card.specs.declared.formatting.FormatFault.{FormatFault}
 use Rattle.jc_card.specs.declared.formatting.FormatFault.TheVariants.{StoreDown, BadSize, BadCapacity, BadTable, TooSmall}
 use Rattle.jcard_files.specs.FileDeeds.{untouched}
@@ -69,5 +67,5 @@ not_in_memory words down passed refusals old new capacity text image TooSmall fa
 pub laid_is_new : (m n capacity : ℕ) (text : List ℕ) (made : Result MemStoreValue Fault) → m ≡ n → IsLaidInMemory m capacity text made
     → IsNewImageInMemoryOf n capacity text made
 laid_is_new m n capacity text (Ok store) same h = subst (λ k. IsNewImageOf k capacity text store.words × (store.passed ≡ 0)) same h
-laid_is_new m n capacity text (Err ImageTooSmall) same h = subst (λ k. heap_end k capacity < first_free (length text) + fixed_size) same h
+laid_is_new m n capacity text (Err ImageTooSmall) same h = subst (λ k. IsTooSmall k capacity text) same h
 laid_is_new m n capacity text (Err other) same h = absurd h

@@ -1,17 +1,15 @@
 -- Making an image.
-use Rattle.std.specs.Prelude.{ℕ, ◌≡◌, ◌≢◌, ◌⊎◌, ◌+◌, ◌<◌, ◌≤◌, true, false, List, [], ◌∷◌, ◌++◌, length, replicate, slice_index, Option, Result, Ok, Err}
+use Rattle.std.specs.Prelude.{ℕ, ◌≡◌, ◌≢◌, ◌⊎◌, ◌≤◌, true, false, List, [], ◌∷◌, ◌++◌, length, replicate, slice_index, Option, Result, Ok, Err}
 use Rattle.std.specs.Borrow.{Bor}
 use Rattle.std.specs.Str.Parse.{IsNumeral, digits_value}
-use Rattle.jc_words.specs.Image.{heap_end}
 use Rattle.jc_words.specs.Layout.{least_capacity, least_size, magic, magic_address, most_capacity}
 use Rattle.jc_words.specs.Stores.{MemStoreValue, StoreValue}
 use Rattle.jc_commit.specs.Image.{recovered_of}
 use Rattle.jc_heap.specs.Heap.{heap_of}
-use Rattle.jc_image.specs.Laying.{first_free}
 use Rattle.jc_platform.specs.Tokens.{Tokens}
 use Rattle.jc_platform.specs.Table.{Reads}
 use Rattle.jc_platform.specs.declared.fault.TableFault.TheVariants.{BadTable as BadLine}
-use Rattle.jc_card.specs.Fixed.{fixed_size}
+use Rattle.jc_card.specs.Formatting.{IsTooSmall}
 use Rattle.jc_card.specs.Made.{IsMade, new_card_heap}
 use Rattle.jc_card.specs.declared.formatting.FormatFault.{FormatFault}
 use Rattle.jc_card.specs.declared.formatting.FormatFault.TheVariants as format
@@ -58,7 +56,7 @@ IsNewImage n = IsNewImageOf n usual_capacity
 -- environment do not fit
 abbrev pub IsLaidInMemory : ℕ → ℕ → List ℕ → Result MemStoreValue Fault → Type 0
 IsLaidInMemory n capacity text (Ok store) = IsNewImageOf n capacity text store.words × (store.passed ≡ 0)
-IsLaidInMemory n capacity text (Err ImageTooSmall) = heap_end n capacity < first_free (length text) + fixed_size
+IsLaidInMemory n capacity text (Err ImageTooSmall) = IsTooSmall n capacity text
 IsLaidInMemory n capacity text (Err other) = ⊥
 
 -- so it is; or memory was refused for the words
@@ -86,8 +84,7 @@ abbrev pub IsLaid : List ℕ → ℕ → ℕ → List ℕ → Result Unit Fault 
 IsLaid image n capacity text (Ok done) store = IsNewImageOf n capacity text store.words × (store.down ≡ false) × (store.refused ≡ 0)
 IsLaid image n capacity text (Err (CannotWrite path)) store = (path.now ≡ image) × (store.down ≡ true) × (store.refused ≡ 1)
     × ((store.words ≡ replicate n 0) ⊎ (slice_index store.words magic_address ≢ magic))
-IsLaid image n capacity text (Err ImageTooSmall) store = (heap_end n capacity < first_free (length text) + fixed_size)
-    × (store ≡ untouched (replicate n 0))
+IsLaid image n capacity text (Err ImageTooSmall) store = IsTooSmall n capacity text × (store ≡ untouched (replicate n 0))
 IsLaid image n capacity text (Err other) store = ⊥
 
 -- how the making of an image of this name, with so many words and such a journal, ended, from this text, and what was done with files:

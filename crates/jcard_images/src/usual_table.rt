@@ -33,7 +33,7 @@ fn usual_text<'n>(alloc: Global) -> Result<Vec<u8>, Fault<'n>>
     }
 }
 
-/// The text of `examples/extended.table`, 3,472 bytes: each name that can stand, with a token.
+/// The text of `examples/extended.table`, 3,528 bytes: each name that can stand, with a token.
 pub const USUAL_TABLE: &str = "\
 extended
 package A0000000620001 1 0
@@ -142,6 +142,8 @@ static 2 getShort
 static 3 makeShort
 static 4 setShort
 static 5 arrayFill
+static 6 arrayCopyNonAtomic
+static 7 arrayFillNonAtomic
 class 7 OwnerPIN
 static 0 <init>
 virtual 1 check

@@ -5,7 +5,7 @@ use Rattle.jc_heap.specs.declared.object.Kind.{Kind}
 use Rattle.jc_heap.specs.declared.object.Kind.TheVariants.{Instance, BooleanArray, ByteArray, ShortArray, ReferenceArray}
 use Rattle.jc_cap_linkage.specs.Packages.{NamedPackage}
 use Rattle.jc_image.specs.Listing.{package_at}
-use Rattle.jc_objects.specs.ClassNames.{class_name}
+use Rattle.jc_platform.specs.Distinct.{name_of_class}
 use Rattle.jc_platform.specs.Platform.{class_by_word}
 use Rattle.jc_platform.specs.Tokens.{Tokens}
 use Rattle.jc_platform.specs.declared.names.PlatformClass.{PlatformClass}
@@ -17,7 +17,7 @@ loaded_text None class = decimal class
 
 -- a class of the platform: its name; else this
 abbrev pub named_text : Option PlatformClass → List ℕ → List ℕ
-named_text (Some class) other = class_name class
+named_text (Some class) other = name_of_class class
 named_text None other = other
 
 -- the class that a word of a header names, in an image of these words with these tokens of the platform

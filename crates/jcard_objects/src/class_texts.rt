@@ -6,7 +6,6 @@ ghost use Rattle.jcard_objects.specs.ClassTexts.{class_text, kind_text, loaded_t
 use itoa::Buffer;
 use jc_heap::Kind;
 use jc_image::{PackageName, package_at};
-use jc_objects::class_names::class_name;
 use jc_platform::platform::Platform;
 use jc_transient::ClassWord;
 use jc_words::WordStore;
@@ -26,7 +25,7 @@ pub fn push_class<S: WordStore>(
         ++ class_text platform.now (S.words store.now) class) }
 {
     match platform.class_by_word(class) {
-        Some(named) => text.extend_from_slice(class_name(named)),
+        Some(named) => text.extend_from_slice(named.name()),
         None => push_loaded(alloc, text, package_at(store, class.0 / 256), class.0),
     }
 }

@@ -2,7 +2,7 @@
 use Rattle.std.proofs.Common.{◌≡◌, ◌∙◌, ℕ, ◌+◌, ◌<◌, ◌≤◌, List, [], ◌∷◌, ◌++◌, length, get_or, take, drop, refl, ap, sym, subst, arith}
 use Rattle.std.specs.String.{string_bytes}
 use Rattle.std.proofs.lemmas.List.{length-take-le, take-append-drop, take_all, take_more}
-use Rattle.jcard_rows.specs.Answers.{Fits}
+use Rattle.jcard_rows.specs.Answers.{FitsUnspaced}
 use Rattle.jcard_rows.specs.Comparing.{AreAnswered, IsAnswered, IsFirstUnlike, IsLine, IsUnlike}
 use Rattle.jcard_rows.specs.declared.row.Row.{Row}
 use Rattle.jcard_rows.proofs.Items.{drop_at}
@@ -20,7 +20,7 @@ answered_more [] r text between rest e h = (rest, subst (λ t. IsAnswered r t re
 answered_more (q ∷ rows) r text between rest a h = (a.0, a.1, answered_more rows r a.0 between rest a.2 h)
 
 pub answered_next : (rows : List Row) (i : ℕ) (r : Row) (text rest told more : List ℕ) → i < length rows → r ≡ get_or rows i r
-    → AreAnswered (take i rows) text rest → IsLine told → rest ≡ told ++ 10 ∷ more → Fits (string_bytes r.wanted) told
+    → AreAnswered (take i rows) text rest → IsLine told → rest ≡ told ++ 10 ∷ more → FitsUnspaced (string_bytes r.wanted) told
     → AreAnswered (take (i + 1) rows) text more
 answered_next rows i r text rest told more h e a line split fits =
     subst (λ l. AreAnswered l text more) (sym (take_more rows i r h ∙ ap (λ x. take i rows ++ x ∷ []) (sym e)))

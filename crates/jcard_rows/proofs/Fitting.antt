@@ -1,14 +1,45 @@
 -- Steps of the comparison of an answer with one that is wanted.
-use Rattle.std.proofs.Common.{◌≡◌, ◌∙◌, ◌↔◌, ◌⊎◌, ◌==◌, inl, inr, ℕ, Bool, true, false, List, [], ◌∷◌, ◌++◌, length, refl, sym, ap, subst, arith}
-use Rattle.std.proofs.lemmas.Bool.{eq-eqb, eqb-true, false≢true}
+use Rattle.std.proofs.Common.{◌≡◌, ◌∙◌, ◌↔◌, ◌⊎◌, ◌==◌, if◌then◌else◌, inl, inr, ℕ, Bool, true, false, List, [], ◌∷◌, ◌++◌, length, refl, sym, ap, subst, arith}
+use Rattle.std.proofs.lemmas.Bool.{eq-eqb, eqb-true, false≢true, ne_eqb}
 use Rattle.std.proofs.lemmas.List.Elements.{All-cons, All-head, All-nil, All-tail}
 use Rattle.std.specs.List.{All}
-use Rattle.jcard_rows.specs.Answers.{Fits, IsDigit}
+use Rattle.jcard_rows.specs.Answers.{Fits, IsDigit, unspaced}
 
 -- no text
 empty : (text : List ℕ) → length text ≡ 0 → text ≡ []
 empty [] e = refl
 empty (x ∷ xs) e = absurd (omega arith)
+
+-- a text that begins with no space keeps its first byte
+kept : (text : List ℕ) (first : ℕ) (more : List ℕ) → text ≡ first ∷ more → ((rest : List ℕ) → text ≡ 32 ∷ rest → ⊥)
+    → unspaced text ≡ first ∷ unspaced more
+unfolding unspaced
+kept text first more e plain = ap unspaced e
+    ∙ ap (λ b. if b then unspaced more else first ∷ unspaced more) (ne_eqb first 32 (λ s. plain more (e ∙ ap (λ x. x ∷ more) s)))
+
+pub first_kept : (given text : List ℕ) (first : ℕ) (more : List ℕ) → unspaced text ≡ unspaced given → ((rest : List ℕ) → text ≡ 32 ∷ rest → ⊥)
+    → text ≡ first ∷ more → unspaced given ≡ first ∷ unspaced more
+first_kept given text first more same plain e = sym same ∙ kept text first more e plain
+
+-- a space is dropped
+pub space_dropped : (text : List ℕ) (first : ℕ) (more : List ℕ) → text ≡ first ∷ more → first ≡ 32 → unspaced more ≡ unspaced text
+unfolding unspaced
+space_dropped text first more e space = sym (ap unspaced e
+    ∙ ap (λ b. if b then unspaced more else first ∷ unspaced more) (eq-eqb first 32 space))
+
+-- no byte is left
+pub none_kept : (given text : List ℕ) → unspaced text ≡ unspaced given → length text ≡ 0 → length (unspaced given) ≡ 0
+unfolding unspaced
+none_kept given text same e = sym (ap length same) ∙ ap (λ t. length (unspaced t)) (empty text e)
+
+pub whether_kept : (given text : List ℕ) (b : Bool) → unspaced text ≡ unspaced given → ((rest : List ℕ) → text ≡ 32 ∷ rest → ⊥)
+    → b ≡ (length text == 0) → b ≡ (length (unspaced given) == 0)
+unfolding unspaced
+whether_kept given [] b same plain e = e ∙ ap (λ u. length u == 0) same
+whether_kept given (x ∷ xs) b same plain e =
+    let long : (length (x ∷ xs) == 0) ≡ false = ne_eqb (length (x ∷ xs)) 0 (λ z. omega (arith, z)) in
+    let kept_long : (length (x ∷ unspaced xs) == 0) ≡ false = ne_eqb (length (x ∷ unspaced xs)) 0 (λ z. omega (arith, z)) in
+    e ∙ long ∙ sym kept_long ∙ ap (λ u. length u == 0) (sym (kept (x ∷ xs) x xs refl plain) ∙ same)
 
 -- nothing is wanted
 pub fit_none : (wanted told : List ℕ) (b : Bool) → length wanted ≡ 0 → b ≡ (length told == 0) → (b ≡ true) ↔ Fits wanted told

@@ -2,7 +2,7 @@
 use Rattle.std.specs.Prelude.{ℕ, ◌≡◌, ◌≢◌, ◌⊎◌, List, [], ◌∷◌, ◌++◌, length}
 use Rattle.std.specs.List.{All}
 use Rattle.std.specs.String.{string_bytes}
-use Rattle.jcard_rows.specs.Answers.{Fits}
+use Rattle.jcard_rows.specs.Answers.{FitsUnspaced}
 use Rattle.jcard_rows.specs.declared.row.Row.{Row}
 
 -- a text without a line feed (10)
@@ -11,7 +11,7 @@ IsLine text = All (λ c. c ≢ 10) text
 
 -- the first line of this text is an answer that the row wants, and this follows it
 abbrev pub IsAnswered : Row → List ℕ → List ℕ → Type 0
-IsAnswered r text rest = (line : List ℕ) × IsLine line × (text ≡ line ++ 10 ∷ rest) × Fits (string_bytes r.wanted) line
+IsAnswered r text rest = (line : List ℕ) × IsLine line × (text ≡ line ++ 10 ∷ rest) × FitsUnspaced (string_bytes r.wanted) line
 
 -- so do the first lines for these rows, one for each
 unfoldable pub AreAnswered : List Row → List ℕ → List ℕ → Type 0
@@ -20,7 +20,7 @@ AreAnswered (r ∷ rows) text rest = (between : List ℕ) × IsAnswered r text b
 
 -- the first line of this text is told, and is no answer that the row wants, or no line feed ends it
 abbrev pub IsUnlike : Row → List ℕ → List ℕ → Type 0
-IsUnlike r text told = IsLine told × ((text ≡ told) ⊎ ((rest : List ℕ) × (text ≡ told ++ 10 ∷ rest) × (Fits (string_bytes r.wanted) told → ⊥)))
+IsUnlike r text told = IsLine told × ((text ≡ told) ⊎ ((rest : List ℕ) × (text ≡ told ++ 10 ∷ rest) × (FitsUnspaced (string_bytes r.wanted) told → ⊥)))
 
 -- the row behind the first k is the first that is not answered as it says
 abbrev pub IsFirstUnlike : List Row → List ℕ → ℕ → List ℕ → Type 0

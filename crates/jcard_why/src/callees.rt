@@ -3,12 +3,10 @@ ghost use Rattle.std.specs.Prelude.{◌<◌};
 
 use crate::causes::push_class;
 use crate::explanation::Asked;
-use crate::method_names::method_name;
 use crate::places::{push_method_at, push_package};
 use crate::text::Text;
 use jc_linker::target::{Method, Target};
 use jc_memory::Spot;
-use jc_objects::class_names::class_name;
 use jc_platform::names::{MethodKind, PlatformMethod};
 use jc_transient::ClassWord;
 use std::alloc::AllocError;
@@ -121,9 +119,9 @@ fn push_method(
 }
 
 fn push_platform_method(text: &mut Text, method: PlatformMethod) -> Result<(), AllocError> {
-    text.push(class_name(method.class()))?;
+    text.push(method.class().name())?;
     text.push(b".")?;
-    text.push(method_name(method))
+    text.push(method.name())
 }
 
 // A method in bytecode, with its package where that is another one.
@@ -153,7 +151,7 @@ fn push_interface_method(
     if let Some(interface) = named {
         if let Some(method) = platform.method_by_token(interface, MethodKind::Interface, token) {
             text.push(b".")?;
-            return text.push(method_name(method));
+            return text.push(method.name());
         }
     }
     text.push(b" token ")?;

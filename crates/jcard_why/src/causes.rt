@@ -8,8 +8,7 @@ use crate::statuses::status_text;
 use crate::text::Text;
 use jc_linker::linked::Linked;
 use jc_memory::{Cause, FaultKind, Phase};
-use jc_objects::class_names::class_name;
-use jc_platform::names::{PlatformClass, PlatformMethod};
+use jc_platform::names::{AppletsMethod, PlatformClass, PlatformMethod, SystemMethod};
 use jc_transient::ClassWord;
 use std::alloc::AllocError;
 
@@ -86,7 +85,7 @@ pub(crate) fn push_class(
     linked: &Linked,
 ) -> Result<(), AllocError> {
     if let Some(named) = named {
-        return text.push(class_name(named));
+        return text.push(named.name());
     }
     push_package(text, (class.0 / 256) as u8, linked)?;
     text.push(b".")?;
@@ -111,10 +110,10 @@ fn told_fault(kind: FaultKind, asked: &Asked<'_>) -> ToldFault {
         return ToldFault::Noted(kind);
     };
     match platform_callee(*spot, asked) {
-        Some(PlatformMethod::JcSystemAbortTransaction) => ToldFault::AbortOfInstallation,
-        Some(PlatformMethod::AppletProcess) if is_special_call(*spot, asked) => {
-            ToldFault::Noted(FaultKind::NoMethod)
-        }
+        Some(PlatformMethod::System(SystemMethod::JcSystemAbortTransaction)) =>
+            ToldFault::AbortOfInstallation,
+        Some(PlatformMethod::Applets(AppletsMethod::AppletProcess))
+            if is_special_call(*spot, asked) => { ToldFault::Noted(FaultKind::NoMethod) }
         _ => ToldFault::Noted(kind),
     }
 }

@@ -6,7 +6,6 @@ mod causes;
 pub mod covers;
 pub mod explanation;
 pub mod maps;
-mod method_names;
 pub mod mnemonics;
 mod places;
 mod reasons;

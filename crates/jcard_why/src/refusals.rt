@@ -6,7 +6,6 @@ use crate::text::Text;
 use jc_firewall::access::Access;
 use jc_linker::linked::Linked;
 use jc_memory::{Cause, Denial, RefusedLoad, Shortage, Space};
-use jc_objects::class_names::class_name;
 use jc_platform::names::PlatformClass;
 use std::alloc::AllocError;
 
@@ -169,7 +168,7 @@ fn push_class_name(
         None => Ok(()),
         Some(named) => {
             text.push(b" (")?;
-            text.push(class_name(named))?;
+            text.push(named.name())?;
             text.push(b")")
         }
     }

@@ -59,7 +59,7 @@ fn push_before(text: &mut Text, before: u32) -> Result<(), AllocError> {
     if before == 0 {
         return Ok(());
     }
-    text.push(b"  behind ")?;
+    text.push(b"  after ")?;
     text.push_count(before, b"instruction")?;
     text.push(b"\n")
 }

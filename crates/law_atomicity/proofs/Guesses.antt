@@ -3,7 +3,7 @@ use Rattle.std.proofs.Common.{◌≡◌, ℕ, ◌-◌, ◌==◌, Bool, true, fal
 use Rattle.std.proofs.lemmas.Bool.{false≢true, cases_Bool, eqb-true}
 use Rattle.jc_heap.specs.declared.place.Place.TheVariants.{Cell}
 use Rattle.jc_heap.specs.Heap.{goes_back, set_cell}
-use Rattle.jc_heap.specs.Places.{place_word}
+use Rattle.jc_heap.specs.Places.{place_at}
 use Rattle.jc_heap.specs.Moves.{WriteNonAtomic}
 use Rattle.jc_memory.specs.State.{MemoryState, HeapMove, SetFlag, apply_effect}
 use Rattle.jc_memory.specs.Programs.{Finish, Perform, Completes, bind}
@@ -39,8 +39,8 @@ wrong s new r guess some did =
     let tries = (record_of s r).tries in
     by_tries (tries == 0) s new r (tries - 1) guess (λ e. some (eqb-true tries 0 e)) did
 
-not_touched : (s : MemoryState) (r : ℕ) → (IsChanged s r → ⊥) → goes_back s.heap (place_word (counter r)) ≡ false
-not_touched s r unchanged = elim (cases_Bool (goes_back s.heap (place_word (counter r)))) [ inl e ↦ absurd (unchanged e) | inr e ↦ e ]
+not_touched : (s : MemoryState) (r : ℕ) → (IsChanged s r → ⊥) → goes_back s.heap (place_at s.heap.now (counter r)) ≡ false
+not_touched s r unchanged = elim (cases_Bool (goes_back s.heap (place_at s.heap.now (counter r)))) [ inl e ↦ absurd (unchanged e) | inr e ↦ e ]
 
 pub take_a_try : TakeATry
 take_a_try s new r guess unchanged some did =

@@ -1,5 +1,5 @@
 -- Steps and runs keep the order of transactions.
-use Rattle.std.proofs.Common.{◌≡◌, ℕ, zero, suc, true, false, List, refl, Option, Some, None}
+use Rattle.std.proofs.Common.{◌≡◌, ℕ, zero, suc, ◌+◌, ◌≤◌, true, false, List, length, refl, sym, subst, arith, inl, inr, Option, Some, None}
 use Rattle.jc_transient.specs.declared.cell.CellValue.{CellValue}
 use Rattle.jc_transient.specs.declared.cell.CellValue.TheVariants.{Short}
 use Rattle.jc_transient.specs.declared.cell.ClearEvent.{ClearEvent}
@@ -7,6 +7,7 @@ use Rattle.jc_heap.specs.Heap.{facts}
 use Rattle.jc_memory.specs.declared.making.NewObject.{NewObject}
 use Rattle.jc_memory.specs.declared.registers.PackageNumber.{PackageNumber}
 use Rattle.jc_memory.specs.Cells.{cell_effect_in, cells_effect_in}
+use Rattle.jc_memory.specs.Changing.{nonatomic_store}
 use Rattle.jc_memory.specs.Making.{creation_move}
 use Rattle.jc_memory.specs.Programs.{Program}
 use Rattle.jc_memory.specs.Reading.{AllDue}
@@ -17,11 +18,12 @@ use Rattle.jc_platform.specs.declared.names.PlatformMethod.{PlatformMethod}
 use Rattle.jc_frames.specs.declared.cell.Cell.{Cell}
 use Rattle.jc_frames.specs.declared.outcome.Outcome.{Outcome}
 use Rattle.jc_frames.specs.Frames.{Frames, Next, GoesOn, Throws, Ends}
-use Rattle.jc_api_data.specs.ApduBuffer.{data_of}
-use Rattle.jc_api_runtime.specs.AidCells.{cells_of_aid}
+use Rattle.jc_api_framework.specs.Apdu.Buffer.{data_of}
+use Rattle.jc_api_framework.specs.Aid.Cells.{cells_of_aid}
 use Rattle.jc_interp.specs.Running.{or_end, run_of}
 use Rattle.jc_interp.specs.Stepping.{machine_step}
 use Rattle.law_isolation.proofs.Applets.{Registering}
+use Rattle.law_isolation.proofs.Bytes.{store_due}
 use Rattle.law_isolation.proofs.Methods.{method_due}
 use Rattle.law_isolation.proofs.Passing.{ArraysPass, Bears, FieldsPass, MethodPasses, RegistersSo}
 use Rattle.law_isolation.proofs.Walk.{step_due}
@@ -71,13 +73,17 @@ module _ (p : Packages) (m : MemoryState) where
   method_passes method args = record {
     reason = λ part sets own v is long. cell_orderly m (facts m.heap.now own).event own 0 (Short v);
     stretch = λ r count e words is long. cells_orderly m (facts m.heap.now e.array).event e.array e.start words;
+    bytes = λ r count e words is long kind.
+        let w = is.within in
+        subst (λ a. AllDue KeepsTransactionOrder (nonatomic_store m a e.start words) m) (sym is.array)
+        (store_due KeepsTransactionOrder r (λ i x v element. inr element) words e.start m kind (omega (arith, w, long)) tt);
     aid = λ init own bytes is long fine. cells_orderly m (facts m.heap.now own).event own 0 (cells_of_aid bytes);
     buffer = λ r is. cells_orderly m (facts m.heap.now r).event r 5 (data_of m.command);
     transient = λ kind count event o none fine room r new. made_orderly m o.event o;
     starts = λ pin is limit maximum value new. (tt, (tt, (tt, tt)));
     flags = λ pin is flag v. tt;
-    counts = λ pin is n. (pin, refl, pin_flagged m pin false is.is);
-    refills = λ pin is n limit. (pin, refl, pin_counted (apply_effect (SetFlag pin false) m) pin n (pin_flagged m pin false is.is));
+    counts = λ pin is n. inl (pin, refl, pin_flagged m pin false is.is);
+    refills = λ pin is n limit. inl (pin, refl, pin_counted (apply_effect (SetFlag pin false) m) pin n (pin_flagged m pin false is.is));
     updates = λ pin is bytes owned short. tt;
   }
 

@@ -3,7 +3,7 @@ use Rattle.std.proofs.Common.{◌≡◌, Bool, true, false, List, [], ◌∷◌,
 use Rattle.std.specs.Prelude.{ℕ, ◌⊎◌}
 use Rattle.std.proofs.lemmas.Bool.{true≢false, cases_Bool}
 use Rattle.jc_heap.specs.Heap.{HeapState, goes_back}
-use Rattle.jc_heap.specs.Places.{place_word, set_place}
+use Rattle.jc_heap.specs.Places.{place_at, set_place}
 use Rattle.jc_heap.proofs.KeptWords.{outside_none_goes_back}
 use Rattle.jc_heap.specs.Moves.{Write, SetPlaces, WriteNonAtomic, SetCells, AddObject, AddTransient, AddPackage, Begin, Commit, Abort, IsInside}
 use Rattle.jc_memory.specs.State.{MemoryState, Effect, HeapMove, SetTransient, SetFlag, ClearTransient, SetRegisters, BeginCommand, SendBytes}
@@ -32,7 +32,7 @@ pub settled_effect : (e : Effect) (s : MemoryState) → IsDurableOutside s → I
 settled_effect (HeapMove (Write p v)) s settled = λ b. fresh s.heap.begun s.heap.durable _ b
 settled_effect (HeapMove (SetPlaces cs)) s settled = λ b. fresh s.heap.begun s.heap.durable _ b
 settled_effect (HeapMove (WriteNonAtomic p v)) s settled = λ b.
-    ap (λ t. if t then s.heap.durable else set_place s.heap.durable p v) (untouched s (place_word p) b) ∙ ap (λ d. set_place d p v) (settled b)
+    ap (λ t. if t then s.heap.durable else set_place s.heap.durable p v) (untouched s (place_at s.heap.now p) b) ∙ ap (λ d. set_place d p v) (settled b)
 settled_effect (HeapMove (SetCells r i vs)) s settled = λ b. fresh s.heap.begun s.heap.durable _ b
 settled_effect (HeapMove (AddObject o size)) s settled = λ b. fresh s.heap.begun s.heap.durable _ b
 settled_effect (HeapMove (AddTransient kind event class owner long)) s settled = λ b. fresh s.heap.begun s.heap.durable _ b

@@ -1,33 +1,33 @@
 -- What a loss of power, or an abort, leaves.
 use Rattle.std.specs.Prelude.{ℕ, ◌≡◌, ◌⊎◌, ◌++◌, true, false, List, [], ◌∷◌, if◌then◌else◌}
 use Rattle.jc_heap.specs.Heap.{HeapState, goes_back}
-use Rattle.jc_heap.specs.Places.{place_word, set_place}
+use Rattle.jc_heap.specs.Places.{place_at, set_place}
 use Rattle.jc_heap.specs.Moves.{WriteNonAtomic, Begin, Abort, IsInside}
 use Rattle.jc_memory.specs.State.{MemoryState, Effect, HeapMove, apply_effect, apply_effects, moves_of}
 use Rattle.jc_memory.specs.Programs.{Program, Completes, TearLeaves}
 use Rattle.jc_memory.specs.Reading.{AllDue, HasTracePrefix, HasTrace}
-use Rattle.law_atomicity.specs.Orderly.{IsCounter, KeepsTransactionOrder}
+use Rattle.law_atomicity.specs.Orderly.{MayBeSetForGood, KeepsTransactionOrder}
 
--- these effects make of one saved heap the other: a PIN's counter is set where one of them counts its tries, until the
--- transaction has changed the counter itself, as an update and a second constructor do; all else stays
+-- these effects make of one saved heap the other: a PIN's counter and an element of an array of bytes are set where one of them sets
+-- them for good, until the transaction has changed their word itself; all else stays
 abbrev pub SavedHeapAfter : List Effect → MemoryState → HeapState → HeapState → Type 0
 SavedHeapAfter [] s old new = new ≡ old
 SavedHeapAfter (HeapMove (WriteNonAtomic place v) ∷ es) s old new =
-    IsCounter s place × SavedHeapAfter es (apply_effect (HeapMove (WriteNonAtomic place v)) s)
-    (if goes_back s.heap (place_word place) then old else set_place old place v) new
+    MayBeSetForGood s place × SavedHeapAfter es (apply_effect (HeapMove (WriteNonAtomic place v)) s)
+    (if goes_back s.heap (place_at s.heap.now place) then old else set_place old place v) new
 SavedHeapAfter (e ∷ es) s old new = SavedHeapAfter es (apply_effect e s) old new
 
--- with these effects a transaction began, which they leave open: the heap is the one that it found, but for tries
+-- with these effects a transaction began, which they leave open: the heap is the one that it found, but for what was set for good
 abbrev pub IsHeapFound : List Effect → MemoryState → HeapState → Type 0
 IsHeapFound es s h = (before : List Effect) × (during : List Effect) × (es ≡ before ++ (HeapMove Begin ∷ during)) × IsInside (moves_of during) ×
     ((apply_effects before s).heap.begun ≡ false) × SavedHeapAfter during (apply_effect (HeapMove Begin) (apply_effects before s))
     (apply_effects before s).heap.now h
 
--- the transaction was open before these effects, which stay within it: the heap is the one that was saved, but for tries
+-- the transaction was open before these effects, which stay within it: the heap is the one that was saved, but for what was set for good
 abbrev pub IsHeapSaved : List Effect → MemoryState → HeapState → Type 0
 IsHeapSaved es s h = IsInside (moves_of es) × SavedHeapAfter es s s.heap.durable h
 
--- behind these effects a loss leaves this heap: the one that the open transaction found, but for tries; the heap as it
+-- behind these effects a loss leaves this heap: the one that the open transaction found, but for what was set for good; the heap as it
 -- is, where none is open
 abbrev pub TearLeavesAfter : List Effect → MemoryState → HeapState → Type 0
 TearLeavesAfter es s h =
@@ -38,7 +38,7 @@ TearLeavesAfter es s h =
 abbrev pub IsDurableOutside : MemoryState → Type 0
 IsDurableOutside s = s.heap.begun ≡ false → s.heap.durable ≡ s.heap.now
 
--- the first law, of all that is done by orderly effects: within the open transaction what was saved stays, but for tries;
+-- the first law, of all that is done by orderly effects: within the open transaction what was saved stays, but for what was set for good;
 -- what a loss leaves behind each beginning of it; that an abort leaves the same; and that a loss within it is one behind
 -- such a beginning
 pub record TransactionsAreAtomic (A : Type 0) : Type 0 where

@@ -20,7 +20,8 @@ use Rattle.jc_heap.proofs.RecordWords.{header_only-set_word}
 use Rattle.jc_image.specs.Beginning.{HeapBeginsWith, HeadersFollow}
 use Rattle.jc_platform.specs.Table.{Reads}
 use Rattle.jc_platform.specs.Tokens.{Tokens}
-use Rattle.jc_card.specs.Fixed.{fixed_facts, fixed_objects, fixed_of, object_number}
+use Rattle.jc_environment.specs.Objects.{fixed_count, fixed_objects}
+use Rattle.jc_card.specs.Fixed.{fixed_facts, fixed_of, object_number}
 use Rattle.law_images.specs.Heaps.{HasBeginning}
 use Rattle.law_images.proofs.Finding.{found_put, found_still, found_there, looked_up_still}
 use Rattle.law_soundness.proofs.Statics.{object-with_word}
@@ -173,20 +174,22 @@ module _ (h g : HeapState) (s : Stays h g) where
       ap (λ x. x ∷ map (object_number g) (range_with_len (a + 1) n)) (all a (omega arith))
       ∙ ap (λ l. object_number h a ∷ l) (numbers_from (a + 1) n (λ k le. all k (omega (arith, le))))
 
-  module _ (t : Tokens) (begins : HeadersFollow h 0 (fixed_facts t 0 fixed_objects)) where
-    seventeen : length (fixed_facts t 0 fixed_objects) ≡ 17
-    unfolding fixed_objects
-    seventeen = refl
+  length-facts : (t : Tokens) (place : ℕ) (os : List _) → length (fixed_facts t place os) ≡ length os
+  length-facts t place [] = refl
+  length-facts t place (o ∷ os) = ap suc (length-facts t (place + o.cells) os)
 
-    pub fixed_still : fixed_of g ≡ fixed_of h
-    fixed_still = numbers_from 1 17 (λ k le. let at : k ≡ 0 + k = omega arith in ap (object_number g) at
-        ∙ numbers_still (fixed_facts t 0 fixed_objects) 0 k (from_null (fixed_facts t 0 fixed_objects) begins) zeroth (omega (arith, seventeen, le))
+  module _ (t : Tokens) (begins : HeadersFollow h 0 (fixed_facts t 0 (fixed_objects t))) where
+    pub fixed_still : fixed_of t g ≡ fixed_of t h
+    fixed_still =
+        let long = length-facts t 0 (fixed_objects t) in
+        numbers_from 1 (fixed_count t) (λ k le. let at : k ≡ 0 + k = omega arith in ap (object_number g) at
+        ∙ numbers_still (fixed_facts t 0 (fixed_objects t)) 0 k (from_null (fixed_facts t 0 (fixed_objects t)) begins) zeroth (omega (arith, long, le))
         ∙ sym (ap (object_number h) at))
 
 -- the heap has its beginning, with these objects
 pub record Begins (n : ℕ) (t : Tokens) (fixed : List ℕ) (h : HeapState) : Type 0 where
   pub has : HasBeginning n t h
-  pub are : fixed_of h ≡ fixed
+  pub are : fixed_of t h ≡ fixed
 
 pub begins_still : (n : ℕ) (t : Tokens) (fixed : List ℕ) (h g : HeapState) → Stays h g → Begins n t fixed h → Begins n t fixed g
 unfolding HeapBeginsWith
@@ -195,7 +198,7 @@ begins_still n t fixed h g s b = record {
     head = s.head ∙ b.has.head;
     enough = b.has.enough;
     table = subst (λ l. Reads l (Ok t)) (sym s.text) b.has.table;
-    begins = follow_still h g s (fixed_facts t 0 fixed_objects) 0 b.has.begins;
+    begins = follow_still h g s (fixed_facts t 0 (fixed_objects t)) 0 b.has.begins;
   };
   are = fixed_still h g s t b.has.begins ∙ b.are;
 }

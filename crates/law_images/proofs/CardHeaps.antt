@@ -1,12 +1,14 @@
 -- The heap that a loss of power leaves of a card.
-use Rattle.std.proofs.Common.{◌≡◌, ℕ, length, get_or, sym, ◌∙◌, ap, subst, arith}
+use Rattle.std.proofs.Common.{◌≡◌, ℕ, length, sym, ◌∙◌, ap, subst, arith}
 use Rattle.jc_heap.specs.Heap.{HeapState, heap_item_at}
 use Rattle.jc_heap.proofs.Laws.{same_facts}
 use Rattle.jc_memory.specs.State.{MemoryState, Effect, HeapMove, SetTransient, SetFlag, ClearTransient, SetRegisters, BeginCommand, SendBytes}
 use Rattle.jc_memory.specs.State.{apply_effect}
 use Rattle.jc_linker.specs.Values.{Packages}
 use Rattle.jc_platform.specs.Tokens.{Tokens}
+use Rattle.jc_environment.specs.Objects.{last_of}
 use Rattle.jc_card.specs.Fixed.{last_fixed}
+use Rattle.jc_card.proofs.Objects.{last_numbered}
 use Rattle.jc_card_checks.specs.Objects.{is_persistent_instance}
 use Rattle.law_images.specs.Kept.{IsReadAs}
 use Rattle.law_images.proofs.ReadingEffects.{keeps_reading}
@@ -60,8 +62,8 @@ still_own begins n t p e m due o = record {
 }
 
 module _ (n : ℕ) (t : Tokens) (p : Packages) (m : MemoryState) (o : IsOwnMemory n t p m) where
-  last_is : last_own m ≡ last_fixed m.heap.durable
-  last_is = ap (λ f. get_or f 16 0) o.beginning.fixed
+  last_is : last_own m ≡ last_fixed t m.heap.durable
+  last_is = ap last_of o.beginning.fixed ∙ last_numbered t m.heap.durable
 
   durable_own : IsOwnHeap n t p m.heap.durable
   durable_own = record {

@@ -14,7 +14,8 @@ use Rattle.jc_platform.proofs.NamesTold.{names_told}
 use Rattle.jc_platform.specs.Table.{Reads}
 use Rattle.jc_platform.specs.Tokens.{Tokens}
 use Rattle.jc_card.specs.CardState.{CardState}
-use Rattle.jc_card.specs.Fixed.{fixed_objects, last_fixed}
+use Rattle.jc_environment.specs.Objects.{fixed_objects}
+use Rattle.jc_card.specs.Fixed.{last_fixed}
 use Rattle.jc_card.specs.Made.{IsCardHeap, IsMade, new_card_heap}
 use Rattle.jc_card.proofs.FittingImages.{counts_add, packages_add}
 use Rattle.jc_card_checks.specs.Sound.{IsSound}
@@ -29,7 +30,7 @@ use Rattle.law_images.specs.Cards.{IsOwnCard, IsOwnKept}
 use Rattle.law_images.specs.CardImages.{ImagesStayMade, Keeps}
 use Rattle.law_images.proofs.Sessions.{kept_own}
 
-found : (n : ℕ) (t : Tokens) (p : Packages) (h : HeapState) → IsOwnHeap n t p h → IsSound p h (last_fixed h)
+found : (n : ℕ) (t : Tokens) (p : Packages) (h : HeapState) → IsOwnHeap n t p h → IsSound p h (last_fixed t h)
 found n t p h own = record {
   objects = λ r above there.
       let o : IsFitObject h.counts.1 p h r = own.fits.objects r above there in record { class = o.class; owner = o.owner; values = o.values };
@@ -63,7 +64,7 @@ kept_made t words k own keeps = record {
 -- a new image has no packages
 pub new_layout : (n capacity : ℕ) (text : List ℕ) (t : Tokens) → IsLaidOut (new_card_heap n capacity text t)
 new_layout n capacity text t = record {
-  counted = ap (λ c. c.0) (counts_add t (unsealed_heap n capacity text) fixed_objects) ∙ ap length (sym (packages_add t (unsealed_heap n capacity text) fixed_objects));
+  counted = ap (λ c. c.0) (counts_add t (unsealed_heap n capacity text) (fixed_objects t)) ∙ ap length (sym (packages_add t (unsealed_heap n capacity text) (fixed_objects t)));
   apart = new_apart n capacity text t;
 }
 

@@ -2,7 +2,7 @@
 use Rattle.std.proofs.Common.{ℕ, Bool, true, false, List, sym, ◌∙◌, if◌then◌else◌}
 use Rattle.jc_heap.specs.Heap.{HeapState, goes_back}
 use Rattle.jc_heap.specs.Moves.{Move, Write, SetPlaces, WriteNonAtomic, SetCells, AddObject, AddTransient, AddPackage, Begin, Commit, Abort}
-use Rattle.jc_heap.specs.Places.{place_word, set_place}
+use Rattle.jc_heap.specs.Places.{place_at, set_place}
 use Rattle.jc_memory.specs.State.{MemoryState, Effect, HeapMove, SetTransient, SetFlag, ClearTransient, SetRegisters, BeginCommand, SendBytes}
 use Rattle.jc_memory.specs.State.{apply_effect}
 use Rattle.jc_platform.specs.Tokens.{Tokens}
@@ -37,7 +37,7 @@ module _ (n : ℕ) (t : Tokens) where
     move_keeps (SetPlaces changes) =
         let s = set_places_stays changes m.heap.now in keeps (apply_effect (HeapMove (SetPlaces changes)) m) (after _ s) (change _ s)
     move_keeps (WriteNonAtomic place v) = keeps (apply_effect (HeapMove (WriteNonAtomic place v)) m) (after _ (set_place_stays m.heap.now place v))
-        (either m.fixed (goes_back m.heap (place_word place)) m.heap.durable (set_place m.heap.durable place v) durable
+        (either m.fixed (goes_back m.heap (place_at m.heap.now place)) m.heap.durable (set_place m.heap.durable place v) durable
         (begins_still n t m.fixed m.heap.durable (set_place m.heap.durable place v) (set_place_stays m.heap.durable place v) durable))
     move_keeps (SetCells r i words) =
         let s = set_cells_stays words m.heap.now r i in keeps (apply_effect (HeapMove (SetCells r i words)) m) (after _ s) (change _ s)

@@ -8,7 +8,7 @@ use Rattle.jc_heap.specs.declared.place.Place.TheVariants.{Cell, Static, Registr
 use Rattle.jc_heap.specs.Heap.{HeapState, add_object, add_transient, area_end, goes_back, set_cell, set_cells, with_area_end}
 use Rattle.jc_heap.specs.Moves.{Move, Write, SetPlaces, WriteNonAtomic, SetCells, AddObject, AddTransient, AddPackage, Begin, Commit, Abort, new_move}
 use Rattle.jc_heap.specs.Object.{new_object, new_transient, object_size}
-use Rattle.jc_heap.specs.Places.{place_word, set_place, set_places}
+use Rattle.jc_heap.specs.Places.{place_at, set_place, set_places}
 use Rattle.jc_heap.specs.Statics.{set_word}
 use Rattle.jc_memory.specs.State.{Effect, HeapMove, SetTransient, SetFlag, ClearTransient, SetRegisters, BeginCommand, SendBytes, MemoryState}
 use Rattle.jc_memory.specs.State.{apply_effect}
@@ -79,7 +79,7 @@ module _ (p : Packages) (m : MemoryState) (sound : IsSoundMemory p m) (is : AreL
       record { now = so; durable = changed _ m.heap.begun so }
   move_laid (WriteNonAtomic place v) fits = record {
     now = place_laid m.heap.now place v is.now;
-    durable = changed (set_place m.heap.durable place v) (goes_back m.heap (place_word place)) (place_laid m.heap.durable place v is.durable);
+    durable = changed (set_place m.heap.durable place v) (goes_back m.heap (place_at m.heap.now place)) (place_laid m.heap.durable place v is.durable);
   }
   move_laid (SetCells r i words) fits =
       let so : IsLaidOut (set_cells m.heap.now r i words) = record {

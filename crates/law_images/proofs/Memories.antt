@@ -149,6 +149,7 @@ module _ (all : List LinkerComponents) (p : Packages) (load : LoadedComponents) 
 
   environments_now : AreEnvironmentObjects more g m.fixed
   environments_now = record {
+    long = environment.now.long;
     there = λ k low. ap is_object (item_old h cs xs rest s (slice_index m.fixed k) (environment.now.there k low)) ∙ environment.now.there k low;
     first = λ r low. ap (λ t. (facts_of t).owner) (item_low h cs xs rest s r (omega (arith, low, behind))) ∙ environment.now.first r low;
     classes = λ r there instance zero. elim (old_or_new h cs xs rest s (initial_arrays (statics_of q.texts).arrays) r there) [

@@ -1,10 +1,10 @@
 -- The heap of a new image fits its packages.
 use Rattle.std.proofs.Common.{◌≡◌, ℕ, zero, suc, ◌+◌, ◌<◌, ◌≤◌, ◌&&◌, ◌==◌, not, Bool, true, false, inl, inr, List, [], ◌∷◌, ◌++◌, length, Option, Some, None, Ok}
 use Rattle.std.proofs.Common.{refl, sym, ◌∙◌, ap, subst, arith, if◌then◌else◌}
-use Rattle.std.specs.Prelude.{slice_index, unwrap_or}
-use Rattle.std.proofs.lemmas.List.FromFn.{get_or-map-range_with_len}
+use Rattle.std.specs.Prelude.{is_some, slice_index, unwrap_or}
+use Rattle.std.proofs.lemmas.List.FromFn.{get_or-map-range_with_len, length-map-range_with_len}
 use Rattle.std.proofs.lemmas.Option.{none-some}
-use Rattle.std.proofs.lemmas.Bool.{cases_lt, false≢true}
+use Rattle.std.proofs.lemmas.Bool.{and_from, cases_lt, false≢true}
 use Rattle.std.proofs.lemmas.List.{length-replicate}
 use Rattle.jc_words.specs.Layout.{least_size, registry_length}
 use Rattle.jc_transient.specs.declared.cell.ClearEvent.TheVariants.{Reset}
@@ -17,11 +17,15 @@ use Rattle.jc_image.specs.Laying.{unsealed_heap}
 use Rattle.jc_platform.specs.declared.names.PlatformClass.{PlatformClass}
 use Rattle.jc_platform.specs.Hierarchy.{is_interface}
 use Rattle.jc_platform.specs.Table.{Reads}
-use Rattle.jc_platform.specs.Tokens.{Tokens}
+use Rattle.jc_platform.specs.Tokens.{Tokens, token_of_class}
 use Rattle.jc_platform.proofs.Lists.{and_true}
 use Rattle.jc_linker.specs.Values.{Packages}
 use Rattle.jc_card_checks.specs.Objects.{is_instance, is_persistent_instance}
-use Rattle.jc_card.specs.Fixed.{BeginsWithFixed, class_number_of, fixed_facts, fixed_objects, fixed_of, last_fixed, next_or_null, object_number, with_objects}
+use Rattle.jc_environment.specs.declared.objects.FixedObject.{FixedObject}
+use Rattle.jc_environment.specs.Objects.{first_objects, fixed_count, fixed_objects, is_first, own_instance, own_instances}
+use Rattle.jc_environment.proofs.Counts.{all_further, is_thrown_further, least_count}
+use Rattle.jc_platform.specs.Names.{ClassEntry, classes}
+use Rattle.jc_card.specs.Fixed.{BeginsWithFixed, class_number_of, fixed_facts, fixed_of, last_fixed, next_or_null, object_number, with_objects}
 use Rattle.jc_image.specs.Beginning.{HeadersFollow, HeapBeginsWith}
 use Rattle.jc_image.proofs.Referring.{not_true}
 use Rattle.jc_card.specs.Made.{new_card_heap}
@@ -39,13 +43,6 @@ use Rattle.law_images.proofs.Finding.{found_there}
 -- the platform alone
 abbrev alone_with : Tokens → Packages
 alone_with t = record { platform = t; loaded = [] }
-
--- what the list of the runtime environment's objects has
-abbrev element_of : {A : Type 0} → List A → Type 0
-element_of {A} xs = A
-
-abbrev FixedObject : Type 0
-FixedObject = element_of fixed_objects
 
 -- ---- what stands in a new image's heap
 
@@ -68,9 +65,39 @@ abbrev all_fit : List FixedObject → Bool
 all_fit [] = true
 all_fit (o ∷ os) = fits_kind o.kind o.class && all_fit os
 
-fixed_fit : all_fit fixed_objects ≡ true
-unfolding fixed_objects is_interface
-fixed_fit = refl
+fit-append : (xs ys : List FixedObject) → all_fit xs ≡ true → all_fit ys ≡ true → all_fit (xs ++ ys) ≡ true
+fit-append [] ys first second = second
+fit-append (o ∷ xs) ys first second =
+    let both : (fits_kind o.kind o.class ≡ true) × (all_fit xs ≡ true) = and_true (fits_kind o.kind o.class) (all_fit xs) first in
+    and_from (fits_kind o.kind o.class) _ both.0 (fit-append xs ys both.1 second)
+
+-- those of the classes that a table has are among those of all the classes
+fit-own : (t : Tokens) (es : List ClassEntry) → all_fit (all_further es) ≡ true → all_fit (own_instances t es) ≡ true
+fit-own t [] fit = refl
+fit-own t (e ∷ es) fit = go (is_thrown_further e) (is_some (token_of_class t e.class)) fit (λ f. fit-own t es f)
+  where
+    fits : Bool
+    fits = fits_kind (own_instance e.class).kind (own_instance e.class).class
+
+    go : (x y : Bool) → all_fit (if x then own_instance e.class ∷ all_further es else all_further es) ≡ true
+        → (all_fit (all_further es) ≡ true → all_fit (own_instances t es) ≡ true)
+        → all_fit (if x && y then own_instance e.class ∷ own_instances t es else own_instances t es) ≡ true
+    go true true f rest = let both : (fits ≡ true) × (all_fit (all_further es) ≡ true) = and_true fits (all_fit (all_further es)) f in
+        and_from fits _ both.0 (rest both.1)
+    go true false f rest = let both : (fits ≡ true) × (all_fit (all_further es) ≡ true) = and_true fits (all_fit (all_further es)) f in rest both.1
+    go false y f rest = rest f
+
+first_fit : all_fit first_objects ≡ true
+unfolding first_objects is_interface classes
+first_fit = refl
+
+further_fit : all_fit (all_further classes) ≡ true
+unfolding first_objects is_first is_interface classes
+further_fit = refl
+
+fixed_fit : (t : Tokens) → all_fit (fixed_objects t) ≡ true
+unfolding fixed_objects
+fixed_fit t = fit-append first_objects (own_instances t classes) first_fit (fit-own t classes further_fit)
 
 class_fits : (t : Tokens) (kind : Kind) (class : Option PlatformClass) → fits_kind kind class ≡ true → is_instance kind ≡ true
     → IsPlatformClass (alone_with t) (class_number_of t class)
@@ -143,10 +170,6 @@ number_below h k b some = subst (λ q. q < h.top) (sym (number_suc h k)) (next_b
 
 -- ---- the objects that it begins with are there
 
-seventeen : length fixed_objects ≡ 17
-unfolding fixed_objects
-seventeen = refl
-
 -- a header with an event is an object's
 of_object : (x : Item) → (facts_of x).event ≡ Some Reset → is_object x ≡ true
 of_object (AnObject o) e = refl
@@ -164,24 +187,26 @@ follow_there h t place (o ∷ os) j (suc i) n follow lt is =
     follow_there h t (place + o.cells) os (suc j) i n (subst (λ q. HeadersFollow h q (fixed_facts t (place + o.cells) os)) (sym next) follow.3)
     (omega (arith, lt)) (omega (arith, is))
 
-begin_there : (h : HeapState) (t : Tokens) → BeginsWithFixed t h → (k : ℕ) → k < 17 → IsObject h (slice_index (fixed_of h) k)
+begin_there : (h : HeapState) (t : Tokens) → BeginsWithFixed t h → (k : ℕ) → k < length (fixed_of t h) → IsObject h (slice_index (fixed_of t h) k)
 unfolding HeapBeginsWith
-begin_there h t begins k lt =
-    let at : slice_index (fixed_of h) k ≡ object_number h (1 + k) = get_or-map-range_with_len (object_number h) 1 17 k (1 + k) 0 lt refl in
-    subst (IsObject h) (sym at) (follow_there h t 0 fixed_objects 0 k (1 + k)
-    (subst (λ q. HeadersFollow h q (fixed_facts t 0 fixed_objects)) (sym (zeroth h)) begins) (omega (arith, lt, seventeen)) (omega arith))
+begin_there h t begins k low =
+    let lt : k < fixed_count t = omega (arith, low, length-map-range_with_len (object_number h) 1 (fixed_count t)) in
+    let at : slice_index (fixed_of t h) k ≡ object_number h (1 + k) =
+    get_or-map-range_with_len (object_number h) 1 (fixed_count t) k (1 + k) 0 lt refl in
+    subst (IsObject h) (sym at) (follow_there h t 0 (fixed_objects t) 0 k (1 + k)
+    (subst (λ q. HeadersFollow h q (fixed_facts t 0 (fixed_objects t))) (sym (zeroth h)) begins) lt (omega arith))
 
 module _ (n capacity : ℕ) (text : List ℕ) (t : Tokens) where
   abbrev made : HeapState
-  made = with_objects t (unsealed_heap n capacity text) fixed_objects
+  made = with_objects t (unsealed_heap n capacity text) (fixed_objects t)
 
   below : IsBelow (new_card_heap n capacity text t)
   below =
-      let b : IsBelow made = below_all t (unsealed_heap n capacity text) fixed_objects (record { absent = λ q le. refl; none = λ q le. refl }) in
+      let b : IsBelow made = below_all t (unsealed_heap n capacity text) (fixed_objects t) (record { absent = λ q le. refl; none = λ q le. refl }) in
       record { absent = b.absent; none = b.none }
 
   some : 0 < (new_card_heap n capacity text t).top
-  some = let more = top_all t (unsealed_heap n capacity text) fixed_objects in omega (arith, more)
+  some = let more = top_all t (unsealed_heap n capacity text) (fixed_objects t) in omega (arith, more)
 
   stands_whole : IsConsistentHeap (new_card_heap n capacity text t)
   unfolding is_allocated
@@ -189,15 +214,15 @@ module _ (n capacity : ℕ) (text : List ℕ) (t : Tokens) where
 
   fixed_items : (r : ℕ) → IsFixed t (heap_item_at (new_card_heap n capacity text t) r)
   unfolding heap_item_at
-  fixed_items r = all_fixed t (unsealed_heap n capacity text) fixed_objects fixed_fit (λ q. absent_fixed t) r
+  fixed_items r = all_fixed t (unsealed_heap n capacity text) (fixed_objects t) (fixed_fit t) (λ q. absent_fixed t) r
 
   no_package : (new_card_heap n capacity text t).packages ≡ []
-  no_package = packages_add t (unsealed_heap n capacity text) fixed_objects
+  no_package = packages_add t (unsealed_heap n capacity text) (fixed_objects t)
 
   no_applet : (new_card_heap n capacity text t).counts ≡ (0, 0)
-  no_applet = counts_add t (unsealed_heap n capacity text) fixed_objects
+  no_applet = counts_add t (unsealed_heap n capacity text) (fixed_objects t)
 
-  nothing_above : IsSoundUpTo (new_card_heap n capacity text t).counts.1 (alone_with t) (new_card_heap n capacity text t) (last_fixed (new_card_heap n capacity text t))
+  nothing_above : IsSoundUpTo (new_card_heap n capacity text t).counts.1 (alone_with t) (new_card_heap n capacity text t) (last_fixed t (new_card_heap n capacity text t))
   nothing_above = record {
     objects = λ r above object. absurd (alone n capacity text t r above object);
     statics = λ k low. absurd (omega (arith, low, ap length no_package));
@@ -206,8 +231,9 @@ module _ (n capacity : ℕ) (text : List ℕ) (t : Tokens) where
     aids = λ a low. absurd (omega (arith, low, ap (λ c. c.1) no_applet));
   }
 
-  environments : AreEnvironmentObjects (alone_with t) (new_card_heap n capacity text t) (fixed_of (new_card_heap n capacity text t))
+  environments : AreEnvironmentObjects (alone_with t) (new_card_heap n capacity text t) (fixed_of t (new_card_heap n capacity text t))
   environments = record {
+    long = omega (arith, least_count t, length-map-range_with_len (object_number (new_card_heap n capacity text t)) 1 (fixed_count t));
     there = begin_there (new_card_heap n capacity text t) t (begins-new_card_heap n capacity text t);
     first = λ r low. (fixed_items r).owner;
     classes = λ r there instance zero. (fixed_items r).class there instance;
@@ -221,16 +247,20 @@ module _ (n capacity : ℕ) (text : List ℕ) (t : Tokens) where
     begins = begins-new_card_heap n capacity text t;
   }
 
+  last_below : (k : ℕ) → 17 ≤ k → object_number (new_card_heap n capacity text t) k < (new_card_heap n capacity text t).top
+  last_below zero some_there = absurd (omega (arith, some_there))
+  last_below (suc k) some_there = number_below (new_card_heap n capacity text t) k below some
+
   own_heap : least_size ≤ n → Reads text (Ok t) → IsOwnHeap n t (alone_with t) (new_card_heap n capacity text t)
   own_heap enough reads = record {
     beginning = begins enough reads;
     packages = no_packages t (new_card_heap n capacity text t) no_package;
     stands = stands_whole;
-    registry = ap length (applets_all t (unsealed_heap n capacity text) fixed_objects) ∙ length-replicate {A = ℕ} registry_length 0;
+    registry = ap length (applets_all t (unsealed_heap n capacity text) (fixed_objects t)) ∙ length-replicate {A = ℕ} registry_length 0;
     loaded = ap length no_package;
     fits = nothing_above;
     environment = environments;
-    behind = number_below (new_card_heap n capacity text t) 16 below some;
+    behind = last_below (fixed_count t) (least_count t);
     own = λ r low there. (fixed_items r).kept there;
   }
 

@@ -1,11 +1,11 @@
 -- Effects that fit leave the packages that are read.
-use Rattle.std.proofs.Common.{◌≡◌, ℕ, suc, ◌++◌, false, List, [], ◌∷◌, sym, ◌∙◌, subst, arith, Some}
+use Rattle.std.proofs.Common.{◌≡◌, ℕ, suc, ◌++◌, false, List, [], ◌∷◌, inl, inr, sym, ◌∙◌, subst, arith, Some}
 use Rattle.jc_transient.specs.State.{RamState}
 use Rattle.jc_heap.specs.declared.place.Place.{Place}
 use Rattle.jc_heap.specs.declared.place.Place.TheVariants.{Cell, Static, Registry, AppletCount}
 use Rattle.jc_heap.specs.Heap.{HeapState, add_object, add_transient, heap_after_change, goes_back, is_allocated, set_cell, set_cells}
 use Rattle.jc_heap.specs.Moves.{Move, Write, SetPlaces, WriteNonAtomic, SetCells, AddObject, AddTransient, AddPackage, Begin, Commit, Abort}
-use Rattle.jc_heap.specs.Places.{place_word, set_place, set_places, cell_changes}
+use Rattle.jc_heap.specs.Places.{place_at, set_place, set_places, cell_changes}
 use Rattle.jc_memory.specs.State.{MemoryState, Effect, HeapMove, SetTransient, SetFlag, ClearTransient, SetRegisters, BeginCommand, SendBytes}
 use Rattle.jc_memory.specs.State.{apply_effect}
 use Rattle.jc_linker.specs.Values.{Packages}
@@ -51,13 +51,13 @@ module _ (t : Tokens) (p : Packages) (m : MemoryState) (s : IsSoundMemory p m) (
       let now : packages_of t h ≡ Some p = read_same t m.heap.now h same ∙ r.now in
       record { now = now; durable = choose (λ d. packages_of t d ≡ Some p) m.heap.begun m.heap.durable h (λ on. r.durable) (λ off. now) }
 
-  counted_read : (at v : ℕ) → IsReadAs t p (apply_effect (HeapMove (WriteNonAtomic (Cell at 2) v)) m)
-  counted_read at v = record {
-    now = read_same t m.heap.now (set_cell m.heap.now at 2 v) (place_tells m.heap.now (Cell at 2) v tt) ∙ r.now;
-    durable = choose (λ d. packages_of t d ≡ Some p) (goes_back m.heap (place_word (Cell at 2))) m.heap.durable (set_cell m.heap.durable at 2 v)
+  cell_read : (place : Place) (at i v : ℕ) → place ≡ Cell at i → IsReadAs t p (apply_effect (HeapMove (WriteNonAtomic place v)) m)
+  cell_read place at i v is = subst (λ c. IsReadAs t p (apply_effect (HeapMove (WriteNonAtomic c v)) m)) (sym is) (record {
+    now = read_same t m.heap.now (set_cell m.heap.now at i v) (place_tells m.heap.now (Cell at i) v tt) ∙ r.now;
+    durable = choose (λ d. packages_of t d ≡ Some p) (goes_back m.heap (place_at m.heap.now (Cell at i))) m.heap.durable (set_cell m.heap.durable at i v)
         (λ on. r.durable)
-        (λ off. read_same t m.heap.durable (set_cell m.heap.durable at 2 v) (place_tells m.heap.durable (Cell at 2) v tt) ∙ r.durable);
-  }
+        (λ off. read_same t m.heap.durable (set_cell m.heap.durable at i v) (place_tells m.heap.durable (Cell at i) v tt) ∙ r.durable);
+  })
 
   free : is_allocated m.heap.now m.heap.now.top ≡ false
   free = s.whole.now.end m.heap.now.top (omega arith)
@@ -65,7 +65,8 @@ module _ (t : Tokens) (p : Packages) (m : MemoryState) (s : IsSoundMemory p m) (
   move_read : (move : Move) → FitsMove p move m → IsReadAs t p (apply_effect (HeapMove move) m)
   move_read (Write place v) fits = changed_read (set_place m.heap.now place v) _ 0 m.ram (place_tells m.heap.now place v (place_placed p m.heap.now place v fits))
   move_read (SetPlaces changes) fits = changed_read (set_places m.heap.now changes) _ 0 m.ram (places_tell m.heap.now changes (change_placed p m changes fits))
-  move_read (WriteNonAtomic place v) fits = subst (λ c. IsReadAs t p (apply_effect (HeapMove (WriteNonAtomic c v)) m)) (sym fits.1) (counted_read fits.0 v)
+  move_read (WriteNonAtomic place v) (inl counter) = cell_read place counter.0 2 v counter.1
+  move_read (WriteNonAtomic place v) (inr element) = cell_read place element.array element.index v element.is
   move_read (SetCells at i words) fits = changed_read (set_cells m.heap.now at i words) _ 0 m.ram (run_tells m.heap.now at i words)
   move_read (AddObject o size) fits = changed_read (add_object m.heap.now o size) _ size _ (object_tells m.heap.now o size s.whole.now.whole.met free)
   move_read (AddTransient kind event class owner long) fits = changed_read (add_transient m.heap.now kind event class owner long) _ _ _

@@ -22,7 +22,9 @@ use Rattle.jc_card.specs.Answers.{respond_with, manager_command, exchange, excha
 use Rattle.jc_card.specs.Apdu.{Apdu, apdu_of, data_of}
 use Rattle.jc_card.specs.CardState.{CardState}
 use Rattle.jc_card.specs.Dispatching.{with_response, create_applet, dispatch}
-use Rattle.jc_card.specs.Fixed.{fixed_of}
+use Rattle.jc_environment.specs.Objects.{last_of}
+use Rattle.jc_card.specs.Fixed.{fixed_of, last_fixed}
+use Rattle.jc_card.proofs.Objects.{last_numbered}
 use Rattle.jc_card.specs.Loads.{LoadResponse, begin_component, end_component, append_component, begin_load}
 use Rattle.jc_card.specs.StatusWord.{cla_not_supported, ins_not_supported, status_bytes, wrong_length}
 use Rattle.jc_session.specs.Requests.{Request, Command, Reset, ArmFuse, Reply, Response, Ready, Down}
@@ -34,7 +36,7 @@ use Rattle.law_linking.proofs.ClassLaws.{have_classes}
 use Rattle.law_linking.proofs.MethodLaws.{have_methods, have_no_code}
 use Rattle.law_images.specs.Loaded.{AreBytes}
 use Rattle.law_images.proofs.OpenLoads.{are_readable}
-use Rattle.law_soundness.specs.State.{IsSoundMemory}
+use Rattle.law_soundness.specs.State.{IsSoundMemory, IsSoundUpTo}
 use Rattle.law_soundness.proofs.Transients.{blank_lives}
 use Rattle.law_soundness.specs.Soundness.{AreKnown}
 use Rattle.law_soundness.proofs.CommandLaws.{commands_are_sound}
@@ -164,25 +166,28 @@ kept_own t (Off b k) own = own
 module _ (n : ℕ) (t : Tokens) (p : Packages) (h : HeapState) (own : IsOwnHeap h.head.1 t p h) (linked : AreLinkedWell p) (layout : IsLaidOut h)
     (passed budget : ℕ) (refusals : Refusals) (m : MemoryState) (clear : IsCleared m.ram) (none : m.command ≡ []) where
   abbrev reset_memory : MemoryState
-  reset_memory = record m { heap = heap_at_rest h passed refusals n; fixed = fixed_of h; registers = at_reset }
+  reset_memory = record m { heap = heap_at_rest h passed refusals n; fixed = fixed_of t h; registers = at_reset }
 
   reset_whole : AreConsistent (heap_at_rest h passed refusals n)
   reset_whole = record { now = own.stands; durable = own.stands; shape = shape-same h; order = omega arith }
+
+  last_is : last_of (fixed_of t h) ≡ last_fixed t h
+  last_is = last_numbered t h
 
   reset_sound : IsSoundMemory p reset_memory
   reset_sound = record {
     whole = reset_whole;
     registry = own.registry;
     registry_kept = own.registry;
-    now = own.fits;
-    durable = own.fits;
+    now = subst (IsSoundUpTo h.counts.1 p h) (sym last_is) own.fits;
+    durable = subst (IsSoundUpTo h.counts.1 p h) (sym last_is) own.fits;
     settled = λ off. refl;
     packages = refl;
     loaded = own.loaded;
     counts = λ closed. refl;
     active = refl;
-    behind = own.behind;
-    own = own.own;
+    behind = let b = last_is in let c = own.behind in omega (arith, b, c);
+    own = λ r low there. let b = last_is in own.own r (omega (arith, low, b)) there;
     home = refl;
     selected = λ a e. absurd (none-some a e);
     command = let long = ap length none in omega (arith, long);
@@ -203,13 +208,14 @@ pub powered_own : OneTable → (t : Tokens) (k : KeptState) (budget : ℕ) (card
 powered_own g t k budget card own up =
     let table : up.reset.packages.0 ≡ t = g k.durable.text up.reset.packages.0 t up.reset.packages.1 own.heap.beginning.table in
     let read : packages_of t k.durable ≡ Some card.packages = subst (λ u. packages_of u k.durable ≡ Some card.packages) table up.reset.packages.2 in
+    let known : card.memory.fixed ≡ fixed_of t k.durable = subst (λ u. card.memory.fixed ≡ fixed_of u k.durable) table up.reset.packages.3 in
     let same : card.packages ≡ own.packages = same_Some card.packages own.packages (sym read ∙ own.heap.packages) in
     let reset = reset_own k.size t own.packages k.durable own.heap own.linked own.layout card.memory.heap.passed card.budget k.refusals card.memory
     up.reset.ram up.reset.command in
     let path : card ≡ record {
       memory = record card.memory {
         heap = heap_at_rest k.durable card.memory.heap.passed k.refusals k.size;
-        fixed = fixed_of k.durable;
+        fixed = fixed_of t k.durable;
         registers = at_reset;
       };
       packages = own.packages;
@@ -220,7 +226,7 @@ powered_own g t k budget card own up =
       memory = record {
         heap = up.heap i;
         ram = card.memory.ram;
-        fixed = up.reset.fixed i;
+        fixed = known i;
         registers = up.reset.registers i;
         command = card.memory.command;
         sent = card.memory.sent;

@@ -17,7 +17,8 @@ use Rattle.jc_memory.specs.Programs.{Program, Finish, Perform, bind, unless_refu
 use Rattle.jc_memory.specs.Reading.{AllResults}
 use Rattle.jc_memory.specs.Changing.{package_addition}
 use Rattle.jc_memory.proofs.ProgramLemmas.{each_always, each_bind, each_more}
-use Rattle.jc_platform.specs.declared.names.PlatformMethod.TheVariants.{AppletSelect, AppletDeselect, AppletProcess}
+use Rattle.jc_platform.specs.declared.names.PlatformMethod.TheVariants.{Applets}
+use Rattle.jc_platform.specs.declared.names.AppletsMethod.TheVariants.{AppletSelect, AppletDeselect, AppletProcess}
 use Rattle.jc_linker.specs.Lookups.{applet_entry}
 use Rattle.jc_linker.specs.Values.{Packages}
 use Rattle.jc_registry.specs.Registry.{applet_with_aid}
@@ -90,7 +91,7 @@ unfolding applet_left
 applet_left_shut budget p None m shut = stays_shut shut
 applet_left_shut budget p (Some a) m shut =
     then_shut _ (λ end v. still_shut _ (λ u w none. stays_shut none) (close v) v (closed_shut v))
-    (applet_method_call budget p AppletDeselect (instance_of m a.0) (Reference (instance_of m a.0) ∷ []) (Applet a) m) m
+    (applet_method_call budget p (Applets AppletDeselect) (instance_of m a.0) (Reference (instance_of m a.0) ∷ []) (Applet a) m) m
 
 left_shut : (budget : ℕ) (p : Packages) (next : Option AppletNumber) (m : MemoryState) → m.heap.begun ≡ false
     → EndsShut (deselection budget p next m) m
@@ -106,7 +107,7 @@ processed_shut budget p a selecting expected m =
     let v = apply_effect (SetRegisters (with_command expected selecting m.registers)) m in
     behind _ _ m (
     then_shut _ (λ u w. then_shut _ (λ end x. still_shut _ (λ u y none. stays_shut none) (close x) x (closed_shut x))
-    (applet_method_call budget p AppletProcess (instance_of w a.0) (Reference (instance_of w a.0) ∷ Reference (apdu_object w) ∷ []) (Applet a) w) w)
+    (applet_method_call budget p (Applets AppletProcess) (instance_of w a.0) (Reference (instance_of w a.0) ∷ Reference (apdu_object w) ∷ []) (Applet a) w) w)
     (buffer_fill v (header_of v.command)) v)
 
 accepted_shut : (accepts : Bool) (budget : ℕ) (p : Packages) (a : AppletNumber) (expected : ℕ) (m : MemoryState) → m.heap.begun ≡ false
@@ -121,7 +122,7 @@ selected_shut budget p a expected m =
     let w = apply_effect (SetRegisters (with_selected (Some a) v.registers)) v in
     behind _ _ v (then_shut _ (λ end x. still_shut _ (λ u y none. accepted_shut (is_select_accepted end.1) end.0 p a expected y none) (close x) x
     (closed_shut x))
-    (applet_method_call rest p AppletSelect (instance_of w a.0) (Reference (instance_of w a.0) ∷ []) (Applet a) w) w))
+    (applet_method_call rest p (Applets AppletSelect) (instance_of w a.0) (Reference (instance_of w a.0) ∷ []) (Applet a) w) w))
     (deselection budget p (Some a) m) m
 
 managed_shut : (budget : ℕ) (p : Packages) (m : MemoryState) → m.heap.begun ≡ false → EndsShut (manager_selection budget p m) m

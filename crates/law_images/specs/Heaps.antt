@@ -26,7 +26,7 @@ pub record IsOwnHeap (n : ℕ) (t : Tokens) (p : Packages) (h : HeapState) : Typ
   pub stands : IsConsistentHeap h
   pub registry : length h.applets ≡ registry_length
   pub loaded : length h.packages ≡ length p.loaded
-  pub fits : IsSoundUpTo h.counts.1 p h (last_fixed h)
-  pub environment : AreEnvironmentObjects p h (fixed_of h)
-  pub behind : last_fixed h < h.top
-  pub own : (r : ℕ) → r ≤ last_fixed h → IsObject h r → is_persistent_instance (facts h r) ≡ false
+  pub fits : IsSoundUpTo h.counts.1 p h (last_fixed t h)
+  pub environment : AreEnvironmentObjects p h (fixed_of t h)
+  pub behind : last_fixed t h < h.top
+  pub own : (r : ℕ) → r ≤ last_fixed t h → IsObject h r → is_persistent_instance (facts h r) ≡ false

@@ -10,7 +10,7 @@ use Rattle.jc_session.specs.Requests.{Request, Command, Reset, ArmFuse}
 use Rattle.law_images.specs.Comes.{memory_at}
 use Rattle.law_images.specs.Tries.{IsAsFound}
 
--- a transaction is open behind these effects of a command, and this is what its beginning found, but for tries
+-- a transaction is open behind these effects of a command, and this is what its beginning found, but for what was set for good
 pub record IsWhatWasFound (card : CardState) (es : List Effect) (left : HeapState) : Type 0 where
   pub earlier : List Effect
   pub during : List Effect

@@ -18,8 +18,8 @@ NewImagesFit = (n capacity : ℕ) (text : List ℕ) (t : Tokens) → least_size 
 pub record KeepsBeginning (n : ℕ) (t : Tokens) (m : MemoryState) : Type 0 where
   pub now : HasBeginning n t m.heap.now
   pub durable : HasBeginning n t m.heap.durable
-  pub fixed : m.fixed ≡ fixed_of m.heap.durable
-  pub same : fixed_of m.heap.now ≡ fixed_of m.heap.durable
+  pub fixed : m.fixed ≡ fixed_of t m.heap.durable
+  pub same : fixed_of t m.heap.now ≡ fixed_of t m.heap.durable
 
 -- whatever effect comes, it is so behind it
 abbrev pub EffectsKeepBeginnings : Type 0

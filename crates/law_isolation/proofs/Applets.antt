@@ -24,9 +24,9 @@ use Rattle.jc_registry.specs.Registry.{applet_with_aid}
 use Rattle.jc_world.specs.Contexts.{installed_package}
 use Rattle.jc_world.specs.declared.native_result.NativeResult.{NativeResult}
 use Rattle.jc_world.specs.declared.native_result.NativeResult.TheVariants.{ReturnVoid}
-use Rattle.jc_api_runtime.specs.AidCells.{cells_of_aid}
-use Rattle.jc_api_runtime.specs.Register.{aid_object_creation, registry_entry, installation_in_transaction, is_inside, is_owned, may_be_added, next_number}
-use Rattle.jc_api_runtime.specs.Register.{open_installation, registration, registration_package, registration_package_in, unless_full, with_installation}
+use Rattle.jc_api_framework.specs.Aid.Cells.{cells_of_aid}
+use Rattle.jc_api_framework.specs.Applet.Register.{aid_object_creation, registry_entry, installation_in_transaction, is_inside, is_owned, may_be_added, next_number}
+use Rattle.jc_api_framework.specs.Applet.Register.{open_installation, registration, registration_package, registration_package_in, unless_full, with_installation}
 use Rattle.law_isolation.proofs.Due.{DueThen, then_ok}
 use Rattle.law_isolation.proofs.Exits.{IsPlainExit}
 use Rattle.law_isolation.proofs.NativeExits.{plain_registration}

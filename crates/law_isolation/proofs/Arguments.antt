@@ -31,9 +31,10 @@ use Rattle.jc_world.specs.Answers.{and_then}
 use Rattle.jc_world.specs.Arrays.{bytes_argument, bytes_in, elements_of, if_array, if_bytes, within}
 use Rattle.jc_world.specs.Instances.{IsInstanceWith, instance_at, with_cells}
 use Rattle.jc_world.specs.Numbers.{not_negative}
-use Rattle.jc_api_data.specs.ApduBuffer.{buffer_of, is_buffer, is_buffer_of}
-use Rattle.jc_api_data.specs.UtilArguments.{counted_of, pair_of, two_of}
-use Rattle.jc_api_runtime.specs.SystemMemory.{first_of_two, if_shorts, if_shorts_there, shorts_argument}
+use Rattle.jc_api_framework.specs.Apdu.Buffer.{buffer_of, is_buffer, is_buffer_of}
+use Rattle.jc_api.specs.declared.arguments.ArrayArguments.{ArrayArguments}
+use Rattle.jc_api.specs.Arguments.{array_arguments, counted_of, pair_of, two_of}
+use Rattle.jc_api_framework.specs.System.Memory.{first_of_two, if_shorts, if_shorts_there, shorts_argument}
 use Rattle.law_isolation.proofs.Reaching.{element_allowed, err_not_ok, header_is, object_is, same_Ok}
 
 -- a check and then another one: both let it go on
@@ -112,6 +113,13 @@ module _ (p : Packages) (m : MemoryState) (r : ℕ) (start count : ℤ) (e : Str
   pub stretch_is : (argument : Option Facts) → bytes_argument m r ≡ Ok argument → elements_of p m r argument start count ≡ Ok e → IsStretch p m r count e
   stretch_is argument there fine = stretch_in argument (argument_is m r argument there) fine
 
+  -- which is one of bytes
+  pub stretch_bytes : (argument : Option Facts) → bytes_argument m r ≡ Ok argument → elements_of p m r argument start count ≡ Ok e
+      → (facts m.heap.now r).kind ≡ ByteArray
+  unfolding elements_of
+  stretch_bytes None there fine = absurd (err_not_ok fine)
+  stretch_bytes (Some f) there fine = let is = argument_is m r (Some f) there f refl in ap (λ (g : Facts). g.kind) (sym is.0) ∙ is.1
+
 -- the array of shorts that a reference argument names
 shorts_if : (kind : Kind) (f g : Facts) → if_shorts kind f ≡ Ok g → (g ≡ f) × (kind ≡ ShortArray)
 shorts_if Instance f g e = absurd (err_not_ok e)
@@ -156,6 +164,7 @@ shorts_is p m r i f u start there allowed first = let is = shorts_are m r f ther
 
 -- the elements that a call of two arrays writes, as many as it reads
 pub pair_is : (p : Packages) (m : MemoryState) (n : _) (a : _) → pair_of p m n ≡ Ok a → IsStretch p m n.destination n.count a.to × (a.from.count ≡ a.to.count)
+    × ((facts m.heap.now n.destination).kind ≡ ByteArray)
 pair_is p m n a e =
     let one = both_ok (bytes_argument m n.source) _ a e in
     let two = both_ok (bytes_argument m n.destination) _ a one.2 in
@@ -164,8 +173,9 @@ pair_is p m n a e =
     let same = same_Ok _ a four.2 in
     let from = stretch_is p m n.source n.source_start n.count three.0 one.0 one.1 three.1 in
     let to = stretch_is p m n.destination n.destination_start n.count four.0 two.0 two.1 four.1 in
-    subst (λ b. IsStretch p m n.destination n.count b.to × (b.from.count ≡ b.to.count)) same
-    (to, same_Some (three.0).count (four.0).count (sym from.counted ∙ to.counted))
+    let bytes = stretch_bytes p m n.destination n.destination_start n.count four.0 two.0 two.1 four.1 in
+    subst (λ b. IsStretch p m n.destination n.count b.to × (b.from.count ≡ b.to.count) × ((facts m.heap.now n.destination).kind ≡ ByteArray)) same
+    (to, same_Some (three.0).count (four.0).count (sym from.counted ∙ to.counted), bytes)
 
 -- the two that a call writes
 pub two_is : (args : List Cell) (p : Packages) (m : MemoryState) (e : Stretch) → two_of args p m ≡ Ok e → (r : ℕ) × IsStretch p m r (pos 2) e
@@ -175,14 +185,27 @@ two_is args p m e fine =
     let three = both_ok (bytes_argument m one.0) _ e two.2 in
     (one.0, stretch_is p m one.0 two.0 (pos 2) e three.0 three.1 three.2)
 
--- those that a call of one array with an offset and a length writes
-pub counted_is : (args : List Cell) (p : Packages) (m : MemoryState) (e : Stretch) → counted_of args p m ≡ Ok e → (r : ℕ) × (count : ℤ) × IsStretch p m r count e
-counted_is args p m e fine =
-    let one = both_ok (some_or_fault (reference_argument args 0)) _ e fine in
-    let two = both_ok (some_or_fault (short_argument args 1)) _ e one.2 in
-    let three = both_ok (some_or_fault (short_argument args 2)) _ e two.2 in
-    let four = both_ok (bytes_argument m one.0) _ e three.2 in
-    (one.0, three.0, stretch_is p m one.0 two.0 three.0 e four.0 four.1 four.2)
+-- an array with an offset and a length among the arguments
+pub given_is : (i : ℕ) (args : List Cell) (m : MemoryState) (g : ArrayArguments) → array_arguments i args m ≡ Ok g → bytes_argument m g.array ≡ Ok g.header
+given_is i args m g fine =
+    let one = both_ok (some_or_fault (reference_argument args i)) _ g fine in
+    let two = both_ok (some_or_fault (short_argument args (i + 1))) _ g one.2 in
+    let three = both_ok (some_or_fault (short_argument args (i + 2))) _ g two.2 in
+    let four = both_ok (bytes_argument m one.0) _ g three.2 in
+    subst (λ (x : ArrayArguments). bytes_argument m x.array ≡ Ok x.header) (same_Ok _ g four.2) four.1
+
+-- the elements of it that a call reads or writes
+pub counted_is : (i : ℕ) (args : List Cell) (p : Packages) (m : MemoryState) (e : Stretch) → counted_of i args p m ≡ Ok e
+    → (r : ℕ) × (count : ℤ) × IsStretch p m r count e × ((facts m.heap.now r).kind ≡ ByteArray)
+counted_is i args p m e fine =
+    let one = both_ok (array_arguments i args m) _ e fine in
+    let g = one.0 in
+    let there = given_is i args m g one.1 in (
+      g.array,
+      g.count,
+      stretch_is p m g.array g.start g.count e g.header there one.2,
+      stretch_bytes p m g.array g.start g.count e g.header there one.2,
+    )
 
 pub length_bytes : (m : MemoryState) (e : Stretch) → length (bytes_in m e) ≡ e.count
 length_bytes m e = length-map (range_with_len e.start e.count) (byte_at m e.array) ∙ length-range_with_len e.start e.count

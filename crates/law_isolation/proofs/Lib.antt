@@ -21,7 +21,9 @@ pub mod Groups
 pub mod Pins
 pub mod Natives
 pub mod Receivers
+pub mod Facts
 pub mod Steps
 pub mod Runs
 pub mod Running
 pub mod Statics
+pub mod Bytes

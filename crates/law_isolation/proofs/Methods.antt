@@ -30,35 +30,34 @@ use Rattle.jc_memory.specs.declared.registers.Installation.{Installation}
 use Rattle.jc_memory.specs.declared.registers.Installation.TheVariants.{Idle, Open, Registered}
 use Rattle.jc_memory.specs.State.{MemoryState, Effect, HeapMove, SetFlag, SendBytes, apply_effect}
 use Rattle.jc_memory.specs.Cells.{bytes_at, header_at, cell_refusal, cells_refusal, cells_effect, cells_effect_in}
+use Rattle.jc_memory.specs.Changing.{nonatomic_store}
 use Rattle.jc_memory.specs.Programs.{Program}
 use Rattle.jc_memory.specs.Making.{creation_refusal}
 use Rattle.jc_memory.specs.Reading.{AllDue}
 use Rattle.jc_linker.specs.Values.{Packages}
 use Rattle.jc_platform.specs.declared.names.PlatformClass.TheVariants.{Aid, OwnerPin}
 use Rattle.jc_platform.specs.declared.names.PlatformMethod.{PlatformMethod}
-use Rattle.jc_platform.specs.declared.names.PlatformMethod.TheVariants.{AidEquals, AidEqualsBytes, AidGetBytes, AidInit, ApduExceptionInit}
-use Rattle.jc_platform.specs.declared.names.PlatformMethod.TheVariants.{ApduExceptionThrowIt, ApduGetBuffer, ApduReceiveBytes, ApduSendBytes}
-use Rattle.jc_platform.specs.declared.names.PlatformMethod.TheVariants.{ApduSetIncomingAndReceive, ApduSetOutgoing, ApduSetOutgoingAndSend}
-use Rattle.jc_platform.specs.declared.names.PlatformMethod.TheVariants.{ApduSetOutgoingLength, AppletRegister, AppletRegisterBytes, CardExceptionGetReason}
-use Rattle.jc_platform.specs.declared.names.PlatformMethod.TheVariants.{CardExceptionInit, CardExceptionSetReason, CardExceptionThrowIt}
-use Rattle.jc_platform.specs.declared.names.PlatformMethod.TheVariants.{CardRuntimeExceptionGetReason, CardRuntimeExceptionInit, CardRuntimeExceptionSetReason}
-use Rattle.jc_platform.specs.declared.names.PlatformMethod.TheVariants.{CardRuntimeExceptionThrowIt, IsoExceptionInit, IsoExceptionThrowIt}
-use Rattle.jc_platform.specs.declared.names.PlatformMethod.TheVariants.{JcSystemAbortTransaction, JcSystemBeginTransaction, JcSystemCommitTransaction}
-use Rattle.jc_platform.specs.declared.names.PlatformMethod.TheVariants.{JcSystemGetAppletShareableInterfaceObject, JcSystemIsTransient, JcSystemLookupAid}
-use Rattle.jc_platform.specs.declared.names.PlatformMethod.TheVariants.{JcSystemMakeTransientBooleanArray, JcSystemMakeTransientByteArray}
-use Rattle.jc_platform.specs.declared.names.PlatformMethod.TheVariants.{JcSystemMakeTransientObjectArray, JcSystemMakeTransientShortArray, ObjectEquals}
-use Rattle.jc_platform.specs.declared.names.PlatformMethod.TheVariants.{OwnerPinCheck, OwnerPinGetTriesRemaining, OwnerPinInit, OwnerPinIsValidated}
-use Rattle.jc_platform.specs.declared.names.PlatformMethod.TheVariants.{OwnerPinReset, OwnerPinResetAndUnblock, OwnerPinUpdate, PinExceptionInit}
-use Rattle.jc_platform.specs.declared.names.PlatformMethod.TheVariants.{PinExceptionThrowIt, SystemExceptionInit, SystemExceptionThrowIt}
-use Rattle.jc_platform.specs.declared.names.PlatformMethod.TheVariants.{TransactionExceptionInit, TransactionExceptionThrowIt, UserExceptionInit}
-use Rattle.jc_platform.specs.declared.names.PlatformMethod.TheVariants.{UserExceptionThrowIt, UtilArrayCompare, UtilArrayCopy, UtilGetShort, UtilMakeShort}
-use Rattle.jc_platform.specs.declared.names.PlatformMethod.TheVariants.{UtilArrayFill, UtilSetShort, UserExceptionInitWithoutReason, OwnerPinGetValidatedFlag, OwnerPinSetValidatedFlag}
-use Rattle.jc_platform.specs.declared.names.PlatformMethod.TheVariants.{AidRidEquals, AidPartialEquals, AidGetPartialBytes, JcSystemIsAppletActive, JcSystemGetAvailableMemory, ApduGetIncomingLength, ApduGetOffsetCdata}
-use Rattle.jc_platform.specs.declared.names.PlatformMethod.TheVariants.{ApduSendBytesLong, ApduSetOutgoingNoChaining, ApduGetCurrentApdu, ApduGetCurrentApduBuffer}
-use Rattle.jc_platform.specs.declared.names.PlatformMethod.TheVariants.{JcSystemGetAvailableMemoryShorts, JcSystemGetAid, JcSystemGetPreviousContextAid}
-use Rattle.jc_platform.specs.declared.names.PlatformMethod.TheVariants.{AppletGetShareableInterfaceObject}
+use Rattle.jc_platform.specs.declared.names.PlatformMethod.TheVariants as rooms
+use Rattle.jc_platform.specs.declared.names.ObjectsMethod.{ObjectsMethod}
+use Rattle.jc_platform.specs.declared.names.ObjectsMethod.TheVariants as objects
+use Rattle.jc_platform.specs.declared.names.ExceptionsMethod.{ExceptionsMethod}
+use Rattle.jc_platform.specs.declared.names.ExceptionsMethod.TheVariants as exceptions
+use Rattle.jc_platform.specs.declared.names.UtilitiesMethod.{UtilitiesMethod}
+use Rattle.jc_platform.specs.declared.names.UtilitiesMethod.TheVariants as utilities
+use Rattle.jc_platform.specs.declared.names.SystemMethod.{SystemMethod}
+use Rattle.jc_platform.specs.declared.names.SystemMethod.TheVariants as system
+use Rattle.jc_platform.specs.declared.names.AidsMethod.{AidsMethod}
+use Rattle.jc_platform.specs.declared.names.AidsMethod.TheVariants as aids
+use Rattle.jc_platform.specs.declared.names.PinsMethod.{PinsMethod}
+use Rattle.jc_platform.specs.declared.names.PinsMethod.TheVariants as pins
+use Rattle.jc_platform.specs.declared.names.AppletsMethod.{AppletsMethod}
+use Rattle.jc_platform.specs.declared.names.AppletsMethod.TheVariants as applets
+use Rattle.jc_platform.specs.declared.names.ApdusMethod.{ApdusMethod}
+use Rattle.jc_platform.specs.declared.names.ApdusMethod.TheVariants as apdus
+use Rattle.jc_platform.specs.declared.names.EventsMethod.{EventsMethod}
+use Rattle.jc_platform.specs.declared.names.EventsMethod.TheVariants as events
 use Rattle.jc_platform.specs.Distinct.{class_of, class_word}
-use Rattle.jc_platform.specs.Names.{methods}
+use Rattle.jc_platform.specs.Names.{classes, exceptions_rows, pins_rows}
 use Rattle.jc_pin.specs.declared.updating.PinRefusal.{PinRefusal}
 use Rattle.jc_pin.specs.Checking.{pin_check, is_value, comparison}
 use Rattle.jc_pin.specs.Pins.{counter, is_pin, record_of}
@@ -74,46 +73,45 @@ use Rattle.jc_world.specs.Objects.{is_instance_of, reference_argument, short_arg
 use Rattle.jc_world.specs.declared.arrays.Stretch.{Stretch}
 use Rattle.jc_world.specs.Arrays.{bytes_argument, bytes_in, elements_of}
 use Rattle.jc_world.specs.Instances.{instance_at}
-use Rattle.jc_api_runtime.specs.AidCalls.{aid_call, aid_equals, aid_equals_bytes, aid_get_bytes, aid_init}
-use Rattle.jc_api_runtime.specs.AidCalls.{aid_get_partial_bytes, aid_partial_equals, aid_rid_equals, if_there, part_within}
-use Rattle.jc_api_runtime.specs.AidCells.{cells_of_aid, is_aid_length}
-use Rattle.jc_api_data.specs.Apdu.{apdu_set_outgoing_and_send, apdu_call, apdu_send_bytes, send_in_phase, apdu_get_buffer, length_of, apdu_set_outgoing_length}
-use Rattle.jc_api_data.specs.Apdu.{set_length_in_phase, apdu_set_outgoing, set_outgoing_in_phase, phase_of, piece_of, apdu_set_incoming_and_receive}
-use Rattle.jc_api_data.specs.Apdu.{receive_in_phase, apdu_receive_bytes, apdu_send_bytes_long, is_too_much, send_elements_in_phase}
-use Rattle.jc_api_data.specs.Apdu.{apdu_get_current_apdu, apdu_get_current_apdu_buffer}
-use Rattle.jc_api_data.specs.ApduCurrent.{apdu_object, has_command}
-use Rattle.jc_api_data.specs.ApduQueries.{while_received}
-use Rattle.jc_api_data.specs.ApduBuffer.{buffer_of, data_of}
-use Rattle.jc_api_runtime.specs.Applet.{applet_call, applet_register_bytes, install_aid, applet_register, register_with}
-use Rattle.jc_api_runtime.specs.Register.{open_installation}
-use Rattle.jc_api_data.specs.OwnerPinArguments.{at_least_1, array_arguments, argument_bytes, receiver, is_own_value}
-use Rattle.jc_api_data.specs.OwnerPin.{pin_comparison, owner_pin_init, guess_of, pin_call, owner_pin_check, changed_or_thrown, owner_pin_get_tries_remaining}
-use Rattle.jc_api_data.specs.OwnerPin.{return_unless_refused, owner_pin_is_validated, owner_pin_update, owner_pin_reset, owner_pin_reset_and_unblock}
-use Rattle.jc_api_data.specs.OwnerPin.{owner_pin_set_validated_flag}
-use Rattle.jc_api_runtime.specs.SystemSharing.{aid_or_null, applet_of, jc_system_lookup_aid, server_call_result, server_call_by_aid, server_call_if_known}
-use Rattle.jc_api_runtime.specs.SystemSharing.{jc_system_get_applet_shareable_interface_object, jc_system_is_applet_active}
-use Rattle.jc_api_runtime.specs.System.{system_call}
-use Rattle.jc_api_runtime.specs.SystemMemory.{available_bytes, first_of_two, jc_system_get_available_memory, jc_system_get_available_memory_shorts}
-use Rattle.jc_api_runtime.specs.SystemMemory.{shorts_argument, shorts_of_count}
+use Rattle.jc_api_framework.specs.Aid.{aid_call, aid_equals, aid_equals_bytes, aid_get_bytes, aid_init}
+use Rattle.jc_api_framework.specs.Aid.{aid_get_partial_bytes, aid_partial_equals, aid_rid_equals, if_there, part_within}
+use Rattle.jc_api_framework.specs.Aid.Cells.{cells_of_aid, is_aid_length}
+use Rattle.jc_api_framework.specs.Apdu.{apdu_set_outgoing_and_send, apdu_call, apdu_send_bytes, send_in_phase, apdu_get_buffer, length_of, apdu_set_outgoing_length}
+use Rattle.jc_api_framework.specs.Apdu.{set_length_in_phase, apdu_set_outgoing, set_outgoing_in_phase, phase_of, piece_of, apdu_set_incoming_and_receive}
+use Rattle.jc_api_framework.specs.Apdu.{receive_in_phase, apdu_receive_bytes, apdu_send_bytes_long, is_too_much, send_elements_in_phase}
+use Rattle.jc_api_framework.specs.Apdu.{apdu_get_current_apdu, apdu_get_current_apdu_buffer}
+use Rattle.jc_api_framework.specs.Apdu.Current.{apdu_object, has_command}
+use Rattle.jc_api_framework.specs.Apdu.Queries.{while_received}
+use Rattle.jc_api_framework.specs.Apdu.Buffer.{buffer_of, data_of}
+use Rattle.jc_api_framework.specs.Applet.{applet_call, applet_register_bytes, install_aid, applet_register, register_with}
+use Rattle.jc_api_framework.specs.Applet.Register.{open_installation}
+use Rattle.jc_api_framework.specs.OwnerPin.Arguments.{at_least_1, receiver, is_own_value}
+use Rattle.jc_api_framework.specs.OwnerPin.{pin_comparison, owner_pin_init, guess_of, pin_call, owner_pin_check, changed_or_thrown, owner_pin_get_tries_remaining}
+use Rattle.jc_api_framework.specs.OwnerPin.{return_unless_refused, owner_pin_is_validated, owner_pin_update, owner_pin_reset, owner_pin_reset_and_unblock}
+use Rattle.jc_api_framework.specs.OwnerPin.{owner_pin_set_validated_flag}
+use Rattle.jc_api_framework.specs.System.Sharing.{aid_or_null, applet_of, jc_system_lookup_aid, server_call_result, server_call_by_aid, server_call_if_known}
+use Rattle.jc_api_framework.specs.System.Sharing.{jc_system_get_applet_shareable_interface_object, jc_system_is_applet_active}
+use Rattle.jc_api_framework.specs.System.{system_call}
+use Rattle.jc_api_framework.specs.System.Memory.{available_bytes, first_of_two, jc_system_get_available_memory, jc_system_get_available_memory_shorts}
+use Rattle.jc_api_framework.specs.System.Memory.{shorts_argument, shorts_of_count}
 use Rattle.jc_firewall.specs.declared.access.Access.TheVariants.{ArrayElement}
 use Rattle.jc_world.specs.Contexts.{firewall_check}
-use Rattle.jc_api_runtime.specs.SystemTransactions.{jc_system_abort_transaction, after_abort, jc_system_begin_transaction, jc_system_commit_transaction}
-use Rattle.jc_api_runtime.specs.SystemTransactions.{commit_of_applet}
-use Rattle.jc_api_runtime.specs.SystemTransient.{jc_system_make_transient_array, jc_system_is_transient, requested_array}
-use Rattle.jc_api_data.specs.Exceptions.{exception_call, exception_get_reason, exception_set_no_reason, exception_set_reason, exception_throw_it}
-use Rattle.jc_api_data.specs.Objects.{object_call, object_equals}
-use Rattle.jc_api_data.specs.UtilArguments.{counted_of, pair_arguments, pair_of, two_of}
-use Rattle.jc_api_data.specs.Util.{util_array_compare, util_array_copy, bytes_of_short, util_get_short, util_make_short, util_set_short, util_call}
-use Rattle.jc_api_data.specs.Util.{filling_of, util_array_fill}
-use Rattle.jc_interp.specs.declared.parts.Part.{Part}
-use Rattle.jc_interp.specs.declared.parts.Part.TheVariants.{Objects, CardExceptions, Utilities, System, Aids, Pins, Applets, Apdus}
-use Rattle.jc_interp.specs.Natives.{native_call, native_call_in}
-use Rattle.jc_interp.specs.Parts.{part_of, part_of_class}
-use Rattle.law_isolation.specs.Natives.{sets_receiver}
+use Rattle.jc_api_framework.specs.System.Transactions.{jc_system_abort_transaction, after_abort, jc_system_begin_transaction, jc_system_commit_transaction}
+use Rattle.jc_api_framework.specs.System.Transactions.{commit_of_applet}
+use Rattle.jc_api_framework.specs.System.Transient.{jc_system_make_transient_array, jc_system_is_transient, requested_array}
+use Rattle.jc_api_framework.specs.Events.{event_call}
+use Rattle.jc_api_framework.specs.Exceptions.{exception_call, exception_get_reason, exception_set_no_reason, exception_set_reason, exception_throw_it}
+use Rattle.jc_api_framework.specs.Objects.{object_call, object_equals}
+use Rattle.jc_api.specs.Arguments.{argument_bytes, array_arguments, counted_of, pair_arguments, pair_of, two_of}
+use Rattle.jc_api_framework.specs.Util.{util_array_compare, util_array_copy, bytes_of_short, util_get_short, util_make_short, util_set_short, util_call}
+use Rattle.jc_api_framework.specs.Util.{filling_of, util_array_copy_non_atomic, util_array_fill, util_array_fill_non_atomic}
+use Rattle.jc_interp.specs.Natives.{native_call}
+use Rattle.jc_platform.specs.Signatures.{sets_receiver}
+use Rattle.jc_platform.specs.Hierarchy.{carries_reason, cells_of, is_throwable}
 use Rattle.jc_world.specs.NativeCalls.{NativeProgram}
 use Rattle.jc_world.specs.Numbers.{not_negative}
 use Rattle.law_isolation.proofs.Applets.{registered_then}
-use Rattle.law_isolation.proofs.Arguments.{buffer_is, counted_is, instance_is, length_bytes, pair_is, shorts_is, stretch_is, two_is}
+use Rattle.law_isolation.proofs.Arguments.{buffer_is, counted_is, given_is, instance_is, length_bytes, pair_is, shorts_is, stretch_is, two_is}
 use Rattle.law_isolation.proofs.Due.{Anything, DueThen, IsPlainCall, called_after, called_if, called_ok, called_some, called_then, called_unless}
 use Rattle.law_isolation.proofs.Due.{due_any, due_if, due_of, then_if, then_ok, then_some}
 use Rattle.law_isolation.proofs.Exits.{FaultsOnly, IsPlainExit, plain_firewall}
@@ -150,11 +148,8 @@ module _ (P : Effect → MemoryState → Type 0) (L : MemoryState → ℕ → Ty
 
   pub looked_up_due : AnswersSo L m → IsPlainCall P L (jc_system_lookup_aid args p m) m
   unfolding jc_system_lookup_aid
-  looked_up_due so = called_some P L m (reference_argument args 0) _ (λ array is. called_some P L m (short_argument args 1) _
-      (λ start s. called_some P L m (short_argument args 2) _ (λ count c.
-      called_ok P L m (bytes_argument m array) _ (plain_bytes m array) (λ argument there.
-      called_ok P L m (elements_of p m array argument start count) _ (plain_elements p m array argument start count)
-      (λ e fine. found_so so (is_aid_length e.count) (applet_with_aid m (bytes_in m e)))))))
+  looked_up_due so = called_ok P L m (counted_of 0 args p m) _ (plain_counted args 0 p m)
+      (λ e fine. found_so so (is_aid_length e.count) (applet_with_aid m (bytes_in m e)))
 
   pub event_due : IsPlainCall P L (jc_system_is_transient args m) m
   unfolding jc_system_is_transient
@@ -187,11 +182,9 @@ module _ (P : Effect → MemoryState → Type 0) (L : MemoryState → ℕ → Ty
 
   aid_equals_bytes_due : IsPlainCall P L (aid_equals_bytes args p m) m
   unfolding aid_equals_bytes
-  aid_equals_bytes_due = called_some P L m (reference_argument args 0) _ (λ own is. called_some P L m (reference_argument args 1) _
-      (λ array a. called_some P L m (short_argument args 2) _ (λ start s. called_some P L m (short_argument args 3) _ (λ count c.
-      called_some P L m (aid_at m own) _ (λ aid found. called_ok P L m (bytes_argument m array) _ (plain_bytes m array) (λ argument there.
-      called_if P L m (array == 0) _ _ (λ on. tt) (λ off.
-      called_ok P L m (elements_of p m array argument start count) _ (plain_elements p m array argument start count) (λ e fine. tt))))))))
+  aid_equals_bytes_due = called_some P L m (reference_argument args 0) _ (λ own is. called_ok P L m (array_arguments 1 args m) _ (plain_given args 1 m)
+      (λ given there. called_some P L m (aid_at m own) _ (λ aid found. called_if P L m (given.array == 0) _ _ (λ on. tt) (λ off.
+      called_ok P L m (argument_bytes given p m) _ (plain_argument given p m) (λ e fine. tt)))))
 
   aid_rid_equals_due : IsPlainCall P L (aid_rid_equals args p m) m
   unfolding aid_rid_equals
@@ -200,11 +193,9 @@ module _ (P : Effect → MemoryState → Type 0) (L : MemoryState → ℕ → Ty
 
   aid_partial_equals_due : IsPlainCall P L (aid_partial_equals args p m) m
   unfolding aid_partial_equals
-  aid_partial_equals_due = called_some P L m (reference_argument args 0) _ (λ own is. called_some P L m (reference_argument args 1) _
-      (λ array a. called_some P L m (short_argument args 2) _ (λ start s. called_some P L m (short_argument args 3) _ (λ count c.
-      called_some P L m (aid_at m own) _ (λ aid found. called_ok P L m (bytes_argument m array) _ (plain_bytes m array) (λ argument there.
-      called_if P L m (array == 0) _ _ (λ on. tt) (λ off.
-      called_ok P L m (elements_of p m array argument start count) _ (plain_elements p m array argument start count) (λ e fine. tt))))))))
+  aid_partial_equals_due = called_some P L m (reference_argument args 0) _ (λ own is. called_ok P L m (array_arguments 1 args m) _ (plain_given args 1 m)
+      (λ given there. called_some P L m (aid_at m own) _ (λ aid found. called_if P L m (given.array == 0) _ _ (λ on. tt) (λ off.
+      called_ok P L m (argument_bytes given p m) _ (plain_argument given p m) (λ e fine. tt)))))
 
   there_due : (part : Option (List ℕ)) (go : List ℕ → NativeProgram) → ((bytes : List ℕ) → IsPlainCall P L (go bytes) m)
       → IsPlainCall P L (if_there part go) m
@@ -322,8 +313,7 @@ module _ (P : Effect → MemoryState → Type 0) (L : MemoryState → ℕ → Ty
 
   sent_long_due : (args : List Cell) (p : Packages) (m : MemoryState) → Q m → IsPlainCall P L (apdu_send_bytes_long args p m) m
   unfolding apdu_send_bytes_long
-  sent_long_due args p m so = called_ok P L m (array_arguments args m) _ (plain_given args m) (λ given fine.
-      called_ok P L m (argument_bytes given p m) _ (plain_argument given p m) (λ e there. elements_sent_due m so (phase_of m) e))
+  sent_long_due args p m so = called_ok P L m (counted_of 1 args p m) _ (plain_counted args 1 p m) (λ e there. elements_sent_due m so (phase_of m) e)
 
   all_sent_due : (m : MemoryState) → Q m → (start count : ℤ) → IsPlainCall P L (apdu_set_outgoing_and_send start count m) m
   unfolding apdu_set_outgoing_and_send
@@ -341,13 +331,13 @@ same_registers (Some event) r i words m = refl
 module _ (P : Effect → MemoryState → Type 0) (L : MemoryState → ℕ → Type 0) (Q : MemoryState → Type 0) (turns : Turns P Q) (method : PlatformMethod)
     (args : List Cell) (p : Packages) (m : MemoryState) (so : Q m) (pass : MethodPasses P method args p m) where
   -- exceptions
-  reason_due : part_of method ≡ CardExceptions → sets_receiver method ≡ true → IsPlainCall P L (exception_set_reason args m) m
+  reason_due : carries_reason (class_of method) ≡ true → sets_receiver method ≡ true → IsPlainCall P L (exception_set_reason args m) m
   unfolding exception_set_reason
   reason_due part sets = called_some P L m (reference_argument args 0) _ (λ own is. called_some P L m (short_argument args 1) _
       (λ reason there. called_ok P L m (instance_at m own 1) _ (plain_instance m own 1) (λ f long.
       called_unless P L m (cell_refusal m own 0) _ (λ room. (pass.reason part sets own reason is (instance_is m own 1 f long), tt)))))
 
-  no_reason_due : part_of method ≡ CardExceptions → sets_receiver method ≡ true → IsPlainCall P L (exception_set_no_reason args m) m
+  no_reason_due : carries_reason (class_of method) ≡ true → sets_receiver method ≡ true → IsPlainCall P L (exception_set_no_reason args m) m
   unfolding exception_set_no_reason
   no_reason_due part sets = called_some P L m (reference_argument args 0) _ (λ own is.
       called_ok P L m (instance_at m own 1) _ (plain_instance m own 1) (λ f long.
@@ -361,6 +351,13 @@ module _ (P : Effect → MemoryState → Type 0) (L : MemoryState → ℕ → Ty
       called_unless P L m (cells_refusal m a.to.array a.to.start (bytes_in m a.from)) _
       (λ room. (pass.stretch n.destination n.count a.to (bytes_in m a.from) is.0 (length_bytes m a.from ∙ is.1), tt))))
 
+  copied_apart_due : IsPlainCall P L (util_array_copy_non_atomic args p m) m
+  unfolding util_array_copy_non_atomic
+  copied_apart_due = called_ok P L m (pair_arguments args) _ (plain_pair_arguments args) (λ n named.
+      called_ok P L m (pair_of p m n) _ (plain_pair p m n) (λ a fine. let is = pair_is p m n a fine in
+      called_after P L _ (nonatomic_store m a.to.array a.to.start (bytes_in m a.from)) m
+      (pass.bytes n.destination n.count a.to (bytes_in m a.from) is.0 (length_bytes m a.from ∙ is.1) is.2) (λ u v. tt)))
+
   short_set_due : IsPlainCall P L (util_set_short args p m) m
   unfolding util_set_short
   short_set_due = called_some P L m (short_argument args 2) _ (λ v is.
@@ -371,9 +368,16 @@ module _ (P : Effect → MemoryState → Type 0) (L : MemoryState → ℕ → Ty
   filled_due : IsPlainCall P L (util_array_fill args p m) m
   unfolding util_array_fill
   filled_due = called_some P L m (short_argument args 3) _ (λ v is.
-      called_ok P L m (counted_of args p m) _ (plain_counted args p m) (λ e fine. let counted = counted_is args p m e fine in
+      called_ok P L m (counted_of 0 args p m) _ (plain_counted args 0 p m) (λ e fine. let counted = counted_is 0 args p m e fine in
       called_unless P L m (cells_refusal m e.array e.start (filling_of v e)) _ (λ room.
       (pass.stretch counted.0 counted.1 e (filling_of v e) counted.2 (length-replicate e.count (cast_unsigned w16 v % 256)), tt))))
+
+  filled_apart_due : IsPlainCall P L (util_array_fill_non_atomic args p m) m
+  unfolding util_array_fill_non_atomic
+  filled_apart_due = called_some P L m (short_argument args 3) _ (λ v is.
+      called_ok P L m (counted_of 0 args p m) _ (plain_counted args 0 p m) (λ e fine. let counted = counted_is 0 args p m e fine in
+      called_after P L _ (nonatomic_store m e.array e.start (filling_of v e)) m
+      (pass.bytes counted.0 counted.1 e (filling_of v e) counted.2 (length-replicate e.count (cast_unsigned w16 v % 256)) counted.3) (λ u w. tt)))
 
   -- JCSystem
   pub memory_set_due : IsPlainCall P L (jc_system_get_available_memory_shorts args p m) m
@@ -387,14 +391,13 @@ module _ (P : Effect → MemoryState → Type 0) (L : MemoryState → ℕ → Ty
       (pass.stretch array (pos 2) _ (shorts_of_count count) (shorts_is p m array i f u start there allowed first) refl, tt)))))))))
 
   -- AID
-  aid_made_due : method ≡ AidInit → IsPlainCall P L (aid_init args p m) m
+  aid_made_due : method ≡ rooms.Aids aids.AidInit → IsPlainCall P L (aid_init args p m) m
   unfolding aid_init
-  aid_made_due init = called_some P L m (reference_argument args 0) _ (λ own is. called_some P L m (reference_argument args 1) _
-      (λ array a. called_some P L m (short_argument args 2) _ (λ start s. called_some P L m (short_argument args 3) _ (λ count c.
-      called_ok P L m (bytes_argument m array) _ (plain_bytes m array) (λ argument there. called_ok P L m (instance_at m own 9) _ (plain_instance m own 9)
-      (λ f long. called_ok P L m (elements_of p m array argument start count) _ (plain_elements p m array argument start count) (λ e fine.
+  aid_made_due init = called_some P L m (reference_argument args 0) _ (λ own is. called_ok P L m (array_arguments 1 args m) _ (plain_given args 1 m)
+      (λ given there. called_ok P L m (instance_at m own 9) _ (plain_instance m own 9) (λ f long.
+      called_ok P L m (argument_bytes given p m) _ (plain_argument given p m) (λ e fine.
       called_if P L m (is_aid_length e.count) _ _ (λ on. called_unless P L m (cells_refusal m own 0 (cells_of_aid (bytes_in m e))) _ (λ room.
-      (pass.aid init own (bytes_in m e) is (instance_is m own 9 f long) (ap is_aid_length (length_bytes m e) ∙ on), tt))) (λ off. tt))))))))
+      (pass.aid init own (bytes_in m e) is (instance_is m own 9 f long) (ap is_aid_length (length_bytes m e) ∙ on), tt))) (λ off. tt)))))
 
   aid_got_due : IsPlainCall P L (aid_get_bytes args p m) m
   unfolding aid_get_bytes
@@ -413,17 +416,16 @@ module _ (P : Effect → MemoryState → Type 0) (L : MemoryState → ℕ → Ty
   aid_part_got_due : IsPlainCall P L (aid_get_partial_bytes args p m) m
   unfolding aid_get_partial_bytes
   aid_part_got_due = called_some P L m (reference_argument args 0) _ (λ own is. called_some P L m (short_argument args 1) _
-      (λ from f. called_some P L m (reference_argument args 2) _ (λ array a. called_some P L m (short_argument args 3) _ (λ start s.
-      called_some P L m (short_argument args 4) _ (λ count c. called_some P L m (aid_at m own) _ (λ aid found.
-      called_ok P L m (bytes_argument m array) _ (plain_bytes m array)
-      (λ argument there. there_due P L args p m (part_within aid (not_negative from) (not_negative count)) _ (λ part.
-      called_ok P L m (elements_of p m array argument start (pos (length part))) _ (plain_elements p m array argument start (pos (length part))) (λ e fine.
-      let is = stretch_is p m array start (pos (length part)) e argument there fine in
+      (λ from f. called_ok P L m (array_arguments 2 args m) _ (plain_given args 2 m) (λ given there. called_some P L m (aid_at m own) _ (λ aid found.
+      there_due P L args p m (part_within aid (not_negative from) (not_negative given.count)) _ (λ part.
+      called_ok P L m (elements_of p m given.array given.header given.start (pos (length part))) _
+      (plain_elements p m given.array given.header given.start (pos (length part))) (λ e fine.
+      let is = stretch_is p m given.array given.start (pos (length part)) e given.header (given_is 2 args m given there) fine in
       called_unless P L m (cells_refusal m e.array e.start part) _ (λ room. (
-        pass.stretch array (pos (length part)) e part is
+        pass.stretch given.array (pos (length part)) e part is
             (same_Some (length part) e.count is.counted),
         tt,
-      )))))))))))
+      ))))))))
 
   -- APDU
   received_in_due : (phase : ApduPhase) → IsPlainCall P L (receive_in_phase m phase) m
@@ -493,7 +495,7 @@ module _ (P : Effect → MemoryState → Type 0) (L : MemoryState → ℕ → Ty
 
     pin_checked_due : IsPlainCall P L (owner_pin_check args p m) m
     unfolding owner_pin_check
-    pin_checked_due = called_some P L m (receiver m args) _ (λ pin is. called_ok P L m (array_arguments args m) _ (plain_given args m)
+    pin_checked_due = called_some P L m (receiver m args) _ (λ pin is. called_ok P L m (array_arguments 1 args m) _ (plain_given args 1 m)
         (λ given fine. compared_due pin (argument_bytes given p m) (plain_argument given p m) (called_pin pin is)))
 
     reset_due : (pin : ℕ) → IsPinCall method args m pin → AllDue P (pin_reset m pin) m
@@ -522,10 +524,9 @@ module _ (P : Effect → MemoryState → Type 0) (L : MemoryState → ℕ → Ty
 
     value_set_due : IsPlainCall P L (owner_pin_update args p m) m
     unfolding owner_pin_update
-    value_set_due = called_some P L m (receiver m args) _ (λ pin is. called_ok P L m (array_arguments args m) _ (plain_given args m)
-        (λ given fine. called_ok P L m (argument_bytes given p m) _ (plain_argument given p m) (λ e there.
+    value_set_due = called_some P L m (receiver m args) _ (λ pin is. called_ok P L m (counted_of 1 args p m) _ (plain_counted args 1 p m) (λ e there.
         called_ok P L m (is_own_value m pin) _ (plain_own m pin) (λ u owned. settled_due (pin_update m pin (bytes_in m e))
-        (updated_due pin (bytes_in m e) (called_pin pin is) owned)))))
+        (updated_due pin (bytes_in m e) (called_pin pin is) owned))))
 
 -- ---- what asks a server, and makes transient arrays
 
@@ -559,164 +560,163 @@ module _ (P : Effect → MemoryState → Type 0) (L : MemoryState → ℕ → Ty
 
 module _ (P : Effect → MemoryState → Type 0) (R : Result NativeResult FrameExit → MemoryState → Type 0) (method : PlatformMethod) (args : List Cell)
     (p : Packages) (m : MemoryState) (exits : (e : FrameExit) → IsPlainExit e → R (Err e) m) (registers : RegistersSo P R method args p m) where
-  as_due : method ≡ AppletRegister → (instance : ℕ) → reference_argument args 0 ≡ Some instance → (aid : Option (List ℕ))
+  as_due : method ≡ rooms.Applets applets.AppletRegister → (instance : ℕ) → reference_argument args 0 ≡ Some instance → (aid : Option (List ℕ))
       → install_aid p m.registers.installation ≡ aid → DueThen P R (register_with instance p m aid) m
   as_due is instance own None there = exits (Throw illegal_aid) tt
   as_due is instance own (Some aid) there = then_if P R m exits (nat_le (length aid) 16) _ _ (λ on. registered_then P R p m exits aid instance (registers.own is aid instance own there))
       (λ off. exits (Throw illegal_aid) tt)
 
-  own_registered_due : method ≡ AppletRegister → DueThen P R (applet_register args p m) m
+  own_registered_due : method ≡ rooms.Applets applets.AppletRegister → DueThen P R (applet_register args p m) m
   unfolding applet_register
   own_registered_due is = then_some P R m exits (reference_argument args 0) _
       (λ instance own. as_due is instance own (install_aid p m.registers.installation) refl)
 
-  given_registered_due : method ≡ AppletRegisterBytes → DueThen P R (applet_register_bytes args p m) m
+  given_registered_due : method ≡ rooms.Applets applets.AppletRegisterBytes → DueThen P R (applet_register_bytes args p m) m
   unfolding applet_register_bytes
-  given_registered_due is = then_some P R m exits (reference_argument args 0) _ (λ instance own. then_some P R m exits (reference_argument args 1) _
-      (λ array a. then_some P R m exits (short_argument args 2) _ (λ start s. then_some P R m exits (short_argument args 3) _ (λ count c.
-      then_ok P R m exits (bytes_argument m array) _ (plain_bytes m array) (λ header h.
-      then_ok P R m exits (elements_of p m array header start count) _ (plain_elements p m array header start count) (λ e fine.
+  given_registered_due is = then_some P R m exits (reference_argument args 0) _ (λ instance own.
+      then_ok P R m exits (counted_of 1 args p m) _ (plain_counted args 1 p m) (λ e fine.
       then_if P R m exits (is_aid_length e.count) _ _
-      (λ on. registered_then P R p m exits (bytes_in m e) instance (registers.given is e instance own on)) (λ off. exits (Throw illegal_value) tt)))))))
+      (λ on. registered_then P R p m exits (bytes_in m e) instance (registers.given is e instance own on)) (λ off. exits (Throw illegal_value) tt)))
 
--- ---- part by part
+-- ---- room by room
 
 -- methods that begin and end no transaction, and register nothing
 abbrev pub IsPlainMethod : PlatformMethod → Type 0
-IsPlainMethod JcSystemAbortTransaction = ⊥
-IsPlainMethod JcSystemBeginTransaction = ⊥
-IsPlainMethod JcSystemCommitTransaction = ⊥
-IsPlainMethod AppletRegister = ⊥
-IsPlainMethod AppletRegisterBytes = ⊥
+IsPlainMethod (rooms.System system.JcSystemAbortTransaction) = ⊥
+IsPlainMethod (rooms.System system.JcSystemBeginTransaction) = ⊥
+IsPlainMethod (rooms.System system.JcSystemCommitTransaction) = ⊥
+IsPlainMethod (rooms.Applets applets.AppletRegister) = ⊥
+IsPlainMethod (rooms.Applets applets.AppletRegisterBytes) = ⊥
 IsPlainMethod method = Unit {0}
 
 module _ (P : Effect → MemoryState → Type 0) (L : MemoryState → ℕ → Type 0) (Q : MemoryState → Type 0) (turns : Turns P Q) (args : List Cell) (p : Packages)
     (m : MemoryState) (so : Q m) (refers : AnswersSo L m) where
-  objects_due : (method : PlatformMethod) → IsPlainCall P L (object_call method args) m
+  objects_due : (method : ObjectsMethod) → IsPlainCall P L (object_call method args) m
   unfolding object_call
-  objects_due ObjectEquals = same_due P L args p m
+  objects_due objects.ObjectEquals = same_due P L args p m
   objects_due _ = tt
 
-  exceptions_due : (method : PlatformMethod) → part_of method ≡ CardExceptions → MethodPasses P method args p m
+  exceptions_due : (method : ExceptionsMethod) → MethodPasses P (rooms.Exceptions method) args p m
       → IsPlainCall P L (exception_call method args m) m
-  unfolding exception_call sets_receiver
-  exceptions_due CardExceptionInit part pass = reason_due P L Q turns CardExceptionInit args p m so pass part refl
-  exceptions_due CardExceptionThrowIt part pass = thrown_due P L args p m exception.CardException
-  exceptions_due CardExceptionGetReason part pass = got_due P L args p m
-  exceptions_due CardExceptionSetReason part pass = reason_due P L Q turns CardExceptionSetReason args p m so pass part refl
-  exceptions_due CardRuntimeExceptionInit part pass = reason_due P L Q turns CardRuntimeExceptionInit args p m so pass part refl
-  exceptions_due CardRuntimeExceptionThrowIt part pass = thrown_due P L args p m exception.CardRuntimeException
-  exceptions_due CardRuntimeExceptionGetReason part pass = got_due P L args p m
-  exceptions_due CardRuntimeExceptionSetReason part pass = reason_due P L Q turns CardRuntimeExceptionSetReason args p m so pass part refl
-  exceptions_due IsoExceptionInit part pass = reason_due P L Q turns IsoExceptionInit args p m so pass part refl
-  exceptions_due IsoExceptionThrowIt part pass = thrown_due P L args p m exception.ISOException
-  exceptions_due PinExceptionInit part pass = reason_due P L Q turns PinExceptionInit args p m so pass part refl
-  exceptions_due PinExceptionThrowIt part pass = thrown_due P L args p m exception.PINException
-  exceptions_due SystemExceptionInit part pass = reason_due P L Q turns SystemExceptionInit args p m so pass part refl
-  exceptions_due SystemExceptionThrowIt part pass = thrown_due P L args p m exception.SystemException
-  exceptions_due TransactionExceptionInit part pass = reason_due P L Q turns TransactionExceptionInit args p m so pass part refl
-  exceptions_due TransactionExceptionThrowIt part pass = thrown_due P L args p m exception.TransactionException
-  exceptions_due ApduExceptionInit part pass = reason_due P L Q turns ApduExceptionInit args p m so pass part refl
-  exceptions_due ApduExceptionThrowIt part pass = thrown_due P L args p m exception.APDUException
-  exceptions_due UserExceptionInit part pass = reason_due P L Q turns UserExceptionInit args p m so pass part refl
-  exceptions_due UserExceptionInitWithoutReason part pass = no_reason_due P L Q turns UserExceptionInitWithoutReason args p m so pass part refl
-  exceptions_due UserExceptionThrowIt part pass = thrown_due P L args p m exception.UserException
-  exceptions_due _ part pass = tt
+  unfolding exception_call sets_receiver carries_reason is_throwable cells_of exceptions_rows classes
+  exceptions_due exceptions.CardExceptionInit pass = reason_due P L Q turns (rooms.Exceptions exceptions.CardExceptionInit) args p m so pass refl refl
+  exceptions_due exceptions.CardExceptionThrowIt pass = thrown_due P L args p m exception.CardException
+  exceptions_due exceptions.CardExceptionGetReason pass = got_due P L args p m
+  exceptions_due exceptions.CardExceptionSetReason pass = reason_due P L Q turns (rooms.Exceptions exceptions.CardExceptionSetReason) args p m so pass refl refl
+  exceptions_due exceptions.CardRuntimeExceptionInit pass = reason_due P L Q turns (rooms.Exceptions exceptions.CardRuntimeExceptionInit) args p m so pass refl refl
+  exceptions_due exceptions.CardRuntimeExceptionThrowIt pass = thrown_due P L args p m exception.CardRuntimeException
+  exceptions_due exceptions.CardRuntimeExceptionGetReason pass = got_due P L args p m
+  exceptions_due exceptions.CardRuntimeExceptionSetReason pass = reason_due P L Q turns (rooms.Exceptions exceptions.CardRuntimeExceptionSetReason) args p m so pass refl refl
+  exceptions_due exceptions.IsoExceptionInit pass = reason_due P L Q turns (rooms.Exceptions exceptions.IsoExceptionInit) args p m so pass refl refl
+  exceptions_due exceptions.IsoExceptionThrowIt pass = thrown_due P L args p m exception.ISOException
+  exceptions_due exceptions.PinExceptionInit pass = reason_due P L Q turns (rooms.Exceptions exceptions.PinExceptionInit) args p m so pass refl refl
+  exceptions_due exceptions.PinExceptionThrowIt pass = thrown_due P L args p m exception.PINException
+  exceptions_due exceptions.SystemExceptionInit pass = reason_due P L Q turns (rooms.Exceptions exceptions.SystemExceptionInit) args p m so pass refl refl
+  exceptions_due exceptions.SystemExceptionThrowIt pass = thrown_due P L args p m exception.SystemException
+  exceptions_due exceptions.TransactionExceptionInit pass = reason_due P L Q turns (rooms.Exceptions exceptions.TransactionExceptionInit) args p m so pass refl refl
+  exceptions_due exceptions.TransactionExceptionThrowIt pass = thrown_due P L args p m exception.TransactionException
+  exceptions_due exceptions.ApduExceptionInit pass = reason_due P L Q turns (rooms.Exceptions exceptions.ApduExceptionInit) args p m so pass refl refl
+  exceptions_due exceptions.ApduExceptionThrowIt pass = thrown_due P L args p m exception.APDUException
+  exceptions_due exceptions.UserExceptionInit pass = reason_due P L Q turns (rooms.Exceptions exceptions.UserExceptionInit) args p m so pass refl refl
+  exceptions_due exceptions.UserExceptionInitWithoutReason pass = no_reason_due P L Q turns (rooms.Exceptions exceptions.UserExceptionInitWithoutReason) args p m so pass refl refl
+  exceptions_due exceptions.UserExceptionThrowIt pass = thrown_due P L args p m exception.UserException
 
-  util_due : (method : PlatformMethod) → MethodPasses P method args p m → IsPlainCall P L (util_call method args p m) m
+  util_due : (method : UtilitiesMethod) → MethodPasses P (rooms.Utilities method) args p m → IsPlainCall P L (util_call method args p m) m
   unfolding util_call
-  util_due UtilArrayCompare pass = arrays_compared_due P L args p m
-  util_due UtilArrayCopy pass = copied_due P L Q turns UtilArrayCopy args p m so pass
-  util_due UtilArrayFill pass = filled_due P L Q turns UtilArrayFill args p m so pass
-  util_due UtilGetShort pass = short_got_due P L args p m
-  util_due UtilMakeShort pass = short_made_due P L args p m
-  util_due UtilSetShort pass = short_set_due P L Q turns UtilSetShort args p m so pass
-  util_due _ pass = tt
+  util_due utilities.UtilArrayCompare pass = arrays_compared_due P L args p m
+  util_due utilities.UtilArrayCopy pass = copied_due P L Q turns (rooms.Utilities utilities.UtilArrayCopy) args p m so pass
+  util_due utilities.UtilArrayCopyNonAtomic pass = copied_apart_due P L Q turns (rooms.Utilities utilities.UtilArrayCopyNonAtomic) args p m so pass
+  util_due utilities.UtilArrayFillNonAtomic pass = filled_apart_due P L Q turns (rooms.Utilities utilities.UtilArrayFillNonAtomic) args p m so pass
+  util_due utilities.UtilArrayFill pass = filled_due P L Q turns (rooms.Utilities utilities.UtilArrayFill) args p m so pass
+  util_due utilities.UtilGetShort pass = short_got_due P L args p m
+  util_due utilities.UtilMakeShort pass = short_made_due P L args p m
+  util_due utilities.UtilSetShort pass = short_set_due P L Q turns (rooms.Utilities utilities.UtilSetShort) args p m so pass
 
-  aids_due : (method : PlatformMethod) → MethodPasses P method args p m → IsPlainCall P L (aid_call method args p m) m
+  aids_due : (method : AidsMethod) → MethodPasses P (rooms.Aids method) args p m → IsPlainCall P L (aid_call method args p m) m
   unfolding aid_call
-  aids_due AidInit pass = aid_made_due P L Q turns AidInit args p m so pass refl
-  aids_due AidEquals pass = aid_equals_due P L args p m
-  aids_due AidEqualsBytes pass = aid_equals_bytes_due P L args p m
-  aids_due AidGetBytes pass = aid_got_due P L Q turns AidGetBytes args p m so pass
-  aids_due AidRidEquals pass = aid_rid_equals_due P L args p m
-  aids_due AidPartialEquals pass = aid_partial_equals_due P L args p m
-  aids_due AidGetPartialBytes pass = aid_part_got_due P L Q turns AidGetPartialBytes args p m so pass
-  aids_due _ pass = tt
+  aids_due aids.AidInit pass = aid_made_due P L Q turns (rooms.Aids aids.AidInit) args p m so pass refl
+  aids_due aids.AidEquals pass = aid_equals_due P L args p m
+  aids_due aids.AidEqualsBytes pass = aid_equals_bytes_due P L args p m
+  aids_due aids.AidGetBytes pass = aid_got_due P L Q turns (rooms.Aids aids.AidGetBytes) args p m so pass
+  aids_due aids.AidRidEquals pass = aid_rid_equals_due P L args p m
+  aids_due aids.AidPartialEquals pass = aid_partial_equals_due P L args p m
+  aids_due aids.AidGetPartialBytes pass = aid_part_got_due P L Q turns (rooms.Aids aids.AidGetPartialBytes) args p m so pass
 
-  pins_due : (method : PlatformMethod) → MethodPasses P method args p m → IsPlainCall P L (pin_call method args p m) m
-  unfolding pin_call sets_receiver methods
-  pins_due OwnerPinInit pass = constructed_due P L Q turns OwnerPinInit args p m so pass refl refl
-  pins_due OwnerPinCheck pass = pin_checked_due P L Q turns OwnerPinCheck args p m so pass refl refl
-  pins_due OwnerPinGetTriesRemaining pass = tries_due P L args p m
-  pins_due OwnerPinIsValidated pass = validated_due P L args p m
-  pins_due OwnerPinReset pass = was_reset_due P L Q turns OwnerPinReset args p m so pass refl refl
-  pins_due OwnerPinResetAndUnblock pass = was_unblocked_due P L Q turns OwnerPinResetAndUnblock args p m so pass refl refl
-  pins_due OwnerPinUpdate pass = value_set_due P L Q turns OwnerPinUpdate args p m so pass refl refl
-  pins_due OwnerPinGetValidatedFlag pass = validated_due P L args p m
-  pins_due OwnerPinSetValidatedFlag pass = flag_set_due P L Q turns OwnerPinSetValidatedFlag args p m so pass refl refl
+  pins_due : (method : PinsMethod) → MethodPasses P (rooms.Pins method) args p m → IsPlainCall P L (pin_call method args p m) m
+  unfolding pin_call sets_receiver pins_rows
+  pins_due pins.OwnerPinInit pass = constructed_due P L Q turns (rooms.Pins pins.OwnerPinInit) args p m so pass refl refl
+  pins_due pins.OwnerPinCheck pass = pin_checked_due P L Q turns (rooms.Pins pins.OwnerPinCheck) args p m so pass refl refl
+  pins_due pins.OwnerPinGetTriesRemaining pass = tries_due P L args p m
+  pins_due pins.OwnerPinIsValidated pass = validated_due P L args p m
+  pins_due pins.OwnerPinReset pass = was_reset_due P L Q turns (rooms.Pins pins.OwnerPinReset) args p m so pass refl refl
+  pins_due pins.OwnerPinResetAndUnblock pass = was_unblocked_due P L Q turns (rooms.Pins pins.OwnerPinResetAndUnblock) args p m so pass refl refl
+  pins_due pins.OwnerPinUpdate pass = value_set_due P L Q turns (rooms.Pins pins.OwnerPinUpdate) args p m so pass refl refl
+  pins_due pins.OwnerPinGetValidatedFlag pass = validated_due P L args p m
+  pins_due pins.OwnerPinSetValidatedFlag pass = flag_set_due P L Q turns (rooms.Pins pins.OwnerPinSetValidatedFlag) args p m so pass refl refl
   pins_due _ pass = tt
 
-  apdus_due : (method : PlatformMethod) → MethodPasses P method args p m → IsPlainCall P L (apdu_call method args p m) m
+  apdus_due : (method : ApdusMethod) → MethodPasses P (rooms.Apdus method) args p m → IsPlainCall P L (apdu_call method args p m) m
   unfolding apdu_call
-  apdus_due ApduGetBuffer pass = buffer_got_due P L args p m refers
-  apdus_due ApduReceiveBytes pass = called_some P L m (short_argument args 1) _ (λ start is. received_more_due P L args p m (phase_of m))
-  apdus_due ApduSendBytes pass = called_some P L m (short_argument args 1) _ (λ start is. called_some P L m (short_argument args 2) _
+  apdus_due apdus.ApduGetBuffer pass = buffer_got_due P L args p m refers
+  apdus_due apdus.ApduReceiveBytes pass = called_some P L m (short_argument args 1) _ (λ start is. received_more_due P L args p m (phase_of m))
+  apdus_due apdus.ApduSendBytes pass = called_some P L m (short_argument args 1) _ (λ start is. called_some P L m (short_argument args 2) _
       (λ count there. sent_due P L Q turns m so start count))
-  apdus_due ApduSetIncomingAndReceive pass = received_due P L Q turns ApduSetIncomingAndReceive args p m so pass
-  apdus_due ApduSetOutgoing pass = outgoing_due P L Q turns m so
-  apdus_due ApduSetOutgoingAndSend pass = called_some P L m (short_argument args 1) _
+  apdus_due apdus.ApduSetIncomingAndReceive pass = received_due P L Q turns (rooms.Apdus apdus.ApduSetIncomingAndReceive) args p m so pass
+  apdus_due apdus.ApduSetOutgoing pass = outgoing_due P L Q turns m so
+  apdus_due apdus.ApduSetOutgoingAndSend pass = called_some P L m (short_argument args 1) _
       (λ start is. called_some P L m (short_argument args 2) _ (λ count there. all_sent_due P L Q turns m so start count))
-  apdus_due ApduSetOutgoingLength pass = called_some P L m (short_argument args 1) _ (λ count is. length_due P L Q turns m so count)
-  apdus_due ApduGetIncomingLength pass = while_received_due P L args p m (phase_of m) (cast_signed w16 (length (data_of m.command)))
-  apdus_due ApduGetOffsetCdata pass = while_received_due P L args p m (phase_of m) (pos 5)
-  apdus_due ApduSendBytesLong pass = sent_long_due P L Q turns args p m so
-  apdus_due ApduSetOutgoingNoChaining pass = outgoing_due P L Q turns m so
-  apdus_due ApduGetCurrentApdu pass = current_apdu_due P L args p m refers
-  apdus_due ApduGetCurrentApduBuffer pass = current_buffer_due P L args p m refers
+  apdus_due apdus.ApduSetOutgoingLength pass = called_some P L m (short_argument args 1) _ (λ count is. length_due P L Q turns m so count)
+  apdus_due apdus.ApduGetIncomingLength pass = while_received_due P L args p m (phase_of m) (cast_signed w16 (length (data_of m.command)))
+  apdus_due apdus.ApduGetOffsetCdata pass = while_received_due P L args p m (phase_of m) (pos 5)
+  apdus_due apdus.ApduSendBytesLong pass = sent_long_due P L Q turns args p m so
+  apdus_due apdus.ApduSetOutgoingNoChaining pass = outgoing_due P L Q turns m so
+  apdus_due apdus.ApduGetCurrentApdu pass = current_apdu_due P L args p m refers
+  apdus_due apdus.ApduGetCurrentApduBuffer pass = current_buffer_due P L args p m refers
   apdus_due _ pass = tt
 
-  systems_due : (method : PlatformMethod) → IsPlainMethod method → MethodPasses P method args p m → IsPlainCall P L (system_call method args p m) m
+  systems_due : (method : SystemMethod) → IsPlainMethod (rooms.System method) → MethodPasses P (rooms.System method) args p m → IsPlainCall P L (system_call method args p m) m
   unfolding system_call
-  systems_due JcSystemAbortTransaction plain pass = absurd plain
-  systems_due JcSystemBeginTransaction plain pass = absurd plain
-  systems_due JcSystemCommitTransaction plain pass = absurd plain
-  systems_due JcSystemGetAid plain pass = refers.aid (applet_of m.registers.active)
-  systems_due JcSystemGetAppletShareableInterfaceObject plain pass = server_due P L args p m refers
-  systems_due JcSystemGetAvailableMemory plain pass = memory_told_due P L args p m
-  systems_due JcSystemGetAvailableMemoryShorts plain pass = memory_set_due P L Q turns JcSystemGetAvailableMemoryShorts args p m so pass
-  systems_due JcSystemGetPreviousContextAid plain pass = refers.aid (applet_of m.registers.previous)
-  systems_due JcSystemIsAppletActive plain pass = active_due P L args p m
-  systems_due JcSystemIsTransient plain pass = event_due P L args p m
-  systems_due JcSystemLookupAid plain pass = looked_up_due P L args p m refers
-  systems_due JcSystemMakeTransientBooleanArray plain pass = transient_due P L args p m refers JcSystemMakeTransientBooleanArray pass BooleanArray (λ e. cc)
-  systems_due JcSystemMakeTransientByteArray plain pass = transient_due P L args p m refers JcSystemMakeTransientByteArray pass ByteArray (λ e. cc)
-  systems_due JcSystemMakeTransientObjectArray plain pass = transient_due P L args p m refers JcSystemMakeTransientObjectArray pass ReferenceArray (λ e. cc)
-  systems_due JcSystemMakeTransientShortArray plain pass = transient_due P L args p m refers JcSystemMakeTransientShortArray pass ShortArray (λ e. cc)
+  systems_due system.JcSystemAbortTransaction plain pass = absurd plain
+  systems_due system.JcSystemBeginTransaction plain pass = absurd plain
+  systems_due system.JcSystemCommitTransaction plain pass = absurd plain
+  systems_due system.JcSystemGetAid plain pass = refers.aid (applet_of m.registers.active)
+  systems_due system.JcSystemGetAppletShareableInterfaceObject plain pass = server_due P L args p m refers
+  systems_due system.JcSystemGetAvailableMemory plain pass = memory_told_due P L args p m
+  systems_due system.JcSystemGetAvailableMemoryShorts plain pass = memory_set_due P L Q turns (rooms.System system.JcSystemGetAvailableMemoryShorts) args p m so pass
+  systems_due system.JcSystemGetPreviousContextAid plain pass = refers.aid (applet_of m.registers.previous)
+  systems_due system.JcSystemIsAppletActive plain pass = active_due P L args p m
+  systems_due system.JcSystemIsTransient plain pass = event_due P L args p m
+  systems_due system.JcSystemLookupAid plain pass = looked_up_due P L args p m refers
+  systems_due system.JcSystemMakeTransientBooleanArray plain pass = transient_due P L args p m refers (rooms.System system.JcSystemMakeTransientBooleanArray) pass BooleanArray (λ e. cc)
+  systems_due system.JcSystemMakeTransientByteArray plain pass = transient_due P L args p m refers (rooms.System system.JcSystemMakeTransientByteArray) pass ByteArray (λ e. cc)
+  systems_due system.JcSystemMakeTransientObjectArray plain pass = transient_due P L args p m refers (rooms.System system.JcSystemMakeTransientObjectArray) pass ReferenceArray (λ e. cc)
+  systems_due system.JcSystemMakeTransientShortArray plain pass = transient_due P L args p m refers (rooms.System system.JcSystemMakeTransientShortArray) pass ShortArray (λ e. cc)
   systems_due _ plain pass = tt
 
-  applets_due : (method : PlatformMethod) → IsPlainMethod method → IsPlainCall P L (applet_call method args p m) m
+  applets_due : (method : AppletsMethod) → IsPlainMethod (rooms.Applets method) → IsPlainCall P L (applet_call method args p m) m
   unfolding applet_call
-  applets_due AppletRegister plain = absurd plain
-  applets_due AppletRegisterBytes plain = absurd plain
-  applets_due AppletGetShareableInterfaceObject plain = refers.null
+  applets_due applets.AppletRegister plain = absurd plain
+  applets_due applets.AppletRegisterBytes plain = absurd plain
+  applets_due applets.AppletGetShareableInterfaceObject plain = refers.null
   applets_due _ plain = tt
 
-  part_called : (part : Part) (method : PlatformMethod) → part_of method ≡ part → IsPlainMethod method → MethodPasses P method args p m
-      → IsPlainCall P L (native_call_in part method args p m) m
-  part_called Objects method is plain pass = objects_due method
-  part_called CardExceptions method is plain pass = exceptions_due method is pass
-  part_called Utilities method is plain pass = util_due method pass
-  part_called System method is plain pass = systems_due method plain pass
-  part_called Aids method is plain pass = aids_due method pass
-  part_called Pins method is plain pass = pins_due method pass
-  part_called Applets method is plain pass = applets_due method plain
-  part_called Apdus method is plain pass = apdus_due method pass
+  events_due : (method : EventsMethod) → IsPlainCall P L (event_call method) m
+  unfolding event_call
+  events_due events.MultiSelectableSelect = tt
+  events_due _ = tt
 
   -- each effect of such a method is due, where those that set cells are, and it answers plainly
   pub method_called : (method : PlatformMethod) → IsPlainMethod method → MethodPasses P method args p m → IsPlainCall P L (native_call method args p m) m
   unfolding native_call
-  method_called method plain pass = part_called (part_of method) method refl plain pass
+  method_called (rooms.Objects method) plain pass = objects_due method
+  method_called (rooms.Exceptions method) plain pass = exceptions_due method pass
+  method_called (rooms.Utilities method) plain pass = util_due method pass
+  method_called (rooms.System method) plain pass = systems_due method plain pass
+  method_called (rooms.Aids method) plain pass = aids_due method pass
+  method_called (rooms.Pins method) plain pass = pins_due method pass
+  method_called (rooms.Applets method) plain pass = applets_due method plain
+  method_called (rooms.Apdus method) plain pass = apdus_due method pass
+  method_called (rooms.Events method) plain pass = events_due method
 
 -- ---- all methods
 
@@ -725,12 +725,12 @@ module _ (P : Effect → MemoryState → Type 0) (R : Result NativeResult FrameE
     (args : List Cell) (p : Packages) (m : MemoryState) (so : Q m) (ends : EndsSo R m) where
   pub method_then : (method : PlatformMethod) → RegistersSo P R method args p m → (IsPlainMethod method → DueThen P R (native_call method args p m) m)
       → DueThen P R (native_call method args p m) m
-  unfolding native_call system_call applet_call part_of part_of_class methods
-  method_then JcSystemAbortTransaction registers plain = aborted_due P R Q bears m so ends m.registers.depth
-  method_then JcSystemBeginTransaction registers plain = begun_due P R Q bears m so ends m.registers.depth
-  method_then JcSystemCommitTransaction registers plain = committed_due P R Q bears m so ends m.registers.depth
-  method_then AppletRegister registers plain = own_registered_due P R AppletRegister args p m ends.exits registers refl
-  method_then AppletRegisterBytes registers plain = given_registered_due P R AppletRegisterBytes args p m ends.exits registers refl
+  unfolding native_call system_call applet_call
+  method_then (rooms.System system.JcSystemAbortTransaction) registers plain = aborted_due P R Q bears m so ends m.registers.depth
+  method_then (rooms.System system.JcSystemBeginTransaction) registers plain = begun_due P R Q bears m so ends m.registers.depth
+  method_then (rooms.System system.JcSystemCommitTransaction) registers plain = committed_due P R Q bears m so ends m.registers.depth
+  method_then (rooms.Applets applets.AppletRegister) registers plain = own_registered_due P R (rooms.Applets applets.AppletRegister) args p m ends.exits registers refl
+  method_then (rooms.Applets applets.AppletRegisterBytes) registers plain = given_registered_due P R (rooms.Applets applets.AppletRegisterBytes) args p m ends.exits registers refl
   method_then _ registers plain = plain tt
 
 -- each effect of a method is due, where those that set cells are

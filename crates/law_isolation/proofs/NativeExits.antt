@@ -26,13 +26,13 @@ use Rattle.jc_world.specs.Instances.{instance_at, with_cells}
 use Rattle.jc_world.specs.Numbers.{not_negative}
 use Rattle.jc_world.specs.Objects.{object_at, reference_argument, short_argument, some_or_fault}
 use Rattle.jc_transient.specs.State.{buffer_size}
-use Rattle.jc_api_data.specs.Apdu.{buffer_piece, is_too_much, length_of, piece_of}
-use Rattle.jc_api_data.specs.OwnerPinArguments.{argument_bytes, array_arguments, at_least_1, is_in_context_of, is_own_value}
-use Rattle.jc_api_data.specs.UtilArguments.{counted_of, pair_arguments, pair_of, two_of}
-use Rattle.jc_api_runtime.specs.Register.{aid_cells, installation_in_transaction, is_inside, may_be_added, registration_package, registration_package_in}
-use Rattle.jc_api_runtime.specs.Register.{touched_by_registration, unless_full}
-use Rattle.jc_api_runtime.specs.SystemMemory.{available_bytes, first_of_two, if_shorts, if_shorts_there, shorts_argument}
-use Rattle.jc_api_runtime.specs.SystemTransient.{allowed_event, event_named, if_usable, length_in, own_array, requested_array}
+use Rattle.jc_api_framework.specs.Apdu.{buffer_piece, is_too_much, length_of, piece_of}
+use Rattle.jc_api_framework.specs.OwnerPin.Arguments.{at_least_1, is_in_context_of, is_own_value}
+use Rattle.jc_api.specs.Arguments.{argument_bytes, array_arguments, counted_of, pair_arguments, pair_of, two_of}
+use Rattle.jc_api_framework.specs.Applet.Register.{aid_cells, installation_in_transaction, is_inside, may_be_added, registration_package, registration_package_in}
+use Rattle.jc_api_framework.specs.Applet.Register.{touched_by_registration, unless_full}
+use Rattle.jc_api_framework.specs.System.Memory.{available_bytes, first_of_two, if_shorts, if_shorts_there, shorts_argument}
+use Rattle.jc_api_framework.specs.System.Transient.{allowed_event, event_named, if_usable, length_in, own_array, requested_array}
 use Rattle.law_isolation.proofs.Exits.{FaultsOnly, plain_firewall, plain_if, plain_object, plain_some, plain_then}
 
 -- ---- arrays and instances
@@ -83,11 +83,11 @@ module _ (args : List Cell) where
   short_plain : (i : ℕ) → FaultsOnly (some_or_fault (short_argument args i))
   short_plain i = plain_some (short_argument args i)
 
-  pub plain_given : (m : MemoryState) → FaultsOnly (array_arguments args m)
-  plain_given m =
-      plain_then (some_or_fault (reference_argument args 1)) _ (reference_plain 1) (λ array.
-      plain_then (some_or_fault (short_argument args 2)) _ (short_plain 2) (λ start.
-      plain_then (some_or_fault (short_argument args 3)) _ (short_plain 3) (λ count.
+  pub plain_given : (i : ℕ) (m : MemoryState) → FaultsOnly (array_arguments i args m)
+  plain_given i m =
+      plain_then (some_or_fault (reference_argument args i)) _ (reference_plain i) (λ array.
+      plain_then (some_or_fault (short_argument args (i + 1))) _ (short_plain (i + 1)) (λ start.
+      plain_then (some_or_fault (short_argument args (i + 2))) _ (short_plain (i + 2)) (λ count.
       plain_then (bytes_argument m array) _ (plain_bytes m array) (λ header. tt))))
 
   pub plain_pair_arguments : FaultsOnly (pair_arguments args)
@@ -104,12 +104,9 @@ module _ (args : List Cell) where
       plain_then (some_or_fault (short_argument args 1)) _ (short_plain 1) (λ start.
       plain_then (bytes_argument m array) _ (plain_bytes m array) (λ header. plain_elements p m array header start (pos 2))))
 
-  pub plain_counted : (p : Packages) (m : MemoryState) → FaultsOnly (counted_of args p m)
-  plain_counted p m =
-      plain_then (some_or_fault (reference_argument args 0)) _ (reference_plain 0) (λ array.
-      plain_then (some_or_fault (short_argument args 1)) _ (short_plain 1) (λ start.
-      plain_then (some_or_fault (short_argument args 2)) _ (short_plain 2) (λ count.
-      plain_then (bytes_argument m array) _ (plain_bytes m array) (λ header. plain_elements p m array header start count))))
+  pub plain_counted : (i : ℕ) (p : Packages) (m : MemoryState) → FaultsOnly (counted_of i args p m)
+  plain_counted i p m =
+      plain_then (array_arguments i args m) _ (plain_given i m) (λ given. plain_elements p m given.array given.header given.start given.count)
 
 pub plain_argument : (given : _) (p : Packages) (m : MemoryState) → FaultsOnly (argument_bytes given p m)
 plain_argument given p m = plain_elements p m given.array given.header given.start given.count

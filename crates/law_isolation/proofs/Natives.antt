@@ -7,29 +7,37 @@ use Rattle.std.specs.List.{range_with_len}
 use Rattle.std.specs.Prelude.{ℤ, min, nat_le, slice_index, slice_range}
 use Rattle.jc_words.specs.Layout.{most_applets}
 use Rattle.jc_transient.specs.declared.cell.CellValue.TheVariants.{Short}
+use Rattle.jc_transient.specs.Cells.{number_of}
+use Rattle.jc_heap.specs.declared.object.Kind.TheVariants.{ByteArray}
 use Rattle.jc_heap.specs.Heap.{facts}
 use Rattle.jc_frames.specs.declared.cell.Cell.{Cell}
 use Rattle.jc_memory.specs.declared.registers.PackageNumber.{PackageNumber}
 use Rattle.jc_memory.specs.State.{MemoryState, IsNew}
+use Rattle.jc_memory.specs.Changing.{nonatomic_store}
+use Rattle.jc_memory.specs.Reading.{AllDue}
 use Rattle.jc_memory.specs.Cells.{header_at, cells_effect}
 use Rattle.jc_linker.specs.Values.{Packages}
 use Rattle.jc_platform.specs.declared.names.PlatformMethod.{PlatformMethod}
-use Rattle.jc_platform.specs.declared.names.PlatformMethod.TheVariants.{AidInit}
+use Rattle.jc_platform.specs.declared.names.PlatformMethod.TheVariants.{Aids}
+use Rattle.jc_platform.specs.declared.names.AidsMethod.TheVariants.{AidInit}
 use Rattle.jc_pin.specs.Pins.{record_of}
 use Rattle.jc_pin.specs.PinInit.{value_array}
 use Rattle.jc_heap.specs.Places.{cell_changes}
 use Rattle.jc_world.specs.Objects.{reference_argument}
 use Rattle.jc_world.specs.declared.arrays.Stretch.{Stretch}
 use Rattle.jc_world.specs.Arrays.{bytes_in}
-use Rattle.jc_api_runtime.specs.AidCells.{aid_cell, cells_of_aid}
-use Rattle.jc_api_data.specs.ApduBuffer.{data_of}
-use Rattle.jc_api_runtime.specs.Register.{aid_object}
-use Rattle.jc_api_data.specs.OwnerPinArguments.{is_own_value}
-use Rattle.law_isolation.specs.Natives.{NativesSpare, ReachesCalled, sets_receiver}
+use Rattle.jc_api_framework.specs.Aid.Cells.{aid_cell, cells_of_aid}
+use Rattle.jc_api_framework.specs.Apdu.Buffer.{data_of}
+use Rattle.jc_api_framework.specs.Applet.Register.{aid_object}
+use Rattle.jc_api_framework.specs.OwnerPin.Arguments.{is_own_value}
+use Rattle.jc_platform.specs.Names.{aids_rows}
+use Rattle.jc_platform.specs.Signatures.{sets_receiver}
+use Rattle.law_isolation.specs.Natives.{NativesSpare, ReachesCalled}
 use Rattle.law_isolation.specs.Reach.{IsOutside}
 use Rattle.law_isolation.specs.Sparing.{LeavesObject}
 use Rattle.law_isolation.proofs.Applets.{MayRegister, Registering, counts_kept, entry_of, home_of}
 use Rattle.law_isolation.proofs.Arguments.{IsStretch}
+use Rattle.law_isolation.proofs.Bytes.{store_due}
 use Rattle.law_isolation.proofs.Methods.{method_due}
 use Rattle.law_isolation.proofs.Passing.{Bears, IsPinCall, MethodPasses, RegistersSo, recorded}
 use Rattle.law_isolation.proofs.Pins.{beside_append, beside_put, value_inside}
@@ -74,14 +82,23 @@ module _ (method : PlatformMethod) (args : List Cell) (p : Packages) (m : Memory
   other_value pin is owned = value_inside p m q pin out is.is (reach is.sets pin is.called) (record_of m pin).value
       (header_at m (record_of m pin).value) refl owned
 
-  sets_aid : method ≡ AidInit → sets_receiver method ≡ true
-  unfolding sets_receiver
+  sets_aid : method ≡ Aids AidInit → sets_receiver method ≡ true
+  unfolding sets_receiver aids_rows
   sets_aid is = ap sets_receiver is
 
   stretch_spares : (r : ℕ) (count : ℤ) (e : Stretch) (words : List ℕ) → IsStretch p m r count e → length words ≡ e.count
       → LeavesObject q (cells_effect m e.array e.start words) m
   stretch_spares r count e words is long = subst (λ a. LeavesObject q (cells_effect m a e.start words) m) (sym is.array)
       (run_spares q m r e.start words (not_outside p m q r (facts m.heap.now r) out refl is.reach) (let w = is.within in omega (arith, w, long)))
+
+  bytes_spare : (r : ℕ) (count : ℤ) (e : Stretch) (words : List ℕ) → IsStretch p m r count e → length words ≡ e.count
+      → (facts m.heap.now r).kind ≡ ByteArray → AllDue (LeavesObject q) (nonatomic_store m e.array e.start words) m
+  bytes_spare r count e words is long kind =
+      let ne = not_outside p m q r (facts m.heap.now r) out refl is.reach in
+      let w = is.within in
+      let n = length-map words number_of in
+      subst (λ a. AllDue (LeavesObject q) (nonatomic_store m a e.start words) m) (sym is.array)
+      (store_due (LeavesObject q) r (λ i x v element. ne) words e.start m kind (omega (arith, w, long)) (ne, omega (arith, w, long, n)))
 
   registers : (aid : List ℕ) (instance : ℕ) (k : PackageNumber) → MayRegister m aid instance k → (r : ℕ) → IsNew m.heap.now r
       → Registering (LeavesObject q) (λ a v. Unit {0}) p m aid instance k r
@@ -103,6 +120,7 @@ module _ (method : PlatformMethod) (args : List Cell) (p : Packages) (m : Memory
   passes = record {
     reason = λ part sets own v is long. set_spares q m own 0 (Short v) (other sets own is) long.cells;
     stretch = stretch_spares;
+    bytes = bytes_spare;
     aid = λ init own bytes is long fine. run_spares q m own 0 (cells_of_aid bytes) (other (sets_aid init) own is)
         (let l = long.cells in let n = nine bytes in omega (arith, l, n));
     buffer = λ r is. run_spares q m r 5 (data_of m.command) (λ same. out.others (16, sym same ∙ is.is))

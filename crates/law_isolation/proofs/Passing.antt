@@ -6,7 +6,7 @@ use Rattle.jc_transient.specs.declared.cell.CellValue.{CellValue}
 use Rattle.jc_transient.specs.declared.cell.CellValue.TheVariants.{Short}
 use Rattle.jc_heap.specs.declared.object.Facts.{Facts}
 use Rattle.jc_heap.specs.declared.object.Kind.{Kind}
-use Rattle.jc_heap.specs.declared.object.Kind.TheVariants.{Instance, ReferenceArray}
+use Rattle.jc_heap.specs.declared.object.Kind.TheVariants.{ByteArray, Instance, ReferenceArray}
 use Rattle.jc_heap.specs.Heap.{facts}
 use Rattle.jc_heap.specs.Moves.{Write, SetPlaces, WriteNonAtomic, Begin, Commit, Abort}
 use Rattle.jc_memory.specs.declared.making.NewObject.{NewObject}
@@ -17,6 +17,7 @@ use Rattle.jc_memory.specs.declared.registers.PackageNumber.{PackageNumber}
 use Rattle.jc_memory.specs.declared.registers.Registers.{Registers}
 use Rattle.jc_memory.specs.State.{MemoryState, Effect, HeapMove, IsNew, SetTransient, SetFlag, SetRegisters, SendBytes, apply_effect}
 use Rattle.jc_memory.specs.Cells.{cell_effect, cells_effect, word_of}
+use Rattle.jc_memory.specs.Changing.{nonatomic_store}
 use Rattle.jc_memory.specs.Programs.{Program, Finish, Perform}
 use Rattle.jc_memory.specs.Making.{creation_move, object_creation, creation_refusal}
 use Rattle.jc_memory.specs.Reading.{AllDue}
@@ -24,7 +25,9 @@ use Rattle.jc_opcodes.specs.declared.instr.PrimitiveArray.{PrimitiveArray}
 use Rattle.jc_opcodes.specs.declared.instr.ValueType.{ValueType}
 use Rattle.jc_opcodes.specs.declared.instr.ValueType.TheVariants.{Byte}
 use Rattle.jc_platform.specs.declared.names.PlatformMethod.{PlatformMethod}
-use Rattle.jc_platform.specs.declared.names.PlatformMethod.TheVariants.{AidInit, AppletRegister, AppletRegisterBytes}
+use Rattle.jc_platform.specs.declared.names.PlatformMethod.TheVariants.{Aids, Applets}
+use Rattle.jc_platform.specs.declared.names.AidsMethod.TheVariants.{AidInit}
+use Rattle.jc_platform.specs.declared.names.AppletsMethod.TheVariants.{AppletRegister, AppletRegisterBytes}
 use Rattle.jc_platform.specs.declared.names.PlatformClass.TheVariants.{OwnerPin}
 use Rattle.jc_platform.specs.Distinct.{class_of}
 use Rattle.jc_linker.specs.declared.target.Method.TheVariants.{Native}
@@ -48,15 +51,15 @@ use Rattle.jc_world.specs.Arrays.{bytes_in}
 use Rattle.jc_world.specs.Instances.{IsInstanceWith}
 use Rattle.jc_world.specs.Types.{class_named}
 use Rattle.jc_world.specs.Values.{keepable, value_at, value_on}
-use Rattle.jc_api_runtime.specs.AidCells.{cells_of_aid, is_aid_length}
-use Rattle.jc_api_data.specs.ApduBuffer.{buffer_of, data_of}
-use Rattle.jc_api_data.specs.ApduCurrent.{apdu_object}
-use Rattle.jc_api_runtime.specs.Applet.{install_aid}
-use Rattle.jc_api_runtime.specs.Register.{open_installation}
-use Rattle.jc_api_data.specs.OwnerPinArguments.{is_own_value}
-use Rattle.jc_api_runtime.specs.SystemSharing.{aid_or_null}
-use Rattle.jc_api_runtime.specs.SystemTransactions.{set_level}
-use Rattle.jc_api_runtime.specs.SystemTransient.{requested_array}
+use Rattle.jc_api_framework.specs.Aid.Cells.{cells_of_aid, is_aid_length}
+use Rattle.jc_api_framework.specs.Apdu.Buffer.{buffer_of, data_of}
+use Rattle.jc_api_framework.specs.Apdu.Current.{apdu_object}
+use Rattle.jc_api_framework.specs.Applet.{install_aid}
+use Rattle.jc_api_framework.specs.Applet.Register.{open_installation}
+use Rattle.jc_api_framework.specs.OwnerPin.Arguments.{is_own_value}
+use Rattle.jc_api_framework.specs.System.Sharing.{aid_or_null}
+use Rattle.jc_api_framework.specs.System.Transactions.{set_level}
+use Rattle.jc_api_framework.specs.System.Transient.{requested_array}
 use Rattle.jc_interp_objects.specs.declared.array_elements.Element.{Element}
 use Rattle.jc_interp_objects.specs.ArrayElements.{element_at, element_value}
 use Rattle.jc_interp_objects.specs.ArrayCreation.{kind_of}
@@ -68,10 +71,9 @@ use Rattle.jc_interp_objects.specs.declared.static_images.ImageWord.{ImageWord}
 use Rattle.jc_interp_objects.specs.StaticFields.{static_value}
 use Rattle.jc_interp_objects.specs.StaticImages.{image_word, next_word, place_of}
 use Rattle.jc_interp_objects.specs.ObjectCreation.{cells_for, instantiable_class}
-use Rattle.jc_interp.specs.declared.parts.Part.TheVariants.{CardExceptions}
 use Rattle.jc_interp.specs.Natives.{native_call}
-use Rattle.jc_interp.specs.Parts.{part_of}
-use Rattle.law_isolation.specs.Natives.{sets_receiver}
+use Rattle.jc_platform.specs.Hierarchy.{carries_reason}
+use Rattle.jc_platform.specs.Signatures.{sets_receiver}
 use Rattle.law_isolation.specs.Reach.{IsEnvironmentObject}
 use Rattle.law_isolation.specs.Referring.{CellRefersSo}
 use Rattle.law_isolation.specs.Steps.{IsCalled}
@@ -128,10 +130,10 @@ pub record EndsSo (R : Result NativeResult FrameExit → MemoryState → Type 0)
 -- each effect that registers an applet is due, and so is what follows: with the AID of the installation, and with one that is given
 pub record RegistersSo (P : Effect → MemoryState → Type 0) (R : Result NativeResult FrameExit → MemoryState → Type 0) (method : PlatformMethod)
     (args : List Cell) (p : Packages) (m : MemoryState) : Type 0 where
-  pub own : method ≡ AppletRegister → (aid : List ℕ) (instance : ℕ) → reference_argument args 0 ≡ Some instance
+  pub own : method ≡ Applets AppletRegister → (aid : List ℕ) (instance : ℕ) → reference_argument args 0 ≡ Some instance
       → install_aid p m.registers.installation ≡ Some aid → (k : PackageNumber) → MayRegister m aid instance k → (r : ℕ) → IsNew m.heap.now r
       → Registering P R p m aid instance k r
-  pub given : method ≡ AppletRegisterBytes → (e : Stretch) (instance : ℕ) → reference_argument args 0 ≡ Some instance → is_aid_length e.count ≡ true
+  pub given : method ≡ Applets AppletRegisterBytes → (e : Stretch) (instance : ℕ) → reference_argument args 0 ≡ Some instance → is_aid_length e.count ≡ true
       → (k : PackageNumber) → MayRegister m (bytes_in m e) instance k → (r : ℕ) → IsNew m.heap.now r → Registering P R p m (bytes_in m e) instance k r
 
 -- a PIN, on which a method of OwnerPIN is called that sets cells of it
@@ -145,14 +147,16 @@ pub record IsPinCall (method : PlatformMethod) (args : List Cell) (m : MemorySta
 abbrev pub recorded : ℕ → ℕ → ℕ → ℕ → Program (Result (Unit {0}) PinRefusal)
 recorded pin limit maximum value = Perform (HeapMove (SetPlaces (first_record pin limit maximum value))) (Perform (SetFlag pin false) (Finish (Ok tt)))
 
--- what a method sets: the reason of an exception; bytes of an array; the cells of an AID; the APDU buffer; a new transient array; the
+-- what a method sets: the reason of an exception; bytes of an array, together and one after another; the cells of an AID; the APDU buffer; a new transient array; the
 -- record of a new PIN; and the flag of a PIN, its counter, and its value
 pub record MethodPasses (P : Effect → MemoryState → Type 0) (method : PlatformMethod) (args : List Cell) (p : Packages) (m : MemoryState) : Type 0 where
-  pub reason : part_of method ≡ CardExceptions → sets_receiver method ≡ true → (own : ℕ) (v : ℤ) → reference_argument args 0 ≡ Some own → IsInstanceWith m own 1
+  pub reason : carries_reason (class_of method) ≡ true → sets_receiver method ≡ true → (own : ℕ) (v : ℤ) → reference_argument args 0 ≡ Some own → IsInstanceWith m own 1
       → P (cell_effect m own 0 (Short v)) m
   pub stretch : (r : ℕ) (count : ℤ) (e : Stretch) (words : List ℕ) → IsStretch p m r count e → length words ≡ e.count
       → P (cells_effect m e.array e.start words) m
-  pub aid : method ≡ AidInit → (own : ℕ) (bytes : List ℕ) → reference_argument args 0 ≡ Some own → IsInstanceWith m own 9 → is_aid_length (length bytes) ≡ true
+  pub bytes : (r : ℕ) (count : ℤ) (e : Stretch) (words : List ℕ) → IsStretch p m r count e → length words ≡ e.count → (facts m.heap.now r).kind ≡ ByteArray
+      → AllDue P (nonatomic_store m e.array e.start words) m
+  pub aid : method ≡ Aids AidInit → (own : ℕ) (bytes : List ℕ) → reference_argument args 0 ≡ Some own → IsInstanceWith m own 9 → is_aid_length (length bytes) ≡ true
       → P (cells_effect m own 0 (cells_of_aid bytes)) m
   pub buffer : (r : ℕ) → IsBuffer m r → P (cells_effect m r 5 (data_of m.command)) m
   pub transient : (kind : Kind) (count event : ℤ) (o : NewObject) → (kind ≡ Instance → ⊥) → requested_array kind count event p m ≡ Ok o

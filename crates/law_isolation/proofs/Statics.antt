@@ -11,11 +11,13 @@ use Rattle.jc_platform.specs.declared.names.MethodKind.{MethodKind}
 use Rattle.jc_platform.specs.declared.names.MethodKind.TheVariants.{Static, Virtual, Interface}
 use Rattle.jc_platform.specs.declared.names.PlatformClass.{PlatformClass}
 use Rattle.jc_platform.specs.declared.names.PlatformMethod.{PlatformMethod}
-use Rattle.jc_platform.specs.Distinct.{kind_of_method}
+use Rattle.jc_platform.specs.Distinct.{class_of, kind_of_method}
 use Rattle.jc_platform.specs.Names.{MethodEntry, methods}
 use Rattle.jc_platform.specs.Numbers.{same_class, same_kind}
 use Rattle.jc_platform.specs.Platform.{class_by_word, method_by_token}
 use Rattle.jc_platform.specs.Rows.{is_token}
+use Rattle.jc_platform.proofs.Distinct.{found_has}
+use Rattle.jc_platform.proofs.Facts.{method_homes}
 use Rattle.jc_platform.specs.Tokens.{Tokens, token_of_method}
 use Rattle.jc_linker.specs.declared.target.Method.{Method}
 use Rattle.jc_linker.specs.declared.target.Method.TheVariants.{Code, Native}
@@ -28,52 +30,37 @@ use Rattle.jc_linker.specs.Resolves.{names_interface, resolution, static_method_
 use Rattle.jc_linker.specs.Values.{Export, Packages}
 use Rattle.law_isolation.specs.Steps.{ResolveStatics}
 
--- each row's kind is that of its method
-holds : MethodEntry → Bool
-holds e = same_kind (kind_of_method e.method) e.kind
-
-abbrev rows_hold : List MethodEntry → Bool
-rows_hold [] = true
-rows_hold (e ∷ es) = holds e && rows_hold es
-
-all_hold : rows_hold methods ≡ true
-unfolding methods holds
-all_hold = refl
-
 kind_is : (k : MethodKind) → same_kind k Static ≡ true → k ≡ Static
 kind_is Static e = refl
 kind_is Virtual e = absurd (false≢true e)
 kind_is Interface e = absurd (false≢true e)
 
-abbrev Found : (MethodEntry → Bool) → MethodEntry → Type 0
-Found test x = (test x ≡ true) × (holds x ≡ true)
+passing : (test : MethodEntry → Bool) (e : MethodEntry) (es : List MethodEntry) (x : MethodEntry) (b : Bool) → test e ≡ b
+    → (find test es ≡ Some x → test x ≡ true) → (if b then Some e else find test es) ≡ Some x → test x ≡ true
+passing test e es x true is rest found = subst (λ y. test y ≡ true) (same_Some e x found) is
+passing test e es x false is rest found = rest found
 
-row_case : (test : MethodEntry → Bool) (e : MethodEntry) (es : List MethodEntry) (x : MethodEntry) (b : Bool) → test e ≡ b → holds e ≡ true
-    → (find test es ≡ Some x → Found test x) → (if b then Some e else find test es) ≡ Some x → Found test x
-row_case test e es x true is held rest found = subst (Found test) (same_Some e x found) (is, held)
-row_case test e es x false is held rest found = rest found
-
-row_found : (test : MethodEntry → Bool) (es : List MethodEntry) (x : MethodEntry) → rows_hold es ≡ true → find test es ≡ Some x → Found test x
-row_found test [] x held found = absurd (none-some x found)
-row_found test (e ∷ es) x held found = row_case test e es x (test e) refl (and_parts (holds e) (rows_hold es) held).0
-    (row_found test es x (and_parts (holds e) (rows_hold es) held).1) found
+found_passes : (test : MethodEntry → Bool) (es : List MethodEntry) (x : MethodEntry) → find test es ≡ Some x → test x ≡ true
+found_passes test [] x found = absurd (none-some x found)
+found_passes test (e ∷ es) x found = passing test e es x (test e) refl (found_passes test es x) found
 
 mapped : (o : Option MethodEntry) (m : PlatformMethod) → option_map (λ e. e.method) o ≡ Some m → (x : MethodEntry) × (o ≡ Some x) × (x.method ≡ m)
 mapped None m e = absurd (none-some m e)
 mapped (Some x) m e = (x, refl, same_Some x.method m e)
 
 token_static : (t : Tokens) (c : PlatformClass) (token : ℕ) (m : PlatformMethod) → method_by_token t c Static token ≡ Some m → kind_of_method m ≡ Static
-unfolding method_by_token holds
+unfolding method_by_token
 token_static t c token m e =
-    let one = mapped (find (λ x. same_class x.class c && same_kind x.kind Static && is_token (token_of_method t x.method) token)
-    methods) m e in
-    let row = row_found (λ x. same_class x.class c && same_kind x.kind Static && is_token (token_of_method t x.method) token) methods one.0
-    all_hold one.1 in
-    let both = and_parts (same_class (one.0).class c && same_kind (one.0).kind Static)
-    (is_token (token_of_method t (one.0).method) token) row.0 in
-    let kind : (one.0).kind ≡ Static = kind_is (one.0).kind (and_parts (same_class (one.0).class c) (same_kind (one.0).kind Static) both.0).1 in
+    let test : MethodEntry → Bool = λ x. same_class x.class c && same_kind x.kind Static && is_token (token_of_method t x.method) token in
+    let one = mapped (find test methods) m e in
+    let row : MethodEntry = one.0 in
+    let own = and_parts (same_class (class_of row.method) row.class) (same_kind (kind_of_method row.method) row.kind)
+    (found_has (λ x. same_class (class_of x.method) x.class && same_kind (kind_of_method x.method) x.kind) test methods row method_homes one.1) in
+    let both = and_parts (same_class row.class c && same_kind row.kind Static) (is_token (token_of_method t row.method) token)
+    (found_passes test methods row one.1) in
+    let kind : row.kind ≡ Static = kind_is row.kind (and_parts (same_class row.class c) (same_kind row.kind Static) both.0).1 in
     kind_is (kind_of_method m) (subst (λ k. same_kind (kind_of_method m) k ≡ true) kind
-    (subst (λ y. same_kind (kind_of_method y) (one.0).kind ≡ true) one.2 row.1))
+    (subst (λ y. same_kind (kind_of_method y) row.kind ≡ true) one.2 own.1))
 
 native_in : (o : Option PlatformMethod) (m : PlatformMethod) → option_map Native o ≡ Some (Native m) → o ≡ Some m
 native_in None m e = absurd (none-some (Native m) e)

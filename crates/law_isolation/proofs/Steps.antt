@@ -1,19 +1,9 @@
 -- Steps spare what is outside reach.
-use Rattle.std.proofs.Common.{◌≡◌, true, false, List, Some, inl, inr, sym, ◌∙◌, subst, arith}
-use Rattle.std.proofs.lemmas.Bool.{true≢false, false≢true}
+use Rattle.std.proofs.Common.{◌≡◌, true, List, Some, inl, inr, sym, ◌∙◌, subst, arith}
 use Rattle.std.specs.Prelude.{pos}
 use Rattle.jc_heap.specs.Heap.{facts}
 use Rattle.jc_memory.specs.State.{MemoryState}
-use Rattle.jc_platform.specs.declared.names.MethodKind.TheVariants.{Static, Virtual}
 use Rattle.jc_platform.specs.declared.names.PlatformMethod.{PlatformMethod}
-use Rattle.jc_platform.specs.declared.names.PlatformMethod.TheVariants.{CardExceptionInit, CardExceptionSetReason, CardRuntimeExceptionInit}
-use Rattle.jc_platform.specs.declared.names.PlatformMethod.TheVariants.{CardRuntimeExceptionSetReason, IsoExceptionInit, PinExceptionInit, SystemExceptionInit}
-use Rattle.jc_platform.specs.declared.names.PlatformMethod.TheVariants.{TransactionExceptionInit, ApduExceptionInit, UserExceptionInit, AidInit, OwnerPinInit}
-use Rattle.jc_platform.specs.declared.names.PlatformMethod.TheVariants.{OwnerPinCheck, OwnerPinReset, OwnerPinResetAndUnblock, OwnerPinUpdate}
-use Rattle.jc_platform.specs.declared.names.PlatformMethod.TheVariants.{OwnerPinSetValidatedFlag, UserExceptionInitWithoutReason}
-use Rattle.jc_platform.specs.Distinct.{kind_of_method}
-use Rattle.jc_platform.specs.Names.{methods}
-use Rattle.jc_platform.specs.Signatures.{is_constructor}
 use Rattle.jc_linker.specs.declared.target.Method.TheVariants.{Native}
 use Rattle.jc_linker.specs.Values.{Packages}
 use Rattle.jc_frames.specs.declared.cell.Cell.{Cell}
@@ -23,39 +13,15 @@ use Rattle.jc_firewall.specs.Reach.{IsInReach}
 use Rattle.jc_world.specs.Contexts.{situation_of}
 use Rattle.jc_interp_calls.specs.declared.invoke.MethodCall.{MethodCall}
 use Rattle.jc_interp.specs.Stepping.{at_place}
-use Rattle.law_isolation.specs.Natives.{ReachesCalled, sets_receiver}
+use Rattle.jc_platform.specs.Signatures.{sets_receiver}
+use Rattle.law_isolation.specs.Natives.{ReachesCalled}
 use Rattle.law_isolation.specs.Sparing.{LeavesObject}
 use Rattle.law_isolation.specs.Steps.{StepsSpare}
+use Rattle.law_isolation.proofs.Facts.{sets_minds, static_minds_none}
 use Rattle.law_isolation.proofs.Groups.{arrays_pass, fields_pass, instances_pass}
 use Rattle.law_isolation.proofs.Natives.{natives_spare}
 use Rattle.law_isolation.proofs.Receivers.{IsFit, chosen_fit, first_argument}
 use Rattle.law_isolation.proofs.Walk.{step_due}
-
-pub virtual_not_static : Virtual ≡ Static → ⊥
-virtual_not_static e = cc
-
--- static methods that are no constructors set no cells of a receiver
-statics_spare : (method : PlatformMethod) → kind_of_method method ≡ Static → is_constructor method ≡ false → sets_receiver method ≡ true → ⊥
-unfolding methods is_constructor sets_receiver
-statics_spare CardExceptionInit static plain e = true≢false plain
-statics_spare CardRuntimeExceptionInit static plain e = true≢false plain
-statics_spare IsoExceptionInit static plain e = true≢false plain
-statics_spare PinExceptionInit static plain e = true≢false plain
-statics_spare SystemExceptionInit static plain e = true≢false plain
-statics_spare TransactionExceptionInit static plain e = true≢false plain
-statics_spare ApduExceptionInit static plain e = true≢false plain
-statics_spare UserExceptionInit static plain e = true≢false plain
-statics_spare UserExceptionInitWithoutReason static plain e = true≢false plain
-statics_spare AidInit static plain e = true≢false plain
-statics_spare OwnerPinInit static plain e = true≢false plain
-statics_spare CardExceptionSetReason static plain e = virtual_not_static static
-statics_spare CardRuntimeExceptionSetReason static plain e = virtual_not_static static
-statics_spare OwnerPinCheck static plain e = virtual_not_static static
-statics_spare OwnerPinReset static plain e = virtual_not_static static
-statics_spare OwnerPinResetAndUnblock static plain e = virtual_not_static static
-statics_spare OwnerPinUpdate static plain e = virtual_not_static static
-statics_spare OwnerPinSetValidatedFlag static plain e = virtual_not_static static
-statics_spare _ static plain e = false≢true e
 
 -- what sets cells of its receiver is called on an object within reach
 reaches_called : (p : Packages) (m : MemoryState) (stack args : List Cell) (c : MethodCall) (method : PlatformMethod) → IsFit p m stack c
@@ -63,7 +29,7 @@ reaches_called : (p : Packages) (m : MemoryState) (stack args : List Cell) (c : 
 reaches_called p m stack args c method (inl own) is are sets = λ r there.
     subst (λ k. IsInReach (situation_of p m (facts m.heap.now k))) (sym (first_argument c.arguments stack args own.receiver r (Short (pos 0)) own.on are there))
     own.reach
-reaches_called p m stack args c method (inr static) is are sets = absurd (statics_spare method (static method is).0 (static method is).1 sets)
+reaches_called p m stack args c method (inr static) is are sets = absurd (static_minds_none method (static method is).0 (static method is).1 (sets_minds method sets))
 
 pub steps_spare : StepsSpare
 steps_spare lent p s m q statics few out stays = step_due (LeavesObject q) lent p s m (record {

@@ -42,6 +42,8 @@ use Rattle.jc_frames.specs.declared.outcome.FrameExit.TheVariants as stop
 use Rattle.jc_frames.specs.declared.outcome.Outcome.TheVariants.{Fault, Thrown}
 use Rattle.jc_frames.specs.Calls.{arguments_on, call_or_fault, frames_after_return, frames_with_result, frames_without_dead, outcome_of}
 use Rattle.jc_frames.specs.Cells.{reference_on}
+use Rattle.jc_environment.specs.Objects.{own_place}
+use Rattle.jc_frames.specs.Exceptions.{class_of_exception, reason_of}
 use Rattle.jc_frames.specs.Frames.{Caller, Frame, Frames, Next, GoesOn, Throws, Ends, in_frame, push, with_stack}
 use Rattle.jc_frames.specs.ReturnOps.{returned_cell}
 use Rattle.jc_world.specs.declared.native_result.NativeResult.{NativeResult}
@@ -62,7 +64,7 @@ use Rattle.jc_interp_calls.specs.Invoke.{method_selection}
 use Rattle.jc_interp_calls.specs.Entering.{method_entry, context_switch, entry_of, registers_in_callee, takes}
 use Rattle.jc_interp_calls.specs.MethodReturn.{registers_of_caller, return_to_caller, method_return}
 use Rattle.jc_interp_calls.specs.MethodComponent.{method_component_of}
-use Rattle.jc_interp_calls.specs.Throwing.{has_reason_cell, handler_entry, or_thrown_above, caller_unwind, number_of, callers_unwind, reason_of}
+use Rattle.jc_interp_calls.specs.Throwing.{has_reason_cell, handler_entry, or_thrown_above, caller_unwind, callers_unwind}
 use Rattle.jc_interp_calls.specs.Throwing.{exception_throw, athrow, object_unwind, unwind, with_reason}
 use Rattle.jc_interp.specs.Natives.{native_call}
 use Rattle.jc_interp.specs.Calling.{after_native, invoke_instruction, invoke_selected, native_invoke}
@@ -110,9 +112,9 @@ pub record LeavesPass (P : Effect → MemoryState → Type 0) (M : Frames → Me
   pub uncaught : (r : ℕ) (s : Frames) (m : MemoryState) → M s m → C m.heap.now (Reference r) → N (Ends (Thrown r)) m
   pub found : (r : ℕ) (f : Facts) (m : MemoryState) → header_at m r ≡ Some f → C m.heap.now (Reference r)
   pub popped : (top : ℕ × List Cell) (s : Frames) (m : MemoryState) → M s m → reference_on s.current.stack ≡ Some top → M (with_stack s top.1) m
-  pub reasons : (e : Exception) (v : ℤ) (f : Facts) (s : Frames) (m : MemoryState) → M s m → header_at m (slice_index m.fixed (number_of e)) ≡ Some f
-      → has_reason_cell f ≡ true → P (SetTransient (slice_index m.fixed (number_of e)) 0 (Short v ∷ [])) m
-      × M s (apply_effect (SetTransient (slice_index m.fixed (number_of e)) 0 (Short v ∷ [])) m)
+  pub reasons : (k : ℕ) (v : ℤ) (f : Facts) (s : Frames) (m : MemoryState) → M s m → header_at m (slice_index m.fixed k) ≡ Some f
+      → has_reason_cell f ≡ true → P (SetTransient (slice_index m.fixed k) 0 (Short v ∷ [])) m
+      × M s (apply_effect (SetTransient (slice_index m.fixed k) 0 (Short v ∷ [])) m)
 
 -- of methods in bytecode, and of servers that are asked, from these frames: a fault ends the run; null is answered; a frame begins, for an
 -- owner of whom S is so; and it gets a server's arguments
@@ -272,19 +274,19 @@ module _ (P : Effect → MemoryState → Type 0) (M : Frames → MemoryState →
       (λ u is. walked_ok P N m fault s throws (firewall_check access.Throw p m f) _ (plain_firewall access.Throw p m f)
       (λ v fine. unwinding_object top.0 place (with_stack s top.1) m (pass.popped top s m known taken)))))
 
-  reasoned : (e : Exception) (reason : Option ℤ) (place : ℕ) (s : Frames) (m : MemoryState) → M s m
-      → DueThen P N (with_reason reason (slice_index m.fixed (number_of e)) place p s m) m
-  reasoned e None place s m known = unwinding_object (slice_index m.fixed (number_of e)) place s m known
-  reasoned e (Some v) place s m known =
+  reasoned : (k : ℕ) (reason : Option ℤ) (place : ℕ) (s : Frames) (m : MemoryState) → M s m
+      → DueThen P N (with_reason reason (slice_index m.fixed k) place p s m) m
+  reasoned k None place s m known = unwinding_object (slice_index m.fixed k) place s m known
+  reasoned k (Some v) place s m known =
       let fault = pass.faults s m known in
-      let r = slice_index m.fixed (number_of e) in
+      let r = slice_index m.fixed k in
       walked_some P N m fault (header_at m r) _ (λ f there. walked_if P N m fault (has_reason_cell f) _ (λ on.
-      let set = pass.reasons e v f s m known there on in
+      let set = pass.reasons k v f s m known there on in
       (set.0, unwinding_object r place s (apply_effect (SetTransient r 0 (Short v ∷ [])) m) set.1)))
 
   pub thrown : (e : Exception) (place : ℕ) (s : Frames) (m : MemoryState) → M s m → DueThen P N (exception_throw e place p s m) m
   unfolding exception_throw
-  thrown e place s m known = reasoned e (reason_of e) place s m known
+  thrown e place s m known = reasoned (own_place p.platform (class_of_exception e)) (reason_of e) place s m known
 
 -- ---- calls
 
@@ -422,9 +424,9 @@ module _ (P : Effect → MemoryState → Type 0) (lent : List ℕ) (p : Packages
     uncaught = λ r t v so any. so;
     found = λ r f v there. tt;
     popped = λ top t v so taken. so;
-    reasons = λ e x f t v so there on. (
-      pass.reasons (slice_index v.fixed (number_of e)) x v (number_of e, ap (λ l. slice_index l (number_of e)) so)
-          (subst (λ g. 0 < g.length) (header_is v (slice_index v.fixed (number_of e)) f there).1 (some_cell f on)),
+    reasons = λ k x f t v so there on. (
+      pass.reasons (slice_index v.fixed k) x v (k, ap (λ l. slice_index l k) so)
+          (subst (λ g. 0 < g.length) (header_is v (slice_index v.fixed k) f there).1 (some_cell f on)),
       so,
     );
   }

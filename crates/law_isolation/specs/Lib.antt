@@ -5,3 +5,4 @@ pub mod Groups
 pub mod Natives
 pub mod Steps
 pub mod Runs
+pub mod Bytes

@@ -1,15 +1,11 @@
 -- Methods of the platform spare what is outside reach and is not what they are called on.
-use Rattle.std.specs.Prelude.{ℕ, ◌≡◌, ◌≤◌, Bool, true, false, List, length, Some}
+use Rattle.std.specs.Prelude.{ℕ, ◌≡◌, ◌≤◌, true, List, length, Some}
 use Rattle.jc_frames.specs.declared.cell.Cell.{Cell}
 use Rattle.jc_heap.specs.Heap.{facts}
 use Rattle.jc_memory.specs.State.{MemoryState}
 use Rattle.jc_memory.specs.Reading.{AllDue}
 use Rattle.jc_platform.specs.declared.names.PlatformMethod.{PlatformMethod}
-use Rattle.jc_platform.specs.declared.names.PlatformMethod.TheVariants.{CardExceptionInit, CardExceptionSetReason, CardRuntimeExceptionInit}
-use Rattle.jc_platform.specs.declared.names.PlatformMethod.TheVariants.{CardRuntimeExceptionSetReason, IsoExceptionInit, PinExceptionInit, SystemExceptionInit}
-use Rattle.jc_platform.specs.declared.names.PlatformMethod.TheVariants.{TransactionExceptionInit, ApduExceptionInit, UserExceptionInit, AidInit, OwnerPinInit}
-use Rattle.jc_platform.specs.declared.names.PlatformMethod.TheVariants.{OwnerPinCheck, OwnerPinReset, OwnerPinResetAndUnblock, OwnerPinUpdate}
-use Rattle.jc_platform.specs.declared.names.PlatformMethod.TheVariants.{OwnerPinSetValidatedFlag, UserExceptionInitWithoutReason}
+use Rattle.jc_platform.specs.Signatures.{sets_receiver}
 use Rattle.jc_linker.specs.Values.{Packages}
 use Rattle.jc_firewall.specs.Reach.{IsInReach}
 use Rattle.jc_world.specs.Contexts.{situation_of}
@@ -17,28 +13,6 @@ use Rattle.jc_world.specs.Objects.{reference_argument}
 use Rattle.jc_interp.specs.Natives.{native_call}
 use Rattle.law_isolation.specs.Reach.{IsOutside}
 use Rattle.law_isolation.specs.Sparing.{LeavesObject}
-
--- the methods that set cells of the object that they are called on: constructors, setReason, and those of OwnerPIN
-unfoldable pub sets_receiver : PlatformMethod → Bool
-sets_receiver CardExceptionInit = true
-sets_receiver CardExceptionSetReason = true
-sets_receiver CardRuntimeExceptionInit = true
-sets_receiver CardRuntimeExceptionSetReason = true
-sets_receiver IsoExceptionInit = true
-sets_receiver PinExceptionInit = true
-sets_receiver SystemExceptionInit = true
-sets_receiver TransactionExceptionInit = true
-sets_receiver ApduExceptionInit = true
-sets_receiver UserExceptionInit = true
-sets_receiver UserExceptionInitWithoutReason = true
-sets_receiver AidInit = true
-sets_receiver OwnerPinInit = true
-sets_receiver OwnerPinCheck = true
-sets_receiver OwnerPinReset = true
-sets_receiver OwnerPinResetAndUnblock = true
-sets_receiver OwnerPinUpdate = true
-sets_receiver OwnerPinSetValidatedFlag = true
-sets_receiver _ = false
 
 -- an object is not the one that a method is called on
 abbrev pub IsNotCalled : ℕ → List Cell → Type 0

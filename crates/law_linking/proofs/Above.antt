@@ -3,7 +3,6 @@ use Rattle.std.proofs.Common.{◌≡◌, ℕ, ◌/◌, Bool, true, false, List, 
 use Rattle.std.specs.Option.{option_and_then, option_map}
 use Rattle.std.proofs.lemmas.Option.{none-some}
 use Rattle.jc_platform.specs.declared.names.PlatformClass.{PlatformClass}
-use Rattle.jc_platform.specs.declared.names.PlatformClass.TheVariants.{AppletEvent, ExtendedLength, Iso7816, MultiSelectable, Object, Pin, Shareable}
 use Rattle.jc_platform.specs.Distinct.{class_word}
 use Rattle.jc_platform.specs.Hierarchy.{is_interface, superclass_of}
 use Rattle.jc_platform.specs.Platform.{class_by_word}
@@ -19,6 +18,7 @@ use Rattle.jc_linker.specs.Values.{ClassValue, Packages}
 use Rattle.jc_linker.specs.Values.{LinkerComponents}
 use Rattle.law_linking.specs.Linked.{AreLinked}
 use Rattle.law_linking.proofs.Entered.{entered}
+use Rattle.law_linking.proofs.Facts.{extending_class}
 use Rattle.law_linking.proofs.Fields.{any_field, any_foreign, mapped_there, of_entry}
 use Rattle.law_linking.proofs.Lists.{IfThere}
 
@@ -49,21 +49,15 @@ module _ (p : Packages) where
   loaded_class c true above kind is = absurd (none-some above is)
   loaded_class c false above kind is = kind
 
-  platform_class : (c : PlatformClass) (above : ℕ) → option_map (class_word p.platform) (superclass_of c) ≡ Some above → is_interface c ≡ false
-  unfolding superclass_of is_interface
-  platform_class Shareable above is = absurd (none-some above is)
-  platform_class Pin above is = absurd (none-some above is)
-  platform_class Iso7816 above is = absurd (none-some above is)
-  platform_class MultiSelectable above is = absurd (none-some above is)
-  platform_class AppletEvent above is = absurd (none-some above is)
-  platform_class ExtendedLength above is = absurd (none-some above is)
-  platform_class Object above is = refl
-  platform_class _ above is = refl
+  platform_class : (c : PlatformClass) (o : Option PlatformClass) (above : ℕ) → superclass_of c ≡ o → option_map (class_word p.platform) o ≡ Some above
+      → is_interface c ≡ false
+  platform_class c None above extends is = absurd (none-some above is)
+  platform_class c (Some d) above extends is = extending_class c d extends
 
   by_class : (o : Option ClassValue) (other : Option PlatformClass) (above : ℕ) → superclass_by p o other ≡ Some above → interface_by o other ≡ false
   by_class (Some c) other above is = loaded_class c c.is_interface above refl is
   by_class None None above is = refl
-  by_class None (Some c) above is = platform_class c above is
+  by_class None (Some c) above is = platform_class c (superclass_of c) above refl is
 
   pub no_interface : (class above : ℕ) → superclass_in p class ≡ Some above → names_interface p class ≡ false
   unfolding superclass_in names_interface

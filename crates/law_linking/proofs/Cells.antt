@@ -13,14 +13,15 @@ use Rattle.jc_linker.specs.Classes.{any_reference, class_in, declares_reference,
 use Rattle.jc_linker.specs.Classes.{size_by, size_of, superclass_by, superclass_in}
 use Rattle.jc_linker.specs.Resolves.{interface_by, names_interface}
 use Rattle.jc_linker.specs.Values.{ClassValue, Packages}
-use Rattle.jc_card_checks.specs.Objects.{is_a}
-use Rattle.law_soundness.specs.Classes.{HasPlatformCells, IsPlatformBelow, has_instances}
-use Rattle.law_soundness.specs.Classes.IsPlatformBelow.{Above, Itself}
+use Rattle.jc_linker.specs.Classes.{is_a}
+use Rattle.law_linking.specs.Classes.{HasPlatformCells, IsPlatformBelow, has_instances}
+use Rattle.law_linking.specs.Classes.IsPlatformBelow.{Above, Itself}
 use Rattle.law_linking.proofs.Lists.{IfThere}
 use Rattle.law_linking.specs.Given.{HasByteTokens}
 use Rattle.law_linking.proofs.Chains.{Fits, Reaches, below_reached, cell_of_reached, none_behind, one_first, own, reached_size}
 use Rattle.law_linking.proofs.Good.{AllGood}
-use Rattle.law_linking.proofs.Ordered.{above_bare, class_stands, few_cells, inherited_size, listed, named, not_loaded, ordered, platform_above, platform_interface}
+use Rattle.law_linking.proofs.Facts.{above_bare, few_cells}
+use Rattle.law_linking.proofs.Ordered.{class_stands, inherited_size, listed, named, not_loaded, ordered, platform_above, platform_interface}
 use Rattle.law_linking.proofs.Ordered.{platform_own, platform_size, superclass_stands}
 use Rattle.law_linking.proofs.Tokens.{HasToken}
 

@@ -9,8 +9,8 @@ use Rattle.jc_linker.specs.Values.{Packages}
 use Rattle.jc_linker.specs.Values.{LinkerComponents}
 use Rattle.law_linking.proofs.Entered.{few_packages}
 use Rattle.law_linking.proofs.Fields.{named_field}
-use Rattle.jc_card_checks.specs.Objects.{is_a}
-use Rattle.law_soundness.specs.Classes.{has_instances}
+use Rattle.jc_linker.specs.Classes.{is_a}
+use Rattle.law_linking.specs.Classes.{has_instances}
 use Rattle.law_linking.specs.Given.{AreRead}
 use Rattle.law_linking.specs.ClassLaws.{HaveCells, HaveClasses, HaveFields, HaveReceivers}
 use Rattle.law_linking.proofs.Cells.{field_behind, field_is, platform_cells}

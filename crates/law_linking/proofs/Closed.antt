@@ -7,7 +7,7 @@ use Rattle.std.proofs.lemmas.Bool.{false≢true, eqb-false, cases_Bool}
 use Rattle.std.proofs.lemmas.List.Quantifiers.{position-Some}
 use Rattle.jc_platform.specs.declared.names.PlatformClass.{PlatformClass}
 use Rattle.jc_platform.specs.Distinct.{class_word}
-use Rattle.jc_platform.specs.Hierarchy.{interface_of, superclass_of}
+use Rattle.jc_platform.specs.Hierarchy.{interfaces_of, superclass_of}
 use Rattle.jc_platform.specs.Platform.{class_by_token, class_by_word, package_by_number}
 use Rattle.jc_linker.specs.Classes.{class_in, interfaces_by, interfaces_in, platform_interfaces, package_in, superclass_by, superclass_in}
 use Rattle.jc_linker.specs.Resolves.{class_at_offset, class_by, class_of, class_with_token, exported_class, import_of, import_by_token, class_index}
@@ -142,16 +142,16 @@ module _ (p : Packages) (q : PackageValue) (closed : IsClosed p) (room : length 
   unfolding superclass_in
   above w other = superclass_beside (class_in p w) (class_by_word p.platform w) (class_closed p closed w)
 
-  named_beside : (o : Option PlatformClass) → AllOf (λ i. IsBeside i.interface) (platform_interfaces p o)
-  named_beside None = tt
-  named_beside (Some c) = (platform_beside c, tt)
+  named_beside : (cs : List PlatformClass) → AllOf (λ i. IsBeside i.interface) (platform_interfaces p cs)
+  named_beside [] = tt
+  named_beside (c ∷ cs) = (platform_beside c, named_beside cs)
 
   interfaces_beside : (c : Option ClassValue) (o : Option PlatformClass) → IfThere (IsClosedClass (length p.loaded)) c
       → AllOf (λ i. IsBeside i.interface) (interfaces_by p c o)
   interfaces_beside (Some c) o closes = all_more (λ i. Stands (length p.loaded) (i.interface / 256)) (λ i. IsBeside i.interface)
       (λ i each. beside (i.interface / 256) each) c.interfaces closes.1
   interfaces_beside None None closes = tt
-  interfaces_beside None (Some c) closes = named_beside (interface_of c)
+  interfaces_beside None (Some c) closes = named_beside (interfaces_of c)
 
   interfaces : (w : ℕ) → IsBeside w → AllOf (λ i. IsBeside i.interface) (interfaces_in p w)
   unfolding interfaces_in

@@ -5,14 +5,14 @@ use Rattle.std.specs.Prelude.{is_some, nat_lt, slice_get}
 use Rattle.std.specs.Option.{option_map}
 use Rattle.std.proofs.lemmas.Bool.{false≢true, ltb-true, or_cases, or_left, or_right}
 use Rattle.jc_platform.specs.declared.names.PlatformClass.{PlatformClass}
-use Rattle.jc_platform.specs.declared.names.PlatformClass.TheVariants.{AppletEvent, ExtendedLength, Iso7816, MultiSelectable, Object, Pin, Shareable}
 use Rattle.jc_platform.specs.Distinct.{class_word}
 use Rattle.jc_platform.specs.Hierarchy.{superclass_of}
-use Rattle.jc_platform.specs.Numbers.{class_number}
+use Rattle.jc_platform.specs.Numbers.{class_count, class_number}
 use Rattle.jc_platform.specs.Platform.{TellNames, class_by_word}
 use Rattle.jc_platform.proofs.Numbers.{class_below}
 use Rattle.jc_linker.specs.Classes.{any_is, class_in, implements, is_below, lineage_from, most_classes, package_in, superclass_by, superclass_in}
 use Rattle.jc_linker.specs.Values.{ClassValue, Packages}
+use Rattle.law_linking.proofs.Facts.{superclass_before}
 use Rattle.law_linking.proofs.Fields.{IsHigh, no_class}
 use Rattle.law_linking.proofs.Lists.{IfThere}
 use Rattle.law_linking.proofs.Numbers.{package_low, then_some}
@@ -84,17 +84,6 @@ module _ (p : Packages) where
 
 -- ---- the platform's classes
 
-higher : (d : PlatformClass) → IfThere (λ e. nat_lt (class_number e) (class_number d) ≡ true) (superclass_of d)
-unfolding superclass_of
-higher Object = tt
-higher Shareable = tt
-higher Pin = tt
-higher Iso7816 = tt
-higher MultiSelectable = tt
-higher AppletEvent = tt
-higher ExtendedLength = tt
-higher _ = refl
-
 module _ (p : Packages) (few : length p.loaded ≤ 32) (names : TellNames p.platform) (bytes : HasByteTokens p.platform) (behind : AllBehind p) where
   nothing_more : (n : ℕ) → Ends p n None
   unfolding Ends
@@ -115,26 +104,26 @@ module _ (p : Packages) (few : length p.loaded ≤ 32) (names : TellNames p.plat
   platform_ends (suc bound) zero c stands less le = absurd (omega (arith, le))
   platform_ends (suc bound) (suc n) c stands less le = subst (Ends p n) (sym (platform_above p few names bytes c stands))
       (through n c (superclass_of c) refl (λ d is.
-      let lower = ltb-true (class_number d) (class_number c) (subst (IfThere (λ e. nat_lt (class_number e) (class_number c) ≡ true)) is (higher c)) in
+      let lower = ltb-true (class_number d) (class_number c) (subst (IfThere (λ e. nat_lt (class_number e) (class_number c) ≡ true)) is (superclass_before c)) in
       platform_ends bound n d (above_stands c d is) (omega (arith, less, lower)) (omega (arith, le))))
 
   -- ---- all classes
 
-  unless_loaded : (n w : ℕ) → class_in p w ≡ None → 32 ≤ n → Ends p n (superclass_in p w)
+  unless_loaded : (n w : ℕ) → class_in p w ≡ None → class_count ≤ n → Ends p n (superclass_in p w)
   unfolding superclass_in
   unless_loaded n w none le = subst (λ c. Ends p n (superclass_by p c (class_by_word p.platform w))) (sym none) (by_word (class_by_word p.platform w) refl)
     where
       by_word : (o : Option PlatformClass) → class_by_word p.platform w ≡ o → Ends p n (superclass_by p None o)
       by_word None is = nothing_more n
-      by_word (Some c) is = through n c (superclass_of c) refl (λ d above. platform_ends 32 n d (above_stands c d above) (class_below d) le)
+      by_word (Some c) is = through n c (superclass_of c) refl (λ d above. platform_ends class_count n d (above_stands c d above) (class_below d) le)
 
-  other_ends : (n w : ℕ) → class_in p w ≡ None → 33 ≤ n → Ends p n (Some w)
+  other_ends : (n w : ℕ) → class_in p w ≡ None → class_count + 1 ≤ n → Ends p n (Some w)
   unfolding Ends
   other_ends zero w none le = absurd (omega (arith, le))
   other_ends (suc n) w none le = unless_loaded n w none (omega (arith, le))
 
   -- a loaded class's superclass is lower, or one of the platform's
-  above_ends : (bound n w : ℕ) → w < bound + 1 → 33 ≤ n → ((v : ℕ) → v < bound → Ends p n (Some v)) → Ends p n (superclass_in p w)
+  above_ends : (bound n w : ℕ) → w < bound + 1 → class_count + 1 ≤ n → ((v : ℕ) → v < bound → Ends p n (Some v)) → Ends p n (superclass_in p w)
   unfolding superclass_in
   above_ends bound n w less le lower_ends = by_class (class_in p w) refl
     where
@@ -150,7 +139,7 @@ module _ (p : Packages) (few : length p.loaded ≤ 32) (names : TellNames p.plat
       by_class (Some c) is = subst (λ x. Ends p n (superclass_by p x (class_by_word p.platform w))) (sym is) (by_kind c is c.is_interface refl)
       by_class None is = unless_loaded n w is (omega (arith, le))
 
-  loaded_ends : (bound n w : ℕ) → w < bound → bound + 33 ≤ n → Ends p n (Some w)
+  loaded_ends : (bound n w : ℕ) → w < bound → bound + (class_count + 1) ≤ n → Ends p n (Some w)
   unfolding Ends
   loaded_ends zero n w less le = absurd (omega (arith, less))
   loaded_ends (suc bound) zero w less le = absurd (omega (arith, le))

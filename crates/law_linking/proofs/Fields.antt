@@ -1,12 +1,12 @@
 -- Classes that instances of the platform's classes are of are the platform's.
-use Rattle.std.proofs.Common.{◌≡◌, ℕ, zero, suc, ◌+◌, ◌/◌, ◌<◌, ◌≤◌, inl, inr, ◌==◌, ◌&&◌, ◌||◌, Bool, true, false, List, Option, Some, None, length, refl}
+use Rattle.std.proofs.Common.{◌≡◌, ℕ, zero, suc, ◌+◌, ◌/◌, ◌<◌, ◌≤◌, inl, inr, ◌==◌, ◌&&◌, ◌||◌, Bool, true, false, List, [], ◌∷◌, Option, Some, None, length, refl}
 use Rattle.std.proofs.Common.{subst, ap, arith, if◌then◌else◌}
 use Rattle.std.specs.Prelude.{is_some, nat_lt, slice_get}
 use Rattle.std.specs.Option.{option_map, option_and_then}
 use Rattle.std.proofs.lemmas.Bool.{and_parts, eqb-true, false≢true, ltb-true, or_cases}
 use Rattle.jc_platform.specs.declared.names.PlatformClass.{PlatformClass}
 use Rattle.jc_platform.specs.Distinct.{class_word}
-use Rattle.jc_platform.specs.Hierarchy.{interface_of, superclass_of}
+use Rattle.jc_platform.specs.Hierarchy.{interfaces_of, superclass_of}
 use Rattle.jc_platform.specs.Platform.{class_by_word}
 use Rattle.jc_cap_linkage.specs.declared.class_refs.ClassRef.{ClassRef}
 use Rattle.jc_cap_linkage.specs.declared.pool.Entry.{Entry}
@@ -57,15 +57,15 @@ module _ (p : Packages) (few : length p.loaded ≤ 32) where
   lineage_high (suc n) None high = tt
   lineage_high (suc n) (Some w) high = (high, lineage_high n (superclass_in p w) (above_high w high))
 
-  named_high : (o : Option PlatformClass) → AllOf (λ i. IsHigh i.interface) (platform_interfaces p o)
-  named_high None = tt
-  named_high (Some c) = (word_high p.platform c, tt)
+  named_high : (cs : List PlatformClass) → AllOf (λ i. IsHigh i.interface) (platform_interfaces p cs)
+  named_high [] = tt
+  named_high (c ∷ cs) = (word_high p.platform c, named_high cs)
 
   interfaces_high : (w : ℕ) → IsHigh w → (c : Option ClassValue) → class_in p w ≡ c → (o : Option PlatformClass)
       → AllOf (λ i. IsHigh i.interface) (interfaces_by p c o)
   interfaces_high w high (Some c) is o = absurd (no_class p w few high c is)
   interfaces_high w high None is None = tt
-  interfaces_high w high None is (Some c) = named_high (interface_of c)
+  interfaces_high w high None is (Some c) = named_high (interfaces_of c)
 
   listed_high : (w : ℕ) → IsHigh w → AllOf (λ i. IsHigh i.interface) (interfaces_in p w)
   unfolding interfaces_in

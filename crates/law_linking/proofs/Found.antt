@@ -15,7 +15,7 @@ use Rattle.jc_linker.specs.Methods.{implementation_in, interface_method_at, look
 use Rattle.jc_linker.specs.Values.{Packages}
 use Rattle.law_linking.proofs.Receivers.{by_token, native_in}
 use Rattle.law_linking.proofs.Lists.{AllOf}
-use Rattle.law_soundness.specs.Methods.{IsMethodOf}
+use Rattle.law_linking.specs.Methods.{IsMethodOf}
 
 -- ---- a search that finds something finds it in one of the classes
 

@@ -8,11 +8,10 @@ use Rattle.jc_platform.specs.declared.names.MethodKind.TheVariants as kinds
 use Rattle.jc_platform.specs.declared.names.PlatformClass.{PlatformClass}
 use Rattle.jc_platform.specs.declared.names.PlatformClass.TheVariants.{Object}
 use Rattle.jc_platform.specs.declared.names.PlatformMethod.{PlatformMethod}
-use Rattle.jc_platform.specs.declared.names.PlatformPackage.{PlatformPackage}
 use Rattle.jc_platform.specs.declared.names.PlatformPackage.TheVariants.{JavaLang}
 use Rattle.jc_platform.specs.Distinct.{class_word, home_of}
 use Rattle.jc_platform.specs.Names.{classes}
-use Rattle.jc_platform.specs.Hierarchy.{interface_of, superclass_of}
+use Rattle.jc_platform.specs.Hierarchy.{interfaces_of, superclass_of}
 use Rattle.jc_platform.specs.Platform.{TellNames, class_by_word, method_by_token, package_by_number}
 use Rattle.jc_platform.specs.Tokens.{class_token, number_in}
 use Rattle.jc_cap_linkage.specs.declared.pool.VirtualToken.{VirtualToken}
@@ -25,14 +24,15 @@ use Rattle.jc_linker.specs.Classes.{any_is, class_in, extends, implements, inter
 use Rattle.jc_linker.specs.Classes.{superclass_in}
 use Rattle.jc_linker.specs.Methods.{implementation_in, if_native, interface_method_at, lookup_classes, method_at, method_in, method_by_class, first_decided}
 use Rattle.jc_linker.specs.Values.{ClassValue, Packages}
-use Rattle.jc_card_checks.specs.Objects.{is_a}
+use Rattle.jc_linker.specs.Classes.{is_a}
 use Rattle.law_linking.proofs.Fields.{IsHigh, lineage_high, no_class}
 use Rattle.law_linking.proofs.Lists.{AllOf, all_filtered}
 use Rattle.law_linking.proofs.Numbers.{word_high}
 use Rattle.law_linking.specs.Given.{HasByteTokens}
 use Rattle.law_linking.proofs.Ordered.{named, not_loaded, platform_above}
-use Rattle.law_linking.proofs.Tokens.{HasToken, language_needed}
-use Rattle.law_soundness.specs.Platform.{KeepsPlatform}
+use Rattle.law_linking.proofs.Facts.{language_needed}
+use Rattle.law_linking.proofs.Tokens.{HasToken}
+use Rattle.law_linking.specs.Platform.{KeepsPlatform}
 use Rattle.law_linking.proofs.Found.{found_in, one_and_all}
 
 -- ---- no method in bytecode
@@ -97,11 +97,11 @@ module _ (p : Packages) (few : length p.loaded ≤ 32) (names : TellNames p.plat
   object_stands = names.needed_classes Object (language_needed Object object_home)
 
   top_alone : superclass_in p top ≡ None
-  unfolding superclass_of
+  unfolding superclass_of classes
   top_alone = platform_above p few names bytes Object object_stands
 
   top_lists_none : interfaces_in p top ≡ []
-  unfolding interfaces_in interface_of
+  unfolding interfaces_in interfaces_of classes
   top_lists_none = ap (λ o. interfaces_by p o (class_by_word p.platform top)) (not_loaded p few names bytes Object)
       ∙ ap (interfaces_by p None) (named p few names bytes Object object_stands)
 

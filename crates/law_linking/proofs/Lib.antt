@@ -7,6 +7,7 @@ pub mod Linking
 pub mod ResolutionLaws
 pub mod Entered
 pub mod Fields
+pub mod Facts
 pub mod Tokens
 pub mod Chains
 pub mod Inherits

@@ -8,7 +8,7 @@ use Rattle.jc_linker.specs.Classes.{is_below}
 use Rattle.jc_linker.specs.Lookups.{target_at}
 use Rattle.jc_linker.specs.Values.{Packages}
 use Rattle.jc_linker.specs.Values.{LinkerComponents}
-use Rattle.jc_card_checks.specs.Objects.{is_a}
+use Rattle.jc_linker.specs.Classes.{is_a}
 use Rattle.law_linking.proofs.Entered.{few_packages}
 use Rattle.law_linking.specs.Given.{AreRead}
 use Rattle.law_linking.proofs.Chains.{below_reached}

@@ -1,14 +1,15 @@
 -- Classes have the cells of their superclasses first: those of the platform, and those of linked packages.
-use Rattle.std.proofs.Common.{◌≡◌, ℕ, ◌+◌, ◌-◌, ◌<◌, ◌≤◌, ◌⊎◌, inl, inr, ◌&&◌, Bool, true, false, Option, Some, None, length, refl, ap, ◌∙◌, arith}
+use Rattle.std.proofs.Common.{◌≡◌, ℕ, ◌+◌, ◌-◌, ◌<◌, ◌≤◌, ◌⊎◌, inl, inr, ◌&&◌, Bool, true, false, List, [], ◌∷◌, Option, Some, None, length, refl, ap, ◌∙◌}
+use Rattle.std.proofs.Common.{arith}
 use Rattle.std.proofs.Common.{if◌then◌else◌}
 use Rattle.std.specs.Prelude.{min, nat_le, nat_lt}
+use Rattle.std.specs.List.{list_all}
 use Rattle.std.specs.Option.{option_map}
-use Rattle.std.proofs.lemmas.Bool.{and_parts, cases_lt, eqb-true, false≢true, leb-true, ltb-true}
+use Rattle.std.proofs.lemmas.Bool.{and_parts, cases_lt, false≢true, leb-true, ltb-true}
 use Rattle.std.proofs.Math.Nat.{min-eq_left, min-eq_right}
 use Rattle.jc_platform.specs.declared.names.PlatformClass.{PlatformClass}
-use Rattle.jc_platform.specs.declared.names.PlatformClass.TheVariants.{AppletEvent, ExtendedLength, Iso7816, MultiSelectable, Object, OwnerPin, Pin, Shareable}
 use Rattle.jc_platform.specs.Distinct.{class_word, is_needed_class}
-use Rattle.jc_platform.specs.Hierarchy.{cells_of, holds_reference, interface_of, is_interface, superclass_of}
+use Rattle.jc_platform.specs.Hierarchy.{cells_of, holds_reference, interfaces_of, is_interface, superclass_of}
 use Rattle.jc_platform.specs.Platform.{TellNames, class_by_word}
 use Rattle.jc_linker.specs.Classes.{class_in, declares_reference, interfaces_by, interfaces_in, platform_interfaces, own_reference, size_by, size_of}
 use Rattle.jc_linker.specs.Classes.{superclass_by, superclass_in}
@@ -21,47 +22,8 @@ use Rattle.law_linking.proofs.Numbers.{word_high}
 use Rattle.law_linking.specs.Given.{HasByteTokens}
 use Rattle.law_linking.proofs.Chains.{Fits, IsOrdered, own}
 use Rattle.law_linking.proofs.Good.{AllGood, AreInterfaces, IsGood}
-use Rattle.law_linking.proofs.Tokens.{HasToken, class_needed, interface_needed, superclass_needed, word_told}
-
--- ---- the platform's classes among each other
-
--- no superclass has cells that hold references
-pub above_bare : (c : PlatformClass) → IfThere (λ d. (k : ℕ) → holds_reference d k ≡ false) (superclass_of c)
-unfolding superclass_of holds_reference
-above_bare Object = tt
-above_bare Shareable = tt
-above_bare Pin = tt
-above_bare Iso7816 = tt
-above_bare MultiSelectable = tt
-above_bare AppletEvent = tt
-above_bare ExtendedLength = tt
-above_bare _ = λ k. refl
-
-fewer_above : (c : PlatformClass) → IfThere (λ d. nat_le (cells_of d) (cells_of c) ≡ true) (superclass_of c)
-unfolding superclass_of cells_of
-fewer_above Object = tt
-fewer_above Shareable = tt
-fewer_above Pin = tt
-fewer_above Iso7816 = tt
-fewer_above MultiSelectable = tt
-fewer_above AppletEvent = tt
-fewer_above ExtendedLength = tt
-fewer_above _ = refl
-
-reference_within : (c : PlatformClass) (k : ℕ) → holds_reference c k ≡ true → k < cells_of c
-unfolding holds_reference cells_of
-reference_within OwnerPin k e = let is = eqb-true k 4 e in omega (arith, is)
-reference_within _ k e = absurd (false≢true e)
-
-reference_behind : (c : PlatformClass) (k : ℕ) → holds_reference c k ≡ true → IfThere (λ d. cells_of d ≤ k) (superclass_of c)
-unfolding superclass_of holds_reference cells_of
-reference_behind OwnerPin k e = omega arith
-reference_behind _ k e = absurd (false≢true e)
-
-pub few_cells : (c : PlatformClass) → nat_lt (cells_of c) 65536 ≡ true
-unfolding cells_of
-few_cells Object = refl
-few_cells _ = refl
+use Rattle.law_linking.proofs.Facts.{class_needed, fewer_above, interfaces_are, is_listed, reference_behind, reference_within, superclass_needed}
+use Rattle.law_linking.proofs.Tokens.{HasToken, word_told}
 
 -- ---- they stand behind their words
 
@@ -82,9 +44,6 @@ module _ (p : Packages) (few : length p.loaded ≤ 32) (names : TellNames p.plat
 
   pub superclass_stands : (c : PlatformClass) → IfThere (HasToken p.platform) (superclass_of c)
   superclass_stands c = if_more (λ d. is_needed_class d ≡ true) (HasToken p.platform) (superclass_of c) names.needed_classes (superclass_needed c)
-
-  interface_stands : (c : PlatformClass) → IfThere (HasToken p.platform) (interface_of c)
-  interface_stands c = if_more (λ d. is_needed_class d ≡ true) (HasToken p.platform) (interface_of c) names.needed_classes (interface_needed c)
 
   pub named : (c : PlatformClass) → HasToken p.platform c → class_by_word p.platform (word c) ≡ Some c
   named c stands = word_told p.platform names bytes c stands
@@ -108,16 +67,13 @@ module _ (p : Packages) (few : length p.loaded ≤ 32) (names : TellNames p.plat
   unfolding names_interface
   platform_interface c stands = by_both interface_by c stands
 
-  -- the one interface that a class of the platform lists is one
-  named_interface : (o : Option PlatformClass) → IfThere (λ c. is_interface c ≡ true) o → IfThere (HasToken p.platform) o
-      → AreInterfaces p (platform_interfaces p o)
-  named_interface None is stands = tt
-  named_interface (Some c) is stands = (platform_interface c stands ∙ is, tt)
-
-  interface_is : (c : PlatformClass) → IfThere (λ d. is_interface d ≡ true) (interface_of c)
-  unfolding interface_of is_interface
-  interface_is OwnerPin = refl
-  interface_is _ = tt
+  -- the interfaces that a class of the platform lists are such
+  named_interfaces : (cs : List PlatformClass) → list_all is_listed cs ≡ true → AreInterfaces p (platform_interfaces p cs)
+  named_interfaces [] listed = tt
+  named_interfaces (c ∷ cs) listed =
+      let parts = and_parts (is_listed c) (list_all is_listed cs) listed in
+      let own = and_parts (is_needed_class c) (is_interface c) parts.0 in
+      (platform_interface c (names.needed_classes c own.0) ∙ own.1, named_interfaces cs parts.1)
 
 -- ---- all classes
 
@@ -208,7 +164,7 @@ module _ (p : Packages) (few : length p.loaded ≤ 32) (names : TellNames p.plat
   listed_by : (w : ℕ) (o : Option ClassValue) → class_in p w ≡ o → (other : Option PlatformClass) → AreInterfaces p (interfaces_by p o other)
   listed_by w (Some c) is other = (good w c is).interfaces
   listed_by w None is None = tt
-  listed_by w None is (Some d) = named_interface p few names bytes (interface_of d) (interface_is p few names bytes d) (interface_stands p few names bytes d)
+  listed_by w None is (Some d) = named_interfaces p few names bytes (interfaces_of d) (interfaces_are d)
 
   pub listed : (w : ℕ) → AreInterfaces p (interfaces_in p w)
   unfolding interfaces_in

@@ -1,5 +1,5 @@
 -- A table without the line `extended` has no name but those that each table has.
-use Rattle.std.proofs.Common.{◌≡◌, ◌+◌, ◌==◌, ◌&&◌, ◌||◌, not, ℕ, Bool, true, false, List, [], ◌∷◌, ◌++◌, Option, Some, None, Ok, refl, ap, sym, subst, ◌∙◌}
+use Rattle.std.proofs.Common.{◌≡◌, ◌+◌, ◌==◌, ◌&&◌, ◌||◌, not, ℕ, Bool, true, false, List, [], ◌∷◌, ◌++◌, Option, Some, None, refl, ap, sym, subst, ◌∙◌}
 use Rattle.std.proofs.Common.{inl, inr, if◌then◌else◌, reverse, take, drop}
 use Rattle.std.specs.Prelude.{codes, find, is_some, nat_le, position}
 use Rattle.std.specs.List.{list_all}
@@ -11,6 +11,7 @@ use Rattle.jc_platform.specs.declared.names.PlatformClass.{PlatformClass}
 use Rattle.jc_platform.specs.declared.names.PlatformMethod.{PlatformMethod}
 use Rattle.jc_platform.specs.Distinct.{is_needed_class, is_needed_method}
 use Rattle.jc_platform.specs.Names.{ClassEntry, MethodEntry, classes, methods, packages}
+use Rattle.jc_platform.specs.Names.{objects_rows, exceptions_rows, utilities_rows, system_rows, aids_rows, pins_rows, applets_rows, apdus_rows, events_rows}
 use Rattle.jc_platform.specs.Numbers.{class_number, method_number, same_class, same_kind, same_method, same_package}
 use Rattle.jc_platform.specs.Rows.{Above, above, allows, class_row, has_class_token, has_method_token, has_needed_packages, is_package}
 use Rattle.jc_platform.specs.Rows.{kind_of, largest_token, may_be_class, may_be_extended, may_be_method, may_be_package, method_named, method_row}
@@ -45,7 +46,7 @@ unfolding classes
 class_entries = refl
 
 method_entries : list_all (λ e. not e.needed || is_needed_method e.method) methods ≡ true
-unfolding methods
+unfolding objects_rows exceptions_rows utilities_rows system_rows aids_rows pins_rows applets_rows apdus_rows events_rows
 method_entries = refl
 
 -- where only that may stand which each table has, another has no token

@@ -27,7 +27,7 @@ use Rattle.jc_linker.specs.Methods.{by_offset, if_native, in_table, lookup_class
 use Rattle.jc_linker.specs.Resolves.{class_named as named_class, class_with_token, export_of, foreign_method, static_method_by}
 use Rattle.jc_linker.specs.Values.{ClassValue, Export, MethodTable, Packages}
 use Rattle.jc_linker.specs.Values.{LinkerComponents}
-use Rattle.jc_card_checks.specs.Objects.{is_a}
+use Rattle.jc_linker.specs.Classes.{is_a}
 use Rattle.law_linking.specs.Linked.{AreLinked}
 use Rattle.law_linking.proofs.Entered.{entered}
 use Rattle.law_linking.proofs.Fields.{any_field, any_super, mapped_there, of_entry, some_there}

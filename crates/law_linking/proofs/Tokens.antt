@@ -8,19 +8,17 @@ use Rattle.std.proofs.lemmas.Option.{none-some, option_and_then_some, same_Some}
 use Rattle.jc_platform.specs.declared.names.PlatformPackage.{PlatformPackage}
 use Rattle.jc_platform.specs.declared.names.PlatformPackage.TheVariants.{JavaLang, JavacardFramework, JavacardxApdu}
 use Rattle.jc_platform.specs.declared.names.PlatformClass.{PlatformClass}
-use Rattle.jc_platform.specs.declared.names.PlatformClass.TheVariants.{AppletEvent, ExtendedLength, Iso7816, MultiSelectable, Object, OwnerPin, Pin, Shareable}
 use Rattle.jc_platform.specs.declared.names.MethodKind.{MethodKind}
 use Rattle.jc_platform.specs.declared.names.PlatformMethod.{PlatformMethod}
-use Rattle.jc_platform.specs.Distinct.{class_of, class_word, home_of, is_needed_class, kind_of_method}
-use Rattle.jc_platform.specs.Hierarchy.{interface_of, is_interface, superclass_of}
+use Rattle.jc_platform.specs.Distinct.{class_of, class_word, home_of, kind_of_method}
 use Rattle.jc_platform.specs.Names.{ClassEntry, MethodEntry, classes, methods}
 use Rattle.jc_platform.specs.Numbers.{class_number, kind_number, package_number, same_class, same_kind, same_package}
 use Rattle.jc_platform.specs.Platform.{TellNames, class_by_token, class_by_word, method_by_token, package_by_number}
 use Rattle.jc_platform.specs.Tokens.{Tokens, class_token, number_in, token_of_class, token_of_method}
 use Rattle.jc_platform.specs.Rows.{is_token}
 use Rattle.law_linking.specs.Given.{HasByteTokens}
-use Rattle.law_linking.proofs.Lists.{IfThere}
-use Rattle.jc_platform.proofs.Distinct.{class_by_number, found_has, homes, method_homes}
+use Rattle.jc_platform.proofs.Distinct.{class_by_number, found_has}
+use Rattle.jc_platform.proofs.Facts.{homes, method_homes}
 
 -- ---- a class by its word
 
@@ -39,39 +37,6 @@ word_told t told bytes c stands =
     ap (λ w. option_and_then (λ home. class_by_token t home (class_word t c % 256)) (package_by_number t w)) parts.0
     ∙ ap (option_and_then (λ home. class_by_token t home (class_word t c % 256))) (told.packages (home_of c))
     ∙ ap (class_by_token t (home_of c)) (parts.1 ∙ own) ∙ told.classes c stands.0 stands.1
-
--- a class that is no interface is one that each table has, and so are superclasses, listed interfaces and what java.lang has
-pub class_needed : (c : PlatformClass) → is_interface c ≡ false → is_needed_class c ≡ true
-unfolding classes is_interface
-class_needed Iso7816 class = absurd (false≢true (sym class))
-class_needed MultiSelectable class = absurd (false≢true (sym class))
-class_needed AppletEvent class = absurd (false≢true (sym class))
-class_needed ExtendedLength class = absurd (false≢true (sym class))
-class_needed _ class = refl
-
-pub superclass_needed : (c : PlatformClass) → IfThere (λ d. is_needed_class d ≡ true) (superclass_of c)
-unfolding classes superclass_of
-superclass_needed Object = tt
-superclass_needed Shareable = tt
-superclass_needed Pin = tt
-superclass_needed Iso7816 = tt
-superclass_needed MultiSelectable = tt
-superclass_needed AppletEvent = tt
-superclass_needed ExtendedLength = tt
-superclass_needed _ = refl
-
-pub interface_needed : (c : PlatformClass) → IfThere (λ d. is_needed_class d ≡ true) (interface_of c)
-unfolding classes interface_of
-interface_needed OwnerPin = refl
-interface_needed _ = tt
-
-pub language_needed : (c : PlatformClass) → home_of c ≡ JavaLang → is_needed_class c ≡ true
-unfolding classes
-language_needed Iso7816 home = absurd (omega (arith, ap package_number home))
-language_needed MultiSelectable home = absurd (omega (arith, ap package_number home))
-language_needed AppletEvent home = absurd (omega (arith, ap package_number home))
-language_needed ExtendedLength home = absurd (omega (arith, ap package_number home))
-language_needed _ home = refl
 
 -- ---- the word of a class that a word names
 

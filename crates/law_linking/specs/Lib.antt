@@ -1,3 +1,6 @@
+pub mod Classes
+pub mod Methods
+pub mod Platform
 pub mod Linked
 pub mod Staying
 pub mod Resolving

@@ -6,8 +6,8 @@ use Rattle.jc_linker.specs.Values.{Packages}
 use Rattle.jc_linker.specs.Values.{LinkerComponents}
 use Rattle.law_linking.specs.Linked.{AreLinked}
 use Rattle.law_linking.specs.Given.{AreRead, HasByteTokens}
-use Rattle.law_soundness.specs.Methods.{KnowsMethods}
-use Rattle.law_soundness.specs.Platform.{KeepsPlatform}
+use Rattle.law_linking.specs.Methods.{KnowsMethods}
+use Rattle.law_linking.specs.Platform.{KeepsPlatform}
 
 -- they know their methods: what calls find of the platform is a method of the receiver's class
 abbrev pub HaveMethods : Type 0

@@ -30,19 +30,22 @@ use Rattle.jc_linker.specs.Resolves.{names_interface}
 use Rattle.jc_linker.specs.Values.{Packages}
 use Rattle.jc_platform.specs.declared.names.PlatformClass.TheVariants.{Aid, Applet, OwnerPin}
 use Rattle.jc_platform.specs.Distinct.{class_word}
-use Rattle.jc_platform.specs.Hierarchy.{holds_reference, is_interface}
+use Rattle.jc_platform.specs.Hierarchy.{is_interface}
 use Rattle.jc_platform.specs.Hierarchy as platform
-use Rattle.jc_card_checks.specs.Objects.{is_a, is_instance, is_object_address}
+use Rattle.jc_platform.specs.Names.{classes}
+use Rattle.jc_card_checks.specs.Objects.{is_instance, is_object_address}
+use Rattle.jc_linker.specs.Classes.{is_a}
 use Rattle.jc_card_checks.specs.Sound.{aid_in, aid_of_entry, entry_word, holds_aid}
 use Rattle.jc_world.specs.declared.arrays.Stretch.{Stretch}
 use Rattle.jc_world.specs.declared.native_result.NativeResult.{NativeResult}
 use Rattle.jc_world.specs.declared.native_result.NativeResult.TheVariants.{ReturnVoid}
 use Rattle.jc_world.specs.Arrays.{bytes_in}
 use Rattle.jc_world.proofs.Below.{below_itself}
-use Rattle.jc_api_runtime.specs.AidCells.{cells_of_aid, is_aid_length}
-use Rattle.jc_api_runtime.specs.Applet.{install_aid}
-use Rattle.jc_api_runtime.specs.Register.{is_owned, next_number, open_installation, with_installation}
-use Rattle.law_soundness.specs.Classes.{HasAids, KnowsClasses}
+use Rattle.jc_api_framework.specs.Aid.Cells.{cells_of_aid, is_aid_length}
+use Rattle.jc_api_framework.specs.Applet.{install_aid}
+use Rattle.jc_api_framework.specs.Applet.Register.{is_owned, next_number, open_installation, with_installation}
+use Rattle.law_linking.proofs.Facts.{numbers_before}
+use Rattle.law_linking.specs.Classes.{HasAids, KnowsClasses}
 use Rattle.law_soundness.specs.Fit.{AreCellsOf, FitsNew, FitsObject, FitsRun, FitsTurn, IsFit, KeepsSound, OfRegistry, RegistersApplet}
 use Rattle.law_soundness.specs.State.{IsSoundMemory, IsSteady, is_home, is_open, is_owner_up_to}
 use Rattle.law_isolation.proofs.Arguments.{length_bytes}
@@ -91,7 +94,7 @@ module _ (keeps : KeepsSound) (p : Packages) (m : MemoryState) (known : KnowsCla
   with_cells aid r = set_cells with_object r 0 (cells_of_aid aid)
 
   made_fits : FitsNew p m Instance aid_class 0 9
-  unfolding platform.cells_of is_interface
+  unfolding platform.cells_of is_interface classes
   made_fits =
       let one = and_parts (is_class p aid_class) _ (known.platform.own Aid refl) in
       let two = and_parts (not (names_interface p aid_class)) _ one.1 in
@@ -104,12 +107,12 @@ module _ (keeps : KeepsSound) (p : Packages) (m : MemoryState) (known : KnowsCla
       }
 
   no_pin : is_a p aid_class OwnerPin ≡ false
-  unfolding is_interface
+  unfolding is_interface classes
   no_pin = false_from_ne_true (is_a p aid_class OwnerPin) (aid_no_pin p known aid_class (known.platform.own Aid refl) (below_itself p aid_class))
 
   numbers : (k : ℕ) → k < 9 → reference_cell p aid_class k ≡ false
-  unfolding platform.cells_of holds_reference is_interface
-  numbers k lt = known.platform.kinds aid_class k Aid (known.platform.own Aid refl) refl (below_itself p aid_class) lt
+  unfolding platform.cells_of is_interface classes
+  numbers k lt = known.platform.kinds aid_class k Aid (known.platform.own Aid refl) refl (below_itself p aid_class) lt ∙ numbers_before Aid 9 refl k lt
 
   module _ (r : ℕ) (new : IsNew m.heap.now r) where
     free : is_allocated m.heap.now m.heap.now.top ≡ false

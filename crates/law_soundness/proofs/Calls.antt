@@ -21,11 +21,11 @@ use Rattle.law_soundness.specs.Fit.{IsFit}
 use Rattle.law_soundness.specs.State.{IsSoundMemory, is_owner_up_to, most_owner}
 use Rattle.law_soundness.specs.Natives.{IsReceiver}
 use Rattle.law_soundness.proofs.Natives.{natives_are_fit}
-use Rattle.law_soundness.specs.Methods.{KnowsMethods}
+use Rattle.law_linking.specs.Methods.{KnowsMethods}
 use Rattle.law_soundness.specs.Steps.{AsksFit, CallsFit, IsSoundInvoke, callee_of}
 use Rattle.law_soundness.proofs.Arguments.{receiver_first}
 use Rattle.law_soundness.proofs.Living.{arguments_living}
-use Rattle.law_soundness.proofs.Minding.{aid_minds}
+use Rattle.law_soundness.proofs.Receivers.{aid_minds}
 use Rattle.law_soundness.proofs.Owners.{turn_known}
 use Rattle.law_soundness.proofs.Receivers.{IsFitCall, chosen_fit}
 

@@ -23,7 +23,8 @@ use Rattle.jc_memory.specs.State.{MemoryState, HeapMove, SetRegisters, ClearTran
 use Rattle.jc_memory.specs.Programs.{Program, Finish}
 use Rattle.jc_linker.specs.Lookups.{applet_entry, entry_with_aid}
 use Rattle.jc_linker.specs.Values.{Packages}
-use Rattle.jc_platform.specs.declared.names.PlatformMethod.TheVariants.{AppletDeselect, AppletProcess, AppletSelect}
+use Rattle.jc_platform.specs.declared.names.PlatformMethod.TheVariants.{Applets}
+use Rattle.jc_platform.specs.declared.names.AppletsMethod.TheVariants.{AppletDeselect, AppletProcess, AppletSelect}
 use Rattle.jc_interp.specs.Running.{bare_frames, no_package, run_ad_hoc}
 use Rattle.jc_memory.specs.Reading.{AllDue}
 use Rattle.jc_memory.proofs.ProgramLemmas.{each_more}
@@ -162,9 +163,9 @@ module _ (runs : RunsAreSound) (p : Packages) (known : AreKnown p) where
   unfolding applet_left
   applet_left_good budget None m n x there = good_then p _ (ClearTransient Deselect) (Finish budget) n tt (good_gives p _ budget _ (cleared m n x))
   applet_left_good budget (Some a) m n x there =
-      good_bind p _ _ (applet_method_call budget p AppletDeselect (instance_of n a.0) (Reference (instance_of n a.0) ∷ []) (Applet a) n) n
-      (good_more p _ _ (applet_method_call budget p AppletDeselect (instance_of n a.0) (Reference (instance_of n a.0) ∷ []) (Applet a) n) n
-      (called_good runs p known budget AppletDeselect (instance_of n a.0) (Reference (instance_of n a.0) ∷ []) (Applet a) n (own_living n a x.behind.stands.sound)
+      good_bind p _ _ (applet_method_call budget p (Applets AppletDeselect) (instance_of n a.0) (Reference (instance_of n a.0) ∷ []) (Applet a) n) n
+      (good_more p _ _ (applet_method_call budget p (Applets AppletDeselect) (instance_of n a.0) (Reference (instance_of n a.0) ∷ []) (Applet a) n) n
+      (called_good runs p known budget (Applets AppletDeselect) (instance_of n a.0) (Reference (instance_of n a.0) ∷ []) (Applet a) n (own_living n a x.behind.stands.sound)
       (runs_behind m n a x.behind (there a refl)))
       (λ end v ran. good_bind p _ _ (close v) v (good_more p _ _ (close v) v (closed_behind m v (goes_on m n v x.behind ran.behind)) (λ u w shut.
       good_then p _ (ClearTransient Deselect) (Finish end.0) w tt (good_gives p _ end.0 _ (cleared m w shut))))))
@@ -189,13 +190,13 @@ module _ (runs : RunsAreSound) (p : Packages) (known : AreKnown p) where
       good_then p _ (SetRegisters (with_command expected selecting n.registers)) _ n (inl fits) (good_bind p _ _ (buffer_fill v (header_of v.command)) v
       (good_more p _ _ (buffer_fill v (header_of v.command)) v (filled_good p v first.stands.sound first.stands.environment (header_of v.command) (header_fits v.command)) (λ u w full.
       let second = goes_on m v w first full.behind in
-      good_bind p _ _ (applet_method_call budget p AppletProcess (instance_of w a.0) (Reference (instance_of w a.0) ∷ Reference (apdu_object w) ∷ [])
+      good_bind p _ _ (applet_method_call budget p (Applets AppletProcess) (instance_of w a.0) (Reference (instance_of w a.0) ∷ Reference (apdu_object w) ∷ [])
       (Applet a) w) w
-      (good_more p _ _ (applet_method_call budget p AppletProcess (instance_of w a.0) (Reference (instance_of w a.0) ∷ Reference (apdu_object w) ∷ [])
+      (good_more p _ _ (applet_method_call budget p (Applets AppletProcess) (instance_of w a.0) (Reference (instance_of w a.0) ∷ Reference (apdu_object w) ∷ [])
       (Applet a) w) w
-      (called_good runs p known budget AppletProcess (instance_of w a.0) (Reference (instance_of w a.0) ∷ Reference (apdu_object w) ∷ []) (Applet a) w
+      (called_good runs p known budget (Applets AppletProcess) (instance_of w a.0) (Reference (instance_of w a.0) ∷ Reference (apdu_object w) ∷ []) (Applet a) w
       (more_living w.heap.now (Reference (instance_of w a.0)) (Reference (apdu_object w) ∷ []) (instance_refers p w second.stands.sound a.0) (more_living w.heap.now (Reference (apdu_object w)) []
-      (inr ((second.stands).environment.now.there 15 (omega arith))) (none_living w.heap.now))) (runs_behind m w a second there))
+      (inr ((second.stands).environment.now.there 15 (omega (arith, (second.stands).environment.now.long)))) (none_living w.heap.now))) (runs_behind m w a second there))
       (λ end x ran. good_bind p _ _ (close x) x (good_more p _ _ (close x) x (closed_behind m x (goes_on m w x second ran.behind))
       (λ u2 y shut. good_gives p _ _ y (ready m y shut.behind shut.shut))))))))
 
@@ -233,9 +234,9 @@ module _ (runs : RunsAreSound) (p : Packages) (known : AreKnown p) where
       let second = goes_on m v w gone.behind (behind_one p v (SetRegisters (with_selected (Some a) v.registers)) fits gone.behind.stands.sound
       gone.behind.stands.environment) in
       good_then p _ (SetRegisters (with_selected (Some a) v.registers)) _ v (inl fits)
-      (good_bind p _ _ (applet_method_call rest p AppletSelect (instance_of w a.0) (Reference (instance_of w a.0) ∷ []) (Applet a) w) w
-      (good_more p _ _ (applet_method_call rest p AppletSelect (instance_of w a.0) (Reference (instance_of w a.0) ∷ []) (Applet a) w) w
-      (called_good runs p known rest AppletSelect (instance_of w a.0) (Reference (instance_of w a.0) ∷ []) (Applet a) w
+      (good_bind p _ _ (applet_method_call rest p (Applets AppletSelect) (instance_of w a.0) (Reference (instance_of w a.0) ∷ []) (Applet a) w) w
+      (good_more p _ _ (applet_method_call rest p (Applets AppletSelect) (instance_of w a.0) (Reference (instance_of w a.0) ∷ []) (Applet a) w) w
+      (called_good runs p known rest (Applets AppletSelect) (instance_of w a.0) (Reference (instance_of w a.0) ∷ []) (Applet a) w
       (own_living w a second.stands.sound) (runs_behind m w a second there))
       (λ end x ran. good_bind p _ _ (close x) x (good_more p _ _ (close x) x (closed_behind m x (goes_on m w x second ran.behind))
       (λ u y shut. accepted_behind (is_select_accepted end.1) end.0 a expected m y shut there)))))))
@@ -321,7 +322,7 @@ module _ (runs : RunsAreSound) (p : Packages) (known : AreKnown p) where
         (good_more p _ _ (method_run budget p q.0 offset (Reference (apdu_buffer x) ∷ Short (pos 0) ∷ Short (pos (length parameters)) ∷ [])
         (Applet (next_applet m)) x) x
         (run_for_good runs p known budget q.0 offset (Reference (apdu_buffer x) ∷ Short (pos 0) ∷ Short (pos (length parameters)) ∷ [])
-        (Applet (next_applet m)) x (more_living x.heap.now (Reference (apdu_buffer x)) (Short (pos 0) ∷ Short (pos (length parameters)) ∷ []) (inr ((full.behind).environment.now.there 16 (omega arith)))
+        (Applet (next_applet m)) x (more_living x.heap.now (Reference (apdu_buffer x)) (Short (pos 0) ∷ Short (pos (length parameters)) ∷ []) (inr ((full.behind).environment.now.there 16 (omega (arith, (full.behind).environment.now.long))))
         (more_living x.heap.now (Short (pos 0)) (Short (pos (length parameters)) ∷ []) tt (more_living x.heap.now (Short (pos (length parameters))) [] tt (none_living x.heap.now)))) (next_runs x full))
         (λ end y ran. good_bind p _ _ (close y) y (good_more p _ _ (close y) y (closed_good p y ran.behind.sound ran.behind.environment) (λ u2 z shut.
         let t = apply_effect (ClearTransient Deselect) z in

@@ -6,19 +6,19 @@ use Rattle.std.proofs.lemmas.Bool.{and_parts, cases_Bool, cases_lt, leb-true, fa
 use Rattle.jc_transient.specs.declared.cell.ClearEvent.{ClearEvent}
 use Rattle.jc_heap.specs.declared.object.Facts.{Facts}
 use Rattle.jc_heap.specs.declared.object.Kind.{Kind}
-use Rattle.jc_heap.specs.declared.object.Kind.TheVariants.{ReferenceArray}
+use Rattle.jc_heap.specs.declared.object.Kind.TheVariants.{ByteArray, ReferenceArray}
 use Rattle.jc_heap.specs.declared.place.Place.{Place}
 use Rattle.jc_heap.specs.declared.place.Place.TheVariants.{Cell, Static, Registry, AppletCount}
 use Rattle.jc_heap.specs.Object.{facts_of, header_only, is_object, new_object, object_size, transient_size}
 use Rattle.jc_heap.specs.Heap.{HeapState, LacksCells, add_object, add_transient, cells, facts, goes_back, heap_item_at, is_allocated, set_cell, set_cells}
 use Rattle.jc_heap.specs.Keeping.{AreLegalValues, IsLegalValue}
 use Rattle.jc_heap.specs.Moves.{Move, Write, SetPlaces, WriteNonAtomic, SetCells, AddObject, AddTransient, AddPackage, Begin, Commit, Abort, new_move}
-use Rattle.jc_heap.specs.Places.{applet_changes, place_word, set_places, cell_changes}
+use Rattle.jc_heap.specs.Places.{applet_changes, place_at, set_places, cell_changes}
 use Rattle.jc_heap.specs.Statics.{set_word}
 use Rattle.jc_heap.specs.Whole.{IsReference}
 use Rattle.jc_heap.proofs.KeepingMoves.{keeps}
 use Rattle.jc_heap.proofs.KeptWords.{outside_none_goes_back}
-use Rattle.jc_heap.proofs.Laws.{header_only-set_cell, facts-set_cell, heap_item_at-absent, set_cell-absent}
+use Rattle.jc_heap.proofs.Laws.{header_only-set_cell, facts-set_cell, heap_item_at-absent, same_facts, set_cell-absent}
 use Rattle.jc_heap.proofs.RecordWords.{header_only-set_word}
 use Rattle.jc_memory.specs.Cells.{word_at, word_in}
 use Rattle.jc_memory.specs.Owners.{owner_number}
@@ -66,74 +66,100 @@ bytes_suit h (b ∷ bytes) array i cs kind may =
     let is : is_bytes (facts h array).kind ≡ true = kind (λ e. let n : suc (length bytes) ≡ 0 = ap length e in omega (arith, n)) in
     (λ e. absurd (false≢true (sym (ap is_bytes e) ∙ is)), bytes_suit h bytes array (suc i) cs (λ _. is) may)
 
--- ---- a try is counted, or all are given back
+-- ---- a cell is set for good
 
-module _ (p : Packages) (m : MemoryState) (s : IsSoundMemory p m) (r v : ℕ) (pin : PinAt p m.heap.now r) where
+module _ (p : Packages) (m : MemoryState) (s : IsSoundMemory p m) (r i v : ℕ) (number : (facts m.heap.now r).kind ≡ ReferenceArray → ⊥)
+    (now_kept : (most : ℕ) → IsSoundUpTo most p m.heap.now (last_own m) → IsSoundUpTo most p (set_cell m.heap.now r i v) (last_own m))
+    (low_kept : r < m.heap.durable.top → (most : ℕ) → IsSoundUpTo most p m.heap.durable (last_own m)
+    → IsSoundUpTo most p (set_cell m.heap.durable r i v) (last_own m)) where
   abbrev own : ℕ
   own = last_own m
 
   abbrev touched : Bool
-  touched = goes_back m.heap (place_word (Cell r 2))
+  touched = goes_back m.heap (place_at m.heap.now (Cell r i))
 
-  abbrev counted_durable : HeapState
-  counted_durable = set_cell m.heap.durable r 2 v
+  abbrev set_durable : HeapState
+  set_durable = set_cell m.heap.durable r i v
 
   abbrev left : HeapState
-  left = if touched then m.heap.durable else counted_durable
+  left = if touched then m.heap.durable else set_durable
 
-  low_pin : r < m.heap.durable.top → PinAt p m.heap.durable r
-  low_pin low = pin_still p m.heap.now m.heap.durable r (sym (s.whole.shape.items r low)) pin
-
-  durable_suits : IsLegalValue m.heap.durable (Cell r 2) v
+  durable_suits : IsLegalValue m.heap.durable (Cell r i) v
   durable_suits kind = elim (cases_lt r m.heap.durable.top) [
-    | inl low ↦ absurd (no_array (facts m.heap.durable r) (low_pin low).kept kind)
+    | inl low ↦ absurd (number (ap (λ (f : Facts). f.kind)
+        (same_facts (heap_item_at m.heap.now r) (heap_item_at m.heap.durable r) (s.whole.shape.items r low)) ∙ kind))
     | inr high ↦
         let item : heap_item_at m.heap.durable r ≡ _ = heap_item_at-absent m.heap.durable r (s.whole.durable.end r high) in
         absurd (false≢true (sym (ap is_instance kind) ∙ ap (λ t. is_instance (facts_of t).kind) item))
   ]
 
-  durable_kept : IsSoundUpTo m.heap.durable.counts.1 p counted_durable own
+  durable_kept : IsSoundUpTo m.heap.durable.counts.1 p set_durable own
   durable_kept = elim (cases_lt r m.heap.durable.top) [
-    | inl low ↦ counter_kept r m.heap.durable.counts.1 own p m.heap.durable v (low_pin low) s.durable
-    | inr high ↦ subst (λ h. IsSoundUpTo m.heap.durable.counts.1 p h own) (sym (set_cell-absent m.heap.durable r 2 v (s.whole.durable.end r high))) s.durable
+    | inl low ↦ low_kept low m.heap.durable.counts.1 s.durable
+    | inr high ↦ subst (λ h. IsSoundUpTo m.heap.durable.counts.1 p h own) (sym (set_cell-absent m.heap.durable r i v (s.whole.durable.end r high))) s.durable
   ]
 
   untouched : m.heap.begun ≡ false → touched ≡ false
-  untouched off = outside_none_goes_back m.heap (place_word (Cell r 2)) off
+  untouched off = outside_none_goes_back m.heap (place_at m.heap.now (Cell r i)) off
 
   durable_frames : Frames m.heap.durable left
-  durable_frames = choose (Frames m.heap.durable) touched m.heap.durable counted_durable
+  durable_frames = choose (Frames m.heap.durable) touched m.heap.durable set_durable
       (λ on. record { packages = refl; counts = refl; registry = refl; top = omega arith; headers = λ q low. refl; objects = λ q low. refl })
-      (λ off. cell_frames m.heap.durable r 2 v)
+      (λ off. cell_frames m.heap.durable r i v)
 
-  count_kept : IsSoundMemory p (apply_effect (HeapMove (WriteNonAtomic (Cell r 2) v)) m)
-  count_kept =
-      let f : Frames m.heap.now (set_cell m.heap.now r 2 v) = cell_frames m.heap.now r 2 v in
+  set_kept : IsSoundMemory p (apply_effect (HeapMove (WriteNonAtomic (Cell r i) v)) m)
+  set_kept =
+      let f : Frames m.heap.now (set_cell m.heap.now r i v) = cell_frames m.heap.now r i v in
       let d : Frames m.heap.durable left = durable_frames in
-      let same : most_owner (apply_effect (HeapMove (WriteNonAtomic (Cell r 2) v)) m) ≡ most_owner m =
+      let same : most_owner (apply_effect (HeapMove (WriteNonAtomic (Cell r i) v)) m) ≡ most_owner m =
       λ t. if is_open m.registers.installation then (d.counts t).1 + 1 else (f.counts t).1 in
       record {
-        whole = keeps (WriteNonAtomic (Cell r 2) v) m.heap (λ kind. absurd (no_array (facts m.heap.now r) pin.kept kind), durable_suits) s.whole;
+        whole = keeps (WriteNonAtomic (Cell r i) v) m.heap (λ kind. absurd (number kind), durable_suits) s.whole;
         registry = f.registry ∙ s.registry;
         registry_kept = d.registry ∙ s.registry_kept;
-        now = subst (λ n. IsSoundUpTo n p (set_cell m.heap.now r 2 v) own) (sym same) (counter_kept r (most_owner m) own p m.heap.now v pin s.now);
-        durable = choose (λ h. IsSoundUpTo h.counts.1 p h own) touched m.heap.durable counted_durable (λ on. s.durable)
-            (λ off. subst (λ n. IsSoundUpTo n p counted_durable own) (ap (λ c. c.1) (sym (cell_frames m.heap.durable r 2 v).counts)) durable_kept);
-        settled = λ off. ap (λ h. set_cell h r 2 v) (s.settled off) ∙ sym (ap (λ b. if b then m.heap.durable else counted_durable) (untouched off));
+        now = subst (λ n. IsSoundUpTo n p (set_cell m.heap.now r i v) own) (sym same) (now_kept (most_owner m) s.now);
+        durable = choose (λ h. IsSoundUpTo h.counts.1 p h own) touched m.heap.durable set_durable (λ on. s.durable)
+            (λ off. subst (λ n. IsSoundUpTo n p set_durable own) (ap (λ c. c.1) (sym (cell_frames m.heap.durable r i v).counts)) durable_kept);
+        settled = λ off. ap (λ h. set_cell h r i v) (s.settled off) ∙ sym (ap (λ b. if b then m.heap.durable else set_durable) (untouched off));
         packages = f.packages ∙ s.packages ∙ sym d.packages;
         loaded = ap length f.packages ∙ s.loaded;
         counts = λ closed. f.counts ∙ s.counts closed ∙ sym d.counts;
-        active = owner_same _ m.heap.now (set_cell m.heap.now r 2 v) (owner_number m.registers.active) f.packages
+        active = owner_same _ m.heap.now (set_cell m.heap.now r i v) (owner_number m.registers.active) f.packages
             ∙ ap (λ n. is_owner_up_to n m.heap.now (owner_number m.registers.active)) same ∙ s.active;
         behind = let low = s.behind in let more = d.top in omega (arith, low, more);
-        own = λ q low there. ap is_persistent_instance (facts-set_cell m.heap.now r 2 v q)
-            ∙ s.own q low (sym (same_object (heap_item_at (set_cell m.heap.now r 2 v) q) (heap_item_at m.heap.now q) (header_only-set_cell m.heap.now r 2 v q))
+        own = λ q low there. ap is_persistent_instance (facts-set_cell m.heap.now r i v q)
+            ∙ s.own q low (sym (same_object (heap_item_at (set_cell m.heap.now r i v) q) (heap_item_at m.heap.now q) (header_only-set_cell m.heap.now r i v q))
             ∙ there);
-        home = home_same m.heap.now (set_cell m.heap.now r 2 v) m.registers.installation f.packages ∙ s.home;
+        home = home_same m.heap.now (set_cell m.heap.now r i v) m.registers.installation f.packages ∙ s.home;
         selected = λ a e. applet_same m.heap.durable left a d.counts ∙ s.selected a e;
         command = s.command;
-        transients = same_carried m.heap.now (set_cell m.heap.now r 2 v) m.ram (header_only-set_cell m.heap.now r 2 v) s.transients;
+        transients = same_carried m.heap.now (set_cell m.heap.now r i v) m.ram (header_only-set_cell m.heap.now r i v) s.transients;
       }
+
+-- a try is counted, or all are given back
+count_kept : (p : Packages) (m : MemoryState) → IsSoundMemory p m → (r v : ℕ) → PinAt p m.heap.now r
+    → IsSoundMemory p (apply_effect (HeapMove (WriteNonAtomic (Cell r 2) v)) m)
+count_kept p m s r v pin =
+    set_kept p m s r 2 v (no_array (facts m.heap.now r) pin.kept) (λ most. counter_kept r most (last_own m) p m.heap.now v pin)
+    (λ low most. counter_kept r most (last_own m) p m.heap.durable v (pin_still p m.heap.now m.heap.durable r (sym (s.whole.shape.items r low)) pin))
+
+-- an element of an array of bytes is set
+byte_no_array : (kind : Kind) → kind ≡ ByteArray → kind ≡ ReferenceArray → ⊥
+byte_no_array kind bytes references = cc
+
+byte_no_instance : (f : Facts) → f.kind ≡ ByteArray → is_persistent_instance f ≡ true → ⊥
+byte_no_instance f bytes kept = false≢true (sym (ap is_instance bytes) ∙ (and_parts (is_instance f.kind) _ kept).0)
+
+byte_kept : (p : Packages) (m : MemoryState) → IsSoundMemory p m → (r i v : ℕ) → (facts m.heap.now r).kind ≡ ByteArray
+    → IsSoundMemory p (apply_effect (HeapMove (WriteNonAtomic (Cell r i) v)) m)
+byte_kept p m s r i v bytes = set_kept p m s r i v (byte_no_array (facts m.heap.now r).kind bytes) (kept m.heap.now bytes)
+    (λ low. kept m.heap.durable (ap (λ (f : Facts). f.kind)
+    (sym (same_facts (heap_item_at m.heap.now r) (heap_item_at m.heap.durable r) (s.whole.shape.items r low))) ∙ bytes))
+  where
+    kept : (h : HeapState) → (facts h r).kind ≡ ByteArray → (most : ℕ) → IsSoundUpTo most p h (last_own m)
+        → IsSoundUpTo most p (set_cell h r i v) (last_own m)
+    kept h is most sound = of_all most (last_own m) p h (set_cell h r i v)
+        (value_kept (last_own m) most (last_own m) p h r i v (λ kept. absurd (byte_no_instance (facts h r) is kept))) sound
 
 -- ---- an applet is registered
 
@@ -325,8 +351,10 @@ module _ (p : Packages) (m : MemoryState) (s : IsSoundMemory p m) where
   move_kept : (move : Move) → FitsMove p move m → IsSoundMemory p (apply_effect (HeapMove move) m)
   move_kept (Write place v) fits = place_kept place v fits
   move_kept (SetPlaces changes) fits = changes_kept changes fits
-  move_kept (WriteNonAtomic place v) fits = subst (λ c. IsSoundMemory p (apply_effect (HeapMove (WriteNonAtomic c v)) m)) (sym fits.1)
+  move_kept (WriteNonAtomic place v) (inl fits) = subst (λ c. IsSoundMemory p (apply_effect (HeapMove (WriteNonAtomic c v)) m)) (sym fits.1)
       (count_kept p m s fits.0 v (pin_at p m fits.0 fits.2))
+  move_kept (WriteNonAtomic place v) (inr fits) = subst (λ c. IsSoundMemory p (apply_effect (HeapMove (WriteNonAtomic c v)) m)) (sym fits.is)
+      (byte_kept p m s fits.array fits.index v fits.kind)
   move_kept (SetCells r i words) fits = run_set r i words fits.1
   move_kept (AddObject o size) fits = subst (λ move. IsSoundMemory p (apply_effect (HeapMove move) m)) (sym fits.is)
       (new_kept fits.kind fits.class fits.owner fits.long fits.fits)

@@ -2,12 +2,13 @@
 use Rattle.std.proofs.Common.{◌≡◌, ℕ, ◌<◌, Bool, true, false, inl, inr, List, sym, ◌∙◌, ap, subst, arith, if◌then◌else◌}
 use Rattle.std.proofs.lemmas.Bool.{cases_eq, false≢true}
 use Rattle.std.specs.Prelude.{slice_index}
+use Rattle.jc_environment.specs.Objects.{last_of}
 use Rattle.jc_transient.specs.declared.cell.ClearEvent.{ClearEvent}
 use Rattle.jc_heap.specs.declared.object.Kind.{Kind}
 use Rattle.jc_heap.specs.Object.{Object, facts_of, is_object, new_object, new_transient, object_size}
 use Rattle.jc_heap.specs.Heap.{HeapState, add_object, add_transient, area_end, facts, goes_back, heap_item_at, is_allocated}
 use Rattle.jc_heap.specs.Moves.{Move, Write, SetPlaces, WriteNonAtomic, SetCells, AddObject, AddTransient, AddPackage, Begin, Commit, Abort}
-use Rattle.jc_heap.specs.Places.{place_word, set_place}
+use Rattle.jc_heap.specs.Places.{place_at, set_place}
 use Rattle.jc_heap.proofs.Laws.{heap_item_at-add_object, heap_item_at-add_other, object_named, same_facts}
 use Rattle.jc_memory.specs.State.{MemoryState, Effect, HeapMove}
 use Rattle.jc_memory.specs.State.{apply_effect}
@@ -22,6 +23,7 @@ use Rattle.law_soundness.proofs.Memories.{choose}
 module _ (p : Packages) (fixed : List ℕ) where
   still : (h g : HeapState) → SameHeaders h g → AreEnvironmentObjects p h fixed → AreEnvironmentObjects p g fixed
   still h g same e = record {
+    long = e.long;
     there = λ k low. stands (slice_index fixed k) ∙ e.there k low;
     first = λ r low. ap (λ f. f.owner) (header r) ∙ e.first r low;
     classes = λ r there instance zero. subst (λ f. IsPlatformClass p f.class) (sym (header r))
@@ -35,10 +37,11 @@ module _ (p : Packages) (fixed : List ℕ) where
       stands r = same_object (heap_item_at g r) (heap_item_at h r) (same r)
 
   -- a new object
-  added : (h : HeapState) (o : Object) (n : ℕ) → is_allocated h h.top ≡ false → slice_index fixed 16 < h.top
+  added : (h : HeapState) (o : Object) (n : ℕ) → is_allocated h h.top ≡ false → last_of fixed < h.top
       → (is_instance o.facts.kind ≡ true → o.facts.owner ≡ 0 → IsPlatformClass p o.facts.class) → AreEnvironmentObjects p h fixed
       → AreEnvironmentObjects p (add_object h o n) fixed
   added h o n free behind class e = record {
+    long = e.long;
     there = λ k low. ap is_object (heap_item_at-add_other h o n (slice_index fixed k) (λ at. false≢true
         (sym free ∙ ap (is_allocated h) at ∙ object_named h (slice_index fixed k) (e.there k low)))) ∙ e.there k low;
     first = λ r low. ap (λ t. (facts_of t).owner) (heap_item_at-add_other h o n r (λ at. omega (arith, at, low, behind))) ∙ e.first r low;
@@ -94,7 +97,7 @@ module _ (p : Packages) (m : MemoryState) (s : IsSoundMemory p m) (e : HasEnviro
   }
   move_so (WriteNonAtomic place v) fits = record {
     now = still p m.fixed m.heap.now _ (place_headers m.heap.now place v) e.now;
-    durable = choose (λ k. AreEnvironmentObjects p k m.fixed) (goes_back m.heap (place_word place)) m.heap.durable (set_place m.heap.durable place v)
+    durable = choose (λ k. AreEnvironmentObjects p k m.fixed) (goes_back m.heap (place_at m.heap.now place)) m.heap.durable (set_place m.heap.durable place v)
         (λ on. e.durable) (λ off. still p m.fixed m.heap.durable _ (place_headers m.heap.durable place v) e.durable);
   }
   move_so (SetCells r i words) fits = record {

@@ -8,6 +8,7 @@ use Rattle.jc_memory.specs.State.{MemoryState}
 use Rattle.jc_memory.specs.Cells.{word_of}
 use Rattle.jc_platform.specs.declared.names.PlatformClass.TheVariants.{Aid, OwnerPin}
 use Rattle.jc_platform.specs.Hierarchy.{cells_of, is_interface}
+use Rattle.jc_platform.specs.Names.{classes}
 use Rattle.jc_linker.specs.Values.{Packages}
 use Rattle.jc_card_checks.specs.Objects.{is_instance, is_persistent_instance, is_reference}
 use Rattle.jc_world.specs.Values.{keepable}
@@ -16,7 +17,7 @@ use Rattle.jc_interp_objects.specs.FieldNames.{is_type_of_cell}
 use Rattle.law_isolation.proofs.Instructions.{fields_due}
 use Rattle.law_isolation.proofs.Passing.{FieldsPass}
 use Rattle.law_isolation.proofs.Reached.{IsCell, Names}
-use Rattle.law_soundness.specs.Classes.{KnowsClasses}
+use Rattle.law_linking.specs.Classes.{KnowsClasses}
 use Rattle.law_soundness.specs.Fit.{FitsCell, FitsValue, IsFit, OfStatics}
 use Rattle.law_soundness.specs.State.{IsSoundMemory}
 use Rattle.law_soundness.specs.Groups.{FieldsFit}
@@ -37,7 +38,7 @@ module _ (p : Packages) (m : MemoryState) (known : KnowsClasses p) (sound : IsSo
   module _ (number index : ℕ) (of_type : ValueType) (field : FieldOfClass) (r i : ℕ) (value v : CellValue) (named : Names p number index of_type field)
       (has : IsCell p m field r i) (is : HasType of_type value) (kept : keepable p m value ≡ Ok v) where
     fits_kept : is_persistent_instance (facts m.heap.now r) ≡ true → FitsCell p m.heap.now r field.cell (word_of v)
-    unfolding cells_of is_interface
+    unfolding cells_of is_interface classes
     fits_kept stays =
         let instances = kept_fits p m sound r has.there stays in
         record {

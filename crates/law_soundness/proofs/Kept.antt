@@ -11,7 +11,8 @@ use Rattle.jc_heap.specs.Heap.{HeapState, IsObject, cells, facts}
 use Rattle.jc_linker.specs.Classes.{reference_cell}
 use Rattle.jc_linker.specs.Lookups.{statics_at}
 use Rattle.jc_linker.specs.Values.{Packages}
-use Rattle.jc_card_checks.specs.Objects.{HoldsReferences, HoldsValues, fits_aid, fits_class, fits_pin, has_value, is_a, is_byte_array, is_instance}
+use Rattle.jc_card_checks.specs.Objects.{HoldsReferences, HoldsValues, fits_aid, fits_class, fits_pin, has_value, is_byte_array, is_instance}
+use Rattle.jc_linker.specs.Classes.{is_a}
 use Rattle.jc_card_checks.specs.Objects.{is_persistent_instance, is_reference, is_object_address}
 use Rattle.jc_card_checks.specs.Sound.{HasOwnAid, HoldsStatics, IsRegistered, aid_of_entry, aid_in, entry_word, holds_aid, package_record_at}
 use Rattle.law_soundness.specs.State.{IsFitObject, IsOwnAid, IsSoundUpTo, is_owner_up_to}

@@ -12,14 +12,14 @@ use Rattle.jc_frames.specs.declared.method.ReturnPoint.{ReturnPoint}
 use Rattle.jc_frames.specs.Frames.{Caller}
 use Rattle.jc_world.specs.Objects.{is_instance}
 use Rattle.jc_interp_calls.specs.MethodReturn.{registers_of_caller, method_return}
-use Rattle.jc_interp_calls.specs.Throwing.{athrow, exception_throw, has_reason_cell, number_of}
+use Rattle.jc_interp_calls.specs.Throwing.{athrow, exception_throw, has_reason_cell}
 use Rattle.law_isolation.proofs.Due.{due_of}
 use Rattle.law_isolation.proofs.Reaching.{header_is}
 use Rattle.law_isolation.proofs.Walk.{AnyCell, LeavesPass, any_handed, returning, throwing, thrown}
 use Rattle.law_soundness.specs.Fit.{FitsFill, FitsTurn, IsFit}
 use Rattle.law_soundness.specs.LocalEffects.{IsLocalEffect}
 use Rattle.law_soundness.specs.Machines.{KnowOwners}
-use Rattle.law_soundness.specs.Methods.{KnowsMethods}
+use Rattle.law_linking.specs.Methods.{KnowsMethods}
 use Rattle.law_soundness.specs.State.{IsSoundMemory, is_owner_up_to, most_owner}
 use Rattle.law_soundness.specs.Steps.{LeavesFit}
 use Rattle.law_soundness.proofs.Effects.{keeps_sound}
@@ -65,9 +65,9 @@ module _ (p : Packages) where
     uncaught = λ r s m known any. tt;
     found = λ r f m there. tt;
     popped = λ top s m known taken. known;
-    reasons = λ e v f s m known there on.
+    reasons = λ k v f s m known there on.
         let fits = reason_fits m _ f v there on in
-        (fits, owners_after (SetTransient (slice_index m.fixed (number_of e)) 0 (Short v ∷ [])) s.callers m fits tt known);
+        (fits, owners_after (SetTransient (slice_index m.fixed k) 0 (Short v ∷ [])) s.callers m fits tt known);
   }
 
 pub leaves_are_fit : LeavesFit

@@ -30,7 +30,6 @@ pub mod Applets
 pub mod Natives
 pub mod Owners
 pub mod Leaves
-pub mod Minding
 pub mod Receivers
 pub mod Arguments
 pub mod Calls

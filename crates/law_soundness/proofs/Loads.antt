@@ -39,7 +39,7 @@ use Rattle.law_isolation.proofs.Passing.{ReadsSo}
 use Rattle.law_isolation.proofs.Reached.{IsArray, IsCell, Names, array_reached, index_within}
 use Rattle.law_isolation.proofs.Reaching.{err_not_ok}
 use Rattle.law_isolation.proofs.Taking.{mapped_some}
-use Rattle.law_soundness.specs.Classes.{KnowsClasses}
+use Rattle.law_linking.specs.Classes.{KnowsClasses}
 use Rattle.law_soundness.specs.Environment.{HasEnvironment}
 use Rattle.law_soundness.specs.Living.{IsLivingCell}
 use Rattle.law_soundness.specs.LocalEffects.{LocalEffectsStay}

@@ -6,7 +6,7 @@ use Rattle.jc_heap.specs.declared.place.Place.TheVariants.{Cell, Static, Registr
 use Rattle.jc_heap.specs.Heap.{HeapState, heap_after_change, goes_back}
 use Rattle.jc_heap.specs.Moves.{Write, SetPlaces, WriteNonAtomic, SetCells, AddObject, AddTransient, AddPackage, Begin, Commit, Abort}
 use Rattle.jc_heap.specs.Keeping.{IsConsistentHeap}
-use Rattle.jc_heap.specs.Places.{place_word, set_place, set_places}
+use Rattle.jc_heap.specs.Places.{place_at, set_place, set_places}
 use Rattle.jc_heap.proofs.Keeping.{reference-add}
 use Rattle.jc_memory.specs.State.{MemoryState, Effect, HeapMove, SetTransient, SetFlag, ClearTransient, SetRegisters, BeginCommand, SendBytes}
 use Rattle.jc_memory.specs.State.{apply_effect}
@@ -65,7 +65,7 @@ module _ (m : MemoryState) (settled : m.heap.begun ≡ false → m.heap.now ≡ 
   stays (HeapMove (SetPlaces changes)) calm = stays_changed _ _ _ _ (same_places changes m.heap.now calm)
   stays (HeapMove (WriteNonAtomic place v)) calm = record {
     now = same_place m.heap.now place v calm;
-    durable = counted_left place v calm (goes_back m.heap (place_word place));
+    durable = counted_left place v calm (goes_back m.heap (place_at m.heap.now place));
     begun = refl;
     installation = refl;
   }

@@ -1,6 +1,7 @@
 -- What a loss of power leaves of a sound memory.
-use Rattle.std.proofs.Common.{◌≡◌, ◌+◌, ◌≤◌, [], length, get_or, sym, ◌∙◌, ap, subst, arith, if◌then◌else◌}
+use Rattle.std.proofs.Common.{◌≡◌, ◌+◌, ◌≤◌, [], length, sym, ◌∙◌, ap, subst, arith, if◌then◌else◌}
 use Rattle.std.proofs.lemmas.Option.{none-some}
+use Rattle.jc_environment.specs.Objects.{last_of}
 use Rattle.jc_transient.specs.State.{IsCleared}
 use Rattle.jc_heap.specs.Heap.{SameShape, facts, heap_item_at}
 use Rattle.jc_heap.specs.Keeping.{AreConsistent, IsConsistentHeap}
@@ -31,7 +32,7 @@ module _ (p : Packages) (m n : MemoryState) (s : IsSoundMemory p m) (now : n.hea
   most_is = ap (λ g. if is_open g.installation then n.heap.durable.counts.1 + 1 else n.heap.now.counts.1) reset
 
   own_is : last_own n ≡ last_own m
-  own_is = ap (λ f. get_or f 16 0) fixed
+  own_is = ap last_of fixed
 
   low : IsSoundUpTo m.heap.durable.counts.1 p m.heap.durable (last_own n)
   low = subst (IsSoundUpTo m.heap.durable.counts.1 p m.heap.durable) (sym own_is) s.durable

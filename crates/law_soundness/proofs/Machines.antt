@@ -16,7 +16,7 @@ use Rattle.law_soundness.specs.Living.{AreLivingCallers, AreLivingCells, IsLivin
 use Rattle.law_soundness.specs.State.{IsSoundMemory, IsSteady}
 use Rattle.law_soundness.specs.LocalEffects.{LocalEffectsStay, IsLocalEffect}
 use Rattle.law_soundness.specs.Machines.{IsSoundMachine, KnowOwners}
-use Rattle.law_soundness.specs.Methods.{KnowsMethods}
+use Rattle.law_linking.specs.Methods.{KnowsMethods}
 use Rattle.law_soundness.specs.Steps.{HasSoundCallers, InstructionsFit}
 use Rattle.law_soundness.specs.Calls.{NativesLeave}
 use Rattle.law_soundness.specs.Soundness.{IsSoundNext}

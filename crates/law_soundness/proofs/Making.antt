@@ -8,8 +8,6 @@ use Rattle.jc_frames.specs.declared.outcome.FrameExit.{FrameExit}
 use Rattle.jc_memory.specs.Owners.{owner_number}
 use Rattle.jc_memory.specs.State.{MemoryState}
 use Rattle.jc_platform.specs.declared.names.PlatformClass.{PlatformClass}
-use Rattle.jc_platform.specs.declared.names.PlatformClass.TheVariants as classes
-use Rattle.jc_platform.specs.Hierarchy.{is_instantiable, is_interface}
 use Rattle.jc_platform.specs.Platform.{class_by_word}
 use Rattle.jc_linker.specs.Classes.{class_in, is_class, is_instantiable_class, is_instantiable_class_by, size_of}
 use Rattle.jc_linker.specs.Resolves.{interface_by, names_interface}
@@ -18,7 +16,8 @@ use Rattle.jc_card_checks.specs.Objects.{fits_class}
 use Rattle.jc_world.specs.Types.{class_named}
 use Rattle.jc_interp_objects.specs.ObjectCreation.{instantiable_or_none, instantiable_class}
 use Rattle.law_soundness.specs.Fit.{IsFit}
-use Rattle.law_soundness.specs.Classes.{KnowsClasses}
+use Rattle.law_linking.proofs.Facts.{instantiable_is}
+use Rattle.law_linking.specs.Classes.{KnowsClasses}
 use Rattle.law_soundness.specs.State.{IsSoundMemory, IsSteady}
 use Rattle.law_isolation.proofs.Instructions.{checked_due, examined_due, made_due}
 use Rattle.law_isolation.proofs.Passing.{InstancesPass, new_for}
@@ -26,22 +25,11 @@ use Rattle.law_isolation.proofs.Reaching.{err_not_ok, same_Ok}
 use Rattle.law_soundness.specs.Groups.{ObjectsFit}
 use Rattle.law_soundness.proofs.RunObjects.{active_known, new_kept}
 
--- no interface has instances that code makes
-no_interface : (c : PlatformClass) → is_instantiable c ≡ true → is_interface c ≡ false
-unfolding is_instantiable is_interface
-no_interface classes.Shareable e = absurd cc
-no_interface classes.Pin e = absurd cc
-no_interface classes.Iso7816 e = absurd cc
-no_interface classes.MultiSelectable e = absurd cc
-no_interface classes.AppletEvent e = absurd cc
-no_interface classes.ExtendedLength e = absurd cc
-no_interface c e = refl
-
 made_by : (c : Option ClassValue) (other : Option PlatformClass) → is_instantiable_class_by c other ≡ true
     → ((is_some c || is_some other) ≡ true) × (interface_by c other ≡ false)
 made_by (Some c) other e = (refl, not-true c.is_interface e)
 made_by None None e = absurd cc
-made_by None (Some c) e = (refl, no_interface c e)
+made_by None (Some c) e = (refl, instantiable_is c e)
 
 made_is : (p : Packages) (class : ℕ) → is_instantiable_class p class ≡ true → (is_class p class ≡ true) × (names_interface p class ≡ false)
 unfolding is_instantiable_class is_class names_interface

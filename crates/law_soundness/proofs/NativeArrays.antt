@@ -9,12 +9,15 @@ use Rattle.jc_memory.specs.State.{MemoryState}
 use Rattle.jc_memory.specs.Cells.{cells_effect, cells_effect_in}
 use Rattle.jc_linker.specs.Values.{Packages}
 use Rattle.jc_platform.specs.declared.names.PlatformClass.TheVariants.{Aid, OwnerPin}
-use Rattle.jc_platform.specs.Hierarchy.{cells_of, holds_reference, is_interface}
-use Rattle.jc_card_checks.specs.Objects.{is_a, is_instance}
+use Rattle.jc_platform.specs.Hierarchy.{cells_of, is_interface}
+use Rattle.jc_platform.specs.Names.{classes}
+use Rattle.jc_card_checks.specs.Objects.{is_instance}
+use Rattle.jc_linker.specs.Classes.{is_a}
 use Rattle.jc_world.specs.Instances.{IsInstanceWith}
-use Rattle.jc_api_runtime.specs.AidCells.{cells_of_aid, is_aid_length}
+use Rattle.jc_api_framework.specs.Aid.Cells.{cells_of_aid, is_aid_length}
 use Rattle.law_isolation.proofs.Arguments.{HoldsNumbers}
-use Rattle.law_soundness.specs.Classes.{KnowsClasses}
+use Rattle.law_linking.proofs.Facts.{numbers_before}
+use Rattle.law_linking.specs.Classes.{KnowsClasses}
 use Rattle.law_soundness.specs.Fit.{FitsRun, IsFit}
 use Rattle.law_soundness.specs.State.{IsSoundMemory}
 use Rattle.law_soundness.proofs.RunObjects.{instance_no_array, kept_fits}
@@ -52,14 +55,14 @@ module _ (p : Packages) (m : MemoryState) (r i : ℕ) (words : List ℕ) where
 module _ (p : Packages) (m : MemoryState) (known : KnowsClasses p) (sound : IsSoundMemory p m) where
   pub aid_fits : (own : ℕ) (bytes : List ℕ) → is_a p (facts m.heap.now own).class Aid ≡ true → ((facts m.heap.now own).owner ≡ 0 → ⊥) → IsInstanceWith m own 9
       → is_aid_length (length bytes) ≡ true → FitsRun p m own 0 (cells_of_aid bytes)
-  unfolding cells_of holds_reference is_interface
+  unfolding cells_of is_interface classes
   aid_fits own bytes class owned there fine = (
     λ stays. (let instances = kept_fits p m sound own there.there stays in record {
       bytes = bytes;
       first = refl;
       is = refl;
       long = fine;
-      numbers = λ k lt. known.platform.kinds (facts m.heap.now own).class k Aid instances refl class lt;
+      numbers = λ k lt. known.platform.kinds (facts m.heap.now own).class k Aid instances refl class lt ∙ numbers_before Aid 9 refl k lt;
       pin = false_from_ne_true (is_a p (facts m.heap.now own).class OwnerPin) (aid_no_pin p known (facts m.heap.now own).class instances class);
       apart = λ a lt same. owned (ap (λ r. (facts m.heap.now r).owner) (sym same) ∙ (sound.now.aids a lt).environments);
     }),

@@ -5,48 +5,54 @@ use Rattle.std.specs.Option.{option_map}
 use Rattle.std.specs.Prelude.{slice_index}
 use Rattle.jc_transient.specs.declared.cell.CellValue.TheVariants.{Short}
 use Rattle.jc_heap.specs.declared.object.Facts.{Facts}
+use Rattle.jc_heap.specs.declared.object.Kind.{Kind}
+use Rattle.jc_heap.specs.declared.object.Kind.TheVariants.{ByteArray, ReferenceArray}
 use Rattle.jc_heap.specs.Heap.{IsObject, facts}
 use Rattle.jc_frames.specs.declared.cell.Cell.{Cell}
 use Rattle.jc_memory.specs.State.{MemoryState}
 use Rattle.jc_memory.specs.Cells.{cells_effect, header_at}
+use Rattle.jc_memory.specs.Changing.{nonatomic_store}
+use Rattle.jc_memory.specs.Reading.{AllDue}
 use Rattle.jc_linker.specs.Values.{Packages}
 use Rattle.jc_platform.specs.declared.names.PlatformClass.{PlatformClass}
-use Rattle.jc_platform.specs.declared.names.PlatformClass.TheVariants.{Aid, Applet, ApduException, CardException, CardRuntimeException, IsoException}
-use Rattle.jc_platform.specs.declared.names.PlatformClass.TheVariants.{PinException, SystemException, TransactionException, UserException}
+use Rattle.jc_platform.specs.declared.names.PlatformClass.TheVariants.{Aid, Applet}
 use Rattle.jc_platform.specs.declared.names.PlatformMethod.{PlatformMethod}
-use Rattle.jc_platform.specs.declared.names.PlatformMethod.TheVariants.{AidInit, AppletInit, AppletRegister, AppletRegisterBytes}
+use Rattle.jc_platform.specs.declared.names.PlatformMethod.TheVariants.{Aids, Applets}
+use Rattle.jc_platform.specs.declared.names.AidsMethod.TheVariants.{AidInit}
+use Rattle.jc_platform.specs.declared.names.AppletsMethod.TheVariants.{AppletRegister, AppletRegisterBytes}
 use Rattle.jc_platform.specs.Distinct.{class_of}
-use Rattle.jc_platform.specs.Hierarchy.{cells_of, holds_reference, is_interface}
-use Rattle.jc_platform.specs.Names.{methods}
-use Rattle.jc_card_checks.specs.Objects.{is_a, is_instance}
+use Rattle.jc_platform.specs.Names.{aids_rows, applets_rows}
+use Rattle.jc_card_checks.specs.Objects.{is_instance}
+use Rattle.jc_linker.specs.Classes.{is_a}
 use Rattle.jc_world.specs.Objects.{reference_argument}
 use Rattle.jc_world.specs.Arrays.{bytes_in}
-use Rattle.jc_api_runtime.specs.AidCells.{cells_of_aid, is_aid_length}
+use Rattle.jc_api_framework.specs.Aid.Cells.{cells_of_aid, is_aid_length}
 use Rattle.jc_interp.specs.Natives.{native_call}
 use Rattle.jc_world.specs.NativeCalls.{NativeProgram}
-use Rattle.jc_api_data.specs.ApduCurrent.{apdu_object}
-use Rattle.jc_api_data.specs.ApduBuffer.{data_of}
-use Rattle.jc_interp.specs.declared.parts.Part.TheVariants.{CardExceptions}
-use Rattle.jc_interp.specs.Parts.{part_of, part_of_class}
-use Rattle.law_isolation.specs.Natives.{sets_receiver}
+use Rattle.jc_api_framework.specs.Apdu.Current.{apdu_object}
+use Rattle.jc_api_framework.specs.Apdu.Buffer.{data_of}
+use Rattle.jc_platform.specs.Signatures.{minds_receiver}
+use Rattle.law_isolation.proofs.Facts.{sets_minds}
 use Rattle.law_isolation.proofs.Arguments.{buffer_is, length_bytes}
+use Rattle.law_isolation.proofs.Bytes.{store_due}
 use Rattle.law_isolation.proofs.Due.{DueThen, due_of, due_then, results_of}
 use Rattle.law_isolation.proofs.Methods.{IsPlainMethod, method_called, method_then}
 use Rattle.law_isolation.proofs.Natives.{data_fits, nine}
 use Rattle.law_isolation.proofs.Passing.{AnswersSo, IsPinCall, MethodPasses, RegistersSo, turns_of}
-use Rattle.law_soundness.specs.Classes.{HasAids, KnowsClasses}
+use Rattle.law_linking.specs.Classes.{HasAids, KnowsClasses}
 use Rattle.law_soundness.specs.Fit.{IsFit, IsPinObject, OfValue}
 use Rattle.law_soundness.specs.State.{IsSoundMemory, IsSteady}
 use Rattle.law_soundness.proofs.Effects.{keeps_sound}
-use Rattle.law_soundness.specs.Natives.{IsReceiver, NativesFit, minds_receiver}
+use Rattle.law_soundness.specs.Natives.{IsReceiver, NativesFit}
 use Rattle.law_soundness.proofs.Applets.{bytes_small, entry_named, open_home, registering_fits}
-use Rattle.law_soundness.proofs.Below.{HasReason, has_reason}
+use Rattle.law_soundness.proofs.Below.{reasoned}
 use Rattle.law_soundness.proofs.NativeArrays.{aid_fits, elements_fit, run_in}
 use Rattle.law_soundness.proofs.RunObjects.{instance_no_array, one_fits, set_in}
 use Rattle.law_soundness.proofs.RunPins.{after_count, after_flag, pin_object, starts}
 use Rattle.law_soundness.proofs.Small.{reason_fits, transient_fits}
+use Rattle.law_soundness.proofs.Transients.{numbers_fit}
 use Rattle.law_soundness.proofs.Turning.{bears}
-use Rattle.law_soundness.proofs.Minding.{aid_minds}
+use Rattle.law_soundness.proofs.Receivers.{aid_minds}
 use Rattle.law_soundness.specs.Calls.{IsCallResult, NativesLeave}
 use Rattle.law_soundness.specs.Environment.{HasEnvironment}
 use Rattle.law_soundness.proofs.Leaving.{still_left}
@@ -66,49 +72,28 @@ apdu_is : (m : MemoryState) (r : ℕ) → apdu_object m ≡ Some r → slice_ind
 unfolding apdu_object
 apdu_is m r is = apdu_found m (header_at m (slice_index m.fixed 15)) r is
 
--- exceptions of the card's framework have reasons
-reasoned_class : (of : PlatformClass) → part_of_class of ≡ CardExceptions → HasReason of
-unfolding part_of_class cells_of holds_reference is_interface
-reasoned_class ApduException part = has_reason ApduException refl
-reasoned_class CardException part = has_reason CardException refl
-reasoned_class CardRuntimeException part = has_reason CardRuntimeException refl
-reasoned_class IsoException part = has_reason IsoException refl
-reasoned_class PinException part = has_reason PinException refl
-reasoned_class SystemException part = has_reason SystemException refl
-reasoned_class TransactionException part = has_reason TransactionException refl
-reasoned_class UserException part = has_reason UserException refl
-reasoned_class _ part = absurd cc
-
-reasoned : (method : PlatformMethod) → part_of method ≡ CardExceptions → HasReason (class_of method)
-unfolding part_of
-reasoned AppletInit part = absurd cc
-reasoned method part = reasoned_class (class_of method) part
-
 -- methods that mind the object that they are called on
-minds : (method : PlatformMethod) → sets_receiver method ≡ true → minds_receiver method ≡ true
-unfolding minds_receiver sets_receiver
-minds AppletRegister sets = refl
-minds AppletRegisterBytes sets = refl
-minds method sets = sets
-
-minds_own : (method : PlatformMethod) → method ≡ AppletRegister → minds_receiver method ≡ true
-unfolding minds_receiver
+minds_own : (method : PlatformMethod) → method ≡ Applets AppletRegister → minds_receiver method ≡ true
+unfolding minds_receiver applets_rows
 minds_own method is = ap minds_receiver is
 
-minds_given : (method : PlatformMethod) → method ≡ AppletRegisterBytes → minds_receiver method ≡ true
-unfolding minds_receiver
+minds_given : (method : PlatformMethod) → method ≡ Applets AppletRegisterBytes → minds_receiver method ≡ true
+unfolding minds_receiver applets_rows
 minds_given method is = ap minds_receiver is
 
-class_init : (method : PlatformMethod) → method ≡ AidInit → class_of method ≡ Aid
-unfolding methods
+array_of_bytes : (kind : Kind) → kind ≡ ByteArray → kind ≡ ReferenceArray → ⊥
+array_of_bytes kind bytes references = cc
+
+class_init : (method : PlatformMethod) → method ≡ Aids AidInit → class_of method ≡ Aid
+unfolding aids_rows
 class_init method is = ap class_of is
 
-class_own : (method : PlatformMethod) → method ≡ AppletRegister → class_of method ≡ Applet
-unfolding methods
+class_own : (method : PlatformMethod) → method ≡ Applets AppletRegister → class_of method ≡ Applet
+unfolding applets_rows
 class_own method is = ap class_of is
 
-class_given : (method : PlatformMethod) → method ≡ AppletRegisterBytes → class_of method ≡ Applet
-unfolding methods
+class_given : (method : PlatformMethod) → method ≡ Applets AppletRegisterBytes → class_of method ≡ Applet
+unfolding applets_rows
 class_given method is = ap class_of is
 
 module _ (method : PlatformMethod) (args : List Cell) (p : Packages) (m : MemoryState) (known : KnowsClasses p) (aids : HasAids p) (sound : IsSoundMemory p m)
@@ -119,15 +104,20 @@ module _ (method : PlatformMethod) (args : List Cell) (p : Packages) (m : Memory
   called_on of minded is r own = subst (λ c. is_a p (facts m.heap.now r).class c ≡ true) is (receiver.class minded r own)
 
   object_of : (pin : ℕ) → IsPinCall method args m pin → IsPinObject p m pin
-  object_of pin is = pin_object p m known sound pin is.is (called_on _ (minds method is.sets) is.class pin is.called)
+  object_of pin is = pin_object p m known sound pin is.is (called_on _ (sets_minds method is.sets) is.class pin is.called)
 
   passes : MethodPasses (IsFit p) method args p m
   passes = record {
     reason = λ part sets own v is there. set_in p m (facts m.heap.now own).event own 0 (Short v) refl
-        (reason_fits p m known sound (class_of method) (reasoned method part) own _ (called_on (class_of method) (minds method sets) refl own is) there)
+        (reason_fits p m known sound (class_of method) (reasoned (class_of method) part) own _ (called_on (class_of method) (sets_minds method sets) refl own is) there)
         (one_fits m own 0 (Short v) there.cells tt (λ array. absurd (instance_no_array (facts m.heap.now own).kind (ap is_instance there.instance) array)));
     stretch = λ r count e words is long. subst (λ a. IsFit p (cells_effect m a e.start words) m) (sym is.array)
         (elements_fit p m r e.start words is.kind (let w = is.within in omega (arith, w, long)));
+    bytes = λ r count e words is long kind.
+        let w = is.within in
+        subst (λ a. AllDue (IsFit p) (nonatomic_store m a e.start words) m) (sym is.array)
+        (store_due (IsFit p) r (λ i x v element. inr element) words e.start m kind (omega (arith, w, long))
+        (numbers_fit m r e.start words (omega (arith, w, long)) (array_of_bytes (facts m.heap.now r).kind kind)));
     aid = λ init own bytes is there long. run_in p m own 0 (cells_of_aid bytes) (facts m.heap.now own).event refl
         (let l = there.cells in let n = nine bytes in omega (arith, l, n))
         (aid_fits p m known sound own bytes (called_on Aid (aid_minds method init) (class_init method init) own is) (receiver.owned init own is) there long);
@@ -136,8 +126,8 @@ module _ (method : PlatformMethod) (args : List Cell) (p : Packages) (m : Memory
     transient = transient_fits p m known sound steady;
     starts = λ pin is limit maximum. starts p m sound steady pin limit maximum (object_of pin is);
     flags = λ pin is flag v. tt;
-    counts = λ pin is n. (pin, refl, after_flag p m pin false (object_of pin is));
-    refills = λ pin is n limit. (pin, refl, after_count p _ pin n (after_flag p m pin false (object_of pin is)));
+    counts = λ pin is n. inl (pin, refl, after_flag p m pin false (object_of pin is));
+    refills = λ pin is n limit. inl (pin, refl, after_count p _ pin n (after_flag p m pin false (object_of pin is)));
     updates = λ pin is bytes owned short. OfValue (record { pin = pin; bytes = bytes; is = refl; object = object_of pin is; short = short });
   }
 
@@ -157,8 +147,8 @@ module _ (method : PlatformMethod) (args : List Cell) (p : Packages) (m : Memory
     -- the references that are answered name what is there
     refers : AnswersSo Lives m
     refers = record {
-      buffer = λ r there. inr (subst (IsObject m.heap.now) (sym (buffer_is m r there).is) (environment.now.there 16 (omega arith)));
-      apdu = λ r there. inr (subst (IsObject m.heap.now) (apdu_is m r there) (environment.now.there 15 (omega arith)));
+      buffer = λ r there. inr (subst (IsObject m.heap.now) (sym (buffer_is m r there).is) (environment.now.there 16 (omega (arith, environment.now.long))));
+      apdu = λ r there. inr (subst (IsObject m.heap.now) (apdu_is m r there) (environment.now.there 15 (omega (arith, environment.now.long))));
       aid = or_null_refers p m sound;
       null = inl refl;
       new = λ o r new. inr (new_there o.event o m r new);

@@ -14,7 +14,8 @@ use Rattle.jc_heap.specs.Heap.{HeapState, IsObject, add_object, add_transient, a
 use Rattle.jc_heap.specs.Whole.{AreAllocated}
 use Rattle.jc_heap.proofs.Laws.{heap_item_at-add_object, heap_item_at-add_other, object_named}
 use Rattle.jc_linker.specs.Values.{Packages}
-use Rattle.jc_card_checks.specs.Objects.{fits_aid, fits_class, fits_pin, is_a, is_instance, is_reference, is_object_address}
+use Rattle.jc_card_checks.specs.Objects.{fits_aid, fits_class, fits_pin, is_instance, is_reference, is_object_address}
+use Rattle.jc_linker.specs.Classes.{is_a}
 use Rattle.jc_card_checks.specs.Sound.{entry_word}
 use Rattle.law_soundness.specs.State.{is_owner_up_to}
 use Rattle.law_soundness.proofs.Lists.{zeros}

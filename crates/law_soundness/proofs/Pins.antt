@@ -17,7 +17,8 @@ use Rattle.jc_memory.specs.State.{MemoryState}
 use Rattle.jc_linker.specs.Classes.{reference_cell}
 use Rattle.jc_linker.specs.Values.{Packages}
 use Rattle.jc_pin.specs.PinInit.{first_record}
-use Rattle.jc_card_checks.specs.Objects.{fits_pin, has_value, is_a, is_byte_array, is_bytes, is_instance, is_persistent_instance, is_reference}
+use Rattle.jc_card_checks.specs.Objects.{fits_pin, has_value, is_byte_array, is_bytes, is_instance, is_persistent_instance, is_reference}
+use Rattle.jc_linker.specs.Classes.{is_a}
 use Rattle.jc_card_checks.specs.Objects.{is_object_address}
 use Rattle.law_soundness.specs.State.{IsSoundUpTo}
 use Rattle.law_soundness.specs.Fit.{IsPinObject}

@@ -21,7 +21,8 @@ use Rattle.jc_platform.specs.declared.names.MethodKind.TheVariants.{Static}
 use Rattle.jc_platform.specs.declared.names.PlatformClass.{PlatformClass}
 use Rattle.jc_platform.specs.declared.names.PlatformClass.TheVariants.{Aid, Object}
 use Rattle.jc_platform.specs.declared.names.PlatformMethod.{PlatformMethod}
-use Rattle.jc_platform.specs.declared.names.PlatformMethod.TheVariants.{AidInit}
+use Rattle.jc_platform.specs.declared.names.PlatformMethod.TheVariants.{Aids}
+use Rattle.jc_platform.specs.declared.names.AidsMethod.TheVariants.{AidInit}
 use Rattle.jc_platform.specs.Distinct.{class_of as class_of_method, class_word, kind_of_method}
 use Rattle.jc_opcodes.specs.declared.instr.InvokeOp.{InvokeOp}
 use Rattle.jc_firewall.specs.declared.decide.Decision.{Decision}
@@ -35,17 +36,19 @@ use Rattle.jc_frames.specs.Frames.{Frames}
 use Rattle.jc_world.specs.Contexts.{context_of, firewall_decision, designation_of, own_designation, situation_of, subject_of}
 use Rattle.jc_world.specs.Objects.{object_at, some_or_fault}
 use Rattle.jc_world.specs.Objects as world
-use Rattle.jc_card_checks.specs.Objects.{is_a, is_instance}
+use Rattle.jc_card_checks.specs.Objects.{is_instance}
+use Rattle.jc_linker.specs.Classes.{is_a}
 use Rattle.jc_interp_calls.specs.declared.invoke.MethodCall.{MethodCall}
 use Rattle.jc_interp_calls.specs.Invoke.{call_decision, call_of, class_of, is_native_constructor, is_of_any, method_selection, receiver_of, receiver_on}
 use Rattle.law_isolation.proofs.Reaching.{err_not_ok, object_is, same_Ok}
 use Rattle.law_isolation.proofs.Selecting.{Bare, Found, Named, Selected, is_there, selected}
 use Rattle.law_isolation.proofs.Arguments.{both_ok}
-use Rattle.law_soundness.specs.Classes.{KnowsClasses}
+use Rattle.law_linking.specs.Classes.{KnowsClasses}
 use Rattle.law_soundness.specs.State.{IsSoundMemory, is_owner_up_to, last_own, most_owner}
-use Rattle.law_soundness.specs.Natives.{minds_receiver}
-use Rattle.law_soundness.specs.Methods.{IsMethodOf, KnowsMethods}
-use Rattle.law_soundness.proofs.Minding.{aid_static, minds_below, minds_no_static}
+use Rattle.jc_platform.specs.Names.{aids_rows}
+use Rattle.jc_platform.specs.Signatures.{minds_receiver}
+use Rattle.law_linking.specs.Methods.{IsMethodOf, KnowsMethods}
+use Rattle.law_isolation.proofs.Facts.{minds_below_object, static_minds_none}
 use Rattle.law_soundness.proofs.Owners.{known_again, object_owner}
 
 -- ---- the code that runs is a package's
@@ -70,10 +73,19 @@ no_global p f instance false = refl
 
 -- ---- what a method is called on that minds it
 
+-- the constructor of AID is such a method
+aid_static : kind_of_method (Aids AidInit) ≡ Static
+unfolding aids_rows
+aid_static = refl
+
+pub aid_minds : (method : PlatformMethod) → method ≡ Aids AidInit → minds_receiver method ≡ true
+unfolding minds_receiver aids_rows
+aid_minds method is = ap minds_receiver is
+
 pub record IsOn (p : Packages) (m : MemoryState) (method : PlatformMethod) (r : ℕ) : Type 0 where
   pub instance : is_instance (facts m.heap.now r).kind ≡ true
   pub class : is_a p (facts m.heap.now r).class (class_of_method method) ≡ true
-  pub owned : method ≡ AidInit → (facts m.heap.now r).owner ≡ 0 → ⊥
+  pub owned : method ≡ Aids AidInit → (facts m.heap.now r).owner ≡ 0 → ⊥
 
 -- a call is on such an object, and the owner that it switches to is known
 pub record IsFitCall (p : Packages) (m : MemoryState) (stack : List Cell) (c : MethodCall) : Type 0 where
@@ -109,7 +121,7 @@ module _ (p : Packages) (m : MemoryState) (known : KnowsClasses p) (methods : Kn
   by_class : (f : Facts) (r : ℕ) (method : PlatformMethod) → f ≡ facts m.heap.now r → minds_receiver method ≡ true → IsMethodOf p (class_of p f) method
       → IsOn p m method r
   by_class f r method same minds is =
-      let of = of_class (class_of_method method) (minds_below method minds) f.kind f.class is.0 in
+      let of = of_class (class_of_method method) (minds_below_object method minds) f.kind f.class is.0 in
       record {
         instance = subst (λ g. is_instance g.kind ≡ true) same of.0;
         class = subst (λ g. is_a p g.class (class_of_method method) ≡ true) same of.1;
@@ -170,7 +182,7 @@ module _ (p : Packages) (m : MemoryState) (known : KnowsClasses p) (methods : Kn
   selected_fit number (Named n) = record {
     on = λ method reached minds r on. (
         let at = found n.count n.header n.there r (ap (λ x. receiver_on x.arguments stack) n.is ∙ on) in
-        let of = of_class (class_of_method method) (minds_below method minds) n.header.kind n.header.class
+        let of = of_class (class_of_method method) (minds_below_object method minds) n.header.kind n.header.class
         (named_as method (ap (λ x. x.method) n.is ∙ reached)) in
         record {
           instance = subst (λ g. is_instance g.kind ≡ true) at of.0;
@@ -188,9 +200,9 @@ module _ (p : Packages) (m : MemoryState) (known : KnowsClasses p) (methods : Kn
   selected_fit number (Bare b) = record {
     on = λ native reached minds r on. (
         let is = ap (λ x. x.method) b.is ∙ reached in
-        absurd (minds_no_static native minds
+        absurd (static_minds_none native
         (known.receivers.statically number b.index b.class native (b.target ∙ ap (λ x. Some (StaticMethod b.class x)) is)).1
-        (subst (λ x. is_native_constructor x ≡ false) is b.made)));
+        (subst (λ x. is_native_constructor x ≡ false) is b.made) minds));
     switches = λ o to. absurd (none-some o (ap (λ x. x.switches_to) b.is ∙ to));
   }
 

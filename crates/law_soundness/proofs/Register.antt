@@ -13,8 +13,8 @@ use Rattle.jc_memory.specs.State.{MemoryState, HeapMove, SetRegisters, apply_eff
 use Rattle.jc_linker.specs.Values.{Packages}
 use Rattle.jc_platform.specs.declared.names.PlatformClass.TheVariants.{Aid}
 use Rattle.jc_platform.specs.Distinct.{class_word}
-use Rattle.jc_api_runtime.specs.AidCells.{cells_of_aid}
-use Rattle.jc_api_runtime.specs.Register.{with_installation}
+use Rattle.jc_api_framework.specs.Aid.Cells.{cells_of_aid}
+use Rattle.jc_api_framework.specs.Applet.Register.{with_installation}
 use Rattle.jc_heap.proofs.Keeping.{reference-add}
 use Rattle.law_soundness.specs.Living.{KeepsReferences}
 use Rattle.law_soundness.specs.State.{IsSoundMemory, IsSteady, is_open, most_owner}

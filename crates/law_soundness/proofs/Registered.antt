@@ -12,7 +12,7 @@ use Rattle.jc_linker.specs.Values.{Packages}
 use Rattle.jc_registry.specs.Registry.{aid_of_applet, applet_count, applet_entry, instance_of_applet, is_applet}
 use Rattle.jc_card_checks.specs.Objects.{is_object_address}
 use Rattle.jc_card_checks.specs.Sound.{entry_word}
-use Rattle.jc_api_runtime.specs.SystemSharing.{aid_or_null}
+use Rattle.jc_api_framework.specs.System.Sharing.{aid_or_null}
 use Rattle.law_soundness.specs.State.{IsSoundMemory, IsSteady, is_open, is_owner_up_to, most_owner}
 use Rattle.law_isolation.proofs.Taking.{mapped_some}
 

@@ -20,7 +20,7 @@ use Rattle.jc_linker.specs.Values.{Packages}
 use Rattle.jc_card_checks.specs.Objects.{fits_class, is_instance, is_persistent_instance}
 use Rattle.law_isolation.proofs.Passing.{Makes}
 pub use Rattle.law_isolation.proofs.Reached.{instance_kind}
-use Rattle.law_soundness.specs.Classes.{has_instances}
+use Rattle.law_linking.specs.Classes.{has_instances}
 use Rattle.law_soundness.specs.Fit.{FitsFill, FitsNew, FitsValue, IsFit}
 use Rattle.law_soundness.specs.State.{IsLivingElement, IsLivingValue, IsSoundMemory, IsSteady, is_open, is_owner_up_to, last_own, most_new, most_owner}
 

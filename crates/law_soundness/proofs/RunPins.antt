@@ -1,7 +1,8 @@
 -- OwnerPIN.
 use Rattle.std.proofs.Common.{◌≡◌, ℕ, ◌<◌, ◌≤◌, Bool, true, false, refl, sym, ◌∙◌, ap, subst, arith}
-use Rattle.std.proofs.lemmas.Bool.{and_from, eq-eqb, false_from_ne_true, ne_eqb, true≢false}
-use Rattle.std.specs.Prelude.{is_none, slice_index}
+use Rattle.std.proofs.lemmas.Bool.{and_from, eq-eqb, false_from_ne_true, true≢false}
+use Rattle.std.specs.Prelude.{is_none}
+use Rattle.jc_environment.specs.Objects.{last_of}
 use Rattle.jc_heap.specs.declared.object.Kind.TheVariants.{ByteArray}
 use Rattle.jc_heap.specs.Object.{AnObject, Object, facts_of, is_object, new_object, object_size}
 use Rattle.jc_heap.specs.Heap.{HeapState, add_object, facts, heap_item_at, is_allocated, set_cell}
@@ -17,9 +18,12 @@ use Rattle.jc_linker.specs.Values.{Packages}
 use Rattle.jc_pin.specs.Pins.{counter, is_pin}
 use Rattle.jc_pin.specs.PinInit.{value_array}
 use Rattle.jc_platform.specs.declared.names.PlatformClass.TheVariants.{Aid, OwnerPin}
-use Rattle.jc_platform.specs.Hierarchy.{cells_of, holds_reference, is_interface}
-use Rattle.jc_card_checks.specs.Objects.{is_a, is_byte_array, is_instance, is_persistent_instance, is_object_address}
-use Rattle.law_soundness.specs.Classes.{KnowsClasses}
+use Rattle.jc_platform.specs.Hierarchy.{cells_of, is_interface}
+use Rattle.jc_platform.specs.Names.{classes}
+use Rattle.jc_card_checks.specs.Objects.{is_byte_array, is_instance, is_persistent_instance, is_object_address}
+use Rattle.jc_linker.specs.Classes.{is_a}
+use Rattle.law_linking.proofs.Facts.{numbers_before}
+use Rattle.law_linking.specs.Classes.{KnowsClasses}
 use Rattle.law_soundness.specs.Fit.{IsFit, IsPinObject, OfPin}
 use Rattle.law_soundness.specs.State.{IsSoundMemory, IsSteady}
 use Rattle.law_isolation.proofs.Arguments.{pin_record}
@@ -32,7 +36,7 @@ pub pin_stays : (p : Packages) (m v : MemoryState) (r : ℕ) → IsPinObject p m
     → is_object_address v.heap.now r ≡ is_object_address m.heap.now r → v.fixed ≡ m.fixed → IsPinObject p v r
 pin_stays p m v r old same there fixed = record {
   there = there ∙ old.there;
-  behind = subst (λ l. slice_index l 16 < r) (sym fixed) old.behind;
+  behind = subst (λ l. last_of l < r) (sym fixed) old.behind;
   kept = subst (λ f. is_persistent_instance f ≡ true) (sym same) old.kept;
   pin = subst (λ f. is_a p f.class OwnerPin ≡ true) (sym same) old.pin;
   aid = subst (λ f. is_a p f.class Aid ≡ false) (sym same) old.aid;
@@ -106,7 +110,7 @@ module _ (p : Packages) (m : MemoryState) (sound : IsSoundMemory p m) (steady : 
 -- a PIN of the class, or of one below it
 module _ (p : Packages) (m : MemoryState) (known : KnowsClasses p) (sound : IsSoundMemory p m) where
   pub pin_object : (r : ℕ) → is_pin m r ≡ true → is_a p (facts m.heap.now r).class OwnerPin ≡ true → IsPinObject p m r
-  unfolding cells_of holds_reference is_interface
+  unfolding cells_of is_interface classes
   pin_object r e own =
       let is = pin_record m r e in
       let kept = and_from (is_instance (facts m.heap.now r).kind) (is_none (facts m.heap.now r).event) (ap is_instance is.kind) is.persistent in
@@ -118,6 +122,6 @@ module _ (p : Packages) (m : MemoryState) (known : KnowsClasses p) (sound : IsSo
         pin = own;
         aid = false_from_ne_true (is_a p (facts m.heap.now r).class Aid) (λ isnt. aid_no_pin p known (facts m.heap.now r).class instances isnt own);
         numbers = λ k lt. known.platform.kinds (facts m.heap.now r).class k OwnerPin instances refl own (omega (arith, lt))
-            ∙ ne_eqb k 4 (λ e. omega (arith, lt, e));
+            ∙ numbers_before OwnerPin 4 refl k lt;
         long = is.long;
       }

@@ -17,12 +17,13 @@ use Rattle.jc_linker.specs.Values.{Packages}
 use Rattle.jc_platform.specs.declared.names.PlatformClass.TheVariants.{Aid}
 use Rattle.jc_platform.specs.Distinct.{class_word}
 use Rattle.jc_platform.specs.Hierarchy.{cells_of, is_interface}
+use Rattle.jc_platform.specs.Names.{classes}
 use Rattle.jc_heap.specs.declared.object.Kind.TheVariants.{Instance}
 use Rattle.jc_card_checks.specs.Objects.{fits_class, is_instance, is_persistent_instance, is_object_address}
 use Rattle.jc_card_checks.specs.Sound.{aid_in, aid_of_entry, entry_word, holds_aid}
 use Rattle.jc_registry.specs.Aids.{aid_at, aid_behind, aid_of_cells}
 use Rattle.jc_registry.specs.Registry.{applet_count, applet_entry, applet_with_aid, aid_of_applet, first_with_aid, has_aid, is_aid, is_applet}
-use Rattle.law_soundness.specs.Classes.{KnowsClasses}
+use Rattle.law_linking.specs.Classes.{KnowsClasses}
 use Rattle.law_soundness.specs.State.{IsSoundMemory}
 use Rattle.law_soundness.proofs.RunObjects.{instance_kind, kept_behind}
 use Rattle.law_soundness.proofs.RunCells.{aid_of, none_found}
@@ -54,7 +55,7 @@ module _ (p : Packages) (m : MemoryState) (known : KnowsClasses p) (sound : IsSo
     no_event = none_of (facts m.heap.now r).event (and_parts (is_instance (facts m.heap.now r).kind) _ kept).1
 
     has_nine : (facts m.heap.now r).length ≡ 9
-    unfolding cells_of is_interface
+    unfolding cells_of is_interface classes
     has_nine =
         let fit = sound.now.objects r (kept_behind p m sound r there kept) there in
         let instance = instance_kind (facts m.heap.now r).kind (and_parts (is_instance (facts m.heap.now r).kind) _ kept).0 in

@@ -5,7 +5,7 @@ use Rattle.std.proofs.lemmas.Bool.{both_ways, cases_Bool}
 use Rattle.jc_heap.specs.declared.place.Place.{Place}
 use Rattle.jc_heap.specs.declared.place.Place.TheVariants.{Cell, Static, Registry, AppletCount}
 use Rattle.jc_heap.specs.Heap.{HeapState, goes_back}
-use Rattle.jc_heap.specs.Places.{place_word, set_place, set_places}
+use Rattle.jc_heap.specs.Places.{place_at, set_place, set_places}
 use Rattle.jc_heap.specs.Moves.{Move, Write, SetPlaces, WriteNonAtomic, SetCells, AddObject, AddTransient, AddPackage, Begin, Commit, Abort}
 use Rattle.jc_memory.specs.declared.registers.Registers.{Registers}
 use Rattle.jc_memory.specs.Owners.{owner_number}
@@ -15,7 +15,7 @@ use Rattle.jc_memory.specs.Programs.{Program, Finish, Perform, Choose, Either}
 use Rattle.jc_memory.specs.Reading.{AllDue, AllResults}
 use Rattle.jc_linker.specs.Values.{Packages}
 use Rattle.law_soundness.specs.Environment.{HasEnvironment}
-use Rattle.jc_pin.specs.Pins.{counter, record_of as pin_of}
+use Rattle.jc_pin.specs.Pins.{record_of as pin_of}
 use Rattle.jc_pin.specs.PinInit.{first_record}
 use Rattle.jc_pin.specs.Updating.{changes_of_update}
 use Rattle.law_soundness.specs.Fit.{FitsChange, FitsMove, FitsPlace, FitsTurn, IsFit, OfPin, OfRegistry, OfStatics, OfValue}
@@ -123,10 +123,14 @@ module _ (p : Packages) (m : MemoryState) (s : IsSoundMemory p m) where
       ap (λ b. (if b then durable else set_places m.heap.now changes).counts.1) f.begun in
       omega (arith, e)
 
-  count_more : (r v : ℕ) → durable.counts.1 ≤ (apply_effect (HeapMove (WriteNonAtomic (counter r) v)) m).heap.durable.counts.1
-  count_more r v = choose (λ k. durable.counts.1 ≤ k.counts.1) (goes_back m.heap (place_word (counter r))) durable (set_place durable (counter r) v)
+  cell_more : (r i v : ℕ) → durable.counts.1 ≤ (apply_effect (HeapMove (WriteNonAtomic (Cell r i) v)) m).heap.durable.counts.1
+  cell_more r i v = choose (λ k. durable.counts.1 ≤ k.counts.1) (goes_back m.heap (place_at m.heap.now (Cell r i))) durable (set_place durable (Cell r i) v)
       (λ on. omega arith)
-      (λ off. let e : (set_place durable (counter r) v).counts.1 ≡ durable.counts.1 = ap (λ c. c.1) (cell_frames durable r 2 v).counts in omega (arith, e))
+      (λ off. let e : (set_place durable (Cell r i) v).counts.1 ≡ durable.counts.1 = ap (λ c. c.1) (cell_frames durable r i v).counts in omega (arith, e))
+
+  cell_more_at : (place : Place) (r i v : ℕ) → place ≡ Cell r i
+      → durable.counts.1 ≤ (apply_effect (HeapMove (WriteNonAtomic place v)) m).heap.durable.counts.1
+  cell_more_at place r i v is = subst (λ c. durable.counts.1 ≤ (apply_effect (HeapMove (WriteNonAtomic c v)) m).heap.durable.counts.1) (sym is) (cell_more r i v)
 
   commit_more : (is_open m.registers.installation ≡ true → m.heap.now.counts.1 ≡ durable.counts.1 + 1) → durable.counts.1 ≤ m.heap.now.counts.1
   commit_more ends = elim (cases_Bool (is_open m.registers.installation)) [
@@ -137,8 +141,8 @@ module _ (p : Packages) (m : MemoryState) (s : IsSoundMemory p m) where
   move_more : (move : Move) → FitsMove p move m → durable.counts.1 ≤ (apply_effect (HeapMove move) m).heap.durable.counts.1
   move_more (Write place v) fits = place_more place v fits
   move_more (SetPlaces changes) fits = changes_more changes fits
-  move_more (WriteNonAtomic place v) fits = subst (λ c. durable.counts.1 ≤ (apply_effect (HeapMove (WriteNonAtomic c v)) m).heap.durable.counts.1) (sym fits.1)
-      (count_more fits.0 v)
+  move_more (WriteNonAtomic place v) (inl fits) = cell_more_at place fits.0 2 v fits.1
+  move_more (WriteNonAtomic place v) (inr fits) = cell_more_at place fits.array fits.index v fits.is
   move_more (SetCells r i words) fits = left_more _ (run_frames words m.heap.now r i).counts
   move_more (AddObject o size) fits = left_more _ (object_frames m.heap.now o size).counts
   move_more (AddTransient kind event class owner long) fits = left_more _ (transient_frames m.heap.now kind event class owner long).counts

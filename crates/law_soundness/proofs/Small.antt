@@ -20,11 +20,13 @@ use Rattle.jc_platform.specs.declared.names.PlatformClass.{PlatformClass}
 use Rattle.jc_platform.specs.declared.names.PlatformClass.TheVariants.{Object}
 use Rattle.jc_platform.specs.Distinct.{class_word}
 use Rattle.jc_platform.specs.Hierarchy.{is_interface}
-use Rattle.jc_card_checks.specs.Objects.{fits_class, is_a, is_instance}
+use Rattle.jc_platform.specs.Names.{classes}
+use Rattle.jc_card_checks.specs.Objects.{fits_class, is_instance}
+use Rattle.jc_linker.specs.Classes.{is_a}
 use Rattle.jc_world.specs.Instances.{IsInstanceWith}
 use Rattle.jc_world.specs.Numbers.{not_negative}
-use Rattle.jc_api_runtime.specs.SystemTransient.{class_for, event_named, length_in, allowed_event, requested_array}
-use Rattle.law_soundness.specs.Classes.{KnowsClasses}
+use Rattle.jc_api_framework.specs.System.Transient.{class_for, event_named, length_in, allowed_event, requested_array}
+use Rattle.law_linking.specs.Classes.{KnowsClasses}
 use Rattle.law_soundness.specs.Fit.{FitsNew, FitsValue, IsFit}
 use Rattle.law_soundness.specs.State.{IsSoundMemory, IsSteady, is_owner_up_to, most_new}
 use Rattle.law_isolation.proofs.Reaching.{same_Ok}
@@ -76,7 +78,7 @@ module _ (p : Packages) (m : MemoryState) (known : KnowsClasses p) (sound : IsSo
       (subst (λ e. creation_refusal_in e m o ≡ None) is room)
 
   fits_for : (kind : Kind) (n : ℕ) → (kind ≡ Instance → ⊥) → fits_class p kind (class_for kind p) n ≡ true
-  unfolding is_interface
+  unfolding is_interface classes
   fits_for Instance n none = absurd (none refl)
   fits_for BooleanArray n none = refl
   fits_for ByteArray n none = refl

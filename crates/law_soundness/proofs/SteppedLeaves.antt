@@ -17,14 +17,13 @@ use Rattle.jc_frames.specs.Cells.{reference_on, short_on}
 use Rattle.jc_frames.specs.Frames.{Caller, Frame}
 use Rattle.jc_frames.specs.ReturnOps.{returned_cell}
 use Rattle.jc_interp_calls.specs.MethodReturn.{registers_of_caller}
-use Rattle.jc_interp_calls.specs.Throwing.{number_of}
 use Rattle.law_isolation.proofs.Reaching.{header_is}
 use Rattle.law_isolation.proofs.Taking.{mapped_some, reference_taken}
 use Rattle.law_isolation.proofs.Walk.{IsHanded, LeavesPass}
 use Rattle.law_soundness.specs.Fit.{FitsTurn, IsFit}
 use Rattle.law_soundness.specs.Living.{AreLivingCells, IsLivingCell, IsLivingOutcome}
 use Rattle.law_soundness.specs.Machines.{IsSoundMachine}
-use Rattle.law_soundness.specs.Methods.{KnowsMethods}
+use Rattle.law_linking.specs.Methods.{KnowsMethods}
 use Rattle.law_soundness.specs.Soundness.{IsSoundNext}
 use Rattle.law_soundness.proofs.Leaves.{back_fits, reason_fits}
 use Rattle.law_soundness.proofs.Living.{none_living}
@@ -85,8 +84,8 @@ module _ (g : Given) (p : Packages) (methods : KnowsMethods p) where
     found = λ r f m there. inr (header_is m r f there).0;
     popped = λ top s m machine taken.
         stacked p s m top.1 (reference_taken (IsReference m.heap.now) s.current.stack top machine.living.current.stack taken).1 machine;
-    reasons = λ e v f s m machine there on.
-        let set = SetTransient (slice_index m.fixed (number_of e)) 0 (Short v ∷ []) in
-        let fits = reason_fits m (slice_index m.fixed (number_of e)) f v there on in
+    reasons = λ k v f s m machine there on.
+        let set = SetTransient (slice_index m.fixed k) 0 (Short v ∷ []) in
+        let fits = reason_fits m (slice_index m.fixed k) f v there on in
         (fits, machine_of p s (apply_effect set m) (under_after g p set s.callers m fits tt (under_of p s m machine)) machine.code machine.living.current);
   }

@@ -1,5 +1,5 @@
 -- What is done without a change of the registry, the transaction, the installation or the owner for whom code runs.
-use Rattle.std.proofs.Common.{◌≡◌, ℕ, suc, List, [], ◌∷◌, ◌++◌, Option, Some, None, refl}
+use Rattle.std.proofs.Common.{◌≡◌, ℕ, suc, List, [], ◌∷◌, ◌++◌, Option, Some, None, refl, sym, subst, arith}
 use Rattle.jc_transient.specs.declared.cell.CellValue.{CellValue}
 use Rattle.jc_transient.specs.declared.cell.CellValue.TheVariants.{Short}
 use Rattle.jc_transient.specs.declared.cell.ClearEvent.{ClearEvent}
@@ -10,13 +10,16 @@ use Rattle.jc_heap.specs.Whole.{IsReference}
 use Rattle.jc_frames.specs.declared.cell.Cell.{Cell}
 use Rattle.jc_memory.specs.declared.making.NewObject.{NewObject}
 use Rattle.jc_memory.specs.Cells.{cell_effect_in, cells_effect_in}
+use Rattle.jc_memory.specs.Changing.{nonatomic_store}
 use Rattle.jc_memory.specs.Making.{creation_move}
+use Rattle.jc_memory.specs.Reading.{AllDue}
 use Rattle.jc_memory.specs.State.{MemoryState, Effect, HeapMove, apply_effect}
 use Rattle.jc_linker.specs.Values.{Packages}
 use Rattle.jc_pin.specs.Pins.{record_of}
 use Rattle.jc_platform.specs.declared.names.PlatformMethod.{PlatformMethod}
-use Rattle.jc_api_data.specs.ApduBuffer.{data_of}
-use Rattle.jc_api_runtime.specs.AidCells.{cells_of_aid}
+use Rattle.jc_api_framework.specs.Apdu.Buffer.{data_of}
+use Rattle.jc_api_framework.specs.Aid.Cells.{cells_of_aid}
+use Rattle.law_isolation.proofs.Bytes.{store_due}
 use Rattle.law_isolation.proofs.Passing.{ArraysPass, FieldsPass, InstancesPass, MethodPasses, Turns}
 use Rattle.law_soundness.specs.LocalEffects.{AreElsewhere, IsLocalEffect}
 
@@ -53,6 +56,10 @@ module _ (m : MemoryState) where
   still_passes method args p = record {
     reason = λ part sets own v is long. set_still (facts m.heap.now own).event own 0 (Short v);
     stretch = λ r count e words is long. run_still (facts m.heap.now e.array).event e.array e.start words;
+    bytes = λ r count e words is long kind.
+        let w = is.within in
+        subst (λ a. AllDue IsStill (nonatomic_store m a e.start words) m) (sym is.array)
+        (store_due IsStill r (λ i x v element. (tt, refl)) words e.start m kind (omega (arith, w, long)) (tt, refl));
     aid = λ init own bytes is long fine. run_still (facts m.heap.now own).event own 0 (cells_of_aid bytes);
     buffer = λ r is. run_still (facts m.heap.now r).event r 5 (data_of m.command);
     transient = λ kind count event o none fine room r new. made_still o.event o;

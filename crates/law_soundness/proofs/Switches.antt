@@ -30,7 +30,7 @@ use Rattle.law_isolation.proofs.Selecting.{Bare, Found, Named, Selected, selecte
 use Rattle.law_isolation.proofs.Arguments.{both_ok}
 use Rattle.law_soundness.specs.Environment.{HasEnvironment}
 use Rattle.law_soundness.specs.Fit.{IsPlatformClass}
-use Rattle.law_soundness.specs.Platform.{KeepsPlatform}
+use Rattle.law_linking.specs.Platform.{KeepsPlatform}
 use Rattle.law_soundness.proofs.Owners.{owner_zero}
 
 -- the class by which a method of an object is found is one of the platform

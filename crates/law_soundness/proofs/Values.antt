@@ -12,7 +12,8 @@ use Rattle.jc_heap.specs.Heap.{HeapState, facts, set_cell, set_cells}
 use Rattle.jc_heap.proofs.Laws.{facts-set_cell}
 use Rattle.jc_linker.specs.Classes.{is_below, reference_cell}
 use Rattle.jc_linker.specs.Values.{Packages}
-use Rattle.jc_card_checks.specs.Objects.{is_a, is_bytes, is_instance, is_persistent_instance, is_object_address}
+use Rattle.jc_card_checks.specs.Objects.{is_bytes, is_instance, is_persistent_instance, is_object_address}
+use Rattle.jc_linker.specs.Classes.{is_a}
 use Rattle.jc_card_checks.specs.Sound.{IsRegistered, entry_word}
 use Rattle.law_soundness.specs.State.{IsSoundUpTo}
 use Rattle.law_soundness.specs.Fit.{FitsCell}

@@ -1,5 +1,6 @@
 -- The runtime environment's own objects.
-use Rattle.std.specs.Prelude.{ℕ, ◌≡◌, ◌≤◌, ◌<◌, true, List, slice_index}
+use Rattle.std.specs.Prelude.{ℕ, ◌≡◌, ◌≤◌, ◌<◌, true, List, length, slice_index}
+use Rattle.jc_environment.specs.Objects.{last_of}
 use Rattle.jc_heap.specs.Heap.{HeapState, IsObject, facts}
 use Rattle.jc_memory.specs.State.{MemoryState, Effect, apply_effect}
 use Rattle.jc_linker.specs.Values.{Packages}
@@ -7,11 +8,12 @@ use Rattle.jc_card_checks.specs.Objects.{is_instance, is_object_address}
 use Rattle.law_soundness.specs.Fit.{IsFit, IsPlatformClass}
 use Rattle.law_soundness.specs.State.{IsSoundMemory}
 
--- the objects with which a heap begins, at these addresses, are there, and the runtime environment's own; and its instances are of classes of
--- the platform
+-- the objects with which a heap begins, at these addresses, seventeen or more, are there, and the runtime environment's own; and its instances are of
+-- classes of the platform
 pub record AreEnvironmentObjects (p : Packages) (h : HeapState) (fixed : List ℕ) : Type 0 where
-  pub there : (k : ℕ) → k < 17 → IsObject h (slice_index fixed k)
-  pub first : (r : ℕ) → r ≤ slice_index fixed 16 → (facts h r).owner ≡ 0
+  pub long : 17 ≤ length fixed
+  pub there : (k : ℕ) → k < length fixed → IsObject h (slice_index fixed k)
+  pub first : (r : ℕ) → r ≤ last_of fixed → (facts h r).owner ≡ 0
   pub classes : (r : ℕ) → is_object_address h r ≡ true → is_instance (facts h r).kind ≡ true → (facts h r).owner ≡ 0 → IsPlatformClass p (facts h r).class
 
 -- so it is in the heap as it is and in the one that a loss of power leaves

@@ -1,5 +1,5 @@
 -- Effects that leave a memory sound.
-use Rattle.std.specs.Prelude.{ℕ, ◌≡◌, ◌<◌, ◌≤◌, ◌+◌, true, false, List, [], ◌∷◌, length, slice_index, slice_index_or, pos, Some, None}
+use Rattle.std.specs.Prelude.{ℕ, ◌≡◌, ◌<◌, ◌≤◌, ◌+◌, ◌⊎◌, true, false, List, [], ◌∷◌, length, slice_index, slice_index_or, pos, Some, None}
 use Rattle.jc_transient.specs.declared.cell.CellValue.{CellValue}
 use Rattle.jc_transient.specs.declared.cell.CellValue.TheVariants.{Short}
 use Rattle.jc_transient.specs.State.{buffer_size}
@@ -29,9 +29,11 @@ use Rattle.jc_linker.specs.Values.{Packages}
 use Rattle.jc_pin.specs.Pins.{record_of as pin_of, counter}
 use Rattle.jc_pin.specs.PinInit.{first_record}
 use Rattle.jc_pin.specs.Updating.{changes_of_update}
-use Rattle.jc_card_checks.specs.Objects.{fits_class, is_a, is_byte_array, is_instance, is_persistent_instance, is_reference, is_object_address}
+use Rattle.jc_card_checks.specs.Objects.{fits_class, is_byte_array, is_instance, is_persistent_instance, is_reference, is_object_address}
+use Rattle.jc_linker.specs.Classes.{is_a}
 use Rattle.jc_card_checks.specs.Sound.{aid_in, aid_of_entry, entry_word, holds_aid}
-use Rattle.jc_api_runtime.specs.AidCells.{cells_of_aid, is_aid_length}
+use Rattle.jc_api_framework.specs.Aid.Cells.{cells_of_aid, is_aid_length}
+use Rattle.law_isolation.specs.Bytes.{IsByteElement}
 use Rattle.law_soundness.specs.State.{IsLivingElement, IsLivingValue, IsSoundMemory, is_applet, is_home, is_open, is_owner_up_to, last_own, most_in, most_new}
 
 -- a value fits a cell of a persistent instance that is none of an AID and none of a PIN: a reference where one is kept
@@ -76,6 +78,10 @@ pub record IsPinObject (p : Packages) (m : MemoryState) (r : ℕ) : Type 0 where
   pub aid : is_a p (facts m.heap.now r).class Aid ≡ false
   pub numbers : (k : ℕ) → k < 4 → reference_cell p (facts m.heap.now r).class k ≡ false
   pub long : 5 ≤ (facts m.heap.now r).length
+
+-- the place is the counter of one
+abbrev pub IsPinCounter : Packages → MemoryState → Place → Type 0
+IsPinCounter p m place = (r : ℕ) × (place ≡ counter r) × IsPinObject p m r
 
 -- these changes set a PIN up, with an array of bytes for its values
 pub record SetsUpPin (p : Packages) (m : MemoryState) (changes : List (Place × ℕ)) : Type 0 where
@@ -170,7 +176,7 @@ pub record FitsObject (p : Packages) (m : MemoryState) (move : Move) : Type 0 wh
 abbrev pub FitsMove : Packages → Move → MemoryState → Type 0
 FitsMove p (Write place v) m = FitsPlace p m.heap.now place v
 FitsMove p (SetPlaces changes) m = FitsChange p m changes
-FitsMove p (WriteNonAtomic place v) m = (r : ℕ) × (place ≡ counter r) × IsPinObject p m r
+FitsMove p (WriteNonAtomic place v) m = IsPinCounter p m place ⊎ IsByteElement m.heap.now place
 FitsMove p (SetCells r i words) m = AreCellsOf m.heap.now r (i + length words) × FitsRun p m r i words
 FitsMove p (AddObject o size) m = FitsObject p m (AddObject o size)
 FitsMove p (AddTransient kind event class owner long) m = FitsNew p m kind class owner long × (LacksCells m.heap.now event long → ⊥) × (is_instance kind ≡ false)

@@ -12,7 +12,7 @@ use Rattle.jc_interp_objects.specs.FieldOps.{field_instruction}
 use Rattle.jc_interp_objects.specs.ArrayOps.{array_instruction}
 use Rattle.jc_interp_objects.specs.TypeChecks.{checkcast, instanceof}
 use Rattle.jc_interp_objects.specs.ObjectCreation.{new_instance}
-use Rattle.law_soundness.specs.Classes.{KnowsClasses}
+use Rattle.law_linking.specs.Classes.{KnowsClasses}
 use Rattle.law_soundness.specs.Fit.{IsFit}
 use Rattle.law_soundness.specs.State.{IsSoundMemory, IsSteady}
 

@@ -1,10 +1,7 @@
 pub mod State
 pub mod Fit
 pub mod Living
-pub mod Classes
 pub mod Environment
-pub mod Methods
-pub mod Platform
 pub mod Groups
 pub mod Natives
 pub mod Machines

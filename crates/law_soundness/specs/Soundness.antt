@@ -6,12 +6,12 @@ use Rattle.jc_memory.specs.Reading.{AllDue, AllResults}
 use Rattle.jc_linker.specs.Values.{Packages}
 use Rattle.jc_interp.specs.Stepping.{machine_step}
 use Rattle.jc_interp.specs.Running.{run_of}
-use Rattle.law_soundness.specs.Classes.{HasAids, KnowsClasses}
+use Rattle.law_linking.specs.Classes.{HasAids, KnowsClasses}
 use Rattle.law_soundness.specs.Fit.{IsFit}
 use Rattle.law_soundness.specs.Living.{IsLivingOutcome}
 use Rattle.law_soundness.specs.Machines.{IsSoundMachine}
-use Rattle.law_soundness.specs.Methods.{KnowsMethods}
-use Rattle.law_soundness.specs.Platform.{KeepsPlatform}
+use Rattle.law_linking.specs.Methods.{KnowsMethods}
+use Rattle.law_linking.specs.Platform.{KeepsPlatform}
 
 -- what is known of packages that were linked
 pub record AreKnown (p : Packages) : Type 0 where

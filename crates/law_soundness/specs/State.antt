@@ -1,10 +1,11 @@
 -- A memory whose heaps fit the packages that are linked, also while an applet is being installed.
-use Rattle.std.specs.Prelude.{ℕ, ◌≡◌, ◌<◌, ◌≤◌, ◌+◌, ◌-◌, ◌==◌, ◌&&◌, ◌||◌, nat_lt, nat_le, Bool, true, false, length, slice_index, if◌then◌else◌, Some, None, pos, []}
+use Rattle.std.specs.Prelude.{ℕ, ◌≡◌, ◌<◌, ◌≤◌, ◌+◌, ◌-◌, ◌==◌, ◌&&◌, ◌||◌, nat_lt, nat_le, Bool, true, false, length, if◌then◌else◌, Some, None, pos, []}
 use Rattle.jc_words.specs.Layout.{registry_length}
 use Rattle.jc_transient.specs.declared.cell.CellValue.{CellValue}
 use Rattle.jc_transient.specs.declared.cell.CellValue.TheVariants.{Short, Reference}
 use Rattle.jc_transient.specs.declared.cell.ClearEvent.{ClearEvent}
 use Rattle.jc_transient.specs.State.{HasSizes, IsCleared, RamState, buffer_size, cell_at}
+use Rattle.jc_environment.specs.Objects.{last_of}
 use Rattle.jc_heap.specs.declared.object.Facts.{Facts}
 use Rattle.jc_heap.specs.declared.object.Kind.TheVariants.{ReferenceArray}
 use Rattle.jc_heap.specs.Heap.{HeapState, IsObject, cells, facts}
@@ -50,7 +51,7 @@ pub record IsSoundUpTo (most : ℕ) (p : Packages) (h : HeapState) (own : ℕ) :
 
 -- the address of the last object of the runtime environment's own
 abbrev pub last_own : MemoryState → ℕ
-last_own m = slice_index m.fixed 16
+last_own m = last_of m.fixed
 
 -- an installation in which no instance is registered yet
 abbrev pub is_open : Installation → Bool

@@ -24,11 +24,11 @@ use Rattle.jc_interp_calls.specs.MethodReturn.{method_return}
 use Rattle.jc_interp_calls.specs.Throwing.{athrow, exception_throw}
 use Rattle.jc_interp.specs.Stepping.{instruction_at, is_plain}
 use Rattle.jc_world.specs.declared.native_result.ServerCall.{ServerCall}
-use Rattle.law_soundness.specs.Classes.{HasAids, KnowsClasses}
+use Rattle.law_linking.specs.Classes.{HasAids, KnowsClasses}
 use Rattle.law_soundness.specs.Fit.{IsFit}
 use Rattle.law_soundness.specs.State.{IsSoundMemory, is_owner_up_to, most_owner}
 use Rattle.law_soundness.specs.Machines.{IsSoundMachine, KnowOwners}
-use Rattle.law_soundness.specs.Methods.{KnowsMethods}
+use Rattle.law_linking.specs.Methods.{KnowsMethods}
 
 -- a method in bytecode that a call reaches
 abbrev pub callee_of : MethodCall → ℕ → ℕ → Callee

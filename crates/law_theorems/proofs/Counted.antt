@@ -7,7 +7,7 @@ use Rattle.jc_heap.specs.declared.object.Facts.{Facts}
 use Rattle.jc_heap.specs.Object.{Object, AnObject, cells_of, facts_of, header_only, is_object, with_cell}
 use Rattle.jc_heap.specs.Heap.{HeapState, facts, goes_back, heap_item_at, set_cell}
 use Rattle.jc_heap.specs.Moves.{Write, SetPlaces, WriteNonAtomic, SetCells, AddObject, AddTransient, AddPackage, Begin, Commit, Abort}
-use Rattle.jc_heap.specs.Places.{place_word}
+use Rattle.jc_heap.specs.Places.{place_at}
 use Rattle.jc_heap.proofs.Laws.{heap_item_at-set_cell, object_named, same_facts}
 use Rattle.jc_memory.specs.State.{MemoryState, Effect, HeapMove, SetTransient, SetFlag, ClearTransient, SetRegisters, BeginCommand, SendBytes}
 use Rattle.jc_memory.specs.State.{apply_effect, apply_effects}
@@ -15,7 +15,8 @@ use Rattle.jc_memory.specs.Reading.{AllEffectsDue}
 use Rattle.jc_linker.specs.Values.{Packages}
 use Rattle.jc_pin.specs.Pins.{counter}
 use Rattle.jc_platform.specs.declared.names.PlatformClass.TheVariants.{OwnerPin}
-use Rattle.jc_card_checks.specs.Objects.{is_a, is_object_address, is_persistent_instance}
+use Rattle.jc_card_checks.specs.Objects.{is_object_address, is_persistent_instance}
+use Rattle.jc_linker.specs.Classes.{is_a}
 use Rattle.law_soundness.specs.Commands.{IsServed}
 use Rattle.law_soundness.specs.Soundness.{AreKnown}
 use Rattle.law_soundness.specs.State.{IsSoundMemory}
@@ -55,7 +56,7 @@ module _ (p : Packages) (known : AreKnown p) (q n : ℕ) (f : Facts) (pin : (is_
         let now = now_behind (HeapMove (SetPlaces cs)) served none in (now, choose m.heap.begun m.heap.durable _ held.1 now)
     behind_one (HeapMove (WriteNonAtomic place v)) served none = (
       now_behind (HeapMove (WriteNonAtomic place v)) served none,
-      choose (goes_back m.heap (place_word place)) m.heap.durable _ held.1 (held_place q n f m.heap.durable place v none held.1),
+      choose (goes_back m.heap (place_at m.heap.now place)) m.heap.durable _ held.1 (held_place q n f m.heap.durable place v none held.1),
     )
     behind_one (HeapMove (SetCells r i vs)) served none =
         let now = now_behind (HeapMove (SetCells r i vs)) served none in (now, choose m.heap.begun m.heap.durable _ held.1 now)
@@ -100,7 +101,7 @@ set_holds q v f h o item long persistent same = record {
 }
 
 pub counted_in_both : (p : Packages) (known : AreKnown p) (m : MemoryState) → IsSoundMemory p m → (q v : ℕ) → is_owner_pin p m.heap.durable q ≡ true
-    → goes_back m.heap (place_word (counter q)) ≡ false
+    → goes_back m.heap (place_at m.heap.now (counter q)) ≡ false
     → HoldsInBoth q v (facts m.heap.durable q) (apply_effect (HeapMove (WriteNonAtomic (counter q) v)) m)
 counted_in_both p known m s q v is away =
     let f = facts m.heap.durable q in

@@ -1,5 +1,12 @@
--- Behind a transaction's effects the durable heap is the one found, but for tries.
-use Rattle.std.proofs.Common.{[], ◌≡◌, ℕ, List, ◌∷◌, ◌++◌, inl, inr, refl, sym, subst, ap}
+-- Behind a transaction's effects the durable heap is the one found, but for tries and elements of arrays of bytes.
+use Rattle.std.proofs.Common.{[], ◌≡◌, ℕ, ◌+◌, ◌<◌, ◌≤◌, List, ◌∷◌, ◌++◌, length, true, false, None, inl, inr, refl, sym, ◌∙◌, subst, ap, arith}
+use Rattle.std.specs.Prelude.{slice_index}
+use Rattle.std.proofs.lemmas.Bool.{and_parts, cases_lt}
+use Rattle.jc_heap.specs.declared.place.Place.TheVariants.{Cell}
+use Rattle.jc_heap.specs.Heap.{cells, facts, goes_back, heap_item_at}
+use Rattle.jc_heap.specs.Object.{cells_of}
+use Rattle.jc_heap.specs.Places.{place_at}
+use Rattle.jc_heap.proofs.Laws.{object_named}
 use Rattle.jc_heap.specs.Moves.{Begin, IsInside}
 use Rattle.jc_memory.specs.State.{MemoryState, Effect, HeapMove, apply_effect, apply_effects, moves_of}
 use Rattle.jc_memory.specs.Reading.{AllEffectsDue}
@@ -16,10 +23,15 @@ use Rattle.law_images.specs.Cards.{IsOwnCard}
 use Rattle.law_images.proofs.Rest.{IsEmpty, empty_effect}
 use Rattle.law_images.proofs.Sessions.{linked_known}
 use Rattle.law_images.specs.Comes.{ComesWithin, memory_at}
-use Rattle.law_images.specs.Tries.{IsAsFound}
+use Rattle.law_images.specs.Tries.{IsAsFound, PlaceStays, is_persistent_bytes}
+use Rattle.jc_card_checks.specs.Objects.{is_bytes, is_object_address}
+use Rattle.law_soundness.proofs.Effects.{event_none}
+use Rattle.law_soundness.proofs.Values.{none_of}
+use Rattle.law_theorems.proofs.Named.{cell_below}
+use Rattle.law_theorems.proofs.Placed.{beyond_stays, headers_behind, place_stays}
 use Rattle.law_theorems.proofs.Orders.{commands_orderly}
 use Rattle.law_theorems.proofs.Others.{others}
-use Rattle.law_theorems.proofs.Pins.{pin_left}
+use Rattle.law_theorems.proofs.Pins.{as_it_was}
 use Rattle.law_theorems.proofs.Prefixes.{behind_both, due_after, due_all}
 use Rattle.law_theorems.proofs.Served.{AddsPackage, IsFine, commands_fine}
 use Rattle.jc_heap.specs.Heap.{HeapView}
@@ -28,8 +40,7 @@ use Rattle.law_images.specs.Comes.{ComesTo}
 use Rattle.law_images.specs.Tries.{tries_in}
 use Rattle.law_theorems.proofs.Coming.{comes_rests}
 use Rattle.law_theorems.proofs.OwnerPins.{pin_in, pin_stands}
-use Rattle.law_theorems.proofs.Pins.{tries_left}
-use Rattle.law_theorems.proofs.Staying.{IsLaidOutAt, away_at_begin, laid_behind, stay}
+use Rattle.law_theorems.proofs.Staying.{IsLaidOutAt, away_at_begin, laid_behind, pin_item, tries_stay}
 
 module _ (t : Tokens) (card : CardState) (own : IsOwnCard t card) (bytes : List ℕ) (earlier during : List Effect) where
   abbrev all : List Effect
@@ -64,6 +75,26 @@ module _ (t : Tokens) (card : CardState) (own : IsOwnCard t card) (bytes : List 
     untouched = due_all (IsServed card.packages) IsEmpty (λ e m d c. empty_effect e m c) earlier card.memory
         (due_before (IsServed card.packages) earlier (HeapMove Begin ∷ during) card.memory due) clean served.0
 
+    -- as the transaction begins, no cell's word goes back
+    cell_away : (r i : ℕ) → is_object_address found.heap.now r ≡ true → (facts found.heap.now r).event ≡ None → i + 1 ≤ (facts found.heap.now r).length
+        → goes_back begun.heap (place_at begun.heap.now (Cell r i)) ≡ false
+    cell_away r i there persistent within = away_at_begin found (place_at found.heap.now (Cell r i))
+        (cell_below found.heap.now laid.1.now.apart r i (object_named found.heap.now r there) (persistent, within)) untouched
+
+    -- of an array of bytes
+    array_stays : (r : ℕ) → is_persistent_bytes found.heap.now r ≡ true → (i : ℕ) → i < length (cells found.heap.now r)
+        → PlaceStays r i during begun (slice_index (cells found.heap.now r) i) (slice_index (cells (apply_effects during begun).heap.durable r) i)
+    array_stays r is i there =
+        let parts = and_parts (is_object_address found.heap.now r) _ is in
+        let kinds = and_parts (is_bytes (facts found.heap.now r).kind) _ parts.1 in
+        elim (cases_lt i (facts found.heap.now r).length) [
+          | inl within ↦ place_stays card.packages r i during begun served.1 laid_begun.0 refl inside there
+              (cell_away r i parts.0 (none_of (facts found.heap.now r).event kinds.1) (omega (arith, within)))
+          | inr beyond ↦
+              let stays = beyond_stays card.packages r i during begun (slice_index (cells found.heap.now r) i) served.1 laid_begun.0 refl inside there (kinds.0, beyond) in
+              subst (λ x. PlaceStays r i during begun (slice_index (cells found.heap.now r) i) x) (sym stays.1) stays.0
+        ]
+
     as_found : IsAsFound card.packages during begun found.heap.now (apply_effects during begun).heap.durable
     as_found =
         let saved = saved_within during begun orderly refl inside in
@@ -71,13 +102,23 @@ module _ (t : Tokens) (card : CardState) (own : IsOwnCard t card) (bytes : List 
         record {
           rest = same.rest;
           stands = same.stands;
-          others = λ r none. others card.packages r during begun served.1 laid_begun.0 refl inside none;
+          others = λ r pin bytes. others card.packages r during begun served.1 laid_begun.0 refl inside pin bytes;
+          arrays = λ r is. (headers_behind card.packages r during begun served.1 laid_begun.0 refl inside, array_stays r is);
           pins = λ r is.
-              let known = linked_known card.packages own.linked in (
-                tries_left r during begun (tries_in found.heap.now r),
-                stay card.packages known r during begun (tries_in found.heap.now r) served.1 laid_begun refl inside is
-                    (away_at_begin card.packages found sound laid.1.now.apart r (pin_stands card.packages known found sound r is) untouched),
-                pin_left r during begun begun.heap.durable (apply_effects during begun).heap.durable saved (pin_in card.packages known found sound r is),
+              let known = linked_known card.packages own.linked in
+              let pin = pin_in card.packages known found sound r is in
+              let stands = pin_stands card.packages known found sound r is in
+              let long = stands.long in
+              let there = ap (λ t. length (cells_of t)) pin.item in
+              let cells = pin.cells in
+              let left = (apply_effects during begun).heap.durable in (
+                tries_in left r,
+                tries_stay card.packages known r during begun (tries_in found.heap.now r) (tries_in left r) served.1 laid_begun refl inside is
+                    (cell_away r 2 stands.there (event_none (facts found.heap.now r) stands.kept) (omega (arith, long)))
+                    (place_stays card.packages r 2 during begun served.1 laid_begun.0 refl inside (omega (arith, there, cells))
+                    (cell_away r 2 stands.there (event_none (facts found.heap.now r) stands.kept) (omega (arith, long)))),
+                sym (as_it_was (heap_item_at left r))
+                    ∙ pin_item card.packages known r during begun (tries_in left r) served.1 laid_begun.0 refl inside is,
               );
         }
 
@@ -103,7 +144,8 @@ module _ (t : Tokens) (card : CardState) (own : IsOwnCard t card) (bytes : List 
     by (inr adds) = absurd (due_after AddsPackage earlier (HeapMove Begin ∷ during) card.memory
         (due_begun AddsPackage (exchange bytes card) card.memory effects adds within.begins)).0
 
-    -- behind the beginning of a transaction of a command, and effects within it, the durable heap is the one found, but for tries
+    -- behind the beginning of a transaction of a command, and effects within it, the durable heap is the one found, but for tries and elements of
+    -- arrays of bytes
     pub is_found : IsAsFound card.packages during opened (memory_at card earlier).heap.now (memory_at card effects).heap.durable
     is_found = subst (λ (m : MemoryState). IsAsFound card.packages during opened (memory_at card earlier).heap.now m.heap.durable)
         (sym (behind_both earlier (HeapMove Begin ∷ during) card.memory)) (by (commands_fine t card own bytes within.are))

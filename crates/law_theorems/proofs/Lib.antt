@@ -8,6 +8,7 @@ pub mod Pins
 pub mod Named
 pub mod Orders
 pub mod OwnerPins
+pub mod Placed
 pub mod Staying
 pub mod Renewed
 pub mod Founds

@@ -24,7 +24,8 @@ use Rattle.jc_pin.specs.Pins.{counter, record_of as pin_of}
 use Rattle.jc_pin.specs.PinInit.{first_record}
 use Rattle.jc_pin.specs.Updating.{changes_of_update}
 use Rattle.jc_platform.specs.declared.names.PlatformClass.TheVariants.{OwnerPin}
-use Rattle.jc_card_checks.specs.Objects.{is_a, is_byte_array, is_bytes, is_instance, is_object_address, is_persistent_instance}
+use Rattle.jc_card_checks.specs.Objects.{is_byte_array, is_bytes, is_instance, is_object_address, is_persistent_instance}
+use Rattle.jc_linker.specs.Classes.{is_a}
 use Rattle.law_soundness.specs.Commands.{IsServed}
 use Rattle.law_soundness.specs.Fit.{AreCellsOf, AreStatics, FitsChange, FitsPlace, FitsRun, IsPinObject, OfPin, OfRegistry, OfStatics, OfValue, RegistersApplet, SetsUpPin, UpdatesPin}
 use Rattle.law_soundness.specs.State.{IsSoundMemory}
@@ -152,6 +153,18 @@ module _ (p : Packages) (m : MemoryState) (s : IsSoundMemory p m) where
       subst (λ n. is_byte_array (facts m.heap.now (pin_of m q).value) n ≡ true) (sym max)
       (subst (λ v. is_byte_array (facts m.heap.now v) (slice_index held 1) ≡ true) (sym (word_is q 4 object.kept)) bytes)
 
+-- where the word of an object's cell lies
+cell_in : (h : HeapState) (q i : ℕ) → AreCellsOf h q (i + 1) → (q < place_at h (Cell q i)) × (place_at h (Cell q i) < q + item_size (heap_item_at h q))
+unfolding cell_address
+cell_in h q i of =
+    let i_in = of.1 in
+    let k = object_in (heap_item_at h q) i of.0 (omega (arith, i_in)) in
+    (omega arith, omega (arith, k))
+
+-- it lies below the end of the heap
+pub cell_below : (h : HeapState) → StandApart h → (q i : ℕ) → is_allocated h q ≡ true → AreCellsOf h q (i + 1) → place_at h (Cell q i) < h.top
+cell_below h apart q i there of = let own = cell_in h q i of in let high = own.1 in let below = apart.below q there in omega (arith, high, below)
+
 module _ (p : Packages) (m : MemoryState) (s : IsSoundMemory p m) (apart : StandApart m.heap.now) (r : ℕ) (pin : PinStands p m r) where
   abbrev h : HeapState
   h = m.heap.now
@@ -166,19 +179,8 @@ module _ (p : Packages) (m : MemoryState) (s : IsSoundMemory p m) (apart : Stand
   pin_there : is_allocated h r ≡ true
   pin_there = object_named h r pin.there
 
-  -- where the word of a cell lies
-  cell_in : (q i : ℕ) → AreCellsOf h q (i + 1) → (q < place_at h (Cell q i)) × (place_at h (Cell q i) < q + size q)
-  unfolding cell_address
-  cell_in q i of =
-      let i_in = of.1 in
-      let k = object_in (heap_item_at h q) i of.0 (omega (arith, i_in)) in
-      (omega arith, omega (arith, k))
-
   word_in_pin : (r < w) × (w < r + size r)
-  word_in_pin = let long = pin.long in cell_in r 2 (event_none (facts h r) pin.kept, omega (arith, long))
-
-  pub word_below : w < h.top
-  word_below = let own = word_in_pin in let high = own.1 in let below = apart.below r pin_there in omega (arith, high, below)
+  word_in_pin = let long = pin.long in cell_in h r 2 (event_none (facts h r) pin.kept, omega (arith, long))
 
   -- what lies within another record is another word
   elsewhere : (q x : ℕ) → is_allocated h q ≡ true → (q ≡ r → ⊥) → q ≤ x → x < q + size q → x ≡ w → ⊥
@@ -196,7 +198,7 @@ module _ (p : Packages) (m : MemoryState) (s : IsSoundMemory p m) (apart : Stand
 
   other_object : (q i : ℕ) → AreCellsOf h q (i + 1) → (q ≡ r → ⊥) → place_at h (Cell q i) ≡ w → ⊥
   other_object q i of other is =
-      let c = cell_in q i of in
+      let c = cell_in h q i of in
       let low = c.0 in
       let some = of.1 in
       elsewhere q (place_at h (Cell q i)) (there_if h q (λ t. (facts_of t).length) refl (omega (arith, some))) other (omega (arith, low)) c.1 is

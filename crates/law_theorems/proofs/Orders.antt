@@ -14,7 +14,8 @@ use Rattle.jc_linker.specs.Values.{Packages}
 use Rattle.jc_platform.specs.Tokens.{Tokens}
 use Rattle.jc_platform.specs.declared.names.PlatformClass.TheVariants.{OwnerPin}
 use Rattle.jc_pin.specs.Pins.{has_value, is_persistent_with, is_pin, record_of as pin_of}
-use Rattle.jc_card_checks.specs.Objects.{is_a, is_bytes, is_instance}
+use Rattle.jc_card_checks.specs.Objects.{is_bytes, is_instance}
+use Rattle.jc_linker.specs.Classes.{is_a}
 use Rattle.jc_card.specs.Answers.{exchange}
 use Rattle.jc_card.specs.CardState.{CardState}
 use Rattle.law_atomicity.specs.Orderly.{KeepsTransactionOrder}
@@ -85,7 +86,8 @@ module _ (p : Packages) (m : MemoryState) (s : IsSoundMemory p m) (r : ℕ) (obj
 -- ---- effects that are served keep the order
 
 orderly : (p : Packages) (e : Effect) (m : MemoryState) → IsServed p e m → IsSoundMemory p m → KeepsTransactionOrder e m
-orderly p (HeapMove (WriteNonAtomic place v)) m fits s = (fits.0, fits.1, counts p m s fits.0 fits.2)
+orderly p (HeapMove (WriteNonAtomic place v)) m (inl fits) s = inl (fits.0, fits.1, counts p m s fits.0 fits.2)
+orderly p (HeapMove (WriteNonAtomic place v)) m (inr element) s = inr element
 orderly p (HeapMove Begin) m fits s = fits
 orderly p (HeapMove Commit) m fits s = fits.0
 orderly p (HeapMove Abort) m fits s = fits

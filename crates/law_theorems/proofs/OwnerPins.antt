@@ -13,7 +13,9 @@ use Rattle.jc_linker.specs.Resolves.{names_interface}
 use Rattle.jc_linker.specs.Values.{Packages}
 use Rattle.jc_platform.specs.declared.names.PlatformClass.TheVariants.{OwnerPin}
 use Rattle.jc_platform.specs.Hierarchy.{cells_of as platform_cells, is_interface}
-use Rattle.jc_card_checks.specs.Objects.{fits_class, is_a, is_instance, is_persistent_instance, is_object_address}
+use Rattle.jc_platform.specs.Names.{classes}
+use Rattle.jc_card_checks.specs.Objects.{fits_class, is_instance, is_persistent_instance, is_object_address}
+use Rattle.jc_linker.specs.Classes.{is_a}
 use Rattle.law_soundness.specs.State.{IsSoundMemory}
 use Rattle.law_soundness.specs.Soundness.{AreKnown}
 use Rattle.law_soundness.proofs.RunObjects.{instance_kind, kept_behind, kept_fits}
@@ -44,7 +46,7 @@ module _ (p : Packages) (known : AreKnown p) (m : MemoryState) (s : IsSoundMemor
   pin = (and_parts (is_persistent_instance (facts m.heap.now r)) _ (and_parts (is_object_address m.heap.now r) _ is).1).1
 
   declared : 5 ≤ (facts m.heap.now r).length
-  unfolding platform_cells is_interface
+  unfolding platform_cells is_interface classes
   declared =
       let f = s.now.objects r (kept_behind p m s r there kept) there in
       let kind = instance_kind (facts m.heap.now r).kind (and_parts (is_instance (facts m.heap.now r).kind) _ kept).0 in

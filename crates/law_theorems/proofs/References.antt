@@ -50,8 +50,8 @@ named p m sound = record {
 handed : (p : Packages) (m : MemoryState) → IsSoundMemory p m → HasEnvironment p m → HandsObjects m
 handed p m sound environment = record {
   instances = instance_refers p m sound;
-  object = inr (environment.now.there 15 (omega arith));
-  buffer = inr (environment.now.there 16 (omega arith));
+  object = inr (environment.now.there 15 (omega (arith, environment.now.long)));
+  buffer = inr (environment.now.there 16 (omega (arith, environment.now.long)));
 }
 
 -- ---- steps

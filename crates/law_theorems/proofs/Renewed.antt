@@ -25,7 +25,8 @@ use Rattle.jc_pin.specs.PinInit.{first_record}
 use Rattle.jc_pin.specs.Updating.{changes_of_update}
 use Rattle.jc_platform.specs.declared.names.PlatformClass.TheVariants.{OwnerPin}
 use Rattle.jc_card.specs.Answers.{exchange}
-use Rattle.jc_card_checks.specs.Objects.{is_a, is_bytes, is_instance, is_object_address, is_persistent_instance}
+use Rattle.jc_card_checks.specs.Objects.{is_bytes, is_instance, is_object_address, is_persistent_instance}
+use Rattle.jc_linker.specs.Classes.{is_a}
 use Rattle.law_isolation.proofs.OnHeap.{StandsBeside, cells_set, count_set, not_top, place_set, registry_set, transient_added}
 use Rattle.law_soundness.specs.Commands.{IsServed}
 use Rattle.law_soundness.specs.Fit.{AreStatics, FitsChange, FitsPlace, IsPinObject, OfPin, OfRegistry, OfStatics, OfValue}

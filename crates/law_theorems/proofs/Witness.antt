@@ -96,7 +96,7 @@ module _ (budget n capacity : ℕ) (text : List ℕ) (t : Tokens) (enough : leas
     layout = new_layout n capacity text t;
   }
 
-  found : IsSound none heap (last_fixed heap)
+  found : IsSound none heap (last_fixed t heap)
   found = record {
     objects = λ r above there.
         let o : IsFitObject heap.counts.1 none heap r = fits.fits.objects r above there in
@@ -119,7 +119,7 @@ module _ (budget n capacity : ℕ) (text : List ℕ) (t : Tokens) (enough : leas
     memory = record {
       heap = heap_at_rest heap passed refusals size;
       ram = blank;
-      fixed = fixed_of heap;
+      fixed = fixed_of t heap;
       registers = at_reset;
       command = [];
       sent = [];
@@ -145,11 +145,10 @@ module _ (budget n capacity : ℕ) (text : List ℕ) (t : Tokens) (enough : leas
       reset = record {
         ram = is_blank;
         cells = as_zero;
-        fixed = refl;
         registers = refl;
         command = refl;
         sent = refl;
-        packages = (t, fits.beginning.table, fits.packages);
+        packages = (t, fits.beginning.table, fits.packages, refl);
         load = refl;
       };
       budget = refl;

@@ -66,6 +66,6 @@ pub record KeepWhatWasDone : Type 0 where
       → is_owner_pin card.packages (memory_at card before).heap.durable q ≡ true → (IsChanged (memory_at card before) q → ⊥)
       → SetNoTries q after (memory_at card (before ++ (HeapMove (WriteNonAtomic (counter q) v) ∷ []))) → tries_in h q ≡ v
   -- and behind effects of a session's command that is the heap as it is, where no transaction is open; else what its beginning found, but
-  -- for the tries that were counted since and stay
+  -- for what was set for good since and stays
   pub left : (t : Tokens) (card : CardState) (bytes : List ℕ) (effects : List Effect) (h : HeapState) → ComesTo t (Up card) → AreBytes bytes
       → HasTracePrefix (exchange bytes card) card.memory effects → h ≡ (memory_at card effects).heap.durable → IsLeft card effects h

@@ -26,7 +26,8 @@ pub fn down_tells_of_refused_writes()
 /// What is not committed is taken back: by an abort, by the end of the command, and by a loss of power at any
 /// write, followed by any number of resets that are cut as well. The heap is then as the transaction found it, but
 /// for the tries of its OwnerPINs: those that were counted before the transaction first updated the PIN or ran its
-/// constructor stay counted, and no others. Where no transaction is open, all changes before the loss stay.
+/// constructor stay counted, and no others; and but for elements of persistent arrays of bytes, which stay as they were set
+/// for good before the transaction first changed their words. Where no transaction is open, all changes before the loss stay.
 pub fn sessions_take_back_what_is_not_committed()
     ensures { IsTakenBack }
 {}

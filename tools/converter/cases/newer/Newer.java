@@ -92,6 +92,10 @@ public class Newer extends Applet implements MultiSelectable, AppletEvent, Exten
             case 9:
                 JCSystem.requestObjectDeletion();
                 break;
+            case 10:
+                keep(buffer, apdu.setIncomingAndReceive(), (byte) first);
+                answer(apdu, Util.getShort(bytes, (short) 1), Util.getShort(bytes, (short) 3));
+                break;
             default:
                 ISOException.throwIt(ISO7816.SW_INS_NOT_SUPPORTED);
         }
@@ -102,6 +106,14 @@ public class Newer extends Applet implements MultiSelectable, AppletEvent, Exten
         byte before = apdu.getCurrentState();
         apdu.setIncomingAndReceive();
         return Util.makeShort(before, apdu.getCurrentState());
+    }
+
+    /** Keeps the data, and two bytes after them, in a transaction that is aborted. */
+    private void keep(byte[] buffer, short length, byte value) {
+        JCSystem.beginTransaction();
+        short end = Util.arrayCopyNonAtomic(buffer, ISO7816.OFFSET_CDATA, bytes, (short) 0, length);
+        Util.arrayFillNonAtomic(bytes, end, (short) 2, value);
+        JCSystem.abortTransaction();
     }
 
     /** The reason of an exception that has none. */

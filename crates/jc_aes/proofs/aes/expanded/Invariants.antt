@@ -1,6 +1,7 @@
-use Rattle.std.proofs.Common.{◌≡◌, ◌*◌, take}
+use Rattle.std.proofs.Common.{◌≡◌, ◌*◌, ◌/◌, length, take}
 use Rattle.jc_aes.specs.Aes.{schedule}
+use Rattle.jc_aes.specs.Places.{IsPlace}
 use Rattle.jc_aes.proofs.aes.expanded.Given as goal
 
 abbrev pub invariant-expansion : goal.invariant-expansion
-invariant-expansion l = take (4 * l.i) l.words ≡ schedule l.key l.i
+invariant-expansion l = (take (4 * l.i) l.words ≡ schedule l.key l.i) × IsPlace (length l.key / 4) l.i l.place

@@ -1,4 +1,4 @@
-use Rattle.std.proofs.Common.{◌≡◌, ◌<◌, ◌∷◌, [], ℕ, ap, arith, ◌∙◌}
+use Rattle.std.proofs.Common.{◌<◌, ◌∷◌, [], arith}
 use Rattle.jc_aes.proofs.Tables.{slice_index-S_BOX, slice_index-DOUBLED_SUBSTITUTES, slice_index-TRIPLED_SUBSTITUTES}
 use Rattle.jc_aes.proofs.field.substitute_column.Goals as goal
 

@@ -2,7 +2,8 @@ use Rattle.std.proofs.Common.{◌≡◌, ℕ, length, take, ap, ◌∙◌}
 use Rattle.jc_words.specs.Layout.{front_length}
 use Rattle.jc_heap.specs.Stored.{HoldsHeap}
 use Rattle.jc_image.specs.Laying.{first_words_of, sealed_heap, sealed_view}
-use Rattle.jc_card.specs.Fixed.{fixed_objects, with_objects}
+use Rattle.jc_environment.specs.Objects.{fixed_objects}
+use Rattle.jc_card.specs.Fixed.{with_objects}
 use Rattle.jc_card.specs.Made.{new_front}
 use Rattle.jc_card.proofs.MadeImages.{long_of, made_if, mapped_if}
 use Rattle.jc_card.proofs.FixedObjects.{head-all}
@@ -16,7 +17,7 @@ returns-clause-size g c =
     mapped_if c.seal.result (λ s. HoldsHeap (S.words s) (S.down s) (S.passed s) (S.refusals s) (sealed_view c.make_fixed.new.heap))
     (λ s. length (S.words s) ≡ length (S.words c.args.store))
     (λ s h. long_of (S.words s) (S.down s) (S.passed s) (S.refusals s) (sealed_view c.make_fixed.new.heap) (length (S.words c.args.store)) h
-    (ap (λ (v : HeapState). v.head.1) c.in-Ok.ensures.made ∙ ap (λ (h : ℕ × ℕ). h.1) (head-all c.args.table.now c.in_ok-heap.heap.now fixed_objects)
+    (ap (λ (v : HeapState). v.head.1) c.in-Ok.ensures.made ∙ ap (λ (h : ℕ × ℕ). h.1) (head-all c.args.table.now c.in_ok-heap.heap.now (fixed_objects c.args.table.now))
     ∙ ap (λ v. v.now.head.1) c.in_ok-heap.ensures.done)) c.seal.ensures.sealed
 
 pub returns-clause-front : goal.returns-clause-front
@@ -25,14 +26,14 @@ returns-clause-front g c =
     let n = length (S.words c.args.store) in
     let text = c.args.text.now in
     let t = c.args.table.now in
-    let heap = ap sealed_heap c.in-Ok.ensures.made ∙ ap (λ v. sealed_heap (with_objects t (v.now) fixed_objects)) c.in_ok-heap.ensures.done in
+    let heap = ap sealed_heap c.in-Ok.ensures.made ∙ ap (λ v. sealed_heap (with_objects t (v.now) (fixed_objects t))) c.in_ok-heap.ensures.done in
     mapped_if c.seal.result (λ s. take front_length (S.words s) ≡ first_words_of (sealed_heap c.make_fixed.new.heap.now))
-    (λ s. take front_length (S.words s) ≡ new_front n c.args.capacity (length text)) (λ s h. h ∙ (ap (λ h. first_words_of h) heap ∙ front-new n c.args.capacity text t)) c.seal.ensures.front
+    (λ s. take front_length (S.words s) ≡ new_front n c.args.capacity (length text) t) (λ s h. h ∙ (ap (λ h. first_words_of h) heap ∙ front-new n c.args.capacity text t)) c.seal.ensures.front
 
 pub returns-clause-made : goal.returns-clause-made
 returns-clause-made g c =
     let S = g.S.WordStore in
     made_if S.words S.down S.passed S.refusals c.seal.result (sealed_view c.make_fixed.new.heap)
     (length (S.words c.args.store)) c.args.capacity c.args.text.now c.args.table.now c.seal.ensures.sealed
-    (ap sealed_heap c.in-Ok.ensures.made ∙ ap (λ v. sealed_heap (with_objects c.args.table.now (v.now) fixed_objects)) c.in_ok-heap.ensures.done)
+    (ap sealed_heap c.in-Ok.ensures.made ∙ ap (λ v. sealed_heap (with_objects c.args.table.now (v.now) (fixed_objects c.args.table.now))) c.in_ok-heap.ensures.done)
     c.requires.enough c.requires.reads

@@ -24,7 +24,8 @@ returns-in-Ok-lent_card-clause-reset g c =
     let w = S.words c.args.store in
     let card = c.in-Ok-lent_card.card in
     let parts = c.parts_of-linked in
-    reset_over (heap_of (recovered_of w)) (heap_of_store_at_rest w (S.passed c.args.store) (S.refusals c.args.store)) parts.result.1 parts.result.0 card
+    reset_over (heap_of (recovered_of w)) (heap_of_store_at_rest w (S.passed c.args.store) (S.refusals c.args.store)) parts.result.1 parts.result.0
+    parts.result.2.items card
     c.card_over.result (subst (λ h. IsAtReset h card) (ap (λ j. heap_of (j.plain)) c.resume-image.ensures
-    ∙ ap (λ v. heap_of (recovered_of v)) c.of.ensures.words) c.in-Ok-lent_card.ensures.reset) parts.ensures.ram parts.ensures.packages
+    ∙ ap (λ v. heap_of (recovered_of v)) c.of.ensures.words) c.in-Ok-lent_card.ensures.reset) parts.ensures.ram parts.ensures.packages parts.ensures.fixed
     c.card_over.ensures.memory c.card_over.ensures.packages c.card_over.ensures.load

@@ -1,4 +1,4 @@
-use Rattle.std.proofs.Common.{◌≡◌, ◌≤◌, ◌∙◌, ◌+◌, ◌-◌, ◌++◌, ℕ, List, length, length-drop, take, drop, subst, sym, arith}
+use Rattle.std.proofs.Common.{◌≡◌, ◌∙◌, ◌+◌, ◌-◌, ◌++◌, ℕ, List, take, subst, arith}
 use Rattle.jc_digests.specs.Pieces.{HasAbsorbed}
 use Rattle.jc_digests.proofs.Pieces.{joined}
 use Rattle.jc_digests.proofs.absorbing.absorb.Goals as goal

@@ -1,4 +1,4 @@
-use Rattle.std.proofs.Common.{◌≡◌, ◌∙◌, ◌+◌, ℕ, List, length, refl, arith}
+use Rattle.std.proofs.Common.{◌≡◌, ◌+◌, length, refl, arith}
 use Rattle.jc_digests.proofs.Pieces.{absorbed_full, absorbed_open}
 use Rattle.jc_digests.proofs.absorbing.absorb_part.Goals as goal
 

@@ -1,4 +1,4 @@
-use Rattle.std.proofs.Common.{◌≡◌, ◌∙◌, ◌-◌, ◌%◌, ◌∷◌, ◌++◌, ℕ, List, length, replicate, ap, arith}
+use Rattle.std.proofs.Common.{◌≡◌, ◌∙◌, ◌-◌, ◌%◌, ◌∷◌, ◌++◌, ℕ, length, replicate, ap, arith}
 use Rattle.jc_digests.specs.Pieces.{filling}
 use Rattle.jc_digests.proofs.Pieces.{closed_128}
 use Rattle.jc_digests.proofs.absorbing.close_128.Goals as goal

@@ -1,5 +1,4 @@
-use Rattle.std.proofs.Common.{◌≡◌, ◌∙◌, ◌+◌, ℕ, List, length, slice_index, take, refl, sym, ap, arith}
-use Rattle.std.proofs.lemmas.List.{take_all}
+use Rattle.std.proofs.Common.{◌∙◌, ℕ, slice_index, refl, sym, ap}
 use Rattle.jc_digests.specs.Remainders.{bits_in, generator_16, remainder}
 use Rattle.jc_digests.proofs.Remainders.{remainder_more}
 use Rattle.jc_digests.proofs.checksums.update_16.Goals as goal

@@ -1,11 +1,11 @@
-use Rattle.std.proofs.Common.{◌≡◌, ◌∙◌, ◌+◌, ◌-◌, ◌∷◌, [], ◌++◌, ◌≤◌, ℕ, suc, List, length, take, length-take-le, refl, sym, ap, arith}
+use Rattle.std.proofs.Common.{◌≡◌, ◌∙◌, ◌+◌, ◌-◌, ◌∷◌, [], ◌++◌, ◌≤◌, ℕ, suc, length, take, length-take-le, refl, sym, ap, arith}
 use Rattle.std.proofs.lemmas.List.{length-set, take_all, take_more_set}
 use Rattle.sha1.specs.Sha1.{first_words, next_word, schedule}
 use Rattle.jc_digests.proofs.sha_1.schedule.Goals as goal
 
 pub first-init : goal.first-init
 unfolding first_words
-first-init c = (refl, refl)
+first-init c = (refl, c.requires.words)
 
 pub first-preserved : goal.first-preserved
 unfolding first_words

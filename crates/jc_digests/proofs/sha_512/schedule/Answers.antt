@@ -1,4 +1,4 @@
-use Rattle.std.proofs.Common.{◌≡◌, ◌∙◌, ◌+◌, ◌-◌, ◌∷◌, [], ◌++◌, ◌≤◌, ℕ, suc, List, length, take, length-take-le, refl, sym, ap, arith}
+use Rattle.std.proofs.Common.{◌≡◌, ◌∙◌, ◌+◌, ◌-◌, ◌∷◌, [], ◌++◌, ◌≤◌, ℕ, suc, length, take, length-take-le, refl, sym, ap, arith}
 use Rattle.std.proofs.lemmas.List.{length-set, take_all, take_more_set}
 use Rattle.sha2.specs.Sha512.{first_words, next_word, schedule}
 use Rattle.jc_digests.proofs.sha_512.schedule.Goals as goal

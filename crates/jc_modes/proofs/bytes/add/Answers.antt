@@ -1,4 +1,4 @@
-use Rattle.std.proofs.Common.{◌≡◌, ◌∙◌, ◌+◌, ◌++◌, [], ◌∷◌, ℕ, suc, List, bit_xor, length, take, drop, slice_index, refl, sym, ap, arith}
+use Rattle.std.proofs.Common.{◌≡◌, ◌∙◌, ◌+◌, ◌++◌, [], ◌∷◌, ℕ, suc, bit_xor, length, slice_index, refl, sym, ap, arith}
 use Rattle.std.proofs.lemmas.List.{length-set, drop-set-lt, take_all, take_more_set}
 use Rattle.jc_modes.specs.Modes.{xor_first}
 use Rattle.jc_modes.proofs.Front.{drop_more, same_at}

@@ -1,4 +1,4 @@
-use Rattle.std.proofs.Common.{◌≡◌, ◌∙◌, ◌+◌, ◌-◌, [], ◌∷◌, ◌++◌, ℕ, List, append_assoc, length, replicate, take, arith}
+use Rattle.std.proofs.Common.{◌∙◌, ◌+◌, ◌-◌, [], ◌∷◌, ◌++◌, append_assoc, length, replicate, take}
 use Rattle.std.proofs.lemmas.List.{length-set, take_more_set}
 use Rattle.jc_modes.proofs.bytes.end_by_bit.Goals as goal
 

@@ -1,4 +1,4 @@
-use Rattle.std.proofs.Common.{◌≡◌, ◌≤◌, ◌∙◌, ◌+◌, ◌-◌, ◌++◌, ℕ, List, length, length-drop, length-take-le, take, drop, subst, sym, ap, arith}
+use Rattle.std.proofs.Common.{◌≡◌, ◌∙◌, ◌+◌, ◌-◌, ◌++◌, ℕ, List, length, length-drop, length-take-le, take, drop, subst, sym, ap, arith}
 use Rattle.jc_modes.specs.Modes.{IsUnderWay}
 use Rattle.jc_modes.proofs.Pieces.{joined, part_put}
 use Rattle.jc_modes.proofs.conversion.convert.Goals as goal

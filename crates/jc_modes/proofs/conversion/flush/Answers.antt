@@ -1,4 +1,4 @@
-use Rattle.std.proofs.Common.{◌≡◌, ◌∙◌, ◌+◌, ◌++◌, List, ℕ, append_assoc, length, take, sym, ap}
+use Rattle.std.proofs.Common.{◌∙◌, ◌+◌, ◌++◌, List, ℕ, append_assoc, length, take, sym, ap}
 use Rattle.jc_modes.proofs.Pieces.{block_done}
 use Rattle.jc_modes.proofs.conversion.flush.Goals as goal
 

@@ -1,4 +1,4 @@
-use Rattle.std.proofs.Common.{◌≡◌, ◌∙◌, [], List, ℕ, ap, subst}
+use Rattle.std.proofs.Common.{◌∙◌, [], List, ℕ, ap, subst}
 use Rattle.jc_modes.specs.Macs.{marked}
 use Rattle.jc_modes.proofs.hmac.begun.Goals as goal
 

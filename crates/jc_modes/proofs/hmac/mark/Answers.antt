@@ -1,4 +1,4 @@
-use Rattle.std.proofs.Common.{◌≡◌, ◌∙◌, ◌+◌, [], ◌∷◌, ◌++◌, ℕ, suc, List, bit_xor, length, slice_index, take, refl, sym, ap, arith}
+use Rattle.std.proofs.Common.{◌≡◌, ◌∙◌, ◌+◌, [], ◌∷◌, ◌++◌, ℕ, suc, bit_xor, length, slice_index, refl, sym, ap, arith}
 use Rattle.std.proofs.lemmas.List.{length-set, take_all, take_more_set}
 use Rattle.jc_modes.specs.Macs.{listed}
 use Rattle.jc_modes.proofs.hmac.mark.Goals as goal

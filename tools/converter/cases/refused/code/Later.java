@@ -7,7 +7,7 @@ import javacard.framework.Util;
 /** Compiled with an API of a later release. */
 class Uses {
     void method() {
-        Util.arrayFillNonAtomic(null, (short) 0, (short) 1, (byte) 2); //! method: javacard.framework.Util.arrayFillNonAtomic(byte[], short, short, byte) is not on the card (docs/api.table lists what can be)
+        Util.arrayReverse(null, (short) 0, (short) 1); //! method: javacard.framework.Util.arrayReverse(byte[], short, short) is not on the card (docs/api.table lists what can be)
     }
 
     void object() {

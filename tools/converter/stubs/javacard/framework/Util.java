@@ -13,7 +13,15 @@ public class Util {
         return 0;
     }
 
+    public static short arrayCopyNonAtomic(byte[] src, short srcOff, byte[] dest, short destOff, short length) {
+        return 0;
+    }
+
     public static short arrayFill(byte[] bArray, short bOff, short bLen, byte bValue) {
+        return 0;
+    }
+
+    public static short arrayFillNonAtomic(byte[] bArray, short bOff, short bLen, byte bValue) {
         return 0;
     }
 

@@ -1,7 +1,7 @@
-use Rattle.std.proofs.Common.{length, refl, ◌∙◌}
+use Rattle.std.proofs.Common.{length, refl}
 use Rattle.jc_heap.specs.Places.{place_at}
 use Rattle.jc_heap.proofs.Changing.{up_is}
-use Rattle.jc_heap.proofs.Places.{PlaceSpot, place_spot, plain_at, place_unlogged, both_view, both_sound}
+use Rattle.jc_heap.proofs.Places.{PlaceSpot, place_spot, place_unlogged, both_view}
 use Rattle.jc_heap.proofs.heap.Heap.write_both.Goals as goal
 
 pub write_both-requires-clause-place : goal.write_both-requires-clause-place
@@ -13,13 +13,16 @@ write_both-requires-clause-place g c =
 
 pub invariant_of-self-2 : goal.invariant_of-self-2
 invariant_of-self-2 g c =
-    rw (c.in_ok-write_both.ensures.ok, c.place_word-word.ensures ∙ plain_at c.args.self.now.now c.args.place c.requires.plain) (both_sound c.self.inside.journal c.args.self.now c.self.inside.size c.args.place c.args.v
-    c.self.view_is c.requires.there c.requires.plain (up_is c.self.inside.journal c.args.self.now c.self.inside.size c.self.view_is c.requires.up) c.self.invariant)
+    rw c.in_ok-write_both.ensures.ok ((both_view c.self.inside.journal c.args.self.now c.self.inside.size c.args.place c.args.v c.place_word-word.result
+    c.word_for-value.result c.self.view_is c.requires.there c.requires.value
+    (up_is c.self.inside.journal c.args.self.now c.self.inside.size c.self.view_is c.requires.up) c.self.invariant c.place_word-word.ensures
+    c.word_for-value.ensures c.in_ok-write_both.ensures.unkept).1)
 
 pub returns : goal.returns
 returns g c = (
   refl,
-  rw (c.in_ok-write_both.ensures.ok, c.place_word-word.ensures ∙ plain_at c.args.self.now.now c.args.place c.requires.plain) (both_view c.self.inside.journal c.args.self.now c.self.inside.size c.args.place
-      c.args.v c.self.view_is c.requires.there c.requires.plain (up_is c.self.inside.journal c.args.self.now c.self.inside.size c.self.view_is c.requires.up)
-      c.self.invariant),
+  rw c.in_ok-write_both.ensures.ok ((both_view c.self.inside.journal c.args.self.now c.self.inside.size c.args.place c.args.v c.place_word-word.result
+      c.word_for-value.result c.self.view_is c.requires.there c.requires.value
+      (up_is c.self.inside.journal c.args.self.now c.self.inside.size c.self.view_is c.requires.up) c.self.invariant c.place_word-word.ensures
+      c.word_for-value.ensures c.in_ok-write_both.ensures.unkept).0),
 )

@@ -1,4 +1,4 @@
-use Rattle.std.proofs.Common.{◌≡◌, ◌∙◌, ◌++◌, List, ℕ, ap}
+use Rattle.std.proofs.Common.{◌∙◌, ◌++◌, List, ℕ, ap}
 use Rattle.jc_modes.specs.Macs.{key_block, marked}
 use Rattle.jc_modes.proofs.hmac.Hmac.finish.Goals as goal
 

@@ -1,4 +1,4 @@
-use Rattle.std.proofs.Common.{◌≡◌, ◌∙◌, ◌++◌, [], List, ℕ, append-nil, ap, subst, sym}
+use Rattle.std.proofs.Common.{◌∙◌, List, ℕ, append-nil, ap, subst, sym}
 use Rattle.jc_modes.specs.Macs.{key_block, marked}
 use Rattle.jc_modes.proofs.hmac.Hmac.new.Goals as goal
 

@@ -1,4 +1,4 @@
-use Rattle.std.proofs.Common.{◌≡◌, ◌++◌, List, ℕ, append_assoc, subst}
+use Rattle.std.proofs.Common.{◌++◌, List, ℕ, append_assoc, subst}
 use Rattle.jc_modes.specs.Macs.{key_block, marked}
 use Rattle.jc_modes.proofs.hmac.Hmac.update.Goals as goal
 

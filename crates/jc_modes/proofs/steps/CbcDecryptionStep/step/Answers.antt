@@ -1,4 +1,4 @@
-use Rattle.std.proofs.Common.{◌≡◌, ◌≤◌, ◌∙◌, length, length-take-le, sym, arith}
+use Rattle.std.proofs.Common.{length, length-take-le, sym, arith}
 use Rattle.jc_modes.proofs.steps.CbcDecryptionStep.step.Goals as goal
 
 pub slice_bounds-next-end : goal.slice_bounds-next-end

@@ -1,0 +1,178 @@
+//! Arrays of bytes as arguments: each with an offset, and with a length of its own, of both arrays, or of the method.
+ghost use Rattle.std.specs.Prelude.{◌≡◌, ◌≤◌, false, IfOk};
+ghost use Rattle.jc_world.specs.Arrays.{IsBytesArgument, IsInArray};
+ghost use Rattle.jc_api.specs.Arguments.{argument_bytes, array_arguments, counted_of, pair_arguments, pair_of, two_of};
+
+use jc_frames::{Cell, FrameExit};
+use jc_heap::Facts;
+use jc_linker::linked::Linked;
+use jc_memory::Memory;
+use jc_transient::Ref;
+use jc_words::WordStore;
+use jc_world::arguments::{reference_argument, short_argument};
+use jc_world::{Stretch, bytes_argument, elements};
+
+/// How many elements a call names at most, since their number is a short.
+pub const MOST_ELEMENTS: usize = i16::MAX as usize;
+
+/// An array of bytes with its header, none for null; an offset and a length.
+#[derive(Clone, Copy, PartialEq, Eq)]
+pub struct ArrayArguments {
+    pub array: Ref,
+    pub header: Option<Facts>,
+    pub start: i16,
+    pub count: i16,
+}
+
+/// The arguments of a method of two arrays, each with an offset, and a length.
+#[derive(Clone, Copy, PartialEq, Eq)]
+pub struct PairArguments {
+    pub source: Ref,
+    pub source_start: i16,
+    pub destination: Ref,
+    pub destination_start: i16,
+    pub count: i16,
+}
+
+/// The elements of two arrays, as many of the one as of the other.
+#[derive(Clone, Copy, PartialEq, Eq)]
+pub struct Pair {
+    pub from: Stretch,
+    pub to: Stretch,
+}
+
+/// An array of bytes, an offset and a length, from a place among the arguments on.
+#[inline(always)]
+pub fn array_arguments<S: WordStore>(
+    place: u8,
+    args: &[Cell],
+    memory: &Memory<S>,
+) -> Result<ArrayArguments, FrameExit>
+    requires up { memory.now.heap.down ≡ false }
+    ensures given { result ≡ array_arguments place args.now memory.now }
+    ensures there { IfOk result (λ g. IsBytesArgument memory.now g.array g.header) }
+{
+    let place = usize::from(place);
+    let array = reference_argument(args, place)?;
+    let start = short_argument(args, place + 1)?;
+    let count = short_argument(args, place + 2)?;
+    let header = bytes_argument(array, memory)?;
+    Ok(ArrayArguments {
+        array,
+        header,
+        start,
+        count,
+    })
+}
+
+/// The elements that they name: null throws, then the firewall, then elements outside the array.
+#[inline(always)]
+pub fn argument_bytes<S: WordStore>(
+    given: &ArrayArguments,
+    memory: &Memory<S>,
+    linked: &Linked,
+) -> Result<Stretch, FrameExit>
+    requires up { memory.now.heap.down ≡ false }
+    requires there { IsBytesArgument memory.now given.now.array given.now.header }
+    ensures named { result ≡ argument_bytes given.now linked.now memory.now }
+    ensures there { IfOk result (IsInArray memory.now) }
+    ensures few { IfOk result (λ e. e.count ≤ MOST_ELEMENTS) }
+{
+    elements(
+        given.array,
+        given.header,
+        given.start,
+        given.count,
+        memory,
+        linked,
+    )
+}
+
+/// The elements of an array of bytes by an offset and a length, from a place among the arguments on.
+#[inline(always)]
+pub fn counted_of<S: WordStore>(
+    place: u8,
+    args: &[Cell],
+    memory: &Memory<S>,
+    linked: &Linked,
+) -> Result<Stretch, FrameExit>
+    requires up { memory.now.heap.down ≡ false }
+    ensures counted { result ≡ counted_of place args.now linked.now memory.now }
+    ensures there { IfOk result (IsInArray memory.now) }
+    ensures few { IfOk result (λ e. e.count ≤ MOST_ELEMENTS) }
+{
+    let given = array_arguments(place, args, memory)?;
+    argument_bytes(&given, memory, linked)
+}
+
+/// The two elements of an array of bytes by an offset, the first arguments.
+#[inline(always)]
+pub fn two_of<S: WordStore>(
+    args: &[Cell],
+    memory: &Memory<S>,
+    linked: &Linked,
+) -> Result<Stretch, FrameExit>
+    requires up { memory.now.heap.down ≡ false }
+    ensures two { result ≡ two_of args.now linked.now memory.now }
+    ensures there { IfOk result (IsInArray memory.now) }
+    ensures count { IfOk result (λ e. e.count ≡ 2) }
+{
+    let array = reference_argument(args, 0)?;
+    let start = short_argument(args, 1)?;
+    let argument = bytes_argument(array, memory)?;
+    elements(array, argument, start, 2, memory, linked)
+}
+
+/// The arguments of a method of two arrays, the first ones.
+#[inline(always)]
+pub fn pair_arguments(args: &[Cell]) -> Result<PairArguments, FrameExit>
+    ensures { result ≡ pair_arguments args.now }
+{
+    let source = reference_argument(args, 0)?;
+    let source_start = short_argument(args, 1)?;
+    let destination = reference_argument(args, 2)?;
+    let destination_start = short_argument(args, 3)?;
+    let count = short_argument(args, 4)?;
+    Ok(PairArguments {
+        source,
+        source_start,
+        destination,
+        destination_start,
+        count,
+    })
+}
+
+/// The elements of both arrays: first whether both are arrays of bytes, then the first one's, then the second one's.
+#[inline(always)]
+pub fn pair_of<S: WordStore>(
+    named: PairArguments,
+    memory: &Memory<S>,
+    linked: &Linked,
+) -> Result<Pair, FrameExit>
+    requires up { memory.now.heap.down ≡ false }
+    ensures pair { result ≡ pair_of linked.now memory.now named }
+    ensures from { IfOk result (λ a. IsInArray memory.now a.from) }
+    ensures to { IfOk result (λ a. IsInArray memory.now a.to) }
+    ensures count { IfOk result (λ a. a.from.count ≡ a.to.count) }
+    ensures few { IfOk result (λ a. a.from.count ≤ MOST_ELEMENTS) }
+{
+    let source = bytes_argument(named.source, memory)?;
+    let destination = bytes_argument(named.destination, memory)?;
+    let from = elements(
+        named.source,
+        source,
+        named.source_start,
+        named.count,
+        memory,
+        linked,
+    )?;
+    let to = elements(
+        named.destination,
+        destination,
+        named.destination_start,
+        named.count,
+        memory,
+        linked,
+    )?;
+    Ok(Pair { from, to })
+}

@@ -1,4 +1,0 @@
-pub mod Runs
-pub mod Orders
-pub mod InARow
-pub mod Settling

@@ -1,0 +1,77 @@
+-- What code may ask of a command and of its answer (API specification, APDU). The transmission protocol is T=0.
+use Rattle.std.specs.Prelude.{ℕ, ℤ, pos, ◌==◌, length, if◌then◌else◌}
+use Rattle.std.specs.Int.{w16, cast_signed}
+use Rattle.jc_frames.specs.Reasons.{illegal_use}
+use Rattle.jc_memory.specs.declared.registers.ApduPhase.{ApduPhase}
+use Rattle.jc_memory.specs.declared.registers.ApduPhase.TheVariants.{Waiting, Received, Outgoing, Sending}
+use Rattle.jc_memory.specs.State.{MemoryState}
+use Rattle.jc_world.specs.NativeCalls.{NativeProgram, throw_exception}
+use Rattle.jc_world.specs.Answers.{returns_short, returns_bool}
+use Rattle.jc_api_framework.specs.Apdu.Buffer.{data_of}
+use Rattle.jc_api_framework.specs.Apdu.Class.{class_byte, is_interindustry, is_valid_class, is_chained, is_secured, channel_of}
+
+-- what is answered while the data stand in the buffer: once they were received, and before anything is sent
+abbrev pub while_received : ApduPhase → ℤ → NativeProgram
+while_received Waiting answer = throw_exception illegal_use
+while_received Received answer = returns_short answer
+while_received Outgoing answer = throw_exception illegal_use
+while_received (Sending left) answer = throw_exception illegal_use
+
+-- APDU.getIncomingLength: how many bytes of data the command has
+abbrev pub apdu_get_incoming_length : MemoryState → ApduPhase → NativeProgram
+apdu_get_incoming_length m phase = while_received phase (cast_signed w16 (length (data_of m.command)))
+
+-- APDU.getOffsetCdata: where they stand in the buffer
+abbrev pub apdu_get_offset_cdata : ApduPhase → NativeProgram
+apdu_get_offset_cdata phase = while_received phase (pos 5)
+
+-- how far the answer has come, when so many bytes were sent and so many are left: STATE_OUTGOING_LENGTH_KNOWN,
+-- STATE_FULL_OUTGOING, STATE_PARTIAL_OUTGOING
+abbrev pub state_of_answer : ℕ → ℕ → ℤ
+state_of_answer sent left = if sent == 0 then pos 4 else (if left == 0 then pos 6 else pos 5)
+
+-- how far the command has come, when so many bytes were sent: STATE_INITIAL, STATE_FULL_INCOMING, STATE_OUTGOING, or
+-- how far the answer has
+abbrev pub state_number : ApduPhase → ℕ → ℤ
+state_number Waiting sent = pos 0
+state_number Received sent = pos 2
+state_number Outgoing sent = pos 3
+state_number (Sending left) sent = state_of_answer sent left
+
+-- APDU.getCurrentState: how far the command has come
+abbrev pub apdu_get_current_state : MemoryState → ApduPhase → NativeProgram
+apdu_get_current_state m phase = returns_short (state_number phase (length m.sent))
+
+-- APDU.getProtocol, APDU.getNAD: T=0, which has no node addresses
+abbrev pub apdu_get_protocol : NativeProgram
+apdu_get_protocol = returns_short (pos 0)
+
+abbrev pub apdu_get_nad : NativeProgram
+apdu_get_nad = returns_short (pos 0)
+
+-- APDU.getInBlockSize, APDU.getOutBlockSize: of T=0, the latter with the status word
+abbrev pub apdu_get_in_block_size : NativeProgram
+apdu_get_in_block_size = returns_short (pos 1)
+
+abbrev pub apdu_get_out_block_size : NativeProgram
+apdu_get_out_block_size = returns_short (pos 258)
+
+-- APDU.isISOInterindustryCLA
+abbrev pub apdu_is_iso_interindustry_cla : MemoryState → NativeProgram
+apdu_is_iso_interindustry_cla m = returns_bool (is_interindustry (class_byte m.command))
+
+-- APDU.isCommandChainingCLA
+abbrev pub apdu_is_command_chaining_cla : MemoryState → NativeProgram
+apdu_is_command_chaining_cla m = returns_bool (is_chained (class_byte m.command))
+
+-- APDU.isSecureMessagingCLA
+abbrev pub apdu_is_secure_messaging_cla : MemoryState → NativeProgram
+apdu_is_secure_messaging_cla m = returns_bool (is_secured (class_byte m.command))
+
+-- APDU.isValidCLA
+abbrev pub apdu_is_valid_cla : MemoryState → NativeProgram
+apdu_is_valid_cla m = returns_bool (is_valid_class (class_byte m.command))
+
+-- APDU.getCLAChannel
+abbrev pub apdu_get_cla_channel : MemoryState → NativeProgram
+apdu_get_cla_channel m = returns_short (pos (channel_of (class_byte m.command)))

@@ -1,0 +1,9 @@
+pub mod Aid
+pub mod Apdu
+pub mod Applet
+pub mod Events
+pub mod Exceptions
+pub mod Objects
+pub mod OwnerPin
+pub mod System
+pub mod Util

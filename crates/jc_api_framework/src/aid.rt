@@ -1,0 +1,337 @@
+//! `AID` (API specification).
+
+pub mod cells;
+pub mod law;
+
+ghost use Rattle.std.specs.Prelude.{◌≡◌, ◌≤◌, false, length, Some};
+ghost use Rattle.std.specs.Option.{option_copied};
+ghost use Rattle.jc_world.specs.Numbers.{not_negative};
+ghost use Rattle.jc_memory.specs.Programs.{Executes};
+ghost use Rattle.jc_heap.specs.Completions.{after_change};
+ghost use Rattle.jc_memory.specs.Cells.{cells_store};
+ghost use Rattle.jc_world.specs.NativeCalls.{after_call};
+ghost use Rattle.jc_registry.specs.Registry.{is_aid};
+ghost use Rattle.jc_world.specs.Arrays.{IsInArray, bytes_in};
+ghost use Rattle.jc_world.specs.Instances.{IsInstanceWith};
+ghost use Rattle.jc_api_framework.specs.Aid.Cells.{cells_of_aid};
+ghost use Rattle.jc_api_framework.specs.Aid.{aid_of_object, aid_init, aid_equals, aid_equals_bytes, aid_get_bytes, aid_call};
+ghost use Rattle.jc_api_framework.specs.Aid.{aid_get_partial_bytes, aid_partial_equals, aid_rid_equals, begins_with, is_of_provider, part_within, rid_of};
+
+use crate::aid::cells::{cells_of_aid, is_aid_length};
+use jc_api::{argument_bytes, array_arguments};
+use jc_frames::reasons::ILLEGAL_VALUE;
+use jc_frames::{Cell, Exception, Outcome};
+use jc_heap::ChangeRefusal;
+use jc_linker::linked::Linked;
+use jc_memory::Memory;
+use jc_platform::names::{AidsMethod, PlatformClass};
+use jc_registry::{Aid, MOST_AID, aid_at};
+use jc_transient::Ref;
+use jc_words::WordStore;
+use jc_world::arguments::{reference_argument, short_argument};
+use jc_world::objects::is_instance_of;
+use jc_world::{
+    NativeResult, StepExit, Stretch, boolean, bytes_argument, elements, instance, put, short,
+};
+
+// The AID of an instance of `AID`.
+fn aid_of_object<S: WordStore>(object: Ref, memory: &Memory<S>, linked: &Linked) -> Option<Aid>
+    requires up { memory.now.heap.down ≡ false }
+    ensures { result ≡ aid_of_object linked.now memory.now object }
+{
+    if object.is_null() {
+        return None;
+    }
+    let facts = memory.header(object)?;
+    let class = linked.platform().class_word(PlatformClass::Aid);
+    if is_instance_of(facts, class, linked) {
+        aid_at(memory, object)
+    } else {
+        None
+    }
+}
+
+// Whether elements of an array are the bytes of an AID.
+fn are_aid<S: WordStore>(aid: &[u8], e: Stretch, memory: &Memory<S>) -> bool
+    requires up { memory.now.heap.down ≡ false }
+    requires there { IsInArray memory.now e }
+    requires few { length aid.now ≤ MOST_AID }
+    ensures { result ≡ is_aid aid.now (Some (bytes_in memory.now e)) }
+{
+    let count = e.count as usize;
+    if count != aid.len() {
+        return false;
+    }
+    let mut bytes = [0; MOST_AID];
+    memory.bytes(e.array, e.start, &mut bytes[..count]);
+    let held = &bytes[..count];
+    held == aid
+}
+
+// Sets the cells of an AID object to those of as many bytes of an array as an AID has.
+fn set_aid<S: WordStore>(memory: &mut Memory<S>, own: Ref, e: Stretch) -> Result<(), ChangeRefusal>
+    requires up { memory.old.heap.down ≡ false }
+    requires own { IsInstanceWith memory.old own 9 }
+    requires there { IsInArray memory.old e }
+    requires few { e.count ≤ MOST_AID }
+    ensures { Executes (cells_store memory.old own 0 (cells_of_aid (bytes_in memory.old e)))
+        memory.old (after_change result memory.new) }
+{
+    let count = e.count as usize;
+    let mut bytes = [0; MOST_AID];
+    memory.bytes(e.array, e.start, &mut bytes[..count]);
+    let cells = cells_of_aid(&bytes[..count]);
+    memory.set_run(own, 0, &cells)
+}
+
+// `AID.<init>`: sets the cells of an AID, as one change.
+#[tactic(auto, unfolding(crate::specs::Aid::aid_init))]
+fn aid_init<S: WordStore>(
+    args: &[Cell],
+    memory: &mut Memory<S>,
+    linked: &Linked,
+) -> Result<NativeResult, StepExit>
+    requires up { memory.old.heap.down ≡ false }
+    ensures { Executes (aid_init args.now linked.now memory.old) memory.old
+        (after_call result memory.new) }
+{
+    let own = reference_argument(args, 0)?;
+    let given = array_arguments(1, args, memory)?;
+    let _facts = instance(own, 9, memory)?;
+    let e = argument_bytes(&given, memory, linked)?;
+    if !is_aid_length(e.count) {
+        return Err(StepExit::Throw(ILLEGAL_VALUE));
+    }
+    set_aid(memory, own, e)?;
+    Ok(NativeResult::ReturnVoid)
+}
+
+// `AID.equals`: whether the other is an AID of the same bytes.
+#[tactic(auto, unfolding(crate::specs::Aid::aid_equals))]
+fn aid_equals<S: WordStore>(
+    args: &[Cell],
+    memory: &Memory<S>,
+    linked: &Linked,
+) -> Result<NativeResult, StepExit>
+    requires up { memory.now.heap.down ≡ false }
+    ensures { Executes (aid_equals args.now linked.now memory.now) memory.now
+        (after_call result memory.now) }
+{
+    let own = reference_argument(args, 0)?;
+    let other = reference_argument(args, 1)?;
+    let Some(aid) = aid_at(memory, own) else {
+        return Err(StepExit::End(Outcome::Fault));
+    };
+    match aid_of_object(other, memory, linked) {
+        Some(held) => Ok(boolean(held.bytes() == aid.bytes())),
+        None => Ok(boolean(false)),
+    }
+}
+
+// `AID.equals(byte[], short, byte)`: whether these bytes are the AID's; false for null.
+#[tactic(auto, unfolding(crate::specs::Aid::aid_equals_bytes))]
+fn aid_equals_bytes<S: WordStore>(
+    args: &[Cell],
+    memory: &Memory<S>,
+    linked: &Linked,
+) -> Result<NativeResult, StepExit>
+    requires up { memory.now.heap.down ≡ false }
+    ensures { Executes (aid_equals_bytes args.now linked.now memory.now) memory.now
+        (after_call result memory.now) }
+{
+    let own = reference_argument(args, 0)?;
+    let given = array_arguments(1, args, memory)?;
+    let Some(aid) = aid_at(memory, own) else {
+        return Err(StepExit::End(Outcome::Fault));
+    };
+    if given.array.is_null() {
+        return Ok(boolean(false));
+    }
+    let e = argument_bytes(&given, memory, linked)?;
+    Ok(boolean(are_aid(aid.bytes(), e, memory)))
+}
+
+// `AID.getBytes`: copies the bytes, as one change; returns their number.
+#[tactic(auto, unfolding(crate::specs::Aid::aid_get_bytes))]
+fn aid_get_bytes<S: WordStore>(
+    args: &[Cell],
+    memory: &mut Memory<S>,
+    linked: &Linked,
+) -> Result<NativeResult, StepExit>
+    requires up { memory.old.heap.down ≡ false }
+    ensures { Executes (aid_get_bytes args.now linked.now memory.old) memory.old
+        (after_call result memory.new) }
+{
+    let own = reference_argument(args, 0)?;
+    let array = reference_argument(args, 1)?;
+    let start = short_argument(args, 2)?;
+    let Some(aid) = aid_at(memory, own) else {
+        return Err(StepExit::End(Outcome::Fault));
+    };
+    let argument = bytes_argument(array, memory)?;
+    let count = aid.bytes().len() as i16;
+    let e = elements(array, argument, start, count, memory, linked)?;
+    put(memory, e, aid.bytes())?;
+    Ok(short(count))
+}
+
+// How many bytes of an AID name its provider.
+const RID: usize = 5;
+
+// Whether two AIDs are of one provider, whom the first five bytes name.
+fn have_one_provider(aid: &[u8], other: &[u8]) -> bool
+    ensures { result ≡ is_of_provider aid.now (Some other.now) }
+{
+    provider(aid) == provider(other)
+}
+
+// The provider's part of an AID.
+fn provider(aid: &[u8]) -> &[u8]
+    ensures { result.now ≡ rid_of aid.now }
+{
+    if aid.len() > RID { &aid[..RID] } else { aid }
+}
+
+// `AID.RIDEquals`: whether the other is an AID of the same provider; false for null.
+#[tactic(auto, unfolding(crate::specs::Aid::aid_rid_equals))]
+fn aid_rid_equals<S: WordStore>(
+    args: &[Cell],
+    memory: &Memory<S>,
+    linked: &Linked,
+) -> Result<NativeResult, StepExit>
+    requires up { memory.now.heap.down ≡ false }
+    ensures { Executes (aid_rid_equals args.now linked.now memory.now) memory.now
+        (after_call result memory.now) }
+{
+    let own = reference_argument(args, 0)?;
+    let other = reference_argument(args, 1)?;
+    let Some(aid) = aid_at(memory, own) else {
+        return Err(StepExit::End(Outcome::Fault));
+    };
+    let Some(held) = aid_of_object(other, memory, linked) else {
+        return Ok(boolean(false));
+    };
+    Ok(boolean(have_one_provider(aid.bytes(), held.bytes())))
+}
+
+// Whether an AID begins with these bytes.
+fn is_beginning(held: &[u8], aid: &[u8]) -> bool
+    ensures { result ≡ begins_with aid.now held.now }
+{
+    if held.len() > aid.len() {
+        return false;
+    }
+    held == &aid[..held.len()]
+}
+
+// Whether an AID begins with elements of an array.
+fn begins_with<S: WordStore>(aid: &[u8], e: Stretch, memory: &Memory<S>) -> bool
+    requires up { memory.now.heap.down ≡ false }
+    requires there { IsInArray memory.now e }
+    requires few { length aid.now ≤ MOST_AID }
+    ensures { result ≡ begins_with aid.now (bytes_in memory.now e) }
+{
+    let count = e.count as usize;
+    if count > aid.len() {
+        return false;
+    }
+    let mut bytes = [0; MOST_AID];
+    memory.bytes(e.array, e.start, &mut bytes[..count]);
+    let held = &bytes[..count];
+    is_beginning(held, aid)
+}
+
+// `AID.partialEquals`: whether the AID begins with these bytes; false for null.
+#[tactic(auto, unfolding(crate::specs::Aid::aid_partial_equals))]
+fn aid_partial_equals<S: WordStore>(
+    args: &[Cell],
+    memory: &Memory<S>,
+    linked: &Linked,
+) -> Result<NativeResult, StepExit>
+    requires up { memory.now.heap.down ≡ false }
+    ensures { Executes (aid_partial_equals args.now linked.now memory.now) memory.now
+        (after_call result memory.now) }
+{
+    let own = reference_argument(args, 0)?;
+    let given = array_arguments(1, args, memory)?;
+    let Some(aid) = aid_at(memory, own) else {
+        return Err(StepExit::End(Outcome::Fault));
+    };
+    if given.array.is_null() {
+        return Ok(boolean(false));
+    }
+    let e = argument_bytes(&given, memory, linked)?;
+    Ok(boolean(begins_with(aid.bytes(), e, memory)))
+}
+
+// So many bytes of an AID from one on, all the rest where none are asked for.
+fn part_within(aid: &[u8], start: i16, count: i16) -> Option<&[u8]>
+    ensures { option_copied result ≡ part_within aid.now (not_negative start)
+        (not_negative count) }
+{
+    let start = usize::try_from(start).ok()?;
+    let count = usize::try_from(count).ok()?;
+    if start + count > aid.len() {
+        return None;
+    }
+    if count == 0 {
+        return Some(&aid[start..]);
+    }
+    Some(&aid[start..start + count])
+}
+
+// `AID.getPartialBytes`: copies a part of the bytes, as one change; returns their number.
+#[tactic(auto, unfolding(crate::specs::Aid::aid_get_partial_bytes))]
+fn aid_get_partial_bytes<S: WordStore>(
+    args: &[Cell],
+    memory: &mut Memory<S>,
+    linked: &Linked,
+) -> Result<NativeResult, StepExit>
+    requires up { memory.old.heap.down ≡ false }
+    ensures { Executes (aid_get_partial_bytes args.now linked.now memory.old) memory.old
+        (after_call result memory.new) }
+{
+    let own = reference_argument(args, 0)?;
+    let from = short_argument(args, 1)?;
+    let given = array_arguments(2, args, memory)?;
+    let Some(aid) = aid_at(memory, own) else {
+        return Err(StepExit::End(Outcome::Fault));
+    };
+    let Some(part) = part_within(aid.bytes(), from, given.count) else {
+        return Err(StepExit::Throw(Exception::ArrayIndexOutOfBoundsException));
+    };
+    let taken = part.len() as i16;
+    let e = elements(
+        given.array,
+        given.header,
+        given.start,
+        taken,
+        memory,
+        linked,
+    )?;
+    put(memory, e, part)?;
+    Ok(short(taken))
+}
+
+/// A call of a method of `AID`.
+#[tactic(auto, unfolding(crate::specs::Aid::aid_call))]
+pub fn call_aid<S: WordStore>(
+    method: AidsMethod,
+    args: &[Cell],
+    memory: &mut Memory<S>,
+    linked: &Linked,
+) -> Result<NativeResult, StepExit>
+    requires up { memory.old.heap.down ≡ false }
+    ensures { Executes (aid_call method args.now linked.now memory.old) memory.old
+        (after_call result memory.new) }
+{
+    match method {
+        AidsMethod::AidInit => aid_init(args, memory, linked),
+        AidsMethod::AidEquals => aid_equals(args, memory, linked),
+        AidsMethod::AidEqualsBytes => aid_equals_bytes(args, memory, linked),
+        AidsMethod::AidGetBytes => aid_get_bytes(args, memory, linked),
+        AidsMethod::AidRidEquals => aid_rid_equals(args, memory, linked),
+        AidsMethod::AidPartialEquals => aid_partial_equals(args, memory, linked),
+        AidsMethod::AidGetPartialBytes => aid_get_partial_bytes(args, memory, linked),
+    }
+}

@@ -1,0 +1,117 @@
+//! The methods of `APDU`.
+
+pub(crate) mod buffer;
+pub(crate) mod class;
+pub(crate) mod current;
+pub(crate) mod phase;
+pub(crate) mod queries;
+pub(crate) mod receive;
+pub(crate) mod send;
+pub(crate) mod send_long;
+
+ghost use Rattle.std.specs.Prelude.{◌≡◌, false};
+ghost use Rattle.jc_memory.specs.Programs.{Executes};
+ghost use Rattle.jc_world.specs.NativeCalls.{after_call};
+ghost use Rattle.jc_api_framework.specs.Apdu.{apdu_call, apdu_get_buffer};
+
+use crate::apdu::buffer::buffer;
+use crate::apdu::class::{
+    channel_of, class_byte, is_chained, is_interindustry, is_secured, is_valid_class,
+};
+use crate::apdu::current::{apdu_get_current_apdu, apdu_get_current_apdu_buffer};
+use crate::apdu::queries::{
+    apdu_get_current_state, apdu_get_incoming_length, apdu_get_offset_cdata,
+};
+use crate::apdu::receive::{apdu_receive_bytes, apdu_set_incoming_and_receive};
+use crate::apdu::send::{
+    apdu_send_bytes, apdu_set_outgoing, apdu_set_outgoing_and_send, apdu_set_outgoing_length,
+};
+use crate::apdu::send_long::apdu_send_bytes_long;
+use jc_frames::Cell;
+use jc_linker::linked::Linked;
+use jc_memory::Memory;
+use jc_platform::names::ApdusMethod;
+use jc_words::WordStore;
+use jc_world::arguments::short_argument;
+use jc_world::{NativeResult, StepExit, boolean, short};
+
+// What is answered of the transmission protocol, which is T=0: its number, the node address, the sizes of blocks.
+const PROTOCOL: i16 = 0;
+
+const NODE_ADDRESS: i16 = 0;
+
+const IN_BLOCK_SIZE: i16 = 1;
+
+const OUT_BLOCK_SIZE: i16 = 258;
+
+// `APDU.getBuffer`: returns the APDU buffer.
+fn apdu_get_buffer<S: WordStore>(memory: &Memory<S>) -> Result<NativeResult, StepExit>
+    requires up { memory.now.heap.down ≡ false }
+    ensures { Executes (apdu_get_buffer memory.now) memory.now (after_call result memory.now) }
+{
+    let buffer = buffer(memory)?;
+    Ok(NativeResult::ReturnValue(Cell::Reference(buffer)))
+}
+
+/// A call of a method of `APDU`.
+#[tactic(auto, unfolding(crate::specs::Apdu::apdu_call))]
+pub fn call_apdu<S: WordStore>(
+    method: ApdusMethod,
+    args: &[Cell],
+    memory: &mut Memory<S>,
+    linked: &Linked,
+) -> Result<NativeResult, StepExit>
+    requires up { memory.old.heap.down ≡ false }
+    ensures { Executes (apdu_call method args.now linked.now memory.old) memory.old
+        (after_call result memory.new) }
+{
+    match method {
+        ApdusMethod::ApduGetBuffer => apdu_get_buffer(memory),
+        ApdusMethod::ApduReceiveBytes => {
+            short_argument(args, 1)?;
+            apdu_receive_bytes(memory)
+        }
+        ApdusMethod::ApduSendBytes => {
+            let start = short_argument(args, 1)?;
+            let count = short_argument(args, 2)?;
+            apdu_send_bytes(start, count, memory)
+        }
+        ApdusMethod::ApduSetIncomingAndReceive => apdu_set_incoming_and_receive(memory),
+        ApdusMethod::ApduSetOutgoing | ApdusMethod::ApduSetOutgoingNoChaining => {
+            apdu_set_outgoing(memory)
+        }
+        ApdusMethod::ApduSetOutgoingAndSend => {
+            let start = short_argument(args, 1)?;
+            let count = short_argument(args, 2)?;
+            apdu_set_outgoing_and_send(start, count, memory)
+        }
+        ApdusMethod::ApduSetOutgoingLength => {
+            let count = short_argument(args, 1)?;
+            apdu_set_outgoing_length(count, memory)
+        }
+        ApdusMethod::ApduGetIncomingLength => apdu_get_incoming_length(memory),
+        ApdusMethod::ApduGetOffsetCdata => apdu_get_offset_cdata(memory),
+        ApdusMethod::ApduSendBytesLong => apdu_send_bytes_long(args, memory, linked),
+        ApdusMethod::ApduGetCurrentState => apdu_get_current_state(memory),
+        ApdusMethod::ApduGetProtocol => Ok(short(PROTOCOL)),
+        ApdusMethod::ApduGetNad => Ok(short(NODE_ADDRESS)),
+        ApdusMethod::ApduGetInBlockSize => Ok(short(IN_BLOCK_SIZE)),
+        ApdusMethod::ApduGetOutBlockSize => Ok(short(OUT_BLOCK_SIZE)),
+        ApdusMethod::ApduGetClaChannel => {
+            Ok(short(i16::from(channel_of(class_byte(memory.command())))))
+        }
+        ApdusMethod::ApduIsIsoInterindustryCla => {
+            Ok(boolean(is_interindustry(class_byte(memory.command()))))
+        }
+        ApdusMethod::ApduIsCommandChainingCla => {
+            Ok(boolean(is_chained(class_byte(memory.command()))))
+        }
+        ApdusMethod::ApduIsSecureMessagingCla => {
+            Ok(boolean(is_secured(class_byte(memory.command()))))
+        }
+        ApdusMethod::ApduIsValidCla => { Ok(boolean(is_valid_class(class_byte(memory.command())))) }
+        ApdusMethod::ApduWaitExtension => Ok(NativeResult::ReturnVoid),
+        ApdusMethod::ApduGetCurrentApdu => apdu_get_current_apdu(memory),
+        ApdusMethod::ApduGetCurrentApduBuffer => apdu_get_current_apdu_buffer(memory),
+    }
+}

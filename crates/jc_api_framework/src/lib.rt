@@ -1,0 +1,25 @@
+//! The calls of `java.lang` and `javacard.framework` (API specification), a room a class: `Object` and the exceptions, `Util`, `APDU`, `OwnerPIN`, `AID`,
+//! `JCSystem` and `Applet`.
+#![tactic(auto)]
+
+pub mod aid;
+mod apdu;
+mod applet;
+pub mod events;
+pub mod exceptions;
+pub mod objects;
+mod owner_pin;
+pub mod system;
+pub mod util;
+
+pub use aid::call_aid;
+pub use aid::cells::cells_of_aid;
+pub use apdu::buffer::buffer;
+pub use apdu::call_apdu;
+pub use applet::call_applet;
+pub use events::call_event;
+pub use exceptions::call_exception;
+pub use objects::call_object;
+pub use owner_pin::call_pin;
+pub use system::call_system;
+pub use util::call_util;

@@ -1,0 +1,79 @@
+-- How many objects the runtime environment owns, and how many cells they have.
+use Rattle.std.proofs.Common.{◌≡◌, ℕ, ◌+◌, ◌≤◌, ◌&&◌, not, Bool, true, false, List, [], ◌∷◌, ◌++◌, length, arith, refl, lit≤, if◌then◌else◌}
+use Rattle.std.specs.Prelude.{is_some}
+use Rattle.std.proofs.lemmas.List.{length-append}
+use Rattle.jc_transient.specs.State.{area_size}
+use Rattle.jc_platform.specs.Hierarchy.{cells_of}
+use Rattle.jc_platform.specs.Names.{ClassEntry, classes}
+use Rattle.jc_platform.specs.Tokens.{Tokens, token_of_class}
+use Rattle.jc_environment.specs.declared.objects.FixedObject.{FixedObject}
+use Rattle.jc_environment.specs.Objects.{cells_of_all, first_objects, fixed_count, fixed_objects, is_first, own_instance, own_instances}
+
+cells-append : (xs ys : List FixedObject) → cells_of_all (xs ++ ys) ≡ cells_of_all xs + cells_of_all ys
+cells-append [] ys = omega arith
+cells-append (o ∷ xs) ys = let more = cells-append xs ys in omega (arith, more)
+
+-- the further instances of a table that has all classes
+abbrev pub is_thrown_further : ClassEntry → Bool
+is_thrown_further e = e.thrown && not (is_first e.class)
+
+abbrev pub all_further : List ClassEntry → List FixedObject
+all_further [] = []
+all_further (e ∷ es) = if is_thrown_further e then own_instance e.class ∷ all_further es else all_further es
+
+-- those of a table are no more than the classes, and have no more cells than those
+cells-own : (t : Tokens) (es : List ClassEntry) → cells_of_all (own_instances t es) ≤ cells_of_all (all_further es)
+cells-own t [] = omega arith
+cells-own t (e ∷ es) = go (is_thrown_further e) (is_some (token_of_class t e.class)) (cells-own t es)
+  where
+    go : (x y : Bool) → cells_of_all (own_instances t es) ≤ cells_of_all (all_further es)
+        → cells_of_all (if x && y then own_instance e.class ∷ own_instances t es else own_instances t es)
+        ≤ cells_of_all (if x then own_instance e.class ∷ all_further es else all_further es)
+    go true true more = omega (arith, more)
+    go true false more = omega (arith, more)
+    go false y more = more
+
+length-own : (t : Tokens) (es : List ClassEntry) → length (own_instances t es) ≤ length es
+length-own t [] = omega arith
+length-own t (e ∷ es) = go (is_thrown_further e && is_some (token_of_class t e.class)) (length-own t es)
+  where
+    go : (b : Bool) → length (own_instances t es) ≤ length es
+        → length (if b then own_instance e.class ∷ own_instances t es else own_instances t es) ≤ length (e ∷ es)
+    go true more = omega (arith, more)
+    go false more = omega (arith, more)
+
+first_count : length first_objects ≡ 17
+unfolding first_objects
+first_count = refl
+
+first_cells : cells_of_all first_objects ≡ 269
+unfolding first_objects
+first_cells = refl
+
+-- facts of the list of classes, by computing
+few_classes : length classes ≤ 111
+unfolding classes
+few_classes = lit≤ tt
+
+further_cells : cells_of_all (all_further classes) ≤ 1024
+unfolding classes is_first first_objects cells_of
+further_cells = lit≤ tt
+
+-- the seventeen of each image come first, and there are 128 at most
+pub least_count : (t : Tokens) → 17 ≤ fixed_count t
+unfolding fixed_objects
+least_count t =
+    let all = length-append first_objects (own_instances t classes) in omega (arith, all, first_count)
+
+pub most_count : (t : Tokens) → fixed_count t ≤ 128
+unfolding fixed_objects
+most_count t =
+    let all = length-append first_objects (own_instances t classes) in
+    let own = length-own t classes in omega (arith, all, own, first_count, few_classes)
+
+-- their cells have room in an area
+pub most_cells : (t : Tokens) → cells_of_all (fixed_objects t) ≤ area_size
+unfolding fixed_objects
+most_cells t =
+    let all = cells-append first_objects (own_instances t classes) in
+    let own = cells-own t classes in omega (arith, all, own, first_cells, further_cells)

@@ -1,0 +1,445 @@
+//! The rows: what is known of each package, class and method.
+
+use crate::kinds::{Answer, CellKind, ClassForm, ParameterKind, Receiver};
+use crate::names::{
+    AIDS_COUNT, APDUS_COUNT, APPLETS_COUNT, AidsMethod, ApdusMethod, AppletsMethod, CLASS_COUNT,
+    EVENTS_COUNT, EXCEPTIONS_COUNT, EventsMethod, ExceptionsMethod, MethodKind, OBJECTS_COUNT,
+    ObjectsMethod, PACKAGE_COUNT, PINS_COUNT, PinsMethod, PlatformClass, PlatformMethod,
+    PlatformPackage, SYSTEM_COUNT, SystemMethod, UTILITIES_COUNT, UtilitiesMethod,
+};
+
+/// A package with the text of its AID, in upper case hexadecimal.
+#[derive(Clone, Copy)]
+pub(crate) struct PackageRow {
+    pub(crate) package_id: PlatformPackage,
+    pub(crate) aid_text: &'static [u8],
+}
+
+/// What is known of a class.
+#[derive(Clone, Copy)]
+pub struct ClassRow {
+    pub class: PlatformClass,
+    pub home: PlatformPackage,
+    /// Its name in platform tables.
+    pub name: &'static [u8],
+    /// Each table has it.
+    pub needed: bool,
+    pub superclass: Option<PlatformClass>,
+    /// The interfaces that it implements, those that they extend among them.
+    pub interfaces: &'static [PlatformClass],
+    pub form: ClassForm,
+    /// What the cells of an instance hold.
+    pub cells: &'static [CellKind],
+    /// Code may make instances of it by `new`.
+    pub instantiable: bool,
+    /// The runtime environment has an instance of its own, which it throws.
+    pub thrown: bool,
+}
+
+/// What is known of a method.
+#[derive(Clone, Copy)]
+pub struct MethodRow {
+    pub method: PlatformMethod,
+    pub class: PlatformClass,
+    pub kind: MethodKind,
+    /// Its name in platform tables.
+    pub name: &'static [u8],
+    /// Each table has it.
+    pub needed: bool,
+    /// Its parameters after its receiver.
+    pub parameters: &'static [ParameterKind],
+    pub answer: Answer,
+    pub receiver: Receiver,
+    /// Of an interface's method: the one that carries it out.
+    pub implementation: Option<PlatformMethod>,
+}
+
+macro_rules! class {
+    ($package:ident $class:ident $name:literal [] [$($interface:ident)*] $form:ident [$($cell:ident)*] $instantiable:literal $thrown:literal) => {
+        ClassRow {
+            class: PlatformClass::$class,
+            home: PlatformPackage::$package,
+            name: $name,
+            needed: true,
+            superclass: None,
+            interfaces: &[$(PlatformClass::$interface),*],
+            form: ClassForm::$form,
+            cells: &[$(CellKind::$cell),*],
+            instantiable: $instantiable,
+            thrown: $thrown,
+        }
+    };
+    ($package:ident $class:ident $name:literal [$superclass:ident] [$($interface:ident)*] $form:ident [$($cell:ident)*] $instantiable:literal $thrown:literal) => {
+        ClassRow {
+            class: PlatformClass::$class,
+            home: PlatformPackage::$package,
+            name: $name,
+            needed: true,
+            superclass: Some(PlatformClass::$superclass),
+            interfaces: &[$(PlatformClass::$interface),*],
+            form: ClassForm::$form,
+            cells: &[$(CellKind::$cell),*],
+            instantiable: $instantiable,
+            thrown: $thrown,
+        }
+    };
+}
+
+macro_rules! optional_class {
+    ($package:ident $class:ident $name:literal [] [$($interface:ident)*] $form:ident [$($cell:ident)*] $instantiable:literal $thrown:literal) => {
+        ClassRow {
+            class: PlatformClass::$class,
+            home: PlatformPackage::$package,
+            name: $name,
+            needed: false,
+            superclass: None,
+            interfaces: &[$(PlatformClass::$interface),*],
+            form: ClassForm::$form,
+            cells: &[$(CellKind::$cell),*],
+            instantiable: $instantiable,
+            thrown: $thrown,
+        }
+    };
+    ($package:ident $class:ident $name:literal [$superclass:ident] [$($interface:ident)*] $form:ident [$($cell:ident)*] $instantiable:literal $thrown:literal) => {
+        ClassRow {
+            class: PlatformClass::$class,
+            home: PlatformPackage::$package,
+            name: $name,
+            needed: false,
+            superclass: Some(PlatformClass::$superclass),
+            interfaces: &[$(PlatformClass::$interface),*],
+            form: ClassForm::$form,
+            cells: &[$(CellKind::$cell),*],
+            instantiable: $instantiable,
+            thrown: $thrown,
+        }
+    };
+}
+
+macro_rules! method {
+    ($room:ident $methods:ident $class:ident $kind:ident $method:ident $name:literal [$($parameter:ident $(($wanted:ident))?)*] $answer:ident $receiver:ident) => {
+        MethodRow {
+            method: PlatformMethod::$room($methods::$method),
+            class: PlatformClass::$class,
+            kind: MethodKind::$kind,
+            name: $name,
+            needed: true,
+            parameters: &[$(ParameterKind::$parameter $((PlatformClass::$wanted))?),*],
+            answer: Answer::$answer,
+            receiver: Receiver::$receiver,
+            implementation: None,
+        }
+    };
+}
+
+macro_rules! optional_method {
+    ($room:ident $methods:ident $class:ident $kind:ident $method:ident $name:literal [$($parameter:ident $(($wanted:ident))?)*] $answer:ident $receiver:ident) => {
+        MethodRow {
+            method: PlatformMethod::$room($methods::$method),
+            class: PlatformClass::$class,
+            kind: MethodKind::$kind,
+            name: $name,
+            needed: false,
+            parameters: &[$(ParameterKind::$parameter $((PlatformClass::$wanted))?),*],
+            answer: Answer::$answer,
+            receiver: Receiver::$receiver,
+            implementation: None,
+        }
+    };
+}
+
+macro_rules! implemented_method {
+    ($room:ident $methods:ident $class:ident $kind:ident $method:ident $name:literal [$($parameter:ident $(($wanted:ident))?)*] $answer:ident $receiver:ident $implementation:ident) => {
+        MethodRow {
+            method: PlatformMethod::$room($methods::$method),
+            class: PlatformClass::$class,
+            kind: MethodKind::$kind,
+            name: $name,
+            needed: true,
+            parameters: &[$(ParameterKind::$parameter $((PlatformClass::$wanted))?),*],
+            answer: Answer::$answer,
+            receiver: Receiver::$receiver,
+            implementation: Some(PlatformMethod::$room($methods::$implementation)),
+        }
+    };
+}
+
+/// Every package.
+pub(crate) static PACKAGES: [PackageRow; PACKAGE_COUNT] = [
+    PackageRow {
+        package_id: PlatformPackage::JavaLang,
+        aid_text: b"A0000000620001",
+    },
+    PackageRow {
+        package_id: PlatformPackage::JavacardFramework,
+        aid_text: b"A0000000620101",
+    },
+    PackageRow {
+        package_id: PlatformPackage::JavacardxApdu,
+        aid_text: b"A0000000620209",
+    },
+];
+
+/// Every class, in the order of `PlatformClass`: package, class, name, superclass, interfaces, form, cells, whether code may
+/// make instances, and whether the runtime environment throws one of its own.
+pub(crate) static CLASSES: [ClassRow; CLASS_COUNT] = [
+    class!(JavaLang Object b"Object" [] [] Object [] true false),
+    class!(JavaLang Throwable b"Throwable" [Object] [] Exception [] true false),
+    class!(JavaLang Exception b"Exception" [Throwable] [] Exception [] true false),
+    class!(JavaLang RuntimeException b"RuntimeException" [Exception] [] Exception [] true false),
+    class!(JavaLang IndexOutOfBoundsException b"IndexOutOfBoundsException" [RuntimeException] [] Exception [] true false),
+    class!(JavaLang ArithmeticException b"ArithmeticException" [RuntimeException] [] Exception [] true true),
+    class!(JavaLang ArrayIndexOutOfBoundsException b"ArrayIndexOutOfBoundsException" [IndexOutOfBoundsException] [] Exception [] true true),
+    class!(JavaLang ArrayStoreException b"ArrayStoreException" [RuntimeException] [] Exception [] true true),
+    class!(JavaLang ClassCastException b"ClassCastException" [RuntimeException] [] Exception [] true true),
+    class!(JavaLang NegativeArraySizeException b"NegativeArraySizeException" [RuntimeException] [] Exception [] true true),
+    class!(JavaLang NullPointerException b"NullPointerException" [RuntimeException] [] Exception [] true true),
+    class!(JavaLang SecurityException b"SecurityException" [RuntimeException] [] Exception [] true true),
+    class!(JavacardFramework Shareable b"Shareable" [] [] Interface [] false false),
+    class!(JavacardFramework Pin b"PIN" [] [] Interface [] false false),
+    class!(JavacardFramework Applet b"Applet" [Object] [] Object [] false false),
+    class!(JavacardFramework Apdu b"APDU" [Object] [] Object [] false false),
+    class!(JavacardFramework Aid b"AID" [Object] [] Object [Number Number Number Number Number Number Number Number Number] true false),
+    class!(JavacardFramework JcSystem b"JCSystem" [Object] [] Static [] false false),
+    class!(JavacardFramework Util b"Util" [Object] [] Static [] false false),
+    class!(JavacardFramework OwnerPin b"OwnerPIN" [Object] [Pin] Object [Number Number Number Number Reference] true false),
+    class!(JavacardFramework CardException b"CardException" [Exception] [] Exception [Number] true true),
+    class!(JavacardFramework CardRuntimeException b"CardRuntimeException" [RuntimeException] [] Exception [Number] true true),
+    class!(JavacardFramework IsoException b"ISOException" [CardRuntimeException] [] Exception [Number] true true),
+    class!(JavacardFramework PinException b"PINException" [CardRuntimeException] [] Exception [Number] true true),
+    class!(JavacardFramework SystemException b"SystemException" [CardRuntimeException] [] Exception [Number] true true),
+    class!(JavacardFramework TransactionException b"TransactionException" [CardRuntimeException] [] Exception [Number] true true),
+    class!(JavacardFramework ApduException b"APDUException" [CardRuntimeException] [] Exception [Number] true true),
+    class!(JavacardFramework UserException b"UserException" [CardException] [] Exception [Number] true true),
+    optional_class!(JavacardFramework Iso7816 b"ISO7816" [] [] Interface [] false false),
+    optional_class!(JavacardFramework MultiSelectable b"MultiSelectable" [] [] Interface [] false false),
+    optional_class!(JavacardFramework AppletEvent b"AppletEvent" [] [] Interface [] false false),
+    optional_class!(JavacardxApdu ExtendedLength b"ExtendedLength" [] [] Interface [] false false),
+];
+
+/// The methods of `java.lang`, in the order of `ObjectsMethod`: class, kind, method, name, parameters, what is returned, the receiver.
+pub(crate) static OBJECTS: [MethodRow; OBJECTS_COUNT] = [
+    method!(Objects ObjectsMethod Object Static ObjectInit b"<init>" [] Void Kept),
+    method!(Objects ObjectsMethod Object Virtual ObjectEquals b"equals" [Anything] Boolean Kept),
+    method!(Objects ObjectsMethod Throwable Static ThrowableInit b"<init>" [] Void Kept),
+    method!(Objects ObjectsMethod Exception Static ExceptionInit b"<init>" [] Void Kept),
+    method!(Objects ObjectsMethod RuntimeException Static RuntimeExceptionInit b"<init>" [] Void Kept),
+    method!(Objects ObjectsMethod IndexOutOfBoundsException Static IndexOutOfBoundsExceptionInit b"<init>" [] Void Kept),
+    method!(Objects ObjectsMethod ArithmeticException Static ArithmeticExceptionInit b"<init>" [] Void Kept),
+    method!(Objects ObjectsMethod ArrayIndexOutOfBoundsException Static ArrayIndexOutOfBoundsExceptionInit b"<init>" [] Void Kept),
+    method!(Objects ObjectsMethod ArrayStoreException Static ArrayStoreExceptionInit b"<init>" [] Void Kept),
+    method!(Objects ObjectsMethod ClassCastException Static ClassCastExceptionInit b"<init>" [] Void Kept),
+    method!(Objects ObjectsMethod NegativeArraySizeException Static NegativeArraySizeExceptionInit b"<init>" [] Void Kept),
+    method!(Objects ObjectsMethod NullPointerException Static NullPointerExceptionInit b"<init>" [] Void Kept),
+    method!(Objects ObjectsMethod SecurityException Static SecurityExceptionInit b"<init>" [] Void Kept),
+];
+
+/// The methods of an exception of the card, in the order of `ExceptionsMethod`: class, kind, method, name, parameters, what is returned, the receiver.
+pub(crate) static EXCEPTIONS: [MethodRow; EXCEPTIONS_COUNT] = [
+    method!(Exceptions ExceptionsMethod CardException Static CardExceptionInit b"<init>" [Short] Void Changed),
+    method!(Exceptions ExceptionsMethod CardException Static CardExceptionThrowIt b"throwIt" [Short] Void Absent),
+    method!(Exceptions ExceptionsMethod CardException Virtual CardExceptionGetReason b"getReason" [] Short Kept),
+    method!(Exceptions ExceptionsMethod CardException Virtual CardExceptionSetReason b"setReason" [Short] Void Changed),
+    method!(Exceptions ExceptionsMethod CardRuntimeException Static CardRuntimeExceptionInit b"<init>" [Short] Void Changed),
+    method!(Exceptions ExceptionsMethod CardRuntimeException Static CardRuntimeExceptionThrowIt b"throwIt" [Short] Void Absent),
+    method!(Exceptions ExceptionsMethod CardRuntimeException Virtual CardRuntimeExceptionGetReason b"getReason" [] Short Kept),
+    method!(Exceptions ExceptionsMethod CardRuntimeException Virtual CardRuntimeExceptionSetReason b"setReason" [Short] Void Changed),
+    method!(Exceptions ExceptionsMethod IsoException Static IsoExceptionInit b"<init>" [Short] Void Changed),
+    method!(Exceptions ExceptionsMethod IsoException Static IsoExceptionThrowIt b"throwIt" [Short] Void Absent),
+    method!(Exceptions ExceptionsMethod PinException Static PinExceptionInit b"<init>" [Short] Void Changed),
+    method!(Exceptions ExceptionsMethod PinException Static PinExceptionThrowIt b"throwIt" [Short] Void Absent),
+    method!(Exceptions ExceptionsMethod SystemException Static SystemExceptionInit b"<init>" [Short] Void Changed),
+    method!(Exceptions ExceptionsMethod SystemException Static SystemExceptionThrowIt b"throwIt" [Short] Void Absent),
+    method!(Exceptions ExceptionsMethod TransactionException Static TransactionExceptionInit b"<init>" [Short] Void Changed),
+    method!(Exceptions ExceptionsMethod TransactionException Static TransactionExceptionThrowIt b"throwIt" [Short] Void Absent),
+    method!(Exceptions ExceptionsMethod ApduException Static ApduExceptionInit b"<init>" [Short] Void Changed),
+    method!(Exceptions ExceptionsMethod ApduException Static ApduExceptionThrowIt b"throwIt" [Short] Void Absent),
+    method!(Exceptions ExceptionsMethod UserException Static UserExceptionInit b"<init>" [Short] Void Changed),
+    method!(Exceptions ExceptionsMethod UserException Static UserExceptionThrowIt b"throwIt" [Short] Void Absent),
+    optional_method!(Exceptions ExceptionsMethod UserException Static UserExceptionInitWithoutReason b"<init>WithoutReason" [] Void Changed),
+];
+
+/// The methods of `Util`, in the order of `UtilitiesMethod`: class, kind, method, name, parameters, what is returned, the receiver.
+pub(crate) static UTILITIES: [MethodRow; UTILITIES_COUNT] = [
+    method!(Utilities UtilitiesMethod Util Static UtilArrayCompare b"arrayCompare" [Bytes Short Bytes Short Short] Byte Absent),
+    method!(Utilities UtilitiesMethod Util Static UtilArrayCopy b"arrayCopy" [Bytes Short Bytes Short Short] Short Absent),
+    method!(Utilities UtilitiesMethod Util Static UtilGetShort b"getShort" [Bytes Short] Short Absent),
+    method!(Utilities UtilitiesMethod Util Static UtilMakeShort b"makeShort" [Byte Byte] Short Absent),
+    method!(Utilities UtilitiesMethod Util Static UtilSetShort b"setShort" [Bytes Short Short] Short Absent),
+    optional_method!(Utilities UtilitiesMethod Util Static UtilArrayFill b"arrayFill" [Bytes Short Short Byte] Short Absent),
+    optional_method!(Utilities UtilitiesMethod Util Static UtilArrayCopyNonAtomic b"arrayCopyNonAtomic" [Bytes Short Bytes Short Short] Short Absent),
+    optional_method!(Utilities UtilitiesMethod Util Static UtilArrayFillNonAtomic b"arrayFillNonAtomic" [Bytes Short Short Byte] Short Absent),
+];
+
+/// The methods of `JCSystem`, in the order of `SystemMethod`: class, kind, method, name, parameters, what is returned, the receiver.
+pub(crate) static SYSTEM: [MethodRow; SYSTEM_COUNT] = [
+    method!(System SystemMethod JcSystem Static JcSystemAbortTransaction b"abortTransaction" [] Void Absent),
+    method!(System SystemMethod JcSystem Static JcSystemBeginTransaction b"beginTransaction" [] Void Absent),
+    method!(System SystemMethod JcSystem Static JcSystemCommitTransaction b"commitTransaction" [] Void Absent),
+    method!(System SystemMethod JcSystem Static JcSystemGetAid b"getAID" [] Reference Absent),
+    method!(System SystemMethod JcSystem Static JcSystemGetAppletShareableInterfaceObject b"getAppletShareableInterfaceObject" [Instance(Aid) Byte] Reference Absent),
+    method!(System SystemMethod JcSystem Static JcSystemGetMaxCommitCapacity b"getMaxCommitCapacity" [] Short Absent),
+    method!(System SystemMethod JcSystem Static JcSystemGetPreviousContextAid b"getPreviousContextAID" [] Reference Absent),
+    method!(System SystemMethod JcSystem Static JcSystemGetTransactionDepth b"getTransactionDepth" [] Byte Absent),
+    method!(System SystemMethod JcSystem Static JcSystemGetUnusedCommitCapacity b"getUnusedCommitCapacity" [] Short Absent),
+    method!(System SystemMethod JcSystem Static JcSystemIsTransient b"isTransient" [Anything] Byte Absent),
+    method!(System SystemMethod JcSystem Static JcSystemLookupAid b"lookupAID" [Bytes Short Byte] Reference Absent),
+    method!(System SystemMethod JcSystem Static JcSystemMakeTransientBooleanArray b"makeTransientBooleanArray" [Short Byte] Reference Absent),
+    method!(System SystemMethod JcSystem Static JcSystemMakeTransientByteArray b"makeTransientByteArray" [Short Byte] Reference Absent),
+    method!(System SystemMethod JcSystem Static JcSystemMakeTransientObjectArray b"makeTransientObjectArray" [Short Byte] Reference Absent),
+    method!(System SystemMethod JcSystem Static JcSystemMakeTransientShortArray b"makeTransientShortArray" [Short Byte] Reference Absent),
+    optional_method!(System SystemMethod JcSystem Static JcSystemGetVersion b"getVersion" [] Short Absent),
+    optional_method!(System SystemMethod JcSystem Static JcSystemGetAvailableMemory b"getAvailableMemory" [Byte] Short Absent),
+    optional_method!(System SystemMethod JcSystem Static JcSystemGetAvailableMemoryShorts b"getAvailableMemoryShorts" [Shorts Short Byte] Void Absent),
+    optional_method!(System SystemMethod JcSystem Static JcSystemRequestObjectDeletion b"requestObjectDeletion" [] Void Absent),
+    optional_method!(System SystemMethod JcSystem Static JcSystemIsObjectDeletionSupported b"isObjectDeletionSupported" [] Boolean Absent),
+    optional_method!(System SystemMethod JcSystem Static JcSystemIsAppletActive b"isAppletActive" [Instance(Aid)] Boolean Absent),
+    optional_method!(System SystemMethod JcSystem Static JcSystemGetAssignedChannel b"getAssignedChannel" [] Byte Absent),
+];
+
+/// The methods of `AID`, in the order of `AidsMethod`: class, kind, method, name, parameters, what is returned, the receiver.
+pub(crate) static AIDS: [MethodRow; AIDS_COUNT] = [
+    method!(Aids AidsMethod Aid Static AidInit b"<init>" [Bytes Short Byte] Void Changed),
+    method!(Aids AidsMethod Aid Virtual AidEquals b"equals" [Anything] Boolean Kept),
+    method!(Aids AidsMethod Aid Virtual AidEqualsBytes b"equalsBytes" [Bytes Short Byte] Boolean Kept),
+    method!(Aids AidsMethod Aid Virtual AidGetBytes b"getBytes" [Bytes Short] Byte Kept),
+    optional_method!(Aids AidsMethod Aid Virtual AidRidEquals b"RIDEquals" [Instance(Aid)] Boolean Kept),
+    optional_method!(Aids AidsMethod Aid Virtual AidPartialEquals b"partialEquals" [Bytes Short Byte] Boolean Kept),
+    optional_method!(Aids AidsMethod Aid Virtual AidGetPartialBytes b"getPartialBytes" [Short Bytes Short Byte] Byte Kept),
+];
+
+/// The methods of `PIN` and `OwnerPIN`, in the order of `PinsMethod`: class, kind, method, name, parameters, what is returned, the receiver.
+pub(crate) static PINS: [MethodRow; PINS_COUNT] = [
+    implemented_method!(Pins PinsMethod Pin Interface PinCheck b"check" [Bytes Short Byte] Boolean Kept OwnerPinCheck),
+    implemented_method!(Pins PinsMethod Pin Interface PinGetTriesRemaining b"getTriesRemaining" [] Byte Kept OwnerPinGetTriesRemaining),
+    implemented_method!(Pins PinsMethod Pin Interface PinIsValidated b"isValidated" [] Boolean Kept OwnerPinIsValidated),
+    implemented_method!(Pins PinsMethod Pin Interface PinReset b"reset" [] Void Kept OwnerPinReset),
+    method!(Pins PinsMethod OwnerPin Static OwnerPinInit b"<init>" [Byte Byte] Void Changed),
+    method!(Pins PinsMethod OwnerPin Virtual OwnerPinCheck b"check" [Bytes Short Byte] Boolean Changed),
+    method!(Pins PinsMethod OwnerPin Virtual OwnerPinGetTriesRemaining b"getTriesRemaining" [] Byte Kept),
+    method!(Pins PinsMethod OwnerPin Virtual OwnerPinIsValidated b"isValidated" [] Boolean Kept),
+    method!(Pins PinsMethod OwnerPin Virtual OwnerPinReset b"reset" [] Void Changed),
+    method!(Pins PinsMethod OwnerPin Virtual OwnerPinResetAndUnblock b"resetAndUnblock" [] Void Changed),
+    method!(Pins PinsMethod OwnerPin Virtual OwnerPinUpdate b"update" [Bytes Short Byte] Void Changed),
+    optional_method!(Pins PinsMethod OwnerPin Virtual OwnerPinGetValidatedFlag b"getValidatedFlag" [] Boolean Kept),
+    optional_method!(Pins PinsMethod OwnerPin Virtual OwnerPinSetValidatedFlag b"setValidatedFlag" [Boolean] Void Changed),
+];
+
+/// The methods of `Applet`, in the order of `AppletsMethod`: class, kind, method, name, parameters, what is returned, the receiver.
+pub(crate) static APPLETS: [MethodRow; APPLETS_COUNT] = [
+    method!(Applets AppletsMethod Applet Static AppletInit b"<init>" [] Void Kept),
+    method!(Applets AppletsMethod Applet Virtual AppletDeselect b"deselect" [] Void Kept),
+    method!(Applets AppletsMethod Applet Virtual AppletGetShareableInterfaceObject b"getShareableInterfaceObject" [Instance(Aid) Byte] Reference Kept),
+    method!(Applets AppletsMethod Applet Virtual AppletRegister b"register" [] Void Registered),
+    method!(Applets AppletsMethod Applet Virtual AppletRegisterBytes b"registerBytes" [Bytes Short Byte] Void Registered),
+    method!(Applets AppletsMethod Applet Virtual AppletSelect b"select" [] Boolean Kept),
+    method!(Applets AppletsMethod Applet Virtual AppletSelectingApplet b"selectingApplet" [] Boolean Kept),
+    method!(Applets AppletsMethod Applet Virtual AppletProcess b"process" [Instance(Apdu)] Void Kept),
+    optional_method!(Applets AppletsMethod Applet Virtual AppletReSelectingApplet b"reSelectingApplet" [] Boolean Kept),
+];
+
+/// The methods of `APDU`, in the order of `ApdusMethod`: class, kind, method, name, parameters, what is returned, the receiver.
+pub(crate) static APDUS: [MethodRow; APDUS_COUNT] = [
+    method!(Apdus ApdusMethod Apdu Virtual ApduGetBuffer b"getBuffer" [] Reference Kept),
+    method!(Apdus ApdusMethod Apdu Virtual ApduReceiveBytes b"receiveBytes" [Short] Short Kept),
+    method!(Apdus ApdusMethod Apdu Virtual ApduSendBytes b"sendBytes" [Short Short] Void Kept),
+    method!(Apdus ApdusMethod Apdu Virtual ApduSetIncomingAndReceive b"setIncomingAndReceive" [] Short Kept),
+    method!(Apdus ApdusMethod Apdu Virtual ApduSetOutgoing b"setOutgoing" [] Short Kept),
+    method!(Apdus ApdusMethod Apdu Virtual ApduSetOutgoingAndSend b"setOutgoingAndSend" [Short Short] Void Kept),
+    method!(Apdus ApdusMethod Apdu Virtual ApduSetOutgoingLength b"setOutgoingLength" [Short] Void Kept),
+    optional_method!(Apdus ApdusMethod Apdu Virtual ApduGetIncomingLength b"getIncomingLength" [] Short Kept),
+    optional_method!(Apdus ApdusMethod Apdu Virtual ApduGetOffsetCdata b"getOffsetCdata" [] Short Kept),
+    optional_method!(Apdus ApdusMethod Apdu Virtual ApduSendBytesLong b"sendBytesLong" [Bytes Short Short] Void Kept),
+    optional_method!(Apdus ApdusMethod Apdu Virtual ApduGetCurrentState b"getCurrentState" [] Byte Kept),
+    optional_method!(Apdus ApdusMethod Apdu Static ApduGetProtocol b"getProtocol" [] Byte Absent),
+    optional_method!(Apdus ApdusMethod Apdu Virtual ApduGetNad b"getNAD" [] Byte Kept),
+    optional_method!(Apdus ApdusMethod Apdu Static ApduGetClaChannel b"getCLAChannel" [] Byte Absent),
+    optional_method!(Apdus ApdusMethod Apdu Static ApduGetInBlockSize b"getInBlockSize" [] Short Absent),
+    optional_method!(Apdus ApdusMethod Apdu Static ApduGetOutBlockSize b"getOutBlockSize" [] Short Absent),
+    optional_method!(Apdus ApdusMethod Apdu Virtual ApduIsIsoInterindustryCla b"isISOInterindustryCLA" [] Boolean Kept),
+    optional_method!(Apdus ApdusMethod Apdu Virtual ApduIsCommandChainingCla b"isCommandChainingCLA" [] Boolean Kept),
+    optional_method!(Apdus ApdusMethod Apdu Virtual ApduIsSecureMessagingCla b"isSecureMessagingCLA" [] Boolean Kept),
+    optional_method!(Apdus ApdusMethod Apdu Virtual ApduIsValidCla b"isValidCLA" [] Boolean Kept),
+    optional_method!(Apdus ApdusMethod Apdu Virtual ApduSetOutgoingNoChaining b"setOutgoingNoChaining" [] Short Kept),
+    optional_method!(Apdus ApdusMethod Apdu Static ApduWaitExtension b"waitExtension" [] Void Absent),
+    optional_method!(Apdus ApdusMethod Apdu Static ApduGetCurrentApdu b"getCurrentAPDU" [] Reference Absent),
+    optional_method!(Apdus ApdusMethod Apdu Static ApduGetCurrentApduBuffer b"getCurrentAPDUBuffer" [] Reference Absent),
+];
+
+/// The methods of `MultiSelectable` and `AppletEvent`, in the order of `EventsMethod`: class, kind, method, name, parameters, what is returned, the receiver.
+pub(crate) static EVENTS: [MethodRow; EVENTS_COUNT] = [
+    optional_method!(Events EventsMethod MultiSelectable Interface MultiSelectableSelect b"select" [Boolean] Boolean Kept),
+    optional_method!(Events EventsMethod MultiSelectable Interface MultiSelectableDeselect b"deselect" [Boolean] Void Kept),
+    optional_method!(Events EventsMethod AppletEvent Interface AppletEventUninstall b"uninstall" [] Void Kept),
+];
+
+/// The place of each package's first class, in the order of `PlatformPackage`; after them how many classes there are.
+pub(crate) static FIRST_CLASSES: [usize; PACKAGE_COUNT + 1] = [0, 12, 31, CLASS_COUNT];
+
+/// A room: the methods of some classes.
+#[derive(Clone, Copy)]
+pub(crate) enum Room {
+    Objects,
+    Exceptions,
+    Utilities,
+    System,
+    Aids,
+    Pins,
+    Applets,
+    Apdus,
+    Events,
+}
+
+/// Where the methods of a class stand: a room, the place of the first one there, and that after the last.
+#[derive(Clone, Copy)]
+pub(crate) struct Stretch {
+    pub(crate) room: Room,
+    pub(crate) first: usize,
+    pub(crate) end: usize,
+}
+
+macro_rules! stretch {
+    ($room:ident $first:literal $end:literal) => {
+        Stretch {
+            room: Room::$room,
+            first: $first,
+            end: $end,
+        }
+    };
+}
+
+/// Where the methods of each class stand, in the order of `PlatformClass`.
+pub(crate) static STRETCHES: [Stretch; CLASS_COUNT] = [
+    stretch!(Objects 0 2),
+    stretch!(Objects 2 3),
+    stretch!(Objects 3 4),
+    stretch!(Objects 4 5),
+    stretch!(Objects 5 6),
+    stretch!(Objects 6 7),
+    stretch!(Objects 7 8),
+    stretch!(Objects 8 9),
+    stretch!(Objects 9 10),
+    stretch!(Objects 10 11),
+    stretch!(Objects 11 12),
+    stretch!(Objects 12 13),
+    stretch!(Objects 0 0),
+    stretch!(Pins 0 4),
+    stretch!(Applets 0 9),
+    stretch!(Apdus 0 24),
+    stretch!(Aids 0 7),
+    stretch!(System 0 22),
+    stretch!(Utilities 0 8),
+    stretch!(Pins 4 13),
+    stretch!(Exceptions 0 4),
+    stretch!(Exceptions 4 8),
+    stretch!(Exceptions 8 10),
+    stretch!(Exceptions 10 12),
+    stretch!(Exceptions 12 14),
+    stretch!(Exceptions 14 16),
+    stretch!(Exceptions 16 18),
+    stretch!(Exceptions 18 21),
+    stretch!(Objects 0 0),
+    stretch!(Events 0 2),
+    stretch!(Events 2 3),
+    stretch!(Objects 0 0),
+];
