@@ -112,10 +112,10 @@ class Member:
 
 
 class Variable:
-    """A local variable as the source declares it."""
+    """A local variable as the source declares it: from where and up to where of the code it is the local of a number."""
 
-    def __init__(self, start, name, descriptor):
-        self.start, self.name, self.descriptor = start, name, descriptor
+    def __init__(self, start, end, name, descriptor, number):
+        self.start, self.end, self.name, self.descriptor, self.number = start, end, name, descriptor, number
 
 
 class Handler:
@@ -140,8 +140,8 @@ class Code:
                 self.lines += [(table.unsigned(2), table.unsigned(2)) for _ in range(table.unsigned(2))]
             elif name == "LocalVariableTable":
                 for _ in range(table.unsigned(2)):
-                    start, _, name, descriptor, _ = (table.unsigned(2) for _ in range(5))
-                    self.variables.append(Variable(start, constants.value(name), constants.value(descriptor)))
+                    start, length, name, descriptor, number = (table.unsigned(2) for _ in range(5))
+                    self.variables.append(Variable(start, start + length, constants.value(name), constants.value(descriptor), number))
         self.lines.sort()
 
     def line(self, pc):

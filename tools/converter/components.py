@@ -2,9 +2,11 @@
 from .code import LARGEST_BYTE, two_bytes
 from .package import CLASS, INSTALL, INSTANCE_FIELD, OWN, STATIC_FIELD, STATIC_METHOD, SUPER_METHOD, VIRTUAL_METHOD
 from .refusal import Refusal, class_name
+from .source_names import Local
 
 MAGIC = bytes.fromhex("DECAFFED")
 FLAG_EXPORT, FLAG_APPLET = 2, 4
+SHORTEST_AID, LONGEST_AID = 5, 16
 NAMES = {
     1: "Header", 2: "Directory", 3: "Applet", 4: "Import", 5: "ConstantPool", 6: "Class", 7: "Method", 8: "StaticField",
     9: "ReferenceLocation", 10: "Export"}
@@ -50,6 +52,7 @@ class Components:
         self.one_byte_places, self.two_byte_places = [], []
         self.methods = {}  # offsets in the Method component, by class and key
         self.java_lines = {}  # lines of the Java source, by the offsets of the instructions with which they begin
+        self.java_locals = {}  # local variables of the Java source, by the offsets of their methods
         infos = {METHOD: self.method_component()}
         self.set_class_offsets()
         infos[CLASSES] = self.class_component()
@@ -98,6 +101,7 @@ class Components:
             if body is not None:
                 methods += contents[id(body)]
                 self.java_lines.update((start + offset, line) for offset, line in body.java_lines())
+                self.java_locals[at] = [Local(number, start + first, start + end, *more) for number, first, end, *more in body.locals_of_source()]
                 handlers += b"".join(self.handler(start, *row) for row in rows[id(body)])
                 for offset, size in body.layout.index_places:
                     (self.one_byte_places if size == 1 else self.two_byte_places).append(start + offset)

@@ -2,20 +2,22 @@
 import os
 from dataclasses import replace
 
+from . import card_components as cap
 from . import export_file
 from .cap_file import cap_file
+from .card_check import Names
 from .class_file import ABSTRACT, CLASS, INTERFACE, read_class
 from .code import TooManyFields
-from .components import METHOD, Components
+from .components import LONGEST_AID, METHOD, SHORTEST_AID, Components
 from .library import APPLET
-from .map_lines import map_text, told_method
+from .map_lines import entry_lines, map_text, told_method
 from .package import INSTALL, NO_INSTALL, Package
 from .platform import read_table
 from .refusal import OF_API, Refusal, class_name
+from .source_names import Record
 from .style import SHORT
 
 UNREGISTERED = b"\xF0"  # begins the AIDs that nobody has registered
-SHORTEST_AID, LONGEST_AID = 5, 16
 
 
 class Converted:
@@ -28,8 +30,8 @@ class Converted:
         except TooManyFields:
             self.package = Package(request, files, packages, replace(style, this_forms=False))
             components = Components(self.package, minor)
-        self.request, self.contents, self.methods = request, components.contents, components.methods
-        self.java_lines = components.java_lines
+        self.request, self.contents, self.methods, self.packages = request, components.contents, components.methods, packages
+        self.java_lines, self.java_locals = components.java_lines, components.java_locals
         self.cap = cap_file(request.name, self.contents)
 
     def export(self):
@@ -37,9 +39,22 @@ class Converted:
         return export_file.Writer(self.package).content if self.package.exports else None
 
     def map(self):
-        """Where the methods and their instructions stand in the Method component, as tools/cap2script --map tells it."""
+        """Where the methods and their instructions stand in the Method component, and what the constant pool names, as tools/cap2script --map
+        tells it."""
         names = {offset: told_method(*method) for method, offset in self.methods.items()}
-        return map_text(self.request.aid, self.contents[METHOD][3:], names, self.java_lines)
+        records = [(number, self.record(name)) for number, name in enumerate(self.package.order)]
+        imports, pool = (reader(cap.source_of(tag, self.contents[tag])) for tag, reader in (
+            (cap.IMPORT, cap.read_imports), (cap.CONSTANT_POOL, cap.read_pool)))
+        text = map_text(self.request.aid, self.contents[METHOD][3:], names, self.java_lines, records, self.java_locals)
+        return text + entry_lines(imports, pool, Names([], self.packages))
+
+    def record(self, name):
+        """What a map tells of a class."""
+        file, info, places = self.package.files[name], self.package.classes.known[name], self.package.statics.places
+        descriptors = {each.name: each.descriptor for each in file.fields}
+        fields = {cell: (descriptors[each], each) for each, cell in info.fields.items()}
+        statics = {places[name, each]: (descriptors[each], each) for each in descriptors if (name, each) in places}
+        return Record(name, file.superclass, file.source, fields, statics)
 
 
 def read_classes(folder):

@@ -1,4 +1,4 @@
-"""Where the instructions of a method stand in a Method component."""
+"""Where the instructions of a method stand in a Method component, and where they lead."""
 from .assembly import OPCODES
 
 EXTENDED, ABSTRACT = 0x80, 0x40  # in the first byte of a method's header
@@ -19,6 +19,27 @@ def size_of(info, at):
     if form == "lookup":
         return 5 + 4 * int.from_bytes(info[at + 3:at + 5], "big")
     return 1 + sum(SIZES[letter] for letter in form)
+
+
+def signed_of(info, at, size):
+    return int.from_bytes(info[at:at + size], "big", signed=True)
+
+
+def flow_of(info, places):
+    """Of the instructions at these places those behind which another one may follow than the next, each with what it is and where it
+    leads: a `jump`, a `branch`, which may also go on, a `switch`, or the `end` of a method or of what is known of it."""
+    for at in places:
+        name, form = OPCODES[info[at]]
+        if name.startswith("if"):
+            yield "branch", at, [at + signed_of(info, at + 1, SIZES[form])]
+        elif name.startswith("goto"):
+            yield "jump", at, [at + signed_of(info, at + 1, SIZES[form])]
+        elif name in ("stableswitch", "slookupswitch"):
+            first, step = (at + 7, 2) if name == "stableswitch" else (at + 7, 4)
+            ends = [at + 1, *range(first, at + size_of(info, at), step)]
+            yield "switch", at, sorted({at + signed_of(info, place, 2) for place in ends})
+        elif name.endswith("return") or name in ("athrow", "ret", "jsr"):
+            yield "end", at, []
 
 
 def instructions_of(info, start, end):

@@ -270,6 +270,12 @@ class Translation:
                 last = line
                 yield instruction.offset, line
 
+    def locals_of_source(self):
+        """Of each local variable of the Java source its number, from where and up to where it has it, its descriptor and its name."""
+        offset = self.layout.offset
+        for each in self.walk.code.variables:
+            yield each.number, offset(each.start), offset(each.end), each.descriptor, each.name
+
     def handler_rows(self):
         """The handlers that can be reached, in their order: where each begins, ends and goes on, what it catches, and whether
         no later one of the method covers a part of it."""

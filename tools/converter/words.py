@@ -2,7 +2,7 @@
 import argparse
 import re
 
-from .conversion import LONGEST_AID, SHORTEST_AID
+from .components import LONGEST_AID, SHORTEST_AID
 
 
 def hexadecimal(word):

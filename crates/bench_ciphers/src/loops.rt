@@ -138,20 +138,28 @@ fn sha512(count: u32) -> [u8; 8] {
     hash.words[0].to_be_bytes()
 }
 
+// A piece whose bytes a compiler does not know.
+fn piece_of(count: u32) -> [u8; 64] {
+    let bytes = count.to_be_bytes();
+    [bytes[3]; 64]
+}
+
 #[inline(never)]
 fn crc16(count: u32) -> [u8; 8] {
+    let piece = piece_of(count);
     let mut register = 0xffff;
     for _block in 0..count {
-        register = update_16(register, &[7; 64]);
+        register = update_16(register, &piece);
     }
     u64::from(register).to_be_bytes()
 }
 
 #[inline(never)]
 fn crc32(count: u32) -> [u8; 8] {
+    let piece = piece_of(count);
     let mut register = 0xffff_ffff;
     for _block in 0..count {
-        register = update_32(register, &[7; 64]);
+        register = update_32(register, &piece);
     }
     u64::from(register).to_be_bytes()
 }

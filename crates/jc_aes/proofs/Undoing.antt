@@ -5,9 +5,11 @@ use Rattle.std.proofs.lemmas.Bool.{cases_lt}
 use Rattle.std.proofs.lemmas.Bool.Decides.{Decides-below_and, Decides-eqb}
 use Rattle.std.proofs.lemmas.List.{get_or_append_left, get_or-append_right}
 use Rattle.std.proofs.lemmas.List.FromFn.{fill_by_all}
-use Rattle.jc_aes.specs.Field.{xtimes, times_power, times_low, times, squared, inverse, affine, inverse_affine, sub_byte, inv_sub_byte}
+use Rattle.jc_aes.specs.Field.{xtimes, times_power, times_low, times, affine, sub_byte, inv_sub_byte}
 use Rattle.jc_aes.specs.Aes.{add_round_key, at, cipher_with, decrypted, encrypted, inv_cipher_with, inv_mix_columns, inv_rounds, inv_shift_rows, inv_sub_bytes, mix_columns, mixed_word, next_word, rot_word, round_constant, round_count, rounds, schedule, shift_rows, state_of, sub_bytes, sub_word, word_before, word_of, xor_words}
 use Rattle.jc_aes.specs.Laws.{DecipheringUndoesEnciphering, IsBytes}
+use Rattle.jc_aes.specs.declared.field.TheConstants.{S_BOX, INVERSE_S_BOX}
+use Rattle.jc_aes.proofs.Tables.{slice_index-INVERSE_S_BOX, slice_index-S_BOX}
 use Rattle.jc_aes.proofs.Xor.{by_columns, four, four_is, linear_2, linear_3, linear_9, linear_11, linear_13, linear_14, through_four, xor_back, xor_byte, xtimes-lt}
 
 -- ---- facts of all bytes, by computing
@@ -20,12 +22,18 @@ same_below : (f g : ℕ → ℕ) (n : ℕ) → all_below (λ k. f k == g k) n �
 same_below f g n all =
     (Decides-below_and (λ k. f k == g k) (λ k. f k ≡ g k) (all_below (λ k. f k == g k)) (λ k. Decides-eqb (f k) (g k)) refl (λ _. refl) n).0 all
 
-all_substitutes : all_below (λ b. inv_sub_byte (sub_byte b) == b) 256 ≡ true
-unfolding xtimes times_power times_low times squared inverse affine inverse_affine sub_byte inv_sub_byte
-all_substitutes = refl
+sub_byte-lt : (b : ℕ) → sub_byte b < 256
+unfolding sub_byte affine
+sub_byte-lt b = omega arith
+
+back_by_tables : all_below (λ b. slice_index INVERSE_S_BOX (slice_index S_BOX b) == b) 256 ≡ true
+back_by_tables = refl
 
 substitute_back : (b : ℕ) → b < 256 → inv_sub_byte (sub_byte b) ≡ b
-substitute_back = same_below (λ b. inv_sub_byte (sub_byte b)) (λ b. b) 256 all_substitutes
+substitute_back b below =
+    sym (slice_index-INVERSE_S_BOX (sub_byte b) (sub_byte-lt b))
+    ∙ ap (slice_index INVERSE_S_BOX) (sym (slice_index-S_BOX b below))
+    ∙ same_below (λ k. slice_index INVERSE_S_BOX (slice_index S_BOX k)) (λ k. k) 256 back_by_tables b below
 
 -- the columns of the product of the two matrices
 column_0 : ℕ → ℕ
@@ -110,10 +118,6 @@ IsBytes-state_of f fits =
     (IsBytes_cons (fits 0 1) (IsBytes_cons (fits 1 1) (IsBytes_cons (fits 2 1) (IsBytes_cons (fits 3 1)
     (IsBytes_cons (fits 0 2) (IsBytes_cons (fits 1 2) (IsBytes_cons (fits 2 2) (IsBytes_cons (fits 3 2)
     (IsBytes_cons (fits 0 3) (IsBytes_cons (fits 1 3) (IsBytes_cons (fits 2 3) (IsBytes_cons (fits 3 3) IsBytes_none)))))))))))))))
-
-sub_byte-lt : (b : ℕ) → sub_byte b < 256
-unfolding sub_byte affine
-sub_byte-lt b = omega arith
 
 -- ---- the schedule has bytes
 

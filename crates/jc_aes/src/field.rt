@@ -179,18 +179,60 @@ pub(crate) fn inv_sub_byte(b: u8) -> u8
     INVERSE_S_BOX[b as usize]
 }
 
+#[inline(always)]
+fn doubled_substitute(b: u8) -> u8
+    ensures { result ≡ times (sub_byte b) 2 }
+{
+    DOUBLED_SUBSTITUTES[b as usize]
+}
+
+#[inline(always)]
+fn tripled_substitute(b: u8) -> u8
+    ensures { result ≡ times (sub_byte b) 3 }
+{
+    TRIPLED_SUBSTITUTES[b as usize]
+}
+
 /// What the byte's substitute adds to a column: its products with 2, 1, 1 and 3.
 #[inline(always)]
 pub(crate) fn substitute_column(b: u8) -> [u8; 4]
     ensures { result ≡ times (sub_byte b) 2 ∷ sub_byte b ∷ sub_byte b ∷ times (sub_byte b) 3 ∷ [] }
 {
-    let substitute = S_BOX[b as usize];
+    let substitute = sub_byte(b);
     [
-        DOUBLED_SUBSTITUTES[b as usize],
+        doubled_substitute(b),
         substitute,
         substitute,
-        TRIPLED_SUBSTITUTES[b as usize],
+        tripled_substitute(b),
     ]
+}
+
+#[inline(always)]
+fn times_9(b: u8) -> u8
+    ensures { result ≡ times b 9 }
+{
+    MULTIPLES_9[b as usize]
+}
+
+#[inline(always)]
+fn times_11(b: u8) -> u8
+    ensures { result ≡ times b 11 }
+{
+    MULTIPLES_11[b as usize]
+}
+
+#[inline(always)]
+fn times_13(b: u8) -> u8
+    ensures { result ≡ times b 13 }
+{
+    MULTIPLES_13[b as usize]
+}
+
+#[inline(always)]
+fn times_14(b: u8) -> u8
+    ensures { result ≡ times b 14 }
+{
+    MULTIPLES_14[b as usize]
 }
 
 /// The byte times 9, 11, 13 and 14.
@@ -198,10 +240,5 @@ pub(crate) fn substitute_column(b: u8) -> [u8; 4]
 pub(crate) fn inverse_multiples(b: u8) -> [u8; 4]
     ensures { result ≡ times b 9 ∷ times b 11 ∷ times b 13 ∷ times b 14 ∷ [] }
 {
-    [
-        MULTIPLES_9[b as usize],
-        MULTIPLES_11[b as usize],
-        MULTIPLES_13[b as usize],
-        MULTIPLES_14[b as usize],
-    ]
+    [times_9(b), times_11(b), times_13(b), times_14(b)]
 }

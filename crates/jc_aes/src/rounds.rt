@@ -1,7 +1,8 @@
 //! The steps of a round on the state: 16 bytes, column after column.
 
 ghost use Rattle.std.specs.Prelude.{◌≡◌, ◌≤◌, ◌+◌, ◌*◌, length};
-ghost use Rattle.jc_aes.specs.Aes.{add_round_key, inv_mix_columns, inv_shift_rows, inv_sub_bytes, mix_columns, shift_rows, sub_bytes};
+ghost use Rattle.jc_aes.specs.Aes.{add_round_key, inv_mix_columns, inv_mixed_column, inv_shift_rows, inv_sub_bytes, mix_columns, mixed_column, shift_rows, sub_bytes};
+ghost use Rattle.jc_aes.specs.Field.{sub_byte};
 
 use crate::field::{inv_sub_byte, inverse_multiples, sub_byte, substitute_column};
 
@@ -53,43 +54,51 @@ pub(crate) fn inv_shift_and_sub(s: &[u8; 16]) -> [u8; 16]
     ]
 }
 
+// The column of the substitutes of these bytes, as MixColumns makes it.
+#[inline(always)]
+fn mixed_column(a: u8, b: u8, c: u8, d: u8) -> [u8; 4]
+    ensures { result ≡ mixed_column (sub_byte a) (sub_byte b) (sub_byte c) (sub_byte d) }
+{
+    let first = substitute_column(a);
+    let second = substitute_column(b);
+    let third = substitute_column(c);
+    let fourth = substitute_column(d);
+    [
+        first[0] ^ second[3] ^ third[2] ^ fourth[1],
+        second[0] ^ third[3] ^ fourth[2] ^ first[1],
+        third[0] ^ fourth[3] ^ first[2] ^ second[1],
+        fourth[0] ^ first[3] ^ second[2] ^ third[1],
+    ]
+}
+
 /// SubBytes, ShiftRows and MixColumns.
 pub(crate) fn sub_shift_and_mix(s: &[u8; 16]) -> [u8; 16]
     ensures { result ≡ mix_columns (shift_rows (sub_bytes s.now)) }
 {
-    let m0 = substitute_column(s[0]);
-    let m1 = substitute_column(s[1]);
-    let m2 = substitute_column(s[2]);
-    let m3 = substitute_column(s[3]);
-    let m4 = substitute_column(s[4]);
-    let m5 = substitute_column(s[5]);
-    let m6 = substitute_column(s[6]);
-    let m7 = substitute_column(s[7]);
-    let m8 = substitute_column(s[8]);
-    let m9 = substitute_column(s[9]);
-    let m10 = substitute_column(s[10]);
-    let m11 = substitute_column(s[11]);
-    let m12 = substitute_column(s[12]);
-    let m13 = substitute_column(s[13]);
-    let m14 = substitute_column(s[14]);
-    let m15 = substitute_column(s[15]);
+    let first = mixed_column(s[0], s[5], s[10], s[15]);
+    let second = mixed_column(s[4], s[9], s[14], s[3]);
+    let third = mixed_column(s[8], s[13], s[2], s[7]);
+    let fourth = mixed_column(s[12], s[1], s[6], s[11]);
     [
-        m0[0] ^ m5[3] ^ m10[2] ^ m15[1],
-        m5[0] ^ m10[3] ^ m15[2] ^ m0[1],
-        m10[0] ^ m15[3] ^ m0[2] ^ m5[1],
-        m15[0] ^ m0[3] ^ m5[2] ^ m10[1],
-        m4[0] ^ m9[3] ^ m14[2] ^ m3[1],
-        m9[0] ^ m14[3] ^ m3[2] ^ m4[1],
-        m14[0] ^ m3[3] ^ m4[2] ^ m9[1],
-        m3[0] ^ m4[3] ^ m9[2] ^ m14[1],
-        m8[0] ^ m13[3] ^ m2[2] ^ m7[1],
-        m13[0] ^ m2[3] ^ m7[2] ^ m8[1],
-        m2[0] ^ m7[3] ^ m8[2] ^ m13[1],
-        m7[0] ^ m8[3] ^ m13[2] ^ m2[1],
-        m12[0] ^ m1[3] ^ m6[2] ^ m11[1],
-        m1[0] ^ m6[3] ^ m11[2] ^ m12[1],
-        m6[0] ^ m11[3] ^ m12[2] ^ m1[1],
-        m11[0] ^ m12[3] ^ m1[2] ^ m6[1],
+        first[0], first[1], first[2], first[3], second[0], second[1], second[2], second[3],
+        third[0], third[1], third[2], third[3], fourth[0], fourth[1], fourth[2], fourth[3],
+    ]
+}
+
+// The column of these bytes, as InvMixColumns makes it.
+#[inline(always)]
+fn inv_mixed_column(a: u8, b: u8, c: u8, d: u8) -> [u8; 4]
+    ensures { result ≡ inv_mixed_column a b c d }
+{
+    let first = inverse_multiples(a);
+    let second = inverse_multiples(b);
+    let third = inverse_multiples(c);
+    let fourth = inverse_multiples(d);
+    [
+        first[3] ^ second[1] ^ third[2] ^ fourth[0],
+        second[3] ^ third[1] ^ fourth[2] ^ first[0],
+        third[3] ^ fourth[1] ^ first[2] ^ second[0],
+        fourth[3] ^ first[1] ^ second[2] ^ third[0],
     ]
 }
 
@@ -97,39 +106,13 @@ pub(crate) fn sub_shift_and_mix(s: &[u8; 16]) -> [u8; 16]
 pub(crate) fn inv_mix_columns(s: &[u8; 16]) -> [u8; 16]
     ensures { result ≡ inv_mix_columns s.now }
 {
-    let m0 = inverse_multiples(s[0]);
-    let m1 = inverse_multiples(s[1]);
-    let m2 = inverse_multiples(s[2]);
-    let m3 = inverse_multiples(s[3]);
-    let m4 = inverse_multiples(s[4]);
-    let m5 = inverse_multiples(s[5]);
-    let m6 = inverse_multiples(s[6]);
-    let m7 = inverse_multiples(s[7]);
-    let m8 = inverse_multiples(s[8]);
-    let m9 = inverse_multiples(s[9]);
-    let m10 = inverse_multiples(s[10]);
-    let m11 = inverse_multiples(s[11]);
-    let m12 = inverse_multiples(s[12]);
-    let m13 = inverse_multiples(s[13]);
-    let m14 = inverse_multiples(s[14]);
-    let m15 = inverse_multiples(s[15]);
+    let first = inv_mixed_column(s[0], s[1], s[2], s[3]);
+    let second = inv_mixed_column(s[4], s[5], s[6], s[7]);
+    let third = inv_mixed_column(s[8], s[9], s[10], s[11]);
+    let fourth = inv_mixed_column(s[12], s[13], s[14], s[15]);
     [
-        m0[3] ^ m1[1] ^ m2[2] ^ m3[0],
-        m1[3] ^ m2[1] ^ m3[2] ^ m0[0],
-        m2[3] ^ m3[1] ^ m0[2] ^ m1[0],
-        m3[3] ^ m0[1] ^ m1[2] ^ m2[0],
-        m4[3] ^ m5[1] ^ m6[2] ^ m7[0],
-        m5[3] ^ m6[1] ^ m7[2] ^ m4[0],
-        m6[3] ^ m7[1] ^ m4[2] ^ m5[0],
-        m7[3] ^ m4[1] ^ m5[2] ^ m6[0],
-        m8[3] ^ m9[1] ^ m10[2] ^ m11[0],
-        m9[3] ^ m10[1] ^ m11[2] ^ m8[0],
-        m10[3] ^ m11[1] ^ m8[2] ^ m9[0],
-        m11[3] ^ m8[1] ^ m9[2] ^ m10[0],
-        m12[3] ^ m13[1] ^ m14[2] ^ m15[0],
-        m13[3] ^ m14[1] ^ m15[2] ^ m12[0],
-        m14[3] ^ m15[1] ^ m12[2] ^ m13[0],
-        m15[3] ^ m12[1] ^ m13[2] ^ m14[0],
+        first[0], first[1], first[2], first[3], second[0], second[1], second[2], second[3],
+        third[0], third[1], third[2], third[3], fourth[0], fourth[1], fourth[2], fourth[3],
     ]
 }
 

@@ -1,2 +1,6 @@
 pub mod Kinds
+pub mod Exits
 pub mod Arguments
+pub mod Forms
+pub mod Referring
+pub mod NewArrays

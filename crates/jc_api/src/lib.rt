@@ -1,11 +1,13 @@
-//! Arguments of the platform's methods, read by the kinds of their parameters.
+//! Arguments of the platform's methods, read by the kinds of their parameters, and the forms of their calls.
 #![tactic(auto)]
 
 pub mod arguments;
 pub mod kinds;
+pub mod short_arrays;
 
 pub use arguments::{
     ArrayArguments, MOST_ELEMENTS, Pair, PairArguments, argument_bytes, array_arguments,
-    counted_of, pair_arguments, pair_of, two_of,
+    counted_of, elements_at, given_elements, pair_arguments, pair_of, two_of,
 };
 pub use kinds::have_kinds;
+pub use short_arrays::two_shorts_of;

@@ -1,10 +1,12 @@
 -- AID (API specification).
 pub mod Cells
-use Rattle.std.specs.Prelude.{ℕ, ◌+◌, ◌==◌, ◌&&◌, nat_le, pos, Bool, false, List, length, take, drop, Option, Some, None, if◌then◌else◌}
+use Rattle.std.specs.Prelude.{ℕ, ◌+◌, ◌==◌, ◌&&◌, nat_le, pos, Bool, false, List, length, take, drop, Option, Some, None, if◌then◌else◌, Result, Ok, Err}
 use Rattle.std.specs.Str.{bytes_eq}
 use Rattle.jc_heap.specs.declared.object.Facts.{Facts}
 use Rattle.jc_frames.specs.declared.cell.Cell.{Cell}
 use Rattle.jc_frames.specs.declared.outcome.Exception.TheVariants.{ArrayIndexOutOfBoundsException}
+use Rattle.jc_frames.specs.declared.outcome.FrameExit.{FrameExit}
+use Rattle.jc_frames.specs.declared.outcome.FrameExit.TheVariants.{Throw}
 use Rattle.jc_frames.specs.Reasons.{illegal_value}
 use Rattle.jc_memory.specs.State.{MemoryState}
 use Rattle.jc_memory.specs.Programs.{Perform}
@@ -17,14 +19,15 @@ use Rattle.jc_platform.specs.Distinct.{class_word}
 use Rattle.jc_linker.specs.Values.{Packages}
 use Rattle.jc_world.specs.declared.native_result.NativeResult.TheVariants.{ReturnVoid}
 use Rattle.jc_world.specs.NativeCalls.{NativeProgram, return_value, throw_exception, if_some, if_ok, unless}
-use Rattle.jc_world.specs.Objects.{is_instance_of, short_argument, reference_argument}
+use Rattle.jc_world.specs.Objects.{is_instance_of, reference_argument, short_argument, some_or_fault}
 use Rattle.jc_registry.specs.Aids.{aid_at}
 use Rattle.jc_registry.specs.Registry.{is_aid}
-use Rattle.jc_world.specs.Answers.{returns_short, returns_bool}
-use Rattle.jc_world.specs.Arrays.{bytes_argument, elements_of, bytes_in}
+use Rattle.jc_world.specs.Answers.{and_then}
+use Rattle.jc_world.specs.Arrays.{bytes_in}
 use Rattle.jc_world.specs.Numbers.{not_negative}
 use Rattle.jc_world.specs.Instances.{instance_at}
 use Rattle.jc_api.specs.Arguments.{argument_bytes, array_arguments}
+use Rattle.jc_api.specs.Forms.{CallAnswer, puts_at, reading_call, tells_whether}
 use Rattle.jc_api_framework.specs.Aid.Cells.{is_aid_length, cells_of_aid}
 
 -- the AID of an instance of AID; other objects have none
@@ -43,22 +46,24 @@ aid_init args p m = if_some (reference_argument args 0) (λ own. if_ok (array_ar
     (Perform (cells_effect m own 0 (cells_of_aid (bytes_in m e))) (return_value ReturnVoid))
     else throw_exception illegal_value))))
 
+-- ---- what the calls answer that only read their receiver
+
 -- AID.equals: whether the other is an AID of the same bytes
-unfoldable pub aid_equals : List Cell → Packages → MemoryState → NativeProgram
-aid_equals args p m = if_some (reference_argument args 0) (λ own. if_some (reference_argument args 1)
-    (λ other. if_some (aid_at m own) (λ aid. returns_bool (is_aid aid (aid_of_object p m other)))))
+unfoldable pub aid_equals : List Cell → Packages → MemoryState → Result CallAnswer FrameExit
+aid_equals args p m = and_then (some_or_fault (reference_argument args 0)) (λ own. and_then (some_or_fault (reference_argument args 1))
+    (λ other. and_then (some_or_fault (aid_at m own)) (λ aid. Ok (tells_whether (is_aid aid (aid_of_object p m other))))))
 
 -- AID.equals(byte[], short, byte): whether these are the bytes; false for null
-unfoldable pub aid_equals_bytes : List Cell → Packages → MemoryState → NativeProgram
-aid_equals_bytes args p m = if_some (reference_argument args 0) (λ own. if_ok (array_arguments 1 args m)
-    (λ given. if_some (aid_at m own) (λ aid. if given.array == 0 then returns_bool false else
-    if_ok (argument_bytes given p m) (λ e. returns_bool (is_aid aid (Some (bytes_in m e)))))))
+unfoldable pub aid_equals_bytes : List Cell → Packages → MemoryState → Result CallAnswer FrameExit
+aid_equals_bytes args p m = and_then (some_or_fault (reference_argument args 0)) (λ own. and_then (array_arguments 1 args m)
+    (λ given. and_then (some_or_fault (aid_at m own)) (λ aid. if given.array == 0 then Ok (tells_whether false) else
+    and_then (argument_bytes given p m) (λ e. Ok (tells_whether (is_aid aid (Some (bytes_in m e))))))))
 
 -- AID.getBytes: the bytes are copied, as one change; their number is returned
-unfoldable pub aid_get_bytes : List Cell → Packages → MemoryState → NativeProgram
-aid_get_bytes args p m = if_some (reference_argument args 0) (λ own. if_some (reference_argument args 1) (λ array. if_some (short_argument args 2) (λ start.
-    if_some (aid_at m own) (λ aid. if_ok (bytes_argument m array) (λ argument. if_ok (elements_of p m array argument start (pos (length aid))) (λ e.
-    unless (cells_refusal m e.array e.start aid) (Perform (cells_effect m e.array e.start aid) (returns_short (pos (length aid))))))))))
+unfoldable pub aid_get_bytes : List Cell → MemoryState → Result CallAnswer FrameExit
+aid_get_bytes args m = and_then (some_or_fault (reference_argument args 0)) (λ own. and_then (some_or_fault (reference_argument args 1))
+    (λ array. and_then (some_or_fault (short_argument args 2)) (λ start. and_then (some_or_fault (aid_at m own))
+    (λ aid. Ok (puts_at array start aid (pos (length aid)))))))
 
 -- the provider's part of an AID: its first five bytes
 abbrev pub rid_of : List ℕ → List ℕ
@@ -70,19 +75,19 @@ is_of_provider aid None = false
 is_of_provider aid (Some other) = bytes_eq (rid_of aid) (rid_of other)
 
 -- AID.RIDEquals: whether the other is an AID of the same provider; false for null
-unfoldable pub aid_rid_equals : List Cell → Packages → MemoryState → NativeProgram
-aid_rid_equals args p m = if_some (reference_argument args 0) (λ own. if_some (reference_argument args 1)
-    (λ other. if_some (aid_at m own) (λ aid. returns_bool (is_of_provider aid (aid_of_object p m other)))))
+unfoldable pub aid_rid_equals : List Cell → Packages → MemoryState → Result CallAnswer FrameExit
+aid_rid_equals args p m = and_then (some_or_fault (reference_argument args 0)) (λ own. and_then (some_or_fault (reference_argument args 1))
+    (λ other. and_then (some_or_fault (aid_at m own)) (λ aid. Ok (tells_whether (is_of_provider aid (aid_of_object p m other))))))
 
 -- an AID begins with these bytes
 abbrev pub begins_with : List ℕ → List ℕ → Bool
 begins_with aid bytes = nat_le (length bytes) (length aid) && bytes_eq (take (length bytes) aid) bytes
 
 -- AID.partialEquals: whether the AID begins with these bytes; false for null
-unfoldable pub aid_partial_equals : List Cell → Packages → MemoryState → NativeProgram
-aid_partial_equals args p m = if_some (reference_argument args 0) (λ own. if_ok (array_arguments 1 args m)
-    (λ given. if_some (aid_at m own) (λ aid. if given.array == 0 then returns_bool false else
-    if_ok (argument_bytes given p m) (λ e. returns_bool (begins_with aid (bytes_in m e))))))
+unfoldable pub aid_partial_equals : List Cell → Packages → MemoryState → Result CallAnswer FrameExit
+aid_partial_equals args p m = and_then (some_or_fault (reference_argument args 0)) (λ own. and_then (array_arguments 1 args m)
+    (λ given. and_then (some_or_fault (aid_at m own)) (λ aid. if given.array == 0 then Ok (tells_whether false) else
+    and_then (argument_bytes given p m) (λ e. Ok (tells_whether (begins_with aid (bytes_in m e)))))))
 
 -- so many bytes of an AID from one on, all the rest where none are asked for; none where it has no such part
 abbrev pub part_within : List ℕ → Option ℕ → Option ℕ → Option (List ℕ)
@@ -91,25 +96,24 @@ part_within aid (Some start) None = None
 part_within aid (Some start) (Some count) =
     if nat_le (start + count) (length aid) then Some (if count == 0 then drop start aid else take count (drop start aid)) else None
 
--- with the part that was asked for; where there is none the call throws
-abbrev pub if_there : Option (List ℕ) → (List ℕ → NativeProgram) → NativeProgram
-if_there None go = throw_exception ArrayIndexOutOfBoundsException
-if_there (Some part) go = go part
+-- the part that was asked for; where there is none the call throws
+abbrev pub part_or_throw : Option (List ℕ) → Result (List ℕ) FrameExit
+part_or_throw None = Err (Throw ArrayIndexOutOfBoundsException)
+part_or_throw (Some part) = Ok part
 
 -- AID.getPartialBytes: a part of the bytes is copied, as one change; their number is returned
-unfoldable pub aid_get_partial_bytes : List Cell → Packages → MemoryState → NativeProgram
-aid_get_partial_bytes args p m = if_some (reference_argument args 0) (λ own. if_some (short_argument args 1) (λ from.
-    if_ok (array_arguments 2 args m) (λ given. if_some (aid_at m own) (λ aid.
-    if_there (part_within aid (not_negative from) (not_negative given.count)) (λ part.
-    if_ok (elements_of p m given.array given.header given.start (pos (length part))) (λ e.
-    unless (cells_refusal m e.array e.start part) (Perform (cells_effect m e.array e.start part) (returns_short (pos (length part))))))))))
+unfoldable pub aid_get_partial_bytes : List Cell → MemoryState → Result CallAnswer FrameExit
+aid_get_partial_bytes args m = and_then (some_or_fault (reference_argument args 0)) (λ own. and_then (some_or_fault (short_argument args 1)) (λ from.
+    and_then (array_arguments 2 args m) (λ given. and_then (some_or_fault (aid_at m own)) (λ aid.
+    and_then (part_or_throw (part_within aid (not_negative from) (not_negative given.count)))
+    (λ part. Ok (puts_at given.array given.start part (pos (length part))))))))
 
--- what a call of a method of AID may do
+-- what a call of a method of AID may do: its constructor sets its cells, each other what its answer says
 unfoldable pub aid_call : AidsMethod → List Cell → Packages → MemoryState → NativeProgram
 aid_call AidInit args p m = aid_init args p m
-aid_call AidEquals args p m = aid_equals args p m
-aid_call AidEqualsBytes args p m = aid_equals_bytes args p m
-aid_call AidGetBytes args p m = aid_get_bytes args p m
-aid_call AidRidEquals args p m = aid_rid_equals args p m
-aid_call AidPartialEquals args p m = aid_partial_equals args p m
-aid_call AidGetPartialBytes args p m = aid_get_partial_bytes args p m
+aid_call AidEquals args p m = reading_call (aid_equals args p m) p m
+aid_call AidEqualsBytes args p m = reading_call (aid_equals_bytes args p m) p m
+aid_call AidGetBytes args p m = reading_call (aid_get_bytes args m) p m
+aid_call AidRidEquals args p m = reading_call (aid_rid_equals args p m) p m
+aid_call AidPartialEquals args p m = reading_call (aid_partial_equals args p m) p m
+aid_call AidGetPartialBytes args p m = reading_call (aid_get_partial_bytes args m) p m

@@ -13,12 +13,13 @@ ghost use Rattle.jc_world.specs.NativeCalls.{after_call};
 ghost use Rattle.jc_registry.specs.Registry.{is_aid};
 ghost use Rattle.jc_world.specs.Arrays.{IsInArray, bytes_in};
 ghost use Rattle.jc_world.specs.Instances.{IsInstanceWith};
+ghost use Rattle.jc_api.specs.Forms.{reading_call};
 ghost use Rattle.jc_api_framework.specs.Aid.Cells.{cells_of_aid};
 ghost use Rattle.jc_api_framework.specs.Aid.{aid_of_object, aid_init, aid_equals, aid_equals_bytes, aid_get_bytes, aid_call};
 ghost use Rattle.jc_api_framework.specs.Aid.{aid_get_partial_bytes, aid_partial_equals, aid_rid_equals, begins_with, is_of_provider, part_within, rid_of};
 
 use crate::aid::cells::{cells_of_aid, is_aid_length};
-use jc_api::{argument_bytes, array_arguments};
+use jc_api::{argument_bytes, array_arguments, elements_at, given_elements};
 use jc_frames::reasons::ILLEGAL_VALUE;
 use jc_frames::{Cell, Exception, Outcome};
 use jc_heap::ChangeRefusal;
@@ -30,9 +31,7 @@ use jc_transient::Ref;
 use jc_words::WordStore;
 use jc_world::arguments::{reference_argument, short_argument};
 use jc_world::objects::is_instance_of;
-use jc_world::{
-    NativeResult, StepExit, Stretch, boolean, bytes_argument, elements, instance, put, short,
-};
+use jc_world::{NativeResult, StepExit, Stretch, boolean, instance, put, short};
 
 // The AID of an instance of `AID`.
 fn aid_of_object<S: WordStore>(object: Ref, memory: &Memory<S>, linked: &Linked) -> Option<Aid>
@@ -114,8 +113,8 @@ fn aid_equals<S: WordStore>(
     linked: &Linked,
 ) -> Result<NativeResult, StepExit>
     requires up { memory.now.heap.down ≡ false }
-    ensures { Executes (aid_equals args.now linked.now memory.now) memory.now
-        (after_call result memory.now) }
+    ensures { Executes (reading_call (aid_equals args.now linked.now memory.now) linked.now memory.now)
+        memory.now (after_call result memory.now) }
 {
     let own = reference_argument(args, 0)?;
     let other = reference_argument(args, 1)?;
@@ -136,8 +135,8 @@ fn aid_equals_bytes<S: WordStore>(
     linked: &Linked,
 ) -> Result<NativeResult, StepExit>
     requires up { memory.now.heap.down ≡ false }
-    ensures { Executes (aid_equals_bytes args.now linked.now memory.now) memory.now
-        (after_call result memory.now) }
+    ensures { Executes (reading_call (aid_equals_bytes args.now linked.now memory.now) linked.now memory.now)
+        memory.now (after_call result memory.now) }
 {
     let own = reference_argument(args, 0)?;
     let given = array_arguments(1, args, memory)?;
@@ -159,7 +158,7 @@ fn aid_get_bytes<S: WordStore>(
     linked: &Linked,
 ) -> Result<NativeResult, StepExit>
     requires up { memory.old.heap.down ≡ false }
-    ensures { Executes (aid_get_bytes args.now linked.now memory.old) memory.old
+    ensures { Executes (reading_call (aid_get_bytes args.now memory.old) linked.now memory.old) memory.old
         (after_call result memory.new) }
 {
     let own = reference_argument(args, 0)?;
@@ -168,9 +167,8 @@ fn aid_get_bytes<S: WordStore>(
     let Some(aid) = aid_at(memory, own) else {
         return Err(StepExit::End(Outcome::Fault));
     };
-    let argument = bytes_argument(array, memory)?;
     let count = aid.bytes().len() as i16;
-    let e = elements(array, argument, start, count, memory, linked)?;
+    let e = elements_at(array, start, count, memory, linked)?;
     put(memory, e, aid.bytes())?;
     Ok(short(count))
 }
@@ -200,8 +198,8 @@ fn aid_rid_equals<S: WordStore>(
     linked: &Linked,
 ) -> Result<NativeResult, StepExit>
     requires up { memory.now.heap.down ≡ false }
-    ensures { Executes (aid_rid_equals args.now linked.now memory.now) memory.now
-        (after_call result memory.now) }
+    ensures { Executes (reading_call (aid_rid_equals args.now linked.now memory.now) linked.now memory.now)
+        memory.now (after_call result memory.now) }
 {
     let own = reference_argument(args, 0)?;
     let other = reference_argument(args, 1)?;
@@ -249,8 +247,8 @@ fn aid_partial_equals<S: WordStore>(
     linked: &Linked,
 ) -> Result<NativeResult, StepExit>
     requires up { memory.now.heap.down ≡ false }
-    ensures { Executes (aid_partial_equals args.now linked.now memory.now) memory.now
-        (after_call result memory.now) }
+    ensures { Executes (reading_call (aid_partial_equals args.now linked.now memory.now) linked.now memory.now)
+        memory.now (after_call result memory.now) }
 {
     let own = reference_argument(args, 0)?;
     let given = array_arguments(1, args, memory)?;
@@ -288,7 +286,7 @@ fn aid_get_partial_bytes<S: WordStore>(
     linked: &Linked,
 ) -> Result<NativeResult, StepExit>
     requires up { memory.old.heap.down ≡ false }
-    ensures { Executes (aid_get_partial_bytes args.now linked.now memory.old) memory.old
+    ensures { Executes (reading_call (aid_get_partial_bytes args.now memory.old) linked.now memory.old) memory.old
         (after_call result memory.new) }
 {
     let own = reference_argument(args, 0)?;
@@ -301,14 +299,7 @@ fn aid_get_partial_bytes<S: WordStore>(
         return Err(StepExit::Throw(Exception::ArrayIndexOutOfBoundsException));
     };
     let taken = part.len() as i16;
-    let e = elements(
-        given.array,
-        given.header,
-        given.start,
-        taken,
-        memory,
-        linked,
-    )?;
+    let e = given_elements(&given, taken, memory, linked)?;
     put(memory, e, part)?;
     Ok(short(taken))
 }

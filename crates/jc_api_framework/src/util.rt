@@ -4,12 +4,16 @@ pub(crate) mod array_copy;
 pub(crate) mod array_copy_non_atomic;
 pub(crate) mod array_fill;
 pub(crate) mod array_fill_non_atomic;
+pub mod law;
+pub(crate) mod pair;
 
 ghost use Rattle.std.specs.Prelude.{◌≡◌, ◌+◌, ◌<◌, false};
 ghost use Rattle.jc_memory.specs.Programs.{Executes};
 ghost use Rattle.jc_heap.specs.Completions.{after_change};
 ghost use Rattle.jc_memory.specs.Cells.{cells_store};
+ghost use Rattle.jc_linker.specs.Values.{Packages};
 ghost use Rattle.jc_world.specs.NativeCalls.{after_call};
+ghost use Rattle.jc_api.specs.Forms.{reading_call};
 ghost use Rattle.jc_api_framework.specs.Util.{util_array_copy, util_array_compare, util_get_short, util_set_short, util_make_short, short_of, bytes_of_short};
 ghost use Rattle.jc_api_framework.specs.Util.{end_of, sign_of, util_array_fill, util_call};
 ghost use Rattle.std.specs.Ordering.{nat_cmp};
@@ -20,7 +24,8 @@ use crate::util::array_copy::copy;
 use crate::util::array_copy_non_atomic::util_array_copy_non_atomic;
 use crate::util::array_fill::fill;
 use crate::util::array_fill_non_atomic::util_array_fill_non_atomic;
-use jc_api::{counted_of, pair_arguments, pair_of, two_of};
+use crate::util::pair::named_pair;
+use jc_api::{counted_of, two_of};
 use jc_frames::Cell;
 use jc_heap::ChangeRefusal;
 use jc_linker::linked::Linked;
@@ -55,11 +60,11 @@ fn util_array_copy<S: WordStore>(
     linked: &Linked,
 ) -> Result<NativeResult, StepExit>
     requires up { memory.old.heap.down ≡ false }
-    ensures { Executes (util_array_copy args.now linked.now memory.old) memory.old
+    ensures { Executes (reading_call (util_array_copy args.now linked.now memory.old) linked.now
+        memory.old) memory.old
         (after_call result memory.new) }
 {
-    let named = pair_arguments(args)?;
-    let pair = pair_of(named, memory, linked)?;
+    let pair = named_pair(args, memory, linked)?;
     copy(memory, pair.from, pair.to)?;
     Ok(short(end_of(&pair.to)))
 }
@@ -73,7 +78,8 @@ fn util_array_fill<S: WordStore>(
     linked: &Linked,
 ) -> Result<NativeResult, StepExit>
     requires up { memory.old.heap.down ≡ false }
-    ensures { Executes (util_array_fill args.now linked.now memory.old) memory.old
+    ensures { Executes (reading_call (util_array_fill args.now linked.now memory.old) linked.now
+        memory.old) memory.old
         (after_call result memory.new) }
 {
     let value = (short_argument(args, 3)?.cast_unsigned() % 256) as u8;
@@ -107,7 +113,8 @@ fn util_set_short<S: WordStore>(
     linked: &Linked,
 ) -> Result<NativeResult, StepExit>
     requires up { memory.old.heap.down ≡ false }
-    ensures { Executes (util_set_short args.now linked.now memory.old) memory.old
+    ensures { Executes (reading_call (util_set_short args.now linked.now memory.old) linked.now
+        memory.old) memory.old
         (after_call result memory.new) }
 {
     let value = short_argument(args, 2)?;
@@ -124,7 +131,8 @@ fn util_get_short<S: WordStore>(
     linked: &Linked,
 ) -> Result<NativeResult, StepExit>
     requires up { memory.now.heap.down ≡ false }
-    ensures { Executes (util_get_short args.now linked.now memory.now) memory.now
+    ensures { Executes (reading_call (util_get_short args.now linked.now memory.now) linked.now
+        memory.now) memory.now
         (after_call result memory.now) }
 {
     let two = two_of(args, memory, linked)?;
@@ -139,7 +147,8 @@ fn util_make_short<S: WordStore>(
     args: &[Cell],
     memory: &Memory<S>,
 ) -> Result<NativeResult, StepExit>
-    ensures { Executes (util_make_short args.now) memory.now (after_call result memory.now) }
+    ensures { (p : Packages) → Executes (reading_call (util_make_short args.now) p memory.now)
+        memory.now (after_call result memory.now) }
 {
     let high = (short_argument(args, 0)?.cast_unsigned() % 256) as u8;
     let low = (short_argument(args, 1)?.cast_unsigned() % 256) as u8;
@@ -186,17 +195,17 @@ fn util_array_compare<S: WordStore>(
     linked: &Linked,
 ) -> Result<NativeResult, StepExit>
     requires up { memory.now.heap.down ≡ false }
-    ensures { Executes (util_array_compare args.now linked.now memory.now) memory.now
+    ensures { Executes (reading_call (util_array_compare args.now linked.now memory.now) linked.now
+        memory.now) memory.now
         (after_call result memory.now) }
 {
-    let named = pair_arguments(args)?;
-    let pair = pair_of(named, memory, linked)?;
+    let pair = named_pair(args, memory, linked)?;
     let order = order_of(memory, pair.from, pair.to);
     Ok(short(sign_of(order)))
 }
 
 /// A call of a method of `Util`.
-#[tactic(auto, unfolding(crate::specs::Util::util_call))]
+#[tactic(auto, unfolding(crate::specs::Util::util_call, crate::specs::Util::util_answer))]
 pub fn call_util<S: WordStore>(
     method: UtilitiesMethod,
     args: &[Cell],

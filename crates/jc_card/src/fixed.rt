@@ -174,7 +174,7 @@ pub(crate) fn first_objects<S: WordStore>(
     count: usize,
 ) -> (ArrayVec<u16, MOST_FIXED>, Ref)
     requires up { heap.now.down ≡ false }
-    requires few { count ≤ 128 }
+    requires few { count ≤ 32 }
     ensures all { result.0.items ≡ numbered heap.now.now count }
     ensures last { result.1 ≡ object_number heap.now.now count }
     ensures object { (result.1 ≡ 0 → ⊥) → IsObject heap.now.now result.1 }

@@ -1,15 +1,13 @@
 -- What the words of one object have to say, beside the packages that are linked.
 use Rattle.std.specs.Prelude.{ℕ, ◌≡◌, ◌<◌, ◌-◌, ◌==◌, ◌&&◌, ◌||◌, nat_lt, nat_le, Bool, true, false, not, is_none, List, length, slice_index, if◌then◌else◌}
-use Rattle.jc_platform.specs.declared.names.PlatformClass.{PlatformClass}
 use Rattle.jc_platform.specs.declared.names.PlatformClass.TheVariants.{Aid, OwnerPin}
-use Rattle.jc_platform.specs.Distinct.{class_word}
 use Rattle.jc_heap.specs.declared.object.Facts.{Facts}
 use Rattle.jc_heap.specs.declared.object.Kind.{Kind}
 use Rattle.jc_heap.specs.declared.object.Kind.TheVariants.{Instance, ByteArray, ReferenceArray}
 use Rattle.jc_heap.specs.Object.{is_object}
 use Rattle.jc_heap.specs.Heap.{HeapState, heap_item_at, facts, cells}
 use Rattle.jc_linker.specs.Values.{Packages}
-use Rattle.jc_linker.specs.Classes.{is_a, is_below, is_class, reference_cell, size_of}
+use Rattle.jc_linker.specs.Classes.{is_a, is_class, reference_cell, size_of}
 use Rattle.jc_linker.specs.Resolves.{names_interface}
 
 -- an object stands at this address

@@ -44,6 +44,7 @@ impl TripleDes {
     }
 
     /// Enciphers a block.
+    #[tactic(auto, unfolding(crate::specs::Triple::triple_encrypted))]
     pub fn encrypt(&self, block: &[u8; 8]) -> [u8; 8]
         ensures { result ≡ triple_encrypted (keys_of self.now) block.now }
     {
@@ -53,6 +54,7 @@ impl TripleDes {
     }
 
     /// Deciphers a block.
+    #[tactic(auto, unfolding(crate::specs::Triple::triple_decrypted))]
     pub fn decrypt(&self, block: &[u8; 8]) -> [u8; 8]
         ensures { result ≡ triple_decrypted (keys_of self.now) block.now }
     {

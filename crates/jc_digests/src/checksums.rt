@@ -2,48 +2,40 @@
 //! remainder's complement.
 
 ghost use Rattle.std.specs.Prelude.{◌≡◌};
-ghost use Rattle.jc_digests.specs.Remainders.{bit_in, bits_in, generator_16, generator_32, remainder};
+ghost use Rattle.jc_digests.specs.Remainders.{bits_in, generator_16, generator_32, remainder};
 
-const GENERATOR_16: u16 = 0x8408;
+use crate::constants::{REMAINDERS_16, REMAINDERS_32};
 
-const GENERATOR_32: u32 = 0xedb88320;
-
-fn zero_into_16(register: u16) -> u16
-    ensures { result ≡ bit_in generator_16 register 0 }
+#[inline(always)]
+fn remainder_16(byte: u8) -> u16
+    ensures { result ≡ bits_in generator_16 0 byte 8 }
 {
-    if register % 2 == 0 {
-        return register / 2;
-    }
-    register / 2 ^ GENERATOR_16
+    REMAINDERS_16[byte as usize]
 }
 
+#[inline(always)]
+#[tactic(auto, using(crate::proofs::Remainders::byte_by_low))]
 fn byte_into_16(register: u16, byte: u8) -> u16
     ensures { result ≡ bits_in generator_16 register byte 8 }
 {
-    let mut next = register ^ u16::from(byte);
-    'bits: for _bit in 0..8u32 {
-        next = zero_into_16(next);
-    }
-    next
+    let low = (register ^ u16::from(byte)) % 256;
+    register / 256 ^ remainder_16(low as u8)
 }
 
-fn zero_into_32(register: u32) -> u32
-    ensures { result ≡ bit_in generator_32 register 0 }
+#[inline(always)]
+fn remainder_32(byte: u8) -> u32
+    ensures { result ≡ bits_in generator_32 0 byte 8 }
 {
-    if register % 2 == 0 {
-        return register / 2;
-    }
-    register / 2 ^ GENERATOR_32
+    REMAINDERS_32[byte as usize]
 }
 
+#[inline(always)]
+#[tactic(auto, using(crate::proofs::Remainders::byte_by_low))]
 fn byte_into_32(register: u32, byte: u8) -> u32
     ensures { result ≡ bits_in generator_32 register byte 8 }
 {
-    let mut next = register ^ u32::from(byte);
-    'bits: for _bit in 0..8u32 {
-        next = zero_into_32(next);
-    }
-    next
+    let low = (register ^ u32::from(byte)) % 256;
+    register / 256 ^ remainder_32(low as u8)
 }
 
 /// The remainder of CRC-16 once a piece follows.

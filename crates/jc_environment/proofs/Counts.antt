@@ -21,7 +21,7 @@ abbrev pub all_further : List ClassEntry → List FixedObject
 all_further [] = []
 all_further (e ∷ es) = if is_thrown_further e then own_instance e.class ∷ all_further es else all_further es
 
--- those of a table are no more than the classes, and have no more cells than those
+-- those of a table are no more, and have no more cells
 cells-own : (t : Tokens) (es : List ClassEntry) → cells_of_all (own_instances t es) ≤ cells_of_all (all_further es)
 cells-own t [] = omega arith
 cells-own t (e ∷ es) = go (is_thrown_further e) (is_some (token_of_class t e.class)) (cells-own t es)
@@ -33,14 +33,16 @@ cells-own t (e ∷ es) = go (is_thrown_further e) (is_some (token_of_class t e.c
     go true false more = omega (arith, more)
     go false y more = more
 
-length-own : (t : Tokens) (es : List ClassEntry) → length (own_instances t es) ≤ length es
+length-own : (t : Tokens) (es : List ClassEntry) → length (own_instances t es) ≤ length (all_further es)
 length-own t [] = omega arith
-length-own t (e ∷ es) = go (is_thrown_further e && is_some (token_of_class t e.class)) (length-own t es)
+length-own t (e ∷ es) = go (is_thrown_further e) (is_some (token_of_class t e.class)) (length-own t es)
   where
-    go : (b : Bool) → length (own_instances t es) ≤ length es
-        → length (if b then own_instance e.class ∷ own_instances t es else own_instances t es) ≤ length (e ∷ es)
-    go true more = omega (arith, more)
-    go false more = omega (arith, more)
+    go : (x y : Bool) → length (own_instances t es) ≤ length (all_further es)
+        → length (if x && y then own_instance e.class ∷ own_instances t es else own_instances t es)
+        ≤ length (if x then own_instance e.class ∷ all_further es else all_further es)
+    go true true more = omega (arith, more)
+    go true false more = omega (arith, more)
+    go false y more = more
 
 first_count : length first_objects ≡ 17
 unfolding first_objects
@@ -51,25 +53,25 @@ unfolding first_objects
 first_cells = refl
 
 -- facts of the list of classes, by computing
-few_classes : length classes ≤ 111
-unfolding classes
-few_classes = lit≤ tt
+few_further : length (all_further classes) ≤ 15
+unfolding classes is_first first_objects
+few_further = lit≤ tt
 
 further_cells : cells_of_all (all_further classes) ≤ 1024
 unfolding classes is_first first_objects cells_of
 further_cells = lit≤ tt
 
--- the seventeen of each image come first, and there are 128 at most
+-- the seventeen of each image come first, and there are 32 at most
 pub least_count : (t : Tokens) → 17 ≤ fixed_count t
 unfolding fixed_objects
 least_count t =
     let all = length-append first_objects (own_instances t classes) in omega (arith, all, first_count)
 
-pub most_count : (t : Tokens) → fixed_count t ≤ 128
+pub most_count : (t : Tokens) → fixed_count t ≤ 32
 unfolding fixed_objects
 most_count t =
     let all = length-append first_objects (own_instances t classes) in
-    let own = length-own t classes in omega (arith, all, own, first_count, few_classes)
+    let own = length-own t classes in omega (arith, all, own, first_count, few_further)
 
 -- their cells have room in an area
 pub most_cells : (t : Tokens) → cells_of_all (fixed_objects t) ≤ area_size

@@ -151,6 +151,7 @@ fn listed(table: &Table) -> ArrayVec<FixedObject, MOST_OBJECTS>
 /// The objects of images with this table, in their order.
 pub fn fixed_objects(table: &Table) -> ArrayVec<FixedObject, MOST_OBJECTS>
     ensures all { result.items ≡ fixed_objects table.now }
+    ensures few { length result.items ≤ 32 }
     ensures cells { cells_of_all result.items ≤ area_size }
 {
     listed(table)

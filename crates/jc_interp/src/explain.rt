@@ -58,6 +58,17 @@ pub(crate) fn note_end<S: WordStore>(
     }
 }
 
+/// Notes where the frames stand as a write is refused, by the instruction at a place.
+#[cold]
+#[inline(never)]
+pub(crate) fn note_cut<S: WordStore>(place: u16, frames: &Frames, memory: &Memory<S>) {
+    let notes = memory.notes();
+    if notes.are_kept() {
+        notes.cause(Cause::Nothing);
+        note_frames(place, frames, notes);
+    }
+}
+
 /// Notes that the command's instructions are used up, and where the frames stand.
 #[cold]
 #[inline(never)]

@@ -4,7 +4,7 @@ ghost use Rattle.jc_memory.specs.Programs.{Executes};
 ghost use Rattle.jc_heap.specs.Completions.{after_step};
 ghost use Rattle.jc_interp.specs.Running.{IsPartOfRun, run_methods, run_of, run_ad_hoc};
 
-use crate::explain::{note_budget, note_end, note_step};
+use crate::explain::{note_budget, note_cut, note_end, note_step};
 use crate::frames_only::run_in_frames;
 use crate::step::{code_of, finish};
 use jc_frames::{Frames, Origin, Outcome};
@@ -46,7 +46,10 @@ fn run_part<S: WordStore>(
                 return Ok(Some((left, outcome)));
             }
             Err(StepExit::Throw(_)) => return Ok(Some((left + later, Outcome::Fault))),
-            Err(StepExit::Down) => return Err(StoreDown),
+            Err(StepExit::Down) => {
+                note_cut(pause.place, frames, memory);
+                return Err(StoreDown);
+            }
         }
         if frames.origin().package_number != number {
             number = frames.origin().package_number;
@@ -119,6 +122,7 @@ pub fn run_of<S: WordStore>(
     ensures { Executes (run_of budget lent.now linked.now frames.old memory.old) memory.old
         (after_step result memory.new) }
 {
+    memory.notes().forget();
     match run_whole(lent, budget, frames, memory, linked)? {
         Some(end) => Ok(end),
         None => {

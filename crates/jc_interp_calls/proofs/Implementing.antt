@@ -10,7 +10,6 @@ use Rattle.jc_platform.specs.Distinct.{class_word}
 use Rattle.jc_platform.specs.Hierarchy.{implementation_of, interfaces_of}
 use Rattle.jc_platform.specs.Platform.{class_by_word, method_by_token}
 use Rattle.jc_cap_linkage.specs.declared.pool.VirtualToken.TheVariants.{Public}
-use Rattle.jc_linker.specs.declared.search.Search.TheVariants.{Above}
 use Rattle.jc_linker.specs.Classes.{any_is, class_in, extends, implements, interfaces_by, interfaces_in, is_below, lineage, platform_interfaces}
 use Rattle.jc_linker.specs.Methods.{by_token, first_decided, found_or_above, implementation_by, implementation_in, in_list, interface_method_at, method_at}
 use Rattle.jc_linker.specs.Methods.{native_implementation, token_of}

@@ -1,5 +1,7 @@
 //! Exceptions: whose instance is thrown, and which frame goes on with it.
 ghost use Rattle.std.specs.Prelude.{◌≡◌, false};
+ghost use Rattle.jc_environment.specs.Objects.{own_place};
+ghost use Rattle.jc_frames.specs.Exceptions.{class_of_exception};
 ghost use Rattle.jc_frames.specs.Frames.{unless_fault};
 ghost use Rattle.jc_memory.specs.Programs.{Executes};
 ghost use Rattle.jc_world.specs.Instructions.{after_instruction};
@@ -16,6 +18,7 @@ use jc_heap::Facts;
 use jc_linker::linked::Linked;
 use jc_memory::{FaultKind, Memory};
 use jc_platform::names::PlatformClass;
+use jc_platform::table::Table;
 use jc_transient::{CellValue, ClassWord, Ref};
 use jc_words::WordStore;
 use jc_world::StepExit;
@@ -149,6 +152,31 @@ fn throw_with<S: WordStore>(
     throw_object(thrown, place, frames, memory, linked)
 }
 
+// The number of the runtime environment's own instance of an exception's class, among the objects with which the heap begins.
+#[tactic(auto, unfolding(jc_environment::specs::Objects::own_place, jc_environment::specs::Objects::fixed_objects, jc_environment::specs::Objects::first_objects,))]
+fn own_number(exception: Exception, table: &Table) -> usize
+    ensures { result ≡ own_place table.now (class_of_exception exception) }
+{
+    match exception {
+        Exception::ArithmeticException => 0,
+        Exception::ArrayIndexOutOfBoundsException => 1,
+        Exception::ArrayStoreException => 2,
+        Exception::ClassCastException => 3,
+        Exception::NegativeArraySizeException => 4,
+        Exception::NullPointerException => 5,
+        Exception::SecurityException => 6,
+        Exception::CardException(_) => 7,
+        Exception::CardRuntimeException(_) => 8,
+        Exception::ISOException(_) => 9,
+        Exception::PINException(_) => 10,
+        Exception::SystemException(_) => 11,
+        Exception::TransactionException(_) => 12,
+        Exception::APDUException(_) => 13,
+        Exception::UserException(_) => 14,
+        Exception::Further { class, .. } => own_place(table, class),
+    }
+}
+
 /// The runtime environment throws its own instance of an exception's class, with its reason, by the instruction at a
 /// place. A class that the table lacks is a code fault.
 #[tactic(auto, unfolding(crate::specs::Throwing::exception_throw))]
@@ -163,7 +191,7 @@ pub fn throw<S: WordStore>(
     ensures { Executes (exception_throw exception place linked.now frames.old memory.old) memory.old
         (after_instruction result frames.new memory.new) }
 {
-    let number = own_place(linked.platform().table(), exception.class());
+    let number = own_number(exception, linked.platform().table());
     let thrown = memory.fixed(number);
     throw_with(exception.reason(), thrown, place, frames, memory, linked)
 }

@@ -1,11 +1,11 @@
 -- Whether what a package's classes name is there.
-use Rattle.std.specs.Prelude.{ℕ, zero, suc, ◌+◌, ◌*◌, ◌==◌, ◌&&◌, ◌||◌, not, nat_le, Bool, true, false, List, [], ◌∷◌, is_some}
+use Rattle.std.specs.Prelude.{ℕ, ◌+◌, ◌*◌, ◌==◌, ◌&&◌, ◌||◌, not, nat_le, Bool, true, List, [], ◌∷◌, is_some}
 use Rattle.std.specs.List.{list_all}
 use Rattle.jc_cap_linkage.specs.declared.pool.VirtualToken.TheVariants.{Public}
 use Rattle.jc_linker.specs.Classes.{is_class}
 use Rattle.jc_linker.specs.Methods.{method_at}
 use Rattle.jc_linker.specs.Resolves.{names_interface}
-use Rattle.jc_linker.specs.Values.{ClassValue, Implementation, MethodTable, Packages}
+use Rattle.jc_linker.specs.Values.{ClassValue, Implementation, Packages}
 
 -- a class has a public method with this token
 unfoldable pub has_method : Packages → ℕ → ℕ → ℕ → Bool

@@ -1,9 +1,8 @@
 -- What the entries of a constant pool resolve to (virtual machine specification, constant pool resolution).
-use Rattle.std.specs.Prelude.{◌≡◌, ℕ, ◌+◌, ◌*◌, ◌/◌, ◌<◌, ◌==◌, nat_lt, Bool, true, false, not, List, [], ◌∷◌, ◌++◌, map, length, Option, Some, None}
+use Rattle.std.specs.Prelude.{◌≡◌, ℕ, ◌+◌, ◌*◌, ◌/◌, ◌<◌, ◌==◌, nat_lt, Bool, false, List, [], ◌∷◌, ◌++◌, Option, Some, None}
 use Rattle.std.specs.Prelude.{if◌then◌else◌, slice_get, position}
 use Rattle.std.specs.Option.{option_map, option_and_then}
 use Rattle.jc_platform.specs.declared.names.PlatformClass.{PlatformClass}
-use Rattle.jc_platform.specs.declared.names.PlatformMethod.{PlatformMethod}
 use Rattle.jc_platform.specs.declared.names.MethodKind.TheVariants as kinds
 use Rattle.jc_platform.specs.Distinct.{class_word}
 use Rattle.jc_platform.specs.Hierarchy.{is_interface}
@@ -12,7 +11,6 @@ use Rattle.jc_cap_linkage.specs.declared.class_refs.ClassRef.{ClassRef}
 use Rattle.jc_cap_linkage.specs.declared.class_refs.ClassRef.TheVariants as refs
 use Rattle.jc_cap_linkage.specs.declared.pool.Entry.{Entry}
 use Rattle.jc_cap_linkage.specs.declared.pool.Entry.TheVariants as entries
-use Rattle.jc_cap_linkage.specs.declared.pool.StaticRef.{StaticRef}
 use Rattle.jc_cap_linkage.specs.declared.pool.StaticRef.TheVariants as statics
 use Rattle.jc_cap_linkage.specs.declared.pool.VirtualToken.{VirtualToken}
 use Rattle.jc_linker.specs.declared.target.Method.{Method}

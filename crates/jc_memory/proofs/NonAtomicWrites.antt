@@ -5,7 +5,7 @@ use Rattle.std.proofs.lemmas.List.{drop_more, drop_all}
 use Rattle.jc_heap.specs.declared.place.Place.TheVariants.{Cell}
 use Rattle.jc_heap.specs.declared.object.Kind.{Kind}
 use Rattle.jc_heap.specs.Completions.{Completion, Completed, Torn}
-use Rattle.jc_heap.specs.Heap.{HeapState, cells, facts, heap_item_at}
+use Rattle.jc_heap.specs.Heap.{cells, facts, heap_item_at}
 use Rattle.jc_heap.specs.Moves.{WriteNonAtomic}
 use Rattle.jc_heap.specs.Places.{set_place}
 use Rattle.jc_heap.proofs.Laws.{same_facts, same_length}

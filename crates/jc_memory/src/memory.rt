@@ -23,7 +23,7 @@ pub const MOST_COMMAND: usize = 261;
 pub const MOST_SENT: usize = 256;
 
 /// With how many objects the heap begins at most.
-pub const MOST_FIXED: usize = 128;
+pub const MOST_FIXED: usize = 32;
 
 /// What running code sees and changes: the heap, the transient contents, for whom code runs, the
 /// command that is carried out, and what was sent in answer to it.

@@ -1,7 +1,8 @@
 -- Converting pieces block by block.
-use Rattle.std.proofs.Common.{◌≡◌, ℕ, zero, suc, ◌+◌, ◌*◌, ◌≤◌, List, ◌++◌, append_assoc, length, length-append, length-drop, take, drop, refl, sym, ap, ◌∙◌, arith}
+use Rattle.std.proofs.Common.{◌≡◌, ◌≢◌, ℕ, zero, suc, ◌+◌, ◌*◌, ◌%◌, ◌≤◌, ◌<◌, List, [], ◌++◌, append_assoc, length, length-append, length-drop, length-take-le, take, drop, refl, sym, ap, ◌∙◌, arith}
 use Rattle.std.proofs.Math.Seq.{take-add}
 use Rattle.std.proofs.lemmas.List.{drop_all, take_all, take-append-le, drop-append-le}
+use Rattle.std.proofs.lemmas.Nat.{mod-mul-add}
 use Rattle.jc_modes.specs.Modes.{IsUnderWay, block_at, chain_after, output}
 
 pub rows_more : (n size : ℕ) → suc n * size ≡ n * size + size
@@ -71,4 +72,22 @@ block_done f g size first m chain b chain' b' out out' was long next made all =
       long = omega (arith, whole);
       rest = sym (drop_all (suc n * size) m (omega (arith, whole)));
       out = all ∙ (λ j. was.out j ++ (made ∙ (λ i. g (was.chain i) (sym block i))) j);
+    }
+
+-- where bytes are left of an open block, the message is not whole blocks
+pub part_left : (size blocks left n : ℕ) → blocks * size + left ≡ n → left ≢ 0 → left < size → n % size ≡ 0 → ⊥
+part_left size blocks left n all some part whole = some (sym (mod-mul-add blocks size left part) ∙ ap (λ (k : ℕ). k % size) all ∙ whole)
+
+-- the open block alone is a message
+pub open_block : (f g : List ℕ → List ℕ → List ℕ) (size : ℕ) (chain b : List ℕ) (used : ℕ) → used ≤ length b
+    → IsUnderWay f g size chain (take used b) chain b used []
+unfolding chain_after output
+open_block f g size chain b used fits =
+    let none : 0 ≡ 0 * size = omega arith in
+    record {
+      blocks = 0;
+      chain = refl;
+      long = omega (arith, length-take-le used b fits);
+      rest = ap (λ (k : ℕ). drop k (take used b)) none;
+      out = refl;
     }

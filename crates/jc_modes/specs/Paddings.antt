@@ -1,5 +1,5 @@
 -- Paddings. The last block of a message has u bytes: none if the message is empty, else from 1 to a whole block.
-use Rattle.std.specs.Prelude.{◌≡◌, ℕ, ◌-◌, List, [], ◌∷◌, length, drop, replicate, nat_eq, if◌then◌else◌}
+use Rattle.std.specs.Prelude.{◌≡◌, ℕ, ◌+◌, ◌-◌, ◌%◌, List, [], ◌∷◌, length, drop, replicate, nat_eq, if◌then◌else◌}
 use Rattle.jc_modes.specs.declared.padding.Padding.{Padding}
 use Rattle.jc_modes.specs.declared.padding.Padding.TheVariants.{NoPadding, Method1, Method2, Pkcs5}
 
@@ -14,6 +14,10 @@ padding_of NoPadding size u = []
 padding_of Method1 size u = replicate (size - u) 0
 padding_of Method2 size u = 0x80 ∷ replicate (space size u - 1) 0
 padding_of Pkcs5 size u = replicate (space size u) (space size u)
+
+-- with the padding after its last block, of u bytes, a message is whole blocks
+abbrev pub IsWhole : Padding → ℕ → ℕ → Type 0
+IsWhole padding size u = (u + length (padding_of padding size u)) % size ≡ 0
 
 -- from byte n on a block is the padding of n bytes
 abbrev pub EndsByPadding : Padding → List ℕ → ℕ → Type 0

@@ -1,7 +1,7 @@
 //! A message through a mode, in pieces of any lengths.
 
-ghost use Rattle.std.specs.Prelude.{◌≡◌, ◌≤◌, ◌<◌, ◌+◌, ◌*◌, ◌++◌, ℕ, List, length, take, IfSome};
-ghost use Rattle.jc_modes.specs.Paddings.{padding_of};
+ghost use Rattle.std.specs.Prelude.{◌≡◌, ◌≤◌, ◌<◌, ◌+◌, ◌*◌, ◌++◌, ℕ, List, length, take, IfNone, IfSome};
+ghost use Rattle.jc_modes.specs.Paddings.{IsWhole, padding_of};
 ghost use Rattle.jc_modes.specs.Modes.{IsUnderWay};
 
 use crate::bytes::put;
@@ -125,10 +125,11 @@ pub fn finish<S: Step>(
     requires size { S.size ≤ 16 }
     requires used { used ≤ S.size }
     requires room { 2 * S.size ≤ length to.old }
-    ensures { (first m out : List ℕ)
+    ensures converted { (first m out : List ℕ)
         → IsUnderWay (S.chained step.now) (S.written step.now) S.size first m chain.old block.old used out
         → IfSome result (λ count. IsUnderWay (S.chained step.now) (S.written step.now) S.size first
         (m ++ padding_of padding S.size used) chain.new block.new 0 (out ++ take count to.new)) }
+    ensures refused { IfNone result (¬ (IsWhole padding S.size used)) }
 {
     let mut bytes = [0; 16];
     let count = pad(padding, block.len(), used, &mut bytes);

@@ -1,16 +1,60 @@
--- The heap of an image, and the platform whose classes its objects have.
-use Rattle.std.specs.Prelude.{ℕ, ◌≡◌, ◌≤◌, false, List, Ok, length}
+-- Images that are whole, and the heap and the platform of one.
+use Rattle.std.specs.Prelude.{ℕ, ◌≡◌, ◌≤◌, ◌<◌, false, List, Ok, length}
 use Rattle.jc_words.specs.Layout.{text_start}
-use Rattle.jc_commit.specs.Image.{recovered_of}
+use Rattle.jc_commit.specs.Image.{IsGoodLog, recovered_of}
+use Rattle.jc_commit.specs.Migration.{migrated}
+use Rattle.jc_commit.specs.State.{State}
 use Rattle.jc_heap.specs.Heap.{heap_of}
-use Rattle.jc_heap.specs.Image.{table_text}
+use Rattle.jc_heap.specs.Image.{IsWellFormed, table_text}
+use Rattle.jc_heap.specs.Whole.{IsConsistent}
 use Rattle.jc_platform.specs.Table.{Reads}
+use Rattle.jc_platform.specs.Tokens.{Tokens}
+use Rattle.jc_objects.specs.declared.image_objects.ImageFault.{ImageFault}
+use Rattle.jc_objects.specs.declared.image_objects.ImageFault.TheVariants.{NoMemory, Damaged}
 use Rattle.jc_objects.specs.declared.image_objects.ImageObjects.{ImageObjects}
+
+-- recovered words are records up to the top, which stand for a whole heap, and their table text tells this platform
+pub record IsWhole (w : List ℕ) (t : Tokens) : Type 0 where
+  pub formed : IsWellFormed w
+  pub consistent : IsConsistent (heap_of w)
+  pub table : Reads (table_text w) (Ok t)
+
+-- these are the words of an image with this platform: its log is good, and it is whole once it is recovered
+pub record IsImage (words : List ℕ) (t : Tokens) : Type 0 where
+  pub good : IsGoodLog words
+  pub whole : IsWhole (recovered_of words) t
 
 -- the words of an image as they stand, the heap that they are once they are recovered, and the platform that its table text tells
 pub record AreObjectsOf (words : List ℕ) (o : ImageObjects) : Type 0 where
   pub stored : o.store.words ≡ words
   pub long : text_start ≤ length words
+  pub image : IsImage words o.platform
   pub heap : o.heap.now ≡ heap_of (recovered_of words)
   pub up : o.heap.down ≡ false
-  pub platform : Reads (table_text (recovered_of words)) (Ok o.platform)
+
+-- why nothing is told of words: memory was refused, or they are no image
+abbrev pub IsNoImage : List ℕ → ImageFault → Type 0
+IsNoImage words NoMemory = Unit {0}
+IsNoImage words Damaged = (t : Tokens) → IsImage words t → ⊥
+
+-- nor of recovered words: memory was refused, or they are not whole
+abbrev pub IsNotWhole : List ℕ → ImageFault → Type 0
+IsNotWhole w NoMemory = Unit {0}
+IsNotWhole w Damaged = (t : Tokens) → IsWhole w t → ⊥
+
+-- why their table text tells no platform: memory was refused, or the words are not well formed, or it is no table
+abbrev pub IsNoTable : List ℕ → ImageFault → Type 0
+IsNoTable w NoMemory = Unit {0}
+IsNoTable w Damaged = (t : Tokens) → IsWellFormed w → Reads (table_text w) (Ok t) → ⊥
+
+-- an image of these words was recovered, and perhaps migrated
+pub record IsOpenedImage (words : List ℕ) (image : State) : Type 0 where
+  pub good : IsGoodLog words
+  pub small : length words < 65536
+  pub plain : image.plain ≡ migrated 3 (recovered_of words)
+  pub up : image.down ≡ false
+
+-- or the log of the words is bad
+abbrev pub IsNotOpened : List ℕ → ImageFault → Type 0
+IsNotOpened words NoMemory = ⊥
+IsNotOpened words Damaged = IsGoodLog words → ⊥

@@ -1,17 +1,16 @@
 -- The words of an image with the tries that its OwnerPINs have left.
-use Rattle.std.specs.Prelude.{ℕ, ◌≡◌, ◌+◌, ◌<◌, ◌&&◌, nat_lt, Bool, true, All, Contains, List, [], ◌∷◌, ◌++◌, Some, Ok, if◌then◌else◌}
+use Rattle.std.specs.Prelude.{ℕ, ◌≡◌, ◌+◌, ◌<◌, ◌&&◌, nat_lt, Bool, true, All, Contains, List, [], ◌∷◌, ◌++◌, Some, if◌then◌else◌}
 use Rattle.jc_commit.specs.Image.{recovered_of}
 use Rattle.jc_heap.specs.Heap.{HeapState, IsObject, facts, heap_of}
-use Rattle.jc_heap.specs.Image.{table_text}
 use Rattle.jc_heap.specs.Object.{header_size}
 use Rattle.jc_pin.specs.Pins.{counter_cell}
-use Rattle.jc_platform.specs.Table.{Reads}
 use Rattle.jc_platform.specs.Tokens.{Tokens}
 use Rattle.jc_platform.specs.declared.names.PlatformClass.TheVariants.{OwnerPin}
 use Rattle.jc_linker.specs.Values.{Packages}
 use Rattle.jc_card_checks.specs.Objects.{is_persistent_instance}
 use Rattle.jc_linker.specs.Classes.{is_a}
 use Rattle.jc_card_load.specs.Reading.{packages_of}
+use Rattle.jc_objects.specs.ImageObjects.{IsImage}
 
 -- the object at this address is an OwnerPIN: a persistent instance of that class, or of one below it
 abbrev pub is_pin : Packages → HeapState → ℕ → Bool
@@ -30,14 +29,10 @@ pub record AreTryWords (p : Packages) (h : HeapState) (found : List ℕ) : Type 
   pub all : (r : ℕ) → IsPin p h r → try_word r < 65536 → Contains found (try_word r)
   pub only : All (λ a. (r : ℕ) × IsPin p h r × (a ≡ try_word r)) found
 
--- the packages of an image whose words these are, which are recovered, link, and these are the words of its OwnerPINs
-abbrev pub AreTriesOf : List ℕ → List ℕ → Type 0
-AreTriesOf w found = (t : Tokens) × (p : Packages) × Reads (table_text w) (Ok t) × (packages_of t (heap_of w) ≡ Some p)
-    × AreTryWords p (heap_of w) found
-
--- these are the words with the tries left of the OwnerPINs that stand in an image once it is recovered
+-- the packages of an image of these words link, once it is recovered, and these are the words with the tries left of its OwnerPINs
 abbrev pub AreTriesIn : List ℕ → List ℕ → Type 0
-AreTriesIn words found = AreTriesOf (recovered_of words) found
+AreTriesIn words found = (t : Tokens) × (p : Packages) × IsImage words t × (packages_of t (heap_of (recovered_of words)) ≡ Some p)
+    × AreTryWords p (heap_of (recovered_of words)) found
 
 -- words that were found, and the one of the object at an address, if it is an OwnerPIN
 unfoldable pub noted : Packages → HeapState → ℕ → List ℕ → List ℕ

@@ -1,17 +1,17 @@
 //! The heap of an image, and the platform whose classes its objects have.
-ghost use Rattle.std.specs.Prelude.{◌≡◌, ◌+◌, ◌/◌, ◌≤◌, ◌<◌, IfOk, Ok, false, length, slice_index};
-ghost use Rattle.jc_words.specs.Layout.{text_length_address, text_start};
+ghost use Rattle.std.specs.Prelude.{◌≡◌, ◌+◌, ◌/◌, ◌≤◌, ◌<◌, IfOk, MatchResult, Ok, false, length, slice_index};
+ghost use Rattle.jc_words.specs.Layout.{size_address, text_length_address, text_start};
 ghost use Rattle.jc_heap.specs.Heap.{heap_of};
 ghost use Rattle.jc_heap.specs.Image.{table_text};
 ghost use Rattle.jc_platform.specs.Table.{Reads};
-ghost use Rattle.jc_objects.specs.ImageObjects.{AreObjectsOf};
+ghost use Rattle.jc_objects.specs.ImageObjects.{AreObjectsOf, IsNoImage, IsNoTable, IsNotOpened, IsNotWhole, IsOpenedImage, IsWhole};
 ghost use Rattle.jc_objects.specs.declared.image_objects.ImageFault.TheVariants.{NoMemory};
 
 use jc_heap::Heap;
 use jc_image::OpenImage;
 use jc_platform::platform::Platform;
 use jc_platform::read::{LARGEST_TEXT, read_table};
-use jc_words::layout::TEXT_START;
+use jc_words::layout::SIZE_WORD;
 use jc_words::{MemStore, WordStore};
 use std::alloc::{AllocError, Global};
 
@@ -41,34 +41,13 @@ pub struct ImageObjects {
 
 /// The objects of an image whose words these are.
 pub fn objects_of(alloc: Global, words: &[u16]) -> Result<ImageObjects, ImageFault>
-    ensures { IfOk result (λ objects. AreObjectsOf words.now objects) }
+    ensures { MatchResult result (λ objects. AreObjectsOf words.now objects)
+        (λ fault. IsNoImage words.now fault) }
 {
-    if words.len() < TEXT_START as usize || words.len() >= 65_536 {
-        return Err(ImageFault::Damaged);
-    }
-    let store = MemStore::of(Vec::from_slice(alloc, words)?);
     let copy = Vec::from_slice(alloc, words)?;
-    match OpenImage::open(MemStore::of(copy)) {
-        Ok(image) => objects_in(alloc, store, image),
-        Err(_) => Err(ImageFault::Damaged),
-    }
-}
-
-// The objects of a recovered image, beside the words as they stood.
-fn objects_in(
-    alloc: Global,
-    store: MemStore,
-    image: OpenImage<MemStore>,
-) -> Result<ImageObjects, ImageFault>
-    requires { image.down ≡ false }
-    ensures { IfOk result (λ objects. (objects.store ≡ store)
-        × (objects.heap.now ≡ heap_of image.plain) × (objects.heap.down ≡ false)
-        × Reads (table_text image.plain) (Ok objects.platform)) }
-{
-    let platform = platform_of(alloc, &image)?;
-    let Ok(heap) = image.check(&[]) else {
-        return Err(ImageFault::Damaged);
-    };
+    let image = opened(copy)?;
+    let (platform, heap) = whole_of(alloc, image)?;
+    let store = MemStore::of(Vec::from_slice(alloc, words)?);
     Ok(ImageObjects {
         store,
         heap,
@@ -76,15 +55,57 @@ fn objects_in(
     })
 }
 
-/// The platform that the table text of an image tells.
-pub(crate) fn platform_of<S: WordStore>(
+/// The recovered image of these words.
+pub(crate) fn opened(words: Vec<u16>) -> Result<OpenImage<MemStore>, ImageFault>
+    ensures { MatchResult result (λ image. IsOpenedImage words.items image)
+        (λ fault. IsNotOpened words.items fault) }
+{
+    if usize::from(size_told(&words)) != words.len() {
+        return Err(ImageFault::Damaged);
+    }
+    match OpenImage::open(MemStore::of(words)) {
+        Ok(image) => Ok(image),
+        Err(_) => Err(ImageFault::Damaged),
+    }
+}
+
+// How many words an image says it has.
+fn size_told(words: &[u16]) -> u16
+    ensures { result ≡ slice_index words.now size_address }
+{
+    match words.get(SIZE_WORD as usize) {
+        Some(word) => *word,
+        None => 0,
+    }
+}
+
+/// The platform and the heap of a recovered image.
+pub(crate) fn whole_of(
     alloc: Global,
-    image: &OpenImage<S>,
-) -> Result<Platform, ImageFault>
-    ensures { IfOk result (λ t. Reads (table_text image.now.plain) (Ok t)) }
+    image: OpenImage<MemStore>,
+) -> Result<(Platform, Heap<MemStore>), ImageFault>
+    requires { image.down ≡ false }
+    ensures { MatchResult result (λ found. IsWhole image.plain found.0
+        × (found.1.now ≡ heap_of image.plain) × (found.1.down ≡ false))
+        (λ fault. IsNotWhole image.plain fault) }
+{
+    let platform = platform_of(alloc, &image)?;
+    match image.check(&[]) {
+        Ok(heap) => Ok((platform, heap)),
+        Err(_) => Err(ImageFault::Damaged),
+    }
+}
+
+// The platform that the table text of an image tells.
+fn platform_of<S: WordStore>(alloc: Global, image: &OpenImage<S>) -> Result<Platform, ImageFault>
+    ensures { MatchResult result (λ t. Reads (table_text image.now.plain) (Ok t))
+        (λ fault. IsNoTable image.now.plain fault) }
 {
     let long = usize::from(image.text_length());
-    if long > LARGEST_TEXT || !image.has_text() {
+    if long > LARGEST_TEXT {
+        return Err(ImageFault::Damaged);
+    }
+    if !image.has_text() {
         return Err(ImageFault::Damaged);
     }
     let text = text_of(alloc, image)?;

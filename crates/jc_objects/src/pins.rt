@@ -1,21 +1,17 @@
 //! The words of an image with the tries that its OwnerPINs have left.
-ghost use Rattle.std.specs.Prelude.{ℕ, List, ◌≡◌, ◌+◌, ◌<◌, ◌≤◌, ◌/◌, ◌↔◌, IfOk, IfSome, OnOk, IsTrue, Ok, Some, false, length, slice_index};
-ghost use Rattle.jc_words.specs.Layout.{text_length_address, text_start};
+ghost use Rattle.std.specs.Prelude.{ℕ, List, ◌≡◌, IfOk, IfSome, OnOk, MatchResult, false};
 ghost use Rattle.jc_heap.specs.Heap.{IsObject, heap_of, next_object};
-ghost use Rattle.jc_heap.specs.Image.{table_text};
-ghost use Rattle.jc_platform.specs.Table.{Reads};
-ghost use Rattle.jc_objects.specs.Pins.{AreTriesIn, AreTriesOf, AreTryWords, is_pin, noted};
+ghost use Rattle.jc_objects.specs.Pins.{AreTriesIn, AreTryWords, is_pin, noted};
+ghost use Rattle.jc_objects.specs.Legends.{HasNoPackages};
 ghost use Rattle.jc_card_checks.specs.Objects.{is_persistent_instance};
 
-use crate::image_objects::{ImageFault, platform_of};
-use jc_card_load::reading::{RecordFault, read_packages};
+use crate::image_objects::{ImageFault, opened, whole_of};
+use crate::legend::packages_in;
 use jc_heap::{Facts, Heap, Kind};
-use jc_image::OpenImage;
 use jc_linker::linked::Linked;
 use jc_platform::names::PlatformClass;
 use jc_transient::Ref;
-use jc_words::layout::TEXT_START;
-use jc_words::{MemStore, WordStore};
+use jc_words::WordStore;
 use std::alloc::{AllocError, Global};
 
 /// Where an OwnerPIN has the word with the tries that are left: behind a header of four words the third cell.
@@ -23,31 +19,14 @@ const TRIES: u32 = 6;
 
 /// The addresses of the words with the tries that are left of the OwnerPINs which stand in an image, once it is recovered.
 pub fn try_words(alloc: Global, words: Vec<u16>) -> Result<Vec<u16>, ImageFault>
-    ensures { IfOk result (λ found. AreTriesIn words.items found.items) }
+    ensures { MatchResult result (λ found. AreTriesIn words.items found.items)
+        (λ fault. HasNoPackages words.items fault) }
 {
-    if words.len() < TEXT_START as usize || words.len() >= 65_536 {
-        return Err(ImageFault::Damaged);
-    }
-    match OpenImage::open(MemStore::of(words)) {
-        Ok(image) => try_words_of(alloc, image),
-        Err(_) => Err(ImageFault::Damaged),
-    }
-}
-
-// Those of a recovered image.
-fn try_words_of(alloc: Global, image: OpenImage<MemStore>) -> Result<Vec<u16>, ImageFault>
-    requires { image.down ≡ false }
-    ensures { IfOk result (λ found. AreTriesOf image.plain found.items) }
-{
-    let platform = platform_of(alloc, &image)?;
-    let Ok(heap) = image.check(&[]) else {
-        return Err(ImageFault::Damaged);
-    };
-    match read_packages(alloc, platform, &heap) {
-        Ok(linked) => Ok(try_words_in(alloc, &linked, &heap)?),
-        Err(RecordFault::NoMemory) => Err(ImageFault::NoMemory),
-        Err(RecordFault::Damaged) => Err(ImageFault::Damaged),
-    }
+    let image = opened(words)?;
+    let (platform, heap) = whole_of(alloc, image)?;
+    let linked = packages_in(alloc, platform, &heap)?;
+    let found = try_words_in(alloc, &linked, &heap)?;
+    Ok(found)
 }
 
 // Those of a heap and its packages.

@@ -1,5 +1,5 @@
 -- What an AID object that holds an AID tells of it.
-use Rattle.std.proofs.Common.{◌≡◌, ℕ, ◌+◌, ◌-◌, ◌/◌, ◌<◌, ◌≤◌, Bool, true, false, List, get_or, length, map, refl, sym, ◌∙◌, ap, subst, arith, inl, inr, Option}
+use Rattle.std.proofs.Common.{◌≡◌, ℕ, ◌+◌, ◌-◌, ◌/◌, ◌<◌, ◌≤◌, Bool, true, false, List, get_or, length, map, refl, sym, ◌∙◌, ap, arith, inl, inr, Option}
 use Rattle.std.proofs.Common.{Some, None}
 use Rattle.std.specs.List.{range_with_len}
 use Rattle.std.specs.Prelude.{◌%◌, ◌==◌, slice_index, nat_eq, nat_le, if◌then◌else◌}

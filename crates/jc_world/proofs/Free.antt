@@ -1,10 +1,9 @@
 -- Accesses that no rule refuses.
-use Rattle.std.proofs.Common.{ℕ, ◌≡◌, ◌==◌, ◌||◌, not, Bool, true, false, refl, ap, ◌∙◌, sym, subst, arith}
+use Rattle.std.proofs.Common.{ℕ, ◌≡◌, ◌==◌, ◌||◌, not, Bool, true, false, refl, ◌∙◌, sym, arith}
 use Rattle.std.specs.Prelude.{if◌then◌else◌}
 use Rattle.jc_heap.specs.declared.object.Facts.{Facts}
 use Rattle.jc_heap.specs.declared.object.Kind.{Kind}
 use Rattle.jc_heap.specs.declared.object.Kind.TheVariants.{Instance, BooleanArray, ByteArray, ShortArray, ReferenceArray}
-use Rattle.jc_memory.specs.declared.registers.Owner.{Owner}
 use Rattle.jc_memory.specs.declared.registers.Owner.TheVariants.{Runtime}
 use Rattle.jc_memory.specs.Owners.{owner_of}
 use Rattle.jc_memory.specs.State.{MemoryState}
@@ -16,13 +15,11 @@ use Rattle.jc_firewall.specs.declared.access.Access.TheVariants.{StoreReference}
 use Rattle.jc_firewall.specs.declared.decide.Decision.TheVariants.{Allow}
 use Rattle.jc_firewall.specs.declared.subject.Context.{Context}
 use Rattle.jc_firewall.specs.declared.subject.Context.TheVariants.{Jcre, Package}
-use Rattle.jc_firewall.specs.declared.subject.Designation.{Designation}
 use Rattle.jc_firewall.specs.declared.subject.Designation.TheVariants.{Ordinary, GlobalArray}
-use Rattle.jc_firewall.specs.declared.subject.Subject.{Subject}
 use Rattle.jc_firewall.specs.Situation.{is_live_transient, same_context}
 use Rattle.jc_firewall.specs.Table.{decision}
 use Rattle.jc_world.specs.Objects.{is_instance}
-use Rattle.jc_world.specs.Contexts.{context_of, firewall_decision, designation_of, has_deselect_event, own_designation, selected_context, is_shareable_instance}
+use Rattle.jc_world.specs.Contexts.{context_of, firewall_decision, has_deselect_event, own_designation, selected_context, is_shareable_instance}
 use Rattle.jc_world.specs.Contexts.{situation_of, subject_of}
 
 -- a number is itself

@@ -16,7 +16,7 @@ use Rattle.jc_firewall.specs.declared.decide.Decision.TheVariants.{Switch}
 use Rattle.jc_firewall.specs.declared.subject.Context.{Context}
 use Rattle.jc_firewall.specs.declared.subject.Context.TheVariants.{Jcre, Package}
 use Rattle.jc_firewall.specs.declared.subject.Designation.{Designation}
-use Rattle.jc_firewall.specs.declared.subject.Designation.TheVariants.{PermanentEntryPoint, TemporaryEntryPoint, GlobalArray}
+use Rattle.jc_firewall.specs.declared.subject.Designation.TheVariants.{PermanentEntryPoint, TemporaryEntryPoint}
 use Rattle.jc_firewall.specs.Table.{decision}
 use Rattle.jc_world.specs.Contexts.{firewall_decision, has_deselect_event, own_designation, package_of_applet, selected_context, is_shareable_instance}
 use Rattle.jc_world.specs.Contexts.{situation_of, subject_of}

@@ -1,5 +1,5 @@
 -- Accesses whose rules do not ask for shareable interfaces.
-use Rattle.std.proofs.Common.{◌≡◌, Bool, true, false, refl}
+use Rattle.std.proofs.Common.{◌≡◌, Bool, false, refl}
 use Rattle.jc_firewall.specs.declared.access.Access.{Access}
 use Rattle.jc_firewall.specs.declared.access.Access.TheVariants.{StaticField, ArrayElement, InstanceField, VirtualCall, StandardInterfaceCall}
 use Rattle.jc_firewall.specs.declared.access.Access.TheVariants.{ShareableInterfaceCall, Throw, CastToClass, CastToStandardInterface, CastToShareableInterface}

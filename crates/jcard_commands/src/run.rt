@@ -130,7 +130,7 @@ fn act<'n, D: Disk, W: TextOut, P: Progress + Listener + Remarks + Timer>(
             words,
             journal,
             table,
-        } => make_image(disk, image, words, journal, table),
+        } => make_image(disk, image, words, journal, table, progress),
         Action::Run {
             image,
             script,
@@ -209,12 +209,12 @@ fn join<'n, D: Disk, W: TextOut>(
 }
 
 // Answers the rows of these files, as the options ask.
-fn test<'n, D: Disk, W: TextOut, T: Timer>(
+fn test<'n, D: Disk, W: TextOut, T: Timer + Remarks>(
     disk: &mut D,
     files: &[&'n str],
     options: TestOptions<'n>,
     out: &mut W,
-    timer: &T,
+    timer: &mut T,
 ) -> Result<(), Fault<'n>>
     ensures done { (text : List ℕ) × (deeds : List FileDeed)
         × Appends (W.contents out.old) (W.contents out.new) text

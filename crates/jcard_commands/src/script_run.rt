@@ -24,6 +24,7 @@ use jcard_script::explainer::Explainer;
 use jcard_script::script::run_script_explained;
 use jcard_script::std_text::StdText;
 use jcard_script::streams::{TextIn, TextOut};
+use jcard_why::map_remarks::remark_on_map;
 use std::alloc::Global;
 
 /// Carries out the script in the file of the second name, on the card of the image of the first, as the options ask.
@@ -46,12 +47,20 @@ pub(crate) fn run_with<'n, D: Disk, W: TextOut, L: Listener + Remarks>(
         Ok(names) => names,
         Err(fault) => return Err(fault),
     };
+    remark_on(disk.alloc(), &names, listener);
     let mut told = Told::new(disk.alloc(), listener, &names, &options);
     let budget = options.instructions.unwrap_or(USUAL_BUDGET);
     let ran = run_file(disk, image, script, budget, out, &mut told);
     let compared = compared(options.expect, told.expectations(), ran);
     let operands = operands_of(image, script, options.map);
     keep_cover(disk, told.cover(), options.cover, &operands, compared)
+}
+
+// Says which line of a map has no form, if one has none. Without memory for it nothing is said.
+fn remark_on<M: Remarks>(alloc: Global, map: &[u8], remarks: &mut M) {
+    if let Ok(text) = remark_on_map(alloc, map) {
+        remarks.remark(&text);
+    }
 }
 
 // The end of a run whose answers were compared with what its script expects, if that is asked for.

@@ -6,6 +6,7 @@ use jcard_script::expectations::Expectations;
 use jcard_script::explainer::Explainer;
 use jcard_why::covers::Cover;
 use jcard_why::explanation::{TracedLines, Wanted};
+use jcard_why::watches::Watch;
 use std::alloc::Global;
 
 /// So many instructions of a command are told at most, where the words say nothing of it.
@@ -77,6 +78,10 @@ impl<'a, L: Listener + Remarks> Explainer for Told<'a, L> {
         None
     }
 
+    fn watch(&self) -> Option<&Watch> {
+        None
+    }
+
     fn expectations(&mut self) -> Option<&mut Expectations> {
         if self.expect {
             return Some(&mut self.expectations);
@@ -113,6 +118,10 @@ impl<'a, M: Remarks> Explainer for OnlyRemarks<'a, M> {
     fn tell(&mut self, _text: &[u8]) {}
 
     fn cover(&mut self) -> Option<&mut Cover> {
+        None
+    }
+
+    fn watch(&self) -> Option<&Watch> {
         None
     }
 

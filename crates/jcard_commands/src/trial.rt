@@ -21,13 +21,14 @@ use jcard_faults::script_fault::Names;
 use jcard_files::disk::Disk;
 use jcard_images::memory_image::new_image;
 use jcard_images::new_image::word_count;
+use jcard_images::table_remarks::remark_on_table;
 use jcard_images::usual_table::platform_of;
 use jcard_script::std_text::StdText;
 use jcard_script::streams::TextOut;
 
 /// Carries out the script in the file of the first name, on a new card in memory of so many words, a
 /// decimal number, with the platform table in the file of the last name, or the usual one. A command carries out at most `budget`
-/// instructions. No file is changed. What is wrong with a line goes to `remarks`.
+/// instructions. No file is changed. What is wrong with the table or a line goes to `remarks`.
 pub fn try_script<'n, D: Disk, W: TextOut, M: Remarks>(
     disk: &mut D,
     script: &'n str,
@@ -51,6 +52,7 @@ pub fn try_script<'n, D: Disk, W: TextOut, M: Remarks>(
         Ok(text) => text,
         Err(fault) => return Err(fault),
     };
+    remark_on_table(disk.alloc(), &text, remarks);
     match read_table(&text) {
         Ok(_) => try_on(disk, script, count, &text, budget, out, remarks),
         Err(TableFault::BadTable(line)) => Err(Fault::BadTable(line)),

@@ -5,4 +5,5 @@ pub mod dump;
 mod listing;
 pub mod memory_image;
 pub mod new_image;
+pub mod table_remarks;
 pub mod usual_table;

@@ -8,12 +8,14 @@ ghost use Rattle.jc_words.specs.Stores.{store_value};
 ghost use Rattle.jcard_files.specs.FileDeeds.{FileDeed};
 ghost use Rattle.jcard_images.specs.NewImages.{IsFormatFault, IsJournalCapacity, IsLaid, IsMadeFrom, IsNew, IsNumberAmong, IsTable, IsWordCount};
 
+use crate::table_remarks::remark_on_table;
 use crate::usual_table::platform_of;
 use jc_platform::fault::TableFault;
 use jc_platform::read::read_table;
 use jc_words::WordStore;
 use jc_words::layout::{LEAST_CAPACITY, LEAST_SIZE, MOST_CAPACITY};
 use jcard_faults::fault::Fault;
+use jcard_faults::remarks::Remarks;
 use jcard_files::closed_store::ClosedStore;
 use jcard_files::disk::Disk;
 use jcard_script::card::formatting::{FormatFault, format};
@@ -27,13 +29,14 @@ struct Extent {
 
 /// Makes an image of this name with so many words and a journal of so many entries, decimal numbers,
 /// from the platform table in the file of the last name, or the usual one. A file that is there is replaced, but only
-/// where the numbers and the table are good and nobody has it open.
-pub fn make_image<'n, D: Disk>(
+/// where the numbers and the table are good and nobody has it open. What is wrong with the table goes to `remarks`.
+pub fn make_image<'n, D: Disk, M: Remarks>(
     disk: &mut D,
     image: &'n str,
     words: &str,
     journal: &str,
     table: Option<&'n str>,
+    remarks: &mut M,
 ) -> Result<(), Fault<'n>>
     ensures { (deeds : List FileDeed) × IsNew image.now words.now journal.now
         (option_map (λ (name : Bor (List ℕ)). name.now) table.entry) result deeds
@@ -46,7 +49,10 @@ pub fn make_image<'n, D: Disk>(
         return Err(Fault::BadJournal);
     };
     match platform_of(disk, table) {
-        Ok(text) => make_from(disk, image, Extent { count, capacity }, &text),
+        Ok(text) => {
+            remark_on_table(disk.alloc(), &text, remarks);
+            make_from(disk, image, Extent { count, capacity }, &text)
+        }
         Err(fault) => Err(fault),
     }
 }

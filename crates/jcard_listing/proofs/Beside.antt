@@ -1,42 +1,33 @@
 -- What is told of an object beside another image.
-use Rattle.std.proofs.Common.{◌≡◌, ◌∙◌, ℕ, ◌+◌, Bool, true, false, List, [], ◌++◌, Option, Some, None, ap, refl, sym, if◌then◌else◌, is_some, add-one}
+use Rattle.std.proofs.Common.{◌≡◌, ◌∙◌, ℕ, Bool, true, false, List, [], Option, Some, None, ap, refl, sym, if◌then◌else◌, is_some}
 use Rattle.std.specs.Prelude.{unwrap_or}
 use Rattle.std.proofs.lemmas.Bool.{false≢true}
 use Rattle.jc_heap.specs.Object.{Item, AnObject, APackage}
 use Rattle.jc_heap.specs.declared.object.Facts.{Facts}
-use Rattle.jc_platform.specs.Tokens.{Tokens}
+use Rattle.jc_objects.specs.declared.legend.Legend.{Legend}
 use Rattle.jc_records.specs.Places.{standing_at}
 use Rattle.jc_records.specs.Records.{object_in}
-use Rattle.jcard_listing.specs.Compared.{beside_text, compared_text, each_text}
+use Rattle.jcard_listing.specs.Compared.{beside_text, compared_text}
 use Rattle.jcard_listing.specs.Objects.{is_told}
 use Rattle.jcard_listing.specs.declared.pairs.Side.{Side}
 
-of_object : (side : Side) (t : Tokens) (w v : List ℕ) (all : Bool) (r : ℕ) (e : Item) (f : Facts) → Some f ≡ object_in e
+of_object : (side : Side) (t : Legend) (w v : List ℕ) (all : Bool) (r : ℕ) (e : Item) (f : Facts) → Some f ≡ object_in e
     → compared_text side t w v all (r, e) ≡ (if is_told f all then beside_text side t w v r f (standing_at v r) else [])
 of_object side t w v all r (AnObject o) f is =
     ap (λ (g : Facts). if is_told g all then beside_text side t w v r g (standing_at v r) else []) (sym (ap (λ (p : Option Facts). unwrap_or p f) is))
 of_object side t w v all r (APackage ws) f is = absurd (false≢true (sym (ap is_some is)))
 
 -- an object that is told, one that is not, and a package
-pub told_beside : (side : Side) (t : Tokens) (w v : List ℕ) (all : Bool) (r : ℕ) (e : Item) (f : Facts) → Some f ≡ object_in e → is_told f all ≡ true
+pub told_beside : (side : Side) (t : Legend) (w v : List ℕ) (all : Bool) (r : ℕ) (e : Item) (f : Facts) → Some f ≡ object_in e → is_told f all ≡ true
     → beside_text side t w v r f (standing_at v r) ≡ compared_text side t w v all (r, e)
 told_beside side t w v all r e f is told =
     sym (of_object side t w v all r e f is ∙ ap (λ (b : Bool). if b then beside_text side t w v r f (standing_at v r) else []) told)
 
-pub untold_beside : (side : Side) (t : Tokens) (w v : List ℕ) (all : Bool) (r : ℕ) (e : Item) (f : Facts) → Some f ≡ object_in e → is_told f all ≡ false
+pub untold_beside : (side : Side) (t : Legend) (w v : List ℕ) (all : Bool) (r : ℕ) (e : Item) (f : Facts) → Some f ≡ object_in e → is_told f all ≡ false
     → [] ≡ compared_text side t w v all (r, e)
 untold_beside side t w v all r e f is told =
     sym (of_object side t w v all r e f is ∙ ap (λ (b : Bool). if b then beside_text side t w v r f (standing_at v r) else []) told)
 
-pub none_beside : (side : Side) (t : Tokens) (w v : List ℕ) (all : Bool) (r : ℕ) (e : Item) → None ≡ object_in e → [] ≡ compared_text side t w v all (r, e)
+pub none_beside : (side : Side) (t : Legend) (w v : List ℕ) (all : Bool) (r : ℕ) (e : Item) → None ≡ object_in e → [] ≡ compared_text side t w v all (r, e)
 none_beside side t w v all r (AnObject o) is = absurd (false≢true (ap is_some is))
 none_beside side t w v all r (APackage ws) is = refl
-
--- one text more
-pub text_more : (one : ℕ → List ℕ) (n : ℕ) → each_text one (n + 1) ≡ each_text one n ++ one n
-unfolding each_text
-text_more one n = rw add-one refl
-
-pub text_none : (one : ℕ → List ℕ) → each_text one 0 ≡ []
-unfolding each_text
-text_none one = refl

@@ -1,15 +1,15 @@
 -- What is not the same in two images, part by part.
 use Rattle.std.proofs.Common.{◌≡◌, ◌∙◌, ◌&&◌, ◌++◌, ℕ, Bool, true, false, inl, inr, List, Some, Result, Ok, Err, ap, ap₂, refl, subst, sym}
 use Rattle.std.proofs.lemmas.Bool.{cases_Bool, false≢true}
-use Rattle.jc_platform.specs.Tokens.{Tokens}
+use Rattle.jc_objects.specs.declared.legend.Legend.{Legend}
 use Rattle.jc_records.specs.Bounds.{has_bounds}
 use Rattle.jcard_images.specs.Listings.{Lines, line, line_if, then_lines}
 use Rattle.jcard_listing.specs.Areas.{areas_line}
 use Rattle.jcard_listing.specs.Differences.{AreToldTo, IsContent, IsContentTold, area_lines}
 use Rattle.jcard_listing.specs.Fault.{Lists}
-use Rattle.jcard_listing.specs.Listing.{IsTableOf}
+use Rattle.jcard_listing.specs.Listing.{IsLegendOf}
 use Rattle.jcard_listing.specs.Pairs.{end_lines}
-use Rattle.jcard_listing.specs.Table.{IsPlatformOf}
+use Rattle.jcard_listing.specs.Table.{IsLegendFor}
 use Rattle.jcard_listing.specs.declared.fault.ListFault.{ListFault}
 use Rattle.jcard_listing.specs.declared.fault.ListFault.TheVariants.{Unreadable, NoMemory}
 use Rattle.jcard_listing.proofs.Listed.{lists_then, then_read}
@@ -60,13 +60,13 @@ content_by (Err Unreadable) w v all old new l is told = (l, is, told)
 content_by (Err NoMemory) w v all old new l is told = tt
 
 -- where a table cannot be read, which that is; or memory was refused
-pub no_table : (fault : ListFault) (r : Result Unit ListFault) (w v : List ℕ) (all : Bool) (old new : List ℕ) → IsPlatformOf w (Err fault)
+pub no_table : (fault : ListFault) (r : Result Unit ListFault) (w v : List ℕ) (all : Bool) (old new : List ℕ) → IsLegendFor w (Err fault)
     → Lists old new (end_lines false true) r → (fault ≡ NoMemory → r ≡ Err NoMemory) → IsContentTold w v all old new r
 no_table Unreadable r w v all old new none told memory = content_by r w v all old new (end_lines false true) (inl (none, refl)) told
 no_table NoMemory r w v all old new none told memory = subst (λ (s : Result Unit ListFault). IsContentTold w v all old new s) (sym (memory refl)) tt
 
-pub no_other_table : (fault : ListFault) (r : Result Unit ListFault) (w v : List ℕ) (all : Bool) (old new : List ℕ) (t : Tokens) → IsTableOf w (Some t)
-    → IsPlatformOf v (Err fault) → Lists old new (end_lines true false) r → (fault ≡ NoMemory → r ≡ Err NoMemory) → IsContentTold w v all old new r
+pub no_other_table : (fault : ListFault) (r : Result Unit ListFault) (w v : List ℕ) (all : Bool) (old new : List ℕ) (t : Legend) → IsLegendOf w (Some t)
+    → IsLegendFor v (Err fault) → Lists old new (end_lines true false) r → (fault ≡ NoMemory → r ≡ Err NoMemory) → IsContentTold w v all old new r
 no_other_table Unreadable r w v all old new t table none told memory =
     content_by r w v all old new (end_lines true false) (inr (inl (t, table, none, refl))) told
 no_other_table NoMemory r w v all old new t table none told memory =

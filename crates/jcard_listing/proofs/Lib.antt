@@ -1,6 +1,8 @@
 pub mod Beside
 pub mod Chains
 pub mod Differing
+pub mod EachText
+pub mod Legends
 pub mod Listed
 pub mod Listings
 pub mod ListingEnds

@@ -1,13 +1,13 @@
 -- A listing, part by part.
 use Rattle.std.proofs.Common.{◌≡◌, ◌∙◌, ℕ, Bool, true, false, inl, inr, List, Some, None, Result, Ok, Err, ap, refl, sym, if◌then◌else◌}
 use Rattle.std.proofs.lemmas.Bool.{cases_Bool, false≢true}
-use Rattle.jc_platform.specs.Tokens.{Tokens}
+use Rattle.jc_objects.specs.declared.legend.Legend.{Legend}
 use Rattle.jc_records.specs.Bounds.{has_bounds}
 use Rattle.jcard_images.specs.Listings.{Lines, line_if, then_lines}
 use Rattle.jcard_listing.specs.Areas.{areas_line, areas_text}
 use Rattle.jcard_listing.specs.Fault.{Lists}
 use Rattle.jcard_listing.specs.Listing.{IsListed, IsListing, contents_lines}
-use Rattle.jcard_listing.specs.Table.{IsPlatformOf}
+use Rattle.jcard_listing.specs.Table.{IsLegendFor}
 use Rattle.jcard_listing.specs.declared.fault.ListFault.{ListFault}
 use Rattle.jcard_listing.specs.declared.fault.ListFault.TheVariants.{Unreadable, NoMemory}
 use Rattle.jcard_listing.proofs.Listed.{lists_then, lists_unread}
@@ -40,7 +40,7 @@ areas_untold NoMemory w all old new told = tt
 
 -- nor is anything behind a text that is no table
 pub table_untold : (stop : ListFault) (w : List ℕ) (all : Bool) (old new : List ℕ) → Lists old new (line_if (areas_line w)) (Ok tt)
-    → IsPlatformOf w (Err stop) → IsListed w all old new (Err stop)
+    → IsLegendFor w (Err stop) → IsListed w all old new (Err stop)
 table_untold Unreadable w all old new told none = (
   then_lines (line_if (areas_line w)) (contents_lines None w all),
   inr (None, areas_told w old new told, none, refl),
@@ -49,7 +49,7 @@ table_untold Unreadable w all old new told none = (
 table_untold NoMemory w all old new told none = tt
 
 -- all that is told behind a table
-pub contents_told : (r : Result Unit ListFault) (w : List ℕ) (all : Bool) (t : Tokens) (old new next : List ℕ) → Lists old new (line_if (areas_line w)) (Ok tt)
-    → IsPlatformOf w (Ok t) → Lists new next (contents_lines (Some t) w all) r → IsListed w all old next r
+pub contents_told : (r : Result Unit ListFault) (w : List ℕ) (all : Bool) (t : Legend) (old new next : List ℕ) → Lists old new (line_if (areas_line w)) (Ok tt)
+    → IsLegendFor w (Ok t) → Lists new next (contents_lines (Some t) w all) r → IsListed w all old next r
 contents_told r w all t old new next told reads more = listed_by r w all old next (then_lines (line_if (areas_line w)) (contents_lines (Some t) w all))
     (inr (Some t, areas_told w old new told, reads, refl)) (lists_then r old new next (line_if (areas_line w)) (contents_lines (Some t) w all) told more)

@@ -13,49 +13,49 @@ use Rattle.jcard_images.specs.Listings.{Lines}
 use Rattle.jcard_listing.specs.Packages.{component_bytes, component_text, image_text, part_text, parts_lines}
 
 -- those of the words of a record from an offset on
-abbrev pub parts_from : List ℕ → ℕ → Lines
-parts_from words at = record {
-  text = flat_map part_text (whole_from part_sizes at (drop at words));
+abbrev pub parts_from : ℕ → List ℕ → ℕ → Lines
+parts_from k words at = record {
+  text = flat_map (part_text k) (whole_from part_sizes at (drop at words));
   readable = are_whole_from part_sizes at (drop at words);
 }
 
 abbrev both : List ℕ → Bool → Lines
 both text readable = record { text = text; readable = readable }
 
-pub parts_first : (words : List ℕ) → parts_from words 1 ≡ parts_lines words
-parts_first words = refl
+pub parts_first : (k : ℕ) (words : List ℕ) → parts_from k words 1 ≡ parts_lines k words
+parts_first k words = refl
 
 -- behind the last word
-pub parts_end : (words : List ℕ) (at : ℕ) → length words ≤ at → ((parts_from words at).text ≡ []) × ((parts_from words at).readable ≡ true)
-parts_end words at past =
+pub parts_end : (k : ℕ) (words : List ℕ) (at : ℕ) → length words ≤ at → ((parts_from k words at).text ≡ []) × ((parts_from k words at).readable ≡ true)
+parts_end k words at past =
     let last = whole_end part_sizes at (drop at words) (omega (arith, length-drop at words, past)) in
-    (ap (flat_map part_text) last.0, last.1)
+    (ap (flat_map (part_text k)) last.0, last.1)
 
 -- a part that lacks words
-pub parts_short : (words : List ℕ) (at : ℕ) → at < length words → length words - at ≤ part_sizes at (drop at words)
-    → ((parts_from words at).text ≡ []) × ((parts_from words at).readable ≡ false)
-parts_short words at below short =
+pub parts_short : (k : ℕ) (words : List ℕ) (at : ℕ) → at < length words → length words - at ≤ part_sizes at (drop at words)
+    → ((parts_from k words at).text ≡ []) × ((parts_from k words at).readable ≡ false)
+parts_short k words at below short =
     let last = whole_short part_sizes at (drop at words) (omega (arith, length-drop at words, below)) (omega (arith, length-drop at words, short)) in
-    (ap (flat_map part_text) last.0, last.1)
+    (ap (flat_map (part_text k)) last.0, last.1)
 
 -- one that has them all, and those behind it
-parts_step : (words : List ℕ) (at size : ℕ) → size ≡ part_sizes at (drop at words) + 1 → at + size ≤ length words
-    → parts_from words at ≡ both (part_text (at, take size (drop at words)) ++ (parts_from words (at + size)).text) (parts_from words (at + size)).readable
-parts_step words at size is fits =
+parts_step : (k : ℕ) (words : List ℕ) (at size : ℕ) → size ≡ part_sizes at (drop at words) + 1 → at + size ≤ length words
+    → parts_from k words at ≡ both (part_text k (at, take size (drop at words)) ++ (parts_from k words (at + size)).text) (parts_from k words (at + size)).readable
+parts_step k words at size is fits =
     let near : part_sizes at (drop at words) < length (drop at words) = omega (arith, length-drop at words, fits, is) in
     let step = whole_step part_sizes at (drop at words) near in
-    ap₂ both (ap (flat_map part_text) step.0) step.1
-    ∙ ap (λ (n : ℕ). both (part_text (at, take n (drop at words)) ++ flat_map part_text (whole_from part_sizes (at + n) (drop n (drop at words))))
+    ap₂ both (ap (flat_map (part_text k)) step.0) step.1
+    ∙ ap (λ (n : ℕ). both (part_text k (at, take n (drop at words)) ++ flat_map (part_text k) (whole_from part_sizes (at + n) (drop n (drop at words))))
     (are_whole_from part_sizes (at + n) (drop n (drop at words)))) (sym is)
-    ∙ ap (λ (l : List ℕ). both (part_text (at, take size (drop at words)) ++ flat_map part_text (whole_from part_sizes (at + size) l))
+    ∙ ap (λ (l : List ℕ). both (part_text k (at, take size (drop at words)) ++ flat_map (part_text k) (whole_from part_sizes (at + size) l))
     (are_whole_from part_sizes (at + size) l)) (drop-drop size at words)
 
 -- a component
-pub component_step : (words : List ℕ) (at tag bytes : ℕ) → get_or (drop at words) 0 0 ≡ tag → (tag ≡ 0 → ⊥) → get_or (drop at words) 1 0 ≡ bytes
+pub component_step : (k : ℕ) (words : List ℕ) (at tag bytes : ℕ) → get_or (drop at words) 0 0 ≡ tag → (tag ≡ 0 → ⊥) → get_or (drop at words) 1 0 ≡ bytes
     → at + (2 + words_for bytes) ≤ length words
-    → parts_from words at ≡ both (component_text tag bytes ++ (parts_from words (at + (2 + words_for bytes))).text)
-    (parts_from words (at + (2 + words_for bytes))).readable
-component_step words at tag bytes first other second fits =
+    → parts_from k words at ≡ both (component_text tag bytes ++ (parts_from k words (at + (2 + words_for bytes))).text)
+    (parts_from k words (at + (2 + words_for bytes))).readable
+component_step k words at tag bytes first other second fits =
     let ws : List ℕ = drop at words in
     let size : ℕ = 2 + words_for bytes in
     let no : (get_or ws 0 0 == 0) ≡ false = ne_eqb (get_or ws 0 0) 0 (λ e. other (sym first ∙ e)) in
@@ -64,29 +64,29 @@ component_step words at tag bytes first other second fits =
     ∙ (omega arith)) in
     let tagged : get_or (take size ws) 0 0 ≡ get_or ws 0 0 = get_or-take size ws 0 0 (omega arith) in
     let sized : get_or (take size ws) 1 0 ≡ get_or ws 1 0 = get_or-take size ws 1 0 (omega arith) in
-    let text : part_text (at, take size ws) ≡ component_text tag bytes =
-    ap (λ (b : Bool). if b then image_text (drop 1 (take size ws)) else component_text (get_or (take size ws) 0 0) (get_or (take size ws) 1 0))
+    let text : part_text k (at, take size ws) ≡ component_text tag bytes =
+    ap (λ (b : Bool). if b then image_text k (drop 1 (take size ws)) else component_text (get_or (take size ws) 0 0) (get_or (take size ws) 1 0))
     (ap (λ (n : ℕ). n == 0) tagged ∙ no)
     ∙ ap₂ component_text (tagged ∙ first) (sized ∙ second) in
-    parts_step words at size is fits
-    ∙ ap (λ (l : List ℕ). both (l ++ (parts_from words (at + size)).text) (parts_from words (at + size)).readable) text
+    parts_step k words at size is fits
+    ∙ ap (λ (l : List ℕ). both (l ++ (parts_from k words (at + size)).text) (parts_from k words (at + size)).readable) text
 
 -- a static image, which is the last part
-pub image_step : (words : List ℕ) (at : ℕ) → at < length words → get_or (drop at words) 0 0 ≡ 0
-    → parts_from words at ≡ both (image_text (drop 1 (drop at words))) true
-image_step words at below first =
+pub image_step : (k : ℕ) (words : List ℕ) (at : ℕ) → at < length words → get_or (drop at words) 0 0 ≡ 0
+    → parts_from k words at ≡ both (image_text k (drop 1 (drop at words))) true
+image_step k words at below first =
     let ws : List ℕ = drop at words in
     let size : ℕ = length words - at in
     let yes : (get_or ws 0 0 == 0) ≡ true = eq-eqb (get_or ws 0 0) 0 first in
     let is : size ≡ part_sizes at ws + 1 = sym (ap (λ (b : Bool). (if b then length ws - 1 else 1 + words_for (get_or ws 1 0)) + 1) yes
     ∙ omega (arith, length-drop at words, below)) in
     let whole : take size ws ≡ ws = take_all size ws (omega (arith, length-drop at words)) in
-    let text : part_text (at, take size ws) ≡ image_text (drop 1 ws) =
-    ap (λ (l : List ℕ). part_text (at, l)) whole
-    ∙ ap (λ (b : Bool). if b then image_text (drop 1 ws) else component_text (get_or ws 0 0) (get_or ws 1 0)) yes in
-    let last = parts_end words (at + size) (omega (arith, below)) in
-    parts_step words at size is (omega (arith, below))
-    ∙ ap₂ both (ap₂ (λ (l m : List ℕ). l ++ m) text last.0 ∙ append-nil (image_text (drop 1 ws))) last.1
+    let text : part_text k (at, take size ws) ≡ image_text k (drop 1 ws) =
+    ap (λ (l : List ℕ). part_text k (at, l)) whole
+    ∙ ap (λ (b : Bool). if b then image_text k (drop 1 ws) else component_text (get_or ws 0 0) (get_or ws 1 0)) yes in
+    let last = parts_end k words (at + size) (omega (arith, below)) in
+    parts_step k words at size is (omega (arith, below))
+    ∙ ap₂ both (ap₂ (λ (l m : List ℕ). l ++ m) text last.0 ∙ append-nil (image_text k (drop 1 ws))) last.1
 
 -- its words
 pub image_words : (w : List ℕ) (at o left : ℕ) → has_bounds w ≡ true → IsRecord w at → o + (1 + left) ≡ record_size w at

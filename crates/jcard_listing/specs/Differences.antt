@@ -1,12 +1,12 @@
 -- All that is not the same in two images.
 use Rattle.std.specs.Prelude.{ℕ, ◌≡◌, ◌⊎◌, ◌&&◌, true, false, Bool, List, Some, None, Ok, Err, Result}
-use Rattle.jc_platform.specs.Tokens.{Tokens}
+use Rattle.jc_objects.specs.declared.legend.Legend.{Legend}
 use Rattle.jc_records.specs.Bounds.{has_bounds}
 use Rattle.jcard_images.specs.Listings.{Lines, line_if, then_lines}
 use Rattle.jcard_listing.specs.Areas.{areas_line}
 use Rattle.jcard_listing.specs.Compared.{heap_lines}
 use Rattle.jcard_listing.specs.Fault.{Lists}
-use Rattle.jcard_listing.specs.Listing.{IsTableOf}
+use Rattle.jcard_listing.specs.Listing.{IsLegendOf}
 use Rattle.jcard_listing.specs.Pairs.{end_lines, pair_lines}
 use Rattle.jcard_listing.specs.Parts.{part_lines}
 use Rattle.jcard_listing.specs.declared.fault.ListFault.{ListFault}
@@ -18,21 +18,21 @@ abbrev pub area_lines : List ℕ → List ℕ → Lines
 area_lines w v = pair_lines (line_if (areas_line w)) (line_if (areas_line v))
 
 -- the numbered lines that name what is there, and those that tell where it stands
-abbrev pub named_lines : Tokens → Tokens → List ℕ → List ℕ → Lines
+abbrev pub named_lines : Legend → Legend → List ℕ → List ℕ → Lines
 named_lines t u w v = then_lines (part_lines Sizes t u w v) (then_lines (part_lines Packages t u w v) (part_lines Applets t u w v))
 
-abbrev pub placed_lines : Tokens → Tokens → List ℕ → List ℕ → Lines
+abbrev pub placed_lines : Legend → Legend → List ℕ → List ℕ → Lines
 placed_lines t u w v = then_lines (part_lines Entries t u w v) (then_lines (part_lines Records t u w v) (part_lines Registrations t u w v))
 
--- all lines of two images that have these platforms
-abbrev pub content_lines : Tokens → Tokens → List ℕ → List ℕ → Bool → Lines
+-- all lines of two images that have these legends
+abbrev pub content_lines : Legend → Legend → List ℕ → List ℕ → Bool → Lines
 content_lines t u w v all = then_lines (named_lines t u w v) (then_lines (placed_lines t u w v) (heap_lines t u w v all))
 
 -- what is told behind the heaps' ends: nothing where a text is no table
 abbrev pub IsContent : List ℕ → List ℕ → Bool → Lines → Type 0
-IsContent w v all l = (IsTableOf w None × (l ≡ end_lines false true))
-    ⊎ ((t : Tokens) × IsTableOf w (Some t) × IsTableOf v None × (l ≡ end_lines true false))
-    ⊎ ((t u : Tokens) × IsTableOf w (Some t) × IsTableOf v (Some u) × (l ≡ content_lines t u w v all))
+IsContent w v all l = (IsLegendOf w None × (l ≡ end_lines false true))
+    ⊎ ((t : Legend) × IsLegendOf w (Some t) × IsLegendOf v None × (l ≡ end_lines true false))
+    ⊎ ((t u : Legend) × IsLegendOf w (Some t) × IsLegendOf v (Some u) × (l ≡ content_lines t u w v all))
 
 -- these lines tell what is not the same in words and in others: nothing behind a heap that is out of its bounds
 abbrev pub AreDifferences : List ℕ → List ℕ → Bool → Lines → Type 0

@@ -5,6 +5,8 @@ use Rattle.jc_commit.specs.Image.{count_of}
 use Rattle.jc_heap.specs.Image.{table_text}
 use Rattle.jc_platform.specs.Table.{Reads}
 use Rattle.jc_platform.specs.Tokens.{Tokens}
+use Rattle.jc_objects.specs.Legends.{IsLegend}
+use Rattle.jc_objects.specs.declared.legend.Legend.{Legend}
 use Rattle.jc_records.specs.Bounds.{has_bounds}
 use Rattle.jcard_images.specs.Listings.{Lines, line_if, then_lines}
 use Rattle.jcard_listing.specs.Applets.{applet_lines}
@@ -16,23 +18,24 @@ use Rattle.jcard_listing.specs.Packages.{package_lines}
 use Rattle.jcard_listing.specs.declared.fault.ListFault.{ListFault}
 use Rattle.jcard_listing.specs.declared.fault.ListFault.TheVariants.{Unreadable, NoMemory}
 
--- the platform that the table text of words tells; none where it is no table
-abbrev pub IsTableOf : List ℕ → Option Tokens → Type 0
-IsTableOf w (Some t) = Reads (table_text w) (Ok t)
-IsTableOf w None = (t : Tokens) → Reads (table_text w) (Ok t) → ⊥
+-- by what the cells of objects are told: the platform that the table text of words tells, and the packages that they have once they are
+-- recovered; nothing where it is no table
+abbrev pub IsLegendOf : List ℕ → Option Legend → Type 0
+IsLegendOf w (Some t) = Reads (table_text w) (Ok t.platform) × IsLegend t.platform w t
+IsLegendOf w None = (t : Tokens) → Reads (table_text w) (Ok t) → ⊥
 
--- the journal's entries, the packages' records, the applets' entries and the objects, with a platform whose classes they have
-abbrev pub contents_lines : Option Tokens → List ℕ → Bool → Lines
+-- the journal's entries, the packages' records, the applets' entries and the objects, told by a legend
+abbrev pub contents_lines : Option Legend → List ℕ → Bool → Lines
 contents_lines None w all = line_if None
-contents_lines (Some t) w all = then_lines (each_line (entry_lines t w) (count_of w))
-    (then_lines (each_line (package_lines w) (slice_index w packages_address))
+contents_lines (Some t) w all = then_lines (each_line (entry_lines t.platform w) (count_of w))
+    (then_lines (each_line (package_lines t w) (slice_index w packages_address))
     (then_lines (each_line (applet_lines w) (slice_index w applets_address)) (objects_lines t w all)))
 
 -- these are the lines that list what words hold: nothing behind a heap that is out of its bounds, nor behind a text that is no table
 abbrev pub IsListing : List ℕ → Bool → Lines → Type 0
 IsListing w all l = ((has_bounds w ≡ false) × (l ≡ line_if (areas_line w)))
-    ⊎ ((table : Option Tokens) × (has_bounds w ≡ true) × IsTableOf w table
-    × (l ≡ then_lines (line_if (areas_line w)) (contents_lines table w all)))
+    ⊎ ((legend : Option Legend) × (has_bounds w ≡ true) × IsLegendOf w legend
+    × (l ≡ then_lines (line_if (areas_line w)) (contents_lines legend w all)))
 
 -- a text grew by such lines, or memory was refused
 abbrev pub IsListed : List ℕ → Bool → List ℕ → List ℕ → Result Unit ListFault → Type 0

@@ -1,5 +1,5 @@
 -- The lines of the objects.
-use Rattle.std.specs.Prelude.{ℕ, ◌+◌, ◌-◌, ◌%◌, ◌++◌, ◌∷◌, ◌==◌, ◌&&◌, ◌||◌, not, nat_lt, Bool, true, false, [], List, codes, decimal, slice_index, Option, Some, None, if◌then◌else◌}
+use Rattle.std.specs.Prelude.{ℕ, ◌+◌, ◌-◌, ◌/◌, ◌%◌, ◌++◌, ◌∷◌, ◌==◌, ◌&&◌, ◌||◌, not, nat_lt, Bool, true, false, [], List, codes, decimal, slice_index, Option, Some, None, if◌then◌else◌}
 use Rattle.std.specs.List.{flat_map}
 use Rattle.hex.specs.Hex.{encode_upper}
 use Rattle.jc_transient.specs.declared.cell.ClearEvent.{ClearEvent}
@@ -12,12 +12,13 @@ use Rattle.jc_cap_linkage.specs.Packages.{NamedPackage}
 use Rattle.jc_image.specs.Listed.{NamedApplet}
 use Rattle.jc_image.specs.Listing.{applet_at, package_at}
 use Rattle.jc_platform.specs.Distinct.{class_word}
-use Rattle.jc_platform.specs.Tokens.{Tokens}
-use Rattle.jc_platform.specs.declared.names.PlatformClass.TheVariants.{OwnerPin}
+use Rattle.jc_objects.specs.Legends.{holds_reference}
+use Rattle.jc_objects.specs.declared.legend.Legend.{Legend}
+use Rattle.jc_platform.specs.declared.names.PlatformClass.TheVariants.{Aid, OwnerPin}
 use Rattle.jc_records.specs.Records.{are_whole, standing_items}
 use Rattle.jcard_images.specs.Listings.{Lines}
 use Rattle.jcard_objects.specs.ClassTexts.{kind_text}
-use Rattle.jcard_listing.specs.Texts.{labelled_text, reference_text}
+use Rattle.jcard_listing.specs.Texts.{each_text, labelled_text, reference_text, short_text}
 
 -- the AID of an applet or of a package, or its number where none is told
 abbrev pub applet_name : Option NamedApplet → ℕ → List ℕ
@@ -35,8 +36,8 @@ owner_text w owner = if owner == 0 then codes "environment"
     else codes "package " ++ package_name (package_at w (owner - 256)) (owner - 256))
 
 -- an object's address, its class, its owner, and how many cells it has
-abbrev pub header_text : Tokens → List ℕ → ℕ → Facts → List ℕ
-header_text t w r f = labelled_text (codes "@") r (codes " ") ++ (kind_text t w f.kind f.class ++ (codes " of " ++ (owner_text w f.owner
+abbrev pub header_text : Legend → List ℕ → ℕ → Facts → List ℕ
+header_text t w r f = labelled_text (codes "@") r (codes " ") ++ (kind_text t.platform w f.kind f.class ++ (codes " of " ++ (owner_text w f.owner
     ++ labelled_text (codes ", length ") f.length [])))
 
 -- where the cells of a transient object are: the area that an event clears, and the first of them
@@ -44,24 +45,38 @@ abbrev pub area_text : ClearEvent → ℕ → List ℕ
 area_text Reset place = labelled_text (codes ", reset area from ") place []
 area_text Deselect place = labelled_text (codes ", deselect area from ") place []
 
--- a cell: a byte in hexadecimal, a reference, or a number
-abbrev pub value_text : Kind → ℕ → List ℕ
-value_text Instance cell = decimal cell
-value_text BooleanArray cell = encode_upper (cell % 256 ∷ [])
-value_text ByteArray cell = encode_upper (cell % 256 ∷ [])
-value_text ShortArray cell = decimal cell
-value_text ReferenceArray cell = reference_text cell
+-- what stands in a field: a reference or a short
+abbrev pub field_text : Bool → ℕ → List ℕ
+field_text is_reference cell = if is_reference then reference_text cell else short_text cell
 
-abbrev pub cell_text : Kind → ℕ → List ℕ
-cell_text kind cell = codes " " ++ value_text kind cell
+-- what stands in the cell with a number of an object of this class: a byte in hexadecimal, a reference or a short, in a field by the class's record
+abbrev pub value_by : Legend → Kind → ℕ → ℕ → ℕ → List ℕ
+value_by t Instance class i cell = field_text (holds_reference t class i) cell
+value_by t BooleanArray class i cell = encode_upper (cell % 256 ∷ [])
+value_by t ByteArray class i cell = encode_upper (cell % 256 ∷ [])
+value_by t ShortArray class i cell = short_text cell
+value_by t ReferenceArray class i cell = reference_text cell
+
+abbrev pub value_text : Legend → Facts → ℕ → ℕ → List ℕ
+value_text t f i cell = value_by t f.kind f.class i cell
+
+abbrev pub cell_text : Legend → Facts → ℕ → ℕ → List ℕ
+cell_text t f i cell = codes " " ++ value_text t f i cell
+
+-- all cells, one after another
+abbrev pub cell_at : Legend → Facts → List ℕ → ℕ → List ℕ
+cell_at t f cells i = cell_text t f i (slice_index cells i)
+
+abbrev pub cells_text : Legend → Facts → List ℕ → List ℕ
+cells_text t f cells = codes ":" ++ each_text (cell_at t f cells) f.length
 
 abbrev pub is_instance : Kind → Bool
 is_instance Instance = true
 is_instance _ = false
 
 -- the header is that of an OwnerPIN
-abbrev pub is_pin : Tokens → Facts → Bool
-is_pin t f = is_instance f.kind && (f.length == 5 && f.class == class_word t OwnerPin)
+abbrev pub is_pin : Legend → Facts → Bool
+is_pin t f = is_instance f.kind && (f.length == 5 && f.class == class_word t.platform OwnerPin)
 
 -- its fields: the tries that are left and their limit, the length of the value and the largest one, the array with the value
 abbrev pub pin_text : List ℕ → List ℕ
@@ -70,17 +85,40 @@ pin_text cells = labelled_text (codes ": tries ") (slice_index cells 2) (codes "
     ++ (labelled_text [] (slice_index cells 3) (codes " of ")
     ++ (labelled_text [] (slice_index cells 1) (codes ", value ") ++ reference_text (slice_index cells 4))))
 
--- the cells of a persistent object
-abbrev pub contents_text : Tokens → Facts → List ℕ → List ℕ
-contents_text t f cells = if is_pin t f then pin_text cells else codes ":" ++ flat_map (cell_text f.kind) cells
+-- the header is that of an AID
+abbrev pub is_aid : Legend → Facts → Bool
+is_aid t f = is_instance f.kind && (f.length == 9 && f.class == class_word t.platform Aid)
+
+-- how many bytes an AID has; none where an object is no AID, or its first cell tells more than an AID can have
+abbrev pub aid_length : Legend → Facts → List ℕ → Option ℕ
+aid_length t f cells = if is_aid t f then (if nat_lt 16 (slice_index cells 0) then None else Some (slice_index cells 0)) else None
+
+-- a byte of the two in a word
+abbrev pub byte_text : ℕ → ℕ → List ℕ
+byte_text word i = if i % 2 == 0 then encode_upper (word / 256 ∷ []) else encode_upper (word % 256 ∷ [])
+
+-- the bytes of an AID, two of which stand in each cell behind the first
+abbrev pub aid_byte : List ℕ → ℕ → List ℕ
+aid_byte cells i = byte_text (slice_index cells (1 + i / 2)) i
+
+abbrev pub aid_text : List ℕ → ℕ → List ℕ
+aid_text cells long = codes ": " ++ each_text (aid_byte cells) long
+
+-- the cells of a persistent object: an AID by its bytes
+abbrev pub plain_text : Legend → Facts → List ℕ → Option ℕ → List ℕ
+plain_text t f cells (Some long) = aid_text cells long
+plain_text t f cells None = cells_text t f cells
+
+abbrev pub contents_text : Legend → Facts → List ℕ → List ℕ
+contents_text t f cells = if is_pin t f then pin_text cells else plain_text t f cells (aid_length t f cells)
 
 -- behind the header: the cells, or where they are
-abbrev pub behind_text : Tokens → Facts → Option ClearEvent → List ℕ → List ℕ
+abbrev pub behind_text : Legend → Facts → Option ClearEvent → List ℕ → List ℕ
 behind_text t f (Some event) cells = area_text event f.place
 behind_text t f None cells = contents_text t f cells
 
 -- an object by its address, its header and its cells
-abbrev pub object_text : Tokens → List ℕ → ℕ → Facts → List ℕ → List ℕ
+abbrev pub object_text : Legend → List ℕ → ℕ → Facts → List ℕ → List ℕ
 object_text t w r f cells = header_text t w r f ++ (behind_text t f f.event cells ++ codes "\n")
 
 -- an object is told: any one, or one that is not the runtime environment's
@@ -88,10 +126,10 @@ abbrev pub is_told : Facts → Bool → Bool
 is_told f all = all || not (f.owner == 0)
 
 -- what stands at an address: nothing is told here of a package
-abbrev pub item_text : Tokens → List ℕ → Bool → ℕ × Item → List ℕ
+abbrev pub item_text : Legend → List ℕ → Bool → ℕ × Item → List ℕ
 item_text t w all (r, AnObject o) = if is_told o.facts all then object_text t w r o.facts o.cells else []
 item_text t w all (r, APackage ws) = []
 
 -- all objects that stand in the heap that words are, up to a record that lacks words
-abbrev pub objects_lines : Tokens → List ℕ → Bool → Lines
+abbrev pub objects_lines : Legend → List ℕ → Bool → Lines
 objects_lines t w all = record { text = flat_map (item_text t w all) (standing_items w); readable = are_whole w }

@@ -2,7 +2,7 @@
 use Rattle.std.specs.Prelude.{ℕ, ◌==◌, nat_le, nat_lt, List, [], length, slice_index, codes, if◌then◌else◌}
 use Rattle.jc_words.specs.Layout.{applets_address, packages_address}
 use Rattle.jc_commit.specs.Image.{capacity_of, count_of}
-use Rattle.jc_platform.specs.Tokens.{Tokens}
+use Rattle.jc_objects.specs.declared.legend.Legend.{Legend}
 use Rattle.jcard_images.specs.Listings.{Lines, applet_text, count_line, journal_line, line, line_if, package_text}
 use Rattle.jcard_listing.specs.Applets.{applet_lines}
 use Rattle.jcard_listing.specs.Entries.{entry_lines}
@@ -26,25 +26,25 @@ part_count Records w = slice_index w packages_address
 part_count Registrations w = slice_index w applets_address
 
 -- the line with a number, from 1 on
-abbrev pub part_line : Part → Tokens → List ℕ → ℕ → Lines
+abbrev pub part_line : Part → Legend → List ℕ → ℕ → Lines
 part_line Sizes t w n = line (size_text w n)
 part_line Packages t w n = line_if (package_text w n)
 part_line Applets t w n = line_if (applet_text w n)
-part_line Entries t w n = entry_lines t w n
-part_line Records t w n = package_lines w n
+part_line Entries t w n = entry_lines t.platform w n
+part_line Records t w n = package_lines t w n
 part_line Registrations t w n = applet_lines w n
 
 -- the same, or nothing behind the last
-abbrev pub line_among : Part → Tokens → List ℕ → ℕ → Lines
+abbrev pub line_among : Part → Legend → List ℕ → ℕ → Lines
 line_among part t w n = if nat_le n (part_count part w) then part_line part t w n else line []
 
 -- the lines with a number of two images, of which each has its platform
-abbrev pub pair_at : Part → Tokens → Tokens → List ℕ → List ℕ → ℕ → Lines
+abbrev pub pair_at : Part → Legend → Legend → List ℕ → List ℕ → ℕ → Lines
 pair_at part t u w v n = pair_lines (line_among part t w n) (line_among part u v n)
 
 abbrev pub larger : ℕ → ℕ → ℕ
 larger a b = if nat_lt a b then b else a
 
 -- those with each number that either has
-abbrev pub part_lines : Part → Tokens → Tokens → List ℕ → List ℕ → Lines
+abbrev pub part_lines : Part → Legend → Legend → List ℕ → List ℕ → Lines
 part_lines part t u w v = each_line (pair_at part t u w v) (larger (part_count part w) (part_count part v))

@@ -16,7 +16,7 @@ use crate::objects::{is_told, push_object, push_value};
 use crate::pairs::{Side, listing_by, push_end};
 use crate::texts::push_labelled;
 use jc_heap::{Facts, Kind};
-use jc_platform::platform::Platform;
+use jc_objects::legend::Legend;
 use jc_records::bounds::first_record;
 use jc_records::places::{Standing, first_place, standing_from};
 use jc_records::records::{cell_of, object_at, whole_size};
@@ -31,18 +31,18 @@ use std::alloc::{AllocError, Global};
 pub(crate) fn push_heaps<S: WordStore>(
     alloc: Global,
     text: &mut Vec<u8>,
-    platform: &Platform,
+    legend: &Legend,
     store: &S,
-    others: &Platform,
+    others: &Legend,
     other: &S,
     all: bool,
 ) -> Result<(), ListFault>
     requires bounds { has_bounds (S.words store.now) ≡ true }
     requires other_bounds { has_bounds (S.words other.now) ≡ true }
-    ensures { Lists text.old.items text.new.items (heap_lines platform.now others.now
+    ensures { Lists text.old.items text.new.items (heap_lines legend.now others.now
         (S.words store.now) (S.words other.now) all) result }
 {
-    let first = compared(alloc, Side::One, platform, store, other, all)?;
+    let first = compared(alloc, Side::One, legend, store, other, all)?;
     let second = compared(alloc, Side::Other, others, other, store, all)?;
     push_texts(text, &first.text, &second.text)?;
     push_end(text, first.readable, second.readable)
@@ -60,18 +60,18 @@ fn push_texts(text: &mut Vec<u8>, first: &[u8], second: &[u8]) -> Result<(), All
 fn compared<S: WordStore>(
     alloc: Global,
     side: Side,
-    platform: &Platform,
+    legend: &Legend,
     store: &S,
     other: &S,
     all: bool,
 ) -> Result<Listing, AllocError>
     requires bounds { has_bounds (S.words store.now) ≡ true }
     requires other_bounds { has_bounds (S.words other.now) ≡ true }
-    ensures { IfOk result (λ found. lines_of found ≡ compared_lines side platform.now
+    ensures { IfOk result (λ found. lines_of found ≡ compared_lines side legend.now
         (S.words store.now) (S.words other.now) all) }
 {
     let mut text = Vec::new(alloc);
-    let told = push_compared(alloc, &mut text, side, platform, store, other, all);
+    let told = push_compared(alloc, &mut text, side, legend, store, other, all);
     listing_by(text, told)
 }
 
@@ -80,14 +80,14 @@ fn push_compared<S: WordStore>(
     alloc: Global,
     text: &mut Vec<u8>,
     side: Side,
-    platform: &Platform,
+    legend: &Legend,
     store: &S,
     other: &S,
     all: bool,
 ) -> Result<(), ListFault>
     requires bounds { has_bounds (S.words store.now) ≡ true }
     requires other_bounds { has_bounds (S.words other.now) ≡ true }
-    ensures { Lists text.old.items text.new.items (compared_lines side platform.now
+    ensures { Lists text.old.items text.new.items (compared_lines side legend.now
         (S.words store.now) (S.words other.now) all) result }
 {
     let _ = store.size(); // so that the proof knows that there are fewer than 65,536 words
@@ -98,9 +98,7 @@ fn push_compared<S: WordStore>(
         let Some(size) = whole_size(store, at, top) else {
             return Err(ListFault::Unreadable);
         };
-        push_item(
-            alloc, text, side, platform, store, other, &mut place, at, all,
-        )?;
+        push_item(alloc, text, side, legend, store, other, &mut place, at, all)?;
         at += size;
     }
     Ok(())
@@ -111,7 +109,7 @@ fn push_item<S: WordStore>(
     alloc: Global,
     text: &mut Vec<u8>,
     side: Side,
-    platform: &Platform,
+    legend: &Legend,
     store: &S,
     other: &S,
     place: &mut u16,
@@ -122,7 +120,7 @@ fn push_item<S: WordStore>(
     requires other_bounds { has_bounds (S.words other.now) ≡ true }
     requires record { IsRecord (S.words store.now) at }
     requires place { IsPlaceFor (S.words other.now) place.old at }
-    ensures told { OnOk result (text.new.items ≡ text.old.items ++ compared_text side platform.now
+    ensures told { OnOk result (text.new.items ≡ text.old.items ++ compared_text side legend.now
         (S.words store.now) (S.words other.now) all (at, item_at (S.words store.now) at)) }
     ensures place { IsPlaceFor (S.words other.now) place.new at }
 {
@@ -131,7 +129,7 @@ fn push_item<S: WordStore>(
             alloc,
             text,
             side,
-            platform,
+            legend,
             store,
             other,
             at,
@@ -147,7 +145,7 @@ fn push_beside<S: WordStore>(
     alloc: Global,
     text: &mut Vec<u8>,
     side: Side,
-    platform: &Platform,
+    legend: &Legend,
     store: &S,
     other: &S,
     at: u16,
@@ -158,15 +156,15 @@ fn push_beside<S: WordStore>(
     requires other_bounds { has_bounds (S.words other.now) ≡ true }
     requires object { IsStanding (S.words store.now) at (Standing.Object facts) }
     requires standing { IsStanding (S.words other.now) at standing }
-    ensures { OnOk result (text.new.items ≡ text.old.items ++ beside_text side platform.now
+    ensures { OnOk result (text.new.items ≡ text.old.items ++ beside_text side legend.now
         (S.words store.now) (S.words other.now) at facts standing) }
 {
     match standing {
         Standing::Object(found) if is_same(facts, found) => {
-            push_kept(alloc, text, side, platform, store, other, at, facts, found)
+            push_kept(alloc, text, side, legend, store, other, at, facts, found)
         }
         Standing::Unread => Ok(()),
-        _ => push_alone(alloc, text, side, platform, store, at, facts),
+        _ => push_alone(alloc, text, side, legend, store, at, facts),
     }
 }
 
@@ -211,7 +209,7 @@ fn push_alone<S: WordStore>(
     alloc: Global,
     text: &mut Vec<u8>,
     side: Side,
-    platform: &Platform,
+    legend: &Legend,
     store: &S,
     at: u16,
     facts: Facts,
@@ -219,10 +217,10 @@ fn push_alone<S: WordStore>(
     requires bounds { has_bounds (S.words store.now) ≡ true }
     requires object { IsStanding (S.words store.now) at (Standing.Object facts) }
     ensures { OnOk result (text.new.items ≡ text.old.items
-        ++ alone_text side platform.now (S.words store.now) at facts) }
+        ++ alone_text side legend.now (S.words store.now) at facts) }
 {
     text.extend_from_slice(side.sign())?;
-    push_object(alloc, text, platform, store, at, facts)
+    push_object(alloc, text, legend, store, at, facts)
 }
 
 // Writes the cells that are not the same of an object that both images have, for the first of them.
@@ -230,7 +228,7 @@ fn push_kept<S: WordStore>(
     alloc: Global,
     text: &mut Vec<u8>,
     side: Side,
-    platform: &Platform,
+    legend: &Legend,
     store: &S,
     other: &S,
     at: u16,
@@ -242,12 +240,12 @@ fn push_kept<S: WordStore>(
     requires object { IsStanding (S.words store.now) at (Standing.Object facts) }
     requires found { IsStanding (S.words other.now) at (Standing.Object found) }
     requires length { facts.length ≡ found.length }
-    ensures { OnOk result (text.new.items ≡ text.old.items ++ kept_text side platform.now
+    ensures { OnOk result (text.new.items ≡ text.old.items ++ kept_text side legend.now
         (S.words store.now) (S.words other.now) at facts found) }
 {
     match side {
         Side::One if facts.event.is_none() && found.event.is_none() => {
-            push_changes(alloc, text, platform, store, other, at, facts, found)
+            push_changes(alloc, text, legend, store, other, at, facts, found)
         }
         _ => Ok(()),
     }
@@ -257,7 +255,7 @@ fn push_kept<S: WordStore>(
 fn push_changes<S: WordStore>(
     alloc: Global,
     text: &mut Vec<u8>,
-    platform: &Platform,
+    legend: &Legend,
     store: &S,
     other: &S,
     at: u16,
@@ -270,14 +268,14 @@ fn push_changes<S: WordStore>(
     requires found { IsStanding (S.words other.now) at (Standing.Object found) }
     requires length { facts.length ≡ found.length }
     requires persistent { (facts.event ≡ None) × (found.event ≡ None) }
-    ensures { OnOk result (text.new.items ≡ text.old.items ++ changes_text platform.now
+    ensures { OnOk result (text.new.items ≡ text.old.items ++ changes_text legend.now
         (S.words store.now) (S.words other.now) at facts None None) }
 {
     for i in 0..facts.length {
         push_change(
             alloc,
             text,
-            platform,
+            legend,
             store,
             at,
             facts,
@@ -293,7 +291,7 @@ fn push_changes<S: WordStore>(
 fn push_change<S: WordStore>(
     alloc: Global,
     text: &mut Vec<u8>,
-    platform: &Platform,
+    legend: &Legend,
     store: &S,
     at: u16,
     facts: Facts,
@@ -303,18 +301,18 @@ fn push_change<S: WordStore>(
 ) -> Result<(), AllocError>
     requires { text_start ≤ length (S.words store.now) }
     ensures { OnOk result (text.new.items ≡ text.old.items
-        ++ change_text platform.now (S.words store.now) at facts i one other) }
+        ++ change_text legend.now (S.words store.now) at facts i one other) }
 {
     if one == other {
         return Ok(());
     }
-    push_change_line(alloc, text, platform, store, at, facts, i, one, other)
+    push_change_line(alloc, text, legend, store, at, facts, i, one, other)
 }
 
 fn push_change_line<S: WordStore>(
     alloc: Global,
     text: &mut Vec<u8>,
-    platform: &Platform,
+    legend: &Legend,
     store: &S,
     at: u16,
     facts: Facts,
@@ -324,14 +322,21 @@ fn push_change_line<S: WordStore>(
 ) -> Result<(), AllocError>
     requires { text_start ≤ length (S.words store.now) }
     ensures { OnOk result (text.new.items ≡ text.old.items
-        ++ change_line platform.now (S.words store.now) at facts i one other) }
+        ++ change_line legend.now (S.words store.now) at facts i one other) }
 {
     push_labelled(text, b"@", at, b" ")?;
-    push_kind(alloc, text, platform, store, facts.kind, facts.class())?;
+    push_kind(
+        alloc,
+        text,
+        &legend.platform,
+        store,
+        facts.kind,
+        facts.class(),
+    )?;
     push_labelled(text, b" [", i, b"] ")?;
-    push_value(alloc, text, facts.kind, one)?;
+    push_value(alloc, text, legend, facts, i, one)?;
     text.extend_from_slice(b">")?;
-    push_value(alloc, text, facts.kind, other)?;
+    push_value(alloc, text, legend, facts, i, other)?;
     text.extend_from_slice(b"\n")?;
     Ok(())
 }

@@ -6,7 +6,7 @@ ghost use Rattle.jcard_images.specs.Listings.{line_if};
 ghost use Rattle.jcard_listing.specs.Areas.{areas_line};
 ghost use Rattle.jcard_listing.specs.Differences.{AreDifferences, AreToldTo, IsContentTold, area_lines, content_lines, named_lines, placed_lines};
 ghost use Rattle.jcard_listing.specs.Fault.{Lists};
-ghost use Rattle.jcard_listing.specs.Listing.{IsTableOf};
+ghost use Rattle.jcard_listing.specs.Listing.{IsLegendOf};
 ghost use Rattle.jcard_listing.specs.Pairs.{end_lines, lines_of};
 
 use crate::areas::push_areas;
@@ -15,8 +15,8 @@ use crate::fault::ListFault;
 use crate::listing::Listing;
 use crate::pairs::{listing_by, push_end, push_pair};
 use crate::parts::{Part, push_part};
-use crate::table::platform_of;
-use jc_platform::platform::Platform;
+use crate::table::legend_of;
+use jc_objects::legend::Legend;
 use jc_words::WordStore;
 use std::alloc::{AllocError, Global};
 
@@ -107,31 +107,31 @@ fn push_content<S: WordStore>(
     ensures { IsContentTold (S.words store.now) (S.words other.now) all text.old.items
         text.new.items result }
 {
-    match platform_of(alloc, store) {
-        Ok(platform) => push_beside_table(alloc, text, &platform, store, other, all),
+    match legend_of(alloc, store) {
+        Ok(legend) => push_beside_table(alloc, text, &legend, store, other, all),
         Err(fault) => push_no_table(text, false, true, fault),
     }
 }
 
-// Writes them, where the first image has this platform.
+// Writes them, where the first image has this legend.
 fn push_beside_table<S: WordStore>(
     alloc: Global,
     text: &mut Vec<u8>,
-    platform: &Platform,
+    legend: &Legend,
     store: &S,
     other: &S,
     all: bool,
 ) -> Result<(), ListFault>
     requires size { HasSize (S.words store.now) }
     requires bounds { has_bounds (S.words store.now) ≡ true }
-    requires table { IsTableOf (S.words store.now) (Some platform.now) }
+    requires table { IsLegendOf (S.words store.now) (Some legend.now) }
     requires other_size { HasSize (S.words other.now) }
     requires other_bounds { has_bounds (S.words other.now) ≡ true }
     ensures { IsContentTold (S.words store.now) (S.words other.now) all text.old.items
         text.new.items result }
 {
-    match platform_of(alloc, other) {
-        Ok(others) => push_lines(alloc, text, platform, store, &others, other, all),
+    match legend_of(alloc, other) {
+        Ok(others) => push_lines(alloc, text, legend, store, &others, other, all),
         Err(fault) => push_no_table(text, true, false, fault),
     }
 }
@@ -152,13 +152,13 @@ fn push_no_table(
     }
 }
 
-// Writes them for images with these platforms.
+// Writes them for images with these legends.
 fn push_lines<S: WordStore>(
     alloc: Global,
     text: &mut Vec<u8>,
-    platform: &Platform,
+    legend: &Legend,
     store: &S,
-    others: &Platform,
+    others: &Legend,
     other: &S,
     all: bool,
 ) -> Result<(), ListFault>
@@ -166,58 +166,58 @@ fn push_lines<S: WordStore>(
     requires bounds { has_bounds (S.words store.now) ≡ true }
     requires other_size { HasSize (S.words other.now) }
     requires other_bounds { has_bounds (S.words other.now) ≡ true }
-    ensures { Lists text.old.items text.new.items (content_lines platform.now others.now
+    ensures { Lists text.old.items text.new.items (content_lines legend.now others.now
         (S.words store.now) (S.words other.now) all) result }
 {
-    push_named(alloc, text, platform, store, others, other)?;
-    push_placed(alloc, text, platform, store, others, other)?;
-    push_heaps(alloc, text, platform, store, others, other, all)
+    push_named(alloc, text, legend, store, others, other)?;
+    push_placed(alloc, text, legend, store, others, other)?;
+    push_heaps(alloc, text, legend, store, others, other, all)
 }
 
 // Writes the lines that name what is there.
 fn push_named<S: WordStore>(
     alloc: Global,
     text: &mut Vec<u8>,
-    platform: &Platform,
+    legend: &Legend,
     store: &S,
-    others: &Platform,
+    others: &Legend,
     other: &S,
 ) -> Result<(), ListFault>
     requires size { HasSize (S.words store.now) }
     requires bounds { has_bounds (S.words store.now) ≡ true }
     requires other_size { HasSize (S.words other.now) }
     requires other_bounds { has_bounds (S.words other.now) ≡ true }
-    ensures { Lists text.old.items text.new.items (named_lines platform.now others.now
+    ensures { Lists text.old.items text.new.items (named_lines legend.now others.now
         (S.words store.now) (S.words other.now)) result }
 {
-    push_part(alloc, text, Part::Sizes, platform, store, others, other)?;
-    push_part(alloc, text, Part::Packages, platform, store, others, other)?;
-    push_part(alloc, text, Part::Applets, platform, store, others, other)
+    push_part(alloc, text, Part::Sizes, legend, store, others, other)?;
+    push_part(alloc, text, Part::Packages, legend, store, others, other)?;
+    push_part(alloc, text, Part::Applets, legend, store, others, other)
 }
 
 // Writes the lines that tell where it stands.
 fn push_placed<S: WordStore>(
     alloc: Global,
     text: &mut Vec<u8>,
-    platform: &Platform,
+    legend: &Legend,
     store: &S,
-    others: &Platform,
+    others: &Legend,
     other: &S,
 ) -> Result<(), ListFault>
     requires size { HasSize (S.words store.now) }
     requires bounds { has_bounds (S.words store.now) ≡ true }
     requires other_size { HasSize (S.words other.now) }
     requires other_bounds { has_bounds (S.words other.now) ≡ true }
-    ensures { Lists text.old.items text.new.items (placed_lines platform.now others.now
+    ensures { Lists text.old.items text.new.items (placed_lines legend.now others.now
         (S.words store.now) (S.words other.now)) result }
 {
-    push_part(alloc, text, Part::Entries, platform, store, others, other)?;
-    push_part(alloc, text, Part::Records, platform, store, others, other)?;
+    push_part(alloc, text, Part::Entries, legend, store, others, other)?;
+    push_part(alloc, text, Part::Records, legend, store, others, other)?;
     push_part(
         alloc,
         text,
         Part::Registrations,
-        platform,
+        legend,
         store,
         others,
         other,

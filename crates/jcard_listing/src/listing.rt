@@ -11,8 +11,8 @@ use crate::entries::push_entries;
 use crate::fault::ListFault;
 use crate::objects::push_objects;
 use crate::packages::push_packages;
-use crate::table::platform_of;
-use jc_platform::platform::Platform;
+use crate::table::legend_of;
+use jc_objects::legend::Legend;
 use jc_words::WordStore;
 use std::alloc::{AllocError, Global};
 
@@ -57,25 +57,25 @@ fn push_listing<S: WordStore>(
     ensures { IsListed (S.words store.now) all text.old.items text.new.items result }
 {
     push_areas(text, store)?;
-    let platform = platform_of(alloc, store)?;
-    push_contents(alloc, text, &platform, store, all)
+    let legend = legend_of(alloc, store)?;
+    push_contents(alloc, text, &legend, store, all)
 }
 
 // Writes the lines behind the first one.
 fn push_contents<S: WordStore>(
     alloc: Global,
     text: &mut Vec<u8>,
-    platform: &Platform,
+    legend: &Legend,
     store: &S,
     all: bool,
 ) -> Result<(), ListFault>
     requires size { HasSize (S.words store.now) }
     requires bounds { has_bounds (S.words store.now) ≡ true }
     ensures { Lists text.old.items text.new.items
-        (contents_lines (Some platform.now) (S.words store.now) all) result }
+        (contents_lines (Some legend.now) (S.words store.now) all) result }
 {
-    push_entries(alloc, text, platform, store)?;
-    push_packages(alloc, text, store)?;
+    push_entries(alloc, text, &legend.platform, store)?;
+    push_packages(alloc, text, legend, store)?;
     push_applets(text, store)?;
-    push_objects(alloc, text, platform, store, all)
+    push_objects(alloc, text, legend, store, all)
 }

@@ -1,18 +1,18 @@
 //! The lines of the objects.
-ghost use Rattle.std.specs.Prelude.{◌≡◌, ◌<◌, ◌≤◌, ◌+◌, ◌++◌, ◌&&◌, ◌==◌, Some, None, true, length, Option, OnOk};
+ghost use Rattle.std.specs.Prelude.{◌≡◌, ◌<◌, ◌≤◌, ◌+◌, ◌++◌, ◌&&◌, ◌==◌, Some, None, true, length, Option, IfSome, OnOk};
 ghost use Rattle.jc_words.specs.Layout.{text_start};
 ghost use Rattle.jc_heap.specs.Object.{cells_of};
 ghost use Rattle.jc_records.specs.Bounds.{has_bounds};
 ghost use Rattle.jc_records.specs.Records.{IsRecord, item_at, object_in};
 ghost use Rattle.jcard_listing.specs.Fault.{Lists};
-ghost use Rattle.jcard_listing.specs.Objects.{applet_name, area_text, behind_text, cell_text, contents_text, header_text, is_pin, is_told, item_text, object_text, objects_lines, owner_text, package_name, pin_text, value_text};
+ghost use Rattle.jcard_listing.specs.Objects.{aid_length, aid_text, applet_name, area_text, behind_text, byte_text, cell_text, cells_text, contents_text, field_text, header_text, is_aid, is_pin, is_told, item_text, object_text, objects_lines, owner_text, package_name, pin_text, value_text};
 
 use crate::fault::ListFault;
-use crate::texts::{push_hex, push_labelled, push_number, push_reference};
+use crate::texts::{push_hex, push_labelled, push_number, push_reference, push_short};
 use jc_heap::{Facts, Kind};
 use jc_image::{AppletName, PackageName, applet_at, package_at};
+use jc_objects::legend::Legend;
 use jc_platform::names::PlatformClass;
-use jc_platform::platform::Platform;
 use jc_records::bounds::first_record;
 use jc_records::records::{cell_of, object_at, whole_size};
 use jc_transient::{ClearEvent, OwnerWord};
@@ -27,18 +27,24 @@ const FIRST_PACKAGE: u16 = 256;
 /// How many cells an OwnerPIN has.
 const PIN_CELLS: u16 = 5;
 
+/// How many cells an AID has.
+const AID_CELLS: u16 = 9;
+
+/// How many bytes an AID has at most.
+const MOST_AID: u16 = 16;
+
 /// Writes the line of each object, up to the first record that lacks words. Those of the runtime environment are told
 /// where all are asked for.
 pub(crate) fn push_objects<S: WordStore>(
     alloc: Global,
     text: &mut Vec<u8>,
-    platform: &Platform,
+    legend: &Legend,
     store: &S,
     all: bool,
 ) -> Result<(), ListFault>
     requires { has_bounds (S.words store.now) ≡ true }
     ensures { Lists text.old.items text.new.items
-        (objects_lines platform.now (S.words store.now) all) result }
+        (objects_lines legend.now (S.words store.now) all) result }
 {
     let _ = store.size(); // so that the proof knows that there are fewer than 65,536 words
     let top = store.read(TOP);
@@ -47,7 +53,7 @@ pub(crate) fn push_objects<S: WordStore>(
         let Some(size) = whole_size(store, at, top) else {
             return Err(ListFault::Unreadable);
         };
-        push_item(alloc, text, platform, store, at, all)?;
+        push_item(alloc, text, legend, store, at, all)?;
         at += size;
     }
     Ok(())
@@ -57,7 +63,7 @@ pub(crate) fn push_objects<S: WordStore>(
 fn push_item<S: WordStore>(
     alloc: Global,
     text: &mut Vec<u8>,
-    platform: &Platform,
+    legend: &Legend,
     store: &S,
     at: u16,
     all: bool,
@@ -65,10 +71,10 @@ fn push_item<S: WordStore>(
     requires bounds { has_bounds (S.words store.now) ≡ true }
     requires record { IsRecord (S.words store.now) at }
     ensures { OnOk result (text.new.items ≡ text.old.items
-        ++ item_text platform.now (S.words store.now) all (at, item_at (S.words store.now) at)) }
+        ++ item_text legend.now (S.words store.now) all (at, item_at (S.words store.now) at)) }
 {
     match object_at(store, at) {
-        Some(facts) if is_told(facts, all) => push_object(alloc, text, platform, store, at, facts),
+        Some(facts) if is_told(facts, all) => push_object(alloc, text, legend, store, at, facts),
         _ => Ok(()),
     }
 }
@@ -84,7 +90,7 @@ pub(crate) fn is_told(facts: Facts, all: bool) -> bool
 pub(crate) fn push_object<S: WordStore>(
     alloc: Global,
     text: &mut Vec<u8>,
-    platform: &Platform,
+    legend: &Legend,
     store: &S,
     at: u16,
     facts: Facts,
@@ -95,11 +101,11 @@ pub(crate) fn push_object<S: WordStore>(
     requires cells { facts.event ≡ None
         → length (cells_of (item_at (S.words store.now) at)) ≡ facts.length }
     ensures { OnOk result (text.new.items ≡ text.old.items
-        ++ object_text platform.now (S.words store.now) at facts
+        ++ object_text legend.now (S.words store.now) at facts
         (cells_of (item_at (S.words store.now) at))) }
 {
-    push_header(alloc, text, platform, store, at, facts)?;
-    push_behind(alloc, text, platform, store, at, facts)?;
+    push_header(alloc, text, legend, store, at, facts)?;
+    push_behind(alloc, text, legend, store, at, facts)?;
     text.extend_from_slice(b"\n")?;
     Ok(())
 }
@@ -108,7 +114,7 @@ pub(crate) fn push_object<S: WordStore>(
 fn push_behind<S: WordStore>(
     alloc: Global,
     text: &mut Vec<u8>,
-    platform: &Platform,
+    legend: &Legend,
     store: &S,
     at: u16,
     facts: Facts,
@@ -119,11 +125,11 @@ fn push_behind<S: WordStore>(
     requires cells { facts.event ≡ None
         → length (cells_of (item_at (S.words store.now) at)) ≡ facts.length }
     ensures { OnOk result (text.new.items ≡ text.old.items
-        ++ behind_text platform.now facts facts.event (cells_of (item_at (S.words store.now) at))) }
+        ++ behind_text legend.now facts facts.event (cells_of (item_at (S.words store.now) at))) }
 {
     match facts.event {
         Some(event) => push_area(text, event, facts.place),
-        None => push_contents(alloc, text, platform, store, at, facts),
+        None => push_contents(alloc, text, legend, store, at, facts),
     }
 }
 
@@ -131,17 +137,24 @@ fn push_behind<S: WordStore>(
 fn push_header<S: WordStore>(
     alloc: Global,
     text: &mut Vec<u8>,
-    platform: &Platform,
+    legend: &Legend,
     store: &S,
     at: u16,
     facts: Facts,
 ) -> Result<(), AllocError>
     requires { text_start ≤ length (S.words store.now) }
     ensures { OnOk result (text.new.items ≡ text.old.items
-        ++ header_text platform.now (S.words store.now) at facts) }
+        ++ header_text legend.now (S.words store.now) at facts) }
 {
     push_labelled(text, b"@", at, b" ")?;
-    push_kind(alloc, text, platform, store, facts.kind, facts.class())?;
+    push_kind(
+        alloc,
+        text,
+        &legend.platform,
+        store,
+        facts.kind,
+        facts.class(),
+    )?;
     text.extend_from_slice(b" of ")?;
     push_owner(alloc, text, store, facts.owner())?;
     push_labelled(text, b", length ", facts.length, b"")
@@ -214,7 +227,7 @@ fn push_area(text: &mut Vec<u8>, event: ClearEvent, place: u16) -> Result<(), Al
 fn push_contents<S: WordStore>(
     alloc: Global,
     text: &mut Vec<u8>,
-    platform: &Platform,
+    legend: &Legend,
     store: &S,
     at: u16,
     facts: Facts,
@@ -224,25 +237,111 @@ fn push_contents<S: WordStore>(
     requires object { object_in (item_at (S.words store.now) at) ≡ Some facts }
     requires cells { length (cells_of (item_at (S.words store.now) at)) ≡ facts.length }
     ensures { OnOk result (text.new.items ≡ text.old.items
-        ++ contents_text platform.now facts (cells_of (item_at (S.words store.now) at))) }
+        ++ contents_text legend.now facts (cells_of (item_at (S.words store.now) at))) }
 {
-    if is_pin(platform, facts) {
+    if is_pin(legend, facts) {
         return push_pin(text, store, at, facts);
     }
-    text.extend_from_slice(b":")?;
-    for i in 0..facts.length {
-        push_cell(alloc, text, facts.kind, cell_of(store, at, facts, i))?;
+    match aid_length(legend, store, at, facts) {
+        Some(long) => push_aid(alloc, text, store, at, facts, long),
+        None => push_cells(alloc, text, legend, store, at, facts),
+    }
+}
+
+// Whether an object is an OwnerPIN.
+fn is_pin(legend: &Legend, facts: Facts) -> bool
+    ensures { result ≡ is_pin legend.now facts }
+{
+    matches!(facts.kind, Kind::Instance)
+        && facts.length == PIN_CELLS
+        && facts.class() == legend.platform.class_word(PlatformClass::OwnerPin)
+}
+
+// How many bytes an AID has; none where an object is no AID, or has more than an AID can have.
+fn aid_length<S: WordStore>(legend: &Legend, store: &S, at: u16, facts: Facts) -> Option<u16>
+    requires bounds { has_bounds (S.words store.now) ≡ true }
+    requires record { IsRecord (S.words store.now) at }
+    requires object { object_in (item_at (S.words store.now) at) ≡ Some facts }
+    requires cells { length (cells_of (item_at (S.words store.now) at)) ≡ facts.length }
+    ensures length { result ≡ aid_length legend.now facts (cells_of (item_at (S.words store.now) at)) }
+    ensures cells { IfSome result (λ long. (long ≤ 16)
+        × (length (cells_of (item_at (S.words store.now) at)) ≡ 9)) }
+{
+    if !is_aid(legend, facts) {
+        return None;
+    }
+    let long = cell_of(store, at, facts, 0);
+    if long > MOST_AID {
+        return None;
+    }
+    Some(long)
+}
+
+// Whether an object is an AID.
+fn is_aid(legend: &Legend, facts: Facts) -> bool
+    ensures aid { result ≡ is_aid legend.now facts }
+    ensures cells { result ≡ true → facts.length ≡ 9 }
+{
+    matches!(facts.kind, Kind::Instance)
+        && facts.length == AID_CELLS
+        && facts.class() == legend.platform.class_word(PlatformClass::Aid)
+}
+
+// Writes the bytes of an AID, two of which stand in each cell behind the first.
+fn push_aid<S: WordStore>(
+    alloc: Global,
+    text: &mut Vec<u8>,
+    store: &S,
+    at: u16,
+    facts: Facts,
+    long: u16,
+) -> Result<(), AllocError>
+    requires bounds { has_bounds (S.words store.now) ≡ true }
+    requires record { IsRecord (S.words store.now) at }
+    requires object { object_in (item_at (S.words store.now) at) ≡ Some facts }
+    requires cells { length (cells_of (item_at (S.words store.now) at)) ≡ 9 }
+    requires long { long ≤ 16 }
+    ensures { OnOk result (text.new.items ≡ text.old.items
+        ++ aid_text (cells_of (item_at (S.words store.now) at)) long) }
+{
+    text.extend_from_slice(b": ")?;
+    for i in 0..long {
+        push_byte(alloc, text, cell_of(store, at, facts, 1 + i / 2), i)?;
     }
     Ok(())
 }
 
-// Whether an object is an OwnerPIN.
-fn is_pin(platform: &Platform, facts: Facts) -> bool
-    ensures { result ≡ is_pin platform.now facts }
+// Writes the byte of an index, of the two in its word.
+fn push_byte(alloc: Global, text: &mut Vec<u8>, word: u16, i: u16) -> Result<(), AllocError>
+    ensures { OnOk result (text.new.items ≡ text.old.items ++ byte_text word i) }
 {
-    matches!(facts.kind, Kind::Instance)
-        && facts.length == PIN_CELLS
-        && facts.class() == platform.class_word(PlatformClass::OwnerPin)
+    if i % 2 == 0 {
+        return push_hex(alloc, text, &[(word / 256) as u8]);
+    }
+    push_hex(alloc, text, &[(word % 256) as u8])
+}
+
+// Writes the cells of an object one after another.
+fn push_cells<S: WordStore>(
+    alloc: Global,
+    text: &mut Vec<u8>,
+    legend: &Legend,
+    store: &S,
+    at: u16,
+    facts: Facts,
+) -> Result<(), AllocError>
+    requires bounds { has_bounds (S.words store.now) ≡ true }
+    requires record { IsRecord (S.words store.now) at }
+    requires object { object_in (item_at (S.words store.now) at) ≡ Some facts }
+    requires cells { length (cells_of (item_at (S.words store.now) at)) ≡ facts.length }
+    ensures { OnOk result (text.new.items ≡ text.old.items
+        ++ cells_text legend.now facts (cells_of (item_at (S.words store.now) at))) }
+{
+    text.extend_from_slice(b":")?;
+    for i in 0..facts.length {
+        push_cell(alloc, text, legend, facts, i, cell_of(store, at, facts, i))?;
+    }
+    Ok(())
 }
 
 // Writes the fields of an OwnerPIN.
@@ -266,26 +365,46 @@ fn push_pin<S: WordStore>(
     push_reference(text, cell_of(store, at, facts, 4))
 }
 
-// Writes a cell of an object of this kind.
-fn push_cell(alloc: Global, text: &mut Vec<u8>, kind: Kind, cell: u16) -> Result<(), AllocError>
-    ensures { OnOk result (text.new.items ≡ text.old.items ++ cell_text kind cell) }
+// Writes a cell of an object.
+fn push_cell(
+    alloc: Global,
+    text: &mut Vec<u8>,
+    legend: &Legend,
+    facts: Facts,
+    i: u16,
+    cell: u16,
+) -> Result<(), AllocError>
+    ensures { OnOk result (text.new.items ≡ text.old.items ++ cell_text legend.now facts i cell) }
 {
     text.extend_from_slice(b" ")?;
-    push_value(alloc, text, kind, cell)
+    push_value(alloc, text, legend, facts, i, cell)
 }
 
-/// Writes what stands in a cell of an object of this kind.
+/// Writes what stands in the cell with a number of an object.
 pub(crate) fn push_value(
     alloc: Global,
     text: &mut Vec<u8>,
-    kind: Kind,
+    legend: &Legend,
+    facts: Facts,
+    i: u16,
     cell: u16,
 ) -> Result<(), AllocError>
-    ensures { OnOk result (text.new.items ≡ text.old.items ++ value_text kind cell) }
+    ensures { OnOk result (text.new.items ≡ text.old.items ++ value_text legend.now facts i cell) }
 {
-    match kind {
+    match facts.kind {
         Kind::BooleanArray | Kind::ByteArray => push_hex(alloc, text, &[(cell % 256) as u8]),
         Kind::ReferenceArray => push_reference(text, cell),
-        Kind::Instance | Kind::ShortArray => push_number(text, cell),
+        Kind::ShortArray => push_short(text, cell),
+        Kind::Instance => push_field(text, legend.holds_reference(facts.class(), i), cell),
     }
+}
+
+// Writes what stands in a field: a reference or a short.
+fn push_field(text: &mut Vec<u8>, is_reference: bool, cell: u16) -> Result<(), AllocError>
+    ensures { OnOk result (text.new.items ≡ text.old.items ++ field_text is_reference cell) }
+{
+    if is_reference {
+        return push_reference(text, cell);
+    }
+    push_short(text, cell)
 }

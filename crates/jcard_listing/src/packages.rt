@@ -5,10 +5,11 @@ ghost use Rattle.jc_heap.specs.Components.{words_for};
 ghost use Rattle.jc_records.specs.Bounds.{has_bounds};
 ghost use Rattle.jc_records.specs.Records.{IsRecord, record_size, record_words};
 ghost use Rattle.jcard_listing.specs.Fault.{Lists, each_line};
-ghost use Rattle.jcard_listing.specs.Packages.{component_bytes, component_text, head_text, image_text, image_word_text, package_lines, parts_lines, record_at, record_from, record_lines};
+ghost use Rattle.jcard_listing.specs.Packages.{component_bytes, component_text, head_text, image_text, package_lines, parts_lines, record_at, record_from, record_lines, static_text};
 
 use crate::fault::ListFault;
-use crate::texts::{push_labelled, push_number, push_word};
+use crate::texts::{push_labelled, push_number, push_reference, push_word};
+use jc_objects::legend::Legend;
 use jc_records::bounds::first_record;
 use jc_records::records::whole_size;
 use jc_words::WordStore;
@@ -26,15 +27,17 @@ struct Record {
 pub(crate) fn push_packages<S: WordStore>(
     alloc: Global,
     text: &mut Vec<u8>,
+    legend: &Legend,
     store: &S,
 ) -> Result<(), ListFault>
     requires { has_bounds (S.words store.now) ≡ true }
-    ensures { Lists text.old.items text.new.items (each_line (package_lines (S.words store.now))
+    ensures { Lists text.old.items text.new.items (each_line
+        (package_lines legend.now (S.words store.now))
         (slice_index (S.words store.now) packages_address)) result }
 {
     let count = store.read(PACKAGES);
     for i in 0..count {
-        push_package(alloc, text, store, i)?;
+        push_package(alloc, text, legend, store, i)?;
     }
     Ok(())
 }
@@ -43,18 +46,19 @@ pub(crate) fn push_packages<S: WordStore>(
 pub(crate) fn push_package<S: WordStore>(
     alloc: Global,
     text: &mut Vec<u8>,
+    legend: &Legend,
     store: &S,
     before: u16,
 ) -> Result<(), ListFault>
     requires bounds { has_bounds (S.words store.now) ≡ true }
     requires number { before < 65535 }
     ensures { Lists text.old.items text.new.items
-        (package_lines (S.words store.now) (before + 1)) result }
+        (package_lines legend.now (S.words store.now) (before + 1)) result }
 {
     let Some(found) = record_at(store, before) else {
         return Err(ListFault::Unreadable);
     };
-    push_record(alloc, text, store, before + 1, found)
+    push_record(alloc, text, legend, store, before + 1, found)
 }
 
 // Where the record of the package behind so many others stands, if its words lie in the heap.
@@ -87,6 +91,7 @@ fn record_from<S: WordStore>(store: &S, at: u16) -> Option<Record>
 fn push_record<S: WordStore>(
     alloc: Global,
     text: &mut Vec<u8>,
+    legend: &Legend,
     store: &S,
     number: u16,
     found: Record,
@@ -94,10 +99,10 @@ fn push_record<S: WordStore>(
     requires bounds { has_bounds (S.words store.now) ≡ true }
     requires record { IsRecord (S.words store.now) found.at }
     requires size { found.size ≡ record_size (S.words store.now) found.at }
-    ensures { Lists text.old.items text.new.items (record_lines (S.words store.now) number found) result }
+    ensures { Lists text.old.items text.new.items (record_lines legend.now (S.words store.now) number found) result }
 {
     push_head(text, number, found)?;
-    let told = push_parts(alloc, text, store, found);
+    let told = push_parts(alloc, text, legend.static_references(number), store, found);
     text.extend_from_slice(b"\n")?;
     told
 }
@@ -111,10 +116,11 @@ fn push_head(text: &mut Vec<u8>, number: u16, found: Record) -> Result<(), Alloc
     push_labelled(text, b"", found.size, b" words, components")
 }
 
-// Writes the components of a record, and its static image.
+// Writes the components of a record, and its static image, which begins with so many references.
 fn push_parts<S: WordStore>(
     alloc: Global,
     text: &mut Vec<u8>,
+    references: u16,
     store: &S,
     found: Record,
 ) -> Result<(), ListFault>
@@ -122,7 +128,7 @@ fn push_parts<S: WordStore>(
     requires record { IsRecord (S.words store.now) found.at }
     requires size { found.size ≡ record_size (S.words store.now) found.at }
     ensures { Lists text.old.items text.new.items
-        (parts_lines (record_words (S.words store.now) found.at)) result }
+        (parts_lines references (record_words (S.words store.now) found.at)) result }
 {
     let _ = store.size(); // so that the proof knows that there are fewer than 65,536 words
     let mut offset = 1;
@@ -131,7 +137,7 @@ fn push_parts<S: WordStore>(
         let left = found.size - offset;
         let tag = store.read(at);
         if tag == 0 {
-            push_image(alloc, text, store, at + 1, left - 1)?;
+            push_image(alloc, text, references, store, at + 1, left - 1)?;
             return Ok(());
         }
         let Some(bytes) = component_bytes(store, at, left) else {
@@ -174,30 +180,39 @@ fn push_component(text: &mut Vec<u8>, tag: u16, bytes: u16) -> Result<(), AllocE
     push_number(text, bytes)
 }
 
-// Writes so many words of a static image, from an address on.
+// Writes so many words of a static image, from an address on, the first as references.
 fn push_image<S: WordStore>(
     alloc: Global,
     text: &mut Vec<u8>,
+    references: u16,
     store: &S,
     at: u16,
     count: u16,
 ) -> Result<(), AllocError>
     requires { at + count ≤ length (S.words store.now) }
     ensures { OnOk result (text.new.items ≡ text.old.items
-        ++ image_text (take count (drop at (S.words store.now)))) }
+        ++ image_text references (take count (drop at (S.words store.now)))) }
 {
     let _ = store.size(); // so that the proof knows that there are fewer than 65,536 words
     text.extend_from_slice(b", static image")?;
     for i in 0..count {
-        push_image_word(alloc, text, store.read(at + i))?;
+        push_static(alloc, text, i < references, store.read(at + i))?;
     }
     Ok(())
 }
 
-// Writes a word of a static image.
-fn push_image_word(alloc: Global, text: &mut Vec<u8>, word: u16) -> Result<(), AllocError>
-    ensures { OnOk result (text.new.items ≡ text.old.items ++ image_word_text word) }
+// Writes a word of a static image: a reference, or two bytes.
+fn push_static(
+    alloc: Global,
+    text: &mut Vec<u8>,
+    is_reference: bool,
+    word: u16,
+) -> Result<(), AllocError>
+    ensures { OnOk result (text.new.items ≡ text.old.items ++ static_text is_reference word) }
 {
     text.extend_from_slice(b" ")?;
+    if is_reference {
+        return push_reference(text, word);
+    }
     push_word(alloc, text, word)
 }

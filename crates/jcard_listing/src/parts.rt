@@ -15,7 +15,7 @@ use crate::names::{push_applet_name, push_package_name};
 use crate::packages::push_package;
 use crate::pairs::{listing_by, push_pair};
 use crate::texts::push_labelled;
-use jc_platform::platform::Platform;
+use jc_objects::legend::Legend;
 use jc_words::layout::{APPLETS, COUNT, PACKAGES};
 use jc_words::{Log, WordStore};
 use std::alloc::{AllocError, Global};
@@ -42,21 +42,21 @@ pub(crate) fn push_part<S: WordStore>(
     alloc: Global,
     text: &mut Vec<u8>,
     part: Part,
-    platform: &Platform,
+    legend: &Legend,
     store: &S,
-    others: &Platform,
+    others: &Legend,
     other: &S,
 ) -> Result<(), ListFault>
     requires size { HasSize (S.words store.now) }
     requires bounds { has_bounds (S.words store.now) ≡ true }
     requires other_size { HasSize (S.words other.now) }
     requires other_bounds { has_bounds (S.words other.now) ≡ true }
-    ensures { Lists text.old.items text.new.items (part_lines part platform.now others.now
+    ensures { Lists text.old.items text.new.items (part_lines part legend.now others.now
         (S.words store.now) (S.words other.now)) result }
 {
     let count = larger(part_count(part, store), part_count(part, other));
     for i in 0..count {
-        push_pair_at(alloc, text, part, platform, store, others, other, i)?;
+        push_pair_at(alloc, text, part, legend, store, others, other, i)?;
     }
     Ok(())
 }
@@ -85,9 +85,9 @@ fn push_pair_at<S: WordStore>(
     alloc: Global,
     text: &mut Vec<u8>,
     part: Part,
-    platform: &Platform,
+    legend: &Legend,
     store: &S,
-    others: &Platform,
+    others: &Legend,
     other: &S,
     before: u16,
 ) -> Result<(), ListFault>
@@ -96,10 +96,10 @@ fn push_pair_at<S: WordStore>(
     requires other_size { HasSize (S.words other.now) }
     requires other_bounds { has_bounds (S.words other.now) ≡ true }
     requires number { before < 65535 }
-    ensures { Lists text.old.items text.new.items (pair_at part platform.now others.now
+    ensures { Lists text.old.items text.new.items (pair_at part legend.now others.now
         (S.words store.now) (S.words other.now) (before + 1)) result }
 {
-    let one_line = line_among(alloc, part, platform, store, before)?;
+    let one_line = line_among(alloc, part, legend, store, before)?;
     let other_line = line_among(alloc, part, others, other, before)?;
     push_pair(text, &one_line, &other_line)
 }
@@ -108,7 +108,7 @@ fn push_pair_at<S: WordStore>(
 fn line_among<S: WordStore>(
     alloc: Global,
     part: Part,
-    platform: &Platform,
+    legend: &Legend,
     store: &S,
     before: u16,
 ) -> Result<Listing, AllocError>
@@ -116,7 +116,7 @@ fn line_among<S: WordStore>(
     requires bounds { has_bounds (S.words store.now) ≡ true }
     requires number { before < 65535 }
     ensures { IfOk result (λ found. lines_of found
-        ≡ line_among part platform.now (S.words store.now) (before + 1)) }
+        ≡ line_among part legend.now (S.words store.now) (before + 1)) }
 {
     let mut text = Vec::new(alloc);
     if before >= part_count(part, store) {
@@ -125,7 +125,7 @@ fn line_among<S: WordStore>(
             readable: true,
         });
     }
-    let told = push_line(alloc, &mut text, part, platform, store, before);
+    let told = push_line(alloc, &mut text, part, legend, store, before);
     listing_by(text, told)
 }
 
@@ -134,7 +134,7 @@ fn push_line<S: WordStore>(
     alloc: Global,
     text: &mut Vec<u8>,
     part: Part,
-    platform: &Platform,
+    legend: &Legend,
     store: &S,
     before: u16,
 ) -> Result<(), ListFault>
@@ -142,7 +142,7 @@ fn push_line<S: WordStore>(
     requires bounds { has_bounds (S.words store.now) ≡ true }
     requires number { before < 65535 }
     ensures { Lists text.old.items text.new.items
-        (part_line part platform.now (S.words store.now) (before + 1)) result }
+        (part_line part legend.now (S.words store.now) (before + 1)) result }
 {
     match part {
         Part::Sizes => {
@@ -151,8 +151,8 @@ fn push_line<S: WordStore>(
         }
         Part::Packages => push_package_name(alloc, text, store, before + 1),
         Part::Applets => push_applet_name(alloc, text, store, before + 1),
-        Part::Entries => push_entry_at(alloc, text, platform, store, before),
-        Part::Records => push_package(alloc, text, store, before),
+        Part::Entries => push_entry_at(alloc, text, &legend.platform, store, before),
+        Part::Records => push_package(alloc, text, legend, store, before),
         Part::Registrations => push_applet_at(text, store, before),
     }
 }

@@ -1,19 +1,43 @@
-//! The platform that the table text of an image tells.
+//! The platform that the table text of an image tells, and its packages.
 ghost use Rattle.std.specs.Prelude.{◌≡◌, ◌+◌, ◌<◌, ◌/◌, IfOk, true, length};
 ghost use Rattle.jc_words.specs.Layout.{text_start};
 ghost use Rattle.jc_heap.specs.Image.{table_text, text_byte};
 ghost use Rattle.jc_records.specs.Bounds.{has_bounds};
-ghost use Rattle.jcard_listing.specs.Table.{IsPlatformIn, IsPlatformOf};
+ghost use Rattle.jcard_listing.specs.Table.{IsLegendFor, IsPlatformIn, IsPlatformOf};
 
 use crate::fault::ListFault;
+use jc_objects::legend::{self, Legend};
 use jc_platform::platform::Platform;
 use jc_platform::read::{LARGEST_TEXT, read_table};
 use jc_words::WordStore;
 use jc_words::layout::{TEXT_LENGTH, TEXT_START};
 use std::alloc::{AllocError, Global};
 
-/// The platform of an image; nothing more can be read where its table text is no table.
-pub(crate) fn platform_of<S: WordStore>(alloc: Global, store: &S) -> Result<Platform, ListFault>
+/// By what the cells of objects are told; nothing more can be read where the table text is no table.
+pub(crate) fn legend_of<S: WordStore>(alloc: Global, store: &S) -> Result<Legend, ListFault>
+    requires { has_bounds (S.words store.now) ≡ true }
+    ensures { IsLegendFor (S.words store.now) result }
+{
+    let platform = platform_of(alloc, store)?;
+    let words = words_of(alloc, store)?;
+    let legend = legend::legend_of(alloc, platform, words)?;
+    Ok(legend)
+}
+
+// The words of a store.
+fn words_of<S: WordStore>(alloc: Global, store: &S) -> Result<Vec<u16>, AllocError>
+    ensures { IfOk result (λ words. words.items ≡ S.words store.now) }
+{
+    let count = store.size();
+    let mut words = Vec::new(alloc);
+    for i in 0..count {
+        words.push(store.read(i))?;
+    }
+    Ok(words)
+}
+
+// The platform of an image.
+fn platform_of<S: WordStore>(alloc: Global, store: &S) -> Result<Platform, ListFault>
     requires { has_bounds (S.words store.now) ≡ true }
     ensures { IsPlatformOf (S.words store.now) result }
 {

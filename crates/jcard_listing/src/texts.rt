@@ -1,7 +1,7 @@
 //! Numbers, references and bytes behind a text.
 ghost use Rattle.std.specs.Prelude.{◌≡◌, ◌++◌, ◌/◌, ◌%◌, decimal, OnOk};
 ghost use Rattle.hex.specs.Hex.{encode_upper};
-ghost use Rattle.jcard_listing.specs.Texts.{labelled_text, reference_text, word_text};
+ghost use Rattle.jcard_listing.specs.Texts.{labelled_text, reference_text, short_text, word_text};
 
 use itoa::Buffer;
 use std::alloc::{AllocError, Global};
@@ -12,6 +12,14 @@ pub(crate) fn push_number(text: &mut Vec<u8>, number: u16) -> Result<(), AllocEr
 {
     let mut digits = Buffer::new();
     text.extend_from_slice(digits.format(number).as_bytes())
+}
+
+/// Writes a short in decimal digits, with its sign.
+pub(crate) fn push_short(text: &mut Vec<u8>, word: u16) -> Result<(), AllocError>
+    ensures { OnOk result (text.new.items ≡ text.old.items ++ short_text word) }
+{
+    let mut digits = Buffer::new();
+    text.extend_from_slice(digits.format(word.cast_signed()).as_bytes())
 }
 
 /// Writes a number between two texts.

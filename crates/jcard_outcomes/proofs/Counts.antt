@@ -1,7 +1,7 @@
 -- Steps of the counts over all cuts.
 use Rattle.std.proofs.Common.{◌≡◌, ◌∙◌, ℕ, ◌+◌, ◌<◌, ◌≤◌, ◌||◌, if◌then◌else◌, true, false, List, length, get_or, drop, ap, Some, None}
 use Rattle.std.proofs.lemmas.List.{drop_all}
-use Rattle.jcard_outcomes.specs.Reports.{any_but_tries, count_before, first_broken, is_after, is_before, is_but_tries}
+use Rattle.jcard_outcomes.specs.Reports.{any_but_tries, broken_by_calls, count_before, first_broken, is_after, is_before, is_but_tries, is_by_calls}
 use Rattle.jcard_outcomes.specs.declared.standing.Cut.{Cut}
 use Rattle.jcard_outcomes.proofs.Items.{drop_at}
 
@@ -53,3 +53,20 @@ broken_passed cuts k i c h e y = ap (first_broken k) (drop_at cuts i c h e)
 pub broken_end : (cuts : List Cut) (k i : ℕ) → length cuts ≤ i → first_broken k (drop i cuts) ≡ None
 unfolding first_broken
 broken_end cuts k i h = ap (first_broken k) (drop_all i cuts h)
+
+-- whether it was changed by non-atomic calls
+pub by_calls_found : (cuts : List Cut) (i : ℕ) (c : Cut) → i < length cuts → c ≡ get_or cuts i c
+    → (is_before c.standing || is_after c.standing) ≡ false → broken_by_calls (drop i cuts) ≡ is_by_calls c.standing
+unfolding broken_by_calls
+by_calls_found cuts i c h e n = ap broken_by_calls (drop_at cuts i c h e)
+    ∙ ap (λ b. if b then broken_by_calls (drop (i + 1) cuts) else is_by_calls c.standing) n
+
+pub by_calls_passed : (cuts : List Cut) (i : ℕ) (c : Cut) → i < length cuts → c ≡ get_or cuts i c
+    → (is_before c.standing || is_after c.standing) ≡ true → broken_by_calls (drop i cuts) ≡ broken_by_calls (drop (i + 1) cuts)
+unfolding broken_by_calls
+by_calls_passed cuts i c h e y = ap broken_by_calls (drop_at cuts i c h e)
+    ∙ ap (λ b. if b then broken_by_calls (drop (i + 1) cuts) else is_by_calls c.standing) y
+
+pub by_calls_end : (cuts : List Cut) (i : ℕ) → length cuts ≤ i → broken_by_calls (drop i cuts) ≡ false
+unfolding broken_by_calls
+by_calls_end cuts i h = ap broken_by_calls (drop_all i cuts h)

@@ -7,17 +7,17 @@ use Rattle.std.specs.Str.{bytes_eq}
 use Rattle.std.proofs.lemmas.List.{append_cancel_left, length-drop, length-map, length-replicate}
 use Rattle.std.proofs.lemmas.List.Elements.{All-cons, All-head, All-nil, All-tail}
 use Rattle.jcard_outcomes.specs.Joins.{IsAnswerTold, IsTellable, IsUncutTold, TellCuts, joined_text}
-use Rattle.jcard_outcomes.specs.Parts.{IsCutOfWords, IsReadCut, cut_tail, has, told_cut, told_sweep, told_uncut}
-use Rattle.jcard_outcomes.specs.Reports.{any_but_tries, count_before, first_broken, in_line, is_after, is_before, is_but_tries, is_refused, is_refused_at_once, lost_text, most_lost_from, no_write_text, outcome_text, report_text, row_text, rows_from, rows_text, standing_text, uncut_text, verdict_by, verdict_text, whole_text}
+use Rattle.jcard_outcomes.specs.Parts.{IsCutOfWords, IsOfWords, IsReadCut, cut_tail, has, told_cut, told_sweep, told_uncut}
+use Rattle.jcard_outcomes.specs.Reports.{any_but_tries, broken_by_calls, broken_text, count_before, first_broken, in_line, is_after, is_before, is_but_tries, is_by_calls, is_refused, is_refused_at_once, lost_text, most_lost_from, no_write_text, outcome_text, report_text, row_text, rows_from, rows_text, standing_text, uncut_text, verdict_by, verdict_text, whole_text}
 use Rattle.jcard_outcomes.specs.Recoveries.{recoveries_text}
 use Rattle.jcard_outcomes.specs.declared.recoveries.Depth.TheVariants.{Zero}
 use Rattle.jcard_outcomes.specs.declared.report.Sweep.{Sweep}
 use Rattle.jcard_outcomes.specs.declared.standing.Cut.{Cut}
 use Rattle.jcard_outcomes.specs.declared.standing.Standing.{Standing}
-use Rattle.jcard_outcomes.specs.declared.standing.Standing.TheVariants.{Before, BeforeButTries, After, AfterButTries, Answers, Changed}
+use Rattle.jcard_outcomes.specs.declared.standing.Standing.TheVariants.{Before, BeforeButTries, After, AfterButTries, Answers, Changed, ChangedByCalls}
 use Rattle.jcard_outcomes.proofs.Dealt.{from_next}
 use Rattle.jcard_outcomes.proofs.Splits.{cut_unique, decimal_lacks}
-use Rattle.jcard_outcomes.proofs.Told.{answer_of_uncut, answer_unique, standing_has_no_comma, told_parts}
+use Rattle.jcard_outcomes.proofs.Told.{answer_of_uncut, answer_unique, by_calls_told, standing_has_no_comma, told_parts}
 
 -- ---- one cut
 
@@ -29,6 +29,7 @@ before_told After = refl
 before_told AfterButTries = refl
 before_told Answers = refl
 before_told (Changed d) = refl
+before_told (ChangedByCalls d) = refl
 
 after_told : (s : Standing) → is_after s ≡ (bytes_eq (standing_text s) (codes "as after") || bytes_eq (standing_text s) (codes "as after but for PIN tries"))
 after_told Before = refl
@@ -37,6 +38,7 @@ after_told After = refl
 after_told AfterButTries = refl
 after_told Answers = refl
 after_told (Changed d) = refl
+after_told (ChangedByCalls d) = refl
 
 tries_told : (s : Standing) → is_but_tries s
     ≡ (bytes_eq (standing_text s) (codes "as before but for PIN tries") || bytes_eq (standing_text s) (codes "as after but for PIN tries"))
@@ -46,6 +48,7 @@ tries_told After = refl
 tries_told AfterButTries = refl
 tries_told Answers = refl
 tries_told (Changed d) = refl
+tries_told (ChangedByCalls d) = refl
 
 before_alike : (a b : Standing) → standing_text a ≡ standing_text b → is_before a ≡ is_before b
 before_alike a b e = before_told a
@@ -58,10 +61,14 @@ tries_alike : (a b : Standing) → standing_text a ≡ standing_text b → is_bu
 tries_alike a b e = tries_told a
     ∙ ap (λ t. bytes_eq t (codes "as before but for PIN tries") || bytes_eq t (codes "as after but for PIN tries")) e ∙ sym (tries_told b)
 
+calls_alike : (a b : Standing) → standing_text a ≡ standing_text b → IsOfWords a → IsOfWords b → is_by_calls a ≡ is_by_calls b
+calls_alike a b e p q = sym (by_calls_told a p) ∙ ap (has 45) e ∙ by_calls_told b q
+
 -- two cuts leave the same
 record Alike (a b : Cut) : Type 0 where
   standing : standing_text a.standing ≡ standing_text b.standing
   lost : a.lost ≡ b.lost
+  by_calls : is_by_calls a.standing ≡ is_by_calls b.standing
   outcome : outcome_text a ≡ outcome_text b
 
 tails_alike : (m n : ℕ) (x y : List ℕ) → m < 65536 → n < 65536 → cut_tail m x ≡ cut_tail n y → (m ≡ n) × (x ≡ y)
@@ -78,10 +85,11 @@ unfolding outcome_text
 alike a b e p q =
     let parts = cut_unique 44 (standing_text a.standing) (standing_text b.standing) (cut_tail a.lost (in_line a.answers.items))
     (cut_tail b.lost (in_line b.answers.items)) p.0 q.0 (sym (told_parts a) ∙ e ∙ told_parts b) in
-    let tails = tails_alike a.lost b.lost (in_line a.answers.items) (in_line b.answers.items) p.1 q.1 parts.1 in
+    let tails = tails_alike a.lost b.lost (in_line a.answers.items) (in_line b.answers.items) p.1.1 q.1.1 parts.1 in
     record {
       standing = parts.0;
       lost = tails.0;
+      by_calls = calls_alike a.standing b.standing parts.0 p.1.0 q.1.0;
       outcome = ap (λ l. l ++ standing_text a.standing ++ lost_text a.lost) tails.1
           ∙ ap (λ l. in_line b.answers.items ++ l ++ lost_text a.lost) parts.0
           ∙ ap (λ n. in_line b.answers.items ++ standing_text b.standing ++ lost_text n) tails.0;
@@ -152,6 +160,17 @@ broken_alike (c ∷ cs) (d ∷ ds) h k =
     ∙ ap (λ x. if is_before d.standing || x then first_broken (k + 1) cs else Some k) (after_alike c.standing d.standing h.0.standing)
     ∙ ap (λ r. if is_before d.standing || is_after d.standing then r else Some k) (broken_alike cs ds h.1 (k + 1))
 
+broken_calls_alike : (cs ds : List Cut) → AreAlike cs ds → broken_by_calls cs ≡ broken_by_calls ds
+unfolding broken_by_calls
+broken_calls_alike [] [] h = refl
+broken_calls_alike [] (d ∷ ds) h = absurd h
+broken_calls_alike (c ∷ cs) [] h = absurd h
+broken_calls_alike (c ∷ cs) (d ∷ ds) h =
+    ap (λ x. if x || is_after c.standing then broken_by_calls cs else is_by_calls c.standing) (before_alike c.standing d.standing h.0.standing)
+    ∙ ap (λ x. if is_before d.standing || x then broken_by_calls cs else is_by_calls c.standing) (after_alike c.standing d.standing h.0.standing)
+    ∙ ap (λ r. if is_before d.standing || is_after d.standing then r else is_by_calls c.standing) (broken_calls_alike cs ds h.1)
+    ∙ ap (λ r. if is_before d.standing || is_after d.standing then broken_by_calls ds else r) h.0.by_calls
+
 lengths_alike : (cs ds : List Cut) → AreAlike cs ds → length cs ≡ length ds
 lengths_alike [] [] h = refl
 lengths_alike [] (d ∷ ds) h = absurd h
@@ -166,7 +185,7 @@ most_alike (c ∷ cs) [] h n = absurd h
 most_alike (c ∷ cs) (d ∷ ds) h n = ap (λ l. most_lost_from (max n l) cs) h.0.lost ∙ most_alike cs ds h.1 (max n d.lost)
 
 verdict_alike : (f : Option ℕ) (cs ds : List Cut) → AreAlike cs ds → verdict_by f cs ≡ verdict_by f ds
-verdict_alike (Some k) cs ds h = refl
+verdict_alike (Some k) cs ds h = ap (λ b. broken_text b k) (broken_calls_alike cs ds h)
 verdict_alike None cs ds h = ap (λ n. whole_text n (count_before cs) (any_but_tries cs) (most_lost_from 0 cs)) (lengths_alike cs ds h)
     ∙ ap (λ n. whole_text (length ds) n (any_but_tries cs) (most_lost_from 0 cs)) (counts_alike cs ds h)
     ∙ ap (λ t. whole_text (length ds) (count_before ds) t (most_lost_from 0 cs)) (any_alike cs ds h)
@@ -248,7 +267,7 @@ read_cuts : (cuts : List Cut) → All IsCutOfWords cuts → All IsReadCut cuts
 read_cuts [] w = All-nil IsReadCut
 read_cuts (c ∷ cuts) w =
     let one = All-head IsCutOfWords c cuts w in
-    All-cons IsReadCut c cuts (standing_has_no_comma c.standing one.0, one.1) (read_cuts cuts (All-tail IsCutOfWords c cuts w))
+    All-cons IsReadCut c cuts (standing_has_no_comma c.standing one.0, one) (read_cuts cuts (All-tail IsCutOfWords c cuts w))
 
 -- the lines behind those that tell the cuts of a sweep tell its answer
 pub uncut_is : (s : Sweep) (lines : List (List ℕ)) (n : ℕ) (cuts : List Cut) (uncut : List ℕ) → 0 < n

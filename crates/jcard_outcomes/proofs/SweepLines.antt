@@ -10,7 +10,7 @@ use Rattle.jcard_outcomes.specs.Reports.{in_line, standing_text}
 use Rattle.jcard_outcomes.specs.declared.standing.Cut.{Cut}
 use Rattle.jcard_outcomes.proofs.Told.{told_parts}
 use Rattle.jcard_outcomes.specs.declared.standing.Standing.{Standing}
-use Rattle.jcard_outcomes.specs.declared.standing.Standing.TheVariants.{Before, BeforeButTries, After, AfterButTries, Answers, Changed}
+use Rattle.jcard_outcomes.specs.declared.standing.Standing.TheVariants.{Before, BeforeButTries, After, AfterButTries, Answers, Changed, ChangedByCalls}
 
 pub cut_at : (whole : List Cut) (a b : ℕ) → a ≡ b → slice_get whole a ≡ slice_get whole b
 cut_at whole a b e = ap (slice_get whole) e
@@ -76,6 +76,7 @@ first_byte After rest e = absurd (omega (arith, e))
 first_byte AfterButTries rest e = absurd (omega (arith, e))
 first_byte Answers rest e = absurd (omega (arith, e))
 first_byte (Changed d) rest e = absurd (omega (arith, e))
+first_byte (ChangedByCalls d) rest e = absurd (omega (arith, e))
 
 -- no cut is told so
 pub cut_is_no_end : (c : Cut) → IsUncutTold (told_cut c) → ⊥

@@ -1,14 +1,16 @@
 -- What a line tells of a cut is told of no other one.
-use Rattle.std.proofs.Common.{arith, ◌≡◌, inl, ◌∙◌, ℕ, ◌<◌, ◌==◌, ◌||◌, Bool, true, false, List, [], ◌∷◌, ◌++◌, if◌then◌else◌, ap, sym, refl, codes, decimal, append_assoc}
+use Rattle.std.proofs.Common.{arith, ◌≡◌, inl, ◌∙◌, ℕ, ◌<◌, ◌==◌, ◌||◌, Bool, true, false, List, [], ◌∷◌, ◌++◌, if◌then◌else◌, ap, sym, refl, length, drop, ◌-◌, codes, decimal, append_assoc, Option, Some, None}
+use Rattle.std.specs.Prelude.{MatchOption}
 use Rattle.std.proofs.lemmas.Bool.{false≢true}
+use Rattle.std.proofs.lemmas.List.{append_cancel_right, length-append}
 use Rattle.std.proofs.lemmas.List.Folds.{list_any-append}
 use Rattle.jcard_outcomes.specs.Joins.{IsAnswerTold}
 use Rattle.jcard_outcomes.specs.Parts.{AreWords, IsCutOfWords, IsOfWords, cut_tail, has, told_cut, told_uncut}
-use Rattle.jcard_outcomes.specs.Reports.{in_line, standing_text}
+use Rattle.jcard_outcomes.specs.Reports.{changed_text, in_line, is_by_calls, standing_text}
 use Rattle.jcard_outcomes.specs.declared.heaps.Difference.{Difference}
 use Rattle.jcard_outcomes.specs.declared.standing.Cut.{Cut}
 use Rattle.jcard_outcomes.specs.declared.standing.Standing.{Standing}
-use Rattle.jcard_outcomes.specs.declared.standing.Standing.TheVariants.{Before, BeforeButTries, After, AfterButTries, Answers, Changed}
+use Rattle.jcard_outcomes.specs.declared.standing.Standing.TheVariants.{Before, BeforeButTries, After, AfterButTries, Answers, Changed, ChangedByCalls}
 use Rattle.jcard_outcomes.proofs.Splits.{cut_again, cut_unique, decimal_lacks, not_lacking, rest_again}
 
 -- ---- words behind labels
@@ -36,60 +38,71 @@ word_again text label n m rest more small fits e f =
 
 -- ---- differences
 
-pub changed_text : (d : Difference) → standing_text (Changed d)
+pub changed_parts : (d : Difference) → changed_text d
     ≡ codes "changed: word " ++ (decimal d.address ++ 32 ∷ (codes "was " ++ (decimal d.before ++ 32 ∷ (codes "and is " ++ decimal d.now))))
-changed_text d = ap (λ t. codes "changed: word " ++ t) (append_assoc (decimal d.address) (codes " was " ++ decimal d.before) (codes " and is " ++ decimal d.now))
+changed_parts d = ap (λ t. codes "changed: word " ++ t) (append_assoc (decimal d.address) (codes " was " ++ decimal d.before) (codes " and is " ++ decimal d.now))
 
 -- the first word lacks
 pub no_address : (text : List ℕ) → ((n : ℕ) (rest : List ℕ) → n < 65536 → text ≡ codes "changed: word " ++ (decimal n ++ 32 ∷ rest) → ⊥)
-    → (d : Difference) → AreWords d → text ≡ standing_text (Changed d) → ⊥
-no_address text none d words e = none d.address _ words.0 (e ∙ changed_text d)
+    → (d : Difference) → AreWords d → text ≡ changed_text d → ⊥
+no_address text none d words e = none d.address _ words.0 (e ∙ changed_parts d)
 
 behind_address : (text : List ℕ) (a : ℕ) (rest : List ℕ) → a < 65536 → text ≡ codes "changed: word " ++ (decimal a ++ 32 ∷ rest)
-    → (d : Difference) → AreWords d → text ≡ standing_text (Changed d) → rest ≡ codes "was " ++ (decimal d.before ++ 32 ∷ (codes "and is " ++ decimal d.now))
-behind_address text a rest small f d words e = word_again text (codes "changed: word ") a d.address rest _ small words.0 f (e ∙ changed_text d)
+    → (d : Difference) → AreWords d → text ≡ changed_text d → rest ≡ codes "was " ++ (decimal d.before ++ 32 ∷ (codes "and is " ++ decimal d.now))
+behind_address text a rest small f d words e = word_again text (codes "changed: word ") a d.address rest _ small words.0 f (e ∙ changed_parts d)
 
 pub no_before : (text : List ℕ) (a : ℕ) (rest : List ℕ) → a < 65536 → text ≡ codes "changed: word " ++ (decimal a ++ 32 ∷ rest)
     → ((n : ℕ) (more : List ℕ) → n < 65536 → rest ≡ codes "was " ++ (decimal n ++ 32 ∷ more) → ⊥)
-    → (d : Difference) → AreWords d → text ≡ standing_text (Changed d) → ⊥
+    → (d : Difference) → AreWords d → text ≡ changed_text d → ⊥
 no_before text a rest small f none d words e = none d.before _ words.1 (behind_address text a rest small f d words e)
 
 behind_before : (text : List ℕ) (a : ℕ) (rest : List ℕ) (b : ℕ) (more : List ℕ) → a < 65536 → b < 65536
     → text ≡ codes "changed: word " ++ (decimal a ++ 32 ∷ rest) → rest ≡ codes "was " ++ (decimal b ++ 32 ∷ more)
-    → (d : Difference) → AreWords d → text ≡ standing_text (Changed d) → more ≡ codes "and is " ++ decimal d.now
+    → (d : Difference) → AreWords d → text ≡ changed_text d → more ≡ codes "and is " ++ decimal d.now
 behind_before text a rest b more small fits f g d words e =
     word_again rest (codes "was ") b d.before more _ fits words.1 g (behind_address text a rest small f d words e)
 
 pub no_is : (text : List ℕ) (a : ℕ) (rest : List ℕ) (b : ℕ) (more : List ℕ) → a < 65536 → b < 65536
     → text ≡ codes "changed: word " ++ (decimal a ++ 32 ∷ rest) → rest ≡ codes "was " ++ (decimal b ++ 32 ∷ more)
-    → ((end : List ℕ) → more ≡ codes "and is " ++ end → ⊥) → (d : Difference) → AreWords d → text ≡ standing_text (Changed d) → ⊥
+    → ((end : List ℕ) → more ≡ codes "and is " ++ end → ⊥) → (d : Difference) → AreWords d → text ≡ changed_text d → ⊥
 no_is text a rest b more small fits f g none d words e = none (decimal d.now) (behind_before text a rest b more small fits f g d words e)
 
 pub no_now : (text : List ℕ) (a : ℕ) (rest : List ℕ) (b : ℕ) (more digits : List ℕ) → a < 65536 → b < 65536
     → text ≡ codes "changed: word " ++ (decimal a ++ 32 ∷ rest) → rest ≡ codes "was " ++ (decimal b ++ 32 ∷ more)
     → more ≡ codes "and is " ++ digits → ((n : ℕ) → n < 65536 → digits ≡ decimal n → ⊥)
-    → (d : Difference) → AreWords d → text ≡ standing_text (Changed d) → ⊥
+    → (d : Difference) → AreWords d → text ≡ changed_text d → ⊥
 no_now text a rest b more digits small fits f g h none d words e =
     none d.now words.2 (rest_again more (codes "and is ") digits (decimal d.now) h (behind_before text a rest b more small fits f g d words e))
 
 pub difference_there : (text : List ℕ) (a : ℕ) (rest : List ℕ) (b : ℕ) (more digits : List ℕ) (n : ℕ)
     → text ≡ codes "changed: word " ++ (decimal a ++ 32 ∷ rest) → rest ≡ codes "was " ++ (decimal b ++ 32 ∷ more)
-    → more ≡ codes "and is " ++ digits → digits ≡ decimal n → text ≡ standing_text (Changed (record { address = a; before = b; now = n }))
+    → more ≡ codes "and is " ++ digits → digits ≡ decimal n → text ≡ changed_text (record { address = a; before = b; now = n })
 difference_there text a rest b more digits n f g h e =
     f ∙ ap (λ r. codes "changed: word " ++ (decimal a ++ 32 ∷ r)) (g ∙ ap (λ m. codes "was " ++ (decimal b ++ 32 ∷ m)) (h ∙ ap (λ l. codes "and is " ++ l) e))
-    ∙ sym (changed_text (record { address = a; before = b; now = n }))
+    ∙ sym (changed_parts (record { address = a; before = b; now = n }))
 
 -- ---- standings
 
 pub no_standing : (text : List ℕ) → (text ≡ codes "as before" → ⊥) → (text ≡ codes "as before but for PIN tries" → ⊥) → (text ≡ codes "as after" → ⊥)
     → (text ≡ codes "as after but for PIN tries" → ⊥) → (text ≡ codes "with other answers" → ⊥)
-    → ((d : Difference) → AreWords d → text ≡ standing_text (Changed d) → ⊥) → (s : Standing) → IsOfWords s → text ≡ standing_text s → ⊥
+    → ((d : Difference) → AreWords d → text ≡ changed_text d → ⊥) × ((d : Difference) → AreWords d → text ≡ changed_text d ++ codes " by non-atomic calls" → ⊥)
+    → (s : Standing) → IsOfWords s → text ≡ standing_text s → ⊥
 no_standing text a b c d e f Before words h = a h
 no_standing text a b c d e f BeforeButTries words h = b h
 no_standing text a b c d e f After words h = c h
 no_standing text a b c d e f AfterButTries words h = d h
 no_standing text a b c d e f Answers words h = e h
-no_standing text a b c d e f (Changed difference) words h = f difference words h
+no_standing text a b c d e f (Changed difference) words h = f.0 difference words h
+no_standing text a b c d e f (ChangedByCalls difference) words h = f.1 difference words h
+
+-- what is left to be told is a change, or none
+pub or_changed : (text : List ℕ) (r : Option Standing) → (text ≡ codes "as before" → ⊥) → (text ≡ codes "as before but for PIN tries" → ⊥)
+    → (text ≡ codes "as after" → ⊥) → (text ≡ codes "as after but for PIN tries" → ⊥) → (text ≡ codes "with other answers" → ⊥)
+    → MatchOption r (((d : Difference) → AreWords d → text ≡ changed_text d → ⊥)
+    × ((d : Difference) → AreWords d → text ≡ changed_text d ++ codes " by non-atomic calls" → ⊥)) (λ s. (text ≡ standing_text s) × IsOfWords s)
+    → MatchOption r ((s : Standing) → IsOfWords s → text ≡ standing_text s → ⊥) (λ s. (text ≡ standing_text s) × IsOfWords s)
+or_changed text None a b c d e f = no_standing text a b c d e f
+or_changed text (Some s) a b c d e f = f
 
 -- two texts lack a byte together
 pub lacks_both : (s : ℕ) (a b : List ℕ) → has s a ≡ false → has s b ≡ false → has s (a ++ b) ≡ false
@@ -104,7 +117,7 @@ end_lacks s a b n = by (has s a) (has s b) (sym (list_any-append (λ x. x == s) 
     by false q n = n
 
 changed_lacks : (s : ℕ) → s < 48 → has s (codes "changed: word ") ≡ false → has s (codes " was ") ≡ false → has s (codes " and is ") ≡ false
-    → (d : Difference) → AreWords d → has s (standing_text (Changed d)) ≡ false
+    → (d : Difference) → AreWords d → has s (changed_text d) ≡ false
 changed_lacks s low p q r d words =
     lacks_both s ((codes "changed: word " ++ decimal d.address) ++ (codes " was " ++ decimal d.before)) (codes " and is " ++ decimal d.now)
     (lacks_both s (codes "changed: word " ++ decimal d.address) (codes " was " ++ decimal d.before)
@@ -119,6 +132,8 @@ standing_has_no_comma After words = refl
 standing_has_no_comma AfterButTries words = refl
 standing_has_no_comma Answers words = refl
 standing_has_no_comma (Changed d) words = changed_lacks 44 (omega arith) refl refl refl d words
+standing_has_no_comma (ChangedByCalls d) words =
+    lacks_both 44 (changed_text d) (codes " by non-atomic calls") (changed_lacks 44 (omega arith) refl refl refl d words) refl
 
 pub standing_in_one_line : (s : Standing) → IsOfWords s → has 10 (standing_text s) ≡ false
 standing_in_one_line Before words = refl
@@ -127,6 +142,54 @@ standing_in_one_line After words = refl
 standing_in_one_line AfterButTries words = refl
 standing_in_one_line Answers words = refl
 standing_in_one_line (Changed d) words = changed_lacks 10 (omega arith) refl refl refl d words
+standing_in_one_line (ChangedByCalls d) words =
+    lacks_both 10 (changed_text d) (codes " by non-atomic calls") (changed_lacks 10 (omega arith) refl refl refl d words) refl
+
+-- what is told of non-atomic calls has a hyphen, and nothing else has
+pub by_calls_told : (s : Standing) → IsOfWords s → has 45 (standing_text s) ≡ is_by_calls s
+by_calls_told Before words = refl
+by_calls_told BeforeButTries words = refl
+by_calls_told After words = refl
+by_calls_told AfterButTries words = refl
+by_calls_told Answers words = refl
+by_calls_told (Changed d) words = changed_lacks 45 (omega arith) refl refl refl d words
+by_calls_told (ChangedByCalls d) words = list_any-append (λ x. x == 45) (changed_text d) (codes " by non-atomic calls") ∙ or_true (has 45 (changed_text d))
+  where
+    or_true : (b : Bool) → (b || true) ≡ true
+    or_true true = refl
+    or_true false = refl
+
+-- ---- ends of texts
+
+-- a text that has no such end tells of no such calls
+pub no_calls : (text : List ℕ) → ((front : List ℕ) → text ≡ front ++ codes " by non-atomic calls" → ⊥)
+    → ((d : Difference) → AreWords d → text ≡ changed_text d → ⊥)
+    → ((d : Difference) → AreWords d → text ≡ changed_text d → ⊥) × ((d : Difference) → AreWords d → text ≡ changed_text d ++ codes " by non-atomic calls" → ⊥)
+no_calls text none plain = (plain, (λ d words e. none (changed_text d) e))
+
+-- one that has it tells of what stands before it
+pub only_calls : (text front : List ℕ) → text ≡ front ++ codes " by non-atomic calls" → ((d : Difference) → AreWords d → front ≡ changed_text d → ⊥)
+    → ((d : Difference) → AreWords d → text ≡ changed_text d → ⊥) × ((d : Difference) → AreWords d → text ≡ changed_text d ++ codes " by non-atomic calls" → ⊥)
+only_calls text front e plain = (
+  (λ d words h. false≢true (sym (ap (has 45) h ∙ changed_lacks 45 (omega arith) refl refl refl d words) ∙ ap (has 45) e
+      ∙ list_any-append (λ x. x == 45) front (codes " by non-atomic calls") ∙ or_true (has 45 front))),
+  (λ d words h. plain d words (append_cancel_right front (changed_text d) (codes " by non-atomic calls") (sym e ∙ h))),
+)
+  where
+    or_true : (b : Bool) → (b || true) ≡ true
+    or_true true = refl
+    or_true false = refl
+
+-- a text that is shorter, or ends otherwise, does not end so
+pub too_short_to_end : (text end front : List ℕ) → length text < length end → text ≡ front ++ end → ⊥
+too_short_to_end text end front h e = absurd (omega (arith, simp length-append at (ap length e)))
+
+pub ends_not : (text end rest front : List ℕ) → rest ≡ drop (length text - length end) text → (rest ≡ end → ⊥) → text ≡ front ++ end → ⊥
+ends_not text end rest front e n f = n (e ∙ ap (λ k. drop k text) (omega (arith, simp length-append at (ap length f))) ∙ ap (drop (length front)) f ∙ drop_front front end)
+  where
+    drop_front : (a x : List ℕ) → drop (length a) (a ++ x) ≡ x
+    drop_front [] x = refl
+    drop_front (y ∷ a) x = drop_front a x
 
 -- ---- answers
 

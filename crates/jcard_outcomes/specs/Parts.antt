@@ -7,7 +7,7 @@ use Rattle.jcard_outcomes.specs.declared.part.Part.{Part}
 use Rattle.jcard_outcomes.specs.declared.part.Share.{Share}
 use Rattle.jcard_outcomes.specs.declared.standing.Cut.{Cut}
 use Rattle.jcard_outcomes.specs.declared.standing.Standing.{Standing}
-use Rattle.jcard_outcomes.specs.declared.standing.Standing.TheVariants.{Changed}
+use Rattle.jcard_outcomes.specs.declared.standing.Standing.TheVariants.{Changed, ChangedByCalls}
 
 -- ---- lines
 
@@ -74,6 +74,7 @@ AreWords d = (d.address < 65536) × (d.before < 65536) × (d.now < 65536)
 
 abbrev pub IsOfWords : Standing → Type 0
 IsOfWords (Changed d) = AreWords d
+IsOfWords (ChangedByCalls d) = AreWords d
 IsOfWords other = Unit {0}
 
 -- so are those of a cut, and the words that it lost are as many as an image may have
@@ -82,7 +83,7 @@ IsCutOfWords c = IsOfWords c.standing × (c.lost < 65536)
 
 -- a cut that a line tells
 abbrev pub IsReadCut : Cut → Type 0
-IsReadCut c = (has 44 (standing_text c.standing) ≡ false) × (c.lost < 65536)
+IsReadCut c = (has 44 (standing_text c.standing) ≡ false) × IsCutOfWords c
 
 -- ---- the name of a part
 

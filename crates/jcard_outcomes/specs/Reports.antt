@@ -5,13 +5,14 @@ use Rattle.std.specs.Str.{bytes_eq}
 use Rattle.jcard_outcomes.specs.Recoveries.{first_difference, recoveries_text}
 use Rattle.jcard_outcomes.specs.declared.recoveries.Depth.{Depth}
 use Rattle.jcard_outcomes.specs.declared.recoveries.Depth.TheVariants.{Zero}
+use Rattle.jcard_outcomes.specs.declared.heaps.Difference.{Difference}
 use Rattle.jcard_outcomes.specs.declared.standing.Cut.{Cut}
 use Rattle.jcard_outcomes.specs.declared.each.LineOutcome.{LineOutcome}
 use Rattle.jcard_outcomes.specs.declared.each.LineOutcome.TheVariants.{Down, Swept}
 use Rattle.jcard_outcomes.specs.declared.each.LineSweep.{LineSweep}
 use Rattle.jcard_outcomes.specs.declared.report.Sweep.{Sweep}
 use Rattle.jcard_outcomes.specs.declared.standing.Standing.{Standing}
-use Rattle.jcard_outcomes.specs.declared.standing.Standing.TheVariants.{Before, BeforeButTries, After, AfterButTries, Answers, Changed}
+use Rattle.jcard_outcomes.specs.declared.standing.Standing.TheVariants.{Before, BeforeButTries, After, AfterButTries, Answers, Changed, ChangedByCalls}
 
 -- ---- rows
 
@@ -23,6 +24,10 @@ in_line text = map (λ c. if c == 10 then 32 else c) text
 abbrev pub labelled : List ℕ → ℕ → List ℕ
 labelled label n = label ++ decimal n
 
+-- a word that has become another
+abbrev pub changed_text : Difference → List ℕ
+changed_text d = labelled (codes "changed: word ") d.address ++ labelled (codes " was ") d.before ++ labelled (codes " and is ") d.now
+
 -- how a standing is told
 abbrev pub standing_text : Standing → List ℕ
 standing_text Before = codes "as before"
@@ -30,7 +35,8 @@ standing_text BeforeButTries = codes "as before but for PIN tries"
 standing_text After = codes "as after"
 standing_text AfterButTries = codes "as after but for PIN tries"
 standing_text Answers = codes "with other answers"
-standing_text (Changed d) = labelled (codes "changed: word ") d.address ++ labelled (codes " was ") d.before ++ labelled (codes " and is ") d.now
+standing_text (Changed d) = changed_text d
+standing_text (ChangedByCalls d) = changed_text d ++ codes " by non-atomic calls"
 
 -- so many words
 abbrev pub words_lost_text : ℕ → List ℕ
@@ -91,6 +97,11 @@ is_but_tries BeforeButTries = true
 is_but_tries AfterButTries = true
 is_but_tries other = false
 
+-- each word that is not as before was written by non-atomic calls
+abbrev pub is_by_calls : Standing → Bool
+is_by_calls (ChangedByCalls d) = true
+is_by_calls other = false
+
 -- how many cuts left what was before
 unfoldable pub count_before : List Cut → ℕ
 count_before [] = 0
@@ -105,6 +116,11 @@ any_but_tries (c ∷ more) = is_but_tries c.standing || any_but_tries more
 unfoldable pub first_broken : ℕ → List Cut → Option ℕ
 first_broken k [] = None
 first_broken k (c ∷ more) = if is_before c.standing || is_after c.standing then first_broken (k + 1) more else Some k
+
+-- of the first of these that left neither, each word that is not as before was written by non-atomic calls
+unfoldable pub broken_by_calls : List Cut → Bool
+broken_by_calls [] = false
+broken_by_calls (c ∷ more) = if is_before c.standing || is_after c.standing then broken_by_calls more else is_by_calls c.standing
 
 -- the most words that one of them lost, or so many
 unfoldable pub most_lost_from : ℕ → List Cut → ℕ
@@ -136,15 +152,15 @@ cuts_text total = decimal total ++ (if total == 1 then codes " cut, " else codes
 abbrev pub whole_text : ℕ → ℕ → Bool → ℕ → List ℕ
 whole_text total before tries lost = claim_text tries ++ cuts_text total ++ shares_text total before ++ most_lost_text lost
 
--- one of them left something else
-abbrev pub broken_told : ℕ → List ℕ
-broken_told k = codes "NOT all or nothing: first at cut " ++ decimal k
+-- one of them left something else, by non-atomic calls or not
+abbrev pub broken_told : Bool → ℕ → List ℕ
+broken_told by_calls k = codes "NOT all or nothing: first at cut " ++ decimal k ++ (if by_calls then codes ", by non-atomic calls" else codes "")
 
-abbrev pub broken_text : ℕ → List ℕ
-broken_text k = broken_told k ++ codes "\n"
+abbrev pub broken_text : Bool → ℕ → List ℕ
+broken_text by_calls k = broken_told by_calls k ++ codes "\n"
 
 abbrev pub verdict_by : Option ℕ → List Cut → List ℕ
-verdict_by (Some k) cuts = broken_text k
+verdict_by (Some k) cuts = broken_text (broken_by_calls cuts) k
 verdict_by None cuts = whole_text (length cuts) (count_before cuts) (any_but_tries cuts) (most_lost_from 0 cuts)
 
 -- the status word of an answer, its last four digits

@@ -2,7 +2,7 @@
 ghost use Rattle.std.specs.Prelude.{◌≡◌, ◌++◌, ◌∷◌, ◌<◌, ℕ, List, Some, false, codes, decimal, MatchOption, IfOk};
 ghost use Rattle.std.specs.Str.{bytes_eq};
 ghost use Rattle.jcard_outcomes.specs.Parts.{AreWords, IsCutOfWords, IsOfWords, IsReadCut, cut_tail, has, told_cut};
-ghost use Rattle.jcard_outcomes.specs.Reports.{standing_text};
+ghost use Rattle.jcard_outcomes.specs.Reports.{changed_text, standing_text};
 ghost use Rattle.jcard_outcomes.specs.declared.heaps.Difference.{Difference as ADifference};
 ghost use Rattle.jcard_outcomes.specs.declared.standing.Cut.{Cut as ACut};
 ghost use Rattle.jcard_outcomes.specs.declared.standing.Standing.{Standing as AStanding};
@@ -62,7 +62,7 @@ fn parts_of(told: &[u8]) -> Option<(&[u8], u16, &[u8])>
 // The standing that is told so.
 fn standing_of(text: &[u8]) -> Option<Standing>
     ensures { MatchOption result ((s : AStanding) → IsOfWords s → text.now ≡ standing_text s → ⊥)
-        (λ s. text.now ≡ standing_text s) }
+        (λ s. (text.now ≡ standing_text s) × IsOfWords s) }
 {
     if is_same(text, b"as before") {
         return Some(Standing::Before);
@@ -79,17 +79,31 @@ fn standing_of(text: &[u8]) -> Option<Standing>
     if is_same(text, b"with other answers") {
         return Some(Standing::Answers);
     }
-    match difference_of(text) {
-        Some(difference) => Some(Standing::Changed(difference)),
+    changed_of(text)
+}
+
+// The standing with a word that changed that is told so.
+fn changed_of(text: &[u8]) -> Option<Standing>
+    ensures { MatchOption result (((d : ADifference) → AreWords d → text.now ≡ changed_text d → ⊥)
+        × ((d : ADifference) → AreWords d → text.now ≡ changed_text d ++ codes " by non-atomic calls" → ⊥))
+        (λ s. (text.now ≡ standing_text s) × IsOfWords s) }
+{
+    let Some(front) = before_end(text, b" by non-atomic calls") else {
+        return match difference_of(text) {
+            Some(difference) => Some(Standing::Changed(difference)),
+            None => None,
+        };
+    };
+    match difference_of(front) {
+        Some(difference) => Some(Standing::ChangedByCalls(difference)),
         None => None,
     }
 }
 
 // The difference that is told so.
 fn difference_of(text: &[u8]) -> Option<Difference>
-    ensures { MatchOption result
-        ((d : ADifference) → AreWords d → text.now ≡ standing_text (Standing.Changed d) → ⊥)
-        (λ d. text.now ≡ standing_text (Standing.Changed d)) }
+    ensures { MatchOption result ((d : ADifference) → AreWords d → text.now ≡ changed_text d → ⊥)
+        (λ d. (text.now ≡ changed_text d) × AreWords d) }
 {
     let Some((address, rest)) = labelled_word(text, b"changed: word ") else {
         return None;
@@ -169,6 +183,21 @@ pub(crate) fn after<'a>(text: &'a [u8], beginning: &[u8]) -> Option<&'a [u8]>
     let (front, rest) = text.split_at(beginning.len());
     if is_same(front, beginning) {
         return Some(rest);
+    }
+    None
+}
+
+// What stands before this end.
+fn before_end<'a>(text: &'a [u8], end: &[u8]) -> Option<&'a [u8]>
+    ensures { MatchOption result ((front : List ℕ) → text.now ≡ front ++ end.now → ⊥)
+        (λ front. text.now ≡ front.now ++ end.now) }
+{
+    if text.len() < end.len() {
+        return None;
+    }
+    let (front, rest) = text.split_at(text.len() - end.len());
+    if is_same(rest, end) {
+        return Some(front);
     }
     None
 }

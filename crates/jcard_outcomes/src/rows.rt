@@ -1,7 +1,7 @@
 //! The rows: what cuts left, one row for those that follow one another and left the same.
 ghost use Rattle.std.specs.Prelude.{◌≡◌, ◌++◌, IfOk, OnOk, ◌==◌, codes, decimal};
 ghost use Rattle.std.specs.Str.{bytes_eq};
-ghost use Rattle.jcard_outcomes.specs.Reports.{ended, in_line, labelled, lost_text, numbers_text, outcome_text, row_text, rows_from, rows_text, standing_text, words_lost_text};
+ghost use Rattle.jcard_outcomes.specs.Reports.{changed_text, ended, in_line, labelled, lost_text, numbers_text, outcome_text, row_text, rows_from, rows_text, standing_text, words_lost_text};
 
 use crate::heaps::Difference;
 use crate::standing::{Cut, Standing};
@@ -147,12 +147,20 @@ pub(crate) fn push_standing(text: &mut Vec<u8>, standing: Standing) -> Result<()
         Standing::AfterButTries => text.extend_from_slice(b"as after but for PIN tries"),
         Standing::Answers => text.extend_from_slice(b"with other answers"),
         Standing::Changed(difference) => push_difference(text, difference),
+        Standing::ChangedByCalls(difference) => push_by_calls(text, difference),
     }
 }
 
-fn push_difference(text: &mut Vec<u8>, difference: Difference) -> Result<(), AllocError>
+fn push_by_calls(text: &mut Vec<u8>, difference: Difference) -> Result<(), AllocError>
     ensures { OnOk result (text.new.items ≡ text.old.items
-        ++ standing_text (Standing.Changed difference)) }
+        ++ standing_text (Standing.ChangedByCalls difference)) }
+{
+    push_difference(text, difference)?;
+    text.extend_from_slice(b" by non-atomic calls")
+}
+
+fn push_difference(text: &mut Vec<u8>, difference: Difference) -> Result<(), AllocError>
+    ensures { OnOk result (text.new.items ≡ text.old.items ++ changed_text difference) }
 {
     push_labelled(text, b"changed: word ", difference.address)?;
     push_labelled(text, b" was ", difference.before)?;

@@ -1,7 +1,8 @@
 //! How what a cut left stands beside what was there before the command, and beside what it leaves where it is not cut.
 ghost use Rattle.std.specs.Prelude.{◌≡◌, IsTrue, IsSome};
-ghost use Rattle.jcard_outcomes.specs.Heaps.{AgreeAtSpared};
-ghost use Rattle.jcard_outcomes.specs.Standings.{IsJudged, IsLikeness, IsStanding, lost_of};
+ghost use Rattle.std.specs.Bool.{MatchBool};
+ghost use Rattle.jcard_outcomes.specs.Heaps.{AgreeAtSpared, StandsAsBefore};
+ghost use Rattle.jcard_outcomes.specs.Standings.{IsJudged, IsLikeness, IsStanding, lost_of, told_of_calls};
 
 use crate::heaps::{Difference, agree_at_spared, changed_since, is_as_after, words_above};
 use crate::recoveries::Recoveries;
@@ -49,23 +50,49 @@ pub enum Standing {
     Answers,
     /// The heap is neither: this word changed.
     Changed(Difference),
+    /// The heap is neither: this word changed, and each that is not as before was written by non-atomic calls.
+    ChangedByCalls(Difference),
 }
 
-/// How a heap and answers stand that a cut left.
+/// How a heap and answers stand that a cut left. The words at the spared addresses do not count; those at the lenient ones are these and
+/// what non-atomic calls of the command write.
 pub fn standing_of(
     spared: &[u16],
+    lenient: &[u16],
     before: &Left,
     after: &Left,
     heap: &[u16],
     answers: &[u8],
 ) -> Standing
-    ensures { IsStanding spared.now before.now after.now heap.now answers.now result }
+    ensures { IsStanding spared.now lenient.now before.now after.now heap.now answers.now result }
 {
     let changed = changed_since(spared, &before.words, heap);
     let is_after = is_as_after(spared, &after.words, heap);
     let like_before = compared(spared, before, changed.is_none(), heap, answers);
     let like_after = compared(spared, after, is_after, heap, answers);
-    judge(changed, like_before, like_after)
+    let judged = judge(changed, like_before, like_after);
+    told_of_calls(is_as_before(lenient, &before.words, heap), judged)
+}
+
+// Whether what stood before stands. The words at the lenient addresses do not count.
+fn is_as_before(lenient: &[u16], before: &[u16], heap: &[u16]) -> bool
+    ensures { MatchBool result (StandsAsBefore lenient.now before.now heap.now)
+        (StandsAsBefore lenient.now before.now heap.now → ⊥) }
+{
+    match changed_since(lenient, before, heap) {
+        Some(_difference) => false,
+        None => true,
+    }
+}
+
+// A standing, where each word that is not as before was written by non-atomic calls, or not.
+fn told_of_calls(by_calls: bool, judged: Standing) -> Standing
+    ensures { result ≡ told_of_calls by_calls judged }
+{
+    match judged {
+        Standing::Changed(difference) if by_calls => Standing::ChangedByCalls(difference),
+        other => other,
+    }
 }
 
 /// How many words of a heap that stands so are lost: they were made, and nothing names them.
@@ -74,7 +101,11 @@ pub fn lost_of(standing: Standing, before: &Left, heap: &[u16]) -> u16
 {
     match standing {
         Standing::Before | Standing::BeforeButTries => words_above(&before.words, heap),
-        Standing::After | Standing::AfterButTries | Standing::Answers | Standing::Changed(_) => 0,
+        Standing::After
+        | Standing::AfterButTries
+        | Standing::Answers
+        | Standing::Changed(_)
+        | Standing::ChangedByCalls(_) => 0,
     }
 }
 

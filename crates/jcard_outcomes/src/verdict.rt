@@ -1,6 +1,6 @@
 //! The verdict over all cuts of a command.
 ghost use Rattle.std.specs.Prelude.{◌≡◌, ◌++◌, ◌==◌, ◌||◌, IfOk, OnOk, is_none, max, option_map, if◌then◌else◌};
-ghost use Rattle.jcard_outcomes.specs.Reports.{any_but_tries, are_whole, broken_told, broken_text, claim_text, count_before, cuts_text, first_broken, is_after, is_before, is_but_tries};
+ghost use Rattle.jcard_outcomes.specs.Reports.{any_but_tries, are_whole, broken_by_calls, broken_told, broken_text, claim_text, count_before, cuts_text, first_broken, is_after, is_before, is_but_tries, is_by_calls};
 ghost use Rattle.jcard_outcomes.specs.Reports.{is_refused, is_refused_at_once, most_lost_from, most_lost_text, no_write_text, shares_text, verdict_text, whole_text};
 
 use crate::recoveries::first_difference;
@@ -34,7 +34,7 @@ pub(crate) fn push_verdict(
         return push_no_write(text, answer);
     }
     match first_broken(cuts) {
-        Some(number) => push_broken(text, number),
+        Some(number) => push_broken(text, is_broken_by_calls(cuts), number),
         None => push_whole(
             text,
             cuts.len(),
@@ -70,28 +70,29 @@ fn push_no_write(text: &mut Vec<u8>, answer: &[u8]) -> Result<(), AllocError>
 /// What is told, without a line feed, where a cut left something else; none where each left what was before or what comes after.
 pub fn broken(alloc: Global, cuts: &[Cut]) -> Result<Option<Vec<u8>>, AllocError>
     ensures { IfOk result (λ found. option_map (λ text. text.items) found
-        ≡ option_map broken_told (first_broken 0 cuts.now)) }
+        ≡ option_map (broken_told (broken_by_calls cuts.now)) (first_broken 0 cuts.now)) }
 {
     let Some(number) = first_broken(cuts) else {
         return Ok(None);
     };
     let mut text = Vec::new(alloc);
-    push_broken_told(&mut text, number)?;
+    push_broken_told(&mut text, is_broken_by_calls(cuts), number)?;
     Ok(Some(text))
 }
 
-fn push_broken(text: &mut Vec<u8>, number: usize) -> Result<(), AllocError>
-    ensures { OnOk result (text.new.items ≡ text.old.items ++ broken_text number) }
+fn push_broken(text: &mut Vec<u8>, by_calls: bool, number: usize) -> Result<(), AllocError>
+    ensures { OnOk result (text.new.items ≡ text.old.items ++ broken_text by_calls number) }
 {
-    push_broken_told(text, number)?;
+    push_broken_told(text, by_calls, number)?;
     text.extend_from_slice(b"\n")
 }
 
-fn push_broken_told(text: &mut Vec<u8>, number: usize) -> Result<(), AllocError>
-    ensures { OnOk result (text.new.items ≡ text.old.items ++ broken_told number) }
+fn push_broken_told(text: &mut Vec<u8>, by_calls: bool, number: usize) -> Result<(), AllocError>
+    ensures { OnOk result (text.new.items ≡ text.old.items ++ broken_told by_calls number) }
 {
     text.extend_from_slice(b"NOT all or nothing: first at cut ")?;
-    push_number(text, number)
+    push_number(text, number)?;
+    push_either(text, by_calls, b", by non-atomic calls", b"")
 }
 
 fn push_whole(
@@ -172,6 +173,18 @@ fn first_broken(cuts: &[Cut]) -> Option<usize>
     None
 }
 
+// Whether of the first cut that left something else each word that is not as before was written by non-atomic calls.
+fn is_broken_by_calls(cuts: &[Cut]) -> bool
+    ensures { result ≡ broken_by_calls cuts.now }
+{
+    for cut in cuts {
+        if !is_whole(cut.standing) {
+            return is_by_calls(cut.standing);
+        }
+    }
+    false
+}
+
 // How many cuts left what was before.
 fn count_before(cuts: &[Cut]) -> usize
     ensures { result ≡ count_before cuts.now }
@@ -230,6 +243,12 @@ fn is_after(standing: Standing) -> bool
     ensures { result ≡ is_after standing }
 {
     matches!(standing, Standing::After | Standing::AfterButTries)
+}
+
+fn is_by_calls(standing: Standing) -> bool
+    ensures { result ≡ is_by_calls standing }
+{
+    matches!(standing, Standing::ChangedByCalls(_))
 }
 
 fn is_but_tries(standing: Standing) -> bool

@@ -1,10 +1,13 @@
 -- Lines that are taken one after the other.
-use Rattle.std.proofs.Common.{◌≡◌, ◌∙◌, ℕ, zero, suc, ◌+◌, ◌<◌, List, [], ◌∷◌, ◌++◌, length, get_or, take, map, min, refl, ap, sym, subst, arith}
-use Rattle.std.specs.Prelude.{All, IfOk, Result, Ok, Err}
+use Rattle.std.proofs.Common.{◌≡◌, ◌∙◌, ℕ, zero, suc, ◌+◌, ◌<◌, ◌==◌, false, List, [], ◌∷◌, ◌++◌, append-nil, append_assoc, length, get_or, take, map, min, refl, ap, sym, subst, arith, codes}
+use Rattle.std.specs.Prelude.{IfOk, OnOk, Result, Ok, Err}
+use Rattle.std.proofs.lemmas.Bool.{false≢true}
 use Rattle.std.specs.Str.Lines.{lines}
 use Rattle.std.specs.Borrow.{Bor}
 use Rattle.std.proofs.lemmas.List.{length-map, length-take-le, map-append, take_more}
-use Rattle.jcard_rows.specs.Unrolled.{AreAllNumbered, AreNumberedFrom, AreTakenIn, HaveNoLoops, IsLineOf, IsUnrolled}
+use Rattle.jcard_rows.specs.Lines.{Says}
+use Rattle.jcard_rows.specs.Unrolled.{AreAllNumbered, AreCopies, AreRepeated, AreTaken, IsCopy, IsEnded, IsLineOf, IsOneMore, IsTakenIn, IsUnrolled}
+use Rattle.jcard_rows.specs.declared.line.Line.{Line}
 use Rattle.jcard_rows.specs.declared.loops.Loop.{Loop}
 use Rattle.jcard_rows.specs.declared.numbered.Numbered.{Numbered}
 
@@ -16,10 +19,6 @@ pub all_none : (n : ℕ) → AreAllNumbered n [] []
 unfolding AreAllNumbered
 all_none n = tt
 
-pub numbered_none : (n : ℕ) → AreNumberedFrom n [] []
-unfolding AreNumberedFrom
-numbered_none n = tt
-
 -- one line more, with the same number
 all_more : (n : ℕ) (texts : List (List ℕ)) (added : List Numbered) (t : List ℕ) (l : Numbered) → AreAllNumbered n texts added → IsLineOf n t l
     → AreAllNumbered n (texts ++ t ∷ []) (added ++ l ∷ [])
@@ -29,22 +28,26 @@ all_more n [] (y ∷ ys) t l a h = absurd a
 all_more n (x ∷ xs) [] t l a h = absurd a
 all_more n (x ∷ xs) (y ∷ ys) t l a h = (a.0, all_more n xs ys t l a.1 h)
 
--- one line more, with the next number
-numbered_more : (n k : ℕ) (texts : List (List ℕ)) (added : List Numbered) (t : List ℕ) (l : Numbered) → AreNumberedFrom n texts added
-    → k ≡ n + length texts → IsLineOf (min k 18446744073709551615) t l → AreNumberedFrom n (texts ++ t ∷ []) (added ++ l ∷ [])
-unfolding AreNumberedFrom
-numbered_more n k [] [] t l a e h =
-    let same : k ≡ n = omega arith in
-    (subst (λ (m : ℕ). IsLineOf (min m 18446744073709551615) t l) same h, tt)
-numbered_more n k [] (y ∷ ys) t l a e h = absurd a
-numbered_more n k (x ∷ xs) [] t l a e h = absurd a
-numbered_more n k (x ∷ xs) (y ∷ ys) t l a e h = (a.0, numbered_more (n + 1) k xs ys t l a.1 (omega arith) h)
+-- one line more was taken
+taken_more : (n k : ℕ) (texts : List (List ℕ)) (o b p q : List Loop) (l m r : List Numbered) (t : List ℕ) (said : Line) → AreTaken n texts o l b m
+    → k ≡ n + length texts → Says t said → IsTakenIn (min k 18446744073709551615) t said b p m r → AreTaken n (texts ++ t ∷ []) o l p r
+unfolding AreTaken
+taken_more n k [] o b p q l m r t said a e says step = (
+  said,
+  p,
+  r,
+  says,
+  subst (λ (i : ℕ). IsTakenIn (min i 18446744073709551615) t said o p l r) (omega (arith, e))
+      (subst (λ (x : List Loop). IsTakenIn (min k 18446744073709551615) t said x p l r) a.0
+      (subst (λ (x : List Numbered). IsTakenIn (min k 18446744073709551615) t said b p x r) a.1 step)),
+  (refl, refl),
+)
+taken_more n k (x ∷ xs) o b p q l m r t said a e says step =
+    (a.0, a.1, a.2, a.3, a.4, taken_more (n + 1) k xs a.1 b p q a.2 m r t said a.5 (omega (arith, e)) says step)
 
--- a text at a place
-pub get_or_texts : (texts : List (Bor (List ℕ))) (i : ℕ) (d : Bor (List ℕ)) → get_or (texts_of texts) i d.now ≡ (get_or texts i d).now
-get_or_texts [] i d = refl
-get_or_texts (x ∷ xs) zero d = refl
-get_or_texts (x ∷ xs) (suc i) d = get_or_texts xs i d
+pub taken_none : AreTaken 1 [] [] [] [] []
+unfolding AreTaken
+taken_none = (refl, refl)
 
 -- the texts up to the next
 texts_next : (texts : List (Bor (List ℕ))) (i : ℕ) (d : Bor (List ℕ)) → i < length texts
@@ -57,28 +60,72 @@ pub all_next : (n : ℕ) (texts : List (Bor (List ℕ))) (i : ℕ) (d : Bor (Lis
 all_next n texts i d added l h a line = subst (λ (ts : List (List ℕ)). AreAllNumbered n ts (added ++ l ∷ [])) (sym (texts_next texts i d h))
     (all_more n (texts_of (take i texts)) added (get_or texts i d).now l a line)
 
-pub numbered_next : (texts : List (Bor (List ℕ))) (i : ℕ) (d : Bor (List ℕ)) (added : List Numbered) (l : Numbered) → i < length texts
-    → AreNumberedFrom 1 (texts_of (take i texts)) added → IsLineOf (min (i + 1) 18446744073709551615) (get_or texts i d).now l
-    → AreNumberedFrom 1 (texts_of (take (i + 1) texts)) (added ++ l ∷ [])
-numbered_next texts i d added l h a line =
+pub taken_next : (texts : List (Bor (List ℕ))) (i : ℕ) (d : Bor (List ℕ)) (b p : List Loop) (m r : List Numbered) (said : Line) → i < length texts
+    → AreTaken 1 (texts_of (take i texts)) [] [] b m → Says (get_or texts i d).now said
+    → IsTakenIn (min (i + 1) 18446744073709551615) (get_or texts i d).now said b p m r → AreTaken 1 (texts_of (take (i + 1) texts)) [] [] p r
+taken_next texts i d b p m r said h a says step =
     let long : length (texts_of (take i texts)) ≡ i = length-map (take i texts) (λ (b : Bor (List ℕ)). b.now) ∙ length-take-le i texts (omega arith) in
-    subst (λ (ts : List (List ℕ)). AreNumberedFrom 1 ts (added ++ l ∷ [])) (sym (texts_next texts i d h))
-    (numbered_more 1 (i + 1) (texts_of (take i texts)) added (get_or texts i d).now l a (omega arith) line)
+    subst (λ (ts : List (List ℕ)). AreTaken 1 ts [] [] p r) (sym (texts_next texts i d h))
+    (taken_more 1 (i + 1) (texts_of (take i texts)) [] b p [] [] m r (get_or texts i d).now said a (omega arith) says step)
 
--- what holds of all texts holds of that at a place
-pub all_at : (P : List ℕ → Type 0) (texts : List (Bor (List ℕ))) (i : ℕ) (d : Bor (List ℕ)) → All P (texts_of texts) → i < length texts
-    → P (get_or texts i d).now
-all_at P texts i d all h =
-    let long : length (texts_of texts) ≡ length texts = length-map texts (λ (b : Bor (List ℕ)). b.now) in
-    subst P (get_or_texts texts i d) (all i d.now (omega arith))
+-- ---- loops
+
+pub copies_none : (name : List ℕ) (k : ℕ) → AreCopies name k [] []
+unfolding AreCopies
+copies_none name k = tt
+
+copies_more : (name : List ℕ) (k : ℕ) (body copies : List Numbered) (l c : Numbered) → AreCopies name k body copies → IsCopy name k l c
+    → AreCopies name k (body ++ l ∷ []) (copies ++ c ∷ [])
+unfolding AreCopies
+copies_more name k [] [] l c a h = (h, tt)
+copies_more name k [] (y ∷ ys) l c a h = absurd a
+copies_more name k (x ∷ xs) [] l c a h = absurd a
+copies_more name k (x ∷ xs) (y ∷ ys) l c a h = (a.0, copies_more name k xs ys l c a.1 h)
+
+-- the next line of a loop
+pub copies_next : (name : List ℕ) (k : ℕ) (body : List Numbered) (i : ℕ) (d : Numbered) (copies : List Numbered) (c : Numbered) → i < length body
+    → AreCopies name k (take i body) copies → IsCopy name k (get_or body i d) c → AreCopies name k (take (i + 1) body) (copies ++ c ∷ [])
+copies_next name k body i d copies c h a one = subst (λ (b : List Numbered). AreCopies name k b (copies ++ c ∷ [])) (sym (take_more body i d h))
+    (copies_more name k (take i body) copies (get_or body i d) c a one)
+
+pub repeated_none : (name : List ℕ) (k : ℕ) (body : List Numbered) → AreRepeated name k 0 body []
+unfolding AreRepeated
+repeated_none name k body = refl
+
+-- the lines for one more number
+pub repeated_more : (name : List ℕ) (k n m : ℕ) (body all one : List Numbered) → AreRepeated name k n body all → m ≡ k + n → AreCopies name m body one
+    → AreRepeated name k (suc n) body (all ++ one)
+unfolding AreRepeated
+repeated_more name k zero m body all one a e h =
+    let same : m ≡ k = omega (arith, e) in
+    (one, [], subst (λ (i : ℕ). AreCopies name i body one) same h, refl, ap (λ (l : List Numbered). l ++ one) a ∙ sym (append-nil one))
+repeated_more name k (suc n) m body all one a e h =
+    (a.0, a.1 ++ one, a.2, repeated_more name (k + 1) n m body a.1 one a.3 (omega (arith, e)) h, ap (λ (l : List Numbered). l ++ one) a.4 ∙ append_assoc a.0 a.1 one)
 
 -- a text whose lines were taken
-pub unrolled_by : (text : List ℕ) (texts : List (List ℕ)) (loops : List Loop) (all : List Numbered) → texts ≡ lines text → AreTakenIn texts texts loops all
-    → AreTakenIn (lines text) (lines text) loops all
-unrolled_by text texts loops all e taken = subst (λ (ts : List (List ℕ)). AreTakenIn ts ts loops all) e taken
+pub unrolled_by : {V E : Type 0} (items : V → List Numbered) (text : List ℕ) (loops : List Loop) (taken : List Numbered) (r : Result V E)
+    → AreTaken 1 (lines text) [] [] loops taken → IfOk r (λ v. IsEnded loops taken (items v)) → IfOk r (λ v. IsUnrolled text (items v))
+unrolled_by items text loops taken (Ok v) a e = (loops, taken, a, e)
+unrolled_by items text loops taken (Err e) a h = tt
 
--- where a loop is open, the text has loops
-pub has_loops : {V E : Type 0} (items : V → List Numbered) (text : List ℕ) (r : Result V E) → (HaveNoLoops (lines text) → ⊥)
-    → IfOk r (λ v. IsUnrolled text (items v))
-has_loops items text (Ok v) bad = λ plain. absurd (bad plain)
-has_loops items text (Err e) bad = tt
+positive : (n : ℕ) → (n == 0) ≡ false → 0 < n
+positive zero e = absurd (false≢true (sym e))
+positive (suc n) e = omega arith
+
+-- a list without items
+pub none_of : {A : Type 0} (xs : List A) (n : ℕ) → n ≡ length xs → n ≡ 0 → xs ≡ []
+none_of [] n e none = refl
+none_of (x ∷ xs) n e none = absurd (omega (arith, e, none))
+
+-- what an `Ok` brings is known on
+pub ok_then : {A E P Q : Type 0} (r : Result A E) → OnOk r P → (P → Q) → OnOk r Q
+ok_then (Ok x) h f = f h
+ok_then (Err e) h f = tt
+
+-- a loop is open: the first one is the outermost
+pub ended_open : {V E : Type 0} (items : V → List Numbered) (loops : List Loop) (taken : List Numbered) (n : ℕ) (first : Loop) (r : Result V E) → n ≡ length loops → (n == 0) ≡ false
+    → first ≡ get_or loops 0 first → IfOk r (λ v. IsOneMore first.number (codes "for without end") first.before.items (items v))
+    → IfOk r (λ v. IsEnded loops taken (items v))
+ended_open items [] taken n first r long some at is = absurd (omega (arith, long, positive n some))
+ended_open items (x ∷ xs) taken n first r long some at is =
+    subst (λ (l : Loop). IfOk r (λ v. IsOneMore l.number (codes "for without end") l.before.items (items v))) at is

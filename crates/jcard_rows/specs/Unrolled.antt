@@ -1,8 +1,12 @@
 -- The lines of a text of rows.
-use Rattle.std.specs.Prelude.{ℕ, ◌≡◌, ◌==◌, ◌⊎◌, ◌+◌, List, [], ◌∷◌, ◌++◌, All, min}
+use Rattle.std.specs.Prelude.{ℕ, zero, suc, ◌≡◌, ◌≢◌, ◌==◌, ◌<◌, ◌≤◌, ◌⊎◌, ◌+◌, ◌-◌, ◌/◌, ◌%◌, List, [], ◌∷◌, ◌++◌, codes, decimal, min}
+use Rattle.std.specs.Borrow.{Bor}
 use Rattle.std.specs.Str.{NoCharPasses}
 use Rattle.std.specs.Str.Lines.{lines}
+use Rattle.std.specs.Str.Pattern.{FindsText}
+use Rattle.std.specs.Str.Replace.{ReplacesMatches}
 use Rattle.std.specs.String.{string_bytes}
+use Rattle.hex.specs.Hex.{encode_upper}
 use Rattle.jcard_rows.specs.Lines.{Says}
 use Rattle.jcard_rows.specs.declared.line.Line.{Line}
 use Rattle.jcard_rows.specs.declared.line.Line.TheVariants.{For, End}
@@ -23,34 +27,80 @@ AreAllNumbered n texts more = ⊥
 abbrev pub AreLinesOf : ℕ → List ℕ → List Numbered → Type 0
 AreLinesOf n text all = AreAllNumbered n (lines text) all
 
--- these texts, numbered from one on, up to 2^64 - 1
-unfoldable pub AreNumberedFrom : ℕ → List (List ℕ) → List Numbered → Type 0
-AreNumberedFrom n [] [] = Unit {0}
-AreNumberedFrom n (text ∷ texts) (line ∷ more) = IsLineOf (min n 18446744073709551615) text line × AreNumberedFrom (n + 1) texts more
-AreNumberedFrom n texts more = ⊥
+-- ---- loops
 
--- neither the beginning of a loop nor the end of one
-abbrev pub IsPlain : Line → Type 0
-IsPlain (For name first last) = ⊥
-IsPlain End = ⊥
-IsPlain other = Unit {0}
+-- digits without a zero in front, where one stands there
+abbrev pub IsShortened : List ℕ → List ℕ → Type 0
+IsShortened digits text = (digits ≡ codes "0" ++ text) ⊎ ((text ≡ digits) × ((rest : List ℕ) → digits ≢ codes "0" ++ rest))
 
--- a line that says so was taken, with these loops open and these lines behind the innermost of them: a plain one stands behind them
+-- the digits of a number of 16 bits in upper case hexadecimal: two, or as many as it has
+abbrev pub IsHexOf : ℕ → List ℕ → Type 0
+IsHexOf k text = ((k < 256) × (text ≡ encode_upper (k ∷ []))) ⊎ ((256 ≤ k) × IsShortened (encode_upper (k / 256 ∷ k % 256 ∷ [])) text)
+
+-- a text with this one in place of each mark
+abbrev pub IsReplaced : List ℕ → List ℕ → List ℕ → List ℕ → Type 0
+IsReplaced mark to text replaced = (m : Bor (List ℕ)) × (m.now ≡ mark) × (n : ℕ)
+    × ReplacesMatches (λ (p : Bor (List ℕ)). FindsText p.now) (λ p q. q.now ≡ p.now) to n m text replaced
+
+-- a line of a loop for a number: in place of the number's name, and of `h`, in braces stand its digits
+abbrev pub IsCopy : List ℕ → ℕ → Numbered → Numbered → Type 0
+IsCopy name k line copy = (copy.number ≡ line.number) × (hexadecimal named : List ℕ) × IsHexOf k hexadecimal
+    × IsReplaced (codes "{" ++ name ++ codes "}") (decimal k) (string_bytes line.text) named
+    × IsReplaced (codes "{h}") hexadecimal named (string_bytes copy.text)
+
+-- the lines of a loop for a number
+unfoldable pub AreCopies : List ℕ → ℕ → List Numbered → List Numbered → Type 0
+AreCopies name k [] [] = Unit {0}
+AreCopies name k (line ∷ body) (copy ∷ copies) = IsCopy name k line copy × AreCopies name k body copies
+AreCopies name k body copies = ⊥
+
+-- the same for n numbers, from k on
+unfoldable pub AreRepeated : List ℕ → ℕ → ℕ → List Numbered → List Numbered → Type 0
+AreRepeated name k zero body all = all ≡ []
+AreRepeated name k (suc n) body all = (one more : List Numbered) × AreCopies name k body one × AreRepeated name (k + 1) n body more × (all ≡ one ++ more)
+
+-- a loop that line n begins behind these lines
+pub record IsBegun (n : ℕ) (name : List ℕ) (first last : ℕ) (before : List Numbered) (l : Loop) : Type 0 where
+  pub line : l.number ≡ n
+  pub named : string_bytes l.name ≡ name
+  pub from_first : l.first ≡ first
+  pub to_last : l.last ≡ last
+  pub behind : l.before.items ≡ before
+
+-- ---- lines, one after the other
+
+-- one more line
+abbrev pub IsOneMore : ℕ → List ℕ → List Numbered → List Numbered → Type 0
+IsOneMore n text before after = (line : Numbered) × IsLineOf n text line × (after ≡ before ++ line ∷ [])
+
+-- these lines are those of the innermost loop: behind what stood before it they stand once for each of its numbers
+abbrev pub EndsInnermost : List Loop → List Loop → List Numbered → List Numbered → Type 0
+EndsInnermost open_before open_after body after = (l : Loop) × (all : List Numbered) × (open_before ≡ open_after ++ l ∷ [])
+    × AreRepeated (string_bytes l.name) l.first (l.last + 1 - l.first) body all × (after ≡ l.before.items ++ all)
+
+-- line n, which says so, was taken, with these loops open and these lines behind the beginning of the innermost of them: it begins one, ends
+-- that one, or stands behind those lines
 abbrev pub IsTakenIn : ℕ → List ℕ → Line → List Loop → List Loop → List Numbered → List Numbered → Type 0
-IsTakenIn n text said open_before open_after before after = IsPlain said
-    → (open_after ≡ open_before) × (line : Numbered) × IsLineOf n text line × (after ≡ before ++ line ∷ [])
+IsTakenIn n text (For name first last) open_before open_after before after = (l : Loop) × IsBegun n name.now first last before l
+    × (open_after ≡ open_before ++ l ∷ []) × (after ≡ [])
+IsTakenIn n text End open_before open_after before after = EndsInnermost open_before open_after before after
+    ⊎ ((open_before ≡ []) × (open_after ≡ []) × IsOneMore n (codes "end without for") before after)
+IsTakenIn n text other open_before open_after before after = (open_after ≡ open_before) × IsOneMore n text before after
 
--- no line of a text begins or ends a loop
-abbrev pub HaveNoLoops : List (List ℕ) → Type 0
-HaveNoLoops texts = All (λ line. (said : Line) → Says line said → IsPlain said) texts
+-- these texts were taken, the first as line n, and no number is above 2^64 - 1
+unfoldable pub AreTaken : ℕ → List (List ℕ) → List Loop → List Numbered → List Loop → List Numbered → Type 0
+AreTaken n [] open_before before open_after after = (open_after ≡ open_before) × (after ≡ before)
+AreTaken n (text ∷ texts) open_before before open_after after = (said : Line) × (between : List Loop) × (lines : List Numbered) × Says text said
+    × IsTakenIn (min n 18446744073709551615) text said open_before between before lines × AreTaken (n + 1) texts between lines open_after after
 
--- of texts without loops these were taken: no loop is open, and these lines stand there, numbered from 1
-abbrev pub AreTakenIn : List (List ℕ) → List (List ℕ) → List Loop → List Numbered → Type 0
-AreTakenIn texts taken loops all = HaveNoLoops texts → (loops ≡ []) × AreNumberedFrom 1 taken all
+-- a text whose lines were taken so: where a loop is open, the lines before the outermost one, and one that says so
+abbrev pub IsEnded : List Loop → List Numbered → List Numbered → Type 0
+IsEnded [] lines all = all ≡ lines
+IsEnded (outermost ∷ inner) lines all = IsOneMore outermost.number (codes "for without end") outermost.before.items all
 
--- of a text without loops these are the lines, numbered from 1
+-- the lines of a text, those of loops as often as they stand there
 abbrev pub IsUnrolled : List ℕ → List Numbered → Type 0
-IsUnrolled text all = HaveNoLoops (lines text) → AreNumberedFrom 1 (lines text) all
+IsUnrolled text all = (loops : List Loop) × (taken : List Numbered) × AreTaken 1 (lines text) [] [] loops taken × IsEnded loops taken all
 
 -- a file of this name in the folder of the file of this path has that path: no slash (47) stands behind the folder
 abbrev pub IsBeside : List ℕ → List ℕ → List ℕ → Type 0

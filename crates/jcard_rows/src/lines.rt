@@ -1,10 +1,10 @@
 //! The lines of a text of rows, those of loops as often as they stand there.
-ghost use Rattle.std.specs.Prelude.{◌≡◌, ◌<◌, ◌++◌, [], ℕ, List, IfOk, OnOk, map};
+ghost use Rattle.std.specs.Prelude.{◌≡◌, ◌<◌, ◌+◌, ◌-◌, ◌++◌, ◌∷◌, [], ℕ, List, codes, IfOk, OnOk, map};
 ghost use Rattle.std.specs.Borrow.{Bor};
 ghost use Rattle.std.specs.Str.Lines.{lines};
 ghost use Rattle.std.specs.String.{string_bytes};
 ghost use Rattle.jcard_rows.specs.Lines.{Says};
-ghost use Rattle.jcard_rows.specs.Unrolled.{AreAllNumbered, AreLinesOf, AreTakenIn, IsBeside, IsLineOf, IsTakenIn, IsUnrolled};
+ghost use Rattle.jcard_rows.specs.Unrolled.{AreAllNumbered, AreCopies, AreLinesOf, AreRepeated, AreTaken, IsBeside, IsEnded, IsLineOf, IsOneMore, IsReplaced, IsTakenIn, IsUnrolled, IsHexOf, IsShortened};
 ghost use Rattle.jcard_rows.specs.declared.line.Line.{Line};
 ghost use Rattle.jcard_rows.specs.declared.numbered.Numbered.{Numbered};
 
@@ -39,18 +39,21 @@ pub fn unroll(alloc: Global, text: &str) -> Result<Vec<Numbered>, AllocError>
     let mut loops = Vec::new(alloc);
     let mut lines = Vec::new(alloc);
     take_lines(alloc, &texts, &mut loops, &mut lines)?;
-    match loops.pop() {
-        None => Ok(lines),
-        Some(innermost) => without_end(alloc, outermost(loops, innermost)),
-    }
+    ended(alloc, loops, lines)
 }
 
-/// The first of open loops, of which one is the last.
-fn outermost(mut others: Vec<Loop>, innermost: Loop) -> Loop {
-    if others.is_empty() {
-        return innermost;
+/// These lines; or, where loops are open, those before the outermost one, and one that says so.
+fn ended(
+    alloc: Global,
+    mut loops: Vec<Loop>,
+    lines: Vec<Numbered>,
+) -> Result<Vec<Numbered>, AllocError>
+    ensures { IfOk result (λ all. IsEnded loops.items lines.items all.items) }
+{
+    if loops.is_empty() {
+        return Ok(lines);
     }
-    others.swap_remove(0)
+    without_end(alloc, loops.swap_remove(0))
 }
 
 /// The lines of a text.
@@ -70,8 +73,8 @@ fn take_lines(
 ) -> Result<(), AllocError>
     requires none_open { loops.old.items ≡ [] }
     requires no_lines { lines.old.items ≡ [] }
-    ensures { OnOk result (AreTakenIn (map (λ (line : Bor (List ℕ)). line.now) texts.now)
-        (map (λ (line : Bor (List ℕ)). line.now) texts.now) loops.new.items lines.new.items) }
+    ensures { OnOk result (AreTaken 1 (map (λ (line : Bor (List ℕ)). line.now) texts.now) [] []
+        loops.new.items lines.new.items) }
 {
     for (index, line) in texts.iter().enumerate() {
         take_line(alloc, index.saturating_add(1), line, loops, lines)?;
@@ -80,9 +83,12 @@ fn take_lines(
 }
 
 /// The lines before a loop without an end, and one that says so.
-fn without_end(alloc: Global, unended: Loop) -> Result<Vec<Numbered>, AllocError> {
+fn without_end(alloc: Global, unended: Loop) -> Result<Vec<Numbered>, AllocError>
+    ensures { IfOk result (λ all. IsOneMore unended.number (codes "for without end")
+        unended.before.items all.items) }
+{
     let mut lines = unended.before;
-    lines.push(line_of(alloc, unended.number, "for without end")?)?;
+    add_line(alloc, unended.number, "for without end", &mut lines)?;
     Ok(lines)
 }
 
@@ -113,16 +119,24 @@ fn take_line(
         }
         Line::End => match loops.pop() {
             Some(ended) => end_loop(alloc, ended, lines),
-            None => {
-                lines.push(line_of(alloc, number, "end without for")?)?;
-                Ok(())
-            }
+            None => add_line(alloc, number, "end without for", lines),
         },
-        _ => {
-            lines.push(line_of(alloc, number, line)?)?;
-            Ok(())
-        }
+        _ => add_line(alloc, number, line, lines),
     }
+}
+
+/// Adds a line of this number.
+fn add_line(
+    alloc: Global,
+    number: usize,
+    text: &str,
+    lines: &mut Vec<Numbered>,
+) -> Result<(), AllocError>
+    requires { 0 < number }
+    ensures { OnOk result (IsOneMore number text.now lines.old.items lines.new.items) }
+{
+    lines.push(line_of(alloc, number, text)?)?;
+    Ok(())
 }
 
 /// Adds the lines of a text, all with this number.
@@ -170,7 +184,11 @@ fn line_of(alloc: Global, number: usize, text: &str) -> Result<Numbered, AllocEr
 }
 
 /// Ends a loop with these lines: they stand behind those before it, once for each of its numbers.
-fn end_loop(alloc: Global, ended: Loop, lines: &mut Vec<Numbered>) -> Result<(), AllocError> {
+fn end_loop(alloc: Global, ended: Loop, lines: &mut Vec<Numbered>) -> Result<(), AllocError>
+    ensures { OnOk result ((all : List Numbered) × AreRepeated (string_bytes ended.name)
+        ended.first (ended.last + 1 - ended.first) lines.old.items all
+        × (lines.new.items ≡ ended.before.items ++ all)) }
+{
     let Loop {
         name,
         first,
@@ -179,8 +197,26 @@ fn end_loop(alloc: Global, ended: Loop, lines: &mut Vec<Numbered>) -> Result<(),
         ..
     } = ended;
     let body = mem::replace(lines, before);
-    for k in first..=last {
-        add_for(alloc, k, name.as_str(), &body, lines)?;
+    add_repeated(alloc, first, last, name.as_str(), &body, lines)
+}
+
+/// Adds the lines of a loop for each number from the first to the last.
+fn add_repeated(
+    alloc: Global,
+    first: u16,
+    last: u16,
+    name: &str,
+    body: &[Numbered],
+    lines: &mut Vec<Numbered>,
+) -> Result<(), AllocError>
+    ensures { OnOk result ((all : List Numbered)
+        × AreRepeated name.now first (last + 1 - first) body.now all
+        × (lines.new.items ≡ lines.old.items ++ all)) }
+{
+    let count = (u32::from(last) + 1).saturating_sub(u32::from(first));
+    for place in 0..count {
+        let k = first + place as u16;
+        add_for(alloc, k, name, body, lines)?;
     }
     Ok(())
 }
@@ -192,19 +228,62 @@ fn add_for(
     name: &str,
     body: &[Numbered],
     lines: &mut Vec<Numbered>,
-) -> Result<(), AllocError> {
+) -> Result<(), AllocError>
+    ensures { OnOk result ((copies : List Numbered) × AreCopies name.now k body.now copies
+        × (lines.new.items ≡ lines.old.items ++ copies)) }
+{
     let mark = format!(in alloc; "{{{name}}}")?;
     let decimal = format!(in alloc; "{k}")?;
-    let hexadecimal = format!(in alloc; "{k:02X}")?;
+    let hexadecimal = hex_digits(alloc, k)?;
     for line in body {
-        let text = line
-            .text
-            .as_str()
-            .replace(alloc, mark.as_str(), decimal.as_str())?;
-        lines.push(Numbered {
-            number: line.number,
-            text: text.as_str().replace(alloc, "{h}", hexadecimal.as_str())?,
-        })?;
+        let copy = copy_for(
+            alloc,
+            mark.as_str(),
+            decimal.as_str(),
+            hexadecimal.as_str(),
+            line,
+        )?;
+        lines.push(copy)?;
     }
     Ok(())
+}
+
+/// A line of a loop with these digits in place of this mark, and those in place of `{h}`.
+fn copy_for(
+    alloc: Global,
+    mark: &str,
+    decimal: &str,
+    hexadecimal: &str,
+    line: &Numbered,
+) -> Result<Numbered, AllocError>
+    ensures { IfOk result (λ copy. (copy.number ≡ line.now.number) × (set : List ℕ)
+        × IsReplaced mark.now decimal.now (string_bytes line.now.text) set
+        × IsReplaced (codes "{h}") hexadecimal.now set (string_bytes copy.text)) }
+{
+    let text = line.text.as_str().replace(alloc, mark, decimal)?;
+    Ok(Numbered {
+        number: line.number,
+        text: text.as_str().replace(alloc, "{h}", hexadecimal)?,
+    })
+}
+
+/// The digits of a number in upper case hexadecimal: two, or as many as it has.
+fn hex_digits(alloc: Global, k: u16) -> Result<String, AllocError>
+    ensures { IfOk result (λ digits. IsHexOf k (string_bytes digits)) }
+{
+    if k < 256 {
+        return hex::encode_upper(alloc, &[k as u8]);
+    }
+    let digits = hex::encode_upper(alloc, &[(k / 256) as u8, (k % 256) as u8])?;
+    shortened(alloc, digits.as_str())
+}
+
+/// Digits without a zero in front, where one stands there.
+fn shortened(alloc: Global, digits: &str) -> Result<String, AllocError>
+    ensures { IfOk result (λ text. IsShortened digits.now (string_bytes text)) }
+{
+    match digits.strip_prefix("0") {
+        Some(rest) => String::from_str(alloc, rest),
+        None => String::from_str(alloc, digits),
+    }
 }

@@ -2,6 +2,7 @@ pub mod Carried
 pub mod Decoding
 pub mod Digits
 pub mod Ending
+pub mod Forms
 pub mod Kept
 pub mod Known
 pub mod LineSteps

@@ -18,6 +18,7 @@ use jc_card::power_up::PowerFault;
 use jc_card::response::Response;
 use jc_memory::{Note, Notes};
 use jc_words::{FuseStore, StoreDown, WordStore};
+use jcard_why::cuts::told_of_cut;
 use jcard_why::explanation::{Asked, told};
 use std::alloc::Global;
 
@@ -102,6 +103,36 @@ impl<S: WordStore> CardOrStore<S> {
         if let Some(cover) = explainer.cover() {
             cover.add(note, card.linked());
         }
+        if let Some(watch) = explainer.watch() {
+            watch.end(card.linked());
+        }
+    }
+
+    /// What an explainer wants to be told of a command within which the power was cut, by its note.
+    pub(crate) fn told_of_cut<E: Explainer>(
+        &self,
+        alloc: Global,
+        note: &Note,
+        explainer: &E,
+    ) -> Option<Vec<u8>> {
+        let CardOrStore::Card(card) = self else {
+            return None;
+        };
+        if !explainer.wanted()?.why {
+            return None;
+        }
+        let asked = Asked {
+            alloc,
+            note,
+            status: 0,
+            budget: card.budget(),
+            linked: card.linked(),
+            word_writes: 0,
+            free_words: 0,
+            map: explainer.map(),
+            lent_code: b"",
+        };
+        told_of_cut(&asked).ok()?
     }
 
     /// The budget that the card has, or has when it is up again.

@@ -3,6 +3,7 @@
 use crate::expectations::Expectations;
 use jcard_why::covers::Cover;
 use jcard_why::explanation::Wanted;
+use jcard_why::watches::Watch;
 
 /// Somebody who may be told what commands did. No answer depends on it.
 pub trait Explainer {
@@ -17,6 +18,9 @@ pub trait Explainer {
 
     /// Where it counts instructions, where it wants that.
     fn cover(&mut self) -> Option<&mut Cover>;
+
+    /// Where it watches word writes, where it wants that.
+    fn watch(&self) -> Option<&Watch>;
 
     /// Where it compares answers, where it wants that.
     fn expectations(&mut self) -> Option<&mut Expectations>;
@@ -41,6 +45,10 @@ impl Explainer for Unasked {
     fn tell(&mut self, _text: &[u8]) {}
 
     fn cover(&mut self) -> Option<&mut Cover> {
+        None
+    }
+
+    fn watch(&self) -> Option<&Watch> {
         None
     }
 

@@ -1,8 +1,10 @@
 //! Why a line of a script has no form.
-ghost use Rattle.std.specs.Prelude.{◌≡◌, ◌<◌, not, length, IfSome};
+ghost use Rattle.std.specs.Prelude.{◌≡◌, ◌≢◌, ◌<◌, not, length, IfSome, MatchOption};
 ghost use Rattle.std.specs.List.{position};
 ghost use Rattle.jcard_script.specs.RefusedLines.{fault_at, fault_of, is_of_command};
+ghost use Rattle.jcard_script.specs.Script.{Bad, form_of};
 
+use crate::line::{Line, LineRequest};
 use itoa::Buffer;
 use std::alloc::{AllocError, Global};
 
@@ -17,6 +19,22 @@ pub enum LineFault {
     OddDigits,
     /// Behind `stop` stands no number from 0 to 65535.
     NoNumber,
+}
+
+/// Why a line has no form; nothing, where it has one.
+pub fn refusal_of(line: &[u8]) -> Option<LineFault>
+    ensures { MatchOption result (form_of line.now ≢ Bad)
+        (λ fault. (form_of line.now ≡ Bad) × (fault ≡ fault_of line.now)) }
+{
+    let mut read = Line::empty();
+    read.push_all(line);
+    match read.last() {
+        LineRequest::Refused => Some(fault_of(line)),
+        LineRequest::Nothing => None,
+        LineRequest::Exchange(_command) => None,
+        LineRequest::Reset => None,
+        LineRequest::ArmFuse(_count) => None,
+    }
 }
 
 /// Why a line has no form, where it has none: the first byte that no command has, else the number of its digits.
@@ -68,22 +86,25 @@ pub fn remark_of(alloc: Global, line: u32, fault: LineFault) -> Result<Vec<u8>, 
     let mut text = Vec::new(alloc);
     text.extend_from_slice(b"jcard: line ")?;
     push_number(&mut text, u64::from(line))?;
+    told_fault(&mut text, fault)?;
+    Ok(text)
+}
+
+/// Adds what a remark says behind the number of the line, with a line feed.
+pub fn told_fault(text: &mut Vec<u8>, fault: LineFault) -> Result<(), AllocError> {
     match fault {
         LineFault::NoDigit { column, byte } => {
-            push_column(&mut text, column)?;
-            push_byte(&mut text, byte)?;
-            text.extend_from_slice(b" is no hexadecimal digit\n")?;
+            push_column(text, column)?;
+            push_byte(text, byte)?;
+            text.extend_from_slice(b" is no hexadecimal digit\n")
         }
         LineFault::CommentBehind { column } => {
-            push_column(&mut text, column)?;
-            text.extend_from_slice(b"a comment stands in a line of its own\n")?;
+            push_column(text, column)?;
+            text.extend_from_slice(b"a comment stands in a line of its own\n")
         }
-        LineFault::OddDigits => text.extend_from_slice(b": an odd number of digits\n")?,
-        LineFault::NoNumber => {
-            text.extend_from_slice(b": stop takes a number from 0 to 65535\n")?;
-        }
+        LineFault::OddDigits => text.extend_from_slice(b": an odd number of digits\n"),
+        LineFault::NoNumber => text.extend_from_slice(b": stop takes a number from 0 to 65535\n"),
     }
-    Ok(text)
 }
 
 fn push_number(text: &mut Vec<u8>, number: u64) -> Result<(), AllocError> {

@@ -95,12 +95,11 @@ pub fn run_script_explained<S: WordStore + Drop, R: TextIn, W: TextOut, E: Expla
     // Its fuse let no more writes pass than it was set to.
     ensures within { IsWithinFuse result.0.passed result.0.refusals.fuse }
 {
-    let (mut session, started) = Session::start(
-        alloc,
-        fuse,
-        budget,
-        notes_for(alloc, explainer.wanted()),
-    );
+    let notes = notes_for(alloc, explainer.wanted());
+    if let Some(watch) = explainer.watch() {
+        watch.follow(notes.share());
+    }
+    let (mut session, started) = Session::start(alloc, fuse, budget, notes);
     if let Err(fault) = started {
         return (session.into_store(), Err(ScriptFault::PowerFault(fault)));
     }

@@ -50,6 +50,9 @@ pub(crate) struct Session<S: WordStore> {
     response: Response,
     // The last command, where notes are kept.
     command: ArrayVec<u8, 262>,
+    // What is to be told of the last command within which the power was cut, and the number of its line.
+    cut: Option<Vec<u8>>,
+    cut_number: u32,
 }
 
 impl<S: WordStore + Drop> Session<S> {
@@ -77,6 +80,8 @@ impl<S: WordStore + Drop> Session<S> {
             passed_before: 0,
             response: Response::empty(),
             command: ArrayVec::new(),
+            cut: None,
+            cut_number: 0,
         };
         (session, started)
     }
@@ -96,6 +101,8 @@ impl<S: WordStore + Drop> Session<S> {
             passed_before: _,
             response: _,
             command: _,
+            cut: _,
+            cut_number: _,
         } = self;
         let store = held.unwrap().into_store();
         let _within = store.passed_writes();
@@ -260,7 +267,7 @@ impl<S: WordStore + Drop> Session<S> {
         ensures writes { W.failures writer.new ≡ failures_after (W.failures writer.old)
             (is_write_failed result) }
     {
-        match self.reply(asked) {
+        match self.reply(asked, explainer) {
             Ok(reply) => self.write(reply, writer, explainer),
             Err(fault) => {
                 self.remark_on(fault, explainer);
@@ -297,7 +304,7 @@ impl<S: WordStore + Drop> Session<S> {
         ensures writes { W.failures writer.new ≡ failures_after (W.failures writer.old)
             (is_write_failed result) }
     {
-        let reply = self.exchange(command);
+        let reply = self.exchange(command, explainer);
         self.write(reply, writer, explainer)
     }
 
@@ -331,6 +338,7 @@ impl<S: WordStore + Drop> Session<S> {
             self.compare(reply, expectations);
         }
         let Reply::Answer = reply else {
+            self.tell_of_cut(reply, explainer);
             return;
         };
         let Some(note) = self.notes.take() else {
@@ -351,6 +359,22 @@ impl<S: WordStore + Drop> Session<S> {
         }
     }
 
+    // Tells who asks that the power was cut within a command, or came back.
+    fn tell_of_cut<E: Explainer>(&self, reply: Reply, explainer: &mut E) {
+        if let Some(watch) = explainer.watch() {
+            watch.forget();
+        }
+        let Reply::Down = reply else {
+            return;
+        };
+        if self.cut_number != self.number {
+            return;
+        }
+        if let Some(text) = &self.cut {
+            explainer.tell(text);
+        }
+    }
+
     // Compares an answer with what the next comment expects, and this with a comment.
     fn compare(&self, reply: Reply, expectations: &mut Expectations) {
         match reply {
@@ -363,7 +387,11 @@ impl<S: WordStore + Drop> Session<S> {
     }
 
     // What is to be written for the line with the session's number.
-    fn reply(&mut self, asked: LineRequest) -> Result<Reply, ScriptFault>
+    fn reply<E: Explainer>(
+        &mut self,
+        asked: LineRequest,
+        explainer: &E,
+    ) -> Result<Reply, ScriptFault>
         requires held { IsState self.old.held }
         ensures held { IsState self.new.held }
         ensures number { self.new.number ≡ self.old.number }
@@ -377,7 +405,7 @@ impl<S: WordStore + Drop> Session<S> {
         match asked {
             LineRequest::Nothing => Ok(Reply::Silent),
             LineRequest::Refused => Err(ScriptFault::BadLine(self.number)),
-            LineRequest::Exchange(command) => Ok(self.exchange(command.as_slice())),
+            LineRequest::Exchange(command) => Ok(self.exchange(command.as_slice(), explainer)),
             LineRequest::Reset => match self.reset() {
                 Ok(reply) => Ok(reply),
                 Err(fault) => Err(ScriptFault::PowerFault(fault)),
@@ -387,7 +415,7 @@ impl<S: WordStore + Drop> Session<S> {
     }
 
     // What is to be written for a command: the card's response; `down` where the card is down, or goes down at it.
-    fn exchange(&mut self, command: &[u8]) -> Reply
+    fn exchange<E: Explainer>(&mut self, command: &[u8], explainer: &E) -> Reply
         requires held { IsState self.old.held }
         ensures held { IsState self.new.held }
         ensures number { self.new.number ≡ self.old.number }
@@ -404,13 +432,13 @@ impl<S: WordStore + Drop> Session<S> {
                 return Reply::Answer;
             }
         }
-        self.go_down(budget)
+        self.go_down(budget, explainer)
     }
 
     // The store is all that is left of the card, which has this budget when it is up again.
     #[cold]
     #[inline(never)]
-    fn go_down(&mut self, budget: u32) -> Reply
+    fn go_down<E: Explainer>(&mut self, budget: u32, explainer: &E) -> Reply
         requires some { IsSome self.old.held }
         ensures held { IsState self.new.held }
         ensures number { self.new.number ≡ self.old.number }
@@ -419,7 +447,10 @@ impl<S: WordStore + Drop> Session<S> {
         ensures down { (store : FuseStoreValue) × IsSessionStore (state_of_held self.old.held) store
             × (state_of_held self.new.held ≡ Off budget store) }
     {
-        let left = self.held.take().unwrap().into_store();
+        let held = self.held.take().unwrap();
+        self.cut = cut_text(self.alloc, &held, &self.notes, explainer);
+        self.cut_number = self.number;
+        let left = held.into_store();
         self.held = Some(CardOrStore::Store(left, budget));
         Reply::Down
     }
@@ -469,6 +500,17 @@ impl<S: WordStore + Drop> Session<S> {
         self.held = Some(held.with_fuse(u64::from(k)));
         Reply::Armed(k)
     }
+}
+
+// What is to be told of the command within which the power was cut.
+fn cut_text<S: WordStore, E: Explainer>(
+    alloc: Global,
+    held: &CardOrStore<S>,
+    notes: &Notes,
+    explainer: &E,
+) -> Option<Vec<u8>> {
+    let note = notes.take()?;
+    held.told_of_cut(alloc, &note, explainer)
 }
 
 // A command, where notes are kept.

@@ -86,25 +86,25 @@ memory_logged fault e = subst IsLogFault (sym e) tt
 -- ---- too many cuts
 
 -- of all cuts up to the most the last is past them
-pub cuts_past : (words : List ℕ) (c : Command) (spared : List ℕ) (objects : Option ImageObjects) (before after : Left) (k : ℕ) (cuts : List Cut)
-    → AreCuts words c spared objects before after k cuts → 0 < length cuts → 65535 ≤ k + length cuts → IsCutPast words c 1
+pub cuts_past : (words : List ℕ) (c : Command) (spared lenient : List ℕ) (objects : Option ImageObjects) (before after : Left) (k : ℕ) (cuts : List Cut)
+    → AreCuts words c spared lenient objects before after k cuts → 0 < length cuts → 65535 ≤ k + length cuts → IsCutPast words c 1
 unfolding AreCuts
-cuts_past words c spared objects before after k [] a some most = absurd (omega (arith, some))
-cuts_past words c spared objects before after k (x ∷ []) a some most = (k, a.0.0, x.recoveries, a.0.1, inl (omega (arith, most)))
-cuts_past words c spared objects before after k (x ∷ y ∷ ys) a some most =
-    cuts_past words c spared objects before after (k + 1) (y ∷ ys) a.1 (omega arith) (omega (arith, most))
+cuts_past words c spared lenient objects before after k [] a some most = absurd (omega (arith, some))
+cuts_past words c spared lenient objects before after k (x ∷ []) a some most = (k, a.0.0, x.recoveries, a.0.1, inl (omega (arith, most)))
+cuts_past words c spared lenient objects before after k (x ∷ y ∷ ys) a some most =
+    cuts_past words c spared lenient objects before after (k + 1) (y ∷ ys) a.1 (omega arith) (omega (arith, most))
 
 -- the last of each n-th cut is past the most, if the next one would be
-pub every_past : (words : List ℕ) (c : Command) (spared : List ℕ) (objects : Option ImageObjects) (before after : Left) (k n : ℕ) (cuts : List Cut)
-    → AreEvery words c spared objects before after k n cuts → 0 < length cuts → (65535 ≤ k + n * length cuts) ⊎ (n ≡ 0) → IsCutPast words c n
+pub every_past : (words : List ℕ) (c : Command) (spared lenient : List ℕ) (objects : Option ImageObjects) (before after : Left) (k n : ℕ) (cuts : List Cut)
+    → AreEvery words c spared lenient objects before after k n cuts → 0 < length cuts → (65535 ≤ k + n * length cuts) ⊎ (n ≡ 0) → IsCutPast words c n
 unfolding AreEvery
-every_past words c spared objects before after k n [] a some most = absurd (omega (arith, some))
-every_past words c spared objects before after k n (x ∷ []) a some (inl most) = (k, a.0.0, x.recoveries, a.0.1, inl (omega (arith, most)))
-every_past words c spared objects before after k n (x ∷ []) a some (inr none) = (k, a.0.0, x.recoveries, a.0.1, inr none)
-every_past words c spared objects before after k n (x ∷ y ∷ ys) a some (inl most) =
-    every_past words c spared objects before after (k + n) n (y ∷ ys) a.1 (omega arith) (inl (omega (arith, mul-suc n (length (y ∷ ys)), most)))
-every_past words c spared objects before after k n (x ∷ y ∷ ys) a some (inr none) =
-    every_past words c spared objects before after (k + n) n (y ∷ ys) a.1 (omega arith) (inr none)
+every_past words c spared lenient objects before after k n [] a some most = absurd (omega (arith, some))
+every_past words c spared lenient objects before after k n (x ∷ []) a some (inl most) = (k, a.0.0, x.recoveries, a.0.1, inl (omega (arith, most)))
+every_past words c spared lenient objects before after k n (x ∷ []) a some (inr none) = (k, a.0.0, x.recoveries, a.0.1, inr none)
+every_past words c spared lenient objects before after k n (x ∷ y ∷ ys) a some (inl most) =
+    every_past words c spared lenient objects before after (k + n) n (y ∷ ys) a.1 (omega arith) (inl (omega (arith, mul-suc n (length (y ∷ ys)), most)))
+every_past words c spared lenient objects before after k n (x ∷ y ∷ ys) a some (inr none) =
+    every_past words c spared lenient objects before after (k + n) n (y ∷ ys) a.1 (omega arith) (inr none)
 
 -- a step as often as cuts are counted comes past them, if it is one
 pub steps_past : (first n m : ℕ) → 65535 ≤ m → (65535 ≤ first + n * m) ⊎ (n ≡ 0)

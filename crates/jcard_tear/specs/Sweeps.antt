@@ -1,7 +1,6 @@
 -- A command of a script that is cut after each number of its word writes.
 use Rattle.std.specs.Prelude.{ℕ, ◌≡◌, ◌+◌, ◌-◌, ◌<◌, ◌≤◌, ◌≢◌, ◌⊎◌, true, false, List, [], ◌∷◌, ◌++◌, codes, decimal, drop, take, length, slice_index, Option, Some, None}
 use Rattle.jc_words.specs.Stores.{FuseStoreValue}
-use Rattle.jc_card.specs.Dispatching.{usual_budget}
 use Rattle.jc_objects.specs.Pins.{AreTriesIn}
 use Rattle.jc_objects.specs.declared.image_objects.ImageObjects.{ImageObjects}
 use Rattle.jcard_outcomes.specs.Standings.{IsStanding, lost_of}
@@ -20,9 +19,9 @@ use Rattle.jcard_tear.specs.Told.{AreObjectsAsked, IsTold}
 use Rattle.jcard_tear.specs.declared.cuts.Behind.{Behind}
 use Rattle.jcard_tear.specs.declared.cuts.Command.{Command}
 
--- nothing but the answers of the probe
-abbrev pub nothing_more : Behind
-nothing_more = record { depth = Zero; objects = false; instructions = usual_budget }
+-- nothing but the answers of the probe, with at most so many instructions a command
+abbrev pub nothing_more : ℕ → Behind
+nothing_more n = record { depth = Zero; objects = false; instructions = n }
 
 -- the script up to the command, with the power cut after so many of its writes
 abbrev pub cut_script : Command → ℕ → List ℕ
@@ -38,18 +37,18 @@ abbrev pub IsUncutAt : List ℕ → Command → ℕ → Type 0
 IsUncutAt words c k = (text : List ℕ) × (after : FuseStoreValue) × Runs c.behind.instructions words (cut_script c k) text after × (after.down ≡ false)
 
 -- a cut that left this is told so
-abbrev pub IsToldAs : List ℕ → Option ImageObjects → Left → Left → Left → Cut → Type 0
-IsToldAs spared objects before after left cut = IsTold objects left cut.answers.items
-    × IsStanding spared before after left.words.items left.answers.items cut.standing × (cut.lost ≡ lost_of cut.standing before.words.items left.words.items)
+abbrev pub IsToldAs : List ℕ → List ℕ → Option ImageObjects → Left → Left → Left → Cut → Type 0
+IsToldAs spared lenient objects before after left cut = IsTold objects left cut.answers.items
+    × IsStanding spared lenient before after left.words.items left.answers.items cut.standing × (cut.lost ≡ lost_of cut.standing before.words.items left.words.items)
 
 -- what a cut left is told so
-abbrev pub IsToldCut : List ℕ → Command → List ℕ → Option ImageObjects → Left → Left → ℕ → Cut → Type 0
-IsToldCut words c spared objects before after k cut = (left : Left) × IsCutAt words c k left cut.recoveries × IsToldAs spared objects before after left cut
+abbrev pub IsToldCut : List ℕ → Command → List ℕ → List ℕ → Option ImageObjects → Left → Left → ℕ → Cut → Type 0
+IsToldCut words c spared lenient objects before after k cut = (left : Left) × IsCutAt words c k left cut.recoveries × IsToldAs spared lenient objects before after left cut
 
 -- what the cuts after k, k + 1, .. writes left is told so
-unfoldable pub AreCuts : List ℕ → Command → List ℕ → Option ImageObjects → Left → Left → ℕ → List Cut → Type 0
-AreCuts words c spared objects before after k [] = Unit {0}
-AreCuts words c spared objects before after k (cut ∷ cuts) = IsToldCut words c spared objects before after k cut × AreCuts words c spared objects before after (k + 1) cuts
+unfoldable pub AreCuts : List ℕ → Command → List ℕ → List ℕ → Option ImageObjects → Left → Left → ℕ → List Cut → Type 0
+AreCuts words c spared lenient objects before after k [] = Unit {0}
+AreCuts words c spared lenient objects before after k (cut ∷ cuts) = IsToldCut words c spared lenient objects before after k cut × AreCuts words c spared lenient objects before after (k + 1) cuts
 
 -- the last line of a text, without its line feed
 abbrev pub IsLastLine : List ℕ → List ℕ → Type 0
@@ -72,11 +71,12 @@ IsMeasured words c spared objects after s = IsDone words c s.answer.items after 
     × IsTold objects after s.after.answers.items × AreTriesIn after.words.items spared × AreObjectsAsked c.behind.objects s.before objects
 
 -- what was before a command and what it leaves, its answer, and what is left of it after each number of its writes, up to the first
--- that does not cut it. The words with the tries left of the OwnerPINs that stand behind it are spared in each comparison
+-- that does not cut it. The words with the tries left of the OwnerPINs that stand behind it are spared in each comparison. Words are told as
+-- written by non-atomic calls: no clause says which
 pub record IsSwept (words : List ℕ) (c : Command) (s : Sweep) : Type 0 where
   pub begun : IsBegun words c s.before
-  pub cuts : (spared : List ℕ) × (objects : Option ImageObjects) × (after : Left) × IsMeasured words c spared objects after s
-      × AreCuts words c spared objects s.before after 0 s.cuts.items
+  pub cuts : (spared by_calls : List ℕ) × (objects : Option ImageObjects) × (after : Left) × IsMeasured words c spared objects after s
+      × AreCuts words c spared (spared ++ by_calls) objects s.before after 0 s.cuts.items
   pub uncut : IsUncutAt words c (length s.cuts.items)
   pub depth : s.depth ≡ c.behind.depth
 

@@ -2,7 +2,7 @@
 ghost use Rattle.std.specs.Prelude.{◌≡◌, ◌<◌, ◌++◌, ◌∷◌, ℕ, [], length, IfOk, MatchOption, MatchResult};
 ghost use Rattle.jcard_tear.specs.declared.tearing.TearFault.TheVariants.{NoMemory};
 ghost use Rattle.jcard_tear.specs.Faults.{IsUncutFor};
-ghost use Rattle.jcard_tear.specs.Sweeps.{AreCuts, IsCutAt, IsToldAs, IsUncutAt, cut_script};
+ghost use Rattle.jcard_tear.specs.Sweeps.{AreCuts, IsCutAt, IsToldAs, IsUncutAt, cut_script, nothing_more};
 ghost use Rattle.jcard_tear.specs.Told.{AreOfImage};
 
 use crate::progress::Progress;
@@ -11,7 +11,6 @@ use crate::runs::run_copy;
 use crate::tearing::{TearFault, left_by_probe, probe_fault};
 use crate::told::told;
 use itoa::Buffer;
-use jc_card::card::USUAL_BUDGET;
 use jc_objects::image_objects::ImageObjects;
 use jcard_outcomes::recoveries::{Depth, Recoveries};
 use jcard_outcomes::standing::{Cut, Left, lost_of, standing_of};
@@ -30,12 +29,18 @@ pub struct Behind {
     pub instructions: u32,
 }
 
-/// What comes behind a cut where only the answers of the probe are asked for.
-pub const NOTHING_MORE: Behind = Behind {
-    depth: Depth::Zero,
-    objects: false,
-    instructions: USUAL_BUDGET,
-};
+impl Behind {
+    /// What comes behind a cut where only the answers of the probe are asked for.
+    pub fn nothing_more(instructions: u32) -> Behind
+        ensures { result ≡ nothing_more instructions }
+    {
+        Behind {
+            depth: Depth::Zero,
+            objects: false,
+            instructions,
+        }
+    }
+}
 
 /// A command of a script: the text before its line, its line, what is asked after a reset, and what else comes behind each of its
 /// cuts.
@@ -53,6 +58,7 @@ pub(crate) fn cut_all<P: Progress>(
     words: &[u16],
     command: Command,
     spared: &[u16],
+    lenient: &[u16],
     objects: &Option<ImageObjects>,
     before: &Left,
     after: &Left,
@@ -61,7 +67,7 @@ pub(crate) fn cut_all<P: Progress>(
     requires short { length words.now < 65536 }
     requires whole { AreOfImage objects.now }
     ensures { MatchResult result
-        (λ cuts. AreCuts words.now command.entry spared.now objects.now before.now after.now 0 cuts.items
+        (λ cuts. AreCuts words.now command.entry spared.now lenient.now objects.now before.now after.now 0 cuts.items
         × IsUncutAt words.now command.entry (length cuts.items))
         (λ fault. IsUncutFor words.now command.entry 1 fault) }
 {
@@ -71,7 +77,9 @@ pub(crate) fn cut_all<P: Progress>(
         let Some((left, recoveries)) = cut_at(alloc, words, command, number)? else {
             return Ok(cuts);
         };
-        let cut = told_cut(alloc, spared, objects, before, after, &left, recoveries)?;
+        let cut = told_cut(
+            alloc, spared, lenient, objects, before, after, &left, recoveries,
+        )?;
         push_cut(&mut cuts, cut)?;
     }
     Err(TearFault::TooManyCuts)
@@ -81,6 +89,7 @@ pub(crate) fn cut_all<P: Progress>(
 pub(crate) fn told_cut(
     alloc: Global,
     spared: &[u16],
+    lenient: &[u16],
     objects: &Option<ImageObjects>,
     before: &Left,
     after: &Left,
@@ -89,11 +98,11 @@ pub(crate) fn told_cut(
 ) -> Result<Cut, AllocError>
     requires { AreOfImage objects.now }
     ensures told { IfOk result
-        (λ cut. IsToldAs spared.now objects.now before.now after.now left.now cut) }
+        (λ cut. IsToldAs spared.now lenient.now objects.now before.now after.now left.now cut) }
     ensures recoveries { IfOk result (λ cut. cut.recoveries ≡ recoveries) }
 {
     let answers = told(alloc, objects, left)?;
-    let standing = standing_of(spared, before, after, &left.words, &left.answers);
+    let standing = standing_of(spared, lenient, before, after, &left.words, &left.answers);
     let lost = lost_of(standing, before, &left.words);
     Ok(Cut {
         standing,

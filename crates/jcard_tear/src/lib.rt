@@ -12,3 +12,4 @@ pub mod runs;
 pub mod script_lines;
 pub mod tearing;
 mod told;
+mod watched;

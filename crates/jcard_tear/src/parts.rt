@@ -12,7 +12,7 @@ use crate::each::probe_for;
 use crate::names::sweep_name;
 use crate::progress::Progress;
 use crate::script_lines::ScriptLine;
-use crate::tearing::{TearFault, begun, done, tries_in};
+use crate::tearing::{TearFault, begun, done, joined, tries_in};
 use crate::told::{left_told, objects_asked};
 use jc_objects::image_objects::ImageObjects;
 use jcard_outcomes::part::Part;
@@ -72,12 +72,13 @@ pub fn tear_part<P: Progress>(
         (λ fault. IsUncutFor words.now command.entry step fault) }
     ensures below { IfOk result (λ part. part.first + part.step * length part.sweep.cuts.items < 65536) }
 {
-    let (answer, after) = done(alloc, words, command)?;
+    let (answer, after, by_calls) = done(alloc, words, command)?;
     let before = begun(alloc, words, command)?;
     let spared = tries_in(alloc, &after)?;
+    let lenient = joined(alloc, &spared, &by_calls)?;
     let objects = objects_asked(alloc, command.behind.objects, &before)?;
     let cuts = cut_every(
-        alloc, words, command, &spared, &objects, &before, &after, first, step, progress,
+        alloc, words, command, &spared, &lenient, &objects, &before, &after, first, step, progress,
     )?;
     let after = left_told(alloc, &objects, after)?;
     let name = sweep_name(alloc, words, command, step)?;
@@ -101,6 +102,7 @@ fn cut_every<P: Progress>(
     words: &[u16],
     command: Command,
     spared: &[u16],
+    lenient: &[u16],
     objects: &Option<ImageObjects>,
     before: &Left,
     after: &Left,
@@ -111,7 +113,7 @@ fn cut_every<P: Progress>(
     requires short { length words.now < 65536 }
     requires whole { AreOfImage objects.now }
     ensures cut { MatchResult result
-        (λ cuts. AreEvery words.now command.entry spared.now objects.now before.now after.now first step cuts.items
+        (λ cuts. AreEvery words.now command.entry spared.now lenient.now objects.now before.now after.now first step cuts.items
         × IsUncutAt words.now command.entry (first + step * length cuts.items))
         (λ fault. IsUncutFor words.now command.entry step fault) }
     ensures below { IfOk result (λ cuts. first + step * length cuts.items < 65536) }
@@ -123,7 +125,9 @@ fn cut_every<P: Progress>(
         let Some((left, recoveries)) = cut_at(alloc, words, command, number)? else {
             return Ok(cuts);
         };
-        let cut = told_cut(alloc, spared, objects, before, after, &left, recoveries)?;
+        let cut = told_cut(
+            alloc, spared, lenient, objects, before, after, &left, recoveries,
+        )?;
         push_cut(&mut cuts, cut)?;
         let Some(next) = number.checked_add(step) else {
             return Err(TearFault::TooManyCuts);

@@ -7,11 +7,11 @@ ghost use Rattle.jc_commit.specs.Image.{plain_of, recovered_of};
 ghost use Rattle.jc_commit.specs.Migration.{migrated};
 
 use crate::kept_text::KeptText;
+use crate::watched::{WatchedStore, Watcher};
 use jc_card::power_up::PowerFault;
 use jc_commit::Journal;
 use jc_words::{FuseStore, MemStore, WordStore};
 use jcard_outcomes::standing::Left;
-use jcard_script::explainer::Unasked;
 use jcard_script::mem_text::MemText;
 use jcard_script::script::{ScriptFault, run_script_explained};
 use std::alloc::{AllocError, Global};
@@ -42,12 +42,14 @@ impl From<AllocError> for RunFault {
     }
 }
 
-/// Carries out a script on the card of these words, with at most so many instructions a command.
+/// Carries out a script on the card of these words, with at most so many instructions a command. A watcher may ask which words its
+/// non-atomic calls write.
 pub(crate) fn run(
     alloc: Global,
     words: Vec<u16>,
     script: &[u8],
     budget: u32,
+    watcher: &mut Watcher,
 ) -> Result<Ran, RunFault>
     requires { vec_len words < 65536 }
     ensures ran { MatchResult result (λ ran. HasRun budget words.items script.now ran)
@@ -56,19 +58,20 @@ pub(crate) fn run(
 {
     let mut reader = MemText::new(alloc, script, 0)?;
     let mut writer = KeptText::new(alloc);
-    let store = FuseStore::new(MemStore::of(words));
+    let watch = watcher.shared()?;
+    let store = FuseStore::new(WatchedStore::of(words, watch));
     let (store, ended) = run_script_explained(
         alloc,
         store,
         budget,
         &mut reader,
         &mut writer,
-        &mut Unasked,
+        watcher,
     );
     match ended {
         Ok(()) => Ok(Ran {
             is_down: store.is_down(),
-            words: words_of(store),
+            words: watched_words(store),
             text: writer.into_bytes(),
         }),
         Err(ScriptFault::WriteFailed) => Err(RunFault::NoMemory),
@@ -88,8 +91,24 @@ pub(crate) fn run_copy(
         (λ fault. IsRunFault budget words.now script.now fault) }
     ensures short { IfOk result (λ ran. vec_len ran.words < 65536) }
 {
+    run_watched(alloc, words, script, budget, &mut Watcher::nobody())
+}
+
+/// The same with a watcher.
+pub(crate) fn run_watched(
+    alloc: Global,
+    words: &[u16],
+    script: &[u8],
+    budget: u32,
+    watcher: &mut Watcher,
+) -> Result<Ran, RunFault>
+    requires { length words.now < 65536 }
+    ensures ran { MatchResult result (λ ran. HasRun budget words.now script.now ran)
+        (λ fault. IsRunFault budget words.now script.now fault) }
+    ensures short { IfOk result (λ ran. vec_len ran.words < 65536) }
+{
     let copy = Vec::from_slice(alloc, words)?;
-    run(alloc, copy, script, budget)
+    run(alloc, copy, script, budget, watcher)
 }
 
 /// Carries out a whole script, to see whether that can be done.
@@ -122,7 +141,7 @@ pub(crate) fn left(
 {
     let copy = Vec::from_slice(alloc, &words)?;
     let found = recovered(copy)?;
-    let probed = run(alloc, words, probe, budget)?;
+    let probed = run(alloc, words, probe, budget, &mut Watcher::nobody())?;
     Ok(Left {
         words: found,
         answers: probed.text,
@@ -146,6 +165,15 @@ pub(crate) fn words_of(store: FuseStore<MemStore>) -> Vec<u16>
     ensures words { result.items ≡ store.words }
     ensures short { vec_len result < 65536 }
     ensures refuses_none { store.refusals.faults ≡ 0 }
+{
+    let _size = store.size();
+    store.into_store().into_words()
+}
+
+// The words of a store whose writes may be watched.
+fn watched_words(store: FuseStore<WatchedStore>) -> Vec<u16>
+    ensures words { result.items ≡ store.words }
+    ensures short { vec_len result < 65536 }
 {
     let _size = store.size();
     store.into_store().into_words()

@@ -1,5 +1,5 @@
 //! A command that is cut after each number of its writes, beside what was before it and what it leaves.
-ghost use Rattle.std.specs.Prelude.{◌≡◌, ◌<◌, ℕ, length, vec_len, MatchResult};
+ghost use Rattle.std.specs.Prelude.{◌≡◌, ◌<◌, ◌++◌, ℕ, length, vec_len, IfOk, MatchResult};
 ghost use Rattle.jcard_tear.specs.declared.tearing.TearFault.TheVariants.{NoMemory};
 ghost use Rattle.jcard_tear.specs.Sweeps.{IsBegun, IsDone, IsLastLine, IsSwept};
 ghost use Rattle.jcard_tear.specs.Runs.{IsLeft};
@@ -8,8 +8,9 @@ ghost use Rattle.jc_objects.specs.Pins.{AreTriesIn};
 
 use crate::cuts::{Command, cut_all};
 use crate::progress::Progress;
-use crate::runs::{RunFault, left, run_copy};
+use crate::runs::{RunFault, left, run_copy, run_watched};
 use crate::told::{left_told, objects_asked};
+use crate::watched::Watcher;
 use jc_card::power_up::PowerFault;
 use jc_objects::image_objects::ImageFault;
 use jc_objects::pins::try_words;
@@ -51,12 +52,13 @@ pub fn tear<P: Progress>(
     ensures { MatchResult result (λ sweep. IsSwept words.now command.entry sweep)
         (λ fault. IsUncutFor words.now command.entry 1 fault) }
 {
-    let (answer, after) = done(alloc, words, command)?;
+    let (answer, after, by_calls) = done(alloc, words, command)?;
     let before = begun(alloc, words, command)?;
     let spared = tries_in(alloc, &after)?;
+    let lenient = joined(alloc, &spared, &by_calls)?;
     let objects = objects_asked(alloc, command.behind.objects, &before)?;
     let cuts = cut_all(
-        alloc, words, command, &spared, &objects, &before, &after, progress,
+        alloc, words, command, &spared, &lenient, &objects, &before, &after, progress,
     )?;
     let after = left_told(alloc, &objects, after)?;
     Ok(Sweep {
@@ -68,25 +70,42 @@ pub fn tear<P: Progress>(
     })
 }
 
-// The answer of a command that is not cut, and what it leaves.
+// These words, and those.
+pub(crate) fn joined(alloc: Global, these: &[u16], those: &[u16]) -> Result<Vec<u16>, AllocError>
+    ensures { IfOk result (λ joined. joined.items ≡ these.now ++ those.now) }
+{
+    let mut joined = Vec::from_slice(alloc, these)?;
+    joined.extend_from_slice(those)?;
+    Ok(joined)
+}
+
+// The answer of a command that is not cut, what it leaves, and which words its non-atomic calls write.
 pub(crate) fn done(
     alloc: Global,
     words: &[u16],
     command: Command,
-) -> Result<(Vec<u8>, Left), TearFault>
+) -> Result<(Vec<u8>, Left, Vec<u16>), TearFault>
     requires { length words.now < 65536 }
     ensures { MatchResult result (λ r. IsDone words.now command.entry r.0.items r.1)
         (λ fault. (step : ℕ) → IsUncutFor words.now command.entry step fault) }
 {
     let mut script = Vec::from_slice(alloc, command.before)?;
     script.extend_from_slice(command.line)?;
-    let ran = run_copy(alloc, words, &script, command.behind.instructions)?;
+    let mut watcher = Watcher::new(alloc)?;
+    let ran = run_watched(
+        alloc,
+        words,
+        &script,
+        command.behind.instructions,
+        &mut watcher,
+    )?;
     if ran.is_down {
         return Err(TearFault::Down);
     }
     let answer = Vec::from_slice(alloc, last_line(&ran.text))?;
+    let by_calls = watcher.words(alloc)?;
     let left = left_by_probe(alloc, ran.words, command.probe, command.behind.instructions)?;
-    Ok((answer, left))
+    Ok((answer, left, by_calls))
 }
 
 // What is left by the lines before a command.

@@ -4,7 +4,7 @@ use Rattle.std.specs.Str.{bytes_eq}
 use Rattle.std.specs.List.{position_or_len}
 use Rattle.std.specs.Prelude.{position, All, Any, IfOk, IfErr, IsSomeAnd, MatchResult, OnOk, option_map, slice_index_or}
 use Rattle.std.specs.declared.alloc.AllocError.{AllocError}
-use Rattle.jcard_outcomes.specs.Reports.{broken_told, first_broken}
+use Rattle.jcard_outcomes.specs.Reports.{broken_by_calls, broken_told, first_broken}
 use Rattle.jcard_outcomes.specs.declared.report.Sweep.{Sweep}
 use Rattle.jcard_tear.specs.ScriptLines.{Line as TornLine}
 use Rattle.jcard_tear.specs.Sweeps.{IsLineSwept, nothing_more}
@@ -13,7 +13,6 @@ use Rattle.std.proofs.lemmas.List.{drop_all, get_or_default, length-map, length-
 use Rattle.std.proofs.lemmas.List.Elements.{All-append}
 use Rattle.std.proofs.lemmas.Bool.{cases_lt}
 use Rattle.jcard_rows.proofs.Items.{drop_at}
-use Rattle.jcard_rows.proofs.Numbering.{get_or_texts}
 use Rattle.std.specs.String.{string_bytes}
 use Rattle.jcard_rows.specs.Cards.{AreCardsOf}
 use Rattle.jcard_rows.specs.Lines.{Says}
@@ -131,6 +130,12 @@ tested_next q files i d ts next deeds t last h a p n =
 pub reads_more : (first more : List FileDeed) → All IsReading first → All IsReading more → All IsReading (first ++ more)
 reads_more first more a b = All-append IsReading first more a b
 
+-- a text at a place
+get_or_texts : (texts : List (Bor (List ℕ))) (i : ℕ) (d : Bor (List ℕ)) → get_or (names_of texts) i d.now ≡ (get_or texts i d).now
+get_or_texts [] i d = refl
+get_or_texts (x ∷ xs) zero d = refl
+get_or_texts (x ∷ xs) (suc i) d = get_or_texts xs i d
+
 -- what holds of the name of one file
 pub any_at : (P : List ℕ → Type 0) (files : List (Bor (List ℕ))) (i : ℕ) (d : Bor (List ℕ)) → i < length files → P (get_or files i d).now
     → Any P (names_of files)
@@ -171,22 +176,22 @@ ended_by p card passed (Ok (Some f)) e h = (e.0, e.1, inr (e.2, h))
 ended_by p card passed (Err fault) e h = h
 
 -- what is told of the cuts of a line
-told_by : (w : List ℕ) (l : TornLine) (sweep : Sweep) (found : Option (List ℕ)) (first : Option ℕ) → IsLineSwept w None nothing_more l sweep
-    → first_broken 0 sweep.cuts.items ≡ first → found ≡ option_map broken_told first → IsToldOfLine w l found
-told_by w l sweep found None swept e is = subst (IsToldOfLine w l) (sym is) (sweep, swept, e)
-told_by w l sweep found (Some k) swept e is = subst (IsToldOfLine w l) (sym is) (inl (sweep, swept, (k, e, refl)))
+told_by : (budget : ℕ) (w : List ℕ) (l : TornLine) (sweep : Sweep) (found : Option (List ℕ)) (first : Option ℕ) → IsLineSwept w None (nothing_more budget) l sweep
+    → first_broken 0 sweep.cuts.items ≡ first → found ≡ option_map (broken_told (broken_by_calls sweep.cuts.items)) first → IsToldOfLine budget w l found
+told_by budget w l sweep found None swept e is = subst (IsToldOfLine budget w l) (sym is) (sweep, swept, e)
+told_by budget w l sweep found (Some k) swept e is = subst (IsToldOfLine budget w l) (sym is) (inl (sweep, swept, (k, e, refl)))
 
-pub told_all : {V : Type 0} (items : V → List ℕ) (w : List ℕ) (l : TornLine) (sweep : Sweep) (r : Result (Option V) AllocError) → IsLineSwept w None nothing_more l sweep
-    → IfOk r (λ found. option_map items found ≡ option_map broken_told (first_broken 0 sweep.cuts.items))
-    → IfOk r (λ found. IsToldOfLine w l (option_map items found))
-told_all items w l sweep (Ok found) swept is = told_by w l sweep (option_map items found) (first_broken 0 sweep.cuts.items) swept refl is
-told_all items w l sweep (Err e) swept is = tt
+pub told_all : {V : Type 0} (items : V → List ℕ) (budget : ℕ) (w : List ℕ) (l : TornLine) (sweep : Sweep) (r : Result (Option V) AllocError) → IsLineSwept w None (nothing_more budget) l sweep
+    → IfOk r (λ found. option_map items found ≡ option_map (broken_told (broken_by_calls sweep.cuts.items)) (first_broken 0 sweep.cuts.items))
+    → IfOk r (λ found. IsToldOfLine budget w l (option_map items found))
+told_all items budget w l sweep (Ok found) swept is = told_by budget w l sweep (option_map items found) (first_broken 0 sweep.cuts.items) swept refl is
+told_all items budget w l sweep (Err e) swept is = tt
 
 -- the same words and the same line
-pub told_on : {V : Type 0} (items : V → List ℕ) (w x : List ℕ) (l m : TornLine) (r : Result (Option V) AllocError) → w ≡ x → l ≡ m
-    → IfOk r (λ found. IsToldOfLine w l (option_map items found)) → IfOk r (λ found. IsToldOfLine x m (option_map items found))
-told_on items w x l m r same line p = subst (λ (u : List ℕ). IfOk r (λ found. IsToldOfLine u m (option_map items found))) same
-    (subst (λ (k : TornLine). IfOk r (λ found. IsToldOfLine w k (option_map items found))) line p)
+pub told_on : {V : Type 0} (items : V → List ℕ) (budget : ℕ) (w x : List ℕ) (l m : TornLine) (r : Result (Option V) AllocError) → w ≡ x → l ≡ m
+    → IfOk r (λ found. IsToldOfLine budget w l (option_map items found)) → IfOk r (λ found. IsToldOfLine budget x m (option_map items found))
+told_on items budget w x l m r same line p = subst (λ (u : List ℕ). IfOk r (λ found. IsToldOfLine budget u m (option_map items found))) same
+    (subst (λ (k : TornLine). IfOk r (λ found. IsToldOfLine budget w k (option_map items found))) line p)
 
 -- the first row that was cut badly is the failure
 pub torn_first : (p : Plan) (words : ℕ) (rows : List Row) (passed place : ℕ) (q : Row) (told : List ℕ) (r : Result (Option Failure) Fault)

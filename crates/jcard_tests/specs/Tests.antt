@@ -17,7 +17,7 @@ use Rattle.jcard_rows.specs.Junit.{junit_text}
 use Rattle.jcard_rows.specs.Lines.{Says}
 use Rattle.jcard_rows.specs.Outcomes.{AllAnswered, IsFirstFailure}
 use Rattle.jcard_rows.specs.Reports.{failed_of, report_text}
-use Rattle.jcard_outcomes.specs.Reports.{broken_told, first_broken}
+use Rattle.jcard_outcomes.specs.Reports.{broken_by_calls, broken_told, first_broken}
 use Rattle.jcard_outcomes.specs.declared.report.Sweep.{Sweep}
 use Rattle.jcard_tear.specs.ScriptLines.{Line}
 use Rattle.jcard_tear.specs.Sweeps.{IsLineSwept, nothing_more}
@@ -112,25 +112,26 @@ IsPrinted p words script text = (w read rest : List ℕ) × (carried : Result Un
 
 -- a cut of a sweep left neither what was before nor what comes after, and that is told
 abbrev pub IsBrokenTold : Sweep → List ℕ → Type 0
-IsBrokenTold sweep told = (k : ℕ) × (first_broken 0 sweep.cuts.items ≡ Some k) × (told ≡ broken_told k)
+IsBrokenTold sweep told = (k : ℕ) × (first_broken 0 sweep.cuts.items ≡ Some k) × (told ≡ broken_told (broken_by_calls sweep.cuts.items) k)
 
--- what is told of a line that is cut after each number of its writes, over these words, with the last SELECT before it as the probe: nothing
--- where each cut left what was before or what comes after; else the first that did not, or that it could not be cut
-abbrev pub IsToldOfLine : List ℕ → Line → Option (List ℕ) → Type 0
-IsToldOfLine w l None = (sweep : Sweep) × IsLineSwept w None nothing_more l sweep × (first_broken 0 sweep.cuts.items ≡ None)
-IsToldOfLine w l (Some told) = ((sweep : Sweep) × IsLineSwept w None nothing_more l sweep × IsBrokenTold sweep told) ⊎ (told ≡ codes "not cut")
+-- what is told of a line that is cut after each number of its writes, over these words, with the last SELECT before it as the probe and so
+-- many instructions a command: nothing where each cut left what was before or what comes after; else the first that did not, or that it
+-- could not be cut
+abbrev pub IsToldOfLine : ℕ → List ℕ → Line → Option (List ℕ) → Type 0
+IsToldOfLine budget w l None = (sweep : Sweep) × IsLineSwept w None (nothing_more budget) l sweep × (first_broken 0 sweep.cuts.items ≡ None)
+IsToldOfLine budget w l (Some told) = ((sweep : Sweep) × IsLineSwept w None (nothing_more budget) l sweep × IsBrokenTold sweep told) ⊎ (told ≡ codes "not cut")
 
 -- the same of the row behind these
-abbrev pub IsToldOfCuts : List ℕ → List Row → Row → Option (List ℕ) → Type 0
-IsToldOfCuts w before r told = IsToldOfLine w (record { number = r.number; before = script_text before; text = line_text r }) told
+abbrev pub IsToldOfCuts : ℕ → List ℕ → List Row → Row → Option (List ℕ) → Type 0
+IsToldOfCuts budget w before r told = IsToldOfLine budget w (record { number = r.number; before = script_text before; text = line_text r }) told
 
 -- over a new card of so many words each cut of the row behind these left what was before or what comes after
 abbrev pub IsCutWell : Plan → ℕ → List Row → Row → Type 0
-IsCutWell p words before r = (w : List ℕ) × IsNewCard p words w × IsToldOfCuts w before r None
+IsCutWell p words before r = (w : List ℕ) × IsNewCard p words w × IsToldOfCuts p.budget w before r None
 
 -- one did not, and that is told; or it could not be cut
 abbrev pub IsCutBadly : Plan → ℕ → List Row → Row → List ℕ → Type 0
-IsCutBadly p words before r told = (w : List ℕ) × IsNewCard p words w × IsToldOfCuts w before r (Some told)
+IsCutBadly p words before r told = (w : List ℕ) × IsNewCard p words w × IsToldOfCuts p.budget w before r (Some told)
 
 -- a row that is not torn is not cut; of one that is, this is told of its cuts
 abbrev pub IsToldOf : Plan → ℕ → List Row → Row → Option (List ℕ) → Type 0

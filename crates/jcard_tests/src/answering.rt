@@ -27,7 +27,7 @@ use jcard_script::card::power_up::PowerFault;
 use jcard_script::explainer::Unasked;
 use jcard_script::mem_text::MemText;
 use jcard_script::script::{ScriptFault, run_script_explained};
-use jcard_tear::cuts::NOTHING_MORE;
+use jcard_tear::cuts::Behind;
 use jcard_tear::each::tear_line;
 use jcard_tear::progress::Nobody;
 use jcard_tear::script_lines::ScriptLine;
@@ -287,7 +287,7 @@ fn told_of_cuts<'n>(
         return Ok(None);
     }
     match new_card(alloc, plan, words) {
-        Ok(store) => match told_of_cuts_on(alloc, &store, before, row) {
+        Ok(store) => match told_of_cuts_on(alloc, &store, before, row, plan.budget) {
             Ok(found) => Ok(found),
             Err(AllocError) => Err(Fault::NoMemory),
         },
@@ -301,8 +301,9 @@ fn told_of_cuts_on(
     store: &MemStore,
     before: &[Row],
     row: &Row,
+    budget: u32,
 ) -> Result<Option<Vec<u8>>, AllocError>
-    ensures { IfOk result (λ found. IsToldOfCuts store.now.words before.now row.now
+    ensures { IfOk result (λ found. IsToldOfCuts budget store.now.words before.now row.now
         (option_map (λ told. told.items) found)) }
 {
     let _ = store.size(); // so that the proof knows that there are fewer than 65,536 words
@@ -313,7 +314,7 @@ fn told_of_cuts_on(
         before: &script,
         line: &line,
     };
-    told_of_line(alloc, store.words(), command)
+    told_of_line(alloc, store.words(), command, budget)
 }
 
 // What is told of the cuts of a line over these words.
@@ -321,12 +322,14 @@ fn told_of_line(
     alloc: Global,
     words: &[u16],
     command: ScriptLine,
+    budget: u32,
 ) -> Result<Option<Vec<u8>>, AllocError>
     requires { length words.now < 65536 }
-    ensures { IfOk result (λ found. IsToldOfLine words.now (line_of command.entry)
+    ensures { IfOk result (λ found. IsToldOfLine budget words.now (line_of command.entry)
         (option_map (λ told. told.items) found)) }
 {
-    match tear_line(alloc, words, command, None, NOTHING_MORE, &mut Nobody) {
+    let behind = Behind::nothing_more(budget);
+    match tear_line(alloc, words, command, None, behind, &mut Nobody) {
         Ok(sweep) => broken(alloc, &sweep.cuts),
         Err(TearFault::NoMemory) => Err(AllocError),
         Err(_) => Ok(Some(Vec::from_slice(alloc, b"not cut")?)),

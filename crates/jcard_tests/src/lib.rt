@@ -5,6 +5,7 @@ mod answering;
 pub mod asked;
 mod plan;
 mod planning;
+mod remarking;
 mod rows_file;
 pub mod testing;
 mod timed_text;

@@ -12,9 +12,11 @@ use crate::answering::outcome_of;
 use crate::asked::Asked;
 use crate::plan::Plan;
 use crate::planning::plan_of;
+use crate::remarking::remark_on;
 use crate::rows_file::{RowFile, file_of};
 use crate::timer::Timer;
 use jcard_faults::fault::{Fault, FileKind};
+use jcard_faults::remarks::Remarks;
 use jcard_files::disk::Disk;
 use jcard_files::operand::Operand;
 use jcard_rows::card_rows::CardRows;
@@ -28,13 +30,13 @@ use std::alloc::{AllocError, Global};
 
 /// `jcard test`: tells for each of these files how many of its rows hold, or the first that is not answered as it says, and how many
 /// passed and failed in all. The cards are new ones in memory, as they are asked for, or as a file says. Behind it the report for build
-/// servers is written to the file that is named for it, if there is one.
-pub fn test_files<'n, D: Disk, W: TextOut, T: Timer>(
+/// servers is written to the file that is named for it, if there is one. Where a row that failed has no form, it is remarked why.
+pub fn test_files<'n, D: Disk, W: TextOut, T: Timer + Remarks>(
     disk: &mut D,
     files: &[&'n str],
     asked: Asked<'n>,
     out: &mut W,
-    timer: &T,
+    timer: &mut T,
 ) -> Result<(), Fault<'n>>
     ensures done { (text : List ℕ) × (deeds : List FileDeed)
         × Appends (W.contents out.old) (W.contents out.new) text
@@ -50,13 +52,13 @@ pub fn test_files<'n, D: Disk, W: TextOut, T: Timer>(
 }
 
 // Does so with cards as they are planned.
-fn test_by<'n, D: Disk, W: TextOut, T: Timer>(
+fn test_by<'n, D: Disk, W: TextOut, T: Timer + Remarks>(
     disk: &mut D,
     files: &[&'n str],
     plan: &Plan,
     junit: Option<&'n str>,
     out: &mut W,
-    timer: &T,
+    timer: &mut T,
 ) -> Result<(), Fault<'n>>
     ensures done { (text : List ℕ) × (deeds : List FileDeed)
         × Appends (W.contents out.old) (W.contents out.new) text
@@ -67,7 +69,10 @@ fn test_by<'n, D: Disk, W: TextOut, T: Timer>(
         (is_unwritten result) }
 {
     match tested_files(disk, files, plan, timer) {
-        Ok(tested) => tell_tested(disk, &tested, junit, files, out),
+        Ok(tested) => {
+            remark_on(disk.alloc(), &tested, timer);
+            tell_tested(disk, &tested, junit, files, out)
+        }
         Err(fault) => Err(fault),
     }
 }

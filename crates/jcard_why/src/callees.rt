@@ -5,6 +5,7 @@ use crate::causes::push_class;
 use crate::explanation::Asked;
 use crate::places::{push_method_at, push_package};
 use crate::text::Text;
+use jc_linker::linked::Linked;
 use jc_linker::target::{Method, Target};
 use jc_memory::Spot;
 use jc_platform::names::{MethodKind, PlatformMethod};
@@ -30,18 +31,21 @@ pub(crate) enum Callee {
 
 /// What the instruction at a spot calls; nothing, where it is no call or its entry names no method.
 pub(crate) fn callee_at(spot: Spot, asked: &Asked<'_>) -> Option<Callee> {
-    let code = asked.code_at(spot);
+    callee_in(spot, asked.code_at(spot), asked.linked)
+}
+
+fn callee_in(spot: Spot, code: &[u8], linked: &Linked) -> Option<Callee> {
     let place = usize::from(spot.place);
     let opcode = *code.get(place)?;
     if opcode == INVOKEINTERFACE {
-        let interface = target_at(spot, code, place + 2, asked)?;
+        let interface = target_at(spot, code, place + 2, linked)?;
         let token = *code.get(place + 4)?;
         return match interface {
             Target::Class(class) => Some(Callee::OfInterface(class, token)),
             _ => None,
         };
     }
-    let target = target_at(spot, code, place + 1, asked)?;
+    let target = target_at(spot, code, place + 1, linked)?;
     Some(Callee::Method(method_of(opcode, target)?))
 }
 
@@ -60,7 +64,11 @@ fn method_of(opcode: u8, target: Target) -> Option<Method> {
 
 /// The method of the platform that is called at a spot, if one is.
 pub(crate) fn platform_callee(spot: Spot, asked: &Asked<'_>) -> Option<PlatformMethod> {
-    let Callee::Method(method) = callee_at(spot, asked)? else {
+    platform_callee_in(spot, asked.code_at(spot), asked.linked)
+}
+
+fn platform_callee_in(spot: Spot, code: &[u8], linked: &Linked) -> Option<PlatformMethod> {
+    let Callee::Method(method) = callee_in(spot, code, linked)? else {
         return None;
     };
     match method {
@@ -77,14 +85,33 @@ pub(crate) fn is_special_call(spot: Spot, asked: &Asked<'_>) -> bool {
     }
 }
 
+/// The method that the instruction at a spot calls, if it calls one that writes bytes one by one, each for good.
+pub(crate) fn non_atomic_call(spot: Spot, linked: &Linked) -> Option<PlatformMethod> {
+    let code = linked.code_at(spot.package_number, 0);
+    let named = platform_callee_in(spot, code, linked)?;
+    if is_non_atomic(named) {
+        return Some(named);
+    }
+    None
+}
+
+// The standard names such methods so.
+fn is_non_atomic(method: PlatformMethod) -> bool {
+    let name = method.name();
+    match name.get(name.len().saturating_sub(9)..) {
+        Some(end) => end == b"NonAtomic".as_slice(),
+        None => false,
+    }
+}
+
 // What the entry resolves to whose index stands in the code.
-fn target_at(spot: Spot, code: &[u8], at: usize, asked: &Asked<'_>) -> Option<Target>
+fn target_at(spot: Spot, code: &[u8], at: usize, linked: &Linked) -> Option<Target>
     requires small { at < 100000 }
 {
     let high = *code.get(at)?;
     let low = *code.get(at + 1)?;
     let index = u16::from_be_bytes([high, low]);
-    asked.linked.target_at(spot.package_number, index).copied()
+    linked.target_at(spot.package_number, index).copied()
 }
 
 /// Adds what the instruction at a spot calls, if it is a call.
@@ -118,7 +145,11 @@ fn push_method(
     }
 }
 
-fn push_platform_method(text: &mut Text, method: PlatformMethod) -> Result<(), AllocError> {
+/// Adds a method of the platform.
+pub(crate) fn push_platform_method(
+    text: &mut Text,
+    method: PlatformMethod,
+) -> Result<(), AllocError> {
     text.push(method.class().name())?;
     text.push(b".")?;
     text.push(method.name())

@@ -16,7 +16,7 @@ use std::alloc::AllocError;
 pub(crate) fn push_cause(text: &mut Text, asked: &Asked<'_>) -> Result<(), AllocError> {
     let phase = asked.note.phase;
     match asked.note.cause {
-        Cause::Nothing => text.push(own_answer(asked.status, phase)),
+        Cause::Nothing => text.push(own_answer(asked.status, phase, asked.has_run())),
         Cause::Exception(class, reason) => {
             push_exception(text, class, reason, asked.linked)?;
             push_phase(text, phase)
@@ -30,17 +30,21 @@ pub(crate) fn push_cause(text: &mut Text, asked: &Asked<'_>) -> Result<(), Alloc
     }
 }
 
-// Why the runtime environment answers so by itself: behind a method of the applet that returned, or without one.
-const fn own_answer(status: u16, phase: Option<Phase>) -> &'static [u8] {
+// Why the runtime environment answers so by itself: behind a method of the applet that returned, perhaps by another return than its
+// own, or without one.
+const fn own_answer(status: u16, phase: Option<Phase>, has_run: bool) -> &'static [u8] {
     match (status, phase) {
-        (0x6999, Some(Phase::Select)) => b"select answered false",
+        (0x6999, Some(Phase::Select)) => b"select did not answer true",
         (0x6985, Some(Phase::Install)) => b"install returned without having registered an instance",
+        (0x6F00, Some(Phase::Install)) if has_run => b"install returned a value",
+        (0x6F00, Some(Phase::Process)) if has_run => b"process returned a value",
         (0x6F00, _) => b"code fault before the first instruction",
         _ => status_text(status),
     }
 }
 
-fn push_phase(text: &mut Text, phase: Option<Phase>) -> Result<(), AllocError> {
+/// Adds what the runtime environment had begun, if it had begun anything.
+pub(crate) fn push_phase(text: &mut Text, phase: Option<Phase>) -> Result<(), AllocError> {
     let Some(phase) = phase else {
         return Ok(());
     };

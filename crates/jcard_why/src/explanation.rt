@@ -56,6 +56,11 @@ impl<'a> Asked<'a> {
         }
         self.linked.code_at(spot.package_number, 0)
     }
+
+    /// Whether an instruction was carried out.
+    pub(crate) fn has_run(&self) -> bool {
+        self.note.left.is_some_and(|left| left < self.budget)
+    }
 }
 
 /// What is wanted to be told of a command.

@@ -4,7 +4,9 @@
 mod callees;
 mod causes;
 pub mod covers;
+pub mod cuts;
 pub mod explanation;
+pub mod map_remarks;
 pub mod maps;
 pub mod mnemonics;
 mod places;
@@ -13,3 +15,4 @@ mod refusals;
 mod statuses;
 mod text;
 mod traces;
+pub mod watches;

@@ -42,6 +42,20 @@ pub(crate) fn places_at<'a>(map: &'a [u8], aid: &[u8], offset: &[u8]) -> Option<
     if is_named { behind(rest, b" ") } else { None }
 }
 
+/// What stands behind this word with which a line of a map begins; none where lines that begin so differ.
+pub(crate) fn entry_name<'a>(map: &'a [u8], head: &[u8]) -> Option<&'a [u8]> {
+    let mut found: Option<&'a [u8]> = None;
+    for line in map.split(|byte| *byte == b'\n') {
+        if let Some(name) = behind(line, head) {
+            if found.is_some_and(|other| other != name) {
+                return None;
+            }
+            found = Some(name);
+        }
+    }
+    found
+}
+
 /// The line of the source to which the instruction at a place belongs, by words `OFFSET` and `OFFSET:LINE` in the order of the offsets:
 /// the last line up to it.
 pub(crate) fn java_line(places: &[u8], place: u32) -> Option<u32> {

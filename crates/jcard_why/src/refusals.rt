@@ -1,6 +1,7 @@
 //! What was refused: by the firewall, for want of room, or as a package was loaded.
 
 use crate::explanation::Asked;
+use crate::maps::entry_name;
 use crate::places::push_context;
 use crate::text::Text;
 use jc_firewall::access::Access;
@@ -127,6 +128,7 @@ fn push_load(text: &mut Text, refused: &RefusedLoad, asked: &Asked<'_>) -> Resul
             push_token(text, b", class ", *class)?;
             push_class_name(text, package.as_slice(), *class, asked.linked)?;
             push_token(text, b", token ", *token)?;
+            push_member(text, *entry, package.as_slice(), *class, *token, asked)?;
             text.push(b"\n")
         }
     }
@@ -178,6 +180,35 @@ fn named_class(package: &[u8], class: Option<u8>, linked: &Linked) -> Option<Pla
     let platform = linked.platform();
     let home = platform.package_with_aid(package)?;
     platform.class_by_token(home, class?)
+}
+
+// The name that the map has of what the entry names, in a line that tells the entry, the package, the class and the member's token.
+fn push_member(
+    text: &mut Text,
+    entry: u16,
+    package: &[u8],
+    class: Option<u8>,
+    token: Option<u8>,
+    asked: &Asked<'_>,
+) -> Result<(), AllocError> {
+    let Some(class) = class else {
+        return Ok(());
+    };
+    let mut head = Text::new(asked.alloc);
+    head.push(b"entry ")?;
+    head.push_number(u32::from(entry))?;
+    head.push(b" ")?;
+    head.push_hex(package)?;
+    push_token(&mut head, b" ", Some(class))?;
+    push_token(&mut head, b" ", token)?;
+    head.push(b": ")?;
+    match entry_name(asked.map, &head.into_bytes()) {
+        None => Ok(()),
+        Some(name) => {
+            text.push(b": ")?;
+            text.push(name)
+        }
+    }
 }
 
 fn push_entry(text: &mut Text, entry: u16) -> Result<(), AllocError> {

@@ -1,5 +1,5 @@
 -- Steps and runs keep the order of transactions.
-use Rattle.std.proofs.Common.{◌≡◌, ℕ, zero, suc, ◌+◌, ◌≤◌, true, false, List, length, refl, sym, subst, arith, inl, inr, Option, Some, None}
+use Rattle.std.proofs.Common.{◌≡◌, ℕ, zero, suc, true, false, List, refl, sym, subst, arith, inl, inr, Option, Some, None}
 use Rattle.jc_transient.specs.declared.cell.CellValue.{CellValue}
 use Rattle.jc_transient.specs.declared.cell.CellValue.TheVariants.{Short}
 use Rattle.jc_transient.specs.declared.cell.ClearEvent.{ClearEvent}
@@ -18,14 +18,14 @@ use Rattle.jc_platform.specs.declared.names.PlatformMethod.{PlatformMethod}
 use Rattle.jc_frames.specs.declared.cell.Cell.{Cell}
 use Rattle.jc_frames.specs.declared.outcome.Outcome.{Outcome}
 use Rattle.jc_frames.specs.Frames.{Frames, Next, GoesOn, Throws, Ends}
-use Rattle.jc_api_framework.specs.Apdu.Buffer.{data_of}
 use Rattle.jc_api_framework.specs.Aid.Cells.{cells_of_aid}
 use Rattle.jc_interp.specs.Running.{or_end, run_of}
 use Rattle.jc_interp.specs.Stepping.{machine_step}
-use Rattle.law_isolation.proofs.Applets.{Registering}
+use Rattle.jc_api_framework.proofs.AppletCalls.Registering.{Registering}
+use Rattle.jc_api_framework.proofs.Passing.{Bears, MethodPasses, RegistersSo}
+use Rattle.jc_interp.proofs.Calls.{method_due}
 use Rattle.law_isolation.proofs.Bytes.{store_due}
-use Rattle.law_isolation.proofs.Methods.{method_due}
-use Rattle.law_isolation.proofs.Passing.{ArraysPass, Bears, FieldsPass, MethodPasses, RegistersSo}
+use Rattle.law_isolation.proofs.Passing.{ArraysPass, FieldsPass}
 use Rattle.law_isolation.proofs.Walk.{step_due}
 use Rattle.law_atomicity.specs.Orderly.{KeepsTransactionOrder}
 use Rattle.law_atomicity.proofs.TransactionPins.{pin_counted, pin_flagged}
@@ -71,15 +71,17 @@ module _ (p : Packages) (m : MemoryState) where
 
   method_passes : (method : PlatformMethod) (args : List Cell) → MethodPasses KeepsTransactionOrder method args p m
   method_passes method args = record {
-    reason = λ part sets own v is long. cell_orderly m (facts m.heap.now own).event own 0 (Short v);
-    stretch = λ r count e words is long. cells_orderly m (facts m.heap.now e.array).event e.array e.start words;
-    bytes = λ r count e words is long kind.
-        let w = is.within in
-        subst (λ a. AllDue KeepsTransactionOrder (nonatomic_store m a e.start words) m) (sym is.array)
-        (store_due KeepsTransactionOrder r (λ i x v element. inr element) words e.start m kind (omega (arith, w, long)) tt);
+    calls = record {
+      reason = λ part sets own v is long. cell_orderly m (facts m.heap.now own).event own 0 (Short v);
+      stretch = λ r count e words is long. cells_orderly m (facts m.heap.now e.array).event e.array e.start words;
+      bytes = λ r count e words is long kind.
+          let w = is.within in
+          subst (λ a. AllDue KeepsTransactionOrder (nonatomic_store m a e.start words) m) (sym is.array)
+          (store_due KeepsTransactionOrder r (λ i x v element. inr element) words e.start m kind (omega (arith, w, long)) tt);
+      transient = λ o is room r new. made_orderly m o.event o;
+    };
     aid = λ init own bytes is long fine. cells_orderly m (facts m.heap.now own).event own 0 (cells_of_aid bytes);
-    buffer = λ r is. cells_orderly m (facts m.heap.now r).event r 5 (data_of m.command);
-    transient = λ kind count event o none fine room r new. made_orderly m o.event o;
+    buffer = λ r words is fits. cells_orderly m (facts m.heap.now r).event r 5 words;
     starts = λ pin is limit maximum value new. (tt, (tt, (tt, tt)));
     flags = λ pin is flag v. tt;
     counts = λ pin is n. inl (pin, refl, pin_flagged m pin false is.is);

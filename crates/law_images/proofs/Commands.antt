@@ -34,6 +34,7 @@ use Rattle.law_images.proofs.OpenLoads.{are_readable}
 use Rattle.law_soundness.specs.State.{is_applet}
 use Rattle.law_soundness.specs.Soundness.{AreKnown}
 use Rattle.law_soundness.specs.Commands.{CommandsAreSound, IsReady, IsServed, LeavesReady}
+use Rattle.law_soundness.specs.Dispatched.{OneOf}
 use Rattle.law_soundness.proofs.Commands.{in_range}
 use Rattle.law_soundness.proofs.Phases.{Good, good_bind, good_gives, good_more, good_then}
 use Rattle.law_soundness.proofs.Serving.{serving_keeps}
@@ -129,7 +130,7 @@ module _ (commands : CommandsAreSound) (t : Tokens) (card : CardState) (own : Is
   ends_good response v ready = good_gives p _ (with_response card response) v (record { ready = ready; packages = refl; load = own.load })
 
   of_leaves : {A : Type 0} (d : Program A) (m : MemoryState) → LeavesReady p d m → Good p d m (λ a n. IsReady p n)
-  of_leaves d m l = record { due = l.fit; each = l.ready }
+  of_leaves d m l = record { due = l.fit; each = l.ready; runs = l.runs }
 
   pub runs_good : (limit locals : ℕ) (code : List ℕ) → Good p (run_code limit locals code card) card.memory (IsAnswered p)
   unfolding run_code
@@ -154,7 +155,7 @@ module _ (commands : CommandsAreSound) (t : Tokens) (card : CardState) (own : Is
   grows_good (b ∷ more) are =
       let one = on_load_good (component_append (b ∷ more)) (λ load r. are_readable.grows (b ∷ more) load are r) card.load own.load in
       let other = on_load_good (component_append_without_memory (b ∷ more)) (λ load r. r) card.load own.load in
-      record { due = (one.due, other.due); each = (one.each, other.each) }
+      record { due = (one.due, other.due); each = (one.each, other.each); runs = OneOf _ _ card.memory one.runs other.runs }
 
   -- a command begins
   started : (bytes : List ℕ) (v : MemoryState) → length bytes ≤ buffer_size → IsReady p v → IsReady p (apply_effect (BeginCommand bytes) v)
@@ -172,7 +173,7 @@ module _ (commands : CommandsAreSound) (t : Tokens) (card : CardState) (own : Is
       let v = apply_effect (BeginCommand []) card.memory in
       let d = applet_creation card.budget p (b ∷ more) v in
       let few : 0 ≤ buffer_size = omega arith in
-      good_then p _ (BeginCommand []) _ card.memory few (good_bind p _ _ d v (good_more p _ _ d v
+      good_then p _ (BeginCommand []) _ card.memory few tt (good_bind p _ _ d v (good_more p _ _ d v
       (of_leaves d v (commands.making card.budget p (b ∷ more) v known (started [] card.memory few own.ready))) (λ e w ready. ends_good _ w ready)))
 
   -- the applet with an AID is there
@@ -224,6 +225,6 @@ module _ (commands : CommandsAreSound) (t : Tokens) (card : CardState) (own : Is
   dispatched_good bytes c few =
       let v = apply_effect (BeginCommand bytes) card.memory in
       let d = route card.budget c (expected_by bytes) p v in
-      good_then p _ (BeginCommand bytes) _ card.memory few (good_bind p _ _ d v (good_more p _ _ d v
+      good_then p _ (BeginCommand bytes) _ card.memory few tt (good_bind p _ _ d v (good_more p _ _ d v
       (routed_good c (expected_by bytes) v (started bytes card.memory few own.ready))
       (λ e w ready. good_gives p _ _ w (record { ready = ready; packages = refl; load = own.load }))))

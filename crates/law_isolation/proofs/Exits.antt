@@ -1,85 +1,26 @@
--- What a check gives where code does not go on: an exception, or a code fault; no value, and no exception that nothing caught.
-use Rattle.std.specs.Prelude.{ℕ, ℤ, pos, negsuc, ◌^◌, ◌==◌, nat_lt, Bool, true, false, Option, Some, None, Result, Ok, Err, if◌then◌else◌}
+-- What the checks of instructions give where code does not go on: an exception, or a code fault.
+use Rattle.std.specs.Prelude.{◌^◌, ◌==◌, ℕ, ℤ, pos, negsuc, nat_lt, Bool, Option, Some, None, Result, Ok, Err}
 use Rattle.jc_transient.specs.declared.cell.CellValue.{CellValue}
 use Rattle.jc_transient.specs.declared.cell.CellValue.TheVariants as kept
 use Rattle.jc_heap.specs.declared.object.Facts.{Facts}
+use Rattle.jc_firewall.specs.declared.access.Access.TheVariants.{ArrayElement, InstanceField, StoreReference}
 use Rattle.jc_memory.specs.Cells.{header_at}
 use Rattle.jc_memory.specs.State.{MemoryState}
 use Rattle.jc_linker.specs.Values.{Packages}
 use Rattle.jc_opcodes.specs.declared.instr.ValueType.{ValueType}
-use Rattle.jc_firewall.specs.declared.access.Access.{Access}
-use Rattle.jc_firewall.specs.declared.access.Access.TheVariants.{ArrayElement, InstanceField, StoreReference}
-use Rattle.jc_firewall.specs.declared.decide.Decision.{Decision}
-use Rattle.jc_firewall.specs.declared.decide.Decision.TheVariants.{Allow, Switch, Deny}
 use Rattle.jc_frames.specs.declared.outcome.FrameExit.{FrameExit}
-use Rattle.jc_frames.specs.declared.outcome.FrameExit.TheVariants.{Throw, End}
-use Rattle.jc_frames.specs.declared.outcome.Outcome.{Outcome}
-use Rattle.jc_frames.specs.declared.outcome.Outcome.TheVariants.{Void, Short, Reference, Thrown, Fault}
-use Rattle.jc_world.specs.Answers.{and_then}
-use Rattle.jc_world.specs.Contexts.{firewall_check, firewall_decision, unless_denied}
-use Rattle.jc_world.specs.Objects.{check_or_fault, object_at, some_or_fault, storable_in, storable_of}
+use Rattle.jc_world.specs.Objects.{object_at, storable_in, storable_of}
 use Rattle.jc_world.specs.Types.{is_a}
 use Rattle.jc_world.specs.Values.{keepable, value_if_allowed}
-use Rattle.jc_interp_objects.specs.declared.field_names.FieldOfClass.{FieldOfClass}
-use Rattle.jc_interp_objects.specs.declared.object_types.ObjectType.{ObjectType}
+use Rattle.jc_api.proofs.Exits.{FaultsOnly, plain_if, plain_firewall, plain_object}
 use Rattle.jc_interp_objects.specs.ArrayElements.{array_at, array_in, assignable_in, assignable_or_null, element_at, element_if_assignable, element_in}
 use Rattle.jc_interp_objects.specs.ArrayElements.{element_value, header_if_allowed, is_array, with_index}
 use Rattle.jc_interp_objects.specs.Fields.{cell_if_allowed, cell_in, field_cell, has_cell}
 use Rattle.jc_interp_objects.specs.ObjectCreation.{cells_for}
 use Rattle.jc_interp_objects.specs.ObjectTypes.{access_to, is_of_type}
 use Rattle.jc_interp_objects.specs.TypeChecks.{answer_if_allowed, type_test, type_test_of}
-
--- an exception, or a code fault
-abbrev pub IsPlainExit : FrameExit → Type 0
-IsPlainExit (Throw e) = Unit {0}
-IsPlainExit (End Void) = ⊥
-IsPlainExit (End (Short v)) = ⊥
-IsPlainExit (End (Reference r)) = ⊥
-IsPlainExit (End (Thrown r)) = ⊥
-IsPlainExit (End Fault) = Unit {0}
-
--- where there is no value there is such an exit
-abbrev pub FaultsOnly : {A : Type 0} → Result A FrameExit → Type 0
-FaultsOnly (Ok a) = Unit {0}
-FaultsOnly (Err e) = IsPlainExit e
-
--- an exit that ends the run is a fault
-pub plain_end : (N : Outcome → Type 0) → N Fault → (o : Outcome) → IsPlainExit (End o) → N o
-plain_end N fault Void plain = absurd plain
-plain_end N fault (Short v) plain = absurd plain
-plain_end N fault (Reference r) plain = absurd plain
-plain_end N fault (Thrown r) plain = absurd plain
-plain_end N fault Fault plain = fault
-
--- ---- checks in a row
-
-pub plain_if : {A : Type 0} (b : Bool) (x y : Result A FrameExit) → FaultsOnly x → FaultsOnly y → FaultsOnly (if b then x else y)
-plain_if true x y first second = first
-plain_if false x y first second = second
-
-pub plain_then : {A B : Type 0} (x : Result A FrameExit) (go : A → Result B FrameExit) → FaultsOnly x → ((a : A) → FaultsOnly (go a)) → FaultsOnly (and_then x go)
-plain_then (Ok a) go plain each = each a
-plain_then (Err e) go plain each = plain
-
-pub plain_some : {A : Type 0} (o : Option A) → FaultsOnly (some_or_fault o)
-plain_some None = tt
-plain_some (Some a) = tt
-
-pub plain_check : (b : Bool) → FaultsOnly (check_or_fault b)
-plain_check true = tt
-plain_check false = tt
-
-plain_denied : (d : Decision) → FaultsOnly (unless_denied d)
-plain_denied Allow = tt
-plain_denied (Switch c) = tt
-plain_denied (Deny rule) = tt
-
-pub plain_firewall : (access : Access) (p : Packages) (m : MemoryState) (f : Facts) → FaultsOnly (firewall_check access p m f)
-plain_firewall access p m f = plain_denied (firewall_decision access p m f)
-
-pub plain_object : (m : MemoryState) (r : ℕ) → FaultsOnly (object_at m r)
-unfolding object_at
-plain_object m r = plain_if (r == 0) _ _ tt (plain_some (header_at m r))
+use Rattle.jc_interp_objects.specs.declared.field_names.FieldOfClass.{FieldOfClass}
+use Rattle.jc_interp_objects.specs.declared.object_types.ObjectType.{ObjectType}
 
 -- ---- values
 

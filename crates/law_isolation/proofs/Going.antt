@@ -9,8 +9,8 @@ use Rattle.jc_memory.specs.State.{MemoryState, Effect}
 use Rattle.jc_memory.specs.Programs.{Program}
 use Rattle.jc_world.specs.Instructions.{exit_of, if_ok, if_some, unless}
 use Rattle.law_isolation.specs.Referring.{FrameRefersSo}
-use Rattle.law_isolation.proofs.Due.{DueThen}
-use Rattle.law_isolation.proofs.Exits.{FaultsOnly, IsPlainExit}
+use Rattle.jc_api.proofs.Due.{DueThen}
+use Rattle.jc_api.proofs.Exits.{FaultsOnly, IsPlainExit}
 use Rattle.law_isolation.proofs.Taking.{without_cells}
 
 -- what follows is in a method of these callers, with this origin, and so is each reference in its frame; or the run ends with a code fault

@@ -50,11 +50,13 @@ use Rattle.jc_interp_objects.specs.StackRoom.{if_room}
 use Rattle.jc_interp_objects.specs.StaticFields.{static_value, image_word_write}
 use Rattle.jc_interp_objects.specs.TypeChecks.{checkcast, instanceof, own_type, type_test}
 use Rattle.jc_interp_objects.specs.ObjectCreation.{cells_for, new_instance, instantiable_class}
-use Rattle.law_isolation.specs.Referring.{CellRefersSo, FrameRefersSo}
-use Rattle.law_isolation.proofs.Due.{Anything, due_of}
+use Rattle.jc_api.specs.Referring.{CellRefersSo}
+use Rattle.jc_api.proofs.Due.{Anything, due_of}
+use Rattle.jc_api.proofs.Passing.{Makes}
+use Rattle.law_isolation.specs.Referring.{FrameRefersSo}
 use Rattle.law_isolation.proofs.Exits.{plain_array, plain_element, plain_element_value, plain_field, plain_index, plain_keepable, plain_size, plain_type}
 use Rattle.law_isolation.proofs.Going.{StaysIn, going_if, going_ok, going_some, going_stopped, going_unless}
-use Rattle.law_isolation.proofs.Passing.{ArraysPass, FieldsPass, InstancesPass, IsWordOf, Makes, ReadsSo, new_for}
+use Rattle.law_isolation.proofs.Passing.{ArraysPass, FieldsPass, InstancesPass, IsWordOf, ReadsSo, new_for}
 use Rattle.law_isolation.proofs.Reached.{array_reached, cell_reached, index_within, names}
 use Rattle.law_isolation.proofs.Taking.{frame_kept, reference_taken, short_taken, topped, value_taken, with_cells}
 
@@ -267,11 +269,11 @@ any_cell m (Short v) = tt
 any_cell m (Reference r) = tt
 any_cell m (ReturnAddress a) = tt
 
-any_frame : (m : MemoryState) (f : Frame) → FrameRefersSo (Anything m) f
+pub any_frame : (m : MemoryState) (f : Frame) → FrameRefersSo (Anything m) f
 any_frame m f = record { locals = λ k d lt. any_cell m _; stack = λ k d lt. any_cell m _ }
 
 module _ (P : Effect → MemoryState → Type 0) (p : Packages) (m : MemoryState) where
-  any_reads : ReadsSo P Anything p m
+  pub any_reads : ReadsSo P Anything p m
   any_reads = record {
     field = λ t number index field r i named cell. any_cell m _;
     static = λ t number index field value named read. any_cell m value;

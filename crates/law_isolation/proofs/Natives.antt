@@ -1,10 +1,9 @@
 -- Methods of the platform spare what is outside reach.
-use Rattle.std.proofs.Common.{◌≡◌, ℕ, ◌+◌, ◌<◌, ◌≤◌, Bool, true, false, inl, inr, List, [], length, Some, Ok, refl, sym, ◌∙◌, ap, subst, arith, if◌then◌else◌}
+use Rattle.std.proofs.Common.{◌≡◌, ℕ, ◌<◌, ◌≤◌, true, inl, inr, List, length, Some, Ok, refl, sym, ◌∙◌, ap, subst, arith}
 use Rattle.std.proofs.lemmas.List.{length-map}
 use Rattle.std.proofs.lemmas.List.FromFn.{length-range_with_len}
-use Rattle.std.proofs.lemmas.List.Edits.{length-between}
 use Rattle.std.specs.List.{range_with_len}
-use Rattle.std.specs.Prelude.{ℤ, min, nat_le, slice_index, slice_range}
+use Rattle.std.specs.Prelude.{ℤ}
 use Rattle.jc_words.specs.Layout.{most_applets}
 use Rattle.jc_transient.specs.declared.cell.CellValue.TheVariants.{Short}
 use Rattle.jc_transient.specs.Cells.{number_of}
@@ -27,7 +26,6 @@ use Rattle.jc_world.specs.Objects.{reference_argument}
 use Rattle.jc_world.specs.declared.arrays.Stretch.{Stretch}
 use Rattle.jc_world.specs.Arrays.{bytes_in}
 use Rattle.jc_api_framework.specs.Aid.Cells.{aid_cell, cells_of_aid}
-use Rattle.jc_api_framework.specs.Apdu.Buffer.{data_of}
 use Rattle.jc_api_framework.specs.Applet.Register.{aid_object}
 use Rattle.jc_api_framework.specs.OwnerPin.Arguments.{is_own_value}
 use Rattle.jc_platform.specs.Names.{aids_rows}
@@ -35,13 +33,14 @@ use Rattle.jc_platform.specs.Signatures.{sets_receiver}
 use Rattle.law_isolation.specs.Natives.{NativesSpare, ReachesCalled}
 use Rattle.law_isolation.specs.Reach.{IsOutside}
 use Rattle.law_isolation.specs.Sparing.{LeavesObject}
-use Rattle.law_isolation.proofs.Applets.{MayRegister, Registering, counts_kept, entry_of, home_of}
-use Rattle.law_isolation.proofs.Arguments.{IsStretch}
+use Rattle.jc_api.proofs.Stretches.{IsStretch}
+use Rattle.jc_api_framework.proofs.AppletCalls.Registering.{MayRegister, Registering, entry_of, home_of, with_aid}
+use Rattle.jc_api_framework.proofs.Passing.{Bears, IsPinCall, MethodPasses, RegistersSo, recorded}
+use Rattle.jc_interp.proofs.Calls.{method_due}
 use Rattle.law_isolation.proofs.Bytes.{store_due}
-use Rattle.law_isolation.proofs.Methods.{method_due}
-use Rattle.law_isolation.proofs.Passing.{Bears, IsPinCall, MethodPasses, RegistersSo, recorded}
 use Rattle.law_isolation.proofs.Pins.{beside_append, beside_put, value_inside}
 use Rattle.law_isolation.proofs.Reaching.{not_outside}
+use Rattle.law_isolation.proofs.Standing.{applets-add_object, applets-set_cells}
 use Rattle.law_isolation.proofs.Setting.{new_makes, new_other, new_spares, run_spares, set_spares}
 
 -- effects that set no cells spare each object
@@ -55,19 +54,12 @@ bears q = record {
   sends = λ bytes m. tt;
 }
 
+-- the registry has as many applets until the entry is added
+counts_kept : (p : Packages) (m : MemoryState) (aid : List ℕ) (r : ℕ) → (with_aid p m aid r).heap.now.counts.1 ≡ m.heap.now.counts.1
+counts_kept p m aid r = (applets-set_cells (cells_of_aid aid) _ r 0).0 ∙ (applets-add_object m.heap.now _ _).0
+
 pub nine : (aid : List ℕ) → length (cells_of_aid aid) ≡ 9
 nine aid = let l = length-map (range_with_len 0 8) (aid_cell aid) in let n = length-range_with_len 0 8 in omega (arith, l, n)
-
-pub data_fits : (command : List ℕ) → length command ≤ 261 → 5 + length (data_of command) ≤ 261
-unfolding data_of
-data_fits command few = either (nat_le (length command) 5)
-  where
-    most : (n : ℕ) → n ≤ length command → 5 + length (slice_range command 5 n) ≤ 261
-    most n le = let l = length-between command 5 n le in omega (arith, l, le, few)
-
-    either : (b : Bool) → 5 + length (if b then [] else slice_range command 5 (min (5 + slice_index command 4) (length command))) ≤ 261
-    either true = omega arith
-    either false = most (min (5 + slice_index command 4) (length command)) (omega arith)
 
 module _ (method : PlatformMethod) (args : List Cell) (p : Packages) (m : MemoryState) (q : ℕ) (out : IsOutside p m q) (few : length m.command ≤ 261)
     (reach : sets_receiver method ≡ true → ReachesCalled args p m) where
@@ -118,14 +110,16 @@ module _ (method : PlatformMethod) (args : List Cell) (p : Packages) (m : Memory
 
   passes : MethodPasses (LeavesObject q) method args p m
   passes = record {
-    reason = λ part sets own v is long. set_spares q m own 0 (Short v) (other sets own is) long.cells;
-    stretch = stretch_spares;
-    bytes = bytes_spare;
+    calls = record {
+      reason = λ part sets own v is long. set_spares q m own 0 (Short v) (other sets own is) long.cells;
+      stretch = stretch_spares;
+      bytes = bytes_spare;
+      transient = λ o is room. new_makes q m o;
+    };
     aid = λ init own bytes is long fine. run_spares q m own 0 (cells_of_aid bytes) (other (sets_aid init) own is)
         (let l = long.cells in let n = nine bytes in omega (arith, l, n));
-    buffer = λ r is. run_spares q m r 5 (data_of m.command) (λ same. out.others (16, sym same ∙ is.is))
-        (let d = data_fits m.command few in let l = is.long in omega (arith, d, l));
-    transient = λ kind count event o none fine room. new_makes q m o;
+    buffer = λ r words is fits. run_spares q m r 5 words (λ same. out.others (16, sym same ∙ is.is))
+        (let d = fits few in let l = is.long in omega (arith, d, l));
     starts = λ pin is limit maximum.
         let ne = other_pin pin is in
         new_spares q (value_array m maximum) (recorded pin limit maximum) m out.there (λ value v new. (inl (ne, (ne, (ne, (ne, (ne, tt))))), (ne, tt)));

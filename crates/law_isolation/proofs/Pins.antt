@@ -1,14 +1,14 @@
 -- OwnerPIN: the array for the value of a PIN within reach is none outside.
-use Rattle.std.proofs.Common.{◌≡◌, ℕ, suc, Bool, true, false, inl, inr, List, [], ◌∷◌, ◌++◌, Option, Some, None, Result, Ok, Err, refl, sym, ◌∙◌, subst}
+use Rattle.std.proofs.Common.{◌≡◌, ℕ, suc, ◌≤◌, Bool, true, false, inl, inr, List, [], ◌∷◌, ◌++◌, Option, Some, None, Result, Ok, Err, refl, sym, ◌∙◌, subst}
 use Rattle.std.proofs.Common.{if◌then◌else◌}
-use Rattle.std.proofs.lemmas.Bool.{false≢true}
+use Rattle.std.proofs.lemmas.Bool.{and_parts, false≢true, leb-true}
 use Rattle.std.proofs.lemmas.Option.{none-some}
-use Rattle.std.specs.Prelude.{◌==◌}
+use Rattle.std.specs.Prelude.{◌==◌, ◌&&◌, is_none, nat_le}
 use Rattle.jc_heap.specs.declared.object.Facts.{Facts}
 use Rattle.jc_heap.specs.declared.object.Kind.{Kind}
-use Rattle.jc_heap.specs.declared.object.Kind.TheVariants.{Instance}
+use Rattle.jc_heap.specs.declared.object.Kind.TheVariants.{Instance, BooleanArray, ByteArray, ShortArray, ReferenceArray}
 use Rattle.jc_heap.specs.declared.place.Place.{Place}
-use Rattle.jc_heap.specs.Object.{is_object}
+use Rattle.jc_heap.specs.Object.{is_object, kind_number}
 use Rattle.jc_heap.specs.Heap.{IsObject, facts, heap_item_at}
 use Rattle.jc_frames.specs.declared.outcome.Exception.TheVariants.{SecurityException}
 use Rattle.jc_frames.specs.declared.outcome.FrameExit.{FrameExit}
@@ -20,7 +20,7 @@ use Rattle.jc_memory.specs.State.{MemoryState}
 use Rattle.jc_memory.specs.Cells.{header_at}
 use Rattle.jc_memory.specs.Owners.{owner_of}
 use Rattle.jc_linker.specs.Values.{Packages}
-use Rattle.jc_pin.specs.Pins.{is_pin}
+use Rattle.jc_pin.specs.Pins.{is_persistent_with, has_value, is_pin, record_of}
 use Rattle.jc_heap.specs.Places.{cell_changes}
 use Rattle.jc_platform.specs.declared.names.PlatformClass.TheVariants.{Aid}
 use Rattle.jc_platform.specs.Distinct.{class_word}
@@ -28,8 +28,45 @@ use Rattle.jc_world.specs.Contexts.{context_of, own_designation, situation_of, s
 use Rattle.jc_api_framework.specs.OwnerPin.Arguments.{is_in_context_of}
 use Rattle.law_isolation.specs.Reach.{IsOutside}
 use Rattle.law_isolation.specs.Sparing.{AreBeside}
-use Rattle.law_isolation.proofs.Arguments.{pin_record}
-use Rattle.law_isolation.proofs.Reaching.{err_not_ok, header_is, not_outside, one_context}
+use Rattle.jc_api.proofs.Reaching.{err_not_ok, header_is, one_context}
+use Rattle.law_isolation.proofs.Reaching.{not_outside}
+
+numbered : (kind of : Kind) → (kind_number kind == kind_number of) ≡ true → kind ≡ of
+numbered Instance Instance e = refl
+numbered BooleanArray BooleanArray e = refl
+numbered ByteArray ByteArray e = refl
+numbered ShortArray ShortArray e = refl
+numbered ReferenceArray ReferenceArray e = refl
+numbered _ _ e = absurd cc
+
+-- a persistent object of a kind, with so many cells
+pub record IsKeptAs (m : MemoryState) (of : Kind) (n r : ℕ) : Type 0 where
+  pub there : IsObject m.heap.now r
+  pub kind : (facts m.heap.now r).kind ≡ of
+  pub persistent : is_none (facts m.heap.now r).event ≡ true
+  pub long : n ≤ (facts m.heap.now r).length
+
+kept_as : (m : MemoryState) (of : Kind) (n r : ℕ) (o : Option Facts) → header_at m r ≡ o → is_persistent_with of n o ≡ true → IsKeptAs m of n r
+kept_as m of n r None is e = absurd cc
+kept_as m of n r (Some f) is e =
+    let there = header_is m r f is in
+    let one = and_parts (kind_number f.kind == kind_number of) (is_none f.event && nat_le n f.length) e in
+    let two = and_parts (is_none f.event) (nat_le n f.length) one.1 in
+    record {
+      there = there.0;
+      kind = subst (λ g. g.kind ≡ of) there.1 (numbered f.kind of one.0);
+      persistent = subst (λ g. is_none g.event ≡ true) there.1 two.0;
+      long = subst (λ g. n ≤ g.length) there.1 (leb-true n f.length two.1);
+    }
+
+if_both : (a b : Bool) → (if a then b else false) ≡ true → (a ≡ true) × (b ≡ true)
+if_both true b e = (refl, e)
+if_both false b e = absurd cc
+
+-- the record of a PIN
+pub pin_record : (m : MemoryState) (r : ℕ) → is_pin m r ≡ true → IsKeptAs m Instance 5 r
+unfolding is_pin
+pin_record m r e = kept_as m Instance 5 r (header_at m r) refl (if_both (is_persistent_with Instance 5 (header_at m r)) (has_value m (record_of m r)) e).0
 
 pub beside_append : (q : ℕ) (cs ds : List (Place × ℕ)) → AreBeside q cs → AreBeside q ds → AreBeside q (cs ++ ds)
 beside_append q [] ds first second = second

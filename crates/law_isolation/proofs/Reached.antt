@@ -28,7 +28,7 @@ use Rattle.jc_interp_objects.specs.ArrayElements.{array_at, array_in, header_if_
 use Rattle.jc_interp_objects.specs.declared.field_names.FieldOfClass.{FieldOfClass}
 use Rattle.jc_interp_objects.specs.Fields.{cell_if_allowed, cell_in, has_cell, field_cell}
 use Rattle.jc_interp_objects.specs.FieldNames.{field_named, field_of, is_type_of_cell}
-use Rattle.law_isolation.proofs.Reaching.{element_allowed, err_not_ok, field_allowed, object_is, same_Ok}
+use Rattle.jc_api.proofs.Reaching.{element_allowed, err_not_ok, field_allowed, object_is, same_Ok}
 
 -- an entry names a field, which holds references or not
 pub record Names (p : Packages) (number index : ℕ) (of_type : ValueType) (field : FieldOfClass) : Type 0 where

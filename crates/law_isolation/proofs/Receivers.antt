@@ -40,8 +40,8 @@ use Rattle.jc_world.specs.Contexts.{firewall_decision, situation_of}
 use Rattle.jc_world.specs.Objects.{object_at, some_or_fault, reference_argument}
 use Rattle.jc_interp_calls.specs.declared.invoke.MethodCall.{MethodCall}
 use Rattle.jc_interp_calls.specs.Invoke.{call_decision, call_of, class_of, is_native_constructor, method_selection, receiver_of, receiver_on}
-use Rattle.law_isolation.proofs.Arguments.{both_ok}
-use Rattle.law_isolation.proofs.Reaching.{err_not_ok, object_is, one_context, own_reach, same_Ok}
+use Rattle.jc_api.proofs.Reaching.{err_not_ok, object_is, one_context, own_reach, same_Ok}
+use Rattle.jc_api.proofs.Stretches.{both_ok}
 use Rattle.law_isolation.proofs.Selecting.{Bare, Found, IsByInterface, IsByToken, Named, Selected, is_there, selected}
 use Rattle.law_isolation.specs.Steps.{NamesStatics}
 

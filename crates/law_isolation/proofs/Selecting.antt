@@ -29,8 +29,8 @@ use Rattle.jc_interp_calls.specs.Invoke.{arguments_of, call_decision, call_of, c
 use Rattle.jc_interp_calls.specs.Invoke.{invokestatic, invokevirtual, is_native_constructor, is_of, is_of_any, method_selection, receiver_of, receiver_on}
 use Rattle.jc_interp_calls.specs.Invoke.{invokespecial, special_by, static_by, virtual_by}
 use Rattle.jc_interp_calls.specs.Parameters.{fits}
-use Rattle.law_isolation.proofs.Exits.{FaultsOnly, IsPlainExit, plain_check, plain_firewall, plain_object, plain_some, plain_then}
-use Rattle.law_isolation.proofs.Reaching.{err_not_ok, field_allowed, same_Ok}
+use Rattle.jc_api.proofs.Exits.{FaultsOnly, IsPlainExit, plain_check, plain_firewall, plain_object, plain_some, plain_then}
+use Rattle.jc_api.proofs.Reaching.{err_not_ok, field_allowed, same_Ok}
 
 -- ---- what is known of the method
 

@@ -14,7 +14,7 @@ use Rattle.jc_memory.specs.Reading.{AllDue}
 use Rattle.jc_memory.specs.Cells.{cell_effect, cell_effect_in, cells_effect, cells_effect_in}
 use Rattle.jc_memory.specs.Making.{object_creation, creation_move}
 use Rattle.law_isolation.specs.Sparing.{LeavesObject}
-use Rattle.law_isolation.proofs.Passing.{Makes}
+use Rattle.jc_api.proofs.Passing.{Makes}
 
 module _ (q : ℕ) (m : MemoryState) where
   set_in_spares : (event : Option ClearEvent) (r i : ℕ) (v : CellValue) → (r ≡ q → ⊥) → i < (facts m.heap.now r).length

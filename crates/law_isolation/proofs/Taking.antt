@@ -13,7 +13,8 @@ use Rattle.jc_frames.specs.declared.cell.Cell.TheVariants.{Short, Reference, Ret
 use Rattle.jc_frames.specs.Cells.{cell_on, reference_on, short_on, storable_on, two_references_on, two_shorts_on}
 use Rattle.jc_frames.specs.Frames.{Frame, Frames}
 use Rattle.jc_world.specs.Values.{value_on, with_top}
-use Rattle.law_isolation.specs.Referring.{CellRefersSo, FrameRefersSo}
+use Rattle.jc_api.specs.Referring.{CellRefersSo}
+use Rattle.law_isolation.specs.Referring.{FrameRefersSo}
 
 -- what is so of each value that this may be
 pub mapped_some : {A B : Type 0} (f : A → B) (o : Option A) (y : B) (P : B → Type 0) → option_map f o ≡ Some y → ((a : A) → o ≡ Some a → P (f a)) → P y

@@ -70,12 +70,12 @@ use Rattle.jc_interp.specs.Natives.{native_call}
 use Rattle.jc_interp.specs.Calling.{after_native, invoke_instruction, invoke_selected, native_invoke}
 use Rattle.jc_interp.specs.Stepping.{at_place, throw_from, code_of, instruction_at, fetch, instruction_step, is_plain, machine_step}
 use Rattle.law_isolation.specs.Steps.{IsCalled}
-use Rattle.law_isolation.proofs.Due.{DueThen, due_of}
-use Rattle.law_isolation.proofs.Exits.{FaultsOnly, IsPlainExit, plain_check, plain_end, plain_firewall, plain_object}
+use Rattle.jc_api.proofs.Due.{DueThen, due_of}
+use Rattle.jc_api.proofs.Exits.{FaultsOnly, IsPlainExit, plain_check, plain_end, plain_firewall, plain_object}
+use Rattle.jc_api.proofs.Reaching.{header_is}
 use Rattle.law_isolation.proofs.Selecting.{plain_selection}
 use Rattle.law_isolation.proofs.Instructions.{arrays_due, checked_due, examined_due, fields_due, made_due}
 use Rattle.law_isolation.proofs.Passing.{StepPasses}
-use Rattle.law_isolation.proofs.Reaching.{header_is}
 
 -- whatever the cell
 abbrev pub AnyCell : HeapState → Cell → Type 0

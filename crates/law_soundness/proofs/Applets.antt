@@ -48,9 +48,9 @@ use Rattle.law_linking.proofs.Facts.{numbers_before}
 use Rattle.law_linking.specs.Classes.{HasAids, KnowsClasses}
 use Rattle.law_soundness.specs.Fit.{AreCellsOf, FitsNew, FitsObject, FitsRun, FitsTurn, IsFit, KeepsSound, OfRegistry, RegistersApplet}
 use Rattle.law_soundness.specs.State.{IsSoundMemory, IsSteady, is_home, is_open, is_owner_up_to}
-use Rattle.law_isolation.proofs.Arguments.{length_bytes}
-use Rattle.law_isolation.proofs.Applets.{MayRegister, Registering}
-use Rattle.law_isolation.proofs.Reaching.{header_is}
+use Rattle.jc_api.proofs.Reaching.{header_is}
+use Rattle.jc_api.proofs.Stretches.{length_bytes}
+use Rattle.jc_api_framework.proofs.AppletCalls.Registering.{MayRegister, Registering}
 use Rattle.law_isolation.proofs.Standing.{applets-add_object, applets-set_cells}
 use Rattle.law_soundness.proofs.Below.{aid_no_pin}
 use Rattle.law_soundness.proofs.Frames.{run_headers}

@@ -30,8 +30,9 @@ use Rattle.law_linking.specs.Classes.{KnowsClasses}
 use Rattle.law_soundness.specs.Fit.{FitsFill, FitsValue, IsFit}
 use Rattle.law_soundness.specs.State.{IsLivingValue, IsSoundMemory, IsSteady}
 use Rattle.law_isolation.proofs.Instructions.{arrays_due}
-use Rattle.law_isolation.proofs.Passing.{ArraysPass, Makes, new_for}
-use Rattle.law_isolation.proofs.Reaching.{err_not_ok, same_Ok}
+use Rattle.jc_api.proofs.Passing.{Makes}
+use Rattle.jc_api.proofs.Reaching.{err_not_ok, same_Ok}
+use Rattle.law_isolation.proofs.Passing.{ArraysPass, new_for}
 use Rattle.law_soundness.specs.Groups.{ArraysFit}
 use Rattle.law_soundness.proofs.RunObjects.{active_known, new_kept, one_fits, set_in}
 use Rattle.law_soundness.proofs.RunValues.{HasType, IsRef, element_of, has_type, keepable_is, keepable_lives, keepable_same}

@@ -15,7 +15,7 @@ use Rattle.jc_interp_calls.specs.declared.invoke.MethodCall.{MethodCall}
 use Rattle.jc_interp_calls.specs.declared.enter.CallSite.{CallSite}
 use Rattle.jc_interp_calls.specs.Entering.{method_entry, registers_in_callee}
 use Rattle.jc_interp_calls.specs.ServerCalls.{server_call}
-use Rattle.law_isolation.proofs.Due.{due_of}
+use Rattle.jc_api.proofs.Due.{due_of}
 use Rattle.law_isolation.proofs.Walk.{AnyCell, EntersPass, asking, entering}
 use Rattle.law_soundness.specs.Fit.{IsFit}
 use Rattle.law_soundness.specs.State.{IsSoundMemory, is_owner_up_to, most_owner}

@@ -20,14 +20,14 @@ use Rattle.jc_memory.specs.declared.registers.PackageNumber.{PackageNumber}
 use Rattle.jc_memory.specs.declared.registers.Registers.{Registers}
 use Rattle.jc_memory.specs.Owners.{owner_number}
 use Rattle.jc_memory.specs.State.{MemoryState, HeapMove, SetRegisters, ClearTransient, apply_effect}
-use Rattle.jc_memory.specs.Programs.{Program, Finish}
+use Rattle.jc_memory.specs.Programs.{Program, Finish, bind}
 use Rattle.jc_linker.specs.Lookups.{applet_entry, entry_with_aid}
 use Rattle.jc_linker.specs.Values.{Packages}
 use Rattle.jc_platform.specs.declared.names.PlatformMethod.TheVariants.{Applets}
 use Rattle.jc_platform.specs.declared.names.AppletsMethod.TheVariants.{AppletDeselect, AppletProcess, AppletSelect}
 use Rattle.jc_interp.specs.Running.{bare_frames, no_package, run_ad_hoc}
-use Rattle.jc_memory.specs.Reading.{AllDue}
-use Rattle.jc_memory.proofs.ProgramLemmas.{each_more}
+use Rattle.jc_memory.specs.Reading.{AllDue, AllResults}
+use Rattle.jc_memory.proofs.ProgramLemmas.{each_did, each_more}
 use Rattle.jc_dispatch.specs.declared.applet_result.AppletResult.{AppletResult}
 use Rattle.jc_dispatch.specs.declared.applet_result.AppletResult.TheVariants.{RegistryFull}
 use Rattle.jc_dispatch.specs.Buffer.{apdu_buffer, apdu_object, buffer_fill}
@@ -50,6 +50,7 @@ use Rattle.law_soundness.specs.Living.{AreLivingCells}
 use Rattle.law_soundness.proofs.Living.{first_living, more_living, none_living}
 use Rattle.law_soundness.proofs.Registered.{instance_refers}
 use Rattle.law_soundness.proofs.Phases.{good_then, run_for_good}
+use Rattle.law_soundness.proofs.Dispatched.{dispatched_run}
 use Rattle.law_soundness.proofs.Serving.{StandsBehind, all_served, behind_both, behind_each, behind_itself, behind_one, same_fits, serving_keeps}
 use Rattle.law_soundness.proofs.Memories.{applet_more}
 
@@ -161,14 +162,14 @@ module _ (runs : RunsAreSound) (p : Packages) (known : AreKnown p) where
   applet_left_good : (budget : ℕ) (one : Option AppletNumber) (m n : MemoryState) → IsShut m n → ((a : AppletNumber) → one ≡ Some a → is_applet m.heap.durable a ≡ true)
       → Good p (applet_left budget p one n) n (λ rest k. IsShut m k)
   unfolding applet_left
-  applet_left_good budget None m n x there = good_then p _ (ClearTransient Deselect) (Finish budget) n tt (good_gives p _ budget _ (cleared m n x))
+  applet_left_good budget None m n x there = good_then p _ (ClearTransient Deselect) (Finish budget) n tt tt (good_gives p _ budget _ (cleared m n x))
   applet_left_good budget (Some a) m n x there =
       good_bind p _ _ (applet_method_call budget p (Applets AppletDeselect) (instance_of n a.0) (Reference (instance_of n a.0) ∷ []) (Applet a) n) n
       (good_more p _ _ (applet_method_call budget p (Applets AppletDeselect) (instance_of n a.0) (Reference (instance_of n a.0) ∷ []) (Applet a) n) n
       (called_good runs p known budget (Applets AppletDeselect) (instance_of n a.0) (Reference (instance_of n a.0) ∷ []) (Applet a) n (own_living n a x.behind.stands.sound)
       (runs_behind m n a x.behind (there a refl)))
       (λ end v ran. good_bind p _ _ (close v) v (good_more p _ _ (close v) v (closed_behind m v (goes_on m n v x.behind ran.behind)) (λ u w shut.
-      good_then p _ (ClearTransient Deselect) (Finish end.0) w tt (good_gives p _ end.0 _ (cleared m w shut))))))
+      good_then p _ (ClearTransient Deselect) (Finish end.0) w tt tt (good_gives p _ end.0 _ (cleared m w shut))))))
 
   left_good : (budget : ℕ) (next : Option AppletNumber) (m : MemoryState) → IsReady p m → Good p (deselection budget p next m) m (λ rest n. IsShut m n)
   unfolding deselection
@@ -176,7 +177,7 @@ module _ (runs : RunsAreSound) (p : Packages) (known : AreKnown p) where
       let fits = same_fits p m r.sound (with_next next m.registers) refl refl refl in
       let v = apply_effect (SetRegisters (with_next next m.registers)) m in
       let first = behind_one p m (SetRegisters (with_next next m.registers)) fits r.sound r.environment in
-      good_then p _ (SetRegisters (with_next next m.registers)) _ m (inl fits)
+      good_then p _ (SetRegisters (with_next next m.registers)) _ m (inl fits) tt
       (applet_left_good budget m.registers.selected m v (record { behind = goes_on m m v (begins m r) first; shut = r.closed }) r.sound.selected)
 
   -- an applet answers, behind a ready memory
@@ -187,7 +188,7 @@ module _ (runs : RunsAreSound) (p : Packages) (known : AreKnown p) where
       let fits = same_fits p n b.stands.sound (with_command expected selecting n.registers) refl refl refl in
       let v = apply_effect (SetRegisters (with_command expected selecting n.registers)) n in
       let first = goes_on m n v b (behind_one p n (SetRegisters (with_command expected selecting n.registers)) fits b.stands.sound b.stands.environment) in
-      good_then p _ (SetRegisters (with_command expected selecting n.registers)) _ n (inl fits) (good_bind p _ _ (buffer_fill v (header_of v.command)) v
+      good_then p _ (SetRegisters (with_command expected selecting n.registers)) _ n (inl fits) tt (good_bind p _ _ (buffer_fill v (header_of v.command)) v
       (good_more p _ _ (buffer_fill v (header_of v.command)) v (filled_good p v first.stands.sound first.stands.environment (header_of v.command) (header_fits v.command)) (λ u w full.
       let second = goes_on m v w first full.behind in
       good_bind p _ _ (applet_method_call budget p (Applets AppletProcess) (instance_of w a.0) (Reference (instance_of w a.0) ∷ Reference (apdu_object w) ∷ [])
@@ -218,7 +219,7 @@ module _ (runs : RunsAreSound) (p : Packages) (known : AreKnown p) where
   accepted_behind true budget a expected m n x there = processed_behind budget a true expected m n x.behind there
   accepted_behind false budget a expected m n x there =
       let fits = select_fits n None x.behind.stands.sound (none_there n) in
-      good_then p _ (SetRegisters (with_selected None n.registers)) _ n (inl fits) (good_gives p _ _ _
+      good_then p _ (SetRegisters (with_selected None n.registers)) _ n (inl fits) tt (good_gives p _ _ _
       (ready m _ (goes_on m n _ x.behind (behind_one p n (SetRegisters (with_selected None n.registers)) fits x.behind.stands.sound
       x.behind.stands.environment)) x.shut))
 
@@ -233,7 +234,7 @@ module _ (runs : RunsAreSound) (p : Packages) (known : AreKnown p) where
       let w = apply_effect (SetRegisters (with_selected (Some a) v.registers)) v in
       let second = goes_on m v w gone.behind (behind_one p v (SetRegisters (with_selected (Some a) v.registers)) fits gone.behind.stands.sound
       gone.behind.stands.environment) in
-      good_then p _ (SetRegisters (with_selected (Some a) v.registers)) _ v (inl fits)
+      good_then p _ (SetRegisters (with_selected (Some a) v.registers)) _ v (inl fits) tt
       (good_bind p _ _ (applet_method_call rest p (Applets AppletSelect) (instance_of w a.0) (Reference (instance_of w a.0) ∷ []) (Applet a) w) w
       (good_more p _ _ (applet_method_call rest p (Applets AppletSelect) (instance_of w a.0) (Reference (instance_of w a.0) ∷ []) (Applet a) w) w
       (called_good runs p known rest (Applets AppletSelect) (instance_of w a.0) (Reference (instance_of w a.0) ∷ []) (Applet a) w
@@ -247,7 +248,7 @@ module _ (runs : RunsAreSound) (p : Packages) (known : AreKnown p) where
       good_bind p _ _ (deselection budget p None m) m (good_more p _ _ (deselection budget p None m) m
       (left_good budget None m r) (λ rest v gone.
       let fits = select_fits v None gone.behind.stands.sound (none_there v) in
-      good_then p _ (SetRegisters (with_selected None v.registers)) _ v (inl fits) (good_gives p _ _ _
+      good_then p _ (SetRegisters (with_selected None v.registers)) _ v (inl fits) tt (good_gives p _ _ _
       (ready m _ (goes_on m v _ gone.behind (behind_one p v (SetRegisters (with_selected None v.registers)) fits gone.behind.stands.sound
       gone.behind.stands.environment)) gone.shut))))
 
@@ -314,7 +315,7 @@ module _ (runs : RunsAreSound) (p : Packages) (known : AreKnown p) where
     installed_good : (budget offset : ℕ) (parameters : List ℕ) → length parameters ≤ buffer_size → Good p (applet_installation budget p q entry offset parameters m) m (λ e k. IsReady p k)
     unfolding applet_installation
     installed_good budget offset parameters few =
-        good_then p _ (HeapMove Begin) _ m r.closed (good_then p _ (SetRegisters opened) _ v (inr opens)
+        good_then p _ (HeapMove Begin) _ m r.closed r.closed (good_then p _ (SetRegisters opened) _ v (inr opens) tt
         (good_bind p _ _ (buffer_fill w parameters) w (good_more p _ _ (buffer_fill w parameters) w (filled_good p w w_sound w_environment parameters few)
         (λ u x full.
         good_bind p _ _ (method_run budget p q.0 offset (Reference (apdu_buffer x) ∷ Short (pos 0) ∷ Short (pos (length parameters)) ∷ [])
@@ -331,7 +332,7 @@ module _ (runs : RunsAreSound) (p : Packages) (known : AreKnown p) where
         let owner : (t.registers.active ≡ Runtime) ⊎ (t.registers.active ≡ m.registers.active) =
         elim ran.active [ inl runtime ↦ inl (shut.active ∙ runtime) | inr same ↦ inr (shut.active ∙ same ∙ ap (λ g. g.active) full.registers) ] in
         let fits = ends_fit t last.sound shut.closed (known_again t last.sound shut.closed last.counts owner) in
-        good_then p _ (ClearTransient Deselect) _ z tt (good_then p _ (SetRegisters (with_installation Idle t.registers)) _ t (inl fits) (good_gives p _ _ _ (
+        good_then p _ (ClearTransient Deselect) _ z tt tt (good_then p _ (SetRegisters (with_installation Idle t.registers)) _ t (inl fits) tt (good_gives p _ _ _ (
         let final = behind_one p t (SetRegisters (with_installation Idle t.registers)) fits last.sound last.environment in
         record { sound = final.sound; environment = final.environment; closed = shut.closed; idle = refl })))))))))))
 
@@ -392,16 +393,21 @@ module _ (runs : RunsAreSound) (p : Packages) (known : AreKnown p) where
         living = record { current = first_living m.heap.now [] locals limit 0 no_package (none_living m.heap.now); callers = tt };
       } in
       let fits : AllDue (IsFit p) (run_ad_hoc limit locals code budget p m) m = runs budget code p (bare_frames limit locals) m known machine in
+      let each : AllResults (run_ad_hoc limit locals code budget p m) m (λ end v. Good p (bind (close v) v (λ u w. Finish end.1)) v (λ o k. IsReady p k)) =
+      each_more (λ end v. StandsBehind p m v) _ (λ end v b. good_bind p _ _ (close v) v
+      (good_more p _ _ (close v) v (closed_behind m v (goes_on m m v (begins m r) b))
+      (λ u w shut. good_gives p _ _ w (ready m w shut.behind shut.shut)))) (run_ad_hoc limit locals code budget p m) m
+      (behind_each p (run_ad_hoc limit locals code budget p m) m m fits (behind_itself p m r.sound r.environment)) in
       good_bind p _ _ (run_ad_hoc limit locals code budget p m) m (record {
         due = all_served p (run_ad_hoc limit locals code budget p m) m fits;
-        each = each_more (λ end v. StandsBehind p m v) _ (λ end v b. good_bind p _ _ (close v) v
-            (good_more p _ _ (close v) v (closed_behind m v (goes_on m m v (begins m r) b))
-            (λ u w shut. good_gives p _ _ w (ready m w shut.behind shut.shut)))) (run_ad_hoc limit locals code budget p m) m
-            (behind_each p (run_ad_hoc limit locals code budget p m) m m fits (behind_itself p m r.sound r.environment));
+        each = each;
+        runs = dispatched_run p _ budget code (bare_frames limit locals) m
+            (record { first = refl; living = machine.living.current; steady = machine.steady; owner = machine.code })
+            (λ end n did. each_did _ (run_ad_hoc limit locals code budget p m) m n end each did);
       })
 
 leaves : (p : Packages) {A : Type 0} (d : Program A) (m : MemoryState) → Good p d m (λ a n. IsReady p n) → LeavesReady p d m
-leaves p d m g = record { fit = g.due; ready = g.each }
+leaves p d m g = record { fit = g.due; ready = g.each; runs = g.runs }
 
 pub commands_sound : RunsAreSound → CommandsAreSound
 commands_sound runs = record {

@@ -15,8 +15,8 @@ use Rattle.law_soundness.specs.State.{IsSoundMemory, IsSteady, is_owner_up_to, m
 use Rattle.law_soundness.specs.LocalEffects.{LocalEffectsStay}
 use Rattle.law_soundness.specs.Machines.{KnowOwners}
 use Rattle.law_soundness.specs.Calls.{IsCallResult, IsReadyAgain}
-use Rattle.law_isolation.proofs.Due.{IsPlainAnswer, IsPlainCall}
-use Rattle.law_isolation.proofs.Exits.{IsPlainExit}
+use Rattle.jc_api.proofs.Due.{IsPlainAnswer, IsPlainCall}
+use Rattle.jc_api.proofs.Exits.{IsPlainExit}
 use Rattle.law_soundness.proofs.Living.{plain_living}
 use Rattle.law_soundness.proofs.Still.{IsStill, Lives}
 use Rattle.law_soundness.proofs.LocalEffects.{same_known}

@@ -51,6 +51,8 @@ pub mod SteppedCalls
 pub mod Stepping
 pub mod StepLaws
 pub mod Serving
+pub mod Dispatched
 pub mod Phases
 pub mod Commands
 pub mod CommandLaws
+pub mod Causes

@@ -15,7 +15,7 @@ use Rattle.jc_frames.specs.declared.method.Origin.{Origin}
 use Rattle.jc_frames.specs.declared.outcome.FrameExit.TheVariants.{End}
 use Rattle.jc_frames.specs.declared.outcome.Outcome.{Outcome}
 use Rattle.jc_frames.specs.Frames.{Caller, Frame}
-use Rattle.law_isolation.proofs.Exits.{IsPlainExit, plain_end}
+use Rattle.jc_api.proofs.Exits.{IsPlainExit, plain_end}
 use Rattle.law_isolation.proofs.Receivers.{args_are}
 use Rattle.law_isolation.proofs.Taking.{frame_kept}
 use Rattle.law_soundness.specs.Living.{AreLivingCallers, AreLivingCells, IsLivingCell, IsLivingFrame, IsLivingOutcome, KeepsReferences}

@@ -37,7 +37,7 @@ use Rattle.jc_interp_objects.specs.StaticFields.{static_value}
 use Rattle.jc_interp_objects.specs.StaticImages.{byte_of, image_byte, image_pair, image_word, word_value}
 use Rattle.law_isolation.proofs.Passing.{ReadsSo}
 use Rattle.law_isolation.proofs.Reached.{IsArray, IsCell, Names, array_reached, index_within}
-use Rattle.law_isolation.proofs.Reaching.{err_not_ok}
+use Rattle.jc_api.proofs.Reaching.{err_not_ok}
 use Rattle.law_isolation.proofs.Taking.{mapped_some}
 use Rattle.law_linking.specs.Classes.{KnowsClasses}
 use Rattle.law_soundness.specs.Environment.{HasEnvironment}

@@ -20,7 +20,7 @@ use Rattle.law_linking.specs.Methods.{KnowsMethods}
 use Rattle.law_soundness.specs.Steps.{HasSoundCallers, InstructionsFit}
 use Rattle.law_soundness.specs.Calls.{NativesLeave}
 use Rattle.law_soundness.specs.Soundness.{IsSoundNext}
-use Rattle.law_isolation.proofs.Due.{DueThen}
+use Rattle.jc_api.proofs.Due.{DueThen}
 use Rattle.law_isolation.proofs.Going.{IsPlainNext, StaysIn}
 use Rattle.law_isolation.proofs.Taking.{with_cells}
 use Rattle.law_soundness.proofs.Living.{callers_kept, plain_living}

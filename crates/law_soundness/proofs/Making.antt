@@ -21,7 +21,7 @@ use Rattle.law_linking.specs.Classes.{KnowsClasses}
 use Rattle.law_soundness.specs.State.{IsSoundMemory, IsSteady}
 use Rattle.law_isolation.proofs.Instructions.{checked_due, examined_due, made_due}
 use Rattle.law_isolation.proofs.Passing.{InstancesPass, new_for}
-use Rattle.law_isolation.proofs.Reaching.{err_not_ok, same_Ok}
+use Rattle.jc_api.proofs.Reaching.{err_not_ok, same_Ok}
 use Rattle.law_soundness.specs.Groups.{ObjectsFit}
 use Rattle.law_soundness.proofs.RunObjects.{active_known, new_kept}
 

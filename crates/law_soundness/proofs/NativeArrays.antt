@@ -15,7 +15,7 @@ use Rattle.jc_card_checks.specs.Objects.{is_instance}
 use Rattle.jc_linker.specs.Classes.{is_a}
 use Rattle.jc_world.specs.Instances.{IsInstanceWith}
 use Rattle.jc_api_framework.specs.Aid.Cells.{cells_of_aid, is_aid_length}
-use Rattle.law_isolation.proofs.Arguments.{HoldsNumbers}
+use Rattle.jc_api.proofs.Stretches.{HoldsNumbers}
 use Rattle.law_linking.proofs.Facts.{numbers_before}
 use Rattle.law_linking.specs.Classes.{KnowsClasses}
 use Rattle.law_soundness.specs.Fit.{FitsRun, IsFit}

@@ -1,16 +1,12 @@
 -- Methods of the platform fit, and leave a memory between two instructions.
-use Rattle.std.proofs.Common.{◌≡◌, ℕ, true, false, inl, inr, List, Option, Some, None, refl, sym, ◌∙◌, ap, subst, arith}
-use Rattle.std.proofs.lemmas.Option.{none-some, same_Some}
-use Rattle.std.specs.Option.{option_map}
-use Rattle.std.specs.Prelude.{slice_index}
+use Rattle.std.proofs.Common.{◌≡◌, ℕ, true, false, inl, inr, List, Some, refl, sym, ◌∙◌, ap, subst, arith}
 use Rattle.jc_transient.specs.declared.cell.CellValue.TheVariants.{Short}
-use Rattle.jc_heap.specs.declared.object.Facts.{Facts}
 use Rattle.jc_heap.specs.declared.object.Kind.{Kind}
 use Rattle.jc_heap.specs.declared.object.Kind.TheVariants.{ByteArray, ReferenceArray}
-use Rattle.jc_heap.specs.Heap.{IsObject, facts}
+use Rattle.jc_heap.specs.Heap.{facts}
 use Rattle.jc_frames.specs.declared.cell.Cell.{Cell}
 use Rattle.jc_memory.specs.State.{MemoryState}
-use Rattle.jc_memory.specs.Cells.{cells_effect, header_at}
+use Rattle.jc_memory.specs.Cells.{cells_effect}
 use Rattle.jc_memory.specs.Changing.{nonatomic_store}
 use Rattle.jc_memory.specs.Reading.{AllDue}
 use Rattle.jc_linker.specs.Values.{Packages}
@@ -29,16 +25,14 @@ use Rattle.jc_world.specs.Arrays.{bytes_in}
 use Rattle.jc_api_framework.specs.Aid.Cells.{cells_of_aid, is_aid_length}
 use Rattle.jc_interp.specs.Natives.{native_call}
 use Rattle.jc_world.specs.NativeCalls.{NativeProgram}
-use Rattle.jc_api_framework.specs.Apdu.Current.{apdu_object}
-use Rattle.jc_api_framework.specs.Apdu.Buffer.{data_of}
 use Rattle.jc_platform.specs.Signatures.{minds_receiver}
 use Rattle.law_isolation.proofs.Facts.{sets_minds}
-use Rattle.law_isolation.proofs.Arguments.{buffer_is, length_bytes}
+use Rattle.jc_api.proofs.Due.{DueThen, due_of, due_then, results_of}
+use Rattle.jc_api.proofs.Stretches.{length_bytes}
+use Rattle.jc_api_framework.proofs.Passing.{AnswersSo, IsPinCall, MethodPasses, RegistersSo, turns_of}
+use Rattle.jc_interp.proofs.Calls.{IsPlainMethod, method_called, method_then}
 use Rattle.law_isolation.proofs.Bytes.{store_due}
-use Rattle.law_isolation.proofs.Due.{DueThen, due_of, due_then, results_of}
-use Rattle.law_isolation.proofs.Methods.{IsPlainMethod, method_called, method_then}
-use Rattle.law_isolation.proofs.Natives.{data_fits, nine}
-use Rattle.law_isolation.proofs.Passing.{AnswersSo, IsPinCall, MethodPasses, RegistersSo, turns_of}
+use Rattle.law_isolation.proofs.Natives.{nine}
 use Rattle.law_linking.specs.Classes.{HasAids, KnowsClasses}
 use Rattle.law_soundness.specs.Fit.{IsFit, IsPinObject, OfValue}
 use Rattle.law_soundness.specs.State.{IsSoundMemory, IsSteady}
@@ -62,15 +56,6 @@ use Rattle.law_soundness.proofs.Register.{registered_again}
 use Rattle.law_soundness.proofs.Registered.{or_null_refers}
 use Rattle.law_soundness.proofs.Still.{IsStill, Lives, still_passes, still_turns}
 use Rattle.law_soundness.proofs.Transactions.{transactions_left}
-
--- the object that is answered for APDU is the sixteenth of the environment
-apdu_found : (m : MemoryState) (o : Option Facts) (r : ℕ) → option_map (λ f. slice_index m.fixed 15) o ≡ Some r → slice_index m.fixed 15 ≡ r
-apdu_found m None r is = absurd (none-some r is)
-apdu_found m (Some f) r is = same_Some (slice_index m.fixed 15) r is
-
-apdu_is : (m : MemoryState) (r : ℕ) → apdu_object m ≡ Some r → slice_index m.fixed 15 ≡ r
-unfolding apdu_object
-apdu_is m r is = apdu_found m (header_at m (slice_index m.fixed 15)) r is
 
 -- methods that mind the object that they are called on
 minds_own : (method : PlatformMethod) → method ≡ Applets AppletRegister → minds_receiver method ≡ true
@@ -108,22 +93,23 @@ module _ (method : PlatformMethod) (args : List Cell) (p : Packages) (m : Memory
 
   passes : MethodPasses (IsFit p) method args p m
   passes = record {
-    reason = λ part sets own v is there. set_in p m (facts m.heap.now own).event own 0 (Short v) refl
-        (reason_fits p m known sound (class_of method) (reasoned (class_of method) part) own _ (called_on (class_of method) (sets_minds method sets) refl own is) there)
-        (one_fits m own 0 (Short v) there.cells tt (λ array. absurd (instance_no_array (facts m.heap.now own).kind (ap is_instance there.instance) array)));
-    stretch = λ r count e words is long. subst (λ a. IsFit p (cells_effect m a e.start words) m) (sym is.array)
-        (elements_fit p m r e.start words is.kind (let w = is.within in omega (arith, w, long)));
-    bytes = λ r count e words is long kind.
-        let w = is.within in
-        subst (λ a. AllDue (IsFit p) (nonatomic_store m a e.start words) m) (sym is.array)
-        (store_due (IsFit p) r (λ i x v element. inr element) words e.start m kind (omega (arith, w, long))
-        (numbers_fit m r e.start words (omega (arith, w, long)) (array_of_bytes (facts m.heap.now r).kind kind)));
+    calls = record {
+      reason = λ part sets own v is there. set_in p m (facts m.heap.now own).event own 0 (Short v) refl
+          (reason_fits p m known sound (class_of method) (reasoned (class_of method) part) own _ (called_on (class_of method) (sets_minds method sets) refl own is) there)
+          (one_fits m own 0 (Short v) there.cells tt (λ array. absurd (instance_no_array (facts m.heap.now own).kind (ap is_instance there.instance) array)));
+      stretch = λ r count e words is long. subst (λ a. IsFit p (cells_effect m a e.start words) m) (sym is.array)
+          (elements_fit p m r e.start words is.kind (let w = is.within in omega (arith, w, long)));
+      bytes = λ r count e words is long kind.
+          let w = is.within in
+          subst (λ a. AllDue (IsFit p) (nonatomic_store m a e.start words) m) (sym is.array)
+          (store_due (IsFit p) r (λ i x v element. inr element) words e.start m kind (omega (arith, w, long))
+          (numbers_fit m r e.start words (omega (arith, w, long)) (array_of_bytes (facts m.heap.now r).kind kind)));
+      transient = transient_fits p m known sound steady;
+    };
     aid = λ init own bytes is there long. run_in p m own 0 (cells_of_aid bytes) (facts m.heap.now own).event refl
         (let l = there.cells in let n = nine bytes in omega (arith, l, n))
         (aid_fits p m known sound own bytes (called_on Aid (aid_minds method init) (class_init method init) own is) (receiver.owned init own is) there long);
-    buffer = λ r is. elements_fit p m r 5 (data_of m.command) (inl is.kind)
-        (let d = data_fits m.command sound.command in let l = is.long in omega (arith, d, l));
-    transient = transient_fits p m known sound steady;
+    buffer = λ r words is fits. elements_fit p m r 5 words (inl is.kind) (let d = fits sound.command in let l = is.long in omega (arith, d, l));
     starts = λ pin is limit maximum. starts p m sound steady pin limit maximum (object_of pin is);
     flags = λ pin is flag v. tt;
     counts = λ pin is n. inl (pin, refl, after_flag p m pin false (object_of pin is));
@@ -147,8 +133,7 @@ module _ (method : PlatformMethod) (args : List Cell) (p : Packages) (m : Memory
     -- the references that are answered name what is there
     refers : AnswersSo Lives m
     refers = record {
-      buffer = λ r there. inr (subst (IsObject m.heap.now) (sym (buffer_is m r there).is) (environment.now.there 16 (omega (arith, environment.now.long))));
-      apdu = λ r there. inr (subst (IsObject m.heap.now) (apdu_is m r there) (environment.now.there 15 (omega (arith, environment.now.long))));
+      fixed = λ k le. inr (environment.now.there k (omega (arith, le, environment.now.long)));
       aid = or_null_refers p m sound;
       null = inl refl;
       new = λ o r new. inr (new_there o.event o m r new);

@@ -21,7 +21,7 @@ use Rattle.jc_memory.specs.State.{MemoryState, Effect, HeapMove, SetRegisters, a
 use Rattle.jc_memory.specs.Programs.{Program, Finish, Perform, bind}
 use Rattle.jc_memory.specs.Cells.{header_at, cells_effect, cells_effect_in}
 use Rattle.jc_memory.specs.Reading.{AllDue, AllResults}
-use Rattle.jc_memory.proofs.ProgramLemmas.{due_bind, each_bind, each_more}
+use Rattle.jc_memory.proofs.ProgramLemmas.{due_bind, each_bind, each_did, each_more}
 use Rattle.jc_opcodes.specs.declared.header.Header.{Header}
 use Rattle.jc_linker.specs.declared.target.Method.{Method}
 use Rattle.jc_linker.specs.declared.target.Method.TheVariants.{Code, Native}
@@ -32,7 +32,7 @@ use Rattle.jc_interp.specs.Running.{run_methods}
 use Rattle.jc_dispatch.specs.Buffer.{apdu_buffer, buffer_fill, buffer_fill_in, buffer_length, is_buffer, is_of_bytes, padded_bytes}
 use Rattle.jc_dispatch.specs.Phases.{then_with, applet_method_call, close, abort_if_open, method_named, registers_idle, method_run, method_run_from, run_method}
 use Rattle.jc_dispatch.specs.Phases.{registers_for, registers_released}
-use Rattle.law_isolation.proofs.Reaching.{header_is}
+use Rattle.jc_api.proofs.Reaching.{header_is}
 use Rattle.law_soundness.specs.Environment.{HasEnvironment}
 use Rattle.law_soundness.specs.Fit.{FitsFill, FitsTurn, IsFit}
 use Rattle.law_soundness.specs.State.{IsSoundMemory, IsSteady, is_open, is_owner_up_to, most_owner}
@@ -41,31 +41,35 @@ use Rattle.law_soundness.specs.Machines.{IsSoundMachine, KnowOwners}
 use Rattle.law_soundness.proofs.Living.{first_living}
 use Rattle.law_soundness.specs.Soundness.{AreKnown, RunsAreSound}
 use Rattle.law_soundness.specs.Commands.{IsServed}
+use Rattle.law_soundness.specs.Dispatched.{IsByEnvironment, IsDispatched, Stops, Does}
+use Rattle.law_soundness.proofs.Dispatched.{dispatched_more, dispatched_run, dispatched_then}
 use Rattle.law_soundness.proofs.Serving.{StandsBehind, all_served, behind_both, behind_each, behind_itself, behind_one, same_fits}
 use Rattle.law_soundness.proofs.Transients.{numbers_fit}
 
--- all of it is served, and however it ends this is so
+-- all of it is served, however it ends this is so, and it is what the runtime environment does and runs of code
 pub record Good (p : Packages) {A : Type 0} (d : Program A) (m : MemoryState) (Q : A → MemoryState → Type 0) : Type 0 where
   pub due : AllDue (IsServed p) d m
   pub each : AllResults d m Q
+  pub runs : IsDispatched p Q d m
 
 pub good_bind : (p : Packages) {A B : Type 0} (Q : B → MemoryState → Type 0) (more : A → MemoryState → Program B) (d : Program A) (m : MemoryState)
     → Good p d m (λ a v. Good p (more a v) v Q) → Good p (bind d m more) m Q
 good_bind p Q more d m g = record {
   due = due_bind (IsServed p) more d m g.due (each_more (λ a v. Good p (more a v) v Q) (λ a v. AllDue (IsServed p) (more a v) v) (λ a v x. x.due) d m g.each);
   each = each_bind Q more d m (each_more (λ a v. Good p (more a v) v Q) (λ a v. AllResults (more a v) v Q) (λ a v x. x.each) d m g.each);
+  runs = dispatched_then p (λ a v. Good p (more a v) v Q) Q more (λ a v x. x.runs) d m g.runs;
 }
 
 pub good_then : (p : Packages) {A : Type 0} (Q : A → MemoryState → Type 0) (e : Effect) (rest : Program A) (m : MemoryState) → IsServed p e m
-    → Good p rest (apply_effect e m) Q → Good p (Perform e rest) m Q
-good_then p Q e rest m is g = record { due = (is, g.due); each = g.each }
+    → IsByEnvironment e m → Good p rest (apply_effect e m) Q → Good p (Perform e rest) m Q
+good_then p Q e rest m is own g = record { due = (is, g.due); each = g.each; runs = Does e rest m own g.runs }
 
 pub good_more : (p : Packages) {A : Type 0} (P Q : A → MemoryState → Type 0) (d : Program A) (m : MemoryState) → Good p d m P
     → ((a : A) (v : MemoryState) → P a v → Q a v) → Good p d m Q
-good_more p P Q d m g more = record { due = g.due; each = each_more P Q more d m g.each }
+good_more p P Q d m g more = record { due = g.due; each = each_more P Q more d m g.each; runs = dispatched_more p P Q more d m g.runs }
 
 pub good_gives : (p : Packages) {A : Type 0} (Q : A → MemoryState → Type 0) (a : A) (m : MemoryState) → Q a m → Good p (Finish a) m Q
-good_gives p Q a m q = record { due = tt; each = q }
+good_gives p Q a m q = record { due = tt; each = q; runs = Stops a m q }
 
 -- ---- a method runs
 
@@ -122,14 +126,13 @@ module _ (runs : RunsAreSound) (p : Packages) (known : AreKnown p) where
   from_good : (budget : ℕ) (start : Option Frames) (owner : Owner) (m : MemoryState) → ((s : Frames) → start ≡ Some s → Begins m.heap.now s) → MayRun p m owner
       → Good p (method_run_from budget p start owner m) m (λ end n. HasRun p m n)
   from_good budget None owner m begins may = good_gives p _ _ m (ran_itself p m owner may)
-  from_good budget (Some s) owner m begins may = good_then p _ (SetRegisters (registers_for owner m.registers)) _ m (inl (turn_on m owner may))
+  from_good budget (Some s) owner m begins may = good_then p _ (SetRegisters (registers_for owner m.registers)) _ m (inl (turn_on m owner may)) tt
       (good_bind p _ _ (run_methods budget p s v) v (record {
         due = all_served p (run_methods budget p s v) v fits;
-        each = each_more (λ end w. StandsBehind p m w) _ (λ end w b. good_then p _ (SetRegisters (registers_idle w.registers)) _ w (inl (turn_off w b.sound))
-            (good_gives p _ _ _ (record {
-              behind = behind_both p m w _ b (behind_one p w (SetRegisters (registers_idle w.registers)) (turn_off w b.sound) b.sound b.environment);
-              active = inl refl;
-            }))) (run_methods budget p s v) v (behind_each p (run_methods budget p s v) m v fits first);
+        each = each_end;
+        runs = dispatched_run p _ budget [] s v
+            (record { first = (begins s refl).0; living = (begins s refl).1; steady = machine.steady; owner = machine.code })
+            (λ end n did. each_did _ (run_methods budget p s v) v n end each_end did);
       }))
     where
       v : MemoryState
@@ -150,6 +153,14 @@ module _ (runs : RunsAreSound) (p : Packages) (known : AreKnown p) where
 
       fits : AllDue (IsFit p) (run_methods budget p s v) v
       fits = runs budget [] p s v known machine
+
+      each_end : AllResults (run_methods budget p s v) v
+          (λ end w. Good p (Perform (SetRegisters (registers_idle w.registers)) (Finish end)) w (λ last n. HasRun p m n))
+      each_end = each_more (λ end w. StandsBehind p m w) _ (λ end w b. good_then p _ (SetRegisters (registers_idle w.registers)) _ w (inl (turn_off w b.sound)) tt
+          (good_gives p _ _ _ (record {
+            behind = behind_both p m w _ b (behind_one p w (SetRegisters (registers_idle w.registers)) (turn_off w b.sound) b.sound b.environment);
+            active = inl refl;
+          }))) (run_methods budget p s v) v (behind_each p (run_methods budget p s v) m v fits first)
 
   pub run_for_good : (budget number offset : ℕ) (arguments : List Cell) (owner : Owner) (m : MemoryState) → AreLivingCells m.heap.now arguments → MayRun p m owner
       → Good p (method_run budget p number offset arguments owner m) m (λ end n. HasRun p m n)
@@ -182,7 +193,7 @@ module _ (p : Packages) where
 
   closing_good : (b : Bool) (m : MemoryState) → m.heap.begun ≡ b → IsSoundMemory p m → HasEnvironment p m →
       Good p (abort_if_open b (λ v. then_with (SetRegisters (registers_released v.registers)) v (λ w. Finish (tt {0}))) m) m (λ u n. IsClosed p m n)
-  closing_good false m is s h = good_then p _ (SetRegisters (registers_released m.registers)) _ m (inl (outside m s)) (good_gives p _ _ _ (record {
+  closing_good false m is s h = good_then p _ (SetRegisters (registers_released m.registers)) _ m (inl (outside m s)) tt (good_gives p _ _ _ (record {
     behind = behind_one p m (SetRegisters (registers_released m.registers)) (outside m s) s h;
     closed = is;
     active = refl;
@@ -190,8 +201,8 @@ module _ (p : Packages) where
   closing_good true m is s h =
       let v = apply_effect (HeapMove Abort) m in
       let first = behind_one p m (HeapMove Abort) is s h in
-      good_then p _ (HeapMove Abort) _ m is (good_then p _ (SetRegisters (registers_released v.registers)) _ v
-      (inl (outside v first.sound)) (good_gives p _ _ _ (record {
+      good_then p _ (HeapMove Abort) _ m is is (good_then p _ (SetRegisters (registers_released v.registers)) _ v
+      (inl (outside v first.sound)) tt (good_gives p _ _ _ (record {
         behind = behind_both p m v _ first (behind_one p v (SetRegisters (registers_released v.registers))
             (outside v first.sound) first.sound first.environment);
         closed = refl;
@@ -218,11 +229,11 @@ pub record IsFilled (p : Packages) (m n : MemoryState) : Type 0 where
   pub registers : n.registers ≡ m.registers
 
 module _ (p : Packages) (m : MemoryState) (s : IsSoundMemory p m) (h : HasEnvironment p m) where
-  run_good : (event : Option ClearEvent) (r : ℕ) (bytes : List ℕ) → is_some event ≡ true → FitsFill m r 0 (map number_of bytes)
-      → Good p (Perform (cells_effect_in event r 0 bytes) (Finish (tt {0}))) m (λ u n. IsFilled p m n)
-  run_good None r bytes is fits = absurd (false≢true is)
-  run_good (Some event) r bytes is fits = good_then p _ (cells_effect_in (Some event) r 0 bytes) (Finish (tt {0})) m fits (good_gives p _ (tt {0}) _ (record {
-    behind = behind_one p m (cells_effect_in (Some event) r 0 bytes) fits s h;
+  run_good : (event : Option ClearEvent) (bytes : List ℕ) → is_some event ≡ true → FitsFill m (apdu_buffer m) 0 (map number_of bytes)
+      → Good p (Perform (cells_effect_in event (apdu_buffer m) 0 bytes) (Finish (tt {0}))) m (λ u n. IsFilled p m n)
+  run_good None bytes is fits = absurd (false≢true is)
+  run_good (Some event) bytes is fits = good_then p _ (cells_effect_in (Some event) (apdu_buffer m) 0 bytes) (Finish (tt {0})) m fits refl (good_gives p _ (tt {0}) _ (record {
+    behind = behind_one p m (cells_effect_in (Some event) (apdu_buffer m) 0 bytes) fits s h;
     heap = refl;
     registers = refl;
   }))
@@ -241,7 +252,7 @@ module _ (p : Packages) (m : MemoryState) (s : IsSoundMemory p m) (h : HasEnviro
   buffer_good : (b : Bool) (f : Facts) (bytes : List ℕ) → f ≡ facts m.heap.now (apdu_buffer m) → is_buffer f ≡ b → length bytes ≤ buffer_size
       → Good p (if b then Perform (cells_effect m (apdu_buffer m) 0 bytes) (Finish (tt {0})) else Finish tt) m (λ u n. IsFilled p m n)
   buffer_good false f bytes same is few = good_gives p _ _ m itself
-  buffer_good true f bytes same is few = run_good (facts m.heap.now (apdu_buffer m)).event (apdu_buffer m) bytes
+  buffer_good true f bytes same is few = run_good (facts m.heap.now (apdu_buffer m)).event bytes
       (subst (λ g. is_some g.event ≡ true) same (and_parts (is_of_bytes f.kind) _ (and_parts (is_of_bytes f.kind && is_some f.event) _ is).0).1)
       (is_buffer_filled f bytes same is few)
 

@@ -40,9 +40,9 @@ use Rattle.jc_card_checks.specs.Objects.{is_instance}
 use Rattle.jc_linker.specs.Classes.{is_a}
 use Rattle.jc_interp_calls.specs.declared.invoke.MethodCall.{MethodCall}
 use Rattle.jc_interp_calls.specs.Invoke.{call_decision, call_of, class_of, is_native_constructor, is_of_any, method_selection, receiver_of, receiver_on}
-use Rattle.law_isolation.proofs.Reaching.{err_not_ok, object_is, same_Ok}
+use Rattle.jc_api.proofs.Reaching.{err_not_ok, object_is, same_Ok}
+use Rattle.jc_api.proofs.Stretches.{both_ok}
 use Rattle.law_isolation.proofs.Selecting.{Bare, Found, Named, Selected, is_there, selected}
-use Rattle.law_isolation.proofs.Arguments.{both_ok}
 use Rattle.law_linking.specs.Classes.{KnowsClasses}
 use Rattle.law_soundness.specs.State.{IsSoundMemory, is_owner_up_to, last_own, most_owner}
 use Rattle.jc_platform.specs.Names.{aids_rows}

@@ -18,7 +18,7 @@ use Rattle.jc_linker.specs.Classes.{is_class, size_of}
 use Rattle.jc_linker.specs.Resolves.{names_interface}
 use Rattle.jc_linker.specs.Values.{Packages}
 use Rattle.jc_card_checks.specs.Objects.{fits_class, is_instance, is_persistent_instance}
-use Rattle.law_isolation.proofs.Passing.{Makes}
+use Rattle.jc_api.proofs.Passing.{Makes}
 pub use Rattle.law_isolation.proofs.Reached.{instance_kind}
 use Rattle.law_linking.specs.Classes.{has_instances}
 use Rattle.law_soundness.specs.Fit.{FitsFill, FitsNew, FitsValue, IsFit}

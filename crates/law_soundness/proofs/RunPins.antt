@@ -26,8 +26,8 @@ use Rattle.law_linking.proofs.Facts.{numbers_before}
 use Rattle.law_linking.specs.Classes.{KnowsClasses}
 use Rattle.law_soundness.specs.Fit.{IsFit, IsPinObject, OfPin}
 use Rattle.law_soundness.specs.State.{IsSoundMemory, IsSteady}
-use Rattle.law_isolation.proofs.Arguments.{pin_record}
-use Rattle.law_isolation.proofs.Passing.{recorded}
+use Rattle.jc_api_framework.proofs.Passing.{recorded}
+use Rattle.law_isolation.proofs.Pins.{pin_record}
 use Rattle.law_soundness.proofs.RunObjects.{active_known, kept_behind, kept_fits, new_kept}
 use Rattle.law_soundness.proofs.Below.{aid_no_pin}
 

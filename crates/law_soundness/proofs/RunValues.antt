@@ -19,7 +19,7 @@ use Rattle.jc_linker.specs.Values.{Packages}
 use Rattle.jc_card_checks.specs.Objects.{is_reference}
 use Rattle.jc_world.specs.Objects.{storable_in, storable_of}
 use Rattle.jc_world.specs.Values.{keepable, value_if_allowed, value_on}
-use Rattle.law_isolation.proofs.Reaching.{err_not_ok, same_Ok}
+use Rattle.jc_api.proofs.Reaching.{err_not_ok, same_Ok}
 use Rattle.law_soundness.specs.State.{IsLivingElement, IsLivingValue}
 use Rattle.law_soundness.proofs.Transients.{names_object}
 

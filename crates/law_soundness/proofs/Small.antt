@@ -1,8 +1,8 @@
 -- Reasons of exceptions, and transient arrays.
-use Rattle.std.proofs.Common.{◌≡◌, ℕ, ◌+◌, Bool, true, false, Option, Some, None, Ok, refl, sym, ◌∙◌, ap, subst, arith, if◌then◌else◌}
+use Rattle.std.proofs.Common.{◌≡◌, ℕ, ◌+◌, Bool, true, false, Option, Some, None, refl, sym, ◌∙◌, ap, subst, arith, if◌then◌else◌}
 use Rattle.std.proofs.lemmas.Bool.{and_parts, both_ways, false_from_ne_true, ltb-false}
 use Rattle.std.proofs.lemmas.Option.{none-some}
-use Rattle.std.specs.Prelude.{ℤ, nat_lt}
+use Rattle.std.specs.Prelude.{nat_lt}
 use Rattle.jc_transient.specs.declared.cell.ClearEvent.{ClearEvent}
 use Rattle.jc_transient.specs.State.{area_size}
 use Rattle.jc_heap.specs.declared.object.Kind.{Kind}
@@ -24,14 +24,11 @@ use Rattle.jc_platform.specs.Names.{classes}
 use Rattle.jc_card_checks.specs.Objects.{fits_class, is_instance}
 use Rattle.jc_linker.specs.Classes.{is_a}
 use Rattle.jc_world.specs.Instances.{IsInstanceWith}
-use Rattle.jc_world.specs.Numbers.{not_negative}
-use Rattle.jc_api_framework.specs.System.Transient.{class_for, event_named, length_in, allowed_event, requested_array}
+use Rattle.jc_api.specs.NewArrays.{class_for}
 use Rattle.law_linking.specs.Classes.{KnowsClasses}
 use Rattle.law_soundness.specs.Fit.{FitsNew, FitsValue, IsFit}
 use Rattle.law_soundness.specs.State.{IsSoundMemory, IsSteady, is_owner_up_to, most_new}
-use Rattle.law_isolation.proofs.Reaching.{same_Ok}
-use Rattle.law_isolation.proofs.Arguments.{both_ok}
-use Rattle.law_isolation.proofs.Passing.{Makes}
+use Rattle.jc_api.proofs.Passing.{IsTransientArray, Makes}
 use Rattle.law_soundness.proofs.RunObjects.{active_known, instance_kind, instance_no_array, kept_fits, new_transient}
 use Rattle.law_soundness.proofs.Below.{HasReason, reason_no_aid, reason_no_pin}
 
@@ -49,23 +46,7 @@ module _ (p : Packages) (m : MemoryState) (known : KnowsClasses p) (sound : IsSo
     λ array. absurd (instance_no_array (facts m.heap.now own).kind (ap is_instance there.instance) array),
   )
 
--- transient arrays: what is asked for
-record IsWanted (p : Packages) (m : MemoryState) (kind : Kind) (o : NewObject) : Type 0 where
-  event : ClearEvent
-  kept : o.event ≡ Some event
-  kind_is : o.kind ≡ kind
-  class : o.class ≡ class_for kind p
-  owner : o.owner ≡ m.registers.active
-
-wanted_is : (kind : Kind) (count event : ℤ) (p : Packages) (m : MemoryState) (o : NewObject) → requested_array kind count event p m ≡ Ok o → IsWanted p m kind o
-unfolding requested_array
-wanted_is kind count event p m o e =
-    let one = both_ok (length_in (not_negative count)) _ o e in
-    let two = both_ok (event_named event) _ o one.2 in
-    let three = both_ok (allowed_event two.0 m) _ o two.2 in
-    let asked : NewObject = record { kind = kind; event = Some two.0; class = class_for kind p; owner = m.registers.active; length = one.0 } in
-    subst (IsWanted p m kind) (same_Ok asked o three.2) (record { event = two.0; kept = refl; kind_is = refl; class = refl; owner = refl })
-
+-- transient arrays
 module _ (p : Packages) (m : MemoryState) (known : KnowsClasses p) (sound : IsSoundMemory p m) (steady : IsSteady m) where
   -- a cell that there is no space for is refused
   space_in : (event : ClearEvent) (long : ℕ) (b : Bool) → nat_lt area_size (area_end m.heap.now event + long) ≡ b → (other : Option HeapRefusal)
@@ -85,18 +66,14 @@ module _ (p : Packages) (m : MemoryState) (known : KnowsClasses p) (sound : IsSo
   fits_for ShortArray n none = refl
   fits_for ReferenceArray n none = (and_parts (is_class p (class_word p.platform Object)) _ (known.platform.own Object refl)).0
 
-  wanted_fits : (kind : Kind) (o : NewObject) → (kind ≡ Instance → ⊥) → IsWanted p m kind o → FitsNew p m o.kind o.class (owner_number o.owner) o.length
-  wanted_fits kind o none is = record {
-    there = subst (λ k. fits_class p k o.class o.length ≡ true) (sym is.kind_is) (subst (λ c. fits_class p kind c o.length ≡ true) (sym is.class)
-        (fits_for kind o.length none));
+  wanted_fits : (o : NewObject) → IsTransientArray p m o → FitsNew p m o.kind o.class (owner_number o.owner) o.length
+  wanted_fits o is = record {
+    there = subst (λ c. fits_class p o.kind c o.length ≡ true) (sym is.class) (fits_for o.kind o.length is.array);
     known = subst (λ a. is_owner_up_to (most_new m) m.heap.now (owner_number a) ≡ true) (sym is.owner) (active_known p m sound steady);
-    small = λ instance. absurd (none (sym is.kind_is ∙ instance_kind o.kind instance));
-    environments = λ instance zero. absurd (none (sym is.kind_is ∙ instance_kind o.kind instance));
+    small = λ instance. absurd (is.array (instance_kind o.kind instance));
+    environments = λ instance zero. absurd (is.array (instance_kind o.kind instance));
   }
 
-  pub transient_fits : (kind : Kind) (count event : ℤ) (o : NewObject) → (kind ≡ Instance → ⊥) → requested_array kind count event p m ≡ Ok o
-      → creation_refusal m o ≡ None → Makes (IsFit p) m o
-  transient_fits kind count event o none fine room =
-      let asked = wanted_is kind count event p m o fine in
-      new_transient p m o (wanted_fits kind o none asked) asked.event asked.kept (has_space o asked.event asked.kept room)
-      (false_from_ne_true (is_instance o.kind) (λ instance. none (sym asked.kind_is ∙ instance_kind o.kind instance)))
+  pub transient_fits : (o : NewObject) → IsTransientArray p m o → creation_refusal m o ≡ None → Makes (IsFit p) m o
+  transient_fits o is room = new_transient p m o (wanted_fits o is) is.event is.kept (has_space o is.event is.kept room)
+      (false_from_ne_true (is_instance o.kind) (λ instance. is.array (instance_kind o.kind instance)))

@@ -25,7 +25,7 @@ use Rattle.jc_interp_calls.specs.declared.invoke.MethodCall.{MethodCall}
 use Rattle.jc_interp_calls.specs.Entering.{registers_in_callee}
 use Rattle.jc_interp_calls.specs.Invoke.{method_selection}
 use Rattle.jc_interp_calls.specs.ServerCalls.{with_local}
-use Rattle.law_isolation.proofs.Due.{DueThen}
+use Rattle.jc_api.proofs.Due.{DueThen}
 use Rattle.law_isolation.proofs.Taking.{frame_kept, with_cells}
 use Rattle.law_isolation.proofs.Walk.{EntersPass, IsAnswered, walked_of}
 use Rattle.law_soundness.specs.Calls.{IsCallResult, IsReadyAgain, IsSteadyAgain}

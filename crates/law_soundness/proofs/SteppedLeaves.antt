@@ -17,7 +17,7 @@ use Rattle.jc_frames.specs.Cells.{reference_on, short_on}
 use Rattle.jc_frames.specs.Frames.{Caller, Frame}
 use Rattle.jc_frames.specs.ReturnOps.{returned_cell}
 use Rattle.jc_interp_calls.specs.MethodReturn.{registers_of_caller}
-use Rattle.law_isolation.proofs.Reaching.{header_is}
+use Rattle.jc_api.proofs.Reaching.{header_is}
 use Rattle.law_isolation.proofs.Taking.{mapped_some, reference_taken}
 use Rattle.law_isolation.proofs.Walk.{IsHanded, LeavesPass}
 use Rattle.law_soundness.specs.Fit.{FitsTurn, IsFit}

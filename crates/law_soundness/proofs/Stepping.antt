@@ -14,7 +14,7 @@ use Rattle.jc_interp_objects.specs.ArrayOps.{array_instruction}
 use Rattle.jc_interp_objects.specs.FieldOps.{field_instruction}
 use Rattle.jc_interp.specs.Running.{or_end, run_of}
 use Rattle.jc_interp.specs.Stepping.{at_place, instruction_at, is_plain, machine_step}
-use Rattle.law_isolation.proofs.Due.{DueThen, due_of, results_of}
+use Rattle.jc_api.proofs.Due.{DueThen, due_of, results_of}
 use Rattle.law_isolation.proofs.Instructions.{arrays_going, checked_going, examined_going, fields_going, made_going}
 use Rattle.law_isolation.proofs.Passing.{ReadsSo}
 use Rattle.law_isolation.proofs.Walk.{IsAlone, walked_bind, walked_step}

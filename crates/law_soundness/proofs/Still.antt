@@ -17,10 +17,11 @@ use Rattle.jc_memory.specs.State.{MemoryState, Effect, HeapMove, apply_effect}
 use Rattle.jc_linker.specs.Values.{Packages}
 use Rattle.jc_pin.specs.Pins.{record_of}
 use Rattle.jc_platform.specs.declared.names.PlatformMethod.{PlatformMethod}
-use Rattle.jc_api_framework.specs.Apdu.Buffer.{data_of}
 use Rattle.jc_api_framework.specs.Aid.Cells.{cells_of_aid}
 use Rattle.law_isolation.proofs.Bytes.{store_due}
-use Rattle.law_isolation.proofs.Passing.{ArraysPass, FieldsPass, InstancesPass, MethodPasses, Turns}
+use Rattle.jc_api.proofs.Passing.{Turns}
+use Rattle.jc_api_framework.proofs.Passing.{MethodPasses}
+use Rattle.law_isolation.proofs.Passing.{ArraysPass, FieldsPass, InstancesPass}
 use Rattle.law_soundness.specs.LocalEffects.{AreElsewhere, IsLocalEffect}
 
 -- an effect is local, and behind it code runs for the same owner
@@ -54,15 +55,17 @@ module _ (m : MemoryState) where
   -- what methods set is still
   pub still_passes : (method : PlatformMethod) (args : List Cell) (p : Packages) → MethodPasses IsStill method args p m
   still_passes method args p = record {
-    reason = λ part sets own v is long. set_still (facts m.heap.now own).event own 0 (Short v);
-    stretch = λ r count e words is long. run_still (facts m.heap.now e.array).event e.array e.start words;
-    bytes = λ r count e words is long kind.
-        let w = is.within in
-        subst (λ a. AllDue IsStill (nonatomic_store m a e.start words) m) (sym is.array)
-        (store_due IsStill r (λ i x v element. (tt, refl)) words e.start m kind (omega (arith, w, long)) (tt, refl));
+    calls = record {
+      reason = λ part sets own v is long. set_still (facts m.heap.now own).event own 0 (Short v);
+      stretch = λ r count e words is long. run_still (facts m.heap.now e.array).event e.array e.start words;
+      bytes = λ r count e words is long kind.
+          let w = is.within in
+          subst (λ a. AllDue IsStill (nonatomic_store m a e.start words) m) (sym is.array)
+          (store_due IsStill r (λ i x v element. (tt, refl)) words e.start m kind (omega (arith, w, long)) (tt, refl));
+      transient = λ o is room r new. made_still o.event o;
+    };
     aid = λ init own bytes is long fine. run_still (facts m.heap.now own).event own 0 (cells_of_aid bytes);
-    buffer = λ r is. run_still (facts m.heap.now r).event r 5 (data_of m.command);
-    transient = λ kind count event o none fine room r new. made_still o.event o;
+    buffer = λ r words is fits. run_still (facts m.heap.now r).event r 5 words;
     starts = λ pin is limit maximum value new. ((tt, refl), (((tt, (tt, (tt, (tt, (tt, tt))))), refl), ((tt, refl), tt)));
     flags = λ pin is flag v. (tt, refl);
     counts = λ pin is n. (tt, refl);

@@ -25,9 +25,9 @@ use Rattle.jc_world.specs.Objects as world
 use Rattle.jc_card_checks.specs.Objects.{is_instance}
 use Rattle.jc_interp_calls.specs.declared.invoke.MethodCall.{MethodCall}
 use Rattle.jc_interp_calls.specs.Invoke.{call_decision, call_of, class_of, method_selection, receiver_of, receiver_on}
-use Rattle.law_isolation.proofs.Reaching.{err_not_ok, object_is, same_Ok}
+use Rattle.jc_api.proofs.Reaching.{err_not_ok, object_is, same_Ok}
+use Rattle.jc_api.proofs.Stretches.{both_ok}
 use Rattle.law_isolation.proofs.Selecting.{Bare, Found, Named, Selected, selected}
-use Rattle.law_isolation.proofs.Arguments.{both_ok}
 use Rattle.law_soundness.specs.Environment.{HasEnvironment}
 use Rattle.law_soundness.specs.Fit.{IsPlatformClass}
 use Rattle.law_linking.specs.Platform.{KeepsPlatform}

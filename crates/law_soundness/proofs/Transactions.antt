@@ -10,7 +10,7 @@ use Rattle.jc_memory.specs.State.{MemoryState, HeapMove, apply_effect}
 use Rattle.jc_linker.specs.Values.{Packages}
 use Rattle.jc_api_framework.specs.Applet.Register.{open_installation}
 use Rattle.jc_api_framework.specs.System.Transactions.{set_level}
-use Rattle.law_isolation.proofs.Passing.{EndsSo}
+use Rattle.jc_api_framework.proofs.Passing.{EndsSo}
 use Rattle.law_soundness.specs.State.{IsSoundMemory, IsSteady, is_open}
 use Rattle.law_soundness.specs.Calls.{IsCallResult, IsReadyAgain, IsSteadyAgain}
 use Rattle.law_soundness.specs.Living.{KeepsReferencesBelow}

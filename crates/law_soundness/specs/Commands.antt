@@ -9,6 +9,7 @@ use Rattle.jc_linker.specs.Values.{Packages}
 use Rattle.jc_dispatch.specs.Creating.{applet_creation}
 use Rattle.jc_dispatch.specs.AdHocCode.{ad_hoc_run}
 use Rattle.jc_dispatch.specs.Selecting.{manager_selection, process_command, applet_selection}
+use Rattle.law_soundness.specs.Dispatched.{IsDispatched}
 use Rattle.law_soundness.specs.Environment.{HasEnvironment}
 use Rattle.law_soundness.specs.Fit.{FitsTurn, IsFit}
 use Rattle.law_soundness.specs.State.{IsSoundMemory, is_applet, is_home, is_open}
@@ -34,10 +35,11 @@ pub record IsReady (p : Packages) (m : MemoryState) : Type 0 where
   pub closed : m.heap.begun ≡ false
   pub idle : is_open m.registers.installation ≡ false
 
--- each effect of it fits so, and it leaves such a memory
+-- each effect of it fits so, it leaves such a memory, and it is what the runtime environment does and runs of code
 pub record LeavesReady {A : Type 0} (p : Packages) (d : Program A) (m : MemoryState) : Type 0 where
   pub fit : AllDue (IsServed p) d m
   pub ready : AllResults d m (λ a n. IsReady p n)
+  pub runs : IsDispatched p (λ a n. IsReady p n) d m
 
 -- so it is with each: an applet that is registered answers or is selected, the manager is selected, an applet is installed, lent code runs
 pub record CommandsAreSound : Type 0 where

@@ -9,5 +9,7 @@ pub mod LocalEffects
 pub mod Steps
 pub mod Calls
 pub mod Soundness
-pub mod Commands
 pub mod References
+pub mod Dispatched
+pub mod Commands
+pub mod Switching

@@ -7,7 +7,8 @@ use Rattle.jc_frames.specs.declared.cell.Cell.{Cell}
 use Rattle.jc_frames.specs.declared.outcome.Outcome.{Outcome}
 use Rattle.jc_frames.specs.declared.outcome.Outcome.TheVariants as ends
 use Rattle.jc_frames.specs.Frames.{Caller, Frame, Frames}
-use Rattle.law_isolation.specs.Referring.{CellRefersSo, FrameRefersSo}
+use Rattle.jc_api.specs.Referring.{CellRefersSo}
+use Rattle.law_isolation.specs.Referring.{FrameRefersSo}
 
 -- a reference in a cell is null or names an object
 abbrev pub IsLivingCell : HeapState → Cell → Type 0

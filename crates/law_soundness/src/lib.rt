@@ -13,6 +13,7 @@ pub use machine_laws::{
     effects_of_returns_and_exceptions_fit_packages, effects_of_runs_fit_packages,
     effects_of_server_calls_fit_packages, local_effects_keep_machines_between_instructions,
     platform_methods_end_between_instructions, steps_keep_machines_sound,
+    steps_switch_contexts_for_causes, what_is_dispatched_is_the_environments_or_of_a_run,
 };
 pub use memory_laws::{
     fit_effects_keep_memories_sound, fit_effects_keep_the_environments_objects,

@@ -2,9 +2,11 @@
 ghost use Rattle.law_soundness.specs.Calls.{NativesLeave};
 ghost use Rattle.law_soundness.specs.LocalEffects.{LocalEffectsStay};
 ghost use Rattle.law_soundness.specs.Commands.{CommandsAreSound, ServingKeeps};
+ghost use Rattle.law_soundness.specs.Dispatched.{DispatchedAreRuns};
 ghost use Rattle.law_soundness.specs.Groups.{ArraysFit, FieldsFit, ObjectsFit};
 ghost use Rattle.law_soundness.specs.Natives.{NativesFit};
 ghost use Rattle.law_soundness.specs.Soundness.{RunsAreSound, StepsAreSound};
+ghost use Rattle.law_soundness.specs.Switching.{SwitchesHaveCauses};
 ghost use Rattle.law_soundness.specs.Steps.{AsksFit, CallsFit, InstructionsFit, LeavesFit};
 
 /// Whatever an instruction on fields may do in a sound memory fits the packages that are linked.
@@ -80,7 +82,20 @@ pub fn effects_of_commands_keep_memories_sound()
 {}
 
 /// Whatever is done to select an applet, to install one, or by one to answer fits the packages that are linked,
-/// and leaves a memory that fits them, with no transaction open.
+/// and leaves a memory that fits them, with no transaction open. It is what the runtime environment does, which
+/// commits nothing, and runs of code from where methods may begin.
 pub fn commands_keep_memories_sound()
     ensures { CommandsAreSound }
+{}
+
+/// A step for which code then runs for another owner calls a method on an object in another context, which the firewall
+/// answers with a switch; or asks a server, for which a method of the platform is called; or ends a method, by a return or
+/// an exception, and goes on for whom its caller ran.
+pub fn steps_switch_contexts_for_causes()
+    ensures { SwitchesHaveCauses }
+{}
+
+/// What is done so, the runtime environment does, or a step of code that began within it.
+pub fn what_is_dispatched_is_the_environments_or_of_a_run<A>()
+    ensures { DispatchedAreRuns A }
 {}

@@ -22,7 +22,7 @@ use Rattle.jc_card.specs.Answers.{manager_command, exchange, exchange_of_apdu, i
 use Rattle.jc_card.specs.Apdu.{Apdu, apdu_of}
 use Rattle.jc_card.specs.CardState.{CardState}
 use Rattle.jc_card.specs.Dispatching.{create_applet, dispatch}
-use Rattle.law_isolation.proofs.Due.{due_if}
+use Rattle.jc_api.proofs.Due.{due_if}
 use Rattle.jc_card.specs.Loads.{LoadResponse, append_component, component_append_without_memory, end_load, on_load}
 
 -- ---- the end of a load adds a package at most
@@ -32,37 +32,39 @@ module _ (P : Effect → MemoryState → Type 0) where
       → ((a : A) (v : MemoryState) → AllDue P (more a v) v) → AllDue P (bind d s more) s
   then_due more d s due rest = due_bind P more d s due (each_always (λ a v. AllDue P (more a v) v) rest d s)
 
-module _ (P : Effect → MemoryState → Type 0)
-    (adds : (components : List (ℕ × List ℕ)) (arrays : List (Kind × List ℕ)) (image : List ℕ) (m : MemoryState)
-    → P (HeapMove (AddPackage components arrays image)) m) where
-  if_added : (p : Packages) (q : PendingPackageValue) (answer : Attempt ℕ) (m : MemoryState) → AllDue P (after_addition p q answer) m
-  if_added p q (Done r) m = tt
-  if_added p q (Refused reason) m = tt
+module _ (P : Effect → MemoryState → Type 0) (m : MemoryState)
+    (adds : (components : List (ℕ × List ℕ)) (arrays : List (Kind × List ℕ)) (image : List ℕ) → P (HeapMove (AddPackage components arrays image)) m) where
+  if_added : (p : Packages) (q : PendingPackageValue) (answer : Attempt ℕ) (n : MemoryState) → AllDue P (after_addition p q answer) n
+  if_added p q (Done r) n = tt
+  if_added p q (Refused reason) n = tt
 
-  unless_due : {A : Type 0} (reason : Option HeapRefusal) (d : Program (Attempt A)) (m : MemoryState) → AllDue P d m → AllDue P (unless_refused reason d) m
-  unless_due None d m first = first
-  unless_due (Some reason) d m first = tt
+  unless_due : {A : Type 0} (reason : Option HeapRefusal) (d : Program (Attempt A)) → AllDue P d m → AllDue P (unless_refused reason d) m
+  unless_due None d first = first
+  unless_due (Some reason) d first = tt
 
-  added : (p : Packages) (q : PendingPackageValue) (m : MemoryState) → AllDue P (package_entry p q m) m
-  added p q m =
+  added : (p : Packages) (q : PendingPackageValue) → AllDue P (package_entry p q m) m
+  added p q =
       let parts = parts_of q.texts in
       let arrays = arrays_of (statics_of q.texts) in
       let image = image_of (statics_of q.texts) in
       due_if P m (nat_le most_packages (length m.heap.now.packages)) _ _ (λ full. tt) (λ some.
       then_due P _ (package_addition m parts arrays image) m
-      (unless_due (refusal_of_package m.heap parts arrays image) _ m (λ r new. (adds parts arrays image m, tt))) (λ answer v. if_added p q answer v))
+      (unless_due (refusal_of_package m.heap parts arrays image) _ (λ r new. (adds parts arrays image, tt))) (λ answer v. if_added p q answer v))
 
-  if_prepared : (p : Packages) (m : MemoryState) (q : Result PendingPackageValue LoadRefusal) → AllDue P (after_preparation p m q) m
-  if_prepared p m (Err refusal) = tt
-  if_prepared p m (Ok q) = added p q m
+  if_prepared : (p : Packages) (q : Result PendingPackageValue LoadRefusal) → AllDue P (after_preparation p m q) m
+  if_prepared p (Err refusal) = tt
+  if_prepared p (Ok q) = added p q
 
-  ended : (p : Packages) (m : MemoryState) (load : Option OpenLoad) → AllDue P (end_of_load p m load) m
+  ended : (p : Packages) (load : Option OpenLoad) → AllDue P (end_of_load p m load) m
   unfolding assembly_result
-  ended p m None = tt
-  ended p m (Some load) = due_if P m (is_none load.coming) _ _ (λ none. (if_prepared p m (linked_components p load.texts), tt)) (λ some. tt)
+  ended p None = tt
+  ended p (Some load) = due_if P m (is_none load.coming) _ _ (λ none. (if_prepared p (linked_components p load.texts), tt)) (λ some. tt)
 
-  pub load_ended : (card : CardState) → AllDue P (end_load card) card.memory
-  load_ended card = then_due P _ (end_of_load card.packages card.memory card.load) card.memory (ended card.packages card.memory card.load) (λ left v. tt)
+pub load_ended : (P : Effect → MemoryState → Type 0) (card : CardState)
+    → ((components : List (ℕ × List ℕ)) (arrays : List (Kind × List ℕ)) (image : List ℕ) → P (HeapMove (AddPackage components arrays image)) card.memory)
+    → AllDue P (end_load card) card.memory
+load_ended P card adds = then_due P _ (end_of_load card.packages card.memory card.load) card.memory
+    (ended P card.memory adds card.packages card.load) (λ left v. tt)
 
 -- ---- commands
 

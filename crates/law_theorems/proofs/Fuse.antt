@@ -33,7 +33,7 @@ refused_if at r = record {
 }
 
 module _ (passed : ℕ) (old new : Refusals) (refused : new ≡ refused_once false passed old) where
-  faults_grow : old.faults ≤ new.faults
+  pub faults_grow : old.faults ≤ new.faults
   unfolding refused_once
   faults_grow = let is = ap (λ (r : Refusals). r.faults) refused in let le = grows_if (is_at passed old.fuse) old.faults in omega (arith, is, le)
 

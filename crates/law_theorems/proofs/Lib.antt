@@ -21,3 +21,5 @@ pub mod Counted
 pub mod Cuts
 pub mod References
 pub mod Witness
+pub mod Dispatching
+pub mod Tears

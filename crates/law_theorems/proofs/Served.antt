@@ -33,7 +33,7 @@ pub commands_fine : (t : Tokens) (card : CardState) → IsOwnCard t card → (by
 commands_fine t card own bytes are =
     let known = linked_known card.packages own.linked in
     exchanged (λ d. IsFine card.packages d card.memory) card (λ a. inl tt) (λ a b. inl (tt, tt))
-    (inr (load_ended AddsPackage (λ components arrays image m. tt) card))
+    (inr (load_ended AddsPackage card (λ components arrays image. tt)))
     (λ limit locals code. inl (runs_good commands_are_sound t card own known limit locals code).due)
     (λ content. inl (creates_good commands_are_sound t card own known content).due) bytes
     (λ c is. inl (dispatched_good commands_are_sound t card own known bytes c (command_fits bytes are c is)).due)

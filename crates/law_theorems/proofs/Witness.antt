@@ -27,6 +27,7 @@ use Rattle.jc_card_load.specs.Loading.{empty_load}
 use Rattle.jc_card_checks.specs.Sound.{IsSound}
 use Rattle.jc_card.specs.Answers.{manager_command, exchange}
 use Rattle.jc_card.specs.CardState.{CardState}
+use Rattle.jc_card.specs.Dispatching.{dispatch}
 use Rattle.jc_card.specs.Fixed.{fixed_of, last_fixed}
 use Rattle.jc_card.specs.Made.{IsCardHeap, new_card_heap}
 use Rattle.jc_card.specs.Reset.{ReadsAsZero}
@@ -45,7 +46,7 @@ use Rattle.law_images.specs.Loaded.{AreBytes}
 use Rattle.law_images.proofs.CardHeaps.{own_at}
 use Rattle.law_images.proofs.CardImages.{new_layout}
 use Rattle.law_images.proofs.NewImages.{new_images}
-use Rattle.law_theorems.specs.Witness.{HaveWitnesses, NewStoresServe, begin_load_bytes, new_blown, new_kept}
+use Rattle.law_theorems.specs.Witness.{HaveWitnesses, NewStoresServe, begin_load_bytes, new_blown, new_kept, select_bytes}
 
 same_there : {A : Type 0} (x : A) (n k : ℕ) → get_or (replicate n x) k x ≡ x
 same_there x zero k = refl
@@ -182,8 +183,11 @@ module _ (budget n capacity : ℕ) (text : List ℕ) (t : Tokens) (enough : leas
 are_bytes : AreBytes begin_load_bytes
 are_bytes = All-from_recursion (λ b. b < 256) begin_load_bytes (omega arith, (omega arith, (omega arith, (omega arith, tt))))
 
+selects : AreBytes select_bytes
+selects = All-from_recursion (λ b. b < 256) select_bytes (omega arith, (omega arith, (omega arith, (omega arith, (omega arith, (omega arith, tt))))))
+
 pub witnesses : HaveWitnesses
-unfolding exchange manager_command refused_once machine_step instruction_step
+unfolding exchange dispatch manager_command refused_once machine_step instruction_step
 witnesses budget n capacity text t enough reads =
     let size = heap_end n capacity in
     let refused = refused_once false 0 no_refusals in
@@ -206,6 +210,7 @@ witnesses budget n capacity text t enough reads =
       next = record (first budget n capacity text t enough reads) { load = Some empty_load };
       bytes = are_bytes;
       ended = (refl, refl);
+      effect = record { comes = comes_up budget n capacity text t enough reads; are = selects; begins = (refl, tt) };
       begins = record {
         comes = record { comes = comes_up budget n capacity text t enough reads; are = are_bytes; begins = tt };
         same = tt;

@@ -9,3 +9,5 @@ pub mod DownRuns
 pub mod Fuse
 pub mod Witness
 pub mod References
+pub mod Commands
+pub mod Tears

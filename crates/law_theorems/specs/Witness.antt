@@ -8,6 +8,7 @@ use Rattle.jc_heap.specs.Heap.{heap_of}
 use Rattle.jc_frames.specs.declared.outcome.Outcome.TheVariants.{Fault}
 use Rattle.jc_frames.specs.Frames.{Ends}
 use Rattle.jc_memory.specs.Reading.{HasTrace}
+use Rattle.jc_memory.specs.State.{BeginCommand}
 use Rattle.jc_platform.specs.Table.{Reads}
 use Rattle.jc_platform.specs.Tokens.{Tokens}
 use Rattle.jc_interp.specs.Running.{bare_frames}
@@ -18,7 +19,7 @@ use Rattle.jc_session.specs.Requests.{Reset, Response, Ready, Down}
 use Rattle.jc_session.specs.Power.{PowerState, Up, Off, KeptState, StoreState, armed, durable_state, with_refusal}
 use Rattle.jc_session.specs.Serving.{AnswersCommand, Serves, SessionRun}
 use Rattle.jc_session.specs.Sessions.{SessionEnds}
-use Rattle.law_images.specs.Comes.{ComesTo}
+use Rattle.law_images.specs.Comes.{ComesTo, ComesWithin}
 use Rattle.law_images.specs.Loaded.{AreBytes}
 use Rattle.law_theorems.specs.DownRuns.{ArmNone}
 use Rattle.law_theorems.specs.Fuse.{refusals_of}
@@ -40,6 +41,10 @@ new_blown budget n capacity text t = Off budget (with_refusal 0 (durable_state (
 abbrev pub begin_load_bytes : List ℕ
 begin_load_bytes = 0x80 ∷ 0xB0 ∷ 0 ∷ 0 ∷ []
 
+-- SELECT by a name of one byte
+abbrev pub select_bytes : List ℕ
+select_bytes = 0 ∷ 0xA4 ∷ 4 ∷ 0 ∷ 1 ∷ 1 ∷ []
+
 -- With any budget and any table that reads sessions come to a new image without power, and to the card behind its first reset
 pub record HaveWitness (budget n capacity : ℕ) (text : List ℕ) (t : Tokens) : Type 0 where
   pub off : ComesTo t (Off budget (new_kept n capacity text t))
@@ -55,7 +60,9 @@ pub record HaveWitness (budget n capacity : ℕ) (text : List ℕ) (t : Tokens) 
   pub next : CardState
   pub bytes : AreBytes begin_load_bytes
   pub ended : AnswersCommand (Up card) begin_load_bytes (Response (0x90 ∷ 0 ∷ [])) (Up next)
-  -- of `references_name_what_is_there`: within it code begins that was lent, and a step ends its run
+  -- of `commands_are_the_environments_and_runs_of_code`: another one begins with an effect
+  pub effect : ComesWithin t card select_bytes (BeginCommand select_bytes ∷ [])
+  -- of `references_name_what_is_there`: within the first code begins that was lent, and a step ends its run
   pub begins : RunsFrom t card begin_load_bytes [] 0 [] (bare_frames 0 0) (bare_frames 0 0) card.memory
   pub step : HasTrace (machine_step [] card.packages (bare_frames 0 0) card.memory) card.memory [] (Ends Fault)
   -- of `fuses_cut_where_they_were_set`: a reset is cut behind `stop 0`

@@ -4,7 +4,8 @@
 mod session_theorems;
 
 pub use session_theorems::{
-    a_cut_leaves_the_changes_before_it, down_tells_of_refused_writes,
+    a_cut_leaves_the_changes_before_it, commands_are_the_environments_and_runs_of_code,
+    cuts_that_are_told_are_those_that_the_law_names, down_tells_of_refused_writes,
     fuses_cut_where_they_were_set, images_power_up_again, premises_can_be_met,
     references_name_what_is_there, sessions_change_tries_by_pin_calls_alone,
     sessions_keep_contexts_apart, sessions_take_back_what_is_not_committed,

@@ -1,5 +1,6 @@
 //! Laws of whole sessions.
 ghost use Rattle.law_images.specs.Comes.{StoresCome};
+ghost use Rattle.law_theorems.specs.Commands.{CommandsRunCode};
 ghost use Rattle.law_theorems.specs.Cuts.{KeepWhatWasDone, LeaveTheChangesBeforeThem};
 ghost use Rattle.law_theorems.specs.Fuse.{FusesCut};
 ghost use Rattle.law_theorems.specs.Images.{PowerUpAgain};
@@ -7,6 +8,7 @@ ghost use Rattle.law_theorems.specs.Isolation.{StayApart};
 ghost use Rattle.law_theorems.specs.References.{ReferencesNameObjects};
 ghost use Rattle.law_theorems.specs.Refusals.{DownTells};
 ghost use Rattle.law_theorems.specs.TakenBack.{IsTakenBack};
+ghost use Rattle.law_theorems.specs.Tears.{CutsAreNamed};
 ghost use Rattle.law_theorems.specs.TryChanges.{TriesChangeByPinCalls};
 ghost use Rattle.law_theorems.specs.WholeCopies.{AreOfWholeCopies};
 ghost use Rattle.law_theorems.specs.Witness.{HaveWitnesses, NewStoresServe};
@@ -41,6 +43,12 @@ pub fn a_cut_leaves_the_changes_before_it()
     ensures stays { KeepWhatWasDone }
 {}
 
+/// What `jcard tear` tells of a cut is what `a_cut_leaves_the_changes_before_it` names: over an image of the product's own,
+/// the heap behind the cut after k writes is the one behind those changes of the command that are complete by then.
+pub fn cuts_that_are_told_are_those_that_the_law_names()
+    ensures { CutsAreNamed }
+{}
+
 /// At whatever moment of whatever command of a session, the tries of an OwnerPIN change only as they are counted, by an
 /// update of that PIN or its constructor, or as an abort takes changes back.
 pub fn sessions_change_tries_by_pin_calls_alone()
@@ -56,9 +64,17 @@ pub fn fuses_cut_where_they_were_set()
     ensures { FusesCut }
 {}
 
+/// Each effect of a command of a session is one of the runtime environment's, which commits nothing and sets no object but
+/// the APDU buffer, or one of a step of code that began within the command, from where a method may begin. So no commit
+/// stands in it that code did not ask for, and what code left open is taken back.
+pub fn commands_are_the_environments_and_runs_of_code()
+    ensures { CommandsRunCode }
+{}
+
 /// Between two switches of context, at whatever moment of whatever command of a session, code leaves each object
-/// outside its reach as it is, header, cells and flag, and outside its reach, as long as nothing aborts and no transient
-/// arrays are cleared.
+/// outside its reach as it is, header, cells and flag, and outside its reach, as long as nothing aborts. A step switches
+/// only as it calls a method on an object in another context, which the firewall answers so, asks a server, or ends a
+/// method, by a return or an exception.
 pub fn sessions_keep_contexts_apart()
     ensures { StayApart }
 {}

@@ -4,7 +4,6 @@ use Rattle.std.specs.Prelude.{ℕ, ℤ, pos, ◌==◌, if◌then◌else◌, true
 use Rattle.jc_transient.specs.declared.cell.ClearEvent.{ClearEvent}
 use Rattle.jc_transient.specs.declared.cell.ClearEvent.TheVariants.{Reset, Deselect}
 use Rattle.jc_heap.specs.declared.object.Kind.{Kind}
-use Rattle.jc_heap.specs.declared.object.Kind.TheVariants.{Instance, BooleanArray, ByteArray, ShortArray, ReferenceArray}
 use Rattle.jc_firewall.specs.declared.access.Access.TheVariants.{ArrayElement}
 use Rattle.jc_firewall.specs.declared.decide.Decision.{Decision}
 use Rattle.jc_firewall.specs.declared.decide.Decision.TheVariants.{Allow, Switch, Deny}
@@ -22,8 +21,6 @@ use Rattle.jc_memory.specs.declared.making.NewObject.{NewObject}
 use Rattle.jc_memory.specs.State.{MemoryState}
 use Rattle.jc_memory.specs.Making.{object_creation, creation_refusal}
 use Rattle.jc_memory.specs.Cells.{header_at}
-use Rattle.jc_platform.specs.declared.names.PlatformClass.TheVariants.{Object}
-use Rattle.jc_platform.specs.Distinct.{class_word}
 use Rattle.jc_linker.specs.Values.{Packages}
 use Rattle.jc_world.specs.declared.native_result.NativeResult.TheVariants.{ReturnValue}
 use Rattle.jc_world.specs.NativeCalls.{NativeProgram, return_value, if_some, if_ok, unless}
@@ -31,6 +28,7 @@ use Rattle.jc_world.specs.Contexts.{context_of, selected_context}
 use Rattle.jc_world.specs.Objects.{short_argument, reference_argument}
 use Rattle.jc_world.specs.Answers.{and_then, returns_short}
 use Rattle.jc_world.specs.Numbers.{not_negative}
+use Rattle.jc_api.specs.NewArrays.{class_for}
 
 -- the length of a new array
 abbrev pub length_in : Option ℕ → Result ℕ FrameExit
@@ -58,14 +56,6 @@ if_usable (Deny rule) = Err (Throw illegal_transient)
 abbrev pub allowed_event : ClearEvent → MemoryState → Result (Unit {0}) FrameExit
 allowed_event Reset m = Ok tt
 allowed_event Deselect m = if_usable (decision ArrayElement (own_array m))
-
--- arrays of references are of Object
-abbrev pub class_for : Kind → Packages → ℕ
-class_for Instance p = 0
-class_for BooleanArray p = 0
-class_for ByteArray p = 0
-class_for ShortArray p = 0
-class_for ReferenceArray p = class_word p.platform Object
 
 -- the array that is asked for: its length, then its event, then whether it may be made
 unfoldable pub requested_array : Kind → ℤ → ℤ → Packages → MemoryState → Result NewObject FrameExit

@@ -3,7 +3,8 @@ ghost use Rattle.std.specs.Prelude.{◌≡◌, false, pos};
 ghost use Rattle.jc_heap.specs.Object.{event_number};
 ghost use Rattle.jc_memory.specs.Programs.{Executes};
 ghost use Rattle.jc_world.specs.NativeCalls.{after_call};
-ghost use Rattle.jc_api_framework.specs.System.Transient.{event_named, allowed_event, class_for, requested_array, jc_system_make_transient_array};
+ghost use Rattle.jc_api.specs.NewArrays.{class_for};
+ghost use Rattle.jc_api_framework.specs.System.Transient.{event_named, allowed_event, requested_array, jc_system_make_transient_array};
 ghost use Rattle.jc_api_framework.specs.System.Transient.{jc_system_is_transient};
 
 use jc_firewall::access::Access;

@@ -1,7 +1,5 @@
-use Rattle.std.proofs.Common.{◌≡◌, ◌<◌, ◌+◌, ℕ, true, false, ap, sym, ◌∙◌, length, map, arith, rules}
-use Rattle.std.specs.List.{range_with_len}
+use Rattle.std.proofs.Common.{◌≡◌, ◌<◌, ◌+◌, ℕ, true, false, ap, sym, ◌∙◌, arith, rules}
 use Rattle.std.proofs.lemmas.Bool.{false≢true}
-use Rattle.jc_card_checks.specs.Sound.{aid_of_entry}
 use Rattle.jc_card_checks.proofs.Aids.{is_anothers, is_own, one_more, own_too, seen}
 use Rattle.jc_card_checks.proofs.entries.are_distinct.Goals as goal
 

@@ -1,4 +1,4 @@
-use Rattle.std.proofs.Common.{◌≡◌, ℕ, ◌<◌, List, length, map}
+use Rattle.std.proofs.Common.{◌≡◌, ℕ, ◌<◌, length, map}
 use Rattle.std.specs.List.{range_with_len}
 use Rattle.jc_card_checks.specs.Sound.{HasOwnAid, aid_of_entry}
 use Rattle.jc_card_checks.proofs.entries.are_distinct.Given as goal

@@ -1,4 +1,4 @@
-use Rattle.std.proofs.Common.{◌≡◌, ◌∙◌, ◌++◌, ◌+◌, ◌*◌, ◌≤◌, [], ◌∷◌, ap, sym, arith, length, length-append, map}
+use Rattle.std.proofs.Common.{◌≡◌, ◌∙◌, ◌++◌, ◌+◌, ◌*◌, ◌≤◌, [], ◌∷◌}
 use Rattle.jc_linker.proofs.Walks.{taken_map}
 use Rattle.jc_cap_linkage.specs.ComponentViews.{applet_info}
 use Rattle.jc_linker.specs.Outlines.{applet_of}

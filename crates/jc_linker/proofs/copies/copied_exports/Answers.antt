@@ -1,4 +1,4 @@
-use Rattle.std.proofs.Common.{◌≡◌, ◌∙◌, ◌++◌, ◌+◌, ◌*◌, ◌≤◌, [], ◌∷◌, ap, sym, arith, length, length-append, map}
+use Rattle.std.proofs.Common.{◌≡◌, ◌∙◌, ◌++◌, ◌+◌, ◌*◌, ◌≤◌, [], ◌∷◌}
 use Rattle.jc_linker.proofs.Walks.{taken_map}
 use Rattle.jc_linker.specs.Outlines.{export_of}
 use Rattle.jc_linker.proofs.copies.copied_exports.Goals as goal

@@ -1,4 +1,4 @@
-use Rattle.std.proofs.Common.{◌≡◌, ◌≤◌, ◌++◌, ℕ, List, [], ◌∷◌, Ok, length, take, drop, map}
+use Rattle.std.proofs.Common.{◌≡◌, ◌≤◌, ◌++◌, ℕ, [], ◌∷◌, take, map}
 use Rattle.jc_linker.specs.Outlines.{export_of}
 use Rattle.jc_linker.proofs.copies.copied_exports.Given as goal
 

@@ -1,4 +1,4 @@
-use Rattle.std.proofs.Common.{◌≡◌, ◌∙◌, ◌++◌, [], ◌∷◌, ap, sym, arith, Some}
+use Rattle.std.proofs.Common.{◌≡◌, ◌∙◌, ◌++◌, [], ◌∷◌, ap, sym}
 use Rattle.jc_linker.proofs.Walks.{taken_next}
 use Rattle.jc_linker.proofs.copies.numbers.Goals as goal
 

@@ -1,4 +1,4 @@
-use Rattle.std.proofs.Common.{◌≡◌, ◌≤◌, ◌++◌, ℕ, List, [], ◌∷◌, Ok, length, take, drop, map}
+use Rattle.std.proofs.Common.{◌≡◌, ◌≤◌, ◌++◌, ℕ, [], ◌∷◌, take}
 use Rattle.jc_linker.proofs.copies.numbers.Given as goal
 
 abbrev pub invariant-loop-place : goal.invariant-loop-place

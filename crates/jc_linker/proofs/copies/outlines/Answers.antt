@@ -1,4 +1,4 @@
-use Rattle.std.proofs.Common.{◌≡◌, ◌∙◌, ◌++◌, ◌+◌, ◌*◌, ◌≤◌, [], ◌∷◌, ap, sym, arith, length, length-append, map}
+use Rattle.std.proofs.Common.{◌≡◌, ◌∙◌, ◌++◌, ◌+◌, ◌*◌, ◌≤◌, [], ◌∷◌, ap, arith, length, length-append, map}
 use Rattle.jc_linker.proofs.Walks.{taken_map}
 use Rattle.std.proofs.lemmas.List.{take_all}
 use Rattle.jc_cap_code.specs.ClassValues.{offsets_of}

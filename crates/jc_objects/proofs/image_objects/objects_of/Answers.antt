@@ -1,18 +1,25 @@
-use Rattle.std.proofs.Common.{◌∙◌, ℕ, List, ap, arith}
-use Rattle.std.proofs.lemmas.Result.{IfOk-weaker}
+use Rattle.std.proofs.Common.{◌∙◌, ℕ, List, ap, sym, arith}
+use Rattle.std.proofs.lemmas.Result.{err_from_is_err_and}
 use Rattle.jc_words.specs.Stores.{MemStoreValue}
 use Rattle.jc_commit.specs.Image.{recovered_of}
-use Rattle.jc_commit.specs.Migration.{migrated}
-use Rattle.jc_commit.specs.State.{State}
-use Rattle.jc_objects.specs.ImageObjects.{AreObjectsOf}
-use Rattle.jc_objects.proofs.Opened.{objects_told}
+use Rattle.jc_objects.proofs.Opened.{heap_behind, image_before, image_untold}
 use Rattle.jc_objects.proofs.image_objects.objects_of.Goals as goal
 
-pub returns-in-Ok : goal.returns-in-Ok
-returns-in-Ok c =
-    let words = c.args.words.now in
-    let same = ap (λ (s : State). s.plain) c.in-Ok.ensures.recovered ∙ ap (λ (m : MemStoreValue). migrated 3 (recovered_of m.words)) c.of.ensures
-    ∙ ap (λ (w : List ℕ). migrated 3 (recovered_of w)) c.in_ok-copy.ensures.items in
-    let kept = ap (λ (m : MemStoreValue). m.words) c.of-store.ensures ∙ c.in_ok-from_slice.ensures.items in
-    IfOk-weaker c.objects_in.result _ (λ o. AreObjectsOf words o)
-    (λ o told. objects_told words c.in-Ok.image.plain c.of-store.result o kept (omega (arith, c.if-words.false)) same told) c.objects_in.ensures
+pub returns-in_err-platform : goal.returns-in_err-platform
+returns-in_err-platform c =
+    let p = err_from_is_err_and c.from_residual-in_err-platform.result c.from_residual-in_err-platform.ensures.1 in
+    let words : List ℕ = c.args.words.now in
+    let opened = rw c.in_ok-copy.ensures.items at c.in_ok-image.ensures in
+    rw (p.1, p.2) (image_untold c.in_err-platform.field-0.0 words c.in_ok-image.image.plain opened.plain c.in_err-platform.ensures)
+
+pub returns : goal.returns
+returns c =
+    let words : List ℕ = c.args.words.now in
+    let opened = rw c.in_ok-copy.ensures.items at c.in_ok-image.ensures in
+    record {
+      stored = ap (λ (m : MemStoreValue). m.words) c.of-store.ensures ∙ c.in_ok-from_slice.ensures.items;
+      long = omega (arith, opened.good.size.enough);
+      image = image_before words c.in_ok-image.image.plain _ opened.good opened.plain c.in_ok-platform.ensures.0;
+      heap = c.in_ok-platform.ensures.1 ∙ heap_behind (recovered_of words) c.in_ok-image.image.plain opened.plain;
+      up = c.in_ok-platform.ensures.2;
+    }

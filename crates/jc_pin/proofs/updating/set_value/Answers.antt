@@ -1,7 +1,7 @@
-use Rattle.std.proofs.Common.{List, ℕ, ◌≤◌, ◌∷◌, [], length, subst, sym, ap, ◌∙◌, arith}
+use Rattle.std.proofs.Common.{ℕ, ◌≤◌, ◌∷◌, [], length, subst, sym, ◌∙◌, arith}
 use Rattle.jc_heap.specs.declared.place.Place.TheVariants.{Cell}
 use Rattle.jc_heap.specs.Heap.{cells}
-use Rattle.jc_heap.specs.Places.{AreThere, AreApart, ArePlain, places_of}
+use Rattle.jc_heap.specs.Places.{AreThere, AreApart, places_of}
 use Rattle.jc_heap.specs.Keeping.{AreLegalValues}
 use Rattle.jc_pin.specs.Updating.{changes_of_update}
 use Rattle.jc_pin.proofs.Updates.{ends_there, ends_plain, update_cells, update_stands, update_apart}

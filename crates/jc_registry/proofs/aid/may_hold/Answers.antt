@@ -1,4 +1,4 @@
-use Rattle.std.proofs.Common.{◌-◌, ◌∙◌, ap, arith, length, sym}
+use Rattle.std.proofs.Common.{◌-◌, ◌∙◌, arith, length}
 use Rattle.jc_registry.proofs.Holding.{not_held, other_last, other_length}
 use Rattle.jc_registry.proofs.aid.may_hold.Goals as goal
 

@@ -19,11 +19,11 @@ returns g c =
     let six : List ℕ = c.push_value-2.new.text.items in
     let new : List ℕ = c.extend_from_slice-2.new.self.items in
     let a : List ℕ = labelled_text (codes "@") c.args.at (codes " ") in
-    let b : List ℕ = kind_text c.args.platform.now w f.kind f.class in
+    let b : List ℕ = kind_text c.args.legend.now.platform w f.kind f.class in
     let d : List ℕ = labelled_text (codes " [") c.args.i (codes "] ") in
-    let e : List ℕ = value_text f.kind c.args.one in
+    let e : List ℕ = value_text c.args.legend.now f c.args.i c.args.one in
     let h : List ℕ = codes ">" in
-    let k : List ℕ = value_text f.kind c.args.other in
+    let k : List ℕ = value_text c.args.legend.now f c.args.i c.args.other in
     let m : List ℕ = codes "\n" in
     push_behind old one new a (b ++ (d ++ (e ++ (h ++ (k ++ m))))) c.in_ok-push_labelled.ensures
     (push_behind one two new b (d ++ (e ++ (h ++ (k ++ m)))) (rw c.class.ensures at c.in_ok-push_kind.ensures)

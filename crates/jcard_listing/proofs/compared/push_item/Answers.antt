@@ -10,7 +10,7 @@ pub returns-in-Some-clause-told : goal.returns-in-Some-clause-told
 returns-in-Some-clause-told g c =
     let w : List ℕ = g.S.WordStore.words c.args.store.now in
     let v : List ℕ = g.S.WordStore.words c.args.other.now in
-    let t = c.args.platform.now in
+    let t = c.args.legend.now in
     let side = c.args.side in
     let old : List ℕ = c.args.text.now.items in
     let f = c.in-Some.facts in
@@ -25,7 +25,7 @@ returns-in_default-clause-told g c =
     let w : List ℕ = g.S.WordStore.words c.args.store.now in
     let v : List ℕ = g.S.WordStore.words c.args.other.now in
     let old : List ℕ = c.args.text.now.items in
-    sym (append-nil old) ∙ ap (λ (l : List ℕ). old ++ l) (untold_beside c.args.side c.args.platform.now w v c.args.all c.args.at (item_at w c.args.at)
+    sym (append-nil old) ∙ ap (λ (l : List ℕ). old ++ l) (untold_beside c.args.side c.args.legend.now w v c.args.all c.args.at (item_at w c.args.at)
     c.in-Some.facts c.in-Some.ensures.facts (sym c.is_told.ensures ∙ c.if-is_told.false))
 
 pub returns-in_default-2-clause-told : goal.returns-in_default-2-clause-told
@@ -33,5 +33,5 @@ returns-in_default-2-clause-told g c =
     let w : List ℕ = g.S.WordStore.words c.args.store.now in
     let v : List ℕ = g.S.WordStore.words c.args.other.now in
     let old : List ℕ = c.args.text.now.items in
-    sym (append-nil old) ∙ ap (λ (l : List ℕ). old ++ l) (none_beside c.args.side c.args.platform.now w v c.args.all c.args.at (item_at w c.args.at)
+    sym (append-nil old) ∙ ap (λ (l : List ℕ). old ++ l) (none_beside c.args.side c.args.legend.now w v c.args.all c.args.at (item_at w c.args.at)
     c.in_default.ensures.facts)

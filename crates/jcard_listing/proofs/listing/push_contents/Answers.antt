@@ -17,9 +17,9 @@ returns-in_err-push_entries g c =
     let p = err_from_is_err_and c.from_residual.result c.from_residual.ensures.1 in
     let stop = c.in_err-push_entries.field-0.0 in
     let w = g.S.WordStore.words c.args.store.now in
-    let t = c.args.platform.now in
-    let entries = each_line (entry_lines t w) (count_of w) in
-    let packages = each_line (package_lines w) (slice_index w packages_address) in
+    let t = c.args.legend.now in
+    let entries = each_line (entry_lines t.platform w) (count_of w) in
+    let packages = each_line (package_lines t w) (slice_index w packages_address) in
     let applets = each_line (applet_lines w) (slice_index w applets_address) in
     rw (p.1, p.2) (lists_stopped stop _ _ entries (then_lines packages (then_lines applets (objects_lines t w c.args.all))) c.in_err-push_entries.ensures)
 
@@ -28,9 +28,9 @@ returns-in_err-push_packages g c =
     let p = err_from_is_err_and c.from_residual-in_err-push_packages.result c.from_residual-in_err-push_packages.ensures.1 in
     let stop = c.in_err-push_packages.field-0.0 in
     let w = g.S.WordStore.words c.args.store.now in
-    let t = c.args.platform.now in
-    let entries = each_line (entry_lines t w) (count_of w) in
-    let packages = each_line (package_lines w) (slice_index w packages_address) in
+    let t = c.args.legend.now in
+    let entries = each_line (entry_lines t.platform w) (count_of w) in
+    let packages = each_line (package_lines t w) (slice_index w packages_address) in
     let applets = each_line (applet_lines w) (slice_index w applets_address) in
     let behind = then_lines applets (objects_lines t w c.args.all) in
     rw (p.1, p.2) (lists_then (Err stop) _ _ _ entries (then_lines packages behind) c.in_ok-push_entries.ensures
@@ -41,9 +41,9 @@ returns-in_err-push_applets g c =
     let p = err_from_is_err_and c.from_residual-in_err-push_applets.result c.from_residual-in_err-push_applets.ensures.1 in
     let stop = c.in_err-push_applets.field-0.0 in
     let w = g.S.WordStore.words c.args.store.now in
-    let t = c.args.platform.now in
-    let entries = each_line (entry_lines t w) (count_of w) in
-    let packages = each_line (package_lines w) (slice_index w packages_address) in
+    let t = c.args.legend.now in
+    let entries = each_line (entry_lines t.platform w) (count_of w) in
+    let packages = each_line (package_lines t w) (slice_index w packages_address) in
     let applets = each_line (applet_lines w) (slice_index w applets_address) in
     let objects = objects_lines t w c.args.all in
     rw (p.1, p.2) (lists_then (Err stop) _ _ _ entries (then_lines packages (then_lines applets objects)) c.in_ok-push_entries.ensures
@@ -53,10 +53,10 @@ returns-in_err-push_applets g c =
 pub returns : goal.returns
 returns g c =
     let w = g.S.WordStore.words c.args.store.now in
-    let t = c.args.platform.now in
+    let t = c.args.legend.now in
     let r = c.push_objects.result in
-    let entries = each_line (entry_lines t w) (count_of w) in
-    let packages = each_line (package_lines w) (slice_index w packages_address) in
+    let entries = each_line (entry_lines t.platform w) (count_of w) in
+    let packages = each_line (package_lines t w) (slice_index w packages_address) in
     let applets = each_line (applet_lines w) (slice_index w applets_address) in
     let objects = objects_lines t w c.args.all in
     lists_then r _ _ _ entries (then_lines packages (then_lines applets objects)) c.in_ok-push_entries.ensures

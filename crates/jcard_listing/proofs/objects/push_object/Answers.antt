@@ -9,7 +9,7 @@ use Rattle.jcard_listing.proofs.objects.push_object.Goals as goal
 pub returns : goal.returns
 returns g c =
     let w : List ℕ = g.S.WordStore.words c.args.store.now in
-    let t = c.args.platform.now in
+    let t = c.args.legend.now in
     let f = c.args.facts in
     let header : List ℕ = header_text t w c.args.at f in
     let behind : List ℕ = behind_text t f f.event (cells_of (item_at w c.args.at)) in

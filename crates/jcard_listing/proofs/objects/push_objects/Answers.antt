@@ -13,8 +13,8 @@ use Rattle.jcard_listing.proofs.objects.push_objects.Goals as goal
 pub loop-at-init : goal.loop-at-init
 loop-at-init g c =
     let w : List ℕ = g.S.WordStore.words c.args.store.now in
-    let f : Texts = item_text c.args.platform.now w c.args.all in
-    let lines : Lines = objects_lines c.args.platform.now w c.args.all in
+    let f : Texts = item_text c.args.legend.now w c.args.all in
+    let lines : Lines = objects_lines c.args.legend.now w c.args.all in
     let b : Bounds w = bounds w c.requires in
     record {
       low = omega (arith, c.first_record-at.ensures);
@@ -27,8 +27,8 @@ loop-at-init g c =
 pub returns-in_default : goal.returns-in_default
 returns-in_default g c =
     let w : List ℕ = g.S.WordStore.words c.args.store.now in
-    let f : Texts = item_text c.args.platform.now w c.args.all in
-    let lines : Lines = objects_lines c.args.platform.now w c.args.all in
+    let f : Texts = item_text c.args.legend.now w c.args.all in
+    let lines : Lines = objects_lines c.args.legend.now w c.args.all in
     let at : ℕ = c.loop-at.at in
     let short : top_of w - at < record_size w at = size_none w at c.in_default.ensures in
     let none = lines_short f w at c.requires (omega (arith, c.read-top.ensures)) (omega (arith, short)) in
@@ -38,8 +38,8 @@ returns-in_default g c =
 pub loop-at-preserved : goal.loop-at-preserved
 loop-at-preserved g c =
     let w : List ℕ = g.S.WordStore.words c.args.store.now in
-    let f : Texts = item_text c.args.platform.now w c.args.all in
-    let lines : Lines = objects_lines c.args.platform.now w c.args.all in
+    let f : Texts = item_text c.args.legend.now w c.args.all in
+    let lines : Lines = objects_lines c.args.legend.now w c.args.all in
     let at : ℕ = c.loop-at.at in
     let size = size_some w at c.in-Some.size c.in-Some.ensures in
     let piece : List ℕ = f (at, item_at w at) in
@@ -56,8 +56,8 @@ loop-at-preserved g c =
 pub returns : goal.returns
 returns g c =
     let w : List ℕ = g.S.WordStore.words c.args.store.now in
-    let f : Texts = item_text c.args.platform.now w c.args.all in
-    let lines : Lines = objects_lines c.args.platform.now w c.args.all in
+    let f : Texts = item_text c.args.legend.now w c.args.all in
+    let lines : Lines = objects_lines c.args.legend.now w c.args.all in
     let at : ℕ = c.loop-at.at in
     let none = lines_end f w at c.requires (omega (arith, c.read-top.ensures)) in
     telling_then (Ok tt) c.args.text.now.items c.loop-at.text.items c.loop-at.text.items lines

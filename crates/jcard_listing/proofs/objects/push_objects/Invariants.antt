@@ -11,7 +11,7 @@ invariant-loop-at g l =
     record {
       low : text_start ≤ l.at;
       high : l.at ≤ l.top;
-      told : IsTelling l.fn.text.items l.text.items (objects_lines l.platform w l.all) (lines_from (item_text l.platform w l.all) w l.at);
+      told : IsTelling l.fn.text.items l.text.items (objects_lines l.legend w l.all) (lines_from (item_text l.legend w l.all) w l.at);
     }
 
 abbrev pub decreases-loop-at : goal.decreases-loop-at

@@ -15,7 +15,7 @@ returns-in_default g c =
     let n : ℕ = c.args.before + 1 in
     let place : n - 1 ≡ c.args.before = omega arith in
     let none : None ≡ record_at w (n - 1) = c.in_default.ensures ∙ ap (record_at w) (sym place) in
-    subst (λ (o : Option Record). Lists old old (lines_if w n o) (Err Unreadable)) none (lists_unread old (line_if None) refl refl)
+    subst (λ (o : Option Record). Lists old old (lines_if c.args.legend.now w n o) (Err Unreadable)) none (lists_unread old (line_if None) refl refl)
 
 pub push_record-requires-clause-record : goal.push_record-requires-clause-record
 push_record-requires-clause-record g c =
@@ -35,4 +35,4 @@ returns g c =
     let n : ℕ = c.args.before + 1 in
     let place : n - 1 ≡ c.args.before = omega arith in
     let some : Some c.in-Some.found ≡ record_at w (n - 1) = c.in-Some.ensures ∙ ap (record_at w) (sym place) in
-    subst (λ (o : Option Record). Lists c.args.text.now.items c.push_record.new.text.items (lines_if w n o) c.push_record.result) some c.push_record.ensures
+    subst (λ (o : Option Record). Lists c.args.text.now.items c.push_record.new.text.items (lines_if c.args.legend.now w n o) c.push_record.result) some c.push_record.ensures

@@ -10,11 +10,11 @@ pub loop-i-init : goal.loop-i-init
 loop-i-init g c = none_listed _ _
 
 pub loop-i-preserved : goal.loop-i-preserved
-loop-i-preserved g c = next_listed (package_lines (g.S.WordStore.words c.args.store.now)) c.loop-i.i _ _ _ c.loop-i.invariant c.in_ok-push_package.ensures
+loop-i-preserved g c = next_listed (package_lines c.args.legend.now (g.S.WordStore.words c.args.store.now)) c.loop-i.i _ _ _ c.loop-i.invariant c.in_ok-push_package.ensures
 
 pub returns-in_err-push_package : goal.returns-in_err-push_package
 returns-in_err-push_package g c =
     let p = err_from_is_err_and c.from_residual.result c.from_residual.ensures.1 in
     let stop = c.in_err-push_package.field-0.0 in
-    rw (p.1, p.2) (next_stopped (package_lines (g.S.WordStore.words c.args.store.now)) (slice_index (g.S.WordStore.words c.args.store.now) packages_address) c.loop-i.i stop _ _ _ (omega (arith, c.read-count.ensures))
+    rw (p.1, p.2) (next_stopped (package_lines c.args.legend.now (g.S.WordStore.words c.args.store.now)) (slice_index (g.S.WordStore.words c.args.store.now) packages_address) c.loop-i.i stop _ _ _ (omega (arith, c.read-count.ensures))
     c.loop-i.invariant c.in_err-push_package.ensures)

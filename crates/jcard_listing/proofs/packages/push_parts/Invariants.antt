@@ -11,7 +11,7 @@ invariant-loop-offset g l =
     record {
       low : 1 ≤ l.offset;
       high : l.offset ≤ l.found.size;
-      told : IsTelling l.fn.text.items l.text.items (parts_lines words) (parts_from words l.offset);
+      told : IsTelling l.fn.text.items l.text.items (parts_lines l.references words) (parts_from l.references words l.offset);
     }
 
 abbrev pub decreases-loop-offset : goal.decreases-loop-offset

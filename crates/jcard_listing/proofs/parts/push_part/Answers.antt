@@ -11,7 +11,7 @@ pub loop-i-preserved : goal.loop-i-preserved
 loop-i-preserved g c =
     let w : List ℕ = g.S.WordStore.words c.args.store.now in
     let v : List ℕ = g.S.WordStore.words c.args.other.now in
-    next_listed (pair_at c.args.part c.args.platform.now c.args.others.now w v) c.loop-i.i _ _ _ c.loop-i.invariant c.in_ok-push_pair_at.ensures
+    next_listed (pair_at c.args.part c.args.legend.now c.args.others.now w v) c.loop-i.i _ _ _ c.loop-i.invariant c.in_ok-push_pair_at.ensures
 
 pub returns-in_err-push_pair_at : goal.returns-in_err-push_pair_at
 returns-in_err-push_pair_at g c =
@@ -19,7 +19,7 @@ returns-in_err-push_pair_at g c =
     let stop = c.in_err-push_pair_at.field-0.0 in
     let w : List ℕ = g.S.WordStore.words c.args.store.now in
     let v : List ℕ = g.S.WordStore.words c.args.other.now in
-    rw (p.1, p.2) (next_stopped (pair_at c.args.part c.args.platform.now c.args.others.now w v)
+    rw (p.1, p.2) (next_stopped (pair_at c.args.part c.args.legend.now c.args.others.now w v)
     (larger (part_count c.args.part w) (part_count c.args.part v)) c.loop-i.i stop _ _ _
     (omega (arith, c.larger-count.ensures ∙ ap₂ larger c.part_count.ensures c.part_count-2.ensures))
     c.loop-i.invariant c.in_err-push_pair_at.ensures)

@@ -19,6 +19,6 @@ returns c = (
     recoveries = record { ways = 0; difference = None };
   })
       (c.in-Some.ensures.0 ∙ ap (λ l. c.in-Some.standing.now ++ 44 ∷ cut_tail c.in-Some.lost l) (sym c.in_ok-answers.ensures.items))
-      c.in-Some-standing_of.ensures c.requires,
-  (ap (has 44) (sym c.in-Some-standing_of.ensures) ∙ c.in-Some.ensures.1, c.in-Some.ensures.2),
+      c.in-Some-standing_of.ensures.0 c.requires,
+  (ap (has 44) (sym c.in-Some-standing_of.ensures.0) ∙ c.in-Some.ensures.1, (c.in-Some-standing_of.ensures.1, c.in-Some.ensures.2)),
 )

@@ -7,7 +7,7 @@ use Rattle.jcard_tear.proofs.Uncut.{cuts_past, memory_uncut, passed_on}
 use Rattle.jcard_tear.proofs.cuts.cut_all.Goals as goal
 
 pub loop-number-init : goal.loop-number-init
-loop-number-init g c = record { cuts = rw c.new-cuts.ensures.items (cuts_none _ _ _ _ _ _ _); count = rw c.new-cuts.ensures.items refl }
+loop-number-init g c = record { cuts = rw c.new-cuts.ensures.items (cuts_none _ _ _ _ _ _ _ _); count = rw c.new-cuts.ensures.items refl }
 
 pub returns-in_default : goal.returns-in_default
 returns-in_default g c =
@@ -23,7 +23,7 @@ loop-number-preserved g c =
     let here = subst (λ n. IsCutAt c.args.words.now c.args.command n c.in-Some.left c.in-Some.recoveries) place left in
     let told = subst (λ r. IsCutAt c.args.words.now c.args.command (0 + length cuts) c.in-Some.left r) (sym c.in_ok-cut.ensures.recoveries) here in
     record {
-      cuts = rw c.in_ok-push_cut.ensures (cuts_more c.args.words.now c.args.command c.args.spared.now c.args.objects.now c.args.before.now c.args.after.now 0 cuts cut
+      cuts = rw c.in_ok-push_cut.ensures (cuts_more c.args.words.now c.args.command c.args.spared.now c.args.lenient.now c.args.objects.now c.args.before.now c.args.after.now 0 cuts cut
           c.loop-number.invariant.cuts (c.in-Some.left, told, c.in_ok-cut.ensures.told));
       count = rw c.in_ok-push_cut.ensures (omega (arith, length-append cuts (cut ∷ []), c.loop-number.invariant.count));
     }
@@ -41,6 +41,6 @@ returns-in_err-push_cut g c = passed_on _ _ c.from_residual-in_err-push_cut.resu
     (λ fault e. memory_uncut c.args.words.now c.args.command 1 fault (e ∙ c.in_err-push_cut.ensures))
 
 pub returns : goal.returns
-returns g c = cuts_past c.args.words.now c.args.command c.args.spared.now c.args.objects.now c.args.before.now c.args.after.now 0 c.loop-number.cuts.items
+returns g c = cuts_past c.args.words.now c.args.command c.args.spared.now c.args.lenient.now c.args.objects.now c.args.before.now c.args.after.now 0 c.loop-number.cuts.items
     c.loop-number.invariant.cuts (omega (arith, c.loop-number.invariant.count, c.loop-number-test.false))
     (omega (arith, c.loop-number.invariant.count, c.loop-number-test.false))

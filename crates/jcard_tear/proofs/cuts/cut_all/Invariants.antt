@@ -4,6 +4,6 @@ use Rattle.jcard_tear.proofs.cuts.cut_all.Given as goal
 
 abbrev pub invariant-loop-number : goal.invariant-loop-number
 invariant-loop-number g l = record {
-  cuts : AreCuts l.words l.command l.spared l.objects l.before l.after 0 l.cuts.items;
+  cuts : AreCuts l.words l.command l.spared l.lenient l.objects l.before l.after 0 l.cuts.items;
   count : length l.cuts.items ≡ l.number;
 }

@@ -4,7 +4,7 @@ use Rattle.jcard_tear.proofs.parts.cut_every.Given as goal
 
 abbrev pub invariant-loop-place : goal.invariant-loop-place
 invariant-loop-place g l = record {
-  cuts : AreEvery l.words l.command l.spared l.objects l.before l.after l.first l.step l.cuts.items;
+  cuts : AreEvery l.words l.command l.spared l.lenient l.objects l.before l.after l.first l.step l.cuts.items;
   count : l.number ≡ l.first + l.step * length l.cuts.items;
   fits : l.number < 65536;
   places : length l.cuts.items ≡ l._place;

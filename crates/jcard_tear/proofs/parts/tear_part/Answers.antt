@@ -1,4 +1,4 @@
-use Rattle.std.proofs.Common.{refl, subst, sym}
+use Rattle.std.proofs.Common.{◌∙◌, ◌++◌, ap, refl, subst, sym}
 use Rattle.jcard_tear.specs.Faults.{IsImageFault, IsUncutFor}
 use Rattle.jcard_tear.specs.Parts.{AreEvery}
 use Rattle.jcard_tear.proofs.Uncut.{done_carried, image_probed, memory_uncut, passed_on, probe_uncut}
@@ -12,12 +12,17 @@ returns-clause-swept g c = record {
   begun = c.in_ok-before.ensures;
   cuts = (
     c.in_ok-spared.spared.items,
+    c.in_ok-answer.by_calls.items,
     c.in_ok-objects.objects,
     c.in_ok-answer.after,
     (c.in_ok-answer.ensures, c.in_ok-after.ensures.words, c.in_ok-after.ensures.told, c.in_ok-spared.ensures, c.in_ok-objects.ensures.asked),
-    subst (λ s. AreEvery c.args.words.now c.args.command s c.in_ok-objects.objects c.in_ok-before.before c.in_ok-answer.after c.args.first c.args.step
-        c.in_ok-cuts.cuts.items)
-        c.deref.ensures.value c.in_ok-cuts.ensures.cut.0,
+    subst (λ l. AreEvery c.args.words.now c.args.command c.in_ok-spared.spared.items l c.in_ok-objects.objects c.in_ok-before.before c.in_ok-answer.after
+        c.args.first c.args.step c.in_ok-cuts.cuts.items)
+        (c.deref-4.ensures.value ∙ c.in_ok-lenient.ensures ∙ ap (λ l. l ++ c.deref-2.result.now) c.deref.ensures.value
+        ∙ ap (λ l. c.in_ok-spared.spared.items ++ l) c.deref-2.ensures.value)
+        (subst (λ s. AreEvery c.args.words.now c.args.command s c.deref-4.result.now c.in_ok-objects.objects c.in_ok-before.before c.in_ok-answer.after
+        c.args.first c.args.step c.in_ok-cuts.cuts.items)
+        c.deref-3.ensures.value c.in_ok-cuts.ensures.cut.0),
   );
   uncut = c.in_ok-cuts.ensures.cut.1;
   depth = refl;
@@ -35,6 +40,10 @@ pub returns-in_err-spared-clause-swept : goal.returns-in_err-spared-clause-swept
 returns-in_err-spared-clause-swept g c = passed_on _ _ c.from_residual-in_err-spared.result c.from_residual-in_err-spared.ensures.1
     (λ fault e. probe_uncut c.args.words.now c.args.command c.args.step fault (done_carried c.args.words.now c.args.command c.in_ok-answer.answer.items c.in_ok-answer.after c.in_ok-answer.ensures)
     (image_probed c.args.command.behind.instructions c.args.command.probe.now fault (subst IsImageFault (sym e) c.in_err-spared.ensures)))
+
+pub returns-in_err-lenient-clause-swept : goal.returns-in_err-lenient-clause-swept
+returns-in_err-lenient-clause-swept g c = passed_on _ _ c.from_residual-in_err-lenient.result c.from_residual-in_err-lenient.ensures.1
+    (λ fault e. memory_uncut c.args.words.now c.args.command c.args.step fault e)
 
 pub returns-in_err-objects-clause-swept : goal.returns-in_err-objects-clause-swept
 returns-in_err-objects-clause-swept g c = passed_on _ _ c.from_residual-in_err-objects.result c.from_residual-in_err-objects.ensures.1

@@ -23,6 +23,10 @@ pub returns-in_err-extend_from_slice : goal.returns-in_err-extend_from_slice
 returns-in_err-extend_from_slice c = passed_on _ _ c.from_residual-in_err-extend_from_slice.result c.from_residual-in_err-extend_from_slice.ensures.1
     (λ fault e step. memory_uncut c.args.words.now c.args.command step fault e)
 
+pub returns-in_err-watcher : goal.returns-in_err-watcher
+returns-in_err-watcher c = passed_on _ _ c.from_residual-in_err-watcher.result c.from_residual-in_err-watcher.ensures.1
+    (λ fault e step. memory_uncut c.args.words.now c.args.command step fault e)
+
 pub returns-in_err-ran : goal.returns-in_err-ran
 returns-in_err-ran c =
     let script = c.deref.ensures.value ∙ c.in_ok-extend_from_slice.ensures.items ∙ ap (λ l. l ++ c.args.command.line.now) c.in_ok-script.ensures.items in
@@ -39,6 +43,10 @@ returns-then-ran c = λ step.
 
 pub returns-in_err-answer : goal.returns-in_err-answer
 returns-in_err-answer c = passed_on _ _ c.from_residual-in_err-answer.result c.from_residual-in_err-answer.ensures.1
+    (λ fault e step. memory_uncut c.args.words.now c.args.command step fault e)
+
+pub returns-in_err-by_calls : goal.returns-in_err-by_calls
+returns-in_err-by_calls c = passed_on _ _ c.from_residual-in_err-by_calls.result c.from_residual-in_err-by_calls.ensures.1
     (λ fault e step. memory_uncut c.args.words.now c.args.command step fault e)
 
 pub returns-in_err-left : goal.returns-in_err-left

@@ -9,7 +9,7 @@ pub returns-in-Ok-clause-done : goal.returns-in-Ok-clause-done
 returns-in-Ok-clause-done g c =
     let read = c.in-Ok.ensures in
     let told = c.tell_tested.ensures.done in
-    let over = subst (λ ts. IsTold (names_of c.args.files.now) ts (option_map (λ name. name.now) c.args.junit) c.tell_tested.result told.0 told.1) c.deref.ensures.value told.3 in (
+    let over = subst (λ ts. IsTold (names_of c.args.files.now) ts (option_map (λ name. name.now) c.args.junit) c.tell_tested.result told.0 told.1) c.deref-in-Ok.ensures.value told.3 in (
       told.0,
       read.0 ++ told.1,
       told.2,

@@ -9,7 +9,7 @@ pub returns : goal.returns
 returns c = λ m held.
     let kept = held.count in
     let bits : c.args.self.count * 8 % 2 ^ 64 ≡ length m * 8 % 2 ^ 64 = omega (arith, kept) in
-    let field = c.to_le_bytes-field.ensures ∙ ap (to_le_bytes w64) bits in
+    let field = c.length_field-field.ensures ∙ ap (to_le_bytes w64) bits in
     c.put_words_32_low_first.ensures
     ∙ ap (λ (h : List ℕ). bytes_of_words (to_le_bytes w32) h 4) (c.close_64.ensures initial_hash m held)
-    ∙ digest-md5 m c.to_le_bytes-field.result field
+    ∙ digest-md5 m c.length_field-field.result field

@@ -1,4 +1,4 @@
-use Rattle.std.proofs.Common.{◌≡◌, ◌∙◌, ◌++◌, ◌+◌, ◌*◌, ◌≤◌, [], ◌∷◌, ap, sym, arith, length, length-append, map}
+use Rattle.std.proofs.Common.{◌≡◌, ◌∙◌, ◌++◌, ◌+◌, ◌*◌, ◌≤◌, [], ◌∷◌, ap, sym, arith, length, length-append}
 use Rattle.jc_linker.proofs.Walks.{placed_at}
 use Rattle.jc_linker.proofs.Behind.{behind_end, behind_next}
 use Rattle.jc_linker.proofs.classes_linked.Linking.classes.Goals as goal

@@ -1,4 +1,4 @@
-use Rattle.std.proofs.Common.{◌≡◌, ◌≤◌, ◌++◌, ℕ, List, [], ◌∷◌, Ok, length, take, drop, map}
+use Rattle.std.proofs.Common.{◌≡◌, ◌≤◌, ◌++◌, ℕ, [], ◌∷◌, length, drop}
 use Rattle.jc_linker.specs.Linking.{classes_behind}
 use Rattle.jc_linker.proofs.classes_linked.Linking.classes.Given as goal
 

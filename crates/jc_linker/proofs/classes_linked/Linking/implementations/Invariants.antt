@@ -1,4 +1,4 @@
-use Rattle.std.proofs.Common.{◌≡◌, ◌≤◌, ◌++◌, ℕ, List, [], ◌∷◌, Ok, length, take, drop, map}
+use Rattle.std.proofs.Common.{◌≡◌, ◌≤◌, ◌++◌, ℕ, [], ◌∷◌, length, map}
 use Rattle.jc_linker.specs.Linking.{implementation_of}
 use Rattle.jc_linker.proofs.classes_linked.Linking.implementations.Given as goal
 

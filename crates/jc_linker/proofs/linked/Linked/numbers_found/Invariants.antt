@@ -1,4 +1,4 @@
-use Rattle.std.proofs.Common.{◌≡◌, ◌≤◌, ◌++◌, ℕ, List, [], ◌∷◌, Ok, length, take, drop, map}
+use Rattle.std.proofs.Common.{◌≡◌, ◌≤◌, ◌++◌, ℕ, [], ◌∷◌, drop}
 use Rattle.arrayvec.specs.ArrayVec.{array_vec_len}
 use Rattle.jc_linker.specs.Answers.{list_append}
 use Rattle.jc_linker.specs.Imports.{import_numbers}

@@ -1,4 +1,4 @@
-use Rattle.std.proofs.Common.{◌≡◌, ◌∙◌, ◌++◌, ◌+◌, ◌*◌, ◌≤◌, [], ◌∷◌, ap, sym, arith, length, length-append, map}
+use Rattle.std.proofs.Common.{◌≡◌, ◌∙◌, ◌++◌, ◌+◌, ◌*◌, ◌≤◌, [], ◌∷◌, sym, arith, length}
 use Rattle.jc_linker.proofs.Behind.{whole_end, whole_next, whole_none}
 use Rattle.jc_linker.proofs.scope.Scope.are_complete.Goals as goal
 

@@ -1,4 +1,4 @@
-use Rattle.std.proofs.Common.{◌≡◌, ◌≤◌, ◌++◌, ℕ, List, [], ◌∷◌, Ok, length, take, drop, map}
+use Rattle.std.proofs.Common.{◌≡◌, ◌≤◌, ◌++◌, ℕ, [], ◌∷◌, drop}
 use Rattle.std.proofs.Common.{◌+◌, ◌*◌}
 use Rattle.jc_linker.specs.Completeness.{are_complete, are_complete_from}
 use Rattle.jc_linker.proofs.scope.Scope.are_complete.Given as goal

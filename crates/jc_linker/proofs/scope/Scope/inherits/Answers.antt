@@ -1,4 +1,4 @@
-use Rattle.std.proofs.Common.{◌≡◌, ◌∙◌, ◌++◌, ◌+◌, ◌*◌, ◌≤◌, [], ◌∷◌, ap, sym, arith, length, length-append, map}
+use Rattle.std.proofs.Common.{◌≡◌, ◌∙◌, ◌++◌, ◌+◌, ◌*◌, ◌≤◌, [], ◌∷◌, sym, arith, length}
 use Rattle.jc_linker.proofs.Behind.{inherits_end, inherits_next, inherits_none}
 use Rattle.jc_linker.proofs.scope.Scope.inherits.Goals as goal
 

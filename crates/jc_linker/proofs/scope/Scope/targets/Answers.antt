@@ -1,4 +1,4 @@
-use Rattle.std.proofs.Common.{◌≡◌, ◌∙◌, ◌++◌, ◌+◌, ◌*◌, ◌≤◌, [], ◌∷◌, ap, sym, arith, length, length-append, map}
+use Rattle.std.proofs.Common.{◌≡◌, ◌∙◌, ◌++◌, ◌+◌, ◌*◌, ◌≤◌, [], ◌∷◌, ap, sym, arith, length}
 use Rattle.std.proofs.Common.{drop}
 use Rattle.jc_linker.specs.Answers.{list_append}
 use Rattle.jc_linker.specs.Linking.{targets_from}

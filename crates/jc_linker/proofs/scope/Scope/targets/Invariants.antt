@@ -1,4 +1,4 @@
-use Rattle.std.proofs.Common.{◌≡◌, ◌≤◌, ◌++◌, ℕ, List, [], ◌∷◌, Ok, length, take, drop, map}
+use Rattle.std.proofs.Common.{◌≡◌, ◌≤◌, ◌++◌, ℕ, [], ◌∷◌, drop}
 use Rattle.jc_linker.specs.Answers.{list_append}
 use Rattle.jc_linker.specs.Linking.{targets_from}
 use Rattle.jc_linker.proofs.scope.Scope.targets.Given as goal

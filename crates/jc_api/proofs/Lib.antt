@@ -1,0 +1,10 @@
+pub mod Reaching
+pub mod Exits
+pub mod ArgumentExits
+pub mod Stretches
+pub mod ArgumentResults
+pub mod Due
+pub mod Passing
+pub mod Plain
+pub mod Forms
+pub mod OfShorts

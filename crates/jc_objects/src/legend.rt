@@ -1,0 +1,99 @@
+//! By what the cells of an image's objects are told: its platform, and its packages.
+ghost use Rattle.std.specs.Prelude.{◌≡◌, Some, None, IfOk, MatchResult, false};
+ghost use Rattle.jc_heap.specs.Whole.{IsConsistent};
+ghost use Rattle.jc_card_load.specs.Reading.{packages_of};
+ghost use Rattle.jc_objects.specs.Legends.{ArePackagesIn, HasNoneLinked, IsLegend, IsNotLinked, holds_reference, static_references};
+
+use crate::image_objects::{ImageFault, opened, whole_of};
+use jc_card_load::reading::{RecordFault, read_packages};
+use jc_heap::Heap;
+use jc_linker::linked::Linked;
+use jc_platform::platform::Platform;
+use jc_transient::ClassWord;
+use jc_words::WordStore;
+use std::alloc::{AllocError, Global};
+
+/// The platform of an image and, where it is whole and they link, the packages that it has once it is recovered.
+#[derive(Drop)]
+pub struct Legend {
+    pub platform: Platform,
+    pub packages: Option<Linked>,
+}
+
+/// What tells the cells of an image of these words, whose table text as it stands tells this platform.
+pub fn legend_of(alloc: Global, platform: Platform, words: Vec<u16>) -> Result<Legend, AllocError>
+    ensures { IfOk result (λ legend. IsLegend platform words.items legend) }
+{
+    match linked_in(alloc, platform.table().platform(), words) {
+        Ok(linked) => Ok(Legend {
+            platform,
+            packages: Some(linked),
+        }),
+        Err(fault) => without_packages(platform, fault),
+    }
+}
+
+// The legend of an image of which no packages are told, unless memory was refused for them.
+fn without_packages(platform: Platform, fault: ImageFault) -> Result<Legend, AllocError>
+    ensures { IfOk result (λ legend. (legend.platform ≡ platform) × (legend.packages ≡ None)
+        × (fault ≡ ImageFault.Damaged)) }
+{
+    match fault {
+        ImageFault::Damaged => Ok(Legend {
+            platform,
+            packages: None,
+        }),
+        ImageFault::NoMemory => Err(AllocError),
+    }
+}
+
+// The packages of an image of these words, linked behind those of a platform.
+fn linked_in(alloc: Global, platform: Platform, words: Vec<u16>) -> Result<Linked, ImageFault>
+    ensures { MatchResult result (λ linked. ArePackagesIn platform words.items (Some linked))
+        (λ fault. IsNotLinked platform words.items fault) }
+{
+    let image = opened(words)?;
+    let (_, heap) = whole_of(alloc, image)?;
+    let linked = packages_in(alloc, platform, &heap)?;
+    Ok(linked)
+}
+
+/// The packages of a heap, linked behind those of a platform.
+pub(crate) fn packages_in<S: WordStore>(
+    alloc: Global,
+    platform: Platform,
+    heap: &Heap<S>,
+) -> Result<Linked, ImageFault>
+    requires up { heap.now.down ≡ false }
+    requires whole { IsConsistent heap.now.now }
+    ensures { MatchResult result (λ linked. packages_of platform heap.now.now ≡ Some linked)
+        (λ fault. HasNoneLinked platform heap.now.now fault) }
+{
+    match read_packages(alloc, platform, heap) {
+        Ok(linked) => Ok(linked),
+        Err(RecordFault::NoMemory) => Err(ImageFault::NoMemory),
+        Err(RecordFault::Damaged) => Err(ImageFault::Damaged),
+    }
+}
+
+impl Legend {
+    /// A cell of an instance holds a reference, by the records of its class and those above it.
+    pub fn holds_reference(&self, class: ClassWord, cell: u16) -> bool
+        ensures { result ≡ holds_reference self.now class cell }
+    {
+        match &self.packages {
+            Some(linked) => linked.reference_cell(class, cell),
+            None => false,
+        }
+    }
+
+    /// How many references the static image of the package with this number begins with, as its StaticField component says.
+    pub fn static_references(&self, number: u16) -> u16
+        ensures { result ≡ static_references self.now number }
+    {
+        match &self.packages {
+            Some(linked) if number < 256 => linked.statics_at(number as u8).1,
+            _ => 0,
+        }
+    }
+}

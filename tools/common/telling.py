@@ -1,0 +1,296 @@
+"""What jcard tells, as records: dictionaries with the key "record", one for each thing that a text says. docs/FORMATS.md, TEARING.md and
+DEBUGGING.md say what the texts mean, integrations/pages/README.md which records there are. A line of no known form becomes a record "text"."""
+import re
+
+FRAME = re.compile(r"  at (?:([0-9A-F]+|run code) )?offset (\d+)(?: in (.+?)(?: line (\d+))?)?(?:: (\S+)(?: (.*))?)?")
+TOP = re.compile(r"(.*), (the stack is empty|top (.*))")
+WHY = re.compile(r"why: line (\d+): (.*)")
+REASON = re.compile(r"(\w+) with reason ([0-9A-F]{4})(?: \((\w+)\))?")
+COST = re.compile(r"  (\d+) instructions?, (\d+) word writes?, up to (\d+) of (\d+) cells, (\d+) free words")
+FIREWALL = re.compile(r"  firewall rule (\d+): (.*), by code of (.*), the object is of (.*)")
+COMPONENT = re.compile(r"  component (\d+)(?: (did not come|has another size than the Directory tells)|, (wrong at|which ends at) offset (\d+) from its tag)")
+IMPORTED = re.compile(r"  package ([0-9A-F]+)")
+POOL = re.compile(r"  entry (\d+): (?:package ([0-9A-F]+)|a package that is not imported), class (\d+)(?: \((\w+)\))?(?:, token (\d+))?(?:: (.+))?")
+ASKED = re.compile(r"  asked for (\d+) (.*), (\d+) left")
+CHANGE = re.compile(r"(?:@(\d+) (\S+) \[(\d+)\]|word (\d+)) (\S+)>(\S+)")
+CUTS = re.compile(r"cut after (\d+)(?:\.\.(\d+))?: (.*)")
+UNCUT = re.compile(r"(?:cut after (\d+): )?no cut, answer (\S+): (.*)")
+STANDING = re.compile(
+    r"(?:(.*) )?(as before|as after|with other answers|changed: word (\d+) was (\d+) and is (\d+)( by non-atomic calls)?)(?:, (\d+) words? lost)?( but for PIN tries)?(?:, (\d+) words? lost)?")
+OF_LINE = re.compile(r"line (\d+): ([0-9A-Fa-f]+)(?: = (\S+))?: (.*)")
+TORN = re.compile(r"NOT all or nothing: first at cut (\d+)(, by non-atomic calls)?")
+WHOLE = re.compile(r"all or nothing( but for PIN tries)?: (\d+) cuts?, (.*?)(?:, at most (\d+) words? lost)?")
+UNWRITTEN = re.compile(r"no write: answered (\S+)")
+RECOVERED = re.compile(r"no recovery made a difference: (\d+) ways?, (\d+) deep")
+UNRECOVERED = re.compile(r"a recovery made a difference: first at cut (\d+), recoveries cut after (.*)")
+PART = re.compile(r"cut after (\d+): (.*), (\d+) words? lost, answers ?(.*)")
+SWEEP = re.compile(r"sweep ([0-9a-f]+)")
+COUNT = re.compile(r"(words|journal|packages|applets) (\d+)(?: of (\d+))?")
+PACKAGE = re.compile(r"package (\d+) ([0-9A-F]+) (\d+)\.(\d+)")
+APPLET = re.compile(r"applet (\d+) ([0-9A-F]+) package (\d+)")
+HEAP = re.compile(r"top (\d+), free (\d+) words?, reset area (\d+) of (\d+), deselect area (\d+) of (\d+)")
+ENTRY = re.compile(r"entry (\d+): word (\d+) was (\d+)(?: @(\d+) (\S+) \[(\d+)\])?")
+RECORD = re.compile(r"package (\d+): @(\d+), (\d+) words?, components ([\d: ]*)(?:, static image ?((?:@\d+|null|[0-9A-F]{4}| )*))?")
+REGISTERED = re.compile(r"applet (\d+): AID object @(\d+), instance (?:@(\d+)|null)")
+OBJECT = re.compile(r"@(\d+) (\S+) of (.*?), length (\d+)(?:, (reset|deselect) area from (\d+))?(?::(?: (.*))?)?")
+FURTHER = re.compile(r"(cannot be read further)")
+PIN = re.compile(r"tries (\d+) of (\d+), length (\d+) of (\d+), value (@\d+|null)")
+
+
+def whole(pattern, line):
+    """The groups of a pattern that is the whole line, numbers without zeros in front as such; None where it is not."""
+    found = pattern.fullmatch(line)
+    return [int(each) if each and re.fullmatch("0|[1-9][0-9]*", each) else each for each in found.groups()] if found else None
+
+
+def text_record(line):
+    if line.startswith("jcard: "):
+        return {"record": "refused", "text": line.removeprefix("jcard: ")}
+    return {"record": "text", "text": line}
+
+
+# ---- run
+
+def answers(lines):
+    """The records of what `run` prints."""
+    for number, line in enumerate(lines, 1):
+        known = re.fullmatch(r"([0-9A-F]{2}){2,}|ready|down|armed \d+", line)
+        yield {"record": "answer", "number": number, "answer": line} if known else text_record(line)
+
+
+def frame(line):
+    """A frame, or an instruction of a trace."""
+    found = FRAME.fullmatch(line)
+    if not found:
+        return None
+    aid, offset, method, java, mnemonic, callee = found.groups()
+    made = {"package": aid, "offset": int(offset), "method": method, "line": int(java) if java else None, "mnemonic": mnemonic, "callee": callee}
+    return {key: value for key, value in made.items() if value is not None}
+
+
+def traced(line):
+    """An instruction of a trace: a frame, and the top of the stack that it found."""
+    found = TOP.fullmatch(line)
+    made = frame(found[1]) if found else frame(line)
+    if made and found:
+        made["top"] = found[3] or "empty"
+    return made
+
+
+def why(line):
+    """The record that the first line of a cause begins."""
+    number, cause = whole(WHY, line)
+    made = {"record": "why", "line": number, "cause": cause}
+    ended = re.fullmatch(r"(.*) in (install|select|process|run code)(: .*)?", cause)
+    if ended:
+        made.update(cause=ended[1] + (ended[3] or ""), method=ended[2])
+    reason = REASON.fullmatch(made["cause"])
+    if reason:
+        made.update(exception=reason[1], reason=reason[2], **({"reason_name": reason[3]} if reason[3] else {}))
+    return {**made, "frames": []}
+
+
+def add_to_why(record, line):
+    """Adds what a further line says of a cause."""
+    step, cost, rule, asked = frame(line), whole(COST, line), whole(FIREWALL, line), whole(ASKED, line)
+    if step:
+        record["frames"].append(step)
+    elif cost:
+        record.update(zip(("instructions", "writes", "cells", "most_cells", "free"), cost))
+    elif rule:
+        record["firewall"] = {"rule": rule[0], "access": rule[1], "code_of": str(rule[2]), "object_of": str(rule[3])}
+    elif asked:
+        record["asked"] = dict(zip(("number", "of", "left"), asked))
+    else:
+        add_to_load(record, line)
+
+
+def add_to_load(record, line):
+    """Adds what a further line says of a load that was refused."""
+    component, imported, entry = whole(COMPONENT, line), IMPORTED.fullmatch(line), whole(POOL, line)
+    if component:
+        tag, state, how, offset = component
+        record["component"] = {"tag": tag, "fault": state or how.removesuffix(" at"), **({} if offset is None else {"offset": offset})}
+    elif imported:
+        record["import"] = imported[1]
+    elif entry:
+        pairs = zip(("number", "package", "class", "class_name", "token", "member"), entry)
+        record["entry"] = {key: str(value) if key == "package" else value for key, value in pairs if value is not None}
+    else:
+        record.setdefault("more", []).append(line.strip())
+
+
+def add_to_trace(record, line):
+    """Adds what a further line says of a trace."""
+    left = re.fullmatch(r"  (after|and) (\d+) (?:more )?instructions?", line)
+    step = traced(line)
+    if left:
+        record["before" if left[1] == "after" else "after"] = int(left[2])
+    elif step:
+        record["instructions"].append(step)
+    else:
+        record.setdefault("more", []).append(line.strip())
+
+
+def causes(lines):
+    """The records of what `run --why` and `run --trace` tell on standard error."""
+    record = None
+    for line in lines:
+        trace = re.fullmatch(r"trace: line (\d+)", line)
+        if record and line.startswith("  "):
+            (add_to_why if record["record"] == "why" else add_to_trace)(record, line)
+            continue
+        if record:
+            yield record
+        record = None
+        if WHY.fullmatch(line):
+            record = why(line)
+        elif trace:
+            record = {"record": "trace", "line": int(trace[1]), "instructions": []}
+        else:
+            yield text_record(line)
+    if record:
+        yield record
+
+
+# ---- tear
+
+def changes(text):
+    """The changes at the end of a text, and what stands before them."""
+    found, first = [], len(text)
+    for match in CHANGE.finditer(text):
+        at, kind, cell, word, was, now = match.groups()
+        first = min(first, match.start())
+        place = {"object": int(at), "class": kind, "cell": int(cell)} if at else {"word": int(word)}
+        found.append({**place, "was": was, "is": now})
+    return text[:first].strip(), found
+
+
+def probe(text):
+    """What the probe was answered."""
+    return re.findall(r"armed \d+|\S+", text)
+
+
+def standing(text):
+    """What a cut left: the probe's answers, the words that changed, and how that stands."""
+    found = whole(STANDING, text)
+    if not found:
+        return None
+    before, name, word, was, now, non_atomic, lost, tries, lost_too = found
+    told, changed = changes(str(before if before is not None else ""))
+    made = {"answers": probe(told), "standing": name.partition(":")[0], "lost": lost or lost_too or 0, "but_for_pin_tries": tries is not None}
+    if word is not None:
+        made["first_change"] = {"word": word, "was": was, "is": now}
+    if non_atomic:
+        made["by_non_atomic_calls"] = True
+    return {**made, "changes": changed} if changed else made
+
+
+def verdict(text):
+    """What is told of all cuts of a command."""
+    torn, told, unwritten = whole(TORN, text), whole(WHOLE, text), whole(UNWRITTEN, text)
+    if torn:
+        return {"record": "verdict", "verdict": "torn", "cut": torn[0], **({"by_non_atomic_calls": True} if torn[1] else {})}
+    if told:
+        tries, cuts, how, lost = told
+        return {"record": "verdict", "verdict": "all or nothing", "cuts": cuts, "how": how, "but_for_pin_tries": tries is not None, "lost": lost or 0}
+    if unwritten:
+        return {"record": "verdict", "verdict": "no write", "response": str(unwritten[0])}
+    if text == "the card is down at the command":
+        return {"record": "verdict", "verdict": "down"}
+    recovered, unrecovered = whole(RECOVERED, text), whole(UNRECOVERED, text)
+    if recovered:
+        return {"record": "recoveries", "made_a_difference": False, "ways": recovered[0], "deep": recovered[1]}
+    if unrecovered:
+        return {"record": "recoveries", "made_a_difference": True, "cut": unrecovered[0], "after": [int(each) for each in str(unrecovered[1]).split()]}
+    return None
+
+
+def torn_line(line):
+    """The record of a line of `tear`."""
+    part, sweep = PART.fullmatch(line), SWEEP.fullmatch(line)
+    if part:
+        told, changed = changes(part[4])
+        left = {**standing(part[2]), "lost": int(part[3]), "answers": probe(told), **({"changes": changed} if changed else {})}
+        return {"record": "cuts", "first": int(part[1]), "last": int(part[1]), **left}
+    if sweep:
+        return {"record": "sweep", "checksum": sweep[1]}
+    cuts, uncut, of_line = CUTS.fullmatch(line), UNCUT.fullmatch(line), OF_LINE.fullmatch(line)
+    if uncut:
+        left = standing(uncut[3])
+        after = {} if uncut[1] is None else {"after": int(uncut[1])}
+        return {"record": "uncut", "response": uncut[2], **after, **left} if left else text_record(line)
+    if cuts:
+        left = standing(cuts[3])
+        return {"record": "cuts", "first": int(cuts[1]), "last": int(cuts[2] or cuts[1]), **left} if left else text_record(line)
+    if of_line:
+        told = verdict(of_line[4])
+        answer = {"answer": of_line[3]} if of_line[3] else {}
+        return {**told, "line": int(of_line[1]), "command": of_line[2], **answer} if told else text_record(line)
+    return verdict(line) or text_record(line)
+
+
+def tears(lines):
+    """The records of what `tear` prints."""
+    return map(torn_line, lines)
+
+
+# ---- dump
+
+def counts(found):
+    name, count, most = found
+    return {"record": "count", "of": name, "count": count, **({} if most is None else {"most": most})}
+
+
+def package_record(found):
+    number, at, words, components, image = found
+    sizes = {int(tag): int(size) for tag, size in (each.split(":") for each in str(components).split())}
+    image = str(image or "").split()
+    return {"record": "package words", "number": number, "at": at, "words": words, "components": sizes, "static_image": image}
+
+
+def object_record(found):
+    at, kind, owner, length, area, place, cells = found
+    made = {"record": "object", "at": at, "class": kind, "owner": str(owner), "length": length}
+    if area:
+        made.update(area=area, place=place)
+    pin = whole(PIN, str(cells or ""))
+    if pin:
+        made["pin"] = dict(zip(("left", "limit", "length", "most", "value"), pin))
+    elif kind == "AID" and re.fullmatch("(?:[0-9A-F]{2})*", str(cells)):
+        made["aid"] = str(cells)
+    elif cells is not None:
+        made["cells"] = str(cells).split()
+    return made
+
+
+def named(record, *keys):
+    """Makes a record of groups by their keys, without those that are not there."""
+    return lambda found: {"record": record, **{key: value for key, value in zip(keys, found) if value is not None}}
+
+
+DUMPED = (
+    (COUNT, counts), (PACKAGE, lambda found: {"record": "package", "number": found[0], "aid": str(found[1]), "version": f"{found[2]}.{found[3]}"}),
+    (APPLET, lambda found: {"record": "applet", "number": found[0], "aid": str(found[1]), "package": found[2]}),
+    (HEAP, named("heap", "top", "free", "reset", "most_reset", "deselect", "most_deselect")),
+    (ENTRY, named("entry", "number", "word", "was", "object", "class", "cell")), (RECORD, package_record),
+    (REGISTERED, named("registered", "number", "aid_object", "instance")), (OBJECT, object_record), (FURTHER, lambda _: {"record": "cannot be read further"}))
+
+
+def dumped_line(line):
+    """The record of a line of `dump`, with the objects or without."""
+    if line[:2] in ("- ", "+ "):
+        return {**dumped_line(line[2:]), "only": "first" if line[0] == "-" else "second"}
+    changed = CHANGE.fullmatch(line)
+    if changed:
+        return {"record": "changed", **changes(line)[1][0]}
+    for pattern, made in DUMPED:
+        found = whole(pattern, line)
+        if found:
+            return made(found)
+    return text_record(line)
+
+
+def dumps(lines):
+    """The records of what `dump` prints, of one image or of two."""
+    return map(dumped_line, lines)
