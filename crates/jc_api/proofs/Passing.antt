@@ -1,5 +1,5 @@
 -- What is to be shown of something that is to hold of each effect of a call, whichever class has the method: that it holds of those that
--- calls have, behind the checks that precede them.
+-- calls have, after the checks that precede them.
 use Rattle.std.specs.Prelude.{ℤ}
 use Rattle.std.proofs.Common.{◌≡◌, ℕ, List, true, length, Some, None}
 use Rattle.jc_transient.specs.declared.cell.CellValue.TheVariants.{Short}

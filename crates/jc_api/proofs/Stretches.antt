@@ -46,7 +46,7 @@ pub record IsStretch (p : Packages) (m : MemoryState) (r : ℕ) (count : ℤ) (e
   pub within : e.start + e.count ≤ (facts m.heap.now r).length
   pub counted : not_negative count ≡ Some e.count
 
--- an argument is null, or this is the header of the array of bytes behind it
+-- an argument is null, or this is the header of the array of bytes that it names
 abbrev HeaderOf : MemoryState → ℕ → Option Facts → Type 0
 HeaderOf m r argument = (f : Facts) → argument ≡ Some f → (f ≡ facts m.heap.now r) × (f.kind ≡ ByteArray)
 
@@ -115,7 +115,7 @@ module _ (p : Packages) (m : MemoryState) (r : ℕ) (start count : ℤ) (e : Str
 pub length_bytes : (m : MemoryState) (e : Stretch) → length (bytes_in m e) ≡ e.count
 length_bytes m e = length-map (range_with_len e.start e.count) (byte_at m e.array) ∙ length-range_with_len e.start e.count
 
--- an instance with so many cells
+-- an instance with at least n cells
 cells_if : (n : ℕ) (kind : Kind) (f g : Facts) → with_cells n kind f ≡ Ok g → (kind ≡ Instance) × (n ≤ f.length)
 cells_if n Instance f g e = (refl, long (nat_le n f.length) refl e)
   where

@@ -19,7 +19,7 @@ use Rattle.jc_api.specs.declared.arguments.ArrayArguments.{ArrayArguments}
 use Rattle.jc_api.specs.declared.arguments.PairArguments.{PairArguments}
 use Rattle.jc_api.specs.declared.arguments.Pair.{Pair}
 
--- so many elements of the array of bytes that a reference names, from one on: the kind, then null, the firewall and the bounds
+-- a number of elements of the array of bytes that a reference names, from an offset on: the kind, null, the firewall, the bounds
 unfoldable pub elements_at : Packages → MemoryState → ℕ → ℤ → ℤ → Result Stretch FrameExit
 elements_at p m r start count = and_then (bytes_argument m r) (λ header. elements_of p m r header start count)
 
@@ -64,7 +64,7 @@ if_shorts_there (Some f) = if_shorts f.kind f
 unfoldable pub shorts_argument : MemoryState → ℕ → Result (Option Facts) FrameExit
 shorts_argument m r = if r == 0 then Ok None else if_shorts_there (header_at m r)
 
--- an argument is null, or this is the header of the array of shorts behind it
+-- an argument is null, or this is the header of the array of shorts that it names
 pub record IsShortsArgument (m : MemoryState) (r : ℕ) (argument : Option Facts) : Type 0 where
   pub there : (f : Facts) → argument ≡ Some f → IsObject m.heap.now r
   pub header : (f : Facts) → argument ≡ Some f → f ≡ facts m.heap.now r

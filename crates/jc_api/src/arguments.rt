@@ -53,7 +53,7 @@ fn header_of<S: WordStore>(array: Ref, memory: &Memory<S>) -> Result<Option<Fact
     bytes_argument(array, memory)
 }
 
-// So many elements of an array of bytes with this header, from one on.
+// A number of elements of an array of bytes with this header, from an offset on.
 #[inline(always)]
 fn elements_from<S: WordStore>(
     array: Ref,
@@ -127,7 +127,7 @@ pub fn argument_bytes<S: WordStore>(
     )
 }
 
-/// So many elements of the array of bytes that a reference names, from one on: its kind, then null, the firewall and the bounds.
+/// A number of elements of the array of bytes that a reference names, from an offset on: its kind, null, the firewall, the bounds.
 #[inline(always)]
 #[tactic(auto, unfolding(crate::specs::Arguments::elements_at))]
 pub fn elements_at<S: WordStore>(
@@ -148,7 +148,7 @@ pub fn elements_at<S: WordStore>(
     elements_from(array, header, start, count, memory, linked)
 }
 
-/// So many elements of an array of bytes that is given, from its offset on.
+/// A number of elements of an array of bytes that is given, from its offset on.
 #[inline(always)]
 #[tactic(auto, unfolding(crate::specs::Arguments::elements_at))]
 pub fn given_elements<S: WordStore>(

@@ -89,7 +89,7 @@ aid_partial_equals args p m = and_then (some_or_fault (reference_argument args 0
     (λ given. and_then (some_or_fault (aid_at m own)) (λ aid. if given.array == 0 then Ok (tells_whether false) else
     and_then (argument_bytes given p m) (λ e. Ok (tells_whether (begins_with aid (bytes_in m e)))))))
 
--- so many bytes of an AID from one on, all the rest where none are asked for; none where it has no such part
+-- a number of bytes of an AID from an offset on, all the rest where the number is 0; none where it has no such part
 abbrev pub part_within : List ℕ → Option ℕ → Option ℕ → Option (List ℕ)
 part_within aid None count = None
 part_within aid (Some start) None = None

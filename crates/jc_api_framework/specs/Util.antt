@@ -35,11 +35,11 @@ bytes_of_short v = cast_unsigned w16 v / 256 ∷ cast_unsigned w16 v % 256 ∷ [
 abbrev pub short_of : ℕ → ℕ → ℤ
 short_of high low = cast_signed w16 (high * 256 + low)
 
--- the index behind the last of some elements
+-- the index after the last of some elements
 abbrev pub end_of : Stretch → ℤ
 end_of e = cast_signed w16 (e.start + e.count)
 
--- the low byte of a number, so many times
+-- the low byte of a number, once for each element
 abbrev pub filling_of : ℤ → Stretch → List ℕ
 filling_of value e = replicate e.count (cast_unsigned w16 value % 256)
 

@@ -36,7 +36,7 @@ use jc_world::arguments::short_argument;
 use jc_world::{NativeResult, StepExit, Stretch, put, short};
 use std::cmp::Ordering;
 
-// The index behind the last of some elements of an array.
+// The index after the last of some elements of an array.
 pub(crate) fn end_of(elements: &Stretch) -> i16
     requires { elements.now.start + elements.now.count < 65536 }
     ensures { result ≡ end_of elements.now }
@@ -51,7 +51,7 @@ fn short_of(high: u8, low: u8) -> i16
     (u16::from(high) * 256 + u16::from(low)).cast_signed()
 }
 
-// `Util.arrayCopy`: copies bytes, as if through a copy and as one change; returns the index behind the last
+// `Util.arrayCopy`: copies bytes, as if through a copy and as one change; returns the index after the last
 // byte written.
 #[tactic(auto, unfolding(crate::specs::Util::util_array_copy))]
 fn util_array_copy<S: WordStore>(
@@ -69,7 +69,7 @@ fn util_array_copy<S: WordStore>(
     Ok(short(end_of(&pair.to)))
 }
 
-// `Util.arrayFill`: sets elements to the low byte of a number, as one change; returns the index behind the last
+// `Util.arrayFill`: sets elements to the low byte of a number, as one change; returns the index after the last
 // one written.
 #[tactic(auto, unfolding(crate::specs::Util::util_array_fill))]
 fn util_array_fill<S: WordStore>(

@@ -18,7 +18,7 @@ use jc_memory::{MOST_COMMAND, Memory};
 use jc_words::{StoreDown, WordStore};
 use jc_world::{NativeResult, StepExit, Stretch, short};
 
-// Copies at most so many bytes, one after another.
+// Copies at most MOST bytes, one after another.
 #[inline(never)]
 fn copy_most<const MOST: usize, S: WordStore>(
     memory: &mut Memory<S>,
@@ -76,7 +76,7 @@ fn copy_and_tell<S: WordStore>(
 }
 
 // `Util.arrayCopyNonAtomic`: copies bytes, as if through a copy; those of a persistent array one after another, each for
-// good; returns the index behind the last byte written.
+// good; returns the index after the last byte written.
 #[tactic(auto, unfolding(crate::specs::Util::util_array_copy_non_atomic))]
 pub(crate) fn util_array_copy_non_atomic<S: WordStore>(
     args: &[Cell],

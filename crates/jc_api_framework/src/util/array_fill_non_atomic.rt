@@ -18,7 +18,7 @@ use jc_words::{StoreDown, WordStore};
 use jc_world::arguments::short_argument;
 use jc_world::{NativeResult, StepExit, Stretch, short};
 
-// Sets at most so many elements to a byte, one after another.
+// Sets at most MOST elements to a byte, one after another.
 #[inline(never)]
 fn fill_most<const MOST: usize, S: WordStore>(
     memory: &mut Memory<S>,
@@ -68,7 +68,7 @@ fn fill_and_tell<S: WordStore>(
 }
 
 // `Util.arrayFillNonAtomic`: sets elements to the low byte of a number; those of a persistent array one after another, each
-// for good; returns the index behind the last one written.
+// for good; returns the index after the last one written.
 #[tactic(auto, unfolding(crate::specs::Util::util_array_fill_non_atomic))]
 pub(crate) fn util_array_fill_non_atomic<S: WordStore>(
     args: &[Cell],
