@@ -2,7 +2,7 @@
 import re
 
 OF_PACKAGE = re.compile(r"\b([0-9A-F]{2,32})\.(\d+)\b")
-FRAME = re.compile(r"\bat ([0-9A-F]+) offset (\d+) in (method \d+|\S+?)( line \d+)?(: invoke\w+ method \d+)?(?=[:, ]|$)")
+FRAME = re.compile(r"\bat ([0-9A-F]+) offset (\d+) in (method \d+|\S+?)( line \d+| \([^() ]+:\d+\))?(: invoke\w+ method \d+)?(?=[:, ]|$)")
 CALL = re.compile(r"(: invoke\w+ )method (\d+)")
 CELL = re.compile(r"@(\d+) ([0-9A-F]+\.\d+) \[(\d+)\]")
 CELLS = re.compile(r"@(\d+) ([0-9A-F]+\.\d+)( of .*, length \d+): (.+)")
@@ -41,7 +41,8 @@ class Names:
 
     def added(self, record):
         """A record, with what the map adds to it."""
-        for frame in [*record.get("frames", ()), *(record.get("instructions", ()) if record["record"] == "trace" else ())]:
+        frames = [*record.get("frames", ()), *([record["frame"]] if "offset" in record.get("frame", ()) else ())]
+        for frame in [*frames, *(record.get("instructions", ()) if record["record"] == "trace" else ())]:
             source, method = self.source(frame.get("package"), frame["offset"]), self.method(frame)
             if source:
                 frame["source"] = source

@@ -2,9 +2,14 @@
 DEBUGGING.md say what the texts mean, integrations/pages/README.md which records there are. A line of no known form becomes a record "text"."""
 import re
 
-FRAME = re.compile(r"  at (?:([0-9A-F]+|run code) )?offset (\d+)(?: in (.+?)(?: line (\d+))?)?(?:: (\S+)(?: (.*))?)?")
+FRAME = re.compile(r"  at (?:([0-9A-F]+|run code) )?offset (\d+)(?: in (.+?)(?: line (\d+)| \(([^() ]+):(\d+)\))?)?(?:: (\S+)(?: (.*))?)?")
 TOP = re.compile(r"(.*), (the stack is empty|top (.*))")
 WHY = re.compile(r"why: line (\d+): (.*)")
+WRITE = re.compile(r"why: line (\d+), cut after (\d+): the write of word (\d+)(, by the runtime environment)?")
+BREAK = re.compile(r"break: line (\d+)")
+HELD = re.compile(r"  (local|static) (\S+): (.*)")
+STACK = re.compile(r"  stack: (.*)")
+NAME = re.compile(r" \([^() ]+(?:, [^() ]+)?\)")
 REASON = re.compile(r"(\w+) with reason ([0-9A-F]{4})(?: \((\w+)\))?")
 COST = re.compile(r"  (\d+) instructions?, (\d+) word writes?, up to (\d+) of (\d+) cells, (\d+) free words")
 FIREWALL = re.compile(r"  firewall rule (\d+): (.*), by code of (.*), the object is of (.*)")
@@ -12,19 +17,20 @@ COMPONENT = re.compile(r"  component (\d+)(?: (did not come|has another size tha
 IMPORTED = re.compile(r"  package ([0-9A-F]+)")
 POOL = re.compile(r"  entry (\d+): (?:package ([0-9A-F]+)|a package that is not imported), class (\d+)(?: \((\w+)\))?(?:, token (\d+))?(?:: (.+))?")
 ASKED = re.compile(r"  asked for (\d+) (.*), (\d+) left")
-CHANGE = re.compile(r"(?:@(\d+) (\S+) \[(\d+)\]|word (\d+)) (\S+)>(\S+)")
+CHANGE = re.compile(r"(?:@(\d+) (\S+) \[(\d+)\](?: \([^()]*\))?|word (\d+)(?: \(([^()]*)\))?) (\S+)>(\S+)")
 CUTS = re.compile(r"cut after (\d+)(?:\.\.(\d+))?: (.*)")
 UNCUT = re.compile(r"(?:cut after (\d+): )?no cut, answer (\S+): (.*)")
 STANDING = re.compile(
-    r"(?:(.*) )?(as before|as after|with other answers|changed: word (\d+) was (\d+) and is (\d+)( by non-atomic calls)?)(?:, (\d+) words? lost)?( but for PIN tries)?(?:, (\d+) words? lost)?")
+    r"(?:(.*) )?(as before|as after|with other answers|changed: word (\d+)(?: \([^()]*\))? was (\d+) and is (\d+)( by non-atomic calls)?)(?:, (\d+) words? lost)?( but for PIN tries)?(?:, (\d+) words? lost)?")
 OF_LINE = re.compile(r"line (\d+): ([0-9A-Fa-f]+)(?: = (\S+))?: (.*)")
 TORN = re.compile(r"NOT all or nothing: first at cut (\d+)(, by non-atomic calls)?")
 WHOLE = re.compile(r"all or nothing( but for PIN tries)?: (\d+) cuts?, (.*?)(?:, at most (\d+) words? lost)?")
 UNWRITTEN = re.compile(r"no write: answered (\S+)")
 RECOVERED = re.compile(r"no recovery made a difference: (\d+) ways?, (\d+) deep")
 UNRECOVERED = re.compile(r"a recovery made a difference: first at cut (\d+), recoveries cut after (.*)")
-PART = re.compile(r"cut after (\d+): (.*), (\d+) words? lost, answers ?(.*)")
-SWEEP = re.compile(r"sweep ([0-9a-f]+)")
+PART = re.compile(r"cut after (\d+): (?:recoveries (\d+) (alike|\d+(?: \d+)*), )?(.*), (\d+) words? lost, answers ?(.*)")
+SWEEP = re.compile(r"sweep ([0-9a-f]+)(?: (each)| recovery (\d))?")
+SHARE = re.compile(r"share (\d+): of (\d+), (NOT )?all or nothing")
 COUNT = re.compile(r"(words|journal|packages|applets) (\d+)(?: of (\d+))?")
 PACKAGE = re.compile(r"package (\d+) ([0-9A-F]+) (\d+)\.(\d+)")
 APPLET = re.compile(r"applet (\d+) ([0-9A-F]+) package (\d+)")
@@ -63,8 +69,10 @@ def frame(line):
     found = FRAME.fullmatch(line)
     if not found:
         return None
-    aid, offset, method, java, mnemonic, callee = found.groups()
-    made = {"package": aid, "offset": int(offset), "method": method, "line": int(java) if java else None, "mnemonic": mnemonic, "callee": callee}
+    aid, offset, method, alone, file, of_file, mnemonic, used = found.groups()
+    java = alone or of_file
+    made = {"package": aid, "offset": int(offset), "method": method, "line": int(java) if java else None, "source": f"{file}:{java}" if file else None, "mnemonic": mnemonic}
+    made["callee" if (mnemonic or "").startswith("invoke") else "operand"] = used
     return {key: value for key, value in made.items() if value is not None}
 
 
@@ -132,22 +140,50 @@ def add_to_trace(record, line):
         record.setdefault("more", []).append(line.strip())
 
 
+def add_to_write(record, line):
+    """Adds the instruction that makes a word write."""
+    record["frame"] = frame(line) or {"text": line.strip()}
+
+
+def add_to_break(record, line):
+    """Adds what a further line says of an arrival: a frame, a local, the stack or a static field."""
+    held, stack, step = HELD.fullmatch(line), STACK.fullmatch(line), frame(line)
+    if held:
+        record["locals" if held[1] == "local" else "statics"][held[2]] = held[3]
+    elif stack:
+        record["stack"] = [] if stack[1] == "empty" else re.findall(r"return address \d+|\S+", stack[1])
+    elif step:
+        record["frames"].append(step)
+    else:
+        record.setdefault("more", []).append(line.strip())
+
+
+FURTHER_LINES = {"why": add_to_why, "trace": add_to_trace, "write": add_to_write, "break": add_to_break}
+
+
+def begun(line):
+    """The record that a line begins, to which further lines add; None where it begins none."""
+    write, stop, trace = WRITE.fullmatch(line), BREAK.fullmatch(line), re.fullmatch(r"trace: line (\d+)", line)
+    if write:
+        return {"record": "write", "line": int(write[1]), "cut": int(write[2]), "word": int(write[3])}
+    if stop:
+        return {"record": "break", "line": int(stop[1]), "frames": [], "locals": {}, "stack": [], "statics": {}}
+    if trace:
+        return {"record": "trace", "line": int(trace[1]), "instructions": []}
+    return why(line) if WHY.fullmatch(line) else None
+
+
 def causes(lines):
-    """The records of what `run --why` and `run --trace` tell on standard error."""
+    """The records of what `run --why`, `--trace` and `--break` and `tear --why` tell on standard error."""
     record = None
     for line in lines:
-        trace = re.fullmatch(r"trace: line (\d+)", line)
         if record and line.startswith("  "):
-            (add_to_why if record["record"] == "why" else add_to_trace)(record, line)
+            FURTHER_LINES[record["record"]](record, line)
             continue
         if record:
             yield record
-        record = None
-        if WHY.fullmatch(line):
-            record = why(line)
-        elif trace:
-            record = {"record": "trace", "line": int(trace[1]), "instructions": []}
-        else:
+        record = begun(line)
+        if not record:
             yield text_record(line)
     if record:
         yield record
@@ -159,9 +195,9 @@ def changes(text):
     """The changes at the end of a text, and what stands before them."""
     found, first = [], len(text)
     for match in CHANGE.finditer(text):
-        at, kind, cell, word, was, now = match.groups()
+        at, kind, cell, word, static, was, now = match.groups()
         first = min(first, match.start())
-        place = {"object": int(at), "class": kind, "cell": int(cell)} if at else {"word": int(word)}
+        place = {"object": int(at), "class": kind, "cell": int(cell)} if at else {"word": int(word), **({"static": static} if static else {})}
         found.append({**place, "was": was, "is": now})
     return text[:first].strip(), found
 
@@ -208,13 +244,16 @@ def verdict(text):
 
 def torn_line(line):
     """The record of a line of `tear`."""
-    part, sweep = PART.fullmatch(line), SWEEP.fullmatch(line)
+    part, sweep, share = PART.fullmatch(line), SWEEP.fullmatch(line), SHARE.fullmatch(line)
     if part:
-        told, changed = changes(part[4])
-        left = {**standing(part[2]), "lost": int(part[3]), "answers": probe(told), **({"changes": changed} if changed else {})}
-        return {"record": "cuts", "first": int(part[1]), "last": int(part[1]), **left}
+        told, changed = changes(part[6])
+        left = {**standing(part[4]), "lost": int(part[5]), "answers": probe(told), **({"changes": changed} if changed else {})}
+        recovered = {} if part[2] is None else {"ways": int(part[2]), **({} if part[3] == "alike" else {"unlike": [int(each) for each in part[3].split()]})}
+        return {"record": "cuts", "first": int(part[1]), "last": int(part[1]), **left, **recovered}
     if sweep:
-        return {"record": "sweep", "checksum": sweep[1]}
+        return {"record": "sweep", "checksum": sweep[1], **({"each": True} if sweep[2] else {}), **({"recovery": int(sweep[3])} if sweep[3] else {})}
+    if share:
+        return {"record": "share", "number": int(share[1]), "of": int(share[2]), "all_or_nothing": share[3] is None}
     cuts, uncut, of_line = CUTS.fullmatch(line), UNCUT.fullmatch(line), OF_LINE.fullmatch(line)
     if uncut:
         left = standing(uncut[3])
@@ -278,7 +317,8 @@ DUMPED = (
 
 
 def dumped_line(line):
-    """The record of a line of `dump`, with the objects or without."""
+    """The record of a line of `dump`, with the objects or without. What a map names stands in brackets, and is left out."""
+    line = NAME.sub("", line)
     if line[:2] in ("- ", "+ "):
         return {**dumped_line(line[2:]), "only": "first" if line[0] == "-" else "second"}
     changed = CHANGE.fullmatch(line)

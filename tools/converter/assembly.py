@@ -63,7 +63,7 @@ def platform():
         for kind, *rest in (line.split() for line in file):
             if kind == "package":
                 classes = packages[bytes.fromhex(rest[0])] = {}
-            elif kind == "extended":
+            elif kind in ("extended", "random"):
                 pass
             elif kind == "class":
                 at = classes[int(rest[0])] = rest[1], {}

@@ -7,7 +7,7 @@ import glob
 import os
 import re
 
-from .library import APDU, FRAMEWORK, LANG, Classes, ClassInfo, PackageInfo
+from .library import APDU, FRAMEWORK, LANG, SECURITY, Classes, ClassInfo, PackageInfo
 from .refusal import Refusal, class_name
 
 HERE = os.path.dirname(os.path.realpath(__file__))
@@ -16,9 +16,11 @@ ABSENT = os.path.join(HERE, "absent")  # stubs of classes that no card has
 NEEDED = os.path.join(HERE, "../../examples/platform.table")  # has the names that each table has
 ALLOWED = os.path.join(HERE, "../../examples/extended.table")  # has all names that an extended table may have
 EXTENDED = "extended"  # the first line of such a table
+RANDOM = "random"  # the first word of a line of such a table: the bytes of which random data are made
+RANDOM_DIGITS = re.compile("[0-9A-Fa-f]{64}")
 LONGEST_TABLE = 16384  # bytes
 LARGEST_NUMBER, LARGEST_VIRTUAL = 255, 127
-NAMES = {"A0000000620001": LANG, "A0000000620101": FRAMEWORK, "A0000000620209": APDU}
+NAMES = {"A0000000620001": LANG, "A0000000620101": FRAMEWORK, "A0000000620209": APDU, "A0000000620102": SECURITY}
 # The classes of java.lang that stand above others than RuntimeException.
 ABOVE = {
     "Object": None, "Throwable": "Object", "Exception": "Throwable", "RuntimeException": "Exception",
@@ -36,9 +38,19 @@ CLASS = re.compile(r"public (?:final |abstract )*(class|interface) (\w+)(?: exte
 METHOD = re.compile(r"^    ((?:public |protected |private |static |final |abstract )*)(?:([\w\[\]]+) )?(\w+)\(([^)]*)\)[^;{]*[;{]", re.M)
 
 
+def stub_files():
+    return sorted(glob.glob(os.path.join(STUBS, "*/*/*.java")))
+
+
+@functools.cache
+def stub_packages():
+    """The packages of the stubs, by the words for their classes, of which no two have one."""
+    return {os.path.basename(path)[:-len(".java")]: os.path.relpath(os.path.dirname(path), STUBS) for path in stub_files()}
+
+
 def name_of(word):
     """A class's name as a stub calls it."""
-    return f"{LANG if word in ABOVE else APDU if word == 'ExtendedLength' else FRAMEWORK}/{word}"
+    return f"{LANG if word in ABOVE else stub_packages()[word]}/{word}"
 
 
 def descriptor_of(word):
@@ -57,7 +69,7 @@ class Stub:
         self.interfaces = [name_of(word) for word in ((above if self.is_interface else interface),) if word]
         self.methods = []  # keys, and whether the method is static
         for modifiers, result, name, parameters in METHOD.findall(text):
-            if "private" in modifiers:
+            if not self.is_interface and "public" not in modifiers and "protected" not in modifiers:
                 continue
             types = [descriptor_of(parameter.split()[0]) for parameter in parameters.replace("\n", " ").split(",") if parameter.strip()]
             is_constructor = name == self.word and not result
@@ -66,9 +78,9 @@ class Stub:
 
 
 def read_stubs():
-    """The stubs by the words for their classes, of which no two have one."""
+    """The stubs by the words for their classes."""
     stubs = {}
-    for path in sorted(glob.glob(os.path.join(STUBS, "*/*/*.java"))):
+    for path in stub_files():
         with open(path, encoding="utf-8") as file:
             stub = Stub(file.read())
         stubs[stub.word] = stub
@@ -80,7 +92,7 @@ class Table:
 
     def __init__(self):
         self.stubs, self.packages, self.info = read_stubs(), [], None
-        self.is_extended, self.tokens = False, set()
+        self.is_extended, self.tokens, self.random = False, set(), None
         self.free = set(names_of(NEEDED))  # the names that may stand in the lines to come
 
     def line(self, words):
@@ -88,6 +100,8 @@ class Table:
         if words == [EXTENDED] and not self.packages and not self.is_extended:
             self.is_extended, self.free = True, set(names_of(ALLOWED))
             return None
+        if words[0] == RANDOM:
+            return self.random_line(*words)
         if words[0] == "package":
             return self.package_line(*words)
         kind, number, word = words
@@ -101,9 +115,14 @@ class Table:
             self.add_method(kind, token, word)
         return name
 
+    def random_line(self, _, digits):
+        if not self.is_extended or self.random is not None or not RANDOM_DIGITS.fullmatch(digits):
+            raise ValueError
+        self.random = bytes.fromhex(digits)
+
     def package_line(self, kind, aid, major, minor):
         self.info, name = None, self.take(kind, aid)
-        if NAMES[aid] == APDU and len(self.packages) < 2:  # it stands behind both others
+        if NAMES[aid] in (APDU, SECURITY) and len(self.packages) < 2:  # they stand behind both others
             raise ValueError
         self.packages.append(PackageInfo(NAMES[aid], bytes.fromhex(aid), (number_of(major), number_of(minor))))
         return name
@@ -168,7 +187,7 @@ def names_of(path):
     """What the lines of a table name: each the package, the class, the keyword and the word; None where one does not count."""
     package = info = None
     found = []
-    for kind, *words in (line.split() for line in lines_of(path) if line not in ("", EXTENDED)):
+    for kind, *words in (line.split() for line in lines_of(path) if line not in ("", EXTENDED) and not line.startswith(RANDOM)):
         if kind == "package":
             package, info = NAMES[words[0]], None
             found.append((None, None, kind, words[0]))
@@ -218,8 +237,8 @@ def extended_classes():
 
 
 def is_extended(owner, key):
-    """Whether an extended platform table can have a method, by its name and its descriptor."""
+    """Whether an extended platform table can have a method, by its name and its descriptor. A constructor is not inherited."""
     info = extended_classes().known.get(owner)
     return info is not None and any(
-        key in methods for each in extended_classes().chain(info)
+        key in methods for each in ([info] if key[0] == "<init>" else extended_classes().chain(info))
         for methods in (each.static_methods, each.virtual_methods, each.interface_methods))

@@ -86,7 +86,7 @@ def unknown_class(name, is_extended=False):
     if is_extended:
         return f"{called} is not on the card of this platform table; {EXTENDED_TABLE} has it"
     if name.startswith(CRYPTOGRAPHY):
-        return f"{called} is not on the card, which has no cryptography (docs/api.table lists what can be)"
+        return f"{called} is not on the card (docs/api.table lists what can be)"
     return f"{called} is neither on the card nor in an export file"
 
 

@@ -2,7 +2,7 @@
 from . import code
 from .bytecode import BRANCHES, SWITCHES
 from .refusal import Reasons, types_of
-from .walk import Walk
+from .walk import CALLS, FIELD_ACCESSES, TYPE_USES, Walk
 
 PLAIN = {
     "nop": "nop", "aconst_null": "aconst_null", "aaload": "aaload", "baload": "baload", "saload": "saload", "aastore": "aastore",
@@ -19,6 +19,7 @@ ARRAYS = {"[Z": 10, "[B": 11, "[S": 12}  # of checkcast and instanceof
 ARRAY_OF_REFERENCES, CLASS = 14, 0
 LETTERS = {"Z": "b", "B": "b", "S": "s"}
 REQUIRE_NON_NULL = ("java/util/Objects", "requireNonNull", "(Ljava/lang/Object;)Ljava/lang/Object;")
+NAMING = (*FIELD_ACCESSES, *CALLS, *TYPE_USES, "new")  # the instructions that name what may not be there
 GET_CLASS = ("getClass", "()Ljava/lang/Class;")
 
 
@@ -27,17 +28,25 @@ class Translation:
 
     def __init__(self, package, owner, method, style):
         self.package, self.owner, self.method, self.style = package, owner, method, style
-        self.walk = Walk(owner, method, owner.code(method))
+        reasons = Reasons()
+        self.walk = Walk(owner, method, owner.code(method), reasons)
         self.constants, self.handlers = owner.constants, self.walk.code.handlers
         self.arguments = method.arguments
         self.locals = max(0, self.walk.code.max_locals - self.arguments)
-        if self.arguments + self.locals > code.LARGEST_BYTE:
-            self.walk.refuse(f"more than {code.LARGEST_BYTE} variables")
+        with reasons:
+            if self.arguments + self.locals > code.LARGEST_BYTE:
+                self.walk.refuse(f"more than {code.LARGEST_BYTE} variables")
         self.instructions = []
-        self.translate()
-        self.caught = [
-            package.class_entry(self.constants.class_at(handler.caught), self.place(handler.at)) if handler.caught else None
-            for handler in self.handlers]
+        if reasons.reasons:
+            self.tell_names(reasons)
+        else:
+            self.translate(reasons)
+        self.caught = []
+        for handler in self.handlers:
+            with reasons:
+                self.caught.append(
+                    package.class_entry(self.constants.class_at(handler.caught), self.place(handler.at)) if handler.caught else None)
+        reasons.end()
         self.first = self.first_instructions()
         self.max_stack = self.deepest_stack()
         if self.max_stack > code.LARGEST_BYTE:
@@ -66,17 +75,24 @@ class Translation:
                     found[pc] = load
         return found
 
-    def translate(self):
+    def tell_names(self, reasons):
+        """Refuses what the code names and is not there, of a method that is refused already: on other lines than its types and instructions."""
+        self.this = {}
+        for instruction in self.walk.instructions:
+            if instruction.name in NAMING and self.walk.code.line(instruction.pc) not in self.walk.refused_lines:
+                with reasons:
+                    self.one(instruction)
+
+    def translate(self, reasons):
         reached = [instruction for instruction in self.walk.instructions if self.is_reached(instruction.pc)]
         self.this = self.this_accesses()
-        targets, left_out, at, reasons = self.targets(), set(self.this.values()), 0, Reasons()
+        targets, left_out, at = self.targets(), set(self.this.values()), 0
         while at < len(reached):
             taken = self.increment(reached[at:at + 6], targets) if self.style.increments else 0
             if taken == 0 and reached[at].pc not in left_out:
                 with reasons:
                     self.one(reached[at])
             at += taken or 1
-        reasons.end()
 
     def increment(self, begin, targets):
         """Makes sinc of a variable that is loaded, changed by a constant, cut to a short and stored; how many were taken."""

@@ -3,7 +3,7 @@ from . import arithmetic
 from .arithmetic import BOOLEAN, REFERENCE, SHORT, between, value_of_type
 from .bytecode import ENDS, decode
 from .class_file import FLOAT, INTEGER, STRING, CLASS
-from .refusal import Reasons, Refusal, class_name, fault_of_type, is_reference, types_of
+from .refusal import Refusal, class_name, fault_of_type, is_reference, types_of
 
 ELEMENTS = {4: "Z", 8: "B", 9: "S", 5: "C", 6: "F", 7: "D", 10: "I", 11: "J"}  # of newarray
 CONSTANTS = {STRING: "a string", CLASS: "a class literal", FLOAT: "a float"}
@@ -32,22 +32,29 @@ def what_is_not_there(name):
 
 
 class Walk:
-    """The instructions of a method, and what is known before each that is reached."""
+    """The instructions of a method, and what is known before each that is reached. What is refused goes to the reasons; where the types
+    or the instructions are, no values are followed."""
 
-    def __init__(self, owner, method, code):
+    def __init__(self, owner, method, code, reasons):
         self.owner, self.method, self.code, self.constants = owner, method, code, owner.constants
         parameters, _ = types_of(method.descriptor)
         self.types = ([] if method.is_static else [f"L{owner.name};"]) + parameters
         self.instructions = decode(code.bytes)
         self.at = {instruction.pc: instruction for instruction in self.instructions}
-        self.check_names()
+        self.refused_lines = self.check_names(reasons)
         self.states, self.visits, self.waiting = {}, {}, []
         self.uses = {}  # where a loaded `this` is used
         self.objects = {}  # the loads of `this` that an access to a field may take its object from
         self.mixed = set()  # loads of `this` that also go another way
         self.keeps_this = not method.is_static and not any(
             instruction.name == "astore" and instruction.operand == 0 for instruction in self.instructions)
-        self.go(0, [value_of_type(descriptor) for descriptor in self.types] + [None] * (code.max_locals - len(self.types)), [])
+        if not self.refused_lines:
+            with reasons:
+                self.follow()
+
+    def follow(self):
+        """Follows the values from the first instruction on."""
+        self.go(0, [value_of_type(descriptor) for descriptor in self.types] + [None] * (self.code.max_locals - len(self.types)), [])
         while self.waiting:
             pc = self.waiting.pop()
             variables, stack = self.states[pc]
@@ -61,10 +68,10 @@ class Walk:
         if fault:
             self.refuse(f"{what}{fault}, which the card does not have", pc)
 
-    def check_names(self):
+    def check_names(self, reasons):
         """That the card has the types and the instructions that the code names, whatever values they meet. Of instructions one a
-        line is refused, and none where a variable of the line is."""
-        reasons, refused = Reasons(), set()
+        line is refused, and none where a variable of the line is. Gives the lines where something is."""
+        refused = set()
         for variable in self.code.variables:
             if variable.start and fault_of_type(variable.descriptor):  # at 0 stand parameters
                 pc = variable.start - 1  # in the instruction that first stores it
@@ -79,7 +86,7 @@ class Walk:
                     self.check_instruction(instruction.name, instruction.operand, instruction.pc)
                 if len(reasons.reasons) > before:
                     refused.add(line)
-        reasons.end()
+        return refused
 
     def check_instruction(self, name, operand, pc):
         if name == "ldc":

@@ -140,24 +140,24 @@ IsBytes-xor_words : (s t : List ℕ) → IsBytes s → IsBytes t → IsBytes (xo
 IsBytes-xor_words s t bs bt =
     IsBytes-word_of (λ j. bit_xor (slice_index s j) (slice_index t j)) (λ j. xor_byte (slice_index s j) (slice_index t j) (bs.byte j) (bt.byte j))
 
-IsBytes-mixed_word : (k : ℕ) (w : List ℕ) (i : ℕ) → IsBytes w → IsBytes (mixed_word k w i)
-IsBytes-mixed_word k w i bytes =
-    let before : List ℕ = word_before w i in
-    either_bytes (nat_eq (i % k) 0) (xor_words (sub_word (rot_word before)) (round_constant (i / k)))
-    (if nat_lt 6 k && nat_eq (i % k) 4 then sub_word before else before)
-    (IsBytes-xor_words (sub_word (rot_word before)) (round_constant (i / k)) (IsBytes-sub_word (rot_word before)) (IsBytes-round_constant (i / k)))
-    (either_bytes (nat_lt 6 k && nat_eq (i % k) 4) (sub_word before) before (IsBytes-sub_word before)
-    (IsBytes-word_of (λ j. slice_index w (4 * (i - 1) + j)) (λ j. bytes.byte (4 * (i - 1) + j))))
+IsBytes-mixed_word : (k : ℕ) (t : List ℕ) (n r : ℕ) → IsBytes t → IsBytes (mixed_word k t n r)
+IsBytes-mixed_word k t n r bytes =
+    either_bytes (nat_eq r 0) (xor_words (sub_word (rot_word t)) (round_constant n))
+    (if nat_lt 6 k && nat_eq r 4 then sub_word t else t)
+    (IsBytes-xor_words (sub_word (rot_word t)) (round_constant n) (IsBytes-sub_word (rot_word t)) (IsBytes-round_constant n))
+    (either_bytes (nat_lt 6 k && nat_eq r 4) (sub_word t) t (IsBytes-sub_word t) bytes)
 
 IsBytes-next_word : (key w : List ℕ) (i : ℕ) → IsBytes key → IsBytes w → IsBytes (next_word key w i)
 IsBytes-next_word key w i bk bw =
     let old : List ℕ = word_of (λ j. slice_index w (4 * (i - length key / 4) + j)) in
-    let mixed : List ℕ = mixed_word (length key / 4) w i in
+    let k = length key / 4 in
+    let before : List ℕ = word_before w i in
+    let mixed : List ℕ = mixed_word k before (i / k) (i % k) in
     either_bytes (nat_lt i (length key / 4)) (word_of (λ j. slice_index key (4 * i + j))) (xor_words old mixed)
     (IsBytes-word_of (λ j. slice_index key (4 * i + j)) (λ j. bk.byte (4 * i + j)))
     (IsBytes-xor_words old mixed
     (IsBytes-word_of (λ j. slice_index w (4 * (i - length key / 4) + j)) (λ j. bw.byte (4 * (i - length key / 4) + j)))
-    (IsBytes-mixed_word (length key / 4) w i bw))
+    (IsBytes-mixed_word k before (i / k) (i % k) (IsBytes-word_of (λ j. slice_index w (4 * (i - 1) + j)) (λ j. bw.byte (4 * (i - 1) + j)))))
 
 IsBytes-schedule : (key : List ℕ) (n : ℕ) → IsBytes key → IsBytes (schedule key n)
 unfolding schedule

@@ -2,7 +2,7 @@
 
 ghost use Rattle.std.specs.Prelude.{◌≡◌, ◌≤◌, ◌<◌, ◌+◌, ◌-◌, ◌*◌, ◌/◌, ◌^◌, length, take, ◌++◌};
 ghost use Rattle.jc_aes.specs.Places.{IsPlace};
-ghost use Rattle.jc_aes.specs.Aes.{IsKeyLength, IsRoundCount, cipher_with, decrypted, encrypted, inv_cipher_with, mixed_word, next_word, schedule};
+ghost use Rattle.jc_aes.specs.Aes.{IsKeyLength, IsRoundCount, cipher_with, decrypted, encrypted, inv_cipher_with, mixed_word, next_word, schedule, word_before};
 
 use crate::field::sub_byte;
 use crate::place::{Place, next_place};
@@ -28,43 +28,38 @@ pub struct Aes {
         ≡ schedule (take (4 * (rounds - 6)) key) (4 * (rounds + 1)) },
 }
 
-// What is added to the word a key's length before word `i`.
+// What is added to the word a key's length before one: of the word right before that, where that stands.
 #[tactic(auto, using(crate::proofs::Tables::round_constants_at, crate::proofs::Products::xor_zero))]
-fn mixed_word(w: &[u8], key_words: usize, i: usize, place: &Place) -> [u8; 4]
-    requires words { 4 ≤ key_words }
-    requires low { key_words ≤ i }
-    requires long { length w.now ≡ 4 * i }
-    requires fits { i < 2 ^ 32 }
-    requires place { IsPlace key_words i place.now }
-    requires turns { i / key_words ≤ 10 }
-    ensures { result ≡ mixed_word key_words w.now i }
+fn mixed_word(before: [u8; 4], key_words: usize, place: &Place) -> [u8; 4]
+    requires turns { place.now.turn ≤ 10 }
+    ensures { result ≡ mixed_word key_words before place.now.turn place.now.rest }
 {
-    let before = 4 * (i - 1);
     if place.rest == 0 {
         [
-            sub_byte(w[before + 1]) ^ ROUND_CONSTANTS[place.turn],
-            sub_byte(w[before + 2]),
-            sub_byte(w[before + 3]),
-            sub_byte(w[before]),
+            sub_byte(before[1]) ^ ROUND_CONSTANTS[place.turn],
+            sub_byte(before[2]),
+            sub_byte(before[3]),
+            sub_byte(before[0]),
         ]
     } else if key_words > 6 && place.rest == 4 {
         [
-            sub_byte(w[before]),
-            sub_byte(w[before + 1]),
-            sub_byte(w[before + 2]),
-            sub_byte(w[before + 3]),
+            sub_byte(before[0]),
+            sub_byte(before[1]),
+            sub_byte(before[2]),
+            sub_byte(before[3]),
         ]
     } else {
-        [w[before], w[before + 1], w[before + 2], w[before + 3]]
+        before
     }
 }
 
-// Word `i` of the schedule.
-fn next_word(key: &[u8], w: &[u8], i: usize, place: &Place) -> [u8; 4]
+// Word `i` of the schedule, after the word before it.
+fn next_word(key: &[u8], w: &[u8], i: usize, place: &Place, before: [u8; 4]) -> [u8; 4]
     requires key { IsKeyLength (length key.now) }
     requires within { i < length key.now + 28 }
     requires long { length w.now ≡ 4 * i }
     requires place { IsPlace (length key.now / 4) i place.now }
+    requires before { before ≡ word_before w.now i }
     ensures { result ≡ next_word key.now w.now i }
 {
     let key_words = key.len() / 4;
@@ -72,7 +67,7 @@ fn next_word(key: &[u8], w: &[u8], i: usize, place: &Place) -> [u8; 4]
         [key[4 * i], key[4 * i + 1], key[4 * i + 2], key[4 * i + 3]]
     } else {
         let old = 4 * (i - key_words);
-        let mixed = mixed_word(w, key_words, i, place);
+        let mixed = mixed_word(before, key_words, place);
         [
             w[old] ^ mixed[0],
             w[old + 1] ^ mixed[1],
@@ -83,11 +78,15 @@ fn next_word(key: &[u8], w: &[u8], i: usize, place: &Place) -> [u8; 4]
 }
 
 // The words end by this one.
-fn put_word(words: &mut [u8], at: usize, word: &[u8; 4])
+#[tactic(auto, using(crate::proofs::Places::four_put))]
+fn put_word(words: &mut [u8], at: usize, word: [u8; 4])
     requires { at + 4 ≤ length words.old }
-    ensures { take (at + 4) words.new ≡ take at words.old ++ word.now }
+    ensures { take (at + 4) words.new ≡ take at words.old ++ word }
 {
-    words[at..at + 4].copy_from_slice(word);
+    words[at] = word[0];
+    words[at + 1] = word[1];
+    words[at + 2] = word[2];
+    words[at + 3] = word[3];
 }
 
 fn cipher_with(w: &[u8], count: usize, block: &[u8; 16]) -> [u8; 16]
@@ -130,9 +129,11 @@ fn expanded(key: &[u8], rounds: usize) -> [u8; 240]
 {
     let mut words = [0; 240];
     let mut place = Place { turn: 0, rest: 0 };
+    let mut before = [0; 4];
     'expansion: for i in 0..4 * (rounds + 1) {
-        let word = next_word(key, &words[..4 * i], i, &place);
-        put_word(&mut words, 4 * i, &word);
+        let word = next_word(key, &words[..4 * i], i, &place, before);
+        put_word(&mut words, 4 * i, word);
+        before = word;
         place = next_place(place, i, key.len() / 4);
     }
     words

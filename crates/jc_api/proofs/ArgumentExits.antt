@@ -1,11 +1,11 @@
 -- What the checks of arguments give where a call does not go on: an exception, or a code fault.
-use Rattle.std.specs.Prelude.{◌+◌, ℕ, List, pos}
+use Rattle.std.specs.Prelude.{◌+◌, ℕ, List}
 use Rattle.jc_memory.specs.State.{MemoryState}
 use Rattle.jc_linker.specs.Values.{Packages}
 use Rattle.jc_frames.specs.declared.cell.Cell.{Cell}
-use Rattle.jc_world.specs.Arrays.{bytes_argument, elements_of}
+use Rattle.jc_world.specs.Arrays.{bytes_argument}
 use Rattle.jc_world.specs.Objects.{reference_argument, some_or_fault, short_argument}
-use Rattle.jc_api.specs.Arguments.{array_arguments, pair_arguments, two_of, counted_of, argument_bytes, pair_of}
+use Rattle.jc_api.specs.Arguments.{array_arguments, counted_of, argument_bytes}
 use Rattle.jc_api.proofs.Exits.{FaultsOnly, plain_some, plain_then, plain_bytes, plain_elements}
 
 module _ (args : List Cell) where

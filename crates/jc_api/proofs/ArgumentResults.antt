@@ -1,16 +1,15 @@
 -- What checks of arguments say where they let a call go on.
-use Rattle.std.specs.Prelude.{pos, ℤ}
-use Rattle.std.proofs.Common.{◌≡◌, ◌+◌, ◌∙◌, ℕ, List, Ok, subst, sym}
-use Rattle.std.proofs.lemmas.Option.{same_Some}
+use Rattle.std.specs.Prelude.{ℤ}
+use Rattle.std.proofs.Common.{◌≡◌, ◌+◌, ℕ, List, Ok, subst}
 use Rattle.jc_heap.specs.Heap.{facts}
 use Rattle.jc_heap.specs.declared.object.Kind.TheVariants.{ByteArray}
 use Rattle.jc_memory.specs.State.{MemoryState}
 use Rattle.jc_linker.specs.Values.{Packages}
 use Rattle.jc_frames.specs.declared.cell.Cell.{Cell}
-use Rattle.jc_world.specs.Arrays.{bytes_argument, elements_of}
+use Rattle.jc_world.specs.Arrays.{bytes_argument}
 use Rattle.jc_world.specs.Objects.{some_or_fault, reference_argument, short_argument}
 use Rattle.jc_world.specs.declared.arrays.Stretch.{Stretch}
-use Rattle.jc_api.specs.Arguments.{array_arguments, pair_of, two_of, counted_of}
+use Rattle.jc_api.specs.Arguments.{array_arguments, counted_of}
 use Rattle.jc_api.specs.declared.arguments.ArrayArguments.{ArrayArguments}
 use Rattle.jc_api.proofs.Reaching.{same_Ok}
 use Rattle.jc_api.proofs.Stretches.{both_ok, IsStretch, stretch_is, stretch_bytes}

@@ -8,3 +8,9 @@ pub mod Passing
 pub mod Plain
 pub mod Forms
 pub mod OfShorts
+pub mod Standing
+pub mod States
+pub mod ChangingCalls
+pub mod FactoryCalls
+pub mod EngineRoom
+pub mod EngineMaking

@@ -27,6 +27,10 @@ plainly_faults (Ok a) = tt
 plainly_faults (Err (Throw e)) = tt
 plainly_faults (Err (End o)) = tt
 
+pub plainly_ok : {A : Type 0} (r : Result A FrameExit) (a : A) → plainly r ≡ Ok a → r ≡ Ok a
+plainly_ok (Ok b) a is = is
+plainly_ok (Err e) a is = absurd (err_not_ok is)
+
 pub plainly_same : {A : Type 0} (r : Result A FrameExit) → FaultsOnly r → plainly r ≡ r
 plainly_same (Ok a) plain = refl
 plainly_same (Err (Throw e)) plain = refl

@@ -67,7 +67,7 @@ pub field_allowed : (p : Packages) (m : MemoryState) (f : Facts) → firewall_ch
 unfolding firewall_decision
 field_allowed p m f fine = either_reach InstanceField (situation_of p m f) (is_environment (situation_of p m f)) refl (field_reach (situation_of p m f)) fine
 
--- the header that stands behind a reference
+-- the header of the object that a reference names
 header_found : (b : Bool) (f g : Facts) → (if b then Some f else None) ≡ Some g → (b ≡ true) × (g ≡ f)
 header_found true f g e = (refl, sym (same_Some f g e))
 header_found false f g e = absurd (none-some g e)

@@ -16,21 +16,26 @@ use Rattle.jc_api.specs.Exits.{plainly}
 
 -- ---- what a call answers
 
--- bytes for elements of an array that the caller named, from one on: put there as one change, or one after another and each for good
+-- bytes for elements of an array that the caller named, from one on
 pub record Output : Type 0 where
   pub array : ℕ
   pub start : ℤ
   pub bytes : List ℕ
-  pub lasting : Bool
 
--- what a call puts into an array, if anything, and the number that it returns, if it returns one. It returns no reference
+-- what a call that reads puts into an array, if anything, as one change, or one after another and each for good; and the number that it
+-- returns, if it returns one. It returns no reference
 pub record CallAnswer : Type 0 where
   pub output : Option Output
+  pub lasting : Bool
   pub result : Option ℤ
+
+-- bytes for elements that were asked for
+abbrev pub elements_for : Stretch → List ℕ → Output
+elements_for e bytes = record { array = e.array; start = pos e.start; bytes = bytes }
 
 -- it only returns a number
 abbrev pub tells : ℤ → CallAnswer
-tells v = record { output = None; result = Some v }
+tells v = record { output = None; lasting = false; result = Some v }
 
 -- or whether something holds
 abbrev pub tells_whether : Bool → CallAnswer
@@ -38,15 +43,15 @@ tells_whether b = tells (if b then pos 1 else pos 0)
 
 -- it puts bytes into elements that it asked for, as one change, and returns a number
 abbrev pub puts : Stretch → List ℕ → ℤ → CallAnswer
-puts e bytes v = record { output = Some (record { array = e.array; start = pos e.start; bytes = bytes; lasting = false }); result = Some v }
+puts e bytes v = record { output = Some (elements_for e bytes); lasting = false; result = Some v }
 
 -- one after another, each for good
 abbrev pub puts_for_good : Stretch → List ℕ → ℤ → CallAnswer
-puts_for_good e bytes v = record { output = Some (record { array = e.array; start = pos e.start; bytes = bytes; lasting = true }); result = Some v }
+puts_for_good e bytes v = record { output = Some (elements_for e bytes); lasting = true; result = Some v }
 
 -- it puts bytes into as many elements of an array, from one on, which are not asked for yet; it returns a number
 abbrev pub puts_at : ℕ → ℤ → List ℕ → ℤ → CallAnswer
-puts_at array start bytes v = record { output = Some (record { array = array; start = start; bytes = bytes; lasting = false }); result = Some v }
+puts_at array start bytes v = record { output = Some (record { array = array; start = start; bytes = bytes }); lasting = false; result = Some v }
 
 -- ---- form 1: a call that reads, and then puts bytes into an array of the caller and returns, as its answer says
 
@@ -61,10 +66,10 @@ put_then true bytes m e rest = bind (nonatomic_store m e.array e.start bytes) m 
 
 -- the form itself asks for the elements of an output, as many as there are bytes: null, firewall and bounds. A call that asked before gets
 -- the same elements, and no answer can name others
-abbrev pub output_then : Option Output → Packages → MemoryState → NativeProgram → NativeProgram
-output_then None p m rest = rest
-output_then (Some o) p m rest = if_ok (elements_at p m o.array o.start (pos (length o.bytes))) (λ e. put_then o.lasting o.bytes m e rest)
+abbrev pub output_then : Option Output → Bool → Packages → MemoryState → NativeProgram → NativeProgram
+output_then None lasting p m rest = rest
+output_then (Some o) lasting p m rest = if_ok (elements_at p m o.array o.start (pos (length o.bytes))) (λ e. put_then lasting o.bytes m e rest)
 
 -- what such a call does
 abbrev pub reading_call : Result CallAnswer FrameExit → Packages → MemoryState → NativeProgram
-reading_call answer p m = if_ok (plainly answer) (λ a. output_then a.output p m (return_value (result_value a.result)))
+reading_call answer p m = if_ok (plainly answer) (λ a. output_then a.output a.lasting p m (return_value (result_value a.result)))

@@ -4,3 +4,5 @@ pub mod Arguments
 pub mod Forms
 pub mod Referring
 pub mod NewArrays
+pub mod Changing
+pub mod Factory

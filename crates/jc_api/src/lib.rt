@@ -2,6 +2,8 @@
 #![tactic(auto)]
 
 pub mod arguments;
+pub mod changing;
+pub mod factory;
 pub mod kinds;
 pub mod short_arrays;
 
@@ -9,5 +11,7 @@ pub use arguments::{
     ArrayArguments, MOST_ELEMENTS, Pair, PairArguments, argument_bytes, array_arguments,
     counted_of, elements_at, given_elements, pair_arguments, pair_of, two_of,
 };
+pub use changing::{change_state, change_state_and_put, state_at};
+pub use factory::{NewEngine, make_engine};
 pub use kinds::have_kinds;
 pub use short_arrays::two_shorts_of;

@@ -9,6 +9,7 @@ use Rattle.jc_platform.specs.Names.{classes, exceptions_rows}
 use Rattle.jc_platform.specs.Signatures.{sets_receiver}
 use Rattle.jc_platform.specs.declared.names.ExceptionsMethod.{ExceptionsMethod}
 use Rattle.jc_platform.specs.declared.names.ExceptionsMethod.TheVariants as exceptions
+use Rattle.jc_platform.specs.declared.names.PlatformClass.TheVariants.{CryptoException}
 use Rattle.jc_platform.specs.declared.names.PlatformMethod.{PlatformMethod}
 use Rattle.jc_platform.specs.declared.names.PlatformMethod.TheVariants as rooms
 use Rattle.jc_linker.specs.Values.{Packages}
@@ -74,3 +75,5 @@ module _ (P : Effect → MemoryState → Type 0) (L : MemoryState → ℕ → Ty
   exceptions_due exceptions.UserExceptionInit pass = reason_due P L Q turns (rooms.Exceptions exceptions.UserExceptionInit) args p m so pass refl refl
   exceptions_due exceptions.UserExceptionInitWithoutReason pass = no_reason_due P L Q turns (rooms.Exceptions exceptions.UserExceptionInitWithoutReason) args p m so pass refl refl
   exceptions_due exceptions.UserExceptionThrowIt pass = thrown_due P L args p m exception.UserException
+  exceptions_due exceptions.CryptoExceptionInit pass = reason_due P L Q turns (rooms.Exceptions exceptions.CryptoExceptionInit) args p m so pass refl refl
+  exceptions_due exceptions.CryptoExceptionThrowIt pass = thrown_due P L args p m (exception.Further CryptoException)

@@ -7,14 +7,14 @@ use Rattle.std.specs.Cmp.{nat_cmp_is}
 use Rattle.std.specs.declared.cmp.Ordering.{Ordering}
 use Rattle.std.specs.declared.cmp.Ordering.TheVariants.{Equal}
 
--- how so many compare, from these places on
+-- how this many compare, from these places on
 abbrev pub order_from : (ℕ → ℕ) → (ℕ → ℕ) → ℕ → ℕ → ℕ → Ordering
 order_from f g a b n = slice_cmp nat_cmp (map f (range_with_len a n)) (map g (range_with_len b n))
 
 first_of : (f g : ℕ → ℕ) (a b n d : ℕ) → n ≡ suc d → order_from f g a b n ≡ ordering_then (nat_cmp (f a) (g b)) (order_from f g (a + 1) (b + 1) d)
 first_of f g a b n d e = ap (order_from f g a b) e
 
--- the order is decided by the numbers at k, or else by those behind
+-- the order is decided by the numbers at k, or else by those after
 unrolled : (f g : ℕ → ℕ) (a b n k : ℕ) → k < n → order_from f g (a + k) (b + k) (n - k)
     ≡ ordering_then (nat_cmp (f (a + k)) (g (b + k))) (order_from f g (a + (k + 1)) (b + (k + 1)) (n - (k + 1)))
 unrolled f g a b n k below =

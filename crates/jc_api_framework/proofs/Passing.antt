@@ -3,11 +3,10 @@ use Rattle.std.specs.Prelude.{slice_index}
 use Rattle.std.proofs.Common.{◌≡◌, ◌≤◌, ◌+◌, ℕ, true, false, List, None, Option, Result, Ok, Err, Some, Bool, length}
 use Rattle.jc_heap.specs.Moves.{Begin, Commit, Abort, SetPlaces, WriteNonAtomic}
 use Rattle.jc_memory.specs.Cells.{cells_effect}
-use Rattle.jc_memory.specs.Making.{creation_move, object_creation}
+use Rattle.jc_memory.specs.Making.{object_creation}
 use Rattle.jc_memory.specs.Programs.{Program, Finish, Perform}
 use Rattle.jc_memory.specs.Reading.{AllDue}
 use Rattle.jc_memory.specs.State.{MemoryState, Effect, HeapMove, SetRegisters, SendBytes, apply_effect, IsNew, SetFlag}
-use Rattle.jc_memory.specs.declared.making.NewObject.{NewObject}
 use Rattle.jc_memory.specs.declared.registers.AppletNumber.{AppletNumber}
 use Rattle.jc_memory.specs.declared.registers.Depth.{Depth}
 use Rattle.jc_memory.specs.declared.registers.Depth.TheVariants.{Outside, Inside}
@@ -36,7 +35,7 @@ use Rattle.jc_world.specs.declared.arrays.Stretch.{Stretch}
 use Rattle.jc_world.specs.declared.native_result.NativeResult.{NativeResult}
 use Rattle.jc_world.specs.declared.native_result.NativeResult.TheVariants.{ReturnVoid, Aborted}
 use Rattle.jc_api.proofs.Exits.{IsPlainExit}
-use Rattle.jc_api.proofs.Passing.{Turns, CallPasses}
+use Rattle.jc_api.proofs.Passing.{CallPasses, RefersToNew, Turns}
 use Rattle.jc_api_framework.specs.Aid.Cells.{is_aid_length, cells_of_aid}
 use Rattle.jc_api_framework.specs.Applet.{install_aid}
 use Rattle.jc_api_framework.specs.Applet.Register.{open_installation}
@@ -64,7 +63,7 @@ pub record AnswersSo (L : MemoryState → ℕ → Type 0) (m : MemoryState) : Ty
   pub fixed : (k : ℕ) → k ≤ 16 → L m (slice_index m.fixed k)
   pub aid : (o : Option AppletNumber) → L m (aid_or_null m.heap.now o)
   pub null : L m 0
-  pub new : (o : NewObject) (r : ℕ) → IsNew m.heap.now r → L (apply_effect (HeapMove (creation_move o.event o)) m) r
+  pub made : RefersToNew L
 
 -- so it is of what a call that begins or ends a transaction answers, and of the memory that it leaves: of an exception and of a code fault; where
 -- the level alone is set; where a transaction begins; and outside an installation where one ends

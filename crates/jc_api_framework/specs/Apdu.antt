@@ -64,7 +64,7 @@ receive_in_phase m Received = throw_exception illegal_use
 receive_in_phase m Outgoing = throw_exception illegal_use
 receive_in_phase m (Sending left) = throw_exception illegal_use
 
--- APDU.setIncomingAndReceive: the data stand in the buffer behind the header, and their number is returned;
+-- APDU.setIncomingAndReceive: the data stand in the buffer after the header, and their number is returned;
 -- once, and before anything is sent
 unfoldable pub apdu_set_incoming_and_receive : MemoryState → NativeProgram
 apdu_set_incoming_and_receive m = receive_in_phase m (phase_of m)
@@ -112,7 +112,7 @@ abbrev pub is_too_much : MemoryState → ℕ → ℤ → Bool
 is_too_much m left (pos n) = nat_lt left n || nat_lt 256 (length m.sent + n)
 is_too_much m left (negsuc n) = false
 
--- so many bytes of the buffer, from one on
+-- this many bytes of the buffer, from one on
 abbrev pub buffer_piece : ℤ → ℤ → Result Piece FrameExit
 buffer_piece (pos start) (pos count) = if nat_le (start + count) buffer_size then Ok (record { start = start; count = count }) else Err (Throw buffer_bounds)
 buffer_piece (pos start) (negsuc n) = Err (Throw buffer_bounds)

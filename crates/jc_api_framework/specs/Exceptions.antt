@@ -1,4 +1,4 @@
--- Exceptions of the card's framework (API specification): each has a reason, the first cell of its instance.
+-- Exceptions that carry a reason (API specification), in the first cell of their instances.
 use Rattle.std.specs.Prelude.{ℤ, pos, List}
 use Rattle.jc_frames.specs.declared.cell.Cell.{Cell}
 use Rattle.jc_frames.specs.declared.outcome.Exception.{Exception}
@@ -14,7 +14,8 @@ use Rattle.jc_platform.specs.declared.names.ExceptionsMethod.TheVariants.{CardRu
 use Rattle.jc_platform.specs.declared.names.ExceptionsMethod.TheVariants.{PinExceptionThrowIt, SystemExceptionInit, SystemExceptionThrowIt}
 use Rattle.jc_platform.specs.declared.names.ExceptionsMethod.TheVariants.{TransactionExceptionInit, TransactionExceptionThrowIt, ApduExceptionInit}
 use Rattle.jc_platform.specs.declared.names.ExceptionsMethod.TheVariants.{ApduExceptionThrowIt, UserExceptionInit, UserExceptionThrowIt}
-use Rattle.jc_platform.specs.declared.names.ExceptionsMethod.TheVariants.{UserExceptionInitWithoutReason}
+use Rattle.jc_platform.specs.declared.names.ExceptionsMethod.TheVariants.{UserExceptionInitWithoutReason, CryptoExceptionInit, CryptoExceptionThrowIt}
+use Rattle.jc_platform.specs.declared.names.PlatformClass.TheVariants.{CryptoException}
 use Rattle.jc_world.specs.declared.native_result.NativeResult.TheVariants.{ReturnVoid}
 use Rattle.jc_world.specs.NativeCalls.{NativeProgram, return_value, throw_exception, if_some, if_ok, unless}
 use Rattle.jc_world.specs.Objects.{short_argument, reference_argument}
@@ -22,7 +23,7 @@ use Rattle.jc_world.specs.Answers.{returns_short}
 use Rattle.jc_world.specs.Instances.{instance_at}
 
 -- CardException.<init>, CardRuntimeException.<init>, APDUException.<init>, ISOException.<init>,
--- PINException.<init>, SystemException.<init>, TransactionException.<init>, UserException.<init>,
+-- PINException.<init>, SystemException.<init>, TransactionException.<init>, UserException.<init>, CryptoException.<init>,
 -- CardException.setReason, CardRuntimeException.setReason: the reason of the receiver is this one
 unfoldable pub exception_set_reason : List Cell → MemoryState → NativeProgram
 exception_set_reason args m = if_some (reference_argument args 0) (λ own. if_some (short_argument args 1) (λ reason. if_ok (instance_at m own 1) (λ f.
@@ -38,7 +39,7 @@ unfoldable pub exception_get_reason : List Cell → MemoryState → NativeProgra
 exception_get_reason args m = if_some (reference_argument args 0) (λ own. if_ok (instance_at m own 1) (λ f. returns_short (short_at m own 0)))
 
 -- CardException.throwIt, CardRuntimeException.throwIt, APDUException.throwIt, ISOException.throwIt,
--- PINException.throwIt, SystemException.throwIt, TransactionException.throwIt, UserException.throwIt: the
+-- PINException.throwIt, SystemException.throwIt, TransactionException.throwIt, UserException.throwIt, CryptoException.throwIt: the
 -- runtime environment's own instance is thrown, with this reason
 unfoldable pub exception_throw_it : (ℤ → Exception) → List Cell → NativeProgram
 exception_throw_it of args = if_some (short_argument args 0) (λ reason. throw_exception (of reason))
@@ -65,4 +66,6 @@ exception_call ApduExceptionInit args m = exception_set_reason args m
 exception_call ApduExceptionThrowIt args m = exception_throw_it exception.APDUException args
 exception_call UserExceptionInit args m = exception_set_reason args m
 exception_call UserExceptionThrowIt args m = exception_throw_it exception.UserException args
+exception_call CryptoExceptionInit args m = exception_set_reason args m
+exception_call CryptoExceptionThrowIt args m = exception_throw_it (exception.Further CryptoException) args
 exception_call UserExceptionInitWithoutReason args m = exception_set_no_reason args m

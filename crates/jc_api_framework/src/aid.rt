@@ -262,7 +262,7 @@ fn aid_partial_equals<S: WordStore>(
     Ok(boolean(begins_with(aid.bytes(), e, memory)))
 }
 
-// So many bytes of an AID from one on, all the rest where none are asked for.
+// This many bytes of an AID from one on, all the rest where none are asked for.
 fn part_within(aid: &[u8], start: i16, count: i16) -> Option<&[u8]>
     ensures { option_copied result ≡ part_within aid.now (not_negative start)
         (not_negative count) }

@@ -1,4 +1,4 @@
-//! Exceptions of the card's framework (API specification): each has a reason.
+//! Exceptions that carry a reason (API specification).
 ghost use Rattle.std.specs.Prelude.{◌≡◌, false};
 ghost use Rattle.jc_frames.specs.declared.outcome.Exception.TheVariants as exceptions;
 ghost use Rattle.jc_memory.specs.Programs.{Executes};
@@ -7,7 +7,7 @@ ghost use Rattle.jc_api_framework.specs.Exceptions.{exception_set_reason, except
 
 use jc_frames::{Cell, Exception};
 use jc_memory::Memory;
-use jc_platform::names::ExceptionsMethod;
+use jc_platform::names::{ExceptionsMethod, PlatformClass};
 use jc_transient::CellValue;
 use jc_words::WordStore;
 use jc_world::arguments::{reference_argument, short_argument};
@@ -15,7 +15,7 @@ use jc_world::{NativeResult, StepExit, instance, short};
 
 // `CardException.<init>`, `CardRuntimeException.<init>`, `APDUException.<init>`, `ISOException.<init>`,
 // `PINException.<init>`, `SystemException.<init>`, `TransactionException.<init>`, `UserException.<init>`,
-// `CardException.setReason`, `CardRuntimeException.setReason`: sets the reason of an exception.
+// `CryptoException.<init>`, `CardException.setReason`, `CardRuntimeException.setReason`: sets the reason of an exception.
 #[tactic(auto, unfolding(crate::specs::Exceptions::exception_set_reason))]
 fn exception_set_reason<S: WordStore>(
     args: &[Cell],
@@ -64,8 +64,8 @@ fn exception_get_reason<S: WordStore>(
 }
 
 /// `CardException.throwIt`, `CardRuntimeException.throwIt`, `APDUException.throwIt`, `ISOException.throwIt`,
-/// `PINException.throwIt`, `SystemException.throwIt`, `TransactionException.throwIt`, `UserException.throwIt`:
-/// throws the runtime environment's own instance with this reason; the other methods of exceptions with a
+/// `PINException.throwIt`, `SystemException.throwIt`, `TransactionException.throwIt`, `UserException.throwIt`,
+/// `CryptoException.throwIt`: throws the runtime environment's own instance with this reason; the other methods of exceptions with a
 /// reason are called here too.
 #[tactic(auto, unfolding(crate::specs::Exceptions::exception_call, crate::specs::Exceptions::exception_throw_it))]
 pub fn call_exception<S: WordStore>(
@@ -98,6 +98,10 @@ pub fn call_exception<S: WordStore>(
         ExceptionsMethod::UserExceptionThrowIt => Exception::UserException(short_argument(
             args, 0,
         )?),
+        ExceptionsMethod::CryptoExceptionThrowIt => Exception::Further {
+            class: PlatformClass::CryptoException,
+            reason: short_argument(args, 0)?,
+        },
         ExceptionsMethod::CardExceptionGetReason
         | ExceptionsMethod::CardRuntimeExceptionGetReason => {
             return exception_get_reason(args, memory);
@@ -111,7 +115,8 @@ pub fn call_exception<S: WordStore>(
         | ExceptionsMethod::SystemExceptionInit
         | ExceptionsMethod::TransactionExceptionInit
         | ExceptionsMethod::ApduExceptionInit
-        | ExceptionsMethod::UserExceptionInit => return exception_set_reason(args, memory),
+        | ExceptionsMethod::UserExceptionInit
+        | ExceptionsMethod::CryptoExceptionInit => return exception_set_reason(args, memory),
         ExceptionsMethod::UserExceptionInitWithoutReason => {
             return exception_set_no_reason(args, memory);
         }

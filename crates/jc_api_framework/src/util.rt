@@ -105,7 +105,7 @@ fn put_short<S: WordStore>(
     put(memory, to, &bytes)
 }
 
-// `Util.setShort`: sets two bytes as one change; returns the index behind them.
+// `Util.setShort`: sets two bytes as one change; returns the index after them.
 #[tactic(auto, unfolding(crate::specs::Util::util_set_short))]
 fn util_set_short<S: WordStore>(
     args: &[Cell],

@@ -1,4 +1,4 @@
--- A new image fits its packages, of which there are none: nothing stands behind the objects of the runtime environment.
+-- A new image fits its packages, of which there are none: nothing stands after the objects of the runtime environment.
 use Rattle.std.proofs.Common.{◌≡◌, ℕ, zero, suc, ◌+◌, ◌<◌, false, List, [], ◌∷◌, ◌++◌, length, map, Some, None, refl, sym, ◌∙◌, ap, subst, arith}
 use Rattle.std.specs.Prelude.{unwrap_or}
 use Rattle.std.proofs.lemmas.Bool.{false≢true}
@@ -34,7 +34,7 @@ pub number_suc : (h : HeapState) (k : ℕ) → object_number h (suc k) ≡ next_
 unfolding object_number
 number_suc h k = refl
 
--- the object behind the one with a number
+-- the object after the one with a number
 next_made : (t : Tokens) (h : HeapState) (j : ℕ) (o : FixedObject) (os : List FixedObject) → IsBelow h
     → first_above h.items (object_number (with_objects t h (o ∷ os)) j) ≡ None →
     object_number (with_objects t h (o ∷ os)) j < h.top → object_number (with_objects t h (o ∷ os)) (suc j) ≡ h.top

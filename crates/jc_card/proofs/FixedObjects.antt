@@ -140,7 +140,7 @@ below-one t h o b = record {
       (omega (arith, top-add h o.kind (class_number_of t o.class) 0 o.cells));
 }
 
--- the others only come behind
+-- the others only come after
 pub items-all : (t : Tokens) (h : HeapState) (os : List FixedObject) → (rest : List (ℕ × Item)) × ((with_objects t h os).items ≡ h.items ++ rest)
 items-all t h [] = ([], sym (append-nil h.items))
 items-all t h (o ∷ os) =

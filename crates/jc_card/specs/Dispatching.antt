@@ -19,7 +19,7 @@ use Rattle.jc_card.specs.CardState.{CardState}
 use Rattle.jc_card.specs.Loads.{LoadResponse}
 use Rattle.jc_card.specs.StatusWord.{status_bytes, no_error, wrong_length, wrong_data, unknown, full, conditions_not_satisfied, no_applet, not_selected}
 
--- so many instructions a command may carry out where nothing else was said
+-- this many instructions a command may carry out where nothing else was said
 abbrev pub usual_budget : ℕ
 usual_budget = 100000
 

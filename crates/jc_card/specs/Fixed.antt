@@ -29,12 +29,12 @@ fixed_facts t place (o ∷ more) = facts_of_fixed t o place ∷ fixed_facts t (p
 abbrev pub BeginsWithFixed : Tokens → HeapState → Type 0
 BeginsWithFixed t h = HeapBeginsWith h (fixed_facts t 0 (fixed_objects t))
 
--- the heap with these objects behind the others
+-- the heap with these objects after the others
 abbrev pub with_objects : Tokens → HeapState → List FixedObject → HeapState
 with_objects t h [] = h
 with_objects t h (o ∷ more) = with_objects t (add_transient h o.kind Reset (class_number_of t o.class) 0 o.cells) more
 
--- the object behind an address, or the first one of all behind null; null, where there is none
+-- the object after an address, or the first one of all after null; null, where there is none
 abbrev pub next_or_null : HeapState → ℕ → ℕ
 next_or_null h r = unwrap_or (next_object h r) 0
 

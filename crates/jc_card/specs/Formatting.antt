@@ -14,7 +14,7 @@ use Rattle.jc_card.specs.Made.{IsMade, new_card_heap, new_front}
 use Rattle.jc_card.specs.declared.formatting.FormatFault.{FormatFault}
 use Rattle.jc_card.specs.declared.formatting.FormatFault.TheVariants.{StoreDown, BadSize, BadCapacity, BadTable, TooSmall}
 
--- an image can have n words and a journal of so many entries, this text tells this table, and it and the objects of the runtime
+-- an image can have n words and a journal of this many entries, this text tells this table, and it and the objects of the runtime
 -- environment fit below the heap's end
 pub record FitsImage (n capacity : ℕ) (text : List ℕ) (t : Tokens) : Type 0 where
   pub enough : least_size ≤ n
@@ -26,7 +26,7 @@ pub record FitsImage (n capacity : ℕ) (text : List ℕ) (t : Tokens) : Type 0 
 abbrev pub IsTooSmall : ℕ → ℕ → List ℕ → Type 0
 IsTooSmall n capacity text = (t : Tokens) × Reads text (Ok t) × (heap_end n capacity < first_free (length text) + fixed_size t)
 
--- why no image of n words is made, with a journal of so many entries, from this text, each cause before the next; a store refuses a
+-- why no image of n words is made, with a journal of this many entries, from this text, each cause before the next; a store refuses a
 -- write where there is no other cause
 abbrev pub FormatRefuses : FormatFault → ℕ → ℕ → List ℕ → Type 0
 FormatRefuses BadSize n capacity text = n < least_size
@@ -60,7 +60,7 @@ FormatLeaves words down passed refusals old (BadTable line) new = new ≡ old
 FormatLeaves words down passed refusals old TooSmall new = new ≡ old
 FormatLeaves words down passed refusals old StoreDown new = IsStoppedFormat words down passed refusals old new
 
--- what comes of making an image of a store, with a journal of so many entries and this text
+-- what comes of making an image of a store, with a journal of this many entries and this text
 abbrev pub Formats : {S : Type 0} → (S → List ℕ) → (S → Bool) → (S → ℕ) → (S → Refusals) → S → ℕ → List ℕ → S → Result (Unit {0}) FormatFault → Type 0
 Formats words down passed refusals old capacity text new (Ok done) = (t : Tokens) × FitsImage (length (words old)) capacity text t
     × HoldsNewImage words down refusals old capacity text t new

@@ -30,11 +30,11 @@ pub record IsMade (w : List ℕ) : Type 0 where
   pub laid : IsWellFormed (recovered_of w)
   pub heap : IsCardHeap (length w) (heap_of (recovered_of w))
 
--- the heap of a new image of n words, whose journal can have so many entries
+-- the heap of a new image of n words, whose journal can have this many entries
 abbrev pub new_card_heap : ℕ → ℕ → List ℕ → Tokens → HeapState
 new_card_heap n capacity text t = sealed_heap (with_objects t (unsealed_heap n capacity text) (fixed_objects t))
 
--- the first sixteen words of a new image of n words, whose journal can have so many entries, whose table text has so many bytes, and whose table this is
+-- the first sixteen words of a new image of n words, whose journal can have this many entries, whose table text has this many bytes, and whose table this is
 abbrev pub new_front : ℕ → ℕ → ℕ → Tokens → List ℕ
 new_front n capacity long t = magic ∷ version ∷ n ∷ 0 ∷ 0 ∷ (first_free long + fixed_size t) ∷ 0 ∷ 0 ∷ cells_of_all (fixed_objects t) ∷ 0 ∷ long
     ∷ capacity ∷ journal_start n capacity ∷ 0 ∷ 0 ∷ 0 ∷ []

@@ -34,7 +34,7 @@ pub record HasHead (w : List ℕ) : Type 0 where
 abbrev pub HasTable : List ℕ → Tokens → Type 0
 HasTable w t = (text_start + (slice_index w text_length_address + 1) / 2 ≤ length w) × Reads (table_text w) (Ok t)
 
--- its packages link, each against those before it, and what stands behind the objects of the runtime environment fits them
+-- its packages link, each against those before it, and what stands after the objects of the runtime environment fits them
 abbrev pub HasPackages : Tokens → HeapState → Type 0
 HasPackages t h = (p : Packages) × (packages_of t h ≡ Some p) × IsSound p h (last_fixed t h)
 

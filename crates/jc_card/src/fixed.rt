@@ -99,7 +99,7 @@ pub(crate) fn make_fixed<S: WordStore>(heap: &mut Heap<S>, table: &Table) -> Res
     make_all(heap, table, objects.as_slice())
 }
 
-// Makes these objects behind those that stand.
+// Makes these objects after those that stand.
 fn make_all<S: WordStore>(
     heap: &mut Heap<S>,
     table: &Table,
@@ -127,7 +127,7 @@ fn make_all<S: WordStore>(
     make_all(heap, table, more)
 }
 
-// Makes an object behind those that stand.
+// Makes an object after those that stand.
 fn make<S: WordStore>(
     heap: &mut Heap<S>,
     table: &Table,
@@ -168,7 +168,7 @@ fn make<S: WordStore>(
 }
 
 /// The addresses of the first objects of a heap, as many as this says, in their order; and the last one; null, where there
-/// are not so many.
+/// are not this many.
 pub(crate) fn first_objects<S: WordStore>(
     heap: &Heap<S>,
     count: usize,
@@ -188,7 +188,7 @@ pub(crate) fn first_objects<S: WordStore>(
     (fixed, at)
 }
 
-// The object behind another one, or the first one of all behind null; null, where there is none.
+// The object after another one, or the first one of all after null; null, where there is none.
 fn next_or_null<S: WordStore>(heap: &Heap<S>, object: Ref) -> Ref
     requires up { heap.now.down ≡ false }
     requires there { (object ≡ 0 → ⊥) → IsObject heap.now.now object }

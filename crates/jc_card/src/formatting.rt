@@ -30,7 +30,7 @@ pub enum FormatFault {
     /// The store has less than 4096 words.
     #[error("an image has at least 4096 words")]
     BadSize,
-    /// A journal cannot have so many entries.
+    /// A journal cannot have this many entries.
     #[error("a journal has 16 to 1024 entries")]
     BadCapacity,
     /// The text is no platform table: the number of its first bad line, or 0.
@@ -41,7 +41,7 @@ pub enum FormatFault {
     TooSmall,
 }
 
-/// Makes an image of a store, whose journal can have so many entries, 16 to 1024: the platform table with
+/// Makes an image of a store, whose journal can have this many entries, 16 to 1024: the platform table with
 /// this text, the objects of the runtime environment, and last the magic word. So an image that was not made to its end has none.
 pub fn format<S: WordStore>(store: S, text: &[u8], capacity: u16) -> (S, Result<(), FormatFault>)
     ensures { Formats S.words S.down S.passed S.refusals store capacity text.now

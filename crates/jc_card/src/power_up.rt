@@ -231,7 +231,7 @@ fn link_packages<S: WordStore + Drop>(
     }
 }
 
-// The card of this memory and these packages, where what stands behind the last object of the runtime environment fits
+// The card of this memory and these packages, where what stands after the last object of the runtime environment fits
 // them. No memory is asked for.
 fn sound_card<S: WordStore + Drop>(
     alloc: Global,
@@ -365,7 +365,7 @@ fn text_of<S: WordStore>(alloc: Global, image: &OpenImage<S>) -> Result<Vec<u8>,
     Ok(text)
 }
 
-// So many zero bytes.
+// This many zero bytes.
 fn zeros(alloc: Global, count: usize) -> Result<Vec<u8>, AllocError>
     ensures { IfOk result (λ bytes. length bytes.items ≡ count) }
 {

@@ -22,7 +22,7 @@ nothing_below ps more zero at (w ∷ ws) x lt e =
     let n : at ≡ x → ⊥ = λ z. omega (arith, z) in
     nothing_below ps more (more at (w ∷ ws)) (suc at) ws x (omega arith) (rw (ne_eqb at x n) at e)
 
--- the next object is the first one behind
+-- the next object is the first one after
 found_least : (ps : List ℕ) (more : Sizes) (s at : ℕ) (ws : List ℕ) (r q x : ℕ) → first_above (map (item_entry ps) (records_from more s at ws)) r ≡ Some q
     → r < x → x < q →
     among ps more s at ws x ≡ true → ⊥
@@ -43,7 +43,7 @@ found_least ps more zero at (w ∷ ws) r q x e rx xq o = elim (cases_Bool (nat_l
       ]
 ]
 
--- where there is no next one, no object stands behind
+-- where there is no next one, no object stands after
 found_none : (ps : List ℕ) (more : Sizes) (s at : ℕ) (ws : List ℕ) (r x : ℕ) → first_above (map (item_entry ps) (records_from more s at ws)) r ≡ None → r < x →
     among ps more s at ws x ≡ true → ⊥
 found_none ps more s at [] r x e rx o = cc
@@ -60,7 +60,7 @@ found_none ps more zero at (w ∷ ws) r x e rx o = elim (cases_Bool (nat_lt r at
       ]
 ]
 
--- the next object lies behind
+-- the next object lies after
 found_above : (ps : List ℕ) (more : Sizes) (s at : ℕ) (ws : List ℕ) (r q : ℕ) → first_above (map (item_entry ps) (records_from more s at ws)) r ≡ Some q → r < q
 found_above ps more s at [] r q e = absurd (none-some q e)
 found_above ps more (suc s) at (w ∷ ws) r q e = found_above ps more s (suc at) ws r q e

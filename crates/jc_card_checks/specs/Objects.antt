@@ -38,7 +38,7 @@ abbrev pub is_bytes : Kind → Bool
 is_bytes ByteArray = true
 is_bytes _ = false
 
--- a persistent array of so many bytes
+-- a persistent array of this many bytes
 abbrev pub is_byte_array : Facts → ℕ → Bool
 is_byte_array f n = is_bytes f.kind && (is_none f.event && f.length == n)
 
@@ -46,7 +46,7 @@ is_byte_array f n = is_bytes f.kind && (is_none f.event && f.length == n)
 abbrev pub fits_aid : Packages → ℕ → List ℕ → Bool
 fits_aid p class held = not (is_a p class Aid) || nat_le (slice_index held 0) 16
 
--- an OwnerPIN's fifth cell is null where its second, the maximum, is 0, or else an array of so many bytes
+-- an OwnerPIN's fifth cell is null where its second, the maximum, is 0, or else an array of this many bytes
 abbrev pub has_value : HeapState → List ℕ → Bool
 has_value h held = if slice_index held 4 == 0 then slice_index held 1 == 0 else is_object_address h (slice_index held 4) && is_byte_array
     (facts h (slice_index held 4)) (slice_index held 1)

@@ -13,7 +13,7 @@ use Rattle.jc_linker.specs.Values.{Packages}
 use Rattle.jc_card_checks.specs.Objects.{IsSoundObject, is_instance, is_persistent_instance, is_reference, is_object_address}
 use Rattle.jc_linker.specs.Classes.{is_a}
 
--- a record ends with its static image of so many bytes, whose first words are so many references
+-- a record ends with its static image of this many bytes, whose first words are this many references
 pub record HoldsStatics (h : HeapState) (words : List ℕ) (s : ℕ × ℕ) : Type 0 where
   pub begin : ℕ
   pub image : statics_of words ≡ Some begin
@@ -39,7 +39,7 @@ pub record IsRegistered (p : Packages) (h : HeapState) (a : ℕ) : Type 0 where
   pub instance : (is_object_address h (entry_word h a entry_instance) && (is_instance (facts h (entry_word h a entry_instance)).kind && is_a p
       (facts h (entry_word h a entry_instance)).class Applet)) ≡ true
 
--- the AID of a registry's entry: behind the length its bytes stand two a cell, the first of two high
+-- the AID of a registry's entry: after the length its bytes stand two a cell, the first of two high
 abbrev pub aid_in : List ℕ → List ℕ
 aid_in held = bytes_of_packed (slice_index held 0) (drop 1 held)
 
@@ -50,7 +50,7 @@ aid_of_entry h a = aid_in (cells h (entry_word h a entry_aid))
 abbrev pub HasOwnAid : HeapState → ℕ → Type 0
 HasOwnAid h b = (a : ℕ) → a < b → aid_of_entry h a ≡ aid_of_entry h b → ⊥
 
--- each object behind the last one of the runtime environment's own, each static image and each applet's entry fits the packages,
+-- each object after the last one of the runtime environment's own, each static image and each applet's entry fits the packages,
 -- and no two applets have one AID
 pub record IsSound (p : Packages) (h : HeapState) (own : ℕ) : Type 0 where
   pub objects : (r : ℕ) → own < r → IsObject h r → IsSoundObject p h r

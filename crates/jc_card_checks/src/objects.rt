@@ -65,7 +65,7 @@ fn is_sound_object<S: WordStore>(memory: &Memory<S>, linked: &Linked, object: Re
     holds_values(memory, linked, object, facts.class(), facts.length)
 }
 
-// The object behind this one, or the first one of all behind null.
+// The object after this one, or the first one of all after null.
 fn next_of<S: WordStore>(memory: &Memory<S>, at: Ref) -> Option<Ref>
     requires up { memory.now.heap.down ≡ false }
     requires there { (at ≡ 0 → ⊥) → IsObject memory.now.heap.now at }
@@ -75,7 +75,7 @@ fn next_of<S: WordStore>(memory: &Memory<S>, at: Ref) -> Option<Ref>
     memory.heap().next(at)
 }
 
-/// The class, the owner and the cells of each object behind this one are there.
+/// The class, the owner and the cells of each object after this one are there.
 pub(crate) fn are_sound<S: WordStore>(memory: &Memory<S>, linked: &Linked, own: Ref) -> bool
     requires up { memory.now.heap.down ≡ false }
     requires words { (w : List ℕ) × (memory.now.heap.now ≡ heap_of w) }

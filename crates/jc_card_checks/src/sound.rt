@@ -12,7 +12,7 @@ use jc_memory::Memory;
 use jc_transient::Ref;
 use jc_words::WordStore;
 
-/// Whether each object behind the last one of the runtime environment's own, each static image and each
+/// Whether each object after the last one of the runtime environment's own, each static image and each
 /// applet's entry fits the packages, which are those of the heap's records, and no two applets have one AID.
 /// Its time grows with the words of the heap where the answer is yes, and where it is no with the objects once more.
 pub fn is_sound<S: WordStore>(memory: &Memory<S>, linked: &Linked, own: Ref) -> bool

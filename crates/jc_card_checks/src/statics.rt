@@ -12,7 +12,7 @@ use jc_memory::Memory;
 use jc_transient::Ref;
 use jc_words::WordStore;
 
-// A word of a record; 0 behind the last one.
+// A word of a record; 0 after the last one.
 fn word_of<S: WordStore>(memory: &Memory<S>, at: Ref, long: u16, j: u32) -> u16
     requires up { memory.now.heap.down ≡ false }
     requires long { length (record_of memory.now.heap.now at) ≡ long }
@@ -25,7 +25,7 @@ fn word_of<S: WordStore>(memory: &Memory<S>, at: Ref, long: u16, j: u32) -> u16
     }
 }
 
-// So many words of a record, from one on, are null or objects.
+// This many words of a record, from one on, are null or objects.
 fn are_references<S: WordStore>(memory: &Memory<S>, at: Ref, begin: u16, count: u16) -> bool
     requires up { memory.now.heap.down ≡ false }
     requires there { 0 < length (record_of memory.now.heap.now at) }
@@ -44,7 +44,7 @@ fn are_references<S: WordStore>(memory: &Memory<S>, at: Ref, begin: u16, count: 
     true
 }
 
-// The record ends with a static image of so many bytes that begins with so many references.
+// The record ends with a static image of this many bytes that begins with this many references.
 fn holds_statics<S: WordStore>(memory: &Memory<S>, at: Ref, size: u16, references: u16) -> bool
     requires up { memory.now.heap.down ≡ false }
     requires there { 0 < length (record_of memory.now.heap.now at) }

@@ -38,7 +38,7 @@ pub(crate) fn is_reference<S: WordStore>(memory: &Memory<S>, word: u16) -> bool
     word == 0 || is_object_address(memory, word)
 }
 
-/// A cell of a persistent object with so many cells; 0 behind the last one.
+/// A cell of a persistent object with this many cells; 0 after the last one.
 pub(crate) fn cell_of<S: WordStore>(memory: &Memory<S>, object: Ref, long: u16, i: u16) -> u16
     requires up { memory.now.heap.down ≡ false }
     requires long { length (cells memory.now.heap.now object) ≡ long }
@@ -51,14 +51,14 @@ pub(crate) fn cell_of<S: WordStore>(memory: &Memory<S>, object: Ref, long: u16, 
     }
 }
 
-// It is a persistent array of so many bytes.
+// It is a persistent array of this many bytes.
 fn is_byte_array(facts: Facts, n: u16) -> bool
     ensures { result ≡ is_byte_array facts n }
 {
     matches!(facts.kind, Kind::ByteArray) && facts.event.is_none() && facts.length == n
 }
 
-// There is no value where the maximum is 0, or else an array of so many bytes.
+// There is no value where the maximum is 0, or else an array of this many bytes.
 fn has_value<S: WordStore>(memory: &Memory<S>, pin: Ref, long: u16) -> bool
     requires up { memory.now.heap.down ≡ false }
     requires long { length (cells memory.now.heap.now pin) ≡ long }

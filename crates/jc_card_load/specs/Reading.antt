@@ -45,7 +45,7 @@ load_of words = record {
   descriptor = None;
 }
 
--- a record's component, if there is one, is kept with the others behind a header that told this format
+-- a record's component, if there is one, is kept with the others after a header that told this format
 abbrev pub text_taken : Option Format → LoadedComponents → ℕ → Option (List ℕ) → Taken
 text_taken told load tag (Some text) = taken_behind told load tag text (content_in told tag text)
 text_taken told load tag None = (Ok told, load)
@@ -77,11 +77,11 @@ with_prepared p (Ok q) = Some (with_package p q.linked)
 abbrev pub IsNoPackage : LoadedComponents → Type 0
 IsNoPackage load = (p : Packages) → with_prepared p (linked_components p load) ≡ None
 
--- with the packages of these records behind them, each linked against those before it; none, where one does not link
+-- with the packages of these records after them, each linked against those before it; none, where one does not link
 abbrev pub with_records : Packages → List (List ℕ) → Option Packages
 with_records p [] = Some p
 with_records p (words ∷ more) = option_and_then (λ q. with_records q more) (with_prepared p (linked_components p (load_of words)))
 
--- the packages of a heap, behind those of a platform
+-- the packages of a heap, after those of a platform
 unfoldable pub packages_of : Tokens → HeapState → Option Packages
 packages_of t h = with_records (record { platform = t; loaded = [] }) (map (record_of h) h.packages)

@@ -42,11 +42,11 @@ array_of a = (kind_of a.element_type, a.values)
 abbrev pub arrays_of : StaticParts → List (Kind × List ℕ)
 arrays_of s = map array_of s.arrays
 
--- how many zeros stand behind the references to these arrays: null for each other reference, and the default values
+-- how many zeros stand after the references to these arrays: null for each other reference, and the default values
 abbrev pub zeros_of : StaticParts → ℕ
 zeros_of s = 2 * (s.reference_count - length s.arrays) + s.default_value_count
 
--- the static image behind the references to these arrays
+-- the static image after the references to these arrays
 abbrev pub image_of : StaticParts → List ℕ
 image_of s = replicate (zeros_of s) 0 ++ s.non_default_values
 

@@ -113,7 +113,7 @@ fn format_for(told: Option<Format>, tag: u8) -> Result<Format, CapFault>
 }
 
 /// Reads a component, and keeps it with the others. The format is the one that the header told, if it came; the answer is the
-/// one that is told behind it. Where the component cannot be read nothing is kept.
+/// one that is told after it. Where the component cannot be read nothing is kept.
 pub(crate) fn take_in(
     told: Option<Format>,
     texts: &mut LoadedComponents,

@@ -69,8 +69,8 @@ fn size_of(span: Span) -> u16
     span.size
 }
 
-// Reads a record's component with this tag, if there is one, behind a header that told this format, and keeps it with the
-// others. The answer is the format that is told behind it.
+// Reads a record's component with this tag, if there is one, after a header that told this format, and keeps it with the
+// others. The answer is the format that is told after it.
 fn take_text<S: WordStore>(
     alloc: Global,
     heap: &Heap<S>,
@@ -191,7 +191,7 @@ fn add_record<S: WordStore>(
     }
 }
 
-/// The packages of a heap, linked, behind those of the platform.
+/// The packages of a heap, linked, after those of the platform.
 #[tactic(auto, unfolding(crate::specs::Reading::packages_of))]
 pub fn read_packages<S: WordStore>(
     alloc: Global,

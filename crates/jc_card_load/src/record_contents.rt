@@ -20,7 +20,7 @@ use std::alloc::{AllocError, Global};
 pub struct RecordContents<'a> {
     pub components: Vec<RecordComponent<'a>>,
     pub arrays: Vec<StaticArray<'a>>,
-    /// The static image behind the references to the arrays.
+    /// The static image after the references to the arrays.
     pub image: Vec<u8>,
 }
 
@@ -103,7 +103,7 @@ fn arrays_of<'a>(
     Ok(made)
 }
 
-// So many zeros, and these bytes behind them.
+// This many zeros, and these bytes after them.
 fn zeros_and(alloc: Global, zeros: usize, others: &[u8]) -> Result<Vec<u8>, AllocError>
     ensures { IfOk result (λ bytes. bytes.items ≡ replicate zeros 0 ++ others.now) }
 {
@@ -112,7 +112,7 @@ fn zeros_and(alloc: Global, zeros: usize, others: &[u8]) -> Result<Vec<u8>, Allo
     Ok(bytes)
 }
 
-// How many zeros stand behind the references to the arrays.
+// How many zeros stand after the references to the arrays.
 fn zeros_of(statics: &StaticFields<'_>) -> usize
     requires { length statics.now.arrays ≤ statics.now.reference_count }
     ensures { result ≡ zeros_of (static_parts statics.now) }

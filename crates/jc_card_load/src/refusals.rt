@@ -351,7 +351,7 @@ fn note_entry(index: u16, contents: &Contents<'_>, notes: &Notes) {
     notes.refused_load(RefusedLoad::of_entry(index, package, class, token));
 }
 
-// Words, and so many bytes more, of which two stand in each.
+// Words, and this many bytes more, of which two stand in each.
 fn with_bytes(words: u32, bytes: &[u8]) -> u32 {
     let more = bytes.len().div_ceil(2);
     words.saturating_add(u32::try_from(more).unwrap_or(u32::MAX))

@@ -1,8 +1,8 @@
 //! Pieces of a message through any compression function.
 
-ghost use Rattle.std.specs.Prelude.{◌≡◌, ◌≤◌, ◌<◌, ◌+◌, ◌-◌, ◌*◌, ◌%◌, ◌^◌, ◌++◌, ◌∷◌, ℕ, List, length, replicate, take};
+ghost use Rattle.std.specs.Prelude.{◌≡◌, ◌≤◌, ◌<◌, ◌+◌, ◌-◌, ◌*◌, ◌/◌, ◌%◌, ◌^◌, ◌++◌, ◌∷◌, ℕ, List, drop, length, replicate, take};
 ghost use Rattle.std.specs.Int.{w32, w64, to_be_bytes, to_le_bytes};
-ghost use Rattle.jc_digests.specs.Pieces.{HasAbsorbed, Holds, bytes_of_words, closed, filling};
+ghost use Rattle.jc_digests.specs.Pieces.{HasAbsorbed, Holds, bytes_of_words, closed, filling, hash_after};
 
 /// A hash value with its compression function.
 pub trait Compression {
@@ -21,7 +21,7 @@ pub trait Compression {
         ensures { words self.new ≡ compressed (words self.old) block.now };
 }
 
-fn put(block: &mut [u8], at: usize, part: &[u8])
+pub(crate) fn put(block: &mut [u8], at: usize, part: &[u8])
     requires { at + length part.now ≤ length block.old }
     ensures { take (at + length part.now) block.new ≡ take at block.old ++ part.now }
 {
@@ -185,4 +185,38 @@ pub(crate) fn put_words_64(words: &[u64], count: usize, to: &mut [u8])
     'words: for i in 0..count {
         put(to, 8 * i, &words[i].to_be_bytes());
     }
+}
+
+// ---- from any hash value, and any bytes of an open block, on
+
+/// Takes in a piece after the first bytes of the open block, of which there are `used`; gives how many there are then.
+pub(crate) fn take_in<H: Compression>(
+    hash: &mut H,
+    block: &mut [u8],
+    used: usize,
+    piece: &[u8],
+) -> usize
+    requires block { length block.old ≡ H.size }
+    requires used { used < H.size }
+    ensures hash { let m = take used block.old ++ piece.now in
+        H.words hash.new ≡ hash_after H.compressed H.size (H.words hash.old) m (length m / H.size) }
+    ensures rest { let m = take used block.old ++ piece.now in
+        take result block.new ≡ drop (length m / H.size * H.size) m }
+    ensures within { result < H.size }
+{
+    absorb(hash, block, used, piece)
+}
+
+/// Takes in the padding of the message of which the first bytes of the open block are the last.
+pub(crate) fn close<H: Compression>(hash: &mut H, block: &mut [u8], used: usize, field: &[u8])
+    requires block { length block.old ≡ H.size }
+    requires used { used < H.size }
+    requires few { H.size ≤ 128 }
+    ensures { H.words hash.new ≡ closed H.compressed H.size (H.words hash.old)
+        (take used block.old) field.now }
+{
+    let size = block.len();
+    let zeros = (size + size - size / 8 - 1 - used) % size;
+    let filled = absorb(hash, block, used, filling(zeros));
+    absorb(hash, block, filled, field);
 }

@@ -6,6 +6,7 @@ pub mod absorbing;
 pub mod checksums;
 mod constants;
 pub mod digest;
+pub mod kept;
 pub mod md_5;
 pub mod sha_1;
 pub mod sha_256;

@@ -20,7 +20,7 @@ apdu_object m = slice_index m.fixed apdu_place
 abbrev pub apdu_buffer : MemoryState → ℕ
 apdu_buffer m = slice_index m.fixed buffer_place
 
--- these bytes, and zeros behind them
+-- these bytes, and zeros after them
 abbrev pub padded_bytes : List ℕ → List ℕ
 padded_bytes bytes = bytes ++ replicate (buffer_length - length bytes) 0
 
@@ -31,7 +31,7 @@ is_of_bytes ByteArray = true
 is_of_bytes ShortArray = false
 is_of_bytes ReferenceArray = false
 
--- a transient array of so many bytes
+-- a transient array of this many bytes
 abbrev pub is_buffer : Facts → Bool
 is_buffer f = is_of_bytes f.kind && is_some f.event && nat_le buffer_length f.length
 
@@ -40,6 +40,6 @@ abbrev pub buffer_fill_in : MemoryState → Option Facts → List ℕ → Progra
 buffer_fill_in m None bytes = Finish tt
 buffer_fill_in m (Some f) bytes = if is_buffer f then Perform (cells_effect m (apdu_buffer m) 0 bytes) (Finish tt) else Finish tt
 
--- the buffer holds these bytes and zeros behind them
+-- the buffer holds these bytes and zeros after them
 unfoldable pub buffer_fill : MemoryState → List ℕ → Program (Unit {0})
 buffer_fill m bytes = buffer_fill_in m (header_at m (apdu_buffer m)) (padded_bytes bytes)

@@ -11,7 +11,7 @@ use Rattle.jc_dispatch.specs.declared.applet_result.AppletResult.{AppletResult}
 use Rattle.jc_dispatch.specs.declared.applet_result.AppletResult.TheVariants.{Malformed, NoApplet, RegistryFull}
 use Rattle.jc_dispatch.specs.Installing.{applet_installation}
 
--- a field behind its length, and what follows it
+-- a field after its length, and what follows it
 abbrev pub field_of : List ℕ → Option (List ℕ × List ℕ)
 field_of [] = None
 field_of (n ∷ rest) = if nat_le n (length rest) then Some (take n rest, drop n rest) else None
@@ -46,7 +46,7 @@ parameters_or_none c = if has_aid_length c.0 && are_parameters c.1 then Some c e
 unfoldable pub creation_of : List ℕ → Option (List ℕ × List ℕ)
 creation_of bytes = option_and_then parameters_or_none (field_of bytes)
 
--- the first package, of so many from a number on, with an applet of this AID
+-- the first package, of this many from a number on, with an applet of this AID
 abbrev pub first_with_entry : Packages → List ℕ → ℕ → ℕ → Option ℕ
 first_with_entry p aid n count = find (λ q. is_some (entry_with_aid p q aid)) (range_with_len n count)
 

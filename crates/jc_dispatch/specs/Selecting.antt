@@ -22,7 +22,7 @@ use Rattle.jc_dispatch.specs.Phases.{then_with, applet_method_call, close, insta
 abbrev pub with_selected : Option AppletNumber → Registers → Registers
 with_selected applet_selection g = record g { selected = applet_selection }
 
--- a command that expects so many bytes comes to the selected applet; it may be the one that selected it
+-- a command that expects this many bytes comes to the selected applet; it may be the one that selected it
 abbrev pub with_command : ℕ → Bool → Registers → Registers
 with_command expected selecting g = record g { selecting = selecting; reselecting = selecting && g.reselecting; apdu = record { expected = expected; phase = Waiting } }
 

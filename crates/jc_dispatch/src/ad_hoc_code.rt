@@ -11,7 +11,7 @@ use jc_linker::linked::Linked;
 use jc_memory::{Memory, Phase};
 use jc_words::{StoreDown, WordStore};
 
-/// Runs such code, with a stack of at most `max_stack` cells and so many locals, and ends what it leaves
+/// Runs such code, with a stack of at most `max_stack` cells and this many locals, and ends what it leaves
 /// open: how it ended.
 #[tactic(auto, unfolding(crate::specs::AdHocCode::ad_hoc_run), using(jc_memory::proofs::ProgramLemmas::in_two_steps))]
 pub fn run_command_code<S: WordStore>(

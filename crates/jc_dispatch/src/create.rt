@@ -17,7 +17,7 @@ use jc_words::{StoreDown, WordStore};
 /// The most bytes of an installation's parameters.
 const MOST_PARAMETERS: usize = 127;
 
-// A field behind its length, and what follows it.
+// A field after its length, and what follows it.
 fn field_of(bytes: &[u8]) -> Option<(&[u8], &[u8])>
     ensures { option_map slice_pair_bytes result ≡ field_of bytes.entry.now }
 {
@@ -106,7 +106,7 @@ fn applet_named(aid: &[u8], linked: &Linked) -> Option<(u8, u8)>
 }
 
 /// Makes an applet of these data: the AID of the applet in its package; then the parameters: the
-/// instance's AID, the control information and the applet's data. Each stands behind its length.
+/// instance's AID, the control information and the applet's data. Each stands after its length.
 #[tactic(auto, unfolding(crate::specs::Creating::applet_creation))]
 pub fn create<S: WordStore>(
     budget: u32,

@@ -39,7 +39,7 @@ fn header_of(bytes: &[u8]) -> ArrayVec<u8, 5>
     header
 }
 
-/// An applet answers the command that was begun, which expects so many bytes. It may be the command
+/// An applet answers the command that was begun, which expects this many bytes. It may be the command
 /// that selected it.
 #[tactic(auto, unfolding(crate::specs::Selecting::process_command), using(jc_memory::proofs::ProgramLemmas::in_two_steps))]
 pub fn process<S: WordStore>(

@@ -82,7 +82,7 @@ fn leave<S: WordStore>(
     leave_applet(budget, registers.selected, memory, linked)
 }
 
-/// SELECT of an applet by a command that expects so many bytes: the selected one is deselected, the new one's
+/// SELECT of an applet by a command that expects this many bytes: the selected one is deselected, the new one's
 /// `select` runs, and where it accepts, it answers the command.
 #[tactic(auto, unfolding(crate::specs::Selecting::applet_selection), using(jc_memory::proofs::ProgramLemmas::in_two_steps))]
 pub fn select<S: WordStore>(

@@ -65,7 +65,7 @@ is_first class = nat_lt (place_among class first_objects) 17
 abbrev pub is_further : Tokens → ClassEntry → Bool
 is_further t e = e.thrown && not (is_first e.class) && is_some (token_of_class t e.class)
 
--- the instances of these classes behind those of each image
+-- the instances of these classes after those of each image
 abbrev pub own_instances : Tokens → List ClassEntry → List FixedObject
 own_instances t [] = []
 own_instances t (e ∷ more) = if is_further t e then own_instance e.class ∷ own_instances t more else own_instances t more

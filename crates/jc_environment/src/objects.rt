@@ -1,4 +1,4 @@
-//! The list of the runtime environment's own objects: those that each image has, and behind them one instance for each further
+//! The list of the runtime environment's own objects: those that each image has, and after them one instance for each further
 //! exception whose class the table has.
 ghost use Rattle.std.specs.Prelude.{◌≡◌, ◌≤◌, ◌+◌, ◌++◌, length, map};
 ghost use Rattle.jc_transient.specs.State.{area_size};
@@ -115,14 +115,14 @@ fn is_first(class: PlatformClass) -> bool
     place_among(class, first_objects()) < 17
 }
 
-// Whether the runtime environment has an instance of a class in images with this table, behind those of each image.
+// Whether the runtime environment has an instance of a class in images with this table, after those of each image.
 fn is_further(table: &Table, row: &ClassRow) -> bool
     ensures { result ≡ is_further table.now (class_value row.now) }
 {
     row.thrown && !is_first(row.class) && table.token_of_class(row.class).is_some()
 }
 
-// Adds the instances of these classes, behind those of each image.
+// Adds the instances of these classes, after those of each image.
 fn add_instances(table: &Table, rows: &[ClassRow], to: &mut ArrayVec<FixedObject, MOST_OBJECTS>)
     requires room { length to.old.items + length rows.now ≤ 128 }
     ensures { to.new.items ≡ to.old.items ++ own_instances table.now (map class_value rows.now) }

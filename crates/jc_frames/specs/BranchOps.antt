@@ -39,7 +39,7 @@ table_offset code otherwise low high at key =
     if int_lt key low then Some otherwise else
     if int_lt high key then Some otherwise else s2 code (at + 2 * unsigned_abs (key -ℤ low))
 
--- the offset of the first of so many pairs, from a place on, whose match is the key
+-- the offset of the first of this many pairs, from a place on, whose match is the key
 abbrev pub pair_offset : List ℕ → ℤ → ℕ → ℕ → ℤ → Option ℤ
 pair_offset code otherwise zero at key = Some otherwise
 pair_offset code otherwise (suc n) at key =
@@ -59,7 +59,7 @@ jump_to (Ends o) place = Ends o
 -- if_scmpge, if_scmpgt, if_scmple, ifeq_w, ifne_w, iflt_w, ifge_w, ifgt_w, ifle_w, ifnull_w, ifnonnull_w,
 -- if_acmpeq_w, if_acmpne_w, if_scmpeq_w, if_scmpne_w, if_scmplt_w, if_scmpge_w, if_scmpgt_w, if_scmple_w, goto,
 -- goto_w, jsr, ret, stableswitch, slookupswitch: the frame after a branch at pc, whose next instruction was the
--- one behind the branch
+-- one after the branch
 abbrev pub branch_instruction : List ℕ → ℕ → BranchOp → Frame → Next Frame
 branch_instruction code pc (If condition offset) s =
     if_some (condition_on condition s.stack) (λ p. if p.0 then at_target (branch_target s.origin.method code pc offset) (record s { stack = p.1 }) else GoesOn

@@ -7,7 +7,7 @@ use Rattle.jc_frames.specs.Frames.{Caller}
 abbrev pub call_site_of : Caller → CallSite
 call_site_of c = record { origin = c.frame.origin; place = c.resume.place }
 
--- that of the caller with this number, from 0 for the nearest; none, where there are not so many
+-- that of the caller with this number, from 0 for the nearest; none, where there are not this many
 abbrev pub call_site_at : ℕ → List Caller → Option CallSite
 call_site_at number [] = None
 call_site_at zero (c ∷ rest) = Some (call_site_of c)

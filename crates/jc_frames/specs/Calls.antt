@@ -41,7 +41,7 @@ frames_in_callee e s = record {
   callers = record { frame = record s.current { stack = drop e.arguments s.current.stack }; resume = e.resume } ∷ s.callers;
 }
 
--- the arguments of a call that has so many; none where they are not there
+-- the arguments of a call that has this many; none where they are not there
 abbrev pub arguments_on : ℕ → List Cell → Option (List Cell)
 arguments_on n stack = if nat_le n (length stack) then Some (reverse (take n stack)) else None
 

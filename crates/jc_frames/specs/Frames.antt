@@ -12,7 +12,7 @@ use Rattle.jc_frames.specs.declared.outcome.Outcome.TheVariants.{Fault}
 use Rattle.jc_frames.specs.declared.outcome.FrameExit.{FrameExit}
 use Rattle.jc_frames.specs.declared.outcome.FrameExit.TheVariants.{Throw, End}
 
--- the locals; the stack with its top first, which holds at most so many cells; the place of the next
+-- the locals; the stack with its top first, which holds at most this many cells; the place of the next
 -- instruction; and the method
 pub record Frame : Type 0 where
   pub locals : List Cell

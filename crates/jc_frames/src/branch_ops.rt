@@ -14,7 +14,7 @@ use jc_opcodes::short;
 /// `ifge_w`, `ifgt_w`, `ifle_w`, `ifnull_w`, `ifnonnull_w`, `if_acmpeq_w`, `if_acmpne_w`, `if_scmpeq_w`,
 /// `if_scmpne_w`, `if_scmplt_w`, `if_scmpge_w`, `if_scmpgt_w`, `if_scmple_w`, `goto`, `goto_w`, `jsr`, `ret`,
 /// `stableswitch`, `slookupswitch`: goes on where a branch at `pc` leads, within the method that runs: from its
-/// header to the end of the code. The next instruction was the one behind the branch. `C` says whose copy it is, as of the decoder.
+/// header to the end of the code. The next instruction was the one after the branch. `C` says whose copy it is, as of the decoder.
 #[inline(always)]
 pub fn branch_instruction<C>(
     branch: BranchOp,

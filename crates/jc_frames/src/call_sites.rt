@@ -15,7 +15,7 @@ pub struct CallSite {
 }
 
 impl Frames {
-    /// Where the caller with this number waits, from 0 for the nearest. `None` where there are not so many.
+    /// Where the caller with this number waits, from 0 for the nearest. `None` where there are not this many.
     #[tactic(auto, using(crate::proofs::CallSites::site_of_saved, crate::proofs::CallSites::site_past))]
     pub fn call_site(&self, number: usize) -> Option<CallSite>
         ensures { result ≡ call_site_at number self.now.callers }

@@ -118,7 +118,7 @@ impl Frames {
     }
 }
 
-// Puts cells behind the others.
+// Puts cells after the others.
 fn push_all(cells: &mut ArrayVec<Cell, MOST_CELLS>, more: &[Cell])
     requires { length cells.old.items + length more.now ≤ 512 }
     ensures { cells.new.items ≡ cells.old.items ++ more.now }
@@ -128,7 +128,7 @@ fn push_all(cells: &mut ArrayVec<Cell, MOST_CELLS>, more: &[Cell])
     }
 }
 
-// Puts cells that are short 0 behind the others.
+// Puts cells that are short 0 after the others.
 #[inline(always)]
 pub(crate) fn push_zeros(cells: &mut ArrayVec<Cell, MOST_CELLS>, count: u16)
     requires { length cells.old.items + count ≤ 512 }

@@ -91,13 +91,13 @@ impl Frames {
         self.cells.truncate(self.current.bottom);
     }
 
-    /// The cell with so many cells above it, if there is one.
+    /// The cell with this many cells above it, if there is one.
     #[inline(always)]
     pub fn peek(&self, depth: u8) -> Option<Cell>
         ensures { result ≡ slice_get self.now.current.stack depth }
     {
         let depth = usize::from(depth);
-        // As `pop` compares them, so that its own look is left out behind this one.
+        // As `pop` compares them, so that its own look is left out after this one.
         if self.cells.len() <= self.current.bottom + depth {
             None
         } else {
@@ -105,7 +105,7 @@ impl Frames {
         }
     }
 
-    /// The arguments of a call that has so many, the last of which is on top; `None` where they are not
+    /// The arguments of a call that has this many, the last of which is on top; `None` where they are not
     /// there.
     pub fn arguments(&self, count: u8) -> Option<&[Cell]>
         ensures { option_copied result ≡ arguments_on count self.entry.now.current.stack }
@@ -118,7 +118,7 @@ impl Frames {
         Some(&self.cells.as_slice()[length - count..])
     }
 
-    /// Takes so many cells from the top.
+    /// Takes this many cells from the top.
     pub fn discard(&mut self, count: u8)
         requires { count ≤ length self.old.current.stack }
         ensures { self.new ≡ with_stack self.old (drop count self.old.current.stack) }
@@ -222,7 +222,7 @@ impl Frames {
     }
 }
 
-// Keeps so many cells: few others are taken off one by one, which is shorter than to blank a range.
+// Keeps this many cells: few others are taken off one by one, which is shorter than to blank a range.
 #[inline(always)]
 pub(crate) fn keep_cells(cells: &mut ArrayVec<Cell, MOST_CELLS>, kept: usize)
     requires { kept ≤ length cells.old.items }

@@ -22,7 +22,7 @@ module _ (lent code : List ℕ) (p : Packages) (s t : Frames) (m : MemoryState) 
 one_left : (limit turn more : ℕ) → turn < limit → limit - turn + more ≡ suc (limit - (turn + 1) + more)
 one_left limit turn more lt = omega (arith, lt)
 
--- a turn after so many, of a run of so many steps more
+-- a turn after this many, of a run of this many steps more
 module _ (lent code : List ℕ) (p : Packages) (s t : Frames) (m : MemoryState) (own : code ≡ code_of lent p s.current.origin.package_number)
     (limit turn more : ℕ) (lt : turn < limit) where
   pub goes_on : continue_with t ≡ instruction_step code p s m → run_of (limit - turn + more) lent p s m ≡ run_of (limit - (turn + 1) + more) lent p t m

@@ -10,6 +10,7 @@ use Rattle.jc_frames.specs.declared.outcome.FrameExit.{FrameExit}
 use Rattle.jc_world.specs.declared.native_result.NativeResult.{NativeResult}
 use Rattle.jc_api.proofs.Due.{IsPlainCall, DueThen, Anything, due_any, due_of}
 use Rattle.jc_api.proofs.Passing.{Turns}
+use Rattle.jc_api_crypto.proofs.EngineCalls.{engines_due}
 use Rattle.jc_api_framework.proofs.AidCalls.{aids_due}
 use Rattle.jc_api_framework.proofs.ApduCalls.{apdus_due}
 use Rattle.jc_api_framework.proofs.AppletCalls.{IsPlainAppletMethod, applets_due, applets_then}
@@ -42,6 +43,7 @@ module _ (P : Effect → MemoryState → Type 0) (L : MemoryState → ℕ → Ty
   method_called (rooms.Applets method) plain pass = applets_due P L args p m refers method plain
   method_called (rooms.Apdus method) plain pass = apdus_due P L Q turns args p m so refers method pass
   method_called (rooms.Events method) plain pass = events_due P L m method
+  method_called (rooms.Engines method) plain pass = engines_due P L args p m refers.made method pass.calls
 
 -- where it is so of such a method, it is so of each
 module _ (P : Effect → MemoryState → Type 0) (R : Result NativeResult FrameExit → MemoryState → Type 0) (Q : MemoryState → Type 0) (bears : Bears P Q)
@@ -56,7 +58,7 @@ module _ (P : Effect → MemoryState → Type 0) (R : Result NativeResult FrameE
 -- each effect of a method is due, where those that set cells are
 module _ (P : Effect → MemoryState → Type 0) (Q : MemoryState → Type 0) (bears : Bears P Q) (args : List Cell) (p : Packages) (m : MemoryState) (so : Q m) where
   any_so : AnswersSo Anything m
-  any_so = record { fixed = λ k le. tt; aid = λ o. tt; null = tt; new = λ o r new. tt }
+  any_so = record { fixed = λ k le. tt; aid = λ o. tt; null = tt; made = record { new = λ o v r new. tt; stays = λ q i v w r so. tt } }
 
   any_end : EndsSo (λ a v. Unit {0}) m
   any_end = record {

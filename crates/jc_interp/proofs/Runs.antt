@@ -13,7 +13,7 @@ use Rattle.jc_interp.specs.declared.frames_only.PausedStep.{PausedStep}
 use Rattle.jc_interp.specs.Running.{or_end, run_of, Continues, IsPartOfRun}
 use Rattle.jc_interp.specs.PausedSteps.{step_rest, run_rest}
 
--- a run that so many steps are left of behind a pause
+-- a run that this many steps are left of after a pause
 module _ (n left : ℕ) (pause : PausedStep) (lent : List ℕ) (p : Packages) (s at : Frames) (m new : MemoryState)
     (paused : run_of n lent p s m ≡ run_rest (left, pause) lent p at m) where
   behind : (after : Completion MemoryState (ℕ × Outcome)) → Executes (run_rest (left, pause) lent p at m) m after

@@ -35,7 +35,7 @@ abbrev pub after_native : Result NativeResult FrameExit → ℕ → Packages →
 after_native (Ok answer) place p s m = after_native_return answer place p s m
 after_native (Err stop) place p s m = exit_of s stop
 
--- a method of the platform, with so many cells as arguments, called by the instruction at a place
+-- a method of the platform, with this many cells as arguments, called by the instruction at a place
 unfoldable pub native_invoke : PlatformMethod → ℕ → ℕ → Packages → Frames → MemoryState → Program (Next Frames)
 native_invoke method n place p s m =
     if n == argument_cells method then if_some (arguments_on n s.current.stack) (λ arguments. bind (native_call method arguments p m) m (λ result v.

@@ -3,9 +3,10 @@ use Rattle.std.specs.Prelude.{List}
 use Rattle.jc_frames.specs.declared.cell.Cell.{Cell}
 use Rattle.jc_memory.specs.State.{MemoryState}
 use Rattle.jc_platform.specs.declared.names.PlatformMethod.{PlatformMethod}
-use Rattle.jc_platform.specs.declared.names.PlatformMethod.TheVariants.{Objects, Exceptions, Utilities, System, Aids, Pins, Applets, Apdus, Events}
+use Rattle.jc_platform.specs.declared.names.PlatformMethod.TheVariants.{Objects, Exceptions, Utilities, System, Aids, Pins, Applets, Apdus, Events, Engines}
 use Rattle.jc_linker.specs.Values.{Packages}
 use Rattle.jc_world.specs.NativeCalls.{NativeProgram}
+use Rattle.jc_api_crypto.specs.Engines.{engine_call}
 use Rattle.jc_api_framework.specs.Aid.{aid_call}
 use Rattle.jc_api_framework.specs.Applet.{applet_call}
 use Rattle.jc_api_framework.specs.Apdu.{apdu_call}
@@ -27,3 +28,4 @@ native_call (Pins method) args p m = pin_call method args p m
 native_call (Applets method) args p m = applet_call method args p m
 native_call (Apdus method) args p m = apdu_call method args p m
 native_call (Events method) args p m = event_call method
+native_call (Engines method) args p m = engine_call method args p m

@@ -19,7 +19,7 @@ use Rattle.jc_interp.specs.Calling.{invoke_instruction}
 use Rattle.jc_interp.specs.Stepping.{throw_from, object_instruction}
 use Rattle.jc_interp.specs.Running.{or_end, run_of}
 
--- what an instruction at a place may do that needs more than frames, with the next instruction behind it; any other is no such one
+-- what an instruction at a place may do that needs more than frames, with the next instruction after it; any other is no such one
 abbrev pub memory_instruction : Instr → ℕ → Packages → Frames → MemoryState → Program (Next Frames)
 memory_instruction (Return how) place p s m = method_return how s m
 memory_instruction (Field field) place p s m = field_instruction field p s m
@@ -47,11 +47,11 @@ after_frames_step (Err pause) p s m = paused_rest pause.why pause.place p s m
 abbrev pub step_rest : PausedStep → Packages → Frames → MemoryState → Program (Next Frames)
 step_rest pause p s m = bind (paused_rest pause.why pause.place p s m) m (λ next v. throw_from pause.place p next v)
 
--- what is left of a run of which so many steps are left behind a pause
+-- what is left of a run of which this many steps are left after a pause
 abbrev pub run_rest : ℕ × PausedStep → List ℕ → Packages → Frames → MemoryState → Program (ℕ × Outcome)
 run_rest r lent p s m = bind (step_rest r.1 p s m) m (λ next v. or_end r.0 next (λ t. run_of r.0 lent p t v))
 
--- the same of a run of so many steps more, all of which are left where there was no pause
+-- the same of a run of this many steps more, all of which are left where there was no pause
 abbrev pub run_behind : Option (ℕ × PausedStep) → ℕ → List ℕ → Packages → Frames → MemoryState → Program (ℕ × Outcome)
 run_behind None more lent p s m = run_of more lent p s m
 run_behind (Some r) more lent p s m = run_rest (r.0 + more, r.1) lent p s m

@@ -1,4 +1,4 @@
--- Runs: so many steps at most.
+-- Runs: this many steps at most.
 use Rattle.std.specs.Prelude.{ℕ, zero, suc, ◌≡◌, List, [], Option, Some, None, Result, Ok, Err}
 use Rattle.jc_memory.specs.State.{MemoryState}
 use Rattle.jc_heap.specs.Completions.{Completion, Completed, Torn}
@@ -11,23 +11,23 @@ use Rattle.jc_frames.specs.Frames.{Frames, Next, GoesOn, Throws, Ends}
 use Rattle.jc_frames.specs.Calls.{first_frame}
 use Rattle.jc_interp.specs.Stepping.{machine_step}
 
--- on from a step after which so many are left, or the end (a step throws nothing that it does not catch)
+-- on from a step after which this many are left, or the end (a step throws nothing that it does not catch)
 abbrev pub or_end : ℕ → Next Frames → (Frames → Program (ℕ × Outcome)) → Program (ℕ × Outcome)
 or_end left (GoesOn s) more = more s
 or_end left (Throws e s) more = Finish (left, Fault)
 or_end left (Ends o) more = Finish (left, o)
 
--- what a run of at most so many steps may do: how many are left, and how it ended. One that has not ended then is a code fault
+-- what a run of at most this many steps may do: how many are left, and how it ended. One that has not ended then is a code fault
 unfoldable pub run_of : ℕ → List ℕ → Packages → Frames → MemoryState → Program (ℕ × Outcome)
 run_of zero lent p s m = Finish (0, Fault)
 run_of (suc n) lent p s m = bind (machine_step lent p s m) m (λ next v. or_end n next (λ t. run_of n lent p t v))
 
--- what ends so from here, with so many steps left, ends so from the beginning
+-- what ends so from here, with this many steps left, ends so from the beginning
 abbrev pub Continues : ℕ → List ℕ → Packages → Frames → MemoryState → ℕ → Frames → MemoryState → Type 0
 Continues limit lent p first start left s m = (after : Completion MemoryState (ℕ × Outcome)) → Executes (run_of left lent p s m) m after
     → Executes (run_of limit lent p first start) start after
 
--- a run of which all steps but so many were taken: it ended; or it has not, and goes on with these; or the store refused a write
+-- a run of which all steps but this many were taken: it ended; or it has not, and goes on with these; or the store refused a write
 abbrev pub IsPartOfRun : {E : Type 0} → Result (Option (ℕ × Outcome)) E → ℕ → ℕ → List ℕ → Packages → Frames → MemoryState → Frames → MemoryState
     → Type 0
 IsPartOfRun (Ok (Some end)) limit later lent p first start s m = Executes (run_of limit lent p first start) start (Completed end m)
@@ -42,10 +42,10 @@ run_methods n p s m = run_of n [] p s m
 abbrev pub no_package : Origin
 no_package = record { package_number = 0; method = 0; owner = 0 }
 
--- the frame of such code before its first byte: no cell on its stack, and so many locals, which are short 0
+-- the frame of such code before its first byte: no cell on its stack, and this many locals, which are short 0
 abbrev pub bare_frames : ℕ → ℕ → Frames
 bare_frames limit locals = record { current = first_frame [] locals limit 0 no_package; callers = [] }
 
--- a run of code that was lent, with a stack of so many cells and so many locals
+-- a run of code that was lent, with a stack of this many cells and this many locals
 abbrev pub run_ad_hoc : ℕ → ℕ → List ℕ → ℕ → Packages → MemoryState → Program (ℕ × Outcome)
 run_ad_hoc limit locals lent n p m = run_of n lent p (bare_frames limit locals) m

@@ -52,7 +52,7 @@ object_instruction Athrow place p s m = athrow place p s m
 object_instruction (CheckCast type) place p s m = checkcast type p s m
 object_instruction (InstanceOf type) place p s m = instanceof type p s m
 
--- nop: the run goes on. What any instruction at a place of the code may do, with the next one behind it
+-- nop: the run goes on. What any instruction at a place of the code may do, with the next one after it
 unfoldable pub instruction_at : Instr → List ℕ → ℕ → Packages → Frames → MemoryState → Program (Next Frames)
 instruction_at Nop code place p s m = continue_with s
 instruction_at (Constant constant) code place p s m = Finish (in_frame s (constant_instruction constant s.current))

@@ -46,7 +46,7 @@ fn answer<S: WordStore>(
     }
 }
 
-// Carries out a method of the platform with so many cells as arguments, called by the instruction at a
+// Carries out a method of the platform with this many cells as arguments, called by the instruction at a
 // place.
 #[tactic(auto, using(jc_memory::proofs::ProgramLemmas::in_two_calls), unfolding(crate::specs::Calling::native_invoke))]
 fn invoke_native<S: WordStore>(

@@ -105,7 +105,7 @@ fn fault_of<S: WordStore>(
         Instr::Arithmetic(_) => stack_fault(frames),
         Instr::Branch(branch) => branch_fault(branch, code, place, frames),
         Instr::Return(ReturnOp::Return) => FaultKind::Other,
-        // Where its frame was left the next instruction is the caller's. Its own is the byte behind it.
+        // Where its frame was left the next instruction is the caller's. Its own is the byte after it.
         Instr::Return(_)
             if u32::from(frames.place()) != u32::from(place) + 1 && !frames.has_room() => {
             FaultKind::FullStack

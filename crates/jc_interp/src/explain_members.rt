@@ -209,7 +209,7 @@ fn is_of(facts: Facts, class: ClassWord, linked: &Linked) -> bool {
     own == class || linked.is_below(own, class)
 }
 
-// The class is that of the object behind a reference, or there is none; else why it cannot be called.
+// The class is that of the object that a reference names, or there is none; else why it cannot be called.
 fn receiver_fault<S: WordStore>(
     receiver: Ref,
     class: Option<ClassWord>,

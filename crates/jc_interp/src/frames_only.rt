@@ -52,7 +52,7 @@ impl From<FrameExit> for FramesExit {
     }
 }
 
-/// Where frames alone do not go on: why, and the place of an instruction, behind which the next one stands.
+/// Where frames alone do not go on: why, and the place of an instruction, after which the next one stands.
 #[derive(Clone, Copy)]
 pub(crate) struct PausedStep {
     pub(crate) why: FramesExit,
@@ -73,7 +73,7 @@ pub(crate) const fn is_plain(instr: Instr) -> bool
     }
 }
 
-// `nop`: goes on. An instruction at a place, with the next one behind it, is carried out here if it needs
+// `nop`: goes on. An instruction at a place, with the next one after it, is carried out here if it needs
 // nothing but frames; else the exit says what it needs.
 #[tactic(auto, unfolding(crate::specs::Stepping::instruction_at))]
 #[inline(always)]

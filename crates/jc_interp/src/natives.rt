@@ -4,6 +4,7 @@ ghost use Rattle.jc_memory.specs.Programs.{Executes};
 ghost use Rattle.jc_world.specs.NativeCalls.{after_call};
 ghost use Rattle.jc_interp.specs.Natives.{native_call};
 
+use jc_api_crypto::call_engine;
 use jc_api_framework::{
     call_aid, call_apdu, call_applet, call_event, call_exception, call_object, call_pin,
     call_system, call_util,
@@ -38,5 +39,6 @@ pub fn call_native<S: WordStore>(
         PlatformMethod::Applets(method) => call_applet(method, args, memory, linked),
         PlatformMethod::Apdus(method) => call_apdu(method, args, memory, linked),
         PlatformMethod::Events(method) => call_event(method, memory),
+        PlatformMethod::Engines(method) => call_engine(method, args, memory, linked),
     }
 }

@@ -1,4 +1,4 @@
-//! Runs: so many steps at most.
+//! Runs: this many steps at most.
 ghost use Rattle.std.specs.Prelude.{◌≡◌, ◌<◌, ◌+◌, ◌^◌, false, length};
 ghost use Rattle.jc_memory.specs.Programs.{Executes};
 ghost use Rattle.jc_heap.specs.Completions.{after_step};
@@ -14,7 +14,7 @@ use jc_transient::RUNTIME_ENVIRONMENT;
 use jc_words::{StoreDown, WordStore};
 use jc_world::StepExit;
 
-// Carries out so many instructions of a run, behind which so many more may follow: how many are left of all, and how the
+// Carries out this many instructions of a run, after which this many more may follow: how many are left of all, and how the
 // run ended; `None` where it has not ended.
 #[inline(never)]
 fn run_part<S: WordStore>(
@@ -59,7 +59,7 @@ fn run_part<S: WordStore>(
     Ok(None)
 }
 
-// Carries out a run of so many instructions, each of which is noted before it is carried out; `None` where it has not ended
+// Carries out a run of this many instructions, each of which is noted before it is carried out; `None` where it has not ended
 // then.
 #[cold]
 #[inline(never)]
@@ -87,7 +87,7 @@ fn run_noted<S: WordStore>(
     Ok(None)
 }
 
-// Carries out a run of so many instructions, each noted before where somebody asks for it; `None` where it has not ended then.
+// Carries out a run of this many instructions, each noted before where somebody asks for it; `None` where it has not ended then.
 #[inline(always)]
 fn run_whole<S: WordStore>(
     lent: &[u8],
@@ -107,7 +107,7 @@ fn run_whole<S: WordStore>(
     run_part(lent, budget, 0, frames, memory, linked)
 }
 
-/// Carries out at most so many instructions: how many are left, and how the run ended. One that has not
+/// Carries out at most this many instructions: how many are left, and how the run ended. One that has not
 /// ended then is a code fault. Code of no package, in frames with the package number 0, is the one that is
 /// lent: it has no fields, arrays, objects and methods.
 pub fn run_of<S: WordStore>(
@@ -147,7 +147,7 @@ pub fn run_methods<S: WordStore>(
 }
 
 /// Runs code that was lent from its first byte on, with a stack of at most `max_stack` cells, which is
-/// empty, and so many locals, which are short 0: how many instructions are left, and how the run ended.
+/// empty, and this many locals, which are short 0: how many instructions are left, and how the run ended.
 pub fn run_ad_hoc<S: WordStore>(
     max_stack: u8,
     locals: u8,

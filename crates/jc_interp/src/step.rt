@@ -53,7 +53,7 @@ fn object_instruction<S: WordStore>(
     }
 }
 
-// Carries out an instruction at a place, behind which the next one stands. What frames alone carry out does not come here.
+// Carries out an instruction at a place, after which the next one stands. What frames alone carry out does not come here.
 #[inline(always)]
 fn execute<S: WordStore>(
     instr: &Instr,

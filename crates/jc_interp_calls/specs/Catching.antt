@@ -39,7 +39,7 @@ or_next_handler NotCaught next = next
 or_next_handler (Caught target) next = Caught target
 or_next_handler CodeFault next = CodeFault
 
--- the first that catches, of so many handlers that stand from a place on
+-- the first that catches, of this many handlers that stand from a place on
 abbrev pub catch_from : Packages → ℕ → Origin → ℕ → List ℕ → ℕ → ℕ → HandlerResult
 catch_from p thrown origin place text zero at = NotCaught
 catch_from p thrown origin place text (suc n) at = or_next_handler (catch_by_entry p thrown origin place text (handler_in text at))

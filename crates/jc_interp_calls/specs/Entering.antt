@@ -26,7 +26,7 @@ abbrev pub registers_in_callee : Option Owner → Registers → Registers
 registers_in_callee None r = r
 registers_in_callee (Some owner) r = record r { active = owner; previous = r.active }
 
--- a method that is not abstract and takes so many cells
+-- a method that is not abstract and takes this many cells
 abbrev pub takes : ℕ → Header → Bool
 takes n h = not h.is_abstract && h.arguments == n
 

@@ -57,14 +57,14 @@ arguments_of p (Native method) = Some (argument_cells method)
 abbrev pub receiver_on : ℕ → List Cell → Option ℕ
 receiver_on n stack = if n == 0 then None else option_and_then as_reference (slice_get stack (n - 1))
 
--- the header of the receiver of a method with so many arguments
+-- the header of the receiver of a method with this many arguments
 unfoldable pub receiver_of : ℕ → List Cell → MemoryState → Result Facts FrameExit
 receiver_of n stack m = and_then (some_or_fault (receiver_on n stack)) (λ r. object_at m r)
 
 abbrev pub is_null_on : ℕ → List Cell → Bool
 is_null_on n stack = is_present_and (receiver_on n stack) (λ r. r == 0)
 
--- behind a null receiver the arguments have the kinds that the method of the entry wants
+-- after a null receiver the arguments have the kinds that the method of the entry wants
 abbrev pub fits_at_null : ℕ → Method → Packages → List Cell → MemoryState → Bool
 fits_at_null n method p stack m = not (is_null_on n stack) || fits method p m stack
 
@@ -123,7 +123,7 @@ invokestatic method p =
 abbrev pub interface_access : Packages → ℕ → Access
 interface_access p interface = if is_shareable p interface then ShareableInterfaceCall else StandardInterfaceCall
 
--- invokeinterface: the method of the receiver's class that implements the interface's, with so many arguments
+-- invokeinterface: the method of the receiver's class that implements the interface's, with this many arguments
 unfoldable pub invokeinterface : ℕ → ℕ → ℕ → Packages → List Cell → MemoryState → Result MethodCall FrameExit
 invokeinterface interface n token p stack m =
     and_then (receiver_of n stack m) (λ f. and_then (check_or_fault (is_of p f interface))

@@ -52,7 +52,7 @@ pub(crate) fn registers_in_callee(owner: Option<Owner>, registers: Registers) ->
     }
 }
 
-// A method that is not abstract and takes so many cells.
+// A method that is not abstract and takes this many cells.
 #[inline(always)]
 pub(crate) const fn takes(arguments: usize, header: Header) -> bool
     ensures { result ≡ takes arguments header }

@@ -140,7 +140,7 @@ fn header_by(
     }
 }
 
-// The reference below the other arguments, of which there are so many with it.
+// The reference below the other arguments, of which there are this many with it.
 #[inline(always)]
 fn receiver_on(arguments: u8, frames: &Frames) -> Option<Ref>
     ensures { result ≡ receiver_on arguments frames.now.current.stack }
@@ -154,7 +154,7 @@ fn receiver_on(arguments: u8, frames: &Frames) -> Option<Ref>
     }
 }
 
-// The header of the receiver of a method with so many arguments.
+// The header of the receiver of a method with this many arguments.
 #[tactic(auto, unfolding(crate::specs::Invoke::receiver_of))]
 #[inline(always)]
 fn receiver_of<S: WordStore>(
@@ -178,7 +178,7 @@ fn is_null_on(arguments: u8, frames: &Frames) -> bool
     }
 }
 
-// Behind a null receiver the arguments have the kinds that the method of the entry wants.
+// After a null receiver the arguments have the kinds that the method of the entry wants.
 fn fits_at_null<S: WordStore>(
     arguments: u8,
     method: Method,

@@ -1,4 +1,4 @@
--- The word behind one of a static image.
+-- The word after one of a static image.
 use Rattle.std.proofs.Common.{ℕ, ◌+◌, ◌<◌, List, length, arith}
 use Rattle.jc_heap.specs.Statics.{IsStatic}
 

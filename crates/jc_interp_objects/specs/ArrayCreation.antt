@@ -21,7 +21,7 @@ kind_of Booleans = BooleanArray
 kind_of Bytes = ByteArray
 kind_of Shorts = ShortArray
 
--- a new array of so many elements, which belongs to the owner for whom code runs, comes on the stack
+-- a new array of this many elements, which belongs to the owner for whom code runs, comes on the stack
 unfoldable pub array_creation : Kind → ℕ → ℤ → Frames → MemoryState → Program (Next Frames)
 array_creation kind class (pos n) s m = new_on_top (record { kind = kind; event = None; class = class; owner = m.registers.active; length = n }) s m
 array_creation kind class (negsuc n) s m = exit_of s (Throw NegativeArraySizeException)

@@ -44,7 +44,7 @@ abbrev pub array_in : Option ValueType → Packages → MemoryState → Result F
 array_in of_type p m (Err e) = Err e
 array_in of_type p m (Ok f) = if is_array of_type f.kind then header_if_allowed f (firewall_check ArrayElement p m f) else Err (End Fault)
 
--- the array behind a reference, as the code that runs may reach it
+-- the array that a reference names, as the code that runs may reach it
 unfoldable pub array_at : Option ValueType → Packages → MemoryState → ℕ → Result Facts FrameExit
 array_at of_type p m r = array_in of_type p m (object_at m r)
 
@@ -57,7 +57,7 @@ abbrev pub element_in : ℤ → Result Facts FrameExit → Result Element FrameE
 element_in i (Err e) = Err e
 element_in i (Ok f) = with_index f i
 
--- the element with an index of the array behind a reference
+-- the element with an index of the array that a reference names
 unfoldable pub element_at : ValueType → Packages → MemoryState → ℕ → ℤ → Result Element FrameExit
 element_at of_type p m r i = element_in i (array_at (Some of_type) p m r)
 

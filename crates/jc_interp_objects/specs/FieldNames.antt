@@ -26,7 +26,7 @@ field_of of_type _ = None
 unfoldable pub field_named : ValueType → Packages → ℕ → ℕ → Option FieldOfClass
 field_named of_type p package_number index = option_and_then (field_of of_type) (target_at p package_number index)
 
--- an image of so many bytes that begins with so many references, two bytes each, has a field of this of_type at an offset
+-- an image of this many bytes that begins with this many references, two bytes each, has a field of this of_type at an offset
 abbrev pub has_field : ValueType → ℕ → ℕ → ℕ → Bool
 has_field Reference size references offset = offset % 2 == 0 && nat_lt (offset / 2) references
 has_field Byte size references offset = nat_le (2 * references) offset && nat_lt offset size

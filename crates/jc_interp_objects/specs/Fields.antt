@@ -35,7 +35,7 @@ abbrev pub cell_in : FieldOfClass → Packages → MemoryState → Result Facts 
 cell_in field p m (Err e) = Err e
 cell_in field p m (Ok f) = if has_cell field p f then cell_if_allowed field.cell (firewall_check InstanceField p m f) else Err (End Fault)
 
--- the cell of a field in the object behind a reference, as the code that runs may reach it
+-- the cell of a field in the object that a reference names, as the code that runs may reach it
 unfoldable pub field_cell : FieldOfClass → Packages → MemoryState → ℕ → Result ℕ FrameExit
 field_cell field p m r = cell_in field p m (object_at m r)
 

@@ -47,7 +47,7 @@ image_word_write w v s m = unless s (refusal_of_places m.heap (place_of w ∷ []
 abbrev pub image_byte_write : ImageWord → ℕ → ℕ → Frames → MemoryState → Program (Next Frames)
 image_byte_write w offset byte s m = image_word_write w (with_byte (word_value m.heap.now w) offset byte) s m
 
--- two bytes from an odd offset on: the low byte of a word and the high byte of the word behind it
+-- two bytes from an odd offset on: the low byte of a word and the high byte of the word after it
 abbrev pub halves : HeapState → ImageWord → ImageWord → ℕ → ℕ → List (Place × ℕ)
 halves h w behind offset v =
     (place_of w, with_byte (word_value h w) offset (v / 256)) ∷ (place_of behind, with_byte (word_value h behind) (offset + 1) (v % 256)) ∷ []

@@ -15,7 +15,7 @@ package_record_or_none h r = if is_allocated h r then Some r else None
 unfoldable pub record_at : HeapState → ℕ → Option ℕ
 record_at h number = if number == 0 then None else option_and_then (package_record_or_none h) (slice_get h.packages (number - 1))
 
--- the word so many words behind an image's first; none past its end
+-- the word this many words after an image's first; none past its end
 abbrev pub word_behind : HeapState → ℕ → ℕ → ℕ → Option ImageWord
 word_behind h r number begin = if nat_lt (begin + number) (length (record_of h r)) then Some (record { owner = r; offset = begin + number }) else None
 
@@ -26,7 +26,7 @@ word_in h number r = option_and_then (word_behind h r number) (statics_of (recor
 unfoldable pub image_word : HeapState → ℕ → ℕ → Option ImageWord
 image_word h package_number number = option_and_then (word_in h number) (record_at h package_number)
 
--- the word behind it; none past the image's end
+-- the word after it; none past the image's end
 abbrev pub next_word : HeapState → ImageWord → Option ImageWord
 next_word h w = if nat_lt (w.offset + 1) (length (record_of h w.owner)) then Some (record { owner = w.owner; offset = w.offset + 1 }) else None
 

@@ -28,7 +28,7 @@ abbrev pub type_test_of : ObjectType → Packages → MemoryState → Result Fac
 type_test_of of_type p m (Err e) = Err e
 type_test_of of_type p m (Ok f) = answer_if_allowed (is_of_type of_type p f) (firewall_check (access_to p of_type) p m f)
 
--- whether the object behind a reference is of a type; of null there is an answer beforehand
+-- whether the object that a reference names is of a type; of null there is an answer beforehand
 unfoldable pub type_test : Bool → ObjectType → Packages → MemoryState → ℕ → Result Bool FrameExit
 type_test of_null of_type p m r = if r == 0 then Ok of_null else type_test_of of_type p m (object_at m r)
 

@@ -26,7 +26,7 @@ fn kind_of(of_type: PrimitiveArray) -> Kind
     }
 }
 
-// A new array of so many elements comes on the stack.
+// A new array of this many elements comes on the stack.
 #[tactic(auto, unfolding(crate::specs::ArrayCreation::array_creation))]
 fn make_array<S: WordStore>(
     kind: Kind,

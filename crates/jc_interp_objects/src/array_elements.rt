@@ -58,7 +58,7 @@ fn is_array(of_type: Option<ValueType>, kind: Kind) -> bool
     }
 }
 
-/// The array behind a reference, as the code that runs may reach it.
+/// The array that a reference names, as the code that runs may reach it.
 #[inline(always)]
 #[tactic(auto, unfolding(crate::specs::ArrayElements::array_at))]
 pub(crate) fn array<S: WordStore>(
@@ -96,7 +96,7 @@ pub(crate) fn with_index(facts: Facts, index: i16) -> Result<Element, FrameExit>
     })
 }
 
-/// The element with an index of the array behind a reference.
+/// The element with an index of the array that a reference names.
 #[inline(always)]
 #[tactic(auto, unfolding(crate::specs::ArrayElements::element_at))]
 pub(crate) fn element_at<S: WordStore>(

@@ -74,7 +74,7 @@ pub(crate) fn field_named(
     field_of(of_type, linked.target_at(package_number, index))
 }
 
-// Whether an image of so many bytes that begins with so many references has a field of this type at an offset.
+// Whether an image of this many bytes that begins with this many references has a field of this type at an offset.
 fn has_field(of_type: ValueType, size: u16, references: u16, offset: u16) -> bool
     ensures { result ≡ has_field of_type size references offset }
 {

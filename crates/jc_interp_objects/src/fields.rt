@@ -19,7 +19,7 @@ use jc_world::contexts::allow;
 use jc_world::objects::{is_instance_of, object};
 use jc_world::values::{keepable, pop_value, value_at};
 
-// The cell of a field in the object behind a reference, as the code that runs may reach it.
+// The cell of a field in the object that a reference names, as the code that runs may reach it.
 #[inline(always)]
 #[tactic(auto, unfolding(crate::specs::Fields::field_cell))]
 fn field_cell<S: WordStore>(

@@ -66,7 +66,7 @@ pub(crate) fn word_value<S: WordStore>(heap: &Heap<S>, word: &ImageWord) -> u16
     heap.record_word(word.owner, word.offset)
 }
 
-/// The word behind it; none past the image's end.
+/// The word after it; none past the image's end.
 #[tactic(auto, using(crate::proofs::Behind::is_static_behind))]
 pub(crate) fn next_word<S: WordStore>(heap: &Heap<S>, word: &ImageWord) -> Option<ImageWord>
     requires up { heap.now.down ≡ false }

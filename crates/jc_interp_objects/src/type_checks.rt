@@ -15,7 +15,7 @@ use jc_world::StepExit;
 use jc_world::contexts::allow;
 use jc_world::objects::object;
 
-// Whether the object behind a reference is of a type; of null the answer is given.
+// Whether the object that a reference names is of a type; of null the answer is given.
 #[tactic(auto, unfolding(crate::specs::TypeChecks::type_test))]
 fn type_test<S: WordStore>(
     of_null: bool,

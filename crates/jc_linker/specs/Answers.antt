@@ -25,7 +25,7 @@ abbrev pub then_on : {A B : Type 0} → Result A LinkFault → (A → Result B L
 then_on (Ok x) f = f x
 then_on (Err e) f = Err e
 
--- a list behind others
+-- a list after others
 unfoldable pub list_append : {A : Type 0} → List A → Result (List A) LinkFault → Result (List A) LinkFault
 list_append xs (Ok ys) = Ok (xs ++ ys)
 list_append xs (Err e) = Err e

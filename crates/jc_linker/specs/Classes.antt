@@ -18,7 +18,7 @@ package_in p number = if number == 0 then None else slice_get p.loaded (number -
 unfoldable pub class_in : Packages → ℕ → Option ClassValue
 class_in p word = option_and_then (λ q. slice_get q.classes (word % 256)) (package_in p (word / 256))
 
--- a class or an interface stands behind this word
+-- this word names a class or an interface
 unfoldable pub is_class : Packages → ℕ → Bool
 is_class p word = is_some (class_in p word) || is_some (class_by_word p.platform word)
 
@@ -31,7 +31,7 @@ superclass_by p None other = option_map (class_word p.platform) (option_and_then
 unfoldable pub superclass_in : Packages → ℕ → Option ℕ
 superclass_in p word = superclass_by p (class_in p word) (class_by_word p.platform word)
 
--- a class, its superclass, the superclass of that, and so on up to Object; so many at most. For an interface it alone.
+-- a class, its superclass, the superclass of that, and so on up to Object; this many at most. For an interface it alone.
 unfoldable pub lineage_from : Packages → ℕ → Option ℕ → List ℕ
 lineage_from p zero class = []
 lineage_from p (suc n) None = []
@@ -72,7 +72,7 @@ lists_some p word = not (length (interfaces_in p word) == 0)
 abbrev pub stands_before : ℕ → ℕ → Bool
 stands_before superinterface interface = nat_lt superinterface interface && nat_lt interface most_classes
 
--- an interface lists the other one, or one that extends it; over so many lists at most
+-- an interface lists the other one, or one that extends it; over this many lists at most
 unfoldable pub extends_within : Packages → ℕ → ℕ → ℕ → Bool
 extends_within p of zero interface = false
 extends_within p of (suc n) interface = list_any (λ i. i.interface == of || (stands_before i.interface interface && extends_within p of n i.interface))

@@ -17,7 +17,7 @@ inherits_from p number superclass token [] = true
 inherits_from p number superclass token (offset ∷ offsets) = (not (offset == 65535) || has_method p number superclass token) && inherits_from p number
     superclass (token + 1) offsets
 
--- an interface stands behind the word, and the class has each method that carries out one of its
+-- the word names an interface, and the class has each method that carries out one of its
 abbrev pub is_implemented : Packages → ℕ → ℕ → Implementation → Bool
 is_implemented p number class i = names_interface p i.interface && list_all (λ token. has_method p number class token) i.tokens
 

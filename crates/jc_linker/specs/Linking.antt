@@ -19,7 +19,7 @@ use Rattle.jc_linker.specs.Answers.{then_on}
 use Rattle.jc_linker.specs.Imports.{import_numbers}
 use Rattle.jc_linker.specs.Completeness.{are_complete}
 
--- the packages with one more behind them
+-- the packages with one more after them
 abbrev pub with_package : Packages → PackageValue → Packages
 with_package p q = record p { loaded = p.loaded ++ q ∷ [] }
 
@@ -70,7 +70,7 @@ class_by_record p names number done offset (records.Interface i) = record (outli
   interfaces = map (superinterface_of names number) i.superinterfaces;
 }
 
--- the classes of these records, behind those that are linked
+-- the classes of these records, after those that are linked
 unfoldable pub classes_behind : Packages → Packages → ℕ → List ClassValue → List RecordAt → List ClassValue
 classes_behind p names number done [] = done
 classes_behind p names number done (r ∷ rs) = classes_behind p names number (done ++ class_by_record p names number done r.offset r.contents ∷ []) rs

@@ -33,7 +33,7 @@ abbrev pub by_offset : ℕ → Option ℕ → Search Method
 by_offset package_number None = Nowhere
 by_offset package_number (Some offset) = if offset == 65535 then Above else Found (Code package_number offset)
 
--- a token below the base is the superclass's, and one behind the table's end is no method's
+-- a token below the base is the superclass's, and one after the table's end is no method's
 abbrev pub in_table : ℕ → MethodTable → ℕ → Search Method
 in_table package_number table token = if nat_lt token table.base then Above else by_offset package_number (slice_get table.offsets (token - table.base))
 

@@ -33,7 +33,7 @@ pub record Implementation : Type 0 where
   pub tokens : List ℕ
 
 -- a class or an interface: where its record stands in the Class component, its superclass, the cells of an instance that
--- it inherits and that it declares, and which of the latter hold references (from the first on, so many)
+-- it inherits and that it declares, and which of the latter hold references (from the first on, this many)
 pub record ClassValue : Type 0 where
   pub offset : ℕ
   pub is_interface : Bool

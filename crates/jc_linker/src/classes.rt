@@ -20,7 +20,7 @@ fn is_told(table: &[bool], superinterface: ClassWord, interface: ClassWord) -> b
 }
 
 impl Scope<'_> {
-    /// A class or an interface stands behind this word.
+    /// This word names a class or an interface.
     #[tactic(auto, unfolding(crate::specs::Classes::is_class))]
     pub(crate) fn is_class(&self, class: ClassWord) -> bool
         ensures { result ≡ is_class self.now class }

@@ -13,7 +13,7 @@ use jc_cap_linkage::class_refs::ClassRef;
 use jc_transient::{ClassWord, NO_CLASS};
 use std::alloc::{AllocError, Global};
 
-/// What the names of classes are looked up in: the packages that were loaded, and behind them the one that is being
+/// What the names of classes are looked up in: the packages that were loaded, and after them the one that is being
 /// linked, of whose classes the offsets are known.
 #[derive(Drop)]
 pub(crate) struct Linking<'a> {

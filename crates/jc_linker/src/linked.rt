@@ -100,7 +100,7 @@ impl Linked {
         }
     }
 
-    /// These packages, and the one that is being linked behind them.
+    /// These packages, and the one that is being linked after them.
     pub(crate) fn scope_with<'a>(&'a self, own: &'a LinkedPackage) -> Scope<'a>
         ensures { result ≡ with_package self.entry.now own.entry.now }
     {
@@ -112,7 +112,7 @@ impl Linked {
         }
     }
 
-    /// A class or an interface stands behind this word.
+    /// This word names a class or an interface.
     pub fn is_class(&self, class: ClassWord) -> bool
         ensures { result ≡ is_class self.now class }
     {

@@ -1,4 +1,4 @@
-//! The packages of a card, and one behind them that is being linked.
+//! The packages of a card, and one after them that is being linked.
 ghost use Rattle.std.specs.Prelude.{◌≡◌, option_copied};
 ghost use Rattle.jc_linker.specs.Classes.{class_in, package_in};
 

@@ -29,7 +29,7 @@ low_by f r a i false e low is = absurd (omega (arith, low, sym is.word ∙ word_
 pub too_low : (f : Facts) (r a i : ℕ) → a < r + 4 → IsCellOf f r a i → ⊥
 too_low f r a i low is = low_by f r a i (is_packed f) refl low is
 
--- there is none so far behind
+-- there is none so far after
 far_by : (f : Facts) (r a cell i : ℕ) (packed : Bool) → is_packed f ≡ packed → r + 4 ≤ a → cell ≡ cell_there packed r a → f.length ≤ cell → IsCellOf f r a i → ⊥
 far_by f r a cell i true e low c far is =
     let word : a ≡ r + (4 + i / 2) = sym is.word ∙ word_at f r i true e in

@@ -78,7 +78,7 @@ pub none_linked : (fault : ImageFault) (t : Tokens) (words plain : List ℕ) (h 
 none_linked NoMemory t words plain h same is none = tt
 none_linked Damaged t words plain h same is none = λ u image. packages_behind t words plain h None same is none
 
--- one image has one platform, so no packages behind it are none behind any
+-- one image has one platform, so no packages after it are none after any
 pub none_packaged : (fault : ImageFault) (t : Tokens) (words plain : List ℕ) (h : HeapState) → plain ≡ migrated 3 (recovered_of words) → h ≡ heap_of plain
     → IsWhole plain t → HasNoneLinked t h fault → HasNoPackages words fault
 none_packaged NoMemory t words plain h same is whole none = tt

@@ -20,6 +20,6 @@ IsCellIn h a r i = (0 < r) × IsObject h r × IsCellOf (facts h r) r a i
 abbrev pub HoldsNoCell : HeapState → ℕ → Type 0
 HoldsNoCell h a = (r i : ℕ) → IsCellIn h a r i → ⊥
 
--- the cell that stands so many words behind a header, of two elements in a word the first
+-- the cell that stands this many words after a header, of two elements in a word the first
 abbrev pub cell_behind : Facts → ℕ → ℕ
 cell_behind f words = if is_packed f then 2 * words else words

@@ -12,7 +12,7 @@ use Rattle.jc_objects.specs.declared.image_objects.ImageFault.{ImageFault}
 use Rattle.jc_objects.specs.declared.image_objects.ImageFault.TheVariants.{NoMemory, Damaged}
 use Rattle.jc_objects.specs.declared.legend.Legend.{Legend}
 
--- the packages that words have once they are recovered, linked behind those of a platform; none where they are no image's, or do not link
+-- the packages that words have once they are recovered, linked after those of a platform; none where they are no image's, or do not link
 abbrev pub ArePackagesIn : Tokens → List ℕ → Option Packages → Type 0
 ArePackagesIn t words (Some p) = (u : Tokens) × IsImage words u × (packages_of t (heap_of (recovered_of words)) ≡ Some p)
 ArePackagesIn t words None = (u : Tokens) → IsImage words u → packages_of t (heap_of (recovered_of words)) ≡ None
@@ -26,7 +26,7 @@ abbrev pub IsNotLinked : Tokens → List ℕ → ImageFault → Type 0
 IsNotLinked t words NoMemory = Unit {0}
 IsNotLinked t words Damaged = ArePackagesIn t words None
 
--- the same behind those of the platform that the words tell
+-- the same after those of the platform that the words tell
 abbrev pub HasNoPackages : List ℕ → ImageFault → Type 0
 HasNoPackages words NoMemory = Unit {0}
 HasNoPackages words Damaged = (t : Tokens) → IsImage words t → packages_of t (heap_of (recovered_of words)) ≡ None

@@ -53,7 +53,7 @@ fn cell_of(facts: Facts, object: Ref, address: u16) -> Option<u16>
     Some(cell as u16)
 }
 
-// The cell that stands so many words behind a header.
+// The cell that stands this many words after a header.
 fn cell_behind(facts: Facts, words: u32) -> u32
     requires { words < 65536 }
     ensures { result ≡ cell_behind facts words }

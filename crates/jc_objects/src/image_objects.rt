@@ -126,7 +126,7 @@ fn text_of<S: WordStore>(alloc: Global, image: &OpenImage<S>) -> Result<Vec<u8>,
     Ok(text)
 }
 
-// So many zero bytes.
+// This many zero bytes.
 fn zeros(alloc: Global, count: usize) -> Result<Vec<u8>, AllocError>
     ensures { IfOk result (λ bytes. length bytes.items ≡ count) }
 {

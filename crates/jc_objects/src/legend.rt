@@ -47,7 +47,7 @@ fn without_packages(platform: Platform, fault: ImageFault) -> Result<Legend, All
     }
 }
 
-// The packages of an image of these words, linked behind those of a platform.
+// The packages of an image of these words, linked after those of a platform.
 fn linked_in(alloc: Global, platform: Platform, words: Vec<u16>) -> Result<Linked, ImageFault>
     ensures { MatchResult result (λ linked. ArePackagesIn platform words.items (Some linked))
         (λ fault. IsNotLinked platform words.items fault) }
@@ -58,7 +58,7 @@ fn linked_in(alloc: Global, platform: Platform, words: Vec<u16>) -> Result<Linke
     Ok(linked)
 }
 
-/// The packages of a heap, linked behind those of a platform.
+/// The packages of a heap, linked after those of a platform.
 pub(crate) fn packages_in<S: WordStore>(
     alloc: Global,
     platform: Platform,

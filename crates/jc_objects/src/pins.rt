@@ -14,7 +14,7 @@ use jc_transient::Ref;
 use jc_words::WordStore;
 use std::alloc::{AllocError, Global};
 
-/// Where an OwnerPIN has the word with the tries that are left: behind a header of four words the third cell.
+/// Where an OwnerPIN has the word with the tries that are left: after a header of four words the third cell.
 const TRIES: u32 = 6;
 
 /// The addresses of the words with the tries that are left of the OwnerPINs which stand in an image, once it is recovered.
@@ -48,7 +48,7 @@ fn try_words_in<S: WordStore>(
     Ok(found)
 }
 
-// The object behind this one, or the first one of all behind null.
+// The object after this one, or the first one of all after null.
 fn next_of<S: WordStore>(heap: &Heap<S>, at: Ref) -> Option<Ref>
     requires up { heap.now.down ≡ false }
     requires there { (at ≡ 0 → ⊥) → IsObject heap.now.now at }

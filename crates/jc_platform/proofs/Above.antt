@@ -6,7 +6,7 @@ use Rattle.jc_platform.specs.declared.names.PlatformClass.{PlatformClass}
 use Rattle.jc_platform.specs.declared.names.PlatformMethod.{PlatformMethod}
 use Rattle.jc_platform.specs.declared.reading.Reading.{Reading}
 use Rattle.jc_platform.specs.declared.row.Row.{Row}
-use Rattle.jc_platform.specs.declared.row.Row.TheVariants.{Extended, Package, Class, Method}
+use Rattle.jc_platform.specs.declared.row.Row.TheVariants.{Extended, Random, Package, Class, Method}
 use Rattle.jc_platform.specs.declared.row.Version.{Version}
 use Rattle.jc_platform.specs.Numbers.{package_number, class_number, method_number, same_package, same_class, same_method}
 use Rattle.jc_platform.specs.Reading.{above_of}
@@ -23,6 +23,7 @@ with_package a p v = record {
   version = λ q. if same_package p q then Some v else a.version q;
   class_token = a.class_token;
   method_token = a.method_token;
+  random = a.random;
 }
 
 -- below a class
@@ -35,6 +36,7 @@ with_class a c t = record {
   version = a.version;
   class_token = λ d. if same_class c d then Some t else a.class_token d;
   method_token = a.method_token;
+  random = a.random;
 }
 
 -- below a method
@@ -47,6 +49,7 @@ with_method a m t = record {
   version = a.version;
   class_token = a.class_token;
   method_token = λ n. if same_method m n then Some t else a.method_token n;
+  random = a.random;
 }
 
 -- a reader that took a package in, with these versions, where f stands first
@@ -73,6 +76,7 @@ package_taken r p v rows h e =
       version = λ q. (read_written r.versions (package_number p) (package_number q) (Some v) h) i;
       class_token = (above_of r).class_token;
       method_token = (above_of r).method_token;
+      random = r.random;
     } in
     written ∙ ap (λ (a : Above). with_package a p v) e
 
@@ -88,6 +92,7 @@ class_taken r c t rows h e =
       version = (above_of r).version;
       class_token = λ d. (read_written r.class_tokens (class_number c) (class_number d) (Some t) h) i;
       method_token = (above_of r).method_token;
+      random = r.random;
     } in
     written ∙ ap (λ (a : Above). with_class a c t) e
 
@@ -103,6 +108,7 @@ method_taken r m t rows h e =
       version = (above_of r).version;
       class_token = (above_of r).class_token;
       method_token = λ n. (read_written r.method_tokens (method_number m) (method_number n) (Some t) h) i;
+      random = r.random;
     } in
     written ∙ ap (λ (a : Above). with_method a m t) e
 
@@ -112,6 +118,13 @@ extended_in r = record r { extended = true }
 
 pub above-extended_in : (r : Reading) (rows : List Row) → above_of r ≡ above rows → above_of (extended_in r) ≡ above (Extended ∷ rows)
 above-extended_in r rows e = ap (λ (a : Above). record a { extended = true }) e
+
+-- a reader that took the line `random` in
+abbrev pub random_in_reader : Reading → List ℕ → Reading
+random_in_reader r bytes = record r { random = Some bytes }
+
+pub above-random_in_reader : (r : Reading) (bytes : List ℕ) (rows : List Row) → above_of r ≡ above rows → above_of (random_in_reader r bytes) ≡ above (Random bytes ∷ rows)
+above-random_in_reader r bytes rows e = ap (λ (a : Above). record a { random = Some bytes }) e
 
 pub above-package_in : (r : Reading) (vs : List (Option Version)) (f p : PlatformPackage) (v : Version) → vs ≡ set r.versions (package_number p) (Some v)
     → f ≡ unwrap_or r.first p → package_number p < length r.versions → (rows : List Row) → above_of r ≡ above rows

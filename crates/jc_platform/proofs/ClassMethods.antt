@@ -4,10 +4,10 @@ use Rattle.std.specs.List.{filter, list_any}
 use Rattle.jc_platform.specs.declared.names.PlatformClass.{PlatformClass}
 use Rattle.jc_platform.specs.declared.names.PlatformClass.TheVariants.{Object}
 use Rattle.jc_platform.specs.declared.rows.Room.{Room}
-use Rattle.jc_platform.specs.declared.rows.Room.TheVariants.{Objects, Exceptions, Utilities, System, Aids, Pins, Applets, Apdus, Events}
+use Rattle.jc_platform.specs.declared.rows.Room.TheVariants.{Objects, Exceptions, Utilities, System, Aids, Pins, Applets, Apdus, Events, Engines}
 use Rattle.jc_platform.specs.declared.rows.Stretch.{Stretch}
 use Rattle.jc_platform.specs.declared.rows.MethodRow.{MethodRow}
-use Rattle.jc_platform.specs.Names.{objects_rows, exceptions_rows, utilities_rows, system_rows, aids_rows, pins_rows, applets_rows, apdus_rows, events_rows}
+use Rattle.jc_platform.specs.Names.{objects_rows, exceptions_rows, utilities_rows, system_rows, aids_rows, pins_rows, applets_rows, apdus_rows, events_rows, engines_rows}
 use Rattle.jc_platform.specs.Numbers.{class_number}
 use Rattle.jc_platform.specs.Rooms.{rows_of}
 use Rattle.jc_platform.specs.Rows.{methods_of}
@@ -58,19 +58,23 @@ stretches =
     stretch Events 0 2 ∷
     stretch Events 2 3 ∷
     stretch Objects 0 0 ∷
+    stretch Exceptions 21 23 ∷
+    stretch Engines 0 6 ∷
+    stretch Engines 6 11 ∷
+    stretch Engines 11 16 ∷
     []
 
 abbrev pub stretch_of : ℕ → Stretch
 stretch_of n = get_or stretches n (stretch Objects 0 0)
 
 pub ends_within : (c : PlatformClass) → (stretch_of (class_number c)).end ≤ length (rows_of (stretch_of (class_number c)).room)
-unfolding objects_rows exceptions_rows utilities_rows system_rows aids_rows pins_rows applets_rows apdus_rows events_rows
+unfolding objects_rows exceptions_rows utilities_rows system_rows aids_rows pins_rows applets_rows apdus_rows events_rows engines_rows
 ends_within Object = lit≤ tt
 ends_within _ = lit≤ tt
 
 stand_together : (c : PlatformClass) → take ((stretch_of (class_number c)).end - (stretch_of (class_number c)).first)
     (drop (stretch_of (class_number c)).first (rows_of (stretch_of (class_number c)).room)) ≡ methods_of c
-unfolding objects_rows exceptions_rows utilities_rows system_rows aids_rows pins_rows applets_rows apdus_rows events_rows
+unfolding objects_rows exceptions_rows utilities_rows system_rows aids_rows pins_rows applets_rows apdus_rows events_rows engines_rows
 stand_together Object = refl
 stand_together _ = refl
 

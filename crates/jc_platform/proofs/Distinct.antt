@@ -12,7 +12,7 @@ use Rattle.jc_platform.specs.declared.names.MethodKind.{MethodKind}
 use Rattle.jc_platform.specs.declared.names.PlatformMethod.{PlatformMethod}
 use Rattle.jc_platform.specs.declared.names.PlatformPackage.{PlatformPackage}
 use Rattle.jc_platform.specs.declared.row.Row.{Row}
-use Rattle.jc_platform.specs.declared.row.Row.TheVariants.{Extended, Package, Class, Method}
+use Rattle.jc_platform.specs.declared.row.Row.TheVariants.{Extended, Random, Package, Class, Method}
 use Rattle.jc_platform.specs.Distinct.{AreDistinct, class_of, entry_of_class, home_of, kind_of_method}
 use Rattle.jc_platform.specs.Names.{MethodEntry, classes, methods, no_class, no_method}
 use Rattle.jc_platform.specs.Numbers.{class_number, method_number, same_class, same_kind, same_package}
@@ -116,6 +116,7 @@ distinct_classes [] [] said c d t k g h = absurd (let e : None ≡ Some t = g in
 distinct_classes [] (row ∷ rows) said c d t k g h = absurd said
 distinct_classes (line ∷ lines) [] said c d t k g h = absurd said
 distinct_classes (line ∷ lines) (Extended ∷ rows) said c d t k g h = distinct_classes lines rows said.1 c d t k g h
+distinct_classes (line ∷ lines) (Random bytes ∷ rows) said c d t k g h = distinct_classes lines rows said.1 c d t k g h
 distinct_classes (line ∷ lines) (Package p v ∷ rows) said c d t k g h = distinct_classes lines rows said.1 c d t k g h
 distinct_classes (line ∷ lines) (Method m s ∷ rows) said c d t k g h = distinct_classes lines rows said.1 c d t k g h
 distinct_classes (line ∷ lines) (Class b s ∷ rows) said c d t k g h =
@@ -134,6 +135,7 @@ distinct_methods [] [] said c d t k g h = absurd (let e : None ≡ Some t = g in
 distinct_methods [] (row ∷ rows) said c d t k g h = absurd said
 distinct_methods (line ∷ lines) [] said c d t k g h = absurd said
 distinct_methods (line ∷ lines) (Extended ∷ rows) said c d t k g h = distinct_methods lines rows said.1 c d t k g h
+distinct_methods (line ∷ lines) (Random bytes ∷ rows) said c d t k g h = distinct_methods lines rows said.1 c d t k g h
 distinct_methods (line ∷ lines) (Package p v ∷ rows) said c d t k g h = distinct_methods lines rows said.1 c d t k g h
 distinct_methods (line ∷ lines) (Class m s ∷ rows) said c d t k g h = distinct_methods lines rows said.1 c d t k g h
 distinct_methods (line ∷ lines) (Method b s ∷ rows) said c d t k g h =

@@ -10,7 +10,7 @@ use Rattle.jc_platform.specs.declared.names.PlatformClass.TheVariants.{Object}
 use Rattle.jc_platform.specs.declared.names.MethodKind.{MethodKind}
 use Rattle.jc_platform.specs.declared.names.MethodKind.TheVariants.{Static, Virtual, Interface}
 use Rattle.jc_platform.specs.declared.names.PlatformMethod.{PlatformMethod}
-use Rattle.jc_platform.specs.declared.names.PlatformMethod.TheVariants.{Objects, Exceptions, Utilities, System, Aids, Pins, Applets, Apdus, Events}
+use Rattle.jc_platform.specs.declared.names.PlatformMethod.TheVariants.{Objects, Exceptions, Utilities, System, Aids, Pins, Applets, Apdus, Events, Engines}
 use Rattle.jc_platform.specs.declared.names.ObjectsMethod.TheVariants.{ObjectInit}
 use Rattle.jc_platform.specs.declared.names.ExceptionsMethod.TheVariants.{CardExceptionInit}
 use Rattle.jc_platform.specs.declared.names.UtilitiesMethod.TheVariants.{UtilArrayCompare}
@@ -20,13 +20,14 @@ use Rattle.jc_platform.specs.declared.names.PinsMethod.TheVariants.{PinCheck}
 use Rattle.jc_platform.specs.declared.names.AppletsMethod.TheVariants.{AppletInit}
 use Rattle.jc_platform.specs.declared.names.ApdusMethod.TheVariants.{ApduGetBuffer}
 use Rattle.jc_platform.specs.declared.names.EventsMethod.TheVariants.{MultiSelectableSelect}
+use Rattle.jc_platform.specs.declared.names.EnginesMethod.TheVariants.{MessageDigestGetInstance}
 use Rattle.jc_platform.specs.Distinct.{class_of, entry_of_class, entry_of_method, home_of, kind_of_method, name_of_method}
 use Rattle.jc_platform.specs.Hierarchy.{is_exception_form, is_interface_form}
 use Rattle.jc_platform.specs.Names.{MethodEntry, classes, methods, no_method}
-use Rattle.jc_platform.specs.Names.{objects_rows, exceptions_rows, utilities_rows, system_rows, aids_rows, pins_rows, applets_rows, apdus_rows, events_rows}
+use Rattle.jc_platform.specs.Names.{objects_rows, exceptions_rows, utilities_rows, system_rows, aids_rows, pins_rows, applets_rows, apdus_rows, events_rows, engines_rows}
 use Rattle.jc_platform.specs.Numbers.{class_count, class_number, method_count, method_number, same_class, same_kind, same_package}
 use Rattle.jc_platform.specs.Signatures.{is_constructor_name}
-use Rattle.jc_platform.specs.Numbers.{objects_count, exceptions_count, utilities_count, system_count, aids_count, pins_count, applets_count, apdus_count, events_count}
+use Rattle.jc_platform.specs.Numbers.{objects_count, exceptions_count, utilities_count, system_count, aids_count, pins_count, applets_count, apdus_count, events_count, engines_count}
 
 -- ---- how many there are
 
@@ -35,7 +36,7 @@ unfolding classes
 class_places = refl
 
 pub method_places : length methods ≡ method_count
-unfolding objects_rows exceptions_rows utilities_rows system_rows aids_rows pins_rows applets_rows apdus_rows events_rows
+unfolding objects_rows exceptions_rows utilities_rows system_rows aids_rows pins_rows applets_rows apdus_rows events_rows engines_rows
 method_places = refl
 
 pub objects_places : length objects_rows ≡ objects_count
@@ -74,6 +75,10 @@ pub events_places : length events_rows ≡ events_count
 unfolding events_rows
 events_places = refl
 
+pub engines_places : length engines_rows ≡ engines_count
+unfolding engines_rows
+engines_places = refl
+
 -- ---- each name has its own row, so numbers are distinct
 
 pub class_at_place : (c : PlatformClass) → (entry_of_class c).class ≡ c
@@ -82,7 +87,7 @@ class_at_place Object = refl
 class_at_place _ = refl
 
 pub method_at_place : (m : PlatformMethod) → (entry_of_method m).method ≡ m
-unfolding objects_rows exceptions_rows utilities_rows system_rows aids_rows pins_rows applets_rows apdus_rows events_rows
+unfolding objects_rows exceptions_rows utilities_rows system_rows aids_rows pins_rows applets_rows apdus_rows events_rows engines_rows
 method_at_place (Objects ObjectInit) = refl
 method_at_place (Objects _) = refl
 method_at_place (Exceptions CardExceptionInit) = refl
@@ -101,10 +106,12 @@ method_at_place (Apdus ApduGetBuffer) = refl
 method_at_place (Apdus _) = refl
 method_at_place (Events MultiSelectableSelect) = refl
 method_at_place (Events _) = refl
+method_at_place (Engines MessageDigestGetInstance) = refl
+method_at_place (Engines _) = refl
 
 -- a method's number is its place in the list of all
 pub at_number : (m : PlatformMethod) → get_or methods (method_number m) no_method ≡ entry_of_method m
-unfolding objects_rows exceptions_rows utilities_rows system_rows aids_rows pins_rows applets_rows apdus_rows events_rows
+unfolding objects_rows exceptions_rows utilities_rows system_rows aids_rows pins_rows applets_rows apdus_rows events_rows engines_rows
 at_number (Objects ObjectInit) = refl
 at_number (Objects _) = refl
 at_number (Exceptions CardExceptionInit) = refl
@@ -123,6 +130,8 @@ at_number (Apdus ApduGetBuffer) = refl
 at_number (Apdus _) = refl
 at_number (Events MultiSelectableSelect) = refl
 at_number (Events _) = refl
+at_number (Engines MessageDigestGetInstance) = refl
+at_number (Engines _) = refl
 
 -- ---- the lists
 
@@ -131,7 +140,7 @@ unfolding classes
 homes = refl
 
 pub method_homes : list_all (λ e. same_class (class_of e.method) e.class && same_kind (kind_of_method e.method) e.kind) methods ≡ true
-unfolding objects_rows exceptions_rows utilities_rows system_rows aids_rows pins_rows applets_rows apdus_rows events_rows
+unfolding objects_rows exceptions_rows utilities_rows system_rows aids_rows pins_rows applets_rows apdus_rows events_rows engines_rows
 method_homes = refl
 
 -- cells and parameters are counted in a byte
@@ -140,7 +149,7 @@ unfolding classes
 few_cells = refl
 
 pub few_parameters : list_all (λ e. nat_lt (length e.parameters) 255) methods ≡ true
-unfolding objects_rows exceptions_rows utilities_rows system_rows aids_rows pins_rows applets_rows apdus_rows events_rows
+unfolding objects_rows exceptions_rows utilities_rows system_rows aids_rows pins_rows applets_rows apdus_rows events_rows engines_rows
 few_parameters = refl
 
 -- superclasses and interfaces come earlier, and they are of that form
@@ -182,7 +191,7 @@ agree true b = b
 agree false b = not b
 
 pub receivers_are_there : list_all (λ e. agree (not (is_absent e.receiver)) (has_receiver e)) methods ≡ true
-unfolding objects_rows exceptions_rows utilities_rows system_rows aids_rows pins_rows applets_rows apdus_rows events_rows
+unfolding objects_rows exceptions_rows utilities_rows system_rows aids_rows pins_rows applets_rows apdus_rows events_rows engines_rows
 receivers_are_there = refl
 
 -- a method of an interface is carried out by a virtual method of this name, of a class that implements the interface
@@ -192,7 +201,7 @@ is_carried_out e (Some m) = bytes_eq (name_of_method m) e.name && same_kind (kin
     && list_any (λ i. same_class i e.class) (entry_of_class (class_of m)).interfaces
 
 pub carried_out : list_all (λ e. is_carried_out e e.implementation) methods ≡ true
-unfolding classes objects_rows exceptions_rows utilities_rows system_rows aids_rows pins_rows applets_rows apdus_rows events_rows
+unfolding classes objects_rows exceptions_rows utilities_rows system_rows aids_rows pins_rows applets_rows apdus_rows events_rows engines_rows
 carried_out = refl
 
 -- names tell the methods of a class and a kind apart
@@ -239,3 +248,7 @@ apdus_apart = refl
 pub events_apart : told_apart events_rows ≡ true
 unfolding events_rows
 events_apart = refl
+
+pub engines_apart : told_apart engines_rows ≡ true
+unfolding engines_rows
+engines_apart = refl

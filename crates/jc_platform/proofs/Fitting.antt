@@ -6,14 +6,15 @@ use Rattle.std.specs.Str.{bytes_eq}
 use Rattle.jc_platform.specs.declared.names.PlatformClass.{PlatformClass}
 use Rattle.jc_platform.specs.declared.names.MethodKind.{MethodKind}
 use Rattle.jc_platform.specs.declared.row.Row.{Row}
-use Rattle.jc_platform.specs.declared.row.Row.TheVariants.{Extended, Package, Class, Method}
+use Rattle.jc_platform.specs.declared.row.Row.TheVariants.{Extended, Random, Package, Class, Method}
 use Rattle.jc_platform.specs.Names.{PackageEntry, ClassEntry, MethodEntry, packages, classes}
 use Rattle.jc_platform.specs.Rows.{Above, class_row, kind_of, may_be_class, may_be_method, may_be_package, method_named, method_row, number_of, package_row}
-use Rattle.jc_platform.specs.Rows.{extended_row, may_be_extended, row_of}
+use Rattle.jc_platform.specs.Rows.{bytes_of, extended_row, may_be_extended, may_be_random, random_row, row_of}
 
 -- the entry that a row stands for, and that it may stand there
 abbrev pub IsFitting : Above → Row → Type 0
 IsFitting a Extended = Unit {0}
+IsFitting a (Random bytes) = Unit {0}
 IsFitting a (Package p v) = may_be_package a p ≡ true
 IsFitting a (Class c t) = (e : ClassEntry) × (e.class ≡ c) × (name : List ℕ) × (find (λ f. bytes_eq f.name name) classes ≡ Some e) × (may_be_class a e t ≡ true)
 IsFitting a (Method m t) = (e : MethodEntry) × (e.method ≡ m) × (c : PlatformClass) × (k : MethodKind) × (name : List ℕ) × (method_named c k name ≡ Some e)
@@ -27,10 +28,21 @@ if_some : (b : Bool) (r s : Row) → (if b then Some r else None) ≡ Some s →
 if_some true r s e = (refl, (let g : Some r ≡ Some s = e in cc))
 if_some false r s e = absurd (let g : None ≡ Some s = e in cc)
 
+then_row : (b : Bool) (o : Option Row) (s : Row) → (if b then o else None) ≡ Some s → o ≡ Some s
+then_row true o s e = e
+then_row false o s e = absurd (let g : None ≡ Some s = e in cc)
+
 extended_fits : (a : Above) (word : List ℕ) (row : Row) → extended_row a word ≡ Some row → IsFitting a row
 extended_fits a word row h =
     let x = if_some (bytes_eq word (codes "extended") && may_be_extended a) Extended row h in
     subst (λ (r : Row). IsFitting a r) x.1 tt
+
+random_fits : (a : Above) (keyword word : List ℕ) (row : Row) → random_row a keyword word ≡ Some row → IsFitting a row
+random_fits a keyword word row h =
+    let x = then_row (bytes_eq keyword (codes "random")) (option_and_then (λ bytes. if may_be_random a then Some (Random bytes) else None) (bytes_of word)) row h in
+    let u = then_some (λ (bytes : List ℕ). if may_be_random a then Some (Random bytes) else None) (bytes_of word) row x in
+    let w = if_some (may_be_random a) (Random u.0) row u.2 in
+    subst (λ (r : Row). IsFitting a r) w.1 tt
 
 package_fits : (a : Above) (aid major minor : List ℕ) (row : Row) → package_row a aid major minor ≡ Some row → IsFitting a row
 package_fits a aid major minor row h =
@@ -76,7 +88,7 @@ no_row G row h = absurd (let g : None ≡ Some row = h in cc)
 pub row_fits : (a : Above) (words : List (List ℕ)) (row : Row) → row_of a words ≡ Some row → IsFitting a row
 row_fits a [] row h = no_row (IsFitting a row) row h
 row_fits a (k ∷ []) row h = extended_fits a k row h
-row_fits a (k ∷ x ∷ []) row h = no_row (IsFitting a row) row h
+row_fits a (k ∷ x ∷ []) row h = random_fits a k x row h
 row_fits a (k ∷ x ∷ y ∷ []) row h = either (IsFitting a row) (bytes_eq k (codes "class")) (class_row a x y) (method_row a k x y) row (class_fits a x y row)
     (method_fits a k x y row) h
 row_fits a (k ∷ x ∷ y ∷ z ∷ []) row h = either (IsFitting a row) (bytes_eq k (codes "package")) (package_row a x y z) None row (package_fits a x y z row)

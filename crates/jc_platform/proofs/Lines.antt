@@ -50,7 +50,7 @@ more_words a line k r x s y z X f g (Some p) one two three four h = five_words a
 pub bad_row : (a : Above) (line bytes : List ℕ) → row_of_line a line ≡ None → IsBad a line (parts_at 10 bytes)
 bad_row a line bytes h = let s = has_parts 10 bytes in subst (λ (m : List (List ℕ)). IsBad a line m) (sym s.are) h
 
--- so many lines of a text were read and say what is above, and the rest is to come
+-- this many lines of a text were read and say what is above, and the rest is to come
 pub record IsReadTo (text rest : List ℕ) (number : ℕ) (a : Above) : Type 0 where
   pub lines : List (List ℕ)
   pub rows : List Row

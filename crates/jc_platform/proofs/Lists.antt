@@ -119,7 +119,7 @@ pub all_through : {X Y : Type 0} (p : Y → Bool) (f : X → Y) (xs : List X) (y
     → r ≡ list_all p ys
 all_through p f xs ys r e all = all ∙ sym (list_all-map p f xs) ∙ ap (list_all p) e
 
--- a list of one element alone has it anywhere, and that behind its end
+-- a list of one element alone has it anywhere, and that after its end
 pub all_alike : {X : Type 0} (x : X) (n k : ℕ) → get_or (replicate n x) k x ≡ x
 all_alike x zero k = refl
 all_alike x (suc n) zero = refl

@@ -10,11 +10,11 @@ use Rattle.jc_platform.specs.declared.names.MethodKind.{MethodKind}
 use Rattle.jc_platform.specs.declared.names.MethodKind.TheVariants.{Static, Virtual, Interface}
 use Rattle.jc_platform.specs.declared.names.PlatformMethod.{PlatformMethod}
 use Rattle.jc_platform.specs.declared.names.PlatformPackage.{PlatformPackage}
-use Rattle.jc_platform.specs.declared.names.PlatformPackage.TheVariants.{JavaLang, JavacardFramework, JavacardxApdu}
+use Rattle.jc_platform.specs.declared.names.PlatformPackage.TheVariants.{JavaLang, JavacardFramework, JavacardxApdu, JavacardSecurity}
 use Rattle.jc_platform.specs.Distinct.{AreDistinct, class_of, entry_of_class, entry_of_method, home_of, is_needed_class, is_needed_method}
 use Rattle.jc_platform.specs.Distinct.{kind_of_method}
 use Rattle.jc_platform.specs.Names.{ClassEntry, MethodEntry, classes, methods, no_class, no_method}
-use Rattle.jc_platform.specs.Numbers.{class_number, method_number, same_class, same_kind, same_package}
+use Rattle.jc_platform.specs.Numbers.{class_number, is_needed_package, method_number, same_class, same_kind, same_package}
 use Rattle.jc_platform.specs.Platform.{TellNames, class_by_token, method_by_token, package_by_number}
 use Rattle.jc_platform.specs.Rows.{Above, above, is_token}
 use Rattle.jc_platform.specs.Table.{AreThoseOf, Reads}
@@ -23,7 +23,7 @@ use Rattle.jc_platform.proofs.Distinct.{both, class_by_number, distinct, found_h
 use Rattle.jc_platform.proofs.Facts.{at_number, class_at_place, class_places, homes, method_at_place, method_homes, method_places}
 use Rattle.jc_platform.proofs.Lists.{and_true}
 use Rattle.jc_platform.proofs.Numbers.{class_below, method_below}
-use Rattle.jc_platform.proofs.Versions.{class_stands, method_stands, never_first}
+use Rattle.jc_platform.proofs.Versions.{class_stands, first_needed, method_stands}
 
 -- an element that passes is found
 abbrev Found : {X : Type 0} → (X → Bool) → List X → Type 0
@@ -41,13 +41,20 @@ found_at p (x ∷ xs) (suc k) d h passes = found_case p x xs (p x) refl (λ no. 
 same_package_is : (p q : PlatformPackage) → same_package p q ≡ true → p ≡ q
 same_package_is JavaLang JavaLang e = refl
 same_package_is JavaLang JavacardFramework e = absurd (false≢true e)
+same_package_is JavaLang JavacardxApdu e = absurd (false≢true e)
+same_package_is JavaLang JavacardSecurity e = absurd (false≢true e)
 same_package_is JavacardFramework JavaLang e = absurd (false≢true e)
 same_package_is JavacardFramework JavacardFramework e = refl
-same_package_is JavaLang JavacardxApdu e = absurd (false≢true e)
 same_package_is JavacardFramework JavacardxApdu e = absurd (false≢true e)
+same_package_is JavacardFramework JavacardSecurity e = absurd (false≢true e)
 same_package_is JavacardxApdu JavaLang e = absurd (false≢true e)
 same_package_is JavacardxApdu JavacardFramework e = absurd (false≢true e)
 same_package_is JavacardxApdu JavacardxApdu e = refl
+same_package_is JavacardxApdu JavacardSecurity e = absurd (false≢true e)
+same_package_is JavacardSecurity JavaLang e = absurd (false≢true e)
+same_package_is JavacardSecurity JavacardFramework e = absurd (false≢true e)
+same_package_is JavacardSecurity JavacardxApdu e = absurd (false≢true e)
+same_package_is JavacardSecurity JavacardSecurity e = refl
 
 same_kind_is : (k l : MethodKind) → same_kind k l ≡ true → k ≡ l
 same_kind_is Static Static e = refl
@@ -65,22 +72,26 @@ same_class_is c d e = class_by_number c d ((Decides-eqb (class_number c) (class_
 
 -- the number of a package where this one stands first
 abbrev numbered : PlatformPackage → PlatformPackage → ℕ
-numbered first p = if same_package p JavacardxApdu then 66 else (if same_package p first then 64 else 65)
+numbered first p = if same_package p JavacardxApdu then 66 else (if same_package p JavacardSecurity then 67 else (if same_package p first then 64 else 65))
 
-package_told : (first p : PlatformPackage) → (first ≡ JavacardxApdu → ⊥) → (if numbered first p == numbered first JavaLang then Some JavaLang else
+package_told : (first p : PlatformPackage) → is_needed_package first ≡ true → (if numbered first p == numbered first JavaLang then Some JavaLang else
     (if numbered first p == numbered first JavacardFramework then Some JavacardFramework else
-    (if numbered first p == numbered first JavacardxApdu then Some JavacardxApdu else None))) ≡ Some p
-package_told JavaLang JavaLang other = refl
-package_told JavaLang JavacardFramework other = refl
-package_told JavaLang JavacardxApdu other = refl
-package_told JavacardFramework JavaLang other = refl
-package_told JavacardFramework JavacardFramework other = refl
-package_told JavacardFramework JavacardxApdu other = refl
-package_told JavacardxApdu p other = absurd (other refl)
+    (if numbered first p == numbered first JavacardxApdu then Some JavacardxApdu else
+    (if numbered first p == numbered first JavacardSecurity then Some JavacardSecurity else None)))) ≡ Some p
+package_told JavaLang JavaLang needed = refl
+package_told JavaLang JavacardFramework needed = refl
+package_told JavaLang JavacardxApdu needed = refl
+package_told JavaLang JavacardSecurity needed = refl
+package_told JavacardFramework JavaLang needed = refl
+package_told JavacardFramework JavacardFramework needed = refl
+package_told JavacardFramework JavacardxApdu needed = refl
+package_told JavacardFramework JavacardSecurity needed = refl
+package_told JavacardxApdu p needed = absurd (false≢true needed)
+package_told JavacardSecurity p needed = absurd (false≢true needed)
 
-told_package : (t : Tokens) → (t.first ≡ JavacardxApdu → ⊥) → (p : PlatformPackage) → package_by_number t (number_in t p) ≡ Some p
+told_package : (t : Tokens) → is_needed_package t.first ≡ true → (p : PlatformPackage) → package_by_number t (number_in t p) ≡ Some p
 unfolding package_by_number
-told_package t other p = package_told t.first p other
+told_package t needed p = package_told t.first p needed
 
 token_is : (o : Option ℕ) (k : ℕ) → is_token o k ≡ true → o ≡ Some k
 token_is None k e = absurd (false≢true e)
@@ -139,7 +150,7 @@ names_told text t read =
     let apart : AreDistinct t = distinct text t read in
     let a : Above = above read.1.0 in
     let said = read.1.1 in record {
-      packages = told_package t (λ e. never_first said.0 read.1.0 said.2 (read.1.2.first ∙ ap Some e));
+      packages = told_package t (first_needed said.0 read.1.0 said.2 t.first read.1.2.first);
       classes = told_class t apart;
       methods = told_method t apart;
       needed_classes = needed_class a t read.1.2;

@@ -1,11 +1,11 @@
 -- Each number below the count of the classes or the methods is that of one of them, and of one alone.
 use Rattle.std.proofs.Common.{◌≡◌, ◌<◌, ℕ, map, refl, ◌∙◌, zero-add, lit<}
 use Rattle.jc_platform.specs.declared.names.PlatformPackage.{PlatformPackage}
-use Rattle.jc_platform.specs.declared.names.PlatformPackage.TheVariants.{JavaLang, JavacardFramework, JavacardxApdu}
+use Rattle.jc_platform.specs.declared.names.PlatformPackage.TheVariants.{JavaLang, JavacardFramework, JavacardxApdu, JavacardSecurity}
 use Rattle.jc_platform.specs.declared.names.PlatformClass.{PlatformClass}
 use Rattle.jc_platform.specs.declared.names.PlatformClass.TheVariants.{Object}
 use Rattle.jc_platform.specs.declared.names.PlatformMethod.{PlatformMethod}
-use Rattle.jc_platform.specs.declared.names.PlatformMethod.TheVariants.{Objects, Exceptions, Utilities, System, Aids, Pins, Applets, Apdus, Events}
+use Rattle.jc_platform.specs.declared.names.PlatformMethod.TheVariants.{Objects, Exceptions, Utilities, System, Aids, Pins, Applets, Apdus, Events, Engines}
 use Rattle.jc_platform.specs.declared.names.ObjectsMethod.TheVariants.{ObjectInit}
 use Rattle.jc_platform.specs.declared.names.ExceptionsMethod.TheVariants.{CardExceptionInit}
 use Rattle.jc_platform.specs.declared.names.UtilitiesMethod.TheVariants.{UtilArrayCompare}
@@ -15,9 +15,10 @@ use Rattle.jc_platform.specs.declared.names.PinsMethod.TheVariants.{PinCheck}
 use Rattle.jc_platform.specs.declared.names.AppletsMethod.TheVariants.{AppletInit}
 use Rattle.jc_platform.specs.declared.names.ApdusMethod.TheVariants.{ApduGetBuffer}
 use Rattle.jc_platform.specs.declared.names.EventsMethod.TheVariants.{MultiSelectableSelect}
+use Rattle.jc_platform.specs.declared.names.EnginesMethod.TheVariants.{MessageDigestGetInstance}
 use Rattle.jc_platform.specs.Names.{classes, methods, packages}
-use Rattle.jc_platform.specs.Names.{objects_rows, exceptions_rows, utilities_rows, system_rows, aids_rows, pins_rows, applets_rows, apdus_rows, events_rows}
-use Rattle.jc_platform.specs.Numbers.{package_number, class_count, class_number, method_count, method_number}
+use Rattle.jc_platform.specs.Names.{objects_rows, exceptions_rows, utilities_rows, system_rows, aids_rows, pins_rows, applets_rows, apdus_rows, events_rows, engines_rows}
+use Rattle.jc_platform.specs.Numbers.{package_count, package_number, class_count, class_number, method_count, method_number}
 use Rattle.jc_platform.proofs.Lists.{numbered_at}
 
 pub class_at : (k : ℕ) → k < class_count → (c : PlatformClass) × (class_number c ≡ k)
@@ -27,21 +28,22 @@ class_at k h =
     (w.0, w.1 ∙ zero-add k)
 
 pub method_at : (k : ℕ) → k < method_count → (m : PlatformMethod) × (method_number m ≡ k)
-unfolding objects_rows exceptions_rows utilities_rows system_rows aids_rows pins_rows applets_rows apdus_rows events_rows
+unfolding objects_rows exceptions_rows utilities_rows system_rows aids_rows pins_rows applets_rows apdus_rows events_rows engines_rows
 method_at k h =
     let w = numbered_at method_number (map (λ e. e.method) methods) 0 k refl h in
     (w.0, w.1 ∙ zero-add k)
 
-pub package_at : (k : ℕ) → k < 3 → (p : PlatformPackage) × (package_number p ≡ k)
+pub package_at : (k : ℕ) → k < package_count → (p : PlatformPackage) × (package_number p ≡ k)
 unfolding packages
 package_at k h =
     let w = numbered_at package_number (map (λ e. e.package_id) packages) 0 k refl h in
     (w.0, w.1 ∙ zero-add k)
 
-pub package_below : (p : PlatformPackage) → package_number p < 3
+pub package_below : (p : PlatformPackage) → package_number p < package_count
 package_below JavaLang = lit< tt
 package_below JavacardFramework = lit< tt
 package_below JavacardxApdu = lit< tt
+package_below JavacardSecurity = lit< tt
 
 pub class_below : (c : PlatformClass) → class_number c < class_count
 class_below Object = lit< tt
@@ -66,3 +68,5 @@ method_below (Apdus ApduGetBuffer) = lit< tt
 method_below (Apdus _) = lit< tt
 method_below (Events MultiSelectableSelect) = lit< tt
 method_below (Events _) = lit< tt
+method_below (Engines MessageDigestGetInstance) = lit< tt
+method_below (Engines _) = lit< tt

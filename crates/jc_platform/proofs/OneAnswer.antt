@@ -168,7 +168,8 @@ one_table text t u a b =
     (one_class t.class_tokens u.class_tokens (λ c. sym (x.class_tokens c) ∙ y.class_tokens c)) in
     let methods = all_same t.method_tokens u.method_tokens method_count x.as_many_methods y.as_many_methods
     (one_method t.method_tokens u.method_tokens (λ m. sym (x.method_tokens m) ∙ y.method_tokens m)) in
-    λ i. record { first = first i; versions = versions i; class_tokens = classes i; method_tokens = methods i }
+    let random = sym x.random ∙ y.random in
+    λ i. record { first = first i; versions = versions i; class_tokens = classes i; method_tokens = methods i; random = random i }
 
 -- two faults of one text are one
 pub one_fault : (text : List ℕ) (f g : TableFault) → Reads text (Err f) → Reads text (Err g) → f ≡ g

@@ -1,14 +1,14 @@
 -- Where names stand, and tokens that tell them apart.
-use Rattle.std.specs.Prelude.{ℕ, ◌≡◌, ◌+◌, ◌*◌, Bool, List, Some, slice_index_or}
+use Rattle.std.specs.Prelude.{ℕ, ◌≡◌, ◌+◌, ◌*◌, Bool, List, Option, None, Some, slice_index_or}
 use Rattle.jc_platform.specs.declared.names.PlatformPackage.{PlatformPackage}
 use Rattle.jc_platform.specs.declared.names.PlatformClass.{PlatformClass}
 use Rattle.jc_platform.specs.declared.names.MethodKind.{MethodKind}
 use Rattle.jc_platform.specs.declared.names.PlatformMethod.{PlatformMethod}
-use Rattle.jc_platform.specs.declared.names.PlatformMethod.TheVariants.{Objects, Exceptions, Utilities, System, Aids, Pins, Applets, Apdus, Events}
+use Rattle.jc_platform.specs.declared.names.PlatformMethod.TheVariants.{Objects, Exceptions, Utilities, System, Aids, Pins, Applets, Apdus, Events, Engines}
 use Rattle.jc_platform.specs.Names.{ClassEntry, MethodEntry, classes, no_class, no_method, objects_rows, exceptions_rows, utilities_rows, system_rows}
-use Rattle.jc_platform.specs.Names.{aids_rows, pins_rows, applets_rows, apdus_rows, events_rows}
-use Rattle.jc_platform.specs.Numbers.{class_number, objects_number, exceptions_number, utilities_number, system_number, aids_number, pins_number, applets_number, apdus_number, events_number}
-use Rattle.jc_platform.specs.Tokens.{Tokens, class_token, number_in, token_of_class, token_of_method}
+use Rattle.jc_platform.specs.Names.{aids_rows, pins_rows, applets_rows, apdus_rows, events_rows, engines_rows}
+use Rattle.jc_platform.specs.Numbers.{class_number, objects_number, exceptions_number, utilities_number, system_number, aids_number, pins_number, applets_number, apdus_number, events_number, engines_number}
+use Rattle.jc_platform.specs.Tokens.{Tokens, number_in, token_of_class, token_of_method}
 
 -- the row of a class
 abbrev pub entry_of_class : PlatformClass → ClassEntry
@@ -25,6 +25,7 @@ entry_of_method (Pins m) = slice_index_or pins_rows (pins_number m) no_method
 entry_of_method (Applets m) = slice_index_or applets_rows (applets_number m) no_method
 entry_of_method (Apdus m) = slice_index_or apdus_rows (apdus_number m) no_method
 entry_of_method (Events m) = slice_index_or events_rows (events_number m) no_method
+entry_of_method (Engines m) = slice_index_or engines_rows (engines_number m) no_method
 
 -- the package that a class is in
 abbrev pub home_of : PlatformClass → PlatformPackage
@@ -38,9 +39,15 @@ name_of_class c = (entry_of_class c).name
 abbrev pub is_needed_class : PlatformClass → Bool
 is_needed_class c = (entry_of_class c).needed
 
--- a class as an object's header names it: the number of its package times 256, and its token
+-- a class of the package with this number, with this token, as an object's header names it: the number times 256, and the token; without one a word that
+-- names no class
+abbrev pub word_of_token : ℕ → Option ℕ → ℕ
+word_of_token number None = 65535
+word_of_token number (Some token) = 256 * number + token
+
+-- a class as an object's header names it
 abbrev pub class_word : Tokens → PlatformClass → ℕ
-class_word t c = 256 * number_in t (home_of c) + class_token t c
+class_word t c = word_of_token (number_in t (home_of c)) (token_of_class t c)
 
 -- the class that a method is in
 abbrev pub class_of : PlatformMethod → PlatformClass

@@ -45,7 +45,7 @@ unfoldable pub is_thrown : PlatformClass → Bool
 is_thrown c = (entry_of_class c).thrown
 
 -- how many cells an instance has: an exception of the card its reason, an AID its length and its bytes, two in a cell, an
--- OwnerPIN its limit, maximum size, tries, length and value
+-- OwnerPIN its limit, maximum size, tries, length and value, an engine its algorithm and its state
 unfoldable pub cells_of : PlatformClass → ℕ
 cells_of c = length (entry_of_class c).cells
 
@@ -54,7 +54,7 @@ is_reference None = false
 is_reference (Some Number) = false
 is_reference (Some Reference) = true
 
--- a cell of an instance holds a reference: the fifth of an OwnerPIN, its value
+-- a cell of an instance holds a reference: the fifth of an OwnerPIN, its value, and the second of an engine, its state
 unfoldable pub holds_reference : PlatformClass → ℕ → Bool
 holds_reference c cell = is_reference (slice_get (entry_of_class c).cells cell)
 

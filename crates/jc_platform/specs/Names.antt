@@ -2,7 +2,7 @@
 use Rattle.std.specs.Prelude.{ℕ, Bool, true, false, Option, None, Some, List, [], ◌∷◌, ◌++◌, codes}
 use Rattle.hex.specs.Hex.{encode_upper}
 use Rattle.jc_platform.specs.declared.names.PlatformPackage.{PlatformPackage}
-use Rattle.jc_platform.specs.declared.names.PlatformPackage.TheVariants.{JavaLang, JavacardFramework, JavacardxApdu}
+use Rattle.jc_platform.specs.declared.names.PlatformPackage.TheVariants.{JavaLang, JavacardFramework, JavacardxApdu, JavacardSecurity}
 use Rattle.jc_platform.specs.declared.names.PlatformClass.{PlatformClass}
 use Rattle.jc_platform.specs.declared.names.PlatformClass.TheVariants.{Object, Throwable, Exception, RuntimeException, IndexOutOfBoundsException}
 use Rattle.jc_platform.specs.declared.names.PlatformClass.TheVariants.{ArithmeticException, ArrayIndexOutOfBoundsException, ArrayStoreException}
@@ -10,10 +10,11 @@ use Rattle.jc_platform.specs.declared.names.PlatformClass.TheVariants.{ClassCast
 use Rattle.jc_platform.specs.declared.names.PlatformClass.TheVariants.{Shareable, Pin, Applet, Apdu, Aid, JcSystem, Util, OwnerPin, CardException}
 use Rattle.jc_platform.specs.declared.names.PlatformClass.TheVariants.{CardRuntimeException, IsoException, PinException, SystemException, TransactionException}
 use Rattle.jc_platform.specs.declared.names.PlatformClass.TheVariants.{ApduException, UserException, Iso7816, MultiSelectable, AppletEvent, ExtendedLength}
+use Rattle.jc_platform.specs.declared.names.PlatformClass.TheVariants.{CryptoException, MessageDigest, Checksum, RandomData}
 use Rattle.jc_platform.specs.declared.names.MethodKind.{MethodKind}
 use Rattle.jc_platform.specs.declared.names.MethodKind.TheVariants as kind
 use Rattle.jc_platform.specs.declared.names.PlatformMethod.{PlatformMethod}
-use Rattle.jc_platform.specs.declared.names.PlatformMethod.TheVariants.{Objects, Exceptions, Utilities, System, Aids, Pins, Applets, Apdus, Events}
+use Rattle.jc_platform.specs.declared.names.PlatformMethod.TheVariants.{Objects, Exceptions, Utilities, System, Aids, Pins, Applets, Apdus, Events, Engines}
 use Rattle.jc_platform.specs.declared.names.ObjectsMethod.TheVariants.{ObjectInit, ObjectEquals, ThrowableInit, ExceptionInit, RuntimeExceptionInit}
 use Rattle.jc_platform.specs.declared.names.ObjectsMethod.TheVariants.{IndexOutOfBoundsExceptionInit, ArithmeticExceptionInit}
 use Rattle.jc_platform.specs.declared.names.ObjectsMethod.TheVariants.{ArrayIndexOutOfBoundsExceptionInit, ArrayStoreExceptionInit, ClassCastExceptionInit}
@@ -24,7 +25,7 @@ use Rattle.jc_platform.specs.declared.names.ExceptionsMethod.TheVariants.{CardRu
 use Rattle.jc_platform.specs.declared.names.ExceptionsMethod.TheVariants.{IsoExceptionThrowIt, PinExceptionInit, PinExceptionThrowIt, SystemExceptionInit}
 use Rattle.jc_platform.specs.declared.names.ExceptionsMethod.TheVariants.{SystemExceptionThrowIt, TransactionExceptionInit, TransactionExceptionThrowIt}
 use Rattle.jc_platform.specs.declared.names.ExceptionsMethod.TheVariants.{ApduExceptionInit, ApduExceptionThrowIt, UserExceptionInit, UserExceptionThrowIt}
-use Rattle.jc_platform.specs.declared.names.ExceptionsMethod.TheVariants.{UserExceptionInitWithoutReason}
+use Rattle.jc_platform.specs.declared.names.ExceptionsMethod.TheVariants.{UserExceptionInitWithoutReason, CryptoExceptionInit, CryptoExceptionThrowIt}
 use Rattle.jc_platform.specs.declared.names.UtilitiesMethod.TheVariants.{UtilArrayCompare, UtilArrayCopy, UtilGetShort, UtilMakeShort, UtilSetShort}
 use Rattle.jc_platform.specs.declared.names.UtilitiesMethod.TheVariants.{UtilArrayCopyNonAtomic, UtilArrayFill, UtilArrayFillNonAtomic}
 use Rattle.jc_platform.specs.declared.names.SystemMethod.TheVariants.{JcSystemAbortTransaction, JcSystemBeginTransaction, JcSystemCommitTransaction}
@@ -51,6 +52,10 @@ use Rattle.jc_platform.specs.declared.names.ApdusMethod.TheVariants.{ApduGetInBl
 use Rattle.jc_platform.specs.declared.names.ApdusMethod.TheVariants.{ApduIsCommandChainingCla, ApduIsSecureMessagingCla, ApduIsValidCla}
 use Rattle.jc_platform.specs.declared.names.ApdusMethod.TheVariants.{ApduSetOutgoingNoChaining, ApduWaitExtension, ApduGetCurrentApdu, ApduGetCurrentApduBuffer}
 use Rattle.jc_platform.specs.declared.names.EventsMethod.TheVariants.{MultiSelectableSelect, MultiSelectableDeselect, AppletEventUninstall}
+use Rattle.jc_platform.specs.declared.names.EnginesMethod.TheVariants.{MessageDigestGetInstance, MessageDigestGetAlgorithm, MessageDigestGetLength, MessageDigestUpdate}
+use Rattle.jc_platform.specs.declared.names.EnginesMethod.TheVariants.{MessageDigestDoFinal, MessageDigestReset, ChecksumGetInstance, ChecksumGetAlgorithm}
+use Rattle.jc_platform.specs.declared.names.EnginesMethod.TheVariants.{ChecksumInit, ChecksumUpdate, ChecksumDoFinal, RandomDataGetInstance, RandomDataGenerateData}
+use Rattle.jc_platform.specs.declared.names.EnginesMethod.TheVariants.{RandomDataNextBytes, RandomDataSetSeed, RandomDataGetAlgorithm}
 use Rattle.jc_platform.specs.declared.kinds.ClassForm.{ClassForm}
 use Rattle.jc_platform.specs.declared.kinds.ClassForm.TheVariants as form
 use Rattle.jc_platform.specs.declared.kinds.CellKind.{CellKind}
@@ -125,6 +130,7 @@ packages =
     record { package_id = JavaLang; aid_text = encode_upper (160 ∷ 0 ∷ 0 ∷ 0 ∷ 98 ∷ 0 ∷ 1 ∷ []) } ∷
     record { package_id = JavacardFramework; aid_text = encode_upper (160 ∷ 0 ∷ 0 ∷ 0 ∷ 98 ∷ 1 ∷ 1 ∷ []) } ∷
     record { package_id = JavacardxApdu; aid_text = encode_upper (160 ∷ 0 ∷ 0 ∷ 0 ∷ 98 ∷ 2 ∷ 9 ∷ []) } ∷
+    record { package_id = JavacardSecurity; aid_text = encode_upper (160 ∷ 0 ∷ 0 ∷ 0 ∷ 98 ∷ 1 ∷ 2 ∷ []) } ∷
     []
 
 -- every class
@@ -162,6 +168,10 @@ classes =
     optional_class JavacardFramework MultiSelectable (codes "MultiSelectable") None [] form.Interface [] false false ∷
     optional_class JavacardFramework AppletEvent (codes "AppletEvent") None [] form.Interface [] false false ∷
     optional_class JavacardxApdu ExtendedLength (codes "ExtendedLength") None [] form.Interface [] false false ∷
+    optional_class JavacardSecurity CryptoException (codes "CryptoException") (Some CardRuntimeException) [] form.Exception (Number ∷ []) true true ∷
+    optional_class JavacardSecurity MessageDigest (codes "MessageDigest") (Some Object) [] form.Object (Number ∷ Reference ∷ []) false false ∷
+    optional_class JavacardSecurity Checksum (codes "Checksum") (Some Object) [] form.Object (Number ∷ Reference ∷ []) false false ∷
+    optional_class JavacardSecurity RandomData (codes "RandomData") (Some Object) [] form.Object (Number ∷ Reference ∷ []) false false ∷
     []
 
 -- the methods of java.lang
@@ -206,6 +216,8 @@ exceptions_rows =
     method_entry UserException kind.Static (Exceptions UserExceptionInit) (codes "<init>") (Short ∷ []) answer.Void Changed ∷
     method_entry UserException kind.Static (Exceptions UserExceptionThrowIt) (codes "throwIt") (Short ∷ []) answer.Void Absent ∷
     optional_method UserException kind.Static (Exceptions UserExceptionInitWithoutReason) (codes "<init>WithoutReason") [] answer.Void Changed ∷
+    optional_method CryptoException kind.Static (Exceptions CryptoExceptionInit) (codes "<init>") (Short ∷ []) answer.Void Changed ∷
+    optional_method CryptoException kind.Static (Exceptions CryptoExceptionThrowIt) (codes "throwIt") (Short ∷ []) answer.Void Absent ∷
     []
 
 -- the methods of Util
@@ -329,9 +341,30 @@ events_rows =
     optional_method AppletEvent kind.Interface (Events AppletEventUninstall) (codes "uninstall") [] answer.Void Kept ∷
     []
 
+-- the methods of MessageDigest, Checksum and RandomData
+unfoldable pub engines_rows : List MethodEntry
+engines_rows =
+    optional_method MessageDigest kind.Static (Engines MessageDigestGetInstance) (codes "getInstance") (Byte ∷ Boolean ∷ []) answer.Reference Absent ∷
+    optional_method MessageDigest kind.Virtual (Engines MessageDigestGetAlgorithm) (codes "getAlgorithm") [] answer.Byte Kept ∷
+    optional_method MessageDigest kind.Virtual (Engines MessageDigestGetLength) (codes "getLength") [] answer.Byte Kept ∷
+    optional_method MessageDigest kind.Virtual (Engines MessageDigestUpdate) (codes "update") (Bytes ∷ Short ∷ Short ∷ []) answer.Void Kept ∷
+    optional_method MessageDigest kind.Virtual (Engines MessageDigestDoFinal) (codes "doFinal") (Bytes ∷ Short ∷ Short ∷ Bytes ∷ Short ∷ []) answer.Short Kept ∷
+    optional_method MessageDigest kind.Virtual (Engines MessageDigestReset) (codes "reset") [] answer.Void Kept ∷
+    optional_method Checksum kind.Static (Engines ChecksumGetInstance) (codes "getInstance") (Byte ∷ Boolean ∷ []) answer.Reference Absent ∷
+    optional_method Checksum kind.Virtual (Engines ChecksumGetAlgorithm) (codes "getAlgorithm") [] answer.Byte Kept ∷
+    optional_method Checksum kind.Virtual (Engines ChecksumInit) (codes "init") (Bytes ∷ Short ∷ Short ∷ []) answer.Void Kept ∷
+    optional_method Checksum kind.Virtual (Engines ChecksumUpdate) (codes "update") (Bytes ∷ Short ∷ Short ∷ []) answer.Void Kept ∷
+    optional_method Checksum kind.Virtual (Engines ChecksumDoFinal) (codes "doFinal") (Bytes ∷ Short ∷ Short ∷ Bytes ∷ Short ∷ []) answer.Short Kept ∷
+    optional_method RandomData kind.Static (Engines RandomDataGetInstance) (codes "getInstance") (Byte ∷ []) answer.Reference Absent ∷
+    optional_method RandomData kind.Virtual (Engines RandomDataGenerateData) (codes "generateData") (Bytes ∷ Short ∷ Short ∷ []) answer.Void Kept ∷
+    optional_method RandomData kind.Virtual (Engines RandomDataNextBytes) (codes "nextBytes") (Bytes ∷ Short ∷ Short ∷ []) answer.Short Kept ∷
+    optional_method RandomData kind.Virtual (Engines RandomDataSetSeed) (codes "setSeed") (Bytes ∷ Short ∷ Short ∷ []) answer.Void Kept ∷
+    optional_method RandomData kind.Virtual (Engines RandomDataGetAlgorithm) (codes "getAlgorithm") [] answer.Byte Kept ∷
+    []
+
 -- every method
 abbrev pub methods : List MethodEntry
-methods = objects_rows ++ (exceptions_rows ++ (utilities_rows ++ (system_rows ++ (aids_rows ++ (pins_rows ++ (applets_rows ++ (apdus_rows ++ (events_rows))))))))
+methods = objects_rows ++ (exceptions_rows ++ (utilities_rows ++ (system_rows ++ (aids_rows ++ (pins_rows ++ (applets_rows ++ (apdus_rows ++ (events_rows ++ (engines_rows)))))))))
 
 -- no class's row
 unfoldable pub no_class : ClassEntry

@@ -1,7 +1,7 @@
 -- The numbers of the platform's names: their places in the lists of all, and of a method also its place in its room.
-use Rattle.std.specs.Prelude.{ℕ, Bool, ◌==◌, ◌+◌}
+use Rattle.std.specs.Prelude.{ℕ, Bool, true, false, ◌==◌, ◌+◌}
 use Rattle.jc_platform.specs.declared.names.PlatformPackage.{PlatformPackage}
-use Rattle.jc_platform.specs.declared.names.PlatformPackage.TheVariants.{JavaLang, JavacardFramework, JavacardxApdu}
+use Rattle.jc_platform.specs.declared.names.PlatformPackage.TheVariants.{JavaLang, JavacardFramework, JavacardxApdu, JavacardSecurity}
 use Rattle.jc_platform.specs.declared.names.PlatformClass.{PlatformClass}
 use Rattle.jc_platform.specs.declared.names.PlatformClass.TheVariants.{Object, Throwable, Exception, RuntimeException, IndexOutOfBoundsException}
 use Rattle.jc_platform.specs.declared.names.PlatformClass.TheVariants.{ArithmeticException, ArrayIndexOutOfBoundsException, ArrayStoreException}
@@ -9,10 +9,11 @@ use Rattle.jc_platform.specs.declared.names.PlatformClass.TheVariants.{ClassCast
 use Rattle.jc_platform.specs.declared.names.PlatformClass.TheVariants.{Shareable, Pin, Applet, Apdu, Aid, JcSystem, Util, OwnerPin, CardException}
 use Rattle.jc_platform.specs.declared.names.PlatformClass.TheVariants.{CardRuntimeException, IsoException, PinException, SystemException, TransactionException}
 use Rattle.jc_platform.specs.declared.names.PlatformClass.TheVariants.{ApduException, UserException, Iso7816, MultiSelectable, AppletEvent, ExtendedLength}
+use Rattle.jc_platform.specs.declared.names.PlatformClass.TheVariants.{CryptoException, MessageDigest, Checksum, RandomData}
 use Rattle.jc_platform.specs.declared.names.MethodKind.{MethodKind}
 use Rattle.jc_platform.specs.declared.names.MethodKind.TheVariants.{Static, Virtual, Interface}
 use Rattle.jc_platform.specs.declared.names.PlatformMethod.{PlatformMethod}
-use Rattle.jc_platform.specs.declared.names.PlatformMethod.TheVariants.{Objects, Exceptions, Utilities, System, Aids, Pins, Applets, Apdus, Events}
+use Rattle.jc_platform.specs.declared.names.PlatformMethod.TheVariants.{Objects, Exceptions, Utilities, System, Aids, Pins, Applets, Apdus, Events, Engines}
 use Rattle.jc_platform.specs.declared.names.ObjectsMethod.{ObjectsMethod}
 use Rattle.jc_platform.specs.declared.names.ObjectsMethod.TheVariants.{ObjectInit, ObjectEquals, ThrowableInit, ExceptionInit, RuntimeExceptionInit}
 use Rattle.jc_platform.specs.declared.names.ObjectsMethod.TheVariants.{IndexOutOfBoundsExceptionInit, ArithmeticExceptionInit}
@@ -25,7 +26,7 @@ use Rattle.jc_platform.specs.declared.names.ExceptionsMethod.TheVariants.{CardRu
 use Rattle.jc_platform.specs.declared.names.ExceptionsMethod.TheVariants.{IsoExceptionThrowIt, PinExceptionInit, PinExceptionThrowIt, SystemExceptionInit}
 use Rattle.jc_platform.specs.declared.names.ExceptionsMethod.TheVariants.{SystemExceptionThrowIt, TransactionExceptionInit, TransactionExceptionThrowIt}
 use Rattle.jc_platform.specs.declared.names.ExceptionsMethod.TheVariants.{ApduExceptionInit, ApduExceptionThrowIt, UserExceptionInit, UserExceptionThrowIt}
-use Rattle.jc_platform.specs.declared.names.ExceptionsMethod.TheVariants.{UserExceptionInitWithoutReason}
+use Rattle.jc_platform.specs.declared.names.ExceptionsMethod.TheVariants.{UserExceptionInitWithoutReason, CryptoExceptionInit, CryptoExceptionThrowIt}
 use Rattle.jc_platform.specs.declared.names.UtilitiesMethod.{UtilitiesMethod}
 use Rattle.jc_platform.specs.declared.names.UtilitiesMethod.TheVariants.{UtilArrayCompare, UtilArrayCopy, UtilGetShort, UtilMakeShort, UtilSetShort}
 use Rattle.jc_platform.specs.declared.names.UtilitiesMethod.TheVariants.{UtilArrayCopyNonAtomic, UtilArrayFill, UtilArrayFillNonAtomic}
@@ -59,20 +60,25 @@ use Rattle.jc_platform.specs.declared.names.ApdusMethod.TheVariants.{ApduIsComma
 use Rattle.jc_platform.specs.declared.names.ApdusMethod.TheVariants.{ApduSetOutgoingNoChaining, ApduWaitExtension, ApduGetCurrentApdu, ApduGetCurrentApduBuffer}
 use Rattle.jc_platform.specs.declared.names.EventsMethod.{EventsMethod}
 use Rattle.jc_platform.specs.declared.names.EventsMethod.TheVariants.{MultiSelectableSelect, MultiSelectableDeselect, AppletEventUninstall}
+use Rattle.jc_platform.specs.declared.names.EnginesMethod.{EnginesMethod}
+use Rattle.jc_platform.specs.declared.names.EnginesMethod.TheVariants.{MessageDigestGetInstance, MessageDigestGetAlgorithm, MessageDigestGetLength, MessageDigestUpdate}
+use Rattle.jc_platform.specs.declared.names.EnginesMethod.TheVariants.{MessageDigestDoFinal, MessageDigestReset, ChecksumGetInstance, ChecksumGetAlgorithm}
+use Rattle.jc_platform.specs.declared.names.EnginesMethod.TheVariants.{ChecksumInit, ChecksumUpdate, ChecksumDoFinal, RandomDataGetInstance, RandomDataGenerateData}
+use Rattle.jc_platform.specs.declared.names.EnginesMethod.TheVariants.{RandomDataNextBytes, RandomDataSetSeed, RandomDataGetAlgorithm}
 
 -- how many packages and classes there are
 abbrev pub package_count : ℕ
-package_count = 3
+package_count = 4
 
 abbrev pub class_count : ℕ
-class_count = 32
+class_count = 36
 
 -- how many methods each room has
 abbrev pub objects_count : ℕ
 objects_count = 13
 
 abbrev pub exceptions_count : ℕ
-exceptions_count = 21
+exceptions_count = 23
 
 abbrev pub utilities_count : ℕ
 utilities_count = 8
@@ -94,6 +100,9 @@ apdus_count = 24
 
 abbrev pub events_count : ℕ
 events_count = 3
+
+abbrev pub engines_count : ℕ
+engines_count = 16
 
 -- the places of the first method of each room but the first
 abbrev pub exceptions_first : ℕ
@@ -120,15 +129,26 @@ apdus_first = applets_first + applets_count
 abbrev pub events_first : ℕ
 events_first = apdus_first + apdus_count
 
+abbrev pub engines_first : ℕ
+engines_first = events_first + events_count
+
 -- how many methods there are
 abbrev pub method_count : ℕ
-method_count = events_first + events_count
+method_count = engines_first + engines_count
 
 -- the place of a package
 abbrev pub package_number : PlatformPackage → ℕ
 package_number JavaLang = 0
 package_number JavacardFramework = 1
 package_number JavacardxApdu = 2
+package_number JavacardSecurity = 3
+
+-- each table has the package
+abbrev pub is_needed_package : PlatformPackage → Bool
+is_needed_package JavaLang = true
+is_needed_package JavacardFramework = true
+is_needed_package JavacardxApdu = false
+is_needed_package JavacardSecurity = false
 
 -- the two are one
 abbrev pub same_package : PlatformPackage → PlatformPackage → Bool
@@ -168,6 +188,10 @@ class_number Iso7816 = 28
 class_number MultiSelectable = 29
 class_number AppletEvent = 30
 class_number ExtendedLength = 31
+class_number CryptoException = 32
+class_number MessageDigest = 33
+class_number Checksum = 34
+class_number RandomData = 35
 
 -- the two are one
 abbrev pub same_class : PlatformClass → PlatformClass → Bool
@@ -221,6 +245,8 @@ exceptions_number ApduExceptionThrowIt = 17
 exceptions_number UserExceptionInit = 18
 exceptions_number UserExceptionThrowIt = 19
 exceptions_number UserExceptionInitWithoutReason = 20
+exceptions_number CryptoExceptionInit = 21
+exceptions_number CryptoExceptionThrowIt = 22
 
 abbrev pub utilities_number : UtilitiesMethod → ℕ
 utilities_number UtilArrayCompare = 0
@@ -322,6 +348,24 @@ events_number MultiSelectableSelect = 0
 events_number MultiSelectableDeselect = 1
 events_number AppletEventUninstall = 2
 
+abbrev pub engines_number : EnginesMethod → ℕ
+engines_number MessageDigestGetInstance = 0
+engines_number MessageDigestGetAlgorithm = 1
+engines_number MessageDigestGetLength = 2
+engines_number MessageDigestUpdate = 3
+engines_number MessageDigestDoFinal = 4
+engines_number MessageDigestReset = 5
+engines_number ChecksumGetInstance = 6
+engines_number ChecksumGetAlgorithm = 7
+engines_number ChecksumInit = 8
+engines_number ChecksumUpdate = 9
+engines_number ChecksumDoFinal = 10
+engines_number RandomDataGetInstance = 11
+engines_number RandomDataGenerateData = 12
+engines_number RandomDataNextBytes = 13
+engines_number RandomDataSetSeed = 14
+engines_number RandomDataGetAlgorithm = 15
+
 -- the place of a method
 abbrev pub method_number : PlatformMethod → ℕ
 method_number (Objects m) = objects_number m
@@ -333,6 +377,7 @@ method_number (Pins m) = pins_first + pins_number m
 method_number (Applets m) = applets_first + applets_number m
 method_number (Apdus m) = apdus_first + apdus_number m
 method_number (Events m) = events_first + events_number m
+method_number (Engines m) = engines_first + engines_number m
 
 -- the two are one
 abbrev pub same_method : PlatformMethod → PlatformMethod → Bool

@@ -3,7 +3,7 @@ use Rattle.std.specs.Prelude.{ℕ, ◌≡◌, ◌&&◌, ◌==◌, ◌/◌, ◌%�
 use Rattle.std.specs.Option.{option_map, option_and_then}
 use Rattle.std.specs.Str.{bytes_eq}
 use Rattle.jc_platform.specs.declared.names.PlatformPackage.{PlatformPackage}
-use Rattle.jc_platform.specs.declared.names.PlatformPackage.TheVariants.{JavaLang, JavacardFramework, JavacardxApdu}
+use Rattle.jc_platform.specs.declared.names.PlatformPackage.TheVariants.{JavaLang, JavacardFramework, JavacardxApdu, JavacardSecurity}
 use Rattle.jc_platform.specs.declared.names.PlatformClass.{PlatformClass}
 use Rattle.jc_platform.specs.declared.names.MethodKind.{MethodKind}
 use Rattle.jc_platform.specs.declared.names.PlatformMethod.{PlatformMethod}
@@ -18,16 +18,18 @@ unfoldable pub aid_of : PlatformPackage → List ℕ
 aid_of JavaLang = 160 ∷ 0 ∷ 0 ∷ 0 ∷ 98 ∷ 0 ∷ 1 ∷ []
 aid_of JavacardFramework = 160 ∷ 0 ∷ 0 ∷ 0 ∷ 98 ∷ 1 ∷ 1 ∷ []
 aid_of JavacardxApdu = 160 ∷ 0 ∷ 0 ∷ 0 ∷ 98 ∷ 2 ∷ 9 ∷ []
+aid_of JavacardSecurity = 160 ∷ 0 ∷ 0 ∷ 0 ∷ 98 ∷ 1 ∷ 2 ∷ []
 
 -- the package with this AID, of those that the table has
 unfoldable pub package_by_aid : Tokens → List ℕ → Option PlatformPackage
 package_by_aid t aid = if bytes_eq aid (aid_of JavaLang) then Some JavaLang else (if bytes_eq aid (aid_of JavacardFramework) then Some JavacardFramework else
-    (if bytes_eq aid (aid_of JavacardxApdu) && is_some (version_of_package t JavacardxApdu) then Some JavacardxApdu else None))
+    (if bytes_eq aid (aid_of JavacardxApdu) && is_some (version_of_package t JavacardxApdu) then Some JavacardxApdu else
+    (if bytes_eq aid (aid_of JavacardSecurity) && is_some (version_of_package t JavacardSecurity) then Some JavacardSecurity else None)))
 
 -- the package with this number
 unfoldable pub package_by_number : Tokens → ℕ → Option PlatformPackage
 package_by_number t n = if n == number_in t JavaLang then Some JavaLang else (if n == number_in t JavacardFramework then Some JavacardFramework else
-    (if n == number_in t JavacardxApdu then Some JavacardxApdu else None))
+    (if n == number_in t JavacardxApdu then Some JavacardxApdu else (if n == number_in t JavacardSecurity then Some JavacardSecurity else None)))
 
 -- the class of a package with this token
 unfoldable pub class_by_token : Tokens → PlatformPackage → ℕ → Option PlatformClass

@@ -14,4 +14,5 @@ above_of r = record {
   version = λ p. slice_index_or r.versions (package_number p) None;
   class_token = λ c. slice_index_or r.class_tokens (class_number c) None;
   method_token = λ m. slice_index_or r.method_tokens (method_number m) None;
+  random = r.random;
 }

@@ -1,8 +1,8 @@
 -- The rooms: the lists of some classes' methods.
 use Rattle.std.specs.Prelude.{List}
 use Rattle.jc_platform.specs.declared.rows.Room.{Room}
-use Rattle.jc_platform.specs.declared.rows.Room.TheVariants.{Objects, Exceptions, Utilities, System, Aids, Pins, Applets, Apdus, Events}
-use Rattle.jc_platform.specs.Names.{MethodEntry, objects_rows, exceptions_rows, utilities_rows, system_rows, aids_rows, pins_rows, applets_rows, apdus_rows, events_rows}
+use Rattle.jc_platform.specs.declared.rows.Room.TheVariants.{Objects, Exceptions, Utilities, System, Aids, Pins, Applets, Apdus, Events, Engines}
+use Rattle.jc_platform.specs.Names.{MethodEntry, objects_rows, exceptions_rows, utilities_rows, system_rows, aids_rows, pins_rows, applets_rows, apdus_rows, events_rows, engines_rows}
 
 -- the methods of a room
 abbrev pub rows_of : Room → List MethodEntry
@@ -15,3 +15,4 @@ rows_of Pins = pins_rows
 rows_of Applets = applets_rows
 rows_of Apdus = apdus_rows
 rows_of Events = events_rows
+rows_of Engines = engines_rows

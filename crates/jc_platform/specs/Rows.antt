@@ -3,19 +3,21 @@ use Rattle.std.specs.Prelude.{ℕ, Bool, true, false, not, ◌&&◌, ◌||◌, �
 use Rattle.std.specs.Prelude.{unwrap_or, filter, find}
 use Rattle.std.specs.List.{list_any, slice_split}
 use Rattle.std.specs.Option.{option_and_then}
+use Rattle.std.specs.Result.{result_ok}
 use Rattle.std.specs.Str.{bytes_eq, all_ascii_digits}
 use Rattle.std.specs.Str.Parse.{digits_value}
+use Rattle.hex.specs.Hex.{decode_sized}
 use Rattle.jc_platform.specs.declared.names.PlatformPackage.{PlatformPackage}
-use Rattle.jc_platform.specs.declared.names.PlatformPackage.TheVariants.{JavaLang, JavacardFramework, JavacardxApdu}
+use Rattle.jc_platform.specs.declared.names.PlatformPackage.TheVariants.{JavaLang, JavacardFramework}
 use Rattle.jc_platform.specs.declared.names.PlatformClass.{PlatformClass}
 use Rattle.jc_platform.specs.declared.names.MethodKind.{MethodKind}
 use Rattle.jc_platform.specs.declared.names.MethodKind.TheVariants.{Static, Virtual, Interface}
 use Rattle.jc_platform.specs.declared.names.PlatformMethod.{PlatformMethod}
 use Rattle.jc_platform.specs.declared.row.Version.{Version}
 use Rattle.jc_platform.specs.declared.row.Row.{Row}
-use Rattle.jc_platform.specs.declared.row.Row.TheVariants.{Extended, Package, Class, Method}
+use Rattle.jc_platform.specs.declared.row.Row.TheVariants.{Extended, Random, Package, Class, Method}
 use Rattle.jc_platform.specs.Names.{ClassEntry, MethodEntry, packages, classes, methods}
-use Rattle.jc_platform.specs.Numbers.{same_package, same_class, same_kind, same_method}
+use Rattle.jc_platform.specs.Numbers.{is_needed_package, same_package, same_class, same_kind, same_method}
 
 -- ---- what stands above a line: rows from the nearest up
 
@@ -23,6 +25,7 @@ use Rattle.jc_platform.specs.Numbers.{same_package, same_class, same_kind, same_
 abbrev pub is_extended : List Row → Bool
 is_extended [] = false
 is_extended (Extended ∷ rows) = true
+is_extended (Random bytes ∷ rows) = is_extended rows
 is_extended (Package p version ∷ rows) = is_extended rows
 is_extended (Class c token ∷ rows) = is_extended rows
 is_extended (Method m token ∷ rows) = is_extended rows
@@ -31,6 +34,7 @@ is_extended (Method m token ∷ rows) = is_extended rows
 abbrev pub package_above : List Row → Option PlatformPackage
 package_above [] = None
 package_above (Extended ∷ rows) = package_above rows
+package_above (Random bytes ∷ rows) = package_above rows
 package_above (Package p version ∷ rows) = Some p
 package_above (Class c token ∷ rows) = package_above rows
 package_above (Method m token ∷ rows) = package_above rows
@@ -39,6 +43,7 @@ package_above (Method m token ∷ rows) = package_above rows
 abbrev pub class_above : List Row → Option PlatformClass
 class_above [] = None
 class_above (Extended ∷ rows) = class_above rows
+class_above (Random bytes ∷ rows) = class_above rows
 class_above (Package p version ∷ rows) = None
 class_above (Class c token ∷ rows) = Some c
 class_above (Method m token ∷ rows) = class_above rows
@@ -47,6 +52,7 @@ class_above (Method m token ∷ rows) = class_above rows
 abbrev pub first_package : List Row → Option PlatformPackage
 first_package [] = None
 first_package (Extended ∷ rows) = first_package rows
+first_package (Random bytes ∷ rows) = first_package rows
 first_package (Package p version ∷ rows) = Some (unwrap_or (first_package rows) p)
 first_package (Class c token ∷ rows) = first_package rows
 first_package (Method m token ∷ rows) = first_package rows
@@ -55,6 +61,7 @@ first_package (Method m token ∷ rows) = first_package rows
 abbrev pub version_in : List Row → PlatformPackage → Option Version
 version_in [] q = None
 version_in (Extended ∷ rows) q = version_in rows q
+version_in (Random bytes ∷ rows) q = version_in rows q
 version_in (Package p version ∷ rows) q = if same_package p q then Some version else version_in rows q
 version_in (Class c token ∷ rows) q = version_in rows q
 version_in (Method m token ∷ rows) q = version_in rows q
@@ -63,6 +70,7 @@ version_in (Method m token ∷ rows) q = version_in rows q
 abbrev pub class_token_in : List Row → PlatformClass → Option ℕ
 class_token_in [] d = None
 class_token_in (Extended ∷ rows) d = class_token_in rows d
+class_token_in (Random bytes ∷ rows) d = class_token_in rows d
 class_token_in (Package p version ∷ rows) d = class_token_in rows d
 class_token_in (Class c token ∷ rows) d = if same_class c d then Some token else class_token_in rows d
 class_token_in (Method m token ∷ rows) d = class_token_in rows d
@@ -71,9 +79,19 @@ class_token_in (Method m token ∷ rows) d = class_token_in rows d
 abbrev pub method_token_in : List Row → PlatformMethod → Option ℕ
 method_token_in [] n = None
 method_token_in (Extended ∷ rows) n = method_token_in rows n
+method_token_in (Random bytes ∷ rows) n = method_token_in rows n
 method_token_in (Package p version ∷ rows) n = method_token_in rows n
 method_token_in (Class c token ∷ rows) n = method_token_in rows n
 method_token_in (Method m token ∷ rows) n = if same_method m n then Some token else method_token_in rows n
+
+-- the bytes of the line `random` that stands above
+abbrev pub random_in : List Row → Option (List ℕ)
+random_in [] = None
+random_in (Extended ∷ rows) = random_in rows
+random_in (Random bytes ∷ rows) = Some bytes
+random_in (Package p version ∷ rows) = random_in rows
+random_in (Class c token ∷ rows) = random_in rows
+random_in (Method m token ∷ rows) = random_in rows
 
 -- what a line has to fit
 pub record Above : Type 0 where
@@ -84,6 +102,7 @@ pub record Above : Type 0 where
   pub version : PlatformPackage → Option Version
   pub class_token : PlatformClass → Option ℕ
   pub method_token : PlatformMethod → Option ℕ
+  pub random : Option (List ℕ)
 
 -- what is above a line that stands below these rows
 abbrev pub above : List Row → Above
@@ -95,6 +114,7 @@ above rows = record {
   version = version_in rows;
   class_token = class_token_in rows;
   method_token = method_token_in rows;
+  random = random_in rows;
 }
 
 -- ---- what a line says
@@ -144,9 +164,13 @@ may_be_extended a = not a.extended && not (is_some a.first)
 abbrev pub has_needed_packages : Above → Bool
 has_needed_packages a = is_some (a.version JavaLang) && is_some (a.version JavacardFramework)
 
--- a package may stand here: it stands nowhere above, and javacardx.apdu stands in an extended table, behind both others
+-- a package may stand here: it stands nowhere above, and one that not each table has stands in an extended table, after those that each has
 abbrev pub may_be_package : Above → PlatformPackage → Bool
-may_be_package a p = not (is_some (a.version p)) && (not (same_package p JavacardxApdu) || (a.extended && has_needed_packages a))
+may_be_package a p = not (is_some (a.version p)) && (is_needed_package p || (a.extended && has_needed_packages a))
+
+-- the line `random` may stand here: in an extended table, and no other stands above
+abbrev pub may_be_random : Above → Bool
+may_be_random a = a.extended && not (is_some a.random)
 
 -- a table may have a name that each table has, or, where it is extended, another
 abbrev pub allows : Above → Bool → Bool
@@ -164,6 +188,15 @@ may_be_method a e token = allows a e.needed && nat_le token (largest_token e.kin
 -- the row of a line that is one word
 abbrev pub extended_row : Above → List ℕ → Option Row
 extended_row a word = if bytes_eq word (codes "extended") && may_be_extended a then Some Extended else None
+
+-- the 32 bytes that a word of 64 hexadecimal digits writes
+abbrev pub bytes_of : List ℕ → Option (List ℕ)
+bytes_of word = result_ok (decode_sized word 32)
+
+-- the row of a line of two words: `random` and the bytes that random data are made from
+abbrev pub random_row : Above → List ℕ → List ℕ → Option Row
+random_row a keyword word =
+    if bytes_eq keyword (codes "random") then option_and_then (λ bytes. if may_be_random a then Some (Random bytes) else None) (bytes_of word) else None
 
 -- the row of a package with this AID and version
 abbrev pub package_row : Above → List ℕ → List ℕ → List ℕ → Option Row
@@ -208,7 +241,7 @@ method_row a keyword token name =
 abbrev pub row_of : Above → List (List ℕ) → Option Row
 row_of a [] = None
 row_of a (keyword ∷ []) = extended_row a keyword
-row_of a (keyword ∷ x ∷ []) = None
+row_of a (keyword ∷ x ∷ []) = random_row a keyword x
 row_of a (keyword ∷ x ∷ y ∷ []) = if bytes_eq keyword (codes "class") then class_row a x y else method_row a keyword x y
 row_of a (keyword ∷ x ∷ y ∷ z ∷ []) = if bytes_eq keyword (codes "package") then package_row a x y z else None
 row_of a (keyword ∷ x ∷ y ∷ z ∷ v ∷ more) = None

@@ -1,5 +1,5 @@
 -- The platform table: its text, and what it says.
-use Rattle.std.specs.Prelude.{ℕ, ◌≡◌, ◌≢◌, ◌+◌, ◌<◌, ◌≤◌, ◌⊎◌, ◌||◌, not, Bool, true, false, is_some, List, [], ◌∷◌, ◌++◌, length, reverse, None, Some}
+use Rattle.std.specs.Prelude.{ℕ, ◌≡◌, ◌≢◌, ◌+◌, ◌<◌, ◌≤◌, ◌⊎◌, ◌||◌, not, Bool, true, false, is_some, List, [], ◌∷◌, ◌++◌, length, reverse, replicate, unwrap_or, None, Some}
 use Rattle.std.specs.Prelude.{Result, Ok, Err}
 use Rattle.std.specs.List.{list_all}
 use Rattle.jc_platform.specs.declared.names.PlatformPackage.{PlatformPackage}
@@ -50,12 +50,17 @@ has_needed_methods a = has_needed_of a methods
 abbrev pub IsMissing : Above → Type 0
 IsMissing a = (a.first ≡ None) ⊎ (has_needed_packages a ≡ false) ⊎ (has_needed_classes a ≡ false) ⊎ (has_needed_methods a ≡ false)
 
+-- what random data are made from where no line `random` stands: 32 zeros
+abbrev pub no_random : List ℕ
+no_random = replicate 32 0
+
 -- the tokens and versions are those that stand above, all that each table has stand there, and there are no more
 pub record AreThoseOf (a : Above) (t : Tokens) : Type 0 where
   pub first : a.first ≡ Some t.first
   pub versions : (p : PlatformPackage) → a.version p ≡ version_of_package t p
   pub class_tokens : (c : PlatformClass) → a.class_token c ≡ token_of_class t c
   pub method_tokens : (m : PlatformMethod) → a.method_token m ≡ token_of_method t m
+  pub random : unwrap_or a.random no_random ≡ t.random
   pub needed_packages : has_needed_packages a ≡ true
   pub needed_classes : has_needed_classes a ≡ true
   pub needed_methods : has_needed_methods a ≡ true

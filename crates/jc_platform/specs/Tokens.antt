@@ -1,22 +1,25 @@
 -- What a table tells.
 use Rattle.std.specs.Prelude.{ℕ, List, Option, None, if◌then◌else◌, slice_index_or, unwrap_or}
 use Rattle.jc_platform.specs.declared.names.PlatformPackage.{PlatformPackage}
-use Rattle.jc_platform.specs.declared.names.PlatformPackage.TheVariants.{JavacardxApdu}
+use Rattle.jc_platform.specs.declared.names.PlatformPackage.TheVariants.{JavacardxApdu, JavacardSecurity}
 use Rattle.jc_platform.specs.declared.names.PlatformClass.{PlatformClass}
 use Rattle.jc_platform.specs.declared.names.PlatformMethod.{PlatformMethod}
 use Rattle.jc_platform.specs.declared.row.Version.{Version}
 use Rattle.jc_platform.specs.Numbers.{class_number, method_number, package_number, same_package}
 
--- the package that stands first, the versions of the packages and the tokens of the classes and methods that stand, by their numbers
+-- the package that stands first, the versions of the packages and the tokens of the classes and methods that stand, by their numbers, and the bytes that
+-- random data are made from
 pub record Tokens : Type 0 where
   pub first : PlatformPackage
   pub versions : List (Option Version)
   pub class_tokens : List (Option ℕ)
   pub method_tokens : List (Option ℕ)
+  pub random : List ℕ
 
--- the number that a package has among all packages of a card: the platform's count from 64 in the table's order
+-- the number that a package has among all packages of a card: 64 and 65 of those that each table has, in the table's order; of others their own
 abbrev pub number_in : Tokens → PlatformPackage → ℕ
-number_in t p = if same_package p JavacardxApdu then 66 else (if same_package p t.first then 64 else 65)
+number_in t p = if same_package p JavacardxApdu then 66 else (if same_package p JavacardSecurity then 67 else
+    (if same_package p t.first then 64 else 65))
 
 -- the version of a package, where the table has it
 abbrev pub version_of_package : Tokens → PlatformPackage → Option Version

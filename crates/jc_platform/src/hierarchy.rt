@@ -61,7 +61,8 @@ impl PlatformClass {
         }
     }
 
-    /// Code may make instances of it by `new`: it is no interface, nor one of `Applet`, `APDU`, `JCSystem` and `Util`.
+    /// Code may make instances of it by `new`: it is no interface, nor one of `Applet`, `APDU`, `JCSystem`, `Util` and
+    /// the engines of `javacard.security`.
     #[tactic(auto, unfolding(crate::specs::Hierarchy::is_instantiable))]
     pub fn is_instantiable(self) -> bool
         ensures { result ≡ is_instantiable self }
@@ -78,7 +79,8 @@ impl PlatformClass {
     }
 
     /// How many cells an instance has: an exception of the card has 1, its reason; an `AID` 9, its length and its
-    /// bytes, two in a cell; an `OwnerPIN` 5, its limit, maximum size, tries, length and value; others have none.
+    /// bytes, two in a cell; an `OwnerPIN` 5, its limit, maximum size, tries, length and value; an engine of
+    /// `javacard.security` 2, its algorithm and its state; others have none.
     #[tactic(auto, unfolding(crate::specs::Hierarchy::cells_of))]
     pub fn cells(self) -> u8
         ensures { result ≡ cells_of self }
@@ -86,7 +88,7 @@ impl PlatformClass {
         self.row().cells.len() as u8
     }
 
-    /// This cell of an instance holds a reference: the fifth of an `OwnerPIN` does.
+    /// This cell of an instance holds a reference: the fifth of an `OwnerPIN` does, and the second of an engine.
     #[tactic(auto, unfolding(crate::specs::Hierarchy::holds_reference))]
     pub fn holds_reference(self, cell: u16) -> bool
         ensures { result ≡ holds_reference self cell }

@@ -5,20 +5,20 @@ ghost use Rattle.std.specs.Option.{option_map};
 ghost use Rattle.std.specs.Str.{bytes_eq};
 ghost use Rattle.jc_platform.specs.Distinct.{entry_of_class, entry_of_method};
 ghost use Rattle.jc_platform.specs.Names.{classes, packages};
-ghost use Rattle.jc_platform.specs.Names.{objects_rows, exceptions_rows, utilities_rows, system_rows, aids_rows, pins_rows, applets_rows, apdus_rows, events_rows};
+ghost use Rattle.jc_platform.specs.Names.{objects_rows, exceptions_rows, utilities_rows, system_rows, aids_rows, pins_rows, applets_rows, apdus_rows, events_rows, engines_rows};
 ghost use Rattle.jc_platform.specs.Rooms.{rows_of};
 ghost use Rattle.jc_platform.specs.Rows.{classes_of, method_named, methods_of};
 ghost use Rattle.jc_platform.specs.Seen.{class_value, method_value, package_value};
-ghost use Rattle.jc_platform.specs.declared.names.PlatformMethod.TheVariants.{Objects, Exceptions, Utilities, System, Aids, Pins, Applets, Apdus, Events};
+ghost use Rattle.jc_platform.specs.declared.names.PlatformMethod.TheVariants.{Objects, Exceptions, Utilities, System, Aids, Pins, Applets, Apdus, Events, Engines};
 
 use crate::names::{
-    AidsMethod, ApdusMethod, AppletsMethod, EventsMethod, ExceptionsMethod, MethodKind,
-    ObjectsMethod, PinsMethod, PlatformClass, PlatformMethod, PlatformPackage, SystemMethod,
-    UtilitiesMethod,
+    AidsMethod, ApdusMethod, AppletsMethod, EnginesMethod, EventsMethod, ExceptionsMethod,
+    MethodKind, ObjectsMethod, PinsMethod, PlatformClass, PlatformMethod, PlatformPackage,
+    SystemMethod, UtilitiesMethod,
 };
 use crate::rows::{
-    AIDS, APDUS, APPLETS, CLASSES, ClassRow, EVENTS, EXCEPTIONS, FIRST_CLASSES, MethodRow, OBJECTS,
-    PACKAGES, PINS, PackageRow, Room, STRETCHES, SYSTEM, UTILITIES,
+    AIDS, APDUS, APPLETS, CLASSES, ClassRow, ENGINES, EVENTS, EXCEPTIONS, FIRST_CLASSES, MethodRow,
+    OBJECTS, PACKAGES, PINS, PackageRow, Room, STRETCHES, SYSTEM, UTILITIES,
 };
 
 /// Every package.
@@ -106,6 +106,13 @@ pub(crate) fn events_rows() -> &'static [MethodRow]
     &EVENTS
 }
 
+/// The methods of `MessageDigest`, `Checksum` and `RandomData`.
+pub(crate) fn engines_rows() -> &'static [MethodRow]
+    ensures { map method_value result.now ≡ engines_rows }
+{
+    &ENGINES
+}
+
 impl Room {
     /// Its methods.
     pub(crate) fn rows(self) -> &'static [MethodRow]
@@ -121,6 +128,7 @@ impl Room {
             Room::Applets => applets_rows(),
             Room::Apdus => apdus_rows(),
             Room::Events => events_rows(),
+            Room::Engines => engines_rows(),
         }
     }
 }
@@ -233,6 +241,16 @@ impl EventsMethod {
     }
 }
 
+impl EnginesMethod {
+    // Its row.
+    #[inline(always)]
+    fn row(self) -> &'static MethodRow
+        ensures { method_value result.now ≡ entry_of_method (Engines self) }
+    {
+        &engines_rows()[self.index()]
+    }
+}
+
 impl PlatformMethod {
     /// Its row.
     #[inline(always)]
@@ -249,6 +267,7 @@ impl PlatformMethod {
             PlatformMethod::Applets(method) => method.row(),
             PlatformMethod::Apdus(method) => method.row(),
             PlatformMethod::Events(method) => method.row(),
+            PlatformMethod::Engines(method) => method.row(),
         }
     }
 }

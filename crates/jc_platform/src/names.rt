@@ -3,6 +3,7 @@
 ghost use Rattle.std.specs.Prelude.{◌≡◌, ◌<◌};
 ghost use Rattle.jc_platform.specs.Numbers.{class_number, kind_number, method_number, package_number, same_class, same_kind, same_package};
 ghost use Rattle.jc_platform.specs.Numbers.{objects_number, exceptions_number, utilities_number, system_number, aids_number, pins_number, applets_number, apdus_number, events_number};
+ghost use Rattle.jc_platform.specs.Numbers.{engines_number, is_needed_package};
 ghost use Rattle.jc_platform.specs.Rows.{largest_token};
 
 /// A package of the platform.
@@ -14,6 +15,8 @@ pub enum PlatformPackage {
     JavacardFramework,
     /// `javacardx.apdu`, which an extended table may have
     JavacardxApdu,
+    /// `javacard.security`, which an extended table may have
+    JavacardSecurity,
 }
 
 /// A class or an interface of the platform, in Rust's spelling of its name: `Pin` is `PIN`.
@@ -51,6 +54,10 @@ pub enum PlatformClass {
     MultiSelectable,
     AppletEvent,
     ExtendedLength,
+    CryptoException,
+    MessageDigest,
+    Checksum,
+    RandomData,
 }
 
 /// What kind of method a name stands for. Constructors are static here, as their tokens are.
@@ -103,6 +110,8 @@ pub enum ExceptionsMethod {
     UserExceptionInit,
     UserExceptionThrowIt,
     UserExceptionInitWithoutReason,
+    CryptoExceptionInit,
+    CryptoExceptionThrowIt,
 }
 
 /// A method of `Util`.
@@ -226,6 +235,27 @@ pub enum EventsMethod {
     AppletEventUninstall,
 }
 
+/// A method of `MessageDigest`, `Checksum` or `RandomData`.
+#[derive(Clone, Copy, PartialEq, Eq)]
+pub enum EnginesMethod {
+    MessageDigestGetInstance,
+    MessageDigestGetAlgorithm,
+    MessageDigestGetLength,
+    MessageDigestUpdate,
+    MessageDigestDoFinal,
+    MessageDigestReset,
+    ChecksumGetInstance,
+    ChecksumGetAlgorithm,
+    ChecksumInit,
+    ChecksumUpdate,
+    ChecksumDoFinal,
+    RandomDataGetInstance,
+    RandomDataGenerateData,
+    RandomDataNextBytes,
+    RandomDataSetSeed,
+    RandomDataGetAlgorithm,
+}
+
 /// A method of the platform, by its room: an enum of some classes' methods. Each is named by its class and its name:
 /// `OwnerPinCheck` is `check` of `OwnerPIN`, and `ObjectInit` the constructor `<init>` of `Object`.
 #[derive(Clone, Copy, PartialEq, Eq)]
@@ -239,19 +269,20 @@ pub enum PlatformMethod {
     Applets(AppletsMethod),
     Apdus(ApdusMethod),
     Events(EventsMethod),
+    Engines(EnginesMethod),
 }
 
 /// How many packages there are.
-pub(crate) const PACKAGE_COUNT: usize = 3;
+pub(crate) const PACKAGE_COUNT: usize = 4;
 
 /// How many classes and interfaces there are.
-pub(crate) const CLASS_COUNT: usize = 32;
+pub(crate) const CLASS_COUNT: usize = 36;
 
 /// How many methods the room `Objects` has.
 pub(crate) const OBJECTS_COUNT: usize = 13;
 
 /// How many methods the room `Exceptions` has.
-pub(crate) const EXCEPTIONS_COUNT: usize = 21;
+pub(crate) const EXCEPTIONS_COUNT: usize = 23;
 
 /// How many methods the room `Utilities` has.
 pub(crate) const UTILITIES_COUNT: usize = 8;
@@ -274,6 +305,9 @@ pub(crate) const APDUS_COUNT: usize = 24;
 /// How many methods the room `Events` has.
 pub(crate) const EVENTS_COUNT: usize = 3;
 
+/// How many methods the room `Engines` has.
+pub(crate) const ENGINES_COUNT: usize = 16;
+
 const EXCEPTIONS_FIRST: usize = OBJECTS_COUNT;
 
 const UTILITIES_FIRST: usize = EXCEPTIONS_FIRST + EXCEPTIONS_COUNT;
@@ -290,8 +324,10 @@ const APDUS_FIRST: usize = APPLETS_FIRST + APPLETS_COUNT;
 
 const EVENTS_FIRST: usize = APDUS_FIRST + APDUS_COUNT;
 
+const ENGINES_FIRST: usize = EVENTS_FIRST + EVENTS_COUNT;
+
 /// How many methods there are.
-pub(crate) const METHOD_COUNT: usize = EVENTS_FIRST + EVENTS_COUNT;
+pub(crate) const METHOD_COUNT: usize = ENGINES_FIRST + ENGINES_COUNT;
 
 impl PlatformPackage {
     /// The two are one, told by their places.
@@ -307,6 +343,16 @@ impl PlatformPackage {
         ensures bound { result < PACKAGE_COUNT }
     {
         self as usize
+    }
+
+    /// Each table has it.
+    pub(crate) const fn is_needed(self) -> bool
+        ensures { result ≡ is_needed_package self }
+    {
+        match self {
+            PlatformPackage::JavaLang | PlatformPackage::JavacardFramework => true,
+            PlatformPackage::JavacardxApdu | PlatformPackage::JavacardSecurity => false,
+        }
     }
 }
 
@@ -417,6 +463,16 @@ impl EventsMethod {
     }
 }
 
+impl EnginesMethod {
+    /// Its place in its room.
+    pub(crate) const fn index(self) -> usize
+        ensures place { result ≡ engines_number self }
+        ensures bound { result < ENGINES_COUNT }
+    {
+        self as usize
+    }
+}
+
 impl PlatformMethod {
     /// Its place among the methods, room after room.
     #[inline(always)]
@@ -434,6 +490,7 @@ impl PlatformMethod {
             PlatformMethod::Applets(method) => APPLETS_FIRST + method.index(),
             PlatformMethod::Apdus(method) => APDUS_FIRST + method.index(),
             PlatformMethod::Events(method) => EVENTS_FIRST + method.index(),
+            PlatformMethod::Engines(method) => ENGINES_FIRST + method.index(),
         }
     }
 }

@@ -43,6 +43,7 @@ impl PlatformPackage {
             PlatformPackage::JavaLang => &[0xA0, 0, 0, 0, 0x62, 0, 1],
             PlatformPackage::JavacardFramework => &[0xA0, 0, 0, 0, 0x62, 1, 1],
             PlatformPackage::JavacardxApdu => &[0xA0, 0, 0, 0, 0x62, 2, 9],
+            PlatformPackage::JavacardSecurity => &[0xA0, 0, 0, 0, 0x62, 1, 2],
         }
     }
 }
@@ -81,12 +82,17 @@ impl Platform {
             && self.version(PlatformPackage::JavacardxApdu).is_some()
         {
             Some(PlatformPackage::JavacardxApdu)
+        } else if aid == PlatformPackage::JavacardSecurity.aid()
+            && self.version(PlatformPackage::JavacardSecurity).is_some()
+        {
+            Some(PlatformPackage::JavacardSecurity)
         } else {
             None
         }
     }
 
-    /// The number of a package, from 64 on in the table's order; 66 of `javacardx.apdu`, which stands last if it does.
+    /// The number of a package: 64 and 65 of those that each table has, in its order; 66 of `javacardx.apdu`, and 67 of
+    /// `javacard.security`.
     pub fn number(&self, named: PlatformPackage) -> u8
         ensures { result ≡ number_in self.now named }
     {
@@ -104,6 +110,8 @@ impl Platform {
             Some(PlatformPackage::JavacardFramework)
         } else if number == self.number(PlatformPackage::JavacardxApdu) {
             Some(PlatformPackage::JavacardxApdu)
+        } else if number == self.number(PlatformPackage::JavacardSecurity) {
+            Some(PlatformPackage::JavacardSecurity)
         } else {
             None
         }

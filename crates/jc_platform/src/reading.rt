@@ -3,7 +3,7 @@
 ghost use Rattle.std.specs.Prelude.{◌≡◌, [], ◌∷◌, List, MatchOption, Some, map, slice_set, unwrap_or};
 ghost use Rattle.jc_platform.specs.Rows.{above, class_row, has_class_token, has_method_token, is_package, may_be_class, may_be_extended, may_be_method, method_row};
 ghost use Rattle.jc_platform.specs.Rows.{has_needed_packages, may_be_package};
-ghost use Rattle.jc_platform.specs.Rows.{allows, extended_row, package_row, row_of_line};
+ghost use Rattle.jc_platform.specs.Rows.{allows, bytes_of, extended_row, may_be_random, package_row, random_row, row_of_line};
 ghost use Rattle.jc_platform.specs.Numbers.{package_number};
 ghost use Rattle.jc_platform.specs.Table.{AreThoseOf, IsMissing, has_needed_classes, has_needed_methods, has_needed_of};
 ghost use Rattle.jc_platform.specs.Reading.{above_of};
@@ -11,17 +11,18 @@ ghost use Rattle.jc_platform.specs.Seen.{class_value, method_value};
 ghost use Rattle.jc_platform.specs.declared.row.Row.{Row};
 
 use crate::lookup::{
-    aids_rows, all_classes, apdus_rows, applets_rows, class_named, events_rows, exceptions_rows,
-    method_named, methods_of, objects_rows, package_with, pins_rows, system_rows, utilities_rows,
+    aids_rows, all_classes, apdus_rows, applets_rows, class_named, engines_rows, events_rows,
+    exceptions_rows, method_named, methods_of, objects_rows, package_with, pins_rows, system_rows,
+    utilities_rows,
 };
 use crate::names::{
     CLASS_COUNT, METHOD_COUNT, MethodKind, PACKAGE_COUNT, PlatformClass, PlatformMethod,
     PlatformPackage,
 };
-use crate::row::{Row, Version};
+use crate::row::{RANDOM_SIZE, Row, Version};
 use crate::rows::{ClassRow, MethodRow};
 use crate::table::Table;
-use crate::words::{is_token, kind, number, split_once};
+use crate::words::{is_token, kind, number, random_bytes, split_once};
 
 /// What stands above the next line.
 #[derive(Drop)]
@@ -37,6 +38,8 @@ pub(crate) struct Reading {
     versions: [Option<Version>; PACKAGE_COUNT],
     class_tokens: [Option<u8>; CLASS_COUNT],
     method_tokens: [Option<u8>; METHOD_COUNT],
+    /// The bytes that random data are made from.
+    random: Option<[u8; RANDOM_SIZE]>,
 }
 
 impl Reading {
@@ -52,6 +55,7 @@ impl Reading {
             versions: [None; PACKAGE_COUNT],
             class_tokens: [None; CLASS_COUNT],
             method_tokens: [None; METHOD_COUNT],
+            random: None,
         }
     }
 
@@ -62,7 +66,9 @@ impl Reading {
         let Some((keyword, rest)) = split_once(line, b' ') else {
             return self.extended_row(line);
         };
-        let (second, rest) = split_once(rest, b' ')?;
+        let Some((second, rest)) = split_once(rest, b' ') else {
+            return self.random_row(keyword, rest);
+        };
         let Some((third, fourth)) = split_once(rest, b' ') else {
             if keyword == b"class".as_slice() {
                 return self.class_row(second, rest);
@@ -108,6 +114,19 @@ impl Reading {
         None
     }
 
+    fn random_row(&self, keyword: &[u8], digits: &[u8]) -> Option<Row>
+        ensures { result ≡ random_row (above_of self.now) keyword.now digits.now }
+    {
+        if keyword != b"random".as_slice() {
+            return None;
+        }
+        let bytes = random_bytes(digits)?;
+        if !self.may_be_random() {
+            return None;
+        }
+        Some(Row::Random(bytes))
+    }
+
     fn package_row(&self, aid: &[u8], major: &[u8], minor: &[u8]) -> Option<Row>
         ensures { result ≡ package_row (above_of self.now) aid.now major.now minor.now }
     {
@@ -151,6 +170,13 @@ impl Reading {
         !self.extended && self.first.is_none()
     }
 
+    /// The line `random` may stand here: in an extended table, and no other stands above.
+    fn may_be_random(&self) -> bool
+        ensures { result ≡ may_be_random (above_of self.now) }
+    {
+        self.extended && self.random.is_none()
+    }
+
     /// Both packages that each table has stand above.
     fn has_needed_packages(&self) -> bool
         ensures { result ≡ has_needed_packages (above_of self.now) }
@@ -159,14 +185,13 @@ impl Reading {
             && self.version(PlatformPackage::JavacardFramework).is_some()
     }
 
-    /// A package may stand here: it stands nowhere above, and `javacardx.apdu` stands in an extended table, behind
-    /// both others.
+    /// A package may stand here: it stands nowhere above, and one that not each table has stands in an extended table,
+    /// after those that each has.
     fn may_be_package(&self, named: PlatformPackage) -> bool
         ensures { result ≡ may_be_package (above_of self.now) named }
     {
         self.version(named).is_none()
-            && (!named.is(PlatformPackage::JavacardxApdu)
-                || self.extended && self.has_needed_packages())
+            && (named.is_needed() || self.extended && self.has_needed_packages())
     }
 
     /// The table may have a name that each table has, or, where it is extended, another.
@@ -223,6 +248,7 @@ impl Reading {
     {
         match row {
             Row::Extended => self.put_extended(),
+            Row::Random(bytes) => self.put_random(bytes),
             Row::Package(named, version) => self.put_package(named, version),
             Row::Class(class, token) => self.put_class(class, token),
             Row::Method(method, token) => self.put_method(method, token),
@@ -234,6 +260,13 @@ impl Reading {
             → above_of self.new ≡ above (Row.Extended ∷ rows) }
     {
         self.extended = true;
+    }
+
+    fn put_random(&mut self, bytes: [u8; RANDOM_SIZE])
+        ensures { (rows : List Row) → above_of self.old ≡ above rows
+            → above_of self.new ≡ above (Row.Random bytes ∷ rows) }
+    {
+        self.random = Some(bytes);
     }
 
     fn put_package(&mut self, named: PlatformPackage, version: Version)
@@ -281,6 +314,7 @@ impl Reading {
             && self.has_needed_of(applets_rows())
             && self.has_needed_of(apdus_rows())
             && self.has_needed_of(events_rows())
+            && self.has_needed_of(engines_rows())
     }
 
     /// Each of these methods that each table has stands above.
@@ -305,7 +339,13 @@ impl Reading {
         if !self.has_needed_methods() {
             return None;
         }
-        Some(Table::new(first, self.versions, self.class_tokens, self.method_tokens))
+        Some(Table::new(
+            first,
+            self.versions,
+            self.class_tokens,
+            self.method_tokens,
+            self.random.unwrap_or([0; RANDOM_SIZE]),
+        ))
     }
 }
 

@@ -9,11 +9,16 @@ pub struct Version {
     pub minor: u8,
 }
 
+/// How many bytes random data are made from.
+pub const RANDOM_SIZE: usize = 32;
+
 /// A line that says where a name of the platform stands.
 #[derive(Clone, Copy)]
 pub(crate) enum Row {
     /// The first line of a table that may have names of the second list.
     Extended,
+    /// The bytes that random data are made from.
+    Random([u8; RANDOM_SIZE]),
     /// A package with its version.
     Package(PlatformPackage, Version),
     /// A class with its token.

@@ -3,9 +3,9 @@
 use crate::kinds::{Answer, CellKind, ClassForm, ParameterKind, Receiver};
 use crate::names::{
     AIDS_COUNT, APDUS_COUNT, APPLETS_COUNT, AidsMethod, ApdusMethod, AppletsMethod, CLASS_COUNT,
-    EVENTS_COUNT, EXCEPTIONS_COUNT, EventsMethod, ExceptionsMethod, MethodKind, OBJECTS_COUNT,
-    ObjectsMethod, PACKAGE_COUNT, PINS_COUNT, PinsMethod, PlatformClass, PlatformMethod,
-    PlatformPackage, SYSTEM_COUNT, SystemMethod, UTILITIES_COUNT, UtilitiesMethod,
+    ENGINES_COUNT, EVENTS_COUNT, EXCEPTIONS_COUNT, EnginesMethod, EventsMethod, ExceptionsMethod,
+    MethodKind, OBJECTS_COUNT, ObjectsMethod, PACKAGE_COUNT, PINS_COUNT, PinsMethod, PlatformClass,
+    PlatformMethod, PlatformPackage, SYSTEM_COUNT, SystemMethod, UTILITIES_COUNT, UtilitiesMethod,
 };
 
 /// A package with the text of its AID, in upper case hexadecimal.
@@ -178,6 +178,10 @@ pub(crate) static PACKAGES: [PackageRow; PACKAGE_COUNT] = [
         package_id: PlatformPackage::JavacardxApdu,
         aid_text: b"A0000000620209",
     },
+    PackageRow {
+        package_id: PlatformPackage::JavacardSecurity,
+        aid_text: b"A0000000620102",
+    },
 ];
 
 /// Every class, in the order of `PlatformClass`: package, class, name, superclass, interfaces, form, cells, whether code may
@@ -215,6 +219,10 @@ pub(crate) static CLASSES: [ClassRow; CLASS_COUNT] = [
     optional_class!(JavacardFramework MultiSelectable b"MultiSelectable" [] [] Interface [] false false),
     optional_class!(JavacardFramework AppletEvent b"AppletEvent" [] [] Interface [] false false),
     optional_class!(JavacardxApdu ExtendedLength b"ExtendedLength" [] [] Interface [] false false),
+    optional_class!(JavacardSecurity CryptoException b"CryptoException" [CardRuntimeException] [] Exception [Number] true true),
+    optional_class!(JavacardSecurity MessageDigest b"MessageDigest" [Object] [] Object [Number Reference] false false),
+    optional_class!(JavacardSecurity Checksum b"Checksum" [Object] [] Object [Number Reference] false false),
+    optional_class!(JavacardSecurity RandomData b"RandomData" [Object] [] Object [Number Reference] false false),
 ];
 
 /// The methods of `java.lang`, in the order of `ObjectsMethod`: class, kind, method, name, parameters, what is returned, the receiver.
@@ -257,6 +265,8 @@ pub(crate) static EXCEPTIONS: [MethodRow; EXCEPTIONS_COUNT] = [
     method!(Exceptions ExceptionsMethod UserException Static UserExceptionInit b"<init>" [Short] Void Changed),
     method!(Exceptions ExceptionsMethod UserException Static UserExceptionThrowIt b"throwIt" [Short] Void Absent),
     optional_method!(Exceptions ExceptionsMethod UserException Static UserExceptionInitWithoutReason b"<init>WithoutReason" [] Void Changed),
+    optional_method!(Exceptions ExceptionsMethod CryptoException Static CryptoExceptionInit b"<init>" [Short] Void Changed),
+    optional_method!(Exceptions ExceptionsMethod CryptoException Static CryptoExceptionThrowIt b"throwIt" [Short] Void Absent),
 ];
 
 /// The methods of `Util`, in the order of `UtilitiesMethod`: class, kind, method, name, parameters, what is returned, the receiver.
@@ -373,8 +383,28 @@ pub(crate) static EVENTS: [MethodRow; EVENTS_COUNT] = [
     optional_method!(Events EventsMethod AppletEvent Interface AppletEventUninstall b"uninstall" [] Void Kept),
 ];
 
+/// The methods of `MessageDigest`, `Checksum` and `RandomData`, in the order of `EnginesMethod`: class, kind, method, name, parameters, what is returned, the receiver.
+pub(crate) static ENGINES: [MethodRow; ENGINES_COUNT] = [
+    optional_method!(Engines EnginesMethod MessageDigest Static MessageDigestGetInstance b"getInstance" [Byte Boolean] Reference Absent),
+    optional_method!(Engines EnginesMethod MessageDigest Virtual MessageDigestGetAlgorithm b"getAlgorithm" [] Byte Kept),
+    optional_method!(Engines EnginesMethod MessageDigest Virtual MessageDigestGetLength b"getLength" [] Byte Kept),
+    optional_method!(Engines EnginesMethod MessageDigest Virtual MessageDigestUpdate b"update" [Bytes Short Short] Void Kept),
+    optional_method!(Engines EnginesMethod MessageDigest Virtual MessageDigestDoFinal b"doFinal" [Bytes Short Short Bytes Short] Short Kept),
+    optional_method!(Engines EnginesMethod MessageDigest Virtual MessageDigestReset b"reset" [] Void Kept),
+    optional_method!(Engines EnginesMethod Checksum Static ChecksumGetInstance b"getInstance" [Byte Boolean] Reference Absent),
+    optional_method!(Engines EnginesMethod Checksum Virtual ChecksumGetAlgorithm b"getAlgorithm" [] Byte Kept),
+    optional_method!(Engines EnginesMethod Checksum Virtual ChecksumInit b"init" [Bytes Short Short] Void Kept),
+    optional_method!(Engines EnginesMethod Checksum Virtual ChecksumUpdate b"update" [Bytes Short Short] Void Kept),
+    optional_method!(Engines EnginesMethod Checksum Virtual ChecksumDoFinal b"doFinal" [Bytes Short Short Bytes Short] Short Kept),
+    optional_method!(Engines EnginesMethod RandomData Static RandomDataGetInstance b"getInstance" [Byte] Reference Absent),
+    optional_method!(Engines EnginesMethod RandomData Virtual RandomDataGenerateData b"generateData" [Bytes Short Short] Void Kept),
+    optional_method!(Engines EnginesMethod RandomData Virtual RandomDataNextBytes b"nextBytes" [Bytes Short Short] Short Kept),
+    optional_method!(Engines EnginesMethod RandomData Virtual RandomDataSetSeed b"setSeed" [Bytes Short Short] Void Kept),
+    optional_method!(Engines EnginesMethod RandomData Virtual RandomDataGetAlgorithm b"getAlgorithm" [] Byte Kept),
+];
+
 /// The place of each package's first class, in the order of `PlatformPackage`; after them how many classes there are.
-pub(crate) static FIRST_CLASSES: [usize; PACKAGE_COUNT + 1] = [0, 12, 31, CLASS_COUNT];
+pub(crate) static FIRST_CLASSES: [usize; PACKAGE_COUNT + 1] = [0, 12, 31, 32, CLASS_COUNT];
 
 /// A room: the methods of some classes.
 #[derive(Clone, Copy)]
@@ -388,6 +418,7 @@ pub(crate) enum Room {
     Applets,
     Apdus,
     Events,
+    Engines,
 }
 
 /// Where the methods of a class stand: a room, the place of the first one there, and that after the last.
@@ -442,4 +473,8 @@ pub(crate) static STRETCHES: [Stretch; CLASS_COUNT] = [
     stretch!(Events 0 2),
     stretch!(Events 2 3),
     stretch!(Objects 0 0),
+    stretch!(Exceptions 21 23),
+    stretch!(Engines 0 6),
+    stretch!(Engines 6 11),
+    stretch!(Engines 11 16),
 ];

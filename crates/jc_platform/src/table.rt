@@ -8,7 +8,7 @@ use crate::names::{
     CLASS_COUNT, METHOD_COUNT, PACKAGE_COUNT, PlatformClass, PlatformMethod, PlatformPackage,
 };
 use crate::platform::Platform;
-use crate::row::Version;
+use crate::row::{RANDOM_SIZE, Version};
 use jc_transient::ClassWord;
 use std::marker::Model;
 
@@ -20,6 +20,7 @@ pub struct Table {
     versions: [Option<Version>; PACKAGE_COUNT],
     class_tokens: [Option<u8>; CLASS_COUNT],
     method_tokens: [Option<u8>; METHOD_COUNT],
+    random: [u8; RANDOM_SIZE],
 }
 
 impl Model for Table {
@@ -30,11 +31,12 @@ impl Model for Table {
       versions = t.versions;
       class_tokens = t.class_tokens;
       method_tokens = t.method_tokens;
+      random = t.random;
     } };
 }
 
 impl Table {
-    /// The number of the package that stands first; the others count on from it.
+    /// The number of the package that stands first; that of the other one that each table has is the next.
     pub const FIRST_PACKAGE: u8 = 64;
 
     pub(crate) fn new(
@@ -42,12 +44,14 @@ impl Table {
         versions: [Option<Version>; PACKAGE_COUNT],
         class_tokens: [Option<u8>; CLASS_COUNT],
         method_tokens: [Option<u8>; METHOD_COUNT],
+        random: [u8; RANDOM_SIZE],
     ) -> Self
         ensures { result ≡ record {
           first = first;
           versions = versions;
           class_tokens = class_tokens;
           method_tokens = method_tokens;
+          random = random;
         } }
     {
         Table {
@@ -55,6 +59,7 @@ impl Table {
             versions,
             class_tokens,
             method_tokens,
+            random,
         }
     }
 
@@ -94,25 +99,36 @@ impl Table {
         self.versions[named.index()]
     }
 
-    /// The number of a package, from 64 on in the table's order; 66 of `javacardx.apdu`, which stands last if it does.
+    /// The bytes that random data are made from: those of the line `random`, else zeros.
+    pub fn random(&self) -> &[u8; RANDOM_SIZE]
+        ensures { result.now ≡ self.now.random }
+    {
+        &self.random
+    }
+
+    /// The number of a package: 64 and 65 of those that each table has, in its order; 66 of `javacardx.apdu`, and 67 of
+    /// `javacard.security`.
     pub fn package_number(&self, named: PlatformPackage) -> u8
         ensures { result ≡ number_in self.now named }
     {
-        if named == PlatformPackage::JavacardxApdu {
-            Self::FIRST_PACKAGE + 2
-        } else if named == self.first {
-            Self::FIRST_PACKAGE
-        } else {
-            Self::FIRST_PACKAGE + 1
+        match named {
+            PlatformPackage::JavacardxApdu => Self::FIRST_PACKAGE + 2,
+            PlatformPackage::JavacardSecurity => Self::FIRST_PACKAGE + 3,
+            _ if named == self.first => Self::FIRST_PACKAGE,
+            _ => Self::FIRST_PACKAGE + 1,
         }
     }
 
-    /// The class as an object's header names it: the number of its package times 256, and its token.
+    /// The class as an object's header names it: the number of its package times 256, and its token; of a class that the table
+    /// lacks a word that names none.
     pub fn class_word(&self, class: PlatformClass) -> ClassWord
         ensures { result ≡ class_word self.now class }
     {
         let number = u16::from(self.package_number(class.home()));
-        ClassWord(256 * number + u16::from(self.class_token(class)))
+        match self.token_of_class(class) {
+            Some(token) => ClassWord(256 * number + u16::from(token)),
+            None => ClassWord(u16::MAX),
+        }
     }
 
     /// The packages of the platform, as other packages name them.
@@ -124,6 +140,7 @@ impl Table {
             self.versions,
             self.class_tokens,
             self.method_tokens,
+            self.random,
         );
         Platform::new(table)
     }

@@ -1,11 +1,13 @@
 //! The words of a line.
 
 ghost use Rattle.std.specs.Prelude.{◌≡◌, ◌<◌, [], ◌∷◌, length, MatchOption, IfSome};
-ghost use Rattle.jc_platform.specs.Rows.{is_token, kind_of, number_of, parts_at};
+ghost use Rattle.jc_platform.specs.Rows.{bytes_of, is_token, kind_of, number_of, parts_at};
 
 use crate::names::MethodKind;
+use crate::row::RANDOM_SIZE;
+use hex::FromHex;
 
-/// The bytes before the first separator and those behind it.
+/// The bytes before the first separator and those after it.
 pub(crate) fn split_once(bytes: &[u8], separator: u8) -> Option<(&[u8], &[u8])>
     ensures parts { MatchOption result (parts_at separator bytes.now ≡ bytes.now ∷ [])
         (λ r. parts_at separator bytes.now ≡ r.0.now ∷ parts_at separator r.1.now) }
@@ -30,6 +32,13 @@ pub(crate) fn number(word: &[u8]) -> Option<u8>
         Ok(text) => text.parse().ok(),
         Err(_) => None,
     }
+}
+
+/// The bytes that random data are made from, of 64 hexadecimal digits.
+pub(crate) fn random_bytes(digits: &[u8]) -> Option<[u8; RANDOM_SIZE]>
+    ensures { result ≡ bytes_of digits.now }
+{
+    <[u8; RANDOM_SIZE] as FromHex>::from_hex(digits).ok()
 }
 
 /// The kind of method that a keyword begins.

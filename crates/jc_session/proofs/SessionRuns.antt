@@ -12,7 +12,7 @@ use Rattle.jc_session.specs.Serving.{Serves, SessionRun}
 use Rattle.jc_session.specs.Starting.{FailsToReset}
 use Rattle.jc_session.specs.Sessions.{IsSession, FailsAtReset, requests_of}
 
--- one run behind another
+-- one run after another
 pub run_then : (requests more : List Request) (replies given : List Reply) (s t u : PowerState) → SessionRun s requests replies t → SessionRun t more given u
     → SessionRun s (requests ++ more) (replies ++ given) u
 run_then [] more [] given s t u run next = subst (λ p. SessionRun p more given u) run next
@@ -42,7 +42,7 @@ pub session_ended : (budget : ℕ) (before : StoreState) (events : List Event) (
 session_ended budget before events replies last n over session =
     subst (λ l. IsSession budget before (requests_of l) replies last) (take_all n events over) session
 
--- the first n events were served, and the reset behind them finds a fault
+-- the first n events were served, and the reset after them finds a fault
 pub stops_at_reset : (budget : ℕ) (before after : StoreState) (events : List Event) (replies : List Reply) (last : PowerState) (n : ℕ) (event : Event) (fault : PowerFault)
     → n < length events → event ≡ get_or events n event → IsSession budget before (requests_of (take n events)) replies last
     → (request_of event ≡ Reset) × FailsToReset fault last after → FailsAtReset budget fault before (requests_of events) after

@@ -35,7 +35,7 @@ abbrev pub ManagerUnselects : Type 0
 ManagerUnselects = (card next : CardState) (bytes response : List ℕ) (c : Apdu) → apdu_of bytes ≡ Some c → is_select c ≡ true → c.content ≡ manager_aid →
     AnswersCommand (Up card) bytes (Response response) (Up next) → next.memory.registers.selected ≡ None
 
--- what is told of refused writes before a request is served: where it arms the fuse, behind that
+-- what is told of refused writes before a request is served: where it arms the fuse, after that
 abbrev pub refusals_before : Request → PowerState → Refusals
 refusals_before (ArmFuse k) s = (durable_state (armed k s)).refusals
 refusals_before (Command bytes) s = (durable_state s).refusals

@@ -42,11 +42,11 @@ abbrev pub budget_of : {V : Type 0} → PowerOver V → ℕ
 budget_of (Up card) = card.budget
 budget_of (Off budget kept) = budget
 
--- so many writes have passed, and one more was refused
+-- this many writes have passed, and one more was refused
 abbrev pub with_refusal : ℕ → KeptState → KeptState
 with_refusal passed k = record k { down = true; passed = passed; refusals = refused_once false passed k.refusals }
 
--- the power is back, and so many writes have passed
+-- the power is back, and this many writes have passed
 abbrev pub with_power : ℕ → KeptState → KeptState
 with_power passed k = record k { down = false; passed = passed }
 

@@ -5,13 +5,13 @@ use Rattle.jc_session.specs.declared.event.Answer.TheVariants as answer
 use Rattle.jc_session.specs.declared.event.Event.{Event}
 use Rattle.jc_session.specs.declared.event.Event.TheVariants as event
 
--- the command of these bytes, a reset, or that the fuse of the store is armed, so that so many further writes pass
+-- the command of these bytes, a reset, or that the fuse of the store is armed, so that this many further writes pass
 pub data Request : Type 0 where
   Command : List ℕ → Request
   Reset : Request
   ArmFuse : ℕ → Request
 
--- the response of a card, that it is up after a reset, that it is off, or that the fuse lets so many writes pass
+-- the response of a card, that it is up after a reset, that it is off, or that the fuse lets this many writes pass
 pub data Reply : Type 0 where
   Response : List ℕ → Reply
   Ready : Reply

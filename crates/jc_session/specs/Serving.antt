@@ -20,7 +20,7 @@ pub record StoreKind (V : Type 0) : Type 1 where
 abbrev pub AnswersCommandOver : {V : Type 0} → StoreKind V → PowerOver V → List ℕ → Reply → PowerOver V → Type 0
 -- no write was refused: all of it was done
 AnswersCommandOver kind (Up card) bytes (Response r) (Up next) = Completes (exchange bytes card) card.memory (with_response next r) next.memory
--- a write was refused within it: the heap is the one that a loss leaves when so many writes have passed
+-- a write was refused within it: the heap is the one that a loss leaves when this many writes have passed
 AnswersCommandOver kind (Up card) bytes Down (Off b kept) =
     (b ≡ card.budget) × kind.IsLeft (TearLeaves (exchange bytes card) card.memory) card.memory.heap kept
 -- without power nothing is done

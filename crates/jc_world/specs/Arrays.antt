@@ -34,7 +34,7 @@ if_array (Some f) = if_bytes f.kind f
 unfoldable pub bytes_argument : MemoryState → ℕ → Result (Option Facts) FrameExit
 bytes_argument m r = if r == 0 then Ok None else if_array (header_at m r)
 
--- so many elements from one on lie in an array of this length
+-- this many elements from one on lie in an array of this length
 abbrev pub within : ℕ → ℕ → Option ℕ → Option ℕ → Result Stretch FrameExit
 within array length None count = Err (Throw ArrayIndexOutOfBoundsException)
 within array length (Some start) None = Err (Throw ArrayIndexOutOfBoundsException)
@@ -46,7 +46,7 @@ unfoldable pub elements_of : Packages → MemoryState → ℕ → Option Facts �
 elements_of p m r None start count = Err (Throw NullPointerException)
 elements_of p m r (Some f) start count = and_then (firewall_check ArrayElement p m f) (λ u. within r f.length (not_negative start) (not_negative count))
 
--- an argument is null, or this is the header of the array of bytes behind it
+-- an argument is null, or this is the header of the array of bytes after it
 pub record IsBytesArgument (m : MemoryState) (r : ℕ) (argument : Option Facts) : Type 0 where
   pub there : (f : Facts) → argument ≡ Some f → IsObject m.heap.now r
   pub header : (f : Facts) → argument ≡ Some f → f ≡ facts m.heap.now r

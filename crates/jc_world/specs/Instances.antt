@@ -11,7 +11,7 @@ use Rattle.jc_frames.specs.declared.outcome.FrameExit.TheVariants.{End}
 use Rattle.jc_world.specs.Objects.{object_at}
 use Rattle.jc_world.specs.Answers.{and_then}
 
--- an instance with so many cells
+-- an instance with this many cells
 abbrev pub with_cells : ℕ → Kind → Facts → Result Facts FrameExit
 with_cells n Instance f = if nat_le n f.length then Ok f else Err (End Fault)
 with_cells n BooleanArray f = Err (End Fault)
@@ -19,11 +19,11 @@ with_cells n ByteArray f = Err (End Fault)
 with_cells n ShortArray f = Err (End Fault)
 with_cells n ReferenceArray f = Err (End Fault)
 
--- the instance with so many cells behind a reference: null throws, and anything else is a code fault
+-- the instance with this many cells that a reference names: null throws, and anything else is a code fault
 unfoldable pub instance_at : MemoryState → ℕ → ℕ → Result Facts FrameExit
 instance_at m r n = and_then (object_at m r) (λ f. with_cells n f.kind f)
 
--- an instance with so many cells is there
+-- an instance with this many cells is there
 pub record IsInstanceWith (m : MemoryState) (r n : ℕ) : Type 0 where
   pub there : IsObject m.heap.now r
   pub instance : (facts m.heap.now r).kind ≡ Instance

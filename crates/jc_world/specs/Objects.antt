@@ -1,4 +1,4 @@
--- Objects behind references.
+-- Objects that references name.
 use Rattle.std.specs.Prelude.{ℕ, ℤ, ◌==◌, ◌&&◌, Bool, true, false, List, slice_get, Option, Some, None, Result, Ok, Err, if◌then◌else◌}
 use Rattle.std.specs.Option.{option_and_then}
 use Rattle.jc_heap.specs.declared.object.Facts.{Facts}
@@ -27,7 +27,7 @@ abbrev pub check_or_fault : Bool → Result (Unit {0}) FrameExit
 check_or_fault true = Ok tt
 check_or_fault false = Err (End Fault)
 
--- the header of the object behind a reference: null throws, and a reference to nothing is a code fault
+-- the header of the object that a reference names: null throws, and a reference to nothing is a code fault
 unfoldable pub object_at : MemoryState → ℕ → Result Facts FrameExit
 object_at m r = if r == 0 then Err (Throw NullPointerException) else some_or_fault (header_at m r)
 

@@ -55,7 +55,7 @@ pub fn bytes_argument<S: WordStore>(
 // What elements outside an array throw.
 const OUTSIDE: FrameExit = FrameExit::Throw(Exception::ArrayIndexOutOfBoundsException);
 
-// So many elements of an array of this length, from one on.
+// This many elements of an array of this length, from one on.
 #[inline(always)]
 fn within(array: Ref, length: u16, start: i16, count: i16) -> Result<Stretch, FrameExit>
     ensures elements { result ≡ within array length (not_negative start) (not_negative count) }
@@ -78,7 +78,7 @@ fn within(array: Ref, length: u16, start: i16, count: i16) -> Result<Stretch, Fr
     }
 }
 
-/// So many elements of the array of bytes that an argument names, from one on. Null throws, then the
+/// This many elements of the array of bytes that an argument names, from one on. Null throws, then the
 /// firewall, then elements outside the array.
 #[inline(always)]
 #[tactic(auto, unfolding(crate::specs::Arrays::elements_of))]

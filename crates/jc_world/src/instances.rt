@@ -9,7 +9,7 @@ use jc_memory::{FaultKind, Memory};
 use jc_transient::Ref;
 use jc_words::WordStore;
 
-/// The header of the instance with so many cells behind a reference. Null throws, and anything else is
+/// The header of the instance with this many cells that a reference names. Null throws, and anything else is
 /// a code fault.
 #[tactic(auto, unfolding(crate::specs::Instances::instance_at))]
 pub fn instance<S: WordStore>(

@@ -1,4 +1,4 @@
-//! Objects behind references.
+//! Objects that references name.
 ghost use Rattle.std.specs.Prelude.{◌≡◌, false, IfOk};
 ghost use Rattle.jc_heap.specs.Heap.{IsObject};
 ghost use Rattle.jc_memory.specs.Cells.{IsHeaderOf};
@@ -13,7 +13,7 @@ use jc_memory::{FaultKind, Memory};
 use jc_transient::{ClassWord, Ref};
 use jc_words::WordStore;
 
-/// The header of the object behind a reference. Null throws; a reference to nothing is a code fault.
+/// The header of the object that a reference names. Null throws; a reference to nothing is a code fault.
 #[inline(always)]
 #[tactic(auto, unfolding(crate::specs::Objects::object_at))]
 pub fn object<S: WordStore>(reference: Ref, memory: &Memory<S>) -> Result<Facts, FrameExit>

@@ -82,11 +82,11 @@ image_last : (image : Text) → after (at_image image) [] ≡ Some (ToList image
 unfolding request_after clap_on_literals
 image_last image = refl
 
-objects_last : (image : Text) → after (with_objects (at_image image)) [] ≡ Some (ToListObjects image false)
+objects_last : (image : Text) → after (with_objects (at_image image)) [] ≡ Some (ToListObjects image false None)
 unfolding request_after clap_on_literals with_objects
 objects_last image = refl
 
-all_last : (image : Text) → after (with_all (with_objects (at_image image))) [] ≡ Some (ToListObjects image true)
+all_last : (image : Text) → after (with_all (with_objects (at_image image))) [] ≡ Some (ToListObjects image true None)
 unfolding request_after clap_on_literals with_objects with_all
 all_last image = refl
 

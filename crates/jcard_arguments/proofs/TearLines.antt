@@ -162,7 +162,7 @@ abbrev by_depth : Text → Text → Option Depth → Option CommandLineRequest
 by_depth image script depth = option_map (λ d. ToTear image script (record plain_tear { depth = d })) depth
 
 recovered : (image script : Text) (depth : Option Depth)
-    → tear_by (Some (image, script)) (tear_with false false None None depth None (Some None)) ≡ by_depth image script depth
+    → tear_by (Some (image, script)) (tear_with false false false None None None depth None (Some None)) ≡ by_depth image script depth
 recovered image script None = refl
 recovered image script (Some depth) = refl
 

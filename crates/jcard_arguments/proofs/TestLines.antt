@@ -50,7 +50,7 @@ rows (file ∷ files) = record {
   reading = reading_by (operands (codes "file"));
 } ∷ []
 
--- with this value of an argument that is being read, behind these files
+-- with this value of an argument that is being read, after these files
 abbrev reading : List Row → Text → List Text → Waiting → Walk
 reading rs id values waiting = record {
   held = record { rows = rs; pending = Some (id, values); skip = 0 };
@@ -113,7 +113,7 @@ last_junit file files junit = refl
 
 -- ---- the lines
 
--- the report behind these files
+-- the report after these files
 junit_behind : (files : List Text) (last junit : Text) → IsNoFlag junit
     → after (at_file files last) (codes "--junit" ∷ junit ∷ []) ≡ Some (ToTest (files ++ last ∷ []) (record plain_test { junit = Some junit }))
 junit_behind [] last junit h = step (junit_named [] last) (junit ∷ []) ∙ (step (junit_given last [] junit h) [] ∙ last_junit last [] junit)

@@ -27,6 +27,7 @@ pub record RunAsked : Type 0 where
   pub expect : Bool
   pub lines : Option Lines
   pub map : Option Text
+  pub stops : Option Text
   pub cover : Option Text
   pub instructions : Option ℕ
 
@@ -34,6 +35,8 @@ pub record RunAsked : Type 0 where
 pub record TearAsked : Type 0 where
   pub each : Bool
   pub objects : Bool
+  pub why : Bool
+  pub map : Option Text
   pub probe : Option Text
   pub line : Option Text
   pub depth : Depth
@@ -56,12 +59,12 @@ pub data CommandLineRequest : Type 0 where
   ToRun : Text → Text → RunAsked → CommandLineRequest
   -- what the image of this name holds is listed
   ToList : Text → CommandLineRequest
-  -- and its objects, all or those of packages
-  ToListObjects : Text → Bool → CommandLineRequest
-  -- the two images are compared, in all objects or those of packages
-  ToCompare : Text → Text → Bool → CommandLineRequest
+  -- and its objects, all or those of packages, with what a map names
+  ToListObjects : Text → Bool → Option Text → CommandLineRequest
+  -- the two images are compared, in all objects or those of packages, with what a map names
+  ToCompare : Text → Text → Bool → Option Text → CommandLineRequest
   -- the script is carried out on a new card in memory of N words, with the platform table of this name or the usual one, and at most
-  -- so many instructions a command
+  -- this many instructions a command
   ToTry : Text → Text → Option Text → Option ℕ → CommandLineRequest
   -- commands of the script of the second name are cut, over the words of the image of the first
   ToTear : Text → Text → TearAsked → CommandLineRequest
@@ -81,27 +84,30 @@ abbrev pub new_by : Option Text → Option Text → Option Text → Option Text 
 new_by (Some image) words journal table = Some (ToMake image (unwrap_or words (codes "8192")) (unwrap_or journal (codes "256")) table)
 new_by None words journal table = None
 
--- `--map` goes with `--why` or `--trace`, `--lines` with `--trace`
-abbrev pub are_together : Bool → Bool → Option Text → Option Text → Bool
-are_together why trace lines map = (not (is_some map) || (why || trace)) && (not (is_some lines) || trace)
+-- `--map` goes with `--why`, `--trace` or `--break`, `--lines` with `--trace`, `--break` with `--map`
+abbrev pub are_together : Bool → Bool → Option Text → Option Text → Option Text → Bool
+are_together why trace lines map stops =
+    (not (is_some map) || (why || (trace || is_some stops))) && ((not (is_some lines) || trace) && (not (is_some stops) || is_some map))
 
-abbrev pub run_with : Bool → Bool → Bool → Option (Option Lines) → Option Text → Option Text → Option (Option ℕ) → Option RunAsked
-run_with why trace expect (Some lines) map cover (Some instructions) = Some (record {
+abbrev pub run_with : Bool → Bool → Bool → Option (Option Lines) → Option Text → Option Text → Option Text → Option (Option ℕ) → Option RunAsked
+run_with why trace expect (Some lines) map stops cover (Some instructions) = Some (record {
   why = why;
   trace = trace;
   expect = expect;
   lines = lines;
   map = map;
+  stops = stops;
   cover = cover;
   instructions = instructions;
 })
-run_with why trace expect lines map cover instructions = None
+run_with why trace expect lines map stops cover instructions = None
 
 abbrev pub run_asked : List Row → Option RunAsked
 run_asked rows =
     if are_together (is_given (first_of (codes "why") rows)) (is_given (first_of (codes "trace") rows)) (first_of (codes "lines") rows) (first_of (codes "map") rows)
+    (first_of (codes "break") rows)
     then run_with (is_given (first_of (codes "why") rows)) (is_given (first_of (codes "trace") rows)) (is_given (first_of (codes "expect") rows))
-    (lines_given (first_of (codes "lines") rows)) (first_of (codes "map") rows) (first_of (codes "cover") rows)
+    (lines_given (first_of (codes "lines") rows)) (first_of (codes "map") rows) (first_of (codes "break") rows) (first_of (codes "cover") rows)
     (budget_given (first_of (codes "instructions") rows))
     else None
 
@@ -109,12 +115,12 @@ abbrev pub run_by : Option Text → Option Text → Option RunAsked → Option C
 run_by (Some image) (Some script) (Some asked) = Some (ToRun image script asked)
 run_by image script asked = None
 
--- objects are listed or compared, not both, and all of them only there
-abbrev pub dump_by : Option Text → Bool → Option Text → Bool → Option CommandLineRequest
-dump_by (Some image) false None false = Some (ToList image)
-dump_by (Some image) true None all = Some (ToListObjects image all)
-dump_by (Some image) false (Some other) all = Some (ToCompare image other all)
-dump_by image objects against all = None
+-- objects are listed or compared, not both, and all of them, and with a map, only there
+abbrev pub dump_by : Option Text → Bool → Option Text → Bool → Option Text → Option CommandLineRequest
+dump_by (Some image) false None false None = Some (ToList image)
+dump_by (Some image) true None all map = Some (ToListObjects image all map)
+dump_by (Some image) false (Some other) all map = Some (ToCompare image other all map)
+dump_by image objects against all map = None
 
 abbrev pub try_by : Option Text → Option Text → Option Text → Option (Option ℕ) → Option CommandLineRequest
 try_by (Some script) words table (Some instructions) = Some (ToTry script (unwrap_or words (codes "8192")) table instructions)
@@ -127,34 +133,44 @@ depth_of (Some text) = if bytes_eq text (codes "1") then Some One
     else (if bytes_eq text (codes "2") then Some Two
     else (if bytes_eq text (codes "3") then Some Three else None))
 
-abbrev pub tear_with : Bool → Bool → Option Text → Option Text → Option Depth → Option Text → Option (Option ℕ) → Option TearAsked
-tear_with each objects probe line (Some depth) part (Some instructions) = Some (record {
+abbrev pub tear_with : Bool → Bool → Bool → Option Text → Option Text → Option Text → Option Depth → Option Text → Option (Option ℕ) → Option TearAsked
+tear_with each objects why map probe line (Some depth) part (Some instructions) = Some (record {
   each = each;
   objects = objects;
+  why = why;
+  map = map;
   probe = probe;
   line = line;
   depth = depth;
   part = part;
   instructions = instructions;
 })
-tear_with each objects probe line depth part instructions = None
+tear_with each objects why map probe line depth part instructions = None
 
--- a line and each command together are nothing, nor is a part of each command, or with recoveries
-abbrev pub are_apart : Bool → Option Text → Option Text → Option Text → Bool
-are_apart each line recovery part = (each && is_some line) || (is_some part && (each || is_some recovery))
+-- a line and each command together are nothing, nor is a map without what tells names
+abbrev pub are_apart : Bool → Option Text → Bool → Bool → Option Text → Bool
+are_apart each line objects why map = (each && is_some line) || (is_some map && not (objects || why))
 
 abbrev pub tear_asked : List Row → Option TearAsked
-tear_asked rows = if are_apart (is_given (first_of (codes "each") rows)) (first_of (codes "line") rows) (first_of (codes "recovery") rows)
-    (first_of (codes "part") rows) then None
-    else tear_with (is_given (first_of (codes "each") rows)) (is_given (first_of (codes "objects") rows)) (first_of (codes "probe") rows)
-    (first_of (codes "line") rows) (depth_of (first_of (codes "recovery") rows)) (first_of (codes "part") rows)
+tear_asked rows = if are_apart (is_given (first_of (codes "each") rows)) (first_of (codes "line") rows) (is_given (first_of (codes "objects") rows))
+    (is_given (first_of (codes "why") rows)) (first_of (codes "map") rows) then None
+    else tear_with (is_given (first_of (codes "each") rows)) (is_given (first_of (codes "objects") rows)) (is_given (first_of (codes "why") rows))
+    (first_of (codes "map") rows) (first_of (codes "probe") rows) (first_of (codes "line") rows) (depth_of (first_of (codes "recovery") rows)) (first_of (codes "part") rows)
     (budget_given (first_of (codes "instructions") rows))
+
+-- what a sweep is to show is given: each command, objects, the writes, a map
+abbrev pub shows_more : List Row → Bool
+shows_more rows = is_given (first_of (codes "each") rows) || is_given (first_of (codes "objects") rows) || is_given (first_of (codes "why") rows)
+    || is_some (first_of (codes "map") rows)
+
+-- and what it is to cut, and with which probe
+abbrev pub chooses_cuts : List Row → Bool
+chooses_cuts rows = is_some (first_of (codes "probe") rows) || is_some (first_of (codes "line") rows) || is_some (first_of (codes "recovery") rows)
+    || is_some (first_of (codes "part") rows) || is_some (first_of (codes "instructions") rows)
 
 -- no option of a sweep is given
 abbrev pub is_bare : List Row → Bool
-is_bare rows = not (is_given (first_of (codes "each") rows) || is_given (first_of (codes "objects") rows) || is_some (first_of (codes "probe") rows)
-    || is_some (first_of (codes "line") rows) || is_some (first_of (codes "recovery") rows) || is_some (first_of (codes "part") rows)
-    || is_some (first_of (codes "instructions") rows))
+is_bare rows = not (shows_more rows || chooses_cuts rows)
 
 abbrev pub join_by : Bool → Option (List Text) → Option CommandLineRequest
 join_by true (Some files) = Some (ToJoin files)
@@ -192,7 +208,7 @@ run_of rows = run_by (first_of (codes "image") rows) (first_of (codes "script") 
 
 abbrev pub dump_of : List Row → Option CommandLineRequest
 dump_of rows = dump_by (first_of (codes "image") rows) (is_given (first_of (codes "objects") rows)) (first_of (codes "against") rows)
-    (is_given (first_of (codes "all") rows))
+    (is_given (first_of (codes "all") rows)) (first_of (codes "map") rows)
 
 abbrev pub try_of : List Row → Option CommandLineRequest
 try_of rows = try_by (first_of (codes "script") rows) (first_of (codes "words") rows) (first_of (codes "table") rows)
@@ -255,6 +271,7 @@ run_asked_by o = record {
   expect = o.expect;
   lines = o.lines;
   map = text_of o.map;
+  stops = text_of o.stops;
   cover = text_of o.cover;
   instructions = o.instructions;
 }
@@ -263,6 +280,8 @@ abbrev pub tear_asked_by : TearOptions → TearAsked
 tear_asked_by o = record {
   each = o.each;
   objects = o.objects;
+  why = o.why;
+  map = text_of o.map;
   probe = text_of o.probe;
   line = text_of o.line;
   depth = o.depth;
@@ -284,8 +303,8 @@ abbrev pub request_by : Action → CommandLineRequest
 request_by (New image words journal table) = ToMake image.now words.now journal.now (text_of table)
 request_by (Run image script options) = ToRun image.now script.now (run_asked_by options)
 request_by (Dump image) = ToList image.now
-request_by (DumpObjects image all) = ToListObjects image.now all
-request_by (Compare image other all) = ToCompare image.now other.now all
+request_by (DumpObjects image all map) = ToListObjects image.now all (text_of map)
+request_by (Compare image other all map) = ToCompare image.now other.now all (text_of map)
 request_by (Try script words table instructions) = ToTry script.now words.now (text_of table) instructions
 request_by (Tear image script options) = ToTear image.now script.now (tear_asked_by options)
 request_by (Join files) = ToJoin (texts_of files.items)

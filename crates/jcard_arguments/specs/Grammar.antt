@@ -43,26 +43,26 @@ abbrev pub new_grammar : App
 new_grammar = with_rules (new_app (codes "new")) (operand (codes "image") ∷ value_option (codes "words") ∷ value_option (codes "table")
     ∷ value_option (codes "journal") ∷ [])
 
--- `run IMAGE SCRIPT [--why] [--trace] [--expect] [--lines N] [--map FILE] [--cover FILE] [--instructions N]`
+-- `run IMAGE SCRIPT [--why] [--trace] [--expect] [--lines N] [--map FILE] [--break PLACE] [--cover FILE] [--instructions N]`
 abbrev pub run_grammar : App
 run_grammar = with_rules (new_app (codes "run")) (operand (codes "image") ∷ operand (codes "script") ∷ flag (codes "why") ∷ flag (codes "trace")
-    ∷ flag (codes "expect") ∷ value_option (codes "lines") ∷ value_option (codes "map") ∷ value_option (codes "cover")
-    ∷ value_option (codes "instructions") ∷ [])
+    ∷ flag (codes "expect") ∷ value_option (codes "lines") ∷ value_option (codes "map") ∷ value_option (codes "break")
+    ∷ value_option (codes "cover") ∷ value_option (codes "instructions") ∷ [])
 
--- `dump IMAGE [--objects | --against OTHER] [--all]`
+-- `dump IMAGE [--objects | --against OTHER] [--all] [--map FILE]`
 abbrev pub dump_grammar : App
 dump_grammar = with_rules (new_app (codes "dump")) (operand (codes "image") ∷ flag (codes "objects") ∷ value_option (codes "against")
-    ∷ flag (codes "all") ∷ [])
+    ∷ flag (codes "all") ∷ value_option (codes "map") ∷ [])
 
 -- `try SCRIPT [--words N] [--table FILE] [--instructions N]`
 abbrev pub try_grammar : App
 try_grammar = with_rules (new_app (codes "try")) (operand (codes "script") ∷ value_option (codes "words") ∷ value_option (codes "table")
     ∷ value_option (codes "instructions") ∷ [])
 
--- `tear IMAGE SCRIPT [--probe FILE] [--line N | --each] [--recovery D] [--part I/N] [--objects] [--instructions N]`, `tear --join FILE..`
+-- `tear IMAGE SCRIPT [--probe FILE] [--line N | --each] [--recovery D] [--part I/N] [--objects] [--why] [--map FILE] [--instructions N]`, `tear --join FILE..`
 abbrev pub tear_grammar : App
 tear_grammar = with_rules (new_app (codes "tear")) (operands (codes "file") ∷ flag (codes "join") ∷ flag (codes "each") ∷ flag (codes "objects")
-    ∷ value_option (codes "probe") ∷ value_option (codes "line") ∷ value_option (codes "recovery") ∷ value_option (codes "part")
+    ∷ flag (codes "why") ∷ value_option (codes "map") ∷ value_option (codes "probe") ∷ value_option (codes "line") ∷ value_option (codes "recovery") ∷ value_option (codes "part")
     ∷ value_option (codes "instructions") ∷ [])
 
 -- `test FILE.. [--junit FILE] [--table FILE] [--words N] [--journal C] [--instructions N]`

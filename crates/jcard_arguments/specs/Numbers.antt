@@ -15,7 +15,7 @@ number_of text = if nat_lt 0 (length text) && all_ascii_digits text && nat_lt (d
 abbrev pub budget_of : List ℕ → Option ℕ
 budget_of text = option_and_then (λ n. if nat_lt 0 n then Some n else None) (number_of text)
 
--- what stands behind a hyphen, if a text begins with one, and the text: the last so many lines, or the first
+-- what stands after a hyphen, if a text begins with one, and the text: the last n lines, or the first
 abbrev pub lines_by : Option (List ℕ) → List ℕ → Option Lines
 lines_by (Some digits) text = option_map Last (number_of digits)
 lines_by None text = option_map First (number_of text)

@@ -1,4 +1,4 @@
--- Plain command lines, and what they ask for: the options of a command behind its operands.
+-- Plain command lines, and what they ask for: the options of a command after its operands.
 use Rattle.std.specs.Prelude.{All, ◌≡◌, false, true, List, [], ◌∷◌, ◌++◌, codes, slice_get, Some, None}
 use Rattle.clap.specs.Words.{Text}
 use Rattle.jcard_outcomes.specs.declared.recoveries.Depth.{Depth}
@@ -12,11 +12,11 @@ IsNoFlag word = slice_get word 0 ≡ Some 45 → ⊥
 
 -- a run that is asked for its answers alone
 abbrev pub plain_run : RunAsked
-plain_run = record { why = false; trace = false; expect = false; lines = None; map = None; cover = None; instructions = None }
+plain_run = record { why = false; trace = false; expect = false; lines = None; map = None; stops = None; cover = None; instructions = None }
 
 -- the last command is cut, and no recovery
 abbrev pub plain_tear : TearAsked
-plain_tear = record { each = false; objects = false; probe = None; line = None; depth = Zero; part = None; instructions = None }
+plain_tear = record { each = false; objects = false; why = false; map = None; probe = None; line = None; depth = Zero; part = None; instructions = None }
 
 -- cards of the usual size, and no report
 abbrev pub plain_test : TestAsked
@@ -27,12 +27,12 @@ abbrev pub TakesRuns : Type 0
 TakesRuns = (name image script : Text) → IsNoFlag image → IsNoFlag script
     → request_of_words (name ∷ codes "run" ∷ image ∷ script ∷ []) ≡ Some (ToRun image script plain_run)
 
--- `NAME dump IMAGE` asks to list what exactly this image holds; with `--objects`, its objects too; with `--all` behind it, all of them
+-- `NAME dump IMAGE` asks to list what exactly this image holds; with `--objects`, its objects too; with `--all` after it, all of them
 abbrev pub TakesDumps : Type 0
 TakesDumps = (name image : Text) → IsNoFlag image
     → (request_of_words (name ∷ codes "dump" ∷ image ∷ []) ≡ Some (ToList image))
-    × (request_of_words (name ∷ codes "dump" ∷ image ∷ codes "--objects" ∷ []) ≡ Some (ToListObjects image false))
-    × (request_of_words (name ∷ codes "dump" ∷ image ∷ codes "--objects" ∷ codes "--all" ∷ []) ≡ Some (ToListObjects image true))
+    × (request_of_words (name ∷ codes "dump" ∷ image ∷ codes "--objects" ∷ []) ≡ Some (ToListObjects image false None))
+    × (request_of_words (name ∷ codes "dump" ∷ image ∷ codes "--objects" ∷ codes "--all" ∷ []) ≡ Some (ToListObjects image true None))
 
 -- in which order the options of `new` stand
 pub data NewOrder : Type 0 where
@@ -73,9 +73,9 @@ TakesTries = (name script words table : Text) → IsNoFlag script → IsNoFlag w
     × (request_of_words (name ∷ codes "try" ∷ script ∷ codes "--words" ∷ words ∷ codes "--table" ∷ table ∷ []) ≡ Some (ToTry script words (Some table) None))
 
 -- `NAME tear IMAGE SCRIPT` asks to cut the last command of exactly this script over this image; with `--probe FILE`, `--line N` or both,
--- in this order, with this probe, and the command in this line; with `--each`, behind a probe or without one, each command; with
+-- in this order, with this probe, and the command in this line; with `--each`, after a probe or without one, each command; with
 -- `--recovery D`, where D is a number from 1 to 3, with D recoveries cut; with `--part I/N`, in this part, of each command too; with
--- `--objects`, behind a probe or without one, listing the cells that changed
+-- `--objects`, after a probe or without one, listing the cells that changed
 abbrev pub TakesTears : Type 0
 TakesTears = (name image script probe line recovery : Text) → IsNoFlag image → IsNoFlag script → IsNoFlag probe → IsNoFlag line → IsNoFlag recovery
     → (request_of_words (name ∷ codes "tear" ∷ image ∷ script ∷ []) ≡ Some (ToTear image script plain_tear))
@@ -99,7 +99,7 @@ TakesJoins = (name file : Text) (files : List Text) → IsNoFlag file → All Is
     → (request_of_words (name ∷ codes "tear" ∷ codes "--join" ∷ file ∷ files) ≡ Some (ToJoin (file ∷ files)))
     × (request_of_words (name ∷ codes "tear" ∷ file ∷ (files ++ codes "--join" ∷ [])) ≡ Some (ToJoin (file ∷ files)))
 
--- `NAME test FILE..` asks to answer the rows of exactly these files, in this order; with `--junit REPORT` behind them, with a report of
+-- `NAME test FILE..` asks to answer the rows of exactly these files, in this order; with `--junit REPORT` after them, with a report of
 -- this name
 abbrev pub TakesTests : Type 0
 TakesTests = (name file junit : Text) (files : List Text) → IsNoFlag file → All IsNoFlag files → IsNoFlag junit

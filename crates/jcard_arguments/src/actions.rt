@@ -2,7 +2,7 @@
 ghost use Rattle.std.specs.Prelude.{◌≡◌, ℕ, List, codes, IfErr, IfOk, None, Some, option_map};
 ghost use Rattle.std.specs.Borrow.{Bor};
 ghost use Rattle.clap.specs.Words.{all_of, found_of, rows_of};
-ghost use Rattle.jcard_arguments.specs.CommandLine.{IsReadAs, depth_of, dump_of, is_bare, join_by, new_of, request_of, run_asked, run_asked_by, run_of};
+ghost use Rattle.jcard_arguments.specs.CommandLine.{IsReadAs, chooses_cuts, depth_of, dump_of, is_bare, join_by, new_of, request_of, run_asked, run_asked_by, run_of, shows_more};
 ghost use Rattle.jcard_arguments.specs.CommandLine.{tear_asked, tear_asked_by, tear_of, test_of, text_of, texts_of, try_of, two_of};
 
 use crate::arguments::{Action, NoAction};
@@ -83,10 +83,14 @@ fn run_options<'a>(values: &ArgMatches<'a>) -> Result<RunOptions<'a>, &'static s
     let expect = is_given(values, "expect");
     let lines = value_of(values, "lines");
     let map = value_of(values, "map");
+    let stops = value_of(values, "break");
     let cover = value_of(values, "cover");
     let instructions = value_of(values, "instructions");
-    if map.is_some() && !why && !trace {
-        return Err("--map goes with --why or --trace");
+    if map.is_some() && !why && !trace && stops.is_none() {
+        return Err("--map goes with --why, --trace or --break");
+    }
+    if stops.is_some() && map.is_none() {
+        return Err("--break goes with --map");
     }
     if lines.is_some() && !trace {
         return Err("--lines goes with --trace");
@@ -103,6 +107,7 @@ fn run_options<'a>(values: &ArgMatches<'a>) -> Result<RunOptions<'a>, &'static s
         expect,
         lines,
         map,
+        stops,
         cover,
         instructions,
     })
@@ -117,11 +122,17 @@ fn dump_action<'a>(values: &ArgMatches<'a>) -> Result<Action<'a>, NoAction>
     let objects = is_given(values, "objects");
     let against = value_of(values, "against");
     let all = is_given(values, "all");
+    let map = value_of(values, "map");
     match (objects, against) {
-        (false, None) if !all => Ok(Action::Dump { image }),
-        (false, None) => Err(NoAction::Misused("--all goes with --objects or --against")),
-        (true, None) => Ok(Action::DumpObjects { image, all }),
-        (false, Some(other)) => Ok(Action::Compare { image, other, all }),
+        (false, None) if !all && map.is_none() => Ok(Action::Dump { image }),
+        (false, None) => Err(NoAction::Misused("--all and --map go with --objects or --against")),
+        (true, None) => Ok(Action::DumpObjects { image, all, map }),
+        (false, Some(other)) => Ok(Action::Compare {
+            image,
+            other,
+            all,
+            map,
+        }),
         (true, Some(_)) => Err(NoAction::Misused("--objects does not go with --against")),
     }
 }
@@ -192,17 +203,32 @@ fn join_action<'a>(alloc: Global, values: &ArgMatches<'a>) -> Result<Action<'a>,
     }
 }
 
+// Whether what a sweep is to show is given.
+fn shows_more(values: &ArgMatches<'_>) -> bool
+    ensures { result ≡ shows_more (rows_of (found_of values.now)) }
+{
+    is_given(values, "each")
+        || is_given(values, "objects")
+        || is_given(values, "why")
+        || value_of(values, "map").is_some()
+}
+
+// Whether what a sweep is to cut, or its probe, is given.
+fn chooses_cuts(values: &ArgMatches<'_>) -> bool
+    ensures { result ≡ chooses_cuts (rows_of (found_of values.now)) }
+{
+    value_of(values, "probe").is_some()
+        || value_of(values, "line").is_some()
+        || value_of(values, "recovery").is_some()
+        || value_of(values, "part").is_some()
+        || value_of(values, "instructions").is_some()
+}
+
 // Whether no option of a sweep is given.
 fn is_bare(values: &ArgMatches<'_>) -> bool
     ensures { result ≡ is_bare (rows_of (found_of values.now)) }
 {
-    !(is_given(values, "each")
-        || is_given(values, "objects")
-        || value_of(values, "probe").is_some()
-        || value_of(values, "line").is_some()
-        || value_of(values, "recovery").is_some()
-        || value_of(values, "part").is_some()
-        || value_of(values, "instructions").is_some())
+    !(shows_more(values) || chooses_cuts(values))
 }
 
 // Which commands are cut, and what is done after each cut.
@@ -213,6 +239,8 @@ fn tear_options<'a>(values: &ArgMatches<'a>) -> Result<TearOptions<'a>, &'static
 {
     let each = is_given(values, "each");
     let objects = is_given(values, "objects");
+    let why = is_given(values, "why");
+    let map = value_of(values, "map");
     let probe = value_of(values, "probe");
     let line = value_of(values, "line");
     let part = value_of(values, "part");
@@ -220,8 +248,8 @@ fn tear_options<'a>(values: &ArgMatches<'a>) -> Result<TearOptions<'a>, &'static
     if each && line.is_some() {
         return Err("--line does not go with --each");
     }
-    if part.is_some() && (each || recovery.is_some()) {
-        return Err("--part goes with neither --each nor --recovery");
+    if map.is_some() && !objects && !why {
+        return Err("--map goes with --objects or --why");
     }
     let Some(depth) = depth_of(recovery) else {
         return Err("--recovery takes 1, 2 or 3");
@@ -232,6 +260,8 @@ fn tear_options<'a>(values: &ArgMatches<'a>) -> Result<TearOptions<'a>, &'static
     Ok(TearOptions {
         each,
         objects,
+        why,
+        map,
         probe,
         line,
         depth,

@@ -33,16 +33,18 @@ pub enum Action<'a> {
     Dump {
         image: &'a str,
     },
-    /// And its objects, those of the runtime environment too where all are asked for.
+    /// And its objects, those of the runtime environment too where all are asked for, with what a map names, if there is one.
     DumpObjects {
         image: &'a str,
         all: bool,
+        map: Option<&'a str>,
     },
     /// What differs in two images is listed, of objects as above.
     Compare {
         image: &'a str,
         other: &'a str,
         all: bool,
+        map: Option<&'a str>,
     },
     /// The script is carried out, on a new card in memory; a command has at most this number of instructions, or the usual one.
     Try {

@@ -91,7 +91,19 @@ const LINES: Entry<'static> = Entry {
 const MAP: Entry<'static> = Entry {
     kind: Kind::Value,
     name: "map",
-    help: "Map whose names stand in what --why and --trace print",
+    help: "Map whose names stand in what is told",
+};
+
+const BREAK: Entry<'static> = Entry {
+    kind: Kind::Value,
+    name: "break",
+    help: "Prints locals, stack and static fields on standard error where Wallet.java:187 or a method is reached",
+};
+
+const WRITES: Entry<'static> = Entry {
+    kind: Kind::Flag,
+    name: "why",
+    help: "Says on standard error where each write was made that is cut",
 };
 
 const COVER: Entry<'static> = Entry {
@@ -243,6 +255,7 @@ fn run_command<'a>(alloc: Global) -> Result<Command<'a>, AllocError>
             EXPECT,
             LINES,
             MAP,
+            BREAK,
             COVER,
             INSTRUCTIONS,
         ],
@@ -256,7 +269,7 @@ fn dump_command<'a>(alloc: Global) -> Result<Command<'a>, AllocError>
         alloc,
         "dump",
         "Lists what an image holds, or what differs in two images",
-        &[IMAGE, OBJECTS, AGAINST, ALL],
+        &[IMAGE, OBJECTS, AGAINST, ALL, MAP],
     )
 }
 
@@ -283,6 +296,8 @@ fn tear_command<'a>(alloc: Global) -> Result<Command<'a>, AllocError>
             JOIN,
             EACH,
             CELLS,
+            WRITES,
+            MAP,
             PROBE,
             LINE,
             RECOVERY,

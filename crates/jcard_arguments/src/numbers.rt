@@ -31,7 +31,7 @@ fn budget_of(text: &str) -> Option<u32>
     }
 }
 
-// The first so many lines, or, behind a hyphen, the last so many.
+// The first n lines, or, after a hyphen, the last n.
 fn lines_of(text: &str) -> Option<Lines>
     ensures { result ≡ lines_of text.now }
 {

@@ -22,8 +22,10 @@ pub struct RunOptions<'a> {
     pub expect: bool,
     /// These instructions of each command are traced.
     pub lines: Option<Lines>,
-    /// The file whose names of methods are used.
+    /// The file with the map whose names are used.
     pub map: Option<&'a str>,
+    /// The places whose arrivals are told, as `Purse.java:109` or a method, parted by commas.
+    pub stops: Option<&'a str>,
     /// The file that how often each instruction was carried out is written to.
     pub cover: Option<&'a str>,
     /// At most this number of instructions of each command is carried out.
@@ -37,6 +39,10 @@ pub struct TearOptions<'a> {
     pub each: bool,
     /// The cells that changed are listed.
     pub objects: bool,
+    /// Which instruction makes each word write.
+    pub why: bool,
+    /// The file with the map whose names are used.
+    pub map: Option<&'a str>,
     /// The file with the lines that are answered after a cut.
     pub probe: Option<&'a str>,
     /// The line of the command, a decimal number; else the last command.

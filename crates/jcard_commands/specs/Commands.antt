@@ -1,7 +1,7 @@
 -- What the program does for the words of its command line.
 use Rattle.std.specs.Prelude.{ℕ, ◌≡◌, ◌⊎◌, Bool, List, [], ◌∷◌, ◌++◌, codes, Result, Ok, Err, Option, Some, None}
 use Rattle.std.specs.Option.{unwrap_or}
-use Rattle.jcard_arguments.specs.CommandLine.{AskForHelp, AskForNothing, CommandLineRequest, RunAsked, TearAsked, TestAsked, request_of_words, text_of}
+use Rattle.jcard_arguments.specs.CommandLine.{AskForHelp, AskForNothing, CommandLineRequest, RunAsked, TestAsked, request_of_words, text_of}
 use Rattle.jcard_arguments.specs.CommandLine.{ToCompare, ToJoin, ToList, ToListObjects, ToMake, ToRun, ToTear, ToTest, ToTry}
 use Rattle.jcard_arguments.specs.declared.arguments.NoAction.{NoAction}
 use Rattle.jcard_arguments.specs.declared.arguments.NoAction.TheVariants.{Help, Refused, Misused, NoMemory as NoRoom}
@@ -12,11 +12,11 @@ use Rattle.jc_card.specs.Dispatching.{usual_budget}
 use Rattle.jcard_images.specs.NewImages.{IsNew}
 use Rattle.jcard_listing.specs.Comparisons.{IsComparison}
 use Rattle.jcard_listing.specs.Told.{IsObjectsDump}
-use Rattle.jcard_sweeps.specs.Tears.{IsTear}
 use Rattle.jcard_tests.specs.Tests.{IsTest}
 use Rattle.jcard_tests.specs.declared.asked.Asked.{Asked}
 use Rattle.jcard_faults.specs.declared.fault.Fault.{Fault}
 use Rattle.jcard_faults.specs.declared.fault.Fault.TheVariants.{BadCommandLine, NoMemory, CannotRead, WriteFailed}
+use Rattle.jcard_commands.specs.Listed.{IsTearWith, IsToldBy}
 use Rattle.jcard_commands.specs.Runs.{IsRun}
 use Rattle.jcard_commands.specs.RunOptions.{AreNamesRead, AreNamesUnread, AreOperands, IsCompared, IsCovered}
 use Rattle.jcard_files.specs.declared.operand.Operand.{Operand}
@@ -34,11 +34,6 @@ IsRunWith image script asked ended text deeds =
     ⊎ ((ran compared : Result Unit Fault) × (reads others writes : List FileDeed) × (operands : List Operand) × AreNamesRead asked.map reads
     × IsRun (budget_of asked.instructions) image script ran text others × IsCompared asked.expect ran compared
     × AreOperands image script asked.map operands × IsCovered operands asked.cover compared ended writes × (deeds ≡ reads ++ (others ++ writes)))
-
--- a sweep over the words of an image
-abbrev pub IsTearWith : List ℕ → List ℕ → TearAsked → Result Unit Fault → List ℕ → List FileDeed → Type 0
-IsTearWith image script asked = IsTear image script asked.line asked.each
-    (record { depth = asked.depth; objects = asked.objects; instructions = budget_of asked.instructions }) asked.part asked.probe
 
 -- the cards and the report that a test is asked for
 abbrev pub IsAskedAs : TestAsked → Asked → Type 0
@@ -58,10 +53,10 @@ abbrev pub IsDone : CommandLineRequest → Result Unit Fault → List ℕ → Li
 IsDone (ToMake image words journal table) ended text deeds = IsNew image words journal table ended deeds × (text ≡ [])
 IsDone (ToRun image script asked) ended text deeds = IsRunWith image script asked ended text deeds
 IsDone (ToList image) ended text deeds = IsDump image ended text deeds
-IsDone (ToListObjects image all) ended text deeds = IsObjectsDump image all ended text deeds
-IsDone (ToCompare image other all) ended text deeds = IsComparison image other all ended text deeds
+IsDone (ToListObjects image all map) ended text deeds = IsToldBy map (IsObjectsDump image all) ended text deeds
+IsDone (ToCompare image other all map) ended text deeds = IsToldBy map (IsComparison image other all) ended text deeds
 IsDone (ToTry script words table instructions) ended text deeds = IsTrial (budget_of instructions) script words table ended text deeds
-IsDone (ToTear image script asked) ended text deeds = IsTearWith image script asked ended text deeds
+IsDone (ToTear image script asked) ended text deeds = IsToldBy asked.map (IsTearWith image script asked) ended text deeds
 IsDone (ToJoin []) ended text deeds = IsRefused BadCommandLine ended text deeds
 IsDone (ToJoin (file ∷ files)) ended text deeds = IsJoining (file ∷ files) ended text deeds
 IsDone (ToTest files asked) ended text deeds = IsTestWith files asked ended text deeds

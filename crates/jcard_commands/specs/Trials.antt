@@ -22,7 +22,7 @@ IsTriedOn budget script n table ended text opened = ((fault : Fault) × (ended �
     ⊎ ((w : List ℕ) × (after : FuseStoreValue) × IsNewImage n table w
     × IsCarriedOut budget (codes "memory") script known left (fresh_store w) after ended text)))
 
--- a script was tried: an image cannot have so many words, and no file was asked for; or after that the table was not read, or it is
+-- a script was tried: an image cannot have this many words, and no file was asked for; or after that the table was not read, or it is
 -- none, and no other file was asked for; or the script was tried, and its file was the only other
 abbrev pub IsTrial : ℕ → List ℕ → List ℕ → Option (List ℕ) → Result Unit Fault → List ℕ → List FileDeed → Type 0
 IsTrial budget script words table ended text deeds =

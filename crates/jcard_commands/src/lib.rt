@@ -1,6 +1,7 @@
 //! What the program does for the words of a command line.
 #![tactic(auto)]
 
+mod listed;
 pub mod program;
 mod progress_line;
 pub mod run;
@@ -8,3 +9,4 @@ mod run_files;
 mod script_run;
 pub mod told;
 pub mod trial;
+mod write_lines;

@@ -7,7 +7,7 @@ use jcard_tests::timer::Timer;
 use std::rt::Clock;
 use std::time::Instant;
 
-/// Of so many cuts one is told.
+/// Of this many cuts one is told.
 const EACH: u16 = 128;
 
 /// A line on standard error that tells how far a sweep has come; nothing where that is no terminal. Remarks are kept until the last line

@@ -6,27 +6,24 @@ ghost use Rattle.jc_words.specs.Count.{failures_after};
 ghost use Rattle.jcard_arguments.specs.CommandLine.{request_by};
 ghost use Rattle.jcard_files.specs.FileDeeds.{FileDeed};
 ghost use Rattle.jcard_faults.specs.Faults.{status_of, failures_of, is_unwritten, IsLastLine};
-ghost use Rattle.jcard_arguments.specs.CommandLine.{ToJoin, tear_asked_by, test_asked_by, texts_of};
-ghost use Rattle.jcard_commands.specs.Commands.{IsAnswered, IsDone, IsHelped, IsPerformed, IsTearWith, IsTestWith};
+ghost use Rattle.jcard_arguments.specs.CommandLine.{ToJoin, test_asked_by, texts_of};
+ghost use Rattle.jcard_commands.specs.Commands.{IsAnswered, IsDone, IsHelped, IsPerformed, IsTestWith};
 ghost use Rattle.jcard_faults.specs.declared.fault.Fault.{Fault};
 
+use crate::listed::{Listed, list};
 use crate::script_run::run_with;
 use crate::told::Listener;
 use crate::trial::try_script;
 use jc_card::card::USUAL_BUDGET;
 use jcard_arguments::arguments::{Action, NoAction, parse};
-use jcard_arguments::options::{TearOptions, TestOptions};
+use jcard_arguments::options::TestOptions;
 use jcard_faults::fault::{Fault, tell};
 use jcard_faults::remarks::Remarks;
 use jcard_files::disk::Disk;
 use jcard_images::dump::dump_image;
 use jcard_images::new_image::make_image;
-use jcard_listing::comparison::compare_images;
-use jcard_listing::dump::dump_objects;
 use jcard_script::streams::{TextOut, write_all};
 use jcard_sweeps::joining::join_files;
-use jcard_sweeps::tearing::{Asked as TearRequest, tear_image};
-use jcard_tear::cuts::Behind;
 use jcard_tear::progress::Progress;
 use jcard_tests::asked::Asked as TestRequest;
 use jcard_tests::testing::test_files;
@@ -137,8 +134,18 @@ fn act<'n, D: Disk, W: TextOut, P: Progress + Listener + Remarks + Timer>(
             options,
         } => run_with(disk, image, script, options, out, progress),
         Action::Dump { image } => dump_image(disk, image, out),
-        Action::DumpObjects { image, all } => dump_objects(disk, image, all, out),
-        Action::Compare { image, other, all } => compare_images(disk, image, other, all, out),
+        Action::DumpObjects { image, all, map } => {
+            list(disk, Listed::Objects { image, all }, map, out, progress)
+        }
+        Action::Compare {
+            image,
+            other,
+            all,
+            map,
+        } => {
+            let listed = Listed::Compared { image, other, all };
+            list(disk, listed, map, out, progress)
+        }
         Action::Try {
             script,
             words,
@@ -152,42 +159,17 @@ fn act<'n, D: Disk, W: TextOut, P: Progress + Listener + Remarks + Timer>(
             image,
             script,
             options,
-        } => tear(disk, image, script, options, out, progress),
+        } => {
+            let listed = Listed::Torn {
+                image,
+                script,
+                options,
+            };
+            list(disk, listed, options.map, out, progress)
+        }
         Action::Join { files } => join(disk, &files, out),
         Action::Test { files, options } => test(disk, &files, options, out, progress),
     }
-}
-
-// Cuts commands of the script over the words of the image, as the options ask.
-fn tear<'n, D: Disk, W: TextOut, P: Progress + Remarks>(
-    disk: &mut D,
-    image: &'n str,
-    script: &'n str,
-    options: TearOptions<'n>,
-    out: &mut W,
-    progress: &mut P,
-) -> Result<(), Fault<'n>>
-    ensures done { (text : List ℕ) × (deeds : List FileDeed)
-        × Appends (W.contents out.old) (W.contents out.new) text
-        × IsTearWith image.now script.now (tear_asked_by options.entry) result text deeds
-        × D.does disk.old deeds disk.new }
-    ensures writes { W.failures out.new ≡ failures_after (W.failures out.old)
-        (is_unwritten result) }
-{
-    let instructions = options.instructions.unwrap_or(USUAL_BUDGET);
-    let asked = TearRequest {
-        script,
-        probe: options.probe,
-        line: options.line,
-        each: options.each,
-        behind: Behind {
-            depth: options.depth,
-            objects: options.objects,
-            instructions,
-        },
-        part: options.part,
-    };
-    tear_image(disk, image, asked, out, progress)
 }
 
 // Joins these files, if there are any.

@@ -14,6 +14,7 @@ use crate::told::{Listener, Told};
 use jc_card::card::USUAL_BUDGET;
 use jc_words::{FuseStore, WordStore};
 use jcard_arguments::options::RunOptions;
+use jcard_breaks::points::{Point, points_of};
 use jcard_faults::fault::Fault;
 use jcard_faults::remarks::Remarks;
 use jcard_faults::script_fault::{Names, script_fault};
@@ -25,7 +26,7 @@ use jcard_script::script::run_script_explained;
 use jcard_script::std_text::StdText;
 use jcard_script::streams::{TextIn, TextOut};
 use jcard_why::map_remarks::remark_on_map;
-use std::alloc::Global;
+use std::alloc::{AllocError, Global};
 
 /// Carries out the script in the file of the second name, on the card of the image of the first, as the options ask.
 pub(crate) fn run_with<'n, D: Disk, W: TextOut, L: Listener + Remarks>(
@@ -48,7 +49,8 @@ pub(crate) fn run_with<'n, D: Disk, W: TextOut, L: Listener + Remarks>(
         Err(fault) => return Err(fault),
     };
     remark_on(disk.alloc(), &names, listener);
-    let mut told = Told::new(disk.alloc(), listener, &names, &options);
+    let points = points_in(disk.alloc(), &names, options.stops, listener);
+    let mut told = Told::new(disk.alloc(), listener, &names, points, &options);
     let budget = options.instructions.unwrap_or(USUAL_BUDGET);
     let ran = run_file(disk, image, script, budget, out, &mut told);
     let compared = compared(options.expect, told.expectations(), ran);
@@ -56,8 +58,29 @@ pub(crate) fn run_with<'n, D: Disk, W: TextOut, L: Listener + Remarks>(
     keep_cover(disk, told.cover(), options.cover, &operands, compared)
 }
 
-// Says which line of a map has no form, if one has none. Without memory for it nothing is said.
-fn remark_on<M: Remarks>(alloc: Global, map: &[u8], remarks: &mut M) {
+// The places at which a run is asked to stop; what the map does not have is told. Without memory for them there are none.
+fn points_in<M: Remarks>(
+    alloc: Global,
+    map: &[u8],
+    stops: Option<&str>,
+    remarks: &mut M,
+) -> Vec<Point> {
+    let Some(stops) = stops else {
+        return Vec::new(alloc);
+    };
+    match points_of(alloc, map, stops.as_bytes()) {
+        Ok(found) => {
+            if !found.remarks.is_empty() {
+                remarks.remark(&found.remarks);
+            }
+            found.points
+        }
+        Err(AllocError) => Vec::new(alloc),
+    }
+}
+
+/// Says which line of a map has no form, if one has none. Without memory for it nothing is said.
+pub(crate) fn remark_on<M: Remarks>(alloc: Global, map: &[u8], remarks: &mut M) {
     if let Ok(text) = remark_on_map(alloc, map) {
         remarks.remark(&text);
     }

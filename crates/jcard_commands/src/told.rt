@@ -1,15 +1,18 @@
 //! Who is told what the commands of a run did.
 
 use jcard_arguments::options::{Lines, RunOptions};
+use jcard_breaks::arrivals::told_arrivals;
+use jcard_breaks::points::Point;
 use jcard_faults::remarks::Remarks;
 use jcard_script::expectations::Expectations;
 use jcard_script::explainer::Explainer;
+use jcard_script::static_image::StaticImage;
 use jcard_why::covers::Cover;
-use jcard_why::explanation::{TracedLines, Wanted};
+use jcard_why::explanation::{Asked, TracedLines, Wanted};
 use jcard_why::watches::Watch;
 use std::alloc::Global;
 
-/// So many instructions of a command are told at most, where the words say nothing of it.
+/// This many instructions of a command are told at most, where the words say nothing of it.
 const USUAL_LINES: u32 = 10_000;
 
 /// Somebody who is told what the commands of a run did. No answer depends on it.
@@ -23,6 +26,7 @@ pub trait Listener {
 pub(crate) struct Told<'a, L> {
     listener: &'a mut L,
     names: &'a [u8],
+    points: Vec<Point>,
     wanted: Wanted,
     cover: Cover,
     expect: bool,
@@ -35,11 +39,13 @@ impl<'a, L: Listener> Told<'a, L> {
         alloc: Global,
         listener: &'a mut L,
         names: &'a [u8],
+        points: Vec<Point>,
         options: &RunOptions<'_>,
     ) -> Self {
         Told {
             listener,
             names,
+            points,
             wanted: wanted_by(options),
             cover: Cover::new(alloc),
             expect: options.expect,
@@ -80,6 +86,14 @@ impl<'a, L: Listener + Remarks> Explainer for Told<'a, L> {
 
     fn watch(&self) -> Option<&Watch> {
         None
+    }
+
+    fn looks_for_arrivals(&self) -> bool {
+        !self.points.is_empty()
+    }
+
+    fn arrivals(&self, asked: &Asked<'_>, images: &[StaticImage]) -> Option<Vec<u8>> {
+        told_arrivals(asked, &self.points, images).ok()
     }
 
     fn expectations(&mut self) -> Option<&mut Expectations> {
@@ -140,6 +154,7 @@ fn wanted_by(options: &RunOptions<'_>) -> Wanted {
         why: options.why,
         trace: traced_lines(options),
         cover: options.cover.is_some(),
+        stops: options.stops.is_some(),
     }
 }
 

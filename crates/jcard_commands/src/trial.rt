@@ -26,7 +26,7 @@ use jcard_images::usual_table::platform_of;
 use jcard_script::std_text::StdText;
 use jcard_script::streams::TextOut;
 
-/// Carries out the script in the file of the first name, on a new card in memory of so many words, a
+/// Carries out the script in the file of the first name, on a new card in memory of this many words, a
 /// decimal number, with the platform table in the file of the last name, or the usual one. A command carries out at most `budget`
 /// instructions. No file is changed. What is wrong with the table or a line goes to `remarks`.
 pub fn try_script<'n, D: Disk, W: TextOut, M: Remarks>(
@@ -59,7 +59,7 @@ pub fn try_script<'n, D: Disk, W: TextOut, M: Remarks>(
     }
 }
 
-// Carries out the script in the file of this name, on a new card of so many words with this platform table.
+// Carries out the script in the file of this name, on a new card of this many words with this platform table.
 fn try_on<'n, D: Disk, W: TextOut, M: Remarks>(
     disk: &mut D,
     script: &'n str,

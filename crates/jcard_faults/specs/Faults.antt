@@ -1,5 +1,5 @@
 -- How the program ends: its exit status and its last line.
-use Rattle.std.specs.Prelude.{ℕ, Bool, true, false, ◌≡◌, ◌+◌, List, [], ◌++◌, codes, decimal, Result, Ok, Err}
+use Rattle.std.specs.Prelude.{ℕ, Bool, true, false, ◌≡◌, ◌+◌, List, [], ◌++◌, codes, decimal, min, Result, Ok, Err}
 use Rattle.std.specs.Prelude.{MatchBool}
 use Rattle.jc_words.specs.Count.{failures_after}
 use Rattle.jcard_script.specs.Texts.{IsCutOf}
@@ -11,7 +11,7 @@ use Rattle.jcard_faults.specs.declared.fault.Fault.{Fault}
 use Rattle.jcard_faults.specs.declared.fault.Fault.TheVariants.{BadCommandLine, NoMemory, BadWords, BadTable, ImageTooSmall, CannotRead, CannotOpenToWrite}
 use Rattle.jcard_faults.specs.declared.fault.Fault.TheVariants.{CannotWrite, NotReplaced, ImageInUse, BadImage, BadCommand, ScriptTooLong, WriteFailed}
 use Rattle.jcard_faults.specs.declared.fault.Fault.TheVariants.{Down, NoCommand, TooManyCuts, NotAllOrNothing, CannotInclude, RowsFailed, OtherAnswer, NothingExpected}
-use Rattle.jcard_faults.specs.declared.fault.Fault.TheVariants.{BadCut, BadJournal, BadProbeCommand, ProbeTooLong, BadPart, CutMissing, CutTwice, OtherPart, OtherSweep}
+use Rattle.jcard_faults.specs.declared.fault.Fault.TheVariants.{BadCut, BadJournal, BadProbeCommand, ProbeTooLong, BadPart, CutMissing, CutTwice, OtherPart, OtherSweep, ShareMissing, ShareTwice, BadShare}
 
 -- the exit status
 abbrev pub status_of : Result Unit Fault → ℕ
@@ -46,6 +46,9 @@ status_of (Err (CutMissing k)) = 1
 status_of (Err (CutTwice k)) = 1
 status_of (Err (BadCut k)) = 1
 status_of (Err (OtherSweep k)) = 1
+status_of (Err (ShareMissing k)) = 1
+status_of (Err (ShareTwice k)) = 1
+status_of (Err (BadShare k)) = 1
 status_of (Err (OtherPart path)) = 1
 
 -- the number of the check that finds a damage
@@ -68,6 +71,18 @@ unincluded_text path number = (codes "jcard: " ++ path ++ codes ": line ") ++ (d
 -- the line that tells what is wrong with what parts tell of a cut
 abbrev pub cut_line : ℕ → List ℕ → List ℕ
 cut_line k wrong = codes "jcard: cut " ++ decimal k ++ wrong
+
+-- the line that tells what is wrong with what the part of this number tells
+abbrev pub part_line : ℕ → List ℕ → List ℕ
+part_line n wrong = codes "jcard: part " ++ decimal n ++ wrong
+
+-- the number of a share, counted from 1
+abbrev pub share_number : ℕ → ℕ
+share_number k = min (k + 1) 18446744073709551615
+
+-- the line that tells what is wrong with what parts tell of a share
+abbrev pub share_line : ℕ → List ℕ → List ℕ
+share_line k wrong = part_line (share_number k) wrong
 
 -- the end of the line that tells what a file is
 abbrev pub ending_of : FileKind → List ℕ
@@ -109,6 +124,9 @@ line_of (CutMissing k) = cut_line k (codes " is missing\n")
 line_of (CutTwice k) = cut_line k (codes " stands twice\n")
 line_of (BadCut k) = cut_line k (codes " is told in no known form\n")
 line_of (OtherSweep k) = cut_line k (codes " is of another sweep\n")
+line_of (ShareMissing k) = share_line k (codes " is missing\n")
+line_of (ShareTwice k) = share_line k (codes " stands twice\n")
+line_of (BadShare k) = share_line k (codes " is told in no known form\n")
 line_of (OtherPart path) = codes "jcard: " ++ path.now ++ codes " is of another sweep\n"
 
 -- whether a write of what was asked for failed

@@ -3,7 +3,7 @@ ghost use Rattle.std.specs.Prelude.{◌≡◌, ℕ, List, Bool, is_err, MatchRes
 ghost use Rattle.std.specs.Io.KnownBytes.{Appends};
 ghost use Rattle.jcard_script.specs.Texts.{AppendsCut};
 ghost use Rattle.jc_words.specs.Count.{failures_after};
-ghost use Rattle.jcard_faults.specs.Faults.{check_of, cut_line, ending_of, status_of, line_of, unincluded_text, unread_text, IsLastLine};
+ghost use Rattle.jcard_faults.specs.Faults.{check_of, cut_line, ending_of, status_of, line_of, part_line, share_line, share_number, unincluded_text, unread_text, IsLastLine};
 
 use itoa::Buffer;
 use jcard_script::streams::{TextOut, WriteFailed, write_all, write_parts};
@@ -47,9 +47,9 @@ pub enum Fault<'a> {
     BadCommandLine,
     /// Memory was refused.
     NoMemory,
-    /// An image cannot have so many words.
+    /// An image cannot have this many words.
     BadWords,
-    /// A journal cannot have so many entries.
+    /// A journal cannot have this many entries.
     BadJournal,
     /// This line of the platform table, counted from 1, is bad; or 0.
     BadTable(u16),
@@ -103,6 +103,12 @@ pub enum Fault<'a> {
     BadCut(usize),
     /// A part tells of this cut in another sweep.
     OtherSweep(usize),
+    /// No part has this share of the commands, counted from 0.
+    ShareMissing(usize),
+    /// Two parts have it.
+    ShareTwice(usize),
+    /// What a part tells of it has no form.
+    BadShare(usize),
     /// The text of this file is no part of the sweep of which the first file is one.
     OtherPart(&'a str),
 }
@@ -192,6 +198,9 @@ fn write_line<W: TextOut>(fault: Fault, out: &mut W) -> Result<(), WriteFailed>
         Fault::CutTwice(k) => write_cut(out, k, b" stands twice\n"),
         Fault::BadCut(k) => write_cut(out, k, b" is told in no known form\n"),
         Fault::OtherSweep(k) => write_cut(out, k, b" is of another sweep\n"),
+        Fault::ShareMissing(k) => write_share(out, k, b" is missing\n"),
+        Fault::ShareTwice(k) => write_share(out, k, b" stands twice\n"),
+        Fault::BadShare(k) => write_share(out, k, b" is told in no known form\n"),
         Fault::OtherPart(path) => write_parts(
             out,
             b"jcard: ",
@@ -240,6 +249,35 @@ fn write_cut<W: TextOut>(out: &mut W, number: usize, wrong: &[u8]) -> Result<(),
     let mut digits = Buffer::new();
     let digits = digits.format(number).as_bytes();
     write_parts(out, b"jcard: cut ", digits, wrong)
+}
+
+// The number of a share, counted from 1.
+fn share_number(number: usize) -> usize
+    ensures { result ≡ share_number number }
+{
+    number.saturating_add(1)
+}
+
+// Writes what is wrong with what parts tell of a share, which is counted from 1 there.
+fn write_share<W: TextOut>(out: &mut W, number: usize, wrong: &[u8]) -> Result<(), WriteFailed>
+    ensures text { MatchResult result
+        (λ _. Appends (W.contents out.old) (W.contents out.new) (share_line number wrong.now))
+        (λ _. AppendsCut (W.contents out.old) (W.contents out.new) (share_line number wrong.now)) }
+    ensures count { W.failures out.new ≡ failures_after (W.failures out.old) (is_err result) }
+{
+    write_part(out, share_number(number), wrong)
+}
+
+// Writes what is wrong with what the part of this number tells.
+fn write_part<W: TextOut>(out: &mut W, number: usize, wrong: &[u8]) -> Result<(), WriteFailed>
+    ensures text { MatchResult result
+        (λ _. Appends (W.contents out.old) (W.contents out.new) (part_line number wrong.now))
+        (λ _. AppendsCut (W.contents out.old) (W.contents out.new) (part_line number wrong.now)) }
+    ensures count { W.failures out.new ≡ failures_after (W.failures out.old) (is_err result) }
+{
+    let mut digits = Buffer::new();
+    let digits = digits.format(number).as_bytes();
+    write_parts(out, b"jcard: part ", digits, wrong)
 }
 
 // The end of the line that tells what a file is.

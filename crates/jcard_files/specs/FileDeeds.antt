@@ -10,7 +10,7 @@ pub data FileDeed : Type 0 where
   OpensImage : List ℕ → Result (List ℕ) Fault → FileDeed
   -- an image was asked for, to read it alone: its words
   ReadsImage : List ℕ → Result (List ℕ) Fault → FileDeed
-  -- a file of so many zero words was asked for: how that ended
+  -- a file of this many zero words was asked for: how that ended
   MakesImage : List ℕ → ℕ → Result Unit Fault → FileDeed
   -- an image was closed: what its store was then, with the writes since it was opened
   ClosesImage : List ℕ → StoreValue → FileDeed

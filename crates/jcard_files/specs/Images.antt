@@ -1,12 +1,14 @@
 -- Images in files.
-use Rattle.std.specs.Prelude.{ℕ, ◌≡◌, List, Option, Result, Ok, Err}
+use Rattle.std.specs.Prelude.{ℕ, ◌≡◌, ◌⊎◌, List, Option, Result, Ok, Err}
+use Rattle.std.specs.Io.KnownBytes.{Appends}
 use Rattle.std.specs.Borrow.{Bor}
-use Rattle.jc_words.specs.Files.{IsCreated, IsOpened}
+use Rattle.jc_words.specs.Files.{IsCreated, IsOpened, IsReplaced}
 use Rattle.jc_words.specs.Stores.{FileStoreValue}
 use Rattle.jc_words.specs.declared.file.FileOpenFault.{FileOpenFault}
 use Rattle.jc_words.specs.declared.file.FileOpenFault.TheVariants as opening
 use Rattle.jc_words.specs.declared.file.FileCreateFault.{FileCreateFault}
 use Rattle.jc_words.specs.declared.file.FileCreateFault.TheVariants as making
+use Rattle.jc_words.specs.declared.file.FileLockFault.{FileLockFault}
 use Rattle.jc_words.specs.declared.file.FileLockFault.TheVariants as holding
 use Rattle.jc_words.specs.declared.file.Unopened.{Unopened}
 use Rattle.jc_words.specs.declared.lock.Lock.{Lock}
@@ -19,8 +21,9 @@ use Rattle.jcard_faults.specs.declared.fault.Damage.TheVariants.{Size}
 use Rattle.jcard_faults.specs.declared.fault.FileKind.TheVariants.{Image}
 use Rattle.jcard_faults.specs.declared.fault.Fault.{Fault}
 use Rattle.jcard_faults.specs.declared.fault.Fault.TheVariants.{NoMemory, CannotRead, CannotOpenToWrite, CannotWrite, NotReplaced, BadImage, ImageInUse}
-use Rattle.jcard_files.specs.declared.replacing.ReplaceFault.{ReplaceFault}
-use Rattle.jcard_files.specs.declared.replacing.ReplaceFault.TheVariants as replacing
+use Rattle.jc_words.specs.declared.replacing.ReplaceFault.{ReplaceFault}
+use Rattle.jc_words.specs.declared.replacing.ReplaceFault.TheVariants as replacing
+use Rattle.jc_words.specs.declared.word_file.FileReadFault.TheVariants as reading
 
 -- why a file of this name was not read
 abbrev pub IsNotRead : List ℕ → Fault → Type 0
@@ -77,19 +80,36 @@ abbrev pub IsReadFault : List ℕ → FileOpenFault → Fault → Type 0
 IsReadFault name opening.CannotOpen fault = IsUnopened name fault
 IsReadFault name cause fault = IsOpenFault name cause fault
 
--- what is told where a file of this name was not made
+-- what is told where a file of this name was not opened and locked to write it
+abbrev pub IsHeldFault : List ℕ → FileLockFault → Fault → Type 0
+IsHeldFault name (holding.NotLocked locking.InUse) fault = fault ≡ ImageInUse
+IsHeldFault name (holding.NotLocked locking.CannotLock) fault = IsNotWritten name fault
+IsHeldFault name holding.NotOpened fault = IsNotWritten name fault
+
+-- what is told where it was not made
 abbrev pub IsCreateFault : List ℕ → FileCreateFault → Fault → Type 0
-IsCreateFault name (making.NotHeld (holding.NotLocked locking.InUse)) fault = fault ≡ ImageInUse
-IsCreateFault name (making.NotHeld (holding.NotLocked locking.CannotLock)) fault = IsNotWritten name fault
-IsCreateFault name (making.NotHeld holding.NotOpened) fault = IsNotWritten name fault
+IsCreateFault name (making.NotHeld cause) fault = IsHeldFault name cause fault
 IsCreateFault name making.NotWritten fault = IsNotWritten name fault
 
--- what is told where a text of this name was not written
+-- what is told where it was not opened to write it anew
 abbrev pub IsReplaceFault : List ℕ → ReplaceFault → Fault → Type 0
-IsReplaceFault name replacing.NoMemory fault = fault ≡ NoMemory
-IsReplaceFault name replacing.InUse fault = fault ≡ ImageInUse
+IsReplaceFault name (replacing.NotHeld cause) fault = IsHeldFault name cause fault
+IsReplaceFault name (replacing.NotRead reading.NoMemory) fault = fault ≡ NoMemory
+IsReplaceFault name (replacing.NotRead reading.CannotRead) fault = IsNotWritten name fault
 IsReplaceFault name replacing.IsImage fault = (path : Bor (List ℕ)) × (fault ≡ NotReplaced path Image) × (path.now ≡ name)
-IsReplaceFault name replacing.Failed fault = IsNotWritten name fault
+IsReplaceFault name replacing.NotEmptied fault = IsNotWritten name fault
+
+-- these bytes were written to a file, as far as it tells that, or they were not
+abbrev pub IsFilled : {F : Type 0} → List ℕ → (F → Option (List ℕ)) → List ℕ → F → Result Unit Fault → Type 0
+IsFilled {F = F} name contents bytes file (Ok done) = (made : F) × Appends (contents file) (contents made) bytes
+IsFilled name contents bytes file (Err fault) = IsNotWritten name fault
+
+-- how the writing anew of a text of this name ended: its file was opened so, and these bytes were to be written; or it was not, and that is told
+abbrev pub IsWrittenAnew : {F : Type 0} → List ℕ → (Result F NotOpened → Type 0) → (F → Lock → Result Unit LockFault → Type 0)
+    → (F → Option (List ℕ)) → (F → Result Unit FileFailed → F → Type 0) → (F → Option (List ℕ)) → List ℕ → Result Unit Fault → Type 0
+IsWrittenAnew {F = F} name opens gives unread empties contents bytes ended = ((file : F) × IsReplaced opens gives unread empties (Ok file)
+    × IsFilled name contents bytes file ended)
+    ⊎ ((cause : ReplaceFault) × (fault : Fault) × IsReplaced opens gives unread empties (Err cause) × IsReplaceFault name cause fault × (ended ≡ Err fault))
 
 -- the file of an image was opened as a store, and where it was not, that is told so
 abbrev pub IsOpenedAs : {F : Type 0} → (FileOpenFault → Fault → Type 0) → (Result F NotOpened → Type 0) → (F → Lock → Result Unit LockFault → Type 0)

@@ -3,4 +3,3 @@ pub mod Images
 pub mod MemDisks
 pub mod Operands
 pub mod Readings
-pub mod Replacing

@@ -37,7 +37,7 @@ image_place name images = position (λ image. bytes_eq image.name name) images
 abbrev pub zero_image : List ℕ → ℕ → ImageFileValue
 zero_image name n = record { name = name; bytes = replicate (2 * n) 0; writes = 0 }
 
--- the images with one that takes the place of another, or comes behind all
+-- the images with one that takes the place of another, or comes after all
 abbrev pub images_with : ImageFileValue → Option ℕ → List ImageFileValue → List ImageFileValue
 images_with image (Some i) images = slice_set images i image
 images_with image None images = images ++ image ∷ []
@@ -65,7 +65,7 @@ abbrev pub IsClosed : List ℕ → StoreValue → MemDiskValue → MemDiskValue 
 IsClosed name store old new = MatchOption (image_place name old.images) (new ≡ old) (λ i. (image : ImageFileValue) × (slice_get old.images i ≡ Some image)
     × (new ≡ record old { images = slice_set old.images i (image_after store image) }))
 
--- the text of these bytes was written, and stands behind those that were before
+-- the text of these bytes was written, and stands after those that were before
 abbrev pub IsWritten : List ℕ → List ℕ → MemDiskValue → MemDiskValue → Type 0
 IsWritten name bytes old new = (text : WrittenText) × (string_bytes text.name ≡ name) × (text.bytes.items ≡ bytes)
     × (new ≡ record old { written = old.written ++ text ∷ [] })

@@ -4,20 +4,20 @@ ghost use Rattle.jc_words.specs.Files.{IsImageSize};
 ghost use Rattle.jc_words.specs.Refusals.{no_refusals};
 ghost use Rattle.jc_words.specs.Stores.{refusals_of_file, store_value};
 ghost use Rattle.jcard_files.specs.FileDeeds.{FileDeed, ClosesImage, MakesImage, OpensImage, ReadsImage, ReadsText, WritesText, told_of};
-ghost use Rattle.jcard_files.specs.Images.{IsCreateFault, IsCreatedAs, IsNotMade, IsNotOpened, IsNotOpenedToWrite, IsNotWritten, IsOpenedAs, IsOpenFault, IsReadFault, IsReplaceFault, IsUnopened, IsUnwritten};
+ghost use Rattle.jcard_files.specs.Images.{IsCreateFault, IsCreatedAs, IsFilled, IsHeldFault, IsNotMade, IsNotOpened, IsNotOpenedToWrite, IsNotWritten, IsOpenedAs, IsOpenFault, IsReadFault, IsReplaceFault, IsUnopened, IsUnwritten, IsWrittenAnew};
 ghost use Rattle.jcard_files.specs.Operands.{IsNoOperand};
 
 use crate::closed_store::ClosedStore;
 use crate::operand::{Operand, operand_named};
-use crate::replacing::{ReplaceFault, replace_file};
 use jc_words::{
-    EmptyFile, FileCreateFault, FileLockFault, FileOpenFault, FileStore, FlushFile, Lock,
-    LockFault, LockFile, OpenPath, Opening, StdFile, WordStore, ZeroWords,
+    EmptyFile, FileCreateFault, FileLockFault, FileOpenFault, FileReadFault, FileStore, FlushFile,
+    Lock, LockFault, LockFile, OpenPath, Opening, ReplaceFault, StdFile, WordStore, ZeroWords,
+    open_to_replace,
 };
 use jcard_faults::fault::{Damage, Fault, FileKind};
 use std::alloc::{AllocError, Global};
 use std::fs;
-use std::io::Read;
+use std::io::{Read, Write};
 use std::os::unix::fs::MetadataExt;
 use std::rt::Files;
 
@@ -237,7 +237,7 @@ fn write_spared<'n, R: Files + AllocGlobal>(
     bytes: &[u8],
 ) -> Result<(), Fault<'n>>
 where
-    R::File: LockFile,
+    R::File: LockFile + EmptyFile,
     ensures { IfErr result (λ fault. IsUnwritten name.now fault) }
 {
     if let Some(kind) = operand_at(rt, name, operands) {
@@ -246,10 +246,34 @@ where
     if is_no_regular_file(rt, name) {
         return written_to(rt, name, bytes);
     }
-    match replace_file(rt, name, bytes) {
-        Ok(()) => Ok(()),
+    written_anew(rt, name, bytes)
+}
+
+// Writes these bytes in place of what the file of this name holds. It is locked so that no other has it open, and only then looked at: one
+// that begins as an image is left as it is, and any other is emptied. A file is made where there is none.
+fn written_anew<'n, F, R>(rt: &R, name: &'n str, bytes: &[u8]) -> Result<(), Fault<'n>>
+where
+    F: Read + Write + LockFile + EmptyFile + Drop,
+    R: OpenPath<File = F> + AllocGlobal,
+    ensures anew { IsWrittenAnew name.now (R.open_gives rt.now name.now Opening.ToMake) F.lock_gives F.remaining
+        F.empties F.contents bytes.now result }
+    ensures refused { IfErr result (λ fault. IsUnwritten name.now fault) }
+{
+    match open_to_replace(rt, name) {
+        Ok(file) => filled(name, file, bytes),
         Err(cause) => Err(replace_fault(name, cause)),
     }
+}
+
+// Writes these bytes to the file of this name.
+fn filled<'n, F: Write + Drop>(name: &'n str, mut file: F, bytes: &[u8]) -> Result<(), Fault<'n>>
+    ensures filled { IsFilled name.now F.contents bytes.now file result }
+    ensures refused { IfErr result (λ fault. IsUnwritten name.now fault) }
+{
+    if file.write_all(bytes).is_err() || file.flush().is_err() {
+        return Err(Fault::CannotWrite(name));
+    }
+    Ok(())
 }
 
 // What the file at this path is to a command that names these files, if it is one of them, under any name.
@@ -292,13 +316,16 @@ fn written_to<'n, R: Files>(rt: &R, path: &'n str, bytes: &[u8]) -> Result<(), F
 
 // What it means that a text of this name was not written.
 fn replace_fault(name: &str, cause: ReplaceFault) -> Fault<'_>
-    ensures { IsReplaceFault name.now cause result }
+    ensures told { IsReplaceFault name.now cause result }
+    ensures unwritten { IsUnwritten name.now result }
 {
     match cause {
-        ReplaceFault::NoMemory => Fault::NoMemory,
-        ReplaceFault::InUse => Fault::ImageInUse,
+        ReplaceFault::NotHeld(cause) => held_fault(name, cause),
+        ReplaceFault::NotRead(FileReadFault::NoMemory) => Fault::NoMemory,
+        ReplaceFault::NotRead(FileReadFault::CannotRead) | ReplaceFault::NotEmptied => {
+            Fault::CannotWrite(name)
+        }
         ReplaceFault::IsImage => Fault::NotReplaced(name, FileKind::Image),
-        ReplaceFault::Failed => Fault::CannotWrite(name),
     }
 }
 
@@ -327,10 +354,25 @@ fn read_fault(image: &str, cause: FileOpenFault) -> Fault<'_>
 
 // What it means that a file of this name was not made.
 fn create_fault(image: &str, cause: FileCreateFault) -> Fault<'_>
-    ensures { IsCreateFault image.now cause result }
+    ensures told { IsCreateFault image.now cause result }
+    ensures unmade { IsNotMade image.now result }
 {
     match cause {
-        FileCreateFault::NotHeld(FileLockFault::NotLocked(LockFault::InUse)) => Fault::ImageInUse,
-        FileCreateFault::NotHeld(_) | FileCreateFault::NotWritten => Fault::CannotWrite(image),
+        FileCreateFault::NotHeld(cause) => held_fault(image, cause),
+        FileCreateFault::NotWritten => Fault::CannotWrite(image),
+    }
+}
+
+// What it means that it was not opened and locked to write it.
+fn held_fault(name: &str, cause: FileLockFault) -> Fault<'_>
+    ensures told { IsHeldFault name.now cause result }
+    ensures unwritten { IsUnwritten name.now result }
+    ensures unmade { IsNotMade name.now result }
+{
+    match cause {
+        FileLockFault::NotLocked(LockFault::InUse) => Fault::ImageInUse,
+        FileLockFault::NotLocked(LockFault::CannotLock) | FileLockFault::NotOpened => {
+            Fault::CannotWrite(name)
+        }
     }
 }

@@ -7,5 +7,4 @@ pub mod image_file;
 pub mod mem_disk;
 pub mod operand;
 pub mod reading;
-mod replacing;
 pub mod text_file;

@@ -114,7 +114,7 @@ impl<'a> MemDisk<'a> {
         images
     }
 
-    // Keeps an image in the place of the one with its name, or behind all others.
+    // Keeps an image in the place of the one with its name, or after all others.
     fn keep(&mut self, image: ImageFile) -> Result<(), AllocError>
         ensures kept { IfOk result (λ _. self.new ≡ record self.old {
           images = images_with image

@@ -1,4 +1,4 @@
--- Lines that are told one behind another.
+-- Lines that are told one after another.
 use Rattle.std.proofs.Common.{◌≡◌, ℕ, zero, suc, ◌+◌, ◌<◌, ◌≤◌, true, false, List, ◌++◌, Option, Result, Ok, Err, refl, subst, sym, inl, inr, arith, add-one}
 use Rattle.std.proofs.Common.{⊎_elim}
 use Rattle.std.proofs.lemmas.Bool.{cases_Bool, cases_lt}
@@ -54,7 +54,7 @@ pub next_told : (one : ℕ → Option (List ℕ)) (i : ℕ) (a b c : Option (Lis
     → Tells b c (line_if (one (i + 1))) (Ok tt) → Tells a c (numbered_lines one (i + 1)) (Ok tt)
 next_told one i a b c h k = rw (numbered_more one i) (told_then (Ok tt) a b c (numbered_lines one i) (line_if (one (i + 1))) h k)
 
--- all so far were told, and not the next, so none behind it
+-- all so far were told, and not the next, so none after it
 pub next_stopped : (one : ℕ → Option (List ℕ)) (n i : ℕ) (stop : ListingFault) (a b c : Option (List ℕ)) → i < n → Tells a b (numbered_lines one i) (Ok tt)
     → Tells b c (line_if (one (i + 1))) (Err stop) → Tells a c (numbered_lines one n) (Err stop)
 next_stopped one n i stop a b c lt h k = numbered_stopped one n (i + 1) stop a c (omega (arith, lt))

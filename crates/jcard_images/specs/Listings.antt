@@ -46,11 +46,11 @@ abbrev pub line_if : Option (List ℕ) → Lines
 line_if (Some text) = line text
 line_if None = record { text = []; readable = false }
 
--- lines, and behind them others
+-- lines, and after them others
 unfoldable pub then_lines : Lines → Lines → Lines
 then_lines first next = if first.readable then record { text = first.text ++ next.text; readable = next.readable } else first
 
--- the lines of so many, by their numbers from 1 on
+-- the lines of this many, by their numbers from 1 on
 unfoldable pub numbered_lines : (ℕ → Option (List ℕ)) → ℕ → Lines
 numbered_lines one zero = line []
 numbered_lines one (suc n) = then_lines (numbered_lines one n) (line_if (one (suc n)))

@@ -42,7 +42,7 @@ usual_capacity = 256
 abbrev pub IsTable : List ℕ → Type 0
 IsTable text = (t : Tokens) × Reads text (Ok t)
 
--- these are n words of a new image, whose journal can have so many entries, with the platform table of this text
+-- these are n words of a new image, whose journal can have this many entries, with the platform table of this text
 pub record IsNewImageOf (n capacity : ℕ) (text w : List ℕ) : Type 0 where
   pub size : length w ≡ n
   pub made : IsMade w
@@ -87,7 +87,7 @@ IsLaid image n capacity text (Err (CannotWrite path)) store = (path.now ≡ imag
 IsLaid image n capacity text (Err ImageTooSmall) store = IsTooSmall n capacity text × (store ≡ untouched (replicate n 0))
 IsLaid image n capacity text (Err other) store = ⊥
 
--- how the making of an image of this name, with so many words and such a journal, ended, from this text, and what was done with files:
+-- how the making of an image of this name, with this many words and such a journal, ended, from this text, and what was done with files:
 -- it is no table, and no file was asked for; or the file was not made; or it was, and was closed as it ended
 abbrev pub IsMadeFrom : List ℕ → ℕ → ℕ → List ℕ → Result Unit Fault → List FileDeed → Type 0
 IsMadeFrom image n capacity text ended deeds =
@@ -95,8 +95,8 @@ IsMadeFrom image n capacity text ended deeds =
     ⊎ ((fault : Fault) × (ended ≡ Err fault) × IsTable text × IsNotMade image fault × (deeds ≡ MakesImage image n (Err fault) ∷ []))
     ⊎ ((store : StoreValue) × IsTable text × IsLaid image n capacity text ended store × (deeds ≡ MakesImage image n (Ok tt) ∷ ClosesImage image store ∷ []))
 
--- the image of this name was made, with so many words and such a journal, from the platform table that is named last, or the usual one; or an
--- image cannot have so many words, or its journal so many entries, and no file was asked for; or after that the table was not read, and no
+-- the image of this name was made, with this many words and such a journal, from the platform table that is named last, or the usual one; or an
+-- image cannot have this many words, or its journal this many entries, and no file was asked for; or after that the table was not read, and no
 -- other file was asked for
 abbrev pub IsNew : List ℕ → List ℕ → List ℕ → Option (List ℕ) → Result Unit Fault → List FileDeed → Type 0
 IsNew image words journal table ended deeds = ((ended ≡ Err BadWords) × ((n : ℕ) → IsWordCount words n → ⊥) × (deeds ≡ []))

@@ -34,7 +34,7 @@ impl From<WriteFailed> for ListingFault {
     }
 }
 
-/// Writes the line of each of so many packages, up to the first that cannot be read.
+/// Writes the line of each of this many packages, up to the first that cannot be read.
 pub(crate) fn write_packages<S: WordStore, W: TextOut>(
     store: &S,
     count: u16,
@@ -52,7 +52,7 @@ pub(crate) fn write_packages<S: WordStore, W: TextOut>(
     Ok(())
 }
 
-/// Writes the line of each of so many applets, up to the first that cannot be read.
+/// Writes the line of each of this many applets, up to the first that cannot be read.
 pub(crate) fn write_applets<S: WordStore, W: TextOut>(
     store: &S,
     count: u16,

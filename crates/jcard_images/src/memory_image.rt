@@ -20,7 +20,7 @@ pub fn new_image<'a>(alloc: Global, count: u16, table: &[u8]) -> Result<MemStore
     new_image_of(alloc, count, USUAL_CAPACITY, table)
 }
 
-/// A new image in memory, with a journal of so many entries.
+/// A new image in memory, with a journal of this many entries.
 pub fn new_image_of<'a>(
     alloc: Global,
     count: u16,

@@ -27,7 +27,7 @@ struct Extent {
     capacity: u16,
 }
 
-/// Makes an image of this name with so many words and a journal of so many entries, decimal numbers,
+/// Makes an image of this name with this many words and a journal of this many entries, decimal numbers,
 /// from the platform table in the file of the last name, or the usual one. A file that is there is replaced, but only
 /// where the numbers and the table are good and nobody has it open. What is wrong with the table goes to `remarks`.
 pub fn make_image<'n, D: Disk, M: Remarks>(
@@ -57,7 +57,7 @@ pub fn make_image<'n, D: Disk, M: Remarks>(
     }
 }
 
-/// The number of words that a text tells, if an image can have so many.
+/// The number of words that a text tells, if an image can have this many.
 pub fn word_count(text: &str) -> Option<u16>
     ensures some { IfSome result (λ count. IsWordCount text.now count) }
     ensures none { result ≡ None → (count : ℕ) → IsWordCount text.now count → ⊥ }
@@ -65,7 +65,7 @@ pub fn word_count(text: &str) -> Option<u16>
     number_among(text, LEAST_SIZE, u16::MAX)
 }
 
-/// The number of entries that a text tells, if a journal can have so many.
+/// The number of entries that a text tells, if a journal can have this many.
 pub fn journal_capacity(text: &str) -> Option<u16>
     ensures some { IfSome result (λ capacity. IsJournalCapacity text.now capacity) }
     ensures none { result ≡ None → (capacity : ℕ) → IsJournalCapacity text.now capacity → ⊥ }
@@ -87,7 +87,7 @@ fn number_among(text: &str, least: u16, most: u16) -> Option<u16>
     }
 }
 
-// Makes an image of this name, with so many words and such a journal, from this text.
+// Makes an image of this name, with this many words and such a journal, from this text.
 fn make_from<'n, D: Disk>(
     disk: &mut D,
     image: &'n str,

@@ -13,6 +13,9 @@ use std::alloc::{AllocError, Global};
 /// How many words a line has at most, and one more.
 const WORDS: usize = 5;
 
+/// How many hexadecimal digits a line `random` has.
+const RANDOM_DIGITS: usize = 64;
+
 /// The greatest token of a class or a static method, and that of a virtual or an interface method.
 const LARGEST_TOKEN: u32 = 255;
 
@@ -55,6 +58,7 @@ const ANYWHERE: Above<'static> = Above {
 #[derive(Clone, Copy, PartialEq, Eq)]
 enum Keyword {
     Extended,
+    Random,
     Package,
     Class,
     Static,
@@ -83,6 +87,7 @@ impl Keyword {
     fn of(word: &[u8]) -> Option<Keyword> {
         match word {
             b"extended" => Some(Keyword::Extended),
+            b"random" => Some(Keyword::Random),
             b"package" => Some(Keyword::Package),
             b"class" => Some(Keyword::Class),
             b"static" => Some(Keyword::Static),
@@ -98,6 +103,7 @@ impl Keyword {
     {
         match self {
             Keyword::Extended => 1,
+            Keyword::Random => 2,
             Keyword::Package => 4,
             _ => 3,
         }
@@ -106,6 +112,7 @@ impl Keyword {
     const fn text(self) -> &'static [u8] {
         match self {
             Keyword::Extended => b"extended",
+            Keyword::Random => b"random",
             Keyword::Package => b"package",
             Keyword::Class => b"class",
             Keyword::Static => b"static",
@@ -126,6 +133,7 @@ impl Keyword {
         ensures { result < 5 }
     {
         match self {
+            Keyword::Extended | Keyword::Random => 0,
             Keyword::Package => 1,
             _ => 2,
         }
@@ -295,7 +303,7 @@ fn cause_in(text: &[u8], number: u32, bytes: &[u8]) -> LineCause {
     let Some(keyword) = line.keyword() else {
         return cause(
             1,
-            b"a line begins by extended, package, class, static, virtual or interface",
+            b"a line begins by extended, random, package, class, static, virtual or interface",
         );
     };
     if let Some(cause) = cause_in_words(&line, keyword) {
@@ -331,6 +339,7 @@ fn cause_in_words(line: &Line<'_>, keyword: Keyword) -> Option<LineCause> {
     }
     match keyword {
         Keyword::Extended => None,
+        Keyword::Random => cause_in_digits(line),
         Keyword::Package => match cause_in_number(line, 2, LARGEST_TOKEN) {
             Some(cause) => Some(cause),
             None => cause_in_number(line, 3, LARGEST_TOKEN),
@@ -341,8 +350,9 @@ fn cause_in_words(line: &Line<'_>, keyword: Keyword) -> Option<LineCause> {
 
 const fn missing_word(keyword: Keyword) -> &'static [u8] {
     match keyword {
-        Keyword::Package => b"package has an AID and two numbers behind it",
-        _ => b"a token and a name stand behind the first word",
+        Keyword::Package => b"package has an AID and two numbers after it",
+        Keyword::Random => b"64 hexadecimal digits follow random",
+        _ => b"a token and a name stand after the first word",
     }
 }
 
@@ -356,6 +366,16 @@ fn cause_in_number(line: &Line<'_>, place: usize, most: u32) -> Option<LineCause
         }
         _ => Some(cause(line.columns[place], b"no number from 0 to 127")),
     }
+}
+
+fn cause_in_digits(line: &Line<'_>) -> Option<LineCause> {
+    let digits = line.words[1];
+    let is_whole = digits.len() == RANDOM_DIGITS
+        && digits.iter().all(|digit| digit.is_ascii_hexdigit());
+    if is_whole {
+        return None;
+    }
+    Some(cause(line.columns[1], b"no 64 hexadecimal digits"))
 }
 
 // A number in decimal digits; none above 9999.
@@ -378,6 +398,15 @@ fn cause_in_place(text: &[u8], number: u32, line: &Line<'_>, keyword: Keyword) -
     let above = above_of(text, number);
     match keyword {
         Keyword::Extended => cause(1, b"extended stands once, above all other lines"),
+        Keyword::Random if !above.is_extended => cause(
+            1,
+            b"it stands in a table alone whose first line is extended",
+        ),
+        Keyword::Random => LineCause {
+            column: 1,
+            why: b"it stands above already, in line ",
+            other_line: line_with(text, number, keyword, keyword.text(), ANYWHERE),
+        },
         Keyword::Class if above.package.is_empty() => cause(
             1,
             b"no package stands above the class",
@@ -423,7 +452,10 @@ fn cause_in_name(
         );
     }
     if keyword == Keyword::Package {
-        return cause(column, b"this package stands behind both others");
+        return cause(
+            column,
+            b"this package stands below java.lang and javacard.framework",
+        );
     }
     if line_with(usual, u32::MAX, keyword, name, above) == 0 {
         return cause(column, b"it is a class of another package");
@@ -510,13 +542,13 @@ impl Walk {
     fn has(self, found: Option<Keyword>, keyword: Keyword) -> bool {
         found == Some(keyword)
             && match keyword {
-                Keyword::Extended | Keyword::Package => true,
+                Keyword::Extended | Keyword::Random | Keyword::Package => true,
                 Keyword::Class => self.in_package,
                 _ => self.in_class,
             }
     }
 
-    // Behind one line more.
+    // After one line more.
     fn behind(self, line: &[u8], section: Above<'_>) -> Walk {
         match Keyword::of(word_in(line, 0)) {
             Some(Keyword::Package) => Walk {

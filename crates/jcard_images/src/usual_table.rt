@@ -33,7 +33,7 @@ fn usual_text<'n>(alloc: Global) -> Result<Vec<u8>, Fault<'n>>
     }
 }
 
-/// The text of `examples/extended.table`, 3,528 bytes: each name that can stand, with a token.
+/// The text of `examples/extended.table`, 3,984 bytes: each name that can stand, with a token.
 pub const USUAL_TABLE: &str = "\
 extended
 package A0000000620001 1 0
@@ -191,4 +191,27 @@ class 18 AppletEvent
 interface 0 uninstall
 package A0000000620209 1 0
 class 0 ExtendedLength
+package A0000000620102 1 0
+class 0 CryptoException
+static 0 <init>
+static 1 throwIt
+class 1 MessageDigest
+static 0 getInstance
+virtual 1 getAlgorithm
+virtual 2 getLength
+virtual 3 update
+virtual 4 doFinal
+virtual 5 reset
+class 2 Checksum
+static 0 getInstance
+virtual 1 getAlgorithm
+virtual 2 init
+virtual 3 update
+virtual 4 doFinal
+class 3 RandomData
+static 0 getInstance
+virtual 1 generateData
+virtual 2 nextBytes
+virtual 3 setSeed
+virtual 4 getAlgorithm
 ";

@@ -23,7 +23,7 @@ right_of : (a b : Bool) → (a && b) ≡ true → b ≡ true
 right_of true b e = e
 right_of false b e = absurd (false≢true e)
 
--- a text, and behind it what says how far both could be read
+-- a text, and after it what says how far both could be read
 pub text_then : (r : Result Unit ListFault) (a b c x : List ℕ) (y : Lines) → b ≡ a ++ x → Lists b c y r → Lists a c (then_lines (line x) y) r
 text_then r a b c x y e k = lists_then r a b c (line x) y (refl, e) k
 
@@ -52,7 +52,7 @@ pub areas_untold : (stop : ListFault) (w v : List ℕ) (all : Bool) (old new : L
 areas_untold Unreadable w v all old new told = (area_lines w v, inl (sym (both_readable w v) ∙ told.0, refl), told)
 areas_untold NoMemory w v all old new told = tt
 
--- what is told behind them
+-- what is told after them
 pub content_by : (r : Result Unit ListFault) (w v : List ℕ) (all : Bool) (old new : List ℕ) (l : Lines) → IsContent w v all l → Lists old new l r
     → IsContentTold w v all old new r
 content_by (Ok done) w v all old new l is told = (l, is, told)

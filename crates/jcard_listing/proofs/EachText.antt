@@ -11,7 +11,7 @@ pub text_none : (one : ℕ → List ℕ) → each_text one 0 ≡ []
 unfolding each_text
 text_none one = refl
 
--- a text grew by one more of them, behind a head
+-- a text grew by one more of them, after a head
 pub text_grown : (one : ℕ → List ℕ) (old head now next : List ℕ) (n : ℕ) → now ≡ old ++ (head ++ each_text one n) → next ≡ now ++ one n
     → next ≡ old ++ (head ++ each_text one (n + 1))
 text_grown one old head now next n told more =

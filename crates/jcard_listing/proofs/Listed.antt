@@ -1,4 +1,4 @@
--- Lines that are told one behind another.
+-- Lines that are told one after another.
 use Rattle.std.proofs.Common.{◌≡◌, ◌∙◌, ℕ, zero, suc, ◌+◌, ◌<◌, ◌≤◌, true, false, List, [], ◌++◌, Result, Ok, Err, refl, ap, subst, sym, arith, add-one}
 use Rattle.std.proofs.Common.{⊎_elim, append-nil, append_assoc}
 use Rattle.std.proofs.lemmas.Bool.{cases_lt}
@@ -51,13 +51,13 @@ each_stopped one (suc n) k stop a b h t =
     (λ above. let e : k ≡ suc n = omega (arith, above) in subst (λ m. Lists a b (each_line one m) (Err stop)) e t)
     (cases_lt k (suc n))
 
--- all so far were told, and not the next, so none behind it
+-- all so far were told, and not the next, so none after it
 pub next_stopped : (one : ℕ → Lines) (n i : ℕ) (stop : ListFault) (a b c : List ℕ) → i < n → Lists a b (each_line one i) (Ok tt)
     → Lists b c (one (i + 1)) (Err stop) → Lists a c (each_line one n) (Err stop)
 next_stopped one n i stop a b c lt h k = each_stopped one n (i + 1) stop a c (omega (arith, lt))
     (subst (λ (m : Lines). Lists a c m (Err stop)) (sym (each_more one i)) (lists_then (Err stop) a b c (each_line one i) (one (i + 1)) h k))
 
--- of all lines these were told behind a text, and others are left
+-- of all lines these were told after a text, and others are left
 abbrev pub IsTelling : List ℕ → List ℕ → Lines → Lines → Type 0
 IsTelling old new all rest = (told : List ℕ) × (new ≡ old ++ told) × (all ≡ record { text = told ++ rest.text; readable = rest.readable })
 
@@ -98,7 +98,7 @@ lists_none a l e r = (r, sym (ap (λ (t : List ℕ). a ++ t) e ∙ append-nil a)
 pub lists_unread : (a : List ℕ) (l : Lines) → l.text ≡ [] → l.readable ≡ false → Lists a a l (Err Unreadable)
 lists_unread a l e r = (r, sym (ap (λ (t : List ℕ). a ++ t) e ∙ append-nil a))
 
--- lines, and a text behind them however far they were told
+-- lines, and a text after them however far they were told
 pub lists_ended : (r : Result Unit ListFault) (a b c tail : List ℕ) (l : Lines) → Lists a b l r → c ≡ b ++ tail
     → Lists a c (record { text = l.text ++ tail; readable = l.readable }) r
 lists_ended (Ok done) a b c tail l told e = (told.0, e ∙ ap (λ (t : List ℕ). t ++ tail) told.1 ∙ append_assoc a l.text tail)

@@ -38,7 +38,7 @@ areas_untold Unreadable w all old new told = elim (cases_Bool (has_bounds w)) [
 ]
 areas_untold NoMemory w all old new told = tt
 
--- nor is anything behind a text that is no table
+-- nor is anything after a text that is no table
 pub table_untold : (stop : ListFault) (w : List ℕ) (all : Bool) (old new : List ℕ) → Lists old new (line_if (areas_line w)) (Ok tt)
     → IsLegendFor w (Err stop) → IsListed w all old new (Err stop)
 table_untold Unreadable w all old new told none = (
@@ -48,7 +48,7 @@ table_untold Unreadable w all old new told none = (
 )
 table_untold NoMemory w all old new told none = tt
 
--- all that is told behind a table
+-- all that is told after a table
 pub contents_told : (r : Result Unit ListFault) (w : List ℕ) (all : Bool) (t : Legend) (old new next : List ℕ) → Lists old new (line_if (areas_line w)) (Ok tt)
     → IsLegendFor w (Ok t) → Lists new next (contents_lines (Some t) w all) r → IsListed w all old next r
 contents_told r w all t old new next told reads more = listed_by r w all old next (then_lines (line_if (areas_line w)) (contents_lines (Some t) w all))

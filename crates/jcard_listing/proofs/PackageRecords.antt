@@ -14,7 +14,7 @@ use Rattle.jcard_listing.specs.declared.packages.Record.{Record}
 not_some : {A : Type 0} (x : A) → Some x ≡ None → ⊥
 not_some x e = false≢true (sym (ap is_some e))
 
--- its words lie in the heap, and it has so many
+-- its words lie in the heap, and it has this many
 pub record IsPlaced (w : List ℕ) (f : Record) : Type 0 where
   pub there : IsRecord w f.at
   pub size : f.size ≡ record_size w f.at

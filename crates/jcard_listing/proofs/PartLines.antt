@@ -25,7 +25,7 @@ both text readable = record { text = text; readable = readable }
 pub parts_first : (k : ℕ) (words : List ℕ) → parts_from k words 1 ≡ parts_lines k words
 parts_first k words = refl
 
--- behind the last word
+-- after the last word
 pub parts_end : (k : ℕ) (words : List ℕ) (at : ℕ) → length words ≤ at → ((parts_from k words at).text ≡ []) × ((parts_from k words at).readable ≡ true)
 parts_end k words at past =
     let last = whole_end part_sizes at (drop at words) (omega (arith, length-drop at words, past)) in
@@ -38,7 +38,7 @@ parts_short k words at below short =
     let last = whole_short part_sizes at (drop at words) (omega (arith, length-drop at words, below)) (omega (arith, length-drop at words, short)) in
     (ap (flat_map (part_text k)) last.0, last.1)
 
--- one that has them all, and those behind it
+-- one that has them all, and those after it
 parts_step : (k : ℕ) (words : List ℕ) (at size : ℕ) → size ≡ part_sizes at (drop at words) + 1 → at + size ≤ length words
     → parts_from k words at ≡ both (part_text k (at, take size (drop at words)) ++ (parts_from k words (at + size)).text) (parts_from k words (at + size)).readable
 parts_step k words at size is fits =

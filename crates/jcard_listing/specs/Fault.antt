@@ -10,7 +10,7 @@ Lists old new l (Ok done) = (l.readable ≡ true) × (new ≡ old ++ l.text)
 Lists old new l (Err Unreadable) = (l.readable ≡ false) × (new ≡ old ++ l.text)
 Lists old new l (Err NoMemory) = Unit {0}
 
--- the lines of so many, by their numbers from 1 on
+-- the lines of this many, by their numbers from 1 on
 unfoldable pub each_line : (ℕ → Lines) → ℕ → Lines
 each_line one zero = line []
 each_line one (suc n) = then_lines (each_line one n) (one (suc n))

@@ -31,7 +31,7 @@ contents_lines (Some t) w all = then_lines (each_line (entry_lines t.platform w)
     (then_lines (each_line (package_lines t w) (slice_index w packages_address))
     (then_lines (each_line (applet_lines w) (slice_index w applets_address)) (objects_lines t w all)))
 
--- these are the lines that list what words hold: nothing behind a heap that is out of its bounds, nor behind a text that is no table
+-- these are the lines that list what words hold: nothing after a heap that is out of its bounds, nor after a text that is no table
 abbrev pub IsListing : List ℕ → Bool → Lines → Type 0
 IsListing w all l = ((has_bounds w ≡ false) × (l ≡ line_if (areas_line w)))
     ⊎ ((legend : Option Legend) × (has_bounds w ≡ true) × IsLegendOf w legend

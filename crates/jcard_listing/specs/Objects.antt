@@ -12,8 +12,12 @@ use Rattle.jc_cap_linkage.specs.Packages.{NamedPackage}
 use Rattle.jc_image.specs.Listed.{NamedApplet}
 use Rattle.jc_image.specs.Listing.{applet_at, package_at}
 use Rattle.jc_platform.specs.Distinct.{class_word}
+use Rattle.jc_platform.specs.Hierarchy.{cells_of}
+use Rattle.jc_platform.specs.Hierarchy.{holds_reference as class_holds_reference}
+use Rattle.jc_platform.specs.Platform.{class_by_word}
 use Rattle.jc_objects.specs.Legends.{holds_reference}
 use Rattle.jc_objects.specs.declared.legend.Legend.{Legend}
+use Rattle.jc_platform.specs.declared.names.PlatformClass.{PlatformClass}
 use Rattle.jc_platform.specs.declared.names.PlatformClass.TheVariants.{Aid, OwnerPin}
 use Rattle.jc_records.specs.Records.{are_whole, standing_items}
 use Rattle.jcard_images.specs.Listings.{Lines}
@@ -85,6 +89,19 @@ pin_text cells = labelled_text (codes ": tries ") (slice_index cells 2) (codes "
     ++ (labelled_text [] (slice_index cells 3) (codes " of ")
     ++ (labelled_text [] (slice_index cells 1) (codes ", value ") ++ reference_text (slice_index cells 4))))
 
+-- a class of engines: its instances have two cells, the second of which holds a reference
+abbrev pub is_engine_class : Option PlatformClass → Bool
+is_engine_class None = false
+is_engine_class (Some class) = cells_of class == 2 && class_holds_reference class 1
+
+-- the header is that of an engine
+abbrev pub is_engine : Legend → Facts → Bool
+is_engine t f = is_instance f.kind && (f.length == 2 && is_engine_class (class_by_word t.platform f.class))
+
+-- its fields: the number of its algorithm, and the array with its state
+abbrev pub engine_text : List ℕ → List ℕ
+engine_text cells = labelled_text (codes ": algorithm ") (slice_index cells 0) (codes ", state ") ++ reference_text (slice_index cells 1)
+
 -- the header is that of an AID
 abbrev pub is_aid : Legend → Facts → Bool
 is_aid t f = is_instance f.kind && (f.length == 9 && f.class == class_word t.platform Aid)
@@ -97,7 +114,7 @@ aid_length t f cells = if is_aid t f then (if nat_lt 16 (slice_index cells 0) th
 abbrev pub byte_text : ℕ → ℕ → List ℕ
 byte_text word i = if i % 2 == 0 then encode_upper (word / 256 ∷ []) else encode_upper (word % 256 ∷ [])
 
--- the bytes of an AID, two of which stand in each cell behind the first
+-- the bytes of an AID, two of which stand in each cell after the first
 abbrev pub aid_byte : List ℕ → ℕ → List ℕ
 aid_byte cells i = byte_text (slice_index cells (1 + i / 2)) i
 
@@ -110,9 +127,9 @@ plain_text t f cells (Some long) = aid_text cells long
 plain_text t f cells None = cells_text t f cells
 
 abbrev pub contents_text : Legend → Facts → List ℕ → List ℕ
-contents_text t f cells = if is_pin t f then pin_text cells else plain_text t f cells (aid_length t f cells)
+contents_text t f cells = if is_pin t f then pin_text cells else (if is_engine t f then engine_text cells else plain_text t f cells (aid_length t f cells))
 
--- behind the header: the cells, or where they are
+-- after the header: the cells, or where they are
 abbrev pub behind_text : Legend → Facts → Option ClearEvent → List ℕ → List ℕ
 behind_text t f (Some event) cells = area_text event f.place
 behind_text t f None cells = contents_text t f cells

@@ -17,7 +17,7 @@ use Rattle.jcard_listing.specs.declared.packages.Record.{Record}
 abbrev pub component_text : ℕ → ℕ → List ℕ
 component_text tag bytes = labelled_text (codes " ") tag (codes ":") ++ decimal bytes
 
--- how many bytes the component at an address has, where its words are among so many
+-- how many bytes the component at an address has, where its words are among this many
 abbrev pub component_bytes : List ℕ → ℕ → ℕ → Option ℕ
 component_bytes w at left = if nat_lt left 2 then None
     else (if nat_lt left (2 + words_for (slice_index w (at + 1))) then None else Some (slice_index w (at + 1)))
@@ -26,14 +26,14 @@ component_bytes w at left = if nat_lt left 2 then None
 abbrev pub static_text : Bool → ℕ → List ℕ
 static_text is_reference word = codes " " ++ (if is_reference then reference_text word else word_text word)
 
--- the words of a static image, of which so many at its beginning are references
+-- the words of a static image, of which this many at its beginning are references
 abbrev pub static_at : ℕ → List ℕ → ℕ → List ℕ
 static_at references words i = static_text (nat_lt i references) (slice_index words i)
 
 abbrev pub image_text : ℕ → List ℕ → List ℕ
 image_text references words = codes ", static image" ++ each_text (static_at references words) (length words)
 
--- a part of a record: a component, or behind a word 0 the static image
+-- a part of a record: a component, or after a word 0 the static image
 abbrev pub part_text : ℕ → ℕ × List ℕ → List ℕ
 part_text references p = if slice_index p.1 0 == 0 then image_text references (drop 1 p.1) else component_text (slice_index p.1 0) (slice_index p.1 1)
 
@@ -50,7 +50,7 @@ abbrev pub head_text : ℕ → Record → List ℕ
 head_text n r = labelled_text (codes "package ") n (codes ": ") ++ (labelled_text (codes "@") r.at (codes ", ")
     ++ labelled_text [] r.size (codes " words, components"))
 
--- a line feed behind lines, also behind the last that can be read
+-- a line feed after lines, also after the last that can be read
 abbrev pub ended : Lines → Lines
 ended l = record { text = l.text ++ codes "\n"; readable = l.readable }
 
@@ -65,7 +65,7 @@ sized at None = None
 abbrev pub record_from : List ℕ → ℕ → Option Record
 record_from w at = if nat_le (first_record w) at && nat_lt at (top_of w) then sized at (whole_size w at) else None
 
--- that of the package behind so many others
+-- that of the package after this many others
 abbrev pub record_at : List ℕ → ℕ → Option Record
 record_at w before = if nat_lt before most_packages then record_from w (slice_index w (addresses_start + before)) else None
 

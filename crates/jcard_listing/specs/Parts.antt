@@ -34,7 +34,7 @@ part_line Entries t w n = entry_lines t.platform w n
 part_line Records t w n = package_lines t w n
 part_line Registrations t w n = applet_lines w n
 
--- the same, or nothing behind the last
+-- the same, or nothing after the last
 abbrev pub line_among : Part → Legend → List ℕ → ℕ → Lines
 line_among part t w n = if nat_le n (part_count part w) then part_line part t w n else line []
 

@@ -20,7 +20,7 @@ reference_text word = if word == 0 then codes "null" else labelled_text (codes "
 abbrev pub short_text : ℕ → List ℕ
 short_text word = signed_decimal (cast_signed w16 word)
 
--- so many texts, by their numbers from 0 on
+-- this many texts, by their numbers from 0 on
 unfoldable pub each_text : (ℕ → List ℕ) → ℕ → List ℕ
 each_text one zero = []
 each_text one (suc n) = each_text one n ++ one n

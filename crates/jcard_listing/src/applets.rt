@@ -24,7 +24,7 @@ pub(crate) fn push_applets<S: WordStore>(text: &mut Vec<u8>, store: &S) -> Resul
     Ok(())
 }
 
-/// Writes the line of the applet behind so many others.
+/// Writes the line of the applet after this many others.
 pub(crate) fn push_applet_at<S: WordStore>(
     text: &mut Vec<u8>,
     store: &S,

@@ -92,7 +92,7 @@ fn areas_of<S: WordStore>(alloc: Global, store: &S) -> Result<Listing, AllocErro
     listing_by(text, told)
 }
 
-// Writes the lines behind those of the heaps' ends.
+// Writes the lines after those of the heaps' ends.
 fn push_content<S: WordStore>(
     alloc: Global,
     text: &mut Vec<u8>,

@@ -37,7 +37,7 @@ pub(crate) fn push_entries<S: WordStore>(
     Ok(())
 }
 
-/// Writes the line of the entry behind so many others.
+/// Writes the line of the entry after this many others.
 pub(crate) fn push_entry_at<S: WordStore>(
     alloc: Global,
     text: &mut Vec<u8>,

@@ -61,7 +61,7 @@ fn push_listing<S: WordStore>(
     push_contents(alloc, text, &legend, store, all)
 }
 
-// Writes the lines behind the first one.
+// Writes the lines after the first one.
 fn push_contents<S: WordStore>(
     alloc: Global,
     text: &mut Vec<u8>,

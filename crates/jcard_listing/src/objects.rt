@@ -5,7 +5,7 @@ ghost use Rattle.jc_heap.specs.Object.{cells_of};
 ghost use Rattle.jc_records.specs.Bounds.{has_bounds};
 ghost use Rattle.jc_records.specs.Records.{IsRecord, item_at, object_in};
 ghost use Rattle.jcard_listing.specs.Fault.{Lists};
-ghost use Rattle.jcard_listing.specs.Objects.{aid_length, aid_text, applet_name, area_text, behind_text, byte_text, cell_text, cells_text, contents_text, field_text, header_text, is_aid, is_pin, is_told, item_text, object_text, objects_lines, owner_text, package_name, pin_text, value_text};
+ghost use Rattle.jcard_listing.specs.Objects.{aid_length, aid_text, applet_name, area_text, behind_text, byte_text, cell_text, cells_text, contents_text, engine_text, field_text, header_text, is_aid, is_engine, is_engine_class, is_pin, is_told, item_text, object_text, objects_lines, owner_text, package_name, pin_text, value_text};
 
 use crate::fault::ListFault;
 use crate::texts::{push_hex, push_labelled, push_number, push_reference, push_short};
@@ -26,6 +26,9 @@ const FIRST_PACKAGE: u16 = 256;
 
 /// How many cells an OwnerPIN has.
 const PIN_CELLS: u16 = 5;
+
+/// How many cells an engine has.
+const ENGINE_CELLS: u16 = 2;
 
 /// How many cells an AID has.
 const AID_CELLS: u16 = 9;
@@ -242,6 +245,9 @@ fn push_contents<S: WordStore>(
     if is_pin(legend, facts) {
         return push_pin(text, store, at, facts);
     }
+    if is_engine(legend, facts) {
+        return push_engine(text, store, at, facts);
+    }
     match aid_length(legend, store, at, facts) {
         Some(long) => push_aid(alloc, text, store, at, facts, long),
         None => push_cells(alloc, text, legend, store, at, facts),
@@ -255,6 +261,25 @@ fn is_pin(legend: &Legend, facts: Facts) -> bool
     matches!(facts.kind, Kind::Instance)
         && facts.length == PIN_CELLS
         && facts.class() == legend.platform.class_word(PlatformClass::OwnerPin)
+}
+
+// Whether an object is an engine.
+fn is_engine(legend: &Legend, facts: Facts) -> bool
+    ensures { result ≡ is_engine legend.now facts }
+{
+    matches!(facts.kind, Kind::Instance)
+        && facts.length == ENGINE_CELLS
+        && is_engine_class(legend.platform.class_by_word(facts.class()))
+}
+
+// Whether a class is one of engines: its instances have two cells, the second of which holds a reference.
+fn is_engine_class(found: Option<PlatformClass>) -> bool
+    ensures { result ≡ is_engine_class found }
+{
+    match found {
+        Some(class) => u16::from(class.cells()) == ENGINE_CELLS && class.holds_reference(1),
+        None => false,
+    }
 }
 
 // How many bytes an AID has; none where an object is no AID, or has more than an AID can have.
@@ -287,7 +312,7 @@ fn is_aid(legend: &Legend, facts: Facts) -> bool
         && facts.class() == legend.platform.class_word(PlatformClass::Aid)
 }
 
-// Writes the bytes of an AID, two of which stand in each cell behind the first.
+// Writes the bytes of an AID, two of which stand in each cell after the first.
 fn push_aid<S: WordStore>(
     alloc: Global,
     text: &mut Vec<u8>,
@@ -363,6 +388,29 @@ fn push_pin<S: WordStore>(
     push_labelled(text, b"", cell_of(store, at, facts, 3), b" of ")?;
     push_labelled(text, b"", cell_of(store, at, facts, 1), b", value ")?;
     push_reference(text, cell_of(store, at, facts, 4))
+}
+
+// Writes the fields of an engine.
+fn push_engine<S: WordStore>(
+    text: &mut Vec<u8>,
+    store: &S,
+    at: u16,
+    facts: Facts,
+) -> Result<(), AllocError>
+    requires bounds { has_bounds (S.words store.now) ≡ true }
+    requires record { IsRecord (S.words store.now) at }
+    requires object { object_in (item_at (S.words store.now) at) ≡ Some facts }
+    requires cells { length (cells_of (item_at (S.words store.now) at)) ≡ 2 }
+    ensures { OnOk result (text.new.items ≡ text.old.items
+        ++ engine_text (cells_of (item_at (S.words store.now) at))) }
+{
+    push_labelled(
+        text,
+        b": algorithm ",
+        cell_of(store, at, facts, 0),
+        b", state ",
+    )?;
+    push_reference(text, cell_of(store, at, facts, 1))
 }
 
 // Writes a cell of an object.

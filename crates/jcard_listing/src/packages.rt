@@ -42,7 +42,7 @@ pub(crate) fn push_packages<S: WordStore>(
     Ok(())
 }
 
-/// Writes the line of the package behind so many others.
+/// Writes the line of the package after this many others.
 pub(crate) fn push_package<S: WordStore>(
     alloc: Global,
     text: &mut Vec<u8>,
@@ -61,7 +61,7 @@ pub(crate) fn push_package<S: WordStore>(
     push_record(alloc, text, legend, store, before + 1, found)
 }
 
-// Where the record of the package behind so many others stands, if its words lie in the heap.
+// Where the record of the package after this many others stands, if its words lie in the heap.
 fn record_at<S: WordStore>(store: &S, before: u16) -> Option<Record>
     requires { has_bounds (S.words store.now) ≡ true }
     ensures { result ≡ record_at (S.words store.now) before }
@@ -116,7 +116,7 @@ fn push_head(text: &mut Vec<u8>, number: u16, found: Record) -> Result<(), Alloc
     push_labelled(text, b"", found.size, b" words, components")
 }
 
-// Writes the components of a record, and its static image, which begins with so many references.
+// Writes the components of a record, and its static image, which begins with this many references.
 fn push_parts<S: WordStore>(
     alloc: Global,
     text: &mut Vec<u8>,
@@ -149,7 +149,7 @@ fn push_parts<S: WordStore>(
     Ok(())
 }
 
-// How many bytes the component at an address has, where its words are among so many.
+// How many bytes the component at an address has, where its words are among this many.
 fn component_bytes<S: WordStore>(store: &S, at: u16, left: u16) -> Option<u16>
     requires { at + left ≤ length (S.words store.now) }
     ensures { result ≡ component_bytes (S.words store.now) at left }
@@ -165,7 +165,7 @@ fn component_bytes<S: WordStore>(store: &S, at: u16, left: u16) -> Option<u16>
     Some(bytes)
 }
 
-// How many words hold so many bytes.
+// How many words hold this many bytes.
 fn words_for(bytes: u16) -> u16
     ensures { result ≡ words_for bytes }
 {
@@ -180,7 +180,7 @@ fn push_component(text: &mut Vec<u8>, tag: u16, bytes: u16) -> Result<(), AllocE
     push_number(text, bytes)
 }
 
-// Writes so many words of a static image, from an address on, the first as references.
+// Writes this many words of a static image, from an address on, the first as references.
 fn push_image<S: WordStore>(
     alloc: Global,
     text: &mut Vec<u8>,

@@ -80,7 +80,7 @@ fn part_count<S: WordStore>(part: Part, store: &S) -> u16
     }
 }
 
-// Writes the lines behind so many others, if they are not the same.
+// Writes the lines after this many others, if they are not the same.
 fn push_pair_at<S: WordStore>(
     alloc: Global,
     text: &mut Vec<u8>,
@@ -104,7 +104,7 @@ fn push_pair_at<S: WordStore>(
     push_pair(text, &one_line, &other_line)
 }
 
-// Lists the line behind so many others; nothing behind the last.
+// Lists the line after this many others; nothing after the last.
 fn line_among<S: WordStore>(
     alloc: Global,
     part: Part,
@@ -129,7 +129,7 @@ fn line_among<S: WordStore>(
     listing_by(text, told)
 }
 
-// Writes the line behind so many others.
+// Writes the line after this many others.
 fn push_line<S: WordStore>(
     alloc: Global,
     text: &mut Vec<u8>,

@@ -1,4 +1,4 @@
-//! Numbers, references and bytes behind a text.
+//! Numbers, references and bytes after a text.
 ghost use Rattle.std.specs.Prelude.{◌≡◌, ◌++◌, ◌/◌, ◌%◌, decimal, OnOk};
 ghost use Rattle.hex.specs.Hex.{encode_upper};
 ghost use Rattle.jcard_listing.specs.Texts.{labelled_text, reference_text, short_text, word_text};

@@ -24,7 +24,7 @@ pub words_none : (o : ImageObjects) (now : List ℕ) (a : ℕ) → AreWordsTold 
 unfolding AreWordsTold
 words_none o now a = refl
 
--- the words up to an address are told behind a text
+-- the words up to an address are told after a text
 pub record AreToldTo (o : ImageObjects) (now : List ℕ) (first at : ℕ) (old text : List ℕ) : Type 0 where
   pub behind : first ≤ at
   pub told : (told : List ℕ) × (text ≡ old ++ told) × AreWordsTold o now first (at - first) told

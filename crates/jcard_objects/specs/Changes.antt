@@ -35,7 +35,7 @@ abbrev pub IsWordTold : ImageObjects → List ℕ → ℕ → List ℕ → Type 
 IsWordTold o now a text = ((slice_index o.store.words a ≡ slice_index now a) × (text ≡ []))
     ⊎ ((slice_index o.store.words a ≢ slice_index now a) × IsChangeTold o a (slice_index o.store.words a) (slice_index now a) text)
 
--- the words at so many addresses, from this one on, are told so
+-- the words at this many addresses, from this one on, are told so
 unfoldable pub AreWordsTold : ImageObjects → List ℕ → ℕ → ℕ → List ℕ → Type 0
 AreWordsTold o now a zero text = text ≡ []
 AreWordsTold o now a (suc n) text = (first rest : List ℕ) × (text ≡ first ++ rest) × IsWordTold o now a first × AreWordsTold o now (a + 1) n rest

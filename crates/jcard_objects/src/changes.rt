@@ -10,7 +10,7 @@ use jc_objects::image_objects::ImageObjects;
 use jc_words::layout::{ADDRESSES, TEXT_LENGTH, TOP};
 use std::alloc::{AllocError, Global};
 
-/// Writes what changed of an image since it had these objects behind a text: a line for each of its words that is another one now.
+/// Writes what changed of an image since it had these objects after a text: a line for each of its words that is another one now.
 pub fn push_changes(
     alloc: Global,
     text: &mut Vec<u8>,

@@ -11,7 +11,7 @@ use jc_transient::ClassWord;
 use jc_words::WordStore;
 use std::alloc::{AllocError, Global};
 
-/// Writes the class that a word names behind a text: by its name, if it is one of the platform; else by its package's AID and its
+/// Writes the class that a word names after a text: by its name, if it is one of the platform; else by its package's AID and its
 /// number in it, as the words of an image tell them.
 pub fn push_class<S: WordStore>(
     alloc: Global,
@@ -30,7 +30,7 @@ pub fn push_class<S: WordStore>(
     }
 }
 
-/// Writes what an object of a kind and a class is behind a text.
+/// Writes what an object of a kind and a class is after a text.
 pub fn push_kind<S: WordStore>(
     alloc: Global,
     text: &mut Vec<u8>,
@@ -73,7 +73,7 @@ fn push_loaded(
     push_number(text, class % 256)
 }
 
-/// Writes a number in decimal digits behind a text.
+/// Writes a number in decimal digits after a text.
 pub(crate) fn push_number(text: &mut Vec<u8>, number: u16) -> Result<(), AllocError>
     ensures { OnOk result (text.new.items ≡ text.old.items ++ decimal number) }
 {

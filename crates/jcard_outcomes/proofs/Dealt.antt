@@ -6,14 +6,14 @@ use Rattle.std.proofs.lemmas.List.{append_cancel_left, drop_all, get_or-set_othe
 use Rattle.std.proofs.lemmas.List.Elements.{All-nil, All-push}
 use Rattle.std.proofs.Math.Nat.{mod-lt}
 use Rattle.jcard_outcomes.specs.Joins.{AreOrdered}
-use Rattle.jcard_outcomes.specs.Parts.{dealt, has, line_start, line_text}
+use Rattle.jcard_outcomes.specs.Parts.{dealt, has, line_start, line_text, numbered}
 use Rattle.jcard_outcomes.proofs.Splits.{cut_unique}
 
 -- ---- lines
 
 -- a line is no empty text
 pub line_some : (k : ℕ) (told rest : List ℕ) → line_text k told ++ rest ≡ [] → ⊥
-unfolding line_start
+unfolding numbered
 line_some k told rest e = cc
 
 -- a line, as it is read

@@ -6,14 +6,14 @@ use Rattle.jcard_outcomes.specs.Reports.{most_lost_from}
 use Rattle.jcard_outcomes.specs.declared.standing.Cut.{Cut}
 use Rattle.jcard_outcomes.proofs.Items.{drop_at}
 
--- behind this cut a recovery made a difference
+-- after this cut a recovery made a difference
 pub difference_found : (cuts : List Cut) (k i n : ℕ) (c : Cut) → i < length cuts → c ≡ get_or cuts i c → c.recoveries.difference ≡ Some n
     → first_difference k (drop i cuts) ≡ Some (k, n)
 unfolding first_difference
 difference_found cuts k i n c h e found = ap (first_difference k) (drop_at cuts i c h e)
     ∙ ap (λ (d : Option ℕ). difference_or k d (first_difference (k + 1) (drop (i + 1) cuts))) found
 
--- behind this one none did
+-- after this one none did
 pub difference_passed : (cuts : List Cut) (k i : ℕ) (c : Cut) → i < length cuts → c ≡ get_or cuts i c → c.recoveries.difference ≡ None
     → first_difference k (drop i cuts) ≡ first_difference (k + 1) (drop (i + 1) cuts)
 unfolding first_difference
@@ -34,7 +34,7 @@ pub most_end : (cuts : List Cut) (n i : ℕ) → length cuts ≤ i → most_lost
 unfolding most_lost_from
 most_end cuts n i h = ap (most_lost_from n) (drop_all i cuts h)
 
--- the ways behind one cut more
+-- the ways after one cut more
 pub ways_next : (cuts : List Cut) (n i : ℕ) (c : Cut) → i < length cuts → c ≡ get_or cuts i c
     → ways_from n (drop i cuts) ≡ ways_from (min (n + c.recoveries.ways) 18446744073709551615) (drop (i + 1) cuts)
 unfolding ways_from

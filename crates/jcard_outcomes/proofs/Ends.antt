@@ -1,4 +1,4 @@
--- Lines that are lent, and those behind the cuts.
+-- Lines that are lent, and those after the cuts.
 use Rattle.std.proofs.Common.{arith, ◌≡◌, ◌∙◌, inl, inr, ℕ, zero, suc, ◌+◌, ◌-◌, ◌<◌, ◌≤◌, Bool, true, false, List, [], ◌∷◌, ◌++◌, length, get_or, take, drop, replicate, ap, sym, refl}
 use Rattle.std.specs.Prelude.{map}
 use Rattle.std.specs.Borrow.{Bor}
@@ -26,7 +26,7 @@ map_drop zero lines = refl
 map_drop (suc n) [] = refl
 map_drop (suc n) (x ∷ lines) = map_drop n lines
 
--- those behind the cuts
+-- those after the cuts
 abbrev pub ends : ℕ → List (Bor (List ℕ)) → List (Bor (List ℕ))
 ends count lines = take (length lines - count) (drop count lines)
 
@@ -52,7 +52,7 @@ all_same count parts i lines u e h low high =
     sym (ends_lent count lines) ∙ sym (take_all i (lent (ends count lines)) (omega (arith, lent_length (ends count lines), h))) ∙ e
     ∙ ap (λ k. replicate k u) exact
 
--- a line behind the cuts
+-- a line after the cuts
 end_at : (count i : ℕ) (lines : List (Bor (List ℕ))) → i < length (ends count lines) → get_or (lent lines) (count + i) [] ≡ (get_or (ends count lines) i nothing).now
 end_at count i lines h = sym (get_or-drop count (lent lines) i []) ∙ ap (λ l. get_or l i []) (sym (ends_lent count lines)) ∙ lent_at (ends count lines) i h
 

@@ -1,27 +1,29 @@
 -- What lines are joined to.
 use Rattle.std.proofs.Common.{arith, ◌≡◌, ◌∙◌, ⊎_elim, inr, ℕ, ◌+◌, ◌-◌, ◌<◌, ◌≤◌, false, List, [], ◌∷◌, ◌++◌, length, get_or, drop, replicate, ap, sym, refl, subst, codes, Result, Ok, Err}
-use Rattle.std.specs.Prelude.{map, is_none, IfOk, MatchResult}
+use Rattle.std.specs.Prelude.{map, IfOk, MatchResult}
 use Rattle.std.specs.List.{All}
 use Rattle.std.proofs.lemmas.List.{get_or-drop, get_or-replicate, length-append, length-drop, length-map, length-replicate}
 use Rattle.std.proofs.lemmas.List.Elements.{All-append, All-cons, All-head, All-nil, All-replicate, All-tail}
 use Rattle.jcard_outcomes.specs.Joins.{AreBodiesInOrder, AreJoinedInOrder, AreOrdered, AreTold, IsAnswerTold, IsJoinOf, IsJoinOfCuts, IsLinesFault, IsNoCut, IsNoEnd, IsNoReport}
 use Rattle.jcard_outcomes.specs.Joins.{IsReportOf, IsTellable, IsUncutTold, IsUnjoined, TellCuts}
 use Rattle.jcard_outcomes.specs.Parts.{AreDealt, IsCutOfWords, has, told_cut, told_sweep, told_uncut}
-use Rattle.jcard_outcomes.specs.Reports.{first_broken, in_line, report_text}
+use Rattle.jcard_outcomes.specs.Reports.{are_whole, in_line, report_text}
 use Rattle.jcard_outcomes.specs.declared.join_fault.JoinFault.{JoinFault}
 use Rattle.jcard_outcomes.specs.declared.join_fault.JoinFault.TheVariants.{BadLine, Missing, NoMemory, OtherSweep, Twice}
 use Rattle.jcard_outcomes.specs.declared.join.Joined.{Joined}
+use Rattle.jcard_outcomes.specs.declared.recoveries.Depth.{Depth}
 use Rattle.jcard_outcomes.specs.declared.report.Sweep.{Sweep}
 use Rattle.jcard_outcomes.specs.declared.standing.Cut.{Cut}
 use Rattle.jcard_outcomes.proofs.Joined.{behind_cuts, joined_read, joined_whole, same_lengths, uncut_is, uncut_stands, uncut_told}
 use Rattle.jcard_outcomes.proofs.Dealt.{from_next}
 use Rattle.jcard_outcomes.proofs.SweepLines.{cut_is_no_end}
 use Rattle.jcard_outcomes.proofs.PartsDealt.{parts_dealt}
-use Rattle.jcard_outcomes.proofs.Told.{answer_of_uncut, in_line_has_none, lacks_both, told_in_one_line}
+use Rattle.jcard_outcomes.proofs.Recovered.{cut_in_one_line}
+use Rattle.jcard_outcomes.proofs.Told.{answer_of_uncut, in_line_has_none, lacks_both}
 
 -- ---- the report of cuts
 
--- the line behind the cuts tells of no cut, and no answer
+-- the line after the cuts tells of no cut, and no answer
 no_report : (n : ℕ) (lines : List (List ℕ)) (cuts : List Cut) (uncut : List ℕ) (f : JoinFault) → TellCuts lines cuts → 0 < n
     → drop (length cuts) lines ≡ replicate n uncut → IsNoReport cuts uncut f → IsLinesFault n lines f
 no_report n lines cuts uncut NoMemory t some e h = tt
@@ -38,32 +40,32 @@ no_report n lines cuts uncut (Twice m) t some e h = absurd h
 no_report n lines cuts uncut (OtherSweep m) t some e h = absurd h
 
 -- so a sweep is not told
-no_report_whole : (s : Sweep) (lines : List (List ℕ)) (n : ℕ) (cuts : List Cut) (uncut : List ℕ) (f : JoinFault) → 0 < n → IsTellable s
+no_report_whole : (depth : Depth) (s : Sweep) (lines : List (List ℕ)) (n : ℕ) (cuts : List Cut) (uncut : List ℕ) (f : JoinFault) → 0 < n → IsTellable depth s
     → uncut ≡ told_uncut s.answer.items s.after.answers.items → IsNoReport cuts uncut f → f ≡ NoMemory
-no_report_whole s lines n cuts uncut NoMemory some tellable e h = refl
-no_report_whole s lines n cuts uncut (BadLine m) some tellable e h =
+no_report_whole depth s lines n cuts uncut NoMemory some tellable e h = refl
+no_report_whole depth s lines n cuts uncut (BadLine m) some tellable e h =
     absurd (h.1 s.answer.items (subst (IsAnswerTold s.answer.items) (sym e) (answer_of_uncut s.answer.items s.after.answers.items tellable.2)))
-no_report_whole s lines n cuts uncut (Missing m) some tellable e h = absurd h
-no_report_whole s lines n cuts uncut (Twice m) some tellable e h = absurd h
-no_report_whole s lines n cuts uncut (OtherSweep m) some tellable e h = absurd h
+no_report_whole depth s lines n cuts uncut (Missing m) some tellable e h = absurd h
+no_report_whole depth s lines n cuts uncut (Twice m) some tellable e h = absurd h
+no_report_whole depth s lines n cuts uncut (OtherSweep m) some tellable e h = absurd h
 
-pub of_report : (n : ℕ) (lines : List (List ℕ)) (cuts : List Cut) (uncut : List ℕ) (r : Result Joined JoinFault) → TellCuts lines cuts → 0 < n
-    → drop (length cuts) lines ≡ replicate n uncut → MatchResult r (λ j. IsReportOf cuts uncut j) (λ f. IsNoReport cuts uncut f)
-    → IsJoinOfCuts n lines cuts r
-of_report n lines cuts uncut (Ok j) t some e h = record {
+pub of_report : (depth : Depth) (n : ℕ) (lines : List (List ℕ)) (cuts : List Cut) (uncut : List ℕ) (r : Result Joined JoinFault) → TellCuts lines cuts → 0 < n
+    → drop (length cuts) lines ≡ replicate n uncut → MatchResult r (λ j. IsReportOf depth cuts uncut j) (λ f. IsNoReport cuts uncut f)
+    → IsJoinOfCuts depth n lines cuts r
+of_report depth n lines cuts uncut (Ok j) t some e h = record {
   fault = tt;
   joined = (uncut, joined_read n lines cuts uncut t e, h);
   whole = λ s tellable f same.
-      let w = joined_whole s lines n cuts h.0 uncut tellable some f t.3 same e h.1 in
-      (h.2 ∙ w.0, h.3 ∙ ap is_none w.1);
+      let w = joined_whole depth s lines n cuts h.0 uncut tellable some f t.3 same e h.1 in
+      (h.2 ∙ w.0, h.3 ∙ w.1);
 }
-of_report n lines cuts uncut (Err f) t some e h = record {
+of_report depth n lines cuts uncut (Err f) t some e h = record {
   fault = no_report n lines cuts uncut f t some e h;
   joined = tt;
-  whole = λ s tellable g same. no_report_whole s lines n cuts uncut f some tellable (uncut_is s lines n cuts uncut some g same e) h;
+  whole = λ s tellable g same. no_report_whole depth s lines n cuts uncut f some tellable (uncut_is s lines n cuts uncut some g same e) h;
 }
 
--- the lines behind the cuts are not as many as there are parts, or not the same
+-- the lines after the cuts are not as many as there are parts, or not the same
 no_end : (n : ℕ) (lines : List (List ℕ)) (cuts : List Cut) (f : JoinFault) → TellCuts lines cuts → IsNoEnd n (length cuts) lines f → IsLinesFault n lines f
 no_end n lines cuts NoMemory t h = absurd h
 no_end n lines cuts (Missing m) t h = h.0
@@ -93,9 +95,9 @@ ends_whole n count lines u (OtherSweep m) some e h =
     get_or-drop-there : (lines : List (List ℕ)) (count m : ℕ) → count ≤ m → get_or lines m [] ≡ get_or (drop count lines) (m - count) []
     get_or-drop-there lines count m h = sym (get_or-drop count lines (m - count) [] ∙ ap (λ i. get_or lines i []) (omega (arith, h)))
 
-pub of_none : (n : ℕ) (lines : List (List ℕ)) (cuts : List Cut) (f : JoinFault) → 0 < n → TellCuts lines cuts
-    → IsNoEnd n (length cuts) lines f → IsJoinOfCuts n lines cuts (Err f)
-of_none n lines cuts f some t none = record {
+pub of_none : (depth : Depth) (n : ℕ) (lines : List (List ℕ)) (cuts : List Cut) (f : JoinFault) → 0 < n → TellCuts lines cuts
+    → IsNoEnd n (length cuts) lines f → IsJoinOfCuts depth n lines cuts (Err f)
+of_none depth n lines cuts f some t none = record {
   fault = no_end n lines cuts f t none;
   joined = tt;
   whole = λ s tellable e same.
@@ -110,24 +112,24 @@ cuts_within lines cuts t = omega (arith, ap length t.1, length-append (map told_
 -- ---- the report of lines
 
 -- the lines of a sweep tell it
-swept : (s : Sweep) (n : ℕ) (lines : List (List ℕ)) → 0 < n → IsTellable s
+swept : (depth : Depth) (s : Sweep) (n : ℕ) (lines : List (List ℕ)) → 0 < n → IsTellable depth s
     → lines ≡ told_sweep n s.cuts.items (told_uncut s.answer.items s.after.answers.items)
     → AreTold s.cuts.items (told_uncut s.answer.items s.after.answers.items) n lines
 unfolding told_uncut
-swept s n lines some tellable e =
+swept depth s n lines some tellable e =
     (some, e, (s.answer.items ++ codes ": " ++ in_line s.after.answers.items ++ codes "as after", refl), tellable.0)
 
-pub of_cuts : (n : ℕ) (lines : List (List ℕ)) (cuts : List Cut) (r : Result Joined JoinFault) → 0 < n
-    → ((cs : List Cut) (u : List ℕ) (m : ℕ) → AreTold cs u m lines → map told_cut cuts ≡ map told_cut cs) → IsJoinOfCuts n lines cuts r → IsJoinOf n lines r
-of_cuts n lines cuts (Ok j) some same h = record {
+pub of_cuts : (depth : Depth) (n : ℕ) (lines : List (List ℕ)) (cuts : List Cut) (r : Result Joined JoinFault) → 0 < n
+    → ((cs : List Cut) (u : List ℕ) (m : ℕ) → AreTold cs u m lines → map told_cut cuts ≡ map told_cut cs) → IsJoinOfCuts depth n lines cuts r → IsJoinOf depth n lines r
+of_cuts depth n lines cuts (Ok j) some same h = record {
   fault = tt;
   joined = (cuts, h.joined.0, h.joined.1, h.joined.2);
-  whole = λ s tellable e. h.whole s tellable e (same s.cuts.items (told_uncut s.answer.items s.after.answers.items) n (swept s n lines some tellable e));
+  whole = λ s tellable e. h.whole s tellable e (same s.cuts.items (told_uncut s.answer.items s.after.answers.items) n (swept depth s n lines some tellable e));
 }
-of_cuts n lines cuts (Err f) some same h = record {
+of_cuts depth n lines cuts (Err f) some same h = record {
   fault = h.fault;
   joined = tt;
-  whole = λ s tellable e. h.whole s tellable e (same s.cuts.items (told_uncut s.answer.items s.after.answers.items) n (swept s n lines some tellable e));
+  whole = λ s tellable e. h.whole s tellable e (same s.cuts.items (told_uncut s.answer.items s.after.answers.items) n (swept depth s n lines some tellable e));
 }
 
 no_cut_fault : (n : ℕ) (lines : List (List ℕ)) (f : JoinFault) → IsNoCut lines f → IsLinesFault n lines f
@@ -137,12 +139,12 @@ no_cut_fault n lines (Missing m) h = absurd h
 no_cut_fault n lines (Twice m) h = absurd h
 no_cut_fault n lines (OtherSweep m) h = absurd h
 
-pub of_no_cuts : (n : ℕ) (lines : List (List ℕ)) (f : JoinFault) → 0 < n → IsNoCut lines f
-    → ((cs : List Cut) (u : List ℕ) (m : ℕ) → AreTold cs u m lines → f ≡ NoMemory) → IsJoinOf n lines (Err f)
-of_no_cuts n lines f some fault none = record {
+pub of_no_cuts : (depth : Depth) (n : ℕ) (lines : List (List ℕ)) (f : JoinFault) → 0 < n → IsNoCut lines f
+    → ((cs : List Cut) (u : List ℕ) (m : ℕ) → AreTold cs u m lines → f ≡ NoMemory) → IsJoinOf depth n lines (Err f)
+of_no_cuts depth n lines f some fault none = record {
   fault = no_cut_fault n lines f fault;
   joined = tt;
-  whole = λ s tellable e. none s.cuts.items (told_uncut s.answer.items s.after.answers.items) n (swept s n lines some tellable e);
+  whole = λ s tellable e. none s.cuts.items (told_uncut s.answer.items s.after.answers.items) n (swept depth s n lines some tellable e);
 }
 
 -- ---- the report of texts
@@ -150,7 +152,7 @@ of_no_cuts n lines f some fault none = record {
 plain_cuts : (cuts : List Cut) → All IsCutOfWords cuts → All (λ t. has 10 t ≡ false) (map told_cut cuts)
 plain_cuts [] w = All-nil (λ t. has 10 t ≡ false)
 plain_cuts (c ∷ cuts) w = All-cons (λ t. has 10 t ≡ false) (told_cut c) (map told_cut cuts)
-    (told_in_one_line c (All-head IsCutOfWords c cuts w)) (plain_cuts cuts (All-tail IsCutOfWords c cuts w))
+    (cut_in_one_line c (All-head IsCutOfWords c cuts w)) (plain_cuts cuts (All-tail IsCutOfWords c cuts w))
 
 plain_uncut : (answer answers : List ℕ) → has 10 answer ≡ false → has 10 (told_uncut answer answers) ≡ false
 unfolding told_uncut
@@ -158,28 +160,28 @@ plain_uncut answer answers h =
     lacks_both 10 (answer ++ codes ": " ++ in_line answers) (codes "as after")
     (lacks_both 10 (answer ++ codes ": ") (in_line answers) (lacks_both 10 answer (codes ": ") h refl) (in_line_has_none answers)) refl
 
-pub parts_ordered : (s : Sweep) (texts : List (List ℕ)) → 0 < length texts → IsTellable s → AreBodiesInOrder s texts
+pub parts_ordered : (depth : Depth) (s : Sweep) (texts : List (List ℕ)) → 0 < length texts → IsTellable depth s → AreBodiesInOrder s texts
     → AreOrdered texts (told_sweep (length texts) s.cuts.items (told_uncut s.answer.items s.after.answers.items))
-parts_ordered s texts some tellable parts =
+parts_ordered depth s texts some tellable parts =
     let u = told_uncut s.answer.items s.after.answers.items in (
       parts_dealt s texts some parts,
       All-append (λ t. has 10 t ≡ false) (map told_cut s.cuts.items) (replicate (length texts) u) (plain_cuts s.cuts.items tellable.0)
           (All-replicate (λ t. has 10 t ≡ false) (length texts) u (plain_uncut s.answer.items s.after.answers.items tellable.1)),
     )
 
-pub of_lines : (n : ℕ) (texts lines : List (List ℕ)) (r : Result Joined JoinFault) → n ≡ length texts → AreOrdered texts lines → IsJoinOf n lines r
-    → MatchResult r (λ j. AreJoinedInOrder texts j) (λ f. IsUnjoined texts f)
-of_lines n texts lines (Ok j) e o h = (
+pub of_lines : (depth : Depth) (n : ℕ) (texts lines : List (List ℕ)) (r : Result Joined JoinFault) → n ≡ length texts → AreOrdered texts lines → IsJoinOf depth n lines r
+    → MatchResult r (λ j. AreJoinedInOrder depth texts j) (λ f. IsUnjoined texts f)
+of_lines depth n texts lines (Ok j) e o h = (
   h.joined.0,
   h.joined.1,
   subst (AreDealt texts) (h.joined.2 ∙ ap (λ m. told_sweep m h.joined.0 h.joined.1) e) o.0,
   h.joined.3,
 )
-of_lines n texts lines (Err f) e o h = inr (lines, o, subst (λ m. IsLinesFault m lines f) e h.fault)
+of_lines depth n texts lines (Err f) e o h = inr (lines, o, subst (λ m. IsLinesFault m lines f) e h.fault)
 
-pub of_parts : (n : ℕ) (texts lines : List (List ℕ)) (r : Result Joined JoinFault) → n ≡ length texts → 0 < length texts
-    → ((all : List (List ℕ)) → AreOrdered texts all → lines ≡ all) → IsJoinOf n lines r → (s : Sweep) → IsTellable s → AreBodiesInOrder s texts
-    → MatchResult r (λ j. (j.text.items ≡ report_text s) × (j.is_all_or_nothing ≡ is_none (first_broken 0 s.cuts.items))) (λ f. f ≡ NoMemory)
-of_parts n texts lines r e some same h s tellable parts =
-    h.whole s tellable (same _ (parts_ordered s texts some tellable parts)
+pub of_parts : (depth : Depth) (n : ℕ) (texts lines : List (List ℕ)) (r : Result Joined JoinFault) → n ≡ length texts → 0 < length texts
+    → ((all : List (List ℕ)) → AreOrdered texts all → lines ≡ all) → IsJoinOf depth n lines r → (s : Sweep) → IsTellable depth s → AreBodiesInOrder s texts
+    → MatchResult r (λ j. (j.text.items ≡ report_text s) × (j.is_all_or_nothing ≡ are_whole s.cuts.items)) (λ f. f ≡ NoMemory)
+of_parts depth n texts lines r e some same h s tellable parts =
+    h.whole s tellable (same _ (parts_ordered depth s texts some tellable parts)
     ∙ ap (λ m. told_sweep m s.cuts.items (told_uncut s.answer.items s.after.answers.items)) (sym e))

@@ -1,21 +1,24 @@
 -- Sweeps that are told in the same lines have the same report.
-use Rattle.std.proofs.Common.{arith, ◌≡◌, ◌∙◌, inl, ℕ, suc, zero, ◌+◌, ◌-◌, ◌==◌, ◌<◌, ◌||◌, ◌&&◌, false, List, [], ◌∷◌, ◌++◌, if◌then◌else◌, length, get_or, drop, replicate, ap, sym, refl, subst, codes, append_assoc, append-nil, Some, None, Option}
-use Rattle.std.specs.Prelude.{decimal, map, max}
+use Rattle.std.proofs.Common.{arith, ◌≡◌, ◌∙◌, inl, ℕ, suc, zero, ◌+◌, ◌-◌, ◌==◌, ◌<◌, ◌||◌, ◌&&◌, false, List, [], ◌∷◌, ◌++◌, if◌then◌else◌, length, get_or, drop, replicate, ap, sym, refl, subst, codes, append_assoc, Some, None, Option}
+use Rattle.std.specs.Prelude.{decimal, is_none, map, max, min}
 use Rattle.std.proofs.lemmas.Fmt.{decimal_injective}
 use Rattle.std.specs.List.{All}
 use Rattle.std.specs.Str.{bytes_eq}
 use Rattle.std.proofs.lemmas.List.{append_cancel_left, length-drop, length-map, length-replicate}
 use Rattle.std.proofs.lemmas.List.Elements.{All-cons, All-head, All-nil, All-tail}
 use Rattle.jcard_outcomes.specs.Joins.{IsAnswerTold, IsTellable, IsUncutTold, TellCuts, joined_text}
-use Rattle.jcard_outcomes.specs.Parts.{IsCutOfWords, IsOfWords, IsReadCut, cut_tail, has, told_cut, told_sweep, told_uncut}
-use Rattle.jcard_outcomes.specs.Reports.{any_but_tries, broken_by_calls, broken_text, count_before, first_broken, in_line, is_after, is_before, is_but_tries, is_by_calls, is_refused, is_refused_at_once, lost_text, most_lost_from, no_write_text, outcome_text, report_text, row_text, rows_from, rows_text, standing_text, uncut_text, verdict_by, verdict_text, whole_text}
-use Rattle.jcard_outcomes.specs.Recoveries.{recoveries_text}
-use Rattle.jcard_outcomes.specs.declared.recoveries.Depth.TheVariants.{Zero}
+use Rattle.jcard_outcomes.specs.Parts.{IsCutOfWords, IsOfWords, IsReadCut, cut_tail, has, told_cut, told_left, told_sweep, told_uncut}
+use Rattle.jcard_outcomes.specs.Reports.{any_but_tries, are_whole, broken_by_calls, broken_text, count_before, first_broken, in_line, is_after, is_before, is_but_tries, is_by_calls, is_refused, is_refused_at_once, lost_text, most_lost_from, no_write_text, outcome_text, report_text, row_text, rows_from, rows_text, standing_text, uncut_text, verdict_by, verdict_text, whole_text}
+use Rattle.jcard_outcomes.specs.Recoveries.{difference_or, first_difference, recoveries_by, recoveries_text, same_text, ways_from}
+use Rattle.jcard_outcomes.specs.declared.recoveries.Depth.{Depth}
+use Rattle.jcard_outcomes.specs.declared.recoveries.Depth.TheVariants.{Zero, One, Two, Three}
+use Rattle.jcard_outcomes.specs.declared.recoveries.Recoveries.{Recoveries}
 use Rattle.jcard_outcomes.specs.declared.report.Sweep.{Sweep}
 use Rattle.jcard_outcomes.specs.declared.standing.Cut.{Cut}
 use Rattle.jcard_outcomes.specs.declared.standing.Standing.{Standing}
 use Rattle.jcard_outcomes.specs.declared.standing.Standing.TheVariants.{Before, BeforeButTries, After, AfterButTries, Answers, Changed, ChangedByCalls}
 use Rattle.jcard_outcomes.proofs.Dealt.{from_next}
+use Rattle.jcard_outcomes.proofs.Recovered.{left_unrecovered, told_once}
 use Rattle.jcard_outcomes.proofs.Splits.{cut_unique, decimal_lacks}
 use Rattle.jcard_outcomes.proofs.Told.{answer_of_uncut, answer_unique, by_calls_told, standing_has_no_comma, told_parts}
 
@@ -70,6 +73,7 @@ record Alike (a b : Cut) : Type 0 where
   lost : a.lost ≡ b.lost
   by_calls : is_by_calls a.standing ≡ is_by_calls b.standing
   outcome : outcome_text a ≡ outcome_text b
+  recoveries : a.recoveries ≡ b.recoveries
 
 tails_alike : (m n : ℕ) (x y : List ℕ) → m < 65536 → n < 65536 → cut_tail m x ≡ cut_tail n y → (m ≡ n) × (x ≡ y)
 tails_alike m n x y small fits e =
@@ -83,16 +87,18 @@ tails_alike m n x y small fits e =
 alike : (a b : Cut) → told_cut a ≡ told_cut b → IsReadCut a → IsReadCut b → Alike a b
 unfolding outcome_text
 alike a b e p q =
+    let once = told_once a.recoveries b.recoveries (told_left a) (told_left b) p.1.1 q.1.1 (left_unrecovered a) (left_unrecovered b) e in
     let parts = cut_unique 44 (standing_text a.standing) (standing_text b.standing) (cut_tail a.lost (in_line a.answers.items))
-    (cut_tail b.lost (in_line b.answers.items)) p.0 q.0 (sym (told_parts a) ∙ e ∙ told_parts b) in
-    let tails = tails_alike a.lost b.lost (in_line a.answers.items) (in_line b.answers.items) p.1.1 q.1.1 parts.1 in
+    (cut_tail b.lost (in_line b.answers.items)) p.0 q.0 (sym (told_parts a) ∙ once.1 ∙ told_parts b) in
+    let tails = tails_alike a.lost b.lost (in_line a.answers.items) (in_line b.answers.items) p.1.0.1 q.1.0.1 parts.1 in
     record {
       standing = parts.0;
       lost = tails.0;
-      by_calls = calls_alike a.standing b.standing parts.0 p.1.0 q.1.0;
+      by_calls = calls_alike a.standing b.standing parts.0 p.1.0.0 q.1.0.0;
       outcome = ap (λ l. l ++ standing_text a.standing ++ lost_text a.lost) tails.1
           ∙ ap (λ l. in_line b.answers.items ++ l ++ lost_text a.lost) parts.0
           ∙ ap (λ n. in_line b.answers.items ++ standing_text b.standing ++ lost_text n) tails.0;
+      recoveries = once.0;
     }
 
 -- ---- all cuts
@@ -184,6 +190,36 @@ most_alike [] (d ∷ ds) h n = absurd h
 most_alike (c ∷ cs) [] h n = absurd h
 most_alike (c ∷ cs) (d ∷ ds) h n = ap (λ l. most_lost_from (max n l) cs) h.0.lost ∙ most_alike cs ds h.1 (max n d.lost)
 
+differences_alike : (cs ds : List Cut) → AreAlike cs ds → (k : ℕ) → first_difference k cs ≡ first_difference k ds
+unfolding first_difference
+differences_alike [] [] h k = refl
+differences_alike [] (d ∷ ds) h k = absurd h
+differences_alike (c ∷ cs) [] h k = absurd h
+differences_alike (c ∷ cs) (d ∷ ds) h k = ap (λ (r : Recoveries). difference_or k r.difference (first_difference (k + 1) cs)) h.0.recoveries
+    ∙ ap (λ l. difference_or k d.recoveries.difference l) (differences_alike cs ds h.1 (k + 1))
+
+ways_alike : (cs ds : List Cut) → AreAlike cs ds → (n : ℕ) → ways_from n cs ≡ ways_from n ds
+unfolding ways_from
+ways_alike [] [] h n = refl
+ways_alike [] (d ∷ ds) h n = absurd h
+ways_alike (c ∷ cs) [] h n = absurd h
+ways_alike (c ∷ cs) (d ∷ ds) h n = ap (λ (r : Recoveries). ways_from (min (n + r.ways) 18446744073709551615) cs) h.0.recoveries
+    ∙ ways_alike cs ds h.1 (min (n + d.recoveries.ways) 18446744073709551615)
+
+found_alike : (depth : Depth) (f : Option (ℕ × ℕ)) (cs ds : List Cut) → AreAlike cs ds → recoveries_by depth f cs ≡ recoveries_by depth f ds
+found_alike depth (Some found) cs ds h = refl
+found_alike depth None cs ds h = ap (same_text depth) (ways_alike cs ds h 0)
+
+recoveries_alike : (depth : Depth) (cs ds : List Cut) → AreAlike cs ds → recoveries_text depth cs ≡ recoveries_text depth ds
+recoveries_alike Zero cs ds h = refl
+recoveries_alike One cs ds h = ap (λ f. recoveries_by One f cs) (differences_alike cs ds h 0) ∙ found_alike One (first_difference 0 ds) cs ds h
+recoveries_alike Two cs ds h = ap (λ f. recoveries_by Two f cs) (differences_alike cs ds h 0) ∙ found_alike Two (first_difference 0 ds) cs ds h
+recoveries_alike Three cs ds h = ap (λ f. recoveries_by Three f cs) (differences_alike cs ds h 0) ∙ found_alike Three (first_difference 0 ds) cs ds h
+
+wholes_alike : (cs ds : List Cut) → AreAlike cs ds → are_whole cs ≡ are_whole ds
+wholes_alike cs ds h = ap (λ f. is_none f && is_none (first_difference 0 cs)) (broken_alike cs ds h 0)
+    ∙ ap (λ f. is_none (first_broken 0 ds) && is_none f) (differences_alike cs ds h 0)
+
 verdict_alike : (f : Option ℕ) (cs ds : List Cut) → AreAlike cs ds → verdict_by f cs ≡ verdict_by f ds
 verdict_alike (Some k) cs ds h = ap (λ b. broken_text b k) (broken_calls_alike cs ds h)
 verdict_alike None cs ds h = ap (λ n. whole_text n (count_before cs) (any_but_tries cs) (most_lost_from 0 cs)) (lengths_alike cs ds h)
@@ -204,19 +240,18 @@ uncut_line : (answer answers : List ℕ) → told_uncut answer answers ++ codes 
 unfolding told_uncut
 uncut_line answer answers = simp append_assoc
 
-report_alike : (s : Sweep) (cuts : List Cut) (answer uncut : List ℕ) → AreAlike cuts s.cuts.items → answer ≡ s.answer.items
-    → uncut ≡ told_uncut s.answer.items s.after.answers.items → s.depth ≡ Zero → joined_text cuts answer uncut ≡ report_text s
-report_alike s cuts answer uncut h f e none =
-    ap (λ r. r ++ uncut ++ codes "\n" ++ verdict_text answer cuts) (all_rows_alike cuts s.cuts.items h)
-    ∙ ap (λ v. rows_text s.cuts.items ++ uncut ++ codes "\n" ++ v) (all_verdicts_alike answer cuts s.cuts.items h)
-    ∙ ap (λ a. rows_text s.cuts.items ++ uncut ++ codes "\n" ++ verdict_text a s.cuts.items) f
-    ∙ ap (λ l. l ++ verdict_text s.answer.items s.cuts.items) (append_assoc (rows_text s.cuts.items) uncut (codes "\n")
+report_alike : (depth : Depth) (s : Sweep) (cuts : List Cut) (answer uncut : List ℕ) → AreAlike cuts s.cuts.items → answer ≡ s.answer.items
+    → uncut ≡ told_uncut s.answer.items s.after.answers.items → s.depth ≡ depth → joined_text depth cuts answer uncut ≡ report_text s
+report_alike depth s cuts answer uncut h f e deep =
+    ap (λ r. r ++ uncut ++ codes "\n" ++ verdict_text answer cuts ++ recoveries_text depth cuts) (all_rows_alike cuts s.cuts.items h)
+    ∙ ap (λ v. rows_text s.cuts.items ++ uncut ++ codes "\n" ++ v ++ recoveries_text depth cuts) (all_verdicts_alike answer cuts s.cuts.items h)
+    ∙ ap (λ a. rows_text s.cuts.items ++ uncut ++ codes "\n" ++ verdict_text a s.cuts.items ++ recoveries_text depth cuts) f
+    ∙ ap (λ l. l ++ verdict_text s.answer.items s.cuts.items ++ recoveries_text depth cuts) (append_assoc (rows_text s.cuts.items) uncut (codes "\n")
     ∙ ap (λ u. rows_text s.cuts.items ++ u) (ap (λ u. u ++ codes "\n") e ∙ uncut_line s.answer.items s.after.answers.items))
-    ∙ sym (append-nil (rows_text s.cuts.items ++ uncut_text s.answer.items s.after.answers.items ++ verdict_text s.answer.items s.cuts.items))
     ∙ ap (λ r. rows_text s.cuts.items ++ uncut_text s.answer.items s.after.answers.items ++ verdict_text s.answer.items s.cuts.items ++ r)
-    (sym (ap (λ depth. recoveries_text depth s.cuts.items) none))
+    (recoveries_alike depth cuts s.cuts.items h ∙ ap (λ d. recoveries_text d s.cuts.items) (sym deep))
 
--- ---- the lines behind the cuts
+-- ---- the lines after the cuts
 
 drop_front : {A : Type 0} (a b : List A) → drop (length a) (a ++ b) ≡ b
 drop_front [] b = refl
@@ -243,7 +278,7 @@ joined_read n lines cuts uncut t e =
     let rest : t.0 ≡ replicate n uncut = sym (behind_cuts cuts t.0) ∙ ap (drop (length cuts)) (sym t.1) ∙ e in
     t.1 ∙ ap (λ l. map told_cut cuts ++ l) rest
 
--- the line behind the cuts tells of none
+-- the line after the cuts tells of none
 pub uncut_told : (n : ℕ) (lines : List (List ℕ)) (cuts : List Cut) (uncut : List ℕ) → 0 < n → TellCuts lines cuts
     → drop (length cuts) lines ≡ replicate n uncut → IsUncutTold uncut
 uncut_told n lines cuts uncut some t e =
@@ -267,9 +302,9 @@ read_cuts : (cuts : List Cut) → All IsCutOfWords cuts → All IsReadCut cuts
 read_cuts [] w = All-nil IsReadCut
 read_cuts (c ∷ cuts) w =
     let one = All-head IsCutOfWords c cuts w in
-    All-cons IsReadCut c cuts (standing_has_no_comma c.standing one.0, one) (read_cuts cuts (All-tail IsCutOfWords c cuts w))
+    All-cons IsReadCut c cuts (standing_has_no_comma c.standing one.0.0, one) (read_cuts cuts (All-tail IsCutOfWords c cuts w))
 
--- the lines behind those that tell the cuts of a sweep tell its answer
+-- the lines after those that tell the cuts of a sweep tell its answer
 pub uncut_is : (s : Sweep) (lines : List (List ℕ)) (n : ℕ) (cuts : List Cut) (uncut : List ℕ) → 0 < n
     → lines ≡ told_sweep n s.cuts.items (told_uncut s.answer.items s.after.answers.items) → map told_cut cuts ≡ map told_cut s.cuts.items
     → drop (length cuts) lines ≡ replicate n uncut → uncut ≡ told_uncut s.answer.items s.after.answers.items
@@ -281,14 +316,14 @@ uncut_is s lines n cuts uncut some e same behind =
     first_of_all n uncut u some (sym behind ∙ at)
 
 -- the report of a sweep that the lines tell is the one that is told
-pub joined_whole : (s : Sweep) (lines : List (List ℕ)) (n : ℕ) (cuts : List Cut) (answer uncut : List ℕ) → IsTellable s → 0 < n
+pub joined_whole : (depth : Depth) (s : Sweep) (lines : List (List ℕ)) (n : ℕ) (cuts : List Cut) (answer uncut : List ℕ) → IsTellable depth s → 0 < n
     → lines ≡ told_sweep n s.cuts.items (told_uncut s.answer.items s.after.answers.items)
     → All IsReadCut cuts → map told_cut cuts ≡ map told_cut s.cuts.items
     → drop (length cuts) lines ≡ replicate n uncut → IsAnswerTold answer uncut
-    → (joined_text cuts answer uncut ≡ report_text s) × (first_broken 0 cuts ≡ first_broken 0 s.cuts.items)
-joined_whole s lines n cuts answer uncut tellable some e lacking same behind told =
+    → (joined_text depth cuts answer uncut ≡ report_text s) × (are_whole cuts ≡ are_whole s.cuts.items)
+joined_whole depth s lines n cuts answer uncut tellable some e lacking same behind told =
     let alikes = all_alike cuts s.cuts.items lacking (read_cuts s.cuts.items tellable.0) same in
     let u = told_uncut s.answer.items s.after.answers.items in
     let it : uncut ≡ u = uncut_is s lines n cuts uncut some e same behind in
     let own : IsAnswerTold s.answer.items uncut = subst (IsAnswerTold s.answer.items) (sym it) (answer_of_uncut s.answer.items s.after.answers.items tellable.2) in
-    (report_alike s cuts answer uncut alikes (answer_unique uncut answer s.answer.items told own) it tellable.3, broken_alike cuts s.cuts.items alikes 0)
+    (report_alike depth s cuts answer uncut alikes (answer_unique uncut answer s.answer.items told own) it tellable.3, wholes_alike cuts s.cuts.items alikes)

@@ -7,6 +7,7 @@ pub mod PartSteps
 pub mod Splits
 pub mod Orders
 pub mod Told
+pub mod Recovered
 pub mod Dealt
 pub mod Joined
 pub mod SweepLines
@@ -17,4 +18,5 @@ pub mod CutLines
 pub mod LineReads
 pub mod Shares
 pub mod JoinEnds
+pub mod ShareLists
 pub mod PartHeads

@@ -89,7 +89,7 @@ first_other texts some none = (some, λ name x y e f. none name x e, λ i low ot
 
 -- ---- the parts of a sweep
 
--- behind the heads of the parts of a sweep stand their lines
+-- after the heads of the parts of a sweep stand their lines
 pub bodies_of_parts : (s : Sweep) (name other : List ℕ) (texts bodies : List (List ℕ)) → has 10 name ≡ false → ArePartsOf s name texts
     → AreBehindHeads other texts bodies → AreBodiesOf s bodies
 unfolding part_text
@@ -117,6 +117,13 @@ part_there s name texts plain parts i h =
       body_text part.0,
       (ap (λ k. get_or texts k []) (sym from.2) ∙ part.3 ∙ ap (λ n. head_text n ++ body_text part.0) part.2, plain),
     )
+
+-- their heads have its name
+pub name_of_parts : (s : Sweep) (name other : List ℕ) (texts bodies : List (List ℕ)) → 0 < length texts → has 10 name ≡ false → ArePartsOf s name texts
+    → AreBehindHeads other texts bodies → name ≡ other
+name_of_parts s name other texts bodies some plain parts behind =
+    let first = part_there s name texts plain parts 0 some in
+    (head_unique (get_or texts 0 []) name other first.0 (get_or bodies 0 []) first.1 (behind.each 0 some)).0
 
 -- they are all of one
 pub parts_of_one : (s : Sweep) (name : List ℕ) (texts : List (List ℕ)) (fault : HeadFault) → 0 < length texts → has 10 name ≡ false → ArePartsOf s name texts

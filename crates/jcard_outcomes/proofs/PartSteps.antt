@@ -23,7 +23,7 @@ line_more cuts i k n c text next uncut h e told = ap (λ t. t ++ lines_text (k +
     ∙ append_assoc text (line_text k (told_cut c)) (lines_text (k + n) n (drop (i + 1) cuts) uncut)
     ∙ ap (λ t. text ++ t) (sym (ap (λ l. lines_text k n l uncut) (drop_at cuts i c h e)))
 
--- behind the last one comes the line of the number that does not cut
+-- after the last one comes the line of the number that does not cut
 pub lines_end : (cuts : List Cut) (i k n : ℕ) (text uncut : List ℕ) → length cuts ≤ i
     → text ++ line_text k uncut ≡ text ++ lines_text k n (drop i cuts) uncut
 unfolding lines_text

@@ -26,7 +26,7 @@ next_mod m n some = by (cases_lt (m % n + 1) n)
         let whole : m % n + 1 ≡ n = omega (arith, mod-lt m some) in
         inr (whole, step ∙ ap (λ x. x % n) whole ∙ mod_self n)
 
--- so many numbers before the next one that belongs to part j + 1
+-- this many numbers before the next one that belongs to part j + 1
 abbrev IsAhead : ℕ → ℕ → ℕ → ℕ → Type 0
 IsAhead j n m gap = (m % n + gap ≡ j) ⊎ (m % n + gap ≡ j + n)
 

@@ -15,7 +15,7 @@ rows_same cuts i first last outcome c h e same = ap (rows_from first last outcom
     ∙ ap (λ b. if b then rows_from first (last + 1) outcome (drop (i + 1) cuts)
     else row_text first last outcome ++ rows_from (last + 1) (last + 1) (outcome_text c) (drop (i + 1) cuts)) same
 
--- one that left something else begins the next row, behind the text with the row that it ends
+-- one that left something else begins the next row, after the text with the row that it ends
 pub rows_other : (cuts : List Cut) (i first last : ℕ) (outcome : List ℕ) (c : Cut) (text next : List ℕ) → i < length cuts → c ≡ get_or cuts i c
     → bytes_eq outcome (outcome_text c) ≡ false → next ≡ text ++ row_text first last outcome
     → next ++ rows_from (last + 1) (last + 1) (outcome_text c) (drop (i + 1) cuts) ≡ text ++ rows_from first last outcome (drop i cuts)
@@ -26,7 +26,7 @@ rows_other cuts i first last outcome c text next h e other told =
     ∙ ap (λ t. text ++ t) (sym (ap (rows_from first last outcome) (drop_at cuts i c h e)
     ∙ ap (λ b. if b then rows_from first (last + 1) outcome (drop (i + 1) cuts) else row_text first last outcome ++ rest) other))
 
--- behind the last cut the row is told
+-- after the last cut the row is told
 pub rows_end : (cuts : List Cut) (i first last : ℕ) (outcome : List ℕ) → length cuts ≤ i
     → rows_from first last outcome (drop i cuts) ≡ row_text first last outcome
 unfolding rows_from

@@ -103,6 +103,6 @@ begins_not text beginning front rest more e n f = n (e ∙ ap (take (length begi
     take-append-all [] x = refl
     take-append-all (y ∷ a) x = ap (λ l. y ∷ l) (take-append-all a x)
 
--- what is left behind a place, as a slice has it
+-- what is left after a place, as a slice has it
 pub take_rest : (k : ℕ) (xs : List ℕ) → take (length xs - k) (drop k xs) ≡ drop k xs
 take_rest k xs = take_all (length xs - k) (drop k xs) (omega (arith, length-drop k xs))

@@ -1,13 +1,14 @@
 -- The lines of a sweep, by their places.
-use Rattle.std.proofs.Common.{arith, ◌≡◌, ◌∙◌, ℕ, zero, suc, ◌+◌, ◌<◌, ◌≤◌, List, [], ◌∷◌, ◌++◌, length, get_or, replicate, append_assoc, ap, sym, refl, subst, codes, Some, None}
+use Rattle.std.proofs.Common.{arith, ◌≡◌, ◌∙◌, ℕ, zero, suc, ◌+◌, ◌<◌, ◌≤◌, Bool, true, false, List, [], ◌∷◌, ◌++◌, length, get_or, replicate, append_assoc, ap, sym, refl, subst, codes, Some, None}
 use Rattle.std.specs.Prelude.{map, slice_get}
 use Rattle.std.specs.List.{All}
 use Rattle.std.proofs.lemmas.List.{get_or-replicate, length-append, length-map, length-replicate}
 use Rattle.std.proofs.lemmas.List.Elements.{All-head, All-tail}
 use Rattle.jcard_outcomes.specs.Joins.{AreTold, IsUncutTold}
-use Rattle.jcard_outcomes.specs.Parts.{IsCutOfWords, cut_tail, told_cut, told_sweep}
+use Rattle.jcard_outcomes.specs.Parts.{IsCutOfWords, cut_tail, is_one_way, told_cut, told_left, told_sweep}
 use Rattle.jcard_outcomes.specs.Reports.{in_line, standing_text}
 use Rattle.jcard_outcomes.specs.declared.standing.Cut.{Cut}
+use Rattle.jcard_outcomes.proofs.Recovered.{all_told, nothing_told}
 use Rattle.jcard_outcomes.proofs.Told.{told_parts}
 use Rattle.jcard_outcomes.specs.declared.standing.Standing.{Standing}
 use Rattle.jcard_outcomes.specs.declared.standing.Standing.TheVariants.{Before, BeforeButTries, After, AfterButTries, Answers, Changed, ChangedByCalls}
@@ -61,7 +62,7 @@ cut_line cuts u n lines i t h =
       got_words cuts i found.0 found.1 t.3,
     )
 
--- a line behind them tells of a number that does not cut
+-- a line after them tells of a number that does not cut
 pub end_line : (cuts : List Cut) (u : List ℕ) (n : ℕ) (lines : List (List ℕ)) (i : ℕ) → AreTold cuts u n lines → length cuts ≤ i → i < length lines
     → IsUncutTold (get_or lines i [])
 end_line cuts u n lines i t h small =
@@ -80,4 +81,9 @@ first_byte (ChangedByCalls d) rest e = absurd (omega (arith, e))
 
 -- no cut is told so
 pub cut_is_no_end : (c : Cut) → IsUncutTold (told_cut c) → ⊥
-cut_is_no_end c h = first_byte c.standing (44 ∷ cut_tail c.lost (in_line c.answers.items)) (ap (λ l. get_or l 0 0) (sym (told_parts c) ∙ h.1))
+cut_is_no_end c h = by (is_one_way c.recoveries) refl
+  where
+    by : (b : Bool) → is_one_way c.recoveries ≡ b → ⊥
+    by true y = first_byte c.standing (44 ∷ cut_tail c.lost (in_line c.answers.items))
+        (ap (λ l. get_or l 0 0) (sym (told_parts c) ∙ sym (nothing_told c.recoveries (told_left c) y) ∙ h.1))
+    by false n = absurd (omega (arith, ap (λ l. get_or l 0 0) (sym (all_told c.recoveries (told_left c) n) ∙ h.1)))

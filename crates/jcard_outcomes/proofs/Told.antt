@@ -5,7 +5,7 @@ use Rattle.std.proofs.lemmas.Bool.{false≢true}
 use Rattle.std.proofs.lemmas.List.{append_cancel_right, length-append}
 use Rattle.std.proofs.lemmas.List.Folds.{list_any-append}
 use Rattle.jcard_outcomes.specs.Joins.{IsAnswerTold}
-use Rattle.jcard_outcomes.specs.Parts.{AreWords, IsCutOfWords, IsOfWords, cut_tail, has, told_cut, told_uncut}
+use Rattle.jcard_outcomes.specs.Parts.{AreWords, IsLeftOfWords, IsOfWords, cut_tail, has, told_left, told_uncut}
 use Rattle.jcard_outcomes.specs.Reports.{changed_text, in_line, is_by_calls, standing_text}
 use Rattle.jcard_outcomes.specs.declared.heaps.Difference.{Difference}
 use Rattle.jcard_outcomes.specs.declared.standing.Cut.{Cut}
@@ -13,7 +13,7 @@ use Rattle.jcard_outcomes.specs.declared.standing.Standing.{Standing}
 use Rattle.jcard_outcomes.specs.declared.standing.Standing.TheVariants.{Before, BeforeButTries, After, AfterButTries, Answers, Changed, ChangedByCalls}
 use Rattle.jcard_outcomes.proofs.Splits.{cut_again, cut_unique, decimal_lacks, not_lacking, rest_again}
 
--- ---- words behind labels
+-- ---- words after labels
 
 pub no_space : (text label rest : List ℕ) → text ≡ label ++ rest → has 32 rest ≡ false → (n : ℕ) (tail : List ℕ) → n < 65536
     → text ≡ label ++ (decimal n ++ 32 ∷ tail) → ⊥
@@ -213,8 +213,8 @@ in_line_same (x ∷ xs) n = same_step x xs (x == 10) refl n (in_line_same xs)
 
 -- ---- cuts
 
-pub told_parts : (c : Cut) → told_cut c ≡ standing_text c.standing ++ 44 ∷ cut_tail c.lost (in_line c.answers.items)
-unfolding told_cut
+pub told_parts : (c : Cut) → told_left c ≡ standing_text c.standing ++ 44 ∷ cut_tail c.lost (in_line c.answers.items)
+unfolding told_left
 told_parts c = simp append_assoc
 
 tail_in_one_line : (lost : ℕ) (answers : List ℕ) → lost < 65536 → has 10 answers ≡ false → has 10 (44 ∷ cut_tail lost answers) ≡ false
@@ -222,23 +222,23 @@ tail_in_one_line lost answers small h =
     lacks_both 10 (decimal lost) (32 ∷ (codes "words lost, answers " ++ answers)) (decimal_lacks 10 lost (inl (omega arith)) (omega (arith, small)))
     (lacks_both 10 (codes "words lost, answers ") answers refl h)
 
-pub told_in_one_line : (c : Cut) → IsCutOfWords c → has 10 (told_cut c) ≡ false
+pub told_in_one_line : (c : Cut) → IsLeftOfWords c → has 10 (told_left c) ≡ false
 told_in_one_line c words = ap (has 10) (told_parts c)
     ∙ lacks_both 10 (standing_text c.standing) (44 ∷ cut_tail c.lost (in_line c.answers.items)) (standing_in_one_line c.standing words.0)
     (tail_in_one_line c.lost (in_line c.answers.items) words.1 (in_line_has_none c.answers.items))
 
 -- no cut is told in parts that are none
 pub no_parts : (told : List ℕ) → ((standing answers : List ℕ) (lost : ℕ) → lost < 65536 → told ≡ standing ++ 44 ∷ cut_tail lost answers
-    → has 44 standing ≡ false → ⊥) → (c : Cut) → IsCutOfWords c → told ≡ told_cut c → ⊥
+    → has 44 standing ≡ false → ⊥) → (c : Cut) → IsLeftOfWords c → told ≡ told_left c → ⊥
 no_parts told none c words e = none (standing_text c.standing) (in_line c.answers.items) c.lost words.1 (e ∙ told_parts c) (standing_has_no_comma c.standing words.0)
 
 pub no_cut : (told standing answers : List ℕ) (lost : ℕ) → told ≡ standing ++ 44 ∷ cut_tail lost answers → has 44 standing ≡ false
-    → ((s : Standing) → IsOfWords s → standing ≡ standing_text s → ⊥) → (c : Cut) → IsCutOfWords c → told ≡ told_cut c → ⊥
+    → ((s : Standing) → IsOfWords s → standing ≡ standing_text s → ⊥) → (c : Cut) → IsLeftOfWords c → told ≡ told_left c → ⊥
 no_cut told standing answers lost e lacking none c words h =
     none c.standing words.0 ((cut_again 44 told standing (standing_text c.standing) _ _ e lacking (h ∙ told_parts c) (standing_has_no_comma c.standing words.0)).0)
 
 pub cut_there : (told standing : List ℕ) (c : Cut) → told ≡ standing ++ 44 ∷ cut_tail c.lost c.answers.items → standing ≡ standing_text c.standing
-    → has 10 told ≡ false → told ≡ told_cut c
+    → has 10 told ≡ false → told ≡ told_left c
 cut_there told standing c e f n =
     let tail : has 10 (44 ∷ cut_tail c.lost c.answers.items) ≡ false =
     end_lacks 10 standing (44 ∷ cut_tail c.lost c.answers.items) (ap (has 10) (sym e) ∙ n) in

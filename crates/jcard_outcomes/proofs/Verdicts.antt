@@ -13,7 +13,7 @@ verdict_more rows sweeps i s text next h e told = ap (λ t. t ++ verdicts_text r
     ∙ append_assoc text (line_verdict_text rows s) (verdicts_text rows (drop (i + 1) sweeps))
     ∙ ap (λ t. text ++ t) (sym (ap (verdicts_text rows) (drop_at sweeps i s h e)))
 
--- behind the last none is left
+-- after the last none is left
 pub verdicts_end : (rows : Bool) (sweeps : List LineSweep) (i : ℕ) (text : List ℕ) → length sweeps ≤ i → text ≡ text ++ verdicts_text rows (drop i sweeps)
 unfolding verdicts_text
 verdicts_end rows sweeps i text h = sym (ap (λ t. text ++ t) (ap (verdicts_text rows) (drop_all i sweeps h)) ∙ append-nil text)

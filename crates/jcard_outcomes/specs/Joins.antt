@@ -1,16 +1,16 @@
 -- What the texts of all parts of a sweep are joined to.
-use Rattle.std.specs.Prelude.{ℕ, ◌≡◌, ◌⊎◌, ◌+◌, ◌*◌, ◌%◌, ◌<◌, ◌≤◌, false, List, [], ◌∷◌, ◌++◌, All, map, length, codes, is_none, Option, Some, None, Result, Ok, Err, slice_get, slice_set, IfErr, IfOk, MatchResult}
+use Rattle.std.specs.Prelude.{ℕ, ◌≡◌, ◌⊎◌, ◌+◌, ◌*◌, ◌%◌, ◌<◌, ◌≤◌, false, List, [], ◌∷◌, ◌++◌, All, map, length, codes, Option, Some, None, Result, Ok, Err, slice_get, slice_set, IfErr, IfOk, MatchResult}
 use Rattle.std.specs.List.{slice_index_or}
 use Rattle.std.specs.Borrow.{Bor}
 use Rattle.jcard_outcomes.specs.Orders.{AreInOrder, ArePlaces, AreUnplaced}
-use Rattle.jcard_outcomes.specs.Parts.{AreDealt, IsCutOfWords, IsReadCut, body_text, dealt, has, line_text, part_text, told_cut, told_sweep, told_uncut}
-use Rattle.jcard_outcomes.specs.Reports.{first_broken, report_text, rows_text, verdict_text}
+use Rattle.jcard_outcomes.specs.Parts.{AreDealt, IsCutOfWords, IsReadCut, body_text, cut_label, dealt, has, line_text, part_text, told_cut, told_sweep, told_uncut}
+use Rattle.jcard_outcomes.specs.Reports.{are_whole, report_text, rows_text, verdict_text}
 use Rattle.jcard_outcomes.specs.declared.join_fault.JoinFault.{JoinFault}
 use Rattle.jcard_outcomes.specs.declared.join_fault.JoinFault.TheVariants.{BadLine, Missing, NoMemory, OtherSweep, Twice}
 use Rattle.jcard_outcomes.specs.declared.join.Joined.{Joined}
 use Rattle.jcard_outcomes.specs.declared.part.Part.{Part}
-use Rattle.jcard_outcomes.specs.Recoveries.{first_difference}
-use Rattle.jcard_outcomes.specs.declared.recoveries.Depth.TheVariants.{Zero}
+use Rattle.jcard_outcomes.specs.Recoveries.{recoveries_text}
+use Rattle.jcard_outcomes.specs.declared.recoveries.Depth.{Depth}
 use Rattle.jcard_outcomes.specs.declared.report.Sweep.{Sweep}
 use Rattle.jcard_outcomes.specs.declared.standing.Cut.{Cut}
 
@@ -58,23 +58,23 @@ TellCuts lines cuts = (rest : List (List ℕ)) × (lines ≡ map told_cut cuts +
 abbrev pub AreTold : List Cut → List ℕ → ℕ → List (List ℕ) → Type 0
 AreTold cuts uncut n lines = (0 < n) × (lines ≡ told_sweep n cuts uncut) × IsUncutTold uncut × All IsCutOfWords cuts
 
--- the report of these cuts, with this line of the command that is not cut, which tells this answer
-abbrev pub joined_text : List Cut → List ℕ → List ℕ → List ℕ
-joined_text cuts answer uncut = rows_text cuts ++ uncut ++ codes "\n" ++ verdict_text answer cuts
+-- the report of these cuts, after which as many recoveries were cut, with this line of the command that is not cut, which tells this answer
+abbrev pub joined_text : Depth → List Cut → List ℕ → List ℕ → List ℕ
+joined_text depth cuts answer uncut = rows_text cuts ++ uncut ++ codes "\n" ++ verdict_text answer cuts ++ recoveries_text depth cuts
 
--- that is the report, and says whether each cut was all or nothing
-abbrev pub IsReportOf : List Cut → List ℕ → Joined → Type 0
-IsReportOf cuts uncut joined = (answer : List ℕ) × IsAnswerTold answer uncut × (joined.text.items ≡ joined_text cuts answer uncut)
-    × (joined.is_all_or_nothing ≡ is_none (first_broken 0 cuts))
+-- that is the report, and says whether each cut was all or nothing, and no recovery made a difference
+abbrev pub IsReportOf : Depth → List Cut → List ℕ → Joined → Type 0
+IsReportOf depth cuts uncut joined = (answer : List ℕ) × IsAnswerTold answer uncut × (joined.text.items ≡ joined_text depth cuts answer uncut)
+    × (joined.is_all_or_nothing ≡ are_whole cuts)
 
 -- these texts, which have no heads, tell a sweep in parts, from the first on, and this is its report
-abbrev pub AreJoinedInOrder : List (List ℕ) → Joined → Type 0
-AreJoinedInOrder texts joined = (cuts : List Cut) × (uncut : List ℕ) × AreDealt texts (told_sweep (length texts) cuts uncut)
-    × IsReportOf cuts uncut joined
+abbrev pub AreJoinedInOrder : Depth → List (List ℕ) → Joined → Type 0
+AreJoinedInOrder depth texts joined = (cuts : List Cut) × (uncut : List ℕ) × AreDealt texts (told_sweep (length texts) cuts uncut)
+    × IsReportOf depth cuts uncut joined
 
 -- these texts, in the order of the lines with which they begin, do so
-abbrev pub AreJoined : List (List ℕ) → Joined → Type 0
-AreJoined texts joined = (ordered : List (List ℕ)) × AreInOrder texts ordered × AreJoinedInOrder ordered joined
+abbrev pub AreJoined : Depth → List (List ℕ) → Joined → Type 0
+AreJoined depth texts joined = (ordered : List (List ℕ)) × AreInOrder cut_label texts ordered × AreJoinedInOrder depth ordered joined
 
 -- the line of the command that is not cut tells no answer; or memory was refused
 abbrev pub IsNoReport : List Cut → List ℕ → JoinFault → Type 0
@@ -87,7 +87,7 @@ abbrev pub IsBadLine : List (List ℕ) → ℕ → Type 0
 IsBadLine lines m = (m < length lines) × ((c : Cut) → IsCutOfWords c → slice_index_or lines m [] ≡ told_cut c → ⊥)
     × ((answer : List ℕ) → IsAnswerTold answer (slice_index_or lines m []) → ⊥)
 
--- this line stands behind one that tells of no cut, and is another, or is one more than there are parts
+-- this line stands after one that tells of no cut, and is another, or is one more than there are parts
 abbrev pub IsOtherLine : ℕ → List (List ℕ) → ℕ → Type 0
 IsOtherLine n lines m = (first : ℕ) × IsUncutTold (slice_index_or lines first []) × (first ≤ m) × (m < length lines)
     × ((first + n ≤ m) ⊎ (slice_index_or lines m [] ≡ slice_index_or lines first [] → ⊥))
@@ -106,7 +106,7 @@ IsNoCut lines NoMemory = Unit {0}
 IsNoCut lines (BadLine m) = IsBadLine lines m
 IsNoCut lines other = ⊥
 
--- the lines behind so many are not n that are the same: there are fewer; or one is another, or one more than n
+-- the lines after this many are not n that are the same: there are fewer; or one is another, or one more than n
 abbrev pub IsNoEnd : ℕ → ℕ → List (List ℕ) → JoinFault → Type 0
 IsNoEnd n count lines (Missing m) = (m ≡ length lines) × (length lines < count + n)
 IsNoEnd n count lines (OtherSweep m) = (count ≤ m) × (m < length lines)
@@ -130,30 +130,29 @@ IsUnjoined texts fault = IsNextFault texts fault ⊎ ((lines : List (List ℕ)) 
 
 -- why texts are not joined: the order of their beginnings has a gap, or two of them begin so; or they begin in their order
 abbrev pub IsJoinFault : List (List ℕ) → JoinFault → Type 0
-IsJoinFault texts fault = AreUnplaced texts fault ⊎ ((ordered : List (List ℕ)) × AreInOrder texts ordered × IsUnjoined ordered fault)
+IsJoinFault texts fault = AreUnplaced cut_label texts fault ⊎ ((ordered : List (List ℕ)) × AreInOrder cut_label texts ordered × IsUnjoined ordered fault)
 
--- a sweep is told in lines: its differences are of words, its answer is of one line and has no colon, and no recovery was cut, so that
--- none made a difference
-abbrev pub IsTellable : Sweep → Type 0
-IsTellable s = All IsCutOfWords s.cuts.items × (has 10 s.answer.items ≡ false) × (has 58 s.answer.items ≡ false) × (s.depth ≡ Zero)
-    × (first_difference 0 s.cuts.items ≡ None)
+-- a sweep is told in lines: its differences are of words, its recoveries are counted, its answer is of one line and has no colon, and recoveries
+-- were cut as deep as this
+abbrev pub IsTellable : Depth → Sweep → Type 0
+IsTellable depth s = All IsCutOfWords s.cuts.items × (has 10 s.answer.items ≡ false) × (has 58 s.answer.items ≡ false) × (s.depth ≡ depth)
 
 -- the lines of n parts tell a sweep, and this is its report; where they are those of a sweep, it is that of the sweep
-pub record IsJoinOf (n : ℕ) (lines : List (List ℕ)) (result : Result Joined JoinFault) : Type 0 where
+pub record IsJoinOf (depth : Depth) (n : ℕ) (lines : List (List ℕ)) (result : Result Joined JoinFault) : Type 0 where
   pub fault : IfErr result (λ f. IsLinesFault n lines f)
   pub joined : IfOk result (λ j. (cuts : List Cut) × (uncut : List ℕ) × (lines ≡ told_sweep n cuts uncut)
-      × IsReportOf cuts uncut j)
-  pub whole : (s : Sweep) → IsTellable s → lines ≡ told_sweep n s.cuts.items (told_uncut s.answer.items s.after.answers.items)
-      → MatchResult result (λ j. (j.text.items ≡ report_text s) × (j.is_all_or_nothing ≡ is_none (first_broken 0 s.cuts.items))) (λ fault. fault ≡ NoMemory)
+      × IsReportOf depth cuts uncut j)
+  pub whole : (s : Sweep) → IsTellable depth s → lines ≡ told_sweep n s.cuts.items (told_uncut s.answer.items s.after.answers.items)
+      → MatchResult result (λ j. (j.text.items ≡ report_text s) × (j.is_all_or_nothing ≡ are_whole s.cuts.items)) (λ fault. fault ≡ NoMemory)
 
 -- the same of lines that tell these cuts
-pub record IsJoinOfCuts (n : ℕ) (lines : List (List ℕ)) (cuts : List Cut) (result : Result Joined JoinFault) : Type 0 where
+pub record IsJoinOfCuts (depth : Depth) (n : ℕ) (lines : List (List ℕ)) (cuts : List Cut) (result : Result Joined JoinFault) : Type 0 where
   pub fault : IfErr result (λ f. IsLinesFault n lines f)
   pub joined : IfOk result (λ j. (uncut : List ℕ) × (lines ≡ told_sweep n cuts uncut)
-      × IsReportOf cuts uncut j)
-  pub whole : (s : Sweep) → IsTellable s → lines ≡ told_sweep n s.cuts.items (told_uncut s.answer.items s.after.answers.items)
+      × IsReportOf depth cuts uncut j)
+  pub whole : (s : Sweep) → IsTellable depth s → lines ≡ told_sweep n s.cuts.items (told_uncut s.answer.items s.after.answers.items)
       → map told_cut cuts ≡ map told_cut s.cuts.items
-      → MatchResult result (λ j. (j.text.items ≡ report_text s) × (j.is_all_or_nothing ≡ is_none (first_broken 0 s.cuts.items))) (λ fault. fault ≡ NoMemory)
+      → MatchResult result (λ j. (j.text.items ≡ report_text s) × (j.is_all_or_nothing ≡ are_whole s.cuts.items)) (λ fault. fault ≡ NoMemory)
 
 -- part holds each n-th of these cuts, from this place on
 abbrev pub IsEvery : ℕ → ℕ → List Cut → List Cut → Type 0

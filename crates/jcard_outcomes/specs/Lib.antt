@@ -6,3 +6,5 @@ pub mod Orders
 pub mod Parts
 pub mod Joins
 pub mod SweepHeads
+pub mod CommandShares
+pub mod SweepKinds

@@ -1,10 +1,11 @@
 -- Parts of a sweep: what each tells, and what all of them tell together.
-use Rattle.std.specs.Prelude.{ℕ, ◌≡◌, ◌+◌, ◌%◌, ◌<◌, ◌==◌, Bool, false, List, [], ◌∷◌, ◌++◌, map, replicate, length, codes, decimal, if◌then◌else◌}
+use Rattle.std.specs.Prelude.{ℕ, ◌≡◌, ◌+◌, ◌%◌, ◌<◌, ◌^◌, ◌==◌, ◌&&◌, Bool, false, List, [], ◌∷◌, ◌++◌, map, replicate, length, codes, decimal, Option, Some, None, IfSome, is_none, if◌then◌else◌}
 use Rattle.std.specs.List.{list_any, slice_index_or}
 use Rattle.jcard_outcomes.specs.Reports.{in_line, standing_text, words_lost_text}
 use Rattle.jcard_outcomes.specs.declared.heaps.Difference.{Difference}
 use Rattle.jcard_outcomes.specs.declared.part.Part.{Part}
 use Rattle.jcard_outcomes.specs.declared.part.Share.{Share}
+use Rattle.jcard_outcomes.specs.declared.recoveries.Recoveries.{Recoveries}
 use Rattle.jcard_outcomes.specs.declared.standing.Cut.{Cut}
 use Rattle.jcard_outcomes.specs.declared.standing.Standing.{Standing}
 use Rattle.jcard_outcomes.specs.declared.standing.Standing.TheVariants.{Changed, ChangedByCalls}
@@ -15,19 +16,44 @@ use Rattle.jcard_outcomes.specs.declared.standing.Standing.TheVariants.{Changed,
 abbrev pub has : ℕ → List ℕ → Bool
 has byte text = list_any (λ x. x == byte) text
 
+-- how a line begins that is about number k of what the label says
+unfoldable pub numbered : List ℕ → ℕ → List ℕ
+numbered label k = label ++ decimal k ++ codes ": "
+
+-- the label of lines about cuts
+abbrev pub cut_label : List ℕ
+cut_label = codes "cut after "
+
 -- how the line begins about the power cut after k writes
-unfoldable pub line_start : ℕ → List ℕ
-line_start k = codes "cut after " ++ decimal k ++ codes ": "
+abbrev pub line_start : ℕ → List ℕ
+line_start k = numbered cut_label k
 
 -- that line, which tells this
 abbrev pub line_text : ℕ → List ℕ → List ℕ
 line_text k told = line_start k ++ (told ++ codes "\n")
 
--- what it tells of a cut: how what is left stands, how many words are lost, and the answers
-unfoldable pub told_cut : Cut → List ℕ
-told_cut c = standing_text c.standing ++ codes ", " ++ words_lost_text c.lost ++ codes ", answers " ++ in_line c.answers.items
+-- after how many writes the last of the recoveries was cut that made a difference, if any did
+abbrev pub difference_told : Option ℕ → List ℕ
+difference_told None = codes "alike"
+difference_told (Some n) = decimal n
 
--- what stands behind the first comma of it
+-- recoveries were tried in one way, which made no difference, as where none is cut
+abbrev pub is_one_way : Recoveries → Bool
+is_one_way r = (r.ways == 1) && is_none r.difference
+
+-- what a line tells of the recoveries that were cut after a cut, unless they are such: in how many ways, and of a difference
+abbrev pub recovered_told : Recoveries → List ℕ
+recovered_told r = if is_one_way r then [] else codes "recoveries " ++ (decimal r.ways ++ 32 ∷ (difference_told r.difference ++ 44 ∷ codes " "))
+
+-- what it tells of what a cut left: how that stands, how many words are lost, and the answers
+unfoldable pub told_left : Cut → List ℕ
+told_left c = standing_text c.standing ++ codes ", " ++ words_lost_text c.lost ++ codes ", answers " ++ in_line c.answers.items
+
+-- what it tells of a cut
+abbrev pub told_cut : Cut → List ℕ
+told_cut c = recovered_told c.recoveries ++ told_left c
+
+-- what stands after the first comma of it
 abbrev pub cut_tail : ℕ → List ℕ → List ℕ
 cut_tail lost answers = codes " " ++ (decimal lost ++ 32 ∷ (codes "words lost, answers " ++ answers))
 
@@ -35,7 +61,7 @@ cut_tail lost answers = codes " " ++ (decimal lost ++ 32 ∷ (codes "words lost,
 unfoldable pub told_uncut : List ℕ → List ℕ → List ℕ
 told_uncut answer answers = codes "no cut, answer " ++ (answer ++ codes ": " ++ in_line answers ++ codes "as after")
 
--- the lines of these cuts, which are the one after k writes and each n-th behind it, and of the first such number that does not cut
+-- the lines of these cuts, which are the one after k writes and each n-th after it, and of the first such number that does not cut
 unfoldable pub lines_text : ℕ → ℕ → List Cut → List ℕ → List ℕ
 lines_text k n [] uncut = line_text k uncut
 lines_text k n (c ∷ cuts) uncut = line_text k (told_cut c) ++ lines_text (k + n) n cuts uncut
@@ -44,7 +70,7 @@ lines_text k n (c ∷ cuts) uncut = line_text k (told_cut c) ++ lines_text (k + 
 abbrev pub head_text : List ℕ → List ℕ
 head_text name = codes "sweep " ++ (name ++ codes "\n")
 
--- what a part tells behind its head
+-- what a part tells after its head
 abbrev pub body_text : Part → List ℕ
 body_text p = lines_text p.first p.step p.sweep.cuts.items (told_uncut p.sweep.answer.items p.sweep.after.answers.items)
 
@@ -54,7 +80,7 @@ part_text p = head_text p.name.items ++ body_text p
 
 -- ---- all parts
 
--- of these lines, which are the one about k writes and those behind it: those that part j + 1 of n has, to which each number belongs
+-- of these lines, which are the one about k writes and those after it: those that part j + 1 of n has, to which each number belongs
 -- whose remainder by n is j
 unfoldable pub dealt : ℕ → ℕ → ℕ → List (List ℕ) → List ℕ
 dealt j n k [] = []
@@ -77,9 +103,21 @@ IsOfWords (Changed d) = AreWords d
 IsOfWords (ChangedByCalls d) = AreWords d
 IsOfWords other = Unit {0}
 
--- so are those of a cut, and the words that it lost are as many as an image may have
+-- a text tells of no recoveries at its beginning
+abbrev pub IsUnrecovered : List ℕ → Type 0
+IsUnrecovered text = (more : List ℕ) → text ≡ codes "recoveries " ++ more → ⊥
+
+-- so are those of what a cut left, and the words that it lost are as many as an image may have
+abbrev pub IsLeftOfWords : Cut → Type 0
+IsLeftOfWords c = IsOfWords c.standing × (c.lost < 65536)
+
+-- recoveries are counted: their ways by a u64, and the writes of one by a word
+abbrev pub AreCounted : Recoveries → Type 0
+AreCounted r = (r.ways < 2 ^ 64) × IfSome r.difference (λ n. n < 65536)
+
+-- a cut left words, and the recoveries after it are counted
 abbrev pub IsCutOfWords : Cut → Type 0
-IsCutOfWords c = IsOfWords c.standing × (c.lost < 65536)
+IsCutOfWords c = IsLeftOfWords c × AreCounted c.recoveries
 
 -- a cut that a line tells
 abbrev pub IsReadCut : Cut → Type 0
@@ -87,6 +125,6 @@ IsReadCut c = (has 44 (standing_text c.standing) ≡ false) × IsCutOfWords c
 
 -- ---- the name of a part
 
--- the text `I/N` names part I of N: its first cut lets I - 1 writes pass, and each N-th number behind it belongs to it
+-- the text `I/N` names part I of N: its first cut lets I - 1 writes pass, and each N-th number after it belongs to it
 abbrev pub IsShareText : List ℕ → Share → Type 0
 IsShareText text s = (text ≡ decimal (s.first + 1) ++ 47 ∷ decimal s.step) × (s.first < s.step) × (s.step < 65536)

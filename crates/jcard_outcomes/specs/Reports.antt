@@ -16,11 +16,11 @@ use Rattle.jcard_outcomes.specs.declared.standing.Standing.TheVariants.{Before, 
 
 -- ---- rows
 
--- answers in one line: each with a space behind it
+-- answers in one line: each with a space after it
 abbrev pub in_line : List ℕ → List ℕ
 in_line text = map (λ c. if c == 10 then 32 else c) text
 
--- a number behind what it is
+-- a number after what it is
 abbrev pub labelled : List ℕ → ℕ → List ℕ
 labelled label n = label ++ decimal n
 
@@ -38,7 +38,7 @@ standing_text Answers = codes "with other answers"
 standing_text (Changed d) = changed_text d
 standing_text (ChangedByCalls d) = changed_text d ++ codes " by non-atomic calls"
 
--- so many words
+-- this many words
 abbrev pub words_lost_text : ℕ → List ℕ
 words_lost_text lost = decimal lost ++ codes " words lost"
 
@@ -54,7 +54,7 @@ outcome_text c = in_line c.answers.items ++ standing_text c.standing ++ lost_tex
 abbrev pub numbers_text : ℕ → ℕ → List ℕ
 numbers_text first last = if first == last then decimal first else decimal first ++ codes ".." ++ decimal last
 
--- what a row tells behind its numbers
+-- what a row tells after its numbers
 abbrev pub ended : List ℕ → List ℕ
 ended outcome = codes ": " ++ outcome ++ codes "\n"
 
@@ -112,7 +112,7 @@ unfoldable pub any_but_tries : List Cut → Bool
 any_but_tries [] = false
 any_but_tries (c ∷ more) = is_but_tries c.standing || any_but_tries more
 
--- the first, counted from so many on, that left neither what was before nor what comes after
+-- the first, counted from this many on, that left neither what was before nor what comes after
 unfoldable pub first_broken : ℕ → List Cut → Option ℕ
 first_broken k [] = None
 first_broken k (c ∷ more) = if is_before c.standing || is_after c.standing then first_broken (k + 1) more else Some k
@@ -122,7 +122,7 @@ unfoldable pub broken_by_calls : List Cut → Bool
 broken_by_calls [] = false
 broken_by_calls (c ∷ more) = if is_before c.standing || is_after c.standing then broken_by_calls more else is_by_calls c.standing
 
--- the most words that one of them lost, or so many
+-- the most words that one of them lost, or this many
 unfoldable pub most_lost_from : ℕ → List Cut → ℕ
 most_lost_from n [] = n
 most_lost_from n (c ∷ more) = most_lost_from (max n c.lost) more
@@ -144,7 +144,7 @@ most_lost_text most = if most == 0 then codes "\n" else codes ", at most " ++ wo
 abbrev pub claim_text : Bool → List ℕ
 claim_text tries = codes "all or nothing" ++ (if tries then codes " but for PIN tries: " else codes ": ")
 
--- so many cuts
+-- this many cuts
 abbrev pub cuts_text : ℕ → List ℕ
 cuts_text total = decimal total ++ (if total == 1 then codes " cut, " else codes " cuts, ")
 
@@ -197,7 +197,7 @@ line_command_text n command = codes "line " ++ decimal n ++ codes ": " ++ comman
 abbrev pub line_answer_text : ℕ → List ℕ → List ℕ → List ℕ
 line_answer_text n command answer = line_command_text n command ++ codes " = " ++ answer ++ codes ": "
 
--- what is told of recoveries behind the cuts of a command in a line, if any were cut
+-- what is told of recoveries after the cuts of a command in a line, if any were cut
 abbrev pub line_recoveries_text : Depth → List ℕ → List Cut → List ℕ
 line_recoveries_text Zero head cuts = []
 line_recoveries_text depth head cuts = head ++ recoveries_text depth cuts

@@ -1,11 +1,11 @@
 //! Joining the texts of all parts of a sweep to its report.
-ghost use Rattle.std.specs.Prelude.{◌≡◌, ◌++◌, ◌∷◌, ◌<◌, ◌≤◌, ◌↔◌, [], ℕ, List, All, map, drop, replicate, false, length, slice_index_or, is_none, IsTrue, IfOk, IfErr, OnOk, MatchOption, MatchResult};
+ghost use Rattle.std.specs.Prelude.{◌≡◌, ◌++◌, ◌∷◌, ◌<◌, ◌≤◌, ◌↔◌, [], ℕ, List, All, map, drop, replicate, false, length, slice_index_or, IsTrue, IfOk, IfErr, OnOk, MatchOption, MatchResult};
 ghost use Rattle.std.specs.Bool.{MatchBool};
 ghost use Rattle.std.specs.Borrow.{Bor};
 ghost use Rattle.jcard_outcomes.specs.Joins.{AreBodiesInOrder, AreBodiesOf, AreJoined, AreJoinedInOrder, AreOrdered, AreTold, IsAnswerTold, IsHeadFault};
 ghost use Rattle.jcard_outcomes.specs.Joins.{IsJoinFault, IsJoinOf, IsJoinOfCuts, IsNextFault, IsNextLine, IsNoCut, IsNoEnd, IsNoReport, IsReportOf, IsTellable, IsUncutTold, IsUnjoined, TellCuts, joined_text};
 ghost use Rattle.jcard_outcomes.specs.Parts.{has, line_start, told_cut};
-ghost use Rattle.jcard_outcomes.specs.Reports.{first_broken, report_text};
+ghost use Rattle.jcard_outcomes.specs.Reports.{are_whole, report_text};
 ghost use Rattle.jcard_outcomes.specs.declared.report.Sweep.{Sweep as ASweep};
 ghost use Rattle.jcard_outcomes.specs.declared.standing.Cut.{Cut as ACut};
 
@@ -13,67 +13,75 @@ use crate::join_fault::JoinFault;
 use crate::line::{after, cut_of, cut_once};
 use crate::order::{in_order, push_text, text_at};
 use crate::part::push_line_start;
+use crate::recoveries::{Depth, push_recoveries};
 use crate::rows::{is_same, push_rows};
 use crate::standing::Cut;
-use crate::verdict::{is_each_whole, push_verdict};
+use crate::verdict::{is_all_or_nothing, push_verdict};
 use std::alloc::{AllocError, Global};
 
-/// The report of a sweep, and whether each of its cuts was all or nothing.
+/// The report of a sweep, and whether each of its cuts was all or nothing, and no recovery made a difference.
 #[derive(Drop)]
 pub struct Joined {
     pub text: Vec<u8>,
     pub is_all_or_nothing: bool,
 }
 
-/// Joins what the texts of all parts of a sweep tell behind their heads, in any order, to what one run tells of it.
-pub fn join(alloc: Global, texts: &[&[u8]]) -> Result<Joined, JoinFault>
+/// Joins what the texts of all parts of a sweep tell after their heads, in any order, to what one run tells of it. Recoveries were cut
+/// as deep as this.
+pub fn join(alloc: Global, depth: Depth, texts: &[&[u8]]) -> Result<Joined, JoinFault>
     requires { 0 < length texts.now }
     ensures joined { MatchResult result
-        (λ joined. AreJoined (map (λ (t : Bor (List ℕ)). t.now) texts.now) joined)
+        (λ joined. AreJoined depth (map (λ (t : Bor (List ℕ)). t.now) texts.now) joined)
         (λ fault. IsJoinFault (map (λ (t : Bor (List ℕ)). t.now) texts.now) fault) }
-    ensures parts { (sweep : ASweep) → IsTellable sweep
+    ensures parts { (sweep : ASweep) → IsTellable depth sweep
         → AreBodiesOf sweep (map (λ (t : Bor (List ℕ)). t.now) texts.now) → MatchResult result (λ joined. (joined.text.items ≡ report_text sweep)
-        × (joined.is_all_or_nothing ≡ is_none (first_broken 0 sweep.cuts.items)))
+        × (joined.is_all_or_nothing ≡ are_whole sweep.cuts.items))
         (λ fault. fault ≡ JoinFault.NoMemory) }
 {
-    match in_order(alloc, texts) {
-        Ok(ordered) => joined_in_order(alloc, &ordered),
+    match in_order(alloc, b"cut after ", texts) {
+        Ok(ordered) => joined_in_order(alloc, depth, &ordered),
         Err(fault) => Err(fault),
     }
 }
 
 // Joins them, from the first part on.
-fn joined_in_order(alloc: Global, texts: &[&[u8]]) -> Result<Joined, JoinFault>
+fn joined_in_order(alloc: Global, depth: Depth, texts: &[&[u8]]) -> Result<Joined, JoinFault>
     requires { 0 < length texts.now }
     ensures joined { MatchResult result
-        (λ joined. AreJoinedInOrder (map (λ (t : Bor (List ℕ)). t.now) texts.now) joined)
+        (λ joined. AreJoinedInOrder depth (map (λ (t : Bor (List ℕ)). t.now) texts.now) joined)
         (λ fault. IsUnjoined (map (λ (t : Bor (List ℕ)). t.now) texts.now) fault) }
-    ensures parts { (sweep : ASweep) → IsTellable sweep
+    ensures parts { (sweep : ASweep) → IsTellable depth sweep
         → AreBodiesInOrder sweep (map (λ (t : Bor (List ℕ)). t.now) texts.now) → MatchResult result (λ joined. (joined.text.items ≡ report_text sweep)
-        × (joined.is_all_or_nothing ≡ is_none (first_broken 0 sweep.cuts.items)))
+        × (joined.is_all_or_nothing ≡ are_whole sweep.cuts.items))
         (λ fault. fault ≡ JoinFault.NoMemory) }
 {
     match ordered(alloc, texts) {
-        Ok(lines) => joined_lines(alloc, &lines, texts.len()),
+        Ok(lines) => joined_lines(alloc, depth, &lines, texts.len()),
         Err(fault) => Err(fault),
     }
 }
 
-// Joins the lines of so many parts.
-fn joined_lines(alloc: Global, lines: &[&[u8]], parts: usize) -> Result<Joined, JoinFault>
+// Joins the lines of this many parts.
+fn joined_lines(
+    alloc: Global,
+    depth: Depth,
+    lines: &[&[u8]],
+    parts: usize,
+) -> Result<Joined, JoinFault>
     requires some { 0 < parts }
     requires plain { All (λ t. has 10 t ≡ false) (map (λ (t : Bor (List ℕ)). t.now) lines.now) }
-    ensures { IsJoinOf parts (map (λ (t : Bor (List ℕ)). t.now) lines.now) result }
+    ensures { IsJoinOf depth parts (map (λ (t : Bor (List ℕ)). t.now) lines.now) result }
 {
     match cuts_of(alloc, lines) {
-        Ok(cuts) => joined_cuts(alloc, lines, &cuts, parts),
+        Ok(cuts) => joined_cuts(alloc, depth, lines, &cuts, parts),
         Err(fault) => Err(fault),
     }
 }
 
-// Joins the lines of so many parts, which tell of these cuts.
+// Joins the lines of this many parts, which tell of these cuts.
 fn joined_cuts(
     alloc: Global,
+    depth: Depth,
     lines: &[&[u8]],
     cuts: &[Cut],
     parts: usize,
@@ -81,25 +89,30 @@ fn joined_cuts(
     requires some { 0 < parts }
     requires told { TellCuts (map (λ (t : Bor (List ℕ)). t.now) lines.now) cuts.now }
     requires within { length cuts.now ≤ length lines.now }
-    ensures { IsJoinOfCuts parts (map (λ (t : Bor (List ℕ)). t.now) lines.now) cuts.now result }
+    ensures { IsJoinOfCuts depth parts (map (λ (t : Bor (List ℕ)). t.now) lines.now) cuts.now result }
 {
     match uncut_of(lines, cuts.len(), parts) {
-        Ok(uncut) => joined_report(alloc, cuts, uncut),
+        Ok(uncut) => joined_report(alloc, depth, cuts, uncut),
         Err(fault) => Err(fault),
     }
 }
 
-fn joined_report(alloc: Global, cuts: &[Cut], uncut: &[u8]) -> Result<Joined, JoinFault>
-    ensures { MatchResult result (λ joined. IsReportOf cuts.now uncut.now joined)
+fn joined_report(
+    alloc: Global,
+    depth: Depth,
+    cuts: &[Cut],
+    uncut: &[u8],
+) -> Result<Joined, JoinFault>
+    ensures { MatchResult result (λ joined. IsReportOf depth cuts.now uncut.now joined)
         (λ fault. IsNoReport cuts.now uncut.now fault) }
 {
     let Some(answer) = answer_of(uncut) else {
         return Err(JoinFault::BadLine(cuts.len()));
     };
-    let text = joined_text(alloc, cuts, answer, uncut)?;
+    let text = joined_text(alloc, depth, cuts, answer, uncut)?;
     Ok(Joined {
         text,
-        is_all_or_nothing: is_each_whole(cuts),
+        is_all_or_nothing: is_all_or_nothing(cuts),
     })
 }
 
@@ -137,11 +150,11 @@ fn ordered<'a>(alloc: Global, texts: &[&'a [u8]]) -> Result<Vec<&'a [u8]>, JoinF
             Err(fault) => return Err(fault),
         }
     }
-    // There is no memory for so many lines.
+    // There is no memory for this many lines.
     Err(JoinFault::NoMemory)
 }
 
-// The lines before this one, if nothing is left behind them.
+// The lines before this one, if nothing is left after them.
 fn ended<'a>(
     lines: Vec<&'a [u8]>,
     rests: &[&[u8]],
@@ -157,7 +170,7 @@ fn ended<'a>(
     Err(JoinFault::Missing(number))
 }
 
-// Reads the line about so many writes from the text that has it; none where that text is read whole.
+// Reads the line about this many writes from the text that has it; none where that text is read whole.
 fn next_line<'a>(
     alloc: Global,
     rests: &mut Vec<&'a [u8]>,
@@ -180,7 +193,7 @@ fn next_line<'a>(
     Ok(Some(told))
 }
 
-// What the line about so many writes tells, with which a text begins, and what follows it.
+// What the line about this many writes tells, with which a text begins, and what follows it.
 fn line_at<'a>(
     alloc: Global,
     text: &'a [u8],
@@ -198,7 +211,7 @@ fn line_at<'a>(
     Ok(cut_once(rest, b'\n'))
 }
 
-// Why a text does not begin with the line about so many writes: the one before it stands there again, or that line is missing.
+// Why a text does not begin with the line about this many writes: the one before it stands there again, or that line is missing.
 fn head_fault(alloc: Global, text: &[u8], number: usize, parts: usize) -> JoinFault
     ensures { IsHeadFault parts number text.now result }
 {
@@ -262,7 +275,7 @@ fn is_uncut(told: &[u8]) -> bool
     }
 }
 
-// What the lines behind so many cuts tell: as many as there are parts, and all the same.
+// What the lines after this many cuts tell: as many as there are parts, and all the same.
 fn uncut_of<'a>(lines: &[&'a [u8]], count: usize, parts: usize) -> Result<&'a [u8], JoinFault>
     requires some { 0 < parts }
     requires within { count ≤ length lines.now }
@@ -284,19 +297,21 @@ fn uncut_of<'a>(lines: &[&'a [u8]], count: usize, parts: usize) -> Result<&'a [u
     Ok(uncut)
 }
 
-// The report of these cuts, with this line of the command that is not cut, which tells this answer.
+// The report of these cuts and of recoveries as deep as this, with this line of the command that is not cut, which tells this answer.
 fn joined_text(
     alloc: Global,
+    depth: Depth,
     cuts: &[Cut],
     answer: &[u8],
     uncut: &[u8],
 ) -> Result<Vec<u8>, AllocError>
-    ensures { IfOk result (λ text. text.items ≡ joined_text cuts.now answer.now uncut.now) }
+    ensures { IfOk result (λ text. text.items ≡ joined_text depth cuts.now answer.now uncut.now) }
 {
     let mut text = Vec::new(alloc);
     push_rows(alloc, &mut text, cuts)?;
     text.extend_from_slice(uncut)?;
     text.extend_from_slice(b"\n")?;
     push_verdict(&mut text, answer, cuts)?;
+    push_recoveries(&mut text, depth, cuts)?;
     Ok(text)
 }

@@ -8,7 +8,7 @@ use std::alloc::AllocError;
 #[derive(Clone, Copy, Debug, PartialEq, Eq, Drop)]
 pub enum JoinFault {
     NoMemory,
-    /// The line about so many writes is missing.
+    /// The line about this many writes is missing.
     Missing(usize),
     /// It stands twice.
     Twice(usize),

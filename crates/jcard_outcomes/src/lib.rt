@@ -2,6 +2,7 @@
 //! tells it.
 #![tactic(auto)]
 
+pub mod command_shares;
 pub mod each;
 pub mod heaps;
 pub mod join;
@@ -14,4 +15,5 @@ pub mod report;
 pub mod rows;
 pub mod standing;
 pub mod sweep_head;
+pub mod sweep_kind;
 pub mod verdict;

@@ -1,9 +1,11 @@
 //! Reading back what the line of a part tells of a cut.
-ghost use Rattle.std.specs.Prelude.{◌≡◌, ◌++◌, ◌∷◌, ◌<◌, ℕ, List, Some, false, codes, decimal, MatchOption, IfOk};
+ghost use Rattle.std.specs.Prelude.{◌≡◌, ◌++◌, ◌∷◌, ◌<◌, ◌^◌, ℕ, List, Some, false, codes, decimal, IfSome, MatchOption, IfOk};
 ghost use Rattle.std.specs.Str.{bytes_eq};
-ghost use Rattle.jcard_outcomes.specs.Parts.{AreWords, IsCutOfWords, IsOfWords, IsReadCut, cut_tail, has, told_cut};
+ghost use Rattle.jcard_outcomes.specs.Parts.{AreCounted, AreWords, IsCutOfWords, IsLeftOfWords, IsOfWords, IsReadCut, IsUnrecovered, cut_tail, difference_told};
+ghost use Rattle.jcard_outcomes.specs.Parts.{has, is_one_way, recovered_told, told_cut, told_left};
 ghost use Rattle.jcard_outcomes.specs.Reports.{changed_text, standing_text};
 ghost use Rattle.jcard_outcomes.specs.declared.heaps.Difference.{Difference as ADifference};
+ghost use Rattle.jcard_outcomes.specs.declared.recoveries.Recoveries.{Recoveries as ARecoveries};
 ghost use Rattle.jcard_outcomes.specs.declared.standing.Cut.{Cut as ACut};
 ghost use Rattle.jcard_outcomes.specs.declared.standing.Standing.{Standing as AStanding};
 
@@ -14,6 +16,12 @@ use crate::standing::{Cut, Standing};
 use itoa::Buffer;
 use std::alloc::{AllocError, Global};
 
+// Recoveries that were tried in one way, which made no difference, as where none is cut.
+const ONE_WAY: Recoveries = Recoveries {
+    ways: 1,
+    difference: None,
+};
+
 /// The cut of which a line tells this; none where it tells of no cut.
 pub(crate) fn cut_of(alloc: Global, told: &[u8]) -> Result<Option<Cut>, AllocError>
     requires { has 10 told.now ≡ false }
@@ -21,7 +29,82 @@ pub(crate) fn cut_of(alloc: Global, told: &[u8]) -> Result<Option<Cut>, AllocErr
         ((c : ACut) → IsCutOfWords c → told.now ≡ told_cut c → ⊥)
         (λ c. (told.now ≡ told_cut c) × IsReadCut c)) }
 {
-    let Some((standing, lost, answers)) = parts_of(told) else {
+    let Some((recoveries, left)) = recovered_of(told) else {
+        return Ok(None);
+    };
+    cut_with(alloc, recoveries, left)
+}
+
+// The recoveries of which a line tells, and what it tells after them.
+fn recovered_of(told: &[u8]) -> Option<(Recoveries, &[u8])>
+    ensures { MatchOption result
+        ((r : ARecoveries) (rest : List ℕ) → AreCounted r → IsUnrecovered rest → told.now ≡ recovered_told r ++ rest → ⊥)
+        (λ p. (told.now ≡ recovered_told p.0 ++ p.1.now) × AreCounted p.0
+        × ((r : ARecoveries) (rest : List ℕ) → AreCounted r → IsUnrecovered rest → told.now ≡ recovered_told r ++ rest → rest ≡ p.1.now)) }
+{
+    let Some(rest) = after(told, b"recoveries ") else {
+        return Some((ONE_WAY, told));
+    };
+    let Some((digits, rest)) = cut_once(rest, b' ') else {
+        return None;
+    };
+    let Some(ways) = count_of(digits) else {
+        return None;
+    };
+    let Some((difference, rest)) = cut_once(rest, b',') else {
+        return None;
+    };
+    let Some(recoveries) = recoveries_of(ways, difference) else {
+        return None;
+    };
+    match after(rest, b" ") {
+        Some(rest) => Some((recoveries, rest)),
+        None => None,
+    }
+}
+
+// The recoveries in this many ways whose difference is told so.
+fn recoveries_of(ways: u64, difference: &[u8]) -> Option<Recoveries>
+    ensures { MatchOption result
+        ((r : ARecoveries) → AreCounted r → r.ways ≡ ways → is_one_way r ≡ false → difference.now ≡ difference_told r.difference → ⊥)
+        (λ r. (r.ways ≡ ways) × (difference.now ≡ difference_told r.difference) × (is_one_way r ≡ false)
+        × IfSome r.difference (λ n. n < 65536)) }
+{
+    if is_same(difference, b"alike") {
+        return alike_in(ways);
+    }
+    match word_of(difference) {
+        Some(writes) => Some(Recoveries {
+            ways,
+            difference: Some(writes),
+        }),
+        None => None,
+    }
+}
+
+// The recoveries in this many ways that made no difference; of one way a line says nothing.
+fn alike_in(ways: u64) -> Option<Recoveries>
+    ensures { MatchOption result (ways ≡ 1)
+        (λ r. (r ≡ record { ways = ways; difference = None }) × (is_one_way r ≡ false)) }
+{
+    if ways == 1 {
+        return None;
+    }
+    Some(Recoveries {
+        ways,
+        difference: None,
+    })
+}
+
+// The cut of whose recoveries this was told, and of what it left this.
+fn cut_with(alloc: Global, recoveries: Recoveries, left: &[u8]) -> Result<Option<Cut>, AllocError>
+    requires { has 10 left.now ≡ false }
+    ensures { IfOk result (λ found. MatchOption found
+        ((c : ACut) → IsLeftOfWords c → left.now ≡ told_left c → ⊥)
+        (λ c. (left.now ≡ told_left c) × (has 44 (standing_text c.standing) ≡ false) × IsLeftOfWords c
+        × (c.recoveries ≡ recoveries))) }
+{
+    let Some((standing, lost, answers)) = parts_of(left) else {
         return Ok(None);
     };
     let Some(standing) = standing_of(standing) else {
@@ -32,10 +115,7 @@ pub(crate) fn cut_of(alloc: Global, told: &[u8]) -> Result<Option<Cut>, AllocErr
         standing,
         lost,
         answers,
-        recoveries: Recoveries {
-            ways: 0,
-            difference: None,
-        },
+        recoveries,
     }))
 }
 
@@ -124,7 +204,7 @@ fn difference_of(text: &[u8]) -> Option<Difference>
     }
 }
 
-// The word behind a label, up to a space, and what follows.
+// The word after a label, up to a space, and what follows.
 fn labelled_word<'a>(text: &'a [u8], label: &[u8]) -> Option<(u16, &'a [u8])>
     ensures { MatchOption result
         ((n : ℕ) (rest : List ℕ) → n < 65536 → text.now ≡ label.now ++ (decimal n ++ 32 ∷ rest) → ⊥)
@@ -170,6 +250,36 @@ fn is_written(word: u16, digits: &[u8]) -> bool
 {
     let mut printed = Buffer::new();
     is_same(printed.format(word).as_bytes(), digits)
+}
+
+// The count that these decimal digits write.
+fn count_of(digits: &[u8]) -> Option<u64>
+    ensures { MatchOption result ((n : ℕ) → n < 2 ^ 64 → digits.now ≡ decimal n → ⊥)
+        (λ n. digits.now ≡ decimal n) }
+{
+    let Some(count) = parsed_count(digits) else {
+        return None;
+    };
+    if is_count_written(count, digits) {
+        return Some(count);
+    }
+    None
+}
+
+fn parsed_count(digits: &[u8]) -> Option<u64>
+    ensures { (n : ℕ) → n < 2 ^ 64 → digits.now ≡ decimal n → result ≡ Some n }
+{
+    match str::from_utf8(digits) {
+        Ok(text) => text.parse::<u64>().ok(),
+        Err(_) => None,
+    }
+}
+
+fn is_count_written(count: u64, digits: &[u8]) -> bool
+    ensures { result ≡ bytes_eq (decimal count) digits.now }
+{
+    let mut printed = Buffer::new();
+    is_same(printed.format(count).as_bytes(), digits)
 }
 
 /// What follows this beginning.

@@ -1,4 +1,4 @@
-//! Putting the texts of parts into the order of their parts.
+//! Putting the texts of parts into the order of the numbers with which they begin.
 ghost use Rattle.std.specs.Prelude.{◌≡◌, ◌++◌, ◌∷◌, ◌<◌, ◌≤◌, ◌^◌, [], ℕ, List, map, length, slice_index_or, IfErr, IfOk, MatchOption, MatchResult, OnOk};
 ghost use Rattle.std.specs.Bool.{MatchBool};
 ghost use Rattle.std.specs.Borrow.{Bor};
@@ -6,21 +6,25 @@ ghost use Rattle.jcard_outcomes.specs.Orders.{AreInOrder, AreUnplaced, IsOnlyAt,
 
 use crate::join_fault::JoinFault;
 use crate::line::after;
-use crate::part::push_line_start;
+use crate::part::push_numbered;
 use std::alloc::Global;
 
-/// The texts of all parts of a sweep, from the first part on.
-pub(crate) fn in_order<'a>(alloc: Global, texts: &[&'a [u8]]) -> Result<Vec<&'a [u8]>, JoinFault>
+/// The texts that begin with lines about all numbers of what this label says, from the first number, 0, on.
+pub(crate) fn in_order<'a>(
+    alloc: Global,
+    label: &[u8],
+    texts: &[&'a [u8]],
+) -> Result<Vec<&'a [u8]>, JoinFault>
     ensures placed { MatchResult result
-        (λ ordered. AreInOrder (map (λ (t : Bor (List ℕ)). t.now) texts.now)
+        (λ ordered. AreInOrder label.now (map (λ (t : Bor (List ℕ)). t.now) texts.now)
         (map (λ (t : Bor (List ℕ)). t.now) ordered.items))
-        (λ fault. AreUnplaced (map (λ (t : Bor (List ℕ)). t.now) texts.now) fault) }
+        (λ fault. AreUnplaced label.now (map (λ (t : Bor (List ℕ)). t.now) texts.now) fault) }
     ensures few { length texts.now < 2 ^ 64 }
 {
     let count = texts.len();
     let mut ordered = Vec::new(alloc);
     for number in 0..count {
-        match only_at(alloc, texts, number) {
+        match only_at(alloc, label, texts, number) {
             Ok(place) => push_text(&mut ordered, text_at(texts, place))?,
             Err(fault) => return Err(fault),
         }
@@ -28,14 +32,14 @@ pub(crate) fn in_order<'a>(alloc: Global, texts: &[&'a [u8]]) -> Result<Vec<&'a 
     Ok(ordered)
 }
 
-// The place of the only text that begins with the line about so many writes.
-fn only_at(alloc: Global, texts: &[&[u8]], number: usize) -> Result<usize, JoinFault>
+// The place of the only text that begins with the line about this number.
+fn only_at(alloc: Global, label: &[u8], texts: &[&[u8]], number: usize) -> Result<usize, JoinFault>
     ensures { MatchResult result
-        (λ place. IsOnlyAt (map (λ (t : Bor (List ℕ)). t.now) texts.now) number place)
-        (λ fault. IsUnplaced (map (λ (t : Bor (List ℕ)). t.now) texts.now) number fault) }
+        (λ place. IsOnlyAt label.now (map (λ (t : Bor (List ℕ)). t.now) texts.now) number place)
+        (λ fault. IsUnplaced label.now (map (λ (t : Bor (List ℕ)). t.now) texts.now) number fault) }
 {
     let mut start = Vec::new(alloc);
-    push_line_start(&mut start, number)?;
+    push_numbered(&mut start, label, number)?;
     let Some(place) = first_with(texts, &start, 0) else {
         return Err(JoinFault::Missing(number));
     };
@@ -80,7 +84,7 @@ pub(crate) fn text_at<'a>(texts: &[&'a [u8]], place: usize) -> &'a [u8]
     texts[place]
 }
 
-/// Puts a text behind others.
+/// Puts a text after others.
 pub(crate) fn push_text<'a>(texts: &mut Vec<&'a [u8]>, text: &'a [u8]) -> Result<(), JoinFault>
     ensures pushed { OnOk result (map (λ (t : Bor (List ℕ)). t.now) texts.new.items
         ≡ map (λ (t : Bor (List ℕ)). t.now) texts.old.items ++ text.entry.now ∷ []) }

@@ -1,15 +1,17 @@
 //! The text of a part of a sweep, with a line for each of its cuts.
-ghost use Rattle.std.specs.Prelude.{◌≡◌, ◌++◌, ◌+◌, ◌*◌, ◌<◌, ◌^◌, length, IfOk, MatchOption, OnOk};
-ghost use Rattle.jcard_outcomes.specs.Parts.{IsShareText, head_text, line_start, line_text, lines_text, part_text, told_cut, told_uncut};
+ghost use Rattle.std.specs.Prelude.{◌≡◌, ◌++◌, ◌∷◌, ◌+◌, ◌*◌, ◌<◌, ◌^◌, codes, decimal, length, IfOk, MatchOption, OnOk};
+ghost use Rattle.jcard_outcomes.specs.Parts.{IsShareText, difference_told, head_text, is_one_way, line_start, line_text, lines_text, numbered, part_text, recovered_told, told_cut, told_left, told_uncut};
 ghost use Rattle.jcard_outcomes.specs.declared.part.Share.{Share as AShare};
 
 use crate::line::{cut_once, word_of};
+use crate::recoveries::Recoveries;
 use crate::report::Sweep;
 use crate::rows::{push_ending, push_in_line, push_number, push_standing, push_words_lost};
 use crate::standing::Cut;
+use itoa::Buffer;
 use std::alloc::{AllocError, Global};
 
-/// A part of a sweep: a command that was cut after `first` writes and each `step`-th number behind it, up to the first of these
+/// A part of a sweep: a command that was cut after `first` writes and each `step`-th number after it, up to the first of these
 /// that does not cut it.
 #[derive(Drop)]
 pub struct Part {
@@ -67,8 +69,8 @@ pub fn part_lines(alloc: Global, part: &Part) -> Result<Vec<u8>, AllocError>
     Ok(text)
 }
 
-// Writes the head of the text of a part.
-fn push_head(text: &mut Vec<u8>, name: &[u8]) -> Result<(), AllocError>
+/// Writes the head of the text of a part.
+pub(crate) fn push_head(text: &mut Vec<u8>, name: &[u8]) -> Result<(), AllocError>
     ensures { OnOk result (text.new.items ≡ text.old.items ++ head_text name.now) }
 {
     text.extend_from_slice(b"sweep ")?;
@@ -106,27 +108,97 @@ fn push_line(text: &mut Vec<u8>, number: usize, told: &[u8]) -> Result<(), Alloc
     push_ending(text, told)
 }
 
-/// Writes how the line begins about this number.
-#[tactic(auto, unfolding(crate::specs::Parts::line_start))]
+/// Writes how the line begins about a cut after this number of writes.
 pub(crate) fn push_line_start(text: &mut Vec<u8>, number: usize) -> Result<(), AllocError>
     ensures { OnOk result (text.new.items ≡ text.old.items ++ line_start number) }
 {
-    text.extend_from_slice(b"cut after ")?;
+    push_numbered(text, b"cut after ", number)
+}
+
+/// Writes how a line begins about this number of what the label says.
+#[tactic(auto, unfolding(crate::specs::Parts::numbered))]
+pub(crate) fn push_numbered(
+    text: &mut Vec<u8>,
+    label: &[u8],
+    number: usize,
+) -> Result<(), AllocError>
+    ensures { OnOk result (text.new.items ≡ text.old.items ++ numbered label.now number) }
+{
+    text.extend_from_slice(label)?;
     push_number(text, number)?;
     text.extend_from_slice(b": ")
 }
 
-#[tactic(auto, unfolding(crate::specs::Parts::told_cut))]
 fn cut_told(alloc: Global, cut: &Cut) -> Result<Vec<u8>, AllocError>
     ensures { IfOk result (λ text. text.items ≡ told_cut cut.now) }
 {
     let mut text = Vec::new(alloc);
-    push_standing(&mut text, cut.standing)?;
-    text.extend_from_slice(b", ")?;
-    push_words_lost(&mut text, cut.lost)?;
-    text.extend_from_slice(b", answers ")?;
-    push_in_line(&mut text, &cut.answers)?;
+    push_recovered(&mut text, cut.recoveries)?;
+    push_left(&mut text, cut)?;
     Ok(text)
+}
+
+// Writes what is told of recoveries, unless they were tried in one way, which made no difference.
+fn push_recovered(text: &mut Vec<u8>, recoveries: Recoveries) -> Result<(), AllocError>
+    ensures { OnOk result (text.new.items ≡ text.old.items ++ recovered_told recoveries) }
+{
+    if is_one_way(recoveries) {
+        return Ok(());
+    }
+    push_some(text, recoveries)
+}
+
+fn is_one_way(recoveries: Recoveries) -> bool
+    ensures { result ≡ is_one_way recoveries }
+{
+    recoveries.ways == 1 && recoveries.difference.is_none()
+}
+
+fn push_some(text: &mut Vec<u8>, recoveries: Recoveries) -> Result<(), AllocError>
+    ensures { OnOk result (text.new.items ≡ text.old.items
+        ++ (codes "recoveries " ++ (decimal recoveries.ways ++ 32 ∷ (difference_told recoveries.difference ++ 44 ∷ codes " ")))) }
+{
+    push_ways(text, recoveries.ways)?;
+    push_difference(text, recoveries.difference)?;
+    text.extend_from_slice(b", ")?;
+    Ok(())
+}
+
+fn push_ways(text: &mut Vec<u8>, ways: u64) -> Result<(), AllocError>
+    ensures { OnOk result (text.new.items ≡ text.old.items
+        ++ (codes "recoveries " ++ decimal ways ++ codes " ")) }
+{
+    text.extend_from_slice(b"recoveries ")?;
+    push_count(text, ways)?;
+    text.extend_from_slice(b" ")?;
+    Ok(())
+}
+
+fn push_count(text: &mut Vec<u8>, count: u64) -> Result<(), AllocError>
+    ensures { OnOk result (text.new.items ≡ text.old.items ++ decimal count) }
+{
+    let mut digits = Buffer::new();
+    text.extend_from_slice(digits.format(count).as_bytes())
+}
+
+fn push_difference(text: &mut Vec<u8>, difference: Option<u16>) -> Result<(), AllocError>
+    ensures { OnOk result (text.new.items ≡ text.old.items ++ difference_told difference) }
+{
+    match difference {
+        Some(writes) => push_number(text, usize::from(writes)),
+        None => text.extend_from_slice(b"alike"),
+    }
+}
+
+#[tactic(auto, unfolding(crate::specs::Parts::told_left))]
+fn push_left(text: &mut Vec<u8>, cut: &Cut) -> Result<(), AllocError>
+    ensures { OnOk result (text.new.items ≡ text.old.items ++ told_left cut.now) }
+{
+    push_standing(text, cut.standing)?;
+    text.extend_from_slice(b", ")?;
+    push_words_lost(text, cut.lost)?;
+    text.extend_from_slice(b", answers ")?;
+    push_in_line(text, &cut.answers)
 }
 
 #[tactic(auto, unfolding(crate::specs::Parts::told_uncut))]

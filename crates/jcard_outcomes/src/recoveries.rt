@@ -1,4 +1,4 @@
-//! Recoveries that are cut, one after the other, behind each cut of a command, and whether one made a difference.
+//! Recoveries that are cut, one after the other, after each cut of a command, and whether one made a difference.
 ghost use Rattle.std.specs.Prelude.{◌≡◌, ◌++◌, OnOk};
 ghost use Rattle.jcard_outcomes.specs.Recoveries.{depth_text, different_text, earlier_text, ended_number, first_difference, recoveries_text, same_text};
 ghost use Rattle.jcard_outcomes.specs.Recoveries.{ways_from, ways_text, writes_text};
@@ -18,7 +18,7 @@ pub enum Depth {
     Three,
 }
 
-/// What recoveries were like that were cut behind a cut of a command.
+/// What recoveries were like that were cut after a cut of a command.
 #[derive(Clone, Copy, Debug, PartialEq, Eq, Drop)]
 pub struct Recoveries {
     /// In how many ways they were cut.
@@ -28,7 +28,7 @@ pub struct Recoveries {
     pub difference: Option<u16>,
 }
 
-/// Writes what recoveries have shown behind a text, if any were cut.
+/// Writes what recoveries have shown after a text, if any were cut.
 pub(crate) fn push_recoveries(
     text: &mut Vec<u8>,
     depth: Depth,
@@ -110,7 +110,7 @@ fn push_depth(text: &mut Vec<u8>, depth: Depth) -> Result<(), AllocError>
     }
 }
 
-/// The first cut behind which a recovery made a difference, and after how many writes that one was cut.
+/// The first cut after which a recovery made a difference, and after how many writes that one was cut.
 pub(crate) fn first_difference(cuts: &[Cut]) -> Option<(usize, u16)>
     ensures { result ≡ first_difference 0 cuts.now }
 {

@@ -9,7 +9,7 @@ use crate::verdict::push_verdict;
 use std::alloc::{AllocError, Global};
 
 /// A command that was cut after each number of its writes, from none on: what was before it, its answer where it is not cut,
-/// what it then leaves, what each cut left, and how many recoveries were cut behind each.
+/// what it then leaves, what each cut left, and how many recoveries were cut after each.
 #[derive(Drop)]
 pub struct Sweep {
     pub before: Left,

@@ -8,7 +8,7 @@ use crate::standing::{Cut, Standing};
 use itoa::Buffer;
 use std::alloc::{AllocError, Global};
 
-/// Writes the rows of all cuts behind a text.
+/// Writes the rows of all cuts after a text.
 pub(crate) fn push_rows(alloc: Global, text: &mut Vec<u8>, cuts: &[Cut]) -> Result<(), AllocError>
     ensures { OnOk result (text.new.items ≡ text.old.items ++ rows_text cuts.now) }
 {
@@ -81,7 +81,7 @@ pub(crate) fn push_ending(text: &mut Vec<u8>, told: &[u8]) -> Result<(), AllocEr
     text.extend_from_slice(b"\n")
 }
 
-/// Writes so many words that are lost.
+/// Writes this many words that are lost.
 pub(crate) fn push_words_lost(text: &mut Vec<u8>, lost: u16) -> Result<(), AllocError>
     ensures { OnOk result (text.new.items ≡ text.old.items ++ words_lost_text lost) }
 {
@@ -98,7 +98,7 @@ fn push_row(text: &mut Vec<u8>, first: usize, last: usize, outcome: &[u8]) -> Re
     push_ended(text, outcome)
 }
 
-/// Writes what a row tells behind its numbers.
+/// Writes what a row tells after its numbers.
 pub(crate) fn push_ended(text: &mut Vec<u8>, outcome: &[u8]) -> Result<(), AllocError>
     ensures { OnOk result (text.new.items ≡ text.old.items ++ ended outcome.now) }
 {
@@ -126,7 +126,7 @@ pub(crate) fn push_number(text: &mut Vec<u8>, number: usize) -> Result<(), Alloc
     text.extend_from_slice(digits.format(number).as_bytes())
 }
 
-/// Writes answers in one line, each with a space behind it.
+/// Writes answers in one line, each with a space after it.
 pub(crate) fn push_in_line(text: &mut Vec<u8>, answers: &[u8]) -> Result<(), AllocError>
     ensures { OnOk result (text.new.items ≡ text.old.items ++ in_line answers.now) }
 {
@@ -167,7 +167,7 @@ fn push_difference(text: &mut Vec<u8>, difference: Difference) -> Result<(), All
     push_labelled(text, b" and is ", difference.now)
 }
 
-// Writes a word behind what it is.
+// Writes a word after what it is.
 fn push_labelled(text: &mut Vec<u8>, label: &[u8], word: u16) -> Result<(), AllocError>
     ensures { OnOk result (text.new.items ≡ text.old.items ++ labelled label.now word) }
 {

@@ -21,7 +21,7 @@ pub struct Cut {
     pub standing: Standing,
     /// How many words were made that nothing names.
     pub lost: u16,
-    /// The answers of the probe and, where objects are asked for, behind them the cells that changed.
+    /// The answers of the probe and, where objects are asked for, after them the cells that changed.
     pub answers: Vec<u8>,
     pub recoveries: Recoveries,
 }

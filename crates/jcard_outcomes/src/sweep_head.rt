@@ -26,20 +26,30 @@ impl From<AllocError> for HeadFault {
     }
 }
 
-/// What the texts of parts tell behind their heads, which have to name the same sweep.
-pub fn bodies_of<'a>(alloc: Global, texts: &'a [Vec<u8>]) -> Result<Vec<&'a [u8]>, HeadFault>
+/// The name of a sweep, and what the texts of its parts tell after their heads.
+#[derive(Drop)]
+pub struct Bodies<'a> {
+    pub name: &'a [u8],
+    pub texts: Vec<&'a [u8]>,
+}
+
+/// What the texts of parts tell after their heads, which have to name the same sweep.
+pub fn bodies_of<'a>(alloc: Global, texts: &'a [Vec<u8>]) -> Result<Bodies<'a>, HeadFault>
     requires { 0 < length texts.now }
-    ensures { MatchResult result (λ bodies. (name : List ℕ) × AreBehindHeads name
-        (map (λ t. t.items) texts.now) (map (λ (t : Bor (List ℕ)). t.now) bodies.items))
+    ensures { MatchResult result (λ bodies. AreBehindHeads bodies.name.now
+        (map (λ t. t.items) texts.now) (map (λ (t : Bor (List ℕ)). t.now) bodies.texts.items))
         (λ fault. AreOfOthers (map (λ t. t.items) texts.now) fault) }
 {
     let Some((name, _body)) = cut_head(&texts[0]) else {
         return Err(HeadFault::OtherSweep(0));
     };
-    bodies_behind(alloc, texts, name)
+    match bodies_behind(alloc, texts, name) {
+        Ok(texts) => Ok(Bodies { name, texts }),
+        Err(fault) => Err(fault),
+    }
 }
 
-// What the texts tell behind heads of this name.
+// What the texts tell after heads of this name.
 fn bodies_behind<'a>(
     alloc: Global,
     texts: &'a [Vec<u8>],
@@ -74,7 +84,7 @@ fn push_body<'a>(bodies: &mut Vec<&'a [u8]>, body: &'a [u8]) -> Result<(), HeadF
     }
 }
 
-// What a text tells behind its head, if that has this name.
+// What a text tells after its head, if that has this name.
 fn body_behind<'a>(text: &'a [u8], name: &[u8]) -> Option<&'a [u8]>
     requires { has 10 name.now ≡ false }
     ensures { MatchOption result ((body : List ℕ) → text.now ≡ head_text name.now ++ body → ⊥)

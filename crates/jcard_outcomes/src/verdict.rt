@@ -15,14 +15,14 @@ pub fn is_all_or_nothing(cuts: &[Cut]) -> bool
     is_each_whole(cuts) && first_difference(cuts).is_none()
 }
 
-/// Whether each cut left what was before the command or what it leaves where it is not cut.
-pub(crate) fn is_each_whole(cuts: &[Cut]) -> bool
+// Whether each cut left what was before the command or what it leaves where it is not cut.
+fn is_each_whole(cuts: &[Cut]) -> bool
     ensures { result ≡ is_none (first_broken 0 cuts.now) }
 {
     first_broken(cuts).is_none()
 }
 
-/// Writes the verdict over a command with this answer behind a text.
+/// Writes the verdict over a command with this answer after a text.
 pub(crate) fn push_verdict(
     text: &mut Vec<u8>,
     answer: &[u8],
@@ -135,7 +135,7 @@ fn push_cuts(text: &mut Vec<u8>, total: usize) -> Result<(), AllocError>
     push_either(text, total == 1, b" cut, ", b" cuts, ")
 }
 
-/// Writes one of two texts behind a text.
+/// Writes one of two texts after a text.
 pub(crate) fn push_either(
     text: &mut Vec<u8>,
     is_first: bool,

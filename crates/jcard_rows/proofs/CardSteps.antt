@@ -15,13 +15,13 @@ by_tests false true P Q e f p = p
 by_tests false false P Q e f p = absurd (false≢true f)
 by_tests true t P Q e f p = absurd (false≢true (sym e))
 
--- a row behind one that says so is torn
+-- a row after one that says so is torn
 pub torn_behind : (rows : List Row) (r : Row) (all : List Row) → is_tear r ≡ false → ends_with_tear rows ≡ true
     → all ≡ take (length rows - 1) rows ++ torn r ∷ [] → AddsRow rows r all
 torn_behind rows r all other said is = by_tests (is_tear r) (ends_with_tear rows) (all ≡ take (length rows - 1) rows ++ torn r ∷ []) (all ≡ rows ++ r ∷ [])
     other said is
 
--- the card behind the last line
+-- the card after the last line
 pub card_last : (lines : List Numbered) (i words : ℕ) (rows : List Row) (card : CardRows) → length lines ≤ i → card.words ≡ words
     → card.rows.items ≡ rows → AreCards (drop i lines) words rows (card ∷ [])
 unfolding AreCards

@@ -3,7 +3,7 @@ use Rattle.std.proofs.Common.{◌≡◌, ◌∙◌, ℕ, suc, ◌+◌, ◌-◌, 
 use Rattle.std.specs.Prelude.{OnOk}
 use Rattle.std.proofs.lemmas.List.{drop_all, take_all}
 
--- from an item on: the item, and those behind it
+-- from an item on: the item, and those after it
 pub drop_at : {A : Type 0} (xs : List A) (i : ℕ) (x : A) → i < length xs → x ≡ get_or xs i x → drop i xs ≡ x ∷ drop (i + 1) xs
 drop_at xs i x h e = rw add-one (drop-cons xs i x h ∙ ap (λ y. y ∷ drop (suc i) xs) (sym e))
 
@@ -21,11 +21,11 @@ module _ {A : Type 0} (text_of : A → List ℕ) (texts_of : List A → List ℕ
   text_grows xs i x start text next h e n all = ap (λ t. t ++ texts_of (drop (i + 1) xs)) n ∙ append_assoc text (text_of x) (texts_of (drop (i + 1) xs))
       ∙ ap (λ t. text ++ t) (sym (ap texts_of (drop_at xs i x h e) ∙ more x (drop (i + 1) xs))) ∙ all
 
-  -- behind the last
+  -- after the last
   pub text_whole : (xs : List A) (i : ℕ) (start text : List ℕ) → length xs ≤ i → text ++ texts_of (drop i xs) ≡ start → text ≡ start
   text_whole xs i start text h all = sym (append-nil text) ∙ ap (λ t. text ++ t) (sym (ap texts_of (drop_all i xs h) ∙ none)) ∙ all
 
--- text that was appended behind text that was
+-- text that was appended after text that was
 pub appended : {E : Type 0} (r : Result (Unit {0}) E) (end between start first second : List ℕ) → between ≡ start ++ first
     → OnOk r (end ≡ between ++ second) → OnOk r (end ≡ start ++ (first ++ second))
 appended (Ok done) end between start first second e p = p ∙ ap (λ l. l ++ second) e ∙ append_assoc start first second

@@ -28,15 +28,15 @@ abbrev pub IsRowOfLine : Numbered → Option Row → Type 0
 IsRowOfLine line None = Says (string_bytes line.text) Nothing
 IsRowOfLine line (Some r) = (said : Line) × Says (string_bytes line.text) said × IsRowOf line said r
 
--- a line makes a card of so many words
+-- a line makes a card of this many words
 abbrev pub IsNewCard : List ℕ → ℕ → Type 0
 IsNewCard command words = (digits : List ℕ) × (command ≡ codes "card " ++ digits) × IsNumber digits words × (4096 ≤ words)
 
--- a card of so many words with these rows
+-- a card of this many words with these rows
 abbrev pub IsCard : ℕ → List Row → CardRows → Type 0
 IsCard words rows card = (card.words ≡ words) × (card.rows.items ≡ rows)
 
--- a row says that the one behind it is torn
+-- a row says that the one after it is torn
 abbrev pub is_tear : Row → Bool
 is_tear r = bytes_eq (string_bytes r.command) (codes "tear all-or-nothing")
 
@@ -52,7 +52,7 @@ ends_with_tear rows = says_tear (slice_get rows (length rows - 1))
 abbrev pub torn : Row → Row
 torn r = record r { torn = true }
 
--- one more row: behind a row that says so it is torn, and stands in its place. A row that says so itself is not
+-- one more row: after a row that says so it is torn, and stands in its place. A row that says so itself is not
 abbrev pub AddsRow : List Row → Row → List Row → Type 0
 AddsRow rows r all = MatchBool (not (is_tear r) && ends_with_tear rows)
     (all ≡ take (length rows - 1) rows ++ torn r ∷ []) (all ≡ rows ++ r ∷ [])
@@ -64,12 +64,12 @@ GoesOn then words rows r cards =
     × then size [] more)
     ⊎ (((size : ℕ) → IsNewCard (string_bytes r.command) size → ⊥) × (all : List Row) × AddsRow rows r all × then words all cards)
 
--- the cards that these lines make, from one of so many words with these rows on
+-- the cards that these lines make, from one of this many words with these rows on
 unfoldable pub AreCards : List Numbered → ℕ → List Row → List CardRows → Type 0
 AreCards [] words rows cards = (card : CardRows) × (cards ≡ card ∷ []) × IsCard words rows card
 AreCards (line ∷ lines) words rows cards = (IsRowOfLine line None × AreCards lines words rows cards)
     ⊎ ((r : Row) × IsRowOfLine line (Some r) × GoesOn (AreCards lines) words rows r cards)
 
--- the cards of a file, whose first has so many words
+-- the cards of a file, whose first has this many words
 abbrev pub AreCardsOf : ℕ → List Numbered → List CardRows → Type 0
 AreCardsOf first lines cards = AreCards lines first [] cards

@@ -22,7 +22,7 @@ AreAnswered (r ∷ rows) text rest = (between : List ℕ) × IsAnswered r text b
 abbrev pub IsUnlike : Row → List ℕ → List ℕ → Type 0
 IsUnlike r text told = IsLine told × ((text ≡ told) ⊎ ((rest : List ℕ) × (text ≡ told ++ 10 ∷ rest) × (FitsUnspaced (string_bytes r.wanted) told → ⊥)))
 
--- the row behind the first k is the first that is not answered as it says
+-- the row after the first k is the first that is not answered as it says
 abbrev pub IsFirstUnlike : List Row → List ℕ → ℕ → List ℕ → Type 0
 IsFirstUnlike rows text k told = (before after : List Row) × (r : Row) × (rest : List ℕ) × (rows ≡ before ++ r ∷ after) × (length before ≡ k)
     × AreAnswered before text rest × IsUnlike r rest told

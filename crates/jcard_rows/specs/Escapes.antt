@@ -10,7 +10,7 @@ escape c = if c == 38 then codes "&amp;" else (if c == 60 then codes "&lt;" else
 abbrev pub begins_outside : List ℕ → Bool
 begins_outside cs = nat_lt 2 (length cs) && (slice_index cs 0 == 239) && (slice_index cs 1 == 191) && nat_lt 189 (slice_index cs 2)
 
--- a text without its first bytes, so many of them. A question mark stands for a character that XML lacks, of three bytes
+-- a text without its first bytes, this many of them. A question mark stands for a character that XML lacks, of three bytes
 unfoldable pub escaped_behind : ℕ → List ℕ → List ℕ
 escaped_behind k [] = []
 escaped_behind (suc k) (c ∷ cs) = escaped_behind k cs

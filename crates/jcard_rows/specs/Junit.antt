@@ -25,7 +25,7 @@ verdict_text NoRow place = codes "/>\n"
 verdict_text (Held rows) place = codes "/>\n"
 verdict_text (Failed f) place = if place == f.passed then failure_text f else codes "/>\n"
 
--- a place is behind the row that failed
+-- a place is after the row that failed
 abbrev pub is_behind : Outcome → ℕ → Bool
 is_behind NoRow place = false
 is_behind (Held rows) place = false
@@ -48,11 +48,11 @@ abbrev pub row_case : Tested → ℕ → Row → List ℕ
 row_case t place r = name_text t.name.now ++ row_text r ++ codes "\" time=\"" ++ seconds_text (time_at t.times.items place) ++ codes "\""
     ++ verdict_text t.outcome place
 
--- a row is a test case, if it does not stand behind the one that failed
+-- a row is a test case, if it does not stand after the one that failed
 abbrev pub case_text : Tested → ℕ → Row → List ℕ
 case_text t place r = if is_behind t.outcome place then [] else row_case t place r
 
--- so are these rows from the one at k on, of a card before which so many rows stand; places are counted up to 2^64 - 1
+-- so are these rows from the one at k on, of a card before which this many rows stand; places are counted up to 2^64 - 1
 unfoldable pub rows_cases : Tested → ℕ → ℕ → List Row → List ℕ
 rows_cases t first k [] = []
 rows_cases t first k (r ∷ rows) = case_text t (min (first + k) 18446744073709551615) r ++ rows_cases t first (k + 1) rows

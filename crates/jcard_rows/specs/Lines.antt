@@ -7,7 +7,7 @@ use Rattle.std.specs.Str.Pattern.{FindsChar, FindsText, SplitsAroundMatch}
 use Rattle.jcard_rows.specs.declared.line.Line.{Line}
 use Rattle.jcard_rows.specs.declared.line.Line.TheVariants.{Nothing, New, Include, For, End, Row}
 
--- the text up to the first of these marks, and what is behind it; without the mark it is the whole text
+-- the text up to the first of these marks, and what is after it; without the mark it is the whole text
 abbrev pub IsPartedAt : List ℕ → List ℕ → List ℕ → Option (List ℕ) → Type 0
 IsPartedAt mark text front None = FindsText mark text None × (front ≡ text)
 IsPartedAt mark text front (Some back) = SplitsAroundMatch (FindsText mark) text front back
@@ -22,7 +22,7 @@ abbrev pub HasText : List ℕ → List ℕ → Type 0
 HasText line text = (slice_index line 0 ≢ 35) × (front : List ℕ) × (comment : Option (List ℕ)) × IsPartedAt (codes " #") line front comment
     × (text ≡ trim_end front)
 
--- decimal digits of a number of 16 bits, perhaps behind a plus sign
+-- decimal digits of a number of 16 bits, perhaps after a plus sign
 abbrev pub IsNumber : List ℕ → ℕ → Type 0
 IsNumber text n = IsNumeral 10 (without_leading_plus text) × (digits_value 10 (without_leading_plus text) ≡ n) × (n < 65536)
 
@@ -31,13 +31,13 @@ abbrev pub IsNumberedLoop : List ℕ → List ℕ → List ℕ → Line → Type
 IsNumberedLoop word one other (For name first last) = (name.now ≡ word) × IsNumber one first × IsNumber other last
 IsNumberedLoop word one other line = ⊥
 
--- what stands behind `for `: the name of the number, which without one is `n`, the first number and the last
+-- what stands after `for `: the name of the number, which without one is `n`, the first number and the last
 abbrev pub IsLoopLine : List ℕ → Line → Type 0
 IsLoopLine words line = (word more : List ℕ) × IsSpacedAt words word (Some more)
     × (((one other : List ℕ) × IsSpacedAt more one (Some other) × IsNumberedLoop word one other line)
     ⊎ (IsSpacedAt more more None × IsNumberedLoop (codes "n") word more line))
 
--- a command, and what stands behind the first ` = `
+-- a command, and what stands after the first ` = `
 abbrev pub IsCommand : List ℕ → List ℕ → Option (List ℕ) → Type 0
 IsCommand text command None = IsPartedAt (codes " = ") text command None
 IsCommand text command (Some answer) = (front back : List ℕ) × IsPartedAt (codes " = ") text front (Some back) × (command ≡ trim_end front)

@@ -21,7 +21,7 @@ abbrev pub Names : List ℕ → Line → Type 0
 Names name (Row command None) = command.now ≡ codes "table " ++ name
 Names name other = ⊥
 
--- the first of these lines that says something names that table, and these stand behind it
+-- the first of these lines that says something names that table, and these stand after it
 abbrev pub IsNamed : List Numbered → TableLine → Type 0
 IsNamed lines t = (before : List Numbered) × (line : Numbered) × (said : Line) × (lines ≡ before ++ line ∷ t.rest.now) × All SaysNothing before
     × (t.number ≡ line.number) × Says (string_bytes line.text) said × Names t.name.now said

@@ -5,7 +5,7 @@ use Rattle.jcard_rows.specs.Comparing.{AreAnswered, IsFirstUnlike}
 use Rattle.jcard_rows.specs.declared.outcome.Failure.{Failure}
 use Rattle.jcard_rows.specs.declared.row.Row.{Row}
 
--- a row failed behind so many that hold, and this was told in its place
+-- a row failed after this many that hold, and this was told in its place
 pub record IsFailureAt (r : Row) (passed : ℕ) (told : List ℕ) (f : Failure) : Type 0 where
   pub behind : f.passed ≡ passed
   pub number : f.number ≡ r.number
@@ -17,7 +17,7 @@ pub record IsFailureAt (r : Row) (passed : ℕ) (told : List ℕ) (f : Failure) 
 abbrev pub AllAnswered : List Row → List ℕ → Type 0
 AllAnswered rows text = (rest : List ℕ) × AreAnswered rows text rest
 
--- this failure is of the first row that it does not, behind so many more that hold; as far as 64 bits count
+-- this failure is of the first row that it does not, after this many more that hold; as far as 64 bits count
 abbrev pub IsFirstFailure : List Row → List ℕ → ℕ → Failure → Type 0
 IsFirstFailure rows text passed f = (k : ℕ) × (told : List ℕ) × (r : Row) × IsFirstUnlike rows text k told × (r ≡ slice_index_or rows k r)
     × IsFailureAt r (min (passed + k) 18446744073709551615) told f

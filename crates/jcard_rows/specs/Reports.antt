@@ -27,7 +27,7 @@ passed_of (t ∷ ts) = passed_in t.outcome + passed_of ts
 abbrev pub failed_of : List Tested → ℕ
 failed_of ts = count_by (λ t. is_failed t.outcome) ts
 
--- so many rows hold
+-- this many rows hold
 abbrev pub hold_text : Bool → List ℕ
 hold_text true = codes " row holds\n"
 hold_text false = codes " rows hold\n"

@@ -59,7 +59,7 @@ unfoldable pub AreRepeated : List ℕ → ℕ → ℕ → List Numbered → List
 AreRepeated name k zero body all = all ≡ []
 AreRepeated name k (suc n) body all = (one more : List Numbered) × AreCopies name k body one × AreRepeated name (k + 1) n body more × (all ≡ one ++ more)
 
--- a loop that line n begins behind these lines
+-- a loop that line n begins after these lines
 pub record IsBegun (n : ℕ) (name : List ℕ) (first last : ℕ) (before : List Numbered) (l : Loop) : Type 0 where
   pub line : l.number ≡ n
   pub named : string_bytes l.name ≡ name
@@ -73,13 +73,13 @@ pub record IsBegun (n : ℕ) (name : List ℕ) (first last : ℕ) (before : List
 abbrev pub IsOneMore : ℕ → List ℕ → List Numbered → List Numbered → Type 0
 IsOneMore n text before after = (line : Numbered) × IsLineOf n text line × (after ≡ before ++ line ∷ [])
 
--- these lines are those of the innermost loop: behind what stood before it they stand once for each of its numbers
+-- these lines are those of the innermost loop: after what stood before it they stand once for each of its numbers
 abbrev pub EndsInnermost : List Loop → List Loop → List Numbered → List Numbered → Type 0
 EndsInnermost open_before open_after body after = (l : Loop) × (all : List Numbered) × (open_before ≡ open_after ++ l ∷ [])
     × AreRepeated (string_bytes l.name) l.first (l.last + 1 - l.first) body all × (after ≡ l.before.items ++ all)
 
--- line n, which says so, was taken, with these loops open and these lines behind the beginning of the innermost of them: it begins one, ends
--- that one, or stands behind those lines
+-- line n, which says so, was taken, with these loops open and these lines after the beginning of the innermost of them: it begins one, ends
+-- that one, or stands after those lines
 abbrev pub IsTakenIn : ℕ → List ℕ → Line → List Loop → List Loop → List Numbered → List Numbered → Type 0
 IsTakenIn n text (For name first last) open_before open_after before after = (l : Loop) × IsBegun n name.now first last before l
     × (open_after ≡ open_before ++ l ∷ []) × (after ≡ [])
@@ -102,7 +102,7 @@ IsEnded (outermost ∷ inner) lines all = IsOneMore outermost.number (codes "for
 abbrev pub IsUnrolled : List ℕ → List Numbered → Type 0
 IsUnrolled text all = (loops : List Loop) × (taken : List Numbered) × AreTaken 1 (lines text) [] [] loops taken × IsEnded loops taken all
 
--- a file of this name in the folder of the file of this path has that path: no slash (47) stands behind the folder
+-- a file of this name in the folder of the file of this path has that path: no slash (47) stands after the folder
 abbrev pub IsBeside : List ℕ → List ℕ → List ℕ → Type 0
 IsBeside path name beside = (folder file : List ℕ) × (path ≡ folder ++ file) × NoCharPasses (λ c. c == 47) file
     × ((folder ≡ []) ⊎ ((above : List ℕ) × (folder ≡ above ++ 47 ∷ []))) × (beside ≡ folder ++ name)

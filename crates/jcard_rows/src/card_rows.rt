@@ -3,7 +3,7 @@ ghost use Rattle.std.specs.Prelude.{◌≤◌};
 
 use crate::row::Row;
 
-/// A new card of so many words, and the rows that it is told.
+/// A new card of this many words, and the rows that it is told.
 #[derive(Drop)]
 pub struct CardRows {
     pub words: u16,

@@ -12,8 +12,8 @@ use std::alloc::{AllocError, Global};
 /// The fewest words that a card has.
 const LEAST: u16 = 4096;
 
-/// The cards that lines make by `card WORDS`, behind one of so many words with which they begin, and the rows of each; 9000 is wanted where a
-/// row says nothing. The row behind a line `tear all-or-nothing` is torn. A directive that is left is a row too, which no card answers.
+/// The cards that lines make by `card WORDS`, after one of this many words with which they begin, and the rows of each; 9000 is wanted where a
+/// row says nothing. The row after a line `tear all-or-nothing` is torn. A directive that is left is a row too, which no card answers.
 pub fn cards_of(alloc: Global, first: u16, lines: &[Numbered]) -> Result<Vec<CardRows>, AllocError>
     requires { 4096 ≤ first }
     ensures { IfOk result (λ cards. AreCardsOf first lines.now cards.items) }
@@ -51,7 +51,7 @@ fn push_row(rows: &mut Vec<Row>, row: Row) -> Result<(), AllocError>
     Ok(())
 }
 
-// The last row says that the one behind it is torn.
+// The last row says that the one after it is torn.
 fn ends_with_tear(rows: &[Row]) -> bool
     ensures { result ≡ ends_with_tear rows.now }
 {
@@ -96,7 +96,7 @@ fn row_of(alloc: Global, line: &Numbered) -> Result<Option<Row>, AllocError>
     }
 }
 
-// What is wanted where a row says this behind its command, or nothing.
+// What is wanted where a row says this after its command, or nothing.
 fn wanted_of(answer: Option<&str>) -> &str
     ensures { result.now ≡ unwrap_or (option_map (λ (told : Bor (List ℕ)). told.now) answer.entry)
         (codes "9000") }

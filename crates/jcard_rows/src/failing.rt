@@ -7,7 +7,7 @@ use crate::outcome::Failure;
 use crate::row::Row;
 use std::alloc::{AllocError, Global};
 
-/// The failure of the first row that this text does not answer as it says, behind so many rows that hold, as far as 64 bits count; none
+/// The failure of the first row that this text does not answer as it says, after this many rows that hold, as far as 64 bits count; none
 /// where all are.
 pub fn first_failure(
     alloc: Global,
@@ -25,7 +25,7 @@ pub fn first_failure(
     Ok(Some(failure))
 }
 
-// The failure of a row behind so many that hold, in whose place this was told.
+// The failure of a row after this many that hold, in whose place this was told.
 fn failure_of(alloc: Global, row: &Row, passed: usize, told: &[u8]) -> Result<Failure, AllocError>
     ensures { IfOk result (λ failure. IsFailureAt row.now passed told.now failure) }
 {

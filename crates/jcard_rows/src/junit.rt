@@ -10,7 +10,7 @@ use crate::seconds::push_seconds;
 use std::alloc::{AllocError, Global};
 
 /// The XML text that tells what came of files: a test suite for each, with a test case for each of its rows and the time that it took. The
-/// first row that is not answered as it says is a failure, and those behind it are no test cases.
+/// first row that is not answered as it says is a failure, and those after it are no test cases.
 pub fn junit(alloc: Global, tested: &[Tested]) -> Result<Vec<u8>, AllocError>
     ensures { IfOk result (λ text. text.items ≡ junit_text tested.now) }
 {
@@ -23,7 +23,7 @@ pub fn junit(alloc: Global, tested: &[Tested]) -> Result<Vec<u8>, AllocError>
     Ok(text)
 }
 
-// Writes the suites of all files behind a text.
+// Writes the suites of all files after a text.
 fn push_suites(text: &mut Vec<u8>, tested: &[Tested]) -> Result<(), AllocError>
     ensures { OnOk result (text.new.items ≡ text.old.items ++ suites_text tested.now) }
 {
@@ -113,7 +113,7 @@ fn push_cards(text: &mut Vec<u8>, file: &Tested) -> Result<(), AllocError>
     Ok(())
 }
 
-// Writes the test cases of these rows, before which so many stand in the file.
+// Writes the test cases of these rows, before which this many stand in the file.
 fn push_rows(
     text: &mut Vec<u8>,
     file: &Tested,
@@ -128,7 +128,7 @@ fn push_rows(
     Ok(())
 }
 
-// Writes the test case of a row at its place among those of a file, if it does not stand behind the one that failed.
+// Writes the test case of a row at its place among those of a file, if it does not stand after the one that failed.
 fn push_case(text: &mut Vec<u8>, file: &Tested, place: usize, row: &Row) -> Result<(), AllocError>
     ensures { OnOk result (text.new.items ≡ text.old.items ++ case_text file.now place row.now) }
 {
@@ -138,7 +138,7 @@ fn push_case(text: &mut Vec<u8>, file: &Tested, place: usize, row: &Row) -> Resu
     push_row_case(text, file, place, row)
 }
 
-// Whether a place is behind the row that failed.
+// Whether a place is after the row that failed.
 fn is_behind(outcome: &Outcome, place: usize) -> bool
     ensures { result ≡ is_behind outcome.now place }
 {

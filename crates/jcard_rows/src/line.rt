@@ -15,7 +15,7 @@ pub enum Line<'a> {
     For(&'a str, u16, u16),
     /// The end of those.
     End,
-    /// A command, and its answer where one stands behind it.
+    /// A command, and its answer where one stands after it.
     Row(&'a str, Option<&'a str>),
 }
 
@@ -72,7 +72,7 @@ fn read_numbers<'a>(name: &'a str, first: &str, last: &str) -> Option<Line<'a>>
     Some(Line::For(name, first, last))
 }
 
-/// A command and what stands behind a ` = `.
+/// A command and what stands after a ` = `.
 fn read_row(text: &str) -> Line<'_>
     ensures { IsRowLine text.now result }
 {

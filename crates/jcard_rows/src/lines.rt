@@ -92,7 +92,7 @@ fn without_end(alloc: Global, unended: Loop) -> Result<Vec<Numbered>, AllocError
     Ok(lines)
 }
 
-/// Takes the next line: it begins a loop, ends the innermost one, or stands behind the lines of that.
+/// Takes the next line: it begins a loop, ends the innermost one, or stands after the lines of that.
 fn take_line(
     alloc: Global,
     number: usize,
@@ -183,7 +183,7 @@ fn line_of(alloc: Global, number: usize, text: &str) -> Result<Numbered, AllocEr
     })
 }
 
-/// Ends a loop with these lines: they stand behind those before it, once for each of its numbers.
+/// Ends a loop with these lines: they stand after those before it, once for each of its numbers.
 fn end_loop(alloc: Global, ended: Loop, lines: &mut Vec<Numbered>) -> Result<(), AllocError>
     ensures { OnOk result ((all : List Numbered) × AreRepeated (string_bytes ended.name)
         ended.first (ended.last + 1 - ended.first) lines.old.items all

@@ -7,7 +7,7 @@ use crate::card_rows::CardRows;
 pub enum Outcome {
     /// It has no row, which is a failure.
     NoRow,
-    /// All its rows hold, of which there are so many.
+    /// All its rows hold, of which there are this many.
     Held(usize),
     /// A row is not answered as it says.
     Failed(Failure),

@@ -54,7 +54,7 @@ fn passed_in(outcome: &Outcome) -> usize
     }
 }
 
-// Writes the lines of all files behind a text.
+// Writes the lines of all files after a text.
 fn push_lines(text: &mut Vec<u8>, tested: &[Tested]) -> Result<(), AllocError>
     ensures { OnOk result (text.new.items ≡ text.old.items ++ lines_text tested.now) }
 {

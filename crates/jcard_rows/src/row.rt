@@ -34,7 +34,7 @@ pub fn line(alloc: Global, row: &Row) -> Result<Vec<u8>, AllocError>
     Ok(line)
 }
 
-// Writes the line of a row behind a text.
+// Writes the line of a row after a text.
 fn push_line(script: &mut Vec<u8>, row: &Row) -> Result<(), AllocError>
     ensures { OnOk result (script.new.items ≡ script.old.items ++ line_text row.now) }
 {

@@ -5,7 +5,7 @@ ghost use Rattle.jcard_rows.specs.Seconds.{micro_digits, seconds_text};
 use itoa::Buffer;
 use std::alloc::AllocError;
 
-/// Writes microseconds as seconds, with six digits behind the point.
+/// Writes microseconds as seconds, with six digits after the point.
 pub(crate) fn push_seconds(text: &mut Vec<u8>, microseconds: u64) -> Result<(), AllocError>
     ensures { OnOk result (text.new.items ≡ text.old.items ++ seconds_text microseconds) }
 {

@@ -3,7 +3,7 @@ ghost use Rattle.std.specs.Prelude.{◌<◌};
 
 use crate::numbered::Numbered;
 
-/// The line that names the file of a platform table: its number, the file's name, and the lines behind it.
+/// The line that names the file of a platform table: its number, the file's name, and the lines after it.
 #[derive(Drop)]
 pub struct TableLine<'a> {
     pub number: usize,

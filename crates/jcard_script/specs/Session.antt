@@ -74,7 +74,7 @@ LinesEnd (Err WriteFailed) all s t text = EndsInsideLine all s t text
 LinesEnd (Err ReadFailed) all s t text = ⊥
 LinesEnd (Err TooLong) all s t text = ⊥
 
--- behind any part of a script with which the session stood so, the line that these bytes and a line feed end is carried out
+-- after any part of a script with which the session stood so, the line that these bytes and a line feed end is carried out
 abbrev pub EndsLine : {S : Type 0} → Result Unit ScriptFault → Session S → Session S → Option (List ℕ) → Option (List ℕ) → List ℕ → Type 0
 EndsLine result old new before after bytes = (script text : List ℕ) → (first : ScriptState) → StandsAt old first script text
     → (more : List ℕ) × Appends before after more × OnOk result (StandsAt new first (script ++ bytes ++ 10 ∷ []) (text ++ more))

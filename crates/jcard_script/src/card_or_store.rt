@@ -13,6 +13,7 @@ ghost use Rattle.jcard_script.specs.Script.{text_of_reply};
 
 use crate::explainer::Explainer;
 use crate::reply::Reply;
+use crate::static_image::StaticImage;
 use jc_card::card::Card;
 use jc_card::power_up::PowerFault;
 use jc_card::response::Response;
@@ -20,7 +21,7 @@ use jc_memory::{Note, Notes};
 use jc_words::{FuseStore, StoreDown, WordStore};
 use jcard_why::cuts::told_of_cut;
 use jcard_why::explanation::{Asked, told};
-use std::alloc::Global;
+use std::alloc::{AllocError, Global};
 
 /// What a session holds.
 #[derive(Drop)]
@@ -72,67 +73,52 @@ impl<S: WordStore> CardOrStore<S> {
         }
     }
 
-    /// Tells an explainer what it wants to be told of a command, by its note, its status word, how many word writes had passed before
-    /// it, and the code that came with it.
-    pub(crate) fn tell<E: Explainer>(
-        &self,
-        alloc: Global,
-        note: &Note,
-        status: u16,
-        passed_before: u64,
-        lent_code: &[u8],
-        explainer: &mut E,
-    )
+    /// Tells an explainer what it wants to be told of a command that was carried out.
+    pub(crate) fn tell<E: Explainer>(&self, alloc: Global, told: &ToldOf<'_>, explainer: &mut E)
         requires up { IsUp self.now }
     {
         let CardOrStore::Card(card) = self else {
             return;
         };
-        let word_writes = card.passed_writes().saturating_sub(passed_before);
-        if let Some(text) = text_about(
-            alloc,
-            card,
-            note,
-            status,
-            word_writes,
-            lent_code,
-            explainer,
-        ) {
+        if let Some(text) = text_about(alloc, card, told, explainer) {
             explainer.tell(&text);
         }
         if let Some(cover) = explainer.cover() {
-            cover.add(note, card.linked());
-        }
-        if let Some(watch) = explainer.watch() {
-            watch.end(card.linked());
+            cover.add(told.note, card.linked());
         }
     }
 
-    /// What an explainer wants to be told of a command within which the power was cut, by its note.
+    /// What an explainer wants to be told of a command within which the power was cut.
     pub(crate) fn told_of_cut<E: Explainer>(
         &self,
         alloc: Global,
-        note: &Note,
+        told: &ToldOf<'_>,
         explainer: &E,
     ) -> Option<Vec<u8>> {
         let CardOrStore::Card(card) = self else {
             return None;
         };
-        if !explainer.wanted()?.why {
-            return None;
+        let wanted = explainer.wanted()?;
+        let asked = asked_about(alloc, card, told, explainer, 0, 0);
+        let mut text = explainer
+            .arrivals(&asked, told.statics)
+            .unwrap_or(Vec::new(alloc));
+        if wanted.why {
+            if let Some(cut) = told_of_cut(&asked).ok()? {
+                text.extend_from_slice(&cut).ok()?;
+            }
         }
-        let asked = Asked {
-            alloc,
-            note,
-            status: 0,
-            budget: card.budget(),
-            linked: card.linked(),
-            word_writes: 0,
-            free_words: 0,
-            map: explainer.map(),
-            lent_code: b"",
-        };
-        told_of_cut(&asked).ok()?
+        Some(text)
+    }
+
+    /// The static images of the packages, where a card is there.
+    pub(crate) fn statics(&self, alloc: Global) -> Result<Vec<StaticImage>, AllocError>
+        requires up { IsUp self.now }
+    {
+        match self {
+            CardOrStore::Card(card) => statics_of(alloc, card),
+            CardOrStore::Store(_, _) => Ok(Vec::new(alloc)),
+        }
     }
 
     /// The budget that the card has, or has when it is up again.
@@ -207,29 +193,105 @@ impl<S: WordStore> CardOrStore<S> {
     }
 }
 
-// The text that an explainer wants to be told of a command of a card.
+/// A command that an explainer may be told of.
+#[derive(Clone, Copy, Drop)]
+pub(crate) struct ToldOf<'a> {
+    pub(crate) note: &'a Note,
+    /// Its line in the script.
+    pub(crate) line: u32,
+    /// The status word of its answer.
+    pub(crate) status: u16,
+    /// How many word writes had passed before it.
+    pub(crate) passed_before: u64,
+    /// The code that came with it.
+    pub(crate) lent_code: &'a [u8],
+    /// The static images before it, where they are kept.
+    pub(crate) statics: &'a [StaticImage],
+}
+
+// The text that an explainer wants to be told of a command of a card. Its watch is told that the command has ended.
 fn text_about<S: WordStore, E: Explainer>(
     alloc: Global,
     card: &Card<FuseStore<S>>,
-    note: &Note,
-    status: u16,
-    word_writes: u64,
-    lent_code: &[u8],
+    told_of: &ToldOf<'_>,
     explainer: &E,
 ) -> Option<Vec<u8>>
     requires up { card.now.memory.heap.down ≡ false }
 {
     let wanted = explainer.wanted()?;
-    let asked = Asked {
+    let word_writes = card.passed_writes().saturating_sub(told_of.passed_before);
+    let asked = asked_about(
         alloc,
-        note,
-        status,
+        card,
+        told_of,
+        explainer,
+        word_writes,
+        card.free_words(),
+    );
+    if let Some(watch) = explainer.watch() {
+        watch.end(&asked);
+    }
+    let mut text = explainer
+        .arrivals(&asked, told_of.statics)
+        .unwrap_or(Vec::new(alloc));
+    let told = told(&asked, wanted).ok()?;
+    text.extend_from_slice(&told).ok()?;
+    Some(text)
+}
+
+fn asked_about<'a, S: WordStore, E: Explainer>(
+    alloc: Global,
+    card: &'a Card<FuseStore<S>>,
+    told_of: &ToldOf<'a>,
+    explainer: &'a E,
+    word_writes: u64,
+    free_words: u16,
+) -> Asked<'a> {
+    Asked {
+        alloc,
+        note: told_of.note,
+        line: told_of.line,
+        status: told_of.status,
         budget: card.budget(),
         linked: card.linked(),
         word_writes,
-        free_words: card.free_words(),
+        free_words,
         map: explainer.map(),
-        lent_code,
-    };
-    told(&asked, wanted).ok()
+        lent_code: told_of.lent_code,
+    }
+}
+
+// The static images of the packages of a card.
+fn statics_of<S: WordStore>(
+    alloc: Global,
+    card: &Card<FuseStore<S>>,
+) -> Result<Vec<StaticImage>, AllocError>
+    requires up { card.now.memory.heap.down ≡ false }
+{
+    let mut images = Vec::new(alloc);
+    for package_number in 1..=card.linked().last() {
+        let bytes = image_of(alloc, card, package_number)?;
+        images.push(StaticImage {
+            package_number,
+            bytes,
+        })?;
+    }
+    Ok(images)
+}
+
+// The static image of a package.
+fn image_of<S: WordStore>(
+    alloc: Global,
+    card: &Card<FuseStore<S>>,
+    package_number: u8,
+) -> Result<Vec<u8>, AllocError>
+    requires up { card.now.memory.heap.down ≡ false }
+{
+    let (size, _) = card.linked().statics_at(package_number);
+    let mut bytes = Vec::new(alloc);
+    for number in 0..size.div_ceil(2) {
+        let word = card.static_word(package_number, number).unwrap_or(0);
+        bytes.extend_from_slice(&word.to_be_bytes())?;
+    }
+    Ok(bytes)
 }

@@ -1,8 +1,9 @@
 //! Who asks what commands of a script did.
 
 use crate::expectations::Expectations;
+use crate::static_image::StaticImage;
 use jcard_why::covers::Cover;
-use jcard_why::explanation::Wanted;
+use jcard_why::explanation::{Asked, Wanted};
 use jcard_why::watches::Watch;
 
 /// Somebody who may be told what commands did. No answer depends on it.
@@ -21,6 +22,16 @@ pub trait Explainer {
 
     /// Where it watches word writes, where it wants that.
     fn watch(&self) -> Option<&Watch>;
+
+    /// Whether it looks for arrivals of a command at places of the code.
+    fn looks_for_arrivals(&self) -> bool {
+        false
+    }
+
+    /// What is told of the arrivals of a command, before which the static images were these; nothing where memory is refused.
+    fn arrivals(&self, _asked: &Asked<'_>, _images: &[StaticImage]) -> Option<Vec<u8>> {
+        None
+    }
 
     /// Where it compares answers, where it wants that.
     fn expectations(&mut self) -> Option<&mut Expectations>;

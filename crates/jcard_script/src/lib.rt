@@ -11,6 +11,7 @@ pub mod refused_line;
 mod reply;
 pub mod script;
 mod session;
+pub mod static_image;
 pub mod std_text;
 pub mod streams;
 mod word;

@@ -39,7 +39,7 @@ pub(crate) enum LineRequest {
     Exchange(ArrayVec<u8, 262>),
     /// A reset.
     Reset,
-    /// To let so many writes pass.
+    /// To let this many writes pass.
     ArmFuse(u16),
     /// It has no form.
     Refused,
@@ -269,7 +269,7 @@ fn command_in(line: &[u8], room: &mut [u8; 262]) -> Option<usize>
     }
 }
 
-// Puts the bytes that digits spell there, and says whether they spell so many.
+// Puts the bytes that digits spell there, and says whether they spell this many.
 fn decode(digits: &[u8], bytes: &mut [u8]) -> bool
     ensures len { length bytes.new ≡ length bytes.old }
     ensures spelt { result ≡ true → decode_of digits.now ≡ Ok bytes.new }
@@ -283,7 +283,7 @@ fn is_digit(byte: u8) -> bool
     byte.is_ascii_hexdigit()
 }
 
-// The bytes that so many digits spell.
+// The bytes that this many digits spell.
 fn command_of(digits: &[u8]) -> Option<ArrayVec<u8, 262>>
     requires { length digits.now ≤ 524 }
     ensures { MatchOption result (IsErr (decode_of digits.now))

@@ -16,7 +16,7 @@ pub struct MemText<'a> {
 }
 
 impl<'a> MemText<'a> {
-    /// Gives these bytes, and has room for so many that are written.
+    /// Gives these bytes, and has room for this many that are written.
     pub fn new(alloc: Global, input: &'a [u8], room: usize) -> Result<Self, AllocError>
         ensures input { IfOk result (λ text. text.input.now ≡ input.now) }
         ensures output { IfOk result (λ text. text.output.items ≡ []) }

@@ -13,11 +13,11 @@ use std::alloc::{AllocError, Global};
 pub enum LineFault {
     /// The byte in this column, counted from 1, is no hexadecimal digit.
     NoDigit { column: usize, byte: u8 },
-    /// A comment begins in this column, counted from 1, behind other bytes.
+    /// A comment begins in this column, counted from 1, after other bytes.
     CommentBehind { column: usize },
     /// The digits are odd in number.
     OddDigits,
-    /// Behind `stop` stands no number from 0 to 65535.
+    /// After `stop` stands no number from 0 to 65535.
     NoNumber,
 }
 
@@ -90,7 +90,7 @@ pub fn remark_of(alloc: Global, line: u32, fault: LineFault) -> Result<Vec<u8>, 
     Ok(text)
 }
 
-/// Adds what a remark says behind the number of the line, with a line feed.
+/// Adds what a remark says after the number of the line, with a line feed.
 pub fn told_fault(text: &mut Vec<u8>, fault: LineFault) -> Result<(), AllocError> {
     match fault {
         LineFault::NoDigit { column, byte } => {

@@ -22,7 +22,7 @@ pub(crate) enum Reply {
     Ready,
     /// The store is down.
     Down,
-    /// The fuse lets so many writes pass.
+    /// The fuse lets this many writes pass.
     Armed(u16),
 }
 

@@ -73,7 +73,7 @@ pub fn run_script<S: WordStore + Drop, R: TextIn, W: TextOut>(
     run_script_explained(alloc, fuse, USUAL_BUDGET, reader, writer, &mut Unasked)
 }
 
-/// The same with any budget of instructions a command; and behind each answer of a command the explainer is told what it wants to
+/// The same with any budget of instructions a command; and after each answer of a command the explainer is told what it wants to
 /// be told.
 pub fn run_script_explained<S: WordStore + Drop, R: TextIn, W: TextOut, E: Explainer>(
     alloc: Global,

@@ -16,13 +16,14 @@ ghost use Rattle.jc_session.specs.Requests.{Command, Reset};
 ghost use Rattle.jcard_script.specs.ScriptStates.{ScriptState, IsSessionStore, PowersUp, FailsUp, FailsReset, with_fuse};
 ghost use Rattle.jcard_script.specs.Session.{EndsLine, StandsAt, IsUnbroken, IsWrittenOut, LineEnds, LineFails, LinesEnd};
 
-use crate::card_or_store::CardOrStore;
+use crate::card_or_store::{CardOrStore, ToldOf};
 use crate::expectations::Expectations;
 use crate::explainer::Explainer;
 use crate::line::{BYTES, Line, LineRequest};
 use crate::refused_line::remark_of;
 use crate::reply::{MOST_TEXT, Reply, reply_text, status_of, write_reply};
 use crate::script::{BOUND, ScriptFault};
+use crate::static_image::StaticImage;
 use crate::streams::{TextIn, TextOut, WriteFailed};
 use arrayvec::ArrayVec;
 use jc_card::power_up::PowerFault;
@@ -50,6 +51,8 @@ pub(crate) struct Session<S: WordStore> {
     response: Response,
     // The last command, where notes are kept.
     command: ArrayVec<u8, 262>,
+    // The static images before it, where somebody wants to be told of arrivals.
+    statics: Vec<StaticImage>,
     // What is to be told of the last command within which the power was cut, and the number of its line.
     cut: Option<Vec<u8>>,
     cut_number: u32,
@@ -80,6 +83,7 @@ impl<S: WordStore + Drop> Session<S> {
             passed_before: 0,
             response: Response::empty(),
             command: ArrayVec::new(),
+            statics: Vec::new(alloc),
             cut: None,
             cut_number: 0,
         };
@@ -101,6 +105,7 @@ impl<S: WordStore + Drop> Session<S> {
             passed_before: _,
             response: _,
             command: _,
+            statics: _,
             cut: _,
             cut_number: _,
         } = self;
@@ -348,14 +353,15 @@ impl<S: WordStore + Drop> Session<S> {
             return;
         };
         if let Some(held) = &self.held {
-            held.tell(
-                self.alloc,
-                &note,
+            let told = ToldOf {
+                note: &note,
+                line: self.number,
                 status,
-                self.passed_before,
-                code_of(&self.command),
-                explainer,
-            );
+                passed_before: self.passed_before,
+                lent_code: code_of(&self.command),
+                statics: &self.statics,
+            };
+            held.tell(self.alloc, &told, explainer);
         }
     }
 
@@ -425,6 +431,7 @@ impl<S: WordStore + Drop> Session<S> {
     {
         self.notes.begin(self.number);
         self.command = kept_command(command, &self.notes);
+        self.statics = kept_statics(self.alloc, &self.held, explainer);
         let budget = self.budget();
         if let Some(held) = &mut self.held {
             self.passed_before = held.passed_writes();
@@ -448,7 +455,14 @@ impl<S: WordStore + Drop> Session<S> {
             × (state_of_held self.new.held ≡ Off budget store) }
     {
         let held = self.held.take().unwrap();
-        self.cut = cut_text(self.alloc, &held, &self.notes, explainer);
+        self.cut = cut_text(
+            self.alloc,
+            &held,
+            &self.notes,
+            self.number,
+            &self.statics,
+            explainer,
+        );
         self.cut_number = self.number;
         let left = held.into_store();
         self.held = Some(CardOrStore::Store(left, budget));
@@ -502,15 +516,42 @@ impl<S: WordStore + Drop> Session<S> {
     }
 }
 
-// What is to be told of the command within which the power was cut.
+// What is to be told of the command in a line within which the power was cut.
 fn cut_text<S: WordStore, E: Explainer>(
     alloc: Global,
     held: &CardOrStore<S>,
     notes: &Notes,
+    line: u32,
+    statics: &[StaticImage],
     explainer: &E,
 ) -> Option<Vec<u8>> {
     let note = notes.take()?;
-    held.told_of_cut(alloc, &note, explainer)
+    let told = ToldOf {
+        note: &note,
+        line,
+        status: 0,
+        passed_before: 0,
+        lent_code: b"",
+        statics,
+    };
+    held.told_of_cut(alloc, &told, explainer)
+}
+
+// The static images before a command, where somebody wants to be told of arrivals and there is memory for them.
+fn kept_statics<S: WordStore, E: Explainer>(
+    alloc: Global,
+    held: &Option<CardOrStore<S>>,
+    explainer: &E,
+) -> Vec<StaticImage>
+    requires { IsState held.now }
+{
+    if !explainer.looks_for_arrivals() {
+        return Vec::new(alloc);
+    }
+    match held {
+        Some(held) => held.statics(alloc).unwrap_or(Vec::new(alloc)),
+        None => Vec::new(alloc),
+    }
 }
 
 // A command, where notes are kept.

@@ -15,7 +15,7 @@ const HEAD: usize = 6;
 pub(crate) struct Word {
     // The first six bytes.
     head: ArrayVec<u8, 6>,
-    // The number that the bytes behind the first five are, while they are a decimal one.
+    // The number that the bytes after the first five are, while they are a decimal one.
     number: Option<u16>,
 }
 

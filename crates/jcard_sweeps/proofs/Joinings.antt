@@ -1,13 +1,13 @@
 -- Reading the texts of parts, and joining them.
 use Rattle.std.proofs.Common.{arith, ◌≡◌, ◌∙◌, ◌⊎◌, inl, inr, ℕ, suc, Bool, add-one, drop-cons, ◌+◌, ◌<◌, ◌≤◌, List, [], ◌∷◌, ◌++◌, length, get_or, take, drop, map, ap, sym, refl, subst, append_assoc, append-nil, Ok, Err, Result, None, true, false, ◌&&◌}
 use Rattle.std.specs.Borrow.{Bor}
-use Rattle.std.specs.Option.{is_none}
 use Rattle.std.specs.Prelude.{if◌then◌else◌, is_err, is_ok}
 use Rattle.std.proofs.lemmas.Bool.{true≢false}
 use Rattle.std.proofs.lemmas.List.{map-append, take-append-drop, take_more}
 use Rattle.jcard_outcomes.specs.Joins.{AreBodiesOf, AreJoined, ArePartsOf, IsJoinFault, IsTellable}
-use Rattle.jcard_outcomes.specs.Recoveries.{first_difference}
-use Rattle.jcard_outcomes.specs.Reports.{first_broken, report_text}
+use Rattle.jcard_outcomes.specs.Reports.{are_whole, report_text}
+use Rattle.jcard_outcomes.specs.SweepKinds.{kind_of}
+use Rattle.jcard_outcomes.specs.declared.recoveries.Depth.{Depth}
 use Rattle.jcard_outcomes.specs.declared.join_fault.JoinFault.{JoinFault}
 use Rattle.jcard_outcomes.specs.declared.join_fault.JoinFault.TheVariants as joining
 use Rattle.jcard_outcomes.specs.declared.join.Joined.{Joined}
@@ -15,10 +15,10 @@ use Rattle.jcard_outcomes.specs.declared.report.Sweep.{Sweep}
 use Rattle.jcard_outcomes.specs.SweepHeads.{AreBehindHeads, AreOfOthers}
 use Rattle.jcard_outcomes.specs.declared.sweep_head.HeadFault.{HeadFault}
 use Rattle.jcard_outcomes.specs.declared.sweep_head.HeadFault.TheVariants as heading
-use Rattle.jcard_outcomes.proofs.PartHeads.{bodies_of_parts, parts_of_one}
+use Rattle.jcard_outcomes.proofs.PartHeads.{bodies_of_parts, name_of_parts, parts_of_one}
 use Rattle.jcard_script.specs.Texts.{IsCutOf}
 use Rattle.jcard_files.specs.FileDeeds.{FileDeed}
-use Rattle.jcard_sweeps.specs.Joinings.{AreBodiesJoinedTo, AreFirstRead, AreRead, AreUnread, IsJoinTold, IsJoinedTo, IsJoining, IsOtherTold, told_join_fault}
+use Rattle.jcard_sweeps.specs.Joinings.{AreBodiesJoinedTo, AreFirstRead, AreJoinedBy, AreRead, AreUnread, IsJoinTold, IsJoinedTo, IsJoining, IsOtherTold, told_join_fault}
 use Rattle.jcard_files.specs.Readings.{IsUnread, IsScriptRead}
 use Rattle.jcard_sweeps.specs.Tears.{IsReported}
 use Rattle.jcard_faults.specs.declared.fault.Fault.{Fault}
@@ -46,38 +46,38 @@ read_push (n ∷ names) (t ∷ texts) deeds name text opened h r = (
 )
 
 reported : (s : Sweep) (j : Joined) (ended : Result (Unit {0}) Fault) (text : List ℕ) → j.text.items ≡ report_text s
-    → j.is_all_or_nothing ≡ is_none (first_broken 0 s.cuts.items) → first_difference 0 s.cuts.items ≡ None → IsJoinTold j ended text → IsReported s ended text
-reported s j (Ok done) text e f none h = (
-  h.0 ∙ e,
-  ap (λ b. b && is_none (first_difference 0 s.cuts.items)) (sym f ∙ h.1) ∙ ap (λ d. is_none d) none,
-)
-reported s j (Err NotAllOrNothing) text e f none h = (h.0 ∙ e, ap (λ b. b && is_none (first_difference 0 s.cuts.items)) (sym f ∙ h.1))
-reported s j (Err WriteFailed) text e f none h = subst (λ t. IsCutOf t text) e h
-reported s j (Err other) text e f none h = absurd h
+    → j.is_all_or_nothing ≡ are_whole s.cuts.items → IsJoinTold j ended text → IsReported s ended text
+reported s j (Ok done) text e f h = (h.0 ∙ e, sym f ∙ h.1)
+reported s j (Err NotAllOrNothing) text e f h = (h.0 ∙ e, sym f ∙ h.1)
+reported s j (Err WriteFailed) text e f h = subst (λ t. IsCutOf t text) e h
+reported s j (Err other) text e f h = absurd h
 
 -- the report was told
-pub joined_told : (texts : List (List ℕ)) (j : Joined) (ended : Result (Unit {0}) Fault) (text : List ℕ) → AreJoined texts j
-    → ((s : Sweep) → IsTellable s → AreBodiesOf s texts
-    → (j.text.items ≡ report_text s) × (j.is_all_or_nothing ≡ is_none (first_broken 0 s.cuts.items))) → IsJoinTold j ended text → AreBodiesJoinedTo texts ended text
-joined_told texts j ended text joined parts told = record {
+pub joined_told : (depth : Depth) (texts : List (List ℕ)) (j : Joined) (ended : Result (Unit {0}) Fault) (text : List ℕ) → AreJoined depth texts j
+    → ((s : Sweep) → IsTellable depth s → AreBodiesOf s texts
+    → (j.text.items ≡ report_text s) × (j.is_all_or_nothing ≡ are_whole s.cuts.items)) → IsJoinTold j ended text → AreBodiesJoinedTo depth texts ended text
+joined_told depth texts j ended text joined parts told = record {
   joined = inl (j, joined, told);
-  whole = λ s tellable h. let of = parts s tellable h in inl (reported s j ended text of.0 of.1 tellable.4 told);
+  whole = λ s tellable h. let of = parts s tellable h in inl (reported s j ended text of.0 of.1 told);
 }
 
 -- the texts were not joined
-pub unjoined : (texts : List (List ℕ)) (cause : JoinFault) (fault : Fault) → fault ≡ told_join_fault cause → IsJoinFault texts cause
-    → ((s : Sweep) → IsTellable s → AreBodiesOf s texts → cause ≡ joining.NoMemory) → AreBodiesJoinedTo texts (Err fault) []
-unjoined texts cause fault e why none = record {
+pub unjoined : (depth : Depth) (texts : List (List ℕ)) (cause : JoinFault) (fault : Fault) → fault ≡ told_join_fault cause → IsJoinFault texts cause
+    → ((s : Sweep) → IsTellable depth s → AreBodiesOf s texts → cause ≡ joining.NoMemory) → AreBodiesJoinedTo depth texts (Err fault) []
+unjoined depth texts cause fault e why none = record {
   joined = inr (cause, why, ap Err e, refl);
   whole = λ s tellable h. inr (ap Err (e ∙ ap told_join_fault (none s tellable h)), refl);
 }
 
 -- the bodies were joined
-pub heads_joined : (names texts bodies : List (List ℕ)) (name : List ℕ) (ended : Result (Unit {0}) Fault) (text : List ℕ) → AreBehindHeads name texts bodies
-    → AreBodiesJoinedTo bodies ended text → IsJoinedTo names texts ended text
-heads_joined names texts bodies name ended text behind told = record {
+pub heads_joined : (names texts bodies : List (List ℕ)) (name : List ℕ) (ended : Result (Unit {0}) Fault) (text : List ℕ) → 0 < length texts → AreBehindHeads name texts bodies
+    → AreJoinedBy (kind_of name) bodies ended text → IsJoinedTo names texts ended text
+heads_joined names texts bodies name ended text some behind told = record {
   joined = inl (name, bodies, behind, told);
-  whole = λ s own plain tellable parts. told.whole s tellable (bodies_of_parts s own name texts bodies plain parts behind);
+  whole = λ depth s own plain kind tellable parts.
+      let same : own ≡ name = name_of_parts s own name texts bodies some plain parts behind in
+      let deep = subst (λ k. AreJoinedBy k bodies ended text) (ap kind_of (sym same) ∙ kind) told in
+      deep.whole s tellable (bodies_of_parts s own name texts bodies plain parts behind);
 }
 
 -- the texts are not of one sweep
@@ -85,7 +85,7 @@ pub others_told : (names texts : List (List ℕ)) (cause : HeadFault) (fault : F
     → IsJoinedTo names texts (Err fault) []
 others_told names texts cause fault some others told = record {
   joined = inr (cause, fault, others, told, refl, refl);
-  whole = λ s own plain tellable parts. inr (ap Err (refused cause fault (parts_of_one s own texts cause some plain parts others) told), refl);
+  whole = λ depth s own plain kind tellable parts. inr (ap Err (refused cause fault (parts_of_one s own texts cause some plain parts others) told), refl);
 }
   where
     refused : (cause : HeadFault) (fault : Fault) → cause ≡ heading.NoMemory → IsOtherTold names cause fault → fault ≡ NoMemory
@@ -125,7 +125,7 @@ names_around files i h =
     sym (ap named (take-append-drop i files)) ∙ map-append (λ (f : Bor (List ℕ)). f.now) (take i files) (drop i files)
     ∙ ap (λ l. named (take i files) ++ l) (ap named at)
 
--- the names up to the next, and those behind it
+-- the names up to the next, and those after it
 pub names_split : {S : Type 0} (f : S → List ℕ) (files : List S) (i : ℕ) → map f files ≡ map f (take i files) ++ map f (drop i files)
 names_split f files i = sym (ap (map f) (take-append-drop i files)) ∙ map-append f (take i files) (drop i files)
 

@@ -3,7 +3,12 @@ use Rattle.std.specs.Prelude.{ℕ, ◌≡◌, ◌⊎◌, true, false, List, [], 
 use Rattle.std.specs.Borrow.{Bor}
 use Rattle.std.specs.List.{slice_index_or}
 use Rattle.jcard_outcomes.specs.Joins.{AreBodiesOf, AreJoined, ArePartsOf, IsJoinFault, IsTellable}
+use Rattle.jcard_outcomes.specs.CommandShares.{AreNoShares, AreSharesJoined}
 use Rattle.jcard_outcomes.specs.Parts.{has}
+use Rattle.jcard_outcomes.specs.SweepKinds.{kind_of}
+use Rattle.jcard_outcomes.specs.declared.recoveries.Depth.{Depth}
+use Rattle.jcard_outcomes.specs.declared.sweep_kind.SweepKind.{SweepKind}
+use Rattle.jcard_outcomes.specs.declared.sweep_kind.SweepKind.TheVariants.{Cuts, Commands}
 use Rattle.jcard_outcomes.specs.SweepHeads.{AreBehindHeads, AreOfOthers}
 use Rattle.jcard_outcomes.specs.declared.sweep_head.HeadFault.{HeadFault}
 use Rattle.jcard_outcomes.specs.declared.sweep_head.HeadFault.TheVariants as heading
@@ -16,7 +21,7 @@ use Rattle.jcard_files.specs.FileDeeds.{FileDeed}
 use Rattle.jcard_files.specs.Readings.{IsUnread, IsScriptRead}
 use Rattle.jcard_sweeps.specs.Tears.{IsReported}
 use Rattle.jcard_faults.specs.declared.fault.Fault.{Fault}
-use Rattle.jcard_faults.specs.declared.fault.Fault.TheVariants.{BadCut, CutMissing, CutTwice, NoMemory, NotAllOrNothing, OtherPart, OtherSweep, WriteFailed}
+use Rattle.jcard_faults.specs.declared.fault.Fault.TheVariants.{BadCut, BadShare, CutMissing, CutTwice, NoMemory, NotAllOrNothing, OtherPart, OtherSweep, ShareMissing, ShareTwice, WriteFailed}
 
 -- these texts were read from the files of these names, in their order
 abbrev pub AreRead : List (List ℕ) → List (List ℕ) → List FileDeed → Type 0
@@ -42,6 +47,14 @@ told_join_fault (joining.Twice k) = CutTwice k
 told_join_fault (joining.BadLine k) = BadCut k
 told_join_fault (joining.OtherSweep k) = OtherSweep k
 
+-- what is told of texts that are not all shares of the commands of a script
+abbrev pub told_share_fault : JoinFault → Fault
+told_share_fault joining.NoMemory = NoMemory
+told_share_fault (joining.Missing k) = ShareMissing k
+told_share_fault (joining.Twice k) = ShareTwice k
+told_share_fault (joining.BadLine k) = BadShare k
+told_share_fault (joining.OtherSweep k) = BadShare k
+
 -- the report was written, and so it ended
 abbrev pub IsJoinTold : Joined → Result Unit Fault → List ℕ → Type 0
 IsJoinTold j (Ok done) text = (text ≡ j.text.items) × (j.is_all_or_nothing ≡ true)
@@ -51,22 +64,32 @@ IsJoinTold j (Err other) text = ⊥
 
 -- texts without heads were joined to a report; or they are not the parts of a sweep, or memory was refused. The parts of a sweep are joined to
 -- what is told of it, or memory was refused
-pub record AreBodiesJoinedTo (texts : List (List ℕ)) (ended : Result Unit Fault) (text : List ℕ) : Type 0 where
-  pub joined : ((j : Joined) × AreJoined texts j × IsJoinTold j ended text)
+pub record AreBodiesJoinedTo (depth : Depth) (texts : List (List ℕ)) (ended : Result Unit Fault) (text : List ℕ) : Type 0 where
+  pub joined : ((j : Joined) × AreJoined depth texts j × IsJoinTold j ended text)
       ⊎ ((cause : JoinFault) × IsJoinFault texts cause × (ended ≡ Err (told_join_fault cause)) × (text ≡ []))
-  pub whole : (s : Sweep) → IsTellable s → AreBodiesOf s texts → IsReported s ended text ⊎ ((ended ≡ Err NoMemory) × (text ≡ []))
+  pub whole : (s : Sweep) → IsTellable depth s → AreBodiesOf s texts → IsReported s ended text ⊎ ((ended ≡ Err NoMemory) × (text ≡ []))
+
+-- texts without heads of all shares of the commands of a script were joined; or they are not those, or memory was refused
+abbrev pub AreSharesJoinedTo : List (List ℕ) → Result Unit Fault → List ℕ → Type 0
+AreSharesJoinedTo texts ended text = ((j : Joined) × AreSharesJoined texts j × IsJoinTold j ended text)
+    ⊎ ((cause : JoinFault) × AreNoShares texts cause × (ended ≡ Err (told_share_fault cause)) × (text ≡ []))
+
+-- texts without heads were joined as the parts of such a sweep
+abbrev pub AreJoinedBy : SweepKind → List (List ℕ) → Result Unit Fault → List ℕ → Type 0
+AreJoinedBy (Cuts depth) texts ended text = AreBodiesJoinedTo depth texts ended text
+AreJoinedBy Commands texts ended text = AreSharesJoinedTo texts ended text
 
 -- the text of one of the files of these names is of another sweep than that of the first: the file is told; or memory was refused
 abbrev pub IsOtherTold : List (List ℕ) → HeadFault → Fault → Type 0
 IsOtherTold names heading.NoMemory fault = fault ≡ NoMemory
 IsOtherTold names (heading.OtherSweep j) fault = (path : Bor (List ℕ)) × (fault ≡ OtherPart path) × (path.now ≡ slice_index_or names j [])
 
--- what the texts of the files of these names tell behind their heads was joined; or they are not of one sweep. The parts of a sweep are joined
+-- what the texts of the files of these names tell after their heads was joined; or they are not of one sweep. The parts of a sweep are joined
 -- to what is told of it, or memory was refused
 pub record IsJoinedTo (names texts : List (List ℕ)) (ended : Result Unit Fault) (text : List ℕ) : Type 0 where
-  pub joined : ((name : List ℕ) × (bodies : List (List ℕ)) × AreBehindHeads name texts bodies × AreBodiesJoinedTo bodies ended text)
+  pub joined : ((name : List ℕ) × (bodies : List (List ℕ)) × AreBehindHeads name texts bodies × AreJoinedBy (kind_of name) bodies ended text)
       ⊎ ((cause : HeadFault) × (fault : Fault) × AreOfOthers texts cause × IsOtherTold names cause fault × (ended ≡ Err fault) × (text ≡ []))
-  pub whole : (s : Sweep) (name : List ℕ) → has 10 name ≡ false → IsTellable s → ArePartsOf s name texts
+  pub whole : (depth : Depth) (s : Sweep) (name : List ℕ) → has 10 name ≡ false → kind_of name ≡ Cuts depth → IsTellable depth s → ArePartsOf s name texts
       → IsReported s ended text ⊎ ((ended ≡ Err NoMemory) × (text ≡ []))
 
 -- the files were read, and joined; or they were read up to one that could not be, or up to one for whose text memory was refused

@@ -1,12 +1,14 @@
 -- `jcard tear`: what is read, what is done with it, and what is told.
-use Rattle.std.specs.Prelude.{ℕ, ◌≡◌, ◌⊎◌, ◌<◌, ◌||◌, Bool, false, true, All, map, List, [], ◌∷◌, ◌++◌, Option, Some, None, Result, Ok, Err}
+use Rattle.std.specs.Prelude.{ℕ, ◌≡◌, ◌⊎◌, ◌+◌, ◌*◌, ◌/◌, ◌%◌, ◌<◌, ◌==◌, ◌↔◌, if◌then◌else◌, Bool, IsTrue, drop, length, take, false, true, All, map, List, [], ◌∷◌, ◌++◌, Option, Some, None, Result, Ok, Err}
 use Rattle.jcard_outcomes.specs.Reports.{are_whole, is_whole_outcome, report_text, verdicts_text}
-use Rattle.jcard_outcomes.specs.Parts.{IsShareText, part_text}
+use Rattle.jcard_outcomes.specs.Parts.{IsShareText, head_text, part_text}
+use Rattle.jcard_outcomes.specs.CommandShares.{share_text}
 use Rattle.jcard_outcomes.specs.declared.each.LineSweep.{LineSweep}
 use Rattle.jcard_outcomes.specs.declared.part.Part.{Part}
 use Rattle.jcard_outcomes.specs.declared.part.Share.{Share}
 use Rattle.jcard_outcomes.specs.declared.report.Sweep.{Sweep}
 use Rattle.jcard_script.specs.Texts.{IsCutOf}
+use Rattle.jcard_tear.specs.Names.{commands_name}
 use Rattle.jcard_tear.specs.Parts.{IsLinePart}
 use Rattle.std.specs.Str.Parse.{IsNumeral, digits_value}
 use Rattle.jcard_tear.specs.ScriptLines.{Line, chosen, commands_of, line_of}
@@ -17,10 +19,8 @@ use Rattle.jcard_files.specs.Readings.{IsScriptRead, IsUnread}
 use Rattle.jcard_files.specs.FileDeeds.{FileDeed, ClosesImage, ReadsImage, untouched}
 use Rattle.jcard_files.specs.Images.{IsNotOpened}
 use Rattle.jcard_faults.specs.declared.fault.Fault.{Fault}
-use Rattle.jcard_faults.specs.declared.fault.Fault.TheVariants.{BadCommandLine, BadPart, NoCommand, NoMemory, NotAllOrNothing, WriteFailed}
+use Rattle.jcard_faults.specs.declared.fault.Fault.TheVariants.{BadPart, NoCommand, NoMemory, NotAllOrNothing, WriteFailed}
 use Rattle.jcard_sweeps.specs.TearFaults.{IsTearFault}
-use Rattle.jcard_outcomes.specs.declared.recoveries.Depth.{Depth}
-use Rattle.jcard_outcomes.specs.declared.recoveries.Depth.TheVariants.{Zero}
 use Rattle.jcard_tear.specs.Faults.{IsLineUncut, IsOneUncut, told_run_fault}
 use Rattle.jcard_tear.specs.Runs.{IsCarriedThrough, IsRunFault}
 use Rattle.jcard_tear.specs.declared.runs.RunFault.{RunFault}
@@ -64,7 +64,7 @@ abbrev pub EndsUntold : Result Unit Fault → List ℕ → Type 0
 EndsUntold ended text = (ended ≡ Err NoMemory) × (text ≡ [])
 
 -- the command in this line was cut after each number of its writes, on cards of copies of these words, with these lines of a probe, if
--- any, and this behind each, and that was told; or it could not be
+-- any, and this after each, and that was told; or it could not be
 abbrev pub IsTornOne : List ℕ → Line → Behind → Option (List ℕ) → Result Unit Fault → List ℕ → Type 0
 IsTornOne w l behind given ended text = ((s : Sweep) × IsLineSwept w given behind l s × (IsReported s ended text ⊎ EndsUntold ended text))
     ⊎ EndsUncut (IsLineUncut w given behind l 1) ended text
@@ -93,28 +93,67 @@ IsProbed Does name ended text deeds = ((fault : Fault) × (ended ≡ Err fault) 
 
 -- ---- parts
 
+-- this was written; or a write failed within it
+abbrev pub IsTextTold : List ℕ → Result Unit Fault → List ℕ → Type 0
+IsTextTold wanted (Ok done) text = text ≡ wanted
+IsTextTold wanted (Err WriteFailed) text = IsCutOf wanted text
+IsTextTold wanted (Err other) text = ⊥
+
 -- the lines of a part were written; or a write failed within them
 abbrev pub IsPartTold : Part → Result Unit Fault → List ℕ → Type 0
-IsPartTold p (Ok done) text = text ≡ part_text p
-IsPartTold p (Err WriteFailed) text = IsCutOf (part_text p) text
-IsPartTold p (Err other) text = ⊥
-
--- the same, with no recovery cut
-abbrev pub without_recoveries : Behind → Behind
-without_recoveries behind = record { depth = Zero; objects = behind.objects; instructions = behind.instructions }
+IsPartTold p ended text = IsTextTold (part_text p) ended text
 
 -- the command in this line was cut in this part, on cards of copies of these words, with these lines of a probe, if any, and that was
 -- told; or it could not be
 abbrev pub IsTornShare : List ℕ → Line → Behind → Share → Option (List ℕ) → Result Unit Fault → List ℕ → Type 0
-IsTornShare w l behind share given ended text = ((p : Part) × IsLinePart w given behind.objects behind.instructions l share.first share.step p
-    × (IsPartTold p ended text ⊎ EndsUntold ended text)) ⊎ EndsUncut (IsLineUncut w given (without_recoveries behind) l share.step) ended text
+IsTornShare w l behind share given ended text = ((p : Part) × IsLinePart w given behind l share.first share.step p
+    × (IsPartTold p ended text ⊎ EndsUntold ended text)) ⊎ EndsUncut (IsLineUncut w given behind l share.step) ended text
 
 -- it was cut in the part that this text names; or the text names none
 abbrev pub IsTornPart : List ℕ → Line → Behind → List ℕ → Option (List ℕ) → Result Unit Fault → List ℕ → List FileDeed → Type 0
 IsTornPart w l behind part probe ended text deeds = ((ended ≡ Err BadPart) × ((share : Share) → IsShareText part share → ⊥) × (text ≡ []) × (deeds ≡ []))
     ⊎ ((share : Share) × IsShareText part share × IsProbed (IsTornShare w l behind share) probe ended text deeds)
 
+-- of n commands, each of as many parts has this many, but for the last ones
+abbrev pub share_size : ℕ → ℕ → ℕ
+share_size n parts = if n % parts == 0 then n / parts else n / parts + 1
+
+-- the commands in a part of them
+abbrev pub commands_in : Share → List ScriptLine → List ScriptLine
+commands_in share all = take (share_size (length all) share.step) (drop (share.first * share_size (length all) share.step) all)
+
+-- the cuts of all commands were all or nothing
+abbrev pub AreAllWhole : List LineSweep → Type 0
+AreAllWhole sweeps = All (λ s. is_whole_outcome s.outcome ≡ true) sweeps
+
+-- the verdicts over the commands of a part were written, and whether each was all or nothing; or a write failed within them
+abbrev pub IsShareTold : List ℕ → Share → Bool → List LineSweep → Result Unit Fault → List ℕ → Type 0
+IsShareTold name share rows sweeps ended text = (whole : Bool) × (IsTrue whole ↔ AreAllWhole sweeps)
+    × IsTextTold (head_text name ++ share_text share.first share.step whole (verdicts_text rows sweeps)) ended text
+
+-- those of these commands that are in this part were cut, on cards of copies of these words, with these lines of a probe, if any, and that
+-- was told under this name; or one could not be
+abbrev pub IsShareCutAs : List ℕ → List ℕ → List ScriptLine → Behind → Share → Option (List ℕ) → Result Unit Fault → List ℕ → Type 0
+IsShareCutAs name w all behind share given ended text = ((sweeps : List LineSweep) × AreSwept w given behind (map line_of (commands_in share all)) sweeps
+    × (IsShareTold name share behind.objects sweeps ended text ⊎ EndsUntold ended text))
+    ⊎ EndsUncut (IsOneUncut w given behind (map line_of (commands_in share all))) ended text
+
+-- so they were, under the name of their sweep; or memory was refused for that
+abbrev pub IsShareCut : List ℕ → List ℕ → List ScriptLine → Behind → Share → Option (List ℕ) → Result Unit Fault → List ℕ → Type 0
+IsShareCut w script all behind share given ended text =
+    IsShareCutAs (commands_name w script given behind share.step) w all behind share given ended text ⊎ EndsUntold ended text
+
+-- they were cut in the part that this text names; or the text names none
+abbrev pub IsShareTorn : List ℕ → List ℕ → List ScriptLine → Behind → List ℕ → Option (List ℕ) → Result Unit Fault → List ℕ → List FileDeed → Type 0
+IsShareTorn w script all behind part probe ended text deeds = ((ended ≡ Err BadPart) × ((share : Share) → IsShareText part share → ⊥) × (text ≡ []) × (deeds ≡ []))
+    ⊎ ((share : Share) × IsShareText part share × IsProbed (IsShareCut w script all behind share) probe ended text deeds)
+
 -- ---- scripts
+
+-- each of these commands was cut, or those in the part of this name
+abbrev pub AreAllTorn : List ℕ → List ℕ → List ScriptLine → Behind → Option (List ℕ) → Option (List ℕ) → Result Unit Fault → List ℕ → List FileDeed → Type 0
+AreAllTorn w script all behind None probe ended text deeds = IsProbed (IsTornEach w (map line_of all) behind) probe ended text deeds
+AreAllTorn w script all behind (Some part) probe ended text deeds = IsShareTorn w script all behind part probe ended text deeds
 
 -- a command was cut whole, or in the part of this name
 abbrev pub IsTornIf : List ℕ → Line → Behind → Option (List ℕ) → Option (List ℕ) → Result Unit Fault → List ℕ → List FileDeed → Type 0
@@ -132,22 +171,22 @@ IsMeantBy None number = number ≡ None
 IsMeantBy (Some text) number = (n : ℕ) × (number ≡ Some n) × IsLineNumber text n
 
 -- the one of these commands that is meant was cut, or each
-abbrev pub AreTornBy : List ℕ → List ScriptLine → Option (List ℕ) → Bool → Behind → Option (List ℕ) → Option (List ℕ) → Result Unit Fault → List ℕ → List FileDeed → Type 0
-AreTornBy w all line false behind part probe ended text deeds = (number : Option ℕ) × (found : ScriptLine) × IsMeantBy line number
+abbrev pub AreTornBy : List ℕ → List ℕ → List ScriptLine → Option (List ℕ) → Bool → Behind → Option (List ℕ) → Option (List ℕ) → Result Unit Fault → List ℕ → List FileDeed → Type 0
+AreTornBy w script all line false behind part probe ended text deeds = (number : Option ℕ) × (found : ScriptLine) × IsMeantBy line number
     × (chosen number all ≡ Some found) × IsTornIf w (line_of found) behind part probe ended text deeds
-AreTornBy w all line true behind part probe ended text deeds = IsProbed (IsTornEach w (map line_of all) behind) probe ended text deeds
+AreTornBy w script all line true behind part probe ended text deeds = AreAllTorn w script all behind part probe ended text deeds
 
 -- so they were, or none is meant
-abbrev pub AreTornOf : List ℕ → List ScriptLine → Option (List ℕ) → Bool → Behind → Option (List ℕ) → Option (List ℕ) → Result Unit Fault → List ℕ → List FileDeed → Type 0
-AreTornOf w all line each behind part probe ended text deeds = ((number : Option ℕ) × IsMeantBy line number × (chosen number all ≡ None)
-    × (ended ≡ Err NoCommand) × (text ≡ []) × (deeds ≡ [])) ⊎ AreTornBy w all line each behind part probe ended text deeds
+abbrev pub AreTornOf : List ℕ → List ℕ → List ScriptLine → Option (List ℕ) → Bool → Behind → Option (List ℕ) → Option (List ℕ) → Result Unit Fault → List ℕ → List FileDeed → Type 0
+AreTornOf w script all line each behind part probe ended text deeds = ((number : Option ℕ) × IsMeantBy line number × (chosen number all ≡ None)
+    × (ended ≡ Err NoCommand) × (text ≡ []) × (deeds ≡ [])) ⊎ AreTornBy w script all line each behind part probe ended text deeds
 
 -- the whole script was carried out over these words, and then those that are meant were cut; or it was not carried out to its end, which is told
 -- over an image of some name
 abbrev pub AreTornThrough : List ℕ → List ℕ → List ScriptLine → Option (List ℕ) → Bool → Behind → Option (List ℕ) → Option (List ℕ) → Result Unit Fault → List ℕ → List FileDeed → Type 0
 AreTornThrough w script all line each behind part probe ended text deeds = ((cause : RunFault) × (image : List ℕ) × (fault : Fault)
     × IsRunFault behind.instructions w script cause × IsTearFault image (told_run_fault cause) fault × (ended ≡ Err fault) × (text ≡ []) × (deeds ≡ []))
-    ⊎ (IsCarriedThrough behind.instructions w script × AreTornOf w all line each behind part probe ended text deeds)
+    ⊎ (IsCarriedThrough behind.instructions w script × AreTornOf w script all line each behind part probe ended text deeds)
 
 -- the commands of this script that are meant were cut; or memory was refused for them
 abbrev pub IsTornIn : List ℕ → List ℕ → Option (List ℕ) → Bool → Behind → Option (List ℕ) → Option (List ℕ) → Result Unit Fault → List ℕ → List FileDeed → Type 0
@@ -161,23 +200,7 @@ IsTearOver w script line each behind part probe ended text deeds = ((fault : Fau
     × IsTornIn w s line each behind part probe ended text more)
 
 -- the words of the image were read, and then commands of the script were cut, on cards in memory alone
-abbrev pub IsTearRead : List ℕ → List ℕ → Option (List ℕ) → Bool → Behind → Option (List ℕ) → Option (List ℕ) → Result Unit Fault → List ℕ → List FileDeed → Type 0
-IsTearRead image script line each behind part probe ended text deeds = ((fault : Fault) × (ended ≡ Err fault) × (text ≡ []) × IsImageUnread image fault deeds)
+abbrev pub IsTear : List ℕ → List ℕ → Option (List ℕ) → Bool → Behind → Option (List ℕ) → Option (List ℕ) → Result Unit Fault → List ℕ → List FileDeed → Type 0
+IsTear image script line each behind part probe ended text deeds = ((fault : Fault) × (ended ≡ Err fault) × (text ≡ []) × IsImageUnread image fault deeds)
     ⊎ ((w : List ℕ) × (opened more : List FileDeed) × IsImageRead image w opened × (deeds ≡ opened ++ more)
     × IsTearOver w script line each behind part probe ended text more)
-
--- recoveries are cut
-abbrev pub is_deep : Depth → Bool
-is_deep Zero = false
-is_deep other = true
-
--- a part is asked for of what no part can be told: of each command, or with recoveries that are cut
-abbrev pub is_unshared : Bool → Depth → Option (List ℕ) → Bool
-is_unshared each depth None = false
-is_unshared each depth (Some part) = each || is_deep depth
-
--- so it is, and nothing was done; or it is not, and the image was read
-abbrev pub IsTear : List ℕ → List ℕ → Option (List ℕ) → Bool → Behind → Option (List ℕ) → Option (List ℕ) → Result Unit Fault → List ℕ → List FileDeed → Type 0
-IsTear image script line each behind part probe ended text deeds = ((is_unshared each behind.depth part ≡ true) × (ended ≡ Err BadCommandLine)
-    × (text ≡ []) × (deeds ≡ []))
-    ⊎ ((is_unshared each behind.depth part ≡ false) × IsTearRead image script line each behind part probe ended text deeds)

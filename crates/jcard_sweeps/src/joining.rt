@@ -1,4 +1,4 @@
-//! `jcard tear --join`: joining the texts of all parts of a sweep.
+//! `jcard tear --join`: joining the texts of all parts of a sweep, which have cuts of one command, or commands of a script.
 ghost use Rattle.std.specs.Prelude.{◌≡◌, ◌⊎◌, ◌<◌, ℕ, List, Err, MatchResult, IfErr, map, false, length};
 ghost use Rattle.std.specs.Borrow.{Bor};
 ghost use Rattle.std.specs.Io.KnownBytes.{Appends};
@@ -6,14 +6,17 @@ ghost use Rattle.jc_words.specs.Count.{failures_after};
 ghost use Rattle.jcard_faults.specs.Faults.{is_unwritten};
 ghost use Rattle.jcard_files.specs.FileDeeds.{FileDeed};
 ghost use Rattle.jcard_outcomes.specs.SweepHeads.{AreOfOthers};
-ghost use Rattle.jcard_sweeps.specs.Joinings.{AreBodiesJoinedTo, AreFirstRead, AreRead, AreUnread, IsJoinTold, IsJoinedTo, IsJoining, IsOtherTold, told_join_fault};
+ghost use Rattle.jcard_sweeps.specs.Joinings.{AreBodiesJoinedTo, AreFirstRead, AreRead, AreJoinedBy, AreSharesJoinedTo, AreUnread, IsJoinTold, IsJoinedTo, IsJoining, IsOtherTold, told_join_fault, told_share_fault};
 
 use jcard_faults::fault::Fault;
 use jcard_files::disk::Disk;
 use jcard_files::reading::script_of;
+use jcard_outcomes::command_shares::join_shares;
 use jcard_outcomes::join::{Joined, join};
 use jcard_outcomes::join_fault::JoinFault;
+use jcard_outcomes::recoveries::Depth;
 use jcard_outcomes::sweep_head::{HeadFault, bodies_of};
+use jcard_outcomes::sweep_kind::{SweepKind, kind_of};
 use jcard_script::streams::{TextOut, write_all};
 use std::alloc::Global;
 
@@ -73,7 +76,7 @@ fn join_texts<'n, W: TextOut>(
         (is_unwritten result) }
 {
     match bodies_of(alloc, texts) {
-        Ok(bodies) => join_bodies(alloc, &bodies, out),
+        Ok(bodies) => join_bodies(alloc, kind_of(bodies.name), &bodies.texts, out),
         Err(cause) => Err(head_fault(files, texts, cause)),
     }
 }
@@ -91,21 +94,62 @@ fn head_fault<'n>(files: &[&'n str], texts: &[Vec<u8>], cause: HeadFault) -> Fau
     }
 }
 
-// Joins these texts, which have no heads, and writes the report.
-fn join_bodies<'n, W: TextOut>(alloc: Global, texts: &[&[u8]], out: &mut W) -> Result<(), Fault<'n>>
+// Joins these texts, which have no heads, of the parts of such a sweep, and writes the report.
+fn join_bodies<'n, W: TextOut>(
+    alloc: Global,
+    kind: SweepKind,
+    texts: &[&[u8]],
+    out: &mut W,
+) -> Result<(), Fault<'n>>
     requires { 0 < length texts.now }
     ensures done { (text : List ℕ) × Appends (W.contents out.old) (W.contents out.new) text
-        × AreBodiesJoinedTo (map (λ (t : Bor (List ℕ)). t.now) texts.now) result text }
+        × AreJoinedBy kind (map (λ (t : Bor (List ℕ)). t.now) texts.now) result text }
     ensures writes { W.failures out.new ≡ failures_after (W.failures out.old)
         (is_unwritten result) }
 {
-    match join(alloc, texts) {
+    match kind {
+        SweepKind::Cuts(depth) => join_cuts(alloc, depth, texts, out),
+        SweepKind::Commands => join_commands(alloc, texts, out),
+    }
+}
+
+// Joins the texts of parts that have commands of a script.
+fn join_commands<'n, W: TextOut>(
+    alloc: Global,
+    texts: &[&[u8]],
+    out: &mut W,
+) -> Result<(), Fault<'n>>
+    ensures done { (text : List ℕ) × Appends (W.contents out.old) (W.contents out.new) text
+        × AreSharesJoinedTo (map (λ (t : Bor (List ℕ)). t.now) texts.now) result text }
+    ensures writes { W.failures out.new ≡ failures_after (W.failures out.old)
+        (is_unwritten result) }
+{
+    match join_shares(alloc, texts) {
+        Ok(joined) => tell_joined(&joined, out),
+        Err(cause) => Err(share_fault(cause)),
+    }
+}
+
+// Joins the texts of parts that have cuts of one command, after each of which this many recoveries were cut.
+fn join_cuts<'n, W: TextOut>(
+    alloc: Global,
+    depth: Depth,
+    texts: &[&[u8]],
+    out: &mut W,
+) -> Result<(), Fault<'n>>
+    requires { 0 < length texts.now }
+    ensures done { (text : List ℕ) × Appends (W.contents out.old) (W.contents out.new) text
+        × AreBodiesJoinedTo depth (map (λ (t : Bor (List ℕ)). t.now) texts.now) result text }
+    ensures writes { W.failures out.new ≡ failures_after (W.failures out.old)
+        (is_unwritten result) }
+{
+    match join(alloc, depth, texts) {
         Ok(joined) => tell_joined(&joined, out),
         Err(cause) => Err(join_fault(cause)),
     }
 }
 
-// Writes a report, and tells whether each cut was all or nothing.
+// Writes a report, and tells whether each cut was all or nothing, and no recovery made a difference.
 fn tell_joined<'n, W: TextOut>(joined: &Joined, out: &mut W) -> Result<(), Fault<'n>>
     ensures done { (text : List ℕ) × Appends (W.contents out.old) (W.contents out.new) text
         × IsJoinTold joined.now result text }
@@ -116,6 +160,19 @@ fn tell_joined<'n, W: TextOut>(joined: &Joined, out: &mut W) -> Result<(), Fault
         Ok(()) if joined.is_all_or_nothing => Ok(()),
         Ok(()) => Err(Fault::NotAllOrNothing),
         Err(_) => Err(Fault::WriteFailed),
+    }
+}
+
+// What it means that texts are not all shares of the commands of a script.
+fn share_fault<'n>(cause: JoinFault) -> Fault<'n>
+    ensures told { result ≡ told_share_fault cause }
+    ensures unwritten { is_unwritten (Err result) ≡ false }
+{
+    match cause {
+        JoinFault::NoMemory => Fault::NoMemory,
+        JoinFault::Missing(number) => Fault::ShareMissing(number),
+        JoinFault::Twice(number) => Fault::ShareTwice(number),
+        JoinFault::BadLine(number) | JoinFault::OtherSweep(number) => Fault::BadShare(number),
     }
 }
 

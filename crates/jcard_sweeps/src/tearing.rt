@@ -1,16 +1,18 @@
 //! `jcard tear`: cutting the power within commands of a script, after each number of their word writes.
-ghost use Rattle.std.specs.Prelude.{◌≡◌, ◌⊎◌, ◌+◌, ◌*◌, ◌<◌, ℕ, List, Some, Err, MatchResult, IfOk, IfErr, false, length, map, option_map};
+ghost use Rattle.std.specs.Prelude.{◌≡◌, ◌++◌, ◌⊎◌, ◌+◌, ◌*◌, ◌<◌, ℕ, List, Some, Err, MatchResult, IfOk, IfErr, false, length, map, option_map};
 ghost use Rattle.std.specs.Borrow.{Bor};
 ghost use Rattle.std.specs.Io.KnownBytes.{Appends};
 ghost use Rattle.jc_words.specs.Count.{failures_after};
 ghost use Rattle.jcard_faults.specs.Faults.{is_unwritten};
 ghost use Rattle.jcard_files.specs.FileDeeds.{FileDeed};
 ghost use Rattle.jcard_sweeps.specs.Tears.{AreReported, AreTornOf, AreTornThrough, EndsUntold, IsImageRead, IsImageUnread, IsLineNumber, IsMeantBy, IsProbeRead, IsProbeUnread, IsProbed, IsReported};
-ghost use Rattle.jcard_sweeps.specs.Tears.{IsTear, IsTearOver, IsTearRead, is_deep, is_unshared, IsTornEach, IsTornIn, IsTornOne};
+ghost use Rattle.jcard_sweeps.specs.Tears.{AreAllTorn, IsShareCut, IsShareCutAs, IsShareTold, IsShareTorn, IsTear, IsTearOver, commands_in, share_size, IsTornEach, IsTornIn, IsTornOne};
 ghost use Rattle.jcard_sweeps.specs.TearFaults.{IsFaultInMemory, IsProbeFaultInMemory, IsTearFault};
 ghost use Rattle.jcard_tear.specs.Faults.{told_run_fault};
-ghost use Rattle.jcard_sweeps.specs.Tears.{IsPartTold, IsTornPart, IsTornShare};
+ghost use Rattle.jcard_sweeps.specs.Tears.{IsPartTold, IsTextTold, IsTornPart, IsTornShare};
 ghost use Rattle.jcard_tear.specs.ScriptLines.{line_of};
+ghost use Rattle.jcard_outcomes.specs.CommandShares.{share_text};
+ghost use Rattle.jcard_outcomes.specs.Parts.{head_text};
 ghost use Rattle.jcard_outcomes.specs.Reports.{report_text, verdicts_text};
 
 use jcard_faults::fault::Fault;
@@ -18,15 +20,16 @@ use jcard_faults::script_fault::{Names, power_up_fault};
 use jcard_files::closed_store::ClosedStore;
 use jcard_files::disk::Disk;
 use jcard_files::reading::script_of;
+use jcard_outcomes::command_shares::share_lines;
 use jcard_outcomes::each::{LineSweep, are_all_or_nothing, verdicts};
 use jcard_outcomes::part::{Part, Share, part_lines, share_of};
-use jcard_outcomes::recoveries::Depth;
 use jcard_outcomes::report::{Sweep, report};
 use jcard_outcomes::verdict::is_all_or_nothing;
 use jcard_script::script::ScriptFault;
 use jcard_script::streams::{TextOut, write_all};
 use jcard_tear::cuts::Behind;
 use jcard_tear::each::{tear_each, tear_line};
+use jcard_tear::names::commands_name;
 use jcard_tear::parts::tear_line_part;
 use jcard_tear::progress::Progress;
 use jcard_tear::runs::{RunFault, carried_through, copied};
@@ -35,7 +38,7 @@ use jcard_tear::tearing::TearFault;
 use std::alloc::{AllocError, Global};
 
 /// What is torn of an image: the names of a script and perhaps of a probe, the command in the line of a number, the last
-/// command, or each, and what comes behind each cut.
+/// command, or each, and what comes after each cut.
 #[derive(Clone, Copy, Drop)]
 pub struct Asked<'a> {
     pub script: &'a str,
@@ -48,7 +51,7 @@ pub struct Asked<'a> {
 
 /// `jcard tear`: cuts a command of the script, or each, after each number of its writes, each time on a card of a copy of the image's
 /// words, and tells what is left. The whole script is carried out before, and refused as `jcard run` refuses it. The image is read, and
-/// never written. A part is told of one command alone, and without recoveries that are cut: else the words are no command line.
+/// never written. A part of one command has some of its cuts, a part of each command some of the commands.
 pub fn tear_image<'n, D: Disk, W: TextOut, P: Progress>(
     disk: &mut D,
     image: &'n str,
@@ -59,51 +62,6 @@ pub fn tear_image<'n, D: Disk, W: TextOut, P: Progress>(
     ensures done { (text : List ℕ) × (deeds : List FileDeed)
         × Appends (W.contents out.old) (W.contents out.new) text
         × IsTear image.now asked.entry.script.now
-        (option_map (λ (name : Bor (List ℕ)). name.now) asked.entry.line) asked.entry.each asked.entry.behind
-        (option_map (λ (name : Bor (List ℕ)). name.now) asked.entry.part)
-        (option_map (λ (name : Bor (List ℕ)). name.now) asked.entry.probe) result text deeds
-        × D.does disk.old deeds disk.new }
-    ensures writes { W.failures out.new ≡ failures_after (W.failures out.old)
-        (is_unwritten result) }
-{
-    if is_unshared(asked.each, asked.behind.depth, asked.part) {
-        return Err(Fault::BadCommandLine);
-    }
-    tear_read(disk, image, asked, out, progress)
-}
-
-// Whether a part is asked for of what no part can be told: of each command, or with recoveries that are cut.
-fn is_unshared(each: bool, depth: Depth, part: Option<&str>) -> bool
-    ensures { result ≡ is_unshared each depth
-        (option_map (λ (name : Bor (List ℕ)). name.now) part.entry) }
-{
-    match part {
-        Some(_name) => each || is_deep(depth),
-        None => false,
-    }
-}
-
-// Whether recoveries are cut.
-fn is_deep(depth: Depth) -> bool
-    ensures { result ≡ is_deep depth }
-{
-    match depth {
-        Depth::Zero => false,
-        Depth::One | Depth::Two | Depth::Three => true,
-    }
-}
-
-// Reads the image, and cuts the commands that are meant.
-fn tear_read<'n, D: Disk, W: TextOut, P: Progress>(
-    disk: &mut D,
-    image: &'n str,
-    asked: Asked<'n>,
-    out: &mut W,
-    progress: &mut P,
-) -> Result<(), Fault<'n>>
-    ensures done { (text : List ℕ) × (deeds : List FileDeed)
-        × Appends (W.contents out.old) (W.contents out.new) text
-        × IsTearRead image.now asked.entry.script.now
         (option_map (λ (name : Bor (List ℕ)). name.now) asked.entry.line) asked.entry.each asked.entry.behind
         (option_map (λ (name : Bor (List ℕ)). name.now) asked.entry.part)
         (option_map (λ (name : Bor (List ℕ)). name.now) asked.entry.probe) result text deeds
@@ -205,7 +163,7 @@ fn tear_through<'n, D: Disk, W: TextOut, P: Progress>(
         (is_unwritten result) }
 {
     match carried_through(disk.alloc(), words, script, asked.behind.instructions) {
-        Ok(()) => tear_meant(disk, names, words, commands, asked, out, progress),
+        Ok(()) => tear_meant(disk, names, words, script, commands, asked, out, progress),
         Err(cause) => Err(run_fault(names, cause)),
     }
 }
@@ -215,6 +173,7 @@ fn tear_meant<'n, D: Disk, W: TextOut, P: Progress>(
     disk: &mut D,
     names: Names<'n>,
     words: &[u16],
+    script: &[u8],
     commands: &[ScriptLine],
     asked: Asked<'n>,
     out: &mut W,
@@ -223,7 +182,7 @@ fn tear_meant<'n, D: Disk, W: TextOut, P: Progress>(
     requires { length words.now < 65536 }
     ensures done { (text : List ℕ) × (deeds : List FileDeed)
         × Appends (W.contents out.old) (W.contents out.new) text
-        × AreTornOf words.now commands.now
+        × AreTornOf words.now script.now commands.now
         (option_map (λ (name : Bor (List ℕ)). name.now) asked.entry.line) asked.entry.each asked.entry.behind
         (option_map (λ (name : Bor (List ℕ)). name.now) asked.entry.part)
         (option_map (λ (name : Bor (List ℕ)). name.now) asked.entry.probe) result text deeds
@@ -235,7 +194,7 @@ fn tear_meant<'n, D: Disk, W: TextOut, P: Progress>(
         return Err(Fault::NoCommand);
     };
     if asked.each {
-        return tear_all(disk, names, words, commands, asked, out, progress);
+        return tear_all(disk, names, words, script, commands, asked, out, progress);
     }
     if let Some(part) = asked.part {
         return tear_part(disk, names, words, found, part, asked, out, progress);
@@ -282,7 +241,7 @@ fn tear_part<'n, D: Disk, W: TextOut, P: Progress>(
     }
 }
 
-// Cuts a command, with the lines of the probe of this name behind each cut, if there is one.
+// Cuts a command, with the lines of the probe of this name after each cut, if there is one.
 fn tear_one<'n, D: Disk, W: TextOut, P: Progress>(
     disk: &mut D,
     names: Names<'n>,
@@ -316,8 +275,220 @@ fn tear_one<'n, D: Disk, W: TextOut, P: Progress>(
     }
 }
 
-// Cuts each of these commands so.
+// Cuts each of these commands so, or those in the part that is asked for.
 fn tear_all<'n, D: Disk, W: TextOut, P: Progress>(
+    disk: &mut D,
+    names: Names<'n>,
+    words: &[u16],
+    script: &[u8],
+    commands: &[ScriptLine],
+    asked: Asked<'n>,
+    out: &mut W,
+    progress: &mut P,
+) -> Result<(), Fault<'n>>
+    requires { length words.now < 65536 }
+    ensures done { (text : List ℕ) × (deeds : List FileDeed)
+        × Appends (W.contents out.old) (W.contents out.new) text
+        × AreAllTorn words.now script.now commands.now asked.entry.behind
+        (option_map (λ (name : Bor (List ℕ)). name.now) asked.entry.part)
+        (option_map (λ (name : Bor (List ℕ)). name.now) asked.entry.probe) result text deeds
+        × D.does disk.old deeds disk.new }
+    ensures writes { W.failures out.new ≡ failures_after (W.failures out.old)
+        (is_unwritten result) }
+{
+    match asked.part {
+        Some(part) => tear_share(
+            disk, names, words, script, commands, part, asked, out, progress,
+        ),
+        None => tear_every(disk, names, words, commands, asked, out, progress),
+    }
+}
+
+// Cuts those of these commands that are in the part of this name.
+fn tear_share<'n, D: Disk, W: TextOut, P: Progress>(
+    disk: &mut D,
+    names: Names<'n>,
+    words: &[u16],
+    script: &[u8],
+    commands: &[ScriptLine],
+    part: &str,
+    asked: Asked<'n>,
+    out: &mut W,
+    progress: &mut P,
+) -> Result<(), Fault<'n>>
+    requires { length words.now < 65536 }
+    ensures done { (text : List ℕ) × (deeds : List FileDeed)
+        × Appends (W.contents out.old) (W.contents out.new) text
+        × IsShareTorn words.now script.now commands.now asked.entry.behind part.now
+        (option_map (λ (name : Bor (List ℕ)). name.now) asked.entry.probe) result text deeds
+        × D.does disk.old deeds disk.new }
+    ensures writes { W.failures out.new ≡ failures_after (W.failures out.old)
+        (is_unwritten result) }
+{
+    let Some(share) = share_of(part.as_bytes()) else {
+        return Err(Fault::BadPart);
+    };
+    match probe_of(disk, asked.probe) {
+        Ok(probe) => cut_share(
+            disk.alloc(),
+            names,
+            words,
+            script,
+            commands,
+            lent(&probe),
+            asked.behind,
+            share,
+            out,
+            progress,
+        ),
+        Err(fault) => Err(fault),
+    }
+}
+
+// Cuts those of these commands that are in this part, and writes the verdicts over them.
+fn cut_share<'n, W: TextOut, P: Progress>(
+    alloc: Global,
+    names: Names<'n>,
+    words: &[u16],
+    script: &[u8],
+    commands: &[ScriptLine],
+    probe: Option<&[u8]>,
+    behind: Behind,
+    share: Share,
+    out: &mut W,
+    progress: &mut P,
+) -> Result<(), Fault<'n>>
+    requires short { length words.now < 65536 }
+    requires among { share.first < share.step }
+    ensures done { (text : List ℕ) × Appends (W.contents out.old) (W.contents out.new) text
+        × IsShareCut words.now script.now commands.now behind share
+        (option_map (λ (text : Bor (List ℕ)). text.now) probe.entry) result text }
+    ensures writes { W.failures out.new ≡ failures_after (W.failures out.old)
+        (is_unwritten result) }
+{
+    match commands_name(alloc, words, script, probe, behind, share.step) {
+        Ok(name) => cut_named(
+            alloc, names, words, &name, commands, probe, behind, share, out, progress,
+        ),
+        Err(AllocError) => Err(Fault::NoMemory),
+    }
+}
+
+// Cuts them, and writes the verdicts under this name.
+fn cut_named<'n, W: TextOut, P: Progress>(
+    alloc: Global,
+    names: Names<'n>,
+    words: &[u16],
+    name: &[u8],
+    commands: &[ScriptLine],
+    probe: Option<&[u8]>,
+    behind: Behind,
+    share: Share,
+    out: &mut W,
+    progress: &mut P,
+) -> Result<(), Fault<'n>>
+    requires short { length words.now < 65536 }
+    requires among { share.first < share.step }
+    ensures done { (text : List ℕ) × Appends (W.contents out.old) (W.contents out.new) text
+        × IsShareCutAs name.now words.now commands.now behind share
+        (option_map (λ (text : Bor (List ℕ)). text.now) probe.entry) result text }
+    ensures writes { W.failures out.new ≡ failures_after (W.failures out.old)
+        (is_unwritten result) }
+{
+    match tear_each(
+        alloc,
+        words,
+        commands_in(commands, share),
+        probe,
+        behind,
+        progress,
+    ) {
+        Ok(sweeps) => tell_share(alloc, name, share, &sweeps, behind.objects, out),
+        Err(cause) => Err(tear_fault(names, cause)),
+    }
+}
+
+// Writes the verdicts over the commands of a part.
+fn tell_share<'n, W: TextOut>(
+    alloc: Global,
+    name: &[u8],
+    share: Share,
+    sweeps: &[LineSweep],
+    rows: bool,
+    out: &mut W,
+) -> Result<(), Fault<'n>>
+    ensures done { (text : List ℕ) × Appends (W.contents out.old) (W.contents out.new) text
+        × (IsShareTold name.now share rows sweeps.now result text ⊎ EndsUntold result text) }
+    ensures writes { W.failures out.new ≡ failures_after (W.failures out.old)
+        (is_unwritten result) }
+{
+    match verdicts(alloc, sweeps, rows) {
+        Ok(verdicts) => tell_lines(
+            alloc,
+            name,
+            share,
+            are_all_or_nothing(sweeps),
+            &verdicts,
+            out,
+        ),
+        Err(AllocError) => Err(Fault::NoMemory),
+    }
+}
+
+// Writes these verdicts over the commands of a part, and whether all cuts of them were all or nothing.
+fn tell_lines<'n, W: TextOut>(
+    alloc: Global,
+    name: &[u8],
+    share: Share,
+    is_whole: bool,
+    verdicts: &[u8],
+    out: &mut W,
+) -> Result<(), Fault<'n>>
+    ensures done { (text : List ℕ) × Appends (W.contents out.old) (W.contents out.new) text
+        × (IsTextTold (head_text name.now ++ share_text share.first share.step is_whole verdicts.now) result text
+        ⊎ EndsUntold result text) }
+    ensures writes { W.failures out.new ≡ failures_after (W.failures out.old)
+        (is_unwritten result) }
+{
+    let Ok(lines) = share_lines(alloc, name, share, is_whole, verdicts) else {
+        return Err(Fault::NoMemory);
+    };
+    match write_all(out, &lines) {
+        Ok(()) => Ok(()),
+        Err(_) => Err(Fault::WriteFailed),
+    }
+}
+
+// The commands in a part: as many as in each other one, but for the last ones, which have fewer, or none.
+fn commands_in<'s, 'a>(commands: &'s [ScriptLine<'a>], share: Share) -> &'s [ScriptLine<'a>]
+    requires { share.first < share.step }
+    ensures { result.now ≡ commands_in share commands.now }
+{
+    let size = share_size(commands.len(), usize::from(share.step));
+    let start = usize::from(share.first).saturating_mul(size);
+    if start >= commands.len() {
+        return &commands[..0];
+    }
+    let rest = &commands[start..];
+    if rest.len() < size {
+        return rest;
+    }
+    &rest[..size]
+}
+
+// How many of this many commands each part has.
+fn share_size(commands: usize, parts: usize) -> usize
+    requires { 0 < parts }
+    ensures { result ≡ share_size commands parts }
+{
+    if commands % parts == 0 {
+        return commands / parts;
+    }
+    commands / parts + 1
+}
+
+// Cuts each of these commands so.
+fn tear_every<'n, D: Disk, W: TextOut, P: Progress>(
     disk: &mut D,
     names: Names<'n>,
     words: &[u16],
@@ -398,8 +569,7 @@ fn cut_part<'n, W: TextOut, P: Progress>(
         words,
         found,
         probe,
-        behind.objects,
-        behind.instructions,
+        behind,
         share.first,
         share.step,
         progress,

@@ -195,7 +195,7 @@ leave_as_one w n (next ∷ more) good once cut =
 
 -- ---- what comes of them
 
--- a recovery comes to the same behind others that are cut, where it does behind each one that is cut as early as those
+-- a recovery comes to the same after others that are cut, where it does after each one that is cut as early as those
 come_to_the_same : (budget : ℕ) (words probe : List ℕ) (left : Left) (bound : ℕ) (stops : List ℕ) → (0 < length (replay_writes words) → IsGoodLog words)
     → NamesEachOnce words → IsLeft budget words probe left → AreTheSame budget words probe left bound → AreCutAfter words stops
     → ((m : ℕ) → LeaveAsOne words stops m → m < bound) → ComesToTheSame budget (after_replays stops words) probe left
@@ -232,7 +232,7 @@ pub compared : (b : Bool) (budget : ℕ) (words probe : List ℕ) (left found : 
 compared true budget words probe left found same is = (found, is, same.0 refl)
 compared false budget words probe left found same is = (found, is, λ e. absurd (false≢true (same.1 e)))
 
--- behind one more number of writes it is the same
+-- after one more number of writes it is the same
 pub same_more : (budget : ℕ) (words probe : List ℕ) (left : Left) (n : ℕ) → AreTheSame budget words probe left n → ComesToTheSame budget (torn_replay n words) probe left
     → AreTheSame budget words probe left (n + 1)
 same_more budget words probe left n same here m below =

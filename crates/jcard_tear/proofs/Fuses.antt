@@ -23,7 +23,7 @@ by_fuse : (b : Bool) → (if b then 0 else saturating_count 0 1) ≡ 0 → b ≡
 by_fuse true e = refl
 by_fuse false e = absurd (omega (arith, e))
 
--- so many writes have passed
+-- this many writes have passed
 passed_at : (passed number : ℕ) (after : Refusals) → number < 65536
     → after ≡ refused_once false passed (record { count = 0; fuse = Some (saturating_count 0 number); faults = 0 }) → after.faults ≡ 0 → number ≡ passed
 unfolding refused_once
@@ -37,7 +37,7 @@ none_migrated w second =
     ap (λ (b : Bool). replay_writes w ++ (if b then (capacity_address, front_capacity) ∷ (journal_address, log_start) ∷ (version_address, version) ∷ [] else []))
     (ne_eqb (slice_index w version_address) first_version second) ∙ append-nil (replay_writes w)
 
--- a recovery over these words, which are of another version than the first, whose power was cut after so many writes left the words of one that is stopped after as many
+-- a recovery over these words, which are of another version than the first, whose power was cut after this many writes left the words of one that is stopped after as many
 pub torn_at : (words : List ℕ) (armed after : FuseStoreValue) (number : ℕ) → armed ≡ with_fuse_armed number (store_of words) → number < 65536
     → slice_index words version_address ≢ first_version → IsPartOfOpening armed.words after.words armed.passed after.passed
     → (armed.down ≡ false → after.refusals ≡ refused_once false after.passed armed.refusals) → after.refusals.faults ≡ 0

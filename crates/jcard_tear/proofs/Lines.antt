@@ -36,7 +36,7 @@ first_line (x ∷ xs) (suc (suc k)) some within plain ends =
     (elim ends [ inl whole ↦ inl (omega arith) | inr feed ↦ inr (ap (λ i. get_or xs i 0) here ∙ (sym (ap (λ i. get_or (x ∷ xs) i 0) there) ∙ feed)) ]) in
     ap (λ b. if b then (x ∷ []) ∷ whole_lines xs else with_first x (whole_lines xs)) other ∙ ap (with_first x) more
 
--- from the beginning of a line on a text is that line, and the lines behind it
+-- from the beginning of a line on a text is that line, and the lines after it
 pub next_line : (script : List ℕ) (start end : ℕ) → start < end → end ≤ length script
     → ((i : ℕ) → start ≤ i → i + 1 < end → is_feed script i → ⊥) → (end ≡ length script) ⊎ is_feed script (end - 1)
     → whole_lines (drop start script) ≡ take (end - start) (drop start script) ∷ whole_lines (drop end script)
@@ -54,7 +54,7 @@ next_line script start end after within plain ends =
     first_line (drop start script) (end - start) (omega arith) (omega (arith, long)) quiet ended
     ∙ ap (λ d. take (end - start) (drop start script) ∷ whole_lines d) rest
 
--- the commands from a line on: perhaps that line, and those behind it
+-- the commands from a line on: perhaps that line, and those after it
 pub next_command : (script : List ℕ) (start end n : ℕ) → start < end → end ≤ length script
     → ((i : ℕ) → start ≤ i → i + 1 < end → is_feed script i → ⊥) → (end ≡ length script) ⊎ is_feed script (end - 1)
     → commands_from n (take start script) (whole_lines (drop start script))
@@ -73,7 +73,7 @@ next_command script start end n after within plain ends =
     ∷ commands_from (n + 1) b (whole_lines (drop end script))
     else commands_from (n + 1) b (whole_lines (drop end script))) before
 
--- behind the last line there is none
+-- after the last line there is none
 pub none_behind : (n : ℕ) (before script : List ℕ) (start : ℕ) → length script ≤ start → commands_from n before (whole_lines (drop start script)) ≡ []
 unfolding commands_from whole_lines
 none_behind n before script start h = ap (λ d. commands_from n before (whole_lines d)) (drop_all start script h)
@@ -119,7 +119,7 @@ pub number_missing : (n : ℕ) (all : List ScriptLine) (i : ℕ) → length all 
 unfolding first_numbered
 number_missing n all i h = ap (first_numbered n) (drop_all i all h)
 
--- what is selected from a line on: what that line leaves in force, behind the lines that follow
+-- what is selected from a line on: what that line leaves in force, after the lines that follow
 pub selected_next : (script found : List ℕ) (start end : ℕ) → start < end → end ≤ length script
     → ((i : ℕ) → start ≤ i → i + 1 < end → is_feed script i → ⊥) → (end ≡ length script) ⊎ is_feed script (end - 1)
     → selected_by found (whole_lines (drop start script))

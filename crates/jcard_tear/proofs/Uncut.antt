@@ -25,7 +25,7 @@ pub run_uncut : (words : List ℕ) (c : Command) (step : ℕ) (script : List ℕ
 run_uncut words c step script run.NoMemory fault for is e = memory_uncut words c step fault e
 run_uncut words c step script (run.Script x) fault for is e = subst (λ (f : TearFault). IsUncutFor words c step f) (sym e) (script, for, is)
 
--- a recovery or the probe behind it was not
+-- a recovery or the probe after it was not
 pub probe_uncut : (words : List ℕ) (c : Command) (step : ℕ) (fault : TearFault) → IsCarriedOut words c
     → IsProbeFault c.behind.instructions c.probe.now fault → IsUncutFor words c step fault
 probe_uncut words c step NoMemory done is = tt
@@ -55,7 +55,7 @@ refused_on R (Err fault) is to = to fault is
 pub memory_imaged : (fault : TearFault) → fault ≡ NoMemory → IsImageFault fault
 memory_imaged fault e = subst IsImageFault (sym e) tt
 
--- what stands in an image behind a cut is bad
+-- what stands in an image after a cut is bad
 pub image_probed : (budget : ℕ) (probe : List ℕ) (fault : TearFault) → IsImageFault fault → IsProbeFault budget probe fault
 image_probed budget probe NoMemory is = tt
 image_probed budget probe (Probe x) is = inr (inr is)

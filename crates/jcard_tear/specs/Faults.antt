@@ -20,12 +20,12 @@ abbrev pub told_run_fault : RunFault → TearFault
 told_run_fault run.NoMemory = NoMemory
 told_run_fault (run.Script fault) = Script fault
 
--- what is told where a recovery or the probe behind it was not
+-- what is told where a recovery or the probe after it was not
 abbrev pub told_probe_fault : RunFault → TearFault
 told_probe_fault run.NoMemory = NoMemory
 told_probe_fault (run.Script fault) = Probe fault
 
--- memory was refused for a recovery or the probe; or, with at most so many instructions a command, one of them was not carried out to its end:
+-- memory was refused for a recovery or the probe; or, with at most this many instructions a command, one of them was not carried out to its end:
 -- a recovery because the log is bad, an image because what stands in it is, and the lines of the probe, over some words, as this says
 abbrev pub IsProbeFault : ℕ → List ℕ → TearFault → Type 0
 IsProbeFault budget probe NoMemory = Unit {0}
@@ -58,12 +58,12 @@ IsScriptFor c script = (script ≡ c.before.now) ⊎ (script ≡ c.before.now ++
 abbrev pub IsCarriedOut : List ℕ → Command → Type 0
 IsCarriedOut words c = (script text : List ℕ) × (after : FuseStoreValue) × IsScriptFor c script × Runs c.behind.instructions words script text after
 
--- the command is cut after a number of writes, and so many more are not counted
+-- the command is cut after a number of writes, and this many more are not counted
 abbrev pub IsCutPast : List ℕ → Command → ℕ → Type 0
 IsCutPast words c step = (k : ℕ) × (left : Left) × (recoveries : Recoveries) × IsCutAt words c k left recoveries × ((65535 ≤ k + step) ⊎ (step ≡ 0))
 
--- why a command was not cut after every so many of its writes: memory was refused; a script for it ended so, before its end; one was
--- carried out, but not a recovery or a probe behind it; the card is down at the command; or there are too many cuts
+-- why a command was not cut after every this many of its writes: memory was refused; a script for it ended so, before its end; one was
+-- carried out, but not a recovery or a probe after it; the card is down at the command; or there are too many cuts
 abbrev pub IsUncutFor : List ℕ → Command → ℕ → TearFault → Type 0
 IsUncutFor words c step NoMemory = Unit {0}
 IsUncutFor words c step (Script fault) = (script : List ℕ) × IsScriptFor c script × IsRunFault c.behind.instructions words script (run.Script fault)
@@ -71,7 +71,7 @@ IsUncutFor words c step (Probe fault) = IsCarriedOut words c × IsProbeFault c.b
 IsUncutFor words c step Down = (text : List ℕ) × (after : FuseStoreValue) × Runs c.behind.instructions words (c.before.now ++ c.line.now) text after × (after.down ≡ true)
 IsUncutFor words c step TooManyCuts = IsCutPast words c step
 
--- the same of the command in a line, behind whose cuts this was to come
+-- the same of the command in a line, after whose cuts this was to come
 abbrev pub IsLineUncut : List ℕ → Option (List ℕ) → Behind → Line → ℕ → TearFault → Type 0
 IsLineUncut words given behind l step fault = (c : Command) × (c.before.now ≡ l.before) × (c.line.now ≡ l.text) × (c.probe.now ≡ probe_of given l.before)
     × (c.behind ≡ behind) × IsUncutFor words c step fault

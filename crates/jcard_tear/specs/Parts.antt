@@ -2,12 +2,12 @@
 use Rattle.std.specs.Prelude.{ℕ, ◌≡◌, ◌+◌, ◌*◌, Bool, List, [], ◌∷◌, ◌++◌, Option, length}
 use Rattle.jc_objects.specs.declared.image_objects.ImageObjects.{ImageObjects}
 use Rattle.jcard_outcomes.specs.declared.part.Part.{Part}
-use Rattle.jcard_outcomes.specs.declared.recoveries.Depth.TheVariants.{Zero}
 use Rattle.jcard_outcomes.specs.declared.standing.Cut.{Cut}
 use Rattle.jcard_outcomes.specs.declared.standing.Left.{Left}
 use Rattle.jcard_tear.specs.Names.{sweep_name}
 use Rattle.jcard_tear.specs.ScriptLines.{Line}
 use Rattle.jcard_tear.specs.Sweeps.{IsBegun, IsMeasured, IsToldCut, IsUncutAt, probe_of}
+use Rattle.jcard_tear.specs.declared.cuts.Behind.{Behind}
 use Rattle.jcard_tear.specs.declared.cuts.Command.{Command}
 
 -- what the cuts after k, k + n, k + 2 n, .. writes left is told so
@@ -15,7 +15,7 @@ unfoldable pub AreEvery : List ℕ → Command → List ℕ → List ℕ → Opt
 AreEvery words c spared lenient objects before after k n [] = Unit {0}
 AreEvery words c spared lenient objects before after k n (cut ∷ cuts) = IsToldCut words c spared lenient objects before after k cut × AreEvery words c spared lenient objects before after (k + n) n cuts
 
--- part i of n has the cuts after k writes for which k mod n = i - 1: after i - 1 writes and each n-th number behind it, up to the first
+-- part i of n has the cuts after k writes for which k mod n = i - 1: after i - 1 writes and each n-th number after it, up to the first
 -- of these that does not cut the command; what was before the command, its answer and what it leaves are those of the whole sweep
 pub record IsPartSwept (words : List ℕ) (c : Command) (first n : ℕ) (p : Part) : Type 0 where
   pub first_is : p.first ≡ first
@@ -27,8 +27,7 @@ pub record IsPartSwept (words : List ℕ) (c : Command) (first n : ℕ) (p : Par
   pub uncut : IsUncutAt words c (first + n * length p.sweep.cuts.items)
   pub depth : p.sweep.depth ≡ c.behind.depth
 
--- a part of the cuts of the command in this line, behind which no recovery is cut, and changes are told or not, with at most so many
--- instructions a command
-abbrev pub IsLinePart : List ℕ → Option (List ℕ) → Bool → ℕ → Line → ℕ → ℕ → Part → Type 0
-IsLinePart words given objects instructions l first n p = (c : Command) × (c.before.now ≡ l.before) × (c.line.now ≡ l.text) × (c.probe.now ≡ probe_of given l.before)
-    × (c.behind ≡ record { depth = Zero; objects = objects; instructions = instructions }) × IsPartSwept words c first n p
+-- a part of the cuts of the command in this line, after which this was to come
+abbrev pub IsLinePart : List ℕ → Option (List ℕ) → Behind → Line → ℕ → ℕ → Part → Type 0
+IsLinePart words given behind l first n p = (c : Command) × (c.before.now ≡ l.before) × (c.line.now ≡ l.text) × (c.probe.now ≡ probe_of given l.before)
+    × (c.behind ≡ behind) × IsPartSwept words c first n p

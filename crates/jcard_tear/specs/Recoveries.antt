@@ -1,4 +1,4 @@
--- Recoveries that are cut, one after the other, behind a cut of a command.
+-- Recoveries that are cut, one after the other, after a cut of a command.
 use Rattle.std.specs.Prelude.{ℕ, ◌≡◌, ◌≢◌, ◌<◌, ◌^◌, All, MatchOption, List, [], ◌∷◌, length}
 use Rattle.jc_words.specs.Image.{log_of}
 use Rattle.jc_commit.specs.Image.{address_at, count_of}
@@ -9,7 +9,7 @@ use Rattle.jcard_outcomes.specs.declared.recoveries.Recoveries.{Recoveries}
 use Rattle.jcard_outcomes.specs.declared.standing.Left.{Left}
 use Rattle.jcard_tear.specs.Runs.{IsLeft}
 
--- recoveries, one after the other from these words on, are cut after so many writes each, which are fewer than they would make
+-- recoveries, one after the other from these words on, are cut after this many writes each, which are fewer than they would make
 unfoldable pub AreCutAfter : List ℕ → List ℕ → Type 0
 AreCutAfter words [] = Unit {0}
 AreCutAfter words (n ∷ more) = (n < length (replay_writes words)) × AreCutAfter (torn_replay n words) more
@@ -30,7 +30,7 @@ ComesToAnother budget words probe left = (found : Left) × IsLeft budget words p
 abbrev pub AreTheSame : ℕ → List ℕ → List ℕ → Left → ℕ → Type 0
 AreTheSame budget words probe left n = (m : ℕ) → m < n → ComesToTheSame budget (torn_replay m words) probe left
 
--- wherever so many recoveries are cut, one after the other, the next comes to the same
+-- wherever this many recoveries are cut, one after the other, the next comes to the same
 abbrev pub MakeNoDifference : ℕ → ℕ → List ℕ → List ℕ → Left → Type 0
 MakeNoDifference depth budget words probe left = (stops : List ℕ) → length stops ≡ depth → AreCutAfter words stops
     → ComesToTheSame budget (after_replays stops words) probe left

@@ -14,7 +14,7 @@ use Rattle.jcard_tear.specs.declared.runs.RunFault.TheVariants.{NoMemory, Script
 abbrev pub store_of : List ℕ → FuseStoreValue
 store_of words = record { words = words; down = false; passed = 0; refusals = no_refusals; down_below = false; passed_below = 0 }
 
--- the script, from a power up over these words on, with at most so many instructions a command, was carried out to its end, printed this text,
+-- the script, from a power up over these words on, with at most this many instructions a command, was carried out to its end, printed this text,
 -- and left this store
 abbrev pub Runs : ℕ → List ℕ → List ℕ → List ℕ → FuseStoreValue → Type 0
 Runs budget words script text after = EndsWithin budget (Ok tt) (store_of words) after true script text
@@ -30,7 +30,7 @@ IsRunFault budget words script NoMemory = Unit {0}
 IsRunFault budget words script (Script fault) = (read rest text : List ℕ) × (at_end : Bool) × (after : FuseStoreValue) × (script ≡ read ++ rest)
     × EndsWithin budget (Err fault) (store_of words) after at_end read text
 
--- a power up over these words leaves this heap, and behind it a card gives the lines of the probe these answers
+-- a power up over these words leaves this heap, and after it a card gives the lines of the probe these answers
 abbrev pub IsLeft : ℕ → List ℕ → List ℕ → Left → Type 0
 IsLeft budget words probe left = (last : FuseStoreValue) × (plain_of left.words.items ≡ migrated 3 (recovered_of words)) × Runs budget words probe left.answers.items last
 

@@ -34,7 +34,7 @@ unfoldable pub command_text : List ℕ → List ℕ
 command_text [] = []
 command_text (x ∷ xs) = if is_blank x then command_text xs else x ∷ command_text xs
 
--- the commands among these lines, from the one with this number on, behind this text
+-- the commands among these lines, from the one with this number on, after this text
 unfoldable pub commands_from : ℕ → List ℕ → List (List ℕ) → List Line
 commands_from n before [] = []
 commands_from n before (line ∷ more) = if is_command line
@@ -70,11 +70,11 @@ solid (x ∷ xs) = if x == 32 then solid xs else to_ascii_uppercase x ∷ solid 
 abbrev pub begins : List ℕ → List ℕ → Bool
 begins text first = starts_with (λ a b. a == b) text first
 
--- the line that selects an applet by its name and is in force behind a line, if this one was before it: a reset ends it
+-- the line that selects an applet by its name and is in force after a line, if this one was before it: a reset ends it
 abbrev pub selected_behind : List ℕ → List ℕ → List ℕ
 selected_behind found line = if begins line (codes "reset") then [] else (if begins (solid line) (codes "00A40400") then line else found)
 
--- behind these lines
+-- after these lines
 unfoldable pub selected_by : List ℕ → List (List ℕ) → List ℕ
 selected_by found [] = found
 selected_by found (line ∷ more) = selected_by (selected_behind found line) more

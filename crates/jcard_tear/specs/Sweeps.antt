@@ -19,11 +19,11 @@ use Rattle.jcard_tear.specs.Told.{AreObjectsAsked, IsTold}
 use Rattle.jcard_tear.specs.declared.cuts.Behind.{Behind}
 use Rattle.jcard_tear.specs.declared.cuts.Command.{Command}
 
--- nothing but the answers of the probe, with at most so many instructions a command
+-- nothing but the answers of the probe, with at most this many instructions a command
 abbrev pub nothing_more : ℕ → Behind
 nothing_more n = record { depth = Zero; objects = false; instructions = n }
 
--- the script up to the command, with the power cut after so many of its writes
+-- the script up to the command, with the power cut after this many of its writes
 abbrev pub cut_script : Command → ℕ → List ℕ
 cut_script c k = c.before.now ++ (codes "stop " ++ decimal k ++ codes "\n") ++ c.line.now
 
@@ -71,7 +71,7 @@ IsMeasured words c spared objects after s = IsDone words c s.answer.items after 
     × IsTold objects after s.after.answers.items × AreTriesIn after.words.items spared × AreObjectsAsked c.behind.objects s.before objects
 
 -- what was before a command and what it leaves, its answer, and what is left of it after each number of its writes, up to the first
--- that does not cut it. The words with the tries left of the OwnerPINs that stand behind it are spared in each comparison. Words are told as
+-- that does not cut it. The words with the tries left of the OwnerPINs that stand after it are spared in each comparison. Words are told as
 -- written by non-atomic calls: no clause says which
 pub record IsSwept (words : List ℕ) (c : Command) (s : Sweep) : Type 0 where
   pub begun : IsBegun words c s.before
@@ -87,7 +87,7 @@ abbrev pub probe_of : Option (List ℕ) → List ℕ → List ℕ
 probe_of (Some given) before = given
 probe_of None before = last_select before
 
--- the command in this line was cut, and this came behind each cut
+-- the command in this line was cut, and this came after each cut
 abbrev pub IsLineSwept : List ℕ → Option (List ℕ) → Behind → Line → Sweep → Type 0
 IsLineSwept words given behind l sweep = (c : Command) × (c.before.now ≡ l.before) × (c.line.now ≡ l.text) × (c.probe.now ≡ probe_of given l.before)
     × (c.behind ≡ behind) × IsSwept words c sweep

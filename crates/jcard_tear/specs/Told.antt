@@ -15,7 +15,7 @@ abbrev pub AreObjectsAsked : Bool → Left → Option ImageObjects → Type 0
 AreObjectsAsked false before objects = objects ≡ None
 AreObjectsAsked true before objects = (o : ImageObjects) × (objects ≡ Some o) × AreObjectsOf before.words.items o
 
--- the answers, and behind them what changed since these objects stood
+-- the answers, and after them what changed since these objects stood
 abbrev pub IsTold : Option ImageObjects → Left → List ℕ → Type 0
 IsTold None left text = text ≡ left.answers.items
 IsTold (Some o) left text = (changes : List ℕ) × AreChangesTold o left.words.items changes × (text ≡ left.answers.items ++ changes)

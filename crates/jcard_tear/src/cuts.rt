@@ -19,7 +19,7 @@ use std::alloc::{AllocError, Global};
 /// The most cuts of a command.
 pub(crate) const MOST: u16 = 65_535;
 
-/// What comes behind each cut of a command: how many recoveries are cut, whether the cells that changed are told, and with how many
+/// What comes after each cut of a command: how many recoveries are cut, whether the cells that changed are told, and with how many
 /// instructions a command may run.
 #[derive(Clone, Copy, Debug, PartialEq, Eq, Drop)]
 pub struct Behind {
@@ -30,7 +30,7 @@ pub struct Behind {
 }
 
 impl Behind {
-    /// What comes behind a cut where only the answers of the probe are asked for.
+    /// What comes after a cut where only the answers of the probe are asked for.
     pub fn nothing_more(instructions: u32) -> Behind
         ensures { result ≡ nothing_more instructions }
     {
@@ -42,7 +42,7 @@ impl Behind {
     }
 }
 
-/// A command of a script: the text before its line, its line, what is asked after a reset, and what else comes behind each of its
+/// A command of a script: the text before its line, its line, what is asked after a reset, and what else comes after each of its
 /// cuts.
 #[derive(Clone, Copy, Drop)]
 pub struct Command<'a> {
@@ -85,7 +85,7 @@ pub(crate) fn cut_all<P: Progress>(
     Err(TearFault::TooManyCuts)
 }
 
-/// What is told of a cut that left this, and behind which recoveries were like this.
+/// What is told of a cut that left this, and after which recoveries were like this.
 pub(crate) fn told_cut(
     alloc: Global,
     spared: &[u16],
@@ -122,7 +122,7 @@ pub(crate) fn push_cut(cuts: &mut Vec<Cut>, cut: Cut) -> Result<(), TearFault>
     }
 }
 
-// What is left of a command that is cut after so many writes, and what recoveries were like that were cut behind it; none where it
+// What is left of a command that is cut after this many writes, and what recoveries were like that were cut after it; none where it
 // is not cut.
 pub(crate) fn cut_at(
     alloc: Global,
@@ -155,7 +155,7 @@ pub(crate) fn cut_at(
     }
 }
 
-// The script up to the command, with the power cut after so many of its writes.
+// The script up to the command, with the power cut after this many of its writes.
 fn cut_script(alloc: Global, command: Command, number: u16) -> Result<Vec<u8>, AllocError>
     ensures { IfOk result (λ script. script.items ≡ cut_script command.entry number) }
 {

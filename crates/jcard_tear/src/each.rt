@@ -14,8 +14,8 @@ use jcard_outcomes::each::{LineOutcome, LineSweep};
 use jcard_outcomes::report::Sweep;
 use std::alloc::{AllocError, Global};
 
-/// Cuts the command in a line, with these lines of a probe behind each cut; or, where none are given, with the last SELECT
-/// before it, and what else is to come behind a cut.
+/// Cuts the command in a line, with these lines of a probe after each cut; or, where none are given, with the last SELECT
+/// before it, and what else is to come after a cut.
 pub fn tear_line<P: Progress>(
     alloc: Global,
     words: &[u16],
@@ -133,7 +133,7 @@ fn is_blank(byte: u8) -> bool
     byte == b' ' || byte == b'\n' || byte == b'\r'
 }
 
-// The lines of the probe of a command that stands behind this text.
+// The lines of the probe of a command that stands after this text.
 pub(crate) fn probe_for<'a>(probe: Option<&'a [u8]>, before: &'a [u8]) -> &'a [u8]
     ensures { result.now ≡ probe_of (option_map (λ (text : Bor (List ℕ)). text.now) probe.entry)
         before.now }

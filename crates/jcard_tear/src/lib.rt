@@ -4,7 +4,7 @@
 pub mod cuts;
 pub mod each;
 pub mod kept_text;
-mod names;
+pub mod names;
 pub mod parts;
 pub mod progress;
 mod recoveries;

@@ -16,31 +16,27 @@ use crate::tearing::{TearFault, begun, done, joined, tries_in};
 use crate::told::{left_told, objects_asked};
 use jc_objects::image_objects::ImageObjects;
 use jcard_outcomes::part::Part;
-use jcard_outcomes::recoveries::Depth;
 use jcard_outcomes::report::Sweep;
 use jcard_outcomes::standing::{Cut, Left};
 use std::alloc::Global;
 
-/// Cuts the command in a line after `first` writes, and each `step`-th number behind it. Behind each cut come these lines of a
-/// probe; or, where none are given, the last SELECT before the command. No recovery is cut;
-/// with objects, the cells that changed are told. No command has more than so many instructions.
+/// Cuts the command in a line after `first` writes, and each `step`-th number after it. After each cut come these lines of a
+/// probe; or, where none are given, the last SELECT before the command, and what else is to come after a cut.
 pub fn tear_line_part<P: Progress>(
     alloc: Global,
     words: &[u16],
     line: ScriptLine,
     probe: Option<&[u8]>,
-    objects: bool,
-    instructions: u32,
+    behind: Behind,
     first: u16,
     step: u16,
     progress: &mut P,
 ) -> Result<Part, TearFault>
     requires { length words.now < 65536 }
     ensures swept { MatchResult result (λ part. IsLinePart words.now
-        (option_map (λ (text : Bor (List ℕ)). text.now) probe.entry) objects instructions
+        (option_map (λ (text : Bor (List ℕ)). text.now) probe.entry) behind
         (line_of line.entry) first step part) (λ fault. IsLineUncut words.now
-        (option_map (λ (text : Bor (List ℕ)). text.now) probe.entry)
-        (record { depth = Depth.Zero; objects = objects; instructions = instructions })
+        (option_map (λ (text : Bor (List ℕ)). text.now) probe.entry) behind
         (line_of line.entry) step fault) }
     ensures below { IfOk result (λ part. part.first + part.step * length part.sweep.cuts.items < 65536) }
 {
@@ -48,16 +44,12 @@ pub fn tear_line_part<P: Progress>(
         before: line.before,
         line: line.line,
         probe: probe_for(probe, line.before),
-        behind: Behind {
-            depth: Depth::Zero,
-            objects,
-            instructions,
-        },
+        behind,
     };
     tear_part(alloc, words, command, first, step, progress)
 }
 
-/// Carries out the script up to the command, and then cuts the command after `first` writes, and each `step`-th number behind it.
+/// Carries out the script up to the command, and then cuts the command after `first` writes, and each `step`-th number after it.
 pub fn tear_part<P: Progress>(
     alloc: Global,
     words: &[u16],
@@ -72,8 +64,9 @@ pub fn tear_part<P: Progress>(
         (λ fault. IsUncutFor words.now command.entry step fault) }
     ensures below { IfOk result (λ part. part.first + part.step * length part.sweep.cuts.items < 65536) }
 {
-    let (answer, after, by_calls) = done(alloc, words, command)?;
+    let (answer, after, by_calls) = done(alloc, words, command, progress)?;
     let before = begun(alloc, words, command)?;
+    progress.tell_image(&before.words);
     let spared = tries_in(alloc, &after)?;
     let lenient = joined(alloc, &spared, &by_calls)?;
     let objects = objects_asked(alloc, command.behind.objects, &before)?;

@@ -1,4 +1,4 @@
-//! Recoveries of what a cut left, which are cut themselves, and what comes of the one behind them.
+//! Recoveries of what a cut left, which are cut themselves, and what comes of the one after them.
 ghost use Rattle.std.specs.Prelude.{◌≡◌, ◌≢◌, ◌≤◌, ◌<◌, ◌+◌, ◌*◌, ◌^◌, ◌↔◌, ℕ, false, length, slice_index, vec_len, IfErr, IfOk, IfSome, IsTrue, MatchBool, MatchOption, MatchResult, OnOk};
 ghost use Rattle.jc_words.specs.Image.{IsLogAmong, log_of};
 ghost use Rattle.jc_words.specs.Layout.{first_version, least_size, most_capacity, version_address};
@@ -68,7 +68,7 @@ fn cut_deep(
     })
 }
 
-// In how many ways recoveries of so many writes can be cut, one after the other.
+// In how many ways recoveries of this many writes can be cut, one after the other.
 fn ways(writes: u16, depth: Depth) -> u64
     ensures { result ≡ writes ^ recoveries_of depth }
 {
@@ -113,7 +113,7 @@ fn first_difference(
     Ok(None)
 }
 
-// The words that a recovery of these leaves which is cut after so many of its writes.
+// The words that a recovery of these leaves which is cut after this many of its writes.
 fn cut_recovery(alloc: Global, words: &[u16], number: u16) -> Result<Vec<u16>, RunFault>
     requires small { length words.now < 65536 }
     requires version { slice_index words.now version_address ≢ first_version }

@@ -42,14 +42,14 @@ impl From<AllocError> for RunFault {
     }
 }
 
-/// Carries out a script on the card of these words, with at most so many instructions a command. A watcher may ask which words its
+/// Carries out a script on the card of these words, with at most this many instructions a command. A watcher may ask which words its
 /// non-atomic calls write.
 pub(crate) fn run(
     alloc: Global,
     words: Vec<u16>,
     script: &[u8],
     budget: u32,
-    watcher: &mut Watcher,
+    watcher: &mut Watcher<'_>,
 ) -> Result<Ran, RunFault>
     requires { vec_len words < 65536 }
     ensures ran { MatchResult result (λ ran. HasRun budget words.items script.now ran)
@@ -100,7 +100,7 @@ pub(crate) fn run_watched(
     words: &[u16],
     script: &[u8],
     budget: u32,
-    watcher: &mut Watcher,
+    watcher: &mut Watcher<'_>,
 ) -> Result<Ran, RunFault>
     requires { length words.now < 65536 }
     ensures ran { MatchResult result (λ ran. HasRun budget words.now script.now ran)
@@ -109,6 +109,44 @@ pub(crate) fn run_watched(
 {
     let copy = Vec::from_slice(alloc, words)?;
     run(alloc, copy, script, budget, watcher)
+}
+
+/// What a script left whose last command was watched: which words its non-atomic calls wrote, and what is told of each of its word writes.
+#[derive(Drop)]
+pub(crate) struct WatchedRun {
+    pub(crate) ran: Ran,
+    pub(crate) by_calls: Vec<u16>,
+    pub(crate) told: Vec<Vec<u8>>,
+}
+
+/// Carries out a script on the card of a copy of these words, and watches its last command. Where there are names, each of its word
+/// writes is told, with what they name.
+pub(crate) fn run_told(
+    alloc: Global,
+    words: &[u16],
+    script: &[u8],
+    budget: u32,
+    names: Option<&[u8]>,
+) -> Result<WatchedRun, RunFault>
+    requires { length words.now < 65536 }
+    ensures ran { MatchResult result (λ watched. HasRun budget words.now script.now watched.ran)
+        (λ fault. IsRunFault budget words.now script.now fault) }
+    ensures short { IfOk result (λ watched. vec_len watched.ran.words < 65536) }
+{
+    let Ok(mut watcher) = Watcher::new(alloc, names) else {
+        return Err(RunFault::NoMemory);
+    };
+    match run_watched(alloc, words, script, budget, &mut watcher) {
+        Ok(ran) => match watcher.words(alloc) {
+            Ok(by_calls) => Ok(WatchedRun {
+                ran,
+                by_calls,
+                told: watcher.told().unwrap_or(Vec::new(alloc)),
+            }),
+            Err(AllocError) => Err(RunFault::NoMemory),
+        },
+        Err(fault) => Err(fault),
+    }
 }
 
 /// Carries out a whole script, to see whether that can be done.
@@ -128,7 +166,7 @@ pub fn carried_through(
     }
 }
 
-/// What a power up over these words leaves, and what the lines of a probe are answered behind it.
+/// What a power up over these words leaves, and what the lines of a probe are answered after it.
 pub(crate) fn left(
     alloc: Global,
     words: Vec<u16>,

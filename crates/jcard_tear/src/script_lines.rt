@@ -60,7 +60,7 @@ fn with_number<'a>(commands: &[ScriptLine<'a>], number: usize) -> Option<ScriptL
     None
 }
 
-/// The last line that selects an applet by its name, behind the last reset; an empty text where there is none.
+/// The last line that selects an applet by its name, after the last reset; an empty text where there is none.
 pub fn last_select(script: &[u8]) -> &[u8]
     ensures { result.now ≡ last_select script.now }
 {
@@ -79,7 +79,7 @@ pub fn last_select(script: &[u8]) -> &[u8]
     found
 }
 
-// Where the line ends that starts here, behind its line feed.
+// Where the line ends that starts here, after its line feed.
 fn line_end(script: &[u8], start: usize) -> usize
     requires { start < length script.now }
     ensures after { start < result }

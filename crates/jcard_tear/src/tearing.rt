@@ -8,9 +8,8 @@ ghost use Rattle.jc_objects.specs.Pins.{AreTriesIn};
 
 use crate::cuts::{Command, cut_all};
 use crate::progress::Progress;
-use crate::runs::{RunFault, left, run_copy, run_watched};
+use crate::runs::{RunFault, left, run_copy, run_told};
 use crate::told::{left_told, objects_asked};
-use crate::watched::Watcher;
 use jc_card::power_up::PowerFault;
 use jc_objects::image_objects::ImageFault;
 use jc_objects::pins::try_words;
@@ -30,7 +29,7 @@ pub enum TearFault {
     NoMemory,
     /// The script, up to the command, was not carried out to its end.
     Script(ScriptFault),
-    /// Nor was a recovery behind it, or the probe.
+    /// Nor was a recovery after it, or the probe.
     Probe(ScriptFault),
     /// The script cut the power itself, and the card is down at the command.
     Down,
@@ -41,7 +40,7 @@ pub enum TearFault {
 /// Carries out the script up to the command on a card of a copy of these words, and then cuts the command after each number
 /// of its writes, each time on a card of a copy of its own. After each cut comes a reset, and then the probe; and as many
 /// recoveries as the command says are cut before a reset that is not. The tries of OwnerPINs do not count in a comparison. Where
-/// the command asks for objects, the cells that changed since before it are told behind the answers. Each cut is told as it is made.
+/// the command asks for objects, the cells that changed since before it are told after the answers. Each cut is told as it is made.
 pub fn tear<P: Progress>(
     alloc: Global,
     words: &[u16],
@@ -52,8 +51,9 @@ pub fn tear<P: Progress>(
     ensures { MatchResult result (λ sweep. IsSwept words.now command.entry sweep)
         (λ fault. IsUncutFor words.now command.entry 1 fault) }
 {
-    let (answer, after, by_calls) = done(alloc, words, command)?;
+    let (answer, after, by_calls) = done(alloc, words, command, progress)?;
     let before = begun(alloc, words, command)?;
+    progress.tell_image(&before.words);
     let spared = tries_in(alloc, &after)?;
     let lenient = joined(alloc, &spared, &by_calls)?;
     let objects = objects_asked(alloc, command.behind.objects, &before)?;
@@ -79,11 +79,12 @@ pub(crate) fn joined(alloc: Global, these: &[u16], those: &[u16]) -> Result<Vec<
     Ok(joined)
 }
 
-// The answer of a command that is not cut, what it leaves, and which words its non-atomic calls write.
-pub(crate) fn done(
+// The answer of a command that is not cut, what it leaves, and which words its non-atomic calls write. What makes its writes is told.
+pub(crate) fn done<P: Progress>(
     alloc: Global,
     words: &[u16],
     command: Command,
+    progress: &mut P,
 ) -> Result<(Vec<u8>, Left, Vec<u16>), TearFault>
     requires { length words.now < 65536 }
     ensures { MatchResult result (λ r. IsDone words.now command.entry r.0.items r.1)
@@ -91,21 +92,21 @@ pub(crate) fn done(
 {
     let mut script = Vec::from_slice(alloc, command.before)?;
     script.extend_from_slice(command.line)?;
-    let mut watcher = Watcher::new(alloc)?;
-    let ran = run_watched(
+    let watched = run_told(
         alloc,
         words,
         &script,
         command.behind.instructions,
-        &mut watcher,
+        progress.names(),
     )?;
+    progress.tell_writes(watched.told);
+    let ran = watched.ran;
     if ran.is_down {
         return Err(TearFault::Down);
     }
     let answer = Vec::from_slice(alloc, last_line(&ran.text))?;
-    let by_calls = watcher.words(alloc)?;
     let left = left_by_probe(alloc, ran.words, command.probe, command.behind.instructions)?;
-    Ok((answer, left, by_calls))
+    Ok((answer, left, watched.by_calls))
 }
 
 // What is left by the lines before a command.
@@ -135,7 +136,7 @@ pub(crate) fn left_by_probe(
     }
 }
 
-// What it means that a recovery, or the probe behind it, was not carried out to its end.
+// What it means that a recovery, or the probe after it, was not carried out to its end.
 pub(crate) fn probe_fault(fault: RunFault) -> TearFault
     ensures { result ≡ told_probe_fault fault }
 {

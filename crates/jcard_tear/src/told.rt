@@ -30,7 +30,7 @@ pub(crate) fn objects_asked(
     }
 }
 
-/// The answers that are left and, where these objects stood before, behind them what changed.
+/// The answers that are left and, where these objects stood before, after them what changed.
 pub(crate) fn told(
     alloc: Global,
     objects: &Option<ImageObjects>,
@@ -58,7 +58,7 @@ fn told_with_changes(
     Ok(text)
 }
 
-/// What is left, with what changed behind its answers.
+/// What is left, with what changed after its answers.
 pub(crate) fn left_told(
     alloc: Global,
     objects: &Option<ImageObjects>,

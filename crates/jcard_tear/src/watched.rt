@@ -72,22 +72,27 @@ impl WordStore for WatchedStore {
     fn power_on(&mut self) {}
 }
 
-/// Somebody who asks which words non-atomic calls write, if there is a watch.
+/// Somebody who asks which words non-atomic calls write, and perhaps which instruction makes each word write, if there is a watch.
 #[derive(Drop)]
-pub(crate) struct Watcher {
+pub(crate) struct Watcher<'a> {
     watch: Option<Watch>,
+    names: &'a [u8],
 }
 
-impl Watcher {
+impl<'a> Watcher<'a> {
     /// Nobody asks.
-    pub(crate) fn nobody() -> Watcher {
-        Watcher { watch: None }
+    pub(crate) fn nobody() -> Watcher<'a> {
+        Watcher {
+            watch: None,
+            names: b"",
+        }
     }
 
-    /// Somebody asks.
-    pub(crate) fn new(alloc: Global) -> Result<Watcher, AllocError> {
+    /// Somebody asks. Where there are names, each word write is told, with what they name.
+    pub(crate) fn new(alloc: Global, names: Option<&'a [u8]>) -> Result<Watcher<'a>, AllocError> {
         Ok(Watcher {
-            watch: Some(Watch::new(alloc)?),
+            watch: Some(Watch::new(alloc, names.is_some())?),
+            names: names.unwrap_or(b""),
         })
     }
 
@@ -106,9 +111,14 @@ impl Watcher {
             None => Ok(Vec::new(alloc)),
         }
     }
+
+    /// What is told of each word write of the last command.
+    pub(crate) fn told(&self) -> Option<Vec<Vec<u8>>> {
+        self.watch.as_ref()?.told()
+    }
 }
 
-impl Explainer for Watcher {
+impl<'a> Explainer for Watcher<'a> {
     // Each instruction is noted, so that the one is known that writes.
     fn wanted(&self) -> Option<Wanted> {
         match &self.watch {
@@ -116,13 +126,14 @@ impl Explainer for Watcher {
                 why: false,
                 trace: Some(TracedLines::Last(0)),
                 cover: false,
+                stops: false,
             }),
             None => None,
         }
     }
 
     fn map(&self) -> &[u8] {
-        b""
+        self.names
     }
 
     fn tell(&mut self, _text: &[u8]) {}

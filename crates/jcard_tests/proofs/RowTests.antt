@@ -329,7 +329,7 @@ file_tested (Err f) p name table lines deeds read h = inr h
 pub any_unwritten : (names : List (List ℕ)) (fault : Fault) (reads : List FileDeed) → IsOneUntested names fault reads → is_unwritten (Err fault) ≡ false
 any_unwritten names fault reads one = untested_unwritten one.3.1 fault one.1 one.3.4
 
--- a file was tested, and kept behind others
+-- a file was tested, and kept after others
 pub file_pushed : (r : Result (Unit {0}) Fault) (p : Plan) (name : List ℕ) (old new : List Tested) (file : Tested) (deeds : List FileDeed)
     → IsTested p name file deeds → OnOk r (new ≡ old ++ file ∷ []) → IfErr r (λ f. f ≡ NoMemory)
     → MatchResult r (λ _. (f : Tested) × IsTested p name f deeds × (new ≡ old ++ f ∷ [])) (λ f. IsUntested name f deeds)

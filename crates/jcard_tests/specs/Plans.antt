@@ -28,7 +28,7 @@ IsCapacityAsked a n = IsNumberAsked IsJournalCapacity 256 a.journal n
 abbrev pub IsPlanned : Asked → Plan → List FileDeed → Type 0
 IsPlanned a p deeds = AreWordsAsked a p.words × IsCapacityAsked a p.capacity × (p.budget ≡ a.budget) × IsPlatform (table_asked a) p.table.items deeds
 
--- no card can have so many words, or its journal so many entries, and no file was asked for; or there is no platform table
+-- no card can have this many words, or its journal this many entries, and no file was asked for; or there is no platform table
 abbrev pub IsUnplanned : Asked → Fault → List FileDeed → Type 0
 IsUnplanned a fault deeds = ((fault ≡ BadWords) × ((n : ℕ) → AreWordsAsked a n → ⊥) × (deeds ≡ []))
     ⊎ ((fault ≡ BadJournal) × ((n : ℕ) → IsCapacityAsked a n → ⊥) × (deeds ≡ []))

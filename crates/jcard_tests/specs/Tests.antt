@@ -75,7 +75,7 @@ AreIncluded name (line ∷ own) lines deeds = (here rest : List Numbered) × (fi
 abbrev pub IsTableBeside : List ℕ → List ℕ → List ℕ → List FileDeed → Type 0
 IsTableBeside name file text deeds = (path : List ℕ) × IsBeside name file path × IsRead path text deeds
 
--- behind the line that names a platform table, its text was read, and then these are the lines, with those of the files that are included
+-- after the line that names a platform table, its text was read, and then these are the lines, with those of the files that are included
 abbrev pub IsFileBehind : List ℕ → TableLine → Option (List ℕ) → List Numbered → List FileDeed → Type 0
 IsFileBehind name line None lines deeds = ⊥
 IsFileBehind name line (Some table) lines deeds = (first more : List FileDeed) × IsTableBeside name line.name.now table first
@@ -99,11 +99,11 @@ lacked_memory (Err NotWritten) = true
 lacked_memory (Err (NotPoweredUp power.NoMemory)) = true
 lacked_memory other = false
 
--- these are so many words of a new card as planned
+-- these are this many words of a new card as planned
 abbrev pub IsNewCard : Plan → ℕ → List ℕ → Type 0
 IsNewCard p words w = IsNewImageOf words p.capacity p.table.items w
 
--- on a new card of so many words a script was carried out, up to its end or to a line that ended it, and printed this text
+-- on a new card of this many words a script was carried out, up to its end or to a line that ended it, and printed this text
 abbrev pub IsPrinted : Plan → ℕ → List ℕ → List ℕ → Type 0
 IsPrinted p words script text = (w read rest : List ℕ) × (carried : Result Unit ScriptFault) × (at_end : Bool) × (after : FuseStoreValue)
     × IsNewCard p words w × (script ≡ read ++ rest) × EndsWithin p.budget carried (fresh_store w) after at_end read text × (lacked_memory carried ≡ false)
@@ -121,11 +121,11 @@ abbrev pub IsToldOfLine : ℕ → List ℕ → Line → Option (List ℕ) → Ty
 IsToldOfLine budget w l None = (sweep : Sweep) × IsLineSwept w None (nothing_more budget) l sweep × (first_broken 0 sweep.cuts.items ≡ None)
 IsToldOfLine budget w l (Some told) = ((sweep : Sweep) × IsLineSwept w None (nothing_more budget) l sweep × IsBrokenTold sweep told) ⊎ (told ≡ codes "not cut")
 
--- the same of the row behind these
+-- the same of the row after these
 abbrev pub IsToldOfCuts : ℕ → List ℕ → List Row → Row → Option (List ℕ) → Type 0
 IsToldOfCuts budget w before r told = IsToldOfLine budget w (record { number = r.number; before = script_text before; text = line_text r }) told
 
--- over a new card of so many words each cut of the row behind these left what was before or what comes after
+-- over a new card of this many words each cut of the row after these left what was before or what comes after
 abbrev pub IsCutWell : Plan → ℕ → List Row → Row → Type 0
 IsCutWell p words before r = (w : List ℕ) × IsNewCard p words w × IsToldOfCuts p.budget w before r None
 
@@ -138,11 +138,11 @@ abbrev pub IsToldOf : Plan → ℕ → List Row → Row → Option (List ℕ) �
 IsToldOf p words before r None = r.torn ≡ true → IsCutWell p words before r
 IsToldOf p words before r (Some told) = (r.torn ≡ true) × IsCutBadly p words before r told
 
--- of these rows the torn ones among the first so many were cut well
+-- of these rows the torn ones among the first n were cut well
 abbrev pub AreCutWell : Plan → ℕ → List Row → ℕ → Type 0
 AreCutWell p words rows n = (k : ℕ) (r : Row) → k < n → r ≡ slice_index_or rows k r → r.torn ≡ true → IsCutWell p words (take k rows) r
 
--- a row was cut badly, behind so many that hold, and this was told
+-- a row was cut badly, after this many that hold, and this was told
 pub record IsTornFailure (r : Row) (passed : ℕ) (told : List ℕ) (f : Failure) : Type 0 where
   pub behind : f.passed ≡ passed
   pub number : f.number ≡ r.number
@@ -150,7 +150,7 @@ pub record IsTornFailure (r : Row) (passed : ℕ) (told : List ℕ) (f : Failure
   pub wanted : string_bytes f.wanted ≡ codes "all or nothing"
   pub told_so : f.told.items ≡ told
 
--- this failure is of the first of these rows that is torn and was cut badly, behind so many more that hold; as far as 64 bits count
+-- this failure is of the first of these rows that is torn and was cut badly, after this many more that hold; as far as 64 bits count
 abbrev pub IsFirstTorn : Plan → ℕ → List Row → ℕ → Failure → Type 0
 IsFirstTorn p words rows passed f = (k : ℕ) × (r : Row) × (told : List ℕ) × AreCutWell p words rows k × (k < length rows) × (r ≡ slice_index_or rows k r)
     × (r.torn ≡ true) × IsCutBadly p words (take k rows) r told × IsTornFailure r (min (passed + k) 18446744073709551615) told f
@@ -171,7 +171,7 @@ IsCardEnd p card text passed (Some f) = IsFirstFailure card.rows.items text pass
 abbrev pub EndsOn : Plan → CardRows → ℕ → Option Failure → Type 0
 EndsOn p card passed failure = (text : List ℕ) × IsPrinted p card.words (script_text card.rows.items) text × IsCardEnd p card text passed failure
 
--- what came of the rows of these cards, behind so many rows that hold, counted up to 2^64 - 1: those of each hold, or not
+-- what came of the rows of these cards, after this many rows that hold, counted up to 2^64 - 1: those of each hold, or not
 unfoldable pub AreAnsweredOn : Plan → List CardRows → ℕ → Outcome → Type 0
 AreAnsweredOn p [] passed outcome = outcome ≡ Held passed
 AreAnsweredOn p (card ∷ cards) passed outcome =

@@ -90,7 +90,7 @@ fn rows_outcome<'n, T: Timer>(
     Ok(Outcome::Held(passed))
 }
 
-// The first row of a card that does not hold, behind so many that do.
+// The first row of a card that does not hold, after this many that do.
 fn first_failure_on<'n, T: Timer>(
     alloc: Global,
     plan: &Plan,
@@ -109,7 +109,7 @@ fn first_failure_on<'n, T: Timer>(
     }
 }
 
-// The first row of a card that is not answered as it says, behind so many that hold.
+// The first row of a card that is not answered as it says, after this many that hold.
 fn failure_on<'n, T: Timer>(
     alloc: Global,
     plan: &Plan,
@@ -134,7 +134,7 @@ fn failure_on<'n, T: Timer>(
     }
 }
 
-// What a script prints on a new card of so many words. When its lines came is added to those times, where there is memory for that.
+// What a script prints on a new card of this many words. When its lines came is added to those times, where there is memory for that.
 fn answers<'n, T: Timer>(
     alloc: Global,
     plan: &Plan,
@@ -159,7 +159,7 @@ fn answers<'n, T: Timer>(
     }
 }
 
-// The store of a new card of so many words.
+// The store of a new card of this many words.
 fn new_card<'n>(alloc: Global, plan: &Plan, words: u16) -> Result<MemStore, Fault<'n>>
     requires { 4096 ≤ words }
     ensures { MatchResult result (λ store. IsNewImageOf words plan.now.capacity
@@ -216,7 +216,7 @@ fn lacked_memory(ended: Result<(), ScriptFault>) -> bool
     }
 }
 
-// The first of these rows, on a card of so many words, that is torn and whose cuts are not all or nothing, behind so many rows that hold.
+// The first of these rows, on a card of this many words, that is torn and whose cuts are not all or nothing, after this many rows that hold.
 fn torn_failure_on<'n>(
     alloc: Global,
     plan: &Plan,
@@ -253,7 +253,7 @@ fn failure_of<'n>(
     }
 }
 
-// The failure of a torn row behind so many that hold, of whose cuts this is told.
+// The failure of a torn row after this many that hold, of whose cuts this is told.
 fn torn_failure(
     alloc: Global,
     row: &Row,
@@ -271,7 +271,7 @@ fn torn_failure(
     })
 }
 
-// What is told of the cuts of the row behind these, if it is torn and they are not all or nothing.
+// What is told of the cuts of the row after these, if it is torn and they are not all or nothing.
 fn told_of_cuts<'n>(
     alloc: Global,
     plan: &Plan,

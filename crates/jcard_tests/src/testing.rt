@@ -19,6 +19,7 @@ use jcard_faults::fault::{Fault, FileKind};
 use jcard_faults::remarks::Remarks;
 use jcard_files::disk::Disk;
 use jcard_files::operand::Operand;
+use jcard_images::table_remarks::remark_on_table;
 use jcard_rows::card_rows::CardRows;
 use jcard_rows::cards::cards_of;
 use jcard_rows::junit::junit;
@@ -29,8 +30,9 @@ use jcard_script::streams::{TextOut, write_all};
 use std::alloc::{AllocError, Global};
 
 /// `jcard test`: tells for each of these files how many of its rows hold, or the first that is not answered as it says, and how many
-/// passed and failed in all. The cards are new ones in memory, as they are asked for, or as a file says. Behind it the report for build
-/// servers is written to the file that is named for it, if there is one. Where a row that failed has no form, it is remarked why.
+/// passed and failed in all. The cards are new ones in memory, as they are asked for, or as a file says. After it the report for build
+/// servers is written to the file that is named for it, if there is one. Where a row that failed has no form, or a table is none, it is
+/// remarked why.
 pub fn test_files<'n, D: Disk, W: TextOut, T: Timer + Remarks>(
     disk: &mut D,
     files: &[&'n str],
@@ -78,11 +80,11 @@ fn test_by<'n, D: Disk, W: TextOut, T: Timer + Remarks>(
 }
 
 // What comes of the rows of these files.
-fn tested_files<'n, D: Disk, T: Timer>(
+fn tested_files<'n, D: Disk, T: Timer + Remarks>(
     disk: &mut D,
     files: &[&'n str],
     plan: &Plan,
-    timer: &T,
+    timer: &mut T,
 ) -> Result<Vec<Tested<'n>>, Fault<'n>>
     ensures { (deeds : List FileDeed) × D.does disk.old deeds disk.new × All IsReading deeds
         × MatchResult result (λ tested. AreTested plan.now
@@ -100,11 +102,11 @@ fn tested_files<'n, D: Disk, T: Timer>(
 }
 
 // Adds what comes of the rows of a file.
-fn add_tested<'n, D: Disk, T: Timer>(
+fn add_tested<'n, D: Disk, T: Timer + Remarks>(
     disk: &mut D,
     name: &'n str,
     plan: &Plan,
-    timer: &T,
+    timer: &mut T,
     tested: &mut Vec<Tested<'n>>,
 ) -> Result<(), Fault<'n>>
     ensures { (deeds : List FileDeed) × D.does disk.old deeds disk.new × All IsReading deeds
@@ -129,11 +131,11 @@ fn push_tested<'n>(tested: &mut Vec<Tested<'n>>, file: Tested<'n>) -> Result<(),
 }
 
 // What comes of the rows of a file.
-fn tested_file<'n, D: Disk, T: Timer>(
+fn tested_file<'n, D: Disk, T: Timer + Remarks>(
     disk: &mut D,
     name: &'n str,
     plan: &Plan,
-    timer: &T,
+    timer: &mut T,
 ) -> Result<Tested<'n>, Fault<'n>>
     ensures { (deeds : List FileDeed) × D.does disk.old deeds disk.new × All IsReading deeds
         × MatchResult result (λ file. IsTested plan.now name.now file deeds)
@@ -146,12 +148,12 @@ fn tested_file<'n, D: Disk, T: Timer>(
 }
 
 // What comes of the rows of a file that was read: its cards have the platform table that it names.
-fn tested_rows<'n, T: Timer>(
+fn tested_rows<'n, T: Timer + Remarks>(
     alloc: Global,
     name: &'n str,
     file: RowFile,
     plan: &Plan,
-    timer: &T,
+    timer: &mut T,
 ) -> Result<Tested<'n>, Fault<'n>>
     ensures { MatchResult result (λ tested. (tested.name.now ≡ name.now) × (q : Plan)
         × IsPlanFor plan.now (option_map (λ text. text.items) file.table) q
@@ -159,8 +161,8 @@ fn tested_rows<'n, T: Timer>(
 {
     let RowFile { table, lines } = file;
     match table {
-        Some(text) => tested_lines(alloc, name, &lines, &with_table(plan, text), timer),
-        None => tested_lines(alloc, name, &lines, plan, timer),
+        Some(text) => tested_by(alloc, name, &lines, &with_table(plan, text), timer),
+        None => tested_by(alloc, name, &lines, plan, timer),
     }
 }
 
@@ -176,7 +178,27 @@ fn with_table(plan: &Plan, table: Vec<u8>) -> Plan
     }
 }
 
-// What comes of the rows that these lines of the file of this name make.
+// What comes of the rows that these lines of the file of this name make. Where their platform table is none, it is remarked why.
+fn tested_by<'n, T: Timer + Remarks>(
+    alloc: Global,
+    name: &'n str,
+    lines: &[Numbered],
+    plan: &Plan,
+    timer: &mut T,
+) -> Result<Tested<'n>, Fault<'n>>
+    ensures { MatchResult result (λ tested. (tested.name.now ≡ name.now)
+        × AreAnswered plan.now lines.now tested) (λ fault. (q : Plan) × IsUnanswered q fault) }
+{
+    match tested_lines(alloc, name, lines, plan, timer) {
+        Ok(tested) => Ok(tested),
+        Err(fault) => {
+            remark_on_table(alloc, &plan.table, timer);
+            Err(fault)
+        }
+    }
+}
+
+// What comes of them.
 fn tested_lines<'n, T: Timer>(
     alloc: Global,
     name: &'n str,

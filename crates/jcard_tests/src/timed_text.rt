@@ -6,7 +6,7 @@ use jcard_script::streams::{TextOut, WriteFailed};
 use jcard_tear::kept_text::KeptText;
 use std::alloc::Global;
 
-/// What was printed, and how many microseconds behind the one before it each line came. Times for which memory was refused lack.
+/// What was printed, and how many microseconds after the one before it each line came. Times for which memory was refused lack.
 #[derive(Drop)]
 pub(crate) struct Printed {
     pub(crate) text: Vec<u8>,

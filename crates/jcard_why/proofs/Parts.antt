@@ -1,9 +1,9 @@
 -- The parts of a text between bytes.
 use Rattle.std.proofs.Common.{◌≡◌, ◌<◌, ◌≤◌, ◌+◌, ◌-◌, ◌==◌, ℕ, Bool, true, false, cond, ltb, List, [], ◌∷◌, Option, Some, None}
-use Rattle.std.proofs.Common.{length, take, drop, arith, subst, refl, sym, ◌∙◌}
+use Rattle.std.proofs.Common.{length, take, drop, arith, subst, refl, sym, ap, ◌++◌, ◌∙◌}
 use Rattle.std.specs.List.{position, position_or_len, slice_split}
 use Rattle.std.proofs.lemmas.Bool.{ltb-false, ltb-true}
-use Rattle.std.proofs.lemmas.List.{length-drop, take_all}
+use Rattle.std.proofs.lemmas.List.{length-drop, take_all, take-append-drop}
 use Rattle.std.proofs.lemmas.List.Splits.{slice_split_first, slice_split_none}
 use Rattle.std.proofs.lemmas.List.Sums.{fails_before_first}
 
@@ -32,3 +32,7 @@ parts_cut c bytes r i at some =
 -- what is left of a list, taken whole
 pub take_rest : (k : ℕ) (xs : List ℕ) → take (length xs - k) (drop k xs) ≡ drop k xs
 take_rest k xs = take_all (length xs - k) (drop k xs) (omega (arith, length-drop k xs))
+
+-- what stands before a place, and the rest
+pub cut_at : (k : ℕ) (xs : List ℕ) → xs ≡ take k xs ++ take (length xs - k) (drop k xs)
+cut_at k xs = sym (ap (λ (l : List ℕ). take k xs ++ l) (take_rest k xs) ∙ take-append-drop k xs)

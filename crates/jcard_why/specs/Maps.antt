@@ -4,7 +4,7 @@ use Rattle.std.specs.List.{slice_split}
 use Rattle.std.specs.Option.{option_or, option_and_then}
 use Rattle.std.specs.Str.{bytes_eq}
 
--- what stands behind a word with which a line begins
+-- what stands after a word with which a line begins
 abbrev pub behind : List ℕ → List ℕ → Option (List ℕ)
 behind word line = if bytes_eq (take (length word) line) word then Some (drop (length word) line) else None
 
@@ -12,7 +12,7 @@ behind word line = if bytes_eq (take (length word) line) word then Some (drop (l
 abbrev pub named_by : List ℕ → List ℕ → Option (List ℕ)
 named_by offset line = option_and_then (behind (codes " ")) (behind offset line)
 
--- whether lines are of the package with this AID, behind one that names a package, or behind one that names none
+-- whether lines are of the package with this AID, after one that names a package, or after one that names none
 abbrev pub is_section : List ℕ → Bool → Option (List ℕ) → Bool
 is_section aid before None = before
 is_section aid before (Some other) = bytes_eq other aid

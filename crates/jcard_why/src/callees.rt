@@ -22,7 +22,7 @@ const INVOKEINTERFACE: u8 = 142;
 
 /// What a call names.
 #[derive(Clone, Copy)]
-pub(crate) enum Callee {
+pub enum Callee {
     /// A method; of a virtual call the one that the receiver's class may override.
     Method(Method),
     /// The method of an interface with this token.
@@ -30,7 +30,7 @@ pub(crate) enum Callee {
 }
 
 /// What the instruction at a spot calls; nothing, where it is no call or its entry names no method.
-pub(crate) fn callee_at(spot: Spot, asked: &Asked<'_>) -> Option<Callee> {
+pub fn callee_at(spot: Spot, asked: &Asked<'_>) -> Option<Callee> {
     callee_in(spot, asked.code_at(spot), asked.linked)
 }
 
@@ -115,11 +115,7 @@ fn target_at(spot: Spot, code: &[u8], at: usize, linked: &Linked) -> Option<Targ
 }
 
 /// Adds what the instruction at a spot calls, if it is a call.
-pub(crate) fn push_callee(
-    text: &mut Text,
-    spot: Spot,
-    asked: &Asked<'_>,
-) -> Result<(), AllocError> {
+pub fn push_callee(text: &mut Text, spot: Spot, asked: &Asked<'_>) -> Result<(), AllocError> {
     let Some(callee) = callee_at(spot, asked) else {
         return Ok(());
     };

@@ -30,7 +30,7 @@ pub(crate) fn push_cause(text: &mut Text, asked: &Asked<'_>) -> Result<(), Alloc
     }
 }
 
-// Why the runtime environment answers so by itself: behind a method of the applet that returned, perhaps by another return than its
+// Why the runtime environment answers so by itself: after a method of the applet that returned, perhaps by another return than its
 // own, or without one.
 const fn own_answer(status: u16, phase: Option<Phase>, has_run: bool) -> &'static [u8] {
     match (status, phase) {

@@ -40,7 +40,7 @@ impl Cover {
         }
     }
 
-    /// The counts as lines: `package AID`, and behind it `OFFSET COUNT` for each instruction that was carried out; a last line
+    /// The counts as lines: `package AID`, and after it `OFFSET COUNT` for each instruction that was carried out; a last line
     /// `left out COUNT` where some were left out.
     pub fn text(&self) -> Result<Vec<u8>, AllocError> {
         let mut text = Text::new(self.alloc);

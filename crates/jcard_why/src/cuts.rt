@@ -16,7 +16,7 @@ pub fn told_of_cut(asked: &Asked<'_>) -> Result<Option<Vec<u8>>, AllocError> {
     };
     let mut text = Text::new(asked.alloc);
     text.push(b"why: line ")?;
-    text.push_number(asked.note.line)?;
+    text.push_number(asked.line)?;
     text.push(b": the power was cut within ")?;
     push_platform_method(&mut text, method)?;
     push_phase(&mut text, asked.note.phase)?;

@@ -14,7 +14,7 @@ use std::alloc::{AllocError, Global};
 /// The status word of a command that was carried out.
 const SUCCESS: u16 = 0x9000;
 
-/// So many instructions of a command are counted at most, since each is noted before.
+/// This many instructions of a command are counted at most, since each is noted before.
 const MOST_COUNTED: u32 = 10_000_000;
 
 /// What is asked about.
@@ -23,6 +23,8 @@ pub struct Asked<'a> {
     pub alloc: Global,
     /// What was noted of the command.
     pub note: &'a Note,
+    /// Its line in the script.
+    pub line: u32,
     /// The status word of its answer.
     pub status: u16,
     /// How many instructions the command had.
@@ -31,7 +33,7 @@ pub struct Asked<'a> {
     pub linked: &'a Linked,
     /// How many word writes passed in it.
     pub word_writes: u64,
-    /// How many words of the heap are free behind it.
+    /// How many words of the heap are free after it.
     pub free_words: u16,
     /// A map of methods; empty where there is none.
     pub map: &'a [u8],
@@ -42,15 +44,15 @@ pub struct Asked<'a> {
 /// Which of the instructions that a command carried out are told.
 #[derive(Clone, Copy, Debug, PartialEq, Eq, Drop)]
 pub enum TracedLines {
-    /// So many at most, from the first on.
+    /// This many at most, from the first on.
     First(u32),
-    /// So many at most, up to the last.
+    /// This many at most, up to the last.
     Last(u32),
 }
 
 impl<'a> Asked<'a> {
     /// The code that the offset of a frame counts in.
-    pub(crate) fn code_at(&self, spot: Spot) -> &[u8] {
+    pub fn code_at(&self, spot: Spot) -> &[u8] {
         if spot.package_number == 0 {
             return self.lent_code;
         }
@@ -72,6 +74,8 @@ pub struct Wanted {
     pub trace: Option<TracedLines>,
     /// How often each instruction was carried out.
     pub cover: bool,
+    /// What stands in the frames as places of the code are reached.
+    pub stops: bool,
 }
 
 impl Wanted {
@@ -79,7 +83,7 @@ impl Wanted {
     pub fn most_noted(&self) -> u32
         ensures { result ≡ most_noted self.now }
     {
-        if self.cover {
+        if self.cover || self.stops {
             return MOST_COUNTED;
         }
         match self.trace {
@@ -90,7 +94,7 @@ impl Wanted {
     }
 }
 
-/// Tells what is wanted of a command: its instructions; and behind them, where it was not answered by 9000, why.
+/// Tells what is wanted of a command: its instructions; and after them, where it was not answered by 9000, why.
 pub fn told(asked: &Asked<'_>, wanted: Wanted) -> Result<Vec<u8>, AllocError> {
     let mut text = Text::new(asked.alloc);
     if let Some(lines) = wanted.trace {
@@ -105,7 +109,7 @@ pub fn told(asked: &Asked<'_>, wanted: Wanted) -> Result<Vec<u8>, AllocError> {
 // Says why a command was not answered by 9000: a line that begins with `why:`, and lines below it.
 fn push_why(text: &mut Text, asked: &Asked<'_>) -> Result<(), AllocError> {
     text.push(b"why: line ")?;
-    text.push_number(asked.note.line)?;
+    text.push_number(asked.line)?;
     text.push(b": ")?;
     push_cause(text, asked)?;
     text.push(b"\n")?;

@@ -1,7 +1,7 @@
 //! Texts that say what a command did, and why it was not answered by 9000.
 #![tactic(auto)]
 
-mod callees;
+pub mod callees;
 mod causes;
 pub mod covers;
 pub mod cuts;
@@ -9,10 +9,15 @@ pub mod explanation;
 pub mod map_remarks;
 pub mod maps;
 pub mod mnemonics;
-mod places;
+pub mod named;
+mod naming;
+mod operands;
+pub mod places;
 mod reasons;
+mod records;
 mod refusals;
+pub mod sources;
 mod statuses;
-mod text;
+pub mod text;
 mod traces;
 pub mod watches;

@@ -40,7 +40,7 @@ const fn at(column: usize, why: &'static [u8]) -> Option<LineFault> {
     Some(LineFault { column, why })
 }
 
-// What is wrong with a line, behind one that names a package or before it.
+// What is wrong with a line, after one that names a package or before it.
 fn fault_of(line: &[u8], is_inside: bool) -> Option<LineFault> {
     if line.is_empty() {
         return None;

@@ -42,7 +42,7 @@ pub(crate) fn places_at<'a>(map: &'a [u8], aid: &[u8], offset: &[u8]) -> Option<
     if is_named { behind(rest, b" ") } else { None }
 }
 
-/// What stands behind this word with which a line of a map begins; none where lines that begin so differ.
+/// What stands after this word with which a line of a map begins; none where lines that begin so differ.
 pub(crate) fn entry_name<'a>(map: &'a [u8], head: &[u8]) -> Option<&'a [u8]> {
     let mut found: Option<&'a [u8]> = None;
     for line in map.split(|byte| *byte == b'\n') {
@@ -61,7 +61,7 @@ pub(crate) fn entry_name<'a>(map: &'a [u8], head: &[u8]) -> Option<&'a [u8]> {
 pub(crate) fn java_line(places: &[u8], place: u32) -> Option<u32> {
     let mut found = None;
     for word in places.split(|byte| *byte == b' ') {
-        if let Some((offset, line)) = split_word(word) {
+        if let Some((offset, line)) = split_place(word) {
             if offset > place {
                 return found;
             }
@@ -71,14 +71,14 @@ pub(crate) fn java_line(places: &[u8], place: u32) -> Option<u32> {
     found
 }
 
-// The offset and the line in a word with both.
-fn split_word(word: &[u8]) -> Option<(u32, u32)> {
+/// The offset and the line in a word with both.
+pub fn split_place(word: &[u8]) -> Option<(u32, u32)> {
     let at = word.iter().position(|byte| *byte == b':')?;
     Some((number_of(&word[..at])?, number_of(&word[at + 1..])?))
 }
 
-// A decimal number below ten million.
-fn number_of(digits: &[u8]) -> Option<u32> {
+/// A decimal number below ten million.
+pub fn number_of(digits: &[u8]) -> Option<u32> {
     if digits.is_empty() || digits.len() > 7 {
         return None;
     }
@@ -106,7 +106,7 @@ fn split_line(text: &[u8]) -> Option<(&[u8], &[u8])>
     Some((&text[..at], &text[at + 1..]))
 }
 
-// What stands behind a word with which a line begins.
+// What stands after a word with which a line begins.
 fn behind<'a>(line: &'a [u8], word: &[u8]) -> Option<&'a [u8]>
     ensures { MatchOption result (behind word.now line.now ≡ None)
         (λ more. behind word.now line.now ≡ Some more.now) }
@@ -114,8 +114,8 @@ fn behind<'a>(line: &'a [u8], word: &[u8]) -> Option<&'a [u8]>
     line.strip_prefix(word)
 }
 
-// The name in a line `OFFSET NAME`.
-fn named_by<'a>(line: &'a [u8], offset: &[u8]) -> Option<&'a [u8]>
+/// The name in a line `OFFSET NAME`.
+pub(crate) fn named_by<'a>(line: &'a [u8], offset: &[u8]) -> Option<&'a [u8]>
     ensures { MatchOption result (named_by offset.now line.now ≡ None)
         (λ name. named_by offset.now line.now ≡ Some name.now) }
 {
@@ -125,8 +125,8 @@ fn named_by<'a>(line: &'a [u8], offset: &[u8]) -> Option<&'a [u8]>
     behind(more, b" ")
 }
 
-// Whether what follows a line is of the package.
-fn is_of(line: &[u8], before: bool, aid: &[u8]) -> bool
+/// Whether what follows a line is of the package.
+pub(crate) fn is_of(line: &[u8], before: bool, aid: &[u8]) -> bool
     ensures { result ≡ is_of aid.now before line.now }
 {
     match behind(line, b"package ") {

@@ -4,6 +4,8 @@ use crate::callees::push_callee;
 use crate::explanation::Asked;
 use crate::maps::{java_line, name_at, places_at};
 use crate::mnemonics::mnemonic;
+use crate::operands::push_operand;
+use crate::sources::file_of;
 use crate::text::Text;
 use itoa::Buffer;
 use jc_firewall::subject::Context;
@@ -45,9 +47,9 @@ pub(crate) fn push_spots(text: &mut Text, asked: &Asked<'_>) -> Result<(), Alloc
     Ok(())
 }
 
-/// Adds the package of a frame, where its instruction stands, its method with the line of its source, and the instruction's
-/// mnemonic.
-pub(crate) fn push_place(text: &mut Text, spot: Spot, asked: &Asked<'_>) -> Result<(), AllocError> {
+/// Adds the package of a frame, where its instruction stands, its method with the file and the line of its source, the instruction's
+/// mnemonic, and the local or the field that it uses by its name.
+pub fn push_place(text: &mut Text, spot: Spot, asked: &Asked<'_>) -> Result<(), AllocError> {
     text.push(b"  at ")?;
     push_package(text, spot.package_number, asked.linked)?;
     text.push(b" offset ")?;
@@ -55,13 +57,14 @@ pub(crate) fn push_place(text: &mut Text, spot: Spot, asked: &Asked<'_>) -> Resu
     if spot.package_number != 0 {
         text.push(b" in ")?;
         push_method_at(text, spot.package_number, spot.method, asked)?;
-        push_java_line(text, spot, asked)?;
+        push_source(text, spot, asked)?;
     }
-    push_instruction(text, spot, asked)
+    push_instruction(text, spot, asked)?;
+    push_operand(text, spot, asked)
 }
 
-// A package's AID as a map tells it.
-fn aid_text(number: u8, asked: &Asked<'_>) -> Result<Vec<u8>, AllocError> {
+/// A package's AID as a map tells it.
+pub fn aid_text(number: u8, asked: &Asked<'_>) -> Result<Vec<u8>, AllocError> {
     let mut aid = Text::new(asked.alloc);
     push_package(&mut aid, number, asked.linked)?;
     Ok(aid.into_bytes())
@@ -86,19 +89,32 @@ pub(crate) fn push_method_at(
     }
 }
 
-// The line of the source, where the map has it.
-fn push_java_line(text: &mut Text, spot: Spot, asked: &Asked<'_>) -> Result<(), AllocError> {
+// The file and the line of the source, as in `(purse/Purse.java:109)`, where the map has them; the line alone, where it names no file.
+fn push_source(text: &mut Text, spot: Spot, asked: &Asked<'_>) -> Result<(), AllocError> {
     let aid = aid_text(spot.package_number, asked)?;
     let mut digits = Buffer::new();
     let offset = digits.format(u32::from(spot.method)).as_bytes();
-    let Some(places) = places_at(asked.map, &aid, offset) else {
+    let Some(line) = line_at(asked.map, &aid, offset, u32::from(spot.place)) else {
         return Ok(());
     };
-    let Some(line) = java_line(places, u32::from(spot.place)) else {
-        return Ok(());
-    };
-    text.push(b" line ")?;
-    text.push_number(line)
+    match name_at(asked.map, &aid, offset).and_then(|name| file_of(asked.map, &aid, name)) {
+        Some(file) => {
+            text.push(b" (")?;
+            text.push(file)?;
+            text.push(b":")?;
+            text.push_number(line)?;
+            text.push(b")")
+        }
+        None => {
+            text.push(b" line ")?;
+            text.push_number(line)
+        }
+    }
+}
+
+// The line of the source to which the instruction at a place of a method belongs.
+fn line_at(map: &[u8], aid: &[u8], offset: &[u8], place: u32) -> Option<u32> {
+    java_line(places_at(map, aid, offset)?, place)
 }
 
 fn push_instruction(text: &mut Text, spot: Spot, asked: &Asked<'_>) -> Result<(), AllocError> {

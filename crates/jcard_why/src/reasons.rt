@@ -10,6 +10,7 @@ pub(crate) const fn reason_name(class: PlatformClass, reason: i16) -> Option<&'s
         PlatformClass::TransactionException => transaction_reason(reason),
         PlatformClass::ApduException => apdu_reason(reason),
         PlatformClass::PinException => pin_reason(reason),
+        PlatformClass::CryptoException => crypto_reason(reason),
         _ => None,
     }
 }
@@ -54,6 +55,17 @@ const fn pin_reason(reason: i16) -> Option<&'static [u8]> {
     match reason {
         1 => Some(b"ILLEGAL_VALUE"),
         2 => Some(b"ILLEGAL_STATE"),
+        _ => None,
+    }
+}
+
+const fn crypto_reason(reason: i16) -> Option<&'static [u8]> {
+    match reason {
+        1 => Some(b"ILLEGAL_VALUE"),
+        2 => Some(b"UNINITIALIZED_KEY"),
+        3 => Some(b"NO_SUCH_ALGORITHM"),
+        4 => Some(b"INVALID_INIT"),
+        5 => Some(b"ILLEGAL_USE"),
         _ => None,
     }
 }

@@ -20,7 +20,7 @@ pub(crate) fn push_trace(
         return Ok(());
     }
     text.push(b"trace: line ")?;
-    text.push_number(asked.note.line)?;
+    text.push_number(asked.line)?;
     text.push(b"\n")?;
     match lines {
         TracedLines::First(most) => push_first(text, steps, most, asked),
@@ -28,7 +28,7 @@ pub(crate) fn push_trace(
     }
 }
 
-// The first so many, and how many follow.
+// The first n, and how many follow.
 fn push_first(
     text: &mut Text,
     steps: &[Step],
@@ -41,7 +41,7 @@ fn push_first(
     push_left_out(text, asked.note.steps_left_out.saturating_add(untold))
 }
 
-// The last so many behind how many come before them.
+// The last n after how many come before them.
 fn push_last(
     text: &mut Text,
     steps: &[Step],

@@ -58,7 +58,7 @@ module _ (es : List Effect) (place : Place) (x : ℕ) where
     items = λ q. record { header = (d.items q).header; cells = λ i none. (d.items q).cells i (λ was. none (inr was)) };
   }
 
-  -- a heap behind one more that was set
+  -- a heap after one more that was set
   behind_set : (r i : ℕ) (old new : HeapState) → place ≡ Cell r i → SameButSet es (set_cell old r i x) new → SameButSet more old new
   behind_set r i old new is d = record {
     rest = ap (with_items old) d.rest ∙ rest_kept old r i x;

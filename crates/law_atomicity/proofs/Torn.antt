@@ -104,7 +104,7 @@ saved_within (SendBytes bytes ∷ es) s due stands inside = saved_within es (app
 
 -- ---- one effect more in front
 
--- the heap that was saved stays behind a change in the open transaction
+-- the heap that was saved stays after a change in the open transaction
 module _ (es : List Effect) (s v : MemoryState) (h x : HeapState) where
   behind_change : v.heap.begun ≡ s.heap.begun → (apply_effects es v).heap.begun ≡ true → IsInside (moves_of es) →
       SavedHeapAfter es v (if s.heap.begun then s.heap.durable else x) h → SavedHeapAfter es v s.heap.durable h
@@ -184,7 +184,7 @@ due_begun P (Choose choose) s (e ∷ es) due begins = due_begun P (choose begins
 due_begun P (Either x y) s (e ∷ es) due (inl begins) = due_begun P x s (e ∷ es) due.0 begins
 due_begun P (Either x y) s (e ∷ es) due (inr begins) = due_begun P y s (e ∷ es) due.1 begins
 
--- a loss comes behind a beginning
+-- a loss comes after a beginning
 abbrev pub LostAt : {A : Type 0} → Program A → MemoryState → HeapState → Type 0
 LostAt d s h = (es : List Effect) × HasTracePrefix d s es × (h ≡ (apply_effects es s).heap.durable)
 

@@ -27,7 +27,7 @@ IsHeapFound es s h = (before : List Effect) × (during : List Effect) × (es ≡
 abbrev pub IsHeapSaved : List Effect → MemoryState → HeapState → Type 0
 IsHeapSaved es s h = IsInside (moves_of es) × SavedHeapAfter es s s.heap.durable h
 
--- behind these effects a loss leaves this heap: the one that the open transaction found, but for what was set for good; the heap as it
+-- after these effects a loss leaves this heap: the one that the open transaction found, but for what was set for good; the heap as it
 -- is, where none is open
 abbrev pub TearLeavesAfter : List Effect → MemoryState → HeapState → Type 0
 TearLeavesAfter es s h =
@@ -39,7 +39,7 @@ abbrev pub IsDurableOutside : MemoryState → Type 0
 IsDurableOutside s = s.heap.begun ≡ false → s.heap.durable ≡ s.heap.now
 
 -- the first law, of all that is done by orderly effects: within the open transaction what was saved stays, but for what was set for good;
--- what a loss leaves behind each beginning of it; that an abort leaves the same; and that a loss within it is one behind
+-- what a loss leaves after each beginning of it; that an abort leaves the same; and that a loss within it is one after
 -- such a beginning
 pub record TransactionsAreAtomic (A : Type 0) : Type 0 where
   pub within : (d : Program A) (s : MemoryState) (es : List Effect) → AllDue KeepsTransactionOrder d s → s.heap.begun ≡ true → HasTracePrefix d s es

@@ -1,4 +1,4 @@
--- What stands in a heap stands apart behind changes of cells and words, and behind what is new.
+-- What stands in a heap stands apart after changes of cells and words, and after what is new.
 use Rattle.std.proofs.Common.{◌≡◌, ℕ, suc, ◌+◌, ◌<◌, ◌≤◌, ◌&&◌, Bool, true, false, List, [], ◌∷◌, length, inl, inr, refl, sym, ◌∙◌, ap, subst, arith}
 use Rattle.std.proofs.Common.{if◌then◌else◌}
 use Rattle.std.proofs.lemmas.Bool.{cases_eq, cases_lt, true≢false}

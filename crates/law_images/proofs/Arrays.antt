@@ -1,4 +1,4 @@
--- Initialised arrays behind what stands in a heap.
+-- Initialised arrays after what stands in a heap.
 use Rattle.std.proofs.Common.{◌≡◌, ℕ, zero, suc, ◌<◌, ◌⊎◌, true, inl, inr, List, [], ◌∷◌, length, get_or, refl, sym, ◌∙◌, ap, subst, arith}
 use Rattle.std.proofs.lemmas.Bool.{cases_eq, cases_lt, false≢true}
 use Rattle.jc_heap.specs.declared.object.Kind.{Kind}

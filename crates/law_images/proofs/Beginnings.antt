@@ -93,7 +93,7 @@ set_cells_stays [] h r i = itself_stays h
 set_cells_stays (v ∷ vs) h r i = stays_then h (set_cell h r i v) (set_cells (set_cell h r i v) r (suc i) vs) (cell_stays h r i v)
     (set_cells_stays vs (set_cell h r i v) r (suc i))
 
--- ---- something new behind the others
+-- ---- something new after the others
 
 pushed_stays : (h g : HeapState) (more : List (ℕ × Item)) → g.head ≡ h.head → g.text ≡ h.text → g.items ≡ h.items ++ more → Stays h g
 unfolding next_object heap_item_at

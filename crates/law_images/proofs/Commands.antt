@@ -125,7 +125,7 @@ module _ (commands : CommandsAreSound) (t : Tokens) (card : CardState) (own : Is
   pub answers_good : (response : List ℕ) → Good p (respond_with card response) card.memory (IsAnswered p)
   answers_good response = good_gives p _ (with_response card response) card.memory (record { ready = own.ready; packages = refl; load = own.load })
 
-  -- behind what leaves a ready memory
+  -- after what leaves a ready memory
   ends_good : (response : List ℕ) (v : MemoryState) → IsReady p v → Good p (Finish (with_response card response)) v (IsAnswered p)
   ends_good response v ready = good_gives p _ (with_response card response) v (record { ready = ready; packages = refl; load = own.load })
 

@@ -6,7 +6,7 @@ use Rattle.jc_heap.specs.Object.{Item, is_object}
 use Rattle.jc_heap.specs.Table.{entry_or, has_entry, with_entry}
 use Rattle.jc_heap.specs.Heap.{first_above}
 
--- what is found stays the first where something comes behind
+-- what is found stays the first where something comes after
 pub found_still : (es more : List (ℕ × Item)) (r q : ℕ) → first_above es r ≡ Some q → first_above (es ++ more) r ≡ Some q
 found_still [] more r q e = absurd (none-some q e)
 found_still (d ∷ es) more r q e = go (nat_lt r d.0 && is_object d.1) e (λ f. found_still es more r q f)

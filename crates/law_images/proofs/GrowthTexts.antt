@@ -51,7 +51,7 @@ unpacked_bytes count words small =
     subst IsByte (sym (get_or-map-range_with_len f 0 count i i 0 (let long = length-map-range_with_len f 0 count in omega (arith, lt, long)) (omega arith)))
     (half (i % 2 == 0) (get_or words (i / 2) 0) (small (i / 2))))
 
--- what stands behind the tag and the size is bytes
+-- what stands after the tag and the size is bytes
 abbrev pub IsOfBytes : List ℕ → Type 0
 IsOfBytes text = All IsByte (drop 3 text)
 

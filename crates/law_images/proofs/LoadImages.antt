@@ -22,7 +22,7 @@ abbrev pub AreTagged : List (ℕ × List ℕ) → Type 0
 AreTagged [] = Unit {0}
 AreTagged (c ∷ cs) = (0 < c.0) × AreTagged cs
 
--- the image begins behind the 0 that follows the components
+-- the image begins after the 0 that follows the components
 walk : (at : ℕ) (cs : List (ℕ × List ℕ)) (image : List ℕ) → AreTagged cs → image_from (records_from part_sizes 0 at (components_words cs ++ 0 ∷ image))
     ≡ Some (at + length (components_words cs) + 1)
 walk at [] image tagged = image-here at (0 ∷ image) (omega arith) refl ∙ ap Some (omega arith)
@@ -81,7 +81,7 @@ module _ (at : ℕ) (cs : List (ℕ × List ℕ)) (xs : List (Kind × List ℕ))
   behind_addresses : (i : ℕ) → length xs ≤ i → get_or (package_record at cs xs rest) (begin + i) 0 ≡ get_or (packed_words rest) (i - length xs) 0
   behind_addresses i le = word_is i ∙ get_or-append_right (array_addresses first xs) (packed_words rest) (length xs) i 0 (length-array_addresses first xs) le
 
--- and behind them, where the bytes begin with so many zeros, stand zeros
+-- and after them, where the bytes begin with this many zeros, stand zeros
 pub null_is : (at : ℕ) (cs : List (ℕ × List ℕ)) (xs : List (Kind × List ℕ)) (n : ℕ) (values : List ℕ) (i : ℕ) → length xs ≤ i → 2 * (i - length xs) + 1 < n →
     get_or (package_record at cs xs (replicate n 0 ++ values)) (2 + length (components_words cs) + i) 0 ≡ 0
 null_is at cs xs n values i le lt =

@@ -108,7 +108,7 @@ module _ (h : HeapState) (cs : List (ℕ × List ℕ)) (xs : List (Kind × List 
     ]
   ]
 
-  -- the heap before, with the packages behind
+  -- the heap before, with the packages after
   abbrev viewed : HeapState
   viewed = record h { packages = g.packages }
 

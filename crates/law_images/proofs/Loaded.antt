@@ -1,4 +1,4 @@
--- A package that is added is read behind the others.
+-- A package that is added is read after the others.
 use Rattle.std.proofs.Common.{◌≡◌, ℕ, ◌+◌, ◌<◌, false, inl, inr, List, [], ◌∷◌, ◌++◌, map, length, get_or, refl, sym, ◌∙◌, ap, arith, Option, Some, None, Ok}
 use Rattle.std.proofs.Common.{if◌then◌else◌}
 use Rattle.std.specs.Option.{option_and_then}

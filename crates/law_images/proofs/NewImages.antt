@@ -115,7 +115,7 @@ object_fixed t o place fits = record {
   class = λ there instance. class_fits t o.kind o.class fits instance;
 }
 
--- behind items of which this is so, one more
+-- after items of which this is so, one more
 pushed_fixed : (t : Tokens) (es : List (ℕ × Item)) (q : ℕ) (x : Item) (r : ℕ) → IsFixed t (entry_or (APackage []) es r) → IsFixed t x
     → IsFixed t (entry_or (APackage []) (es ++ (q, x) ∷ []) r)
 pushed_fixed t [] q x r old new = go (q == r)

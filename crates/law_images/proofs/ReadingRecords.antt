@@ -26,7 +26,7 @@ none_left (suc s) at (w ∷ ws) le = none_left s (suc at) ws (omega (arith, le))
 abbrev more_of : ℕ → ℕ → List ℕ → List (ℕ × List ℕ)
 more_of at w ws = records_from part_sizes (part_sizes at (w ∷ ws)) (suc at) ws
 
--- the parts behind a component with so many bytes
+-- the parts after a component with this many bytes
 abbrev behind_info : ℕ → ℕ → List ℕ → List (ℕ × List ℕ)
 behind_info at size ws = records_from part_sizes (1 + words_for size) (suc at) ws
 
@@ -62,7 +62,7 @@ module _ (at w : ℕ) (ws : List ℕ) where
 
 -- ---- where the parts lie
 
--- the image begins behind what belongs to an earlier part
+-- the image begins after what belongs to an earlier part
 image_behind : (s at : ℕ) (ws : List ℕ) (b : ℕ) → image_from (records_from part_sizes s at ws) ≡ Some b → at + s + 1 ≤ b
 image_behind s at [] b e = absurd (none-some b e)
 image_behind (suc s) at (w ∷ ws) b e = let low = image_behind s (suc at) ws b e in omega (arith, low)

@@ -178,7 +178,7 @@ reset_fails fault s t after good h holds =
     subst (λ (f : FuseStoreValue). FailsToReset fault (power_in s) (state_of f)) (sym left)
     (start_fails fault (power_in s) (state_of h.0) (state_of h.1) (store_held s h.0 good h.2) (start_fails_so fault h.0 h.1 h.3))
 
--- one more line behind some that were carried out
+-- one more line after some that were carried out
 one_more : (all : List (List ℕ)) (line : List ℕ) (s u t : ScriptState) (whole answer : List ℕ) → AreCarriedOut all s u whole
     → IsWrittenFor (form_of line) u t answer → AreCarriedOut (all ++ line ∷ []) s t (whole ++ answer)
 one_more [] line s u t whole answer h written =
@@ -272,7 +272,7 @@ served_to : (budget : ℕ) (before after : FuseStoreValue) (carried : List (List
     → AreSessionsOfScript budget before carried text (Leaves after) → IsServedTo budget before after
 served_to budget before after carried text s = let ran = s.1 in (asked_by carried, ran.0, ask_bytes carried, (s.0, ran.1, s.2))
 
--- or the reset behind them found a fault
+-- or the reset after them found a fault
 stopped_at : (budget : ℕ) (fault : Fault) (before : StoreState) (requests : List Request) (replies : List Reply) (last : PowerState) (after : StoreState)
     → IsSession budget before requests replies last → FailsToReset fault last after → FailsAtReset budget fault before (requests ++ Reset ∷ []) after
 stopped_at budget fault before requests replies last after session fails =

@@ -1,4 +1,4 @@
--- No transaction is open behind a command.
+-- No transaction is open after a command.
 use Rattle.std.proofs.Common.{◌≡◌, Bool, true, false, List, [], ◌∷◌, refl}
 use Rattle.std.specs.Prelude.{ℕ, length, pos, nat_le, nat_lt, ◌==◌, if◌then◌else◌, is_none, Option, Some, None, Result, Ok, Err}
 use Rattle.std.specs.Option.{option_map}
@@ -44,7 +44,7 @@ use Rattle.jc_card.specs.Loads.{begin_component, end_component, append_component
 abbrev pub IsShut : {A : Type 0} → A → MemoryState → Type 0
 IsShut a v = v.heap.begun ≡ false
 
--- whatever is done, none is open behind it
+-- whatever is done, none is open after it
 pub record EndsShut {A : Type 0} (d : Program A) (s : MemoryState) : Type 0 where
   pub each : AllResults d s IsShut
 

@@ -9,7 +9,7 @@ abbrev pub item_size : Item → ℕ
 item_size (AnObject o) = if is_none o.facts.event then header_size + words_of_cells (is_packed o.facts) o.facts.length else transient_size
 item_size (APackage words) = length words
 
--- nothing stands before the table text, ends above the top, or reaches into what stands behind it
+-- nothing stands before the table text, ends above the top, or reaches into what stands after it
 pub record StandApart (h : HeapState) : Type 0 where
   pub start : text_start ≤ h.top
   pub first : (r : ℕ) → is_allocated h r ≡ true → text_start ≤ r

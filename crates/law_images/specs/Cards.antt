@@ -55,7 +55,7 @@ abbrev pub AreOfBytes : List Request → Type 0
 AreOfBytes [] = Unit {0}
 AreOfBytes (request ∷ requests) = IsOfBytes request × AreOfBytes requests
 
--- however such a card answers a request, it is so behind it; and behind a session of them
+-- however such a card answers a request, it is so after it; and after a session of them
 pub record StaysOwn : Type 0 where
   pub request : (t : Tokens) (s : PowerState) (request : Request) (reply : Reply) (next : PowerState) → IsOfBytes request → IsOwnPower t s
       → Serves s request reply next → IsOwnPower t next

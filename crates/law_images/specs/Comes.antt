@@ -35,7 +35,7 @@ pub record ComesWithin (t : Tokens) (card : CardState) (bytes : List ℕ) (es : 
   pub are : AreBytes bytes
   pub begins : HasTracePrefix (exchange bytes card) card.memory es
 
--- the memory behind these effects
+-- the memory after these effects
 abbrev pub memory_at : CardState → List Effect → MemoryState
 memory_at card es = apply_effects es card.memory
 

@@ -25,7 +25,7 @@ ImagesHaveWords = (words : List ℕ) → AreWords words → HasWords (heap_of wo
 abbrev pub HaveAppletComponents : List LinkerComponents → Type 0
 HaveAppletComponents cs = (i : ℕ) (c : LinkerComponents) → slice_get cs i ≡ Some c → HasAppletComponent c.applets
 
--- the packages of a heap, behind those of a platform whose table was read, with tokens of one byte each, were linked of components,
+-- the packages of a heap, after those of a platform whose table was read, with tokens of one byte each, were linked of components,
 -- among them right Class and Applet components
 abbrev pub RecordsAreRead : Type 0
 RecordsAreRead = (text : List ℕ) (t : Tokens) (h : HeapState) (p : Packages) → Reads text (Ok t) → HasByteTokens t → HasWords h → packages_of t h ≡ Some p

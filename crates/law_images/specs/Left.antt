@@ -10,7 +10,7 @@ use Rattle.jc_session.specs.Requests.{Request, Command, Reset, ArmFuse}
 use Rattle.law_images.specs.Comes.{memory_at}
 use Rattle.law_images.specs.Tries.{IsAsFound}
 
--- a transaction is open behind these effects of a command, and this is what its beginning found, but for what was set for good
+-- a transaction is open after these effects of a command, and this is what its beginning found, but for what was set for good
 pub record IsWhatWasFound (card : CardState) (es : List Effect) (left : HeapState) : Type 0 where
   pub earlier : List Effect
   pub during : List Effect
@@ -18,7 +18,7 @@ pub record IsWhatWasFound (card : CardState) (es : List Effect) (left : HeapStat
   pub inside : IsInside (moves_of during)
   pub found : IsAsFound card.packages during (apply_effect (HeapMove Begin) (memory_at card earlier)) (memory_at card earlier).heap.now left
 
--- what a loss of power leaves behind these effects of a command: the heap as it is, where no transaction is open, and else what its
+-- what a loss of power leaves after these effects of a command: the heap as it is, where no transaction is open, and else what its
 -- beginning found
 abbrev pub IsLeft : CardState → List Effect → HeapState → Type 0
 IsLeft card es left = (((memory_at card es).heap.begun ≡ false) × (left ≡ (memory_at card es).heap.now))

@@ -1,4 +1,4 @@
--- What is read of a package behind the end of its load.
+-- What is read of a package after the end of its load.
 use Rattle.std.specs.Prelude.{ℕ, ◌≡◌, ◌<◌, false, List, IfSome, Some, Ok}
 use Rattle.std.specs.List.{All}
 use Rattle.jc_cap.specs.declared.texts.LoadedComponents.{LoadedComponents}

@@ -31,7 +31,7 @@ with_record h t = add_package h (parts_of t) (arrays_of (statics_of t)) (image_o
 abbrev pub load_move : PackageBytes → Move
 load_move t = AddPackage (parts_of t) (arrays_of (statics_of t)) (image_of (statics_of t))
 
--- a heap that fits the packages and the one that a load brings fits them as before with that package's record behind the others
+-- a heap that fits the packages and the one that a load brings fits them as before with that package's record after the others
 abbrev pub RecordsFit : Type 0
 RecordsFit = (most : ℕ) (p : Packages) (load : LoadedComponents) (q : PendingPackageValue) (h : HeapState) (own : ℕ) → linked_components p load ≡ Ok q
     → length h.packages ≡ length p.loaded → CountsPackages h → IsConsistentHeap h → own < h.top →
@@ -57,7 +57,7 @@ pub record IsSoundForLoads (p : Packages) (m : MemoryState) : Type 0 where
   pub environment : HasEnvironment p m
   pub layout : AreLaidOut m
 
--- while no transaction and no installation is open, all this stays so behind the move that adds the package that a load brings, with
+-- while no transaction and no installation is open, all this stays so after the move that adds the package that a load brings, with
 -- that package linked onto the others
 abbrev pub LoadsKeepSound : Type 0
 LoadsKeepSound = (cs : List LinkerComponents) (p : Packages) (load : LoadedComponents) (q : PendingPackageValue) (m : MemoryState) → AreLinked cs p

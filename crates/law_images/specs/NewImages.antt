@@ -21,6 +21,6 @@ pub record KeepsBeginning (n : ℕ) (t : Tokens) (m : MemoryState) : Type 0 wher
   pub fixed : m.fixed ≡ fixed_of t m.heap.durable
   pub same : fixed_of t m.heap.now ≡ fixed_of t m.heap.durable
 
--- whatever effect comes, it is so behind it
+-- whatever effect comes, it is so after it
 abbrev pub EffectsKeepBeginnings : Type 0
 EffectsKeepBeginnings = (n : ℕ) (t : Tokens) (e : Effect) (m : MemoryState) → KeepsBeginning n t m → KeepsBeginning n t (apply_effect e m)

@@ -40,7 +40,7 @@ abbrev pub SetsAnew : ℕ → Effect → MemoryState → Type 0
 SetsAnew q (HeapMove (SetPlaces changes)) m = IsUpdate q changes m ⊎ IsSettingUp q changes
 SetsAnew q e m = ⊥
 
--- what a cell holds behind an effect that sets it for good, and else what it held
+-- what a cell holds after an effect that sets it for good, and else what it held
 abbrev pub value_after : ℕ → ℕ → Effect → ℕ → ℕ
 value_after r i (HeapMove (WriteNonAtomic (Cell q j) v)) before = if (q == r) && (j == i) then v else before
 value_after r i e before = before
@@ -56,7 +56,7 @@ PlaceStays r i [] m before left = left ≡ before
 PlaceStays r i (e ∷ es) m before left =
     (ChangesFirst r i e m × (left ≡ before)) ⊎ ((ChangesFirst r i e m → ⊥) × PlaceStays r i es (apply_effect e m) (value_after r i e before) left)
 
--- of so many before these effects, so many tries of the PIN stay where they are taken back: those that were counted before the first of
+-- of this many before these effects, this many tries of the PIN stay where they are taken back: those that were counted before the first of
 -- them that updates the PIN or sets it up
 abbrev pub TriesStay : ℕ → List Effect → MemoryState → ℕ → ℕ → Type 0
 TriesStay q [] m before left = left ≡ before

@@ -21,7 +21,7 @@ use Rattle.law_isolation.specs.Sparing.{IsBeside, AreBeside}
 abbrev pub LieApart : Facts → Facts → Type 0
 LieApart f g = (f.place + f.length ≤ g.place) ⊎ (g.place + g.length ≤ f.place)
 
--- an object stands behind a reference, and its transient cells lie apart from those of all others, and below the end of their area
+-- a reference names an object, and its transient cells lie apart from those of all others, and below the end of their area
 pub record StandsBeside (q : ℕ) (o : Object) (h : HeapState) : Type 0 where
   pub item : heap_item_at h q ≡ AnObject o
   pub beside : (event : ClearEvent) → o.facts.event ≡ Some event → (r : ℕ) → (r ≡ q → ⊥) → (facts h r).event ≡ Some event → LieApart (facts h r) o.facts

@@ -39,7 +39,7 @@ numbered ShortArray ShortArray e = refl
 numbered ReferenceArray ReferenceArray e = refl
 numbered _ _ e = absurd cc
 
--- a persistent object of a kind, with so many cells
+-- a persistent object of a kind, with this many cells
 pub record IsKeptAs (m : MemoryState) (of : Kind) (n r : ℕ) : Type 0 where
   pub there : IsObject m.heap.now r
   pub kind : (facts m.heap.now r).kind ≡ of

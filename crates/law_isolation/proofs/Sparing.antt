@@ -30,7 +30,7 @@ pub area_long : (ram : RamState) (event : ClearEvent) → HasSizes ram → lengt
 area_long ram Reset sizes = sizes.reset_cells
 area_long ram Deselect sizes = sizes.deselect_cells
 
--- the object behind a reference
+-- the object that a reference names
 pub behind : (m : MemoryState) (q : ℕ) → IsObject m.heap.now q → (o : Object) × (heap_item_at m.heap.now q ≡ AnObject o)
 behind m q there = is_an_object (heap_item_at m.heap.now q) there
 

@@ -12,7 +12,7 @@ use Rattle.law_isolation.specs.Reach.{IsOutside, KeepsCells}
 use Rattle.law_isolation.specs.Sparing.{AreQuiet, IsSet}
 use Rattle.law_isolation.specs.Steps.{NamesStatics, Stays}
 
--- so many steps of a run in a row, none of which switches, aborts or clears, lead from frames and a memory to others
+-- this many steps of a run in a row, none of which switches, aborts or clears, lead from frames and a memory to others
 abbrev pub RunStepsWithin : ℕ → List ℕ → Packages → Frames → MemoryState → Frames → MemoryState → Type 0
 RunStepsWithin zero lent p s m t n = (t ≡ s) × (n ≡ m)
 RunStepsWithin (suc k) lent p s m t n =
@@ -26,7 +26,7 @@ pub record RunsOutside (k q : ℕ) (lent : List ℕ) (p : Packages) (s : Frames)
   pub outside : IsOutside p m q
   pub steps : RunStepsWithin k lent p s m t n
 
--- the object keeps its cells in all such steps, and in the step behind them as far as that is quiet; and it stays outside reach
+-- the object keeps its cells in all such steps, and in the step after them as far as that is quiet; and it stays outside reach
 pub record AreIsolated : Type 0 where
   pub ran : (k q : ℕ) (lent : List ℕ) (p : Packages) (s : Frames) (m : MemoryState) (t : Frames) (n : MemoryState) → RunsOutside k q lent p s m t n
       → KeepsCells q m n × IsOutside p n q
@@ -36,7 +36,7 @@ pub record AreIsolated : Type 0 where
 
 -- ---- what a run is
 
--- so many steps of a run in a row
+-- this many steps of a run in a row
 abbrev pub RunSteps : ℕ → List ℕ → Packages → Frames → MemoryState → Frames → MemoryState → Type 0
 RunSteps zero lent p s m t n = (t ≡ s) × (n ≡ m)
 RunSteps (suc k) lent p s m t n = (es : List Effect) × (u : Frames) × HasTrace (machine_step lent p s m) m es (GoesOn u)

@@ -1,4 +1,4 @@
--- A class of a linked package stands behind its superclass.
+-- A class of a linked package stands after its superclass.
 use Rattle.std.proofs.Common.{◌≡◌, ℕ, zero, suc, ◌/◌, ◌%◌, ◌<◌, ◌≤◌, ◌⊎◌, inl, inr, false, List, [], ◌∷◌, ◌++◌, Some, length, refl, sym, subst, ap, ◌∙◌, arith}
 use Rattle.std.specs.Prelude.{slice_get}
 use Rattle.std.specs.Option.{option_and_then}
@@ -19,7 +19,7 @@ use Rattle.law_linking.proofs.Inherits.{Inherits, one_by_one}
 
 -- ---- where both are of one package
 
--- a class of the package with this number stands behind its superclass, where that is of this package too
+-- a class of the package with this number stands after its superclass, where that is of this package too
 abbrev Behind : ℕ → List ClassValue → Type 0
 Behind number cs = (i : ℕ) (c : ClassValue) → slice_get cs i ≡ Some c → c.is_interface ≡ false → c.superclass / 256 ≡ number → c.superclass % 256 < i
 

@@ -7,8 +7,8 @@ use Rattle.std.proofs.lemmas.Bool.{and_parts, ltb-true}
 use Rattle.jc_platform.specs.declared.names.PlatformClass.{PlatformClass}
 use Rattle.jc_platform.specs.Names.{classes, packages}
 use Rattle.jc_platform.specs.Numbers.{same_class}
-use Rattle.jc_platform.specs.Rows.{Above, above, class_row, class_token_in, kind_of, may_be_class, may_be_extended, may_be_method, may_be_package, method_named, method_row}
-use Rattle.jc_platform.specs.Rows.{number_of, package_row, parts_at, row_of}
+use Rattle.jc_platform.specs.Rows.{Above, above, bytes_of, class_row, class_token_in, kind_of, may_be_class, may_be_extended, may_be_method, may_be_package, may_be_random}
+use Rattle.jc_platform.specs.Rows.{method_named, method_row, number_of, package_row, parts_at, random_row, row_of}
 use Rattle.jc_platform.specs.Table.{Say}
 use Rattle.jc_platform.specs.Tokens.{token_of_class}
 use Rattle.law_linking.proofs.Fields.{some_there}
@@ -53,10 +53,15 @@ module _ (c : PlatformClass) where
       some_there _ _ (find (λ e. bytes_eq e.aid_text aid) packages) (λ e. some_there _ _ (number_of major) (λ j. some_there _ _ (number_of minor)
       (λ n. where_so _ (may_be_package a e.package_id) _ (λ may rest is. is))))
 
+  random_low : (a : Above) (keyword word : List ℕ) → IfThere (KeepsByte (λ rows. class_token_in rows c)) (random_row a keyword word)
+  random_low a keyword word =
+      one_of_two _ (bytes_eq keyword (codes "random")) _ None
+      (some_there _ _ (bytes_of word) (λ bytes. where_so _ (may_be_random a) _ (λ may rest is. is))) tt
+
   row_low : (a : Above) (words : List (List ℕ)) → IfThere (KeepsByte (λ rows. class_token_in rows c)) (row_of a words)
   row_low a [] = tt
   row_low a (keyword ∷ []) = where_so _ (bytes_eq keyword (codes "extended") && may_be_extended a) _ (λ may rest is. is)
-  row_low a (keyword ∷ x ∷ []) = tt
+  row_low a (keyword ∷ x ∷ []) = random_low a keyword x
   row_low a (keyword ∷ x ∷ y ∷ []) = one_of_two _ (bytes_eq keyword (codes "class")) (class_row a x y) (method_row a keyword x y) (class_low a x y)
       (method_low a keyword x y)
   row_low a (keyword ∷ x ∷ y ∷ z ∷ []) = one_of_two _ (bytes_eq keyword (codes "package")) (package_row a x y z) None (package_low a x y z) tt

@@ -1,14 +1,15 @@
 -- Cells of instances: those of the platform's classes, and those of fields that entries name.
 use Rattle.std.proofs.Common.{◌≡◌, ℕ, zero, suc, ◌+◌, ◌-◌, ◌<◌, ◌≤◌, ◌⊎◌, inl, inr, ◌&&◌, ◌||◌, not, Bool, true, false, Option, Some, None, length, refl, sym}
 use Rattle.std.proofs.Common.{subst, ap, ◌∙◌, arith, if◌then◌else◌}
-use Rattle.std.specs.Prelude.{nat_le, nat_lt}
+use Rattle.std.specs.Prelude.{is_some, nat_le, nat_lt}
 use Rattle.std.specs.Option.{option_map}
-use Rattle.std.proofs.lemmas.Bool.{and_from, and_parts, cases_Bool, le-leb, ltb-true, or_from}
+use Rattle.std.proofs.lemmas.Bool.{and_from, and_parts, cases_Bool, false≢true, le-leb, ltb-true, or_from}
 use Rattle.std.proofs.lemmas.Option.{none-some, same_Some}
 use Rattle.jc_platform.specs.declared.names.PlatformClass.{PlatformClass}
 use Rattle.jc_platform.specs.Distinct.{class_word}
 use Rattle.jc_platform.specs.Hierarchy.{cells_of, holds_reference, is_interface, superclass_of}
 use Rattle.jc_platform.specs.Platform.{TellNames, class_by_word}
+use Rattle.jc_platform.specs.Tokens.{token_of_class}
 use Rattle.jc_linker.specs.Classes.{any_reference, class_in, declares_reference, is_below, is_class, lineage_from, most_classes, own_reference, reference_cell}
 use Rattle.jc_linker.specs.Classes.{size_by, size_of, superclass_by, superclass_in}
 use Rattle.jc_linker.specs.Resolves.{interface_by, names_interface}
@@ -16,12 +17,13 @@ use Rattle.jc_linker.specs.Values.{ClassValue, Packages}
 use Rattle.jc_linker.specs.Classes.{is_a}
 use Rattle.law_linking.specs.Classes.{HasPlatformCells, IsPlatformBelow, has_instances}
 use Rattle.law_linking.specs.Classes.IsPlatformBelow.{Above, Itself}
-use Rattle.law_linking.proofs.Lists.{IfThere}
+use Rattle.law_linking.proofs.Lists.{IfThere, map_there}
 use Rattle.law_linking.specs.Given.{HasByteTokens}
 use Rattle.law_linking.proofs.Chains.{Fits, Reaches, below_reached, cell_of_reached, none_behind, one_first, own, reached_size}
 use Rattle.law_linking.proofs.Good.{AllGood}
 use Rattle.law_linking.proofs.Facts.{above_bare, few_cells}
-use Rattle.law_linking.proofs.Ordered.{class_stands, inherited_size, listed, named, not_loaded, ordered, platform_above, platform_interface}
+use Rattle.law_linking.proofs.Nameless.{nameless, names_none, no_class_there, no_interface_there, token_or_none}
+use Rattle.law_linking.proofs.Ordered.{inherited_size, listed, named, not_loaded, ordered, platform_above, platform_interface}
 use Rattle.law_linking.proofs.Ordered.{platform_own, platform_size, superclass_stands}
 use Rattle.law_linking.proofs.Tokens.{HasToken}
 
@@ -34,11 +36,50 @@ module _ (p : Packages) (few : length p.loaded ≤ 32) (names : TellNames p.plat
       let a = and_parts (is_class p class) (not (names_interface p class) && nat_lt (size_of p class) 65536) has in
       ltb-true (size_of p class) 65536 (and_parts (not (names_interface p class)) (nat_lt (size_of p class) 65536) a.1).1
 
-  stands : (of : PlatformClass) → is_interface of ≡ false → HasToken p.platform of
-  stands of class_of = class_stands p few names bytes of class_of
+  -- no class reaches the word that names none
 
-  reached : (class : ℕ) (of : PlatformClass) → is_interface of ≡ false → is_a p class of ≡ true → Reaches p (word of) most_classes (Some class)
-  reached class of class_of below = below_reached p (listed p few names bytes good) (word of) (platform_interface p few names bytes of (stands of class_of) ∙ class_of) class below
+  has_name : (d : PlatformClass) → HasToken p.platform d → word d ≡ nameless → ⊥
+  has_name d there is =
+      none-some d (sym (names_none p.platform) ∙ ap (class_by_word p.platform) (sym is) ∙ named p few names bytes d there)
+
+  plain_above : (c : ClassValue) (b : Bool) → c.is_interface ≡ b → (c.is_interface ≡ false → c.superclass ≡ nameless → ⊥)
+      → IfThere (λ s. s ≡ nameless → ⊥) (if b then None else Some c.superclass)
+  plain_above c true is above = tt
+  plain_above c false is above = above is
+
+  above_by : (w : ℕ) (o : Option ClassValue) → class_in p w ≡ o → (other : Option PlatformClass) → IfThere (λ s. s ≡ nameless → ⊥) (superclass_by p o other)
+  above_by w (Some c) is other = plain_above c c.is_interface refl (good w c is).above
+  above_by w None is None = tt
+  above_by w None is (Some d) = map_there (HasToken p.platform) (λ s. s ≡ nameless → ⊥) (class_word p.platform) (superclass_of d)
+      (superclass_stands p few names bytes d) has_name
+
+  above_named : (w : ℕ) → IfThere (λ s. s ≡ nameless → ⊥) (superclass_in p w)
+  unfolding superclass_in
+  above_named w = above_by w (class_in p w) refl (class_by_word p.platform w)
+
+  not_reached : (n : ℕ) (o : Option ℕ) → IfThere (λ s. s ≡ nameless → ⊥) o → Reaches p nameless n o → ⊥
+  unfolding Reaches
+  not_reached zero o other reaches = reaches
+  not_reached (suc n) None other reaches = reaches
+  not_reached (suc n) (Some x) other (inl e) = other e
+  not_reached (suc n) (Some x) other (inr more) = not_reached n (superclass_in p x) (above_named x) more
+
+  is_there : (class : ℕ) → has_instances p class ≡ true → is_class p class ≡ true
+  is_there class has = (and_parts (is_class p class) (not (names_interface p class) && nat_lt (size_of p class) 65536) has).0
+
+  -- a class of which there may be instances is below those alone that the platform has
+  stands : (class : ℕ) (of : PlatformClass) → has_instances p class ≡ true → is_a p class of ≡ true → HasToken p.platform of
+  stands class of has below = elim (token_or_none p.platform of) [
+    | inl there ↦ there
+    | inr is ↦ absurd (not_reached most_classes (Some class)
+        (λ e. no_class_there p few (subst (λ w. is_class p w ≡ true) e (is_there class has)))
+        (below_reached p (listed p few names bytes good) nameless (no_interface_there p few) class (subst (λ w. is_below p class w ≡ true) is below)))
+  ]
+
+  reached : (class : ℕ) (of : PlatformClass) → HasToken p.platform of → is_interface of ≡ false → is_a p class of ≡ true
+      → Reaches p (word of) most_classes (Some class)
+  reached class of there class_of below =
+      below_reached p (listed p few names bytes good) (word of) (platform_interface p few names bytes of there ∙ class_of) class below
 
   -- ---- what the platform's classes reach
 
@@ -84,9 +125,10 @@ module _ (p : Packages) (few : length p.loaded ≤ 32) (names : TellNames p.plat
       → reference_cell p class k ≡ holds_reference of k
   unfolding reference_cell
   cells_are class k of has class_of below less =
-      let there = stands of class_of in
+      let there = stands class of has below in
       let size = platform_size p few names bytes of there in
-      let found = cell_of_reached p (ordered p few names bytes good) most_classes (word of) k (Some class) (fits_of class has) (reached class of class_of below)
+      let found = cell_of_reached p (ordered p few names bytes good) most_classes (word of) k (Some class) (fits_of class has)
+      (reached class of there class_of below)
       (omega (arith, less, size)) in
       let none : any_reference p k (lineage_from p found.0 (superclass_in p (word of))) ≡ false =
       ap (λ o. any_reference p k (lineage_from p found.0 o)) (platform_above p few names bytes of there)
@@ -97,8 +139,9 @@ module _ (p : Packages) (few : length p.loaded ≤ 32) (names : TellNames p.plat
   pub sizes_are : (class : ℕ) (of : PlatformClass) → has_instances p class ≡ true → is_interface of ≡ false → is_a p class of ≡ true
       → cells_of of ≤ size_of p class
   sizes_are class of has class_of below =
-      let size = platform_size p few names bytes of (stands of class_of) in
-      let le = reached_size p (ordered p few names bytes good) most_classes (word of) (Some class) (fits_of class has) (reached class of class_of below) in
+      let there = stands class of has below in
+      let size = platform_size p few names bytes of there in
+      let le = reached_size p (ordered p few names bytes good) most_classes (word of) (Some class) (fits_of class has) (reached class of there class_of below) in
       omega (arith, size, le)
 
   below_of : (c d : PlatformClass) → HasToken p.platform c → IsAbove (word c) d → IsPlatformBelow c d
@@ -106,28 +149,38 @@ module _ (p : Packages) (few : length p.loaded ≤ 32) (names : TellNames p.plat
 
   pub in_line : (class : ℕ) (of other : PlatformClass) → has_instances p class ≡ true → is_interface of ≡ false → is_interface other ≡ false
       → is_a p class of ≡ true → is_a p class other ≡ true → IsPlatformBelow of other ⊎ IsPlatformBelow other of
-  in_line class of other has class_of class_other below also = elim (one_first p (word of) (word other) most_classes (Some class)
-      (reached class of class_of below) (reached class other class_other also)) [
-        | inl first ↦ inr (below_of other of (stands other class_other) (from_platform (word other) first.0 of (stands of class_of) first.1))
-        | inr second ↦ inl (below_of of other (stands of class_of) (from_platform (word of) second.0 other (stands other class_other) second.1))
+  in_line class of other has class_of class_other below also =
+      let one = stands class of has below in
+      let two = stands class other has also in
+      elim (one_first p (word of) (word other) most_classes (Some class) (reached class of one class_of below) (reached class other two class_other also)) [
+        | inl first ↦ inr (below_of other of two (from_platform (word other) first.0 of one first.1))
+        | inr second ↦ inl (below_of of other one (from_platform (word of) second.0 other two second.1))
       ]
 
-  pub own_are : (of : PlatformClass) → is_interface of ≡ false → has_instances p (word of) ≡ true
+  of_some : (o : Option ℕ) → is_some o ≡ true → (k : ℕ) × (o ≡ Some k)
+  of_some None there = absurd (false≢true there)
+  of_some (Some k) there = (k, refl)
+
+  token_of : (of : PlatformClass) → is_some (token_of_class p.platform of) ≡ true → HasToken p.platform of
+  token_of of there = of_some (token_of_class p.platform of) there
+
+  pub own_are : (of : PlatformClass) → HasToken p.platform of → is_interface of ≡ false → has_instances p (word of) ≡ true
   unfolding is_class
-  own_are of class =
+  own_are of there class =
       and_from (is_class p (word of)) (not (names_interface p (word of)) && nat_lt (size_of p (word of)) 65536)
-      (rw (not_loaded p few names bytes of, named p few names bytes of (stands of class)) refl)
+      (rw (not_loaded p few names bytes of, named p few names bytes of there) refl)
       (and_from (not (names_interface p (word of))) (nat_lt (size_of p (word of)) 65536)
-      (ap not (platform_interface p few names bytes of (stands of class) ∙ class))
-      (ap (λ n. nat_lt n 65536) (platform_size p few names bytes of (stands of class)) ∙ few_cells of))
+      (ap not (platform_interface p few names bytes of there ∙ class))
+      (ap (λ n. nat_lt n 65536) (platform_size p few names bytes of there) ∙ few_cells of))
 
   pub platform_cells : HasPlatformCells p
   platform_cells = record {
     kinds = cells_are;
     sizes = sizes_are;
     line = in_line;
-    own = own_are;
-    exact = λ of class. platform_size p few names bytes of (stands of class);
+    needed = λ of need. ap is_some (names.needed_classes of need).1;
+    own = λ of there class. own_are of (token_of of there) class;
+    exact = λ of there. platform_size p few names bytes of (token_of of there);
   }
 
   -- ---- cells of fields
@@ -223,5 +276,6 @@ module _ (p : Packages) (few : length p.loaded ≤ 32) (names : TellNames p.plat
       let size = loaded_size of c is in
       let le = reached_size p (ordered p few names bytes good) most_classes of (Some class) (fits_of class has) reaches in
       let few_above = fits_of class has in
-      behind_platform of token c platform (stands platform class_platform) is plain inherited (omega (arith, inherited, le, size, few_above))
-      (one_first p of (word platform) most_classes (Some class) reaches (reached class platform class_platform also))
+      let there = stands class platform has also in
+      behind_platform of token c platform there is plain inherited (omega (arith, inherited, le, size, few_above))
+      (one_first p of (word platform) most_classes (Some class) reaches (reached class platform there class_platform also))

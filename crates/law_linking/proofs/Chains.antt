@@ -18,13 +18,13 @@ own p w cell = own_reference (class_in p w) (class_by_word p.platform w) cell
 abbrev pub Fits : Packages → ℕ → Type 0
 Fits p w = size_of p w < 65536
 
--- a class has its superclass's cells first, and its own behind them
+-- a class has its superclass's cells first, and its own after them
 pub record IsOrdered (p : Packages) : Type 0 where
   pub sizes : (w : ℕ) → Fits p w → IfThere (λ s. size_of p s ≤ size_of p w) (superclass_in p w)
   pub within : (w k : ℕ) → own p w k ≡ true → k < size_of p w
   pub behind : (w k : ℕ) → Fits p w → own p w k ≡ true → IfThere (λ s. size_of p s ≤ k) (superclass_in p w)
 
--- the class is among so many, from another one on upwards
+-- the class is among this many, from another one on upwards
 unfoldable pub Reaches : Packages → ℕ → ℕ → Option ℕ → Type 0
 Reaches p w zero o = ⊥
 Reaches p w (suc n) None = ⊥
@@ -119,7 +119,7 @@ module _ (p : Packages) (ordered : IsOrdered p) where
       let rest = cell_of_reached n w k (superclass_in p x) (fits_above x fits) more less in
       (rest.0, ap (λ b. b || any_reference p k (lineage_from p n (superclass_in p x))) (not_own n w x k fits more less) ∙ rest.1)
 
-  -- a cell behind all those of a class is none of it
+  -- a cell after all those of a class is none of it
   pub none_behind : (n k : ℕ) (o : Option ℕ) → IfThere (Fits p) o → IfThere (λ x. size_of p x ≤ k) o → any_reference p k (lineage_from p n o) ≡ false
   unfolding any_reference lineage_from
   none_behind zero k o fits past = refl

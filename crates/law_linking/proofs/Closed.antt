@@ -74,7 +74,7 @@ place_low offset classes few = if_each (λ place. place < 256) (position (λ c. 
 word_of_place : (number place : ℕ) → place < 256 → (256 * number + place) / 256 ≡ number
 word_of_place number place low = omega (arith, low)
 
--- ---- one more behind
+-- ---- one more after
 
 slice_behind : {A : Type 0} (xs : List A) (y : A) (i : ℕ) → (i ≡ length xs → ⊥) → slice_get (xs ++ y ∷ []) i ≡ slice_get xs i
 slice_behind [] y zero other = absurd (other refl)

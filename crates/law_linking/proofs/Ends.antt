@@ -22,7 +22,7 @@ use Rattle.law_linking.proofs.Ordered.{no_value, platform_above, superclass_stan
 use Rattle.law_linking.proofs.Tokens.{HasToken}
 use Rattle.law_linking.proofs.Behind.{AllBehind}
 
--- from a class on upwards are so many at most
+-- from a class on upwards are this many at most
 unfoldable pub Ends : Packages → ℕ → Option ℕ → Type 0
 Ends p zero None = Unit {0}
 Ends p zero (Some w) = ⊥

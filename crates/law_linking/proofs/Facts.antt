@@ -127,21 +127,15 @@ reference_behind c k e = of_superclass c _ (λ d is. held_behind (cells_of d) (e
 
 -- ---- a class alone
 
--- an interface has no superclass, or it is none and each table has it
-class_rows : list_all (λ e. (is_none (superclass_of e.class) || not (is_interface e.class)) && (is_interface e.class || is_needed_class e.class)) classes ≡ true
+-- an interface has no superclass
+class_rows : list_all (λ e. is_none (superclass_of e.class) || not (is_interface e.class)) classes ≡ true
 unfolding superclass_of is_interface classes
 class_rows = refl
 
-class_is : (c : PlatformClass) → ((is_none (superclass_of c) || not (is_interface c)) ≡ true) × ((is_interface c || is_needed_class c) ≡ true)
-class_is c = and_parts (is_none (superclass_of c) || not (is_interface c)) (is_interface c || is_needed_class c)
-    (of_each (λ x. (is_none (superclass_of x) || not (is_interface x)) && (is_interface x || is_needed_class x)) class_rows c)
-
-pub class_needed : (c : PlatformClass) → is_interface c ≡ false → is_needed_class c ≡ true
-class_needed c class = either (is_interface c) (is_needed_class c) (class_is c).1 class
-
 -- what has a superclass is no interface
 pub extending_class : (c d : PlatformClass) → superclass_of c ≡ Some d → is_interface c ≡ false
-extending_class c d above = not-true (is_interface c) (either (is_none (superclass_of c)) (not (is_interface c)) (class_is c).0 (ap is_none above))
+extending_class c d above = not-true (is_interface c) (either (is_none (superclass_of c)) (not (is_interface c))
+    (of_each (λ x. is_none (superclass_of x) || not (is_interface x)) class_rows c) (ap is_none above))
 
 -- each table has what java.lang has, and what has cells has few
 more_rows : list_all (λ e. (not (same_package (home_of e.class) JavaLang) || is_needed_class e.class) && nat_lt (cells_of e.class) 65536) classes ≡ true

@@ -1,13 +1,13 @@
 -- The classes of linked packages inherit their superclasses' cells, and list interfaces alone.
 use Rattle.std.proofs.Common.{◌≡◌, ℕ, suc, ◌+◌, ◌-◌, ◌*◌, ◌/◌, ◌%◌, ◌<◌, ◌≤◌, ◌⊎◌, inl, inr, ◌==◌, ◌&&◌, Bool, true, false, List, [], ◌∷◌, ◌++◌, Option, Some}
-use Rattle.std.proofs.Common.{None, length, refl, sym, subst, ap, ◌∙◌, if◌then◌else◌}
+use Rattle.std.proofs.Common.{None, length, length-append, refl, sym, subst, ap, arith, ◌∙◌, not, if◌then◌else◌}
 use Rattle.std.specs.Prelude.{min, slice_get}
 use Rattle.std.specs.List.{list_all}
 use Rattle.std.specs.Option.{option_and_then}
 use Rattle.std.proofs.lemmas.Bool.{and_parts, cases_eq, eq-eqb, false≢true, ne_eqb}
 use Rattle.std.proofs.lemmas.Option.{none-some}
 use Rattle.jc_platform.specs.Platform.{class_by_word}
-use Rattle.jc_linker.specs.Classes.{class_in, package_in, size_by, size_of}
+use Rattle.jc_linker.specs.Classes.{class_in, is_class, package_in, size_by, size_of}
 use Rattle.jc_linker.specs.Resolves.{names_interface}
 use Rattle.jc_linker.specs.Values.{ClassValue, Implementation, PackageValue, Packages}
 use Rattle.jc_linker.specs.Values.{LinkerComponents}
@@ -17,9 +17,11 @@ use Rattle.law_linking.specs.Linked.{AreLinked, AreLinkedAgainst, IsLinkedAgains
 use Rattle.law_linking.proofs.Alike.{interface_alike, size_alike}
 use Rattle.law_linking.proofs.Closed.{IsBeside, IsClosed, IsClosedClass, alike, class_closed}
 use Rattle.law_linking.proofs.Entered.{there as some_at}
+use Rattle.law_linking.proofs.Facts.{either}
 use Rattle.law_linking.proofs.ResolutionLaws.{package_last, told_alike}
 use Rattle.law_linking.proofs.Linking.{closed_next, imports_stand, made}
 use Rattle.law_linking.proofs.Lists.{AllOf, IfThere, all_at, all_more}
+use Rattle.law_linking.proofs.Nameless.{nameless, no_class_there}
 use Rattle.law_linking.proofs.Numbers.{Stands, stands_beside}
 use Rattle.law_linking.specs.Given.{HasClassComponent}
 use Rattle.law_linking.proofs.Inherits.{Inherits, all_inherit}
@@ -27,12 +29,17 @@ use Rattle.law_linking.proofs.Inherits.{Inherits, all_inherit}
 abbrev pub AreInterfaces : Packages → List Implementation → Type 0
 AreInterfaces p is = AllOf (λ i. names_interface p i.interface ≡ true) is
 
--- a loaded class inherits the cells of its superclass, holds references in cells of its own, and lists interfaces
+-- its superclass has a word that may name a class
+abbrev pub HasNamedAbove : ClassValue → Type 0
+HasNamedAbove c = c.is_interface ≡ false → c.superclass ≡ nameless → ⊥
+
+-- a loaded class inherits the cells of its superclass, which is named, holds references in cells of its own, and lists interfaces
 pub record IsGood (p : Packages) (c : ClassValue) : Type 0 where
   pub inherits : c.is_interface ≡ false → c.inherited_cells ≡ min 65536 (size_of p c.superclass)
   pub bare : c.is_interface ≡ true → c.declared_cells ≡ 0
   pub fits : (c.reference_count ≡ 0) ⊎ (c.first_reference + c.reference_count ≤ c.declared_cells)
   pub interfaces : AreInterfaces p c.interfaces
+  pub above : HasNamedAbove c
 
 abbrev pub AllGood : Packages → Type 0
 AllGood p = (w : ℕ) (c : ClassValue) → class_in p w ≡ Some c → IsGood p c
@@ -64,6 +71,23 @@ classes_list p number class (c ∷ cs) whole =
     let a = and_parts (is_complete p number class c) (are_complete_from p number (class + 1) cs) whole in
     (class_lists p number class c a.0, classes_list p number (class + 1) cs a.1)
 
+above_named : (p : Packages) (number class : ℕ) (c : ClassValue) → length p.loaded ≤ 32 → is_complete p number class c ≡ true → HasNamedAbove c
+unfolding is_complete
+above_named p number class c few whole plain is =
+    let a = and_parts (has_superclass p c && list_all (is_implemented p number class) c.interfaces)
+    (inherits_from p number c.superclass c.public_methods.base c.public_methods.offsets) whole in
+    let has = (and_parts (has_superclass p c) (list_all (is_implemented p number class) c.interfaces) a.0).0 in
+    let there = and_parts (is_class p c.superclass) (not (names_interface p c.superclass)) (either c.is_interface _ has plain) in
+    no_class_there p few (subst (λ w. is_class p w ≡ true) is there.0)
+
+classes_named : (p : Packages) (number class : ℕ) (cs : List ClassValue) → length p.loaded ≤ 32 → are_complete_from p number class cs ≡ true
+    → AllOf HasNamedAbove cs
+unfolding are_complete_from
+classes_named p number class [] few whole = tt
+classes_named p number class (c ∷ cs) few whole =
+    let a = and_parts (is_complete p number class c) (are_complete_from p number (class + 1) cs) whole in
+    (above_named p number class c few a.0, classes_named p number (class + 1) cs few a.1)
+
 -- ---- one more package
 
 there_at : {A : Type 0} (P : A → Type 0) (o : Option A) (x : A) → o ≡ Some x → IfThere P o → P x
@@ -94,6 +118,7 @@ module _ (p : Packages) (q : PackageValue) (closed : IsClosed p) (room : length 
         (λ i. names_interface next i.interface ≡ true) c.interfaces
         (λ i is stands. interface_alike p (p.loaded ++ q ∷ []) Aside (alike p q closed room) i.interface (aside i.interface stands) ∙ is) good.interfaces
         closes.1;
+    above = good.above;
   }
 
   old_good : AllGood p → (w : ℕ) (c : ClassValue) → Aside w → class_in next w ≡ Some c → IsGood next c
@@ -121,8 +146,9 @@ module _ (p : Packages) (q : PackageValue) (closed : IsClosed p) (room : length 
         ∙ ap (min 65536) (sym (size_stays w other))
   ]
 
-  pub good_behind : AllGood p → AllOf (Inherits p (next_number p) q.classes) q.classes → AllOf (λ c. AreInterfaces next c.interfaces) q.classes → AllGood next
-  good_behind good inherit list w c is = elim (cases_eq (w / 256) (next_number p)) [
+  pub good_behind : AllGood p → AllOf (Inherits p (next_number p) q.classes) q.classes → AllOf (λ c. AreInterfaces next c.interfaces) q.classes
+      → AllOf HasNamedAbove q.classes → AllGood next
+  good_behind good inherit list named w c is = elim (cases_eq (w / 256) (next_number p)) [
     | inr other ↦ old_good good w c other is
     | inl here ↦
         let at : slice_get q.classes (w % 256) ≡ Some c = sym (class_last w here) ∙ is in
@@ -134,6 +160,7 @@ module _ (p : Packages) (q : PackageValue) (closed : IsClosed p) (room : length 
           fits = i.fits;
           interfaces = there_at (λ d. AreInterfaces next d.interfaces) (slice_get q.classes (w % 256)) c at
               (all_at (λ d. AreInterfaces next d.interfaces) q.classes (w % 256) list);
+          above = there_at HasNamedAbove (slice_get q.classes (w % 256)) c at (all_at HasNamedAbove q.classes (w % 256) named);
         }
   ]
 
@@ -145,6 +172,9 @@ good_next p c q closed good component linked =
     let classes : q.classes ≡ first.classes = ap (λ r. r.classes) m.is in
     let inherit = all_inherit p c m.imports closed linked.0 (imports_stand p c.imports m.imports m.imported) component.0 component.1 component.2 in
     let list = classes_list (with_package p first) (next_number p) (256 * next_number p) first.classes m.whole in
+    let longer = length-append p.loaded (first ∷ []) in
+    let less = linked.0 in
+    let above = classes_named (with_package p first) (next_number p) (256 * next_number p) first.classes (omega (arith, longer, less)) m.whole in
     let told : (i : Implementation) → names_interface (with_package p first) i.interface ≡ true → names_interface (with_package p q) i.interface ≡ true =
     λ i is. ap (λ r. names_interface (with_package p r) i.interface) m.is ∙ interface_alike (with_package p first)
     (p.loaded ++ record first { targets = m.targets } ∷ []) (λ w. Unit {0}) (told_alike p first m.targets) i.interface tt ∙ is in
@@ -155,6 +185,7 @@ good_next p c q closed good component linked =
     good_behind p q closed linked.0 good
     (subst (λ l. AllOf (Inherits p (next_number p) l) l) (sym classes) inherit)
     (subst (AllOf (λ d. AreInterfaces (with_package p q) d.interfaces)) (sym classes) named)
+    (subst (AllOf HasNamedAbove) (sym classes) above)
 
 abbrev pub AllRead : List LinkerComponents → Type 0
 AllRead cs = (i : ℕ) (c : LinkerComponents) → slice_get cs i ≡ Some c → HasClassComponent c

@@ -25,7 +25,7 @@ use Rattle.law_linking.proofs.ResolutionLaws.{package_last}
 use Rattle.law_linking.proofs.Lists.{AllOf, IfThere, all_at, all_behind, all_more, then_there}
 use Rattle.law_linking.proofs.Numbers.{Stands, stands_beside}
 
--- a class, behind these of the package with this number, inherits its superclass's cells, and holds references in cells of its own
+-- a class, after these of the package with this number, inherits its superclass's cells, and holds references in cells of its own
 pub record Inherits (p : Packages) (number : ℕ) (done : List ClassValue) (c : ClassValue) : Type 0 where
   pub cells : c.is_interface ≡ false → c.inherited_cells ≡ cells_above p number done c.superclass
   pub back : c.is_interface ≡ false → c.superclass / 256 ≡ number → c.superclass % 256 < length done
@@ -145,7 +145,7 @@ module _ (p : Packages) (c : LinkerComponents) (imports : List ℕ) (closed : Is
     fits = inl refl;
   }
 
-  -- what each class adds to, behind those that stand before it, is so of all
+  -- what each class adds to, after those that stand before it, is so of all
   each_more : (P : List ClassValue → Type 0) → ((done : List ClassValue) (new : ClassValue) → Inherits p number done new → P done → P (done ++ new ∷ []))
       → (at : ℕ) (before : List ℕ) (done : List ClassValue) (rs : List RecordAt) (text : List ℕ) → AreRecords at before rs text →
       offsets_of c.classes ≡ before ++ offsets_of rs → length before + length rs ≤ 256 → length before ≡ length done → P done

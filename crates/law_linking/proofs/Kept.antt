@@ -1,8 +1,7 @@
 -- The platform's classes: what stands above them, and that calls on their instances find no method in bytecode.
-use Rattle.std.proofs.Common.{◌≡◌, ℕ, zero, suc, ◌+◌, ◌*◌, ◌/◌, ◌<◌, ◌≤◌, ◌==◌, inl, inr, ◌||◌, true, List, [], Option, Some, None, length, refl, sym, subst, ap, ◌∙◌}
-use Rattle.std.proofs.Common.{arith}
+use Rattle.std.proofs.Common.{◌≡◌, ℕ, zero, suc, ◌/◌, ◌≤◌, ◌==◌, inl, inr, ◌||◌, true, List, [], Option, Some, None, length, refl, sym, subst, ap, ◌∙◌}
 use Rattle.std.proofs.lemmas.Bool.{eqb-true, false≢true, or_cases}
-use Rattle.std.proofs.lemmas.Option.{option_and_then_some, same_Some}
+use Rattle.std.proofs.lemmas.Option.{none-some, option_and_then_some, same_Some}
 use Rattle.std.specs.List.{list_any}
 use Rattle.jc_platform.specs.declared.names.MethodKind.TheVariants as kinds
 use Rattle.jc_platform.specs.declared.names.PlatformClass.{PlatformClass}
@@ -12,8 +11,7 @@ use Rattle.jc_platform.specs.declared.names.PlatformPackage.TheVariants.{JavaLan
 use Rattle.jc_platform.specs.Distinct.{class_word, home_of}
 use Rattle.jc_platform.specs.Names.{classes}
 use Rattle.jc_platform.specs.Hierarchy.{interfaces_of, superclass_of}
-use Rattle.jc_platform.specs.Platform.{TellNames, class_by_word, method_by_token, package_by_number}
-use Rattle.jc_platform.specs.Tokens.{class_token, number_in}
+use Rattle.jc_platform.specs.Platform.{TellNames, class_by_word, method_by_token}
 use Rattle.jc_cap_linkage.specs.declared.pool.VirtualToken.{VirtualToken}
 use Rattle.jc_cap_linkage.specs.declared.pool.VirtualToken.TheVariants.{PackageVisible, Public}
 use Rattle.jc_linker.specs.declared.search.Search.{Search}
@@ -29,6 +27,7 @@ use Rattle.law_linking.proofs.Fields.{IsHigh, lineage_high, no_class}
 use Rattle.law_linking.proofs.Lists.{AllOf, all_filtered}
 use Rattle.law_linking.proofs.Numbers.{word_high}
 use Rattle.law_linking.specs.Given.{HasByteTokens}
+use Rattle.law_linking.proofs.Nameless.{names_none, token_or_none}
 use Rattle.law_linking.proofs.Ordered.{named, not_loaded, platform_above}
 use Rattle.law_linking.proofs.Facts.{language_needed}
 use Rattle.law_linking.proofs.Tokens.{HasToken}
@@ -128,21 +127,17 @@ module _ (p : Packages) (few : length p.loaded ≤ 32) (names : TellNames p.plat
     | inr more ↦ absurd (nothing_above of n more)
   ]
 
-  -- a class whose word is Object's is in java.lang, so it stands, and is Object
-  its_package : (c : PlatformClass) → package_by_number p.platform (class_word p.platform c / 256) ≡ Some (home_of c)
-  its_package c = ap (package_by_number p.platform) (high_of (number_in p.platform (home_of c)) (class_token p.platform c) (bytes c))
-      ∙ names.packages (home_of c)
-    where
-      high_of : (n token : ℕ) → token < 256 → (256 * n + token) / 256 ≡ n
-      high_of n token small = omega (arith, small)
-
-  its_home : (of : PlatformClass) → top ≡ class_word p.platform of → home_of of ≡ JavaLang
-  its_home of e = same_Some (home_of of) JavaLang (sym (its_package of) ∙ ap (λ w. package_by_number p.platform (w / 256)) (sym e) ∙ its_package Object
-      ∙ ap Some object_home)
+  -- a class whose word is Object's stands, and is Object
+  its_token : (of : PlatformClass) → top ≡ class_word p.platform of → HasToken p.platform of
+  its_token of same = elim (token_or_none p.platform of) [
+    | inl there ↦ there
+    | inr is ↦ absurd (none-some Object (sym (names_none p.platform) ∙ ap (class_by_word p.platform) (sym (same ∙ is))
+        ∙ named p few names bytes Object object_stands))
+  ]
 
   pub above_none : (of : PlatformClass) → is_a p top of ≡ true → of ≡ Object
   unfolding is_below
   above_none of e =
       let same : top ≡ class_word p.platform of = top_is (class_word p.platform of) most_classes e in
-      let stands : HasToken p.platform of = names.needed_classes of (language_needed of (its_home of same)) in
+      let stands : HasToken p.platform of = its_token of same in
       same_Some of Object (sym (named p few names bytes of stands) ∙ ap (class_by_word p.platform) (sym same) ∙ named p few names bytes Object object_stands)

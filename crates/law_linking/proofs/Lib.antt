@@ -11,6 +11,7 @@ pub mod Facts
 pub mod Tokens
 pub mod Chains
 pub mod Inherits
+pub mod Nameless
 pub mod Good
 pub mod Ordered
 pub mod Cells

@@ -5,17 +5,17 @@ use Rattle.std.specs.Prelude.{is_some, slice_get}
 use Rattle.std.specs.Option.{option_and_then}
 use Rattle.std.proofs.lemmas.Bool.{false≢true, eqb-true}
 use Rattle.jc_platform.specs.declared.names.PlatformPackage.{PlatformPackage}
-use Rattle.jc_platform.specs.declared.names.PlatformPackage.TheVariants.{JavaLang, JavacardFramework, JavacardxApdu}
+use Rattle.jc_platform.specs.declared.names.PlatformPackage.TheVariants.{JavaLang, JavacardFramework, JavacardxApdu, JavacardSecurity}
 use Rattle.jc_platform.specs.declared.names.PlatformClass.{PlatformClass}
-use Rattle.jc_platform.specs.Distinct.{class_word, home_of}
+use Rattle.jc_platform.specs.Distinct.{class_word, home_of, word_of_token}
 use Rattle.jc_platform.specs.Numbers.{same_package}
 use Rattle.jc_platform.specs.Platform.{class_by_token, class_by_word, package_by_number}
-use Rattle.jc_platform.specs.Tokens.{Tokens, class_token, number_in}
+use Rattle.jc_platform.specs.Tokens.{Tokens, number_in, token_of_class}
 use Rattle.jc_linker.specs.Classes.{class_in, is_class, package_in}
 use Rattle.jc_linker.specs.Resolves.{interface_by, names_interface}
 use Rattle.jc_linker.specs.Values.{ClassValue, PackageValue, Packages}
 
--- a loaded package's, of so many, or one of the platform's
+-- a loaded package's, of this many, or one of the platform's
 abbrev pub Stands : ℕ → ℕ → Type 0
 Stands bound number = (number ≤ bound) ⊎ (64 ≤ number)
 
@@ -29,34 +29,42 @@ stands_beside bound number few (inr high) e = absurd (omega (arith, few, high, e
 
 -- ---- the platform's
 
-of_three : (a b : Bool) → 64 ≤ (if a then 66 else (if b then 64 else 65))
-of_three true b = omega arith
-of_three false true = omega arith
-of_three false false = omega arith
+of_four : (a b c : Bool) → 64 ≤ (if a then 66 else (if b then 67 else (if c then 64 else 65)))
+of_four true b c = omega arith
+of_four false true c = omega arith
+of_four false false true = omega arith
+of_four false false false = omega arith
 
 pub platform_high : (t : Tokens) (p : PlatformPackage) → 64 ≤ number_in t p
-platform_high t p = of_three (same_package p JavacardxApdu) (same_package p t.first)
+platform_high t p = of_four (same_package p JavacardxApdu) (same_package p JavacardSecurity) (same_package p t.first)
 
 high_word : (n x : ℕ) → 64 ≤ n → 64 ≤ (256 * n + x) / 256
 high_word n x high = omega (arith, high)
 
-pub word_high : (t : Tokens) (c : PlatformClass) → 64 ≤ class_word t c / 256
-word_high t c = high_word (number_in t (home_of c)) (class_token t c) (platform_high t (home_of c))
+high_token : (n : ℕ) (o : Option ℕ) → 64 ≤ n → 64 ≤ word_of_token n o / 256
+high_token n None high = omega arith
+high_token n (Some k) high = high_word n k high
 
-by_number : (n : ℕ) (a b c : Bool) → (a ≡ true → 64 ≤ n) → (b ≡ true → 64 ≤ n) → (c ≡ true → 64 ≤ n) → is_some
-    (if a then Some JavaLang else (if b then Some JavacardFramework else (if c then Some JavacardxApdu else None))) ≡ true → 64 ≤ n
-by_number n true b c first second third there = first refl
-by_number n false true c first second third there = second refl
-by_number n false false true first second third there = third refl
-by_number n false false false first second third there = absurd (false≢true there)
+pub word_high : (t : Tokens) (c : PlatformClass) → 64 ≤ class_word t c / 256
+word_high t c = high_token (number_in t (home_of c)) (token_of_class t c) (platform_high t (home_of c))
+
+by_number : (n : ℕ) (a b c d : Bool) → (a ≡ true → 64 ≤ n) → (b ≡ true → 64 ≤ n) → (c ≡ true → 64 ≤ n) → (d ≡ true → 64 ≤ n) → is_some
+    (if a then Some JavaLang else (if b then Some JavacardFramework else (if c then Some JavacardxApdu else
+    (if d then Some JavacardSecurity else None)))) ≡ true → 64 ≤ n
+by_number n true b c d first second third fourth there = first refl
+by_number n false true c d first second third fourth there = second refl
+by_number n false false true d first second third fourth there = third refl
+by_number n false false false true first second third fourth there = fourth refl
+by_number n false false false false first second third fourth there = absurd (false≢true there)
 
 same_high : (t : Tokens) (p : PlatformPackage) (n : ℕ) → (n == number_in t p) ≡ true → 64 ≤ n
 same_high t p n e = subst (λ m. 64 ≤ m) (sym (eqb-true n (number_in t p) e)) (platform_high t p)
 
 number_high : (t : Tokens) (n : ℕ) → is_some (package_by_number t n) ≡ true → 64 ≤ n
 unfolding package_by_number
-number_high t n there = by_number n (n == number_in t JavaLang) (n == number_in t JavacardFramework) (n == number_in t JavacardxApdu) (same_high t JavaLang n)
-    (same_high t JavacardFramework n) (same_high t JavacardxApdu n) there
+number_high t n there = by_number n (n == number_in t JavaLang) (n == number_in t JavacardFramework) (n == number_in t JavacardxApdu)
+    (n == number_in t JavacardSecurity) (same_high t JavaLang n) (same_high t JavacardFramework n) (same_high t JavacardxApdu n)
+    (same_high t JavacardSecurity n) there
 
 -- ---- those of loaded packages
 

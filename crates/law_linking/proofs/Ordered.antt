@@ -22,10 +22,10 @@ use Rattle.law_linking.proofs.Numbers.{word_high}
 use Rattle.law_linking.specs.Given.{HasByteTokens}
 use Rattle.law_linking.proofs.Chains.{Fits, IsOrdered, own}
 use Rattle.law_linking.proofs.Good.{AllGood, AreInterfaces, IsGood}
-use Rattle.law_linking.proofs.Facts.{class_needed, fewer_above, interfaces_are, is_listed, reference_behind, reference_within, superclass_needed}
+use Rattle.law_linking.proofs.Facts.{fewer_above, interfaces_are, is_listed, reference_behind, reference_within, superclass_needed}
 use Rattle.law_linking.proofs.Tokens.{HasToken, word_told}
 
--- ---- they stand behind their words
+-- ---- they stand after their words
 
 pub no_value : (o : Option ClassValue) → ((c : ClassValue) → o ≡ Some c → ⊥) → o ≡ None
 no_value None never = refl
@@ -38,10 +38,7 @@ module _ (p : Packages) (few : length p.loaded ≤ 32) (names : TellNames p.plat
   pub not_loaded : (c : PlatformClass) → class_in p (word c) ≡ None
   not_loaded c = no_value (class_in p (word c)) (λ x is. no_class p (word c) few (word_high p.platform c) x is)
 
-  -- what is no interface stands, and so do superclasses and the interface that a class lists
-  pub class_stands : (c : PlatformClass) → is_interface c ≡ false → HasToken p.platform c
-  class_stands c class = names.needed_classes c (class_needed c class)
-
+  -- superclasses stand, and so does the interface that a class lists
   pub superclass_stands : (c : PlatformClass) → IfThere (HasToken p.platform) (superclass_of c)
   superclass_stands c = if_more (λ d. is_needed_class d ≡ true) (HasToken p.platform) (superclass_of c) names.needed_classes (superclass_needed c)
 
@@ -122,7 +119,7 @@ module _ (p : Packages) (few : length p.loaded ≤ 32) (names : TellNames p.plat
   unfolding size_of superclass_in
   sizes w fits = sizes_by w (class_in p w) refl (class_by_word p.platform w) fits
 
-  -- ---- a class's own cells stand behind its superclass's, and among its own
+  -- ---- a class's own cells stand after its superclass's, and among its own
 
   own_parts : (c : ClassValue) (k : ℕ) → IsGood p c → (nat_le c.inherited_cells k && declares_reference c (k - c.inherited_cells)) ≡ true
       → (c.inherited_cells ≤ k) × (k < c.inherited_cells + c.declared_cells)

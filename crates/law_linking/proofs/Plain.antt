@@ -1,22 +1,23 @@
 -- A table without the line `extended` has no name but those that each table has.
 use Rattle.std.proofs.Common.{◌≡◌, ◌+◌, ◌==◌, ◌&&◌, ◌||◌, not, ℕ, Bool, true, false, List, [], ◌∷◌, ◌++◌, Option, Some, None, refl, ap, sym, subst, ◌∙◌}
 use Rattle.std.proofs.Common.{inl, inr, if◌then◌else◌, reverse, take, drop}
-use Rattle.std.specs.Prelude.{codes, find, is_some, nat_le, position}
+use Rattle.std.specs.Prelude.{codes, find, is_some, nat_le, nat_lt, position, unwrap_or}
 use Rattle.std.specs.List.{list_all}
 use Rattle.std.specs.Option.{option_and_then}
 use Rattle.std.specs.Str.{bytes_eq}
 use Rattle.std.proofs.lemmas.Bool.{and_from, and_parts, eqb-true, false≢true, or_cases}
-use Rattle.jc_platform.specs.declared.names.PlatformPackage.TheVariants.{JavacardxApdu}
+use Rattle.jc_platform.specs.declared.names.PlatformPackage.{PlatformPackage}
+use Rattle.jc_platform.specs.declared.names.PlatformPackage.TheVariants.{JavaLang, JavacardFramework, JavacardxApdu, JavacardSecurity}
 use Rattle.jc_platform.specs.declared.names.PlatformClass.{PlatformClass}
 use Rattle.jc_platform.specs.declared.names.PlatformMethod.{PlatformMethod}
 use Rattle.jc_platform.specs.Distinct.{is_needed_class, is_needed_method}
 use Rattle.jc_platform.specs.Names.{ClassEntry, MethodEntry, classes, methods, packages}
-use Rattle.jc_platform.specs.Names.{objects_rows, exceptions_rows, utilities_rows, system_rows, aids_rows, pins_rows, applets_rows, apdus_rows, events_rows}
-use Rattle.jc_platform.specs.Numbers.{class_number, method_number, same_class, same_kind, same_method, same_package}
+use Rattle.jc_platform.specs.Names.{objects_rows, exceptions_rows, utilities_rows, system_rows, aids_rows, pins_rows, applets_rows, apdus_rows, events_rows, engines_rows}
+use Rattle.jc_platform.specs.Numbers.{class_number, is_needed_package, method_number, package_number, same_class, same_kind, same_method, same_package}
 use Rattle.jc_platform.specs.Rows.{Above, above, allows, class_row, has_class_token, has_method_token, has_needed_packages, is_package}
 use Rattle.jc_platform.specs.Rows.{kind_of, largest_token, may_be_class, may_be_extended, may_be_method, may_be_package, method_named, method_row}
-use Rattle.jc_platform.specs.Rows.{number_of, package_row, parts_at, row_of}
-use Rattle.jc_platform.specs.Table.{Say}
+use Rattle.jc_platform.specs.Rows.{bytes_of, may_be_random, number_of, package_row, parts_at, random_row, row_of}
+use Rattle.jc_platform.specs.Table.{Say, no_random}
 use Rattle.jc_platform.proofs.Distinct.{class_by_number, found_has, method_by_number}
 use Rattle.jc_platform.proofs.Lines.{reverse-cons}
 use Rattle.jc_platform.proofs.Lists.{parts_cut, parts_uncut}
@@ -46,7 +47,7 @@ unfolding classes
 class_entries = refl
 
 method_entries : list_all (λ e. not e.needed || is_needed_method e.method) methods ≡ true
-unfolding objects_rows exceptions_rows utilities_rows system_rows aids_rows pins_rows applets_rows apdus_rows events_rows
+unfolding objects_rows exceptions_rows utilities_rows system_rows aids_rows pins_rows applets_rows apdus_rows events_rows engines_rows
 method_entries = refl
 
 -- where only that may stand which each table has, another has no token
@@ -64,10 +65,20 @@ each_there Q f (Some x) each = each x refl
 
 -- ---- rows
 
--- above a line is no `extended`, and no name but those that each table has
+-- above a line is no `extended` and no `random`, and no name but those that each table has
 abbrev IsBare : Above → Type 0
-IsBare a = (a.extended ≡ false) × (a.version JavacardxApdu ≡ None) × ((c : PlatformClass) → is_needed_class c ≡ false → a.class_token c ≡ None)
-    × ((m : PlatformMethod) → is_needed_method m ≡ false → a.method_token m ≡ None)
+IsBare a = (a.extended ≡ false) × ((p : PlatformPackage) → is_needed_package p ≡ false → a.version p ≡ None)
+    × ((c : PlatformClass) → is_needed_class c ≡ false → a.class_token c ≡ None)
+    × ((m : PlatformMethod) → is_needed_method m ≡ false → a.method_token m ≡ None) × (a.random ≡ None)
+
+needed_number : (p : PlatformPackage) → is_needed_package p ≡ nat_lt (package_number p) 2
+needed_number JavaLang = refl
+needed_number JavacardFramework = refl
+needed_number JavacardxApdu = refl
+needed_number JavacardSecurity = refl
+
+same_needed : (p q : PlatformPackage) → same_package p q ≡ true → is_needed_package p ≡ is_needed_package q
+same_needed p q same = needed_number p ∙ ap (λ n. nat_lt n 2) (eqb-true (package_number p) (package_number q) same) ∙ sym (needed_number q)
 
 -- what is so of rows is so with this row in front too
 abbrev KeepsBare : {R : Type 0} → (List R → Above) → R → Type 0
@@ -106,12 +117,12 @@ module _ (a : Above) (plain : a.extended ≡ false) where
       let its : e.method ≡ m = method_by_number e.method m (eqb-true (method_number e.method) (method_number m) same) in
       false≢true (sym optional ∙ ap is_needed_method (sym its) ∙ needed)
 
-  no_package : (p : _) → may_be_package a p ≡ true → same_package p JavacardxApdu ≡ true → ⊥
-  no_package p may same =
+  no_package : (p q : PlatformPackage) → may_be_package a p ≡ true → is_needed_package q ≡ false → same_package p q ≡ true → ⊥
+  no_package p q may other same =
       let there = a.extended && has_needed_packages a in
-      let free = (and_parts (not (is_some (a.version p))) (not (same_package p JavacardxApdu) || there) may).1 in
-      elim (or_cases (not (same_package p JavacardxApdu)) there free) [
-        | inl else_one ↦ not_both (same_package p JavacardxApdu) same else_one
+      let free = (and_parts (not (is_some (a.version p))) (is_needed_package p || there) may).1 in
+      elim (or_cases (is_needed_package p) there free) [
+        | inl needed ↦ false≢true (sym other ∙ sym (same_needed p q same) ∙ needed)
         | inr line_above ↦ false≢true (sym plain ∙ (and_parts a.extended (has_needed_packages a) line_above).0)
       ]
 
@@ -123,6 +134,7 @@ module _ (a : Above) (plain : a.extended ≡ false) where
         bare.1,
         (λ c optional. none_new (same_class e.class c) t ((above rest).class_token c) (no_class e name t found may c optional) (bare.2 c optional)),
         bare.3,
+        bare.4,
       ))))
 
   method_keeps : (keyword token name : List ℕ) → IfThere (KeepsBare above) (method_row a keyword token name)
@@ -134,6 +146,7 @@ module _ (a : Above) (plain : a.extended ≡ false) where
         bare.2,
         (λ m optional. none_new (same_method e.method m) t ((above rest).method_token m) (no_method e d kind name t found may m optional)
             (bare.3 m optional)),
+        bare.4,
       ))))))
 
   package_keeps : (aid major minor : List ℕ) → IfThere (KeepsBare above) (package_row a aid major minor)
@@ -141,24 +154,31 @@ module _ (a : Above) (plain : a.extended ≡ false) where
       some_there _ _ (find (λ e. bytes_eq e.aid_text aid) packages) (λ e. some_there _ _ (number_of major) (λ j. some_there _ _ (number_of minor)
       (λ n. where_so _ (may_be_package a e.package_id) _ (λ may rest bare. (
         bare.0,
-        none_new (same_package e.package_id JavacardxApdu) (record { major = j; minor = n }) ((above rest).version JavacardxApdu)
-            (no_package e.package_id may) bare.1,
+        (λ q optional. none_new (same_package e.package_id q) (record { major = j; minor = n }) ((above rest).version q)
+            (no_package e.package_id q may optional) (bare.1 q optional)),
         bare.2,
         bare.3,
+        bare.4,
       )))))
+
+  random_keeps : (keyword word : List ℕ) → IfThere (KeepsBare above) (random_row a keyword word)
+  random_keeps keyword word =
+      one_of_two _ (bytes_eq keyword (codes "random")) _ None
+      (some_there _ _ (bytes_of word) (λ bytes. where_so _ (may_be_random a) _
+      (λ may rest bare. absurd (false≢true (sym plain ∙ (and_parts a.extended (not (is_some a.random)) may).0))))) tt
 
   row_keeps : (words : List (List ℕ)) → ((word : List ℕ) → words ≡ word ∷ [] → other_line word ≡ true) → IfThere (KeepsBare above) (row_of a words)
   row_keeps [] other = tt
   row_keeps (word ∷ []) other = where_so _ (bytes_eq word (codes "extended") && may_be_extended a) _
       (λ may rest bare. absurd (not_both (bytes_eq word (codes "extended")) (and_parts (bytes_eq word (codes "extended")) (may_be_extended a) may).0
       (other word refl)))
-  row_keeps (k ∷ x ∷ []) other = tt
+  row_keeps (k ∷ x ∷ []) other = random_keeps k x
   row_keeps (k ∷ x ∷ y ∷ []) other = one_of_two _ (bytes_eq k (codes "class")) (class_row a x y) (method_row a k x y) (class_keeps x y) (method_keeps k x y)
   row_keeps (k ∷ x ∷ y ∷ z ∷ []) other = one_of_two _ (bytes_eq k (codes "package")) (package_row a x y z) None (package_keeps x y z) tt
   row_keeps (k ∷ x ∷ y ∷ z ∷ v ∷ more) other = tt
 
 rows_bare : (lines : List (List ℕ)) (rows : _) → Say lines rows → list_all other_line lines ≡ true → IsBare (above rows)
-rows_bare [] [] say plain = (refl, refl, (λ c optional. refl), (λ m optional. refl))
+rows_bare [] [] say plain = (refl, (λ p optional. refl), (λ c optional. refl), (λ m optional. refl), refl)
 rows_bare [] (row ∷ rows) say plain = absurd say
 rows_bare (line ∷ lines) [] say plain = absurd say
 rows_bare (line ∷ lines) (row ∷ rows) say plain =
@@ -182,7 +202,8 @@ are_plain text t reads none =
     let others = (all_reversed spells.0 ([] ∷ []) (ap (list_all other_line) (sym spells.1) ∙ none)).0 in
     let bare = rows_bare spells.0 rows spells.2 others in
     record {
-      apdu_package = sym (are.versions JavacardxApdu) ∙ bare.1;
+      packages = λ p optional. sym (are.versions p) ∙ bare.1 p optional;
       classes = λ c optional. sym (are.class_tokens c) ∙ bare.2 c optional;
       methods = λ m optional. sym (are.method_tokens m) ∙ bare.3 m optional;
+      random = sym are.random ∙ ap (λ o. unwrap_or o no_random) bare.4;
     }

@@ -147,7 +147,7 @@ module _ (p : Packages) (q : PackageValue) (ts : List Target) where
   pub told_resolves : (n : ℕ) (e : Entry) → resolution (with_package p told) n e ≡ resolution (with_package p q) n e
   told_resolves n e = resolves_alike (with_package p q) (p.loaded ++ told ∷ []) (λ w. Unit {0}) (λ m. Unit {0}) told_alike told_names n e tt
 
--- ---- the package that came in, behind the others and once more came in
+-- ---- the package that came in, after the others and once more came in
 
 last_of : (xs : List PackageValue) (q : PackageValue) → slice_get (xs ++ q ∷ []) (length xs) ≡ Some q
 last_of [] q = refl

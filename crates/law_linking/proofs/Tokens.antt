@@ -1,4 +1,4 @@
--- Words of the platform's classes, and what stands behind them.
+-- Words of the platform's classes, and what stands after them.
 use Rattle.std.proofs.Common.{◌≡◌, ◌<◌, ◌+◌, ◌*◌, ◌/◌, ◌%◌, ◌==◌, ◌&&◌, ℕ, Bool, true, false, List, [], ◌∷◌, Option, Some, None, refl, ap, sym, subst, ◌∙◌}
 use Rattle.std.proofs.Common.{arith, if◌then◌else◌}
 use Rattle.std.specs.Prelude.{find, unwrap_or}
@@ -6,15 +6,15 @@ use Rattle.std.specs.Option.{option_map, option_and_then}
 use Rattle.std.proofs.lemmas.Bool.{and_parts, eqb-true, false≢true}
 use Rattle.std.proofs.lemmas.Option.{none-some, option_and_then_some, same_Some}
 use Rattle.jc_platform.specs.declared.names.PlatformPackage.{PlatformPackage}
-use Rattle.jc_platform.specs.declared.names.PlatformPackage.TheVariants.{JavaLang, JavacardFramework, JavacardxApdu}
+use Rattle.jc_platform.specs.declared.names.PlatformPackage.TheVariants.{JavaLang, JavacardFramework, JavacardxApdu, JavacardSecurity}
 use Rattle.jc_platform.specs.declared.names.PlatformClass.{PlatformClass}
 use Rattle.jc_platform.specs.declared.names.MethodKind.{MethodKind}
 use Rattle.jc_platform.specs.declared.names.PlatformMethod.{PlatformMethod}
-use Rattle.jc_platform.specs.Distinct.{class_of, class_word, home_of, kind_of_method}
+use Rattle.jc_platform.specs.Distinct.{class_of, class_word, home_of, kind_of_method, word_of_token}
 use Rattle.jc_platform.specs.Names.{ClassEntry, MethodEntry, classes, methods}
 use Rattle.jc_platform.specs.Numbers.{class_number, kind_number, package_number, same_class, same_kind, same_package}
 use Rattle.jc_platform.specs.Platform.{TellNames, class_by_token, class_by_word, method_by_token, package_by_number}
-use Rattle.jc_platform.specs.Tokens.{Tokens, class_token, number_in, token_of_class, token_of_method}
+use Rattle.jc_platform.specs.Tokens.{Tokens, number_in, token_of_class, token_of_method}
 use Rattle.jc_platform.specs.Rows.{is_token}
 use Rattle.law_linking.specs.Given.{HasByteTokens}
 use Rattle.jc_platform.proofs.Distinct.{class_by_number, found_has}
@@ -32,26 +32,31 @@ HasToken t c = (k : ℕ) × (token_of_class t c ≡ Some k)
 pub word_told : (t : Tokens) → TellNames t → HasByteTokens t → (c : PlatformClass) → HasToken t c → class_by_word t (class_word t c) ≡ Some c
 unfolding class_by_word
 word_told t told bytes c stands =
-    let parts = word_parts (number_in t (home_of c)) (class_token t c) (bytes c) in
-    let own : class_token t c ≡ stands.0 = ap (λ o. unwrap_or o 0) stands.1 in
-    ap (λ w. option_and_then (λ home. class_by_token t home (class_word t c % 256)) (package_by_number t w)) parts.0
-    ∙ ap (option_and_then (λ home. class_by_token t home (class_word t c % 256))) (told.packages (home_of c))
-    ∙ ap (class_by_token t (home_of c)) (parts.1 ∙ own) ∙ told.classes c stands.0 stands.1
+    let n = number_in t (home_of c) in
+    let word = 256 * n + stands.0 in
+    let low : stands.0 < 256 = subst (λ k. k < 256) (ap (λ o. unwrap_or o 0) stands.1) (bytes c) in
+    let parts = word_parts n stands.0 low in
+    ap (λ w. option_and_then (λ home. class_by_token t home (w % 256)) (package_by_number t (w / 256))) (ap (word_of_token n) stands.1)
+    ∙ ap (λ w. option_and_then (λ home. class_by_token t home (word % 256)) (package_by_number t w)) parts.0
+    ∙ ap (option_and_then (λ home. class_by_token t home (word % 256))) (told.packages (home_of c))
+    ∙ ap (class_by_token t (home_of c)) parts.1 ∙ told.classes c stands.0 stands.1
 
 -- ---- the word of a class that a word names
 
-by_numbers : (a b c : Bool) (home : PlatformPackage) (P : PlatformPackage → Type 0) → (a ≡ true → P JavaLang) → (b ≡ true → P JavacardFramework)
-    → (c ≡ true → P JavacardxApdu)
-    → (if a then Some JavaLang else (if b then Some JavacardFramework else (if c then Some JavacardxApdu else None))) ≡ Some home → P home
-by_numbers true b c home P first second third is = subst P (same_Some JavaLang home is) (first refl)
-by_numbers false true c home P first second third is = subst P (same_Some JavacardFramework home is) (second refl)
-by_numbers false false true home P first second third is = subst P (same_Some JavacardxApdu home is) (third refl)
-by_numbers false false false home P first second third is = absurd (none-some home is)
+by_numbers : (a b c d : Bool) (home : PlatformPackage) (P : PlatformPackage → Type 0) → (a ≡ true → P JavaLang) → (b ≡ true → P JavacardFramework)
+    → (c ≡ true → P JavacardxApdu) → (d ≡ true → P JavacardSecurity) → (if a then Some JavaLang else (if b then Some JavacardFramework else
+    (if c then Some JavacardxApdu else (if d then Some JavacardSecurity else None)))) ≡ Some home → P home
+by_numbers true b c d home P first second third fourth is = subst P (same_Some JavaLang home is) (first refl)
+by_numbers false true c d home P first second third fourth is = subst P (same_Some JavacardFramework home is) (second refl)
+by_numbers false false true d home P first second third fourth is = subst P (same_Some JavacardxApdu home is) (third refl)
+by_numbers false false false true home P first second third fourth is = subst P (same_Some JavacardSecurity home is) (fourth refl)
+by_numbers false false false false home P first second third fourth is = absurd (none-some home is)
 
 package_is : (t : Tokens) (n : ℕ) (home : PlatformPackage) → package_by_number t n ≡ Some home → n ≡ number_in t home
 unfolding package_by_number
-package_is t n home is = by_numbers (n == number_in t JavaLang) (n == number_in t JavacardFramework) (n == number_in t JavacardxApdu) home
-    (λ q. n ≡ number_in t q) (eqb-true n (number_in t JavaLang)) (eqb-true n (number_in t JavacardFramework)) (eqb-true n (number_in t JavacardxApdu)) is
+package_is t n home is = by_numbers (n == number_in t JavaLang) (n == number_in t JavacardFramework) (n == number_in t JavacardxApdu)
+    (n == number_in t JavacardSecurity) home (λ q. n ≡ number_in t q) (eqb-true n (number_in t JavaLang)) (eqb-true n (number_in t JavacardFramework))
+    (eqb-true n (number_in t JavacardxApdu)) (eqb-true n (number_in t JavacardSecurity)) is
 
 passing : {X : Type 0} (test : X → Bool) (x e : X) (xs : List X) (b : Bool) → test x ≡ b → (find test xs ≡ Some e → test e ≡ true)
     → (if b then Some x else find test xs) ≡ Some e → test e ≡ true
@@ -86,7 +91,7 @@ class_is t home token c is =
     )
   where
     number_same : (u : Tokens) (p q : PlatformPackage) → same_package p q ≡ true → number_in u p ≡ number_in u q
-    number_same u p q same = ap (λ n. if n == 2 then 66 else (if n == package_number u.first then 64 else 65)) (eqb-true (package_number p) (package_number q) same)
+    number_same u p q same = ap (λ n. if n == 2 then 66 else (if n == 3 then 67 else (if n == package_number u.first then 64 else 65))) (eqb-true (package_number p) (package_number q) same)
 
 back_again : (w n token : ℕ) → w / 256 ≡ n → token ≡ w % 256 → w ≡ 256 * n + token
 back_again w n token high low = omega (arith, high, low)
@@ -95,8 +100,8 @@ pub word_of_class : (t : Tokens) (w : ℕ) (c : PlatformClass) → class_by_word
 unfolding class_by_word
 word_of_class t w c is =
     option_and_then_some (λ home. class_by_token t home (w % 256)) (package_by_number t (w / 256)) c is
-    (λ home at more. let a = class_is t home (w % 256) c more in back_again w (number_in t (home_of c)) (class_token t c)
-    (package_is t (w / 256) home at ∙ a.0) (ap (λ o. unwrap_or o 0) a.1))
+    (λ home at more. let a = class_is t home (w % 256) c more in back_again w (number_in t (home_of c)) (w % 256) (package_is t (w / 256) home at ∙ a.0) refl
+    ∙ sym (ap (word_of_token (number_in t (home_of c))) a.1))
 
 -- ---- the class and the kind of a method
 

@@ -10,7 +10,7 @@ use Rattle.law_linking.specs.Given.{AreRead, HasAppletComponent}
 abbrev pub HaveCells : Type 0
 HaveCells = (cs : List LinkerComponents) (p : Packages) → AreRead cs p → HasPlatformCells p
 
--- fields that entries name are cells of their kind, behind the platform's
+-- fields that entries name are cells of their kind, after the platform's
 abbrev pub HaveFields : Type 0
 HaveFields = (cs : List LinkerComponents) (p : Packages) → AreRead cs p → HasFieldCells p
 

@@ -1,11 +1,12 @@
 -- What the classes of linked packages say of one another, as far as cells of instances and methods of the platform go.
-use Rattle.std.specs.Prelude.{ℕ, ◌≡◌, ◌≤◌, ◌<◌, ◌&&◌, ◌⊎◌, nat_le, nat_lt, Bool, true, false, not, length, slice_index, Option, Some}
+use Rattle.std.specs.Prelude.{ℕ, ◌≡◌, ◌≤◌, ◌<◌, ◌&&◌, ◌⊎◌, nat_le, nat_lt, Bool, true, false, not, length, slice_index, Option, Some, is_some}
 use Rattle.jc_cap_linkage.specs.declared.pool.VirtualToken.{VirtualToken}
 use Rattle.jc_platform.specs.declared.names.PlatformClass.{PlatformClass}
 use Rattle.jc_platform.specs.declared.names.PlatformMethod.{PlatformMethod}
 use Rattle.jc_platform.specs.declared.names.MethodKind.TheVariants as kinds
-use Rattle.jc_platform.specs.Distinct.{class_of, class_word, kind_of_method}
+use Rattle.jc_platform.specs.Distinct.{class_of, class_word, is_needed_class, kind_of_method}
 use Rattle.jc_platform.specs.Hierarchy.{cells_of, holds_reference, is_interface, superclass_of}
+use Rattle.jc_platform.specs.Tokens.{token_of_class}
 use Rattle.jc_linker.specs.declared.target.Method.TheVariants.{Native}
 use Rattle.jc_linker.specs.declared.target.Target.TheVariants.{Class, InstanceField, StaticMethod}
 use Rattle.jc_linker.specs.Classes.{is_below, is_class, reference_cell, size_of}
@@ -33,9 +34,10 @@ pub record HasPlatformCells (p : Packages) : Type 0 where
   pub line : (class : ℕ) (of other : PlatformClass) → has_instances p class ≡ true → is_interface of ≡ false → is_interface other ≡ false
       → is_a p class of ≡ true → is_a p class other ≡ true →
       IsPlatformBelow of other ⊎ IsPlatformBelow other of
-  -- the platform's own classes are there, with the platform's cells alone
-  pub own : (of : PlatformClass) → is_interface of ≡ false → has_instances p (class_word p.platform of) ≡ true
-  pub exact : (of : PlatformClass) → is_interface of ≡ false → size_of p (class_word p.platform of) ≡ cells_of of
+  -- what each table has has a token; of what has one the platform's own classes are there, with the platform's cells alone
+  pub needed : (of : PlatformClass) → is_needed_class of ≡ true → is_some (token_of_class p.platform of) ≡ true
+  pub own : (of : PlatformClass) → is_some (token_of_class p.platform of) ≡ true → is_interface of ≡ false → has_instances p (class_word p.platform of) ≡ true
+  pub exact : (of : PlatformClass) → is_some (token_of_class p.platform of) ≡ true → size_of p (class_word p.platform of) ≡ cells_of of
 
 -- a field that an entry names is, in instances of its class and of those below, a cell of the kind that the entry says, and none of the
 -- cells that a class of the platform has

@@ -9,7 +9,7 @@ use Rattle.jc_linker.specs.Values.{LinkerComponents}
 use Rattle.law_linking.specs.Linked.{AreLinked}
 
 -- each entry of this constant pool resolves in the package with this number, and is looked up by its index as what it
--- resolves to; behind the pool's end nothing is looked up
+-- resolves to; after the pool's end nothing is looked up
 pub record Resolve (p : Packages) (number : ℕ) (pool : List Entry) : Type 0 where
   pub entries : (index : ℕ) (e : Entry) → slice_get pool index ≡ Some e → (t : Target) × (resolution p number e ≡ Some t) × (target_at p number index ≡ Some t)
   pub ends : (index : ℕ) → slice_get pool index ≡ None → target_at p number index ≡ None

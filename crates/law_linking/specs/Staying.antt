@@ -41,7 +41,7 @@ pub record Stays (old new : Packages) (number : ℕ) : Type 0 where
   pub classes : (class : ℕ) → class / 256 ≢ number → ClassStays old new class
   pub names : (aid : List ℕ) (n : ℕ) → package_with_aid old aid ≡ Some n → package_with_aid new aid ≡ Some n
 
--- whatever package comes behind packages that were linked, with a place for it
+-- whatever package comes after packages that were linked, with a place for it
 abbrev pub AddingKeeps : Type 0
 AddingKeeps = (cs : List LinkerComponents) (p : Packages) (q : PackageValue) → AreLinked cs p → length p.loaded < 32
     → Stays p (with_package p q) (next_number p)

@@ -21,7 +21,7 @@ pub fn platform_tokens_are_bytes()
 {}
 
 /// Where a text without the line `extended` is read as a platform table, the table has no name but those that each
-/// table has: no class and no method of the second list, nor the package `javacardx.apdu`.
+/// table has: no class and no method of the second list, nor another package. Random data are made from zeros.
 pub fn tables_without_the_line_have_no_further_names()
     ensures { ArePlain }
 {}

@@ -3,7 +3,7 @@ ghost use Rattle.law_linking.specs.Fields.{HideFields};
 ghost use Rattle.law_linking.specs.Resolving.{AllResolve};
 ghost use Rattle.law_linking.specs.Staying.{AddingKeeps};
 
-/// Where one more package comes behind packages that were linked, each onto those before it, all look-ups stay
+/// Where one more package comes after packages that were linked, each onto those before it, all look-ups stay
 /// as they were in each package and each class but those of the new one's number: what entries resolve to,
 /// classes, methods and the cells of instances.
 pub fn look_ups_stay_with_one_more_package()

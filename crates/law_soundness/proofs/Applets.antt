@@ -96,11 +96,11 @@ module _ (keeps : KeepsSound) (p : Packages) (m : MemoryState) (known : KnowsCla
   made_fits : FitsNew p m Instance aid_class 0 9
   unfolding platform.cells_of is_interface classes
   made_fits =
-      let one = and_parts (is_class p aid_class) _ (known.platform.own Aid refl) in
+      let one = and_parts (is_class p aid_class) _ (known.platform.own Aid (known.platform.needed Aid refl) refl) in
       let two = and_parts (not (names_interface p aid_class)) _ one.1 in
       record {
         there = and_from (is_class p aid_class) _ one.0 (and_from (not (names_interface p aid_class)) _ two.0
-            (eq-eqb 9 (size_of p aid_class) (sym (known.platform.exact Aid refl))));
+            (eq-eqb 9 (size_of p aid_class) (sym (known.platform.exact Aid (known.platform.needed Aid refl)))));
         known = refl;
         small = λ is. omega arith;
         environments = λ is zero. (Aid, refl, refl);
@@ -108,11 +108,11 @@ module _ (keeps : KeepsSound) (p : Packages) (m : MemoryState) (known : KnowsCla
 
   no_pin : is_a p aid_class OwnerPin ≡ false
   unfolding is_interface classes
-  no_pin = false_from_ne_true (is_a p aid_class OwnerPin) (aid_no_pin p known aid_class (known.platform.own Aid refl) (below_itself p aid_class))
+  no_pin = false_from_ne_true (is_a p aid_class OwnerPin) (aid_no_pin p known aid_class (known.platform.own Aid (known.platform.needed Aid refl) refl) (below_itself p aid_class))
 
   numbers : (k : ℕ) → k < 9 → reference_cell p aid_class k ≡ false
   unfolding platform.cells_of is_interface classes
-  numbers k lt = known.platform.kinds aid_class k Aid (known.platform.own Aid refl) refl (below_itself p aid_class) lt ∙ numbers_before Aid 9 refl k lt
+  numbers k lt = known.platform.kinds aid_class k Aid (known.platform.own Aid (known.platform.needed Aid refl) refl) refl (below_itself p aid_class) lt ∙ numbers_before Aid 9 refl k lt
 
   module _ (r : ℕ) (new : IsNew m.heap.now r) where
     free : is_allocated m.heap.now m.heap.now.top ≡ false

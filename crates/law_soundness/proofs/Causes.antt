@@ -124,7 +124,9 @@ module _ (m : MemoryState) where
             let w = is.within in
             subst (λ a. AllDue IsInMethod (nonatomic_store m a e.start words) m) (sym is.array)
             (store_due IsInMethod r (λ i x v element. tt) words e.start m kind (omega (arith, w, long)) tt);
+        behind = λ q n e bytes is long r count s words event state kept all. tt;
         transient = λ o is room r new. made_in o.event o;
+        engine = λ e has there space room array new. (tt, λ r other. (tt, (tt, (tt, tt))));
       };
       aid = λ init own bytes is long fine. run_in (facts m.heap.now own).event own 0 (cells_of_aid bytes);
       buffer = λ r words is fits. run_in (facts m.heap.now r).event r 5 words;
@@ -164,7 +166,7 @@ then_more P O R N due more (Perform e rest) m so = (due e m so.0, then_more P O 
 then_more P O R N due more (Choose choose) m so = λ r new. then_more P O R N due more (choose r) m (so r new)
 then_more P O R N due more (Either x y) m so = (then_more P O R N due more x m so.0, then_more P O R N due more y m so.1)
 
--- each answer was given behind some effects
+-- each answer was given after some effects
 traced : {A : Type 0} (d : Program A) (m : MemoryState) → AllResults d m (λ a n. (es : List Effect) × HasTrace d m es a × (n ≡ apply_effects es m))
 traced (Finish a) m = ([], (refl, refl), refl)
 traced (Perform e rest) m = each_more _ _ (λ a n t. (e ∷ t.0, (t.0, refl, t.1), t.2)) rest (apply_effect e m) (traced rest (apply_effect e m))

@@ -120,7 +120,7 @@ parameters_fit bytes c e = option_and_then_some parameters_or_none (field_of byt
 -- ---- an applet is left, selected, and answers
 
 module _ (runs : RunsAreSound) (p : Packages) (known : AreKnown p) where
-  -- what comes behind a ready memory
+  -- what comes after a ready memory
   record Behind (m n : MemoryState) : Type 0 where
     stands : StandsBehind p m n
     idle : is_open n.registers.installation ≡ false
@@ -180,7 +180,7 @@ module _ (runs : RunsAreSound) (p : Packages) (known : AreKnown p) where
       good_then p _ (SetRegisters (with_next next m.registers)) _ m (inl fits) tt
       (applet_left_good budget m.registers.selected m v (record { behind = goes_on m m v (begins m r) first; shut = r.closed }) r.sound.selected)
 
-  -- an applet answers, behind a ready memory
+  -- an applet answers, after a ready memory
   processed_behind : (budget : ℕ) (a : AppletNumber) (selecting : Bool) (expected : ℕ) (m n : MemoryState) → Behind m n → is_applet m.heap.durable a ≡ true
       → Good p (process_command budget p a selecting expected n) n (λ e k. IsReady p k)
   unfolding process_command
@@ -287,7 +287,7 @@ module _ (runs : RunsAreSound) (p : Packages) (known : AreKnown p) where
       other = λ zero. omega (arith, zero);
     }
 
-    -- for whom code ran before is known behind it
+    -- for whom code ran before is known after it
     known_again : (t : MemoryState) → IsSoundMemory p t → t.heap.begun ≡ false → w.heap.durable.counts.1 ≤ t.heap.durable.counts.1
         → (t.registers.active ≡ Runtime) ⊎ (t.registers.active ≡ m.registers.active)
         → is_owner_up_to t.heap.now.counts.1 t.heap.now (owner_number t.registers.active) ≡ true

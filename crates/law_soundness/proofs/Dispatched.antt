@@ -130,7 +130,7 @@ module _ (p : Packages) where
 
   -- ---- a run
 
-  -- so many steps were taken, and the next effect is of one more
+  -- this many steps were taken, and the next effect is of one more
   record IsInStep (lent : List ℕ) (s : Frames) (m : MemoryState) (es : List Effect) (e : Effect) : Type 0 where
     ran : List Effect
     during : List Effect
@@ -140,7 +140,7 @@ module _ (p : Packages) where
     steps : RunSteps taken lent p s m last (apply_effects ran m)
     within : HasTracePrefix (machine_step lent p last (apply_effects ran m)) (apply_effects ran m) (during ++ (e ∷ []))
 
-  -- nothing is done behind the end
+  -- nothing is done after the end
   nothing_more : {A : Type 0} (a : A) (m : MemoryState) (es : List Effect) (e : Effect) → HasTracePrefix (Finish a) m (es ++ (e ∷ [])) → ⊥
   nothing_more a m [] e b = b
   nothing_more a m (f ∷ es) e b = b
@@ -184,7 +184,7 @@ module _ (p : Packages) where
   abbrev IsOne : MemoryState → List Effect → Effect → Type 0
   IsOne m es e = IsByEnvironment e (apply_effects es m) ⊎ IsOfRun p m es e
 
-  -- behind one more effect
+  -- after one more effect
   later : (f : Effect) (m : MemoryState) (es : List Effect) (e : Effect) → IsOne (apply_effect f m) es e → IsOne m (f ∷ es) e
   later f m es e (inl so) = inl so
   later f m es e (inr r) = inr (record {
@@ -201,7 +201,7 @@ module _ (p : Packages) where
     within = r.within;
   })
 
-  -- behind several
+  -- after several
   behind : (front : List Effect) (m : MemoryState) (es : List Effect) (e : Effect) → IsOne (apply_effects front m) es e → IsOne m (front ++ es) e
   behind [] m es e so = so
   behind (f ∷ front) m es e so = later f m (front ++ es) e (behind front (apply_effect f m) es e so)
@@ -221,7 +221,7 @@ module _ (p : Packages) where
     within = h.within;
   }
 
-  -- a run, and what comes behind it
+  -- a run, and what comes after it
   within_run : {A : Type 0} (budget : ℕ) (lent : List ℕ) (s : Frames) (more : ℕ × Outcome → MemoryState → Program A) (m : MemoryState) (es : List Effect)
       (e : Effect) → MayBegin s m → ((end : ℕ × Outcome) (n : MemoryState) → Completes (run_of budget lent p s m) m end n → (gs : List Effect)
       → HasTracePrefix (more end n) n (gs ++ (e ∷ [])) → IsOne n gs e)

@@ -22,6 +22,7 @@ pub mod Making
 pub mod Below
 pub mod Turning
 pub mod Small
+pub mod Engines
 pub mod NativeArrays
 pub mod RunPins
 pub mod RunCells

@@ -1,11 +1,13 @@
 -- Methods of the platform fit, and leave a memory between two instructions.
+use Rattle.std.specs.Prelude.{ℤ}
 use Rattle.std.proofs.Common.{◌≡◌, ℕ, true, false, inl, inr, List, Some, refl, sym, ◌∙◌, ap, subst, arith}
 use Rattle.jc_transient.specs.declared.cell.CellValue.TheVariants.{Short}
 use Rattle.jc_heap.specs.declared.object.Kind.{Kind}
 use Rattle.jc_heap.specs.declared.object.Kind.TheVariants.{ByteArray, ReferenceArray}
-use Rattle.jc_heap.specs.Heap.{facts}
+use Rattle.jc_heap.specs.Heap.{HeapState, facts, set_cell}
+use Rattle.jc_heap.specs.Whole.{IsReference}
 use Rattle.jc_frames.specs.declared.cell.Cell.{Cell}
-use Rattle.jc_memory.specs.State.{MemoryState}
+use Rattle.jc_memory.specs.State.{MemoryState, apply_effect}
 use Rattle.jc_memory.specs.Cells.{cells_effect}
 use Rattle.jc_memory.specs.Changing.{nonatomic_store}
 use Rattle.jc_memory.specs.Reading.{AllDue}
@@ -22,13 +24,15 @@ use Rattle.jc_card_checks.specs.Objects.{is_instance}
 use Rattle.jc_linker.specs.Classes.{is_a}
 use Rattle.jc_world.specs.Objects.{reference_argument}
 use Rattle.jc_world.specs.Arrays.{bytes_in}
+use Rattle.jc_world.specs.declared.arrays.Stretch.{Stretch}
 use Rattle.jc_api_framework.specs.Aid.Cells.{cells_of_aid, is_aid_length}
 use Rattle.jc_interp.specs.Natives.{native_call}
 use Rattle.jc_world.specs.NativeCalls.{NativeProgram}
 use Rattle.jc_platform.specs.Signatures.{minds_receiver}
 use Rattle.law_isolation.proofs.Facts.{sets_minds}
 use Rattle.jc_api.proofs.Due.{DueThen, due_of, due_then, results_of}
-use Rattle.jc_api.proofs.Stretches.{length_bytes}
+use Rattle.jc_api.proofs.Standing.{facts_after_run, object-set_cell}
+use Rattle.jc_api.proofs.Stretches.{HoldsNumbers, IsStretch, length_bytes}
 use Rattle.jc_api_framework.proofs.Passing.{AnswersSo, IsPinCall, MethodPasses, RegistersSo, turns_of}
 use Rattle.jc_interp.proofs.Calls.{IsPlainMethod, method_called, method_then}
 use Rattle.law_isolation.proofs.Bytes.{store_due}
@@ -37,6 +41,7 @@ use Rattle.law_linking.specs.Classes.{HasAids, KnowsClasses}
 use Rattle.law_soundness.specs.Fit.{IsFit, IsPinObject, OfValue}
 use Rattle.law_soundness.specs.State.{IsSoundMemory, IsSteady}
 use Rattle.law_soundness.proofs.Effects.{keeps_sound}
+use Rattle.law_soundness.proofs.Engines.{engine_fits}
 use Rattle.law_soundness.specs.Natives.{IsReceiver, NativesFit}
 use Rattle.law_soundness.proofs.Applets.{bytes_small, entry_named, open_home, registering_fits}
 use Rattle.law_soundness.proofs.Below.{reasoned}
@@ -57,6 +62,11 @@ use Rattle.law_soundness.proofs.Registered.{or_null_refers}
 use Rattle.law_soundness.proofs.Still.{IsStill, Lives, still_passes, still_turns}
 use Rattle.law_soundness.proofs.Transactions.{transactions_left}
 
+-- a reference stays one where a cell is set
+reference_stays : (h : HeapState) (q i x r : ℕ) → IsReference h r → IsReference (set_cell h q i x) r
+reference_stays h q i x r (inl null) = inl null
+reference_stays h q i x r (inr there) = inr (object-set_cell h q i x r there)
+
 -- methods that mind the object that they are called on
 minds_own : (method : PlatformMethod) → method ≡ Applets AppletRegister → minds_receiver method ≡ true
 unfolding minds_receiver applets_rows
@@ -65,6 +75,10 @@ minds_own method is = ap minds_receiver is
 minds_given : (method : PlatformMethod) → method ≡ Applets AppletRegisterBytes → minds_receiver method ≡ true
 unfolding minds_receiver applets_rows
 minds_given method is = ap minds_receiver is
+
+numbers_no_array : (kind : Kind) → HoldsNumbers kind → kind ≡ ReferenceArray → ⊥
+numbers_no_array kind (inl bytes) references = cc
+numbers_no_array kind (inr shorts) references = cc
 
 array_of_bytes : (kind : Kind) → kind ≡ ByteArray → kind ≡ ReferenceArray → ⊥
 array_of_bytes kind bytes references = cc
@@ -91,6 +105,11 @@ module _ (method : PlatformMethod) (args : List Cell) (p : Packages) (m : Memory
   object_of : (pin : ℕ) → IsPinCall method args m pin → IsPinObject p m pin
   object_of pin is = pin_object p m known sound pin is.is (called_on _ (sets_minds method is.sets) is.class pin is.called)
 
+  -- the header of a state, after elements of another array were set
+  header_behind : (e : Stretch) (bytes : List ℕ) (r : ℕ) (count : ℤ) (s : Stretch) → IsStretch p m r count s
+      → facts (apply_effect (cells_effect m e.array e.start bytes) m).heap.now s.array ≡ facts m.heap.now r
+  header_behind e bytes r count s state = facts_after_run (facts m.heap.now e.array).event e.array e.start bytes m s.array ∙ ap (facts m.heap.now) state.array
+
   passes : MethodPasses (IsFit p) method args p m
   passes = record {
     calls = record {
@@ -104,7 +123,11 @@ module _ (method : PlatformMethod) (args : List Cell) (p : Packages) (m : Memory
           subst (λ a. AllDue (IsFit p) (nonatomic_store m a e.start words) m) (sym is.array)
           (store_due (IsFit p) r (λ i x v element. inr element) words e.start m kind (omega (arith, w, long))
           (numbers_fit m r e.start words (omega (arith, w, long)) (array_of_bytes (facts m.heap.now r).kind kind)));
+      behind = λ q n e bytes is long r count s words event state kept all. numbers_fit _ s.array s.start words
+          (let w = state.within in let header = ap (λ f. f.length) (header_behind e bytes r count s state) in omega (arith, w, all, header))
+          (λ references. numbers_no_array (facts m.heap.now r).kind state.kind (ap (λ f. f.kind) (sym (header_behind e bytes r count s state)) ∙ references));
       transient = transient_fits p m known sound steady;
+      engine = λ e has there space. engine_fits p m known sound steady e has there;
     };
     aid = λ init own bytes is there long. run_in p m own 0 (cells_of_aid bytes) (facts m.heap.now own).event refl
         (let l = there.cells in let n = nine bytes in omega (arith, l, n))
@@ -136,7 +159,7 @@ module _ (method : PlatformMethod) (args : List Cell) (p : Packages) (m : Memory
       fixed = λ k le. inr (environment.now.there k (omega (arith, le, environment.now.long)));
       aid = or_null_refers p m sound;
       null = inl refl;
-      new = λ o r new. inr (new_there o.event o m r new);
+      made = record { new = λ o v r new. inr (new_there o.event o v r new); stays = λ q i x v r lives. reference_stays v.heap.now q i x r lives };
     }
 
     abbrev call : NativeProgram

@@ -1,4 +1,4 @@
--- What referred before a change refers behind it.
+-- What referred before a change refers after it.
 use Rattle.std.proofs.Common.{ℕ, false, inl, inr, ◌≡◌, ◌∙◌}
 use Rattle.jc_transient.specs.declared.cell.ClearEvent.{ClearEvent}
 use Rattle.jc_heap.specs.declared.object.Kind.{Kind}

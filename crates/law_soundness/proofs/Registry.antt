@@ -16,7 +16,7 @@ use Rattle.jc_card_checks.specs.Sound.{IsRegistered, aid_in, aid_of_entry, entry
 use Rattle.law_soundness.specs.State.{IsOwnAid}
 use Rattle.law_soundness.proofs.Kept.{Carries, IsSoundBut, object_kept, records_kept, registered_kept}
 
--- an entry that the registry may have behind the others
+-- an entry that the registry may have after the others
 pub record IsEntry (p : Packages) (h : HeapState) (own : ℕ) (entry : AppletEntry) : Type 0 where
   pub few : h.counts.1 < most_applets
   pub registry : length h.applets ≡ registry_length

@@ -63,7 +63,7 @@ module _ (p : Packages) (m : MemoryState) (known : KnowsClasses p) (sound : IsSo
         subst (λ k. fits_class p k (facts m.heap.now r).class (facts m.heap.now r).length ≡ true) instance fit.class in
         let one = and_parts (is_class p (facts m.heap.now r).class) _ whole in
         let two = and_parts _ ((facts m.heap.now r).length == size_of p (facts m.heap.now r).class) one.1 in
-        eqb-true (facts m.heap.now r).length (size_of p (facts m.heap.now r).class) two.1 ∙ ap (size_of p) is_aid_class ∙ known.platform.exact Aid refl
+        eqb-true (facts m.heap.now r).length (size_of p (facts m.heap.now r).class) two.1 ∙ ap (size_of p) is_aid_class ∙ known.platform.exact Aid (known.platform.needed Aid refl)
 
     words_are : words_at m r 0 9 ≡ cells m.heap.now r
     words_are =

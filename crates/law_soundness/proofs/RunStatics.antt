@@ -100,7 +100,7 @@ module _ (h : HeapState) (number k : ℕ) where
       }
 
 module _ (p : Packages) (m : MemoryState) (sound : IsSoundMemory p m) where
-  -- a word fits where it is a reference, or behind the image's references
+  -- a word fits where it is a reference, or after the image's references
   word_fits : (number k v : ℕ) (w : ImageWord) → IsWord m.heap.now number k w → (k < (statics_at p number).1 → is_reference m.heap.now v ≡ true)
       → FitsStatic p m.heap.now w.owner w.offset v
   word_fits number k v w is fits = record {
@@ -119,7 +119,7 @@ module _ (p : Packages) (m : MemoryState) (sound : IsSoundMemory p m) where
         ];
   }
 
-  -- behind the references
+  -- after the references
   past : (number k : ℕ) (w : ImageWord) → IsWord m.heap.now number k w → (statics_at p number).1 ≤ k → (x : ℕ) → FitsStatic p m.heap.now w.owner w.offset x
   past number k w is le x = word_fits number k x w is (λ lt. absurd (omega (arith, le, lt)))
 

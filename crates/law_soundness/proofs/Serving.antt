@@ -157,7 +157,7 @@ module _ (p : Packages) (m : MemoryState) (s : IsSoundMemory p m) where
 
 -- ---- what fits leaves
 
--- a memory that stands behind another: sound, and no applet is gone; an installation that is not open stays so
+-- a memory that stands after another: sound, and no applet is gone; an installation that is not open stays so
 pub record StandsBehind (p : Packages) (m n : MemoryState) : Type 0 where
   pub sound : IsSoundMemory p n
   pub environment : HasEnvironment p n

@@ -64,7 +64,7 @@ module _ (p : Packages) (m : MemoryState) (known : KnowsClasses p) (sound : IsSo
   fits_for BooleanArray n none = refl
   fits_for ByteArray n none = refl
   fits_for ShortArray n none = refl
-  fits_for ReferenceArray n none = (and_parts (is_class p (class_word p.platform Object)) _ (known.platform.own Object refl)).0
+  fits_for ReferenceArray n none = (and_parts (is_class p (class_word p.platform Object)) _ (known.platform.own Object (known.platform.needed Object refl) refl)).0
 
   wanted_fits : (o : NewObject) → IsTransientArray p m o → FitsNew p m o.kind o.class (owner_number o.owner) o.length
   wanted_fits o is = record {

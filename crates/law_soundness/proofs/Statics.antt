@@ -44,7 +44,7 @@ image_low zero at (w ∷ ws) = elim (cases_eq w 0) [
 low_of : (s at : ℕ) (ws : List ℕ) (b : ℕ) → image_from (records_from part_sizes s at ws) ≡ Some b → at + 1 ≤ b
 low_of s at ws b e = subst (λ o. IfSome o (λ n. at + 1 ≤ n)) e (image_low s at ws)
 
--- a word behind its begin doesn't tell it
+-- a word after its begin doesn't tell it
 image_set : (s at : ℕ) (ws : List ℕ) (q v b : ℕ) → image_from (records_from part_sizes s at ws) ≡ Some b → b ≤ at + q
     → image_from (records_from part_sizes s at (set ws q v)) ≡ Some b
 image_set s at [] q v b e le = e

@@ -24,7 +24,7 @@ use Rattle.jc_api_framework.proofs.Passing.{MethodPasses}
 use Rattle.law_isolation.proofs.Passing.{ArraysPass, FieldsPass, InstancesPass}
 use Rattle.law_soundness.specs.LocalEffects.{AreElsewhere, IsLocalEffect}
 
--- an effect is local, and behind it code runs for the same owner
+-- an effect is local, and after it code runs for the same owner
 abbrev pub IsStill : Effect → MemoryState → Type 0
 IsStill e m = IsLocalEffect e m × ((apply_effect e m).registers.active ≡ m.registers.active)
 
@@ -62,7 +62,9 @@ module _ (m : MemoryState) where
           let w = is.within in
           subst (λ a. AllDue IsStill (nonatomic_store m a e.start words) m) (sym is.array)
           (store_due IsStill r (λ i x v element. (tt, refl)) words e.start m kind (omega (arith, w, long)) (tt, refl));
+      behind = λ q n e bytes is long r count s words event state kept all. (tt, refl);
       transient = λ o is room r new. made_still o.event o;
+      engine = λ e has there space room array new. ((tt, refl), λ r other. ((tt, refl), ((tt, refl), ((tt, refl), tt))));
     };
     aid = λ init own bytes is long fine. run_still (facts m.heap.now own).event own 0 (cells_of_aid bytes);
     buffer = λ r words is fits. run_still (facts m.heap.now r).event r 5 words;

@@ -36,8 +36,8 @@ pub data IsDispatched (p : Packages) {A : Type 0} (R : A → MemoryState → Typ
       → d ≡ bind (run_of budget lent p s m) m more
       → ((end : ℕ × Outcome) (n : MemoryState) → Completes (run_of budget lent p s m) m end n → IsDispatched p R (more end n) n) → IsDispatched p R d m
 
--- behind these effects of what is done, the next one is of a step of code: a run began behind the first of them, with frames from where
--- a method may begin, took so many steps, and is within the next one
+-- after these effects of what is done, the next one is of a step of code: a run began after the first of them, with frames from where
+-- a method may begin, took this many steps, and is within the next one
 pub record IsOfRun (p : Packages) (m : MemoryState) (es : List Effect) (e : Effect) : Type 0 where
   pub before : List Effect
   pub ran : List Effect

@@ -69,7 +69,7 @@ AreStatics p h [] = Unit {0}
 AreStatics p h ((Static r j, v) ∷ more) = FitsStatic p h r j v × AreStatics p h more
 AreStatics p h (other ∷ more) = ⊥
 
--- a persistent instance of OwnerPIN, or of a class below it, behind the runtime environment's own objects
+-- a persistent instance of OwnerPIN, or of a class below it, after the runtime environment's own objects
 pub record IsPinObject (p : Packages) (m : MemoryState) (r : ℕ) : Type 0 where
   pub there : is_object_address m.heap.now r ≡ true
   pub behind : last_own m < r

@@ -33,7 +33,7 @@ IsLocalEffect (HeapMove Abort) m = ⊥
 IsLocalEffect (SetRegisters registers) m = registers.installation ≡ m.registers.installation
 IsLocalEffect e m = Unit {0}
 
--- behind such an effect the memory stands as between two instructions, where it stood so, owners that were known are known, and what
+-- after such an effect the memory stands as between two instructions, where it stood so, owners that were known are known, and what
 -- referred refers
 pub record LocalEffectsStay : Type 0 where
   pub steady : (e : Effect) (m : MemoryState) → IsLocalEffect e m → (m.heap.begun ≡ false → m.heap.now ≡ m.heap.durable) → IsSteady m

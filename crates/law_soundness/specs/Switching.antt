@@ -41,7 +41,7 @@ pub record IsSwitchingCall (lent : List ℕ) (p : Packages) (s : Frames) (m : Me
   pub decided : firewall_decision access p m receiver ≡ Switch context
   pub runs_for : owner ≡ owner_of receiver.owner
 
--- it calls a method of the platform which answers, behind some effects, that a server is to be asked
+-- it calls a method of the platform which answers, after some effects, that a server is to be asked
 pub record AsksServer (lent : List ℕ) (p : Packages) (s : Frames) (m : MemoryState) (owner : Owner) (n : MemoryState) : Type 0 where
   pub call : MethodCall
   pub called : IsCalled lent p s m call

@@ -59,7 +59,7 @@ pub fn local_effects_keep_machines_between_instructions()
 
 /// Whatever a method of the platform does in a sound memory, unless it ends the run the memory then stands as
 /// between two instructions, with the same owner active, and what is handed over or asked is there: but for an abort,
-/// behind which references to what it took away are to become null, each object that was there still is.
+/// after which references to what it took away are to become null, each object that was there still is.
 pub fn platform_methods_end_between_instructions()
     ensures { NativesLeave }
 {}

@@ -114,7 +114,7 @@ module _ (t : Tokens) (card : CardState) (bytes : List ℕ) (es : List Effect) (
       ∙ append_assoc r.before (r.ran ++ r.during) (e ∷ [])
       ∙ ap (λ (l : List Effect). r.before ++ l) (append_assoc r.ran r.during (e ∷ []))
 
-  -- with what is due of all of them, what is due behind those of the steps that were taken
+  -- with what is due of all of them, what is due after those of the steps that were taken
   due_here : (P : Effect → MemoryState → Type 0) → AllEffectsDue P (es ++ (e ∷ [])) card.memory
       → AllEffectsDue P r.before card.memory × AllEffectsDue P (r.during ++ (e ∷ [])) now
   due_here P all =

@@ -1,4 +1,4 @@
--- Behind a transaction's effects the durable heap is the one found, but for tries and elements of arrays of bytes.
+-- After a transaction's effects the durable heap is the one found, but for tries and elements of arrays of bytes.
 use Rattle.std.proofs.Common.{[], ◌≡◌, ℕ, ◌+◌, ◌<◌, ◌≤◌, List, ◌∷◌, ◌++◌, length, true, false, None, inl, inr, refl, sym, ◌∙◌, subst, ap, arith}
 use Rattle.std.specs.Prelude.{slice_index}
 use Rattle.std.proofs.lemmas.Bool.{and_parts, cases_lt}
@@ -144,7 +144,7 @@ module _ (t : Tokens) (card : CardState) (own : IsOwnCard t card) (bytes : List 
     by (inr adds) = absurd (due_after AddsPackage earlier (HeapMove Begin ∷ during) card.memory
         (due_begun AddsPackage (exchange bytes card) card.memory effects adds within.begins)).0
 
-    -- behind the beginning of a transaction of a command, and effects within it, the durable heap is the one found, but for tries and elements of
+    -- after the beginning of a transaction of a command, and effects within it, the durable heap is the one found, but for tries and elements of
     -- arrays of bytes
     pub is_found : IsAsFound card.packages during opened (memory_at card earlier).heap.now (memory_at card effects).heap.durable
     is_found = subst (λ (m : MemoryState). IsAsFound card.packages during opened (memory_at card earlier).heap.now m.heap.durable)

@@ -92,7 +92,7 @@ run_faults (request ∷ requests) (reply ∷ replies) s last none h =
 run_faults [] (reply ∷ replies) s last none h = absurd h
 run_faults (request ∷ requests) [] s last none h = absurd h
 
--- ---- behind a fuse that is burnt out no write is refused
+-- ---- after a fuse that is burnt out no write is refused
 
 abbrev StaysUnrefused : List Request → List Reply → PowerState → Type 0
 StaysUnrefused requests replies last = (s : PowerState) → ArmNone requests → SessionRun s requests replies last → (refusals_of s).fuse ≡ None

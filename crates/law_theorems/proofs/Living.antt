@@ -19,7 +19,7 @@ use Rattle.law_theorems.proofs.Renewed.{added_end}
 use Rattle.law_theorems.proofs.Served.{AddsPackage, IsFine, commands_fine, sound_behind}
 use Rattle.law_atomicity.proofs.Torn.{due_begun}
 
--- nothing stands behind the heap's end, and transient cells name what is there
+-- nothing stands after the heap's end, and transient cells name what is there
 abbrev IsLiving : MemoryState → Type 0
 IsLiving m = HasEnd m.heap.now × TransientCells m.heap.now m.ram
 

@@ -140,7 +140,7 @@ module _ (p : Packages) (m : MemoryState) (s : IsSoundMemory p m) where
   pub word_is : (q i : ℕ) → is_persistent_instance (facts m.heap.now q) ≡ true → word_at m q i ≡ slice_index (cells m.heap.now q) i
   word_is q i kept = ap (λ event. word_in event m q i) (event_none (facts m.heap.now q) kept)
 
-  -- a PIN with a maximum has an array of so many bytes
+  -- a PIN with a maximum has an array of this many bytes
   pub is_value : (q : ℕ) → IsPinObject p m q → 0 < (pin_of m q).maximum
       → is_byte_array (facts m.heap.now (pin_of m q).value) (pin_of m q).maximum ≡ true
   is_value q object some =

@@ -70,7 +70,7 @@ if_same : {A : Type 0} (b : Bool) (n : A) → (if b then n else n) ≡ n
 if_same true n = refl
 if_same false n = refl
 
--- ---- the durable heap behind one effect within
+-- ---- the durable heap after one effect within
 
 -- it stays as it is, or the counter of a PIN or an element of an array of bytes is set for good
 pub data IsDurableSet (p : Packages) (e : Effect) (m : MemoryState) : Type 0 where
@@ -172,7 +172,7 @@ module _ (p : Packages) (r i : ℕ) where
     ]
   ]
 
-  -- behind one effect: the value that it sets, unless an abort takes back what is written there
+  -- after one effect: the value that it sets, unless an abort takes back what is written there
   set_if : (back g : Bool) (d : HeapState) (q j v : ℕ) → HasCell d → ((q ≡ r) → (j ≡ i) → back ≡ g)
       → value (if back then d else set_cell d q j v) ≡ (if g then value d else (if (q == r) && (j == i) then v else value d))
   set_if back g d q j v there same = elim (which_cell q j) [

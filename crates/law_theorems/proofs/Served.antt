@@ -38,7 +38,7 @@ commands_fine t card own bytes are =
     (λ content. inl (creates_good commands_are_sound t card own known content).due) bytes
     (λ c is. inl (dispatched_good commands_are_sound t card own known bytes c (command_fits bytes are c is)).due)
 
--- behind effects that are served the memory is sound
+-- after effects that are served the memory is sound
 pub sound_behind : (p : Packages) (es : List Effect) (m : MemoryState) → AllEffectsDue (IsServed p) es m → IsSoundMemory p m
     → IsSoundMemory p (apply_effects es m)
 sound_behind p es m served sound = due_all (IsServed p) (IsSoundMemory p) (λ e v due s. serving_keeps.sound p e v due s) es m served sound

@@ -52,7 +52,7 @@ module _ (v : HeapView) (h : HeapState) (places : List ℕ) (fresh w : ℕ) wher
     capacity = (if b then v.durable else h).capacity;
   }) begun
 
-  -- a word that a change does not name goes back behind it only where it did before
+  -- a word that a change does not name goes back after it only where it did before
   away_changed : v.begun ≡ true → goes_back v w ≡ false → IsNone w places → goes_back (heap_after_change v h places fresh) w ≡ false
   away_changed begun before none = false_from_ne_true _ (λ back. by (keeps_old_values.only (keeping v) places w
       (sym (ap (λ (k : Keeping). journal_goes_back k w) (keeping_changed begun)) ∙ back)))

@@ -82,7 +82,7 @@ module _ (t : Tokens) (card : CardState) (comes : ComesTo t (Up card)) where
       → AllEffectsDue KeepsTransactionOrder es card.memory
   orderly bytes es are begins = commands_orderly t card own bytes es are begins
 
-  -- what stands durable behind effects of a command
+  -- what stands durable after effects of a command
   pub left_of : (bytes : List ℕ) (es : List Effect) (left : HeapState) → AreBytes bytes → HasTracePrefix (exchange bytes card) card.memory es
       → left ≡ (memory_at card es).heap.durable → IsLeft card es left
   left_of bytes es left are begins is = by (behind es card.memory (orderly bytes es are begins) settled)

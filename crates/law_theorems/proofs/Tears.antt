@@ -83,7 +83,7 @@ module _ (t : Tokens) (bytes : List ℕ) (k : ℕ) where
               omega (arith, at, sum);
         }
 
-    -- the card is down behind it
+    -- the card is down after it
     answered : (reply : Reply) (next : PowerState) → AnswersCommand (Up card) bytes reply next → (durable_state next).down ≡ true
         → (durable_state next).passed < 18446744073709551615 → IsNamed t bytes k (durable_state next).refusals.faults (durable_state next).durable
     answered Down (Off b off) answers down small = cut_so b off answers small
@@ -94,7 +94,7 @@ module _ (t : Tokens) (bytes : List ℕ) (k : ℕ) where
     answered Ready next answers down small = absurd answers
     answered (Armed n) next answers down small = absurd answers
 
-  -- ---- an armed state, and the command behind it
+  -- ---- an armed state, and the command after it
   abbrev IsTold : PowerState → Type 0
   IsTold last = ((budget : ℕ) × (kept : KeptState) × ComesTo t (Off budget kept))
       ⊎ IsNamed t bytes k (durable_state last).refusals.faults (durable_state last).durable

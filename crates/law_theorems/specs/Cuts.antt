@@ -19,7 +19,7 @@ use Rattle.law_images.specs.Loaded.{AreBytes}
 use Rattle.law_images.specs.Tries.{SetsAnew, is_owner_pin, tries_in}
 
 -- a command is cut when exactly k of its writes have passed: it began with these effects, the refused write is one of theirs, and this is the
--- durable heap behind those of their moves that are complete by then
+-- durable heap after those of their moves that are complete by then
 pub record IsHeapCutAt (card : CardState) (bytes : List ℕ) (k : ℕ) (h : HeapState) : Type 0 where
   pub effects : List Effect
   pub begins : HasTracePrefix (exchange bytes card) card.memory effects
@@ -36,7 +36,7 @@ abbrev pub SetNoTries : ℕ → List Effect → MemoryState → Type 0
 SetNoTries q [] m = Unit {0}
 SetNoTries q (e ∷ es) m = (SetsTries q e m → ⊥) × SetNoTries q es (apply_effect e m)
 
--- it is what is durable behind these effects and some first ones of the others
+-- it is what is durable after these effects and some first ones of the others
 abbrev pub IsBehind : CardState → List Effect → List Effect → HeapState → Type 0
 IsBehind card before after h = (front rest : List Effect) × (after ≡ front ++ rest) × (h ≡ (memory_at card (before ++ front)).heap.durable)
 
@@ -65,7 +65,7 @@ pub record KeepWhatWasDone : Type 0 where
       → writes_of_moves (moves_of (before ++ (HeapMove (WriteNonAtomic (counter q) v) ∷ []))) card.memory.heap ≤ k
       → is_owner_pin card.packages (memory_at card before).heap.durable q ≡ true → (IsChanged (memory_at card before) q → ⊥)
       → SetNoTries q after (memory_at card (before ++ (HeapMove (WriteNonAtomic (counter q) v) ∷ []))) → tries_in h q ≡ v
-  -- and behind effects of a session's command that is the heap as it is, where no transaction is open; else what its beginning found, but
+  -- and after effects of a session's command that is the heap as it is, where no transaction is open; else what its beginning found, but
   -- for what was set for good since and stays
   pub left : (t : Tokens) (card : CardState) (bytes : List ℕ) (effects : List Effect) (h : HeapState) → ComesTo t (Up card) → AreBytes bytes
       → HasTracePrefix (exchange bytes card) card.memory effects → h ≡ (memory_at card effects).heap.durable → IsLeft card effects h

@@ -11,7 +11,7 @@ use Rattle.law_theorems.specs.DownRuns.{ArmNone, RunWithDown}
 abbrev pub refusals_of : PowerState → Refusals
 refusals_of s = (durable_state s).refusals
 
--- one of these requests is cut when exactly so many writes have passed, which burns the fuse out; no write is refused before it, and none behind it
+-- one of these requests is cut when exactly this many writes have passed, which burns the fuse out; no write is refused before it, and none after it
 pub record IsCutAt (count : ℕ) (requests : List Request) (replies : List Reply) (s last : PowerState) : Type 0 where
   pub run : RunWithDown requests replies s last
   pub none : refusals_of run.mid ≡ refusals_of s
@@ -23,9 +23,9 @@ pub record IsCutAt (count : ℕ) (requests : List Request) (replies : List Reply
 abbrev pub IsSpared : ℕ → PowerState → PowerState → Type 0
 IsSpared count s last = (refusals_of last ≡ with_fuse_at count (refusals_of s)) × ((durable_state last).passed ≤ count)
 
--- Behind `stop K`, while no request arms the fuse again and the store below refuses nothing by itself, over a store that lets no more writes
+-- After `stop K`, while no request arms the fuse again and the store below refuses nothing by itself, over a store that lets no more writes
 -- pass than its fuse: no write is refused, at most K more pass, and the fuse stands K writes ahead of those that had passed; or exactly one is
--- refused, behind exactly K more. Resets in between change nothing of that
+-- refused, after exactly K more. Resets in between change nothing of that
 abbrev pub FusesCut : Type 0
 FusesCut = (k : ℕ) (requests : List Request) (replies : List Reply) (s last : PowerState) → SessionRun (armed k s) requests replies last → ArmNone requests
     → (refusals_of s).faults < 18446744073709551615 → (refusals_of last).faults ≡ (refusals_of s).faults

@@ -20,14 +20,14 @@ StaysApart lent p s m (HeapMove Abort) n = ⊥
 StaysApart lent p s m (SetRegisters g) n = Cause lent p s m g n → g.active ≡ n.registers.active
 StaysApart lent p s m e n = Unit {0}
 
--- so many steps in a row, none of which calls a method in another context, lead from frames and a memory to others
+-- this many steps in a row, none of which calls a method in another context, lead from frames and a memory to others
 abbrev pub StepsApart : ℕ → List ℕ → Packages → Frames → MemoryState → Frames → MemoryState → Type 0
 StepsApart zero lent p s m u n = (u ≡ s) × (n ≡ m)
 StepsApart (suc k) lent p s m u n =
     (es : List Effect) × (t : Frames) × HasTrace (machine_step lent p s m) m es (GoesOn t) × AllEffectsDue (StaysApart lent p s m) es m × Stays lent p s m
     × StepsApart k lent p t (apply_effects es m) u n
 
--- Behind these effects of a command of a session an object is outside the reach of the code that runs, and so many steps in a row, from
+-- After these effects of a command of a session an object is outside the reach of the code that runs, and this many steps in a row, from
 -- whatever frames to others, are so. The load whose end adds a package runs no code
 pub record RunsApart (t : Tokens) (card : CardState) (bytes : List ℕ) (es : List Effect) (q k : ℕ) (lent : List ℕ) (s u : Frames) (n : MemoryState) : Type 0 where
   pub comes : ComesWithin t card bytes es
@@ -35,7 +35,7 @@ pub record RunsApart (t : Tokens) (card : CardState) (bytes : List ℕ) (es : Li
   pub outside : IsOutside card.packages (memory_at card es) q
   pub steps : StepsApart k lent card.packages s (memory_at card es) u n
 
--- it keeps its header, its cells and its flag in all of them, and in the step behind them as far as that is so; and it stays outside reach
+-- it keeps its header, its cells and its flag in all of them, and in the step after them as far as that is so; and it stays outside reach
 pub record StayApart : Type 0 where
   pub ran : (t : Tokens) (card : CardState) (bytes : List ℕ) (es : List Effect) (q k : ℕ) (lent : List ℕ) (s u : Frames) (n : MemoryState)
       → RunsApart t card bytes es q k lent s u n → KeepsCells q (memory_at card es) n × IsOutside card.packages n q

@@ -14,7 +14,7 @@ use Rattle.law_soundness.specs.References.{EndsLiving, HandsObjects, MayBegin, N
 use Rattle.law_soundness.specs.State.{TransientCells}
 use Rattle.law_images.specs.Comes.{AddNone, ComesWithin, memory_at}
 
--- so many steps of code, from where a method may begin, lead, behind these effects of a command of a session, to these frames and this memory
+-- this many steps of code, from where a method may begin, lead, after these effects of a command of a session, to these frames and this memory
 pub record RunsFrom (t : Tokens) (card : CardState) (bytes : List ℕ) (es : List Effect) (k : ℕ) (lent : List ℕ) (s u : Frames) (n : MemoryState) : Type 0 where
   pub comes : ComesWithin t card bytes es
   pub same : AddNone es
@@ -22,7 +22,7 @@ pub record RunsFrom (t : Tokens) (card : CardState) (bytes : List ℕ) (es : Lis
   pub steps : RunSteps k lent card.packages s (memory_at card es) u n
 
 pub record ReferencesNameObjects : Type 0 where
-  -- at each moment of each command, and so behind an abort, of each transient cell, and each element of a transient array of references is
+  -- at each moment of each command, and so after an abort, of each transient cell, and each element of a transient array of references is
   -- such a reference or the zero that a reset leaves
   pub transients : (t : Tokens) (card : CardState) (bytes : List ℕ) (es : List Effect) → ComesWithin t card bytes es
       → TransientCells (memory_at card es).heap.now (memory_at card es).ram

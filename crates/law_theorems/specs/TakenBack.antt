@@ -28,6 +28,6 @@ pub record IsTakenBack : Type 0 where
   pub returned : (t : Tokens) (card : CardState) (bytes : List ℕ) (es : List Effect) (new : MemoryState) → ComesWithin t card bytes es
       → (memory_at card es).heap.begun ≡ true → Completes (close (memory_at card es)) (memory_at card es) tt new
       → IsWhatWasFound card es new.heap.now × (new.heap.begun ≡ false)
-  -- behind a command none is open
+  -- after a command none is open
   pub ended : (t : Tokens) (card next : CardState) (bytes response : List ℕ) → ComesTo t (Up card) → AreBytes bytes
       → AnswersCommand (Up card) bytes (Response response) (Up next) → IsResting next.memory.heap

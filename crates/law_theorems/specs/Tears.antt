@@ -27,8 +27,8 @@ pub record ReadsAsCut (script : List ℕ) (k : ℕ) (bytes : List ℕ) : Type 0 
   pub arms : form_of stop ≡ Asks (ArmFuse k)
   pub asks : form_of line ≡ Asks (Command bytes)
 
--- the lines before the command came to a card, and this heap is the one behind those of its changes that are complete behind so many writes:
--- behind k, where the store below refused none by itself
+-- the lines before the command came to a card, and this heap is the one after those of its changes that are complete after this many writes:
+-- after k, where the store below refused none by itself
 pub record IsNamed (t : Tokens) (bytes : List ℕ) (k faults : ℕ) (h : HeapState) : Type 0 where
   pub card : CardState
   pub comes : ComesTo t (Up card)

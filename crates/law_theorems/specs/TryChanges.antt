@@ -14,7 +14,7 @@ Renews q (HeapMove (WriteNonAtomic place v)) m = place ≡ counter q
 Renews q (HeapMove Abort) m = Unit {0}
 Renews q e m = SetsAnew q e m
 
--- behind effects of a command, one that does nothing of this leaves the tries of an OwnerPIN as they are
+-- after effects of a command, one that does nothing of this leaves the tries of an OwnerPIN as they are
 abbrev pub TriesChangeByPinCalls : Type 0
 TriesChangeByPinCalls = (t : Tokens) (card : CardState) (bytes : List ℕ) (es : List Effect) (e : Effect) (q : ℕ) → ComesWithin t card bytes (es ++ (e ∷ []))
     → is_owner_pin card.packages (memory_at card es).heap.now q ≡ true → (Renews q e (memory_at card es) → ⊥)

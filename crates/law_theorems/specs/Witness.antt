@@ -45,7 +45,7 @@ begin_load_bytes = 0x80 ∷ 0xB0 ∷ 0 ∷ 0 ∷ []
 abbrev pub select_bytes : List ℕ
 select_bytes = 0 ∷ 0xA4 ∷ 4 ∷ 0 ∷ 1 ∷ 1 ∷ []
 
--- With any budget and any table that reads sessions come to a new image without power, and to the card behind its first reset
+-- With any budget and any table that reads sessions come to a new image without power, and to the card after its first reset
 pub record HaveWitness (budget n capacity : ℕ) (text : List ℕ) (t : Tokens) : Type 0 where
   pub off : ComesTo t (Off budget (new_kept n capacity text t))
   pub card : CardState
@@ -65,7 +65,7 @@ pub record HaveWitness (budget n capacity : ℕ) (text : List ℕ) (t : Tokens) 
   -- of `references_name_what_is_there`: within the first code begins that was lent, and a step ends its run
   pub begins : RunsFrom t card begin_load_bytes [] 0 [] (bare_frames 0 0) (bare_frames 0 0) card.memory
   pub step : HasTrace (machine_step [] card.packages (bare_frames 0 0) card.memory) card.memory [] (Ends Fault)
-  -- of `fuses_cut_where_they_were_set`: a reset is cut behind `stop 0`
+  -- of `fuses_cut_where_they_were_set`: a reset is cut after `stop 0`
   pub cut : SessionRun (new_armed budget n capacity text t) (Reset ∷ []) (Down ∷ []) (new_blown budget n capacity text t)
   pub none : ArmNone (Reset ∷ [])
   pub spared : (refusals_of (new_blown budget n capacity text t)).faults ≡ 0

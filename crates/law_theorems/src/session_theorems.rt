@@ -35,7 +35,7 @@ pub fn sessions_take_back_what_is_not_committed()
 {}
 
 /// A cut leaves the changes before it: where the power is cut in a command when exactly k of its writes have passed, the
-/// next reset that completes, behind any number of cut ones, finds the heap behind those changes that are complete by
+/// next reset that completes, after any number of cut ones, finds the heap after those changes that are complete by
 /// then, and no other. With a fuse of K writes k is K. So what was committed before the cut stays; and so does a try of an
 /// OwnerPIN that was counted, until something else sets its tries, unless the open transaction had changed the PIN before.
 pub fn a_cut_leaves_the_changes_before_it()
@@ -44,7 +44,7 @@ pub fn a_cut_leaves_the_changes_before_it()
 {}
 
 /// What `jcard tear` tells of a cut is what `a_cut_leaves_the_changes_before_it` names: over an image of the product's own,
-/// the heap behind the cut after k writes is the one behind those changes of the command that are complete by then.
+/// the heap after the cut after k writes is the one after those changes of the command that are complete by then.
 pub fn cuts_that_are_told_are_those_that_the_law_names()
     ensures { CutsAreNamed }
 {}
@@ -55,7 +55,7 @@ pub fn sessions_change_tries_by_pin_calls_alone()
     ensures { TriesChangeByPinCalls }
 {}
 
-/// Behind `stop K`, until the fuse is armed again, and while the store below refuses no write by itself, no write is
+/// After `stop K`, until the fuse is armed again, and while the store below refuses no write by itself, no write is
 /// refused, at most K more pass, and the fuse stands K writes ahead of those that had passed; or exactly one is, when K
 /// more have passed, and burns the fuse out. A reset in between changes nothing of that, and its own writes count. That
 /// the store lets no more writes pass than its fuse does is a premise that each store meets (`WordStore::passed_writes`),
@@ -94,7 +94,7 @@ pub fn images_power_up_again()
 {}
 
 /// The premises of these laws can be met, each by what is named beside it, over any table that reads: by a new image, the card
-/// behind its first reset, also a cut one, a command of it, and code that begins within the command; by a session over each
+/// after its first reset, also a cut one, a command of it, and code that begins within the command; by a session over each
 /// store of a new image; and each session over a store that commands left is one of which they tell.
 pub fn premises_can_be_met()
     ensures witnesses { HaveWitnesses }

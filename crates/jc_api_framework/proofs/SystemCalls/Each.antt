@@ -97,4 +97,4 @@ module _ (P : Effect → MemoryState → Type 0) (L : MemoryState → ℕ → Ty
   unfolding jc_system_make_transient_array
   transient_due method pass kind none = called_some P L m (short_argument args 0) _ (λ count is. called_some P L m (short_argument args 1) _
       (λ event there. called_ok P L m (requested_array kind count event p m) _ (plain_requested kind count event p m) (λ o fine.
-      called_unless P L m (creation_refusal m o) _ (λ room r new. (pass.calls.transient o (requested_is kind count event p m o none fine) room r new, refers.new o r new)))))
+      called_unless P L m (creation_refusal m o) _ (λ room r new. (pass.calls.transient o (requested_is kind count event p m o none fine) room r new, refers.made.new o m r new)))))

@@ -3,11 +3,11 @@ use Rattle.std.specs.Prelude.{ℕ, ◌+◌, ◌*◌, ◌≡◌, ◌≤◌, ◌<�
 use Rattle.std.specs.List.{range_with_len}
 use Rattle.jc_registry.specs.Aids.{aid_of_cells}
 
--- so many bytes are an AID
+-- this many bytes are an AID
 abbrev pub is_aid_length : ℕ → Bool
 is_aid_length n = nat_le 5 n && nat_le n 16
 
--- two bytes of an AID, the first one high, with zeros behind its last
+-- two bytes of an AID, the first one high, with zeros after its last
 abbrev pub aid_cell : List ℕ → ℕ → ℕ
 aid_cell aid k = 256 * slice_index aid (2 * k) + slice_index aid (2 * k + 1)
 

@@ -31,6 +31,6 @@ pub record IsBuffer (m : MemoryState) (r : ℕ) : Type 0 where
   pub bytes : (facts m.heap.now r).kind ≡ ByteArray
   pub long : (facts m.heap.now r).length ≡ buffer_size
 
--- the data of a command: as many bytes behind the fifth one as this says. One of five bytes or fewer has none
+-- the data of a command: as many bytes after the fifth one as this says. One of five bytes or fewer has none
 unfoldable pub data_of : List ℕ → List ℕ
 data_of command = if nat_le (length command) 5 then [] else slice_range command 5 (min (5 + slice_index command 4) (length command))

@@ -25,12 +25,12 @@ apdu_get_incoming_length m phase = while_received phase (cast_signed w16 (length
 abbrev pub apdu_get_offset_cdata : ApduPhase → NativeProgram
 apdu_get_offset_cdata phase = while_received phase (pos 5)
 
--- how far the answer has come, when so many bytes were sent and so many are left: STATE_OUTGOING_LENGTH_KNOWN,
+-- how far the answer has come, when this many bytes were sent and this many are left: STATE_OUTGOING_LENGTH_KNOWN,
 -- STATE_FULL_OUTGOING, STATE_PARTIAL_OUTGOING
 abbrev pub state_of_answer : ℕ → ℕ → ℤ
 state_of_answer sent left = if sent == 0 then pos 4 else (if left == 0 then pos 6 else pos 5)
 
--- how far the command has come, when so many bytes were sent: STATE_INITIAL, STATE_FULL_INCOMING, STATE_OUTGOING, or
+-- how far the command has come, when this many bytes were sent: STATE_INITIAL, STATE_FULL_INCOMING, STATE_OUTGOING, or
 -- how far the answer has
 abbrev pub state_number : ApduPhase → ℕ → ℤ
 state_number Waiting sent = pos 0

@@ -67,11 +67,11 @@ is_inside Inside = true
 abbrev pub aid_cells : ℕ
 aid_cells = 9
 
--- the words of the entry that is added behind so many applets, and the number of applets
+-- the words of the entry that is added after this many applets, and the number of applets
 abbrev pub touched_by_entry : ℕ → List Touch
 touched_by_entry applets = touched_places (applet_places applets)
 
--- the words that are changed, where so many applets are there before: the heap's end, the new AID's cells, and those of the entry
+-- the words that are changed, where this many applets are there before: the heap's end, the new AID's cells, and those of the entry
 abbrev pub touched_by_registration : ℕ → List Touch
 touched_by_registration applets = HeapEnd ∷ (touched_new_cells aid_cells ++ touched_by_entry applets)
 

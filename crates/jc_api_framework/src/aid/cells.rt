@@ -2,14 +2,14 @@
 ghost use Rattle.std.specs.Prelude.{◌≡◌, ◌<◌, ◌≤◌, length, slice_index};
 ghost use Rattle.jc_api_framework.specs.Aid.Cells.{aid_cell, cells_of_aid, is_aid_length};
 
-/// Whether so many bytes are an AID.
+/// Whether this many bytes are an AID.
 pub fn is_aid_length(count: u16) -> bool
     ensures { result ≡ is_aid_length count }
 {
     5 <= count && count <= 16
 }
 
-// A byte, or zero behind the last one.
+// A byte, or zero after the last one.
 fn byte_at(aid: &[u8], i: usize) -> u16
     ensures { result ≡ slice_index aid.now i }
 {
@@ -19,7 +19,7 @@ fn byte_at(aid: &[u8], i: usize) -> u16
     }
 }
 
-// Two bytes of an AID, with zeros behind its last.
+// Two bytes of an AID, with zeros after its last.
 fn aid_cell(aid: &[u8], k: usize) -> u16
     requires { k < 8 }
     ensures { result ≡ aid_cell aid.now k }

@@ -28,7 +28,7 @@ pub fn buffer<S: WordStore>(memory: &Memory<S>) -> Result<Ref, CodeFault>
     }
 }
 
-/// The data of a command: as many bytes behind the fifth one as this says.
+/// The data of a command: as many bytes after the fifth one as this says.
 #[tactic(auto, unfolding(crate::specs::Apdu::Buffer::data_of))]
 pub(crate) fn data_of(command: &[u8]) -> &[u8]
     ensures data { result.now ≡ data_of command.entry.now }

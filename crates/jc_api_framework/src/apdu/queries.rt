@@ -47,7 +47,7 @@ pub(crate) fn apdu_get_offset_cdata<S: WordStore>(
     while_received(memory, DATA_OFFSET)
 }
 
-// How far the answer has come, when so many bytes were sent and so many are left.
+// How far the answer has come, when this many bytes were sent and this many are left.
 fn state_of_answer(sent: usize, left: u16) -> i16
     ensures { result ≡ state_of_answer sent left }
 {
@@ -60,7 +60,7 @@ fn state_of_answer(sent: usize, left: u16) -> i16
     }
 }
 
-// How far the command has come, when so many bytes were sent.
+// How far the command has come, when this many bytes were sent.
 fn state_number(phase: ApduPhase, sent: usize) -> i16
     ensures { result ≡ state_number phase sent }
 {

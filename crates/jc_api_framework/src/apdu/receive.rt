@@ -19,7 +19,7 @@ use jc_transient::Ref;
 use jc_words::WordStore;
 use jc_world::{NativeResult, StepExit};
 
-// Puts the data of a command into the buffer, behind the header.
+// Puts the data of a command into the buffer, after the header.
 fn put_data<S: WordStore>(
     memory: &mut Memory<S>,
     buffer: Ref,

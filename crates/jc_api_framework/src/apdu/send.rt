@@ -95,7 +95,7 @@ pub(crate) fn is_too_much<S: WordStore>(memory: &Memory<S>, left: u16, count: i1
     count > left || memory.sent().len() + count as usize > MOST_SENT as usize
 }
 
-// So many bytes of the buffer, from one on.
+// This many bytes of the buffer, from one on.
 fn buffer_piece(start: i16, count: i16) -> Result<Piece, FrameExit>
     ensures { result ≡ buffer_piece start count }
 {
@@ -109,7 +109,7 @@ fn buffer_piece(start: i16, count: i16) -> Result<Piece, FrameExit>
     Ok(Piece { start, count })
 }
 
-// What may be sent of the buffer, where so many bytes are left.
+// What may be sent of the buffer, where this many bytes are left.
 #[tactic(auto, unfolding(crate::specs::Apdu::piece_of))]
 fn piece_of<S: WordStore>(
     start: i16,
@@ -143,7 +143,7 @@ fn send_piece<S: WordStore>(piece: Piece, buffer: Ref, memory: &mut Memory<S>)
     memory.send(bytes);
 }
 
-// Sends bytes of the buffer, while so many are left.
+// Sends bytes of the buffer, while this many are left.
 fn send_in_phase<S: WordStore>(
     start: i16,
     count: i16,

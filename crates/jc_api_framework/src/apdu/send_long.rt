@@ -30,7 +30,7 @@ fn send_elements<S: WordStore>(elements: Stretch, memory: &mut Memory<S>)
     memory.send(bytes);
 }
 
-// Sends elements of an array of bytes, while so many are left.
+// Sends elements of an array of bytes, while this many are left.
 fn send_while_left<S: WordStore>(
     elements: Stretch,
     left: u16,

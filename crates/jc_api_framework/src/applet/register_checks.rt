@@ -71,7 +71,7 @@ fn is_inside(depth: Depth) -> bool
     }
 }
 
-// The words that a registration changes, where so many applets are there before: the heap's end, the cells of the new
+// The words that a registration changes, where this many applets are there before: the heap's end, the cells of the new
 // AID, and the entry of the registry with the number of applets.
 fn touched_by_registration(applets: u16) -> [Touch; 14]
     requires { applets < most_applets }

@@ -18,7 +18,7 @@ use jc_transient::Ref;
 use jc_words::{StoreDown, WordStore};
 use jc_world::{NativeResult, StepExit, Stretch};
 
-// Compares at most so many bytes of an array with the value, once a try was counted.
+// Compares at most this many bytes of an array with the value, once a try was counted.
 #[inline(never)]
 fn compare_most<const MOST: usize, S: WordStore>(
     memory: &mut Memory<S>,

@@ -66,7 +66,7 @@ pub(crate) fn owner_pin_init<S: WordStore>(
     set_up(memory, pin, limit, maximum)
 }
 
-// Gives a PIN at most so many bytes of an array as its value.
+// Gives a PIN at most this many bytes of an array as its value.
 #[inline(never)]
 fn set_most<const MOST: usize, S: WordStore>(
     memory: &mut Memory<S>,

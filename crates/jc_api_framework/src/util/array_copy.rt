@@ -15,7 +15,7 @@ use jc_world::{Stretch, put};
 // How many elements a transient array has at most.
 const MOST_TRANSIENT: usize = AREA_CELLS as usize;
 
-// Copies at most so many bytes.
+// Copies at most this many bytes.
 #[inline(never)]
 fn copy_most<const MOST: usize, S: WordStore>(
     memory: &mut Memory<S>,

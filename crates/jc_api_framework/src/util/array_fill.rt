@@ -11,7 +11,7 @@ use jc_memory::{MOST_COMMAND, Memory};
 use jc_words::WordStore;
 use jc_world::{Stretch, put};
 
-// Sets at most so many elements to a byte.
+// Sets at most this many elements to a byte.
 #[inline(never)]
 fn fill_most<const MOST: usize, S: WordStore>(
     memory: &mut Memory<S>,

@@ -12,6 +12,10 @@ import javacard.framework.OwnerPIN;
 import javacard.framework.SystemException;
 import javacard.framework.UserException;
 import javacard.framework.Util;
+import javacard.security.Checksum;
+import javacard.security.CryptoException;
+import javacard.security.MessageDigest;
+import javacard.security.RandomData;
 import javacardx.apdu.ExtendedLength;
 
 /** Calls what extended tables alone name. The instruction byte says which. */
@@ -96,6 +100,19 @@ public class Newer extends Applet implements MultiSelectable, AppletEvent, Exten
                 keep(buffer, apdu.setIncomingAndReceive(), (byte) first);
                 answer(apdu, Util.getShort(bytes, (short) 1), Util.getShort(bytes, (short) 3));
                 break;
+            case 11:
+                engine((byte) first);
+                MessageDigest digest = MessageDigest.getInstance((byte) first, false);
+                answer(apdu, digest.getAlgorithm(), digest.getLength());
+                break;
+            case 12:
+                Checksum checksum = Checksum.getInstance(Checksum.ALG_ISO3309_CRC16, false);
+                answer(apdu, checksum.doFinal(buffer, ISO7816.OFFSET_CDATA, apdu.setIncomingAndReceive(), bytes, (short) 0), Util.getShort(bytes, (short) 0));
+                break;
+            case 13:
+                RandomData random = RandomData.getInstance(RandomData.ALG_SECURE_RANDOM);
+                answer(apdu, random.getAlgorithm(), random.nextBytes(bytes, (short) 1, (short) 7));
+                break;
             default:
                 ISOException.throwIt(ISO7816.SW_INS_NOT_SUPPORTED);
         }
@@ -114,6 +131,15 @@ public class Newer extends Applet implements MultiSelectable, AppletEvent, Exten
         short end = Util.arrayCopyNonAtomic(buffer, ISO7816.OFFSET_CDATA, bytes, (short) 0, length);
         Util.arrayFillNonAtomic(bytes, end, (short) 2, value);
         JCSystem.abortTransaction();
+    }
+
+    /** The reason of what is thrown becomes the status word. */
+    private static void engine(byte algorithm) {
+        try {
+            MessageDigest.getInstance(algorithm, false);
+        } catch (CryptoException exception) {
+            ISOException.throwIt(exception.getReason());
+        }
     }
 
     /** The reason of an exception that has none. */

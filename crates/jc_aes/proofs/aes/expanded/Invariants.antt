@@ -1,7 +1,11 @@
 use Rattle.std.proofs.Common.{◌≡◌, ◌*◌, ◌/◌, length, take}
-use Rattle.jc_aes.specs.Aes.{schedule}
+use Rattle.jc_aes.specs.Aes.{schedule, word_before}
 use Rattle.jc_aes.specs.Places.{IsPlace}
 use Rattle.jc_aes.proofs.aes.expanded.Given as goal
 
 abbrev pub invariant-expansion : goal.invariant-expansion
-invariant-expansion l = (take (4 * l.i) l.words ≡ schedule l.key l.i) × IsPlace (length l.key / 4) l.i l.place
+invariant-expansion l = record {
+  scheduled : take (4 * l.i) l.words ≡ schedule l.key l.i;
+  place : IsPlace (length l.key / 4) l.i l.place;
+  before : l.before ≡ word_before (take (4 * l.i) l.words) l.i;
+}

@@ -8,7 +8,7 @@ joined_in_order-requires c = rw c.deref.ensures.value
     (omega (arith, c.in-Ok.ensures.placed.all, lent_length c.args.texts.now, lent_length c.in-Ok.ordered.items, c.requires))
 
 pub returns-in-Ok-clause-joined : goal.returns-in-Ok-clause-joined
-returns-in-Ok-clause-joined c = of_order (lent c.args.texts.now) (lent c.in-Ok.ordered.items) c.joined_in_order.result c.in-Ok.ensures.placed
+returns-in-Ok-clause-joined c = of_order c.args.depth (lent c.args.texts.now) (lent c.in-Ok.ordered.items) c.joined_in_order.result c.in-Ok.ensures.placed
     (rw c.deref.ensures.value at c.joined_in_order.ensures.joined)
 
 pub returns-in-Ok-clause-parts : goal.returns-in-Ok-clause-parts

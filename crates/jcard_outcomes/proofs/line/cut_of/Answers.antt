@@ -1,24 +1,11 @@
-use Rattle.std.proofs.Common.{◌∙◌, ◌∷◌, ◌++◌, ap, sym, None}
-use Rattle.jcard_outcomes.specs.Parts.{cut_tail, has}
-use Rattle.jcard_outcomes.proofs.Told.{cut_there, no_cut, no_parts}
+use Rattle.jcard_outcomes.proofs.Recovered.{cut_read, left_in_one_line, no_recovered}
 use Rattle.jcard_outcomes.proofs.line.cut_of.Goals as goal
 
 pub returns-in_default : goal.returns-in_default
-returns-in_default c = no_parts c.args.told.now c.in_default.ensures
+returns-in_default c = no_recovered c.args.told.now c.in_default.ensures
 
-pub returns-in_default-standing_of : goal.returns-in_default-standing_of
-returns-in_default-standing_of c = no_cut c.args.told.now c.in-Some.standing.now c.in-Some.answers.now c.in-Some.lost c.in-Some.ensures.0 c.in-Some.ensures.1
-    c.in_default-standing_of.ensures
+pub cut_with-requires : goal.cut_with-requires
+cut_with-requires c = left_in_one_line c.args.told.now c.in-Some.left.now c.in-Some.recoveries c.in-Some.ensures.0 c.requires
 
 pub returns : goal.returns
-returns c = (
-  cut_there c.args.told.now c.in-Some.standing.now (record {
-    standing = c.in-Some-standing_of.standing;
-    lost = c.in-Some.lost;
-    answers = c.in_ok-answers.answers;
-    recoveries = record { ways = 0; difference = None };
-  })
-      (c.in-Some.ensures.0 ∙ ap (λ l. c.in-Some.standing.now ++ 44 ∷ cut_tail c.in-Some.lost l) (sym c.in_ok-answers.ensures.items))
-      c.in-Some-standing_of.ensures.0 c.requires,
-  (ap (has 44) (sym c.in-Some-standing_of.ensures.0) ∙ c.in-Some.ensures.1, (c.in-Some-standing_of.ensures.1, c.in-Some.ensures.2)),
-)
+returns c = cut_read c.args.told.now c.in-Some.left.now c.in-Some.recoveries c.cut_with.result c.in-Some.ensures.0 c.in-Some.ensures.1 c.in-Some.ensures.2 c.cut_with.ensures

@@ -4,10 +4,10 @@ use Rattle.jcard_outcomes.proofs.Orders.{order_all, order_begun, order_next}
 use Rattle.jcard_outcomes.proofs.order.in_order.Goals as goal
 
 pub loop-number-init : goal.loop-number-init
-loop-number-init c = order_begun (lent c.args.texts.now) (lent c.new-ordered.result.items) (ap lent c.new-ordered.ensures.items)
+loop-number-init c = order_begun c.args.label.now (lent c.args.texts.now) (lent c.new-ordered.result.items) (ap lent c.new-ordered.ensures.items)
 
 pub loop-number-preserved : goal.loop-number-preserved
-loop-number-preserved c = order_next (lent c.args.texts.now) (lent c.loop-number.ordered.items) (lent c.push_text.new.texts.items) c.loop-number.number
+loop-number-preserved c = order_next c.args.label.now (lent c.args.texts.now) (lent c.loop-number.ordered.items) (lent c.push_text.new.texts.items) c.loop-number.number
     c.in-Ok.place c.text_at.result.now c.loop-number.invariant c.in-Ok.ensures c.text_at.ensures c.in_ok-push_text-in-Ok.ensures.pushed
 
 pub returns-in-Err-clause-placed : goal.returns-in-Err-clause-placed
@@ -15,5 +15,5 @@ returns-in-Err-clause-placed c =
     (c.loop-number.number, omega (arith, lent_length c.args.texts.now, c.loop-number-test.true), c.in-Err.ensures)
 
 pub returns-clause-placed : goal.returns-clause-placed
-returns-clause-placed c = order_all (lent c.args.texts.now) (lent c.loop-number.ordered.items) c.loop-number.number c.loop-number.invariant
+returns-clause-placed c = order_all c.args.label.now (lent c.args.texts.now) (lent c.loop-number.ordered.items) c.loop-number.number c.loop-number.invariant
     (omega (arith, lent_length c.args.texts.now, c.loop-number-test.false, c.loop-number.auto.number-end))

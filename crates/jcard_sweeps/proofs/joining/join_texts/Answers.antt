@@ -10,9 +10,9 @@ join_bodies-requires g c =
     let behind = c.in-Ok.ensures in
     rw c.deref.ensures.value (omega (
       arith,
-      behind.1.all,
+      behind.all,
       length-map c.args.texts.now (λ t. t.items),
-      length-map c.in-Ok.bodies.items (λ (t : Bor (List ℕ)). t.now),
+      length-map c.in-Ok.bodies.texts.items (λ (t : Bor (List ℕ)). t.now),
       c.requires.some,
     ))
 
@@ -23,7 +23,8 @@ returns-in-Ok-clause-done g c =
       told.0,
       told.1,
       heads_joined (map (λ (f : Bor (List ℕ)). f.now) c.args.files.now) (map (λ t. t.items) c.args.texts.now)
-          (map (λ (t : Bor (List ℕ)). t.now) c.in-Ok.bodies.items) behind.0 c.join_bodies.result told.0 behind.1 (rw c.deref.ensures.value at told.2),
+          (map (λ (t : Bor (List ℕ)). t.now) c.in-Ok.bodies.texts.items) c.in-Ok.bodies.name.now c.join_bodies.result told.0
+          (omega (arith, length-map c.args.texts.now (λ t. t.items), c.requires.some)) behind (rw (c.deref.ensures.value, c.kind_of.ensures) at told.2),
     )
 
 pub returns-in-Err-clause-done : goal.returns-in-Err-clause-done

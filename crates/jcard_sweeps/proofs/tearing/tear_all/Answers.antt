@@ -1,17 +1,21 @@
-use Rattle.std.proofs.Common.{[], map, refl, subst, inl, inr}
-use Rattle.jcard_script.proofs.Known.{appends_same}
-use Rattle.jcard_tear.specs.ScriptLines.{line_of}
-use Rattle.jcard_sweeps.specs.Tears.{IsTornEach}
+use Rattle.std.proofs.Common.{List, ℕ, ap, subst, sym}
+use Rattle.std.specs.Prelude.{Option, option_map}
+use Rattle.std.specs.Borrow.{Bor}
+use Rattle.jcard_sweeps.specs.Tears.{AreAllTorn}
 use Rattle.jcard_sweeps.proofs.tearing.tear_all.Goals as goal
 
-pub returns-in-Ok-clause-done : goal.returns-in-Ok-clause-done
-returns-in-Ok-clause-done g c =
-    let read = c.in-Ok.ensures.read in
-    let done = c.cut_each.ensures.done in
-    let torn = subst (λ given. IsTornEach c.args.words.now (map line_of c.args.commands.now) c.args.asked.behind given c.cut_each.result done.0) c.lent.ensures done.2 in
-    (done.0, read.0, done.1, inr (_, read.2, torn), read.1)
+pub returns-in-Some-clause-done : goal.returns-in-Some-clause-done
+returns-in-Some-clause-done g c =
+    let done = c.tear_share.ensures.done in
+    let torn = subst (λ (o : Option (List ℕ)). AreAllTorn c.args.words.now c.args.script.now c.args.commands.now c.args.asked.behind o
+    (option_map (λ name. name.now) c.args.asked.probe) c.tear_share.result done.0 done.1)
+    (sym (ap (option_map (λ (name : Bor (List ℕ)). name.now)) c.in-Some.is)) done.3 in
+    (done.0, done.1, done.2, torn, done.4)
 
-pub returns-in-Err-clause-done : goal.returns-in-Err-clause-done
-returns-in-Err-clause-done g c =
-    let read = c.in-Err.ensures.read in
-    ([], read.0, appends_same _, inl (c.in-Err.fault, refl, refl, read.2), read.1)
+pub returns-in-None-clause-done : goal.returns-in-None-clause-done
+returns-in-None-clause-done g c =
+    let done = c.tear_every.ensures.done in
+    let torn = subst (λ (o : Option (List ℕ)). AreAllTorn c.args.words.now c.args.script.now c.args.commands.now c.args.asked.behind o
+    (option_map (λ name. name.now) c.args.asked.probe) c.tear_every.result done.0 done.1)
+    (sym (ap (option_map (λ (name : Bor (List ℕ)). name.now)) c.in-None.is)) done.3 in
+    (done.0, done.1, done.2, torn, done.4)

@@ -13,7 +13,7 @@ returns-in_default-clause-done g c = ([], [], appends_same _, inl (c.number_of.r
 pub returns-then-asked-clause-done : goal.returns-then-asked-clause-done
 returns-then-asked-clause-done g c =
     let done = c.tear_all.ensures.done in
-    let torn = subst (λ each. AreTornBy c.args.words.now c.args.commands.now (option_map (λ name. name.now) c.args.asked.line) each c.args.asked.behind (option_map (λ name. name.now) c.args.asked.part) (option_map (λ name. name.now) c.args.asked.probe) c.tear_all.result
+    let torn = subst (λ each. AreTornBy c.args.words.now c.args.script.now c.args.commands.now (option_map (λ name. name.now) c.args.asked.line) each c.args.asked.behind (option_map (λ name. name.now) c.args.asked.part) (option_map (λ name. name.now) c.args.asked.probe) c.tear_all.result
     done.0 done.1) (sym c.if-asked.true) done.3 in
     (done.0, done.1, done.2, inr torn, done.4)
 
@@ -23,7 +23,7 @@ returns-in-Some-part-clause-done g c =
     let part = subst (λ (o : Option (List ℕ)). IsTornIf c.args.words.now (line_of c.in-Some.found) c.args.asked.behind o
     (option_map (λ name. name.now) c.args.asked.probe) c.tear_part.result done.0 done.1)
     (sym (ap (option_map (λ (name : Bor (List ℕ)). name.now)) c.in-Some-part.is)) done.3 in
-    let torn = subst (λ each. AreTornBy c.args.words.now c.args.commands.now (option_map (λ name. name.now) c.args.asked.line) each c.args.asked.behind (option_map (λ name. name.now) c.args.asked.part)
+    let torn = subst (λ each. AreTornBy c.args.words.now c.args.script.now c.args.commands.now (option_map (λ name. name.now) c.args.asked.line) each c.args.asked.behind (option_map (λ name. name.now) c.args.asked.part)
     (option_map (λ name. name.now) c.args.asked.probe) c.tear_part.result done.0 done.1) (sym c.if-asked.false)
     (c.number_of.result, c.in-Some.found, c.number_of.ensures, sym c.in-Some.ensures, part) in
     (done.0, done.1, done.2, inr torn, done.4)
@@ -34,7 +34,7 @@ returns-clause-done g c =
     let whole = subst (λ (o : Option (List ℕ)). IsTornIf c.args.words.now (line_of c.in-Some.found) c.args.asked.behind o
     (option_map (λ name. name.now) c.args.asked.probe) c.tear_one.result done.0 done.1)
     (sym (ap (option_map (λ (name : Bor (List ℕ)). name.now)) c.in_default-part.is)) done.3 in
-    let torn = subst (λ each. AreTornBy c.args.words.now c.args.commands.now (option_map (λ name. name.now) c.args.asked.line) each c.args.asked.behind (option_map (λ name. name.now) c.args.asked.part)
+    let torn = subst (λ each. AreTornBy c.args.words.now c.args.script.now c.args.commands.now (option_map (λ name. name.now) c.args.asked.line) each c.args.asked.behind (option_map (λ name. name.now) c.args.asked.part)
     (option_map (λ name. name.now) c.args.asked.probe) c.tear_one.result done.0 done.1) (sym c.if-asked.false)
     (c.number_of.result, c.in-Some.found, c.number_of.ensures, sym c.in-Some.ensures, whole) in
     (done.0, done.1, done.2, inr torn, done.4)

@@ -18,11 +18,11 @@ returns-clause-swept g c = record {
     (c.in_ok-answer.ensures, c.in_ok-after.ensures.words, c.in_ok-after.ensures.told, c.in_ok-spared.ensures, c.in_ok-objects.ensures.asked),
     subst (λ l. AreEvery c.args.words.now c.args.command c.in_ok-spared.spared.items l c.in_ok-objects.objects c.in_ok-before.before c.in_ok-answer.after
         c.args.first c.args.step c.in_ok-cuts.cuts.items)
-        (c.deref-4.ensures.value ∙ c.in_ok-lenient.ensures ∙ ap (λ l. l ++ c.deref-2.result.now) c.deref.ensures.value
-        ∙ ap (λ l. c.in_ok-spared.spared.items ++ l) c.deref-2.ensures.value)
-        (subst (λ s. AreEvery c.args.words.now c.args.command s c.deref-4.result.now c.in_ok-objects.objects c.in_ok-before.before c.in_ok-answer.after
+        (c.deref-5.ensures.value ∙ c.in_ok-lenient.ensures ∙ ap (λ l. l ++ c.deref-3.result.now) c.deref-2.ensures.value
+        ∙ ap (λ l. c.in_ok-spared.spared.items ++ l) c.deref-3.ensures.value)
+        (subst (λ s. AreEvery c.args.words.now c.args.command s c.deref-5.result.now c.in_ok-objects.objects c.in_ok-before.before c.in_ok-answer.after
         c.args.first c.args.step c.in_ok-cuts.cuts.items)
-        c.deref-3.ensures.value c.in_ok-cuts.ensures.cut.0),
+        c.deref-4.ensures.value c.in_ok-cuts.ensures.cut.0),
   );
   uncut = c.in_ok-cuts.ensures.cut.1;
   depth = refl;

@@ -12,6 +12,7 @@ returns c =
       versions = λ p. refl;
       class_tokens = λ d. refl;
       method_tokens = λ m. refl;
+      random = search rules;
       needed_packages = sym c.has_needed_packages.ensures ∙ search rules;
       needed_classes = sym c.has_needed_classes.ensures ∙ search rules;
       needed_methods = sym c.has_needed_methods.ensures ∙ search rules;

@@ -12,4 +12,5 @@ returns c = λ i. record {
   version = λ p. all_alike None package_count (package_number p) i;
   class_token = λ d. all_alike None class_count (class_number d) i;
   method_token = λ m. all_alike None method_count (method_number m) i;
+  random = None;
 }

@@ -1,0 +1,13 @@
+-- CryptoException with the reasons that the API specification names.
+use Rattle.std.specs.Prelude.{pos}
+use Rattle.jc_frames.specs.declared.outcome.Exception.{Exception}
+use Rattle.jc_frames.specs.declared.outcome.Exception.TheVariants.{Further}
+use Rattle.jc_platform.specs.declared.names.PlatformClass.TheVariants.{CryptoException}
+
+-- CryptoException.ILLEGAL_VALUE: an argument is not allowed
+abbrev pub illegal_value : Exception
+illegal_value = Further CryptoException (pos 1)
+
+-- CryptoException.NO_SUCH_ALGORITHM: there is no algorithm of this number
+abbrev pub no_such_algorithm : Exception
+no_such_algorithm = Further CryptoException (pos 3)

@@ -1,0 +1,13 @@
+//! The calls of `javacard.security` (API specification), a room a class: `MessageDigest`, `Checksum` and `RandomData`.
+#![tactic(auto)]
+
+pub mod checksum;
+pub mod engines;
+pub mod exceptions;
+pub mod law;
+pub mod message_digest;
+pub mod random_data;
+mod receivers;
+mod shorts;
+
+pub use engines::call_engine;

@@ -1,0 +1,10 @@
+pub mod ShortsRead
+pub mod ReadByRow
+pub mod UtilRows
+pub mod SystemRows
+pub mod ExceptionRows
+pub mod AidRows
+pub mod OwnerPinRows
+pub mod AppletRows
+pub mod ApduRows
+pub mod Rows

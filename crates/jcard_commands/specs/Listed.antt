@@ -1,0 +1,52 @@
+-- Listings and sweeps, with the names of a map in them where one is given.
+use Rattle.std.specs.Prelude.{ℕ, ◌≡◌, ◌⊎◌, List, [], ◌++◌, Bool, Result, Ok, Err, Option, Some, None}
+use Rattle.std.specs.Option.{unwrap_or}
+use Rattle.jc_card.specs.Dispatching.{usual_budget}
+use Rattle.jcard_arguments.specs.CommandLine.{TearAsked, tear_asked_by}
+use Rattle.jcard_faults.specs.declared.fault.Fault.{Fault}
+use Rattle.jcard_faults.specs.declared.fault.Fault.TheVariants.{NoMemory, WriteFailed}
+use Rattle.jcard_files.specs.FileDeeds.{FileDeed}
+use Rattle.jcard_files.specs.Readings.{IsScriptRead, IsUnread}
+use Rattle.jcard_listing.specs.Comparisons.{IsComparison}
+use Rattle.jcard_listing.specs.Told.{IsObjectsDump}
+use Rattle.jcard_script.specs.Texts.{IsCutOf}
+use Rattle.jcard_sweeps.specs.Tears.{IsTear}
+use Rattle.jcard_why.specs.Named.{HasNames}
+use Rattle.jcard_commands.specs.declared.listed.Listed.{Listed}
+use Rattle.jcard_commands.specs.declared.listed.Listed.TheVariants.{Objects, Compared, Torn}
+
+-- what is done with files, and the text that is written, to some end
+abbrev pub Tells : Type 1
+Tells = Result Unit Fault → List ℕ → List FileDeed → Type 0
+
+-- a sweep over the words of an image
+abbrev pub IsTearWith : List ℕ → List ℕ → TearAsked → Tells
+IsTearWith image script asked = IsTear image script asked.line asked.each
+    (record { depth = asked.depth; objects = asked.objects; instructions = unwrap_or asked.instructions usual_budget }) asked.part asked.probe
+
+-- this was listed, without names
+abbrev pub IsListed : Listed → Tells
+IsListed (Objects image all) = IsObjectsDump image.now all
+IsListed (Compared image other all) = IsComparison image.now other.now all
+IsListed (Torn image script options) = IsTearWith image.now script.now (tear_asked_by options)
+
+-- the end of what was told into memory, where a write fails as memory is refused
+abbrev pub in_memory : Result Unit Fault → Result Unit Fault
+in_memory (Err WriteFailed) = Err NoMemory
+in_memory told = told
+
+-- a text was written that was told into memory to the first end: whole, or a beginning of it where a write failed
+abbrev pub IsWritten : List ℕ → Result Unit Fault → Result Unit Fault → List ℕ → Type 0
+IsWritten whole told ended text = ((ended ≡ in_memory told) × (text ≡ whole)) ⊎ ((ended ≡ Err WriteFailed) × IsCutOf whole text)
+
+-- a text that was told into memory to the first end was written with names in it; or memory was refused, and nothing was written
+abbrev pub IsNamed : List ℕ → Result Unit Fault → Result Unit Fault → List ℕ → Type 0
+IsNamed plain told ended text = ((ended ≡ Err NoMemory) × (text ≡ [])) ⊎ ((whole : List ℕ) × HasNames plain whole × IsWritten whole told ended text)
+
+-- what this tells was told; or, where a map is named, the map was not read, and nothing else was done; or it was read, and names were put into what
+-- this tells
+abbrev pub IsToldBy : Option (List ℕ) → Tells → Tells
+IsToldBy None tells ended text deeds = tells ended text deeds
+IsToldBy (Some map) tells ended text deeds = ((fault : Fault) × (ended ≡ Err fault) × (text ≡ []) × IsUnread map fault deeds)
+    ⊎ ((names plain : List ℕ) × (reads others : List FileDeed) × (told : Result Unit Fault) × IsScriptRead map names reads
+    × tells told plain others × IsNamed plain told ended text × (deeds ≡ reads ++ others))
