@@ -1,13 +1,13 @@
 //! The counter applet alone, as plain Rust over the same words and the same journal: no machine, no firewall, no
-//! objects. It takes what `bench_card` takes for the counter's scripts and prints the same.
-//! Usage: counter_twin SETUP COMMANDS TIMES memory|FILE
+//! objects. It takes what `card_twin` takes for the counter's scripts and prints the same.
+//! Usage: counter_twin SETUP COMMANDS memory|FILE
+#[path = "card_twin/lines.rs"]
+mod lines;
 #[path = "card_twin/memory.rs"]
 mod memory;
-#[path = "card_twin/watch.rs"]
-mod watch;
 
+use lines::*;
 use memory::*;
-use watch::*;
 
 fn process(journal: &mut Journal, command: &[u8]) -> Result<[u8; 2], Break> {
     if command[1] == 0 {
@@ -37,16 +37,14 @@ fn exchange(journal: &mut Journal, command: &[u8]) -> Vec<u8> {
     }
 }
 
-fn main() {
+fn main() -> std::io::Result<()> {
     let words: Vec<String> = std::env::args().collect();
-    let [_, _, commands, times, image] = &words[..] else { std::process::exit(2) };
+    let [_, _, commands, image] = &words[..] else { std::process::exit(2) };
     let mut journal = Journal::new(new_store(image));
     let commands = std::fs::read_to_string(commands).expect("a script");
-    let mut watch = Watch::default();
-    for _ in 0..times.parse().expect("a number") {
-        for line in commands.lines() {
-            watch.note(&exchange(&mut journal, &bytes_of(line)));
-        }
+    let mut out = std::io::stdout().lock();
+    for line in commands.lines() {
+        tell(&mut out, &exchange(&mut journal, &bytes_of(line)))?;
     }
-    watch.print();
+    Ok(())
 }

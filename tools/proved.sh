@@ -135,7 +135,7 @@ copy_for_proof() {
 prove() {
     local room=$1 sources last status
     sources=$(checksum_of_sources) && copy_for_proof "$room/tree" && [ "$(checksum_of_sources)" = "$sources" ] || return 1
-    (cd "$room/tree" && "$rt" ci 2>&1 </dev/null 9>&-) | "$here/tools/clock" "$room/tree" --log "$room/log" >&2 9>&-
+    (cd "$room/tree" && "$rt" ci 2>&1 </dev/null 9>&-) | "$here/tools/dev/clock" "$room/tree" --log "$room/log" >&2 9>&-
     status=${PIPESTATUS[0]}
     last=$(tail -n 1 "$room/log")
     if [ "$status" -eq 0 ] && [[ $last =~ ^[1-9][0-9]*' passed, 0 failed'$ ]] && [ -x "$room/tree/crates/jcard/out/jcard" ]; then

@@ -1,14 +1,14 @@
 //! A plain Rust card of the same design as the proved one, with as much of the platform as its benchmarks ask for: words
 //! with a journal, headers of objects, the firewall's answer to each access, frames of tagged cells, methods of loaded
-//! packages. It takes what `bench_card` takes and prints the same.
-//! Usage: card_twin SETUP COMMANDS TIMES memory|FILE
+//! packages. A script loads the package; the commands of the other are answered as `jcard run` answers them.
+//! Usage: card_twin SETUP COMMANDS memory|FILE
 mod code;
+mod lines;
 mod memory;
-mod watch;
 
 use code::*;
+use lines::*;
 use memory::*;
-use watch::*;
 
 struct Card {
     memory: Memory,
@@ -567,9 +567,9 @@ impl Card {
     }
 }
 
-fn main() {
+fn main() -> std::io::Result<()> {
     let words: Vec<String> = std::env::args().collect();
-    let [_, setup, commands, times, image] = &words[..] else { std::process::exit(2) };
+    let [_, setup, commands, image] = &words[..] else { std::process::exit(2) };
     let mut components = vec![Vec::new(); 12];
     let mut tag = 0;
     for line in std::fs::read_to_string(setup).expect("a script").lines() {
@@ -582,11 +582,9 @@ fn main() {
     let mut card = Card { memory: new_memory(image), package: linked(&components) };
     assert!(card.install().is_ok());
     let commands = std::fs::read_to_string(commands).expect("a script");
-    let mut watch = Watch::default();
-    for _ in 0..times.parse().expect("a number") {
-        for line in commands.lines() {
-            watch.note(&card.exchange(&bytes_of(line)));
-        }
+    let mut out = std::io::stdout().lock();
+    for line in commands.lines() {
+        tell(&mut out, &card.exchange(&bytes_of(line)))?;
     }
-    watch.print();
+    Ok(())
 }

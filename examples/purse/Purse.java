@@ -19,7 +19,7 @@ import javacard.framework.Util;
  *   30 CREDIT    with an amount as data, after VERIFY
  *   40 DEBIT     with an amount as data, after VERIFY
  *   50 BALANCE   answers the balance and the number of changes; after 32767 comes 4, so that the log goes on
- *   60 LOG       with P1 as the age of a line, 0 for the newest: answers the amount and the balance behind it
+ *   60 LOG       with P1 as the age of a line, 0 for the newest: answers the amount and the balance after it
  */
 public class Purse extends Applet {
     private static final byte CLASS = (byte) 0x80;

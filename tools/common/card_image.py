@@ -46,6 +46,12 @@ class Image:
             return HEADER + 1
         return HEADER + ((length + 1) // 2 if kind in TWO_IN_A_WORD else length)
 
+    def saved_by(self, word):
+        """The word whose old value an entry of the journal has that this word is of; 0 where it is of none."""
+        entry = (word - self.journal) // 2
+        saved = self.words[self.journal + 2 * entry] if 0 <= entry < self.capacity else 0
+        return 0 if self.journal <= saved < self.journal + 2 * self.capacity else saved
+
     def part_of(self, word):
         """What a word outside the heap is."""
         if self.journal <= word < self.journal + 2 * self.capacity:

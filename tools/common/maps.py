@@ -68,12 +68,17 @@ class Package:
 
     def field(self, number, cell):
         """The name of a cell of an instance, as CLASS.FIELD; None where the map does not tell it."""
+        found = self.typed_field(number, cell)
+        return found[1] if found else None
+
+    def typed_field(self, number, cell):
+        """The type and the name of a cell of an instance; None where the map does not tell them."""
         own = self.classes.get(number)
         while own:
             base = self.cells_of(own.above)
             if base is None or cell >= base:
                 found = own.fields.get(cell - base) if base is not None else None
-                return f"{own.name}.{found[1]}" if found else None
+                return (found[0], f"{own.name}.{found[1]}") if found else None
             own = next((each for each in self.classes.values() if each.name == own.above), None)
         return None
 

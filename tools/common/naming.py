@@ -35,9 +35,14 @@ class Names:
 
     def field(self, told, cell):
         """The name of a cell of an instance, as CLASS.FIELD; None where the map does not tell it."""
+        found = self.typed_field(told, cell)
+        return found[1] if found else None
+
+    def typed_field(self, told, cell):
+        """The type and the name of a cell of an instance of a class that is told as AID.NUMBER; None where the map does not tell them."""
         found = OF_PACKAGE.fullmatch(told)
         package = self.packages.get(found[1]) if found else None
-        return package.field(int(found[2]), cell) if package else None
+        return package.typed_field(int(found[2]), cell) if package else None
 
     def added(self, record):
         """A record, with what the map adds to it."""

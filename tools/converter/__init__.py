@@ -10,5 +10,5 @@ fields, components its components, cap_file the archive. conversion is the whole
 card_components reads the components of a CAP file as the card reads them, card_check tells what a card would refuse, and method_map
 where methods stand, in lines of map_lines.
 
-refusal says why something is refused, words reads words of a command line. stubs are Java sources of the API. random_java and the
-Java sources in cases are for tools/convert_test, kit_exports makes export files for tests."""
+assembly makes the bytes of components from listings, and has the instructions' mnemonics. refusal says why something is refused, words reads
+words of a command line. stubs are Java sources of the API."""

@@ -12,8 +12,8 @@ A listing is a text; '#' begins a comment. It has these lines, in the order of t
   record NAME FLAGS ABOVE CELLS FIRST_REFERENCE REFERENCES
   public_table BASE LABEL.., package_table BASE LABEL..        of the class record above; '-' is FFFF
   implements INTERFACE TOKEN..
-  handler FROM TO AT CLASS          'any' is any class; 'last' behind it is the stop bit
-  method LABEL STACK ARGUMENTS LOCALS            'extended' or 'abstract' behind it
+  handler FROM TO AT CLASS          'any' is any class; 'last' after it is the stop bit
+  method LABEL STACK ARGUMENTS LOCALS            'extended' or 'abstract' after it
   LABEL:                            in a method, before an instruction
       MNEMONIC OPERANDS             indented: an instruction
   statics SIZE REFERENCES ZEROS VALUES; array TYPE BYTES
@@ -22,7 +22,7 @@ A listing is a text; '#' begins a comment. It has these lines, in the order of t
   only TAG..                        the components that are loaded, where the others are left out
 
 A class is a name of a record or an interface, of the platform table, or IMPORT:TOKEN; a method of the platform has its name there. A place
-in the constant pool is told by the entry behind its kind, or as @NUMBER.
+in the constant pool is named by the entry after its kind, or as @NUMBER.
 """
 import os
 import re
@@ -96,7 +96,7 @@ def two(value):
 
 
 def versioned(aid, version):
-    """An AID behind a version and its length, as the components have it."""
+    """An AID after a version and its length, as the components have it."""
     major, minor = map(int, version.split("."))
     aid = bytes.fromhex(aid)
     return bytes([minor, major, len(aid)]) + aid
@@ -155,7 +155,7 @@ class Assembler:
             raise Refusal(f"{where}{error if isinstance(error, Refusal) else 'bad operands'}") from None
 
     def each(self, lines):
-        """Lines, of which the one at hand is told where it is refused."""
+        """Lines, of which the one at hand is reported where it is refused."""
         for words in lines:
             self.at = words
             yield words

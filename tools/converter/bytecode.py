@@ -3,7 +3,7 @@
 Short forms are decoded as the long ones that mean the same: iload_2 as iload 2, bipush 7 and iconst_5 as a constant."""
 from .class_file import Bytes
 
-# The opcodes 0 to 201 in order. Behind a colon stands the form of the operands, 'b', 's' and 'i' being one, two and four bytes
+# The opcodes 0 to 201 in order. After a colon stands the form of the operands, 'b', 's' and 'i' being one, two and four bytes
 # with a sign, 'B' and 'S' one and two without, 'j' and 'J' a jump.
 OPCODES = """nop aconst_null constant=-1 constant=0 constant=1 constant=2 constant=3 constant=4 constant=5 lconst_0 lconst_1 fconst_0
 fconst_1 fconst_2 dconst_0 dconst_1 constant:b constant:s ldc:B ldc:S ldc2_w:S iload:B lload:B fload:B dload:B aload:B iload=0

@@ -242,7 +242,7 @@ class Methods:
         self.start, self.info = source.at, source.content
 
     def has_room(self, offset):
-        """Whether a method's header begins at an offset: it lies behind the handlers, and leaves room for the header."""
+        """Whether a method's header begins at an offset: it lies after the handlers, and leaves room for the header."""
         if not self.start <= offset < len(self.info):
             return False
         is_extended = self.info[offset] > 127

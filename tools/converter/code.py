@@ -79,7 +79,7 @@ class Fixed(Instruction):
 
 
 class OfPool(Instruction):
-    """An opcode, and perhaps a byte, before the two bytes of an index of the constant pool, and perhaps bytes behind it."""
+    """An opcode, and perhaps a byte, before the two bytes of an index of the constant pool, and perhaps bytes after it."""
 
     def __init__(self, pc, name, taken, put, entry, before, behind=b""):
         super().__init__(pc, name, taken, put)
@@ -211,7 +211,7 @@ class Layout:
         self.content = b"".join(instruction.bytes(self) for instruction in instructions)
 
     def place(self):
-        """Gives each instruction its offset; the offset behind them."""
+        """Gives each instruction its offset; the offset after them."""
         at = 0
         for instruction in self.instructions:
             instruction.offset = at

@@ -49,7 +49,7 @@ class Converted:
         return text + entry_lines(imports, pool, Names([], self.packages))
 
     def record(self, name):
-        """What a map tells of a class."""
+        """What a map says of a class."""
         file, info, places = self.package.files[name], self.package.classes.known[name], self.package.statics.places
         descriptors = {each.name: each.descriptor for each in file.fields}
         fields = {cell: (descriptors[each], each) for each, cell in info.fields.items()}
@@ -116,7 +116,7 @@ def default_aid(package_name):
 
 
 def applet_aids(package_aid, names):
-    """The AIDs that the applets of a package have where none are given: the package's with a byte behind it, from 01 on."""
+    """The AIDs that the applets of a package have where none are given: the package's with a byte after it, from 01 on."""
     if len(package_aid) == LONGEST_AID and names:
         raise Refusal(f"the package's AID has {LONGEST_AID} bytes, so those of its applets have to be given: --applet CLASS=AID")
     return [(package_aid + bytes([number]), name) for number, name in enumerate(names, 1)]
@@ -135,7 +135,7 @@ def dependencies(files):
 
 
 def in_order(packages):
-    """The names of packages, each behind those that it needs."""
+    """The names of packages, each after those that it needs."""
     found = []
 
     def add(name, path):

@@ -1,6 +1,6 @@
 """Export files: what other packages may name of a package, and by which numbers. Format 2.1 is written, and 2.1 to 2.3 read.
 
-What they are taken to be (u1, u2, u4 are numbers of so many bytes; an index is a place in the constants):
+What they are taken to be (u1, u2, u4 are numbers of 1, 2 and 4 bytes; an index is a place in the constants):
 
   file: u4 magic, u1 minor, u1 major, u2 count and constants, u2 this_package; in 2.3 u1 count and u2 indices of packages; u1 count and classes
   constant: u1 1, u2 length, text; or u1 3, u4 number; or u1 7, u2 name_index of a class;

@@ -26,7 +26,7 @@ def signed_of(info, at, size):
 
 
 def flow_of(info, places):
-    """Of the instructions at these places those behind which another one may follow than the next, each with what it is and where it
+    """Of the instructions at these places those after which another one may follow than the next, each with what it is and where it
     leads: a `jump`, a `branch`, which may also go on, a `switch`, or the `end` of a method or of what is known of it."""
     for at in places:
         name, form = OPCODES[info[at]]

@@ -34,7 +34,7 @@ class ClassInfo:
         self.interface_methods = {}
         self.fields = {}  # names to tokens
         self.static_fields = {}
-        self.virtual_end = self.package_end = 0  # the tokens behind the last ones
+        self.virtual_end = self.package_end = 0  # the tokens after the last ones
         self.cells = 0  # fields that the class itself declares
 
 

@@ -5,7 +5,7 @@ from .refusal import class_name, method_name, type_name
 
 
 def told_method(owner, name, descriptor):
-    """A method as Java names it, in one word. One whose descriptor has another form is told with it."""
+    """A method as Java names it, in one word. One whose descriptor has another form is printed with it."""
     try:
         told = method_name(owner, name, descriptor)
     except (IndexError, KeyError, ValueError):
@@ -19,7 +19,7 @@ def word_of(text):
 
 
 def told_type(descriptor):
-    """A type as Java writes it. One whose descriptor has another form is told by it."""
+    """A type as Java writes it. One whose descriptor has another form is printed as it."""
     try:
         return word_of(type_name(descriptor))
     except (IndexError, KeyError):
@@ -27,7 +27,7 @@ def told_type(descriptor):
 
 
 def told_record(number, record):
-    """The lines of a class: its number, name, the class above and the file, and behind it its fields."""
+    """The lines of a class: its number, name, the class above and the file, and after it its fields."""
     yield f"class {number} {word_of(class_name(record.name))} {word_of(class_name(record.above))} {word_of(record.file)}"
     yield from (f"field {cell} {told_type(kind)} {word_of(name)}" for cell, (kind, name) in sorted(record.fields.items()))
     yield from (f"static {place} {told_type(kind)} {word_of(name)}" for place, (kind, name) in sorted(record.statics.items()))
@@ -67,8 +67,8 @@ def entry_lines(imports, pool, names):
 
 
 def map_text(aid, info, names, java_lines, records=(), java_locals=None):
-    """The lines for a package's names by their offsets in the info of its Method component, behind one that tells its AID and those that
-    tell its classes, by their numbers. Behind each name stands a line that a blank begins: the offsets of the method's instructions,
+    """The lines for a package's names by their offsets in the info of its Method component, after one that states its AID and those that
+    state its classes, by their numbers. After each name stands a line that a blank begins: the offsets of the method's instructions,
     OFFSET:LINE where a line of the Java source begins; then its local variables, and where its instructions lead."""
     lines, places = [f"package {aid.hex().upper()}"], sorted(names)
     for number, record in records:

@@ -1,6 +1,6 @@
 """Where the methods of a package stand, and their names: from the Descriptor and the Debug component of its CAP file.
 
-What they are taken to be, of formats 2.1 and 2.2 (u1, u2, u4 are numbers of so many bytes):
+What they are taken to be, of formats 2.1 and 2.2 (u1, u2, u4 are numbers of 1, 2 and 4 bytes):
 
   Descriptor: u1 class_count; classes; then types, which are not looked at
     class: u1 token, u1 flags, u2 this_class_ref, u1 interface_count, u2 field_count, u2 method_count; u2 interfaces; fields; methods
@@ -16,7 +16,7 @@ What they are taken to be, of formats 2.1 and 2.2 (u1, u2, u4 are numbers of so 
     variable: u1 index, u2 name_index, u2 descriptor_index, u2 start, u2 length, of the method's code from 0
     line: u2 start, u2 end, of the method's code from 0, u2 line of the source
 
-A method of an interface is at no offset, which is told by 0.
+A method of an interface is at no offset, which is stated by 0.
 """
 from . import card_components as cap
 from .card_check import MOST_VISIBLE, Card, Checked, Names

@@ -63,7 +63,7 @@ class Package:
     # Classes
 
     def ordered(self):
-        """The names of the classes, interfaces first, and each behind those that it stands on."""
+        """The names of the classes, interfaces first, and each after those that it stands on."""
         found = []
 
         def add(name):

@@ -122,7 +122,7 @@ class Table:
 
     def package_line(self, kind, aid, major, minor):
         self.info, name = None, self.take(kind, aid)
-        if NAMES[aid] in (APDU, SECURITY) and len(self.packages) < 2:  # they stand behind both others
+        if NAMES[aid] in (APDU, SECURITY) and len(self.packages) < 2:  # they stand after both others
             raise ValueError
         self.packages.append(PackageInfo(NAMES[aid], bytes.fromhex(aid), (number_of(major), number_of(minor))))
         return name

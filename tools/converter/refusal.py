@@ -16,7 +16,7 @@ class Refusal(Exception):
 
 
 class Reasons:
-    """Gathers refusals, so that all of a package are told at once."""
+    """Gathers refusals, so that all of a package are reported at once."""
 
     def __init__(self):
         self.reasons = []

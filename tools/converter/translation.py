@@ -246,7 +246,7 @@ class Translation:
         self.of_type(pc, operand, "instanceof", code.INSTANCEOF)
 
     def first_instructions(self):
-        """For each place in the class file's code, the number of the first instruction that comes from there or from behind."""
+        """For each place in the class file's code, the number of the first instruction that comes from there or from after."""
         own = {}
         for number, instruction in enumerate(self.instructions):
             own.setdefault(instruction.pc, number)
@@ -257,7 +257,7 @@ class Translation:
         return first
 
     def deepest_stack(self):
-        """The most cells on the stack before or behind an instruction."""
+        """The most cells on the stack before or after an instruction."""
         depths, deepest = {}, 0
         waiting = [(0, 0)] + [(self.first[handler.at], 1) for handler in self.handlers if self.is_reached(handler.at)]
         while waiting:

@@ -121,7 +121,7 @@ class ManagedCard:
     def registry(self):
         return read_registry(self.card.image)
 
-    # SELECT and what is told without a session
+    # SELECT and what is answered without a session
 
     def select(self, command):
         length = command[4] if len(command) > 5 else 0

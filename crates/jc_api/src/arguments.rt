@@ -17,7 +17,7 @@ use jc_world::{Stretch, bytes_argument, elements};
 pub const MOST_ELEMENTS: usize = i16::MAX as usize;
 
 /// An array of bytes with its header, none for null; an offset and a length.
-#[derive(Clone, Copy, PartialEq, Eq)]
+#[derive(Clone, Copy)]
 pub struct ArrayArguments {
     pub array: Ref,
     pub header: Option<Facts>,
@@ -26,7 +26,7 @@ pub struct ArrayArguments {
 }
 
 /// The arguments of a method of two arrays, each with an offset, and a length.
-#[derive(Clone, Copy, PartialEq, Eq)]
+#[derive(Clone, Copy)]
 pub struct PairArguments {
     pub source: Ref,
     pub source_start: i16,
@@ -36,7 +36,7 @@ pub struct PairArguments {
 }
 
 /// The elements of two arrays, as many of the one as of the other.
-#[derive(Clone, Copy, PartialEq, Eq)]
+#[derive(Clone, Copy)]
 pub struct Pair {
     pub from: Stretch,
     pub to: Stretch,

@@ -25,7 +25,7 @@ use jc_words::{StoreDown, WordStore};
 use jc_world::{NativeResult, StepExit};
 
 /// What an object of the platform with a state is to be.
-#[derive(Clone, Copy, PartialEq, Eq)]
+#[derive(Clone, Copy)]
 pub struct NewEngine {
     pub class: PlatformClass,
     /// The number in its first cell.

@@ -13,11 +13,12 @@ use Rattle.jc_api.proofs.Forms.{reading_due}
 use Rattle.jc_api.proofs.Passing.{CallPasses, RefersToNew}
 use Rattle.jc_api_crypto.specs.Checksum.{checksum_do_final, checksum_get_algorithm, checksum_get_instance, checksum_init, checksum_update}
 use Rattle.jc_api_crypto.specs.Engines.{engine_call}
-use Rattle.jc_api_crypto.specs.MessageDigest.{message_digest_do_final, message_digest_get_algorithm}
+use Rattle.jc_api_crypto.specs.InitializedMessageDigest.{initialized_message_digest_set_initial_digest}
+use Rattle.jc_api_crypto.specs.MessageDigest.{message_digest_do_final, message_digest_get_algorithm, message_digest_get_initialized_message_digest_instance}
 use Rattle.jc_api_crypto.specs.MessageDigest.{message_digest_get_instance, message_digest_get_length, message_digest_reset, message_digest_update}
 use Rattle.jc_api_crypto.specs.RandomData.{random_data_generate_data, random_data_get_algorithm, random_data_get_instance, random_data_next_bytes}
 use Rattle.jc_api_crypto.specs.RandomData.{random_data_set_seed}
-use Rattle.jc_api_crypto.proofs.Classes.{made_checksum, made_digest, made_random}
+use Rattle.jc_api_crypto.proofs.Classes.{made_checksum, made_digest, made_initialized_digest, made_random}
 
 module _ (P : Effect → MemoryState → Type 0) (L : MemoryState → ℕ → Type 0) (args : List Cell) (p : Packages) (m : MemoryState) (refers : RefersToNew L) where
   pub engines_due : (method : EnginesMethod) → CallPasses P (rooms.Engines method) args p m → IsPlainCall P L (engine_call method args p m) m
@@ -33,6 +34,9 @@ module _ (P : Effect → MemoryState → Type 0) (L : MemoryState → ℕ → Ty
   engines_due engines.MessageDigestDoFinal pass = changing_due P L (rooms.Engines engines.MessageDigestDoFinal) args p m pass
       (message_digest_do_final args p m)
   engines_due engines.MessageDigestReset pass = changing_due P L (rooms.Engines engines.MessageDigestReset) args p m pass (message_digest_reset args p m)
+  engines_due engines.MessageDigestGetInitializedMessageDigestInstance pass = factory_due P L
+      (rooms.Engines engines.MessageDigestGetInitializedMessageDigestInstance) args p m pass refers
+      (message_digest_get_initialized_message_digest_instance args) (made_initialized_digest args)
   engines_due engines.ChecksumGetInstance pass = factory_due P L (rooms.Engines engines.ChecksumGetInstance) args p m pass refers
       (checksum_get_instance args) (made_checksum args)
   engines_due engines.ChecksumGetAlgorithm pass = reading_due P L (rooms.Engines engines.ChecksumGetAlgorithm) args p m pass
@@ -49,3 +53,5 @@ module _ (P : Effect → MemoryState → Type 0) (L : MemoryState → ℕ → Ty
   engines_due engines.RandomDataSetSeed pass = changing_due P L (rooms.Engines engines.RandomDataSetSeed) args p m pass (random_data_set_seed args p m)
   engines_due engines.RandomDataGetAlgorithm pass = reading_due P L (rooms.Engines engines.RandomDataGetAlgorithm) args p m pass
       (random_data_get_algorithm args p m)
+  engines_due engines.InitializedMessageDigestSetInitialDigest pass = changing_due P L
+      (rooms.Engines engines.InitializedMessageDigestSetInitialDigest) args p m pass (initialized_message_digest_set_initial_digest args p m)

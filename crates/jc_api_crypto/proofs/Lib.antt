@@ -2,5 +2,6 @@ pub mod Blocks
 pub mod HashValues
 pub mod StatesRead
 pub mod Whole
+mod Counts
 pub mod Classes
 pub mod EngineCalls

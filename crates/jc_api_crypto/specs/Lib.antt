@@ -2,6 +2,7 @@ pub mod Shorts
 pub mod Exceptions
 pub mod Receivers
 pub mod MessageDigest
+pub mod InitializedMessageDigest
 pub mod MessagesInPieces
 pub mod Checksum
 pub mod RandomData

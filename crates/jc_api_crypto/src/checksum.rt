@@ -24,14 +24,14 @@ use jc_world::arguments::short_argument;
 use jc_world::{NativeResult, StepExit, Stretch, short};
 
 /// The checksums of ISO 3309.
-#[derive(Clone, Copy, PartialEq, Eq)]
+#[derive(Clone, Copy)]
 pub enum ChecksumAlgorithm {
     Crc16,
     Crc32,
 }
 
 /// A message under a checksum: the cells of its state.
-#[derive(Clone, Copy, PartialEq, Eq)]
+#[derive(Clone, Copy)]
 pub struct RunningChecksum {
     pub algorithm: ChecksumAlgorithm,
     pub state: Stretch,

@@ -8,8 +8,10 @@ use crate::checksum::{
     checksum_do_final, checksum_get_algorithm, checksum_get_instance, checksum_init,
     checksum_update,
 };
+use crate::initialized_message_digest::initialized_message_digest_set_initial_digest;
 use crate::message_digest::{
-    message_digest_do_final, message_digest_get_algorithm, message_digest_get_instance,
+    message_digest_do_final, message_digest_get_algorithm,
+    message_digest_get_initialized_message_digest_instance, message_digest_get_instance,
     message_digest_get_length, message_digest_reset, message_digest_update,
 };
 use crate::random_data::{
@@ -25,6 +27,7 @@ use jc_world::{NativeResult, StepExit};
 
 /// A call of a method of `javacard.security`.
 #[tactic(auto, unfolding(crate::specs::Engines::engine_call))]
+#[inline(never)]
 pub fn call_engine<S: WordStore>(
     method: EnginesMethod,
     args: &[Cell],
@@ -46,6 +49,9 @@ pub fn call_engine<S: WordStore>(
         EnginesMethod::MessageDigestUpdate => message_digest_update(args, memory, linked),
         EnginesMethod::MessageDigestDoFinal => message_digest_do_final(args, memory, linked),
         EnginesMethod::MessageDigestReset => message_digest_reset(args, memory, linked),
+        EnginesMethod::MessageDigestGetInitializedMessageDigestInstance => {
+            message_digest_get_initialized_message_digest_instance(args, memory, linked)
+        }
         EnginesMethod::ChecksumGetInstance => checksum_get_instance(args, memory, linked),
         EnginesMethod::ChecksumGetAlgorithm => checksum_get_algorithm(args, memory, linked),
         EnginesMethod::ChecksumInit => checksum_init(args, memory, linked),
@@ -56,5 +62,8 @@ pub fn call_engine<S: WordStore>(
         EnginesMethod::RandomDataNextBytes => random_data_next_bytes(args, memory, linked),
         EnginesMethod::RandomDataSetSeed => random_data_set_seed(args, memory, linked),
         EnginesMethod::RandomDataGetAlgorithm => random_data_get_algorithm(args, memory, linked),
+        EnginesMethod::InitializedMessageDigestSetInitialDigest => {
+            initialized_message_digest_set_initial_digest(args, memory, linked)
+        }
     }
 }

@@ -11,7 +11,7 @@ ghost use Rattle.jc_api.specs.Changing.{changing_call};
 ghost use Rattle.jc_api.specs.Exits.{plainly};
 ghost use Rattle.jc_api.specs.Factory.{factory_call};
 ghost use Rattle.jc_api.specs.Forms.{reading_call};
-ghost use Rattle.jc_api_crypto.specs.MessageDigest.{IsRunning, digest_shorts, hash_named, message_digest_do_final, message_digest_get_algorithm, message_digest_get_instance, message_digest_get_length, message_digest_reset, message_digest_update, running_digest};
+ghost use Rattle.jc_api_crypto.specs.MessageDigest.{IsRunning, digest_shorts, hash_named, message_digest_do_final, message_digest_get_algorithm, message_digest_get_initialized_message_digest_instance, message_digest_get_instance, message_digest_get_length, message_digest_reset, message_digest_update, new_digest, running_digest};
 
 use crate::exceptions::NO_SUCH_ALGORITHM;
 use crate::message_digest::state::{finish, forget, update};
@@ -27,7 +27,7 @@ use jc_world::arguments::short_argument;
 use jc_world::{NativeResult, StepExit, Stretch, short};
 
 /// A message under a hash function: the cells of its state.
-#[derive(Clone, Copy, PartialEq, Eq)]
+#[derive(Clone, Copy)]
 pub struct RunningDigest {
     pub algorithm: HashAlgorithm,
     pub state: Stretch,
@@ -68,19 +68,20 @@ pub(crate) fn digest_length(algorithm: HashAlgorithm) -> i16
     algorithm.digest_size() as i16
 }
 
-/// The hash function of the receiver, and the cells of its state.
+/// The hash function of a receiver of this class, and the cells of its state.
 #[tactic(auto, unfolding(crate::specs::MessageDigest::running_digest))]
 pub(crate) fn running_digest<S: WordStore>(
+    class: PlatformClass,
     args: &[Cell],
     memory: &Memory<S>,
     linked: &Linked,
 ) -> Result<RunningDigest, FrameExit>
     requires up { memory.now.heap.down ≡ false }
-    ensures running { result ≡ running_digest args.now linked.now memory.now }
+    ensures running { result ≡ running_digest class args.now linked.now memory.now }
     ensures there { IfOk result (IsRunning memory.now) }
     ensures plain { plainly result ≡ result }
 {
-    let own = receiver_of(PlatformClass::MessageDigest, args, memory, linked)?;
+    let own = receiver_of(class, args, memory, linked)?;
     let Some(algorithm) = hash_named(own.number) else {
         return Err(FrameExit::End(Outcome::Fault));
     };
@@ -88,10 +89,10 @@ pub(crate) fn running_digest<S: WordStore>(
     Ok(RunningDigest { algorithm, state })
 }
 
-// The new object that is asked for.
-#[tactic(auto, unfolding(crate::specs::MessageDigest::message_digest_get_instance))]
-fn new_digest(args: &[Cell]) -> Result<NewEngine, FrameExit>
-    ensures new { result ≡ message_digest_get_instance args.now }
+// The new object of a class that is asked for.
+#[tactic(auto, unfolding(crate::specs::MessageDigest::new_digest))]
+fn new_digest(class: PlatformClass, args: &[Cell]) -> Result<NewEngine, FrameExit>
+    ensures new { result ≡ new_digest class args.now }
     ensures plain { plainly result ≡ result }
 {
     let number = short_argument(args, 0)?;
@@ -100,7 +101,7 @@ fn new_digest(args: &[Cell]) -> Result<NewEngine, FrameExit>
         return Err(FrameExit::Throw(NO_SUCH_ALGORITHM));
     };
     Ok(NewEngine {
-        class: PlatformClass::MessageDigest,
+        class,
         number,
         state: digest_shorts(algorithm),
     })
@@ -116,7 +117,22 @@ pub(crate) fn message_digest_get_instance<S: WordStore>(
     ensures { Executes (factory_call (message_digest_get_instance args.now) linked.now memory.old)
         memory.old (after_call result memory.new) }
 {
-    let engine = new_digest(args)?;
+    let engine = new_digest(PlatformClass::MessageDigest, args)?;
+    make_engine(engine, memory, linked)
+}
+
+/// `MessageDigest.getInitializedMessageDigestInstance`: makes an object with the hash function of a number, whose first hash value can be
+/// set.
+pub(crate) fn message_digest_get_initialized_message_digest_instance<S: WordStore>(
+    args: &[Cell],
+    memory: &mut Memory<S>,
+    linked: &Linked,
+) -> Result<NativeResult, StepExit>
+    requires up { memory.old.heap.down ≡ false }
+    ensures { Executes (factory_call (message_digest_get_initialized_message_digest_instance args.now)
+        linked.now memory.old) memory.old (after_call result memory.new) }
+{
+    let engine = new_digest(PlatformClass::InitializedMessageDigest, args)?;
     make_engine(engine, memory, linked)
 }
 
@@ -164,7 +180,7 @@ pub(crate) fn message_digest_update<S: WordStore>(
     ensures { Executes (changing_call (message_digest_update args.now linked.now memory.old)
         linked.now memory.old) memory.old (after_call result memory.new) }
 {
-    let own = running_digest(args, memory, linked)?;
+    let own = running_digest(PlatformClass::MessageDigest, args, memory, linked)?;
     let piece = counted_of(1, args, memory, linked)?;
     update(&own, piece, memory, linked)
 }
@@ -180,7 +196,7 @@ pub(crate) fn message_digest_do_final<S: WordStore>(
     ensures { Executes (changing_call (message_digest_do_final args.now linked.now memory.old)
         linked.now memory.old) memory.old (after_call result memory.new) }
 {
-    let own = running_digest(args, memory, linked)?;
+    let own = running_digest(PlatformClass::MessageDigest, args, memory, linked)?;
     let piece = counted_of(1, args, memory, linked)?;
     let to = output_of(4, own.algorithm.digest_size() as u8, args, memory, linked)?;
     finish(&own, piece, to, memory, linked)
@@ -197,6 +213,6 @@ pub(crate) fn message_digest_reset<S: WordStore>(
     ensures { Executes (changing_call (message_digest_reset args.now linked.now memory.old)
         linked.now memory.old) memory.old (after_call result memory.new) }
 {
-    let own = running_digest(args, memory, linked)?;
+    let own = running_digest(PlatformClass::MessageDigest, args, memory, linked)?;
     forget(&own, memory, linked)
 }

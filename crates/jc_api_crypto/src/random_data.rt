@@ -28,7 +28,7 @@ use jc_world::arguments::short_argument;
 use jc_world::{NativeResult, StepExit, Stretch, short};
 
 /// An object that gives random bytes: the cells of its state.
-#[derive(Clone, Copy, PartialEq, Eq)]
+#[derive(Clone, Copy)]
 pub struct RunningRandom {
     pub own: Ref,
     pub state: Stretch,

@@ -21,7 +21,7 @@ use jc_world::objects::is_instance_of;
 use jc_world::{Stretch, instance};
 
 /// What the cells of an object with a state say.
-#[derive(Clone, Copy, PartialEq, Eq)]
+#[derive(Clone, Copy)]
 pub struct Receiver {
     pub own: Ref,
     /// The number of its algorithm.

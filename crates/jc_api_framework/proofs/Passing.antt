@@ -39,7 +39,7 @@ use Rattle.jc_api.proofs.Passing.{CallPasses, RefersToNew, Turns}
 use Rattle.jc_api_framework.specs.Aid.Cells.{is_aid_length, cells_of_aid}
 use Rattle.jc_api_framework.specs.Applet.{install_aid}
 use Rattle.jc_api_framework.specs.Applet.Register.{open_installation}
-use Rattle.jc_api_framework.specs.OwnerPin.Arguments.{is_own_value}
+use Rattle.jc_api_framework.specs.OwnerPin.{is_own_value}
 use Rattle.jc_api_framework.specs.System.Sharing.{aid_or_null}
 use Rattle.jc_api_framework.specs.System.Transactions.{set_level}
 use Rattle.jc_api_framework.proofs.ApduCalls.Checks.{IsCommandBuffer}

@@ -29,6 +29,8 @@ use Rattle.jc_world.specs.Instances.{instance_at}
 use Rattle.jc_api.specs.Arguments.{argument_bytes, array_arguments}
 use Rattle.jc_api.specs.Forms.{CallAnswer, puts_at, reading_call, tells_whether}
 use Rattle.jc_api_framework.specs.Aid.Cells.{is_aid_length, cells_of_aid}
+use Rattle.jc_api_framework.specs.declared.aid.Extent.{Extent}
+use Rattle.jc_api_framework.specs.declared.aid.Extent.TheVariants.{Beginning, Whole}
 
 -- the AID of an instance of AID; other objects have none
 abbrev pub aid_behind : Packages → MemoryState → ℕ → Option Facts → Option (List ℕ)
@@ -48,46 +50,61 @@ aid_init args p m = if_some (reference_argument args 0) (λ own. if_ok (array_ar
 
 -- ---- what the calls answer that only read their receiver
 
+-- the provider's part of an AID: its first five bytes
+abbrev pub rid_of : List ℕ → List ℕ
+rid_of aid = take 5 aid
+
+-- an AID has all bytes of another one, or those of its provider; none has those of no AID
+abbrev pub agree : Extent → List ℕ → List ℕ → Bool
+agree Whole aid other = is_aid aid (Some other)
+agree Beginning aid other = bytes_eq (rid_of aid) (rid_of other)
+
+abbrev pub agrees_with_aid : Extent → List ℕ → Option (List ℕ) → Bool
+agrees_with_aid extent aid None = false
+agrees_with_aid extent aid (Some other) = agree extent aid other
+
+-- an AID begins with these bytes
+abbrev pub begins_with : List ℕ → List ℕ → Bool
+begins_with aid bytes = nat_le (length bytes) (length aid) && bytes_eq (take (length bytes) aid) bytes
+
+-- an AID has these bytes, or begins with them
+abbrev pub agrees_with_bytes : Extent → List ℕ → List ℕ → Bool
+agrees_with_bytes Whole aid bytes = is_aid aid (Some bytes)
+agrees_with_bytes Beginning aid bytes = begins_with aid bytes
+
+-- whether the AID agrees with that of another object; false for null
+abbrev pub compared_with_object : Extent → List Cell → Packages → MemoryState → Result CallAnswer FrameExit
+compared_with_object extent args p m =
+    and_then (some_or_fault (reference_argument args 0)) (λ own. and_then (some_or_fault (reference_argument args 1))
+    (λ other. and_then (some_or_fault (aid_at m own)) (λ aid. Ok (tells_whether (agrees_with_aid extent aid (aid_of_object p m other))))))
+
+-- whether the AID agrees with elements of an array; false for null
+abbrev pub compared_with_bytes : Extent → List Cell → Packages → MemoryState → Result CallAnswer FrameExit
+compared_with_bytes extent args p m = and_then (some_or_fault (reference_argument args 0)) (λ own. and_then (array_arguments 1 args m)
+    (λ given. and_then (some_or_fault (aid_at m own)) (λ aid. if given.array == 0 then Ok (tells_whether false) else
+    and_then (argument_bytes given p m) (λ e. Ok (tells_whether (agrees_with_bytes extent aid (bytes_in m e)))))))
+
 -- AID.equals: whether the other is an AID of the same bytes
 unfoldable pub aid_equals : List Cell → Packages → MemoryState → Result CallAnswer FrameExit
-aid_equals args p m = and_then (some_or_fault (reference_argument args 0)) (λ own. and_then (some_or_fault (reference_argument args 1))
-    (λ other. and_then (some_or_fault (aid_at m own)) (λ aid. Ok (tells_whether (is_aid aid (aid_of_object p m other))))))
+aid_equals args p m = compared_with_object Whole args p m
+
+-- AID.RIDEquals: whether the other is an AID of the same provider; false for null
+unfoldable pub aid_rid_equals : List Cell → Packages → MemoryState → Result CallAnswer FrameExit
+aid_rid_equals args p m = compared_with_object Beginning args p m
 
 -- AID.equals(byte[], short, byte): whether these are the bytes; false for null
 unfoldable pub aid_equals_bytes : List Cell → Packages → MemoryState → Result CallAnswer FrameExit
-aid_equals_bytes args p m = and_then (some_or_fault (reference_argument args 0)) (λ own. and_then (array_arguments 1 args m)
-    (λ given. and_then (some_or_fault (aid_at m own)) (λ aid. if given.array == 0 then Ok (tells_whether false) else
-    and_then (argument_bytes given p m) (λ e. Ok (tells_whether (is_aid aid (Some (bytes_in m e))))))))
+aid_equals_bytes args p m = compared_with_bytes Whole args p m
+
+-- AID.partialEquals: whether the AID begins with these bytes; false for null
+unfoldable pub aid_partial_equals : List Cell → Packages → MemoryState → Result CallAnswer FrameExit
+aid_partial_equals args p m = compared_with_bytes Beginning args p m
 
 -- AID.getBytes: the bytes are copied, as one change; their number is returned
 unfoldable pub aid_get_bytes : List Cell → MemoryState → Result CallAnswer FrameExit
 aid_get_bytes args m = and_then (some_or_fault (reference_argument args 0)) (λ own. and_then (some_or_fault (reference_argument args 1))
     (λ array. and_then (some_or_fault (short_argument args 2)) (λ start. and_then (some_or_fault (aid_at m own))
     (λ aid. Ok (puts_at array start aid (pos (length aid)))))))
-
--- the provider's part of an AID: its first five bytes
-abbrev pub rid_of : List ℕ → List ℕ
-rid_of aid = take 5 aid
-
--- the other is an AID of the same provider
-abbrev pub is_of_provider : List ℕ → Option (List ℕ) → Bool
-is_of_provider aid None = false
-is_of_provider aid (Some other) = bytes_eq (rid_of aid) (rid_of other)
-
--- AID.RIDEquals: whether the other is an AID of the same provider; false for null
-unfoldable pub aid_rid_equals : List Cell → Packages → MemoryState → Result CallAnswer FrameExit
-aid_rid_equals args p m = and_then (some_or_fault (reference_argument args 0)) (λ own. and_then (some_or_fault (reference_argument args 1))
-    (λ other. and_then (some_or_fault (aid_at m own)) (λ aid. Ok (tells_whether (is_of_provider aid (aid_of_object p m other))))))
-
--- an AID begins with these bytes
-abbrev pub begins_with : List ℕ → List ℕ → Bool
-begins_with aid bytes = nat_le (length bytes) (length aid) && bytes_eq (take (length bytes) aid) bytes
-
--- AID.partialEquals: whether the AID begins with these bytes; false for null
-unfoldable pub aid_partial_equals : List Cell → Packages → MemoryState → Result CallAnswer FrameExit
-aid_partial_equals args p m = and_then (some_or_fault (reference_argument args 0)) (λ own. and_then (array_arguments 1 args m)
-    (λ given. and_then (some_or_fault (aid_at m own)) (λ aid. if given.array == 0 then Ok (tells_whether false) else
-    and_then (argument_bytes given p m) (λ e. Ok (tells_whether (begins_with aid (bytes_in m e)))))))
 
 -- a number of bytes of an AID from an offset on, all the rest where the number is 0; none where it has no such part
 abbrev pub part_within : List ℕ → Option ℕ → Option ℕ → Option (List ℕ)

@@ -1,17 +1,23 @@
 -- OwnerPIN (API specification).
-pub mod Arguments
-use Rattle.std.specs.Prelude.{ℕ, pos, ◌==◌, not, false, List, if◌then◌else◌, Option, Some, None, Result, Ok, Err}
+use Rattle.std.specs.Prelude.{ℕ, ℤ, pos, negsuc, ◌==◌, nat_le, not, false, List, if◌then◌else◌, Option, Some, None, Result, Ok, Err}
+use Rattle.std.specs.Option.{option_and_then}
 use Rattle.std.specs.Ordering.{int_eq}
 use Rattle.std.specs.Int.{w16, cast_signed}
 use Rattle.jc_transient.specs.State.{flag_of}
+use Rattle.jc_heap.specs.declared.object.Facts.{Facts}
+use Rattle.jc_heap.specs.Heap.{facts}
+use Rattle.jc_firewall.specs.Situation.{same_context}
 use Rattle.jc_frames.specs.declared.cell.Cell.{Cell}
 use Rattle.jc_frames.specs.declared.cell.Cell.TheVariants.{Short}
 use Rattle.jc_frames.specs.declared.outcome.Exception.{Exception}
+use Rattle.jc_frames.specs.declared.outcome.Exception.TheVariants.{SecurityException}
 use Rattle.jc_frames.specs.Reasons.{buffer_full, illegal_pin_value, no_resource}
 use Rattle.jc_frames.specs.declared.outcome.FrameExit.{FrameExit}
+use Rattle.jc_frames.specs.declared.outcome.FrameExit.TheVariants as stop
 use Rattle.jc_memory.specs.State.{MemoryState, SetFlag}
 use Rattle.jc_memory.specs.Programs.{Program, Perform, bind}
-use Rattle.jc_memory.specs.Cells.{bytes_at}
+use Rattle.jc_memory.specs.Cells.{header_at}
+use Rattle.jc_memory.specs.Owners.{owner_of}
 use Rattle.jc_linker.specs.Values.{Packages}
 use Rattle.jc_platform.specs.declared.names.PinsMethod.{PinsMethod}
 use Rattle.jc_platform.specs.declared.names.PinsMethod.TheVariants.{PinCheck, PinGetTriesRemaining, PinIsValidated, PinReset}
@@ -20,7 +26,7 @@ use Rattle.jc_platform.specs.declared.names.PinsMethod.TheVariants.{OwnerPinRese
 use Rattle.jc_platform.specs.declared.names.PinsMethod.TheVariants.{OwnerPinGetValidatedFlag, OwnerPinSetValidatedFlag}
 use Rattle.jc_pin.specs.declared.updating.PinRefusal.{PinRefusal}
 use Rattle.jc_pin.specs.declared.updating.PinRefusal.TheVariants.{StoreDown, CommitFull, IllegalValue, HeapFull}
-use Rattle.jc_pin.specs.Pins.{record_of}
+use Rattle.jc_pin.specs.Pins.{is_pin, record_of}
 use Rattle.jc_pin.specs.Checking.{pin_check}
 use Rattle.jc_pin.specs.Resetting.{pin_unblock, pin_reset}
 use Rattle.jc_pin.specs.Updating.{pin_update}
@@ -30,14 +36,32 @@ use Rattle.jc_world.specs.declared.native_result.NativeResult.TheVariants.{Retur
 use Rattle.jc_world.specs.declared.step_exit.StepExit.{StepExit}
 use Rattle.jc_world.specs.declared.step_exit.StepExit.TheVariants.{Throw, Down}
 use Rattle.jc_world.specs.NativeCalls.{NativeProgram, return_value, throw_exception, code_fault, if_some, if_ok}
-use Rattle.jc_world.specs.Objects.{short_argument}
+use Rattle.jc_world.specs.Contexts.{context_of}
+use Rattle.jc_world.specs.Objects.{reference_argument, short_argument}
 use Rattle.jc_world.specs.declared.arrays.Stretch.{Stretch}
 use Rattle.jc_world.specs.Answers.{returns_bool}
+use Rattle.jc_world.specs.Arrays.{bytes_in}
 use Rattle.jc_api.specs.Arguments.{argument_bytes, array_arguments, counted_of}
-use Rattle.jc_api_framework.specs.OwnerPin.Arguments.{at_least_1, receiver, is_own_value}
 
-abbrev pub bytes_in : MemoryState → Stretch → List ℕ
-bytes_in m e = bytes_at m e.array e.start e.count
+-- ---- what the calls are given
+
+-- the PIN that is called. An instance whose cells are none of a PIN is a code fault
+abbrev pub receiver : MemoryState → List Cell → Option ℕ
+receiver m args = option_and_then (λ r. if is_pin m r then Some r else None) (reference_argument args 0)
+
+-- a limit, or a maximum: none below 1
+abbrev pub at_least_1 : ℤ → Result ℕ FrameExit
+at_least_1 (pos n) = if nat_le 1 n then Ok n else Err (stop.Throw illegal_pin_value)
+at_least_1 (negsuc n) = Err (stop.Throw illegal_pin_value)
+
+-- the array in which a PIN keeps its value belongs to the context of the PIN, if it has one; of another context's nothing is set
+abbrev pub is_in_context_of : MemoryState → Facts → Option Facts → Result (Unit {0}) FrameExit
+is_in_context_of m pin None = Ok tt
+is_in_context_of m pin (Some f) = if same_context (context_of m (owner_of f.owner)) (context_of m (owner_of pin.owner)) then Ok tt else Err
+    (stop.Throw SecurityException)
+
+abbrev pub is_own_value : MemoryState → ℕ → Result (Unit {0}) FrameExit
+is_own_value m pin = is_in_context_of m (facts m.heap.now pin) (header_at m (record_of m pin).value)
 
 -- what a PIN that is not changed throws
 abbrev pub exception_of : PinRefusal → Exception

@@ -1,5 +1,5 @@
 -- Util (API specification).
-use Rattle.std.specs.Prelude.{ℕ, ℤ, pos, negsuc, ◌+◌, ◌*◌, ◌/◌, ◌%◌, List, [], ◌∷◌, replicate, length, ◌≡◌, false, Result, Ok, Err}
+use Rattle.std.specs.Prelude.{ℕ, ℤ, pos, negsuc, ◌+◌, ◌*◌, ◌/◌, ◌%◌, List, [], ◌∷◌, replicate, length, ◌≡◌, Bool, true, false, Some, Result, Ok, Err}
 use Rattle.std.specs.Int.{w16, cast_signed, cast_unsigned}
 use Rattle.std.specs.Cmp.Lexicographic.{slice_cmp}
 use Rattle.std.specs.Ordering.{nat_cmp}
@@ -25,7 +25,7 @@ use Rattle.jc_world.specs.Arrays.{bytes_in}
 use Rattle.jc_api.specs.Arguments.{pair_arguments, pair_of, two_of, counted_of, elements_at}
 use Rattle.jc_api.specs.declared.arguments.Pair.{Pair}
 use Rattle.jc_api.specs.Kinds.{have_kinds}
-use Rattle.jc_api.specs.Forms.{CallAnswer, puts, puts_for_good, reading_call, tells}
+use Rattle.jc_api.specs.Forms.{CallAnswer, elements_for, reading_call, tells}
 
 -- the bytes of a number, the high one first
 abbrev pub bytes_of_short : ℤ → List ℕ
@@ -59,23 +59,34 @@ named_pair args p m = and_then (pair_arguments args) (λ n. pair_of p m n)
 abbrev pub Fits : Packages → MemoryState → Pair → Type 0
 Fits p m a = elements_at p m a.to.array (pos a.to.start) (pos (length (bytes_in m a.from))) ≡ Ok a.to
 
--- Util.arrayCopy: bytes copied as if through a copy, as one change; the index after the last one written is returned
-unfoldable pub util_array_copy : List Cell → Packages → MemoryState → Result CallAnswer FrameExit
-util_array_copy args p m = and_then (named_pair args p m) (λ a. Ok (puts a.to (bytes_in m a.from) (end_of a.to)))
+-- bytes for elements that it asked for, as one change, or one after another and each for good; the index after the last one is returned
+abbrev pub stores : Bool → Stretch → List ℕ → CallAnswer
+stores lasting e bytes = record { output = Some (elements_for e bytes); lasting = lasting; result = Some (end_of e) }
 
--- Util.arrayFill: elements set to the low byte of a number, as one change; the index after the last one written is returned
+-- bytes copied as if through a copy
+abbrev pub array_copy : Bool → List Cell → Packages → MemoryState → Result CallAnswer FrameExit
+array_copy lasting args p m = and_then (named_pair args p m) (λ a. Ok (stores lasting a.to (bytes_in m a.from)))
+
+-- elements set to the low byte of a number
+abbrev pub array_fill : Bool → List Cell → Packages → MemoryState → Result CallAnswer FrameExit
+array_fill lasting args p m = and_then (some_or_fault (short_argument args 3)) (λ value. and_then (counted_of 0 args p m)
+    (λ e. Ok (stores lasting e (filling_of value e))))
+
+-- Util.arrayCopy: as one change
+unfoldable pub util_array_copy : List Cell → Packages → MemoryState → Result CallAnswer FrameExit
+util_array_copy args p m = array_copy false args p m
+
+-- Util.arrayFill: as one change
 unfoldable pub util_array_fill : List Cell → Packages → MemoryState → Result CallAnswer FrameExit
-util_array_fill args p m = and_then (some_or_fault (short_argument args 3)) (λ value. and_then (counted_of 0 args p m)
-    (λ e. Ok (puts e (filling_of value e) (end_of e))))
+util_array_fill args p m = array_fill false args p m
 
 -- Util.arrayCopyNonAtomic: the same bytes, those of a persistent array one after another and each for good; no room is asked for
 unfoldable pub util_array_copy_non_atomic : List Cell → Packages → MemoryState → Result CallAnswer FrameExit
-util_array_copy_non_atomic args p m = and_then (named_pair args p m) (λ a. Ok (puts_for_good a.to (bytes_in m a.from) (end_of a.to)))
+util_array_copy_non_atomic args p m = array_copy true args p m
 
 -- Util.arrayFillNonAtomic: elements set likewise
 unfoldable pub util_array_fill_non_atomic : List Cell → Packages → MemoryState → Result CallAnswer FrameExit
-util_array_fill_non_atomic args p m = and_then (some_or_fault (short_argument args 3)) (λ value. and_then (counted_of 0 args p m)
-    (λ e. Ok (puts_for_good e (filling_of value e) (end_of e))))
+util_array_fill_non_atomic args p m = array_fill true args p m
 
 -- Util.arrayCompare: -1, 0 or 1, the bytes as numbers from 0 to 255
 unfoldable pub util_array_compare : List Cell → Packages → MemoryState → Result CallAnswer FrameExit
@@ -89,7 +100,7 @@ util_get_short args p m = and_then (two_of args p m) (λ e. Ok (tells (short_of 
 -- Util.setShort: two bytes set as one change; the index after them is returned
 unfoldable pub util_set_short : List Cell → Packages → MemoryState → Result CallAnswer FrameExit
 util_set_short args p m = and_then (some_or_fault (short_argument args 2)) (λ v. and_then (two_of args p m)
-    (λ e. Ok (puts e (bytes_of_short v) (end_of e))))
+    (λ e. Ok (stores false e (bytes_of_short v))))
 
 -- Util.makeShort: the short of the low bytes of two numbers
 unfoldable pub util_make_short : List Cell → Result CallAnswer FrameExit

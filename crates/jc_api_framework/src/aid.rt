@@ -3,20 +3,19 @@
 pub mod cells;
 pub mod law;
 
-ghost use Rattle.std.specs.Prelude.{◌≡◌, ◌≤◌, false, length, Some};
+ghost use Rattle.std.specs.Prelude.{◌≡◌, ◌≤◌, false, length};
 ghost use Rattle.std.specs.Option.{option_copied};
 ghost use Rattle.jc_world.specs.Numbers.{not_negative};
 ghost use Rattle.jc_memory.specs.Programs.{Executes};
 ghost use Rattle.jc_heap.specs.Completions.{after_change};
 ghost use Rattle.jc_memory.specs.Cells.{cells_store};
 ghost use Rattle.jc_world.specs.NativeCalls.{after_call};
-ghost use Rattle.jc_registry.specs.Registry.{is_aid};
 ghost use Rattle.jc_world.specs.Arrays.{IsInArray, bytes_in};
 ghost use Rattle.jc_world.specs.Instances.{IsInstanceWith};
 ghost use Rattle.jc_api.specs.Forms.{reading_call};
 ghost use Rattle.jc_api_framework.specs.Aid.Cells.{cells_of_aid};
-ghost use Rattle.jc_api_framework.specs.Aid.{aid_of_object, aid_init, aid_equals, aid_equals_bytes, aid_get_bytes, aid_call};
-ghost use Rattle.jc_api_framework.specs.Aid.{aid_get_partial_bytes, aid_partial_equals, aid_rid_equals, begins_with, is_of_provider, part_within, rid_of};
+ghost use Rattle.jc_api_framework.specs.Aid.{agree, agrees_with_bytes, aid_call, aid_get_bytes, aid_get_partial_bytes, aid_init, aid_of_object};
+ghost use Rattle.jc_api_framework.specs.Aid.{begins_with, compared_with_bytes, compared_with_object, part_within, rid_of};
 
 use crate::aid::cells::{cells_of_aid, is_aid_length};
 use jc_api::{argument_bytes, array_arguments, elements_at, given_elements};
@@ -48,23 +47,6 @@ fn aid_of_object<S: WordStore>(object: Ref, memory: &Memory<S>, linked: &Linked)
     } else {
         None
     }
-}
-
-// Whether elements of an array are the bytes of an AID.
-fn are_aid<S: WordStore>(aid: &[u8], e: Stretch, memory: &Memory<S>) -> bool
-    requires up { memory.now.heap.down ≡ false }
-    requires there { IsInArray memory.now e }
-    requires few { length aid.now ≤ MOST_AID }
-    ensures { result ≡ is_aid aid.now (Some (bytes_in memory.now e)) }
-{
-    let count = e.count as usize;
-    if count != aid.len() {
-        return false;
-    }
-    let mut bytes = [0; MOST_AID];
-    memory.bytes(e.array, e.start, &mut bytes[..count]);
-    let held = &bytes[..count];
-    held == aid
 }
 
 // Sets the cells of an AID object to those of as many bytes of an array as an AID has.
@@ -105,16 +87,45 @@ fn aid_init<S: WordStore>(
     Ok(NativeResult::ReturnVoid)
 }
 
-// `AID.equals`: whether the other is an AID of the same bytes.
-#[tactic(auto, unfolding(crate::specs::Aid::aid_equals))]
-fn aid_equals<S: WordStore>(
+/// How much of an AID is compared.
+#[derive(Clone, Copy, PartialEq, Eq)]
+pub(crate) enum Extent {
+    /// All bytes.
+    Whole,
+    /// The provider's part; beside bytes, as many as they are.
+    Beginning,
+}
+
+// How many bytes of an AID name its provider.
+const RID: usize = 5;
+
+// The provider's part of an AID.
+fn provider(aid: &[u8]) -> &[u8]
+    ensures { result.now ≡ rid_of aid.now }
+{
+    if aid.len() > RID { &aid[..RID] } else { aid }
+}
+
+// Whether two AIDs have all bytes in common, or those of their provider.
+fn agree(extent: Extent, aid: &[u8], other: &[u8]) -> bool
+    ensures { result ≡ agree extent aid.now other.now }
+{
+    match extent {
+        Extent::Whole => other == aid,
+        Extent::Beginning => provider(aid) == provider(other),
+    }
+}
+
+// `AID.equals` and `AID.RIDEquals`: whether the other is an AID of the same bytes, or of the same provider; false for null.
+fn compare_with_object<S: WordStore>(
+    extent: Extent,
     args: &[Cell],
     memory: &Memory<S>,
     linked: &Linked,
 ) -> Result<NativeResult, StepExit>
     requires up { memory.now.heap.down ≡ false }
-    ensures { Executes (reading_call (aid_equals args.now linked.now memory.now) linked.now memory.now)
-        memory.now (after_call result memory.now) }
+    ensures { Executes (reading_call (compared_with_object extent args.now linked.now memory.now) linked.now
+        memory.now) memory.now (after_call result memory.now) }
 {
     let own = reference_argument(args, 0)?;
     let other = reference_argument(args, 1)?;
@@ -122,21 +133,59 @@ fn aid_equals<S: WordStore>(
         return Err(StepExit::End(Outcome::Fault));
     };
     match aid_of_object(other, memory, linked) {
-        Some(held) => Ok(boolean(held.bytes() == aid.bytes())),
+        Some(held) => Ok(boolean(agree(extent, aid.bytes(), held.bytes()))),
         None => Ok(boolean(false)),
     }
 }
 
-// `AID.equals(byte[], short, byte)`: whether these bytes are the AID's; false for null.
-#[tactic(auto, unfolding(crate::specs::Aid::aid_equals_bytes))]
-fn aid_equals_bytes<S: WordStore>(
+// Whether an AID begins with these bytes.
+fn is_beginning(held: &[u8], aid: &[u8]) -> bool
+    ensures { result ≡ begins_with aid.now held.now }
+{
+    if held.len() > aid.len() {
+        return false;
+    }
+    held == &aid[..held.len()]
+}
+
+// Whether these are the bytes of an AID, or those with which it begins.
+fn agrees_with_bytes(extent: Extent, aid: &[u8], held: &[u8]) -> bool
+    ensures { result ≡ agrees_with_bytes extent aid.now held.now }
+{
+    match extent {
+        Extent::Whole => held == aid,
+        Extent::Beginning => is_beginning(held, aid),
+    }
+}
+
+// The same of elements of an array.
+fn agrees_with<S: WordStore>(extent: Extent, aid: &[u8], e: Stretch, memory: &Memory<S>) -> bool
+    requires up { memory.now.heap.down ≡ false }
+    requires there { IsInArray memory.now e }
+    requires few { length aid.now ≤ MOST_AID }
+    ensures { result ≡ agrees_with_bytes extent aid.now (bytes_in memory.now e) }
+{
+    let count = e.count as usize;
+    if count > aid.len() {
+        return false;
+    }
+    let mut bytes = [0; MOST_AID];
+    memory.bytes(e.array, e.start, &mut bytes[..count]);
+    let held = &bytes[..count];
+    agrees_with_bytes(extent, aid, held)
+}
+
+// `AID.equals(byte[], short, byte)` and `AID.partialEquals`: whether these bytes are the AID's, or those with which it begins;
+// false for null.
+fn compare_with_bytes<S: WordStore>(
+    extent: Extent,
     args: &[Cell],
     memory: &Memory<S>,
     linked: &Linked,
 ) -> Result<NativeResult, StepExit>
     requires up { memory.now.heap.down ≡ false }
-    ensures { Executes (reading_call (aid_equals_bytes args.now linked.now memory.now) linked.now memory.now)
-        memory.now (after_call result memory.now) }
+    ensures { Executes (reading_call (compared_with_bytes extent args.now linked.now memory.now) linked.now
+        memory.now) memory.now (after_call result memory.now) }
 {
     let own = reference_argument(args, 0)?;
     let given = array_arguments(1, args, memory)?;
@@ -147,7 +196,7 @@ fn aid_equals_bytes<S: WordStore>(
         return Ok(boolean(false));
     }
     let e = argument_bytes(&given, memory, linked)?;
-    Ok(boolean(are_aid(aid.bytes(), e, memory)))
+    Ok(boolean(agrees_with(extent, aid.bytes(), e, memory)))
 }
 
 // `AID.getBytes`: copies the bytes, as one change; returns their number.
@@ -171,95 +220,6 @@ fn aid_get_bytes<S: WordStore>(
     let e = elements_at(array, start, count, memory, linked)?;
     put(memory, e, aid.bytes())?;
     Ok(short(count))
-}
-
-// How many bytes of an AID name its provider.
-const RID: usize = 5;
-
-// Whether two AIDs are of one provider, whom the first five bytes name.
-fn have_one_provider(aid: &[u8], other: &[u8]) -> bool
-    ensures { result ≡ is_of_provider aid.now (Some other.now) }
-{
-    provider(aid) == provider(other)
-}
-
-// The provider's part of an AID.
-fn provider(aid: &[u8]) -> &[u8]
-    ensures { result.now ≡ rid_of aid.now }
-{
-    if aid.len() > RID { &aid[..RID] } else { aid }
-}
-
-// `AID.RIDEquals`: whether the other is an AID of the same provider; false for null.
-#[tactic(auto, unfolding(crate::specs::Aid::aid_rid_equals))]
-fn aid_rid_equals<S: WordStore>(
-    args: &[Cell],
-    memory: &Memory<S>,
-    linked: &Linked,
-) -> Result<NativeResult, StepExit>
-    requires up { memory.now.heap.down ≡ false }
-    ensures { Executes (reading_call (aid_rid_equals args.now linked.now memory.now) linked.now memory.now)
-        memory.now (after_call result memory.now) }
-{
-    let own = reference_argument(args, 0)?;
-    let other = reference_argument(args, 1)?;
-    let Some(aid) = aid_at(memory, own) else {
-        return Err(StepExit::End(Outcome::Fault));
-    };
-    let Some(held) = aid_of_object(other, memory, linked) else {
-        return Ok(boolean(false));
-    };
-    Ok(boolean(have_one_provider(aid.bytes(), held.bytes())))
-}
-
-// Whether an AID begins with these bytes.
-fn is_beginning(held: &[u8], aid: &[u8]) -> bool
-    ensures { result ≡ begins_with aid.now held.now }
-{
-    if held.len() > aid.len() {
-        return false;
-    }
-    held == &aid[..held.len()]
-}
-
-// Whether an AID begins with elements of an array.
-fn begins_with<S: WordStore>(aid: &[u8], e: Stretch, memory: &Memory<S>) -> bool
-    requires up { memory.now.heap.down ≡ false }
-    requires there { IsInArray memory.now e }
-    requires few { length aid.now ≤ MOST_AID }
-    ensures { result ≡ begins_with aid.now (bytes_in memory.now e) }
-{
-    let count = e.count as usize;
-    if count > aid.len() {
-        return false;
-    }
-    let mut bytes = [0; MOST_AID];
-    memory.bytes(e.array, e.start, &mut bytes[..count]);
-    let held = &bytes[..count];
-    is_beginning(held, aid)
-}
-
-// `AID.partialEquals`: whether the AID begins with these bytes; false for null.
-#[tactic(auto, unfolding(crate::specs::Aid::aid_partial_equals))]
-fn aid_partial_equals<S: WordStore>(
-    args: &[Cell],
-    memory: &Memory<S>,
-    linked: &Linked,
-) -> Result<NativeResult, StepExit>
-    requires up { memory.now.heap.down ≡ false }
-    ensures { Executes (reading_call (aid_partial_equals args.now linked.now memory.now) linked.now memory.now)
-        memory.now (after_call result memory.now) }
-{
-    let own = reference_argument(args, 0)?;
-    let given = array_arguments(1, args, memory)?;
-    let Some(aid) = aid_at(memory, own) else {
-        return Err(StepExit::End(Outcome::Fault));
-    };
-    if given.array.is_null() {
-        return Ok(boolean(false));
-    }
-    let e = argument_bytes(&given, memory, linked)?;
-    Ok(boolean(begins_with(aid.bytes(), e, memory)))
 }
 
 // This many bytes of an AID from one on, all the rest where none are asked for.
@@ -305,7 +265,8 @@ fn aid_get_partial_bytes<S: WordStore>(
 }
 
 /// A call of a method of `AID`.
-#[tactic(auto, unfolding(crate::specs::Aid::aid_call))]
+#[tactic(auto, unfolding(crate::specs::Aid::aid_call, crate::specs::Aid::aid_equals, crate::specs::Aid::aid_equals_bytes, crate::specs::Aid::aid_partial_equals, crate::specs::Aid::aid_rid_equals))]
+#[inline(never)]
 pub fn call_aid<S: WordStore>(
     method: AidsMethod,
     args: &[Cell],
@@ -318,11 +279,11 @@ pub fn call_aid<S: WordStore>(
 {
     match method {
         AidsMethod::AidInit => aid_init(args, memory, linked),
-        AidsMethod::AidEquals => aid_equals(args, memory, linked),
-        AidsMethod::AidEqualsBytes => aid_equals_bytes(args, memory, linked),
+        AidsMethod::AidEquals => compare_with_object(Extent::Whole, args, memory, linked),
+        AidsMethod::AidEqualsBytes => compare_with_bytes(Extent::Whole, args, memory, linked),
         AidsMethod::AidGetBytes => aid_get_bytes(args, memory, linked),
-        AidsMethod::AidRidEquals => aid_rid_equals(args, memory, linked),
-        AidsMethod::AidPartialEquals => aid_partial_equals(args, memory, linked),
+        AidsMethod::AidRidEquals => compare_with_object(Extent::Beginning, args, memory, linked),
+        AidsMethod::AidPartialEquals => compare_with_bytes(Extent::Beginning, args, memory, linked),
         AidsMethod::AidGetPartialBytes => aid_get_partial_bytes(args, memory, linked),
     }
 }

@@ -55,6 +55,7 @@ fn apdu_get_buffer<S: WordStore>(memory: &Memory<S>) -> Result<NativeResult, Ste
 
 /// A call of a method of `APDU`.
 #[tactic(auto, unfolding(crate::specs::Apdu::apdu_call))]
+#[inline(never)]
 pub fn call_apdu<S: WordStore>(
     method: ApdusMethod,
     args: &[Cell],

@@ -109,6 +109,7 @@ fn applet_register_bytes<S: WordStore>(
 /// A call of a method of `Applet`: what the class does itself, where no class below overrides it. `process`, which is abstract, is a
 /// code fault.
 #[tactic(auto, unfolding(crate::specs::Applet::applet_call))]
+#[inline(never)]
 pub fn call_applet<S: WordStore>(
     method: AppletsMethod,
     args: &[Cell],

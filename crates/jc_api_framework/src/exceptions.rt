@@ -1,21 +1,20 @@
 //! Exceptions that carry a reason (API specification).
 ghost use Rattle.std.specs.Prelude.{◌≡◌, false};
-ghost use Rattle.jc_frames.specs.declared.outcome.Exception.TheVariants as exceptions;
 ghost use Rattle.jc_memory.specs.Programs.{Executes};
 ghost use Rattle.jc_world.specs.NativeCalls.{after_call};
-ghost use Rattle.jc_api_framework.specs.Exceptions.{exception_set_reason, exception_set_no_reason, exception_get_reason, exception_call};
+ghost use Rattle.jc_api_framework.specs.Exceptions.{exception_by, exception_call, exception_get_reason, exception_set_no_reason, exception_set_reason};
+ghost use Rattle.jc_api_framework.specs.Exceptions.{exception_throw_it, of_class};
 
-use jc_frames::{Cell, Exception};
+use jc_frames::{Cell, Exception, Outcome};
 use jc_memory::Memory;
-use jc_platform::names::{ExceptionsMethod, PlatformClass};
+use jc_platform::kinds::Receiver;
+use jc_platform::names::{ExceptionsMethod, PlatformClass, PlatformMethod};
 use jc_transient::CellValue;
 use jc_words::WordStore;
 use jc_world::arguments::{reference_argument, short_argument};
 use jc_world::{NativeResult, StepExit, instance, short};
 
-// `CardException.<init>`, `CardRuntimeException.<init>`, `APDUException.<init>`, `ISOException.<init>`,
-// `PINException.<init>`, `SystemException.<init>`, `TransactionException.<init>`, `UserException.<init>`,
-// `CryptoException.<init>`, `CardException.setReason`, `CardRuntimeException.setReason`: sets the reason of an exception.
+// The constructors of exceptions, `CardException.setReason`, `CardRuntimeException.setReason`: sets the reason of an exception.
 #[tactic(auto, unfolding(crate::specs::Exceptions::exception_set_reason))]
 fn exception_set_reason<S: WordStore>(
     args: &[Cell],
@@ -63,11 +62,65 @@ fn exception_get_reason<S: WordStore>(
     Ok(short(memory.short(own, 0)))
 }
 
-/// `CardException.throwIt`, `CardRuntimeException.throwIt`, `APDUException.throwIt`, `ISOException.throwIt`,
-/// `PINException.throwIt`, `SystemException.throwIt`, `TransactionException.throwIt`, `UserException.throwIt`,
-/// `CryptoException.throwIt`: throws the runtime environment's own instance with this reason; the other methods of exceptions with a
-/// reason are called here too.
-#[tactic(auto, unfolding(crate::specs::Exceptions::exception_call, crate::specs::Exceptions::exception_throw_it))]
+// The exception of a class, with this reason.
+fn exception_of(class: PlatformClass, reason: i16) -> Exception
+    ensures { result ≡ of_class class reason }
+{
+    match class {
+        PlatformClass::CardException => Exception::CardException(reason),
+        PlatformClass::CardRuntimeException => Exception::CardRuntimeException(reason),
+        PlatformClass::IsoException => Exception::ISOException(reason),
+        PlatformClass::PinException => Exception::PINException(reason),
+        PlatformClass::SystemException => Exception::SystemException(reason),
+        PlatformClass::TransactionException => Exception::TransactionException(reason),
+        PlatformClass::ApduException => Exception::APDUException(reason),
+        PlatformClass::UserException => Exception::UserException(reason),
+        _ => Exception::Further { class, reason },
+    }
+}
+
+// `throwIt` of each of these classes: throws the runtime environment's own instance with this reason.
+#[tactic(auto, unfolding(crate::specs::Exceptions::exception_throw_it))]
+fn exception_throw_it<S: WordStore>(
+    class: PlatformClass,
+    args: &[Cell],
+    memory: &Memory<S>,
+) -> Result<NativeResult, StepExit>
+    ensures { Executes (exception_throw_it class args.now) memory.now
+        (after_call result memory.now) }
+{
+    let reason = short_argument(args, 0)?;
+    Err(StepExit::Throw(exception_of(class, reason)))
+}
+
+// A call of a method of an exception, by what it does with its receiver, its class, and whether it is given a reason.
+fn call_by_row<S: WordStore>(
+    receiver: Receiver,
+    class: PlatformClass,
+    given: bool,
+    args: &[Cell],
+    memory: &mut Memory<S>,
+) -> Result<NativeResult, StepExit>
+    requires up { memory.old.heap.down ≡ false }
+    ensures { Executes (exception_by receiver class given args.now memory.old) memory.old
+        (after_call result memory.new) }
+{
+    match receiver {
+        Receiver::Absent => exception_throw_it(class, args, memory),
+        Receiver::Kept => exception_get_reason(args, memory),
+        Receiver::Registered => Err(StepExit::End(Outcome::Fault)),
+        Receiver::Changed => {
+            if given {
+                exception_set_reason(args, memory)
+            } else {
+                exception_set_no_reason(args, memory)
+            }
+        }
+    }
+}
+
+/// A call of a method of an exception with a reason: its row says what it does, so a new exception needs nothing here.
+#[tactic(auto, unfolding(crate::specs::Exceptions::exception_call))]
 pub fn call_exception<S: WordStore>(
     method: ExceptionsMethod,
     args: &[Cell],
@@ -77,49 +130,7 @@ pub fn call_exception<S: WordStore>(
     ensures { Executes (exception_call method args.now memory.old) memory.old
         (after_call result memory.new) }
 {
-    let exception = match method {
-        ExceptionsMethod::CardExceptionThrowIt => Exception::CardException(short_argument(
-            args, 0,
-        )?),
-        ExceptionsMethod::CardRuntimeExceptionThrowIt => Exception::CardRuntimeException(
-            short_argument(args, 0)?,
-        ),
-        ExceptionsMethod::IsoExceptionThrowIt => Exception::ISOException(short_argument(args, 0)?),
-        ExceptionsMethod::PinExceptionThrowIt => Exception::PINException(short_argument(args, 0)?),
-        ExceptionsMethod::SystemExceptionThrowIt => Exception::SystemException(short_argument(
-            args, 0,
-        )?),
-        ExceptionsMethod::TransactionExceptionThrowIt => Exception::TransactionException(
-            short_argument(args, 0)?,
-        ),
-        ExceptionsMethod::ApduExceptionThrowIt => Exception::APDUException(short_argument(
-            args, 0,
-        )?),
-        ExceptionsMethod::UserExceptionThrowIt => Exception::UserException(short_argument(
-            args, 0,
-        )?),
-        ExceptionsMethod::CryptoExceptionThrowIt => Exception::Further {
-            class: PlatformClass::CryptoException,
-            reason: short_argument(args, 0)?,
-        },
-        ExceptionsMethod::CardExceptionGetReason
-        | ExceptionsMethod::CardRuntimeExceptionGetReason => {
-            return exception_get_reason(args, memory);
-        }
-        ExceptionsMethod::CardExceptionInit
-        | ExceptionsMethod::CardExceptionSetReason
-        | ExceptionsMethod::CardRuntimeExceptionInit
-        | ExceptionsMethod::CardRuntimeExceptionSetReason
-        | ExceptionsMethod::IsoExceptionInit
-        | ExceptionsMethod::PinExceptionInit
-        | ExceptionsMethod::SystemExceptionInit
-        | ExceptionsMethod::TransactionExceptionInit
-        | ExceptionsMethod::ApduExceptionInit
-        | ExceptionsMethod::UserExceptionInit
-        | ExceptionsMethod::CryptoExceptionInit => return exception_set_reason(args, memory),
-        ExceptionsMethod::UserExceptionInitWithoutReason => {
-            return exception_set_no_reason(args, memory);
-        }
-    };
-    Err(StepExit::Throw(exception))
+    let method = PlatformMethod::Exceptions(method);
+    let given = method.argument_cells() == 2;
+    call_by_row(method.receiver(), method.class(), given, args, memory)
 }

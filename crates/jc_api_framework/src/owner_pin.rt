@@ -1,26 +1,40 @@
 //! `OwnerPIN` (API specification).
 
-pub(crate) mod arguments;
 pub(crate) mod check;
 pub(crate) mod update;
 
-ghost use Rattle.std.specs.Prelude.{◌≡◌, false};
+ghost use Rattle.std.specs.Prelude.{◌≡◌, false, IfOk};
+ghost use Rattle.jc_frames.specs.Cells.{result_or_none};
 ghost use Rattle.jc_memory.specs.Programs.{Executes};
+ghost use Rattle.jc_pin.specs.Pins.{IsPin};
 ghost use Rattle.jc_world.specs.NativeCalls.{after_call};
 ghost use Rattle.jc_api_framework.specs.OwnerPin.{pin_call, owner_pin_get_tries_remaining, owner_pin_is_validated, owner_pin_reset, owner_pin_reset_and_unblock};
-ghost use Rattle.jc_api_framework.specs.OwnerPin.{owner_pin_set_validated_flag};
+ghost use Rattle.jc_api_framework.specs.OwnerPin.{owner_pin_set_validated_flag, receiver};
 
-use crate::owner_pin::arguments::receiver;
 use crate::owner_pin::check::owner_pin_check;
 use crate::owner_pin::update::{owner_pin_init, owner_pin_update};
-use jc_frames::{Cell, Outcome};
+use jc_frames::{Cell, CodeFault, Outcome};
 use jc_linker::linked::Linked;
 use jc_memory::Memory;
-use jc_pin::{is_validated, tries};
+use jc_pin::{is_pin, is_validated, tries};
 use jc_platform::names::PinsMethod;
+use jc_transient::Ref;
 use jc_words::WordStore;
-use jc_world::arguments::short_argument;
+use jc_world::arguments::{reference_argument, short_argument};
 use jc_world::{NativeResult, StepExit};
+
+/// The PIN that is called. An instance whose cells are none of a PIN is a code fault.
+pub(crate) fn receiver<S: WordStore>(args: &[Cell], memory: &Memory<S>) -> Result<Ref, CodeFault>
+    requires up { memory.now.heap.down ≡ false }
+    ensures pin { result_or_none result ≡ receiver memory.now args.now }
+    ensures there { IfOk result (IsPin memory.now) }
+{
+    let pin = reference_argument(args, 0)?;
+    if !is_pin(memory, pin) {
+        return Err(CodeFault);
+    }
+    Ok(pin)
+}
 
 // `OwnerPIN.reset`: takes the validated flag away and gives all tries back, where the flag was set.
 #[tactic(auto, unfolding(crate::specs::OwnerPin::owner_pin_reset), using(jc_memory::proofs::ProgramLemmas::in_two_steps))]
@@ -98,6 +112,7 @@ fn owner_pin_set_validated_flag<S: WordStore>(
 
 /// A call of a method of `OwnerPIN`; one of the interface `PIN`, which has no code, is a code fault.
 #[tactic(auto, unfolding(crate::specs::OwnerPin::pin_call))]
+#[inline(never)]
 pub fn call_pin<S: WordStore>(
     method: PinsMethod,
     args: &[Cell],

@@ -51,6 +51,7 @@ const ILLEGAL_USE_OF_SYSTEM: Exception = Exception::SystemException(6);
 
 /// A call of a method of `JCSystem`. A method of another class is a code fault.
 #[tactic(auto, unfolding(crate::specs::System::system_call))]
+#[inline(never)]
 pub fn call_system<S: WordStore>(
     method: SystemMethod,
     args: &[Cell],

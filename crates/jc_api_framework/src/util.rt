@@ -1,39 +1,34 @@
 //! `Util` (API specification).
 
-pub(crate) mod array_copy;
-pub(crate) mod array_copy_non_atomic;
-pub(crate) mod array_fill;
-pub(crate) mod array_fill_non_atomic;
+pub(crate) mod copying;
+pub(crate) mod filling;
 pub mod law;
 pub(crate) mod pair;
+pub(crate) mod storing;
 
 ghost use Rattle.std.specs.Prelude.{◌≡◌, ◌+◌, ◌<◌, false};
 ghost use Rattle.jc_memory.specs.Programs.{Executes};
-ghost use Rattle.jc_heap.specs.Completions.{after_change};
-ghost use Rattle.jc_memory.specs.Cells.{cells_store};
 ghost use Rattle.jc_linker.specs.Values.{Packages};
 ghost use Rattle.jc_world.specs.NativeCalls.{after_call};
 ghost use Rattle.jc_api.specs.Forms.{reading_call};
-ghost use Rattle.jc_api_framework.specs.Util.{util_array_copy, util_array_compare, util_get_short, util_set_short, util_make_short, short_of, bytes_of_short};
-ghost use Rattle.jc_api_framework.specs.Util.{end_of, sign_of, util_array_fill, util_call};
+ghost use Rattle.jc_api_framework.specs.Util.{array_copy, array_fill, end_of, short_of, sign_of, util_array_compare, util_call};
+ghost use Rattle.jc_api_framework.specs.Util.{util_get_short, util_make_short, util_set_short};
 ghost use Rattle.std.specs.Ordering.{nat_cmp};
 ghost use Rattle.std.specs.Cmp.Lexicographic.{slice_cmp};
 ghost use Rattle.jc_world.specs.Arrays.{IsInArray, bytes_in};
 
-use crate::util::array_copy::copy;
-use crate::util::array_copy_non_atomic::util_array_copy_non_atomic;
-use crate::util::array_fill::fill;
-use crate::util::array_fill_non_atomic::util_array_fill_non_atomic;
+use crate::util::copying::copy;
+use crate::util::filling::fill;
 use crate::util::pair::named_pair;
+use crate::util::storing::store;
 use jc_api::{counted_of, two_of};
 use jc_frames::Cell;
-use jc_heap::ChangeRefusal;
 use jc_linker::linked::Linked;
 use jc_memory::Memory;
 use jc_platform::names::UtilitiesMethod;
 use jc_words::WordStore;
 use jc_world::arguments::short_argument;
-use jc_world::{NativeResult, StepExit, Stretch, put, short};
+use jc_world::{NativeResult, StepExit, Stretch, short};
 use std::cmp::Ordering;
 
 // The index after the last of some elements of an array.
@@ -51,62 +46,46 @@ fn short_of(high: u8, low: u8) -> i16
     (u16::from(high) * 256 + u16::from(low)).cast_signed()
 }
 
-// `Util.arrayCopy`: copies bytes, as if through a copy and as one change; returns the index after the last
-// byte written.
-#[tactic(auto, unfolding(crate::specs::Util::util_array_copy))]
-fn util_array_copy<S: WordStore>(
+// `Util.arrayCopy` and `Util.arrayCopyNonAtomic`: copies bytes, as if through a copy; as one change, or those of a persistent
+// array one after another, each for good; returns the index after the last byte written.
+#[inline(never)]
+fn array_copy<S: WordStore>(
+    lasting: bool,
     args: &[Cell],
     memory: &mut Memory<S>,
     linked: &Linked,
 ) -> Result<NativeResult, StepExit>
     requires up { memory.old.heap.down ≡ false }
-    ensures { Executes (reading_call (util_array_copy args.now linked.now memory.old) linked.now
+    ensures { Executes (reading_call (array_copy lasting args.now linked.now memory.old) linked.now
         memory.old) memory.old
         (after_call result memory.new) }
 {
     let pair = named_pair(args, memory, linked)?;
-    copy(memory, pair.from, pair.to)?;
-    Ok(short(end_of(&pair.to)))
+    copy(memory, pair.from, pair.to, lasting)
 }
 
-// `Util.arrayFill`: sets elements to the low byte of a number, as one change; returns the index after the last
-// one written.
-#[tactic(auto, unfolding(crate::specs::Util::util_array_fill))]
-fn util_array_fill<S: WordStore>(
+// `Util.arrayFill` and `Util.arrayFillNonAtomic`: sets elements to the low byte of a number, likewise; returns the index after
+// the last one written.
+#[inline(never)]
+fn array_fill<S: WordStore>(
+    lasting: bool,
     args: &[Cell],
     memory: &mut Memory<S>,
     linked: &Linked,
 ) -> Result<NativeResult, StepExit>
     requires up { memory.old.heap.down ≡ false }
-    ensures { Executes (reading_call (util_array_fill args.now linked.now memory.old) linked.now
+    ensures { Executes (reading_call (array_fill lasting args.now linked.now memory.old) linked.now
         memory.old) memory.old
         (after_call result memory.new) }
 {
     let value = (short_argument(args, 3)?.cast_unsigned() % 256) as u8;
     let to = counted_of(0, args, memory, linked)?;
-    fill(memory, to, value)?;
-    Ok(short(end_of(&to)))
-}
-
-// Sets two elements to the bytes of a number, the high one first.
-fn put_short<S: WordStore>(
-    memory: &mut Memory<S>,
-    to: Stretch,
-    value: i16,
-) -> Result<(), ChangeRefusal>
-    requires up { memory.old.heap.down ≡ false }
-    requires there { IsInArray memory.old to }
-    requires two { to.count ≡ 2 }
-    ensures { Executes (cells_store memory.old to.array to.start (bytes_of_short value)) memory.old
-        (after_change result memory.new) }
-{
-    let word = value.cast_unsigned();
-    let bytes = [(word / 256) as u8, (word % 256) as u8];
-    put(memory, to, &bytes)
+    fill(memory, to, value, lasting)
 }
 
 // `Util.setShort`: sets two bytes as one change; returns the index after them.
 #[tactic(auto, unfolding(crate::specs::Util::util_set_short))]
+#[inline(never)]
 fn util_set_short<S: WordStore>(
     args: &[Cell],
     memory: &mut Memory<S>,
@@ -117,10 +96,10 @@ fn util_set_short<S: WordStore>(
         memory.old) memory.old
         (after_call result memory.new) }
 {
-    let value = short_argument(args, 2)?;
+    let word = short_argument(args, 2)?.cast_unsigned();
     let to = two_of(args, memory, linked)?;
-    put_short(memory, to, value)?;
-    Ok(short(end_of(&to)))
+    let bytes = [(word / 256) as u8, (word % 256) as u8];
+    store(memory, to, &bytes, false)
 }
 
 // `Util.getShort`: returns the short of two bytes.
@@ -189,6 +168,7 @@ fn order_of<S: WordStore>(memory: &Memory<S>, from: Stretch, to: Stretch) -> Ord
 
 // `Util.arrayCompare`: returns -1, 0 or 1, by the first byte that differs, as a number from 0 to 255.
 #[tactic(auto, unfolding(crate::specs::Util::util_array_compare))]
+#[inline(never)]
 fn util_array_compare<S: WordStore>(
     args: &[Cell],
     memory: &Memory<S>,
@@ -205,7 +185,8 @@ fn util_array_compare<S: WordStore>(
 }
 
 /// A call of a method of `Util`.
-#[tactic(auto, unfolding(crate::specs::Util::util_call, crate::specs::Util::util_answer))]
+#[tactic(auto, unfolding(crate::specs::Util::util_call, crate::specs::Util::util_answer, crate::specs::Util::util_array_copy, crate::specs::Util::util_array_copy_non_atomic, crate::specs::Util::util_array_fill, crate::specs::Util::util_array_fill_non_atomic))]
+#[inline(never)]
 pub fn call_util<S: WordStore>(
     method: UtilitiesMethod,
     args: &[Cell],
@@ -218,10 +199,10 @@ pub fn call_util<S: WordStore>(
 {
     match method {
         UtilitiesMethod::UtilArrayCompare => util_array_compare(args, memory, linked),
-        UtilitiesMethod::UtilArrayCopy => util_array_copy(args, memory, linked),
-        UtilitiesMethod::UtilArrayCopyNonAtomic => util_array_copy_non_atomic(args, memory, linked),
-        UtilitiesMethod::UtilArrayFill => util_array_fill(args, memory, linked),
-        UtilitiesMethod::UtilArrayFillNonAtomic => util_array_fill_non_atomic(args, memory, linked),
+        UtilitiesMethod::UtilArrayCopy => array_copy(false, args, memory, linked),
+        UtilitiesMethod::UtilArrayCopyNonAtomic => array_copy(true, args, memory, linked),
+        UtilitiesMethod::UtilArrayFill => array_fill(false, args, memory, linked),
+        UtilitiesMethod::UtilArrayFillNonAtomic => array_fill(true, args, memory, linked),
         UtilitiesMethod::UtilGetShort => util_get_short(args, memory, linked),
         UtilitiesMethod::UtilMakeShort => util_make_short(args, memory),
         UtilitiesMethod::UtilSetShort => util_set_short(args, memory, linked),

@@ -18,13 +18,13 @@ use Rattle.jc_frames.specs.declared.outcome.FrameExit.{FrameExit}
 use Rattle.jc_frames.specs.declared.outcome.FrameExit.TheVariants.{End}
 use Rattle.jc_frames.specs.declared.outcome.Outcome.TheVariants.{Fault}
 use Rattle.jc_world.specs.Answers.{and_then}
+use Rattle.jc_world.specs.Arrays.{bytes_in}
 use Rattle.jc_world.specs.NativeCalls.{NativeProgram, code_fault, if_ok, if_some}
 use Rattle.jc_world.specs.Objects.{some_or_fault}
 use Rattle.jc_world.specs.declared.arrays.Stretch.{Stretch}
 use Rattle.jc_api.specs.Arguments.{argument_bytes}
 use Rattle.jc_api.specs.Kinds.{have_kinds}
-use Rattle.jc_api_framework.specs.OwnerPin.{bytes_in, changed_or_thrown, owner_pin_check, owner_pin_update, pin_call, pin_comparison}
-use Rattle.jc_api_framework.specs.OwnerPin.Arguments.{is_own_value}
+use Rattle.jc_api_framework.specs.OwnerPin.{changed_or_thrown, is_own_value, owner_pin_check, owner_pin_update, pin_call, pin_comparison}
 use Rattle.jc_api_rows.specs.Reading.{elements_in, handed_out, has_array, number_in, stretches_in}
 use Rattle.jc_api_rows.specs.Rows.{IsReadSo, pin_weighs}
 use Rattle.jc_api_rows.proofs.ShortsRead.{given_faults}

@@ -39,7 +39,7 @@ use Rattle.jc_api_framework.specs.System.Transient.{jc_system_is_transient, jc_s
 abbrev three : ParameterKind → ParameterKind → ParameterKind → List ParameterKind
 three a b c = a ∷ b ∷ c ∷ []
 
--- what is told of a type of memory
+-- the answer about a type of memory
 abbrev told_by : MemoryState → ℤ → Stretch → NativeProgram
 told_by m type e = if_ok (available_bytes m type) (λ count. unless (cells_refusal m e.array e.start (shorts_of_count count))
     (Perform (cells_effect m e.array e.start (shorts_of_count count)) (return_value ReturnVoid)))

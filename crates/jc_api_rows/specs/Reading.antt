@@ -94,7 +94,7 @@ pub record IsReadByRow (method : PlatformMethod) (call : List Cell → Packages 
 abbrev pub is_null_in : List Cell → ℕ → Bool
 is_null_in args i = reference_in args i == 0
 
--- the same of a call that is told which arrays are null and what is refused, and may do something before it throws, or answer in place of that
+-- the same of a call that gets which arrays are null and what is refused, and may do something before it throws, or answer in place of that
 pub record IsWeighedByRow (method : PlatformMethod) (call : List Cell → Packages → MemoryState → NativeProgram) : Type 0 where
   pub wanting : Wanting
   pub next : ℕ → (ℕ → ℤ) → (ℕ → Bool) → Result (List Stretch) FrameExit → Packages → MemoryState → NativeProgram

@@ -125,7 +125,7 @@ classes_wrapped format bytes given = let w = wrapped contents.classes (classes_i
 
 -- ---- what is kept
 
--- a header tells its format
+-- a header states its format
 pub header_kept : (old : LoadedComponents) (format : Format) (bytes kept : List ℕ) (h : HeaderValue) → kept ≡ bytes → header_in kept ≡ Ok h
     → taken (Ok (Some h.format)) (record old { header = Some kept }) ≡ taken_with old 1 bytes (component_at format 1 bytes)
 unfolding with_component
@@ -146,7 +146,7 @@ told_none format tag info (contents.statics x) other is = refl
 told_none format tag info (contents.exports x) other is = refl
 told_none format tag info contents.unused other is = refl
 
--- the others tell none
+-- the others state none
 pub others_kept : (old : LoadedComponents) (format : Format) (tag : ℕ) (bytes kept : List ℕ) → eqb tag 1 ≡ false → kept ≡ bytes
     → IsReadable (component_at format tag bytes) → taken (Ok None) (with_component old tag kept) ≡ taken_with old tag bytes (component_at format tag bytes)
 others_kept old format tag bytes kept other same given =

@@ -46,7 +46,7 @@ abbrev pub all_if_present : {A : Type 0} → (A → Bool) → Option (List A) �
 all_if_present p (Some xs) = all_of_list p xs
 all_if_present p None = true
 
--- each Class offset names a record, each Method offset leaves room for a header behind the handlers
+-- each Class offset names a record, each Method offset leaves room for a header after the handlers
 abbrev pub offsets_fit : PackageContents → Bool
 offsets_fit c = all_if_present (applet_fits c.methods) c.applets
     && (all_of_list (entry_fits c.classes c.methods) c.pool

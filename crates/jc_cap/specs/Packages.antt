@@ -24,7 +24,7 @@ use Rattle.jc_cap.specs.Reading as reading
 abbrev pub NamesClass : List RecordAt → ℕ → Type 0
 NamesClass placed offset = Contains (offsets_of placed) offset
 
--- behind the handlers, with room for its header, a method begins at this offset
+-- after the handlers, with room for its header, a method begins at this offset
 abbrev pub NamesMethod : MethodParts → ℕ → Type 0
 NamesMethod methods offset = (m : MethodText) × (method_at methods offset ≡ Some m)
 

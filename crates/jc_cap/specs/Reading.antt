@@ -1,4 +1,4 @@
--- Reading the components of a package, the one with the lowest tag first. Its header tells the format of the others.
+-- Reading the components of a package, the one with the lowest tag first. Its header states the format of the others.
 use Rattle.std.specs.Prelude.{Result, Ok}
 use Rattle.jc_cap_linkage.specs.declared.fault.CapFault.{CapFault}
 use Rattle.jc_cap_linkage.specs.Reading.{◌>>=◌}

@@ -6,7 +6,7 @@ use Rattle.jc_cap.specs.Contents.{PackageContents}
 use Rattle.jc_cap_linkage.specs.Tags.{header_tag, directory_tag, applet_tag, import_tag, constant_pool_tag, class_tag, method_tag, static_field_tag}
 use Rattle.jc_cap_linkage.specs.Tags.{reference_location_tag, export_tag, descriptor_tag}
 
--- the size of a component's info: what stands behind its tag and its size
+-- the size of a component's info: what stands after its tag and its size
 abbrev pub size_of : List ℕ → ℕ
 size_of text = length text - 3
 

@@ -8,7 +8,7 @@ use Rattle.jc_cap.specs.Contents.{Content}
 use Rattle.jc_cap.specs.Contents as contents
 use Rattle.jc_cap.specs.Texts.{with_component}
 
--- the format that a component tells: that of a header
+-- the format that a component states: that of a header
 abbrev pub told_by : Content → Option Format
 told_by (contents.header h) = Some h.format
 told_by x = None

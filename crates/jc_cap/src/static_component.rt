@@ -11,7 +11,7 @@ use jc_cap_linkage::fault::CapFault;
 use jc_cap_linkage::tags;
 use std::marker::Model;
 
-// The numbers that the component tells.
+// The numbers that the component states.
 fn counts_in(bytes: &[u8]) -> Result<StaticCounts, CapFault>
     ensures { ParsesAs (λ x. x) result (counts_or_none (statics_in bytes.now)) }
 {
@@ -20,7 +20,7 @@ fn counts_in(bytes: &[u8]) -> Result<StaticCounts, CapFault>
     Ok(statics.counts())
 }
 
-/// A StaticField component that was read, and the numbers that it tells.
+/// A StaticField component that was read, and the numbers that it states.
 #[derive(Drop)]
 pub struct StaticFieldComponent {
     bytes: Vec<u8>,

@@ -59,7 +59,7 @@ impl LoadedComponents {
     }
 
     /// Reads the component with this tag that the bytes are, all of them: the tag, two bytes of size, and the info. It is kept in
-    /// place of an earlier one, and a Header component tells its format. Where it cannot be read nothing is kept.
+    /// place of an earlier one, and a Header component states its format. Where it cannot be read nothing is kept.
     ///
     /// A Directory and a Class component are read in this format. The bytes are moved, and no memory is taken. Of
     /// ReferenceLocation and Descriptor the size of the info is kept, and of other components nothing.
@@ -108,7 +108,7 @@ impl LoadedComponents {
         Ok(None)
     }
 
-    // A Header component, which tells its format.
+    // A Header component, which states its format.
     #[tactic(auto, unfolding(crate::specs::Texts::with_component))]
     fn take_header(&mut self, format: Format, bytes: Vec<u8>) -> Result<Option<Format>, CapFault>
         ensures { taken result self.new ≡ taken_with self.old header_tag bytes.items
@@ -157,7 +157,7 @@ impl LoadedComponents {
     }
 }
 
-// The size that a component's bytes tell of its info.
+// The size that a component's bytes state of its info.
 fn size_of(bytes: &[u8]) -> u16
     requires { length bytes.now < 65539 }
     ensures { result ≡ length bytes.now - 3 }

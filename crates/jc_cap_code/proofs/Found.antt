@@ -11,7 +11,7 @@ use Rattle.jc_cap_code.specs.ClassReading.{records_or_none}
 use Rattle.jc_cap_code.specs.ClassValues.{RecordAt}
 use Rattle.jc_cap_code.specs.MethodReading.{handler_at, methods_of}
 
--- what stands behind a list of parts of one size
+-- what stands after a list of parts of one size
 sized_many : {A : Type 0} (read : List ℕ → Field A) (size : ℕ) → HasSize read size → (n : ℕ) (bytes : List ℕ) (xs : List A) (rest : List ℕ)
     → many_at read n bytes ≡ Ok (xs, rest) → (n * size ≤ length bytes) × (drop (n * size) bytes ≡ rest)
 unfolding many_at
@@ -29,7 +29,7 @@ sized_many read size sized (suc n) bytes xs rest e =
     let short : n * size ≤ length (drop size bytes) = rw step.1 later.0 in
     (omega (arith, sum, short, step.0, length-drop size bytes), behind ∙ ap (drop (n * size)) step.1 ∙ later.1 ∙ ends)
 
--- a list of parts of one size, and what stands behind it
+-- a list of parts of one size, and what stands after it
 pub record Whole {A : Type 0} (read : List ℕ → Field A) (size n : ℕ) (bytes : List ℕ) : Type 0 where
   pub within : n * size ≤ length bytes
   pub list : IsList read n bytes

@@ -21,7 +21,7 @@ front_joined a b c d e v = rw (
   append_assoc d e v,
 ) refl
 
--- the values stand behind all else, and the arrays behind six bytes
+-- the values stand after all else, and the arrays after six bytes
 record Placed (s : StaticParts) (info : List ℕ) : Type 0 where
   front : List ℕ
   whole : info ≡ front ++ s.non_default_values

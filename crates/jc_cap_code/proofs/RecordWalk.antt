@@ -1,4 +1,4 @@
--- Records, one behind the other.
+-- Records, one after the other.
 use Rattle.std.proofs.Common.{◌≡◌, ℕ, zero, suc, ◌-◌, ◌+◌, ◌≤◌, ◌<◌, List, [], ◌∷◌, ◌++◌, length, get_or, drop, Bool, true, false, ◌||◌, eqb, Option, Some}
 use Rattle.std.proofs.Common.{None, Result, Ok, Err, refl, sym, ap, subst, ◌∙◌, append_assoc, arith}
 use Rattle.std.specs.Prelude.{slice_get, IfOk, IsOk}
@@ -196,7 +196,7 @@ pub start_fails : (format : Format) (info : List ℕ) (f : CapFault) → records
 unfolding classes_of
 start_fails format info f e = rw e refl
 
--- what stands behind a record is no longer than what stood there
+-- what stands after a record is no longer than what stood there
 pub no_longer : (known : ClassRef → Bool) (bytes next : List ℕ) (x : ClassRecord) → record_at known bytes ≡ Ok (x, next) → length next ≤ length bytes
 no_longer known bytes next x e =
     let t = record_takes known bytes x next e in

@@ -37,7 +37,7 @@ start_again V2_2 front start is =
     let regrouped : front ++ start ≡ is.0 ++ (is.1 ++ start) = ap (λ (t : List ℕ). t ++ start) is.3 ∙ append_assoc is.0 is.1 start in
     rw (regrouped, u2_tells.again (length is.1) is.0 (is.1 ++ start) is.2, run_again is.1 start) refl
 
--- how much stands there, and what stands behind it
+-- how much stands there, and what stands after it
 pub record Place (format : Format) (info start : List ℕ) : Type 0 where
   pub front : Front format info start
   pub long : length start ≤ length info

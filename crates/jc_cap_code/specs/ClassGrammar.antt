@@ -62,14 +62,14 @@ abbrev pub LooksBack : List ℕ → ClassRecord → Type 0
 LooksBack before (records.Interface i) = AreEarlier before i.superinterfaces
 LooksBack before (records.Class c) = IsEarlier before c.superclass
 
--- the records from an offset on, one behind the other, where others stand before them
+-- the records from an offset on, one after the other, where others stand before them
 abbrev pub AreRecords : ℕ → List ℕ → List RecordAt → List ℕ → Type 0
 AreRecords at before [] text = text ≡ []
 AreRecords at before (r ∷ rs) text = (front : List ℕ) × (back : List ℕ)
     × (r.offset ≡ at) × IsRecord r.contents front × LooksBack before r.contents
     × (text ≡ front ++ back) × AreRecords (at + length front) (before ++ at ∷ []) rs back
 
--- what stands in front of the records: nothing in format 2.1, in format 2.2 a signature pool of any bytes behind its length
+-- what stands in front of the records: nothing in format 2.1, in format 2.2 a signature pool of any bytes after its length
 abbrev pub IsInFront : Format → List ℕ → Type 0
 IsInFront V2_1 front = front ≡ []
 IsInFront V2_2 front = (size : List ℕ) × (pool : List ℕ) × IsU2 (length pool) size × (front ≡ size ++ pool)

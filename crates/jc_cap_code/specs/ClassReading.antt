@@ -113,7 +113,7 @@ record_at known bytes = do
         class ← class_at known flags.shareable (first.0 % 16) first.1
         Ok (records.Class class.0, class.1))
 
--- The records to the end of an info of this length, behind those at these offsets. No more are allowed than the first
+-- The records to the end of an info of this length, after those at these offsets. No more are allowed than the first
 -- number says.
 unfoldable pub records_at : ℕ → ℕ → List ℕ → List ℕ → Result (List RecordAt) CapFault
 records_at most total before [] = Ok []
@@ -123,7 +123,7 @@ records_at (suc most) total before (b ∷ bytes) = do
   others ← records_at most total (before ++ (total - suc (length bytes)) ∷ []) first.1
   Ok (record { offset = total - suc (length bytes); contents = first.0 } ∷ others)
 
--- the bytes behind what stands in front of the records: in format 2.2 the signature pool behind its length
+-- the bytes after what stands in front of the records: in format 2.2 the signature pool after its length
 unfoldable pub records_start : Format → List ℕ → Result (List ℕ) CapFault
 records_start V2_1 info = Ok info
 records_start V2_2 info = do

@@ -9,7 +9,7 @@ pub record Implemented : Type 0 where
   pub interface : ClassRef
   pub tokens : List ℕ
 
--- the interface, wherever it stands, and the tokens behind their number
+-- the interface, wherever it stands, and the tokens after their number
 unfoldable pub implemented_at : List ℕ → Field Implemented
 implemented_at bytes = do
   interface ← class_ref_at bytes

@@ -26,14 +26,14 @@ handler_at bytes = do
     catch_type.1,
   )
 
--- the handlers behind their count, and all that is left
+-- the handlers after their count, and all that is left
 unfoldable pub methods_of : List ℕ → Result MethodParts CapFault
 methods_of info = do
   count ← u1_at info
   handlers ← many_at handler_at count.0 count.1
   Ok (record { handlers = handlers.0; code = handlers.1 })
 
--- the offset of the first byte behind the handlers
+-- the offset of the first byte after the handlers
 abbrev pub methods_start : MethodParts → ℕ
 methods_start m = 1 + 8 * length m.handlers
 
@@ -75,6 +75,6 @@ unfoldable pub method_at : MethodParts → ℕ → Option MethodText
 method_at m offset = if nat_lt offset (methods_start m) then None
     else with_bytes (drop (offset - methods_start m) m.code) (header_of (drop (offset - methods_start m) m.code))
 
--- a method's header begins at the offset: it lies behind the handlers, and there is room for the header
+-- a method's header begins at the offset: it lies after the handlers, and there is room for the header
 abbrev pub has_room : MethodParts → ℕ → Bool
 has_room m offset = is_some (method_at m offset)

@@ -3,7 +3,7 @@ use Rattle.std.specs.Prelude.{ℕ, List}
 use Rattle.jc_cap_code.specs.declared.handlers.Handler.{Handler}
 use Rattle.jc_cap_code.specs.declared.methods.MethodHeader.{MethodHeader}
 
--- the exception handlers, and behind them the methods, to the end of the info
+-- the exception handlers, and after them the methods, to the end of the info
 pub record MethodParts : Type 0 where
   pub handlers : List Handler
   pub code : List ℕ

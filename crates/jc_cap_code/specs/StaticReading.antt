@@ -21,7 +21,7 @@ element_size Boolean = 1
 element_size Byte = 1
 element_size Short = 2
 
--- the type, and the bytes behind their number, which is one of whole elements
+-- the type, and the bytes after their number, which is one of whole elements
 unfoldable pub static_array_at : List ℕ → Field StaticArray
 static_array_at bytes = do
   element_type ← element_type_at bytes
@@ -31,7 +31,7 @@ static_array_at bytes = do
     Ok (record { element_type = element_type.0; values = values.0 }, values.1))
       else Err BadOffset
 
--- the arrays behind their count, which is at most that of the references
+-- the arrays after their count, which is at most that of the references
 unfoldable pub static_arrays_at : ℕ → List ℕ → Field (List StaticArray)
 static_arrays_at references bytes = do
   count ← u2_at bytes

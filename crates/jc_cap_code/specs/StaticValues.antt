@@ -8,7 +8,7 @@ pub record StaticArray : Type 0 where
   pub values : List ℕ
 
 -- the static field image: its size in bytes, how many references it begins with, the arrays that the first of them
--- refer to, how many zeros follow the references, and the bytes behind those
+-- refer to, how many zeros follow the references, and the bytes after those
 pub record StaticParts : Type 0 where
   pub image_size : ℕ
   pub reference_count : ℕ

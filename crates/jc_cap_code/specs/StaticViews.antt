@@ -19,7 +19,7 @@ static_parts s = record {
   non_default_values = s.non_default_values.now;
 }
 
--- the numbers that it tells
+-- the numbers that it states
 abbrev pub static_counts : StaticParts → StaticCounts
 static_counts s = record {
   image_size = s.image_size;
@@ -29,7 +29,7 @@ static_counts s = record {
   non_default_count = length s.non_default_values;
 }
 
--- it can be read, and tells these numbers
+-- it can be read, and states these numbers
 abbrev pub TellsCounts : StaticCounts → Result StaticParts CapFault → Type 0
 TellsCounts counts read = (s : StaticParts) × (read ≡ Ok s) × (counts ≡ static_counts s)
 

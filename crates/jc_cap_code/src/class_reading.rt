@@ -215,7 +215,7 @@ fn read_class_info<'a>(
     Ok((class, rest))
 }
 
-/// The record that the bytes begin with, and the bytes behind it.
+/// The record that the bytes begin with, and the bytes after it.
 #[tactic(auto, unfolding(crate::specs::ClassReading::record_at))]
 pub(crate) fn read_record<'a>(
     known: Known<'_>,

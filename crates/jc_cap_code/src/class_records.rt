@@ -5,7 +5,7 @@ use jc_cap_linkage::class_refs::ClassRef;
 use jc_cap_linkage::lists::U2List;
 
 /// The flags of a record. A remote interface (ACC_REMOTE) has no record here, since it is refused.
-#[derive(Clone, Copy, Drop, PartialEq, Eq)]
+#[derive(Clone, Copy, Drop)]
 pub struct RecordFlags {
     /// ACC_INTERFACE.
     pub interface: bool,
@@ -14,7 +14,7 @@ pub struct RecordFlags {
 }
 
 /// Which of a class's declared fields hold references.
-#[derive(Clone, Copy, Drop, PartialEq, Eq)]
+#[derive(Clone, Copy, Drop)]
 pub struct ReferenceFields {
     /// The token of the first one; 255 where there is none.
     pub first_token: u8,

@@ -14,7 +14,7 @@ use jc_cap_linkage::fields::{run, u2};
 use jc_cap_linkage::formats::Format;
 use std::marker::Model;
 
-/// The bytes behind what stands in front of the records: in format 2.2 the signature pool.
+/// The bytes after what stands in front of the records: in format 2.2 the signature pool.
 #[tactic(auto, unfolding(crate::specs::ClassReading::records_start))]
 fn records_start(format: Format, info: &[u8]) -> Result<&[u8], CapFault>
     ensures { ParsesAs (λ x. x.now) result (records_start format info.now) }
@@ -137,7 +137,7 @@ pub fn read_class(format: Format, info: &[u8]) -> Result<Classes<'_>, CapFault>
 }
 
 impl<'a> Classes<'a> {
-    /// The classes that an info is which was read before in this format, and whose records begin at these offsets. They are
+    /// The classes in an info which was read before in this format, and whose records begin at these offsets. They are
     /// found again without reading them.
     pub fn found_in(format: Format, info: &'a [u8], offsets: &ArrayVec<u16, 256>) -> Classes<'a>
         requires readable { IsReadable (classes_of format info.now) }

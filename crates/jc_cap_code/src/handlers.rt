@@ -10,11 +10,11 @@ use jc_cap_linkage::fields::{u1, u2};
 use std::marker::Model;
 
 /// An exception handler (`exception_handler_info` of the Java Card CAP format).
-#[derive(Clone, Copy, Drop, PartialEq, Eq)]
+#[derive(Clone, Copy, Drop)]
 pub struct Handler {
     /// The offset of the first byte that it watches over, in the component's info.
     pub start_offset: u16,
-    /// That no handler behind this one watches over the same bytes.
+    /// That no handler after this one watches over the same bytes.
     pub stop: bool,
     /// How many bytes it watches over, up to 32767.
     pub active_length: u16,
@@ -99,7 +99,7 @@ pub(crate) fn read_handlers(count: u8, bytes: &[u8]) -> Result<(Handlers<'_>, &[
     Ok((Handlers { count, bytes }, rest))
 }
 
-/// As many handlers as are counted, which were read before, and the bytes behind them: found again without reading them.
+/// As many handlers as are counted, which were read before, and the bytes after them: found again without reading them.
 pub(crate) fn handlers_found_in(count: u8, bytes: &[u8]) -> (Handlers<'_>, &[u8])
     requires { IsReadable (many_at handler_at count bytes.now) }
     ensures { many_at handler_at count bytes.now ≡ Ok (result.0, result.1.now) }

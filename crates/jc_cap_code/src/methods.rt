@@ -12,7 +12,7 @@ use jc_cap_linkage::fault::CapFault;
 use jc_cap_linkage::fields::u1;
 
 /// The header of a method (`method_header_info` and `extended_method_header_info` of the Java Card CAP format).
-#[derive(Clone, Copy, Drop, PartialEq, Eq)]
+#[derive(Clone, Copy, Drop)]
 pub struct MethodHeader {
     /// Whether it has four bytes in place of two.
     pub extended: bool,
@@ -37,7 +37,7 @@ pub struct Method<'a> {
 #[derive(Drop)]
 pub struct Methods<'a> {
     pub handlers: Handlers<'a>,
-    /// The methods, from the first byte behind the handlers to the end.
+    /// The methods, from the first byte after the handlers to the end.
     pub code: &'a [u8],
 }
 
@@ -124,7 +124,7 @@ impl<'a> Methods<'a> {
         }
     }
 
-    /// The offset, in the info, of the first byte behind the handlers.
+    /// The offset, in the info, of the first byte after the handlers.
     pub fn start(&self) -> u16
         ensures { result ≡ methods_start (method_parts self.now) }
     {
@@ -151,7 +151,7 @@ impl<'a> Methods<'a> {
         Some(Method { header, bytes })
     }
 
-    /// Whether a method's header begins at the offset: whether the offset lies behind the handlers, and leaves room for the
+    /// Whether a method's header begins at the offset: whether the offset lies after the handlers, and leaves room for the
     /// header.
     pub fn has_room(&self, offset: u16) -> bool
         ensures { result ≡ has_room (method_parts self.now) offset }

@@ -11,7 +11,7 @@ use jc_cap_linkage::fields::{run, u1, u2};
 use std::marker::Model;
 
 /// What an initialised array holds.
-#[derive(Clone, Copy, Drop, PartialEq, Eq)]
+#[derive(Clone, Copy, Drop)]
 pub enum ElementType {
     Boolean,
     Byte,
@@ -35,7 +35,7 @@ impl ElementType {
 #[derive(Clone, Copy, Drop)]
 pub struct ArrayInit<'a> {
     pub element_type: ElementType,
-    /// The elements, one behind the other; a short has its high byte first.
+    /// The elements, one after the other; a short has its high byte first.
     pub values: &'a [u8],
 }
 
@@ -166,7 +166,7 @@ impl<'a> ArrayInits<'a> {
         size_of_all(self.count, self.bytes)
     }
 
-    /// The first array, whose number of bytes is told in two bytes, and the others.
+    /// The first array, whose number of bytes stands in two bytes, and the others.
     pub fn split_first(&self) -> Option<(ArrayInit<'a>, ArrayInits<'a>)>
         ensures first { MatchOption result (self.now ≡ [])
             (λ x. self.now ≡ static_array x.0 ∷ x.1) }

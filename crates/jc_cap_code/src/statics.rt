@@ -91,7 +91,7 @@ pub fn read_static_field(info: &[u8]) -> Result<StaticFields<'_>, CapFault>
     read_whole(info)
 }
 
-/// The numbers that a StaticField component tells. Where they are kept once it was read, it is not read a second time.
+/// The numbers that a StaticField component states. Where they are kept once it was read, it is not read a second time.
 #[derive(Clone, Copy, Drop)]
 pub struct StaticCounts {
     pub image_size: u16,
@@ -102,7 +102,7 @@ pub struct StaticCounts {
 }
 
 impl<'a> StaticFields<'a> {
-    /// The numbers that the component tells.
+    /// The numbers that the component states.
     pub fn counts(&self) -> StaticCounts
         ensures { result ≡ static_counts (static_parts self.now) }
     {
@@ -115,7 +115,7 @@ impl<'a> StaticFields<'a> {
         }
     }
 
-    /// The static fields that an info is which was read before, and which tells these numbers. Nothing is read a second time.
+    /// The static fields in an info which was read before, and which states these numbers. Nothing is read a second time.
     pub fn found_in(counts: StaticCounts, info: &'a [u8]) -> StaticFields<'a>
         requires { TellsCounts counts (value_of_whole (statics_at info.now)) }
         ensures { value_of_whole (statics_at info.now) ≡ Ok (static_parts result) }

@@ -11,7 +11,7 @@ use Rattle.jc_cap_linkage.proofs.Wholes.{whole_reads}
 after : {A B : Type 0} (r : Result A CapFault) (f : A → Result B CapFault) (x : A) (y : B) → (r >>= f) ≡ Ok y → r ≡ Ok x → f x ≡ Ok y
 after r f x y e is = sym (ap (λ z. z >>= f) is) ∙ e
 
--- the list that a whole info is, behind its count
+-- the list that a whole info is, after its count
 pub counted_again : {A : Type 0} (read : List ℕ → Field A) (count : Field ℕ) (n : ℕ) (bytes : List ℕ)
     → IsReadable (value_of_whole (count >>= λ c. many_at read c.0 c.1)) → count ≡ Ok (n, bytes)
     → IsList read n bytes × (value_of_whole (count >>= λ c. many_at read c.0 c.1) ≡ Ok (list_or_empty (many_at read n bytes)))

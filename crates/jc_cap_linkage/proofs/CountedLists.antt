@@ -1,4 +1,4 @@
--- Lists behind a byte of count.
+-- Lists after a byte of count.
 use Rattle.std.proofs.Common.{◌≡◌, ℕ, List, ◌∷◌, ◌++◌, length, Ok, sym, ap, ◌∙◌, append_assoc}
 use Rattle.jc_cap_linkage.specs.Reading.{◌>>=◌, Field, u1_at, many_at}
 use Rattle.jc_cap_linkage.specs.Grammar.{AreEncodedInTurn}
@@ -18,6 +18,6 @@ counted_takes read Is tells bytes xs rest e =
           ∙ ap (λ (k : ℕ). k ∷ (t.0.text ++ rest)) (sym t.1),
     )
 
--- one part behind another
+-- one part after another
 pub joined : (bytes a b rest0 rest : List ℕ) → bytes ≡ a ++ rest0 → rest0 ≡ b ++ rest → bytes ≡ (a ++ b) ++ rest
 joined bytes a b rest0 rest e f = e ∙ ap (λ (s : List ℕ). a ++ s) f ∙ sym (append_assoc a b rest)

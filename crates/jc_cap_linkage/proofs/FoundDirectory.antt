@@ -48,7 +48,7 @@ numbers (suc n) bytes xs rest e =
       long = (let l = u.long in omega (arith, l));
     }
 
--- a directory, with its bytes behind the sizes
+-- a directory, with its bytes after the sizes
 record Placed (format : Format) (info : List ℕ) : Type 0 where
   d : Directory
   says : value_of_whole (directory_at format info) ≡ Ok d
@@ -137,7 +137,7 @@ has_sizes format info count given e =
     let front = n.long in
     omega (arith, long, front, e)
 
--- what stands behind the sizes
+-- what stands after the sizes
 abbrev pub back : List ℕ → ℕ → List ℕ
 back info count = drop (2 * count) info
 
@@ -159,7 +159,7 @@ are_sizes format info count given e =
     let said : list_or_empty (many_at u2_at count info) ≡ p.d.component_sizes = listed_as (many_at u2_at count info) p.d.component_sizes p.behind there in
     (p.behind, there ∙ ap (λ xs. Ok (xs, p.behind)) (sym said))
 
--- what stands behind the counts
+-- what stands after the counts
 abbrev pub last_of : List ℕ → List ℕ
 last_of behind = take (length behind - 9) (drop 9 behind)
 

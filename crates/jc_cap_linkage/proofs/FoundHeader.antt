@@ -11,7 +11,7 @@ use Rattle.jc_cap_linkage.proofs.Many.{ok_is}
 use Rattle.jc_cap_linkage.proofs.ToldHeader.{header_tells, name_again, name_takes}
 use Rattle.jc_cap_linkage.proofs.Wholes.{whole_reads, whole_takes}
 
--- a name of format 2.2 stands behind its length
+-- a name of format 2.2 stands after its length
 pub behind_count : (bytes name : List ℕ) → value_of_whole (name_at V2_2 bytes) ≡ Ok name → bytes ≡ length name ∷ name
 behind_count bytes name e =
     let n = name_takes V2_2 bytes name [] (whole_reads (name_at V2_2 bytes) name e) in
@@ -64,7 +64,7 @@ long_enough info given = let l = laid_of info given in let is = ap length l.is i
 pub has_format : (info : List ℕ) → IsReadable (value_of_whole (header_at info)) → IsReadable (format_of (slice_index_or info 4 0))
 has_format info given = let l = laid_of info given in (l.h.format, ap (λ (t : List ℕ). format_of (slice_index_or t 4 0)) l.is ∙ format_is l.h.format)
 
--- what stands behind the AID's length
+-- what stands after the AID's length
 abbrev pub rest_of : List ℕ → List ℕ
 rest_of info = take (length info - 10) (drop 10 info)
 

@@ -125,7 +125,7 @@ pub record AtPlace {A : Type 0} (read : List ℕ → Field A) (i : ℕ) (xs : Li
   pub found : slice_get xs i ≡ Some x
   pub held : BeginsWithList read (length xs - (i + 1)) next (drop (i + 1) xs)
 
--- ---- a loop whose step tells only what stands after
+-- ---- a loop whose step says only what stands after
 
 pub after_ok : {A : Type 0} (r : Field A) (next : List ℕ) → rest_after r ≡ Ok next → (x : A) × (r ≡ Ok (x, next))
 after_ok (Ok x) next e = (x.0, ap (λ (t : List ℕ). Ok (x.0, t)) (ok_is x.1 next e))

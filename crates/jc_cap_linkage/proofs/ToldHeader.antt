@@ -79,7 +79,7 @@ flags_again true false rest = refl
 flags_again false true rest = refl
 flags_again false false rest = refl
 
--- a name, and what stands behind it
+-- a name, and what stands after it
 pub record NameTaken (format : Format) (bytes name rest : List ℕ) : Type 0 where
   pub text : List ℕ
   pub is : IsName format name text

@@ -94,7 +94,7 @@ static_ref_again (External package_token class_token token) text rest is =
 tagged : (bytes rest : List ℕ) (t n : ℕ) → bytes ≡ t ∷ rest → eqb t n ≡ true → bytes ≡ n ∷ rest
 tagged bytes rest t n front same = front ∙ ap (λ (h : ℕ). h ∷ rest) (eqb-true _ _ same)
 
--- a class reference and a byte behind a tag
+-- a class reference and a byte after a tag
 class_and_byte : (tag : ℕ) (bytes rest0 rest1 rest : List ℕ) (c : ClassRef) (b : ℕ) → bytes ≡ tag ∷ rest0 → IsPrefixEncoding IsClassRef rest0 c rest1
     → u1_at rest1 ≡ Ok (b, rest) → (class : List ℕ) × IsClassRef c class × (bytes ≡ (tag ∷ (class ++ b ∷ [])) ++ rest)
 class_and_byte tag bytes rest0 rest1 rest c b front t e = (
@@ -104,7 +104,7 @@ class_and_byte tag bytes rest0 rest1 rest c b front t e = (
       (joined rest0 t.text (b ∷ []) rest1 rest t.parts (u1_takes rest1 b rest e)),
 )
 
--- a class reference and a token behind a tag
+-- a class reference and a token after a tag
 class_and_token : (tag : ℕ) (bytes rest0 rest1 rest : List ℕ) (c : ClassRef) (v : VirtualToken) → bytes ≡ tag ∷ rest0
     → IsPrefixEncoding IsClassRef rest0 c rest1 → IsPrefixEncoding IsVirtualToken rest1 v rest
     → (class : List ℕ) × (token : List ℕ) × IsClassRef c class × IsVirtualToken v token × (bytes ≡ (tag ∷ (class ++ token)) ++ rest)

@@ -1,4 +1,4 @@
--- Texts that a field is all of.
+-- Fields whose texts are a whole info.
 use Rattle.std.proofs.Common.{◌≡◌, ℕ, List, [], length, eqb, Result, Ok, Err, refl, sym, ap, subst, ◌∙◌}
 use Rattle.std.specs.Prelude.{IfOk}
 use Rattle.std.proofs.lemmas.Bool.{eqb-true}

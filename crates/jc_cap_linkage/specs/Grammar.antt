@@ -4,7 +4,7 @@ use Rattle.jc_cap_linkage.specs.declared.class_refs.ClassRef.{ClassRef}
 use Rattle.jc_cap_linkage.specs.declared.class_refs.ClassRef.TheVariants.{Internal, External}
 use Rattle.jc_cap_linkage.specs.Packages.{NamedPackage}
 
--- the texts of the values, one behind the other
+-- the texts of the values, one after the other
 abbrev pub AreEncodedInTurn : {A : Type 0} → (A → List ℕ → Type 0) → List A → List ℕ → Type 0
 AreEncodedInTurn Is [] text = text ≡ []
 AreEncodedInTurn Is (x ∷ xs) text = (front : List ℕ) × (back : List ℕ) × Is x front × (text ≡ front ++ back) × AreEncodedInTurn Is xs back
@@ -13,7 +13,7 @@ AreEncodedInTurn Is (x ∷ xs) text = (front : List ℕ) × (back : List ℕ) ×
 abbrev pub IsU2 : ℕ → List ℕ → Type 0
 IsU2 n text = (high : ℕ) × (low : ℕ) × (text ≡ high ∷ low ∷ []) × (n ≡ high * 256 + low)
 
--- an AID of 5 to 16 bytes behind its length
+-- an AID of 5 to 16 bytes after its length
 abbrev pub IsAid : List ℕ → List ℕ → Type 0
 IsAid aid text = (text ≡ length aid ∷ aid) × (5 ≤ length aid) × (length aid ≤ 16)
 

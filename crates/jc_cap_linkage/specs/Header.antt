@@ -48,7 +48,7 @@ flags_at bytes = do
   flags ← u1_at bytes
   if flags.0 % 2 == 1 then Err UsesInt else if nat_lt 7 flags.0 then Err BadOffset else Ok ((flags.0 / 2 % 2 == 1, nat_lt 3 flags.0), flags.1)
 
--- the name behind its length, in format 2.2 alone
+-- the name after its length, in format 2.2 alone
 unfoldable pub name_at : Format → List ℕ → Field (List ℕ)
 name_at V2_1 bytes = Ok ([], bytes)
 name_at V2_2 bytes = do
@@ -68,7 +68,7 @@ header_at bytes = do
 abbrev pub flags_byte : Bool → Bool → ℕ
 flags_byte exports applets = (if exports then 2 else 0) + (if applets then 4 else 0)
 
--- the name behind its length; in format 2.1 there is none
+-- the name after its length; in format 2.1 there is none
 abbrev pub IsName : Format → List ℕ → List ℕ → Type 0
 IsName V2_1 name text = (name ≡ []) × (text ≡ [])
 IsName V2_2 name text = text ≡ length name ∷ name

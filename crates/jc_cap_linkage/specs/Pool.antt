@@ -17,7 +17,7 @@ virtual_token_at bytes = do
   token ← u1_at bytes
   if nat_lt token.0 128 then Ok (Public token.0, token.1) else Ok (PackageVisible (token.0 - 128), token.1)
 
--- an internal offset behind a byte 0, or three tokens of which the first has its high bit set
+-- an internal offset after a byte 0, or three tokens of which the first has its high bit set
 unfoldable pub static_ref_at : List ℕ → Field StaticRef
 static_ref_at bytes = do
   high ← u1_at bytes

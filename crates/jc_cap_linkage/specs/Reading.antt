@@ -33,13 +33,13 @@ u2_at (a ∷ b ∷ rest) = Ok (a * 256 + b, rest)
 abbrev pub run_at : ℕ → List ℕ → Field (List ℕ)
 run_at n bytes = if nat_lt (length bytes) n then Err Truncated else Ok (take n bytes, drop n bytes)
 
--- an AID behind its length, which is 5 to 16
+-- an AID after its length, which is 5 to 16
 unfoldable pub aid_at : List ℕ → Field (List ℕ)
 aid_at bytes = do
   n ← u1_at bytes
   if nat_lt n.0 5 then Err BadOffset else if nat_lt 16 n.0 then Err BadOffset else run_at n.0 n.1
 
--- as many of them as are counted, one behind the other
+-- as many of them as are counted, one after the other
 unfoldable pub many_at : {A : Type 0} → (List ℕ → Field A) → ℕ → List ℕ → Field (List A)
 many_at read zero bytes = Ok ([], bytes)
 many_at read (suc n) bytes = do

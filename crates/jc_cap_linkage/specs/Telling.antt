@@ -3,7 +3,7 @@ use Rattle.std.specs.Prelude.{◌≡◌, ◌↔◌, ℕ, List, ◌++◌, length,
 use Rattle.jc_cap_linkage.specs.Reading.{Field, many_at, value_of_whole}
 use Rattle.jc_cap_linkage.specs.Grammar.{AreEncodedInTurn}
 
--- The bytes begin with a text of x, behind which the rest stands.
+-- The bytes begin with a text of x, after which the rest stands.
 pub record IsPrefixEncoding {A : Type 0} (Is : A → List ℕ → Type 0) (bytes : List ℕ) (x : A) (rest : List ℕ) : Type 0 where
   pub text : List ℕ
   pub is : Is x text
@@ -14,7 +14,7 @@ pub record ReadsEncodings {A : Type 0} (read : List ℕ → Field A) (Is : A →
   pub takes : (bytes : List ℕ) (x : A) (rest : List ℕ) → read bytes ≡ Ok (x, rest) → IsPrefixEncoding Is bytes x rest
   pub again : (x : A) (text rest : List ℕ) → Is x text → read (text ++ rest) ≡ Ok (x, rest)
 
--- A counted list of what is told is told.
+-- Lists with a count are read so where their elements are.
 abbrev pub ReadsListEncodings : {A : Type 0} → (List ℕ → Field A) → (A → List ℕ → Type 0) → Type 0
 ReadsListEncodings read Is = ((n : ℕ) (bytes : List ℕ) (xs : List _) (rest : List ℕ) → many_at read n bytes ≡ Ok (xs, rest)
     → IsPrefixEncoding (AreEncodedInTurn Is) bytes xs rest × (length xs ≡ n))

@@ -86,7 +86,7 @@ fn whole_applets(info: &[u8]) -> Result<Applets<'_>, CapFault>
     Ok(applets)
 }
 
-/// The applets that an info is.
+/// The applets in an info.
 pub fn read_applets(info: &[u8]) -> Result<Applets<'_>, CapFault>
     // What is read stands in the info.
     ensures found { IfOk result (λ x. IsApplets x info.now) }
@@ -99,7 +99,7 @@ pub fn read_applets(info: &[u8]) -> Result<Applets<'_>, CapFault>
 }
 
 impl<'a> Applets<'a> {
-    /// The applets that an info is which was read before. They are found again without reading it.
+    /// The applets in an info which was read before. They are found again without reading it.
     pub fn found_in(info: &'a [u8]) -> Applets<'a>
         requires { IsReadable (value_of_whole (applets_at info.now)) }
         ensures { value_of_whole (applets_at info.now) ≡ Ok result }

@@ -7,7 +7,7 @@ use crate::fault::CapFault;
 use crate::fields::u1;
 
 /// A class or an interface (`class_ref` of the Java Card CAP format).
-#[derive(Clone, Copy, Drop, PartialEq, Eq)]
+#[derive(Clone, Copy, Drop)]
 pub enum ClassRef {
     /// In this package: the offset of its record in the Class component's info, below 32768.
     Internal(u16),

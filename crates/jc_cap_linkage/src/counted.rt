@@ -1,4 +1,4 @@
-//! Counted parts, one behind the other.
+//! Counted parts, one after the other.
 ghost use Rattle.std.specs.Prelude.{◌≡◌, ◌<◌, ℕ, List, Result};
 ghost use Rattle.jc_cap_linkage.specs.declared.fault.CapFault.{CapFault};
 ghost use Rattle.jc_cap_linkage.specs.Reading.{ParsesAs, many_at, rest_after};

@@ -12,7 +12,7 @@ use crate::formats::Format;
 use crate::lists::{U2List, u2_list};
 
 /// What the package says of its static image (`static_field_size_info` of the Java Card CAP format).
-#[derive(Clone, Copy, Drop, PartialEq, Eq)]
+#[derive(Clone, Copy, Drop)]
 pub struct StaticFieldSize {
     /// How many bytes the static image has.
     pub image_size: u16,
@@ -88,7 +88,7 @@ fn whole_directory(format: Format, info: &[u8]) -> Result<Directory<'_>, CapFaul
     Ok(directory)
 }
 
-/// The directory that an info is.
+/// The directory in an info.
 pub fn read_directory(format: Format, info: &[u8]) -> Result<Directory<'_>, CapFault>
     // What is read stands in the info.
     ensures found { IfOk result (λ x. IsDirectory format x info.now) }
@@ -109,7 +109,7 @@ fn number(high: u8, low: u8) -> u16
 }
 
 impl<'a> Directory<'a> {
-    /// The directory that an info is which was read before in this format. Its fields are taken from their places, and nothing
+    /// The directory in an info which was read before in this format. Its fields are taken from their places, and nothing
     /// is tested again.
     pub fn found_in(format: Format, info: &'a [u8]) -> Directory<'a>
         requires { IsReadable (value_of_whole (directory_at format info.now)) }

@@ -95,7 +95,7 @@ fn whole_exports(info: &[u8]) -> Result<Exports<'_>, CapFault>
     Ok(exports)
 }
 
-/// The exported classes that an info is.
+/// The exported classes in an info.
 pub fn read_exports(info: &[u8]) -> Result<Exports<'_>, CapFault>
     // What is read stands in the info.
     ensures found { IfOk result (λ x. IsExports x info.now) }
@@ -109,7 +109,7 @@ pub fn read_exports(info: &[u8]) -> Result<Exports<'_>, CapFault>
 }
 
 impl<'a> Exports<'a> {
-    /// The classes that an info is which was read before. They are found again without reading it.
+    /// The classes in an info which was read before. They are found again without reading it.
     pub fn found_in(info: &'a [u8]) -> Exports<'a>
         requires { IsReadable (value_of_whole (exports_at info.now)) }
         ensures { value_of_whole (exports_at info.now) ≡ Ok result }

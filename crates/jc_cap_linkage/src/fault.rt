@@ -5,7 +5,7 @@ ghost use Rattle.jc_cap_linkage.specs.Numbers.{number};
 use thiserror::Error;
 
 /// The first mismatch, from left to right.
-#[derive(Clone, Copy, Debug, Drop, PartialEq, Eq, Error)]
+#[derive(Clone, Copy, Debug, Drop, Error)]
 pub enum CapFault {
     #[error("the component ends too early")]
     Truncated,

@@ -35,7 +35,7 @@ pub fn run(count: usize, bytes: &[u8]) -> Result<(&[u8], &[u8]), CapFault>
     Ok(bytes.split_at(count))
 }
 
-/// An AID behind a byte with its length, 5 to 16. BadOffset for another length.
+/// An AID after a byte with its length, 5 to 16. BadOffset for another length.
 #[tactic(auto, unfolding(crate::specs::Reading::aid_at))]
 pub fn aid(bytes: &[u8]) -> Result<(&[u8], &[u8]), CapFault>
     ensures { ParsesAs (λ x. (x.0.now, x.1.now)) result (aid_at bytes.now) }

@@ -1,6 +1,6 @@
 //! The formats of CAP files that are read.
 
-/// A format, by its major and minor version. A package's Header component tells it, and its Directory and Class components
+/// A format, by its major and minor version. A package's Header component states it, and its Directory and Class components
 /// are read by it.
 #[derive(Clone, Copy, Drop, PartialEq, Eq)]
 pub enum Format {

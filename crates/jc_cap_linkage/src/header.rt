@@ -91,7 +91,7 @@ fn flags(bytes: &[u8]) -> Result<((bool, bool), &[u8]), CapFault>
     Ok(((exports, has_applets), rest))
 }
 
-/// The package's name behind its length, which format 2.2 alone has.
+/// The package's name after its length, which format 2.2 alone has.
 #[tactic(auto, unfolding(crate::specs::Header::name_at))]
 fn name(format: Format, bytes: &[u8]) -> Result<(&[u8], &[u8]), CapFault>
     ensures { ParsesAs (λ x. (x.0.now, x.1.now)) result (name_at format bytes.now) }
@@ -134,7 +134,7 @@ fn whole_header(info: &[u8]) -> Result<Header<'_>, CapFault>
     Ok(header)
 }
 
-/// The header that an info is. It tells its format.
+/// The header in an info. It states its format.
 pub fn read_header(info: &[u8]) -> Result<Header<'_>, CapFault>
     // What is read stands in the info.
     ensures found { IfOk result (λ x. IsHeader (head x) info.now) }
@@ -157,7 +157,7 @@ fn format_found(minor: u8) -> Format
     }
 }
 
-/// The name behind the package's version and AID.
+/// The name after the package's version and AID.
 fn name_found(format: Format, bytes: &[u8]) -> &[u8]
     requires { IsReadable (value_of_whole (name_at format bytes.now)) }
     ensures { value_of_whole (name_at format bytes.now) ≡ Ok result.now }
@@ -172,7 +172,7 @@ fn name_found(format: Format, bytes: &[u8]) -> &[u8]
 }
 
 impl<'a> Header<'a> {
-    /// The header that an info is which was read before. Its fields are taken from their places, and nothing is tested again.
+    /// The header in an info which was read before. Its fields are taken from their places, and nothing is tested again.
     pub fn found_in(info: &'a [u8]) -> Header<'a>
         requires { IsReadable (value_of_whole (header_at info.now)) }
         ensures { value_of_whole (header_at info.now) ≡ Ok (head result) }

@@ -52,7 +52,7 @@ fn whole_imports(info: &[u8]) -> Result<Imports<'_>, CapFault>
     Ok(imports)
 }
 
-/// The imported packages that an info is.
+/// The imported packages in an info.
 pub fn read_imports(info: &[u8]) -> Result<Imports<'_>, CapFault>
     // What is read stands in the info.
     ensures found { IfOk result (λ x. IsImports x info.now) }
@@ -66,7 +66,7 @@ pub fn read_imports(info: &[u8]) -> Result<Imports<'_>, CapFault>
 }
 
 impl<'a> Imports<'a> {
-    /// The packages that an info is which was read before. They are found again without reading it.
+    /// The packages in an info which was read before. They are found again without reading it.
     pub fn found_in(info: &'a [u8]) -> Imports<'a>
         requires { IsReadable (value_of_whole (imports_at info.now)) }
         ensures { value_of_whole (imports_at info.now) ≡ Ok result }

@@ -16,7 +16,7 @@ pub struct PackageInfo<'a> {
     pub aid: &'a [u8],
 }
 
-/// A minor and a major version, and an AID behind its length.
+/// A minor and a major version, and an AID after its length.
 #[tactic(auto, unfolding(crate::specs::Packages::package_at))]
 pub fn package_info(bytes: &[u8]) -> Result<(PackageInfo<'_>, &[u8]), CapFault>
     ensures { ParsesAs (λ x. (package_info x.0, x.1.now)) result (package_at bytes.now) }

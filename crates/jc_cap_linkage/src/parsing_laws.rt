@@ -20,12 +20,12 @@ pub fn class_references_are_told()
     ensures { ReadsEncodings class_ref_at IsClassRef }
 {}
 
-/// The same of counted lists of them. The proof is one for lists of whatever is told.
+/// The same of counted lists of them. The proof is one for lists of any values.
 pub fn lists_are_told()
     ensures { ReadsListEncodings class_ref_at IsClassRef }
 {}
 
-/// A whole info is read exactly where it is a text. The proof is one for whatever is told.
+/// A whole info is read exactly where it is a text. The proof is one for any values.
 pub fn wholes_are_told()
     ensures { ReadsWholeEncodings class_ref_at IsClassRef }
 {}

@@ -12,7 +12,7 @@ use crate::fields::{u1, u2};
 use std::marker::Model;
 
 /// The token of a virtual method, 0 to 127, and who may see the method.
-#[derive(Clone, Copy, Drop, PartialEq, Eq)]
+#[derive(Clone, Copy, Drop)]
 pub enum VirtualToken {
     /// It is public or protected.
     Public(u8),
@@ -21,7 +21,7 @@ pub enum VirtualToken {
 }
 
 /// A static field or a static method.
-#[derive(Clone, Copy, Drop, PartialEq, Eq)]
+#[derive(Clone, Copy, Drop)]
 pub enum StaticRef {
     /// In this package: its offset in the static image or in the Method component's info.
     Internal(u16),
@@ -34,7 +34,7 @@ pub enum StaticRef {
 }
 
 /// An entry of the constant pool.
-#[derive(Clone, Copy, Drop, PartialEq, Eq)]
+#[derive(Clone, Copy, Drop)]
 pub enum Entry {
     /// A class or an interface.
     Class(ClassRef),
@@ -185,7 +185,7 @@ fn whole_pool(info: &[u8]) -> Result<ConstantPool<'_>, CapFault>
     Ok(pool)
 }
 
-/// The constant pool that an info is.
+/// The constant pool in an info.
 pub fn read_pool(info: &[u8]) -> Result<ConstantPool<'_>, CapFault>
     // What is read stands in the info.
     ensures found { IfOk result (λ x. IsPool x info.now) }
@@ -198,7 +198,7 @@ pub fn read_pool(info: &[u8]) -> Result<ConstantPool<'_>, CapFault>
 }
 
 impl<'a> ConstantPool<'a> {
-    /// The entries that an info is which was read before. They are found again without reading it.
+    /// The entries in an info which was read before. They are found again without reading it.
     pub fn found_in(info: &'a [u8]) -> ConstantPool<'a>
         requires { IsReadable (value_of_whole (pool_at info.now)) }
         ensures { value_of_whole (pool_at info.now) ≡ Ok result }

@@ -29,7 +29,7 @@ made-new_card_heap w n capacity text t log laid heap size enough reads = record 
   heap = subst (λ k. IsCardHeap k (heap_of (recovered_of w))) (sym size) (subst (IsCardHeap n) (sym heap) (card-new_card_heap n capacity text t enough reads));
 }
 
--- a store of a heap has as many words as the heap tells
+-- a store of a heap has as many words as the heap states
 pub long_of : (w : List ℕ) (d : Bool) (p : ℕ) (r : Refusals) (v : HeapView) (n : ℕ) → HoldsHeap w d p r v → v.durable.head.1 ≡ n → length w ≡ n
 long_of w d p r v n holds told = sym holds.good.size.told ∙ ap (λ (h : ℕ × ℕ). h.1) holds.head ∙ told
 

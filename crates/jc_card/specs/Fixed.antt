@@ -25,7 +25,7 @@ abbrev pub fixed_facts : Tokens → ℕ → List FixedObject → List Facts
 fixed_facts t place [] = []
 fixed_facts t place (o ∷ more) = facts_of_fixed t o place ∷ fixed_facts t (place + o.cells) more
 
--- the heap begins with the objects of the runtime environment, as many as its table tells
+-- the heap begins with the objects of the runtime environment, as many as its table names
 abbrev pub BeginsWithFixed : Tokens → HeapState → Type 0
 BeginsWithFixed t h = HeapBeginsWith h (fixed_facts t 0 (fixed_objects t))
 

@@ -14,7 +14,7 @@ use Rattle.jc_card.specs.Made.{IsMade, new_card_heap, new_front}
 use Rattle.jc_card.specs.declared.formatting.FormatFault.{FormatFault}
 use Rattle.jc_card.specs.declared.formatting.FormatFault.TheVariants.{StoreDown, BadSize, BadCapacity, BadTable, TooSmall}
 
--- an image can have n words and a journal of this many entries, this text tells this table, and it and the objects of the runtime
+-- an image can have n words and a journal of this many entries, this text is this table, and it and the objects of the runtime
 -- environment fit below the heap's end
 pub record FitsImage (n capacity : ℕ) (text : List ℕ) (t : Tokens) : Type 0 where
   pub enough : least_size ≤ n
@@ -22,7 +22,7 @@ pub record FitsImage (n capacity : ℕ) (text : List ℕ) (t : Tokens) : Type 0 
   pub reads : Reads text (Ok t)
   pub room : first_free (length text) + fixed_size t ≤ heap_end n capacity
 
--- this text tells a table, and the two and the objects of the runtime environment do not fit below the heap's end
+-- this text is a table, and the two and the objects of the runtime environment do not fit below the heap's end
 abbrev pub IsTooSmall : ℕ → ℕ → List ℕ → Type 0
 IsTooSmall n capacity text = (t : Tokens) × Reads text (Ok t) × (heap_end n capacity < first_free (length text) + fixed_size t)
 

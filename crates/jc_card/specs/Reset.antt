@@ -17,7 +17,7 @@ abbrev pub ReadsAsZero : MemoryState → Type 0
 ReadsAsZero s = (r i : ℕ) (event : ClearEvent) → (facts s.heap.now r).event ≡ Some event → word_at s r i ≡ 0
 
 -- a card after a reset over this heap: blank transient contents, nothing selected, no command begun and none answered, the
--- packages of the heap's records linked by the heap's own table, the objects of the runtime environment that it tells, no open load
+-- packages of the heap's records linked by the heap's own table, the objects of the runtime environment that it names, no open load
 pub record IsAtReset (h : HeapState) (card : CardState) : Type 0 where
   pub ram : IsCleared card.memory.ram
   pub cells : ReadsAsZero card.memory

@@ -22,7 +22,7 @@ use jc_words::{Log, WordStore, is_capacity};
 use thiserror::Error;
 
 /// Why no image was made.
-#[derive(Clone, Copy, Debug, PartialEq, Eq, Error)]
+#[derive(Clone, Copy, Debug, Error)]
 pub enum FormatFault {
     /// The store refused a write. It is as it was, or its first word is not the magic word.
     #[error("the store is down")]

@@ -7,7 +7,7 @@ use jc_words::layout::{APPLETS, COUNT, PACKAGES};
 use jc_words::{ImageFault, Log, WordStore, check_image};
 
 /// What an image holds, as its words stand: nothing is recovered.
-#[derive(Clone, Copy, PartialEq, Eq, Drop)]
+#[derive(Clone, Copy, Drop)]
 pub struct Inventory {
     /// How many words there are.
     pub words: u16,

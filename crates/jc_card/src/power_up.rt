@@ -43,7 +43,7 @@ use std::alloc::{AllocError, Global};
 use thiserror::Error;
 
 /// Why a card doesn't power up, in the order in which it is asked.
-#[derive(Clone, Copy, Debug, PartialEq, Eq, Error)]
+#[derive(Clone, Copy, Debug, Error)]
 pub enum PowerFault {
     #[error("the image does not begin with its magic word")]
     BadMagic,
@@ -325,7 +325,7 @@ fn fault_of(fault: RecordFault) -> PowerFault
     }
 }
 
-// The platform that the table text of an image tells.
+// The platform of the table text of an image.
 fn platform_of<S: WordStore>(alloc: Global, image: &OpenImage<S>) -> Result<Table, PowerFault>
     ensures { MatchResult result (λ t. HasTable image.now.plain t)
         (λ fault. RecoveredWordsFail fault image.now.plain) }
@@ -343,7 +343,7 @@ fn platform_of<S: WordStore>(alloc: Global, image: &OpenImage<S>) -> Result<Tabl
     }
 }
 
-// The platform that a text tells. No memory is asked for.
+// The platform of a table text. No memory is asked for.
 fn table_in(text: &[u8]) -> Result<Table, PowerFault>
     ensures { MatchResult result (λ t. Reads text.now (Ok t))
         (λ fault. (fault ≡ PowerFault.BadTable) × ((t : Tokens) → Reads text.now (Ok t) → ⊥)) }

@@ -1,6 +1,6 @@
 //! Status words.
 /// The two bytes that end a response, as a number, the first one high (ISO/IEC 7816-4).
-#[derive(Clone, Copy, PartialEq, Eq)]
+#[derive(Clone, Copy)]
 pub struct StatusWord(pub u16);
 
 impl StatusWord {

@@ -116,7 +116,7 @@ fn aid_byte<S: WordStore>(memory: &Memory<S>, object: Ref, long: u16, i: u16) ->
     }
 }
 
-// The AID that an AID object's cells tell.
+// The AID that an AID object's cells hold.
 #[tactic(auto, unfolding(jc_heap::specs::Packed::bytes_of_packed))]
 fn aid_in<S: WordStore>(memory: &Memory<S>, object: Ref, long: u16) -> ArrayVec<u8, 16>
     requires up { memory.now.heap.down ≡ false }

@@ -22,7 +22,7 @@ use Rattle.jc_card_load.specs.PendingPackages.{if_read, linked_components, linke
 use Rattle.jc_card_load.specs.Reading.{CannotBeTaken, IsNoPackage, load_of, text_in, with_prepared}
 use Rattle.jc_cap.specs.Reading.{contents_of}
 
--- the format that a header that came tells
+-- the format that a header that came states
 abbrev pub IsTold : Option (List ℕ) → Option Format → Type 0
 IsTold None told = told ≡ None
 IsTold (Some text) told = (h : HeaderValue) × (header_in text ≡ Ok h) × (told ≡ Some h.format)
@@ -77,7 +77,7 @@ in_10 : (told : Option Format) (text : List ℕ) → (format : Format) × (conte
 in_10 (Some format) text = (format, refl)
 in_10 None text = (V2_1, refl)
 
--- the header of a package was told
+-- the header of a package stated it
 told_so : (o : Option (List ℕ)) (told : Option Format) (text : List ℕ) (head : HeaderValue) → o ≡ Some text → header_in text ≡ Ok head → IsTold o told
     → told ≡ Some head.format
 told_so (Some t) told text head is says given =

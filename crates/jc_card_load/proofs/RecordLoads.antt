@@ -99,7 +99,7 @@ unfolding with_component
 after_10 told format h d a i p c m s (Some text) new is = kept told format (loaded h d a i p c m s None) new 10 text (content_in told 10 text) is
 after_10 told format h d a i p c m s None new is = unchanged told format (loaded h d a i p c m s None) new is
 
--- the header tells the format
+-- the header states the format
 told_behind : (told : Option Format) (new old : LoadedComponents) (text : List ℕ) (read : Result HeaderValue CapFault)
     → taken (Ok told) new ≡ taken_behind None old 1 text (content_result contents.header read) → (h : HeaderValue) × (read ≡ Ok h) × (told ≡ Some h.format)
 told_behind told new old text (Ok h) e = (h, refl, ok_is told (Some h.format) (ap (λ (q : Taken). q.0) e))

@@ -1,4 +1,4 @@
--- What the linker is told of a package.
+-- What the linker gets of a package.
 use Rattle.std.specs.Prelude.{ℕ, List, [], take}
 use Rattle.std.specs.Result.{result_unwrap_or}
 use Rattle.jc_cap_linkage.specs.Envelope.{info_at}
@@ -12,6 +12,6 @@ use Rattle.jc_linker.specs.Values.{LinkerComponents}
 abbrev pub info_of_component : ℕ → List ℕ → List ℕ
 info_of_component tag text = take 65535 (result_unwrap_or (info_at tag text) [])
 
--- what the linker is told of a package that is put together of these components, which say this
+-- what the linker gets of a package that is put together of these components, which say this
 abbrev pub linker_view : PackageBytes → PackageContents → LinkerComponents
 linker_view t c = components_of (info_of_component method_tag t.methods) c

@@ -79,23 +79,23 @@ more_of more load (Some c) = with_incoming load (component_with_bytes more c)
 abbrev pub component_append : List ℕ → OpenLoad → CommandResult × OpenLoad
 component_append more load = more_of more load load.coming
 
--- what the component with this tag says, where the header that came, if one came, told this format: a Directory and a Class
+-- what the component with this tag says, where the header that came, if one came, stated this format: a Directory and a Class
 -- component are not read before a header, and the others are read alike in each format
 abbrev pub content_in : Option Format → ℕ → List ℕ → Result Content CapFault
 content_in (Some format) tag bytes = component_at format tag bytes
 content_in None tag bytes = if tag == directory_tag || tag == class_tag then Err (Missing header_tag) else component_at V2_1 tag bytes
 
--- the format that a load's header has told after a component that says this
+-- the format that a load's header has stated after a component that says this
 abbrev pub format_behind : Option Format → Content → Option Format
 format_behind told (contents.header h) = Some h.format
 format_behind told x = told
 
--- the format in which a component with this tag is read, where the header that came, if one came, told this one
+-- the format in which a component with this tag is read, where the header that came, if one came, stated this one
 abbrev pub format_for : Option Format → ℕ → Result Format CapFault
 format_for (Some format) tag = Ok format
 format_for None tag = if tag == directory_tag || tag == class_tag then Err (Missing header_tag) else Ok V2_1
 
--- a component that says this is kept with the others, and the format that is told after it; where it cannot be read nothing is kept
+-- a component that says this is kept with the others, and the format that is known after it; where it cannot be read nothing is kept
 abbrev pub taken_behind : Option Format → LoadedComponents → ℕ → List ℕ → Result Content CapFault → Taken
 taken_behind told texts tag bytes (Ok x) = (Ok (format_behind told x), with_component texts tag bytes)
 taken_behind told texts tag bytes (Err fault) = (Err fault, texts)

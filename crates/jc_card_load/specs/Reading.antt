@@ -45,7 +45,7 @@ load_of words = record {
   descriptor = None;
 }
 
--- a record's component, if there is one, is kept with the others after a header that told this format
+-- a record's component, if there is one, is kept with the others after a header that stated this format
 abbrev pub text_taken : Option Format → LoadedComponents → ℕ → Option (List ℕ) → Taken
 text_taken told load tag (Some text) = taken_behind told load tag text (content_in told tag text)
 text_taken told load tag None = (Ok told, load)

@@ -7,7 +7,7 @@ use jc_cap_linkage::fault::CapFault;
 use std::alloc::Global;
 use std::marker::Model;
 
-/// The most bytes of a component: its tag, its size, and as many bytes as that can tell.
+/// The most bytes of a component: its tag, its size, and as many bytes as that can count.
 const MOST_BYTES: usize = 65_538;
 
 /// A component that is coming: its tag, and the bytes that came.

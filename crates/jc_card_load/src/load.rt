@@ -16,7 +16,7 @@ use std::alloc::Global;
 /// How many tags there are.
 const ALL_TAGS: usize = 256;
 
-/// A load that is open: the format that its header told, if that came, the components that came and are used, by each tag
+/// A load that is open: the format that its header stated, if that came, the components that came and are used, by each tag
 /// whether its component came, and the component that is coming.
 #[derive(Drop)]
 pub struct OpenLoad {
@@ -96,7 +96,7 @@ fn is_tag(tag: u8) -> bool
     tag >= tags::HEADER && tag <= tags::DEBUG || tag >= tags::FIRST_CUSTOM
 }
 
-// The format in which a component with this tag is read: a Directory and a Class component in the one that the header told;
+// The format in which a component with this tag is read: a Directory and a Class component in the one that the header stated;
 // before one came they are refused.
 fn format_for(told: Option<Format>, tag: u8) -> Result<Format, CapFault>
     ensures { ParsesAs (λ x. x) result (format_for told tag) }
@@ -112,8 +112,8 @@ fn format_for(told: Option<Format>, tag: u8) -> Result<Format, CapFault>
     }
 }
 
-/// Reads a component, and keeps it with the others. The format is the one that the header told, if it came; the answer is the
-/// one that is told after it. Where the component cannot be read nothing is kept.
+/// Reads a component, and keeps it with the others. The format is the one that the header stated, if it came; the answer is the
+/// one that is known after it. Where the component cannot be read nothing is kept.
 pub(crate) fn take_in(
     told: Option<Format>,
     texts: &mut LoadedComponents,

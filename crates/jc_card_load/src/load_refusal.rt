@@ -5,7 +5,7 @@ use thiserror::Error;
 
 /// Why a command of a load is refused: a case for each status word that is answered, and for those of components and of
 /// linking their fault. The refusals of a package stand in the order in which they are asked.
-#[derive(Clone, Copy, PartialEq, Eq, Debug, Error)]
+#[derive(Clone, Copy, Debug, Error)]
 pub enum LoadRefusal {
     /// No load or no component is open, or one is that must not be.
     #[error("the command is out of turn")]

@@ -24,7 +24,7 @@ use jc_words::WordStore;
 use std::alloc::{AllocError, Global};
 
 /// Why packages are not read.
-#[derive(Clone, Copy, PartialEq, Eq)]
+#[derive(Clone, Copy)]
 pub enum RecordFault {
     /// A record holds no package that links.
     Damaged,
@@ -69,8 +69,8 @@ fn size_of(span: Span) -> u16
     span.size
 }
 
-// Reads a record's component with this tag, if there is one, after a header that told this format, and keeps it with the
-// others. The answer is the format that is told after it.
+// Reads a record's component with this tag, if there is one, after a header that stated this format, and keeps it with the
+// others. The answer is the format that is known after it.
 fn take_text<S: WordStore>(
     alloc: Global,
     heap: &Heap<S>,

@@ -31,7 +31,7 @@ fn beginning(alloc: Global, bytes: &[u8], count: usize) -> Result<Vec<u8>, Alloc
     Vec::from_slice(alloc, &bytes[..count.min(bytes.len())])
 }
 
-// The size that a beginning tells becomes that of its own info.
+// The size that a beginning states becomes that of its own info.
 fn tell_own_size(component: &mut Vec<u8>)
     ensures { length component.new.items ≡ length component.old.items }
 {
@@ -224,7 +224,7 @@ fn size_that_came(load: &LoadedComponents, tag: u8) -> Option<usize> {
     }
 }
 
-// The size that the Directory tells of the component with a tag.
+// The size that the Directory states of the component with a tag.
 fn size_that_is_told(load: &LoadedComponents, tag: u8) -> Option<usize> {
     let Some(directory) = &load.directory else {
         return None;
@@ -236,7 +236,7 @@ fn size_that_is_told(load: &LoadedComponents, tag: u8) -> Option<usize> {
     Some(usize::from(u16::from_be_bytes([high, low])))
 }
 
-// Whether the Directory tells another size of the component with a tag than came.
+// Whether the Directory states another size of the component with a tag than came.
 fn disagrees(load: &LoadedComponents, tag: u8) -> bool {
     match (size_that_came(load, tag), size_that_is_told(load, tag)) {
         (Some(came), Some(told)) => came != told,
@@ -244,7 +244,7 @@ fn disagrees(load: &LoadedComponents, tag: u8) -> bool {
     }
 }
 
-/// Notes the first component of which the Directory tells another size, if there is one.
+/// Notes the first component of which the Directory states another size, if there is one.
 #[cold]
 #[inline(never)]
 pub(crate) fn note_sizes(load: &LoadedComponents, notes: &Notes) {

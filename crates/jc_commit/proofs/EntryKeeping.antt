@@ -198,7 +198,7 @@ or_false : (a b : Bool) → b ≡ false → (a || b) ≡ a
 or_false true b is = refl
 or_false false b is = is
 
--- so a change needs an entry behind those of the changes before it exactly where it needs one at all
+-- so a change needs an entry after those of the changes before it exactly where it needs one at all
 pub needing_still : (touched : List ℕ) (born : ℕ) (changes : List (ℕ × ℕ)) (i : ℕ) → i < length changes → AreDistinct (addresses_of changes) →
     needing (touched ++ addresses_of (needing touched born (take i changes))) born (get_or changes i (0, 0) ∷ [])
     ≡ needing touched born (get_or changes i (0, 0) ∷ [])
@@ -500,7 +500,7 @@ index_none l w n numbers none empty = subst (λ (ns : List ℕ). IsIndexOf l w n
   all = λ k below. absurd (omega (arith, below, none));
 })
 
--- a refused write came behind fewer than all writes: as the old values were kept; as they were counted; as the words were written
+-- a refused write came after fewer than all writes: as the old values were kept; as they were counted; as the words were written
 most_kept : (n m : ℕ) → 2 * m ≤ writes_inside n m
 most_kept n m = elim (cases_eq m 0) [
   | inl none ↦ omega (arith, none)

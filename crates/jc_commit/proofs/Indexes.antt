@@ -77,7 +77,7 @@ module _ (l : Log) (w numbers : List ℕ) (n i : ℕ) (index : IsIndexOf l w n n
   above_is : (k : ℕ) → i ≤ k → slice_index more (k + 1) ≡ slice_index numbers k
   above_is k le = get_or-insert_above numbers i n 0 k le gap.within
 
-  -- what stands at a place behind the new number's
+  -- what stands at a place after the new number's
   past_is : (k : ℕ) → i < k → slice_index more k ≡ slice_index numbers (k - 1)
   past_is k less = let e : k ≡ k - 1 + 1 = omega (arith, less) in ap (slice_index more) e ∙ above_is (k - 1) (omega (arith, less))
 

@@ -243,7 +243,7 @@ migrates w n good =
       recovered = m.recovered ∙ ap (λ (ws : List (ℕ × ℕ)). with_words (recovered_of w) (take n ws)) (sym (migration-recovered w good));
     }
 
--- so many writes are there
+-- that number of writes is there
 pub few_writes : (b : Bool) → length (steps b) ≤ 3
 few_writes true = omega arith
 few_writes false = omega arith

@@ -261,7 +261,7 @@ pushed_new [] x y new other (suc i) d within same = absurd (omega (arith, within
 pushed_new (t ∷ ts) x y new other zero d within same = new 0 d (omega arith) same
 pushed_new (t ∷ ts) x y new other (suc i) d within same = pushed_new ts x y (λ j e lt. new (suc j) e (omega (arith, lt))) other i d (omega (arith, within)) same
 
--- what passes a test behind what is kept: each passing element is new, and they are distinct
+-- what passes a test after what is kept: each passing element is new, and they are distinct
 once_more : (p : ℕ → Bool) (ts xs : List ℕ) → ((x : ℕ) → p x ≡ true → All (λ y. y ≡ x → IsNew ts y) xs) → AreDistinct ts → AreDistinct xs
     → AreDistinct (ts ++ filter p xs)
 once_more p ts [] new apart rest = subst AreDistinct (sym (append-nil ts)) apart

@@ -26,7 +26,7 @@ pub record StandsAt (l : Log) (w numbers : List ℕ) (a i : ℕ) : Type 0 where
   pub within : i < length numbers
   pub names : address_at l w (slice_index numbers i) ≡ a
 
--- one would belong there: the entries before it name lower addresses, those behind it higher ones
+-- one would belong there: the entries before it name lower addresses, those after it higher ones
 pub record IsGapFor (l : Log) (w numbers : List ℕ) (a i : ℕ) : Type 0 where
   pub within : i ≤ length numbers
   pub lower : (k : ℕ) → k < i → address_at l w (slice_index numbers k) < a

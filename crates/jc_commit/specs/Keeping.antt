@@ -58,7 +58,7 @@ pub record KeepsOldValues : Type 0 where
   -- no more is kept than is changed, and there is room for as many words as are left
   pub few : (k : Keeping) (xs : List ℕ) → length (unlogged_addresses k xs) ≤ length xs
   pub enough : (k : Keeping) (xs : List ℕ) → length k.touched + length xs ≤ k.capacity → has_room_for k xs ≡ true
-  -- room for two changes is room for the first, and behind it for the second
+  -- room for two changes is room for the first, and after it for the second
   pub first : (k : Keeping) (xs ys : List ℕ) → has_room_for k (xs ++ ys) ≡ true → has_room_for k xs ≡ true
   pub second : (k : Keeping) (xs ys : List ℕ) → k.begun ≡ true → has_room_for k (xs ++ ys) ≡ true → has_room_for (with_kept k xs) ys ≡ true
   -- outside a transaction there is room for as many words as it can keep

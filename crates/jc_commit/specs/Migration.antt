@@ -10,11 +10,11 @@ abbrev pub migration : List ℕ → List (ℕ × ℕ)
 migration w = if slice_index w version_address == first_version
     then (capacity_address, front_capacity) ∷ (journal_address, log_start) ∷ (version_address, version) ∷ [] else []
 
--- the words after so many of them
+-- the words after n of these writes
 abbrev pub migrated : ℕ → List ℕ → List ℕ
 migrated n w = with_words w (take n (migration w))
 
--- the new words are what some of these writes leave, but not all, and so many have passed
+-- the new words are what the first n of these writes leave, but not all, and n have passed
 abbrev pub IsPartOfMigration : List ℕ → List ℕ → ℕ → ℕ → Type 0
 IsPartOfMigration old new passed_before passed_after =
     (n : ℕ) × (n < length (migration old)) × (new ≡ migrated n old) × (passed_after ≡ saturating_count passed_before n)
@@ -23,7 +23,7 @@ IsPartOfMigration old new passed_before passed_after =
 abbrev pub opening_writes : List ℕ → List (ℕ × ℕ)
 opening_writes w = replay_writes w ++ migration w
 
--- the new words are what an opening of the old ones leaves that is stopped after some of its writes, and so many writes have passed
+-- the new words are what an opening of the old ones leaves that is stopped after n of its writes, and n writes have passed
 abbrev pub IsPartOfOpening : List ℕ → List ℕ → ℕ → ℕ → Type 0
 IsPartOfOpening old new passed_before passed_after =
     (n : ℕ) × (n ≤ length (opening_writes old)) × (new ≡ with_words old (take n (opening_writes old)))

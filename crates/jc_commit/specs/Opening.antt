@@ -7,7 +7,7 @@ use Rattle.jc_commit.specs.Image.{IsGoodLog}
 use Rattle.jc_commit.specs.Migration.{IsPartOfOpening, StillOpens}
 use Rattle.jc_commit.specs.State.{State, recovered_journal}
 
--- the store is down: it was so before, and nothing of it changed; or it refused a write of the recovery, or of the migration behind it
+-- the store is down: it was so before, and nothing of it changed; or it refused a write of the recovery, or of the migration after it
 pub record IsStoppedOpening {S : Type 0} (words : S → List ℕ) (down : S → Bool) (passed : S → ℕ) (refusals : S → Refusals) (old new : S) : Type 0 where
   pub good : IsGoodLog (words old)
   pub still : StillOpens (words old) (words new)

@@ -106,8 +106,8 @@ fn put_entry<S: WordStore>(store: &mut S, log: Log, k: u16, address: u16) -> Res
     Ok(())
 }
 
-// Puts an entry behind the first k ones for a change whose word's old value has to be kept, and into the
-// index, and tells how many there are then.
+// Puts an entry after the first k ones for a change whose word's old value has to be kept, and into the
+// index, and answers how many there are then.
 fn put_change<S: WordStore>(
     store: &mut S,
     log: Log,
@@ -149,8 +149,8 @@ fn put_change<S: WordStore>(
     Ok(k + 1)
 }
 
-// Puts entries for the changes whose words' old values have to be kept, behind the first ones and into
-// the index, and tells how many there are then.
+// Puts entries for the changes whose words' old values have to be kept, after the first ones and into
+// the index, and answers how many there are then.
 fn put_needing<S: WordStore, C: WordChanges>(
     store: &mut S,
     log: Log,

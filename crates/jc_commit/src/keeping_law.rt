@@ -3,7 +3,7 @@ ghost use Rattle.jc_commit.specs.Keeping.{KeepsOldValues};
 
 /// What a change keeps of the words that it writes, for every state of a transaction: what goes back goes
 /// on going back, and costs nothing; what a change touches goes back from then on, and nothing else does;
-/// room for two changes is room for the one and behind it for the other; and no old value is kept twice.
+/// room for two changes is room for the one and after it for the other; and no old value is kept twice.
 pub fn what_changes_keep()
     ensures { KeepsOldValues }
 {}

@@ -10,16 +10,20 @@ use Rattle.jc_des.specs.declared.tables.TheConstants.{FINAL, INITIAL, SUBSTITUTE
 use Rattle.jc_des.proofs.Numbers.{group_bit, number_of-bit, number_of-lt, number_of-same, number_of-window}
 
 pub initial_is : INITIAL ≡ nibble_table initial_permutation
-unfolding number_of
+unfolding number_of nibble_table
 initial_is = refl
 
 pub final_is : FINAL ≡ nibble_table final_permutation
-unfolding number_of
+unfolding number_of nibble_table
 final_is = refl
 
 pub substituted_is : SUBSTITUTED ≡ box_table
-unfolding number_of
+unfolding number_of box_entry
 substituted_is = refl
+
+pub substituted_at : (k : ℕ) → k < 512 → slice_index SUBSTITUTED k ≡ box_entry k
+substituted_at k within =
+    ap (λ (t : List ℕ). slice_index t k) substituted_is ∙ get_or-map-range_with_len box_entry 0 512 k k 0 within (omega arith)
 
 -- the four bits at place n, as a number
 pub nibble : (f : ℕ → ℕ) (n : ℕ) → AreBits f → n < 16 → number_of f 64 / 2 ^ (60 - 4 * n) % 2 ^ 4 ≡ number_of (λ t. f (4 * n + t)) 4
@@ -41,6 +45,7 @@ bit_of_four f n p bits at =
 pub entry : (table p : List ℕ) (f : ℕ → ℕ) (n x k : ℕ) → AreBits f → table ≡ nibble_table p → n < 16 → x ≡ number_of f 64
     → k ≡ 16 * n + x / 2 ^ (60 - 4 * n) % 2 ^ 4
     → slice_index table k ≡ number_of (group_bit (λ j. source p j / 4) (λ j. f (source p j)) n) 64
+unfolding nibble_table
 entry table p f n x k bits is low whole at =
     let v : ℕ = number_of (λ t. f (4 * n + t)) 4 in
     let four : x / 2 ^ (60 - 4 * n) % 2 ^ 4 ≡ v = ap (λ (y : ℕ). y / 2 ^ (60 - 4 * n) % 2 ^ 4) whole ∙ nibble f n bits low in
@@ -66,17 +71,15 @@ box-is bits f n are same =
     let at5 : number_of f 6 / 2 ^ 0 % 2 ≡ bit bits (6 * n + 5) = number_of-bit f 5 0 6 are refl ∙ sym (same 5 (omega arith)) in
     λ i. slice_index substitutions (64 * n + (16 * (2 * at0 i + at5 i) + (8 * at1 i + 4 * at2 i + 2 * at3 i + at4 i)))
 
--- an entry of the table of S-boxes, at the six bits of f
-pub box_entry-is : (table bits : List ℕ) (f : ℕ → ℕ) (n k : ℕ) → AreBits f → table ≡ box_table → n < 8
+-- what S-box n and P make of the six bits of f
+pub box_entry-is : (bits : List ℕ) (f : ℕ → ℕ) (n k : ℕ) → AreBits f → n < 8
     → ((t : ℕ) → t < 6 → bit bits (6 * n + t) ≡ f t) → k ≡ 64 * n + number_of f 6
-    → slice_index table k ≡ number_of (group_bit (λ j. source permutation j / 4) (λ j. substituted_bit bits (source permutation j)) n) 32
-box_entry-is table bits f n k are is low same at =
+    → box_entry k ≡ number_of (group_bit (λ j. source permutation j / 4) (λ j. substituted_bit bits (source permutation j)) n) 32
+unfolding box_entry
+box_entry-is bits f n k are low same at =
     let fits : number_of f 6 < 64 = number_of-lt f 6 are in
     let high : k / 64 ≡ n = omega (arith, fits, at) in
     let low_part : k % 64 ≡ number_of f 6 = omega (arith, fits, at) in
-    let within : k < 512 = omega (arith, fits, at) in
-    ap (λ (t : List ℕ). slice_index t k) is
-    ∙ get_or-map-range_with_len box_entry 0 512 k k 0 within (omega arith)
-    ∙ (λ i. number_of (nibble_bit permutation (high i) (box (high i) (low_part i))) 32)
+    (λ i. number_of (nibble_bit permutation (high i) (box (high i) (low_part i))) 32)
     ∙ number_of-same _ _ 32 (λ j _. same_if (source permutation j / 4) n _ _ (λ here.
     ap (λ (s : ℕ). s / 2 ^ (3 - source permutation j % 4) % 2) (box-is bits f n are same ∙ ap (substitute bits) (sym here))))

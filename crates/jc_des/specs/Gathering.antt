@@ -16,7 +16,7 @@ abbrev pub nibble_entry : List ℕ → ℕ → ℕ
 nibble_entry table k = number_of (nibble_bit table (k / 16) (k % 16)) 64
 
 -- what a permutation makes of each four bits at each of 16 places
-abbrev pub nibble_table : List ℕ → List ℕ
+unfoldable pub nibble_table : List ℕ → List ℕ
 nibble_table table = map (nibble_entry table) (range_with_len 0 256)
 
 -- what S-box n makes of the six bits of v
@@ -24,7 +24,8 @@ abbrev pub box : ℕ → ℕ → ℕ
 box n v = slice_index substitutions (64 * n
     + (16 * (2 * (v / 2 ^ 5 % 2) + v / 2 ^ 0 % 2) + (8 * (v / 2 ^ 4 % 2) + 4 * (v / 2 ^ 3 % 2) + 2 * (v / 2 ^ 2 % 2) + v / 2 ^ 1 % 2)))
 
-abbrev pub box_entry : ℕ → ℕ
+-- what P makes of S-box k / 64 at the six bits of k % 64, and of zeros from the others
+unfoldable pub box_entry : ℕ → ℕ
 box_entry k = number_of (nibble_bit permutation (k / 64) (box (k / 64) (k % 64))) 32
 
 -- what the S-boxes and P make of each six bits at each of eight places

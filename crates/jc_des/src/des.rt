@@ -1,9 +1,10 @@
 //! DES on a block, with the key's schedule made once.
 
-ghost use Rattle.std.specs.Prelude.{◌≡◌, ◌<◌, List, ℕ, slice_index};
+ghost use Rattle.std.specs.Prelude.{◌≡◌, ◌<◌, ◌+◌, ◌*◌, List, ℕ, slice_index};
 ghost use Rattle.jc_des.specs.Des.{crypted, decrypted, encrypted, mangled, place_of, schedule};
 ghost use Rattle.jc_des.specs.Numbers.{AreBits, IsBits, number_of, sixes};
-ghost use Rattle.jc_des.specs.Gathering.{nibble_table, source, wide_bit};
+ghost use Rattle.jc_des.specs.Tables.{final_permutation, initial_permutation};
+ghost use Rattle.jc_des.specs.Gathering.{box_entry, nibble_table, source, wide_bit};
 
 use crate::schedule::round_keys;
 use crate::tables::{FINAL, INITIAL, SUBSTITUTED};
@@ -39,6 +40,17 @@ fn wide(right: u32) -> u64
     right % 2 * 0x2_0000_0000 + right * 2 + right / 0x8000_0000
 }
 
+// What S-box `n` and P make of six bits.
+#[tactic(auto, using(crate::proofs::Gathered::substituted_at))]
+#[inline(always)]
+fn substituted(n: usize, six: usize) -> u32
+    requires number { n < 8 }
+    requires bits { six < 64 }
+    ensures { result ≡ box_entry (64 * n + six) }
+{
+    SUBSTITUTED[64 * n + six]
+}
+
 // f (R, K) with the round key `n`.
 #[inline(always)]
 fn mangled(right: u32, keys: &[u8; 128], n: usize) -> u32
@@ -50,7 +62,7 @@ fn mangled(right: u32, keys: &[u8; 128], n: usize) -> u32
     let mut mixed = 0;
     'boxes: for i in 0..8 {
         let six = ((wide >> (28 - 4 * i)) as usize ^ usize::from(keys[8 * n + i])) % 64;
-        mixed ^= SUBSTITUTED[64 * i + six];
+        mixed ^= substituted(i, six);
     }
     mixed
 }
@@ -65,11 +77,29 @@ fn place_of(backwards: bool, n: usize) -> usize
     if backwards { 15 - n } else { n }
 }
 
+// IP, by its table.
+#[tactic(auto, using(crate::proofs::Gathered::initial_is))]
+#[inline(always)]
+fn initial() -> &'static [u64; 256]
+    ensures { result.now ≡ nibble_table initial_permutation }
+{
+    &INITIAL
+}
+
+// The permutation that undoes it, by its table.
+#[tactic(auto, using(crate::proofs::Gathered::final_is))]
+#[inline(always)]
+fn undoing() -> &'static [u64; 256]
+    ensures { result.now ≡ nibble_table final_permutation }
+{
+    &FINAL
+}
+
 fn crypted(keys: &[u8; 128], block: &[u8; 8], backwards: bool) -> [u8; 8]
     ensures { (bits : List ℕ) → IsBits bits → keys.now ≡ sixes bits
         → result ≡ crypted backwards bits block.now }
 {
-    let halves = permuted(&INITIAL, u64::from_be_bytes(*block));
+    let halves = permuted(initial(), u64::from_be_bytes(*block));
     let mut left = (halves / 0x1_0000_0000) as u32;
     let mut right = (halves % 0x1_0000_0000) as u32;
     'rounds: for n in 0..16 {
@@ -78,7 +108,7 @@ fn crypted(keys: &[u8; 128], block: &[u8; 8], backwards: bool) -> [u8; 8]
         right = next;
     }
     let swapped = u64::from(right) * 0x1_0000_0000 + u64::from(left);
-    permuted(&FINAL, swapped).to_be_bytes()
+    permuted(undoing(), swapped).to_be_bytes()
 }
 
 impl Des {

@@ -1,9 +1,9 @@
 //! The key schedule: bits a byte each, and at the end six bits a byte.
 
-ghost use Rattle.std.specs.Prelude.{◌≡◌, ◌≤◌, ◌+◌, length, take, ◌++◌};
+ghost use Rattle.std.specs.Prelude.{◌≡◌, ◌≤◌, ◌<◌, ◌+◌, length, slice_index, take, ◌++◌};
 ghost use Rattle.jc_des.specs.Des.{schedule, shifted};
 ghost use Rattle.jc_des.specs.Numbers.{sixes};
-ghost use Rattle.jc_des.specs.Tables.{key_choice_1, key_choice_2};
+ghost use Rattle.jc_des.specs.Tables.{key_choice_1, key_choice_2, shifts};
 
 use crate::bits::{bits_of, select};
 use crate::tables::{KEY_CHOICE_1, KEY_CHOICE_2, SHIFTS};
@@ -16,6 +16,14 @@ fn shifted(halves: &[u8; 56], s: u8) -> [u8; 56]
         to[i] = halves[i / 28 * 28 + (i % 28 + usize::from(s)) % 28];
     }
     to
+}
+
+// How far the halves turn before round key `n`.
+fn shift(n: usize) -> u8
+    requires { n < 16 }
+    ensures { result ≡ slice_index shifts n }
+{
+    SHIFTS[n]
 }
 
 // The round keys end by this one.
@@ -34,7 +42,7 @@ fn schedule(key: &[u8; 8]) -> [u8; 768]
     select(&KEY_CHOICE_1, &bits_of(key), 64, &mut halves);
     let mut keys = [0; 768];
     'keys: for n in 0..16 {
-        halves = shifted(&halves, SHIFTS[n]);
+        halves = shifted(&halves, shift(n));
         let mut round_key = [0; 48];
         select(&KEY_CHOICE_2, &halves, 56, &mut round_key);
         put_key(&mut keys, 48 * n, &round_key);

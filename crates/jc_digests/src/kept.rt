@@ -18,7 +18,7 @@ use crate::sha_512::Words64;
 use crate::{md_5, sha_256, sha_512};
 
 /// The hash functions.
-#[derive(Clone, Copy, PartialEq, Eq)]
+#[derive(Clone, Copy)]
 pub enum HashAlgorithm {
     Md5,
     Sha1,

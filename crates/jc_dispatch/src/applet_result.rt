@@ -12,7 +12,7 @@ use jc_words::WordStore;
 use jc_world::objects::is_instance_of;
 
 /// How a command to an applet, or an installation, ended.
-#[derive(Clone, Copy, PartialEq, Eq)]
+#[derive(Clone, Copy)]
 pub enum AppletResult {
     /// As it should.
     Done,

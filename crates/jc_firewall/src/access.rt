@@ -3,7 +3,7 @@ ghost use Rattle.std.specs.Prelude.{◌≡◌};
 ghost use Rattle.jc_firewall.specs.Table.{number_of};
 
 /// An access (runtime environment specification, access to objects).
-#[derive(Clone, Copy, PartialEq, Eq)]
+#[derive(Clone, Copy)]
 pub enum Access {
     /// To a static field.
     StaticField,
@@ -30,7 +30,7 @@ pub enum Access {
 }
 
 /// A rule of the firewall.
-#[derive(Clone, Copy, PartialEq, Eq)]
+#[derive(Clone, Copy)]
 pub enum Rule {
     StaticFields,
     Arrays,

@@ -7,7 +7,7 @@ use crate::access::{Access, Rule};
 use crate::subject::{Context, Situation, Subject};
 
 /// What the firewall answers.
-#[derive(Clone, Copy, PartialEq, Eq)]
+#[derive(Clone, Copy)]
 pub enum Decision {
     /// The access goes on in the active context.
     Allow,

@@ -3,7 +3,7 @@ ghost use Rattle.std.specs.Prelude.{◌≡◌};
 ghost use Rattle.jc_firewall.specs.Situation.{is_live_transient, is_entry_point, is_global_array, is_own, may_be_stored, same_context};
 
 /// A context (runtime environment specification, contexts and context switching).
-#[derive(Clone, Copy, PartialEq, Eq)]
+#[derive(Clone, Copy)]
 pub enum Context {
     /// The context of the runtime environment, the JCRE. Also what stands for the selected applet's context
     /// while no applet is selected.
@@ -26,7 +26,7 @@ impl Context {
 }
 
 /// What the runtime environment lets others do with an object of its own.
-#[derive(Clone, Copy, PartialEq, Eq)]
+#[derive(Clone, Copy)]
 pub enum Designation {
     /// Nothing beyond the rules: each object that an applet or a package owns, and others of the JCRE.
     Ordinary,
@@ -40,7 +40,7 @@ pub enum Designation {
 }
 
 /// The object that is accessed.
-#[derive(Clone, Copy, PartialEq, Eq)]
+#[derive(Clone, Copy)]
 pub struct Subject {
     /// The context of its owner.
     pub owner: Context,
@@ -90,7 +90,7 @@ impl Subject {
 }
 
 /// What an access is judged by.
-#[derive(Clone, Copy, PartialEq, Eq)]
+#[derive(Clone, Copy)]
 pub struct Situation {
     /// The active context.
     pub active: Context,

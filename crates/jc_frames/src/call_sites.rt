@@ -6,7 +6,7 @@ use crate::frames::Frames;
 use crate::method::Origin;
 
 /// Where a caller waits.
-#[derive(Clone, Copy, PartialEq, Eq)]
+#[derive(Clone, Copy)]
 pub struct CallSite {
     /// The method that called.
     pub origin: Origin,

@@ -5,7 +5,7 @@ ghost use Rattle.jc_frames.specs.Cells.{without_dead};
 use jc_transient::Ref;
 
 /// What a local or a place of the operand stack holds, with its kind.
-#[derive(Clone, Copy, PartialEq, Eq)]
+#[derive(Clone, Copy)]
 pub enum Cell {
     /// A short; bytes and booleans are shorts here.
     Short(i16),

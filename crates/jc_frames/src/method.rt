@@ -3,7 +3,7 @@
 use jc_transient::OwnerWord;
 
 /// Which method a frame runs, and for whom.
-#[derive(Clone, Copy, PartialEq, Eq, Default)]
+#[derive(Clone, Copy, Default)]
 pub struct Origin {
     /// The number of the package that the method belongs to.
     pub package_number: u8,
@@ -14,7 +14,7 @@ pub struct Origin {
 }
 
 /// Who called a method: an instruction, or the runtime environment as it asks a server.
-#[derive(Clone, Copy, PartialEq, Eq, Default)]
+#[derive(Clone, Copy, Default)]
 pub enum CallKind {
     /// An instruction.
     #[default]
@@ -24,7 +24,7 @@ pub enum CallKind {
 }
 
 /// What a return comes back to.
-#[derive(Clone, Copy, PartialEq, Eq, Default)]
+#[derive(Clone, Copy, Default)]
 pub struct ReturnPoint {
     /// The owner that was active before the call.
     pub active: OwnerWord,
@@ -37,7 +37,7 @@ pub struct ReturnPoint {
 }
 
 /// A method as it is called.
-#[derive(Clone, Copy, PartialEq, Eq)]
+#[derive(Clone, Copy)]
 pub struct Entry {
     /// How many cells its arguments have, which lie on the caller's stack.
     pub arguments: u8,

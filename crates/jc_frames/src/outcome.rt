@@ -9,7 +9,7 @@ use jc_transient::Ref;
 
 /// An exception that the runtime environment throws, by its class: an instance of its own. Those of
 /// the card's packages carry a reason.
-#[derive(Clone, Copy, PartialEq, Eq)]
+#[derive(Clone, Copy)]
 pub enum Exception {
     ArithmeticException,
     ArrayIndexOutOfBoundsException,
@@ -77,7 +77,7 @@ impl Exception {
 }
 
 /// How a run ended.
-#[derive(Clone, Copy, PartialEq, Eq)]
+#[derive(Clone, Copy)]
 pub enum Outcome {
     /// By `return`.
     Void,
@@ -110,11 +110,11 @@ impl Outcome {
 
 /// A code fault: a stack over or under its limits, a cell of the wrong kind, a jump outside the method,
 /// an instruction that is not one or is cut, too many frames or cells.
-#[derive(Clone, Copy, PartialEq, Eq)]
+#[derive(Clone, Copy)]
 pub struct CodeFault;
 
 /// Why a method does not go on with its next instruction.
-#[derive(Clone, Copy, PartialEq, Eq)]
+#[derive(Clone, Copy)]
 pub enum FrameExit {
     /// The runtime environment throws.
     Throw(Exception),

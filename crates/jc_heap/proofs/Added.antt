@@ -1,4 +1,4 @@
--- A record behind a whole table.
+-- A record after a whole table.
 use Rattle.std.proofs.Common.{◌≡◌, ℕ, zero, suc, ◌+◌, ◌/◌, ◌<◌, ◌≤◌, false, List, [], ◌∷◌, ◌++◌, length, take, drop, set, get_or, map, refl, sym, ◌∙◌, ap}
 use Rattle.std.proofs.Common.{arith, lit<, if◌then◌else◌}
 use Rattle.std.proofs.lemmas.List.{get_or_append_left, get_or-set_other, get_or-set_same, get_or-take, drop-set-lt, drop-append-le, take-append-le}
@@ -15,7 +15,7 @@ use Rattle.jc_heap.proofs.Images.{unread-same, capacity-same, reach-both}
 use Rattle.jc_heap.specs.Image.{unread_words, capacity_in}
 use Rattle.jc_words.specs.Layout.{version_address}
 
--- one thing more, behind the others
+-- one thing more, after the others
 abbrev pub add_item : HeapState → Item → ℕ → HeapState
 add_item h t size = record h { items = h.items ++ (h.top, t) ∷ []; top = h.top + size }
 

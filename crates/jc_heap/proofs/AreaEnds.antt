@@ -171,7 +171,7 @@ laid-aside ws a v aside laid =
 pub laid-front : (ws : List ℕ) (a v : ℕ) → packages_address < a → a < text_length_address → IsWellFormed ws → IsWellFormed (set ws a v)
 laid-front ws a v low high laid = laid-aside ws a v (between low high) laid
 
--- a word that only tells the version or the journal, and leaves the capacity, leaves the heap as it is
+-- a word that only holds the version or describes the journal, and leaves the capacity, leaves the heap as it is
 pub record IsJournals (a : ℕ) : Type 0 where
   pub aside : IsAside a
   pub not_magic : magic_address ≡ a → ⊥

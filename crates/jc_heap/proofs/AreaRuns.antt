@@ -1,4 +1,4 @@
--- The objects of an event in its area, one behind another.
+-- The objects of an event in its area, one after another.
 use Rattle.std.proofs.Common.{◌≡◌, ℕ, ◌+◌, ◌≤◌, true, List, [], ◌∷◌, ◌++◌, refl, sym, ◌∙◌, ap, arith}
 use Rattle.jc_transient.specs.declared.cell.ClearEvent.{ClearEvent}
 use Rattle.jc_transient.specs.State.{area_size}
@@ -6,7 +6,7 @@ use Rattle.jc_heap.specs.Object.{Item, facts_of}
 use Rattle.jc_heap.specs.Heap.{HeapState, area_end}
 use Rattle.jc_heap.specs.Whole.{lies_in, cells_in, all_cells_in, FitsAt, IsFilledArea}
 
--- the items fit one behind another from a place on, up to the end
+-- the items fit one after another from a place on, up to the end
 abbrev pub Run : ClearEvent → ℕ → List (ℕ × Item) → ℕ → Type 0
 Run event place [] end = (end ≡ place) × (place ≤ area_size)
 Run event place (e ∷ es) end = FitsAt event place e.1 × Run event (place + cells_in event e.1) es end

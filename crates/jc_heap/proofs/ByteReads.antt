@@ -10,7 +10,7 @@ use Rattle.jc_heap.specs.Heap.{heap_of, cells, facts, cell_address}
 use Rattle.jc_heap.specs.Packed.{byte_in, low_byte_of}
 use Rattle.jc_heap.proofs.Views.{packed_spot, packed_read, single_spot, single_read}
 
--- the first so many of a list are what this function gives from an index on
+-- the first n of a list are what this function gives from an index on
 abbrev pub AreRead : (ℕ → ℕ) → ℕ → ℕ → List ℕ → Type 0
 AreRead f i n out = (m : ℕ) → m < n → get_or out m 0 ≡ f (i + m)
 

@@ -45,7 +45,7 @@ staying_more v ts k d b lt is =
     turned true = refl
     turned false = refl
 
--- what the journal tells of a word
+-- what the journal says of a word
 pub told : (j : State) (v : HeapView) (n word : ℕ) (r : Bool) → heap_view j n ≡ v → IsWellFormed j.recovered → r ≡ journal_goes_back (journal_keeping j) word
     → goes_back v word ≡ r
 told j v n word r is back e =

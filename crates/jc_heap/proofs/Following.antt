@@ -20,7 +20,7 @@ records_from-skip more (suc s) at (w ∷ ws) =
     let here : suc at + s ≡ at + suc s = omega arith in
     records_from-skip more s (suc at) ws ∙ ap (λ a. records_from more 0 a (drop s ws)) here
 
--- the first record, and those behind it
+-- the first record, and those after it
 pub records_from-step : (more : Sizes) (at : ℕ) (ws : List ℕ) → 0 < length ws → records_from more 0 at ws ≡ (at, take (more at ws + 1) ws)
     ∷ records_from more 0 (at + (more at ws + 1)) (drop (more at ws + 1) ws)
 records_from-step more at [] h = absurd (omega arith)

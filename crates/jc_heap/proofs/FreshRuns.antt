@@ -45,7 +45,7 @@ free_stays at count old j f k same =
       small = omega (arith, f.small, k.size);
     }
 
--- one run behind another
+-- one run after another
 pub keeps_then : (at n : ℕ) (a b c : State) → KeepsBelow at a b → KeepsBelow (at + n) b c → KeepsBelow at a c
 keeps_then at n a b c k m =
     let near : at ≤ at + n = omega arith in
@@ -68,7 +68,7 @@ fills_then at xs ys a b c f g =
       refusals = g.refusals ∙ f.refusals;
     }
 
--- a write of a piece was refused, behind other words: fewer passed than all are
+-- a write of a piece was refused, after other words: fewer passed than all are
 pub torn_piece : (at n piece : ℕ) (xs : List ℕ) (a b c : State) → Fills at xs a b → IsTornFresh piece b c → length xs + piece ≤ n → IsTornFresh n a c
 torn_piece at n piece xs a b c f st le = record {
   down = st.down;

@@ -59,7 +59,7 @@ packed_of (a ∷ b ∷ []) = refl
 packed_of (a ∷ b ∷ c ∷ []) = refl
 packed_of (a ∷ b ∷ c ∷ d ∷ rest) = packed_here a (is_packed_header a) refl
 
--- where a cell's word stands behind the header
+-- where a cell's word stands after the header
 abbrev pub cell_offset : Bool → ℕ → ℕ
 cell_offset packed i = if packed then i / 2 else i
 
@@ -185,7 +185,7 @@ item_cell ps at rec i v h = elim (cases_Bool (is_package ps at)) [
       }
 ]
 
--- so many first words don't see a word behind them
+-- the first n words don't see a word after them
 pub get_or_front : (ws : List ℕ) (a k v : ℕ) → k < a → get_or (set ws a v) k 0 ≡ get_or ws k 0
 get_or_front ws a k v h = get_or-set_other ws a k v 0 (λ e. omega arith)
 
@@ -217,7 +217,7 @@ pub unread-same : (a b : List ℕ) → get_or b 4 0 ≡ get_or a 4 0
 unread-same a b first rest = λ i. first i ∷ rest 13 (lit< tt) (lit< tt) i
     ∷ rest 14 (lit< tt) (lit< tt) i ∷ rest 15 (lit< tt) (lit< tt) i ∷ []
 
--- the journal can keep as many old values where the words that tell it are the same
+-- the journal can keep as many old values where the words that describe it are the same
 pub capacity-same : (a b : List ℕ) → nat_lt journal_address (length b) ≡ nat_lt journal_address (length a)
     → get_or b version_address 0 ≡ get_or a version_address 0
     → ((k : ℕ) → text_length_address < k → k < front_length → get_or b k 0 ≡ get_or a k 0) → capacity_in b ≡ capacity_in a
@@ -232,7 +232,7 @@ reach-both a b first second = lt-ltb journal_address (length b) second ∙ sym (
 pub base-set : (ws : List ℕ) (a v : ℕ) → registry_start ≤ a → base (set ws a v) ≡ base ws
 base-set ws a v h = rw (get_or_front ws a text_length_address v (omega arith)) refl
 
--- a word of a record behind its header
+-- a word of a record after its header
 module _ (img : List ℕ) (r j v : ℕ) (four : 4 ≤ j) (h : j < length (entry_or [] (records img) r)) where
   abbrev rec : List ℕ
   rec = entry_or [] (records img) r

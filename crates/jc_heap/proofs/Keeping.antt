@@ -74,7 +74,7 @@ empty_whole h e counts packages ends =
       areas = empty_filled h e ends;
     }
 
--- another item behind the others
+-- another item after the others
 pub run_push : (event : ClearEvent) (place : ℕ) (es : List (ℕ × Item)) (end r : ℕ) (t : Item) → Run event place es end → FitsAt event end t
     → Run event place (es ++ (r, t) ∷ []) (end + cells_in event t)
 run_push event place [] end r t run fits = (subst (λ p. FitsAt event p t) run.0 fits, (ap (λ p. p + cells_in event t) run.0, omega (arith, fits.ends, run.0)))

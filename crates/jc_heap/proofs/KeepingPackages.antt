@@ -29,7 +29,7 @@ has_entry-pushed : (es : List (ℕ × Item)) (q : ℕ) (t : Item) → has_entry 
 has_entry-pushed [] q t = ap (λ b. b || false) (eq-eqb q q refl)
 has_entry-pushed (e ∷ es) q t = ap (λ b. (e.0 == q) || b) (has_entry-pushed es q t) ∙ or-true (e.0 == q)
 
--- a package's record behind the others, where nothing stands
+-- a package's record after the others, where nothing stands
 module _ (h : HeapState) (words : List ℕ) (free : is_allocated h h.top ≡ false) where
   other_name : (r : ℕ) → is_allocated h r ≡ true → h.top ≡ r → ⊥
   other_name r there e = false≢true (sym free ∙ ap (is_allocated h) e ∙ there)
@@ -64,7 +64,7 @@ module _ (h : HeapState) (words : List ℕ) (free : is_allocated h h.top ≡ fal
         (λ kind i lt. reference-push (get_or (cells_of (heap_item_at h r)) i 0) (all r kind i lt))
   ]
 
-  -- the address behind those that were there
+  -- the address after those that were there
   old_address : (k : ℕ) → k < length h.packages → get_or (h.packages ++ h.top ∷ []) k 0 ≡ get_or h.packages k 0
   old_address k lt = get_or_append_left h.packages (h.top ∷ []) 0 k lt
 
@@ -136,7 +136,7 @@ pub end-add : (h : HeapState) (o : _) (size : ℕ) → 0 < size → HasEnd h →
 unfolding add_object
 end-add h o size some end r above = is_allocated-add_other h o size r (λ e. omega arith) ∙ end r (omega arith)
 
--- the arrays of a package behind its record
+-- the arrays of a package after its record
 initial_other : (kind : Kind) → is_array_init kind ≡ true → kind ≡ ReferenceArray → ⊥
 initial_other kind initial e = false≢true (sym (ap is_array_init e) ∙ initial)
 

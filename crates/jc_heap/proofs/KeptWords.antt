@@ -35,7 +35,7 @@ pub goes_back_now : (v : HeapView) (h : HeapState) (places : List ℕ) (fresh a 
 goes_back_now v h places fresh a begun there =
     ap (λ (k : Keeping). journal_goes_back k a) (keeping_changed v h places fresh begun) ∙ keeps_old_values.each (keeping v) places a begun there
 
--- room for two changes in the transaction is, behind the first, room for the second
+-- room for two changes in the transaction is, after the first, room for the second
 pub room_behind : (v : HeapView) (h : HeapState) (places : List ℕ) (fresh : ℕ) (rest : List ℕ) → v.begun ≡ true → has_room_for v (places ++ rest) ≡ true
     → has_room_for (heap_after_change v h places fresh) rest ≡ true
 room_behind v h places fresh rest begun room =

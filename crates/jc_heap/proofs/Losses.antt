@@ -26,7 +26,7 @@ counts Begin h = none_more h.passed
 counts Commit h = refl
 counts Abort h = refl
 
--- below its last value a count tells all that passed
+-- below its last value a count is of all that passed
 from_there : (p a : ℕ) → a ≤ p → p ≡ a + (p - a)
 from_there p a le = omega (arith, le)
 

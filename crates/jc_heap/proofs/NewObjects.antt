@@ -119,7 +119,7 @@ module _ (j k : State) (n : ℕ) (s : IsSound j n) (up : j.down ≡ false) (b : 
     raised_twice : (p q a w : ℕ) → q ≡ saturating_count p a → saturating_count q (0 + w) ≡ saturating_count p (a + w)
     raised_twice p q a w e = omega (arith, e)
 
-    -- a change of words behind the fresh ones is a change of the heap
+    -- a change of words after the fresh ones is a change of the heap
     pub view_then : (cs : List (ℕ × ℕ)) (h : HeapState) (m : State) → Changes cs k m → heap_of (with_words k.plain cs) ≡ h
         → heap_view m n ≡ heap_after_change (heap_view j n) h (addresses_of cs) (length rec)
     view_then cs h m c now =

@@ -53,6 +53,6 @@ found_cases : (h : Option ℕ) (P : ℕ → Type 0) → ((q : ℕ) → h ≡ Som
 found_cases None P f = tt
 found_cases (Some q) P f = f q refl
 
--- what is found behind an address is an object
+-- what is found after an address is an object
 pub next_is_object : (ws : List ℕ) (r : ℕ) (found : Option ℕ) → found ≡ next_object (heap_of ws) r → IfSome found (λ q. IsObject (heap_of ws) q)
 next_is_object ws r found e = found_cases found (λ q. IsObject (heap_of ws) q) (λ q f. next_found ws r q (sym e ∙ f))

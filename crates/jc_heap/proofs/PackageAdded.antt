@@ -1,4 +1,4 @@
--- A package's record and its arrays behind a whole table, in all the words.
+-- A package's record and its arrays after a whole table, in all the words.
 use Rattle.std.proofs.Common.{◌≡◌, ℕ, ◌+◌, ◌-◌, ◌<◌, ◌≤◌, ◌||◌, true, List, [], ◌∷◌, ◌++◌, length, take, set, get_or, refl, sym, ◌∙◌, ap, subst, arith}
 use Rattle.std.proofs.Common.{append_assoc, add-zero, if◌then◌else◌, ◌==◌}
 use Rattle.std.proofs.Math.Bool.{or-true}
@@ -232,7 +232,7 @@ module _ (old ws rec : List ℕ) (laid : IsWellFormed old) (few : get_or old pac
         ∙ laid.packages a (omega (arith, le, top_pushed));
   }
 
--- the same with arrays behind the record, which get their owner
+-- the same with arrays after the record, which get their owner
 module _ (old ws rec : List ℕ) (owner : ℕ) (xs : List (Kind × List ℕ)) (bytes : AreArraysOfBytes xs) (laid : IsWellFormed old) (few : get_or old packages_address 0 < most_packages)
     (e : take (get_or old top_address 0 + length (rec ++ arrays_words owner xs)) ws ≡ take (get_or old top_address 0) old ++ (rec ++ arrays_words owner xs))
     (fits : get_or old top_address 0 + length (rec ++ arrays_words owner xs) ≤ length ws)

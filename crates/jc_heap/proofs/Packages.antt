@@ -1,4 +1,4 @@
--- A package's record behind a whole table: its address, the number of packages and the top change together.
+-- A package's record after a whole table: its address, the number of packages and the top change together.
 use Rattle.std.proofs.Common.{◌≡◌, ℕ, zero, suc, ◌+◌, ◌-◌, ◌/◌, ◌<◌, ◌≤◌, ◌||◌, List, [], ◌∷◌, ◌++◌, length, take, drop, set, get_or, map, refl, ◌∙◌, ap, arith}
 use Rattle.std.proofs.Common.{slice_index, if◌then◌else◌, ◌==◌, lit<, lit≤}
 use Rattle.std.proofs.lemmas.List.{get_or-set_other, get_or-set_same, drop-set-lt, drop-set-add, take-set-le, length-drop, length-take, length-set}

@@ -63,6 +63,6 @@ bytes_of_zeros n m =
     ext_get_or 0 (bytes_of_packed n (replicate m 0)) (replicate n 0) (long ∙ sym (length-replicate {A = ℕ} n 0))
     (λ i h. get_or-bytes_of_packed n (replicate m 0) i (omega (arith, h, long)) ∙ zero_byte m i ∙ sym (get_or-replicate n i 0 0 (omega (arith, h, long))))
 
--- words that have place for so many bytes hold no fewer
+-- words that have place for n bytes hold no fewer
 pub bytes_of_all : (n : ℕ) (ws : List ℕ) → n ≤ 2 * length ws → bytes_of_packed (min n (2 * length ws)) ws ≡ bytes_of_packed n ws
 bytes_of_all n ws le = let all : min n (2 * length ws) ≡ n = omega (arith, le) in ap (λ k. bytes_of_packed k ws) all

@@ -8,7 +8,7 @@ use Rattle.jc_heap.specs.Elements.{byte_or_none, bytes_with, AreSaidBy}
 use Rattle.jc_heap.proofs.Runs.{viewed_length, run_words-at, length-double}
 use Rattle.jc_heap.proofs.Packing.{length-packed_words, packed_words-word}
 
--- the bytes of a run's words behind the first one
+-- the bytes of a run's words after the first one
 abbrev pub behind_first : Option ℕ → List ℕ → List ℕ
 behind_first before bs = drop (2 - length (byte_or_none before)) bs
 

@@ -78,7 +78,7 @@ found-none at (c ∷ cs) tag none =
     (ne_eqb c.0 tag (none 0 (omega arith)))
     ∙ found-none (at + (2 + length (packed_words c.1))) cs tag (λ k h. none (suc k) (omega arith))
 
--- the words behind a component's tag and size
+-- the words after a component's tag and size
 info_words_at : (cs : List (ℕ × List ℕ)) (k : ℕ) (tail : List ℕ) → k < length cs
     → (more : List ℕ) × (drop (length (components_words (take k cs)) + 2) (components_words cs ++ tail) ≡ packed_words ((get_or cs k (0, [])).1) ++ more)
 info_words_at [] k tail h = absurd (omega arith)
@@ -98,7 +98,7 @@ info_words_at (c ∷ cs) (suc k) tail h =
           ∙ ih.1,
     )
 
--- the record's words behind its length
+-- the record's words after its length
 behind_length : (at : ℕ) (cs : List (ℕ × List ℕ)) (xs : List (Kind × List ℕ)) (rest : List ℕ) (n : ℕ)
     → drop (suc n) (package_record at cs xs rest) ≡ drop n (components_words cs ++ 0 ∷ image_words (at + record_size cs xs rest) xs rest)
 unfolding package_record

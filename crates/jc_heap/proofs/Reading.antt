@@ -20,7 +20,7 @@ use Rattle.jc_heap.specs.Heap.{heap_of, read_image, heap_item_at, is_allocated, 
 use Rattle.jc_heap.proofs.Records.{entry_or-records_from, has_behind, length-record}
 use Rattle.jc_heap.proofs.Tables.{at_or-map, at_or-map_absent, has-map}
 
--- the facts that a header's words say, and the word behind it
+-- the facts that a header's words say, and the word after it
 abbrev pub said : ℕ → ℕ → ℕ → ℕ → ℕ → Facts
 said word class owner long place = record {
   kind = kind_of (word % 256);
@@ -41,7 +41,7 @@ said-object_of (a ∷ b ∷ c ∷ []) h = absurd (omega arith)
 said-object_of (a ∷ b ∷ c ∷ d ∷ []) h = refl
 said-object_of (a ∷ b ∷ c ∷ d ∷ e ∷ rest) h = refl
 
--- as many words as so many cells take hold so many cells
+-- the words that n cells take hold n cells
 pub length-cells_of_words : (packed : Bool) (long : ℕ) (words : List ℕ) → length words ≡ words_of_cells packed long → length (cells_of_words packed long words) ≡ long
 length-cells_of_words false long words e = e
 length-cells_of_words true long words e = length-bytes_of_packed (min long (2 * length words)) words ∙ min-eq_left (omega (arith, e))
@@ -161,7 +161,7 @@ module _ (ws : List ℕ) (r : ℕ) (laid : IsWellFormed ws) (there : IsObject (h
         ∙ ap (λ b. 4 + (if is_header (get_or rec 0 0) then (if b then words_of_cells (is_packed_header (get_or rec 0 0)) (get_or rec 3 0) else 1) else 65536)) (ne_eqb (get_or rec 0 0 / 256) 0 n),
   )
 
-  -- the word behind a transient object's header
+  -- the word after a transient object's header
   pub place_spot : (get_or ws r 0 / 256 ≡ 0 → ⊥) → r + 4 < get_or ws top_address 0
   place_spot n = (word_is 4 (five_words (λ e. n (ap (λ w. w / 256) (sym first_word) ∙ e)))).0
 

@@ -56,7 +56,7 @@ pub info-next : (tag at : ℕ) (ws : List ℕ) → 0 < length ws → (get_or ws 
 info-next tag at ws there other more = step_over tag at (2 + words_for (get_or ws 1 0)) ws there
     (ap (λ b. (if b then length ws - 1 else 1 + words_for (get_or ws 1 0)) + 1) (ne_eqb (get_or ws 0 0) 0 more) ∙ (omega arith)) other
 
--- behind the last part there is none
+-- after the last part there is none
 pub info-none : (tag at : ℕ) (ws : List ℕ) → length ws ≡ 0 → info_span (records_from part_sizes 0 at ws) tag ≡ None
 info-none tag at [] e = refl
 info-none tag at (w ∷ ws) e = absurd (omega arith)

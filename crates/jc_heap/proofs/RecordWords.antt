@@ -63,7 +63,7 @@ module _ (ws : List ℕ) (r j v : ℕ) (laid : IsWellFormed ws) (four : 4 ≤ j)
         packages = λ a le. ap (λ ps. is_package ps a) (ap package_addresses same_image ∙ same_packages) ∙ laid.packages a (rw top-set_word at le);
       }
 
--- what a word of a record does not tell stays as it is
+-- what a word of a record does not say stays as it is
 module _ {X : Type 0} (f : Item → X) (same : (t : Item) (j v : ℕ) → f (with_word t j v) ≡ f t) where
   pub of_item-set_word : (h : HeapState) (r j v q : ℕ) → f (heap_item_at (set_word h r j v) q) ≡ f (heap_item_at h q)
   unfolding heap_item_at set_word is_allocated

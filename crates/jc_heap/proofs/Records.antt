@@ -25,7 +25,7 @@ skips_within more s at [] e = omega arith
 skips_within more zero at (w ∷ ws) e = omega arith
 skips_within more (suc s) at (w ∷ ws) e = let h : s ≤ length ws = skips_within more s (suc at) ws e in omega arith
 
--- a record that is there lies behind the skipped words
+-- a record that is there lies after the skipped words
 pub named_behind : (more : Sizes) (s at : ℕ) (ws : List ℕ) (r j : ℕ) → j < length (entry_or [] (records_from more s at ws) r) → at + s ≤ r
 named_behind more s at [] r j h = absurd (omega arith)
 named_behind more (suc s) at (w ∷ ws) r j h = let b : suc at + s ≤ r = named_behind more s (suc at) ws r j h in omega arith
@@ -37,14 +37,14 @@ named_behind more zero at (w ∷ ws) r j h = elim (cases_eq at r) [
       omega arith
 ]
 
--- how the sizes of records can be told from the words
+-- how the sizes of records are read from the words
 pub record Tells (more : Sizes) : Type 0 where
   -- of a whole record, from its own words
   pub whole : (at w : ℕ) (ws ys : List ℕ) → more at (w ∷ ws) ≤ length ws → more at (w ∷ ws ++ ys) ≡ more at (w ∷ ws)
   -- from the first four words
   pub header : (at : ℕ) (ws : List ℕ) (k v : ℕ) → 4 ≤ k → more at (set ws k v) ≡ more at ws
 
--- records behind a whole table
+-- records after a whole table
 pub records_from-append : (more : Sizes) → Tells more → (s at : ℕ) (xs ys : List ℕ) → missing_words more s at xs ≡ 0
     → records_from more s at (xs ++ ys) ≡ records_from more s at xs ++ records_from more 0 (at + length xs) ys
 records_from-append more t s at [] ys e = rw (e, add-zero) refl
@@ -66,7 +66,7 @@ take-set_comm (suc n) [] i v = refl
 take-set_comm (suc n) (w ∷ ws) zero v = refl
 take-set_comm (suc n) (w ∷ ws) (suc i) v = ap (λ l. w ∷ l) (take-set_comm n ws i v)
 
--- a word of one record, behind its header, changes that record alone
+-- a word of one record, after its header, changes that record alone
 pub records_from-set : (more : Sizes) → Tells more → (s at : ℕ) (ws : List ℕ) (r j i v : ℕ) → 4 ≤ j → j < length (entry_or [] (records_from more s at ws) r)
     → at + i ≡ r + j →
     records_from more s at (set ws i v) ≡ with_entry (records_from more s at ws) r (set (entry_or [] (records_from more s at ws) r) j v)
@@ -116,7 +116,7 @@ missing_words-set more t zero at (w ∷ ws) r j (suc i) v four h e =
           ap (λ n. missing_words more n (suc at) (set ws i v)) size ∙ missing_words-set more t (more at (w ∷ ws)) (suc at) ws r j i v four there (omega arith)
     ]
 
--- behind a whole table, a table is as it stands alone
+-- after a whole table, a table is as it stands alone
 pub missing_words-append : (more : Sizes) → Tells more → (s at : ℕ) (xs ys : List ℕ) → missing_words more s at xs ≡ 0
     → missing_words more s at (xs ++ ys) ≡ missing_words more 0 (at + length xs) ys
 missing_words-append more t s at [] ys e = rw (e, add-zero) refl
@@ -164,7 +164,7 @@ has_entry-cut_below more zero at (w ∷ ws) r h =
     let n : at ≡ r → ⊥ = λ e. omega arith in
     rw (ne_eqb at r n) (has_entry-cut_below more (more at (w ∷ ws)) (suc at) ws r (omega arith))
 
--- two ways to tell sizes that agree at the addresses of these words
+-- two ways to read sizes that agree at the addresses of these words
 pub records_from-same_sizes : (more other : Sizes) (s at : ℕ) (ws : List ℕ) → ((a w : ℕ) (us : List ℕ) → a < at + length ws
     → more a (w ∷ us) ≡ other a (w ∷ us)) → records_from more s at ws ≡ records_from other s at ws
 records_from-same_sizes more other s at [] same = refl
@@ -180,7 +180,7 @@ missing_words-same_sizes more other zero at (w ∷ ws) same =
     ap (λ n. missing_words more n (suc at) ws) (same at w ws (omega arith)) ∙ missing_words-same_sizes more other (other at (w ∷ ws)) (suc at) ws
     (λ a u us h. same a u us (omega arith))
 
--- a name lies behind the skipped words
+-- a name lies after the skipped words
 pub has_behind : (more : Sizes) (s at : ℕ) (ws : List ℕ) (r : ℕ) → has_entry (records_from more s at ws) r ≡ true → at + s ≤ r
 has_behind more s at [] r h = absurd (false≢true h)
 has_behind more (suc s) at (w ∷ ws) r h = let b : suc at + s ≤ r = has_behind more s (suc at) ws r h in omega arith

@@ -1,4 +1,4 @@
--- A run of cells and places behind it, set as one change.
+-- A run of cells and places after it, set as one change.
 use Rattle.std.proofs.Common.{◌≡◌, ℕ, false, zero, suc, ◌+◌, ◌<◌, ◌≤◌, List, [], ◌∷◌, ◌++◌, length, get_or, refl, sym, ◌∙◌, ap, subst, arith}
 use Rattle.std.proofs.lemmas.List.{map-append}
 use Rattle.jc_commit.specs.Image.{with_words}
@@ -30,7 +30,7 @@ all_words-cells h r i (v ∷ vs) cs there = all_words-cells (set_cell h r i v) r
 places_of-both : (r i : ℕ) (vs : List ℕ) (cs : List (Place × ℕ)) → places_of (cell_changes r i vs ++ cs) ≡ cells_from r i (length vs) ++ places_of cs
 places_of-both r i vs cs = map-append (λ (c : Place × ℕ). c.0) (cell_changes r i vs) cs ∙ ap (λ l. l ++ places_of cs) (places_of-cells r i vs)
 
--- places of which none stands twice: none of the first ones is one of those behind them
+-- places of which none stands twice: none of the first ones is one of those after them
 beside_behind : (p : Place) (ps qs : List Place) → IsBeside p (ps ++ qs) → IsBeside p qs
 beside_behind p [] qs b = b
 beside_behind p (q ∷ ps) qs b = beside_behind p ps qs b.1
@@ -77,7 +77,7 @@ module _ (j : State) (n r i : ℕ) (vs : List ℕ) (cs : List (Place × ℕ)) (l
       ∙ sym (words_at-append (heap_of j.plain) (cells_from r i (length vs)) (places_of cs) plain)
       ∙ ap (words_at (heap_of j.plain)) (sym (places_of-both r i vs cs))
 
-  -- no word of the run is one of the places behind it
+  -- no word of the run is one of the places after it
   run_beside : (k m d : ℕ) → k < length (addresses_of (run_for j.plain r i vs)) → m < length (addresses_of (words_of cs))
       → get_or (addresses_of (run_for j.plain r i vs)) k d ≡ get_or (addresses_of (words_of cs)) m d → ⊥
   run_beside k m d low under = subst (λ l. k < length l → get_or l k d ≡ get_or (addresses_of (words_of cs)) m d → ⊥) (sym run.addresses)

@@ -125,7 +125,7 @@ step_both ws r i v u e =
     ∙ set_twice ws a (with_byte w i v) (λ x. with_byte x (suc i) u)
     ∙ ap (set ws a) (omega (arith, first, second))
 
--- a byte behind a run stays where words before its own are set
+-- a byte after a run stays where words before its own are set
 behind-set : (ws : List ℕ) (r m x e : ℕ) → m < e / 2 → byte_behind (set ws (cell_address r m) x) r e ≡ byte_behind ws r e
 unfolding cell_address
 behind-set ws r m x e lt =

@@ -43,7 +43,7 @@ pub distinct-run : (at : ℕ) (vs : List ℕ) (i j d : ℕ) → i < j → j < le
 distinct-run at vs i j d below within e =
     omega (arith, address-at at vs i d (omega arith), address-at at vs j d within, e, below)
 
--- a run's words stand one behind another
+-- a run's words stand one after another
 pub addresses-run : (at : ℕ) (vs : List ℕ) → addresses_of (run_words at vs) ≡ range_with_len at (length vs)
 addresses-run at [] = refl
 addresses-run at (v ∷ vs) = let next : suc at ≡ at + 1 = omega arith in

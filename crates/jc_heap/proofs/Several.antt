@@ -72,7 +72,7 @@ words_set ws (c ∷ cs) laid there =
     let ih : StandsFor us (with_words us (words_of cs)) (set_places (heap_of us) cs) = words_set us cs one.1 left in
     (ih.0 ∙ ap (λ h. set_places h cs) one.0, ih.1, ih.2 ∙ one.2)
 
--- records lie one behind another
+-- records lie one after another
 disjoint : (more : Sizes) (s at : ℕ) (ws : List ℕ) (r q : ℕ) → has_entry (records_from more s at ws) r ≡ true → has_entry (records_from more s at ws) q ≡ true
     → r < q → r + length (entry_or [] (records_from more s at ws) r) ≤ q
 disjoint more s at [] r q hr hq lt = absurd (false≢true hr)

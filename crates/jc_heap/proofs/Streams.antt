@@ -23,7 +23,7 @@ word_more at k v words old j new b f h e fits is =
     let p : KeepsBelow at old new × Fills at (take k words ++ v ∷ []) old new = word_push at k v (take k words) old j new b f long (omega arith) is in
     (p.0, subst (λ l. Fills at l old new) (ap (λ w. take k words ++ w ∷ []) e ∙ sym (take_more words k 0 h)) p.1)
 
--- one piece behind another
+-- one piece after another
 pub piece_below : (at next : ℕ) (xs : List ℕ) (a b c : State) → KeepsBelow at a b → next ≡ at + length xs → KeepsBelow next b c → KeepsBelow at a c
 piece_below at next xs a b c k e m = keeps_then at (length xs) a b c k (subst (λ n. KeepsBelow n b c) e m)
 
@@ -58,7 +58,7 @@ free_fewer at n m a s le = record {
   small = s.small;
 }
 
--- what stands after some pieces, and the address behind it
+-- what stands after some pieces, and the address after it
 pub record Stands (at next : ℕ) (xs : List ℕ) (a b : State) : Type 0 where
   pub below : KeepsBelow at a b
   pub words : Fills at xs a b

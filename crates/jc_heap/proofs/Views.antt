@@ -1,4 +1,4 @@
--- What a heap's view tells of its journal.
+-- What a heap's view says of its journal.
 use Rattle.std.proofs.Common.{◌≡◌, ℕ, ◌+◌, ◌/◌, if◌then◌else◌, ◌<◌, ◌≤◌, false, List, length, get_or, set, take, sym, ◌∙◌, ap, subst, arith, inl, inr, Bool, true}
 use Rattle.std.proofs.lemmas.List.{length-set, length-take-le, take-set-le}
 use Rattle.std.proofs.lemmas.Bool.{cases_lt, false≢true}
@@ -15,7 +15,7 @@ use Rattle.jc_heap.proofs.Laws.{same_length, same_facts, set_cell-absent, is_all
 use Rattle.jc_heap.proofs.Images.{cell_within-heap_of, cell_behind-heap_of, cell-heap_of, set_cell-heap_of, IsWellFormed-set, top-set, cell_at_of, cell_set_of, cell_set, cell_said, cell_offset}
 use Rattle.jc_heap.proofs.Added.{image-same_below, top-same_below, IsWellFormed-same_below}
 
--- a cell's word lies among the words, behind the registry
+-- a cell's word lies among the words, after the registry
 pub spot_of_cell : (ws : List ℕ) (r i : ℕ) → i < length (cells (heap_of ws) r)
     → (cell_at (facts (heap_of ws) r) r i < length ws) × (text_start ≤ cell_at (facts (heap_of ws) r) r i)
 unfolding cell_address

@@ -38,7 +38,7 @@ if-append : (b : Bool) (a : ℕ) (xs ys : List ℕ) → (if b then xs ++ ys else
 if-append true a xs ys = refl
 if-append false a xs ys = refl
 
--- and such places behind others
+-- and such places after others
 pub words_at-append : (h : HeapState) (ps qs : List Place) → ArePlain h qs → words_at h (ps ++ qs) ≡ words_at h ps ++ words_at h qs
 words_at-append h [] qs plain = refl
 words_at-append h (p ∷ []) [] plain = refl

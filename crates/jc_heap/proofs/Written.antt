@@ -78,7 +78,7 @@ refused_sound {writes = writes} j k n r s kept stopped = elim (refusal_cases r) 
   | inr e ↦ subst (λ (i : State). IsSound i n) (sym (kept (ap ended e))) s
 ]
 
--- one run of words behind another
+-- one run of words after another
 pub with_words-append : (ws : List ℕ) (xs ys : List (ℕ × ℕ)) → with_words ws (xs ++ ys) ≡ with_words (with_words ws xs) ys
 with_words-append ws [] ys = refl
 with_words-append ws (x ∷ xs) ys = with_words-append (set ws x.0 x.1) xs ys

@@ -5,7 +5,7 @@ use Rattle.jc_commit.specs.Migration.{migrated}
 use Rattle.jc_heap.specs.Image.{table_text, IsWellFormed}
 use Rattle.jc_heap.specs.Heap.{head_of, heap_of}
 
--- both stand for one heap, tell one table text, and each is well formed where the other is
+-- both stand for one heap, have one table text, and each is well formed where the other is
 pub record StandAlike (ws vs : List ℕ) : Type 0 where
   pub heap : heap_of vs ≡ heap_of ws
   pub text : table_text vs ≡ table_text ws

@@ -17,15 +17,15 @@ words_of (APackage ws) = ws
 abbrev pub record_of : HeapState → ℕ → List ℕ
 record_of h r = words_of (heap_item_at h r)
 
--- so many bytes as words
+-- n bytes as words
 abbrev pub words_for : ℕ → ℕ
 words_for bytes = (bytes + 1) / 2
 
--- how many words a part of a record has after its first: a component's size and info; behind a word 0 all the rest
+-- how many words a part of a record has after its first: a component's size and info; after a word 0 all the rest
 abbrev pub part_sizes : Sizes
 part_sizes at ws = if slice_index ws 0 == 0 then length ws - 1 else 1 + words_for (slice_index ws 1)
 
--- the parts of a record behind its length, each named by its offset: its components, and its static image with the 0 before it
+-- the parts of a record after its length, each named by its offset: its components, and its static image with the 0 before it
 abbrev pub record_parts : List ℕ → List (ℕ × List ℕ)
 record_parts words = records_from part_sizes 0 1 (drop 1 words)
 

@@ -11,7 +11,7 @@ use Rattle.jc_heap.specs.declared.place.Place.{Place}
 use Rattle.jc_heap.specs.declared.place.Place.TheVariants.{Cell}
 use Rattle.jc_heap.specs.Places.{cell_at}
 
--- the values, one behind another
+-- the values, one after another
 abbrev pub elements_of : Elements → List ℕ
 elements_of (Bytes bytes) = bytes.now
 elements_of (Words words) = words.now
@@ -21,7 +21,7 @@ abbrev pub byte_or_none : Option ℕ → List ℕ
 byte_or_none None = []
 byte_or_none (Some byte) = byte ∷ []
 
--- the values, and the bytes that stay before and behind them
+-- the values, and the bytes that stay before and after them
 abbrev pub bytes_with : Option ℕ → List ℕ → Option ℕ → List ℕ
 bytes_with before values behind = byte_or_none before ++ (values ++ byte_or_none behind)
 
@@ -53,11 +53,11 @@ word_for words _ v = v
 abbrev pub byte_before : List ℕ → ℕ → ℕ → Option ℕ
 byte_before words r i = if i % 2 == 0 then None else Some (byte_in (slice_index words (cell_address r (i / 2))) 0)
 
--- the byte that stays behind the elements before an index, in the word of the last of them
+-- the byte that stays after the elements before an index, in the word of the last of them
 abbrev pub byte_behind : List ℕ → ℕ → ℕ → Option ℕ
 byte_behind words r end = if end % 2 == 0 then None else Some (byte_in (slice_index words (cell_address r (end / 2))) 1)
 
--- how so many values stand in the words of an object's cells from an index on
+-- how n values stand in the words of an object's cells from an index on
 abbrev pub packing_of : List ℕ → ℕ → ℕ → ℕ → Packing
 packing_of words r i n = if is_packed (facts (heap_of words) r) then Double (byte_before words r i) (byte_behind words r (i + n)) else Single
 

@@ -6,7 +6,7 @@ use Rattle.jc_words.specs.Layout.{addresses_start}
 use Rattle.jc_commit.specs.Image.{top_of}
 use Rattle.jc_commit.specs.State.{State, IsShort}
 
--- so many words from this address on have no meaning: they lie above both tops
+-- n words from this address on have no meaning: they lie above both tops
 pub record IsFree (at count : ℕ) (j : State) : Type 0 where
   pub up : j.down ≡ false
   pub low : addresses_start ≤ at
@@ -31,7 +31,7 @@ pub record Fills (at : ℕ) (run : List ℕ) (old new : State) : Type 0 where
   pub passed : new.passed ≡ saturating_count old.passed (length run)
   pub refusals : new.refusals ≡ old.refusals
 
--- the store refused one of so many writes on the way
+-- the store refused one of n writes on the way
 pub record IsTornFresh (writes : ℕ) (old new : State) : Type 0 where
   pub down : new.down ≡ true
   pub from : old.passed ≤ new.passed

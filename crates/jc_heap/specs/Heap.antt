@@ -18,7 +18,7 @@ use Rattle.jc_heap.specs.Object.{is_object}
 use Rattle.jc_heap.specs.Table.{entry_or, has_entry, with_entry}
 use Rattle.jc_heap.specs.Image.{image, package_addresses, item_entry, records, table_text, unread_words, capacity_in, IsWellFormed}
 
--- the magic word and the number of words, as words tell them
+-- the magic word and the number of words, as words hold them
 abbrev pub head_of : List ℕ → ℕ × ℕ
 head_of words = (slice_index words magic_address, slice_index words size_address)
 
@@ -82,7 +82,7 @@ IsObject h r = is_object (heap_item_at h r) ≡ true
 unfoldable pub set_cell : HeapState → ℕ → ℕ → ℕ → HeapState
 set_cell h r i v = record h { items = with_entry h.items r (with_cell (heap_item_at h r) i v) }
 
--- a new object behind the others
+-- a new object after the others
 unfoldable pub add_object : HeapState → Object → ℕ → HeapState
 add_object h o size = record h { items = h.items ++ (h.top, AnObject o) ∷ []; top = h.top + size }
 
@@ -100,7 +100,7 @@ abbrev pub area_end_address : ClearEvent → ℕ
 area_end_address Reset = reset_end_address
 area_end_address Deselect = deselect_end_address
 
--- a new transient object behind the others, whose cells are the first free ones of its area
+-- a new transient object after the others, whose cells are the first free ones of its area
 unfoldable pub add_transient : HeapState → Kind → ClearEvent → ℕ → ℕ → ℕ → HeapState
 add_transient h kind event class owner long = with_area_end (add_object h (new_transient kind event class owner long (area_end h event)) transient_size) event
     (area_end h event + long)
@@ -120,7 +120,7 @@ abbrev pub first_above : List (ℕ × Item) → ℕ → Option ℕ
 first_above [] r = None
 first_above (e ∷ es) r = if nat_lt r e.0 && is_object e.1 then Some e.0 else first_above es r
 
--- the object behind another one, or the first one of all behind null
+-- the object after another one, or the first one of all after null
 unfoldable pub next_object : HeapState → ℕ → Option ℕ
 next_object h r = first_above h.items r
 
@@ -195,7 +195,7 @@ has_room_for v places = journal.has_room_for (keeping v) places
 abbrev pub heap_at_rest : HeapState → ℕ → Refusals → ℕ → HeapView
 heap_at_rest h passed refusals size = record { now = h; durable = h; begun = false; touched = []; down = false; passed = passed; refusals = refusals; size = size }
 
--- one change, to another heap, by writes to these places and to so many fresh words
+-- one change, to another heap, by writes to these places and to this number of fresh words
 abbrev pub heap_after_change : HeapView → HeapState → List ℕ → ℕ → HeapView
 heap_after_change v h places fresh = record v {
   now = h;
@@ -228,7 +228,7 @@ heap_after_commit v = record v { begun = false; durable = v.now; touched = []; p
 abbrev pub heap_after_abort : HeapView → HeapView
 heap_after_abort v = record v { begun = false; now = v.durable; touched = []; passed = saturating_count v.passed (undo_writes (length v.touched)) }
 
--- the store refused one of so many writes: a recovery leaves what it would have left before
+-- the store refused one of n writes: a recovery leaves what it would have left before
 pub record IsTornChange (writes : ℕ) (old new : HeapView) : Type 0 where
   pub durable : new.durable ≡ old.durable
   pub down : new.down ≡ true
@@ -237,7 +237,7 @@ pub record IsTornChange (writes : ℕ) (old new : HeapView) : Type 0 where
   pub refusals : new.refusals ≡ refused_once old.down new.passed old.refusals
   pub size : new.size ≡ old.size
 
--- an event's area has no space for so many cells
+-- an event's area has no space for n cells
 abbrev pub LacksCells : HeapState → ClearEvent → ℕ → Type 0
 LacksCells h event n = area_size < area_end h event + n
 
@@ -245,6 +245,6 @@ LacksCells h event n = area_size < area_end h event + n
 abbrev pub limit : HeapView → ℕ
 limit v = v.size
 
--- there is no space for so many words
+-- there is no space for n words
 abbrev pub LacksSpace : HeapView → ℕ → Type 0
 LacksSpace v n = limit v < v.now.top + n

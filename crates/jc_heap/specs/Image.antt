@@ -52,11 +52,11 @@ table_text words = bytes_of_packed (slice_index words text_length_address) (text
 abbrev pub text_byte : List ℕ → ℕ → ℕ
 text_byte words i = if i % 2 == 0 then slice_index words (text_start + i / 2) / 256 else slice_index words (text_start + i / 2) % 256
 
--- the words of the front that nothing reads: one behind the count of entries, and the last three
+-- the words of the front that nothing reads: one after the count of entries, and the last three
 abbrev pub unread_words : List ℕ → List ℕ
 unread_words words = map (slice_index words) (4 ∷ 13 ∷ 14 ∷ 15 ∷ [])
 
--- how many old values the journal can keep, as an image says it that reaches up to the words that tell it
+-- how many old values the journal can keep, as an image says it that reaches up to the words that describe it
 abbrev pub capacity_in : List ℕ → ℕ
 capacity_in image = if nat_lt journal_address (length image) then capacity_of image else front_capacity
 

@@ -9,17 +9,17 @@ abbrev pub writes_of_moves : List Move → HeapView → ℕ
 writes_of_moves [] h = 0
 writes_of_moves (m ∷ ms) h = writes_of m h + writes_of_moves ms (apply_move m h)
 
--- the durable heap behind the longest run of these moves whose writes are k in all or fewer
+-- the durable heap after the longest run of these moves whose writes are k in all or fewer
 abbrev pub durable_behind : List Move → HeapView → ℕ → HeapState
 durable_behind [] h k = h.durable
 durable_behind (m ∷ ms) h k = if nat_le (writes_of m h) k then durable_behind ms (apply_move m h) (k - writes_of m h) else h.durable
 
--- these moves were cut when so many writes had passed in all: k of their own, fewer than they are, and the durable heap is the one behind
+-- these moves were cut when this number of writes had passed in all: k of their own, fewer than they are, and the durable heap is the one after
 -- those that are complete by then
 abbrev pub IsExactCut : List Move → HeapView → ℕ → HeapState → Type 0
 IsExactCut ms h passed d = (k : ℕ) × (passed ≡ h.passed + k) × (k < writes_of_moves ms h) × (d ≡ durable_behind ms h k)
 
--- the durable heap is the one behind some first moves of these
+-- the durable heap is the one after some first moves of these
 abbrev pub IsBehindFirst : List Move → HeapView → HeapState → Type 0
 IsBehindFirst ms h d = (front rest : List Move) × (ms ≡ front ++ rest) × (d ≡ (apply_moves front h).durable)
 
@@ -27,10 +27,10 @@ IsBehindFirst ms h d = (front rest : List Move) × (ms ≡ front ++ rest) × (d 
 pub record LeaveWhatIsComplete : Type 0 where
   -- a move lets as many writes pass as it is
   pub counts : (m : Move) (h : HeapView) → (apply_move m h).passed ≡ saturating_count h.passed (writes_of m h)
-  -- where the count of writes can tell it, a loss leaves the heap behind those that are complete by count
+  -- where the count of writes is exact, a loss leaves the heap after those that are complete by count
   pub exact : (ms : List Move) (h : HeapView) (passed : ℕ) (d : HeapState) → passed < 18446744073709551615 → TornMovesLeave ms h passed d
       → IsExactCut ms h passed d
-  -- that is the heap behind some first moves
+  -- that is the heap after some first moves
   pub first : (ms : List Move) (h : HeapView) (k : ℕ) → IsBehindFirst ms h (durable_behind ms h k)
   -- and moves that are complete stay, wherever what follows them is cut
   pub kept : (ms more : List Move) (h : HeapView) (k : ℕ)

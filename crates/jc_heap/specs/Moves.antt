@@ -60,7 +60,7 @@ writes_of Begin h = 0
 writes_of Commit h = if length h.touched == 0 then 0 else 1
 writes_of Abort h = undo_writes (length h.touched)
 
--- the store refused a write of this move when so many had passed in all: fewer of the move's own than it is
+-- the store refused a write of this move when n writes had passed in all: fewer of the move's own than it is
 abbrev pub IsCutIn : Move → HeapView → ℕ → Type 0
 IsCutIn m h passed = (h.passed ≤ passed) × IsShort (writes_of m h) h.passed passed
 
@@ -88,12 +88,12 @@ with_nonatomic_writes (m ∷ ms) h d = with_nonatomic_writes ms (apply_move m h)
 abbrev pub KeepsDurable : Type 0
 KeepsDurable = (moves : List Move) (h : HeapView) → h.begun ≡ true → IsInside moves → (apply_moves moves h).durable ≡ with_nonatomic_writes moves h h.durable
 
--- a loss of power within these moves, when so many writes had passed, leaves this durable heap: that before the move in which it falls
+-- a loss of power within these moves, when n writes had passed, leaves this durable heap: that before the move in which it falls
 abbrev pub TornMovesLeave : List Move → HeapView → ℕ → HeapState → Type 0
 TornMovesLeave [] h passed d = ⊥
 TornMovesLeave (m ∷ ms) h passed d = ((d ≡ h.durable) × IsCutIn m h passed) ⊎ TornMovesLeave ms (apply_move m h) passed d
 
--- the store, which keeps its size, refused a write, and the durable heap that it left is the one that may be left when so many had passed
+-- the store, which keeps its size, refused a write, and the durable heap that it left is the one that may be left when this number had passed
 pub record IsTorn (May : ℕ → HeapState → Type 0) (old new : HeapView) : Type 0 where
   pub left : May new.passed new.durable
   pub down : new.down ≡ true
@@ -121,15 +121,15 @@ refusal_of_places v places = refusal_at v (words_at v.now places)
 abbrev pub refusal_of_cells : HeapView → ℕ → ℕ → List ℕ → Option HeapRefusal
 refusal_of_cells v r i values = refusal_at v (words_at v.now (cells_from r i (length values)))
 
--- why something new of so many words is: first there is no space
+-- why something new of n words is: first there is no space
 abbrev pub refusal_of_space : HeapView → ℕ → List ℕ → Option HeapRefusal
 refusal_of_space v size addresses = if nat_lt (limit v) (v.now.top + size) then Some HeapFull else refusal_at v addresses
 
--- why a new persistent object of a kind with so many cells is
+-- why a new persistent object of a kind with n cells is
 abbrev pub refusal_of_object : HeapView → Kind → ℕ → Option HeapRefusal
 refusal_of_object v kind long = refusal_of_space v (object_size kind long) (end_address ∷ [])
 
--- why a new transient object with so many cells is: first its area has no space
+-- why a new transient object with n cells is: first its area has no space
 abbrev pub refusal_of_transient : HeapView → ClearEvent → ℕ → Option HeapRefusal
 refusal_of_transient v event long = if nat_lt area_size (area_end v.now event + long) then Some NoTransientSpace else refusal_of_space v transient_size
     (end_address ∷ area_end_address event ∷ [])

@@ -49,16 +49,16 @@ header_word kind event = kind_number kind + 256 * event_number event
 abbrev pub is_header : ℕ → Bool
 is_header word = is_packed_header word || (nat_lt 0 (word % 256) && (nat_lt (word % 256) 6 && nat_lt (word / 256) 3))
 
--- how many words hold so many cells, where two stand in a word or not
+-- how many words hold n cells, where two stand in a word or not
 abbrev pub words_of_cells : Bool → ℕ → ℕ
 words_of_cells packed long = if packed then (long + 1) / 2 else long
 
--- how many words follow the header: those of the cells, or the place of the first one. Behind a word that begins no
+-- how many words follow the header: those of the cells, or the place of the first one. After a word that begins no
 -- header more words are missing than there can be
 abbrev pub payload : ℕ → ℕ → ℕ
 payload word long = if is_header word then (if word / 256 == 0 then words_of_cells (is_packed_header word) long else 1) else 65536
 
--- the cells that words hold: all the words, or, where two stand in a word, so many of their bytes
+-- the cells that words hold: all the words, or, where two stand in a word, the first n of their bytes
 abbrev pub cells_of_words : Bool → ℕ → List ℕ → List ℕ
 cells_of_words packed long words = if packed then bytes_of_packed (min long (2 * length words)) words else words
 
@@ -96,7 +96,7 @@ has_bytes _ = false
 abbrev pub is_packed : Facts → Bool
 is_packed f = has_bytes f.kind && f.packed
 
--- how many words a new persistent object of a kind takes, with so many cells: two bytes stand in a word
+-- how many words a new persistent object of a kind takes, with n cells: two bytes stand in a word
 abbrev pub object_size : Kind → ℕ → ℕ
 object_size kind long = header_size + words_of_cells (has_bytes kind) long
 

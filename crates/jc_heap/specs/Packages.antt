@@ -27,7 +27,7 @@ array_inits xs = map array_init xs
 abbrev pub component_words : ℕ × List ℕ → List ℕ
 component_words c = c.0 ∷ length c.1 ∷ packed_words c.1
 
--- components one behind another
+-- components one after another
 abbrev pub components_words : List (ℕ × List ℕ) → List ℕ
 components_words [] = []
 components_words (c ∷ cs) = component_words c ++ components_words cs
@@ -47,7 +47,7 @@ array_object owner a = record {
 abbrev pub array_words : ℕ → Kind × List ℕ → List ℕ
 array_words owner a = header_number a.0 (has_bytes a.0) ∷ 0 ∷ owner ∷ length (elements a) ∷ packed_words a.1
 
--- the words that such objects take, one behind another
+-- the words that such objects take, one after another
 abbrev pub arrays_words : ℕ → List (Kind × List ℕ) → List ℕ
 arrays_words owner [] = []
 arrays_words owner (a ∷ xs) = array_words owner a ++ arrays_words owner xs
@@ -61,7 +61,7 @@ abbrev pub arrays_size : List (Kind × List ℕ) → ℕ
 arrays_size [] = 0
 arrays_size (a ∷ xs) = array_size a + arrays_size xs
 
--- the addresses of objects one behind another
+-- the addresses of objects one after another
 abbrev pub array_addresses : ℕ → List (Kind × List ℕ) → List ℕ
 array_addresses at [] = []
 array_addresses at (a ∷ xs) = at ∷ array_addresses (at + array_size a) xs
@@ -90,7 +90,7 @@ package_owner number = 256 + number
 abbrev pub package_words : ℕ → ℕ → List (ℕ × List ℕ) → List (Kind × List ℕ) → List ℕ → List ℕ
 package_words at number cs xs rest = package_record at cs xs rest ++ arrays_words (package_owner number) xs
 
--- a record behind the others, under the next package number
+-- a record after the others, under the next package number
 unfoldable pub push_package : HeapState → List ℕ → HeapState
 push_package h words = record h {
   items = h.items ++ (h.top, APackage words) ∷ [];
@@ -99,12 +99,12 @@ push_package h words = record h {
   top = h.top + length words;
 }
 
--- objects behind the others, one behind another
+-- objects after the others, one after another
 abbrev pub add_arrays : HeapState → ℕ → List (Kind × List ℕ) → HeapState
 add_arrays h owner [] = h
 add_arrays h owner (a ∷ xs) = add_arrays (add_object h (array_object owner a) (array_size a)) owner xs
 
--- one package more: its record, and its arrays behind it
+-- one package more: its record, and its arrays after it
 abbrev pub add_package : HeapState → List (ℕ × List ℕ) → List (Kind × List ℕ) → List ℕ → HeapState
 add_package h cs xs rest = add_arrays (push_package h (package_record h.top cs xs rest)) (package_owner (h.counts.0 + 1)) xs
 

@@ -16,7 +16,7 @@ byte_in word i = if i % 2 == 0 then word / 256 else word % 256
 abbrev pub packed_byte : List ℕ → ℕ → ℕ
 packed_byte words i = if i % 2 == 0 then slice_index words (i / 2) / 256 else slice_index words (i / 2) % 256
 
--- so many bytes of packed words
+-- the first n bytes of packed words
 unfoldable pub bytes_of_packed : ℕ → List ℕ → List ℕ
 bytes_of_packed count words = map (packed_byte words) (range_with_len 0 count)
 
@@ -28,6 +28,6 @@ with_byte word i v = if i % 2 == 0 then 256 * v + word % 256 else word / 256 * 2
 abbrev pub low_byte_of : List ℕ → ℕ → ℕ
 low_byte_of cells i = slice_index cells i % 256
 
--- the low bytes of so many cells from an index on
+-- the low bytes of n cells from an index on
 abbrev pub low_bytes : List ℕ → ℕ → ℕ → List ℕ
 low_bytes cells i count = map (low_byte_of cells) (range_with_len i count)

@@ -49,13 +49,13 @@ abbrev pub share_word : HeapState → Place → Place → Bool
 share_word h (Cell r i) (Cell q j) = (r == q) && (is_packed (facts h r) && (i / 2 == j / 2))
 share_word h _ _ = false
 
--- the addresses of the words of places, one for those that stand in the word of the place behind them
+-- the addresses of the words of places, one for those that stand in the word of the place after them
 abbrev pub words_at : HeapState → List Place → List ℕ
 words_at h [] = []
 words_at h (p ∷ []) = place_at h p ∷ []
 words_at h (p ∷ q ∷ ps) = if share_word h p q then words_at h (q ∷ ps) else place_at h p ∷ words_at h (q ∷ ps)
 
--- so many cells of an object, from an index on
+-- n cells of an object, from an index on
 abbrev pub cells_from : ℕ → ℕ → ℕ → List Place
 cells_from r i n = map (λ k. Cell r k) (range_with_len i n)
 
@@ -124,7 +124,7 @@ abbrev pub AreApart : List Place → Type 0
 AreApart [] = Unit {0}
 AreApart (p ∷ ps) = IsBeside p ps × AreApart ps
 
--- what one applet more changes: its three words behind those of the others, and the number of applets
+-- what one applet more changes: its three words after those of the others, and the number of applets
 abbrev pub applet_changes : HeapState → AppletEntry → List (Place × ℕ)
 applet_changes h entry =
     (Registry (entry_start h.counts.1), entry.aid)
@@ -132,7 +132,7 @@ applet_changes h entry =
     ∷ (Registry (entry_start h.counts.1 + entry_instance), entry.instance)
     ∷ (AppletCount, h.counts.1 + 1) ∷ []
 
--- the places that it changes, where so many applets are there before
+-- the places that it changes, where n applets are there before
 abbrev pub applet_places : ℕ → List Place
 applet_places n = Registry (entry_start n) ∷ Registry (entry_start n + entry_package) ∷ Registry (entry_start n + entry_instance) ∷ AppletCount ∷ []
 

@@ -5,7 +5,7 @@ use Rattle.std.specs.Prelude.{ℕ, ◌*◌}
 abbrev pub entry_length : ℕ
 entry_length = 3
 
--- the first of them, counted from the registry's first word, for the applet behind so many others
+-- the first of them, counted from the registry's first word, for the applet after n others
 abbrev pub entry_start : ℕ → ℕ
 entry_start applet = entry_length * applet
 

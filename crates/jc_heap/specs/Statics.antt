@@ -13,12 +13,12 @@ with_word (APackage ws) j v = APackage (set ws j v)
 unfoldable pub set_word : HeapState → ℕ → ℕ → ℕ → HeapState
 set_word h r j v = record h { items = with_entry h.items r (with_word (heap_item_at h r) j v) }
 
--- where the image among these parts begins: behind the first 0 that stands for a tag
+-- where the image among these parts begins: after the first 0 that stands for a tag
 abbrev pub image_from : List (ℕ × List ℕ) → Option ℕ
 image_from [] = None
 image_from (p ∷ ps) = if slice_index p.1 0 == 0 then Some (p.0 + 1) else image_from ps
 
--- where a record's static image begins: behind the 0 that follows the components; nowhere, where a record
+-- where a record's static image begins: after the 0 that follows the components; nowhere, where a record
 -- has no component, or ends before
 unfoldable pub statics_of : List ℕ → Option ℕ
 statics_of words = if slice_index words 1 == 0 then None else image_from (record_parts words)

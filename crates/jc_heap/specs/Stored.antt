@@ -15,11 +15,11 @@ pub record IsAtRest (words : List ℕ) (is_down : Bool) : Type 0 where
   pub closed : count_of words ≡ 0
   pub current : slice_index words version_address ≡ version
 
--- the heap of a store at rest, which has let so many writes pass and refused these
+-- the heap of a store at rest, which has let this number of writes pass and refused these
 abbrev pub heap_of_store_at_rest : List ℕ → ℕ → Refusals → HeapView
 heap_of_store_at_rest words passed refusals = heap_at_rest (heap_of (recovered_of words)) passed refusals (limit_of words)
 
--- a store with these words, which is down or not, has let so many writes pass and refused these, holds this heap: its words stand
+-- a store with these words, which is down or not, has let this number of writes pass and refused these, holds this heap: its words stand
 -- for the heap as it is, and a recovery of them leaves the durable one. The first three are not the journal's
 pub record HoldsHeap (words : List ℕ) (is_down : Bool) (let_pass : ℕ) (turned_down : Refusals) (v : HeapView) : Type 0 where
   pub good : IsGoodLog words

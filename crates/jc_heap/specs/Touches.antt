@@ -28,15 +28,15 @@ CanTouch v touch.HeapEnd = Unit {0}
 abbrev pub touched_places : List Place → List Touch
 touched_places places = map (λ p. touch.Place p) places
 
--- so many cells of an object, from an index on
+-- n cells of an object, from an index on
 abbrev pub touched_cells : ℕ → ℕ → ℕ → List Touch
 touched_cells r i n = touched_places (cells_from r i n)
 
--- so many first cells of the object that the heap makes next
+-- the first n cells of the object that the heap makes next
 abbrev pub touched_new_cells : ℕ → List Touch
 touched_new_cells n = map (λ i. touch.NewCell i) (range_with_len 0 n)
 
--- the same word once that object stands behind this reference
+-- the same word once this reference names that object
 abbrev pub once_made : ℕ → Touch → Touch
 once_made r (touch.Place p) = touch.Place p
 once_made r (touch.NewCell i) = touch.Place (Cell r i)

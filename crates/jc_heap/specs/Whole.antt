@@ -46,7 +46,7 @@ HoldsReferences h t = (facts_of t).kind ≡ ReferenceArray → (i : ℕ) → i <
 abbrev pub AreAllocated : HeapState → List ℕ → Type 0
 AreAllocated h addresses = (k : ℕ) → k < length addresses → is_allocated h (slice_index addresses k) ≡ true
 
--- at each of these addresses stands a package's record with its two words at least: its length, and the 0 behind its components
+-- at each of these addresses stands a package's record with its two words at least: its length, and the 0 after its components
 abbrev pub AreRecords : HeapState → List ℕ → Type 0
 AreRecords h addresses = (k : ℕ) → k < length addresses → 2 ≤ length (record_of h (slice_index addresses k))
 

@@ -21,7 +21,7 @@ use jc_words::{StoreDown, WordStore};
 // The owner of the objects of package 0; there is none, since packages count from 1.
 const FIRST_OWNER: u16 = 256;
 
-// Writes a package with a number: its record, of so many words, and its arrays.
+// Writes a package with a number: its record, of n words, and its arrays.
 fn write_package<S: WordStore>(
     journal: &mut Journal<S>,
     at: u16,
@@ -50,7 +50,7 @@ fn write_package<S: WordStore>(
 
 impl<S: WordStore> Heap<S> {
     /// Adds a package: a record with its components and its static image, and its initialised arrays.
-    /// The image's first words become the references to the arrays; `image` is what stands behind them.
+    /// The image's first words become the references to the arrays; `image` is what stands after them.
     pub fn add_package(
         &mut self,
         components: &[RecordComponent],

@@ -11,7 +11,7 @@ use jc_commit::WordChanges;
 use jc_words::layout::{APPLETS, REGISTRY};
 use std::marker::Model;
 
-/// Values for cells, one behind another.
+/// Values for cells, one after another.
 #[derive(Clone, Copy)]
 pub enum Elements<'a> {
     Bytes(&'a [u8]),
@@ -48,7 +48,7 @@ impl<'a> Elements<'a> {
 pub(crate) enum Packing {
     /// One in a word.
     Single,
-    /// Two in a word: the first one behind this byte, where there is one, and the last one before that byte.
+    /// Two in a word: the first one after this byte, where there is one, and the last one before that byte.
     Double {
         before: Option<u8>,
         behind: Option<u8>,
@@ -67,7 +67,7 @@ fn optional_byte(byte: Option<u8>) -> u16
     }
 }
 
-// The byte of an index among the bytes of a run: those that stay before and behind it count.
+// The byte of an index among the bytes of a run: those that stay before and after it count.
 #[inline(always)]
 fn byte_of_run(before: Option<u8>, values: Elements, behind: Option<u8>, j: usize) -> u16
     requires { (k : ℕ) → k < length (elements_of values) → slice_index (elements_of values) k < 256 }
@@ -89,7 +89,7 @@ fn byte_of_run(before: Option<u8>, values: Elements, behind: Option<u8>, j: usiz
     0
 }
 
-// The bytes of a run's words behind the first one, as far as they stand in the slice.
+// The bytes of a run's words after the first one, as far as they stand in the slice.
 #[inline(always)]
 fn behind_first(before: Option<u8>, bytes: &[u8]) -> &[u8]
     ensures { result.now ≡ drop (2 - length (byte_or_none before)) bytes.now }
@@ -399,7 +399,7 @@ impl<'a> WordChanges for PlaceWords<'a> {
     }
 }
 
-/// The words of a run of cells, and those of places behind them.
+/// The words of a run of cells, and those of places after them.
 #[derive(Drop)]
 pub(crate) struct RunAndPlaces<'a> {
     run: CellRun<'a>,

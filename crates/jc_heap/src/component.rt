@@ -10,7 +10,7 @@ use jc_transient::Ref;
 use jc_words::WordStore;
 
 /// Where the info of a component stands in its package's record.
-#[derive(Clone, Copy, PartialEq, Eq)]
+#[derive(Clone, Copy)]
 pub struct Span {
     /// The first word, counted from the record's first.
     pub at: u16,
@@ -18,14 +18,14 @@ pub struct Span {
     pub size: u16,
 }
 
-// How many words hold so many bytes.
+// How many words hold n bytes.
 pub(crate) fn words_for(bytes: u16) -> u32
     ensures { result ≡ words_for bytes }
 {
     (u32::from(bytes) + 1) / 2
 }
 
-// The span of the component at an offset of a record of so many words.
+// The span of the component at an offset of a record of n words.
 fn span_at<S: WordStore>(journal: &Journal<S>, base: u16, long: u16, at: u16) -> Option<Span>
     requires behind { text_start ≤ base }
     requires there { base + long ≤ length journal.now.plain }
@@ -44,7 +44,7 @@ fn span_at<S: WordStore>(journal: &Journal<S>, base: u16, long: u16, at: u16) ->
     Some(Span { at: at + 2, size })
 }
 
-// The span of the component with a tag, in a record of so many words.
+// The span of the component with a tag, in a record of n words.
 fn find_info<S: WordStore>(journal: &Journal<S>, base: u16, long: u16, tag: u16) -> Option<Span>
     requires behind { text_start ≤ base }
     requires there { base + long ≤ length journal.now.plain }

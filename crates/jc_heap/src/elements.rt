@@ -184,7 +184,7 @@ fn byte_before<S: WordStore>(journal: &Journal<S>, object: Ref, i: u16) -> Optio
     Some(byte_in(journal.read(word_at(object, i / 2)), 0))
 }
 
-// The byte that stays behind the elements before an index, in the word of the last of them.
+// The byte that stays after the elements before an index, in the word of the last of them.
 fn byte_behind<S: WordStore>(journal: &Journal<S>, object: Ref, end: usize) -> Option<u8>
     requires laid { IsWellFormed journal.now.plain }
     requires small { length journal.now.plain < 65536 }

@@ -22,7 +22,7 @@ pub(crate) fn write_run<S: WordStore>(
     Ok(())
 }
 
-// Writes so many zeros from an address on.
+// Writes `count` zeros from an address on.
 pub(crate) fn write_zeros<S: WordStore>(
     journal: &mut Journal<S>,
     at: u16,
@@ -39,7 +39,7 @@ pub(crate) fn write_zeros<S: WordStore>(
     Ok(())
 }
 
-// Writes the words of a header and so many zeros behind them.
+// Writes the words of a header and `zeros` zeros after them.
 pub(crate) fn write_record<S: WordStore>(
     journal: &mut Journal<S>,
     at: u16,

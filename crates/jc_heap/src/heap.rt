@@ -102,7 +102,7 @@ impl<S: WordStore> Heap<S> {
         !begins_package(&self.journal, word)
     }
 
-    /// The object behind another one in the order of addresses, or the first one of all behind null.
+    /// The object after another one in the order of addresses, or the first one of all after null.
     pub fn next(&self, object: Ref) -> Option<Ref>
         requires up { self.now.down ≡ false }
         requires there { (object ≡ 0 → ⊥) → IsObject self.now.now object }

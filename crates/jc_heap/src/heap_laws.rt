@@ -14,7 +14,7 @@ pub fn transactions_keep_what_is_durable()
     ensures { KeepsDurable }
 {}
 
-/// A loss of power within moves, when so many writes have passed, leaves exactly the heap behind those moves that are
+/// A loss of power within moves, when n writes have passed, leaves exactly the heap after those moves that are
 /// complete by then. So what is complete stays, wherever a later move is cut.
 pub fn losses_leave_what_is_complete()
     ensures { LeaveWhatIsComplete }

@@ -13,7 +13,7 @@ use jc_transient::Ref;
 use jc_words::WordStore;
 use jc_words::layout::{TEXT_LENGTH, TEXT_START};
 
-// The word behind a transient object's header, 0 where there is none.
+// The word after a transient object's header, 0 where there is none.
 #[inline(always)]
 fn area_place<S: WordStore>(journal: &Journal<S>, at: u16, word: u16) -> u16
     requires behind { text_start ≤ at }
@@ -52,7 +52,7 @@ pub fn facts_at<S: WordStore>(journal: &Journal<S>, object: Ref) -> Facts
     }
 }
 
-/// The object behind another one in the order of addresses, or the first one of all behind null.
+/// The object after another one in the order of addresses, or the first one of all after null.
 pub fn next_behind<S: WordStore>(journal: &Journal<S>, object: Ref) -> Option<Ref>
     requires laid { IsWellFormed journal.now.plain }
     requires small { length journal.now.plain < 65536 }

@@ -41,7 +41,7 @@ impl<S: WordStore> Heap<S> {
         AREA_CELLS.saturating_sub(self.journal.read(area_word(event)))
     }
 
-    /// Whether there is space for a new persistent object of a kind, with so many cells.
+    /// Whether there is space for a new persistent object of a kind, with n cells.
     pub fn has_space(&self, kind: Kind, length: u16) -> bool
         requires { self.now.down ≡ false }
         ensures { result ≡ nat_le (self.now.now.top + object_size kind length) (limit self.now) }
@@ -131,7 +131,7 @@ impl<S: WordStore> Heap<S> {
     }
 }
 
-// How many words a new persistent object of a kind takes, with so many cells.
+// How many words a new persistent object of a kind takes, with n cells.
 fn object_size(kind: Kind, length: u16) -> u32
     ensures { result ≡ object_size kind length }
 {

@@ -77,7 +77,7 @@ pub(crate) fn is_packed_header(word: u16) -> bool
     word == 6 || word == 7
 }
 
-// How many words hold so many cells, where two stand in a word or not.
+// How many words hold n cells, where two stand in a word or not.
 pub(crate) fn words_of_cells(packed: bool, length: u16) -> u32
     ensures { result ≡ words_of_cells packed length }
 {
@@ -100,7 +100,7 @@ pub(crate) fn event_of_number(number: u16) -> Option<ClearEvent>
 }
 
 /// What an object's header says.
-#[derive(Clone, Copy, Default, PartialEq, Eq)]
+#[derive(Clone, Copy, Default)]
 pub struct Facts {
     pub kind: Kind,
     /// What clears the object's cells; none, where it is persistent.
@@ -118,7 +118,7 @@ pub struct Facts {
 }
 
 impl Facts {
-    /// What a header says of an object with this kind, event, class and owner, so many cells, its first cell there, and
+    /// What a header says of an object with this kind, event, class and owner, n cells, its first cell there, and
     /// a word for each cell.
     pub const fn new(
         kind: Kind,

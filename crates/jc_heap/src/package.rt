@@ -12,7 +12,7 @@ use crate::packed::packed_size;
 pub struct RecordComponent<'a> {
     /// 1 to 8, or 10.
     pub tag: u8,
-    /// What stands behind the component's tag and size.
+    /// What stands after the component's tag and size.
     pub info: &'a [u8],
 }
 

@@ -2,14 +2,14 @@
 ghost use Rattle.std.specs.Prelude.{◌≡◌, ◌<◌, ◌+◌, ◌*◌, length, slice_index};
 ghost use Rattle.jc_heap.specs.Packed.{packed_words};
 
-// How many words hold so many bytes.
+// How many words hold n bytes.
 pub(crate) fn packed_size(bytes: &[u8]) -> usize
     ensures { result ≡ length (packed_words bytes.now) }
 {
     bytes.len() / 2 + bytes.len() % 2
 }
 
-// A byte, 0 behind the last one.
+// A byte, 0 after the last one.
 fn byte_or_zero(bytes: &[u8], i: usize) -> u16
     ensures byte { result ≡ slice_index bytes.now i }
     ensures small { result < 256 }
@@ -20,7 +20,7 @@ fn byte_or_zero(bytes: &[u8], i: usize) -> u16
     0
 }
 
-/// A word of packed bytes, 0 behind the last one.
+/// A word of packed bytes, 0 after the last one.
 pub fn packed_word(bytes: &[u8], k: u16) -> u16
     ensures word { result ≡ slice_index (packed_words bytes.now) k }
     ensures high { slice_index bytes.now (2 * k) < 256 }

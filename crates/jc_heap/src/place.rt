@@ -114,7 +114,7 @@ impl<S: WordStore> Heap<S> {
         Ok(())
     }
 
-    /// Sets the cells of a persistent object from an index on, and behind them other places that have words of their
+    /// Sets the cells of a persistent object from an index on, and after them other places that have words of their
     /// own, as one change.
     pub fn set_run_and_places(
         &mut self,

@@ -50,7 +50,7 @@ fn write_component<S: WordStore>(
     Ok(())
 }
 
-// Writes components one behind another, and gives the address behind them.
+// Writes components one after another, and gives the address after them.
 fn write_components<S: WordStore>(
     journal: &mut Journal<S>,
     at: u16,
@@ -140,7 +140,7 @@ fn write_array<S: WordStore>(
     Ok(())
 }
 
-// Writes initialised arrays one behind another.
+// Writes initialised arrays one after another.
 pub(crate) fn write_arrays<S: WordStore>(
     journal: &mut Journal<S>,
     at: u16,
@@ -163,7 +163,7 @@ pub(crate) fn write_arrays<S: WordStore>(
     Ok(())
 }
 
-// Writes a package's record, of so many words.
+// Writes a package's record, of n words.
 pub(crate) fn write_package_record<S: WordStore>(
     journal: &mut Journal<S>,
     at: u16,

@@ -18,7 +18,7 @@ pub enum ChangeRefusal {
 }
 
 /// Why an object or a package was not made.
-#[derive(Clone, Copy, Debug, PartialEq, Eq, Error)]
+#[derive(Clone, Copy, Debug, Error)]
 pub enum HeapRefusal {
     /// The store refused a write. Only a power up follows.
     #[error("the store is down")]

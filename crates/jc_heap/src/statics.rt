@@ -10,7 +10,7 @@ use jc_commit::Journal;
 use jc_transient::Ref;
 use jc_words::WordStore;
 
-// Where the static image begins, in a record of so many words.
+// Where the static image begins, in a record of n words.
 fn find_image<S: WordStore>(journal: &Journal<S>, base: u16, long: u16) -> Option<u16>
     requires behind { text_start ≤ base }
     requires there { base + long ≤ length journal.now.plain }

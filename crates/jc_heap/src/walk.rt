@@ -14,7 +14,7 @@ use jc_transient::Ref;
 use jc_words::WordStore;
 use jc_words::layout::{ADDRESSES, MOST_PACKAGES, PACKAGES, TEXT_LENGTH, TEXT_START, TOP};
 
-// The size of a record that begins with no header: no image has so many words.
+// The size of a record that begins with no header: no image has that many words.
 const NO_HEADER: u32 = 65540;
 
 /// Whether a package's record begins at the address.

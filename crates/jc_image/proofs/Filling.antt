@@ -1,4 +1,4 @@
--- The objects of an event in its area, one behind another.
+-- The objects of an event in its area, one after another.
 use Rattle.std.proofs.Common.{◌≡◌, ◌≤◌, ℕ, ◌+◌, ◌/◌, ◌%◌, ◌<◌, ◌==◌, ◌&&◌, nat_lt, Bool, true, false, inl, inr, List, take, drop, length, get_or, refl, sym, ◌∙◌, ap}
 use Rattle.std.proofs.Common.{arith, if◌then◌else◌, Some, lit<}
 use Rattle.std.proofs.lemmas.Bool.{cases_eq, cases_Bool, eq-eqb, ne_eqb, false≢true, le-ltb, cases_lt, eqb-true, or_cases}

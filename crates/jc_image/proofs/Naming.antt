@@ -96,13 +96,13 @@ module _ (ws : List ℕ) (laid : IsWellFormed ws) where
       | inr o ↦ marked r ∙ object_named (heap_of ws) r o
     ]
 
--- a package behind some of the packages is a package
+-- a package after some of the packages is a package
 still_package : (ps : List ℕ) (k a : ℕ) → is_package (drop k ps) a ≡ true → is_package ps a ≡ true
 still_package ps zero a e = e
 still_package [] (suc k) a e = e
 still_package (p ∷ ps) (suc k) a e = ap (λ b. (p == a) || b) (still_package ps k a e) ∙ or-true (p == a)
 
--- what is marked of packages stands behind an index, and all else is marked as it stands
+-- what is marked of packages stands after an index, and all else is marked as it stands
 pub record IsUnmarked (ws : List ℕ) (marks : List Bool) (k : ℕ) : Type 0 where
   pub long : length marks ≡ 65536
   pub others : (r : ℕ) → is_package (package_addresses (image ws)) r ≡ false → get_or marks r false ≡ is_allocated (heap_of ws) r

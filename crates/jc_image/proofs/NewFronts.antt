@@ -1,4 +1,4 @@
--- The first words of an image, as its heap tells them.
+-- The first words of an image, as its heap gives them.
 use Rattle.std.proofs.Common.{◌≡◌, ◌∙◌, ℕ, ◌<◌, ◌≤◌, List, [], ◌∷◌, length, take, get_or, map, ap, sym, arith, lit<}
 use Rattle.std.specs.List.{range_with_len}
 use Rattle.std.specs.Prelude.{Bool, if◌then◌else◌}

@@ -76,7 +76,7 @@ module _ (ws : List ℕ) (at : ℕ) (fits : get_or ws top_address 0 ≤ length w
   tail_behind : drop (size_from ws at) (drop at (image ws)) ≡ drop (at + size_from ws at) (image ws)
   tail_behind = drop-drop (size_from ws at) at (image ws)
 
-  -- the records behind it lack as many words
+  -- the records after it lack as many words
   pub step_missing : missing_from ws (at + size_from ws at) ≡ missing_from ws at
   step_missing =
       ap (missing_words (sizes (package_addresses (image ws))) 0 (at + size_from ws at)) (sym tail_behind)
@@ -177,7 +177,7 @@ module _ (ws : List ℕ) (at : ℕ) (fits : get_or ws top_address 0 ≤ length w
   unfolding item_from
   package_here there = ap (λ b. if b then APackage rec else AnObject (object_of rec)) there
 
-  -- a persistent object's cells are the words behind its header, where each has a word of its own
+  -- a persistent object's cells are the words after its header, where each has a word of its own
   module _ (small : length ws < 65536) (no : is_package (package_addresses (image ws)) at ≡ false) (persistent : get_or ws at 0 / 256 ≡ 0) where
     words_small : length rec < 65536
     words_small = omega (arith, rec_long, size_fits, fits)

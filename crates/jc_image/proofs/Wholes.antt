@@ -1,4 +1,4 @@
--- How many packages and applets the words of an image tell.
+-- How many packages and applets the words of an image state.
 use Rattle.std.proofs.Common.{◌≡◌, ℕ, List, get_or, arith}
 use Rattle.std.proofs.lemmas.List.{get_or-take}
 use Rattle.jc_words.specs.Layout.{top_address, packages_address, applets_address}

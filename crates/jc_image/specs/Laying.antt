@@ -11,11 +11,11 @@ use Rattle.jc_heap.specs.Heap.{HeapState, HeapView, heap_at_rest}
 abbrev pub IsOfBytes : List ℕ → Type 0
 IsOfBytes text = (k : ℕ) → slice_index text k < 256
 
--- the first free word over a table text of so many bytes
+-- the first free word over a table text of n bytes
 abbrev pub first_free : ℕ → ℕ
 first_free long = text_start + (long + 1) / 2
 
--- the words 0 to 15 of an image of n words without objects, whose journal can have so many entries: the magic word is not there yet
+-- the words 0 to 15 of an image of n words without objects, with a journal of this capacity: the magic word is not there yet
 abbrev pub image_front : ℕ → ℕ → ℕ → List ℕ
 image_front n capacity long = 0 ∷ version ∷ n ∷ 0 ∷ 0 ∷ first_free long ∷ 0 ∷ 0 ∷ 0 ∷ 0 ∷ long ∷ capacity ∷ journal_start n capacity ∷ 0 ∷ 0 ∷ 0 ∷ []
 
@@ -28,7 +28,7 @@ first_words_of h = h.head.0 ∷ version ∷ h.head.1 ∷ 0 ∷ slice_index h.unr
 unfoldable pub new_image_words : ℕ → ℕ → List ℕ → List ℕ
 new_image_words n capacity text = image_front n capacity (length text) ++ replicate (text_start - front_length) 0 ++ packed_words text
 
--- of these words so many are written over the old ones, from word 0 on
+-- the first k of these words are written over the old ones, from word 0 on
 abbrev pub written_image_prefix : ℕ → ℕ → ℕ → List ℕ → List ℕ → List ℕ
 written_image_prefix k n capacity text old = take k (new_image_words n capacity text) ++ drop k old
 

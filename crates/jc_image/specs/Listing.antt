@@ -1,4 +1,4 @@
--- What the words of an image tell of its packages and applets, as they stand.
+-- What the words of an image say of its packages and applets, as they stand.
 use Rattle.std.specs.Prelude.{ℕ, ◌+◌, ◌-◌, ◌/◌, ◌%◌, ◌==◌, ◌&&◌, nat_lt, nat_le, List, map, length, slice_index, Option, Some, None, Result, Ok, Err}
 use Rattle.std.specs.Prelude.{if◌then◌else◌}
 use Rattle.std.specs.List.{range_with_len}
@@ -19,7 +19,7 @@ byte_in w at i = if i % 2 == 0 then slice_index w (at + i / 2) / 256 else slice_
 abbrev pub bytes_in : List ℕ → ℕ → ℕ → List ℕ
 bytes_in w at count = map (byte_in w at) (range_with_len 0 count)
 
--- the name that the info of a Header component tells
+-- the name that the info of a Header component holds
 abbrev pub name_of : Result HeaderValue CapFault → Option NamedPackage
 name_of (Ok h) = Some h.this_package
 name_of (Err fault) = None
@@ -72,7 +72,7 @@ least_aid = 5
 abbrev pub most_aid : ℕ
 most_aid = 16
 
--- the applet of a package whose AID object stands there: a persistent instance of nine cells, of which the first tells the
+-- the applet of a package whose AID object stands there: a persistent instance of nine cells, of which the first holds the
 -- AID's length, 5 to 16
 unfoldable pub applet_in : List ℕ → ℕ → ℕ → Option NamedApplet
 applet_in w at p =

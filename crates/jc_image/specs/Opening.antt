@@ -15,7 +15,7 @@ pub record IsOpen (j : State) (size : ℕ) : Type 0 where
   pub small : size < 65536
   pub wide : text_start ≤ size
 
--- a store with these words, which is down or not, has let so many writes pass and refused these, holds this recovered image: its
+-- a store with these words, which is down or not, has let this number of writes pass and refused these, holds this recovered image: its
 -- words are the image's, as they are and after another recovery, of the version that is written, and no entry of the log counts
 pub record HoldsImage (words : List ℕ) (is_down : Bool) (let_pass : ℕ) (turned_down : Refusals) (j : State) : Type 0 where
   pub good : IsGoodLog words

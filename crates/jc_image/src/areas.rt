@@ -41,7 +41,7 @@ fn is_in_area<S: WordStore>(journal: &Journal<S>, at: u16, event: ClearEvent) ->
     journal.read(at) / 256 == number_of(event)
 }
 
-// The place behind those cells of the object at an address; none, where they do not begin at the given
+// The place after those cells of the object at an address; none, where they do not begin at the given
 // place or do not end within the area.
 fn place_behind<S: WordStore>(
     journal: &Journal<S>,
@@ -73,7 +73,7 @@ fn place_behind<S: WordStore>(
     Some(place + length)
 }
 
-/// The places behind the cells of the object at an address; none, where they do not begin at the given
+/// The places after the cells of the object at an address; none, where they do not begin at the given
 /// places or do not end within their area.
 pub(crate) fn places_behind<S: WordStore>(
     journal: &Journal<S>,

@@ -33,7 +33,7 @@ fn has_header<S: WordStore>(journal: &Journal<S>, object: Ref, expected: &Facts)
         && found.place == expected.place
 }
 
-// Whether objects with these headers stand behind an object, one after another.
+// Whether objects with these headers stand after an object, one after another.
 fn follows<S: WordStore>(journal: &Journal<S>, from: Ref, expected: &[Facts]) -> bool
     requires laid { IsWellFormed journal.now.plain }
     requires small { length journal.now.plain < 65536 }

@@ -15,7 +15,7 @@ use jc_heap::packed::packed_word;
 use jc_words::layout::{FRONT_LENGTH, MAGIC, MAGIC_WORD, TEXT_START, VERSION};
 use jc_words::{Log, StoreDown, WordStore};
 
-/// How many words an image without objects takes, whose table text has so many bytes.
+/// How many words an image without objects takes, whose table text has n bytes.
 pub fn first_free(text: u16) -> u32
     ensures { result ≡ first_free text }
 {
@@ -97,8 +97,8 @@ fn write_image<S: WordStore>(store: &mut S, text: &[u8], capacity: u16) -> Resul
     Ok(())
 }
 
-/// Lays the words of an image without objects over a store, with this table text and a journal of so
-/// many entries, 16 to 1024. The magic word
+/// Lays the words of an image without objects over a store, with this table text and a journal of
+/// `capacity` entries, 16 to 1024. The magic word
 /// comes last, by `seal`; until then word 0 is 0. Where the store refuses a write it is given back.
 pub fn lay<S: WordStore>(mut store: S, text: &[u8], capacity: u16) -> Result<Heap<S>, S>
     requires enough { least_size ≤ length (S.words store) }

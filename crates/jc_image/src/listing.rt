@@ -132,7 +132,7 @@ fn byte_in<S: WordStore>(store: &S, at: u16, i: u16) -> u8
     }
 }
 
-// So many bytes from a word on.
+// `count` bytes from a word on.
 fn bytes_in<const MOST: usize, S: WordStore>(store: &S, at: u16, count: u16) -> ArrayVec<u8, MOST>
     requires few { count ≤ MOST }
     requires there { at + (count + 1) / 2 ≤ length (S.words store.now) }
@@ -145,7 +145,7 @@ fn bytes_in<const MOST: usize, S: WordStore>(store: &S, at: u16, count: u16) -> 
     bytes
 }
 
-// The name that the info of a Header component tells.
+// The name that the info of a Header component holds.
 fn name_in(info: &[u8]) -> Option<PackageName>
     requires { length info.now ≤ 282 }
     ensures { result ≡ name_in info.now }
@@ -185,7 +185,7 @@ fn named_at<S: WordStore>(store: &S, at: u16) -> Option<PackageName>
     name_in(bytes_in::<MOST_HEADER, S>(store, at + BYTES, count).as_slice())
 }
 
-/// The name of the package with this number, from 1 on; `None` where the words tell none.
+/// The name of the package with this number, from 1 on; `None` where the words hold none.
 #[tactic(auto, unfolding(crate::specs::Listing::package_at))]
 pub fn package_at<S: WordStore>(store: &S, number: u16) -> Option<PackageName>
     requires { text_start ≤ length (S.words store.now) }
@@ -221,7 +221,7 @@ fn applet_in<S: WordStore>(store: &S, at: u16, package_number: u16) -> Option<Ap
     })
 }
 
-/// The name of the applet with this number, from 1 on; `None` where the words tell none.
+/// The name of the applet with this number, from 1 on; `None` where the words hold none.
 #[tactic(auto, unfolding(crate::specs::Listing::applet_at))]
 pub fn applet_at<S: WordStore>(store: &S, number: u16) -> Option<AppletName>
     requires { text_start ≤ length (S.words store.now) }

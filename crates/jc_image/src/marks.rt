@@ -31,7 +31,7 @@ pub(crate) fn no_marks() -> [bool; ALL]
     marks
 }
 
-// Marks what the record at an address names. The places behind its cells; none, where these are not at the given places,
+// Marks what the record at an address names. The places after its cells; none, where these are not at the given places,
 // or what it names lies nowhere below the top.
 fn visit<S: WordStore>(
     journal: &Journal<S>,

@@ -1,4 +1,4 @@
-//! Why a run ended by a code fault, told by the instruction at which it ended.
+//! Why a run ended by a code fault, found from the instruction at which it ended.
 ghost use Rattle.std.specs.Prelude.{◌≡◌, false};
 
 use crate::explain_members::{call_fault, use_fault};
@@ -81,7 +81,7 @@ pub(crate) fn note_budget<S: WordStore>(frames: &Frames, memory: &Memory<S>) {
     }
 }
 
-// Of what is met in an object or an argument its own code has told already.
+// What is met in an object or an argument is noted by its own code already.
 fn fault_of<S: WordStore>(
     code: &[u8],
     place: u16,

@@ -75,7 +75,7 @@ class_of p f = if is_instance f.kind then f.class else class_word p.platform Obj
 abbrev pub is_of : Packages → Facts → ℕ → Bool
 is_of p f class = is_below p (class_of p f) class
 
--- an entry that tells no class asks for none
+-- an entry that names no class asks for none
 abbrev pub is_of_any : Packages → Facts → Option ℕ → Bool
 is_of_any p f None = true
 is_of_any p f (Some class) = is_of p f class
@@ -100,7 +100,7 @@ invokevirtual class token method p stack m =
     (λ v. and_then (some_or_fault (method_at p (class_of p f) (class / 256) token)) (λ found.
     and_then (check_or_fault (fits found p m stack)) (λ w. call_decision (firewall_decision VirtualCall p m f) f found n))))))
 
--- invokespecial: the method that the entry names, on an instance of its class where the entry tells one; the
+-- invokespecial: the method that the entry names, on an instance of its class where the entry names one; the
 -- caller's context stays
 unfoldable pub invokespecial : Option ℕ → Method → Packages → List Cell → MemoryState → Result MethodCall FrameExit
 invokespecial class method p stack m =

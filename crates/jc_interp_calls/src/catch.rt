@@ -12,7 +12,7 @@ use jc_opcodes::operands::u1_at;
 use jc_transient::ClassWord;
 
 /// What the handlers of a method do with an exception.
-#[derive(Clone, Copy, PartialEq, Eq)]
+#[derive(Clone, Copy)]
 pub enum HandlerResult {
     /// One catches it, and goes on at this place.
     Caught(u16),

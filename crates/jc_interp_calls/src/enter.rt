@@ -18,7 +18,7 @@ use jc_words::WordStore;
 use jc_world::StepExit;
 
 /// A method in bytecode that is called.
-#[derive(Clone, Copy, PartialEq, Eq)]
+#[derive(Clone, Copy)]
 pub struct Callee {
     pub package_number: u8,
     /// Where its header begins in the package's Method component.
@@ -30,7 +30,7 @@ pub struct Callee {
 }
 
 /// Where a call comes from.
-#[derive(Clone, Copy, PartialEq, Eq)]
+#[derive(Clone, Copy)]
 pub struct CallSite {
     /// Where the instruction stands that calls.
     pub place: u16,

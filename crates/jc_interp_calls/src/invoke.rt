@@ -29,7 +29,7 @@ use jc_world::contexts::{allow, firewall_decision, is_own};
 use jc_world::objects::{is_instance, object};
 
 /// A call whose method was found.
-#[derive(Clone, Copy, PartialEq, Eq)]
+#[derive(Clone, Copy)]
 pub struct MethodCall {
     pub method: Method,
     /// How many cells its arguments have.
@@ -39,7 +39,7 @@ pub struct MethodCall {
 }
 
 /// A call, and what the header of its method says, if that is in bytecode and its header is not cut.
-#[derive(Clone, Copy, PartialEq, Eq)]
+#[derive(Clone, Copy)]
 pub struct SelectedCall {
     pub call: MethodCall,
     pub header: Option<Header>,

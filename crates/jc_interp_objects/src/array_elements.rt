@@ -17,7 +17,7 @@ use jc_world::objects::{is_instance, object};
 use jc_world::types::is_a;
 
 /// An element of an array.
-#[derive(Clone, Copy, PartialEq, Eq)]
+#[derive(Clone, Copy)]
 pub struct Element {
     /// Its index.
     pub index: u16,

@@ -9,14 +9,14 @@ use jc_opcodes::instr::ValueType;
 use jc_transient::ClassWord;
 
 /// A field of instances: the class that declares it, and its cell.
-#[derive(Clone, Copy, PartialEq, Eq)]
+#[derive(Clone, Copy)]
 pub struct FieldOfClass {
     pub class: ClassWord,
     pub cell: u32,
 }
 
 /// A static field: the package in whose image it lies, and its offset there.
-#[derive(Clone, Copy, PartialEq, Eq)]
+#[derive(Clone, Copy)]
 pub struct FieldOfImage {
     pub package_number: u8,
     pub offset: u16,

@@ -10,7 +10,7 @@ use jc_transient::ClassWord;
 use jc_world::types::{class_named, is_a, is_object_class};
 
 /// A type that an object may have.
-#[derive(Clone, Copy, PartialEq, Eq)]
+#[derive(Clone, Copy)]
 pub enum ObjectType {
     /// A class or an interface.
     Class(ClassWord),

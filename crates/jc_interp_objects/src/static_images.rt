@@ -10,7 +10,7 @@ use jc_transient::Ref;
 use jc_words::WordStore;
 
 /// A word of a package's static image.
-#[derive(Clone, Copy, PartialEq, Eq)]
+#[derive(Clone, Copy)]
 pub struct ImageWord {
     /// The package's record.
     pub owner: Ref,

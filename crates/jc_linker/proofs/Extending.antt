@@ -1,4 +1,4 @@
--- Interfaces that extend another one: what their lists, and a table, tell of it.
+-- Interfaces that extend another one: what their lists, and a table, say of it.
 use Rattle.std.proofs.Common.{◌≡◌, ◌∙◌, ◌<◌, ◌==◌, ◌&&◌, ◌||◌, not, ℕ, zero, suc, Bool, true, false, inl, inr, List, [], ◌∷◌, length, get_or, refl, ap, sym}
 use Rattle.std.proofs.Common.{arith}
 use Rattle.std.specs.Prelude.{nat_lt}
@@ -25,7 +25,7 @@ neither : (a b : Bool) → (a || b) ≡ false → (a ≡ false) × (b ≡ false)
 neither true b e = absurd (false≢true (sym e))
 neither false b e = (refl, e)
 
--- where none passes one test, the others tell the same
+-- where none passes one test, the others give the same
 any_unless : {A : Type 0} (h f g : A → Bool) → ((x : A) → h x ≡ false → f x ≡ g x) → (xs : List A) → list_any h xs ≡ false → list_any f xs ≡ list_any g xs
 any_unless h f g same [] none = refl
 any_unless h f g same (x ∷ xs) none =

@@ -109,7 +109,7 @@ abbrev fault_of : {Y : Type 0} → Result Y LinkFault → LinkFault
 fault_of (Ok x) = NoMemory
 fault_of (Err e) = e
 
--- a fault is told as it is
+-- a fault is reported as it is
 pub told_as_it_is : {X : Type 0} (e told : LinkFault) (result : Result X LinkFault) → result ≡ Err told → told ≡ e → result ≡ Err NoMemory → e ≡ NoMemory
 told_as_it_is e told result left same refused = sym same ∙ ap fault_of (sym left ∙ refused)
 

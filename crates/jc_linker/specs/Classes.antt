@@ -44,7 +44,7 @@ most_classes = 8704
 abbrev pub lineage : Packages → ℕ → List ℕ
 lineage p class = lineage_from p most_classes (Some class)
 
--- interfaces of the platform, of which no list tells who carries their methods out
+-- interfaces of the platform, of which no list says which methods carry theirs out
 abbrev pub platform_interfaces : Packages → List PlatformClass → List Implementation
 platform_interfaces p [] = []
 platform_interfaces p (c ∷ cs) = record { interface = class_word p.platform c; tokens = [] } ∷ platform_interfaces p cs
@@ -86,11 +86,11 @@ extends p interface of = extends_within p of most_classes interface
 abbrev pub is_deep : Packages → ℕ → Bool
 is_deep p interface = list_any (λ i. nat_lt i.interface interface && lists_some p i.interface) (interfaces_in p interface)
 
--- of each interface with a lower word a table tells whether it extends the other one
+-- of each interface with a lower word a table says whether it extends the other one
 abbrev pub AreTold : Packages → ℕ → ℕ → List Bool → Type 0
 AreTold p interface of table = (k : ℕ) → k < interface → slice_index_or table k false ≡ extends p k of
 
--- what a table tells of an interface with a lower word
+-- what a table says of an interface with a lower word
 abbrev pub is_told : List Bool → ℕ → ℕ → Bool
 is_told table superinterface interface = nat_lt superinterface interface && slice_index_or table superinterface false
 

@@ -45,7 +45,7 @@ cells_in None = 0
 cells_in (Some c) = c.inherited_cells + c.declared_cells
 
 -- how many cells a superclass has: one of this package, of which these are linked, or of another. No object has more than
--- 65,535, so more than 65,536 are not told apart.
+-- 65,535, so more than 65,536 are not distinguished.
 abbrev pub cells_above : Packages → ℕ → List ClassValue → ℕ → ℕ
 cells_above p number done word = min 65536 (if word / 256 == number then cells_in (slice_get done (word % 256)) else size_of p word)
 

@@ -11,7 +11,7 @@ use crate::scope::Scope;
 use jc_platform::names::PlatformClass;
 use jc_transient::ClassWord;
 
-// What the table tells of an interface with a lower word.
+// What the table says of an interface with a lower word.
 fn is_told(table: &[bool], superinterface: ClassWord, interface: ClassWord) -> bool
     ensures { result ≡ is_told table.now superinterface interface }
 {
@@ -109,7 +109,7 @@ impl Scope<'_> {
         }
     }
 
-    // One of these interfaces of the platform is the other one, or the table tells that it extends it.
+    // One of these interfaces of the platform is the other one, or the table says that it extends it.
     fn names_told(
         &self,
         listed: &[PlatformClass],
@@ -129,7 +129,7 @@ impl Scope<'_> {
             || self.names_told(others, interface, of, table)
     }
 
-    // It lists the interface, or one of which the table tells that it extends it.
+    // It lists the interface, or one of which the table says that it extends it.
     #[tactic(auto, unfolding(crate::specs::Classes::interfaces_in))]
     fn extends_by(&self, interface: ClassWord, of: ClassWord, table: &[bool]) -> bool
         ensures { result ≡ extends_by self.now of table.now interface }

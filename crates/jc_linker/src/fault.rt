@@ -3,7 +3,7 @@
 use thiserror::Error;
 
 /// Why a package is not linked.
-#[derive(Clone, Copy, PartialEq, Eq, Debug, Error)]
+#[derive(Clone, Copy, Debug, Error)]
 pub enum LinkFault {
     /// A package that it imports is not there.
     #[error("an imported package is missing")]

@@ -5,7 +5,7 @@ use jc_platform::names::PlatformMethod;
 use jc_transient::ClassWord;
 
 /// A method.
-#[derive(Clone, Copy, PartialEq, Eq)]
+#[derive(Clone, Copy)]
 pub enum Method {
     /// One in bytecode: its header begins at this offset of the Method component of the package with this number.
     Code { package_number: u8, offset: u16 },
@@ -14,7 +14,7 @@ pub enum Method {
 }
 
 /// What an entry of a constant pool resolves to.
-#[derive(Clone, Copy, PartialEq, Eq)]
+#[derive(Clone, Copy)]
 pub enum Target {
     /// A class or an interface.
     Class(ClassWord),
@@ -40,7 +40,7 @@ pub enum Target {
         package_number: u8,
         offset: u16,
     },
-    /// A static method, a constructor or a private method; its class, where the entry tells it.
+    /// A static method, a constructor or a private method; its class, where the entry names it.
     StaticMethod {
         class: Option<ClassWord>,
         method: Method,

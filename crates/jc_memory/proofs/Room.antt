@@ -111,7 +111,7 @@ counts-run : (h : HeapState) (r i : ℕ) (vs : List ℕ) → (set_cells h r i vs
 counts-run h r i [] = refl
 counts-run h r i (v ∷ vs) = counts-run (set_cell h r i v) r (suc i) vs ∙ counts-set h r i v
 
--- a new object stands behind its reference, and all else is as before
+-- a new object stands where its reference says, and all else is as before
 abbrev pub IsMade : MemoryState → MemoryState → Object → ℕ → Type 0
 IsMade s new o r = (heap_item_at new.heap.now r ≡ AnObject o) × KeepsObjects s.heap.now new.heap.now × KeepsRest s new
 

@@ -13,7 +13,7 @@ use Rattle.jc_transient.specs.declared.cell.ClearEvent.TheVariants.{Reset, Desel
 use Rattle.jc_transient.specs.Cells.{number_of}
 use Rattle.jc_transient.specs.State.{RamState, HasSizes, area, area_size, with_area, with_cells, cell_at}
 use Rattle.jc_heap.specs.Heap.{facts}
-use Rattle.jc_memory.specs.Cells.{word_of, word_in, byte_at, bytes_at}
+use Rattle.jc_memory.specs.Cells.{word_of, word_in, word_at, bytes_at, words_at}
 use Rattle.jc_memory.specs.State.{MemoryState, ram_after_set}
 
 pub widen_more : (ws bs : List ℕ) (k v : ℕ) → k < length ws → k < length bs → v ≡ get_or bs k 0 → take k ws ≡ take k bs
@@ -48,7 +48,7 @@ two_parts d place zeros bytes fits =
     ∙ ap (λ n. take place d ++ ((front ++ back) ++ drop (place + n) d)) (sym (length-append front back))
     ∙ ap (with_cells d place) (ap (λ l. front ++ l) (zeros_are zeros) ∙ sym (map-append number_of bytes (replicate zeros 0)))
 
--- bytes and zeros behind them
+-- bytes and zeros after them
 pub fill_two : (event : ClearEvent) (ram mid new : RamState) (place zeros : ℕ) (bytes : List ℕ) → HasSizes ram → place + length bytes ≤ area_size →
     mid ≡ with_area ram event (with_cells (area ram event) place (map number_of bytes)) →
     new ≡ with_area mid event (with_cells (area mid event) (place + length bytes) (replicate zeros (Short (pos 0)))) →
@@ -71,14 +71,25 @@ filled_from event s mid new r place zeros bytes sizes transient there fits mid_i
     ∙ ap (λ n. with_area s.ram event (with_cells (area s.ram event) n (map number_of (bytes ++ replicate zeros 0)))) (omega (arith, there))
     ∙ ap (λ e. ram_after_set s.ram e ((facts s.heap.now r).place + 0) (map number_of (bytes ++ replicate zeros 0))) (sym transient)
 
--- the low bytes of an area's cells are those of the object that is kept there
+-- what is read of an area's cells is read of the object that is kept there
+area_read_at : (g : ℕ → ℕ) (s : MemoryState) (r i n p : ℕ) (ram : RamState) (event : ClearEvent) → ram ≡ s.ram → p ≡ (facts s.heap.now r).place
+    → (facts s.heap.now r).event ≡ Some event
+    → map (λ k. g (word_of (cell_at ram event k))) (range_with_len (p + i) n) ≡ map (λ k. g (word_at s r k)) (range_with_len i n)
+area_read_at g s r i n p ram event same there kept =
+    let f : ℕ → ℕ = λ k. g (word_of (cell_at s.ram event k)) in
+    let own : ℕ → ℕ = λ k. g (word_at s r k) in
+    let long : length (map f (range_with_len (p + i) n)) ≡ n = length-map-range_with_len f (p + i) n in
+    ap (λ (a : RamState). map (λ k. g (word_of (cell_at a event k))) (range_with_len (p + i) n)) same
+    ∙ ext_get_or 0 (map f (range_with_len (p + i) n)) (map own (range_with_len i n)) (long ∙ sym (length-map-range_with_len own i n))
+    (λ m h. get_or-map-range_with_len f (p + i) n m (p + (i + m)) 0 (omega (arith, h, long)) (omega arith)
+    ∙ ap (λ (q : ℕ). f (q + (i + m))) there ∙ sym (ap (λ e. g (word_in e s r (i + m))) kept)
+    ∙ sym (get_or-map-range_with_len own i n m (i + m) 0 (omega (arith, h, long)) (omega arith)))
+
+-- the low bytes of an area's cells are those of the object that is kept there, and so are the words
 pub area_bytes_at : (s : MemoryState) (r i n p : ℕ) (ram : RamState) (event : ClearEvent) → ram ≡ s.ram → p ≡ (facts s.heap.now r).place
     → (facts s.heap.now r).event ≡ Some event → map (λ k. word_of (cell_at ram event k) % 256) (range_with_len (p + i) n) ≡ bytes_at s r i n
-area_bytes_at s r i n p ram event same there kept =
-    let f : ℕ → ℕ = λ k. word_of (cell_at s.ram event k) % 256 in
-    let long : length (map f (range_with_len (p + i) n)) ≡ n = length-map-range_with_len f (p + i) n in
-    ap (λ (a : RamState). map (λ k. word_of (cell_at a event k) % 256) (range_with_len (p + i) n)) same
-    ∙ ext_get_or 0 (map f (range_with_len (p + i) n)) (bytes_at s r i n) (long ∙ sym (length-map-range_with_len (byte_at s r) i n))
-    (λ m h. get_or-map-range_with_len f (p + i) n m (p + (i + m)) 0 (omega (arith, h, long)) (omega arith)
-    ∙ ap (λ (q : ℕ). f (q + (i + m))) there ∙ sym (ap (λ e. word_in e s r (i + m) % 256) kept)
-    ∙ sym (get_or-map-range_with_len (byte_at s r) i n m (i + m) 0 (omega (arith, h, long)) (omega arith)))
+area_bytes_at = area_read_at (λ w. w % 256)
+
+pub area_words_at : (s : MemoryState) (r i n p : ℕ) (ram : RamState) (event : ClearEvent) → ram ≡ s.ram → p ≡ (facts s.heap.now r).place
+    → (facts s.heap.now r).event ≡ Some event → map (λ k. word_of (cell_at ram event k)) (range_with_len (p + i) n) ≡ words_at s r i n
+area_words_at = area_read_at (λ w. w)

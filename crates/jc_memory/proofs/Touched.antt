@@ -50,7 +50,7 @@ module _ (h new : HeapState) (top : new.top ≡ h.top) (headers : (q : ℕ) → 
   words_stay [] = refl
   words_stay (t ∷ ts) = λ i. word_stays t i ∷ words_stay ts i
 
--- and once the next object stands behind that end, where all other objects are as they were
+-- and once the next object stands after that end, where all other objects are as they were
 module _ (s : MemoryState) (new : HeapState) (o : Object) (kind : Kind) (r : ℕ) (is : r ≡ s.heap.now.top) (made : heap_item_at new r ≡ AnObject o)
     (same_kind : o.facts.kind ≡ kind) (kept : KeepsObjects s.heap.now new) where
   new_cell : (i : ℕ) → has_bytes kind ≡ false → place_at new (Cell r i) ≡ cell_address s.heap.now.top i

@@ -41,11 +41,11 @@ short_at s r i = cast_signed w16 (word_at s r i)
 abbrev pub byte_at : MemoryState → ℕ → ℕ → ℕ
 byte_at s r i = word_at s r i % 256
 
--- so many bytes of an object from an index on
+-- n bytes of an object from an index on
 abbrev pub bytes_at : MemoryState → ℕ → ℕ → ℕ → List ℕ
 bytes_at s r i count = map (byte_at s r) (range_with_len i count)
 
--- so many words of an object from an index on
+-- n words of an object from an index on
 abbrev pub words_at : MemoryState → ℕ → ℕ → ℕ → List ℕ
 words_at s r i count = map (word_at s r) (range_with_len i count)
 
@@ -97,11 +97,11 @@ pub record MayHaveAll (s : MemoryState) (r : ℕ) (words : List ℕ) : Type 0 wh
   pub elements : (k : ℕ) → k < length words → IsElement (facts s.heap.now r).kind (slice_index words k)
   pub numbers : (facts s.heap.now r).kind ≡ ReferenceArray → ⊥
 
--- what the header of the object behind a reference says, if an object stands there
+-- what the header of the object that a reference names says, if an object stands there
 abbrev pub header_at : MemoryState → ℕ → Option Facts
 header_at s r = if is_object (heap_item_at s.heap.now r) then Some (facts s.heap.now r) else None
 
--- what the header of an object says of its cells: a persistent one has so many, a transient one's lie within its area
+-- what the header of an object says of its cells: a persistent one has as many, a transient one's lie within its area
 pub record IsHeaderOf (s : MemoryState) (r : ℕ) (f : Facts) : Type 0 where
   pub is : f ≡ facts s.heap.now r
   pub persistent : f.event ≡ None → length (cells s.heap.now r) ≡ f.length

@@ -15,7 +15,7 @@ abbrev pub live_or_null : HeapState → ℕ → ℕ
 live_or_null h r = if is_allocated h r then r else 0
 
 -- an abort leaves, of what stood, what stands below the top; so a reference that referred before it is null
--- behind it at or above the top, which is where the heap has nothing; the abort itself makes each transient reference so.
+-- after it at or above the top, which is where the heap has nothing; the abort itself makes each transient reference so.
 -- That a reference in a frame or a transient cell referred before it is a premise here; law_theorems proves it of sessions.
 pub record NullsDeadReferences : Type 0 where
   pub below : (v : HeapView) → IsConsistentHeap v.durable → SameShape v.durable v.now → KeepsBelowTop v.now (heap_after_abort v).now

@@ -13,7 +13,7 @@ use Rattle.jc_heap.specs.Touches.{touch_words}
 use Rattle.jc_memory.specs.State.{MemoryState, HeapMove}
 use Rattle.jc_memory.specs.Programs.{Program, Finish, Perform}
 
--- there is space for a new persistent object of a kind, with so many cells
+-- there is space for a new persistent object of a kind, with n cells
 abbrev pub has_space : MemoryState → Kind → ℕ → Bool
 has_space s kind cells = nat_le (s.heap.now.top + object_size kind cells) (limit s.heap)
 

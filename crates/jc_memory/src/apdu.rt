@@ -23,7 +23,7 @@ impl<S: WordStore> Memory<S> {
         self.command.as_slice()
     }
 
-    /// Sends bytes, behind those that were sent already.
+    /// Sends bytes, after those that were sent already.
     pub fn send(&mut self, bytes: &[u8])
         requires { length self.old.sent + length bytes.now ≤ MOST_SENT }
         ensures { self.new ≡ apply_effect (SendBytes bytes.now) self.old }

@@ -26,6 +26,18 @@ fn area_bytes(ram: &Ram, event: ClearEvent, place: u16, out: &mut [u8])
     }
 }
 
+// The words of an area's cells from a place on.
+#[inline(always)]
+fn area_words(ram: &Ram, event: ClearEvent, place: u16, out: &mut [u16])
+    requires { place + length out.old ≤ area_size }
+    ensures { out.new ≡ map (λ k. word_of (cell_at ram.now event k))
+        (range_with_len place (length out.old)) }
+{
+    for k in 0..out.len() {
+        out[k] = word_of(ram.get(event, place + k as u16));
+    }
+}
+
 impl<S: WordStore> Memory<S> {
     /// Reads bytes of an object from an index on.
     #[inline(always)]
@@ -42,8 +54,8 @@ impl<S: WordStore> Memory<S> {
         }
     }
 
-    /// Reads the words of an object's cells from an index on.
-    pub fn words(&self, object: Ref, i: u16, out: &mut [u16])
+    // Reads the words of an object's cells from an index on, one by one.
+    fn words_one_by_one(&self, object: Ref, i: u16, out: &mut [u16])
         requires up { self.now.heap.down ≡ false }
         requires there { IsObject self.now.heap.now object }
         requires cells { i + length out.old ≤ (facts self.now.heap.now object).length }
@@ -52,6 +64,21 @@ impl<S: WordStore> Memory<S> {
         let _header = self.facts(object);
         for k in 0..out.len() {
             out[k] = self.word(object, i + k as u16);
+        }
+    }
+
+    /// Reads the words of an object's cells from an index on.
+    #[inline(always)]
+    pub fn words(&self, object: Ref, i: u16, out: &mut [u16])
+        requires up { self.now.heap.down ≡ false }
+        requires there { IsObject self.now.heap.now object }
+        requires cells { i + length out.old ≤ (facts self.now.heap.now object).length }
+        ensures { out.new ≡ words_at self.now object i (length out.old) }
+    {
+        let facts = self.facts(object);
+        match facts.event {
+            None => self.words_one_by_one(object, i, out),
+            Some(event) => area_words(&self.ram, event, facts.place + i, out),
         }
     }
 

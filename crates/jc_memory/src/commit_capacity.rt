@@ -22,7 +22,7 @@ use jc_heap::{AppletEntry, Kind, Place, Touch};
 use jc_transient::Ref;
 use jc_words::{StoreDown, WordStore};
 
-/// Whether there is space for a new persistent object of a kind, with so many cells.
+/// Whether there is space for a new persistent object of a kind, with n cells.
 pub fn has_space<S: WordStore>(memory: &Memory<S>, kind: Kind, cells: u16) -> bool
     requires up { memory.now.heap.down ≡ false }
     ensures { result ≡ has_space memory.now kind cells }

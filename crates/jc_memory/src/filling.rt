@@ -9,7 +9,7 @@ use jc_transient::{CellValue, ClearEvent, Ref};
 use jc_words::WordStore;
 
 impl<S: WordStore> Memory<S> {
-    /// Sets the first cells of an object that this event clears: to these bytes, and so many behind them
+    /// Sets the first cells of an object that this event clears: to these bytes, and the next `zeros` cells
     /// to zero.
     pub fn fill(&mut self, object: Ref, event: ClearEvent, bytes: &[u8], zeros: u16)
         requires up { self.old.heap.down ≡ false }

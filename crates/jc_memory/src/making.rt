@@ -12,7 +12,7 @@ use jc_transient::{CellValue, ClassWord, ClearEvent, Ref};
 use jc_words::WordStore;
 
 /// What a new object is to be.
-#[derive(Clone, Copy, PartialEq, Eq)]
+#[derive(Clone, Copy)]
 pub struct NewObject {
     pub kind: Kind,
     /// What is to clear its cells; none, where it is to be persistent.

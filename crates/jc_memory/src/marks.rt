@@ -28,7 +28,7 @@ impl Model for Marks {
     ghost invariant = { λ m. length m.marks.items ≡ mark_count };
 }
 
-// So many flags, none of which is set.
+// `count` flags, none of which is set.
 fn unset(alloc: Global, count: usize) -> Result<Vec<bool>, AllocError>
     ensures len { IfOk result (λ flags. vec_len flags ≡ count) }
     ensures unset { IfOk result (λ flags. AreNone flags.items) }

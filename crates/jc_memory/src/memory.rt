@@ -132,7 +132,7 @@ impl<S: WordStore> Memory<S> {
         &self.heap
     }
 
-    /// The object with this number, from 0, among those with which the heap begins; null where there are not so many.
+    /// The object with this number, from 0, among those with which the heap begins; null where there are not as many.
     pub fn fixed(&self, number: usize) -> Ref
         ensures { result ≡ slice_index self.now.fixed number }
     {
@@ -142,7 +142,7 @@ impl<S: WordStore> Memory<S> {
         }
     }
 
-    /// What the header of the object behind a reference says; `None` where no object stands there.
+    /// What the header of the object that a reference names says; `None` where no object stands there.
     #[inline(always)]
     pub fn header(&self, reference: Ref) -> Option<Facts>
         requires up { self.now.heap.down ≡ false }

@@ -16,7 +16,7 @@ pub const MOST_SPOTS: usize = 32;
 pub const MOST_AID: usize = 16;
 
 /// What the runtime environment had begun.
-#[derive(Clone, Copy, PartialEq, Eq)]
+#[derive(Clone, Copy)]
 pub enum Phase {
     /// A package's method `install`.
     Install,
@@ -42,7 +42,7 @@ pub struct Spot {
 }
 
 /// Why code ended by a fault.
-#[derive(Clone, Copy, PartialEq, Eq)]
+#[derive(Clone, Copy)]
 pub enum FaultKind {
     /// No instruction stands there, or it is cut.
     NoInstruction,
@@ -58,7 +58,7 @@ pub enum FaultKind {
     NoLocal,
     /// A jump leaves the method.
     JumpOutside,
-    /// No object stands behind a reference.
+    /// A reference names no object.
     NoObject,
     /// The entry of the constant pool names no such field, method or class.
     NoMember,
@@ -79,7 +79,7 @@ pub enum FaultKind {
 }
 
 /// What kept code from going on.
-#[derive(Clone, Copy, PartialEq, Eq)]
+#[derive(Clone, Copy)]
 pub enum Cause {
     /// Nothing is noted.
     Nothing,
@@ -90,7 +90,7 @@ pub enum Cause {
 }
 
 /// An access that the firewall refused.
-#[derive(Clone, Copy, PartialEq, Eq)]
+#[derive(Clone, Copy)]
 pub struct Denial {
     pub access: Access,
     pub rule: Rule,
@@ -101,7 +101,7 @@ pub struct Denial {
 }
 
 /// Where room was asked for and was not there.
-#[derive(Clone, Copy, PartialEq, Eq)]
+#[derive(Clone, Copy)]
 pub enum Space {
     /// Words of the heap.
     Heap,
@@ -114,7 +114,7 @@ pub enum Space {
 }
 
 /// What was asked for, and what was left.
-#[derive(Clone, Copy, PartialEq, Eq)]
+#[derive(Clone, Copy)]
 pub struct Shortage {
     pub space: Space,
     pub asked: u32,
@@ -131,7 +131,7 @@ pub enum RefusedLoad {
         offset: u16,
     },
     /// An entry of the constant pool names what is not there: the package by its AID, the class and the method or field by
-    /// their tokens, as far as the entry tells them. 65535: no entry, but what a class of the package names.
+    /// their tokens, as far as the entry has them. 65535: no entry, but what a class of the package names.
     Entry {
         entry: u16,
         package: ArrayVec<u8, MOST_AID>,
@@ -169,7 +169,7 @@ pub enum TopCell {
 }
 
 /// An instruction that is carried out, and the stack as it found it.
-#[derive(Clone, Copy, PartialEq, Eq)]
+#[derive(Clone, Copy)]
 pub struct Step {
     pub spot: Spot,
     pub top: TopCell,
@@ -262,7 +262,7 @@ impl Notes {
         Notes { kept: None }
     }
 
-    /// Notes that are kept; and if a number is told, at most so many instructions of each command with them.
+    /// Notes that are kept; with `most_steps`, at most that number of instructions of each command with them.
     pub fn kept(alloc: Global, most_steps: Option<u32>) -> Result<Notes, AllocError> {
         let note = Rc::new(alloc, RefCell::new(Note::of_line(alloc, 0)))?;
         Ok(Notes {
@@ -399,7 +399,7 @@ impl Notes {
         }
     }
 
-    /// A method ended, and so many of the command's instructions were left.
+    /// A method ended, and this number of the command's instructions was left.
     pub fn left(&self, left: u32) {
         if let Some(kept) = &self.kept {
             if let Ok(mut note) = kept.note.try_borrow_mut() {
@@ -408,7 +408,7 @@ impl Notes {
         }
     }
 
-    /// An instruction is carried out, and the frames count so many cells.
+    /// An instruction is carried out, and the frames count this number of cells.
     pub fn step(&self, step: Step, cells: u16) {
         if let Some(kept) = &self.kept {
             let most_steps = kept.most_steps.unwrap_or(0);

@@ -19,7 +19,7 @@ pub fn new_references_are_fresh()
     ensures { IsFresh }
 {}
 
-/// A reference that named an object before an abort is null behind it where the object is no longer there, and else as
+/// A reference that named an object before an abort is null after it where the object is no longer there, and else as
 /// it was. That the references in frames and in transient cells are null or name an object is a premise here.
 pub fn aborts_null_dead_references()
     ensures { NullsDeadReferences }

@@ -5,15 +5,15 @@ ghost use Rattle.jc_memory.specs.Owners.{owner_number, owner_of, at_reset};
 use jc_transient::{OwnerWord, RUNTIME_ENVIRONMENT};
 
 /// An applet instance by its number in the registry, 1 to 64.
-#[derive(Clone, Copy, PartialEq, Eq)]
+#[derive(Clone, Copy)]
 pub struct AppletNumber(pub u8);
 
 /// A package by its number.
-#[derive(Clone, Copy, PartialEq, Eq)]
+#[derive(Clone, Copy)]
 pub struct PackageNumber(pub u8);
 
 /// Who owns objects, and for whom code runs.
-#[derive(Clone, Copy, PartialEq, Eq)]
+#[derive(Clone, Copy)]
 pub enum Owner {
     /// The runtime environment.
     Runtime,
@@ -53,14 +53,14 @@ impl Owner {
 }
 
 /// Whether the applet has begun a transaction: the nesting level 1 or 0.
-#[derive(Clone, Copy, PartialEq, Eq)]
+#[derive(Clone, Copy)]
 pub enum Depth {
     Outside,
     Inside,
 }
 
 /// Whether an applet is being installed.
-#[derive(Clone, Copy, PartialEq, Eq)]
+#[derive(Clone, Copy)]
 pub enum Installation {
     /// None is.
     Idle,
@@ -72,7 +72,7 @@ pub enum Installation {
 }
 
 /// How far an APDU has come.
-#[derive(Clone, Copy, PartialEq, Eq)]
+#[derive(Clone, Copy)]
 pub enum ApduPhase {
     /// Nothing but the header has been received.
     Waiting,
@@ -80,12 +80,12 @@ pub enum ApduPhase {
     Received,
     /// It turned to sending; how much is not said yet.
     Outgoing,
-    /// So many bytes are left to be sent.
+    /// This number of bytes is left to be sent.
     Sending(u16),
 }
 
 /// The APDU that is carried out.
-#[derive(Clone, Copy, PartialEq, Eq)]
+#[derive(Clone, Copy)]
 pub struct ApduState {
     /// How many bytes the command expects, 0 to 256.
     pub expected: u16,
@@ -93,7 +93,7 @@ pub struct ApduState {
 }
 
 /// What is known of running code besides objects.
-#[derive(Clone, Copy, PartialEq, Eq)]
+#[derive(Clone, Copy)]
 pub struct Registers {
     /// For whom code runs.
     pub active: Owner,

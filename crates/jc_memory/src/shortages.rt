@@ -8,7 +8,7 @@ use jc_heap::{ChangeRefusal, Facts, Kind};
 use jc_transient::ClearEvent;
 use jc_words::WordStore;
 
-// How many words an object of a kind takes, with so many cells.
+// How many words an object of a kind takes, with n cells.
 fn words_of(kind: Kind, cells: u16) -> u32 {
     let words = match kind {
         Kind::BooleanArray | Kind::ByteArray => u32::from(cells).div_ceil(2),
@@ -17,7 +17,7 @@ fn words_of(kind: Kind, cells: u16) -> u32 {
     u32::from(HEADER) + words
 }
 
-// How many words so many cells stand in, from an index on.
+// How many words n cells stand in, from an index on.
 pub(crate) fn words_from(facts: Facts, i: u16, cells: usize) -> usize {
     if facts.packed && cells > 0 {
         let first = usize::from(i % 2);
@@ -35,7 +35,7 @@ fn space_of(event: ClearEvent) -> Space {
 }
 
 impl<S: WordStore> Memory<S> {
-    // Notes that the heap has not so many words left.
+    // Notes that the heap has fewer words left than are asked for.
     #[cold]
     fn note_full_heap(&self, asked: u32)
         requires { self.now.heap.down ≡ false }
@@ -49,7 +49,7 @@ impl<S: WordStore> Memory<S> {
         }
     }
 
-    // Notes that there is no space for a persistent object of a kind, with so many cells.
+    // Notes that there is no space for a persistent object of a kind, with n cells.
     #[cold]
     pub(crate) fn note_no_space(&self, kind: Kind, cells: u16)
         requires { self.now.heap.down ≡ false }
@@ -80,7 +80,7 @@ impl<S: WordStore> Memory<S> {
         }
     }
 
-    // Notes that the transaction has not so many places left.
+    // Notes that the transaction has fewer places left than are asked for.
     #[cold]
     pub(crate) fn note_full_transaction(&self, asked: usize) {
         self.notes.shortage(Shortage {
@@ -90,7 +90,7 @@ impl<S: WordStore> Memory<S> {
         });
     }
 
-    // Notes why changes of so many words were not made.
+    // Notes why changes of this number of words were not made.
     #[cold]
     pub(crate) fn note_refused_change(&self, refusal: ChangeRefusal, asked: usize) {
         if refusal == ChangeRefusal::CommitFull {

@@ -83,7 +83,7 @@ impl<S: WordStore> Memory<S> {
         done
     }
 
-    /// Sets cells of a persistent object to bytes from an index on, and places behind them that have words of their own,
+    /// Sets cells of a persistent object to bytes from an index on, and places after them that have words of their own,
     /// as one change: none, where the transaction has no room for all of them.
     pub fn write_bytes_and_places(
         &mut self,

@@ -1,4 +1,4 @@
--- What is told of an image that is opened: if that migrated it, it stands for the same heap.
+-- What is answered about an image that is opened: if that migrated it, it stands for the same heap.
 use Rattle.std.proofs.Common.{◌≡◌, ◌∙◌, ℕ, List, Option, Some, None, Ok, ap, subst, sym}
 use Rattle.jc_commit.specs.Image.{IsGoodLog, recovered_of}
 use Rattle.jc_commit.specs.Migration.{migrated}
@@ -48,7 +48,7 @@ image_before words plain t good same whole = record { good = good; whole = whole
 pub no_image : (words plain : List ℕ) → plain ≡ migrated 3 (recovered_of words) → ((t : Tokens) → IsWhole plain t → ⊥) → (t : Tokens) → IsImage words t → ⊥
 no_image words plain same none t is = none t (whole_behind (recovered_of words) plain t same is.whole)
 
--- why nothing is told, from the table, the heap and the packages to the words
+-- why nothing is answered, from the table, the heap and the packages to the words
 pub whole_untold : (fault : ImageFault) (w : List ℕ) → IsNoTable w fault → IsNotWhole w fault
 whole_untold NoMemory w none = tt
 whole_untold Damaged w none = λ t whole. none t whole.formed whole.table

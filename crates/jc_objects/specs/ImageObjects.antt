@@ -13,7 +13,7 @@ use Rattle.jc_objects.specs.declared.image_objects.ImageFault.{ImageFault}
 use Rattle.jc_objects.specs.declared.image_objects.ImageFault.TheVariants.{NoMemory, Damaged}
 use Rattle.jc_objects.specs.declared.image_objects.ImageObjects.{ImageObjects}
 
--- recovered words are records up to the top, which stand for a whole heap, and their table text tells this platform
+-- recovered words are records up to the top, which stand for a whole heap, and their table text is this platform's
 pub record IsWhole (w : List ℕ) (t : Tokens) : Type 0 where
   pub formed : IsWellFormed w
   pub consistent : IsConsistent (heap_of w)
@@ -24,7 +24,7 @@ pub record IsImage (words : List ℕ) (t : Tokens) : Type 0 where
   pub good : IsGoodLog words
   pub whole : IsWhole (recovered_of words) t
 
--- the words of an image as they stand, the heap that they are once they are recovered, and the platform that its table text tells
+-- the words of an image as they stand, the heap that they are once they are recovered, and the platform of its table text
 pub record AreObjectsOf (words : List ℕ) (o : ImageObjects) : Type 0 where
   pub stored : o.store.words ≡ words
   pub long : text_start ≤ length words
@@ -32,7 +32,7 @@ pub record AreObjectsOf (words : List ℕ) (o : ImageObjects) : Type 0 where
   pub heap : o.heap.now ≡ heap_of (recovered_of words)
   pub up : o.heap.down ≡ false
 
--- why nothing is told of words: memory was refused, or they are no image
+-- why words have no such objects: memory was refused, or they are no image
 abbrev pub IsNoImage : List ℕ → ImageFault → Type 0
 IsNoImage words NoMemory = Unit {0}
 IsNoImage words Damaged = (t : Tokens) → IsImage words t → ⊥
@@ -42,7 +42,7 @@ abbrev pub IsNotWhole : List ℕ → ImageFault → Type 0
 IsNotWhole w NoMemory = Unit {0}
 IsNotWhole w Damaged = (t : Tokens) → IsWhole w t → ⊥
 
--- why their table text tells no platform: memory was refused, or the words are not well formed, or it is no table
+-- why their table text gives no platform: memory was refused, or the words are not well formed, or it is no table
 abbrev pub IsNoTable : List ℕ → ImageFault → Type 0
 IsNoTable w NoMemory = Unit {0}
 IsNoTable w Damaged = (t : Tokens) → IsWellFormed w → Reads (table_text w) (Ok t) → ⊥

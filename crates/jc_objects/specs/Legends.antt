@@ -1,4 +1,4 @@
--- By what the cells of an image's objects are told.
+-- What the cells of an image's objects are read by.
 use Rattle.std.specs.Prelude.{ℕ, ◌≡◌, nat_lt, Bool, false, List, Option, Some, None, if◌then◌else◌}
 use Rattle.jc_commit.specs.Image.{recovered_of}
 use Rattle.jc_heap.specs.Heap.{HeapState, heap_of}
@@ -17,26 +17,26 @@ abbrev pub ArePackagesIn : Tokens → List ℕ → Option Packages → Type 0
 ArePackagesIn t words (Some p) = (u : Tokens) × IsImage words u × (packages_of t (heap_of (recovered_of words)) ≡ Some p)
 ArePackagesIn t words None = (u : Tokens) → IsImage words u → packages_of t (heap_of (recovered_of words)) ≡ None
 
--- the platform that was told, and these packages
+-- this platform, and these packages
 abbrev pub IsLegend : Tokens → List ℕ → Legend → Type 0
 IsLegend t words l = (l.platform ≡ t) × ArePackagesIn t words l.packages
 
--- why the packages of words are not told: memory was refused, or there are none
+-- why words give no packages: memory was refused, or there are none
 abbrev pub IsNotLinked : Tokens → List ℕ → ImageFault → Type 0
 IsNotLinked t words NoMemory = Unit {0}
 IsNotLinked t words Damaged = ArePackagesIn t words None
 
--- the same after those of the platform that the words tell
+-- the same after those of the platform of the words
 abbrev pub HasNoPackages : List ℕ → ImageFault → Type 0
 HasNoPackages words NoMemory = Unit {0}
 HasNoPackages words Damaged = (t : Tokens) → IsImage words t → packages_of t (heap_of (recovered_of words)) ≡ None
 
--- why those of a heap are not told: memory was refused, or they do not link
+-- why a heap gives none: memory was refused, or they do not link
 abbrev pub HasNoneLinked : Tokens → HeapState → ImageFault → Type 0
 HasNoneLinked t h NoMemory = Unit {0}
 HasNoneLinked t h Damaged = packages_of t h ≡ None
 
--- a cell of an instance of a class holds a reference, where packages are told
+-- a cell of an instance of a class holds a reference, where packages are known
 abbrev pub reference_by : Option Packages → ℕ → ℕ → Bool
 reference_by (Some p) class cell = reference_cell p class cell
 reference_by None class cell = false
@@ -44,7 +44,7 @@ reference_by None class cell = false
 abbrev pub holds_reference : Legend → ℕ → ℕ → Bool
 holds_reference l class cell = reference_by l.packages class cell
 
--- how many references a package's static image begins with, where packages are told
+-- how many references a package's static image begins with, where packages are known
 abbrev pub references_by : Option Packages → ℕ → ℕ
 references_by (Some p) number = if nat_lt number 256 then (statics_at p number).1 else 0
 references_by None number = 0

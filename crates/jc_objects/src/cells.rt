@@ -10,7 +10,7 @@ use jc_transient::Ref;
 use jc_words::WordStore;
 
 /// A cell of a persistent object. Of two elements that stand in a word it is the first.
-#[derive(Clone, Copy, PartialEq, Eq, Drop)]
+#[derive(Clone, Copy, Drop)]
 pub struct ObjectCell {
     pub object: Ref,
     pub cell: u16,

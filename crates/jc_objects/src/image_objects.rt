@@ -15,8 +15,8 @@ use jc_words::layout::SIZE_WORD;
 use jc_words::{MemStore, WordStore};
 use std::alloc::{AllocError, Global};
 
-/// Why nothing is told of an image.
-#[derive(Clone, Copy, PartialEq, Eq, Drop)]
+/// Why nothing is answered about an image.
+#[derive(Clone, Copy, Drop)]
 pub enum ImageFault {
     NoMemory,
     /// The words are no image, or its heap or its packages are damaged.
@@ -96,7 +96,7 @@ pub(crate) fn whole_of(
     }
 }
 
-// The platform that the table text of an image tells.
+// The platform of the table text of an image.
 fn platform_of<S: WordStore>(alloc: Global, image: &OpenImage<S>) -> Result<Platform, ImageFault>
     ensures { MatchResult result (λ t. Reads (table_text image.now.plain) (Ok t))
         (λ fault. IsNoTable image.now.plain fault) }

@@ -1,4 +1,4 @@
-//! By what the cells of an image's objects are told: its platform, and its packages.
+//! What the cells of an image's objects are read by: its platform, and its packages.
 ghost use Rattle.std.specs.Prelude.{◌≡◌, Some, None, IfOk, MatchResult, false};
 ghost use Rattle.jc_heap.specs.Whole.{IsConsistent};
 ghost use Rattle.jc_card_load.specs.Reading.{packages_of};
@@ -20,7 +20,7 @@ pub struct Legend {
     pub packages: Option<Linked>,
 }
 
-/// What tells the cells of an image of these words, whose table text as it stands tells this platform.
+/// What the cells of an image of these words are read by, whose table text as it stands is this platform's.
 pub fn legend_of(alloc: Global, platform: Platform, words: Vec<u16>) -> Result<Legend, AllocError>
     ensures { IfOk result (λ legend. IsLegend platform words.items legend) }
 {
@@ -33,7 +33,7 @@ pub fn legend_of(alloc: Global, platform: Platform, words: Vec<u16>) -> Result<L
     }
 }
 
-// The legend of an image of which no packages are told, unless memory was refused for them.
+// The legend of an image whose packages are not known, unless memory was refused for them.
 fn without_packages(platform: Platform, fault: ImageFault) -> Result<Legend, AllocError>
     ensures { IfOk result (λ legend. (legend.platform ≡ platform) × (legend.packages ≡ None)
         × (fault ≡ ImageFault.Damaged)) }

@@ -46,7 +46,7 @@ pub data Form : Type 0 where
   Halves : (ℕ → ℕ → Option Instr) → Form
   -- s2 default, s2 low, s2 high, and an s2 for each number from low to high
   TableSwitch : Form
-  -- s2 default, u2 count, and so many pairs of an s2 match and an s2 offset
+  -- s2 default, u2 count, and n pairs of an s2 match and an s2 offset
   LookupSwitch : Form
 
 -- an opcode and its form

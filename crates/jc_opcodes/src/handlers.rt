@@ -8,7 +8,7 @@ use crate::operands::u2_at;
 pub const HANDLER_SIZE: usize = 8;
 
 /// An exception handler. Its places count from the first byte of the Method component.
-#[derive(Clone, Copy, PartialEq, Eq)]
+#[derive(Clone, Copy)]
 pub struct Handler {
     /// The first place that it watches over.
     pub start: u16,

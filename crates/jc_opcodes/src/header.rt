@@ -5,7 +5,7 @@ ghost use Rattle.jc_opcodes.specs.Headers.{header_in, long_header_at, says_abstr
 use crate::operands::u1_at;
 
 /// What a method's header says.
-#[derive(Clone, Copy, PartialEq, Eq)]
+#[derive(Clone, Copy)]
 pub struct Header {
     pub is_abstract: bool,
     /// How many cells its arguments have, the receiver among them.

@@ -1,7 +1,7 @@
 //! Instructions with their operands, in the groups of the instruction table.
 
 /// An instruction, by its group.
-#[derive(Clone, Copy, PartialEq, Eq)]
+#[derive(Clone, Copy)]
 pub enum Instr {
     /// Does nothing (`nop`).
     Nop,
@@ -28,7 +28,7 @@ pub enum Instr {
 }
 
 /// What is put on the stack.
-#[derive(Clone, Copy, PartialEq, Eq)]
+#[derive(Clone, Copy)]
 pub enum ConstantOp {
     /// The null reference.
     Null,
@@ -37,7 +37,7 @@ pub enum ConstantOp {
 }
 
 /// A use of the local with this number.
-#[derive(Clone, Copy, PartialEq, Eq)]
+#[derive(Clone, Copy)]
 pub enum LocalOp {
     /// Pushes a reference.
     Aload(u8),
@@ -52,7 +52,7 @@ pub enum LocalOp {
 }
 
 /// A change of the stack's order.
-#[derive(Clone, Copy, PartialEq, Eq)]
+#[derive(Clone, Copy)]
 pub enum StackOp {
     /// Drops the top cell.
     Pop,
@@ -69,7 +69,7 @@ pub enum StackOp {
 }
 
 /// An operation on one short or on two.
-#[derive(Clone, Copy, PartialEq, Eq)]
+#[derive(Clone, Copy)]
 pub enum ArithmeticOp {
     /// On the two shorts on top, the first operand below the second.
     Two(BinaryOp),
@@ -80,7 +80,7 @@ pub enum ArithmeticOp {
 }
 
 /// An operation on two shorts.
-#[derive(Clone, Copy, PartialEq, Eq)]
+#[derive(Clone, Copy)]
 pub enum BinaryOp {
     Add,
     Subtract,
@@ -96,7 +96,7 @@ pub enum BinaryOp {
 }
 
 /// A comparison of two shorts.
-#[derive(Clone, Copy, PartialEq, Eq)]
+#[derive(Clone, Copy)]
 pub enum Comparison {
     Equal,
     NotEqual,
@@ -107,7 +107,7 @@ pub enum Comparison {
 }
 
 /// What a conditional branch tests.
-#[derive(Clone, Copy, PartialEq, Eq)]
+#[derive(Clone, Copy)]
 pub enum Condition {
     /// The short on top, compared with 0.
     Zero(Comparison),
@@ -124,7 +124,7 @@ pub enum Condition {
 }
 
 /// A jump. Offsets count from its opcode.
-#[derive(Clone, Copy, PartialEq, Eq)]
+#[derive(Clone, Copy)]
 pub enum BranchOp {
     /// Where the condition holds.
     If(Condition, i16),
@@ -141,7 +141,7 @@ pub enum BranchOp {
 }
 
 /// How a method ends.
-#[derive(Clone, Copy, PartialEq, Eq)]
+#[derive(Clone, Copy)]
 pub enum ReturnOp {
     /// With the reference on top (`areturn`).
     Areturn,
@@ -163,7 +163,7 @@ pub enum ValueType {
 }
 
 /// A use of the field of this type that the entry of the constant pool with this index names.
-#[derive(Clone, Copy, PartialEq, Eq)]
+#[derive(Clone, Copy)]
 pub enum FieldOp {
     /// Reads a static field.
     GetStatic(ValueType, u16),
@@ -180,7 +180,7 @@ pub enum FieldOp {
 }
 
 /// The elements of an array of numbers.
-#[derive(Clone, Copy, PartialEq, Eq)]
+#[derive(Clone, Copy)]
 pub enum PrimitiveArray {
     Booleans,
     Bytes,
@@ -188,7 +188,7 @@ pub enum PrimitiveArray {
 }
 
 /// An operation on an array.
-#[derive(Clone, Copy, PartialEq, Eq)]
+#[derive(Clone, Copy)]
 pub enum ArrayOp {
     /// Reads an element. Arrays of bytes and of booleans are read alike.
     Load(ValueType),
@@ -204,7 +204,7 @@ pub enum ArrayOp {
 }
 
 /// A type that an object may be an instance of.
-#[derive(Clone, Copy, PartialEq, Eq)]
+#[derive(Clone, Copy)]
 pub enum TestedType {
     /// The class or interface that the entry of the constant pool with this index names.
     OfClass(u16),
@@ -215,7 +215,7 @@ pub enum TestedType {
 }
 
 /// An operation on an object.
-#[derive(Clone, Copy, PartialEq, Eq)]
+#[derive(Clone, Copy)]
 pub enum ObjectOp {
     /// Makes an instance of the class that the entry of the constant pool with this index names.
     New(u16),
@@ -228,7 +228,7 @@ pub enum ObjectOp {
 }
 
 /// A call of the method that the entry of the constant pool with this index names.
-#[derive(Clone, Copy, PartialEq, Eq)]
+#[derive(Clone, Copy)]
 pub enum InvokeOp {
     /// By the class of its receiver (`invokevirtual`).
     Virtual(u16),

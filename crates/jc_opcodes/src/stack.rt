@@ -49,10 +49,7 @@ fn duplicate_below_of(halves: u8) -> Option<StackOp>
 fn can_duplicate_below(count: u8, depth: u8) -> bool
     ensures { result ≡ can_duplicate_below count depth }
 {
-    if !(1..=4).contains(&count) {
-        return false;
-    }
-    depth == 0 || (count..=count + 4).contains(&depth)
+    matches!(count, 1..=4) && (depth == 0 || count <= depth && depth <= count + 4)
 }
 
 // The operand of `swap_x`, if it is one: the high four bits are the count, the low four the cells below.

@@ -8,7 +8,7 @@ use Rattle.jc_heap.specs.Heap.{HeapState, facts}
 use Rattle.jc_heap.specs.Places.{AreApart, IsBeside, places_of, cell_changes}
 use Rattle.jc_heap.specs.Keeping.{AreLegalValues}
 
--- in whatever stands behind them
+-- in whatever stands after them
 module _ (h : HeapState) (array : ℕ) (is : (facts h array).kind ≡ ByteArray) (more : List (Place × ℕ)) where
   pub puts_stand : (i : ℕ) (bytes : List ℕ) → AreLegalValues h more → AreLegalValues h (cell_changes array i bytes ++ more)
   puts_stand i [] stand = stand

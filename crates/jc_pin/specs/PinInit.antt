@@ -16,7 +16,7 @@ use Rattle.jc_pin.specs.declared.updating.PinRefusal.{PinRefusal}
 use Rattle.jc_pin.specs.declared.updating.PinRefusal.TheVariants.{CommitFull, HeapFull}
 use Rattle.jc_pin.specs.Pins.{limit_cell, maximum_cell, counter_cell, length_cell, value_cell, cell_count}
 
--- the array for values of so many bytes, which belongs to whom the code runs for
+-- the array for values of n bytes, which belongs to whom the code runs for
 abbrev pub value_array : MemoryState → ℕ → NewObject
 value_array s maximum = record { kind = ByteArray; event = None; class = 0; owner = s.registers.active; length = maximum }
 

@@ -51,7 +51,7 @@ counter r = Cell r counter_cell
 abbrev pub tries_refill : {A : Type 0} → MemoryState → ℕ → Program A → Program A
 tries_refill s r rest = Perform (HeapMove (WriteNonAtomic (counter r) (record_of s r).limit)) rest
 
--- a persistent object of this kind, with so many cells
+-- a persistent object of this kind, with n cells
 abbrev pub is_persistent_with : Kind → ℕ → Option Facts → Bool
 is_persistent_with kind n None = false
 is_persistent_with kind n (Some f) = kind_number f.kind == kind_number kind && (is_none f.event && nat_le n f.length)
@@ -68,7 +68,7 @@ pub record IsPersistentWith (s : MemoryState) (of : Kind) (n r : ℕ) : Type 0 w
 abbrev pub has_value : MemoryState → PinRecord → Bool
 has_value s p = nat_le p.length p.maximum && (if p.maximum == 0 then true else is_persistent_with ByteArray p.maximum (header_at s p.value))
 
--- a PIN stands behind the reference: an instance with these cells, and its value
+-- the reference names a PIN: an instance with these cells, and its value
 unfoldable pub is_pin : MemoryState → ℕ → Bool
 is_pin s r = if is_persistent_with Instance cell_count (header_at s r) then has_value s (record_of s r) else false
 

@@ -28,7 +28,7 @@ after_pin (Err CommitFull) s = Completed (Err CommitFull) s
 after_pin (Err IllegalValue) s = Completed (Err IllegalValue) s
 after_pin (Err HeapFull) s = Completed (Err HeapFull) s
 
--- the change that an update is: the value, its length, and all tries
+-- an update as a change: the value, its length, and all tries
 abbrev pub changes_of_update : PinRecord → ℕ → List ℕ → List (Place × ℕ)
 changes_of_update pin r bytes = cell_changes pin.value 0 bytes ++ (Cell r length_cell, length bytes) ∷ (counter r, pin.limit) ∷ []
 

@@ -30,7 +30,7 @@ pub(crate) const VALUE: u16 = 4;
 const CELL_COUNT: u16 = 5;
 
 /// The record of a PIN: the cells of an `OwnerPIN`, in their order.
-#[derive(Clone, Copy, PartialEq, Eq)]
+#[derive(Clone, Copy)]
 pub struct PinRecord {
     /// How many tries there are after the value was given.
     pub limit: u16,
@@ -44,7 +44,7 @@ pub struct PinRecord {
     pub value: Ref,
 }
 
-// A persistent object of this kind with so many cells stands behind the reference.
+// The reference names a persistent object of this kind with `cells` cells.
 fn is_persistent_with<S: WordStore>(
     memory: &Memory<S>,
     kind: Kind,
@@ -61,8 +61,8 @@ fn is_persistent_with<S: WordStore>(
     }
 }
 
-/// Whether a PIN stands behind a reference: a persistent instance with the cells of the record, a value that is no
-/// longer than the maximum, and an array of bytes for so many.
+/// Whether a reference names a PIN: a persistent instance with the cells of the record, a value that is no
+/// longer than the maximum, and an array of as many bytes.
 #[tactic(auto, unfolding(crate::specs::Pins::is_pin))]
 pub fn is_pin<S: WordStore>(memory: &Memory<S>, reference: Ref) -> bool
     requires up { memory.now.heap.down ≡ false }

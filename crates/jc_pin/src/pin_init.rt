@@ -56,7 +56,7 @@ fn set_record<S: WordStore>(
     write_within_capacity(memory, &changes)
 }
 
-/// Sets a PIN up: makes an array for values of so many bytes, which belongs to whom the code runs for, and sets its
+/// Sets a PIN up: makes an array for values of up to `maximum` bytes, which belongs to whom the code runs for, and sets its
 /// cells, with all tries and no value. The flag is taken away. Refused, before anything is written: no space for
 /// the array; no room in the transaction for all of it.
 #[tactic(auto, unfolding(crate::specs::PinInit::pin_init))]

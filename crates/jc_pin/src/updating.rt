@@ -13,7 +13,7 @@ use jc_transient::Ref;
 use jc_words::{StoreDown, WordStore};
 
 /// Why a PIN is not changed.
-#[derive(Clone, Copy, PartialEq, Eq)]
+#[derive(Clone, Copy)]
 pub enum PinRefusal {
     /// The store refused a write. Only a power up follows.
     StoreDown,

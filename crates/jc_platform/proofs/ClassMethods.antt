@@ -59,9 +59,10 @@ stretches =
     stretch Events 2 3 ∷
     stretch Objects 0 0 ∷
     stretch Exceptions 21 23 ∷
-    stretch Engines 0 6 ∷
-    stretch Engines 6 11 ∷
-    stretch Engines 11 16 ∷
+    stretch Engines 0 7 ∷
+    stretch Engines 7 12 ∷
+    stretch Engines 12 17 ∷
+    stretch Engines 17 18 ∷
     []
 
 abbrev pub stretch_of : ℕ → Stretch

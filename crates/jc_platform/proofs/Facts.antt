@@ -26,7 +26,7 @@ use Rattle.jc_platform.specs.Hierarchy.{is_exception_form, is_interface_form}
 use Rattle.jc_platform.specs.Names.{MethodEntry, classes, methods, no_method}
 use Rattle.jc_platform.specs.Names.{objects_rows, exceptions_rows, utilities_rows, system_rows, aids_rows, pins_rows, applets_rows, apdus_rows, events_rows, engines_rows}
 use Rattle.jc_platform.specs.Numbers.{class_count, class_number, method_count, method_number, same_class, same_kind, same_package}
-use Rattle.jc_platform.specs.Signatures.{is_constructor_name}
+use Rattle.jc_platform.specs.Signatures.{is_constructor_name, receiver_cells}
 use Rattle.jc_platform.specs.Numbers.{objects_count, exceptions_count, utilities_count, system_count, aids_count, pins_count, applets_count, apdus_count, events_count, engines_count}
 
 -- ---- how many there are
@@ -186,7 +186,7 @@ is_static Interface = false
 abbrev has_receiver : MethodEntry → Bool
 has_receiver e = not (is_static e.kind) || is_constructor_name e.name
 
-abbrev agree : Bool → Bool → Bool
+abbrev pub agree : Bool → Bool → Bool
 agree true b = b
 agree false b = not b
 
@@ -194,7 +194,12 @@ pub receivers_are_there : list_all (λ e. agree (not (is_absent e.receiver)) (ha
 unfolding objects_rows exceptions_rows utilities_rows system_rows aids_rows pins_rows applets_rows apdus_rows events_rows engines_rows
 receivers_are_there = refl
 
--- a method of an interface is carried out by a virtual method of this name, of a class that implements the interface
+-- a constructor is a static method that is called on an object
+pub constructors_are_told : list_all (λ e. agree (same_kind e.kind Static && receiver_cells e.receiver == 1) (is_constructor_name e.name)) methods ≡ true
+unfolding objects_rows exceptions_rows utilities_rows system_rows aids_rows pins_rows applets_rows apdus_rows events_rows engines_rows
+constructors_are_told = refl
+
+-- a method of an interface is carried out by a virtual method with the same name, of a class that implements the interface
 abbrev is_carried_out : MethodEntry → Option PlatformMethod → Bool
 is_carried_out e None = true
 is_carried_out e (Some m) = bytes_eq (name_of_method m) e.name && same_kind (kind_of_method m) Virtual

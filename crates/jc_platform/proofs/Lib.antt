@@ -12,3 +12,5 @@ pub mod NamesTold
 pub mod OneAnswer
 pub mod Versions
 pub mod PackageClasses
+mod Superclasses
+pub mod Constructors

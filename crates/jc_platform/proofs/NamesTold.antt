@@ -23,6 +23,7 @@ use Rattle.jc_platform.proofs.Distinct.{both, class_by_number, distinct, found_h
 use Rattle.jc_platform.proofs.Facts.{at_number, class_at_place, class_places, homes, method_at_place, method_homes, method_places}
 use Rattle.jc_platform.proofs.Lists.{and_true}
 use Rattle.jc_platform.proofs.Numbers.{class_below, method_below}
+use Rattle.jc_platform.proofs.Superclasses.{superclass_token}
 use Rattle.jc_platform.proofs.Versions.{class_stands, first_needed, method_stands}
 
 -- an element that passes is found
@@ -154,5 +155,6 @@ names_told text t read =
       classes = told_class t apart;
       methods = told_method t apart;
       needed_classes = needed_class a t read.1.2;
+      superclasses = superclass_token said.0 read.1.0 t said.2 read.1.2;
       needed_methods = needed_method a t read.1.2;
     }

@@ -104,7 +104,7 @@ one_first_bad text m n a b =
     (λ h. absurd (not_bad (above b.1) b.2 b.3 (goes_on b.0 a.0 b.1 a.1 b.2 a.2 b.3 a.3 h (sym e) b.5 a.5) b.7))
     (λ h. a.6 ∙ ap (λ (k : ℕ). k + 1) h ∙ sym b.6)
 
--- ---- what is told is not missing
+-- ---- what is given is not missing
 
 not_none : {A : Type 0} (o : Option A) (x : A) → o ≡ Some x → o ≡ None → ⊥
 not_none o x e n = absurd (let g : None ≡ Some x = sym n ∙ e in cc)

@@ -11,9 +11,9 @@ use Rattle.jc_platform.proofs.Lists.{shown_between}
 
 -- the places of the packages' first classes, and after them how many classes there are
 abbrev pub firsts : List ℕ
-firsts = 0 ∷ 12 ∷ 31 ∷ 32 ∷ 36 ∷ []
+firsts = 0 ∷ 12 ∷ 31 ∷ 32 ∷ 37 ∷ []
 
-pub ends_within : (p : PlatformPackage) → get_or firsts (package_number p + 1) 0 ≤ 36
+pub ends_within : (p : PlatformPackage) → get_or firsts (package_number p + 1) 0 ≤ 37
 ends_within JavaLang = omega arith
 ends_within JavacardFramework = omega arith
 ends_within JavacardxApdu = omega arith

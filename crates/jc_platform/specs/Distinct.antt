@@ -27,7 +27,7 @@ entry_of_method (Apdus m) = slice_index_or apdus_rows (apdus_number m) no_method
 entry_of_method (Events m) = slice_index_or events_rows (events_number m) no_method
 entry_of_method (Engines m) = slice_index_or engines_rows (engines_number m) no_method
 
--- the package that a class is in
+-- the package of a class
 abbrev pub home_of : PlatformClass → PlatformPackage
 home_of c = (entry_of_class c).home
 
@@ -49,7 +49,7 @@ word_of_token number (Some token) = 256 * number + token
 abbrev pub class_word : Tokens → PlatformClass → ℕ
 class_word t c = word_of_token (number_in t (home_of c)) (token_of_class t c)
 
--- the class that a method is in
+-- the class of a method
 abbrev pub class_of : PlatformMethod → PlatformClass
 class_of m = (entry_of_method m).class
 
@@ -65,7 +65,7 @@ name_of_method m = (entry_of_method m).name
 abbrev pub is_needed_method : PlatformMethod → Bool
 is_needed_method m = (entry_of_method m).needed
 
--- a token tells a class among those of its package, and a method among those of its class and kind
+-- a token identifies a class among those of its package, and a method among those of its class and kind
 pub record AreDistinct (t : Tokens) : Type 0 where
   pub of_classes : (c d : PlatformClass) (k : ℕ) → home_of c ≡ home_of d → token_of_class t c ≡ Some k → token_of_class t d ≡ Some k → c ≡ d
   pub of_methods : (m n : PlatformMethod) (k : ℕ) → class_of m ≡ class_of n → kind_of_method m ≡ kind_of_method n

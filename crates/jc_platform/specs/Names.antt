@@ -10,7 +10,7 @@ use Rattle.jc_platform.specs.declared.names.PlatformClass.TheVariants.{ClassCast
 use Rattle.jc_platform.specs.declared.names.PlatformClass.TheVariants.{Shareable, Pin, Applet, Apdu, Aid, JcSystem, Util, OwnerPin, CardException}
 use Rattle.jc_platform.specs.declared.names.PlatformClass.TheVariants.{CardRuntimeException, IsoException, PinException, SystemException, TransactionException}
 use Rattle.jc_platform.specs.declared.names.PlatformClass.TheVariants.{ApduException, UserException, Iso7816, MultiSelectable, AppletEvent, ExtendedLength}
-use Rattle.jc_platform.specs.declared.names.PlatformClass.TheVariants.{CryptoException, MessageDigest, Checksum, RandomData}
+use Rattle.jc_platform.specs.declared.names.PlatformClass.TheVariants.{CryptoException, MessageDigest, Checksum, RandomData, InitializedMessageDigest}
 use Rattle.jc_platform.specs.declared.names.MethodKind.{MethodKind}
 use Rattle.jc_platform.specs.declared.names.MethodKind.TheVariants as kind
 use Rattle.jc_platform.specs.declared.names.PlatformMethod.{PlatformMethod}
@@ -56,6 +56,8 @@ use Rattle.jc_platform.specs.declared.names.EnginesMethod.TheVariants.{MessageDi
 use Rattle.jc_platform.specs.declared.names.EnginesMethod.TheVariants.{MessageDigestDoFinal, MessageDigestReset, ChecksumGetInstance, ChecksumGetAlgorithm}
 use Rattle.jc_platform.specs.declared.names.EnginesMethod.TheVariants.{ChecksumInit, ChecksumUpdate, ChecksumDoFinal, RandomDataGetInstance, RandomDataGenerateData}
 use Rattle.jc_platform.specs.declared.names.EnginesMethod.TheVariants.{RandomDataNextBytes, RandomDataSetSeed, RandomDataGetAlgorithm}
+use Rattle.jc_platform.specs.declared.names.EnginesMethod.TheVariants.{MessageDigestGetInitializedMessageDigestInstance}
+use Rattle.jc_platform.specs.declared.names.EnginesMethod.TheVariants.{InitializedMessageDigestSetInitialDigest}
 use Rattle.jc_platform.specs.declared.kinds.ClassForm.{ClassForm}
 use Rattle.jc_platform.specs.declared.kinds.ClassForm.TheVariants as form
 use Rattle.jc_platform.specs.declared.kinds.CellKind.{CellKind}
@@ -172,6 +174,7 @@ classes =
     optional_class JavacardSecurity MessageDigest (codes "MessageDigest") (Some Object) [] form.Object (Number ∷ Reference ∷ []) false false ∷
     optional_class JavacardSecurity Checksum (codes "Checksum") (Some Object) [] form.Object (Number ∷ Reference ∷ []) false false ∷
     optional_class JavacardSecurity RandomData (codes "RandomData") (Some Object) [] form.Object (Number ∷ Reference ∷ []) false false ∷
+    optional_class JavacardSecurity InitializedMessageDigest (codes "InitializedMessageDigest") (Some MessageDigest) [] form.Object (Number ∷ Reference ∷ []) false false ∷
     []
 
 -- the methods of java.lang
@@ -341,7 +344,7 @@ events_rows =
     optional_method AppletEvent kind.Interface (Events AppletEventUninstall) (codes "uninstall") [] answer.Void Kept ∷
     []
 
--- the methods of MessageDigest, Checksum and RandomData
+-- the methods of MessageDigest, Checksum, RandomData and InitializedMessageDigest
 unfoldable pub engines_rows : List MethodEntry
 engines_rows =
     optional_method MessageDigest kind.Static (Engines MessageDigestGetInstance) (codes "getInstance") (Byte ∷ Boolean ∷ []) answer.Reference Absent ∷
@@ -350,6 +353,7 @@ engines_rows =
     optional_method MessageDigest kind.Virtual (Engines MessageDigestUpdate) (codes "update") (Bytes ∷ Short ∷ Short ∷ []) answer.Void Kept ∷
     optional_method MessageDigest kind.Virtual (Engines MessageDigestDoFinal) (codes "doFinal") (Bytes ∷ Short ∷ Short ∷ Bytes ∷ Short ∷ []) answer.Short Kept ∷
     optional_method MessageDigest kind.Virtual (Engines MessageDigestReset) (codes "reset") [] answer.Void Kept ∷
+    optional_method MessageDigest kind.Static (Engines MessageDigestGetInitializedMessageDigestInstance) (codes "getInitializedMessageDigestInstance") (Byte ∷ Boolean ∷ []) answer.Reference Absent ∷
     optional_method Checksum kind.Static (Engines ChecksumGetInstance) (codes "getInstance") (Byte ∷ Boolean ∷ []) answer.Reference Absent ∷
     optional_method Checksum kind.Virtual (Engines ChecksumGetAlgorithm) (codes "getAlgorithm") [] answer.Byte Kept ∷
     optional_method Checksum kind.Virtual (Engines ChecksumInit) (codes "init") (Bytes ∷ Short ∷ Short ∷ []) answer.Void Kept ∷
@@ -360,6 +364,7 @@ engines_rows =
     optional_method RandomData kind.Virtual (Engines RandomDataNextBytes) (codes "nextBytes") (Bytes ∷ Short ∷ Short ∷ []) answer.Short Kept ∷
     optional_method RandomData kind.Virtual (Engines RandomDataSetSeed) (codes "setSeed") (Bytes ∷ Short ∷ Short ∷ []) answer.Void Kept ∷
     optional_method RandomData kind.Virtual (Engines RandomDataGetAlgorithm) (codes "getAlgorithm") [] answer.Byte Kept ∷
+    optional_method InitializedMessageDigest kind.Virtual (Engines InitializedMessageDigestSetInitialDigest) (codes "setInitialDigest") (Bytes ∷ Short ∷ Short ∷ Bytes ∷ Short ∷ Short ∷ []) answer.Void Kept ∷
     []
 
 -- every method

@@ -9,7 +9,7 @@ use Rattle.jc_platform.specs.declared.names.PlatformClass.TheVariants.{ClassCast
 use Rattle.jc_platform.specs.declared.names.PlatformClass.TheVariants.{Shareable, Pin, Applet, Apdu, Aid, JcSystem, Util, OwnerPin, CardException}
 use Rattle.jc_platform.specs.declared.names.PlatformClass.TheVariants.{CardRuntimeException, IsoException, PinException, SystemException, TransactionException}
 use Rattle.jc_platform.specs.declared.names.PlatformClass.TheVariants.{ApduException, UserException, Iso7816, MultiSelectable, AppletEvent, ExtendedLength}
-use Rattle.jc_platform.specs.declared.names.PlatformClass.TheVariants.{CryptoException, MessageDigest, Checksum, RandomData}
+use Rattle.jc_platform.specs.declared.names.PlatformClass.TheVariants.{CryptoException, MessageDigest, Checksum, RandomData, InitializedMessageDigest}
 use Rattle.jc_platform.specs.declared.names.MethodKind.{MethodKind}
 use Rattle.jc_platform.specs.declared.names.MethodKind.TheVariants.{Static, Virtual, Interface}
 use Rattle.jc_platform.specs.declared.names.PlatformMethod.{PlatformMethod}
@@ -65,13 +65,15 @@ use Rattle.jc_platform.specs.declared.names.EnginesMethod.TheVariants.{MessageDi
 use Rattle.jc_platform.specs.declared.names.EnginesMethod.TheVariants.{MessageDigestDoFinal, MessageDigestReset, ChecksumGetInstance, ChecksumGetAlgorithm}
 use Rattle.jc_platform.specs.declared.names.EnginesMethod.TheVariants.{ChecksumInit, ChecksumUpdate, ChecksumDoFinal, RandomDataGetInstance, RandomDataGenerateData}
 use Rattle.jc_platform.specs.declared.names.EnginesMethod.TheVariants.{RandomDataNextBytes, RandomDataSetSeed, RandomDataGetAlgorithm}
+use Rattle.jc_platform.specs.declared.names.EnginesMethod.TheVariants.{MessageDigestGetInitializedMessageDigestInstance}
+use Rattle.jc_platform.specs.declared.names.EnginesMethod.TheVariants.{InitializedMessageDigestSetInitialDigest}
 
 -- how many packages and classes there are
 abbrev pub package_count : ℕ
 package_count = 4
 
 abbrev pub class_count : ℕ
-class_count = 36
+class_count = 37
 
 -- how many methods each room has
 abbrev pub objects_count : ℕ
@@ -102,7 +104,7 @@ abbrev pub events_count : ℕ
 events_count = 3
 
 abbrev pub engines_count : ℕ
-engines_count = 16
+engines_count = 18
 
 -- the places of the first method of each room but the first
 abbrev pub exceptions_first : ℕ
@@ -192,6 +194,7 @@ class_number CryptoException = 32
 class_number MessageDigest = 33
 class_number Checksum = 34
 class_number RandomData = 35
+class_number InitializedMessageDigest = 36
 
 -- the two are one
 abbrev pub same_class : PlatformClass → PlatformClass → Bool
@@ -355,16 +358,18 @@ engines_number MessageDigestGetLength = 2
 engines_number MessageDigestUpdate = 3
 engines_number MessageDigestDoFinal = 4
 engines_number MessageDigestReset = 5
-engines_number ChecksumGetInstance = 6
-engines_number ChecksumGetAlgorithm = 7
-engines_number ChecksumInit = 8
-engines_number ChecksumUpdate = 9
-engines_number ChecksumDoFinal = 10
-engines_number RandomDataGetInstance = 11
-engines_number RandomDataGenerateData = 12
-engines_number RandomDataNextBytes = 13
-engines_number RandomDataSetSeed = 14
-engines_number RandomDataGetAlgorithm = 15
+engines_number MessageDigestGetInitializedMessageDigestInstance = 6
+engines_number ChecksumGetInstance = 7
+engines_number ChecksumGetAlgorithm = 8
+engines_number ChecksumInit = 9
+engines_number ChecksumUpdate = 10
+engines_number ChecksumDoFinal = 11
+engines_number RandomDataGetInstance = 12
+engines_number RandomDataGenerateData = 13
+engines_number RandomDataNextBytes = 14
+engines_number RandomDataSetSeed = 15
+engines_number RandomDataGetAlgorithm = 16
+engines_number InitializedMessageDigestSetInitialDigest = 17
 
 -- the place of a method
 abbrev pub method_number : PlatformMethod → ℕ

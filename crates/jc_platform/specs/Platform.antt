@@ -8,6 +8,7 @@ use Rattle.jc_platform.specs.declared.names.PlatformClass.{PlatformClass}
 use Rattle.jc_platform.specs.declared.names.MethodKind.{MethodKind}
 use Rattle.jc_platform.specs.declared.names.PlatformMethod.{PlatformMethod}
 use Rattle.jc_platform.specs.Distinct.{class_of, home_of, is_needed_class, is_needed_method, kind_of_method}
+use Rattle.jc_platform.specs.Hierarchy.{superclass_of}
 use Rattle.jc_platform.specs.Names.{classes, methods}
 use Rattle.jc_platform.specs.Numbers.{same_class, same_kind, same_package}
 use Rattle.jc_platform.specs.Rows.{is_token}
@@ -45,10 +46,12 @@ unfoldable pub method_by_token : Tokens → PlatformClass → MethodKind → ℕ
 method_by_token t class kind token = option_map (λ e. e.method) (find (λ e. same_class e.class class && same_kind e.kind kind && is_token
     (token_of_method t e.method) token) methods)
 
--- tokens stand for one class and one method: what has a token is what the token stands for, and what each table has has one
+-- tokens stand for one class and one method: what has a token is what the token stands for, what each table has has one, and so has the superclass of a class
+-- that has one
 pub record TellNames (t : Tokens) : Type 0 where
   pub packages : (p : PlatformPackage) → package_by_number t (number_in t p) ≡ Some p
   pub classes : (c : PlatformClass) (k : ℕ) → token_of_class t c ≡ Some k → class_by_token t (home_of c) k ≡ Some c
   pub methods : (m : PlatformMethod) (k : ℕ) → token_of_method t m ≡ Some k → method_by_token t (class_of m) (kind_of_method m) k ≡ Some m
   pub needed_classes : (c : PlatformClass) → is_needed_class c ≡ true → (k : ℕ) × (token_of_class t c ≡ Some k)
+  pub superclasses : (c d : PlatformClass) → superclass_of c ≡ Some d → is_some (token_of_class t c) ≡ true → is_some (token_of_class t d) ≡ true
   pub needed_methods : (m : PlatformMethod) → is_needed_method m ≡ true → (k : ℕ) × (token_of_method t m ≡ Some k)

@@ -17,6 +17,8 @@ use Rattle.jc_platform.specs.declared.row.Version.{Version}
 use Rattle.jc_platform.specs.declared.row.Row.{Row}
 use Rattle.jc_platform.specs.declared.row.Row.TheVariants.{Extended, Random, Package, Class, Method}
 use Rattle.jc_platform.specs.Names.{ClassEntry, MethodEntry, packages, classes, methods}
+use Rattle.jc_platform.specs.Distinct.{is_needed_class}
+use Rattle.jc_platform.specs.Hierarchy.{superclass_of}
 use Rattle.jc_platform.specs.Numbers.{is_needed_package, same_package, same_class, same_kind, same_method}
 
 -- ---- what stands above a line: rows from the nearest up
@@ -176,9 +178,14 @@ may_be_random a = a.extended && not (is_some a.random)
 abbrev pub allows : Above → Bool → Bool
 allows a needed = needed || a.extended
 
--- a class may stand here: in a table that may have it, in its own package, nowhere above, and with a token of its own
+-- a superclass, where there is one, is one that each table has, or stands above
+abbrev pub has_superclass : Above → Option PlatformClass → Bool
+has_superclass a None = true
+has_superclass a (Some c) = is_needed_class c || is_some (a.class_token c)
+
+-- a class may stand here: in a table that may have it, in its own package, where the table has its superclass, nowhere above, and with a token of its own
 abbrev pub may_be_class : Above → ClassEntry → ℕ → Bool
-may_be_class a e token = allows a e.needed && is_package a.home e.home && not (is_some (a.class_token e.class)) && not (has_class_token a e.home token)
+may_be_class a e token = allows a e.needed && is_package a.home e.home && has_superclass a (superclass_of e.class) && not (is_some (a.class_token e.class)) && not (has_class_token a e.home token)
 
 -- a method may stand here, in its own class: in a table that may have it, nowhere above, and with a token of its own that its kind may have
 abbrev pub may_be_method : Above → MethodEntry → ℕ → Bool
@@ -246,6 +253,6 @@ row_of a (keyword ∷ x ∷ y ∷ []) = if bytes_eq keyword (codes "class") then
 row_of a (keyword ∷ x ∷ y ∷ z ∷ []) = if bytes_eq keyword (codes "package") then package_row a x y z else None
 row_of a (keyword ∷ x ∷ y ∷ z ∷ v ∷ more) = None
 
--- the row that a line is
+-- the row that a line gives
 abbrev pub row_of_line : Above → List ℕ → Option Row
 row_of_line a line = row_of a (parts_at 32 line)

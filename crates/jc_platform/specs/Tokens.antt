@@ -1,4 +1,4 @@
--- What a table tells.
+-- What a table says.
 use Rattle.std.specs.Prelude.{ℕ, List, Option, None, if◌then◌else◌, slice_index_or, unwrap_or}
 use Rattle.jc_platform.specs.declared.names.PlatformPackage.{PlatformPackage}
 use Rattle.jc_platform.specs.declared.names.PlatformPackage.TheVariants.{JavacardxApdu, JavacardSecurity}

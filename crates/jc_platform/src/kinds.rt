@@ -3,7 +3,7 @@
 use crate::names::PlatformClass;
 
 /// What a class is.
-#[derive(Clone, Copy, PartialEq, Eq)]
+#[derive(Clone, Copy)]
 pub enum ClassForm {
     Interface,
     /// It has static methods alone.
@@ -15,14 +15,14 @@ pub enum ClassForm {
 }
 
 /// What a cell of an instance holds.
-#[derive(Clone, Copy, PartialEq, Eq)]
+#[derive(Clone, Copy)]
 pub enum CellKind {
     Number,
     Reference,
 }
 
 /// What a parameter takes. Each has one cell.
-#[derive(Clone, Copy, PartialEq, Eq)]
+#[derive(Clone, Copy)]
 pub enum ParameterKind {
     Byte,
     Short,
@@ -38,7 +38,7 @@ pub enum ParameterKind {
 }
 
 /// What a method returns.
-#[derive(Clone, Copy, PartialEq, Eq)]
+#[derive(Clone, Copy)]
 pub enum Answer {
     Void,
     Boolean,
@@ -48,7 +48,7 @@ pub enum Answer {
 }
 
 /// What a method does with the object that it is called on.
-#[derive(Clone, Copy, PartialEq, Eq)]
+#[derive(Clone, Copy)]
 pub enum Receiver {
     /// It is called on none.
     Absent,

@@ -9,7 +9,7 @@ ghost use Rattle.jc_platform.specs.Tokens.{Tokens};
 use crate::fault::TableFault;
 use crate::names::PlatformClass;
 
-/// Law: in a table that was read, a token tells a class among those of its package, and a method among those
+/// Law: in a table that was read, a token identifies a class among those of its package, and a method among those
 /// of its class and kind. It does nothing.
 pub fn tokens_are_distinct()
     ensures { (text : List ℕ) (t : Tokens) → Reads text (Ok t) → AreDistinct t }

@@ -106,7 +106,7 @@ pub(crate) fn events_rows() -> &'static [MethodRow]
     &EVENTS
 }
 
-/// The methods of `MessageDigest`, `Checksum` and `RandomData`.
+/// The methods of `MessageDigest`, `Checksum`, `RandomData` and `InitializedMessageDigest`.
 pub(crate) fn engines_rows() -> &'static [MethodRow]
     ensures { map method_value result.now ≡ engines_rows }
 {

@@ -58,10 +58,11 @@ pub enum PlatformClass {
     MessageDigest,
     Checksum,
     RandomData,
+    InitializedMessageDigest,
 }
 
 /// What kind of method a name stands for. Constructors are static here, as their tokens are.
-#[derive(Clone, Copy, PartialEq, Eq)]
+#[derive(Clone, Copy)]
 pub enum MethodKind {
     Static,
     Virtual,
@@ -69,7 +70,7 @@ pub enum MethodKind {
 }
 
 /// A method of `java.lang`.
-#[derive(Clone, Copy, PartialEq, Eq)]
+#[derive(Clone, Copy)]
 pub enum ObjectsMethod {
     ObjectInit,
     ObjectEquals,
@@ -87,7 +88,7 @@ pub enum ObjectsMethod {
 }
 
 /// A method of an exception of the card.
-#[derive(Clone, Copy, PartialEq, Eq)]
+#[derive(Clone, Copy)]
 pub enum ExceptionsMethod {
     CardExceptionInit,
     CardExceptionThrowIt,
@@ -115,7 +116,7 @@ pub enum ExceptionsMethod {
 }
 
 /// A method of `Util`.
-#[derive(Clone, Copy, PartialEq, Eq)]
+#[derive(Clone, Copy)]
 pub enum UtilitiesMethod {
     UtilArrayCompare,
     UtilArrayCopy,
@@ -128,7 +129,7 @@ pub enum UtilitiesMethod {
 }
 
 /// A method of `JCSystem`.
-#[derive(Clone, Copy, PartialEq, Eq)]
+#[derive(Clone, Copy)]
 pub enum SystemMethod {
     JcSystemAbortTransaction,
     JcSystemBeginTransaction,
@@ -155,7 +156,7 @@ pub enum SystemMethod {
 }
 
 /// A method of `AID`.
-#[derive(Clone, Copy, PartialEq, Eq)]
+#[derive(Clone, Copy)]
 pub enum AidsMethod {
     AidInit,
     AidEquals,
@@ -167,7 +168,7 @@ pub enum AidsMethod {
 }
 
 /// A method of `PIN` or `OwnerPIN`.
-#[derive(Clone, Copy, PartialEq, Eq)]
+#[derive(Clone, Copy)]
 pub enum PinsMethod {
     PinCheck,
     PinGetTriesRemaining,
@@ -185,7 +186,7 @@ pub enum PinsMethod {
 }
 
 /// A method of `Applet`.
-#[derive(Clone, Copy, PartialEq, Eq)]
+#[derive(Clone, Copy)]
 pub enum AppletsMethod {
     AppletInit,
     AppletDeselect,
@@ -199,7 +200,7 @@ pub enum AppletsMethod {
 }
 
 /// A method of `APDU`.
-#[derive(Clone, Copy, PartialEq, Eq)]
+#[derive(Clone, Copy)]
 pub enum ApdusMethod {
     ApduGetBuffer,
     ApduReceiveBytes,
@@ -228,15 +229,15 @@ pub enum ApdusMethod {
 }
 
 /// A method of `MultiSelectable` or `AppletEvent`.
-#[derive(Clone, Copy, PartialEq, Eq)]
+#[derive(Clone, Copy)]
 pub enum EventsMethod {
     MultiSelectableSelect,
     MultiSelectableDeselect,
     AppletEventUninstall,
 }
 
-/// A method of `MessageDigest`, `Checksum` or `RandomData`.
-#[derive(Clone, Copy, PartialEq, Eq)]
+/// A method of `MessageDigest`, `Checksum`, `RandomData` or `InitializedMessageDigest`.
+#[derive(Clone, Copy)]
 pub enum EnginesMethod {
     MessageDigestGetInstance,
     MessageDigestGetAlgorithm,
@@ -244,6 +245,7 @@ pub enum EnginesMethod {
     MessageDigestUpdate,
     MessageDigestDoFinal,
     MessageDigestReset,
+    MessageDigestGetInitializedMessageDigestInstance,
     ChecksumGetInstance,
     ChecksumGetAlgorithm,
     ChecksumInit,
@@ -254,11 +256,12 @@ pub enum EnginesMethod {
     RandomDataNextBytes,
     RandomDataSetSeed,
     RandomDataGetAlgorithm,
+    InitializedMessageDigestSetInitialDigest,
 }
 
 /// A method of the platform, by its room: an enum of some classes' methods. Each is named by its class and its name:
 /// `OwnerPinCheck` is `check` of `OwnerPIN`, and `ObjectInit` the constructor `<init>` of `Object`.
-#[derive(Clone, Copy, PartialEq, Eq)]
+#[derive(Clone, Copy)]
 pub enum PlatformMethod {
     Objects(ObjectsMethod),
     Exceptions(ExceptionsMethod),
@@ -276,7 +279,7 @@ pub enum PlatformMethod {
 pub(crate) const PACKAGE_COUNT: usize = 4;
 
 /// How many classes and interfaces there are.
-pub(crate) const CLASS_COUNT: usize = 36;
+pub(crate) const CLASS_COUNT: usize = 37;
 
 /// How many methods the room `Objects` has.
 pub(crate) const OBJECTS_COUNT: usize = 13;
@@ -306,7 +309,7 @@ pub(crate) const APDUS_COUNT: usize = 24;
 pub(crate) const EVENTS_COUNT: usize = 3;
 
 /// How many methods the room `Engines` has.
-pub(crate) const ENGINES_COUNT: usize = 16;
+pub(crate) const ENGINES_COUNT: usize = 18;
 
 const EXCEPTIONS_FIRST: usize = OBJECTS_COUNT;
 
@@ -330,7 +333,7 @@ const ENGINES_FIRST: usize = EVENTS_FIRST + EVENTS_COUNT;
 pub(crate) const METHOD_COUNT: usize = ENGINES_FIRST + ENGINES_COUNT;
 
 impl PlatformPackage {
-    /// The two are one, told by their places.
+    /// Whether the two are one, by their places.
     pub(crate) const fn is(self, other: PlatformPackage) -> bool
         ensures { result ≡ same_package self other }
     {
@@ -357,7 +360,7 @@ impl PlatformPackage {
 }
 
 impl PlatformClass {
-    /// The two are one, told by their places.
+    /// Whether the two are one, by their places.
     pub(crate) const fn is(self, other: PlatformClass) -> bool
         ensures { result ≡ same_class self other }
     {
@@ -496,7 +499,7 @@ impl PlatformMethod {
 }
 
 impl MethodKind {
-    /// The two are one, told by their places.
+    /// Whether the two are one, by their places.
     pub(crate) const fn is(self, other: MethodKind) -> bool
         ensures { result ≡ same_kind self other }
     {

@@ -2,7 +2,7 @@
 
 ghost use Rattle.std.specs.Prelude.{◌≡◌, [], ◌∷◌, List, MatchOption, Some, map, slice_set, unwrap_or};
 ghost use Rattle.jc_platform.specs.Rows.{above, class_row, has_class_token, has_method_token, is_package, may_be_class, may_be_extended, may_be_method, method_row};
-ghost use Rattle.jc_platform.specs.Rows.{has_needed_packages, may_be_package};
+ghost use Rattle.jc_platform.specs.Rows.{has_needed_packages, has_superclass, may_be_package};
 ghost use Rattle.jc_platform.specs.Rows.{allows, bytes_of, extended_row, may_be_random, package_row, random_row, row_of_line};
 ghost use Rattle.jc_platform.specs.Numbers.{package_number};
 ghost use Rattle.jc_platform.specs.Table.{AreThoseOf, IsMissing, has_needed_classes, has_needed_methods, has_needed_of};
@@ -59,7 +59,7 @@ impl Reading {
         }
     }
 
-    /// The row that a line is, if it may stand here.
+    /// The row that a line gives, if it may stand here.
     pub(crate) fn row(&self, line: &[u8]) -> Option<Row>
         ensures { result ≡ row_of_line (above_of self.now) line.now }
     {
@@ -201,13 +201,24 @@ impl Reading {
         needed || self.extended
     }
 
-    /// A class may stand here: in a table that may have it, in its own package, nowhere above, and with a token of
-    /// its own.
+    /// A superclass, where there is one, is one that each table has, or stands above.
+    fn has_superclass(&self, superclass: Option<PlatformClass>) -> bool
+        ensures { result ≡ has_superclass (above_of self.now) superclass }
+    {
+        match superclass {
+            Some(class) => class.row().needed || self.class_token(class).is_some(),
+            None => true,
+        }
+    }
+
+    /// A class may stand here: in a table that may have it, in its own package, where the table has its superclass,
+    /// nowhere above, and with a token of its own.
     fn may_be_class(&self, entry: &ClassRow, token: u8) -> bool
         ensures { result ≡ may_be_class (above_of self.now) (class_value entry.now) token }
     {
         self.allows(entry.needed)
             && is_package(self.home, entry.home)
+            && self.has_superclass(entry.class.superclass())
             && self.class_token(entry.class).is_none()
             && !self.has_class_token(entry.home, token)
     }

@@ -3,7 +3,7 @@
 use crate::names::{PlatformClass, PlatformMethod, PlatformPackage};
 
 /// The major and minor version of a package.
-#[derive(Clone, Copy, PartialEq, Eq)]
+#[derive(Clone, Copy)]
 pub struct Version {
     pub major: u8,
     pub minor: u8,

@@ -223,6 +223,7 @@ pub(crate) static CLASSES: [ClassRow; CLASS_COUNT] = [
     optional_class!(JavacardSecurity MessageDigest b"MessageDigest" [Object] [] Object [Number Reference] false false),
     optional_class!(JavacardSecurity Checksum b"Checksum" [Object] [] Object [Number Reference] false false),
     optional_class!(JavacardSecurity RandomData b"RandomData" [Object] [] Object [Number Reference] false false),
+    optional_class!(JavacardSecurity InitializedMessageDigest b"InitializedMessageDigest" [MessageDigest] [] Object [Number Reference] false false),
 ];
 
 /// The methods of `java.lang`, in the order of `ObjectsMethod`: class, kind, method, name, parameters, what is returned, the receiver.
@@ -383,7 +384,7 @@ pub(crate) static EVENTS: [MethodRow; EVENTS_COUNT] = [
     optional_method!(Events EventsMethod AppletEvent Interface AppletEventUninstall b"uninstall" [] Void Kept),
 ];
 
-/// The methods of `MessageDigest`, `Checksum` and `RandomData`, in the order of `EnginesMethod`: class, kind, method, name, parameters, what is returned, the receiver.
+/// The methods of `MessageDigest`, `Checksum`, `RandomData` and `InitializedMessageDigest`, in the order of `EnginesMethod`: class, kind, method, name, parameters, what is returned, the receiver.
 pub(crate) static ENGINES: [MethodRow; ENGINES_COUNT] = [
     optional_method!(Engines EnginesMethod MessageDigest Static MessageDigestGetInstance b"getInstance" [Byte Boolean] Reference Absent),
     optional_method!(Engines EnginesMethod MessageDigest Virtual MessageDigestGetAlgorithm b"getAlgorithm" [] Byte Kept),
@@ -391,6 +392,7 @@ pub(crate) static ENGINES: [MethodRow; ENGINES_COUNT] = [
     optional_method!(Engines EnginesMethod MessageDigest Virtual MessageDigestUpdate b"update" [Bytes Short Short] Void Kept),
     optional_method!(Engines EnginesMethod MessageDigest Virtual MessageDigestDoFinal b"doFinal" [Bytes Short Short Bytes Short] Short Kept),
     optional_method!(Engines EnginesMethod MessageDigest Virtual MessageDigestReset b"reset" [] Void Kept),
+    optional_method!(Engines EnginesMethod MessageDigest Static MessageDigestGetInitializedMessageDigestInstance b"getInitializedMessageDigestInstance" [Byte Boolean] Reference Absent),
     optional_method!(Engines EnginesMethod Checksum Static ChecksumGetInstance b"getInstance" [Byte Boolean] Reference Absent),
     optional_method!(Engines EnginesMethod Checksum Virtual ChecksumGetAlgorithm b"getAlgorithm" [] Byte Kept),
     optional_method!(Engines EnginesMethod Checksum Virtual ChecksumInit b"init" [Bytes Short Short] Void Kept),
@@ -401,6 +403,7 @@ pub(crate) static ENGINES: [MethodRow; ENGINES_COUNT] = [
     optional_method!(Engines EnginesMethod RandomData Virtual RandomDataNextBytes b"nextBytes" [Bytes Short Short] Short Kept),
     optional_method!(Engines EnginesMethod RandomData Virtual RandomDataSetSeed b"setSeed" [Bytes Short Short] Void Kept),
     optional_method!(Engines EnginesMethod RandomData Virtual RandomDataGetAlgorithm b"getAlgorithm" [] Byte Kept),
+    optional_method!(Engines EnginesMethod InitializedMessageDigest Virtual InitializedMessageDigestSetInitialDigest b"setInitialDigest" [Bytes Short Short Bytes Short Short] Void Kept),
 ];
 
 /// The place of each package's first class, in the order of `PlatformPackage`; after them how many classes there are.
@@ -474,7 +477,8 @@ pub(crate) static STRETCHES: [Stretch; CLASS_COUNT] = [
     stretch!(Events 2 3),
     stretch!(Objects 0 0),
     stretch!(Exceptions 21 23),
-    stretch!(Engines 0 6),
-    stretch!(Engines 6 11),
-    stretch!(Engines 11 16),
+    stretch!(Engines 0 7),
+    stretch!(Engines 7 12),
+    stretch!(Engines 12 17),
+    stretch!(Engines 17 18),
 ];

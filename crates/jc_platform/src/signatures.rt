@@ -66,14 +66,13 @@ impl PlatformMethod {
         row.parameters.len() as u8 + row.receiver.cells()
     }
 
-    /// It is a constructor.
-    #[tactic(auto, unfolding(crate::specs::Signatures::is_constructor))]
-    #[inline(never)]
+    /// It is a constructor: of the static methods, just they are called on an object.
+    #[inline(always)]
     pub fn is_constructor(self) -> bool
         ensures { result ≡ is_constructor self }
     {
-        let name = self.row().name;
-        name == b"<init>".as_slice() || name == b"<init>WithoutReason".as_slice()
+        let row = self.row();
+        row.kind.is(MethodKind::Static) && row.receiver.cells() == 1
     }
 }
 

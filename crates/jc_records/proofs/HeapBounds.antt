@@ -17,7 +17,7 @@ right_of : (a b : Bool) → (a && b) ≡ true → b ≡ true
 right_of true b e = e
 right_of false b e = absurd (false≢true e)
 
--- the heap begins behind the table text, and ends among the words
+-- the heap begins after the table text, and ends among the words
 pub record Bounds (w : List ℕ) : Type 0 where
   pub first : first_record w ≤ top_of w
   pub limit : top_of w ≤ limit_of w

@@ -44,7 +44,7 @@ none_is : {A : Type 0} (o : Option A) → is_some o ≡ false → is_none o ≡ 
 none_is None e = refl
 none_is (Some x) e = absurd (false≢true (sym e))
 
--- of a transient object no cell does, nor below the header's end, nor behind the last cell
+-- of a transient object no cell does, nor below the header's end, nor after the last cell
 pub of_transient : (f : Facts) (r a : ℕ) → is_some f.event ≡ true → is_holder f r a ≡ false
 of_transient f r a e = ap (λ (b : Bool). b && (nat_le (r + 4) a && nat_lt (cell_behind f (a - (r + 4))) f.length)) (none_not f.event e)
 

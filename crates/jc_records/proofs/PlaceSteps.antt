@@ -38,7 +38,7 @@ place_step w at a h fits before p =
           ∙ p.tells c behind;
     }
 
--- and each place is one for an address further behind
+-- and each place is one for a later address
 pub place_behind : (w : List ℕ) (at a b : ℕ) → a ≤ b → IsPlaceFor w at a → IsPlaceFor w at b
 place_behind w at a b further p = record {
   low = p.low;

@@ -29,7 +29,7 @@ some_behind : (more : Sizes) (at : ℕ) (ws : List ℕ) → are_whole_from more 
 some_behind more at [] lacks = absurd (false≢true (sym lacks))
 some_behind more at (w ∷ ws) lacks = omega arith
 
--- one that has all its words comes first, and then those behind it
+-- one that has all its words comes first, and then those after it
 pub whole_step : (more : Sizes) (at : ℕ) (ws : List ℕ) → more at ws < length ws
     → (whole_from more at ws ≡ (at, take (more at ws + 1) ws) ∷ whole_from more (at + (more at ws + 1)) (drop (more at ws + 1) ws))
     × (are_whole_from more at ws ≡ are_whole_from more (at + (more at ws + 1)) (drop (more at ws + 1) ws))
@@ -56,7 +56,7 @@ whole_short more at ws some short =
       no,
     )
 
--- behind the last word there is none
+-- after the last word there is none
 pub whole_end : (more : Sizes) (at : ℕ) (ws : List ℕ) → length ws ≡ 0 → (whole_from more at ws ≡ []) × (are_whole_from more at ws ≡ true)
 whole_end more at [] e = (refl, refl)
 whole_end more at (w ∷ ws) e = absurd (omega (arith, e))

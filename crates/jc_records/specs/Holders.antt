@@ -4,7 +4,7 @@ use Rattle.jc_heap.specs.Object.{Item, AnObject, APackage, header_size, is_packe
 use Rattle.jc_heap.specs.declared.object.Facts.{Facts}
 use Rattle.jc_records.specs.declared.holders.Holder.{Holder}
 
--- the cell that stands so many words behind a header, of two elements in a word the first
+-- the cell that stands n words after a header, of two elements in a word the first
 abbrev pub cell_behind : Facts → ℕ → ℕ
 cell_behind f words = if is_packed f then 2 * words else words
 

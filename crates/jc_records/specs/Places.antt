@@ -17,7 +17,7 @@ standing_by None = Nothing
 abbrev pub standing_here : ℕ × Item → ℕ → Standing
 standing_here (r, e) a = if r == a then standing_by (object_in e) else Nothing
 
--- what begins at an address, by records in their order: behind the last nothing does, or it cannot be read
+-- what begins at an address, by records in their order: after the last nothing does, or it cannot be read
 abbrev pub standing_in : Bool → List (ℕ × Item) → ℕ → Standing
 standing_in whole [] a = if whole then Nothing else Unread
 standing_in whole (e ∷ es) a = if nat_le a e.0 then standing_here e a else standing_in whole es a
@@ -26,7 +26,7 @@ standing_in whole (e ∷ es) a = if nat_le a e.0 then standing_here e a else sta
 abbrev pub standing_at : List ℕ → ℕ → Standing
 standing_at w a = standing_in (are_whole w) (standing_items w) a
 
--- the records from an address on tell what begins at another one, and at each address behind that
+-- the records from an address on say what begins at another one, and at each address after that
 pub record IsPlaceFor (w : List ℕ) (at : ℕ) (a : ℕ) : Type 0 where
   pub low : text_start ≤ at
   pub high : at ≤ top_of w

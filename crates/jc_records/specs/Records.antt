@@ -1,4 +1,4 @@
--- The records of a heap, as the words of an image tell them.
+-- The records of a heap, as the words of an image give them.
 use Rattle.std.specs.Prelude.{ℕ, ◌+◌, ◌-◌, ◌≤◌, ◌==◌, nat_le, Bool, List, take, drop, map, length, Option, Some, None, if◌then◌else◌}
 use Rattle.jc_words.specs.Layout.{text_start}
 use Rattle.jc_commit.specs.Image.{top_of}
@@ -16,7 +16,7 @@ record_size w at = sizes (package_addresses (image w)) at (drop at (image w)) + 
 abbrev pub whole_size : List ℕ → ℕ → Option ℕ
 whole_size w at = if nat_le (record_size w at) (top_of w - at) then Some (record_size w at) else None
 
--- the words of a record that begins at an address lie behind the first ones, and below the top
+-- the words of a record that begins at an address lie after the first ones, and below the top
 pub record IsRecord (w : List ℕ) (at : ℕ) : Type 0 where
   pub low : text_start ≤ at
   pub whole : at + record_size w at ≤ top_of w

@@ -16,7 +16,7 @@ pub fn heap_end<S: WordStore>(store: &S) -> u16
     Log::of(store).heap_end(store.size())
 }
 
-/// The first word behind the table text.
+/// The first word after the table text.
 pub fn first_record<S: WordStore>(store: &S) -> u32
     requires { text_start ≤ length (S.words store.now) }
     ensures { result ≡ first_record (S.words store.now) }

@@ -12,7 +12,7 @@ use jc_words::WordStore;
 use jc_words::layout::TOP;
 
 /// A cell of a persistent object, and what the object's header says. Of two elements that stand in a word it is the first.
-#[derive(Clone, Copy, PartialEq, Eq)]
+#[derive(Clone, Copy)]
 pub struct Holder {
     /// The address of the object.
     pub object: u16,
@@ -64,7 +64,7 @@ fn holder_at<S: WordStore>(store: &S, at: u16, address: u16) -> Option<Holder>
     })
 }
 
-// The cell that stands so many words behind a header.
+// The cell that stands n words after a header.
 fn cell_behind(facts: Facts, words: u32) -> u32
     requires { words < 65536 }
     ensures { result ≡ cell_behind facts words }

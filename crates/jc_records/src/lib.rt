@@ -1,4 +1,4 @@
-//! What stands in the heap of an image, told from its words as they are: nothing is recovered, and no memory is asked for.
+//! What stands in the heap of an image, read from its words as they are: nothing is recovered, and no memory is asked for.
 #![tactic(auto)]
 
 pub mod bounds;

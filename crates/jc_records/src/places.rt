@@ -11,13 +11,13 @@ use jc_words::WordStore;
 use jc_words::layout::TOP;
 
 /// What begins at an address of a heap.
-#[derive(Clone, Copy, PartialEq, Eq)]
+#[derive(Clone, Copy)]
 pub enum Standing {
     /// An object with this header.
     Object(Facts),
     /// No object.
     Nothing,
-    /// It cannot be told: a record that lacks words stands below the address, or there.
+    /// It cannot be read: a record that lacks words stands below the address, or there.
     Unread,
 }
 
@@ -30,7 +30,7 @@ pub fn first_place<S: WordStore>(store: &S) -> u16
     first_record(store) as u16
 }
 
-/// What begins at an address of the heap, by a walk from a place on, which is left as one for this address and those behind it.
+/// What begins at an address of the heap, by a walk from a place on, which is left as one for this address and those after it.
 pub fn standing_from<S: WordStore>(store: &S, place: &mut u16, address: u16) -> Standing
     requires bounds { has_bounds (S.words store.now) ≡ true }
     requires place { IsPlaceFor (S.words store.now) place.old address }

@@ -13,7 +13,7 @@ use jc_transient::{ClassWord, ClearEvent, OwnerWord};
 use jc_words::WordStore;
 use jc_words::layout::{ADDRESSES, MOST_PACKAGES, PACKAGES};
 
-// The size of a record that begins with no header: no image has so many words.
+// The size of a record that begins with no header: no image has that many words.
 const NO_HEADER: u32 = 65540;
 
 /// Whether a package's record begins at the address.
@@ -70,7 +70,7 @@ fn begins_header(word: u16) -> bool
     is_packed_header(word) || (kind > 0 && kind < 6 && word / 256 < 3)
 }
 
-// How many words hold so many cells, where two stand in a word or not.
+// How many words hold n cells, where two stand in a word or not.
 fn words_of_cells(packed: bool, length: u16) -> u32
     ensures { result ≡ words_of_cells packed length }
 {
@@ -117,7 +117,7 @@ pub fn whole_size<S: WordStore>(store: &S, at: u16, top: u16) -> Option<u16>
     Some(size as u16)
 }
 
-// The word behind a transient object's header, 0 where there is none.
+// The word after a transient object's header, 0 where there is none.
 fn area_place<S: WordStore>(store: &S, at: u16, word: u16) -> u16
     requires { (word / 256 ≡ 0 → ⊥) → at + header_size < length (S.words store.now) }
     ensures { result ≡ (if word / 256 == 0 then 0 else slice_index (S.words store.now) (at + header_size)) }

@@ -1,4 +1,4 @@
--- What an AID object that holds an AID tells of it.
+-- What an AID object that holds an AID says of it.
 use Rattle.std.proofs.Common.{◌≡◌, ℕ, ◌+◌, ◌-◌, ◌/◌, ◌<◌, ◌≤◌, Bool, true, false, List, get_or, length, map, refl, sym, ◌∙◌, ap, arith, inl, inr, Option}
 use Rattle.std.proofs.Common.{Some, None}
 use Rattle.std.specs.List.{range_with_len}

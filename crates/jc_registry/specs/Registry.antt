@@ -52,7 +52,7 @@ is_aid aid (Some held) = bytes_eq held aid
 abbrev pub has_aid : MemoryState → List ℕ → ℕ → Bool
 has_aid s aid n = is_aid aid (option_and_then (λ r. aid_at s r) (aid_of_applet s.heap.now n))
 
--- the first of so many applets, from a number on, with this AID
+-- the first of n applets, from a number on, with this AID
 abbrev pub first_with_aid : MemoryState → List ℕ → ℕ → ℕ → Option ℕ
 first_with_aid s aid n count = find (λ k. has_aid s aid k) (range_with_len n count)
 

@@ -42,7 +42,7 @@ impl Aid {
 }
 
 /// The AID that an AID object holds. `None` where no object with an AID's cells stands there, or where
-/// its cells tell no AID.
+/// its cells hold no AID.
 pub fn aid_at<S: WordStore>(memory: &Memory<S>, object: Ref) -> Option<Aid>
     requires up { memory.now.heap.down ≡ false }
     ensures { result ≡ aid_at memory.now object }
@@ -56,7 +56,7 @@ pub fn aid_at<S: WordStore>(memory: &Memory<S>, object: Ref) -> Option<Aid>
     aid_of_cells(&cells)
 }
 
-// The AID that such cells tell.
+// The AID that such cells hold.
 #[tactic(auto, unfolding(crate::specs::Aids::aid_of_cells))]
 fn aid_of_cells(cells: &[u16]) -> Option<Aid>
     requires { length cells.now ≡ 9 }
@@ -73,7 +73,7 @@ fn aid_of_cells(cells: &[u16]) -> Option<Aid>
     Some(Aid { bytes })
 }
 
-// A byte of the AID that such cells tell.
+// A byte of the AID that such cells hold.
 fn aid_byte(cells: &[u16], i: u16) -> u8
     requires long { length cells.now ≡ 9 }
     requires few { i < 16 }

@@ -35,7 +35,7 @@ abbrev pub ManagerUnselects : Type 0
 ManagerUnselects = (card next : CardState) (bytes response : List ℕ) (c : Apdu) → apdu_of bytes ≡ Some c → is_select c ≡ true → c.content ≡ manager_aid →
     AnswersCommand (Up card) bytes (Response response) (Up next) → next.memory.registers.selected ≡ None
 
--- what is told of refused writes before a request is served: where it arms the fuse, after that
+-- what is known of refused writes before a request is served: where it arms the fuse, after that
 abbrev pub refusals_before : Request → PowerState → Refusals
 refusals_before (ArmFuse k) s = (durable_state (armed k s)).refusals
 refusals_before (Command bytes) s = (durable_state s).refusals
@@ -51,7 +51,7 @@ IsToldByReply request Ready s (Up card) = (durable_state (Up card)).refusals ≡
 IsToldByReply request Ready s (Off budget k) = ⊥
 IsToldByReply request (Armed k) s next = (request ≡ ArmFuse k) × (next ≡ armed k s)
 
--- and down is told where the store has refused one more, or the card was off and is asked by a command
+-- and down is answered where the store has refused one more, or the card was off and is asked by a command
 abbrev pub IsToldOfRefusal : Request → PowerState → PowerState → Type 0
 IsToldOfRefusal (Command bytes) (Off budget k) next = next ≡ Off budget k
 IsToldOfRefusal (Command bytes) (Up card) next = (durable_state next).refusals ≡ refused_once false (durable_state next).passed (durable_state (Up card)).refusals

@@ -13,7 +13,7 @@ use std::alloc::Global;
 use thiserror::Error;
 
 /// Why a session was not carried out to its end.
-#[derive(Clone, Copy, Debug, PartialEq, Eq, Error, Drop)]
+#[derive(Clone, Copy, Debug, Error, Drop)]
 pub enum SessionFault {
     /// There is no memory for the answers, of which there is one at least. Nothing was done.
     #[error("there is no memory for the answers")]

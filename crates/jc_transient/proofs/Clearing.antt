@@ -64,7 +64,7 @@ behind_values n place m xs values fits le past clear =
     ∙ ap (drop j) (drop_at front rest (place + length values) long) ∙ drop-drop j (place + length values) xs ∙ ap (λ k. drop k xs) (omega (arith, past)) in
     ap (map default_value) same ∙ later n m xs le clear ∙ sym same
 
--- cells of which the first so many may be other ones than a clearing leaves
+-- cells of which the first n may be other ones than a clearing leaves
 abbrev pub IsArea : ℕ → List CellValue → Type 0
 IsArea n cells = (n ≤ length cells) × AreClearedFrom n cells
 
@@ -83,7 +83,7 @@ put_in n m place xs values ys are same fits is area = (
       (omega (arith, is)) area.1),
 )
 
--- the first so many were done
+-- the first n were done
 pub done_in : (f : CellValue → CellValue) → Keeps f → (n : ℕ) (xs ys : List CellValue) → ys ≡ map f (take n xs) ++ drop n xs → IsArea n xs
     → (ys ≡ map f xs) × IsArea n ys
 done_in f keeps n xs ys are area =

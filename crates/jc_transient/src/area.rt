@@ -30,7 +30,7 @@ impl Model for Area {
 }
 
 impl Area {
-    /// So many cells, each zero.
+    /// `count` cells, each zero.
     pub(crate) fn new(alloc: Global, count: usize) -> Result<Area, AllocError>
         ensures len { IfOk result (λ area. length area ≡ count) }
         ensures zero { IfOk result (λ area. (k : ℕ) → slice_index_or area k
@@ -63,7 +63,7 @@ impl Area {
         self.used = self.used.max(place + 1);
     }
 
-    /// Sets so many cells from a place on.
+    /// Sets `count` cells from a place on.
     pub(crate) fn fill(&mut self, place: usize, count: usize, value: CellValue)
         requires { place + count ≤ length self.old }
         ensures { self.new ≡ with_cells self.old place (replicate count value) }
@@ -109,7 +109,7 @@ impl Area {
     }
 }
 
-// So many cells, each zero.
+// `count` cells, each zero.
 fn zero_cells(alloc: Global, count: usize) -> Result<Vec<CellValue>, AllocError>
     ensures len { IfOk result (λ cells. vec_len cells ≡ count) }
     ensures zero { IfOk result (λ cells. (k : ℕ) → slice_index_or cells.items k
@@ -129,7 +129,7 @@ fn fill_cells(cells: &mut [CellValue], place: usize, count: usize, value: &CellV
     }
 }
 
-// Clears the first so many cells.
+// Clears the first `count` cells.
 fn clear_cells(cells: &mut [CellValue], count: usize)
     requires { count ≤ length cells.old }
     ensures { cells.new ≡ map default_value (take count cells.old) ++ drop count cells.old }
@@ -139,7 +139,7 @@ fn clear_cells(cells: &mut [CellValue], count: usize)
     }
 }
 
-// The same for the references of the first so many cells.
+// The same for the references of the first `count` cells.
 fn null_dead_cells(cells: &mut [CellValue], count: usize, top: u16)
     requires { count ≤ length cells.old }
     ensures { cells.new ≡ map (without_dead top) (take count cells.old) ++ drop count cells.old }

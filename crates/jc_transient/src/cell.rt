@@ -5,7 +5,7 @@ ghost use Rattle.jc_transient.specs.Cells.{default_value, is_reference, without_
 use crate::Ref;
 
 /// What a cell holds. Its kind does not change while it belongs to an object.
-#[derive(Clone, Copy, PartialEq, Eq)]
+#[derive(Clone, Copy)]
 pub enum CellValue {
     /// A number. Elements of byte and boolean arrays are 0 to 255.
     Short(i16),

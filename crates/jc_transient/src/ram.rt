@@ -87,7 +87,7 @@ impl Ram {
         }
     }
 
-    /// Sets so many cells from a place on, as the maker of a new object does.
+    /// Sets `count` cells from a place on, as the maker of a new object does.
     pub fn fill(&mut self, event: ClearEvent, place: u16, count: u16, value: CellValue)
         requires { place + count ≤ area_size }
         ensures done { self.new ≡ with_area self.old event
@@ -187,7 +187,7 @@ impl Ram {
     }
 }
 
-// So many flags, each false.
+// `count` flags, each false.
 fn false_flags(alloc: Global, count: usize) -> Result<Vec<bool>, AllocError>
     ensures len { IfOk result (λ flags. vec_len flags ≡ count) }
     ensures unset { IfOk result (λ flags. (k : ℕ) → slice_index_or flags.items k false ≡ false) }

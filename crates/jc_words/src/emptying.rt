@@ -16,7 +16,7 @@ pub trait EmptyFile {
         ensures { empties self.old result self.new };
 }
 
-/// A file of the operating system does not tell what it holds.
+/// A file of the operating system does not say what it holds.
 impl EmptyFile for File {
     ghost empties = { λ _ _ _. Unit {0} };
 

@@ -16,7 +16,7 @@ pub trait FlushFile {
         ensures { flushes self.old result self.new };
 }
 
-/// A file of the operating system does not tell what was handed on.
+/// A file of the operating system does not say what was handed on.
 impl FlushFile for File {
     ghost flushes = { λ _ _ _. Unit {0} };
 

@@ -7,7 +7,7 @@ use std::fs::{File, TryLockError};
 use thiserror::Error;
 
 /// How a file is locked until it is closed.
-#[derive(Clone, Copy, PartialEq, Eq)]
+#[derive(Clone, Copy)]
 pub enum Lock {
     /// Nobody else has it locked.
     Exclusive,
@@ -16,7 +16,7 @@ pub enum Lock {
 }
 
 /// Why a file was not locked.
-#[derive(Clone, Copy, Debug, PartialEq, Eq, Error)]
+#[derive(Clone, Copy, Debug, Error)]
 pub enum LockFault {
     #[error("another has the file locked")]
     InUse,
@@ -34,7 +34,7 @@ pub trait LockFile {
         ensures { lock_gives self.now lock result };
 }
 
-/// A file of the operating system does not tell who has locked it.
+/// A file of the operating system does not say who has locked it.
 impl LockFile for File {
     ghost lock_gives = { λ _ _ _. Unit {0} };
 

@@ -9,9 +9,9 @@ use crate::layout::{
     LOG_START, MOST_CAPACITY, VERSION, VERSION_WORD,
 };
 
-/// What an image's words tell of its journal: where the entries stand, two words each, and how many there
+/// What an image's words say of its journal: where the entries stand, two words each, and how many there
 /// can be.
-#[derive(Clone, Copy, PartialEq, Eq, Drop)]
+#[derive(Clone, Copy, Drop)]
 pub struct Log {
     /// The version of the image.
     pub version: u16,
@@ -21,7 +21,7 @@ pub struct Log {
     pub capacity: u16,
 }
 
-/// Whether a journal may have so many entries: 16 to 1024.
+/// Whether a journal may have `capacity` entries: 16 to 1024.
 pub fn is_capacity(capacity: u16) -> bool
     ensures { IsTrue result ↔ IsCapacity capacity }
 {
@@ -29,7 +29,7 @@ pub fn is_capacity(capacity: u16) -> bool
 }
 
 impl Log {
-    /// The journal of so many entries among n words. It stands behind the first words, or at the end
+    /// The journal of this capacity among n words. It stands after the first words, or at the end
     /// where there are more than have room there.
     pub fn among(n: u16, capacity: u16) -> Log
         requires size { least_size ≤ n }
@@ -48,7 +48,7 @@ impl Log {
         }
     }
 
-    /// The journal of an image, as its words tell it. Version 1 does not look at the words that tell it.
+    /// The journal of an image, as its words describe it. Version 1 does not look at the words that describe it.
     #[tactic(auto, unfolding(crate::specs::Image::log_of))]
     pub fn of<S: WordStore>(store: &S) -> Log
         requires { front_length ≤ length (S.words store.now) }

@@ -7,7 +7,7 @@ use std::fs::{File, Files};
 use thiserror::Error;
 
 /// How a file is opened. It then stands at its first byte.
-#[derive(Clone, Copy, PartialEq, Eq)]
+#[derive(Clone, Copy)]
 pub enum Opening {
     /// To read it alone.
     ToRead,
@@ -18,7 +18,7 @@ pub enum Opening {
 }
 
 /// A file was not opened.
-#[derive(Clone, Copy, Debug, PartialEq, Eq, Error)]
+#[derive(Clone, Copy, Debug, Error)]
 #[error("the file cannot be opened")]
 pub struct NotOpened;
 
@@ -35,7 +35,7 @@ pub trait OpenPath {
         ensures { open_gives self.now path.now how result };
 }
 
-/// The files of a runtime do not tell which of them a path gives.
+/// The files of a runtime do not say which of them a path gives.
 impl<R: Files> OpenPath for R {
     type File = R::File;
 

@@ -17,7 +17,7 @@ use jc_transient::Ref;
 use jc_words::WordStore;
 
 /// Elements of an array, from one on.
-#[derive(Clone, Copy, PartialEq, Eq)]
+#[derive(Clone, Copy)]
 pub struct Stretch {
     pub array: Ref,
     pub start: u16,

@@ -5,7 +5,7 @@ use jc_memory::AppletNumber;
 use jc_transient::Ref;
 
 /// A server that is asked for its shareable interface object.
-#[derive(Clone, Copy, PartialEq, Eq)]
+#[derive(Clone, Copy)]
 pub struct ServerCall {
     /// The server's instance.
     pub server: Ref,
@@ -18,7 +18,7 @@ pub struct ServerCall {
 }
 
 /// What a call of a platform's method answers.
-#[derive(Clone, Copy, PartialEq, Eq)]
+#[derive(Clone, Copy)]
 pub enum NativeResult {
     /// It returns nothing.
     ReturnVoid,

@@ -7,7 +7,7 @@ use jc_heap::{ChangeRefusal, HeapRefusal};
 use jc_words::StoreDown;
 
 /// Why code does not go on with its next instruction.
-#[derive(Clone, Copy, PartialEq, Eq)]
+#[derive(Clone, Copy)]
 pub enum StepExit {
     /// The runtime environment throws.
     Throw(Exception),

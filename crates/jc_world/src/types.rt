@@ -9,7 +9,7 @@ use jc_linker::target::Target;
 use jc_platform::names::PlatformClass;
 use jc_transient::ClassWord;
 
-// The class or interface that a target is, if it is one.
+// The class or interface of a target, if the target is one.
 fn class_of(target: &Target) -> Option<ClassWord>
     ensures { result ≡ class_of target.now }
 {

@@ -12,7 +12,7 @@ use Rattle.jcard_arguments.specs.declared.arguments.Action.{Action}
 use Rattle.jcard_arguments.specs.declared.arguments.NoAction.{NoAction}
 use Rattle.jcard_arguments.specs.declared.arguments.NoAction.TheVariants.{Help, Refused, Misused, NoMemory}
 
--- what clap asks of a command of which it tells all
+-- what clap asks of a command of which it knows all
 is_told : is_simple program_grammar ≡ true
 unfolding clap_on_literals
 is_told = refl
@@ -55,7 +55,7 @@ taken words rows (Err (Refused text)) none same h = absurd h
 taken words rows (Err (Misused why)) none same h = inr (none, by_rows words rows none same ∙ h)
 taken words rows (Err NoMemory) none same h = tt
 
--- what is told for a fault
+-- what is reported for a fault
 pub told : (words : List Text) (kind : ErrorKind) (a : NoAction) → (kind ≡ OutOfMemory) ⊎ IsAmong kind (fault_of program_grammar words) → IsToldFor kind a
     → IsTakenAs words (Err a)
 told words kind (Help text) (inl memory) h =

@@ -53,17 +53,17 @@ pub record TestAsked : Type 0 where
 
 -- what a command line asks for
 pub data CommandLineRequest : Type 0 where
-  -- an image of this name is made, of N words, with a journal of C entries and the platform table of this name or the usual one
+  -- an image with this name is made, of N words, with a journal of C entries and the platform table with this name or the usual one
   ToMake : Text → Text → Text → Option Text → CommandLineRequest
   -- the script of the second name is carried out, on the card of the image of the first
   ToRun : Text → Text → RunAsked → CommandLineRequest
-  -- what the image of this name holds is listed
+  -- what the image with this name holds is listed
   ToList : Text → CommandLineRequest
   -- and its objects, all or those of packages, with what a map names
   ToListObjects : Text → Bool → Option Text → CommandLineRequest
   -- the two images are compared, in all objects or those of packages, with what a map names
   ToCompare : Text → Text → Bool → Option Text → CommandLineRequest
-  -- the script is carried out on a new card in memory of N words, with the platform table of this name or the usual one, and at most
+  -- the script is carried out on a new card in memory of N words, with the platform table with this name or the usual one, and at most
   -- this many instructions a command
   ToTry : Text → Text → Option Text → Option ℕ → CommandLineRequest
   -- commands of the script of the second name are cut, over the words of the image of the first
@@ -147,7 +147,7 @@ tear_with each objects why map probe line (Some depth) part (Some instructions) 
 })
 tear_with each objects why map probe line depth part instructions = None
 
--- a line and each command together are nothing, nor is a map without what tells names
+-- a line and each command together are nothing, nor is a map without what prints names
 abbrev pub are_apart : Bool → Option Text → Bool → Bool → Option Text → Bool
 are_apart each line objects why map = (each && is_some line) || (is_some map && not (objects || why))
 
@@ -222,7 +222,7 @@ abbrev pub test_of : List Row → Option CommandLineRequest
 test_of rows = test_by (all_of (codes "file") rows) (first_of (codes "junit") rows) (first_of (codes "table") rows) (first_of (codes "words") rows)
     (first_of (codes "journal") rows) (budget_given (first_of (codes "instructions") rows))
 
--- what the command of this name asks for, with these values of its operands
+-- what the command with this name asks for, with these values of its operands
 abbrev pub request_of : Text × List Row → Option CommandLineRequest
 request_of named =
     if bytes_eq named.0 (codes "new") then new_of named.1
@@ -325,7 +325,7 @@ IsReadAs asked (Err (Misused why)) = asked ≡ None
 IsReadAs asked (Err NoMemory) = Unit {0}
 IsReadAs asked (Err other) = ⊥
 
--- that clap refuses the words for this cause is told so
+-- that clap refuses the words for this cause is reported so
 abbrev pub IsToldFor : ErrorKind → NoAction → Type 0
 IsToldFor kind (Help text) = kind ≡ DisplayHelp
 IsToldFor kind (Refused text) = (kind ≡ DisplayHelp → ⊥) × (kind ≡ OutOfMemory → ⊥)

@@ -7,7 +7,7 @@ use Rattle.clap.specs.Lexer.{strip_byte}
 use Rattle.jcard_arguments.specs.declared.options.Lines.{Lines}
 use Rattle.jcard_arguments.specs.declared.options.Lines.TheVariants.{First, Last}
 
--- the number that decimal digits tell, if it is below 2^32
+-- the number that decimal digits spell, if it is below 2^32
 abbrev pub number_of : List ℕ → Option ℕ
 number_of text = if nat_lt 0 (length text) && all_ascii_digits text && nat_lt (digits_value 10 text) 4294967296 then Some (digits_value 10 text) else None
 

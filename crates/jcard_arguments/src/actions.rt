@@ -17,7 +17,7 @@ const NO_OPERAND: &str = "an operand is missing";
 
 const BAD_INSTRUCTIONS: &str = "--instructions takes a number from 1 to 4294967295";
 
-/// What the command of this name asks for, with these values.
+/// What the command with this name asks for, with these values.
 pub(crate) fn action_of<'a>(
     alloc: Global,
     name: &str,
@@ -270,7 +270,7 @@ fn tear_options<'a>(values: &ArgMatches<'a>) -> Result<TearOptions<'a>, &'static
     })
 }
 
-// How many recoveries are cut: none, or the number that this text tells, 1 to 3.
+// How many recoveries are cut: none, or the number that this text spells, 1 to 3.
 fn depth_of(text: Option<&str>) -> Option<Depth>
     ensures { result ≡ depth_of (text_of text.entry) }
 {

@@ -318,7 +318,7 @@ fn test_command<'a>(alloc: Global) -> Result<Command<'a>, AllocError>
     )
 }
 
-// A command of this name, what it does, and its entries.
+// A command with this name, what it does, and its entries.
 fn command<'a>(
     alloc: Global,
     name: &'a str,
@@ -371,7 +371,7 @@ fn arg_of<'a>(alloc: Global, item: Entry<'a>) -> Arg<'a>
     }
 }
 
-// A command of this name with no entry, and what it does.
+// A command with this name and no entry, and what it does.
 fn plain_command<'a>(alloc: Global, name: &'a str, about: &'a str) -> Command<'a>
     ensures { app_of result ≡ new_app name.entry.now }
 {

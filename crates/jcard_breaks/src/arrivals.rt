@@ -22,7 +22,7 @@ struct Stop {
     place: u16,
 }
 
-/// Tells each arrival of a command at these places: the frames, the locals and the stack of the innermost one, and the static fields of
+/// Prints each arrival of a command at these places: the frames, the locals and the stack of the innermost one, and the static fields of
 /// its package, by their names where the map has them. The images are those before the command.
 pub fn told_arrivals(
     asked: &Asked<'_>,
@@ -167,7 +167,7 @@ fn push_arrival(
     push_statics(text, machine, spot, asked)
 }
 
-// The locals that are variables there; where the map tells none of the method, all that are known.
+// The locals that are variables there; where the map has none of the method, all that are known.
 fn push_locals(text: &mut Text, frame: &Frame, asked: &Asked<'_>) -> Result<(), AllocError> {
     let aid = aid_text(frame.spot.package_number, asked)?;
     let mut digits = Buffer::new();

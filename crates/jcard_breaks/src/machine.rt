@@ -106,7 +106,7 @@ impl<'a> Machine<'a> {
         }
     }
 
-    // The environment has begun a method, or the frames cannot be told.
+    // The environment has begun a method, or the frames cannot be known.
     fn begin_anew(&mut self, number: usize, step: &Step) -> Result<(), AllocError> {
         self.frames = Vec::new(self.alloc);
         let Some(header) = self.header_of(&step.spot) else {
@@ -123,7 +123,7 @@ impl<'a> Machine<'a> {
         Ok(())
     }
 
-    // The frames cannot be told.
+    // The frames cannot be known.
     fn lose(&mut self) -> Result<(), AllocError> {
         self.frames = Vec::new(self.alloc);
         Ok(())

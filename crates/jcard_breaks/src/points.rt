@@ -8,7 +8,7 @@ use std::alloc::{AllocError, Global};
 /// A place of a package's code: that of an instruction, or the first one of a method.
 #[derive(Drop)]
 pub struct Point {
-    /// The package's AID, as the map tells it.
+    /// The package's AID, as the map has it.
     pub(crate) aid: Vec<u8>,
     pub(crate) place: Place,
 }
@@ -21,7 +21,7 @@ pub(crate) enum Place {
     Method(u32),
 }
 
-/// The places that are asked for, and what is told of those that the map does not have.
+/// The places that are asked for, and what is reported of those that the map does not have.
 #[derive(Drop)]
 pub struct Points {
     pub points: Vec<Point>,
@@ -30,7 +30,7 @@ pub struct Points {
 }
 
 /// The instructions that begin a line of the Java source, for each word `FILE:LINE` of a text, and the first ones of a method for each
-/// other word. Commas part them. A file is told by the end of its path, a method by its name, with its class or without it.
+/// other word. Commas part them. A file is named by the end of its path, a method by its name, with its class or without it.
 pub fn points_of(alloc: Global, map: &[u8], asked: &[u8]) -> Result<Points, AllocError> {
     let mut found = Points {
         points: Vec::new(alloc),
@@ -101,13 +101,13 @@ fn push_point(
     Ok(())
 }
 
-/// The offset and the name in a line that tells a method.
+/// The offset and the name in a line that states a method.
 pub(crate) fn method_in(line: &[u8]) -> Option<(u32, &[u8])> {
     let at = line.iter().position(|byte| *byte == b' ')?;
     Some((number_of(&line[..at])?, &line[at + 1..]))
 }
 
-/// Whether a method is told by a word: by its name as the map has it, or by the end of what stands before its parameters.
+/// Whether a method is named by a word: by its name as the map has it, or by the end of what stands before its parameters.
 pub(crate) fn is_method(name: &[u8], word: &[u8]) -> bool {
     let end = name
         .iter()
@@ -134,7 +134,7 @@ fn line_of_file(map: &[u8], aid: &[u8], method: &[u8], word: &[u8]) -> Option<u3
     None
 }
 
-/// Whether a file is told by the end of its path.
+/// Whether a file is named by the end of its path.
 pub(crate) fn is_file(file: &[u8], wanted: &[u8]) -> bool {
     ends_with(file, wanted, b'/')
 }

@@ -1,4 +1,4 @@
-//! What is told of a place that the map does not have.
+//! What is reported of a place that the map does not have.
 
 use crate::points::{file_and_line, is_file, method_in};
 use jcard_why::maps::split_place;

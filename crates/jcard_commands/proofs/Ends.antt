@@ -26,7 +26,7 @@ begun_unwritten count (Err BadCommandLine) unbegun = refl
 begun_unwritten count (Err (CannotRead path)) unbegun = refl
 begun_unwritten count other unbegun = absurd unbegun
 
--- nothing was begun, and the last line told why
+-- nothing was begun, and the last line said why
 pub unbegun_told : (old new : Option (List ℕ)) (before after status : ℕ) (last : List ℕ) (failed : Bool) (ended : Result (Unit {0}) Fault)
     → IsLastLine ended failed last → IsUnbegun ended → Appends old new last → after ≡ failures_after before failed → status ≡ status_of ended
     → (text last : List ℕ) × (ended : Result (Unit {0}) Fault) × (deeds : List FileDeed) × (failed : Bool) × Appends old new (text ++ last)

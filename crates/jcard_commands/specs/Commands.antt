@@ -18,7 +18,7 @@ use Rattle.jcard_faults.specs.declared.fault.Fault.{Fault}
 use Rattle.jcard_faults.specs.declared.fault.Fault.TheVariants.{BadCommandLine, NoMemory, CannotRead, WriteFailed}
 use Rattle.jcard_commands.specs.Listed.{IsTearWith, IsToldBy}
 use Rattle.jcard_commands.specs.Runs.{IsRun}
-use Rattle.jcard_commands.specs.RunOptions.{AreNamesRead, AreNamesUnread, AreOperands, IsCompared, IsCovered}
+use Rattle.jcard_commands.specs.RunOptions.{AreNamesRead, AreNamesUnread, AreOperands, IsCompared, IsCoverBegun, IsCovered}
 use Rattle.jcard_files.specs.declared.operand.Operand.{Operand}
 use Rattle.jcard_commands.specs.Trials.{IsTrial}
 
@@ -26,14 +26,22 @@ use Rattle.jcard_commands.specs.Trials.{IsTrial}
 abbrev pub budget_of : Option ℕ → ℕ
 budget_of instructions = unwrap_or instructions usual_budget
 
--- a run with options: its map was not read, and nothing was begun; or it was read, the script was carried out, its answers were compared with
--- those that are expected, and after that the cover was written
+-- a script was carried out, its answers were compared with those that are expected, and then the cover was written; or nothing was done, where
+-- the file of the cover was refused
+abbrev pub IsRunAfter : List ℕ → List ℕ → RunAsked → List Operand → Result Unit Fault → Result Unit Fault → List ℕ → List FileDeed → Type 0
+IsRunAfter image script asked operands (Err fault) ended text deeds = (ended ≡ Err fault) × (text ≡ []) × (deeds ≡ [])
+IsRunAfter image script asked operands (Ok done) ended text deeds = (ran compared : Result Unit Fault) × (others writes : List FileDeed)
+    × IsRun (budget_of asked.instructions) image script ran text others × IsCompared asked.expect ran compared
+    × IsCovered operands asked.cover compared ended writes × (deeds ≡ others ++ writes)
+
+-- a run with options: its map was not read, and nothing was begun; or after that the file of its cover was emptied, if one is named,
+-- and then the script was carried out
 abbrev pub IsRunWith : List ℕ → List ℕ → RunAsked → Result Unit Fault → List ℕ → List FileDeed → Type 0
 IsRunWith image script asked ended text deeds =
     ((fault : Fault) × (ended ≡ Err fault) × (text ≡ []) × AreNamesUnread asked.map fault deeds)
-    ⊎ ((ran compared : Result Unit Fault) × (reads others writes : List FileDeed) × (operands : List Operand) × AreNamesRead asked.map reads
-    × IsRun (budget_of asked.instructions) image script ran text others × IsCompared asked.expect ran compared
-    × AreOperands image script asked.map operands × IsCovered operands asked.cover compared ended writes × (deeds ≡ reads ++ (others ++ writes)))
+    ⊎ ((begun : Result Unit Fault) × (reads begins more : List FileDeed) × (operands : List Operand) × AreNamesRead asked.map reads
+    × AreOperands image script asked.map operands × IsCoverBegun operands asked.cover begun begins
+    × IsRunAfter image script asked operands begun ended text more × (deeds ≡ reads ++ (begins ++ more)))
 
 -- the cards and the report that a test is asked for
 abbrev pub IsAskedAs : TestAsked → Asked → Type 0

@@ -30,21 +30,21 @@ IsListed (Objects image all) = IsObjectsDump image.now all
 IsListed (Compared image other all) = IsComparison image.now other.now all
 IsListed (Torn image script options) = IsTearWith image.now script.now (tear_asked_by options)
 
--- the end of what was told into memory, where a write fails as memory is refused
+-- the end of what was written into memory, where a write fails as memory is refused
 abbrev pub in_memory : Result Unit Fault → Result Unit Fault
 in_memory (Err WriteFailed) = Err NoMemory
 in_memory told = told
 
--- a text was written that was told into memory to the first end: whole, or a beginning of it where a write failed
+-- a text was written that was written into memory to the first end: whole, or a beginning of it where a write failed
 abbrev pub IsWritten : List ℕ → Result Unit Fault → Result Unit Fault → List ℕ → Type 0
 IsWritten whole told ended text = ((ended ≡ in_memory told) × (text ≡ whole)) ⊎ ((ended ≡ Err WriteFailed) × IsCutOf whole text)
 
--- a text that was told into memory to the first end was written with names in it; or memory was refused, and nothing was written
+-- a text that was written into memory to the first end was written with names in it; or memory was refused, and nothing was written
 abbrev pub IsNamed : List ℕ → Result Unit Fault → Result Unit Fault → List ℕ → Type 0
 IsNamed plain told ended text = ((ended ≡ Err NoMemory) × (text ≡ [])) ⊎ ((whole : List ℕ) × HasNames plain whole × IsWritten whole told ended text)
 
--- what this tells was told; or, where a map is named, the map was not read, and nothing else was done; or it was read, and names were put into what
--- this tells
+-- what this says was reported; or, where a map is named, the map was not read, and nothing else was done; or it was read, and names were put into what
+-- this says
 abbrev pub IsToldBy : Option (List ℕ) → Tells → Tells
 IsToldBy None tells ended text deeds = tells ended text deeds
 IsToldBy (Some map) tells ended text deeds = ((fault : Fault) × (ended ≡ Err fault) × (text ≡ []) × IsUnread map fault deeds)

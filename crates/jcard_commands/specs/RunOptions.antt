@@ -10,7 +10,7 @@ use Rattle.jcard_faults.specs.declared.fault.FileKind.TheVariants as kind
 use Rattle.jcard_faults.specs.declared.fault.Fault.{Fault}
 use Rattle.jcard_faults.specs.declared.fault.Fault.TheVariants.{NoMemory, NothingExpected, OtherAnswer}
 
--- the map of this name was read, if there is one
+-- the map with this name was read, if there is one
 abbrev pub AreNamesRead : Option (List ℕ) → List FileDeed → Type 0
 AreNamesRead None deeds = deeds ≡ []
 AreNamesRead (Some map) deeds = (names : List ℕ) × IsScriptRead map names deeds
@@ -41,7 +41,17 @@ abbrev pub AreOperands : List ℕ → List ℕ → Option (List ℕ) → List Op
 AreOperands image script names operands =
     map (λ (o : Operand). (o.name.now, o.kind)) operands ≡ (image, kind.Image) ∷ (script, kind.Script) ∷ map_operand script names ∷ []
 
--- a cover was written to the file of this name, which is none of these; or memory was refused for it, and no file was asked for; or it could
+-- the file with this name, which is none of these, was emptied; or it could not be
+abbrev pub IsEmptied : List Operand → List ℕ → Result Unit Fault → List FileDeed → Type 0
+IsEmptied operands file (Ok done) deeds = IsNoOperand file operands × (deeds ≡ WritesText file [] (Ok tt) ∷ [])
+IsEmptied operands file (Err fault) deeds = IsUnwritten file fault × (deeds ≡ WritesText file [] (Err fault) ∷ [])
+
+-- the file of a cover was, if one is named
+abbrev pub IsCoverBegun : List Operand → Option (List ℕ) → Result Unit Fault → List FileDeed → Type 0
+IsCoverBegun operands None ended deeds = (ended ≡ Ok tt) × (deeds ≡ [])
+IsCoverBegun operands (Some file) ended deeds = IsEmptied operands file ended deeds
+
+-- a cover was written to the file with this name, which is none of these; or memory was refused for it, and no file was asked for; or it could
 -- not be written
 abbrev pub IsCoverWritten : List Operand → List ℕ → Result Unit Fault → List FileDeed → Type 0
 IsCoverWritten operands file (Ok done) deeds = IsNoOperand file operands × ((cover : List ℕ) × (deeds ≡ WritesText file cover (Ok tt) ∷ []))

@@ -1,4 +1,4 @@
--- `jcard run`: what is read, what is done with it, and what is told.
+-- `jcard run`: what is read, what is done with it, and what is reported.
 use Rattle.std.specs.Prelude.{ℕ, Bool, ◌≡◌, ◌⊎◌, ◌*◌, List, [], length, Result, Ok, Err, Option}
 use Rattle.std.specs.Prelude.{◌∷◌}
 use Rattle.std.specs.Bool.{OnTrue}

@@ -1,4 +1,4 @@
--- `jcard try`: what is read, what is done with it, and what is told.
+-- `jcard try`: what is read, what is done with it, and what is reported.
 use Rattle.std.specs.Prelude.{ℕ, ◌≡◌, ◌⊎◌, List, [], ◌∷◌, ◌++◌, codes, Result, Ok, Err, Option}
 use Rattle.jc_words.specs.Stores.{FuseStoreValue}
 use Rattle.jc_platform.specs.Table.{Reads}
@@ -12,7 +12,7 @@ use Rattle.jcard_faults.specs.declared.fault.Fault.{Fault}
 use Rattle.jcard_faults.specs.declared.fault.Fault.TheVariants.{NoMemory, BadWords, BadTable, ImageTooSmall}
 use Rattle.jcard_commands.specs.Runs.{IsCarriedOut}
 
--- the script in the file of this name was tried, with this budget, on a new card of n words with the platform table of this text, of whose
+-- the script in the file with this name was tried, with this budget, on a new card of n words with the platform table of this text, of whose
 -- bytes so much was known, if it was opened: it was not, or memory was refused; or the table and the objects of the runtime environment do
 -- not fit, and nothing was written; or it was carried out to this end over the words of a new image, and this text was written
 abbrev pub IsTriedOn : ℕ → List ℕ → ℕ → List ℕ → Result Unit Fault → List ℕ → Result (Option (List ℕ)) Fault → Type 0

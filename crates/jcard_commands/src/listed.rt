@@ -49,7 +49,7 @@ pub(crate) enum Listed<'n> {
     },
 }
 
-/// Lists this, with the names of the map of this name, if there is one.
+/// Lists this, with the names of the map with this name, if there is one.
 pub(crate) fn list<'n, D: Disk, W: TextOut, P: Progress + Listener + Remarks>(
     disk: &mut D,
     listed: Listed<'n>,
@@ -99,8 +99,8 @@ fn list_named<'n, D: Disk, W: TextOut, P: Progress + Listener + Remarks>(
     write_named(disk.alloc(), &names, &words, &kept.into_bytes(), told, out)
 }
 
-// Lists it without names in the text. The names are for what is told of word writes; of a sweep the words of the image are given back.
-fn list_plainly<'n, D: Disk, W: TextOut, P: Progress + Listener>(
+// Lists it without names in the text. The names are for what is reported of word writes; of a sweep the words of the image are given back.
+fn list_plainly<'n, D: Disk, W: TextOut, P: Progress + Listener + Remarks>(
     disk: &mut D,
     listed: Listed<'n>,
     names: &[u8],
@@ -126,7 +126,7 @@ fn list_plainly<'n, D: Disk, W: TextOut, P: Progress + Listener>(
 }
 
 // Cuts commands of the script over the words of the image, as the options ask.
-fn tear<'n, D: Disk, W: TextOut, P: Progress + Listener>(
+fn tear<'n, D: Disk, W: TextOut, P: Progress + Listener + Remarks>(
     disk: &mut D,
     image: &'n str,
     script: &'n str,
@@ -160,7 +160,7 @@ fn tear<'n, D: Disk, W: TextOut, P: Progress + Listener>(
     tear_image(disk, image, asked, out, &mut lines)
 }
 
-// Writes a text that was told to this end, with names in it.
+// Writes a text that was written to this end, with names in it.
 fn write_named<'n, W: TextOut>(
     alloc: Global,
     names: &[u8],
@@ -180,7 +180,7 @@ fn write_named<'n, W: TextOut>(
     }
 }
 
-// Writes a text, and ends as what was told into memory.
+// Writes a text, and ends as what was written into memory.
 fn write_told<'n, W: TextOut>(
     whole: &[u8],
     told: Result<(), Fault<'n>>,
@@ -197,7 +197,7 @@ fn write_told<'n, W: TextOut>(
     }
 }
 
-// The end of what was told into memory, where a write fails as memory is refused.
+// The end of what was written into memory, where a write fails as memory is refused.
 fn in_memory<'n>(told: Result<(), Fault<'n>>) -> Result<(), Fault<'n>>
     ensures end { result ≡ in_memory told.entry }
     ensures unwritten { is_unwritten result ≡ false }

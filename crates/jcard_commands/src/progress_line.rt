@@ -1,4 +1,4 @@
-//! What standard error is told: how far a sweep has come, what commands of a run did, and what is wrong.
+//! What is written to standard error: how far a sweep has come, what commands of a run did, and what is wrong.
 
 use crate::told::Listener;
 use jcard_faults::remarks::Remarks;
@@ -7,10 +7,10 @@ use jcard_tests::timer::Timer;
 use std::rt::Clock;
 use std::time::Instant;
 
-/// Of this many cuts one is told.
+/// Of this many cuts one is reported.
 const EACH: u16 = 128;
 
-/// A line on standard error that tells how far a sweep has come; nothing where that is no terminal. Remarks are kept until the last line
+/// A line on standard error that says how far a sweep has come; nothing where that is no terminal. Remarks are kept until the last line
 /// of standard output is written.
 #[derive(Drop)]
 pub(crate) struct ProgressLine<'a, R> {
@@ -22,7 +22,7 @@ pub(crate) struct ProgressLine<'a, R> {
 }
 
 impl<'a, R: Eprint + AllocGlobal + Clock> ProgressLine<'a, R> {
-    /// Nothing is told yet.
+    /// Nothing is reported yet.
     pub(crate) fn new(rt: &'a R, is_terminal: bool) -> Self {
         ProgressLine {
             rt,

@@ -3,7 +3,7 @@ ghost use Rattle.std.specs.Prelude.{◌≡◌, ℕ, List, Err, false, option_map
 ghost use Rattle.std.specs.Borrow.{Bor};
 ghost use Rattle.jcard_files.specs.FileDeeds.{FileDeed};
 ghost use Rattle.jcard_faults.specs.Faults.{is_unwritten};
-ghost use Rattle.jcard_commands.specs.RunOptions.{AreNamesRead, AreNamesUnread, AreOperands, IsCovered, IsCoverWritten, ended_by};
+ghost use Rattle.jcard_commands.specs.RunOptions.{AreNamesRead, AreNamesUnread, AreOperands, IsCoverBegun, IsCovered, IsCoverWritten, ended_by};
 
 use jcard_faults::fault::{Fault, FileKind};
 use jcard_files::disk::Disk;
@@ -12,7 +12,7 @@ use jcard_files::reading::script_of;
 use jcard_why::covers::Cover;
 use std::alloc::AllocError;
 
-/// The lines of the map of this name, if there is one.
+/// The lines of the map with this name, if there is one.
 pub(crate) fn names_of<'n, D: Disk>(
     disk: &mut D,
     map: Option<&'n str>,
@@ -29,7 +29,25 @@ pub(crate) fn names_of<'n, D: Disk>(
     }
 }
 
-/// Writes how often instructions were carried out to the file of this name, if there is one, after a run that read these files and ended so.
+/// Empties the file with this name, if there is one, before a run that reads these files, so that a file that is not to be written is refused
+/// before anything runs.
+pub(crate) fn begin_cover<'n, D: Disk>(
+    disk: &mut D,
+    file: Option<&'n str>,
+    operands: &[Operand],
+) -> Result<(), Fault<'n>>
+    ensures begun { (deeds : List FileDeed) × IsCoverBegun operands.now
+        (option_map (λ (name : Bor (List ℕ)). name.now) file.entry) result deeds
+        × D.does disk.old deeds disk.new }
+    ensures unwritten { is_unwritten result ≡ false }
+{
+    match file {
+        Some(file) => disk.write_text(file, operands, b""),
+        None => Ok(()),
+    }
+}
+
+/// Writes how often instructions were carried out to the file with this name, if there is one, after a run that read these files and ended so.
 pub(crate) fn keep_cover<'n, D: Disk>(
     disk: &mut D,
     cover: &Cover,

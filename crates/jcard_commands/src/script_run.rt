@@ -9,7 +9,7 @@ ghost use Rattle.jcard_commands.specs.Commands.{IsRunWith};
 ghost use Rattle.jcard_commands.specs.RunOptions.{IsCompared};
 ghost use Rattle.jcard_commands.specs.Runs.{IsCarriedOut, IsRun};
 
-use crate::run_files::{keep_cover, names_of, operands_of};
+use crate::run_files::{begin_cover, keep_cover, names_of, operands_of};
 use crate::told::{Listener, Told};
 use jc_card::card::USUAL_BUDGET;
 use jc_words::{FuseStore, WordStore};
@@ -48,17 +48,20 @@ pub(crate) fn run_with<'n, D: Disk, W: TextOut, L: Listener + Remarks>(
         Ok(names) => names,
         Err(fault) => return Err(fault),
     };
+    let operands = operands_of(image, script, options.map);
+    if let Err(fault) = begin_cover(disk, options.cover, &operands) {
+        return Err(fault);
+    }
     remark_on(disk.alloc(), &names, listener);
     let points = points_in(disk.alloc(), &names, options.stops, listener);
     let mut told = Told::new(disk.alloc(), listener, &names, points, &options);
     let budget = options.instructions.unwrap_or(USUAL_BUDGET);
     let ran = run_file(disk, image, script, budget, out, &mut told);
     let compared = compared(options.expect, told.expectations(), ran);
-    let operands = operands_of(image, script, options.map);
     keep_cover(disk, told.cover(), options.cover, &operands, compared)
 }
 
-// The places at which a run is asked to stop; what the map does not have is told. Without memory for them there are none.
+// The places at which a run is asked to stop; what the map does not have is reported. Without memory for them there are none.
 fn points_in<M: Remarks>(
     alloc: Global,
     map: &[u8],

@@ -1,4 +1,4 @@
-//! Who is told what the commands of a run did.
+//! Who is shown what the commands of a run did.
 
 use jcard_arguments::options::{Lines, RunOptions};
 use jcard_breaks::arrivals::told_arrivals;
@@ -12,12 +12,12 @@ use jcard_why::explanation::{Asked, TracedLines, Wanted};
 use jcard_why::watches::Watch;
 use std::alloc::Global;
 
-/// This many instructions of a command are told at most, where the words say nothing of it.
+/// This many instructions of a command are reported at most, where the words say nothing of it.
 const USUAL_LINES: u32 = 10_000;
 
-/// Somebody who is told what the commands of a run did. No answer depends on it.
+/// Somebody who is shown what the commands of a run did. No answer depends on it.
 pub trait Listener {
-    /// What is told of a command.
+    /// What is reported of a command.
     fn tell(&mut self, text: &[u8]);
 }
 
@@ -34,7 +34,7 @@ pub(crate) struct Told<'a, L> {
 }
 
 impl<'a, L: Listener> Told<'a, L> {
-    /// Nothing is told yet.
+    /// Nothing is reported yet.
     pub(crate) fn new(
         alloc: Global,
         listener: &'a mut L,
@@ -65,8 +65,13 @@ impl<'a, L: Listener> Told<'a, L> {
 }
 
 impl<'a, L: Listener + Remarks> Explainer for Told<'a, L> {
+    // Where nothing is asked for, no notes are kept.
     fn wanted(&self) -> Option<Wanted> {
-        Some(self.wanted)
+        let wanted = self.wanted;
+        if wanted.why || wanted.trace.is_some() || wanted.cover || wanted.stops {
+            return Some(wanted);
+        }
+        None
     }
 
     fn map(&self) -> &[u8] {
@@ -158,7 +163,7 @@ fn wanted_by(options: &RunOptions<'_>) -> Wanted {
     }
 }
 
-// Which instructions of a command are told, where they are asked for.
+// Which instructions of a command are reported, where they are asked for.
 fn traced_lines(options: &RunOptions<'_>) -> Option<TracedLines> {
     if !options.trace {
         return None;

@@ -59,7 +59,7 @@ pub fn try_script<'n, D: Disk, W: TextOut, M: Remarks>(
     }
 }
 
-// Carries out the script in the file of this name, on a new card of this many words with this platform table.
+// Carries out the script in the file with this name, on a new card of this many words with this platform table.
 fn try_on<'n, D: Disk, W: TextOut, M: Remarks>(
     disk: &mut D,
     script: &'n str,
@@ -86,7 +86,7 @@ fn try_on<'n, D: Disk, W: TextOut, M: Remarks>(
         Ok(store) => store,
         Err(fault) => return Err(fault),
     };
-    // A store in memory refuses no write, so no line tells the name of its image.
+    // A store in memory refuses no write, so no line states the name of its image.
     let names = Names {
         image: "memory",
         script,

@@ -1,10 +1,11 @@
-//! What is told of a sweep beside its text: which instruction makes the word write that a cut refuses, as the cut is made, and the words of the image.
+//! What is reported of a sweep beside its text: which instruction makes the word write that a cut refuses, as the cut is made, and the words of the image.
 
 use crate::told::Listener;
+use jcard_faults::remarks::Remarks;
 use jcard_tear::progress::Progress;
 use std::alloc::Global;
 
-/// Somebody who is told how far a sweep has come, and at each cut where its write was made, if that is wanted.
+/// Somebody who is shown how far a sweep has come, and at each cut where its write was made, if that is wanted.
 #[derive(Drop)]
 pub(crate) struct WriteLines<'a, P> {
     progress: &'a mut P,
@@ -16,7 +17,7 @@ pub(crate) struct WriteLines<'a, P> {
 }
 
 impl<'a, P> WriteLines<'a, P> {
-    /// Nothing is told yet.
+    /// Nothing is reported yet.
     pub(crate) fn new(
         alloc: Global,
         progress: &'a mut P,
@@ -53,5 +54,11 @@ impl<'a, P: Progress + Listener> Progress for WriteLines<'a, P> {
 
     fn tell_writes(&mut self, writes: Vec<Vec<u8>>) {
         self.writes = writes;
+    }
+}
+
+impl<'a, P: Remarks> Remarks for WriteLines<'a, P> {
+    fn remark(&mut self, text: &[u8]) {
+        self.progress.remark(text);
     }
 }

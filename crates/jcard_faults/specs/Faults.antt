@@ -60,19 +60,19 @@ check_of Log = 4
 check_of Table = 5
 check_of Package = 6
 
--- the line that tells that the file of this name cannot be read
+-- the line that says that the file with this name cannot be read
 abbrev pub unread_text : List ℕ → List ℕ
 unread_text path = codes "jcard: cannot read " ++ path ++ codes "\n"
 
--- the line that tells that a file cannot be read that this line of a file includes
+-- the line that says that a file cannot be read that this line of a file includes
 abbrev pub unincluded_text : List ℕ → ℕ → List ℕ
 unincluded_text path number = (codes "jcard: " ++ path ++ codes ": line ") ++ (decimal number ++ codes ": cannot read the file that is included" ++ codes "\n")
 
--- the line that tells what is wrong with what parts tell of a cut
+-- the line that says what is wrong with what parts report of a cut
 abbrev pub cut_line : ℕ → List ℕ → List ℕ
 cut_line k wrong = codes "jcard: cut " ++ decimal k ++ wrong
 
--- the line that tells what is wrong with what the part of this number tells
+-- the line that says what is wrong with what the part of this number says
 abbrev pub part_line : ℕ → List ℕ → List ℕ
 part_line n wrong = codes "jcard: part " ++ decimal n ++ wrong
 
@@ -80,11 +80,11 @@ part_line n wrong = codes "jcard: part " ++ decimal n ++ wrong
 abbrev pub share_number : ℕ → ℕ
 share_number k = min (k + 1) 18446744073709551615
 
--- the line that tells what is wrong with what parts tell of a share
+-- the line that says what is wrong with what parts report of a share
 abbrev pub share_line : ℕ → List ℕ → List ℕ
 share_line k wrong = part_line (share_number k) wrong
 
--- the end of the line that tells what a file is
+-- the end of the line that says what a file is
 abbrev pub ending_of : FileKind → List ℕ
 ending_of kind.Image = codes " is an image\n"
 ending_of kind.Script = codes " is a script\n"
@@ -92,7 +92,7 @@ ending_of kind.Rows = codes " is a row file\n"
 ending_of kind.Map = codes " is a map\n"
 ending_of kind.Table = codes " is a platform table\n"
 
--- the line that tells a fault; none tells a failed write, and a cut that was not all or nothing, or a row that failed, is told by the report
+-- the line that states a fault; none states a failed write, and a cut that was not all or nothing, or a row that failed, is reported by the report
 abbrev pub line_of : Fault → List ℕ
 line_of BadCommandLine = codes "jcard: bad command line\n"
 line_of NoMemory = codes "jcard: no memory\n"

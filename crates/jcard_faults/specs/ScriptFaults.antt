@@ -1,4 +1,4 @@
--- What is told where a script was not carried out to its end.
+-- What is reported where a script was not carried out to its end.
 use Rattle.std.specs.Prelude.{ℕ, ◌≡◌, List, Result, Ok, Err}
 use Rattle.std.specs.Borrow.{Bor}
 use Rattle.jcard_script.specs.declared.script.ScriptFault.{ScriptFault}
@@ -11,7 +11,7 @@ use Rattle.jcard_faults.specs.declared.fault.Fault.{Fault}
 use Rattle.jcard_faults.specs.declared.fault.Fault.TheVariants.{NoMemory, BadTable, CannotRead}
 use Rattle.jcard_faults.specs.declared.fault.Fault.TheVariants.{CannotWrite, BadImage, BadCommand, ScriptTooLong, WriteFailed}
 
--- how a run over the image of this name ended where the card did not power up
+-- how a run over the image with this name ended where the card did not power up
 abbrev pub IsUnpowered : List ℕ → PowerFault → Fault → Type 0
 IsUnpowered image power.BadMagic fault = fault ≡ BadImage Magic
 IsUnpowered image power.BadVersion fault = fault ≡ BadImage Version
@@ -22,7 +22,7 @@ IsUnpowered image power.BadPackage fault = fault ≡ BadImage Package
 IsUnpowered image power.NoMemory fault = fault ≡ NoMemory
 IsUnpowered image power.StoreDown fault = (path : Bor (List ℕ)) × (fault ≡ CannotWrite path) × (path.now ≡ image)
 
--- what is told where the script in the file of the second name was not carried out to its end over the image of the first
+-- what is reported where the script in the file of the second name was not carried out to its end over the image of the first
 abbrev pub IsScriptFault : List ℕ → List ℕ → ScriptFault → Fault → Type 0
 IsScriptFault image script (BadScriptLine n) fault = fault ≡ BadCommand n
 IsScriptFault image script TooLong fault = fault ≡ ScriptTooLong

@@ -1,4 +1,4 @@
-//! Why the program ends early, and how it tells that.
+//! Why the program ends early, and how it says that.
 ghost use Rattle.std.specs.Prelude.{◌≡◌, ℕ, List, Bool, is_err, MatchResult};
 ghost use Rattle.std.specs.Io.KnownBytes.{Appends};
 ghost use Rattle.jcard_script.specs.Texts.{AppendsCut};
@@ -9,13 +9,13 @@ use itoa::Buffer;
 use jcard_script::streams::{TextOut, WriteFailed, write_all, write_parts};
 
 /// What is wrong with an image, by the check that refuses it, in their order.
-#[derive(Clone, Copy, Debug, PartialEq, Eq, Drop)]
+#[derive(Clone, Copy, Drop)]
 pub enum Damage {
     /// Its first word is not the magic word.
     Magic,
     /// Its version is not known.
     Version,
-    /// Its size is not the one that it tells, or none that an image has.
+    /// Its size is not the one that it states, or none that an image has.
     Size,
     /// Its journal.
     Log,
@@ -26,7 +26,7 @@ pub enum Damage {
 }
 
 /// What a file is to the command that names it.
-#[derive(Clone, Copy, Debug, PartialEq, Eq, Drop)]
+#[derive(Clone, Copy, Drop)]
 pub enum FileKind {
     /// An image.
     Image,
@@ -41,7 +41,7 @@ pub enum FileKind {
 }
 
 /// Why the program ended early.
-#[derive(Clone, Copy, Debug, PartialEq, Eq, Drop)]
+#[derive(Clone, Copy, Drop)]
 pub enum Fault<'a> {
     /// The words are no command line, or ask for help or the version.
     BadCommandLine,
@@ -95,19 +95,19 @@ pub enum Fault<'a> {
     NothingExpected,
     /// No part is named so.
     BadPart,
-    /// No part tells of this cut.
+    /// No part reports this cut.
     CutMissing(usize),
-    /// A part tells of this cut twice, or two parts do.
+    /// A part reports this cut twice, or two parts do.
     CutTwice(usize),
-    /// What a part tells of this cut has no form.
+    /// What a part reports of this cut has no form.
     BadCut(usize),
-    /// A part tells of this cut in another sweep.
+    /// A part reports this cut in another sweep.
     OtherSweep(usize),
     /// No part has this share of the commands, counted from 0.
     ShareMissing(usize),
     /// Two parts have it.
     ShareTwice(usize),
-    /// What a part tells of it has no form.
+    /// What a part reports of it has no form.
     BadShare(usize),
     /// The text of this file is no part of the sweep of which the first file is one.
     OtherPart(&'a str),
@@ -211,7 +211,7 @@ fn write_line<W: TextOut>(fault: Fault, out: &mut W) -> Result<(), WriteFailed>
     }
 }
 
-// Writes that the file of this name cannot be read.
+// Writes that the file with this name cannot be read.
 fn write_unread<W: TextOut>(path: &str, out: &mut W) -> Result<(), WriteFailed>
     ensures text { MatchResult result
         (λ _. Appends (W.contents out.old) (W.contents out.new) (unread_text path.now))
@@ -221,7 +221,7 @@ fn write_unread<W: TextOut>(path: &str, out: &mut W) -> Result<(), WriteFailed>
     write_parts(out, b"jcard: cannot read ", path.as_bytes(), b"\n")
 }
 
-// Writes that a file cannot be read that the line of this number in the file of this name includes.
+// Writes that a file cannot be read that the line of this number in the file with this name includes.
 fn write_unincluded<W: TextOut>(path: &str, number: usize, out: &mut W) -> Result<(), WriteFailed>
     ensures text { MatchResult result
         (λ _. Appends (W.contents out.old) (W.contents out.new) (unincluded_text path.now number))
@@ -239,7 +239,7 @@ fn write_unincluded<W: TextOut>(path: &str, number: usize, out: &mut W) -> Resul
     )
 }
 
-// Writes what is wrong with what parts tell of a cut.
+// Writes what is wrong with what parts report of a cut.
 fn write_cut<W: TextOut>(out: &mut W, number: usize, wrong: &[u8]) -> Result<(), WriteFailed>
     ensures text { MatchResult result
         (λ _. Appends (W.contents out.old) (W.contents out.new) (cut_line number wrong.now))
@@ -258,7 +258,7 @@ fn share_number(number: usize) -> usize
     number.saturating_add(1)
 }
 
-// Writes what is wrong with what parts tell of a share, which is counted from 1 there.
+// Writes what is wrong with what parts report of a share, which is counted from 1 there.
 fn write_share<W: TextOut>(out: &mut W, number: usize, wrong: &[u8]) -> Result<(), WriteFailed>
     ensures text { MatchResult result
         (λ _. Appends (W.contents out.old) (W.contents out.new) (share_line number wrong.now))
@@ -268,7 +268,7 @@ fn write_share<W: TextOut>(out: &mut W, number: usize, wrong: &[u8]) -> Result<(
     write_part(out, share_number(number), wrong)
 }
 
-// Writes what is wrong with what the part of this number tells.
+// Writes what is wrong with what the part of this number says.
 fn write_part<W: TextOut>(out: &mut W, number: usize, wrong: &[u8]) -> Result<(), WriteFailed>
     ensures text { MatchResult result
         (λ _. Appends (W.contents out.old) (W.contents out.new) (part_line number wrong.now))
@@ -280,7 +280,7 @@ fn write_part<W: TextOut>(out: &mut W, number: usize, wrong: &[u8]) -> Result<()
     write_parts(out, b"jcard: part ", digits, wrong)
 }
 
-// The end of the line that tells what a file is.
+// The end of the line that says what a file is.
 fn ending_of(kind: FileKind) -> &'static [u8]
     ensures { result.now ≡ ending_of kind }
 {

@@ -1,4 +1,4 @@
-//! Why the program ends early, and how it tells that.
+//! Why the program ends early, and how it says that.
 #![tactic(auto)]
 
 pub mod fault;

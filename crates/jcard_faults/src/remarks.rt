@@ -1,12 +1,12 @@
-//! What is told besides the last line: what is wrong, and where.
+//! What is reported besides the last line: what is wrong, and where.
 
-/// Somebody who is told, besides the last line, what is wrong and where. No result depends on it.
+/// Somebody who is shown, besides the last line, what is wrong and where. No result depends on it.
 pub trait Remarks {
     /// Whole lines: what is wrong, and where.
     fn remark(&mut self, text: &[u8]);
 }
 
-/// Nobody is told.
+/// Nobody is shown them.
 #[derive(Clone, Copy, Drop)]
 pub struct Unremarked;
 

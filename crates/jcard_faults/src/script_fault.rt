@@ -1,4 +1,4 @@
-//! What is told where a script was not carried out to its end.
+//! What is reported where a script was not carried out to its end.
 ghost use Rattle.jcard_faults.specs.ScriptFaults.{IsScriptFault, IsUnpowered};
 
 use crate::fault::{Damage, Fault};
@@ -25,7 +25,7 @@ pub fn script_fault<'a>(names: Names<'a>, cause: ScriptFault) -> Fault<'a>
     }
 }
 
-/// What it means that the card of the image of this name does not power up.
+/// What it means that the card of the image with this name does not power up.
 pub fn power_up_fault(image: &str, cause: PowerFault) -> Fault<'_>
     ensures { IsUnpowered image.now cause result }
 {

@@ -34,7 +34,7 @@ fresh_store w = record {
   passed_below = 0;
 }
 
--- what is told of a file that was asked for
+-- what is reported of a file that was asked for
 abbrev pub told_of : {S T E : Type 0} → (S → T) → Result S E → Result T E
 told_of f (Ok file) = Ok (f file)
 told_of f (Err fault) = Err fault

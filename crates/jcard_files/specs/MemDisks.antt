@@ -25,11 +25,11 @@ pub record MemDiskValue : Type 0 where
   pub images : List ImageFileValue
   pub written : List WrittenText
 
--- where the first text of this name stands
+-- where the first text with this name stands
 abbrev pub text_place : List ℕ → List TextFile → Option ℕ
 text_place name texts = position (λ text. bytes_eq text.name.now name) texts
 
--- where the first image of this name stands
+-- where the first image with this name stands
 abbrev pub image_place : List ℕ → List ImageFileValue → Option ℕ
 image_place name images = position (λ image. bytes_eq image.name name) images
 
@@ -48,19 +48,19 @@ image_after store image = if length image.bytes == 2 * length store.words
     then record { name = image.name; bytes = flat_map (big_bytes 2) store.words; writes = saturating_count image.writes store.passed }
     else image
 
--- the words of the image of this name were told; or there is none, it has no image's size, or there was no memory
+-- the words of the image with this name were given; or there is none, it has no image's size, or there was no memory
 abbrev pub IsTold : List ℕ → Result (List ℕ) Fault → MemDiskValue → Type 0
 IsTold name (Err fault) disk = Unit {0}
 IsTold name (Ok words) disk = (i : ℕ) × (image : ImageFileValue) × (image_place name disk.images ≡ Some i) × (slice_get disk.images i ≡ Some image)
     × AreWordsOf image.bytes words
 
--- the bytes of the text of this name were told, or there is none
+-- the bytes of the text with this name were given, or there is none
 abbrev pub IsGiven : List ℕ → Result (Option (List ℕ)) Fault → MemDiskValue → Type 0
 IsGiven name (Err fault) disk = text_place name disk.texts ≡ None
 IsGiven name (Ok known) disk = (i : ℕ) × (text : TextFile) × (text_place name disk.texts ≡ Some i) × (slice_get disk.texts i ≡ Some text)
     × (known ≡ Some text.bytes.now)
 
--- the image of this name was closed so; where there is none, nothing changed
+-- the image with this name was closed so; where there is none, nothing changed
 abbrev pub IsClosed : List ℕ → StoreValue → MemDiskValue → MemDiskValue → Type 0
 IsClosed name store old new = MatchOption (image_place name old.images) (new ≡ old) (λ i. (image : ImageFileValue) × (slice_get old.images i ≡ Some image)
     × (new ≡ record old { images = slice_set old.images i (image_after store image) }))

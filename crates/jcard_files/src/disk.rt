@@ -35,7 +35,7 @@ pub trait Disk {
     /// The allocator.
     fn alloc(&self) -> Global;
 
-    /// Opens the image of this name to change it. Nobody else has it open.
+    /// Opens the image with this name to change it. Nobody else has it open.
     fn open_image<'n>(&mut self, image: &'n str) -> Result<Self::Image, Fault<'n>>
         ensures size { IfOk result (λ store. IsImageSize (2 * length (Self.Image.words store))) }
         ensures up { IfOk result (λ store. Self.Image.down store ≡ false) }
@@ -45,7 +45,7 @@ pub trait Disk {
         ensures does { does self.old (OpensImage image.now (told_of Self.Image.words result) ∷ [])
             self.new };
 
-    /// Opens the image of this name to read it alone. Others may read it too.
+    /// Opens the image with this name to read it alone. Others may read it too.
     fn open_image_to_read<'n>(&mut self, image: &'n str) -> Result<Self::Image, Fault<'n>>
         ensures size { IfOk result (λ store. IsImageSize (2 * length (Self.Image.words store))) }
         ensures up { IfOk result (λ store. Self.Image.down store ≡ false) }
@@ -55,7 +55,7 @@ pub trait Disk {
         ensures does { does self.old (ReadsImage image.now (told_of Self.Image.words result) ∷ [])
             self.new };
 
-    /// Makes a file of this name with n zero words. A file that is there is replaced, unless somebody
+    /// Makes a file with this name and n zero words. A file that is there is replaced, unless somebody
     /// has it open.
     fn make_image<'n>(&mut self, image: &'n str, n: u16) -> Result<Self::Image, Fault<'n>>
         ensures words { IfOk result (λ store. Self.Image.words store ≡ replicate n 0) }
@@ -65,18 +65,18 @@ pub trait Disk {
         ensures refused { IfErr result (λ fault. IsNotMade image.now fault) }
         ensures does { does self.old (MakesImage image.now n (told_of (λ _. tt) result) ∷ []) self.new };
 
-    /// Closes the image of this name as its store is. Nobody can write to that any more.
+    /// Closes the image with this name as its store is. Nobody can write to that any more.
     fn close_image(&mut self, image: &str, store: ClosedStore<Self::Image>)
         ensures { does self.old (ClosesImage image.now (store_value Self.Image.words
             Self.Image.down Self.Image.passed Self.Image.refusals store.store) ∷ []) self.new };
 
-    /// Opens the text of this name.
+    /// Opens the text with this name.
     fn open_text<'n>(&mut self, name: &'n str) -> Result<Self::Text, Fault<'n>>
         ensures refused { IfErr result (λ fault. IsUnopened name.now fault) }
         ensures does { does self.old (ReadsText name.now (told_of Self.Text.remaining result) ∷ [])
             self.new };
 
-    /// Makes a file of this name with these bytes, in place of what a file of that name holds: but for one of these, which the command
+    /// Makes a file with this name and these bytes, in place of what a file with that name holds: but for one of these, which the command
     /// names besides, for an image, and for a file that somebody has open.
     fn write_text<'n>(
         &mut self,
@@ -96,7 +96,7 @@ pub trait Disk {
         → does first deeds between → does between more last → does first (deeds ++ more) last };
 }
 
-/// The files of a runtime. What was done with them it does not tell.
+/// The files of a runtime. What was done with them it does not say.
 #[derive(Drop)]
 pub struct SystemDisk<'a, R: Files + AllocGlobal> {
     rt: &'a R,
@@ -113,7 +113,7 @@ impl<'a, R: Files + AllocGlobal> SystemDisk<'a, R>
 where
     R::File: LockFile + EmptyFile + FlushFile,
 {
-    // Makes a file of this name with these zero words. No memory is asked for.
+    // Makes a file with this name and these zero words. No memory is asked for.
     fn make_of<'n>(
         &mut self,
         image: &'n str,
@@ -229,7 +229,7 @@ where
     }
 }
 
-// Writes a text of this name, unless that is another name of one of these files.
+// Writes a text with this name, unless that is another name of one of these files.
 fn write_spared<'n, R: Files + AllocGlobal>(
     rt: &R,
     name: &'n str,
@@ -249,7 +249,7 @@ where
     written_anew(rt, name, bytes)
 }
 
-// Writes these bytes in place of what the file of this name holds. It is locked so that no other has it open, and only then looked at: one
+// Writes these bytes in place of what the file with this name holds. It is locked so that no other has it open, and only then looked at: one
 // that begins as an image is left as it is, and any other is emptied. A file is made where there is none.
 fn written_anew<'n, F, R>(rt: &R, name: &'n str, bytes: &[u8]) -> Result<(), Fault<'n>>
 where
@@ -265,7 +265,7 @@ where
     }
 }
 
-// Writes these bytes to the file of this name.
+// Writes these bytes to the file with this name.
 fn filled<'n, F: Write + Drop>(name: &'n str, mut file: F, bytes: &[u8]) -> Result<(), Fault<'n>>
     ensures filled { IsFilled name.now F.contents bytes.now file result }
     ensures refused { IfErr result (λ fault. IsUnwritten name.now fault) }
@@ -314,7 +314,7 @@ fn written_to<'n, R: Files>(rt: &R, path: &'n str, bytes: &[u8]) -> Result<(), F
     }
 }
 
-// What it means that a text of this name was not written.
+// What it means that a text with this name was not written.
 fn replace_fault(name: &str, cause: ReplaceFault) -> Fault<'_>
     ensures told { IsReplaceFault name.now cause result }
     ensures unwritten { IsUnwritten name.now result }
@@ -329,7 +329,7 @@ fn replace_fault(name: &str, cause: ReplaceFault) -> Fault<'_>
     }
 }
 
-// What it means that the image of this name was not opened to change it.
+// What it means that the image with this name was not opened to change it.
 fn open_fault(image: &str, cause: FileOpenFault) -> Fault<'_>
     ensures { IsOpenFault image.now cause result }
 {
@@ -352,7 +352,7 @@ fn read_fault(image: &str, cause: FileOpenFault) -> Fault<'_>
     }
 }
 
-// What it means that a file of this name was not made.
+// What it means that a file with this name was not made.
 fn create_fault(image: &str, cause: FileCreateFault) -> Fault<'_>
     ensures told { IsCreateFault image.now cause result }
     ensures unmade { IsNotMade image.now result }

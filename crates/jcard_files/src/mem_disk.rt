@@ -80,7 +80,7 @@ impl<'a> MemDisk<'a> {
         Ok(())
     }
 
-    // Keeps a text of this name that is written, unless it is an image's.
+    // Keeps a text with this name that is written, unless it is an image's.
     fn write_new<'n>(&mut self, name: &'n str, bytes: &[u8]) -> Result<(), Fault<'n>>
         ensures refused { IfErr result (λ fault. IsUnwritten name.now fault) }
         ensures does { AreDeeds (WritesText name.now bytes.now result ∷ []) self.old self.new }
@@ -91,7 +91,7 @@ impl<'a> MemDisk<'a> {
         }
     }
 
-    // Keeps a text of this name that is written, which is no image's.
+    // Keeps a text with this name that is written, which is no image's.
     fn keep_new<'n>(&mut self, name: &'n str, bytes: &[u8]) -> Result<(), Fault<'n>>
         requires { image_place name.now self.old.images ≡ None }
         ensures refused { IfErr result (λ fault. IsUnwritten name.now fault) }
@@ -135,7 +135,7 @@ impl<'a> MemDisk<'a> {
     }
 }
 
-// Where the image of this name stands.
+// Where the image with this name stands.
 fn place_of_image(images: &[ImageFile], name: &str) -> Option<usize>
     ensures place { result ≡ image_place name.now images.now }
     ensures within { IfSome result (λ i. i < length images.now) }
@@ -143,7 +143,7 @@ fn place_of_image(images: &[ImageFile], name: &str) -> Option<usize>
     images.iter().position(|image| image.name() == name)
 }
 
-// Where the text of this name stands.
+// Where the text with this name stands.
 fn place_of_text(texts: &[TextFile], name: &str) -> Option<usize>
     ensures place { result ≡ text_place name.now texts.now }
     ensures within { IfSome result (λ i. i < length texts.now) }
@@ -259,7 +259,7 @@ impl<'a> Disk for MemDisk<'a> {
     }
 }
 
-// A text of this name with these bytes.
+// A text with this name and these bytes.
 fn written_text(alloc: Global, name: &str, bytes: &[u8]) -> Result<WrittenText, AllocError>
     ensures name { IfOk result (λ text. string_bytes text.name ≡ name.now) }
     ensures bytes { IfOk result (λ text. text.bytes.items ≡ bytes.now) }

@@ -11,7 +11,7 @@ pub struct Operand<'a> {
     pub kind: FileKind,
 }
 
-/// What the file of this name is to a command that names these files, if one of them has this name.
+/// What the file with this name is to a command that names these files, if one of them has this name.
 pub fn operand_named(name: &str, operands: &[Operand]) -> Option<FileKind>
     ensures { MatchOption result (IsNoOperand name.now operands.now)
         (λ kind. IsOperand name.now operands.now kind) }

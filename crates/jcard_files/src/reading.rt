@@ -16,7 +16,7 @@ const TABLE_LIMIT: u64 = 16_385;
 // The most bytes of a script that are read: one more than are carried out, so that a longer one is seen.
 const MOST_READ: u64 = 16_777_217;
 
-/// What the platform table in the file of this name holds, up to one byte more than it can have.
+/// What the platform table in the file with this name holds, up to one byte more than it can have.
 pub fn text_of<'n, D: Disk>(disk: &mut D, name: &'n str) -> Result<Vec<u8>, Fault<'n>>
     ensures { (deeds : List FileDeed) × D.does disk.old deeds disk.new × MatchResult result
         (λ text. IsRead name.now text.items deeds) (λ fault. IsUnread name.now fault deeds) }
@@ -27,7 +27,7 @@ pub fn text_of<'n, D: Disk>(disk: &mut D, name: &'n str) -> Result<Vec<u8>, Faul
     }
 }
 
-// What is left in the file of this name, up to the limit.
+// What is left in the file with this name, up to the limit.
 fn read_text<'a, F: Read>(alloc: Global, path: &'a str, file: &mut F) -> Result<Vec<u8>, Fault<'a>>
     ensures bytes { IfOk result (λ text. IfSome (F.remaining file.old)
         (λ bytes. text.items ≡ take 16385 bytes)) }
@@ -55,7 +55,7 @@ fn read_into<'a, F: Read>(path: &'a str, file: &mut F, text: &mut Vec<u8>) -> Re
     }
 }
 
-/// What the script of this name holds, up to one byte more than is carried out.
+/// What the script with this name holds, up to one byte more than is carried out.
 pub fn script_of<'n, D: Disk>(disk: &mut D, name: &'n str) -> Result<Vec<u8>, Fault<'n>>
     ensures read { (deeds : List FileDeed) × D.does disk.old deeds disk.new × MatchResult result
         (λ text. IsScriptRead name.now text.items deeds) (λ fault. IsUnread name.now fault deeds) }
@@ -83,7 +83,7 @@ fn read_script<'n, F: Read>(
     }
 }
 
-// What it means that reading the file of this name, for which memory is asked as it grows, ended by an error of this kind.
+// What it means that reading the file with this name, for which memory is asked as it grows, ended by an error of this kind.
 fn unread_fault(name: &str, cause: ErrorKind) -> Fault<'_>
     ensures told { IsUnreadFault name.now cause result }
     ensures unread { IsNotRead name.now result }

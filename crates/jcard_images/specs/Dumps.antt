@@ -1,4 +1,4 @@
--- What is told of an image.
+-- What is reported of an image.
 use Rattle.std.specs.Prelude.{ℕ, ◌≡◌, ◌⊎◌, ◌*◌, true, false, List, [], ◌∷◌, ◌++◌, codes, length, Result, Ok, Err}
 use Rattle.jc_words.specs.Files.{IsImageSize}
 use Rattle.jc_words.specs.declared.image.ImageFault.{ImageFault}
@@ -35,24 +35,24 @@ lines_of found = sizes_of found ++ (count_line (codes "packages ") found.package
 abbrev pub dump_text : List ℕ → Lines
 dump_text w = then_lines (line (lines_of (inventory_of w))) (listing_of w)
 
--- what is told where not all lines were written
+-- what is reported where not all lines were written
 abbrev pub told_listing_fault : ListingFault → Fault
 told_listing_fault NotWritten = WriteFailed
 told_listing_fault Unreadable = BadImage Package
 
--- the words are no image's, and nothing was told; or all was told up to a line that cannot be read
+-- the words are no image's, and nothing was reported; or all was reported up to a line that cannot be read
 abbrev pub IsDamaged : List ℕ → Damage → List ℕ → Type 0
 IsDamaged w damage text = ((text ≡ []) × ((fault : ImageFault) × PowerUpRefuses (fault_of fault) w × (damage ≡ damage_of fault)))
     ⊎ (HasHead w × (damage ≡ Package) × ((dump_text w).readable ≡ false) × (text ≡ (dump_text w).text))
 
--- of these words all was told, or the beginning of it where a write failed; or they are damaged
+-- of these words all was reported, or the beginning of it where a write failed; or they are damaged
 abbrev pub IsTold : List ℕ → Result Unit Fault → List ℕ → Type 0
 IsTold w (Ok done) text = HasHead w × ((dump_text w).readable ≡ true) × (text ≡ (dump_text w).text)
 IsTold w (Err WriteFailed) text = HasHead w × IsCutOf (dump_text w).text text
 IsTold w (Err (BadImage damage)) text = IsDamaged w damage text
 IsTold w (Err other) text = ⊥
 
--- the image of this name could not be opened to read it alone, and nothing was written; or its words were told, and it was closed
+-- the image with this name could not be opened to read it alone, and nothing was written; or its words were reported, and it was closed
 -- with no write asked for
 abbrev pub IsDump : List ℕ → Result Unit Fault → List ℕ → List FileDeed → Type 0
 IsDump image ended text deeds =

@@ -19,18 +19,18 @@ use Rattle.jcard_faults.specs.declared.fault.Fault.{Fault}
 use Rattle.jcard_faults.specs.declared.fault.Fault.TheVariants.{NoMemory, BadJournal, BadWords, BadTable, ImageTooSmall, CannotWrite}
 use Rattle.jcard_images.specs.UsualTables.{IsNoPlatform, IsPlatform}
 
--- the text is decimal digits, and tells a number that is neither below the least nor above the most
+-- the text is decimal digits, and spells a number that is neither below the least nor above the most
 pub record IsNumberAmong (least most : ℕ) (text : List ℕ) (n : ℕ) : Type 0 where
   pub digits : IsNumeral 10 text
   pub told : digits_value 10 text ≡ n
   pub low : least ≤ n
   pub high : n ≤ most
 
--- the text tells how many words an image has, 4096 to 65535
+-- the text says how many words an image has, 4096 to 65535
 abbrev pub IsWordCount : List ℕ → ℕ → Type 0
 IsWordCount = IsNumberAmong least_size 65535
 
--- the text tells how many entries a journal can have, 16 to 1024
+-- the text says how many entries a journal can have, 16 to 1024
 abbrev pub IsJournalCapacity : List ℕ → ℕ → Type 0
 IsJournalCapacity = IsNumberAmong least_capacity most_capacity
 
@@ -69,7 +69,7 @@ IsNewImageInMemoryOf n capacity text (Err fault) = IsLaidInMemory n capacity tex
 abbrev pub IsNewImageInMemory : ℕ → List ℕ → Result MemStoreValue Fault → Type 0
 IsNewImageInMemory n = IsNewImageInMemoryOf n usual_capacity
 
--- what is told where the image of this name was not made of its file's words
+-- what is reported where the image with this name was not made of its file's words
 abbrev pub IsFormatFault : List ℕ → FormatFault → Fault → Type 0
 IsFormatFault image format.StoreDown fault = (path : Bor (List ℕ)) × (fault ≡ CannotWrite path) × (path.now ≡ image)
 IsFormatFault image format.BadSize fault = fault ≡ BadWords
@@ -77,7 +77,7 @@ IsFormatFault image format.BadCapacity fault = fault ≡ BadJournal
 IsFormatFault image (format.BadTable line) fault = fault ≡ BadTable line
 IsFormatFault image format.TooSmall fault = fault ≡ ImageTooSmall
 
--- how a store of n zero words ended as the image of this name, with such a journal, from this table's text: it is a new image, and
+-- how a store of n zero words ended as the image with this name, with such a journal, from this table's text: it is a new image, and
 -- refused no write; or it refused one, and has no magic word; or the table and the objects of the runtime environment do not fit, and
 -- no write was asked for
 abbrev pub IsLaid : List ℕ → ℕ → ℕ → List ℕ → Result Unit Fault → StoreValue → Type 0
@@ -87,7 +87,7 @@ IsLaid image n capacity text (Err (CannotWrite path)) store = (path.now ≡ imag
 IsLaid image n capacity text (Err ImageTooSmall) store = IsTooSmall n capacity text × (store ≡ untouched (replicate n 0))
 IsLaid image n capacity text (Err other) store = ⊥
 
--- how the making of an image of this name, with this many words and such a journal, ended, from this text, and what was done with files:
+-- how the making of an image with this name, with this many words and such a journal, ended, from this text, and what was done with files:
 -- it is no table, and no file was asked for; or the file was not made; or it was, and was closed as it ended
 abbrev pub IsMadeFrom : List ℕ → ℕ → ℕ → List ℕ → Result Unit Fault → List FileDeed → Type 0
 IsMadeFrom image n capacity text ended deeds =
@@ -95,7 +95,7 @@ IsMadeFrom image n capacity text ended deeds =
     ⊎ ((fault : Fault) × (ended ≡ Err fault) × IsTable text × IsNotMade image fault × (deeds ≡ MakesImage image n (Err fault) ∷ []))
     ⊎ ((store : StoreValue) × IsTable text × IsLaid image n capacity text ended store × (deeds ≡ MakesImage image n (Ok tt) ∷ ClosesImage image store ∷ []))
 
--- the image of this name was made, with this many words and such a journal, from the platform table that is named last, or the usual one; or an
+-- the image with this name was made, with this many words and such a journal, from the platform table that is named last, or the usual one; or an
 -- image cannot have this many words, or its journal this many entries, and no file was asked for; or after that the table was not read, and no
 -- other file was asked for
 abbrev pub IsNew : List ℕ → List ℕ → List ℕ → Option (List ℕ) → Result Unit Fault → List FileDeed → Type 0

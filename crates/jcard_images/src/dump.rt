@@ -1,4 +1,4 @@
-//! Telling what an image holds.
+//! Printing what an image holds.
 ghost use Rattle.std.specs.Prelude.{◌≡◌, ◌≤◌, ◌++◌, ℕ, List, is_err, length, MatchResult};
 ghost use Rattle.jc_words.specs.Layout.{text_start};
 ghost use Rattle.std.specs.Io.KnownBytes.{Appends};
@@ -22,7 +22,7 @@ use jcard_script::streams::{TextOut, WriteFailed, write_parts};
 /// A count and what stands before it in its line.
 type Count<'a> = (&'a [u8], u16);
 
-/// `jcard dump IMAGE`: prints what the image of this name holds: how many words, entries of its journal and of how many,
+/// `jcard dump IMAGE`: prints what the image with this name holds: how many words, entries of its journal and of how many,
 /// packages and applets, a line each, and then a line of each package and of each applet. Nothing is recovered.
 pub fn dump_image<'n, D: Disk, W: TextOut>(
     disk: &mut D,

@@ -1,4 +1,4 @@
-//! Images: made, made in memory, and told.
+//! Images: made, made in memory, and listed.
 #![tactic(auto)]
 
 pub mod dump;

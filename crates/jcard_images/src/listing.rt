@@ -14,13 +14,13 @@ use jc_image::{AppletName, PackageName, applet_at, package_at};
 use jc_words::WordStore;
 use jcard_script::streams::{TextOut, WriteFailed, write_all, write_parts};
 
-/// How many bytes an AID has at most, as a line tells it.
+/// How many bytes an AID has at most, as a line prints it.
 const MOST_AID: usize = 16;
 
 /// Why lines end early.
-#[derive(Clone, Copy, Debug, PartialEq, Eq, Drop)]
+#[derive(Clone, Copy, Drop)]
 pub(crate) enum ListingFault {
-    /// The words tell no such package or applet.
+    /// The words state no such package or applet.
     Unreadable,
     /// A write failed.
     NotWritten,

@@ -27,7 +27,7 @@ struct Extent {
     capacity: u16,
 }
 
-/// Makes an image of this name with this many words and a journal of this many entries, decimal numbers,
+/// Makes an image with this name, of this many words and a journal of this many entries, decimal numbers,
 /// from the platform table in the file of the last name, or the usual one. A file that is there is replaced, but only
 /// where the numbers and the table are good and nobody has it open. What is wrong with the table goes to `remarks`.
 pub fn make_image<'n, D: Disk, M: Remarks>(
@@ -57,7 +57,7 @@ pub fn make_image<'n, D: Disk, M: Remarks>(
     }
 }
 
-/// The number of words that a text tells, if an image can have this many.
+/// The number of words that a text spells, if an image can have this many.
 pub fn word_count(text: &str) -> Option<u16>
     ensures some { IfSome result (λ count. IsWordCount text.now count) }
     ensures none { result ≡ None → (count : ℕ) → IsWordCount text.now count → ⊥ }
@@ -65,7 +65,7 @@ pub fn word_count(text: &str) -> Option<u16>
     number_among(text, LEAST_SIZE, u16::MAX)
 }
 
-/// The number of entries that a text tells, if a journal can have this many.
+/// The number of entries that a text spells, if a journal can have this many.
 pub fn journal_capacity(text: &str) -> Option<u16>
     ensures some { IfSome result (λ capacity. IsJournalCapacity text.now capacity) }
     ensures none { result ≡ None → (capacity : ℕ) → IsJournalCapacity text.now capacity → ⊥ }
@@ -73,7 +73,7 @@ pub fn journal_capacity(text: &str) -> Option<u16>
     number_among(text, LEAST_CAPACITY, MOST_CAPACITY)
 }
 
-// The number that a text of decimal digits tells, if it is neither below the least nor above the most.
+// The number that a text of decimal digits spells, if it is neither below the least nor above the most.
 fn number_among(text: &str, least: u16, most: u16) -> Option<u16>
     ensures some { IfSome result (λ n. IsNumberAmong least most text.now n) }
     ensures none { result ≡ None → (n : ℕ) → IsNumberAmong least most text.now n → ⊥ }
@@ -87,7 +87,7 @@ fn number_among(text: &str, least: u16, most: u16) -> Option<u16>
     }
 }
 
-// Makes an image of this name, with this many words and such a journal, from this text.
+// Makes an image with this name, with this many words and such a journal, from this text.
 fn make_from<'n, D: Disk>(
     disk: &mut D,
     image: &'n str,
@@ -114,7 +114,7 @@ fn make_from<'n, D: Disk>(
     }
 }
 
-// Makes the zero words of a store an image, for the file of this name, and gives the store back.
+// Makes the zero words of a store an image, for the file with this name, and gives the store back.
 fn lay_image<'a, S: WordStore + Drop>(
     store: S,
     image: &'a str,
@@ -138,7 +138,7 @@ fn lay_image<'a, S: WordStore + Drop>(
     }
 }
 
-/// What it means that no image of this name was made of a store.
+/// What it means that no image with this name was made of a store.
 pub(crate) fn format_fault(image: &str, cause: FormatFault) -> Fault<'_>
     ensures { IsFormatFault image.now cause result }
 {

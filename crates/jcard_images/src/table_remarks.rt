@@ -6,6 +6,7 @@ use crate::usual_table::USUAL_TABLE;
 use itoa::Buffer;
 use jc_platform::example::EXAMPLE;
 use jc_platform::fault::TableFault;
+use jc_platform::lookup::all_classes;
 use jc_platform::read::{LARGEST_TEXT, read_table};
 use jcard_faults::remarks::Remarks;
 use std::alloc::{AllocError, Global};
@@ -21,14 +22,14 @@ const LARGEST_TOKEN: u32 = 255;
 
 const LARGEST_VIRTUAL_TOKEN: u32 = 127;
 
-/// Tells why a text is no platform table, if it is none.
+/// Says why a text is no platform table, if it is none.
 pub fn remark_on_table<M: Remarks>(alloc: Global, text: &Vec<u8>, remarks: &mut M) {
     if let Err(TableFault::BadTable(line)) = read_table(text) {
         remark_on(alloc, text, line, remarks);
     }
 }
 
-// Tells what is wrong with its first bad line, of this number from 1; or with all of it, where it is 0.
+// Says what is wrong with its first bad line, of this number from 1; or with all of it, where it is 0.
 fn remark_on<M: Remarks>(alloc: Global, text: &[u8], line: u16, remarks: &mut M) {
     let told = match line {
         0 => remark_on_all(alloc, text),
@@ -173,7 +174,7 @@ impl<'t> Line<'t> {
     }
 }
 
-// Where what stands above a line is told: the numbers of lines, or 0.
+// Where what stands above a line is named: the numbers of lines, or 0.
 #[derive(Clone, Copy, Drop)]
 struct Places {
     is_extended: bool,
@@ -460,11 +461,33 @@ fn cause_in_name(
     if line_with(usual, u32::MAX, keyword, name, above) == 0 {
         return cause(column, b"it is a class of another package");
     }
+    if keyword == Keyword::Class && lacks_superclass(text, number, name) {
+        return cause(column, b"its superclass stands nowhere above");
+    }
     LineCause {
         column: line.columns[1],
         why: b"the token is taken by line ",
         other_line: line_with_token(text, number, keyword, token, above),
     }
+}
+
+// Whether the superclass of a class with this name is none that each table has, and stands nowhere above the line with this number.
+fn lacks_superclass(text: &[u8], number: u32, name: &[u8]) -> bool {
+    for row in all_classes() {
+        if row.name == name {
+            if let Some(above) = row.superclass {
+                return line_with(
+                    EXAMPLE.as_bytes(),
+                    u32::MAX,
+                    Keyword::Class,
+                    above.name(),
+                    ANYWHERE,
+                ) == 0
+                    && line_with(text, number, Keyword::Class, above.name(), ANYWHERE) == 0;
+            }
+        }
+    }
+    false
 }
 
 const fn unknown_name(keyword: Keyword) -> &'static [u8] {
@@ -476,7 +499,7 @@ const fn unknown_name(keyword: Keyword) -> &'static [u8] {
 }
 
 // The line of a table, above one with a number, that has this keyword and this name, a class or a method in the package and the class
-// that are told, or in any where that is empty; 0 where none has.
+// that are named, or in any where that is empty; 0 where none has.
 fn line_with(table: &[u8], before: u32, keyword: Keyword, name: &[u8], section: Above<'_>) -> u32 {
     let mut state = Walk::begin(section);
     let mut at = 1u32;
@@ -578,7 +601,7 @@ fn remark_on_line(alloc: Global, line: u32, cause: LineCause) -> Result<Vec<u8>,
     Ok(text)
 }
 
-// Why a text is no table of which no line is bad: it is too long, or lacks the first of these names.
+// Why a text is no table of which no line is bad: it is too long, or lacks the first with these names.
 fn remark_on_all(alloc: Global, text: &[u8]) -> Result<Vec<u8>, AllocError> {
     if text.len() > LARGEST_TEXT {
         return Vec::from_slice(alloc, b"jcard: the table has more than 16384 bytes\n");

@@ -9,7 +9,7 @@ use jcard_files::disk::Disk;
 use jcard_files::reading::text_of;
 use std::alloc::{AllocError, Global};
 
-/// The text of the platform table in the file of this name, up to one byte more than one can have; without a name the usual one.
+/// The text of the platform table in the file with this name, up to one byte more than one can have; without a name the usual one.
 pub fn platform_of<'n, D: Disk>(disk: &mut D, table: Option<&'n str>) -> Result<Vec<u8>, Fault<'n>>
     ensures { (deeds : List FileDeed) × D.does disk.old deeds disk.new × MatchResult result
         (λ text. IsPlatform (option_map (λ (name : Bor (List ℕ)). name.now) table.entry) text.items
@@ -197,6 +197,7 @@ static 0 <init>
 static 1 throwIt
 class 1 MessageDigest
 static 0 getInstance
+static 1 getInitializedMessageDigestInstance
 virtual 1 getAlgorithm
 virtual 2 getLength
 virtual 3 update
@@ -214,4 +215,6 @@ virtual 1 generateData
 virtual 2 nextBytes
 virtual 3 setSeed
 virtual 4 getAlgorithm
+class 4 InitializedMessageDigest
+virtual 6 setInitialDigest
 ";

@@ -1,4 +1,4 @@
--- What is told of an object beside another image.
+-- What is reported of an object beside another image.
 use Rattle.std.proofs.Common.{◌≡◌, ◌∙◌, ℕ, Bool, true, false, List, [], Option, Some, None, ap, refl, sym, if◌then◌else◌, is_some}
 use Rattle.std.specs.Prelude.{unwrap_or}
 use Rattle.std.proofs.lemmas.Bool.{false≢true}
@@ -17,7 +17,7 @@ of_object side t w v all r (AnObject o) f is =
     ap (λ (g : Facts). if is_told g all then beside_text side t w v r g (standing_at v r) else []) (sym (ap (λ (p : Option Facts). unwrap_or p f) is))
 of_object side t w v all r (APackage ws) f is = absurd (false≢true (sym (ap is_some is)))
 
--- an object that is told, one that is not, and a package
+-- an object that is reported, one that is not, and a package
 pub told_beside : (side : Side) (t : Legend) (w v : List ℕ) (all : Bool) (r : ℕ) (e : Item) (f : Facts) → Some f ≡ object_in e → is_told f all ≡ true
     → beside_text side t w v r f (standing_at v r) ≡ compared_text side t w v all (r, e)
 told_beside side t w v all r e f is told =

@@ -39,20 +39,20 @@ both_readable w v =
     ap (λ (l : Lines). l.readable) (then_read (line _) (end_lines (line_if (areas_line w)).readable (line_if (areas_line v)).readable) refl)
     ∙ ap₂ (λ (a b : Bool). a && b) (readable_is w) (readable_is v)
 
--- where both lines were told, both heaps do
+-- where both lines were reported, both heaps do
 pub first_bounds : (w v old new : List ℕ) → Lists old new (area_lines w v) (Ok tt) → has_bounds w ≡ true
 first_bounds w v old new told = left_of (has_bounds w) (has_bounds v) (sym (both_readable w v) ∙ told.0)
 
 pub other_bounds : (w v old new : List ℕ) → Lists old new (area_lines w v) (Ok tt) → has_bounds v ≡ true
 other_bounds w v old new told = right_of (has_bounds w) (has_bounds v) (sym (both_readable w v) ∙ told.0)
 
--- and where one was not, nothing else is told
+-- and where one was not, nothing else is reported
 pub areas_untold : (stop : ListFault) (w v : List ℕ) (all : Bool) (old new : List ℕ) → Lists old new (area_lines w v) (Err stop)
     → AreToldTo w v all old new (Err stop)
 areas_untold Unreadable w v all old new told = (area_lines w v, inl (sym (both_readable w v) ∙ told.0, refl), told)
 areas_untold NoMemory w v all old new told = tt
 
--- what is told after them
+-- what is reported after them
 pub content_by : (r : Result Unit ListFault) (w v : List ℕ) (all : Bool) (old new : List ℕ) (l : Lines) → IsContent w v all l → Lists old new l r
     → IsContentTold w v all old new r
 content_by (Ok done) w v all old new l is told = (l, is, told)

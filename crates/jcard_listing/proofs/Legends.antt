@@ -1,4 +1,4 @@
--- By what the cells of an image are told.
+-- What the cells of an image are read by.
 use Rattle.std.proofs.Common.{◌≡◌, List, ℕ, Some, Ok, Err, refl, subst, sym}
 use Rattle.jc_heap.specs.Image.{table_text}
 use Rattle.jc_objects.specs.Legends.{ArePackagesIn, IsLegend}
@@ -10,14 +10,14 @@ use Rattle.jcard_listing.specs.Table.{IsLegendFor, IsPlatformOf}
 use Rattle.jcard_listing.specs.declared.fault.ListFault.{ListFault}
 use Rattle.jcard_listing.specs.declared.fault.ListFault.TheVariants.{Unreadable, NoMemory}
 
--- the legend of the words by the platform that they tell
+-- the legend of the words by their platform
 pub legend_told : (w items : List ℕ) (t : Tokens) (l : Legend) → items ≡ w → Reads (table_text w) (Ok t) → IsLegend t items l → IsLegendOf w (Some l)
 legend_told w items t l same reads is = (
   subst (λ (u : Tokens). Reads (table_text w) (Ok u)) (sym is.0) reads,
   (refl, subst (λ (u : Tokens). ArePackagesIn u w l.packages) (sym is.0) (subst (λ (v : List ℕ). ArePackagesIn t v l.packages) same is.1)),
 )
 
--- none, where they tell no platform
+-- none, where they have no platform
 pub legend_untold : (fault : ListFault) (w : List ℕ) → IsPlatformOf w (Err fault) → IsLegendFor w (Err fault)
 legend_untold Unreadable w none = none
 legend_untold NoMemory w none = tt

@@ -1,4 +1,4 @@
--- Lines that are told one after another.
+-- Lines that are reported one after another.
 use Rattle.std.proofs.Common.{◌≡◌, ◌∙◌, ℕ, zero, suc, ◌+◌, ◌<◌, ◌≤◌, true, false, List, [], ◌++◌, Result, Ok, Err, refl, ap, subst, sym, arith, add-one}
 use Rattle.std.proofs.Common.{⊎_elim, append-nil, append_assoc}
 use Rattle.std.proofs.lemmas.Bool.{cases_lt}
@@ -15,13 +15,13 @@ pub then_unread : (a b : Lines) → a.readable ≡ false → then_lines a b ≡ 
 unfolding then_lines
 then_unread a b h = rw h refl
 
--- all of the first were told, and of the others as many
+-- all of the first were reported, and of the others as many
 pub lists_then : (r : Result Unit ListFault) (a b c : List ℕ) (x y : Lines) → Lists a b x (Ok tt) → Lists b c y r → Lists a c (then_lines x y) r
 lists_then (Ok done) a b c x y h k = rw (then_read x y h.0) (k.0, k.1 ∙ ap (λ (l : List ℕ). l ++ y.text) h.1 ∙ append_assoc a x.text y.text)
 lists_then (Err Unreadable) a b c x y h k = rw (then_read x y h.0) (k.0, k.1 ∙ ap (λ (l : List ℕ). l ++ y.text) h.1 ∙ append_assoc a x.text y.text)
 lists_then (Err NoMemory) a b c x y h k = tt
 
--- the first were not all told, so none of the others
+-- the first were not all reported, so none of the others
 pub lists_stopped : (stop : ListFault) (a b : List ℕ) (x y : Lines) → Lists a b x (Err stop) → Lists a b (then_lines x y) (Err stop)
 lists_stopped Unreadable a b x y h = rw (then_unread x y h.0) h
 lists_stopped NoMemory a b x y h = tt
@@ -36,7 +36,7 @@ pub none_listed : (one : ℕ → Lines) (a : List ℕ) → Lists a a (each_line 
 unfolding each_line
 none_listed one a = (refl, sym (append-nil a))
 
--- all so far were told, and the next
+-- all so far were reported, and the next
 pub next_listed : (one : ℕ → Lines) (i : ℕ) (a b c : List ℕ) → Lists a b (each_line one i) (Ok tt) → Lists b c (one (i + 1)) (Ok tt)
     → Lists a c (each_line one (i + 1)) (Ok tt)
 next_listed one i a b c h k = rw (each_more one i) (lists_then (Ok tt) a b c (each_line one i) (one (i + 1)) h k)
@@ -51,13 +51,13 @@ each_stopped one (suc n) k stop a b h t =
     (λ above. let e : k ≡ suc n = omega (arith, above) in subst (λ m. Lists a b (each_line one m) (Err stop)) e t)
     (cases_lt k (suc n))
 
--- all so far were told, and not the next, so none after it
+-- all so far were reported, and not the next, so none after it
 pub next_stopped : (one : ℕ → Lines) (n i : ℕ) (stop : ListFault) (a b c : List ℕ) → i < n → Lists a b (each_line one i) (Ok tt)
     → Lists b c (one (i + 1)) (Err stop) → Lists a c (each_line one n) (Err stop)
 next_stopped one n i stop a b c lt h k = each_stopped one n (i + 1) stop a c (omega (arith, lt))
     (subst (λ (m : Lines). Lists a c m (Err stop)) (sym (each_more one i)) (lists_then (Err stop) a b c (each_line one i) (one (i + 1)) h k))
 
--- of all lines these were told after a text, and others are left
+-- of all lines these were reported after a text, and others are left
 abbrev pub IsTelling : List ℕ → List ℕ → Lines → Lines → Type 0
 IsTelling old new all rest = (told : List ℕ) × (new ≡ old ++ told) × (all ≡ record { text = told ++ rest.text; readable = rest.readable })
 
@@ -98,7 +98,7 @@ lists_none a l e r = (r, sym (ap (λ (t : List ℕ). a ++ t) e ∙ append-nil a)
 pub lists_unread : (a : List ℕ) (l : Lines) → l.text ≡ [] → l.readable ≡ false → Lists a a l (Err Unreadable)
 lists_unread a l e r = (r, sym (ap (λ (t : List ℕ). a ++ t) e ∙ append-nil a))
 
--- lines, and a text after them however far they were told
+-- lines, and a text after them however far they were reported
 pub lists_ended : (r : Result Unit ListFault) (a b c tail : List ℕ) (l : Lines) → Lists a b l r → c ≡ b ++ tail
     → Lists a c (record { text = l.text ++ tail; readable = l.readable }) r
 lists_ended (Ok done) a b c tail l told e = (told.0, e ∙ ap (λ (t : List ℕ). t ++ tail) told.1 ∙ append_assoc a l.text tail)

@@ -1,4 +1,4 @@
--- How lines were told that were all written.
+-- How lines were reported that were all written.
 use Rattle.std.proofs.Common.{◌≡◌, Result, Ok, Err, inl, inr, refl, sym, subst, ap, ◌∙◌}
 use Rattle.std.proofs.lemmas.Bool.{cases_Bool}
 use Rattle.jcard_faults.specs.declared.fault.Fault.{Fault}

@@ -22,7 +22,7 @@ pub areas_readable : (w : List ℕ) (b : Bool) → has_bounds w ≡ b → (line_
 areas_readable w true e = ap (λ (c : Bool). (line_if (if c then Some (areas_text w) else None)).readable) e
 areas_readable w false e = ap (λ (c : Bool). (line_if (if c then Some (areas_text w) else None)).readable) e
 
--- where the first line was told, the heap lies within its bounds
+-- where the first line was reported, the heap lies within its bounds
 pub areas_told : (w old new : List ℕ) → Lists old new (line_if (areas_line w)) (Ok tt) → has_bounds w ≡ true
 areas_told w old new told = elim (cases_Bool (has_bounds w)) [
   | inl holds ↦ holds
@@ -48,7 +48,7 @@ table_untold Unreadable w all old new told none = (
 )
 table_untold NoMemory w all old new told none = tt
 
--- all that is told after a table
+-- all that is reported after a table
 pub contents_told : (r : Result Unit ListFault) (w : List ℕ) (all : Bool) (t : Legend) (old new next : List ℕ) → Lists old new (line_if (areas_line w)) (Ok tt)
     → IsLegendFor w (Ok t) → Lists new next (contents_lines (Some t) w all) r → IsListed w all old next r
 contents_told r w all t old new next told reads more = listed_by r w all old next (then_lines (line_if (areas_line w)) (contents_lines (Some t) w all))

@@ -1,4 +1,4 @@
--- What is told of what stands at an address.
+-- What is reported of what stands at an address.
 use Rattle.std.proofs.Common.{◌≡◌, ◌∙◌, ℕ, Bool, true, false, List, [], Option, Some, None, ap, refl, sym, if◌then◌else◌, is_some}
 use Rattle.std.specs.Prelude.{unwrap_or}
 use Rattle.std.proofs.lemmas.Bool.{false≢true}
@@ -14,7 +14,7 @@ of_object t w all r (AnObject o) f is =
     ap (λ (g : Facts). if is_told g all then object_text t w r g o.cells else []) (sym (ap (λ (p : Option Facts). unwrap_or p f) is))
 of_object t w all r (APackage ws) f is = absurd (false≢true (sym (ap is_some is)))
 
--- an object that is told, one that is not, and a package
+-- an object that is reported, one that is not, and a package
 pub told_item : (t : Legend) (w : List ℕ) (all : Bool) (r : ℕ) (e : Item) (f : Facts) → Some f ≡ object_in e → is_told f all ≡ true
     → object_text t w r f (cells_of e) ≡ item_text t w all (r, e)
 told_item t w all r e f is told = sym (of_object t w all r e f is ∙ ap (λ (b : Bool). if b then object_text t w r f (cells_of e) else []) told)

@@ -44,18 +44,18 @@ changes_text t w v r f (Some event) other = []
 abbrev pub alone_text : Side → Legend → List ℕ → ℕ → Facts → List ℕ
 alone_text side t w r f = sign side ++ object_text t w r f (cells_of (item_at w r))
 
--- one that both have, told as of the first
+-- one that both have, printed as of the first
 abbrev pub kept_text : Side → Legend → List ℕ → List ℕ → ℕ → Facts → Facts → List ℕ
 kept_text One t w v r f p = changes_text t w v r f f.event p.event
 kept_text Other t w v r f p = []
 
--- an object of an image, beside what begins at its address in the other one: nothing is told where that cannot be read
+-- an object of an image, beside what begins at its address in the other one: nothing is reported where that cannot be read
 abbrev pub beside_text : Side → Legend → List ℕ → List ℕ → ℕ → Facts → Standing → List ℕ
 beside_text side t w v r f (Object p) = if is_same f p then kept_text side t w v r f p else alone_text side t w r f
 beside_text side t w v r f Nothing = alone_text side t w r f
 beside_text side t w v r f Unread = []
 
--- what stands at an address, if it is an object that is told
+-- what stands at an address, if it is an object that is reported
 abbrev pub compared_text : Side → Legend → List ℕ → List ℕ → Bool → ℕ × Item → List ℕ
 compared_text side t w v all (r, AnObject o) = if is_told o.facts all then beside_text side t w v r o.facts (standing_at v r) else []
 compared_text side t w v all (r, APackage ws) = []

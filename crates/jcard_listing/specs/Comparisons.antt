@@ -1,4 +1,4 @@
--- What is told of two images that are compared.
+-- What is reported of two images that are compared.
 use Rattle.std.specs.Prelude.{ℕ, ◌≡◌, ◌⊎◌, ◌*◌, ◌∷◌, ◌++◌, Bool, List, [], length, Result, Ok, Err}
 use Rattle.jc_words.specs.Files.{IsImageSize}
 use Rattle.jc_words.specs.declared.image.ImageFault.{ImageFault}
@@ -16,23 +16,23 @@ use Rattle.jcard_listing.specs.Told.{AreLinesTold}
 use Rattle.jcard_listing.specs.declared.pairs.Side.{Side}
 use Rattle.jcard_listing.specs.declared.pairs.Side.TheVariants.{One, Other}
 
--- it was told that an image cannot be read because of a fault of its first words, or the beginning of this where a write failed
+-- it was reported that an image cannot be read because of a fault of its first words, or the beginning of this where a write failed
 abbrev pub IsRefusalTold : Side → ImageFault → Result Unit Fault → List ℕ → Type 0
 IsRefusalTold side fault (Err (BadImage damage)) text = (damage ≡ damage_of fault) × (text ≡ unread_text side)
 IsRefusalTold side fault (Err WriteFailed) text = IsCutOf (unread_text side) text
 IsRefusalTold side fault (Err other) text = ⊥
 IsRefusalTold side fault (Ok done) text = ⊥
 
--- the words are no image's, and this was told
+-- the words are no image's, and this was reported
 abbrev pub IsNoImageTold : Side → List ℕ → Result Unit Fault → List ℕ → Type 0
 IsNoImageTold side w ended text = (fault : ImageFault) × PowerUpRefuses (fault_of fault) w × IsRefusalTold side fault ended text
 
--- how the differences were told; or memory was refused for them, and nothing was told
+-- how the differences were reported; or memory was refused for them, and nothing was reported
 abbrev pub AreLinesOfBoth : List ℕ → List ℕ → Bool → Result Unit Fault → List ℕ → Type 0
 AreLinesOfBoth w v all ended text = ((l : Lines) × AreDifferences w v all l × AreLinesTold l ended text)
     ⊎ ((ended ≡ Err NoMemory) × (text ≡ []))
 
--- what is told of these words, which are an image's, and of those of the other image: these are none, or what is not the same
+-- what is reported of these words, which are an image's, and of those of the other image: these are none, or what is not the same
 abbrev pub AreToldBeside : List ℕ → List ℕ → Bool → Result Unit Fault → List ℕ → Type 0
 AreToldBeside w v all ended text = IsNoImageTold Other v ended text ⊎ (HasHead v × AreLinesOfBoth w v all ended text)
 
@@ -40,7 +40,7 @@ AreToldBeside w v all ended text = IsNoImageTold Other v ended text ⊎ (HasHead
 abbrev pub AreDifferencesTold : List ℕ → List ℕ → Bool → Result Unit Fault → List ℕ → Type 0
 AreDifferencesTold w v all ended text = IsNoImageTold One w ended text ⊎ (HasHead w × AreToldBeside w v all ended text)
 
--- the image of this name could not be opened to read it alone beside these words, and nothing was written; or its words were compared with them,
+-- the image with this name could not be opened to read it alone beside these words, and nothing was written; or its words were compared with them,
 -- and it was closed with no write asked for
 abbrev pub IsBesideTold : List ℕ → List ℕ → Bool → Result Unit Fault → List ℕ → List FileDeed → Type 0
 IsBesideTold w other all ended text deeds =

@@ -17,7 +17,7 @@ use Rattle.jcard_listing.specs.declared.parts.Part.TheVariants.{Sizes, Packages,
 abbrev pub area_lines : List ℕ → List ℕ → Lines
 area_lines w v = pair_lines (line_if (areas_line w)) (line_if (areas_line v))
 
--- the numbered lines that name what is there, and those that tell where it stands
+-- the numbered lines that name what is there, and those that say where it stands
 abbrev pub named_lines : Legend → Legend → List ℕ → List ℕ → Lines
 named_lines t u w v = then_lines (part_lines Sizes t u w v) (then_lines (part_lines Packages t u w v) (part_lines Applets t u w v))
 
@@ -28,18 +28,18 @@ placed_lines t u w v = then_lines (part_lines Entries t u w v) (then_lines (part
 abbrev pub content_lines : Legend → Legend → List ℕ → List ℕ → Bool → Lines
 content_lines t u w v all = then_lines (named_lines t u w v) (then_lines (placed_lines t u w v) (heap_lines t u w v all))
 
--- what is told after the heaps' ends: nothing where a text is no table
+-- what is reported after the heaps' ends: nothing where a text is no table
 abbrev pub IsContent : List ℕ → List ℕ → Bool → Lines → Type 0
 IsContent w v all l = (IsLegendOf w None × (l ≡ end_lines false true))
     ⊎ ((t : Legend) × IsLegendOf w (Some t) × IsLegendOf v None × (l ≡ end_lines true false))
     ⊎ ((t u : Legend) × IsLegendOf w (Some t) × IsLegendOf v (Some u) × (l ≡ content_lines t u w v all))
 
--- these lines tell what is not the same in words and in others: nothing after a heap that is out of its bounds
+-- these lines say what is not the same in words and in others: nothing after a heap that is out of its bounds
 abbrev pub AreDifferences : List ℕ → List ℕ → Bool → Lines → Type 0
 AreDifferences w v all l = (((has_bounds w && has_bounds v) ≡ false) × (l ≡ area_lines w v))
     ⊎ ((behind : Lines) × (has_bounds w ≡ true) × (has_bounds v ≡ true) × IsContent w v all behind × (l ≡ then_lines (area_lines w v) behind))
 
--- a text grew by what is told after the heaps' ends, or memory was refused
+-- a text grew by what is reported after the heaps' ends, or memory was refused
 abbrev pub IsContentTold : List ℕ → List ℕ → Bool → List ℕ → List ℕ → Result Unit ListFault → Type 0
 IsContentTold w v all old new (Err NoMemory) = Unit {0}
 IsContentTold w v all old new (Ok done) = (l : Lines) × IsContent w v all l × Lists old new l (Ok tt)

@@ -1,4 +1,4 @@
--- How far lines were told.
+-- How far lines were reported.
 use Rattle.std.specs.Prelude.{ℕ, zero, suc, ◌≡◌, true, false, List, [], ◌++◌, Result, Ok, Err}
 use Rattle.jcard_images.specs.Listings.{Lines, line, then_lines}
 use Rattle.jcard_listing.specs.declared.fault.ListFault.{ListFault}

@@ -18,13 +18,13 @@ use Rattle.jcard_listing.specs.Packages.{package_lines}
 use Rattle.jcard_listing.specs.declared.fault.ListFault.{ListFault}
 use Rattle.jcard_listing.specs.declared.fault.ListFault.TheVariants.{Unreadable, NoMemory}
 
--- by what the cells of objects are told: the platform that the table text of words tells, and the packages that they have once they are
+-- What the cells of objects are read by: the platform of the table text of words, and the packages that they have once they are
 -- recovered; nothing where it is no table
 abbrev pub IsLegendOf : List ℕ → Option Legend → Type 0
 IsLegendOf w (Some t) = Reads (table_text w) (Ok t.platform) × IsLegend t.platform w t
 IsLegendOf w None = (t : Tokens) → Reads (table_text w) (Ok t) → ⊥
 
--- the journal's entries, the packages' records, the applets' entries and the objects, told by a legend
+-- the journal's entries, the packages' records, the applets' entries and the objects, printed by a legend
 abbrev pub contents_lines : Option Legend → List ℕ → Bool → Lines
 contents_lines None w all = line_if None
 contents_lines (Some t) w all = then_lines (each_line (entry_lines t.platform w) (count_of w))

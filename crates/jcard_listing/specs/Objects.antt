@@ -24,7 +24,7 @@ use Rattle.jcard_images.specs.Listings.{Lines}
 use Rattle.jcard_objects.specs.ClassTexts.{kind_text}
 use Rattle.jcard_listing.specs.Texts.{each_text, labelled_text, reference_text, short_text}
 
--- the AID of an applet or of a package, or its number where none is told
+-- the AID of an applet or of a package, or its number where none is known
 abbrev pub applet_name : Option NamedApplet → ℕ → List ℕ
 applet_name (Some named) number = encode_upper named.aid
 applet_name None number = decimal number
@@ -106,7 +106,7 @@ engine_text cells = labelled_text (codes ": algorithm ") (slice_index cells 0) (
 abbrev pub is_aid : Legend → Facts → Bool
 is_aid t f = is_instance f.kind && (f.length == 9 && f.class == class_word t.platform Aid)
 
--- how many bytes an AID has; none where an object is no AID, or its first cell tells more than an AID can have
+-- how many bytes an AID has; none where an object is no AID, or its first cell states more than an AID can have
 abbrev pub aid_length : Legend → Facts → List ℕ → Option ℕ
 aid_length t f cells = if is_aid t f then (if nat_lt 16 (slice_index cells 0) then None else Some (slice_index cells 0)) else None
 
@@ -138,11 +138,11 @@ behind_text t f None cells = contents_text t f cells
 abbrev pub object_text : Legend → List ℕ → ℕ → Facts → List ℕ → List ℕ
 object_text t w r f cells = header_text t w r f ++ (behind_text t f f.event cells ++ codes "\n")
 
--- an object is told: any one, or one that is not the runtime environment's
+-- an object is reported: any one, or one that is not the runtime environment's
 abbrev pub is_told : Facts → Bool → Bool
 is_told f all = all || not (f.owner == 0)
 
--- what stands at an address: nothing is told here of a package
+-- what stands at an address: nothing is reported here of a package
 abbrev pub item_text : Legend → List ℕ → Bool → ℕ × Item → List ℕ
 item_text t w all (r, AnObject o) = if is_told o.facts all then object_text t w r o.facts o.cells else []
 item_text t w all (r, APackage ws) = []

@@ -19,7 +19,7 @@ sign Other = codes "+ "
 abbrev pub signed : Side → List ℕ → List ℕ
 signed side text = if length text == 0 then [] else sign side ++ text
 
--- a line of each, or none: nothing is told where they are the same
+-- a line of each, or none: nothing is reported where they are the same
 abbrev pub pair_text : List ℕ → List ℕ → List ℕ
 pair_text one other = if bytes_eq one other then [] else signed One one ++ signed Other other
 
@@ -27,7 +27,7 @@ pair_text one other = if bytes_eq one other then [] else signed One one ++ signe
 abbrev pub unread_text : Side → List ℕ
 unread_text side = sign side ++ codes "cannot be read further\n"
 
--- how far both images could be read: of two that could not the first is told
+-- how far both images could be read: of two that could not the first is reported
 abbrev pub end_text : Bool → Bool → List ℕ
 end_text one other = if one then (if other then [] else unread_text Other) else unread_text One
 

@@ -1,4 +1,4 @@
--- What is told of an image and of its objects.
+-- What is reported of an image and of its objects.
 use Rattle.std.specs.Prelude.{ℕ, ◌≡◌, ◌⊎◌, ◌*◌, ◌∷◌, ◌++◌, true, false, Bool, List, [], length, Result, Ok, Err, if◌then◌else◌}
 use Rattle.jc_words.specs.Files.{IsImageSize}
 use Rattle.jcard_script.specs.Texts.{IsCutOf}
@@ -15,24 +15,24 @@ use Rattle.jcard_listing.specs.Listing.{IsListing}
 abbrev pub end_of : Bool → Result Unit Fault
 end_of readable = if readable then Ok tt else Err (BadImage Package)
 
--- how lines were told: all, or the beginning of them where a write failed, or those up to one that cannot be read
+-- how lines were reported: all, or the beginning of them where a write failed, or those up to one that cannot be read
 abbrev pub AreLinesTold : Lines → Result Unit Fault → List ℕ → Type 0
 AreLinesTold l (Ok done) text = (l.readable ≡ true) × (text ≡ l.text)
 AreLinesTold l (Err WriteFailed) text = IsCutOf l.text text
 AreLinesTold l (Err (BadImage damage)) text = (l.readable ≡ false) × (damage ≡ Package) × (text ≡ l.text)
 AreLinesTold l (Err other) text = ⊥
 
--- how a listing was told; or memory was refused for it, and nothing was told
+-- how a listing was reported; or memory was refused for it, and nothing was reported
 abbrev pub IsListingTold : List ℕ → Bool → Result Unit Fault → List ℕ → Type 0
 IsListingTold w all ended text = ((l : Lines) × IsListing w all l × AreLinesTold l ended text)
     ⊎ ((ended ≡ Err NoMemory) × (text ≡ []))
 
--- what is told of these words: their packages and applets, as far as they read, and then a listing
+-- what is reported of these words: their packages and applets, as far as they read, and then a listing
 abbrev pub AreObjectsTold : List ℕ → Bool → Result Unit Fault → List ℕ → Type 0
 AreObjectsTold w all ended text = ((fault : Fault) × (ended ≡ Err fault) × IsTold w ended text)
     ⊎ ((behind : List ℕ) × IsTold w (Ok tt) (dump_text w).text × IsListingTold w all ended behind × (text ≡ (dump_text w).text ++ behind))
 
--- the image of this name could not be opened to read it alone, and nothing was written; or its words were told, and it was closed
+-- the image with this name could not be opened to read it alone, and nothing was written; or its words were reported, and it was closed
 -- with no write asked for
 abbrev pub IsObjectsDump : List ℕ → Bool → Result Unit Fault → List ℕ → List FileDeed → Type 0
 IsObjectsDump image all ended text deeds =

@@ -27,7 +27,7 @@ use jcard_objects::class_texts::push_kind;
 use std::alloc::{AllocError, Global};
 
 /// Writes the cells that are not the same, and the objects that one image alone has, up to where one cannot be read. Those of the
-/// runtime environment are told where all are asked for.
+/// runtime environment are reported where all are asked for.
 pub(crate) fn push_heaps<S: WordStore>(
     alloc: Global,
     text: &mut Vec<u8>,
@@ -104,7 +104,7 @@ fn push_compared<S: WordStore>(
     Ok(())
 }
 
-// Writes what is told of what stands at an address. The place is where the walk of the other image goes on.
+// Writes what is reported of what stands at an address. The place is where the walk of the other image goes on.
 fn push_item<S: WordStore>(
     alloc: Global,
     text: &mut Vec<u8>,
@@ -140,7 +140,7 @@ fn push_item<S: WordStore>(
     }
 }
 
-// Writes what is told of an object, beside what begins at its address in the other image.
+// Writes what is reported of an object, beside what begins at its address in the other image.
 fn push_beside<S: WordStore>(
     alloc: Global,
     text: &mut Vec<u8>,

@@ -1,4 +1,4 @@
-//! Telling what is not the same in two images.
+//! Printing what is not the same in two images.
 ghost use Rattle.std.specs.Prelude.{◌≡◌, ℕ, List};
 ghost use Rattle.std.specs.Io.KnownBytes.{Appends};
 ghost use Rattle.jc_words.specs.Count.{failures_after};
@@ -44,7 +44,7 @@ pub fn compare_images<'n, D: Disk, W: TextOut>(
     }
 }
 
-// Prints what is not the same in a store and in the image of this name.
+// Prints what is not the same in a store and in the image with this name.
 fn compare_with<'n, D: Disk, W: TextOut>(
     disk: &mut D,
     store: &D::Image,

@@ -195,7 +195,7 @@ fn push_named<S: WordStore>(
     push_part(alloc, text, Part::Applets, legend, store, others, other)
 }
 
-// Writes the lines that tell where it stands.
+// Writes the lines that say where it stands.
 fn push_placed<S: WordStore>(
     alloc: Global,
     text: &mut Vec<u8>,

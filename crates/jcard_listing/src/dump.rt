@@ -1,4 +1,4 @@
-//! Telling what an image holds, object by object.
+//! Printing what an image holds, object by object.
 ghost use Rattle.std.specs.Prelude.{◌≡◌, ℕ, List};
 ghost use Rattle.std.specs.Io.KnownBytes.{Appends};
 ghost use Rattle.jc_words.specs.Count.{failures_after};
@@ -78,7 +78,7 @@ fn tell_listing<'a, S: WordStore, W: TextOut>(
     }
 }
 
-/// Writes these lines, and tells whether there could be more.
+/// Writes these lines, and says whether there could be more.
 pub(crate) fn write_listing<'a, W: TextOut>(listing: &Listing, out: &mut W) -> Result<(), Fault<'a>>
     ensures told { (text : List ℕ) × Appends (W.contents out.old) (W.contents out.new) text
         × AreLinesTold (record {

@@ -5,9 +5,9 @@ ghost use Rattle.jcard_listing.specs.declared.fault.ListFault.TheVariants.{NoMem
 use std::alloc::AllocError;
 
 /// Why a listing ends early.
-#[derive(Clone, Copy, Debug, PartialEq, Eq, Drop)]
+#[derive(Clone, Copy, Drop)]
 pub enum ListFault {
-    /// The words tell no more.
+    /// The words state no more.
     Unreadable,
     /// Memory was refused for the text.
     NoMemory,

@@ -36,7 +36,7 @@ const AID_CELLS: u16 = 9;
 /// How many bytes an AID has at most.
 const MOST_AID: u16 = 16;
 
-/// Writes the line of each object, up to the first record that lacks words. Those of the runtime environment are told
+/// Writes the line of each object, up to the first record that lacks words. Those of the runtime environment are reported
 /// where all are asked for.
 pub(crate) fn push_objects<S: WordStore>(
     alloc: Global,
@@ -62,7 +62,7 @@ pub(crate) fn push_objects<S: WordStore>(
     Ok(())
 }
 
-// Writes the line of what stands at an address, if it is an object that is told.
+// Writes the line of what stands at an address, if it is an object that is reported.
 fn push_item<S: WordStore>(
     alloc: Global,
     text: &mut Vec<u8>,
@@ -82,7 +82,7 @@ fn push_item<S: WordStore>(
     }
 }
 
-/// Whether an object is told.
+/// Whether an object is reported.
 pub(crate) fn is_told(facts: Facts, all: bool) -> bool
     ensures { result ≡ is_told facts all }
 {
@@ -186,7 +186,7 @@ fn push_owner<S: WordStore>(
     push_package_name(alloc, text, package_at(store, package), package)
 }
 
-// Writes the AID of an applet, or its number where none is told.
+// Writes the AID of an applet, or its number where none is known.
 fn push_applet_name(
     alloc: Global,
     text: &mut Vec<u8>,
@@ -201,7 +201,7 @@ fn push_applet_name(
     }
 }
 
-// Writes the AID of a package, or its number where none is told.
+// Writes the AID of a package, or its number where none is known.
 fn push_package_name(
     alloc: Global,
     text: &mut Vec<u8>,

@@ -17,7 +17,7 @@ use jc_words::layout::{ADDRESSES, MOST_PACKAGES, PACKAGES, TOP};
 use std::alloc::{AllocError, Global};
 
 /// Where a package's record begins, and how many words it has.
-#[derive(Clone, Copy, Debug, PartialEq, Eq, Drop)]
+#[derive(Clone, Copy, Drop)]
 struct Record {
     at: u16,
     size: u16,

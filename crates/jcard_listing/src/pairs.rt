@@ -10,7 +10,7 @@ use crate::listing::Listing;
 use std::alloc::AllocError;
 
 /// One of the two images that are compared.
-#[derive(Clone, Copy, Debug, PartialEq, Eq, Drop)]
+#[derive(Clone, Copy, Drop)]
 pub(crate) enum Side {
     One,
     Other,

@@ -21,7 +21,7 @@ use jc_words::{Log, WordStore};
 use std::alloc::{AllocError, Global};
 
 /// Lines of an image that are numbered from 1 on.
-#[derive(Clone, Copy, Debug, PartialEq, Eq, Drop)]
+#[derive(Clone, Copy, Drop)]
 pub(crate) enum Part {
     /// The counts of words and of the journal's entries.
     Sizes,

@@ -1,4 +1,4 @@
-//! The platform that the table text of an image tells, and its packages.
+//! The platform of the table text of an image, and its packages.
 ghost use Rattle.std.specs.Prelude.{◌≡◌, ◌+◌, ◌<◌, ◌/◌, IfOk, true, length};
 ghost use Rattle.jc_words.specs.Layout.{text_start};
 ghost use Rattle.jc_heap.specs.Image.{table_text, text_byte};
@@ -13,7 +13,7 @@ use jc_words::WordStore;
 use jc_words::layout::{TEXT_LENGTH, TEXT_START};
 use std::alloc::{AllocError, Global};
 
-/// By what the cells of objects are told; nothing more can be read where the table text is no table.
+/// What the cells of objects are read by; nothing more can be read where the table text is no table.
 pub(crate) fn legend_of<S: WordStore>(alloc: Global, store: &S) -> Result<Legend, ListFault>
     requires { has_bounds (S.words store.now) ≡ true }
     ensures { IsLegendFor (S.words store.now) result }
@@ -48,7 +48,7 @@ fn platform_of<S: WordStore>(alloc: Global, store: &S) -> Result<Platform, ListF
     platform_in(text.as_slice())
 }
 
-// The platform that a text tells.
+// The platform of a text.
 fn platform_in(text: &[u8]) -> Result<Platform, ListFault>
     ensures { IsPlatformIn text.now result }
 {

@@ -1,4 +1,4 @@
--- Words that are told, one after the other.
+-- Words that are reported, one after the other.
 use Rattle.std.proofs.Common.{arith, ◌≡◌, ◌∙◌, ℕ, zero, suc, ◌+◌, ◌-◌, ◌<◌, ◌≤◌, List, [], ◌++◌, ap, refl, sym, subst, append_assoc, append-nil}
 use Rattle.jc_objects.specs.declared.image_objects.ImageObjects.{ImageObjects}
 use Rattle.jcard_objects.specs.Changes.{AreWordsTold, IsWordTold}
@@ -24,7 +24,7 @@ pub words_none : (o : ImageObjects) (now : List ℕ) (a : ℕ) → AreWordsTold 
 unfolding AreWordsTold
 words_none o now a = refl
 
--- the words up to an address are told after a text
+-- the words up to an address are reported after a text
 pub record AreToldTo (o : ImageObjects) (now : List ℕ) (first at : ℕ) (old text : List ℕ) : Type 0 where
   pub behind : first ≤ at
   pub told : (told : List ℕ) × (text ≡ old ++ told) × AreWordsTold o now first (at - first) told

@@ -25,17 +25,17 @@ cell_text o r i old new = codes "@" ++ decimal r ++ codes " " ++ kind_text o.pla
 abbrev pub word_text : ℕ → ℕ → ℕ → List ℕ
 word_text a old new = codes "word " ++ decimal a ++ codes " " ++ values_text false old new
 
--- a word that changed is told by the cell that stands in it, or by its address where none does
+-- a word that changed is reported by the cell that stands in it, or by its address where none does
 abbrev pub IsChangeTold : ImageObjects → ℕ → ℕ → ℕ → List ℕ → Type 0
 IsChangeTold o a old new text = ((r i : ℕ) × IsCellIn o.heap.now a r i × (text ≡ cell_text o r i old new))
     ⊎ (HoldsNoCell o.heap.now a × (text ≡ word_text a old new))
 
--- a word is told if it is not the one that it was
+-- a word is reported if it is not the one that it was
 abbrev pub IsWordTold : ImageObjects → List ℕ → ℕ → List ℕ → Type 0
 IsWordTold o now a text = ((slice_index o.store.words a ≡ slice_index now a) × (text ≡ []))
     ⊎ ((slice_index o.store.words a ≢ slice_index now a) × IsChangeTold o a (slice_index o.store.words a) (slice_index now a) text)
 
--- the words at this many addresses, from this one on, are told so
+-- the words at this many addresses, from this one on, are reported so
 unfoldable pub AreWordsTold : ImageObjects → List ℕ → ℕ → ℕ → List ℕ → Type 0
 AreWordsTold o now a zero text = text ≡ []
 AreWordsTold o now a (suc n) text = (first rest : List ℕ) × (text ≡ first ++ rest) × IsWordTold o now a first × AreWordsTold o now (a + 1) n rest

@@ -1,4 +1,4 @@
--- How the classes of objects are told.
+-- How the classes of objects are reported.
 use Rattle.std.specs.Prelude.{ℕ, ◌++◌, ◌/◌, ◌%◌, List, Option, Some, None, codes, decimal}
 use Rattle.hex.specs.Hex.{encode_upper}
 use Rattle.jc_heap.specs.declared.object.Kind.{Kind}
@@ -10,7 +10,7 @@ use Rattle.jc_platform.specs.Platform.{class_by_word}
 use Rattle.jc_platform.specs.Tokens.{Tokens}
 use Rattle.jc_platform.specs.declared.names.PlatformClass.{PlatformClass}
 
--- a class of a package that was loaded: the package's AID and the class's number in it, or its word where no package tells its AID
+-- a class of a package that was loaded: the package's AID and the class's number in it, or its word where no package states its AID
 abbrev pub loaded_text : Option NamedPackage → ℕ → List ℕ
 loaded_text (Some named) class = encode_upper named.aid ++ codes "." ++ decimal (class % 256)
 loaded_text None class = decimal class

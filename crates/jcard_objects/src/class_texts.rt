@@ -1,4 +1,4 @@
-//! How the classes of objects are told.
+//! How the classes of objects are reported.
 ghost use Rattle.std.specs.Prelude.{◌≡◌, ◌≤◌, ◌++◌, decimal, length, OnOk};
 ghost use Rattle.jc_words.specs.Layout.{text_start};
 ghost use Rattle.jcard_objects.specs.ClassTexts.{class_text, kind_text, loaded_text};
@@ -12,7 +12,7 @@ use jc_words::WordStore;
 use std::alloc::{AllocError, Global};
 
 /// Writes the class that a word names after a text: by its name, if it is one of the platform; else by its package's AID and its
-/// number in it, as the words of an image tell them.
+/// number in it, as the words of an image have them.
 pub fn push_class<S: WordStore>(
     alloc: Global,
     text: &mut Vec<u8>,

@@ -1,4 +1,4 @@
-//! Texts that tell objects: their classes, and which of their cells changed.
+//! Texts about objects: their classes, and which of their cells changed.
 #![tactic(auto)]
 
 pub mod changes;

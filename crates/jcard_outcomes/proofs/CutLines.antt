@@ -1,4 +1,4 @@
--- The cuts that lines tell of.
+-- The cuts that lines report.
 use Rattle.std.proofs.Common.{arith, ◌≡◌, ◌∙◌, ◌⊎◌, inl, inr, ℕ, ◌+◌, ◌<◌, ◌≤◌, false, List, [], ◌∷◌, ◌++◌, length, get_or, take, drop, replicate, ap, sym, refl, subst}
 use Rattle.std.specs.Prelude.{map}
 use Rattle.std.specs.Borrow.{Bor}
@@ -13,7 +13,7 @@ use Rattle.jcard_outcomes.proofs.Dealt.{from_next}
 use Rattle.jcard_outcomes.proofs.Ends.{lent, lent_at, lent_length, nothing}
 use Rattle.jcard_outcomes.proofs.SweepLines.{cut_is_no_end, cut_line, end_line}
 
--- the lines up to one that tells of no cut
+-- the lines up to one that reports no cut
 pub cuts_told : (lines : List (Bor (List ℕ))) (i : ℕ) (cuts : List Cut) → i < length lines → take i (lent lines) ≡ map told_cut cuts
     → All IsReadCut cuts → IsUncutTold (get_or lines i nothing).now → TellCuts (lent lines) cuts
 cuts_told lines i cuts h told lacking uncut = (
@@ -44,7 +44,7 @@ cuts_whole lines i now h told uncut cuts u n t low = by (cases_lt i (length cuts
         let exact : i ≡ length (map told_cut cuts) = omega (arith, low, past, length-map cuts told_cut) in
         sym told ∙ ap (take i) t.1 ∙ ap (λ k. take k (map told_cut cuts ++ replicate n u)) exact ∙ take_front (map told_cut cuts) (replicate n u)
 
--- a line that tells of neither is none of the sweep
+-- a line that reports neither is none of the sweep
 pub no_line : (lines : List (Bor (List ℕ))) (i : ℕ) → i < length lines → (IsUncutTold (get_or lines i nothing).now → ⊥)
     → ((c : Cut) → IsCutOfWords c → (get_or lines i nothing).now ≡ told_cut c → ⊥)
     → (cuts : List Cut) (u : List ℕ) (n : ℕ) → AreTold cuts u n (lent lines) → ⊥
@@ -64,7 +64,7 @@ cut_next lines i cuts more c h told e pushed =
 pub lacking_next : (cuts more : List Cut) (c : Cut) → All IsReadCut cuts → IsReadCut c → more ≡ cuts ++ c ∷ [] → All IsReadCut more
 lacking_next cuts more c all one pushed = subst (All IsReadCut) (sym pushed) (All-push IsReadCut cuts c all one)
 
--- a line that tells neither of a cut nor of a command that is not cut
+-- a line that reports neither a cut nor a command that is not cut
 pub bad_line : (lines : List (Bor (List ℕ))) (i : ℕ) → i < length lines → (IsUncutTold (get_or lines i nothing).now → ⊥)
     → ((c : Cut) → IsCutOfWords c → (get_or lines i nothing).now ≡ told_cut c → ⊥) → IsBadLine (lent lines) i
 bad_line lines i h uncut none =

@@ -23,7 +23,7 @@ use Rattle.jcard_outcomes.proofs.Told.{answer_of_uncut, in_line_has_none, lacks_
 
 -- ---- the report of cuts
 
--- the line after the cuts tells of no cut, and no answer
+-- the line after the cuts reports no cut, and no answer
 no_report : (n : ℕ) (lines : List (List ℕ)) (cuts : List Cut) (uncut : List ℕ) (f : JoinFault) → TellCuts lines cuts → 0 < n
     → drop (length cuts) lines ≡ replicate n uncut → IsNoReport cuts uncut f → IsLinesFault n lines f
 no_report n lines cuts uncut NoMemory t some e h = tt
@@ -39,7 +39,7 @@ no_report n lines cuts uncut (Missing m) t some e h = absurd h
 no_report n lines cuts uncut (Twice m) t some e h = absurd h
 no_report n lines cuts uncut (OtherSweep m) t some e h = absurd h
 
--- so a sweep is not told
+-- so a sweep is not reported
 no_report_whole : (depth : Depth) (s : Sweep) (lines : List (List ℕ)) (n : ℕ) (cuts : List Cut) (uncut : List ℕ) (f : JoinFault) → 0 < n → IsTellable depth s
     → uncut ≡ told_uncut s.answer.items s.after.answers.items → IsNoReport cuts uncut f → f ≡ NoMemory
 no_report_whole depth s lines n cuts uncut NoMemory some tellable e h = refl
@@ -111,7 +111,7 @@ cuts_within lines cuts t = omega (arith, ap length t.1, length-append (map told_
 
 -- ---- the report of lines
 
--- the lines of a sweep tell it
+-- the lines of a sweep state it
 swept : (depth : Depth) (s : Sweep) (n : ℕ) (lines : List (List ℕ)) → 0 < n → IsTellable depth s
     → lines ≡ told_sweep n s.cuts.items (told_uncut s.answer.items s.after.answers.items)
     → AreTold s.cuts.items (told_uncut s.answer.items s.after.answers.items) n lines

@@ -1,4 +1,4 @@
--- Sweeps that are told in the same lines have the same report.
+-- Sweeps that are reported in the same lines have the same report.
 use Rattle.std.proofs.Common.{arith, ◌≡◌, ◌∙◌, inl, ℕ, suc, zero, ◌+◌, ◌-◌, ◌==◌, ◌<◌, ◌||◌, ◌&&◌, false, List, [], ◌∷◌, ◌++◌, if◌then◌else◌, length, get_or, drop, replicate, ap, sym, refl, subst, codes, append_assoc, Some, None, Option}
 use Rattle.std.specs.Prelude.{decimal, is_none, map, max, min}
 use Rattle.std.proofs.lemmas.Fmt.{decimal_injective}
@@ -24,7 +24,7 @@ use Rattle.jcard_outcomes.proofs.Told.{answer_of_uncut, answer_unique, by_calls_
 
 -- ---- one cut
 
--- what a standing is, by how it is told
+-- what a standing is, by how it is reported
 before_told : (s : Standing) → is_before s ≡ (bytes_eq (standing_text s) (codes "as before") || bytes_eq (standing_text s) (codes "as before but for PIN tries"))
 before_told Before = refl
 before_told BeforeButTries = refl
@@ -271,14 +271,14 @@ begins_with (suc n) x rest h e = (replicate n x, e)
 pub same_lengths : (cs ds : List Cut) → map told_cut cs ≡ map told_cut ds → length cs ≡ length ds
 same_lengths cs ds e = sym (length-map cs told_cut) ∙ ap length e ∙ length-map ds told_cut
 
--- the lines tell a sweep
+-- the lines state a sweep
 pub joined_read : (n : ℕ) (lines : List (List ℕ)) (cuts : List Cut) (uncut : List ℕ) → TellCuts lines cuts
     → drop (length cuts) lines ≡ replicate n uncut → lines ≡ told_sweep n cuts uncut
 joined_read n lines cuts uncut t e =
     let rest : t.0 ≡ replicate n uncut = sym (behind_cuts cuts t.0) ∙ ap (drop (length cuts)) (sym t.1) ∙ e in
     t.1 ∙ ap (λ l. map told_cut cuts ++ l) rest
 
--- the line after the cuts tells of none
+-- the line after the cuts reports none
 pub uncut_told : (n : ℕ) (lines : List (List ℕ)) (cuts : List Cut) (uncut : List ℕ) → 0 < n → TellCuts lines cuts
     → drop (length cuts) lines ≡ replicate n uncut → IsUncutTold uncut
 uncut_told n lines cuts uncut some t e =
@@ -304,7 +304,7 @@ read_cuts (c ∷ cuts) w =
     let one = All-head IsCutOfWords c cuts w in
     All-cons IsReadCut c cuts (standing_has_no_comma c.standing one.0.0, one) (read_cuts cuts (All-tail IsCutOfWords c cuts w))
 
--- the lines after those that tell the cuts of a sweep tell its answer
+-- the lines after those that state the cuts of a sweep state its answer
 pub uncut_is : (s : Sweep) (lines : List (List ℕ)) (n : ℕ) (cuts : List Cut) (uncut : List ℕ) → 0 < n
     → lines ≡ told_sweep n s.cuts.items (told_uncut s.answer.items s.after.answers.items) → map told_cut cuts ≡ map told_cut s.cuts.items
     → drop (length cuts) lines ≡ replicate n uncut → uncut ≡ told_uncut s.answer.items s.after.answers.items
@@ -315,7 +315,7 @@ uncut_is s lines n cuts uncut some e same behind =
     ∙ behind_cuts s.cuts.items (replicate n u) in
     first_of_all n uncut u some (sym behind ∙ at)
 
--- the report of a sweep that the lines tell is the one that is told
+-- the report of a sweep that the lines say is the one that is reported
 pub joined_whole : (depth : Depth) (s : Sweep) (lines : List (List ℕ)) (n : ℕ) (cuts : List Cut) (answer uncut : List ℕ) → IsTellable depth s → 0 < n
     → lines ≡ told_sweep n s.cuts.items (told_uncut s.answer.items s.after.answers.items)
     → All IsReadCut cuts → map told_cut cuts ≡ map told_cut s.cuts.items

@@ -82,7 +82,7 @@ behind_other name texts bodies n first so h is none = (
   λ i low other. other name first (get_or bodies i []) is (so.each i low),
 )
 
--- the first text tells no head
+-- the first text states no head
 pub first_other : (texts : List (List ℕ)) → 0 < length texts → ((name body : List ℕ) → IsBehindHead name (get_or texts 0 []) body → ⊥)
     → AreOfOthers texts (OtherSweep 0)
 first_other texts some none = (some, λ name x y e f. none name x e, λ i low other. absurd (omega (arith, low)))

@@ -15,7 +15,7 @@ pub number_fits : (first step i total number bound : ℕ) → number ≡ first +
 number_fits first step i total number bound e h fits =
     omega (arith, mul-le-mul_left {m = i + 1} {n = total} step (omega arith), number_next first step i number e)
 
--- the line of the next cut is told
+-- the line of the next cut is reported
 pub line_more : (cuts : List Cut) (i k n : ℕ) (c : Cut) (text next uncut : List ℕ) → i < length cuts → c ≡ get_or cuts i c
     → next ≡ text ++ line_text k (told_cut c) → next ++ lines_text (k + n) n (drop (i + 1) cuts) uncut ≡ text ++ lines_text k n (drop i cuts) uncut
 unfolding lines_text

@@ -1,4 +1,4 @@
--- What a line tells of recoveries, and of what a cut left after it.
+-- What a line reports of recoveries, and of what a cut left after it.
 use Rattle.std.proofs.Common.{arith, ◌≡◌, ◌∙◌, ◌⊎◌, inl, inr, ℕ, ◌<◌, ◌^◌, ◌==◌, ◌&&◌, Bool, true, false, List, [], ◌∷◌, ◌++◌, if◌then◌else◌, get_or, ap, sym, refl, subst, codes, decimal, append_assoc, Option, Some, None, Result, Ok, Err}
 use Rattle.std.specs.Prelude.{IfOk, IfSome, MatchOption, is_none}
 use Rattle.std.proofs.lemmas.Bool.{eqb-true, false≢true}
@@ -12,7 +12,7 @@ use Rattle.jcard_outcomes.specs.declared.standing.Standing.TheVariants.{Before, 
 use Rattle.jcard_outcomes.proofs.Splits.{cut_again, cut_unique, decimal_lacks, not_lacking, rest_again}
 use Rattle.jcard_outcomes.proofs.Told.{end_lacks, lacks_both, told_in_one_line, told_parts}
 
--- ---- what is told of recoveries
+-- ---- what is reported of recoveries
 
 -- after the first word of it
 abbrev shape : Recoveries → List ℕ → List ℕ
@@ -51,7 +51,7 @@ pub in_three : (end second first start a b c : List ℕ) → first ≡ start ++ 
 in_three end second first start a b c e f g =
     g ∙ ap (λ l. l ++ c) (f ∙ ap (λ l. l ++ b) e ∙ append_assoc start a b) ∙ append_assoc start (a ++ b) c
 
--- so it is told
+-- so it is reported
 pub some_pushed : (end second first start : List ℕ) (ways : ℕ) (d : List ℕ) → first ≡ start ++ (codes "recoveries " ++ decimal ways ++ codes " ")
     → second ≡ first ++ d → end ≡ second ++ codes ", " → end ≡ start ++ (codes "recoveries " ++ (decimal ways ++ 32 ∷ (d ++ 44 ∷ codes " ")))
 some_pushed end second first start ways d e f p =
@@ -84,7 +84,7 @@ difference_once (Some n) (Some m) p q e = ap Some (decimal_injective n m (omega 
 
 -- ---- reading it
 
--- a text that does not begin with recoveries tells of none
+-- a text that does not begin with recoveries reports none
 pub untold : (told : List ℕ) → IsUnrecovered told → (r : Recoveries) (rest : List ℕ) → told ≡ recovered_told r ++ rest → rest ≡ told
 untold told none r rest e = by (is_one_way r) refl
   where
@@ -92,7 +92,7 @@ untold told none r rest e = by (is_one_way r) refl
     by true y = sym (e ∙ nothing_told r rest y)
     by false n = absurd (none (shape r rest) (e ∙ all_told r rest n))
 
--- a text that does tells of some
+-- a text that does reports some
 pub behind_recoveries : (told more : List ℕ) → told ≡ codes "recoveries " ++ more → (r : Recoveries) (rest : List ℕ) → IsUnrecovered rest
     → told ≡ recovered_told r ++ rest → (is_one_way r ≡ false) × (more ≡ shape r rest)
 behind_recoveries told more f r rest plain e = by (is_one_way r) refl
@@ -113,7 +113,7 @@ pub behind_difference : (rest d more : List ℕ) (r : Recoveries) (left : List �
 behind_difference rest d more r left e n counted h =
     cut_again 44 rest d (difference_told r.difference) more (32 ∷ left) e n h (difference_lacks_comma r.difference counted.1)
 
--- no ways are told
+-- no ways are reported
 pub no_ways_end : (told more : List ℕ) → told ≡ codes "recoveries " ++ more → has 32 more ≡ false
     → (r : Recoveries) (rest : List ℕ) → AreCounted r → IsUnrecovered rest → told ≡ recovered_told r ++ rest → ⊥
 no_ways_end told more f n r rest counted plain e =
@@ -125,13 +125,13 @@ pub no_ways : (told more digits rest : List ℕ) → told ≡ codes "recoveries 
 no_ways told more digits rest f g n none r left counted plain e =
     none r.ways counted.0 (behind_ways more digits rest r left g n counted (behind_recoveries told more f r left plain e).1).0
 
--- no difference is told
+-- no difference is reported
 pub no_difference_end : (told more digits rest : List ℕ) → told ≡ codes "recoveries " ++ more → more ≡ digits ++ 32 ∷ rest → has 32 digits ≡ false
     → has 44 rest ≡ false → (r : Recoveries) (left : List ℕ) → AreCounted r → IsUnrecovered left → told ≡ recovered_told r ++ left → ⊥
 no_difference_end told more digits rest f g n lacks r left counted plain e =
     not_lacking 44 rest (difference_told r.difference) (32 ∷ left) lacks (behind_ways more digits rest r left g n counted (behind_recoveries told more f r left plain e).1).1
 
--- what was told of recoveries is told of these
+-- what was reported of recoveries is reported of these
 pub told_of : (told more digits rest d end : List ℕ) (ways : ℕ) → told ≡ codes "recoveries " ++ more → more ≡ digits ++ 32 ∷ rest → has 32 digits ≡ false
     → digits ≡ decimal ways → ways < 2 ^ 64 → rest ≡ d ++ 44 ∷ end → has 44 d ≡ false → (r : Recoveries) (left : List ℕ) → AreCounted r → IsUnrecovered left
     → told ≡ recovered_told r ++ left → (r.ways ≡ ways) × (is_one_way r ≡ false) × (d ≡ difference_told r.difference) × (end ≡ 32 ∷ left)
@@ -163,11 +163,11 @@ first_byte Answers rest e = absurd (omega (arith, e))
 first_byte (Changed d) rest e = absurd (omega (arith, e))
 first_byte (ChangedByCalls d) rest e = absurd (omega (arith, e))
 
--- what is told of what a cut left tells of no recoveries
+-- what is reported of what a cut left reports of no recoveries
 pub left_unrecovered : (c : Cut) → IsUnrecovered (told_left c)
 left_unrecovered c more e = first_byte c.standing (44 ∷ cut_tail c.lost (in_line c.answers.items)) (ap (λ l. get_or l 0 0) (sym (told_parts c) ∙ e))
 
--- recoveries, and what follows them, are told in one way
+-- recoveries, and what follows them, are reported in one way
 pub told_once : (a b : Recoveries) (x y : List ℕ) → AreCounted a → AreCounted b → IsUnrecovered x → IsUnrecovered y
     → recovered_told a ++ x ≡ recovered_told b ++ y → (a ≡ b) × (x ≡ y)
 told_once a b x y p q plain other e = by (is_one_way a) (is_one_way b) refl refl
@@ -201,16 +201,16 @@ recovered_in_one_line r counted = by (is_one_way r) refl
 pub cut_in_one_line : (c : Cut) → IsCutOfWords c → has 10 (told_cut c) ≡ false
 cut_in_one_line c words = lacks_both 10 (recovered_told c.recoveries) (told_left c) (recovered_in_one_line c.recoveries words.1) (told_in_one_line c words.0)
 
--- what is told after recoveries is in one line
+-- what is reported after recoveries is in one line
 pub left_in_one_line : (told left : List ℕ) (r : Recoveries) → told ≡ recovered_told r ++ left → has 10 told ≡ false → has 10 left ≡ false
 left_in_one_line told left r e n = end_lacks 10 (recovered_told r) left (ap (has 10) (sym e) ∙ n)
 
--- a text that tells of no recoveries tells of no cut
+-- a text that reports no recoveries reports no cut
 pub no_recovered : (told : List ℕ) → ((r : Recoveries) (rest : List ℕ) → AreCounted r → IsUnrecovered rest → told ≡ recovered_told r ++ rest → ⊥)
     → (c : Cut) → IsCutOfWords c → told ≡ told_cut c → ⊥
 no_recovered told none c words e = none c.recoveries (told_left c) words.1 (left_unrecovered c) e
 
--- it tells of a cut with these recoveries, or of none
+-- it reports a cut with these recoveries, or of none
 pub with_recovered : (told left : List ℕ) (r : Recoveries) (o : Option Cut) → told ≡ recovered_told r ++ left → AreCounted r
     → ((s : Recoveries) (rest : List ℕ) → AreCounted s → IsUnrecovered rest → told ≡ recovered_told s ++ rest → rest ≡ left)
     → MatchOption o ((c : Cut) → IsLeftOfWords c → left ≡ told_left c → ⊥)
@@ -231,7 +231,7 @@ pub cut_read : {E : Type 0} (told left : List ℕ) (r : Recoveries) (o : Result 
 cut_read told left r (Ok found) e counted once h = with_recovered told left r found e counted once h
 cut_read told left r (Err f) e counted once h = tt
 
--- what is told of no difference is told of no other one
+-- what is reported of no difference is reported of no other one
 pub alike_only : (told : List ℕ) (ways : ℕ) (o : Option Recoveries) → told ≡ codes "alike"
     → MatchOption o (ways ≡ 1) (λ r. (r ≡ record { ways = ways; difference = None }) × (is_one_way r ≡ false))
     → MatchOption o ((r : Recoveries) → AreCounted r → r.ways ≡ ways → is_one_way r ≡ false → told ≡ difference_told r.difference → ⊥)
@@ -269,7 +269,7 @@ pub ends_untold : (told more digits rest d end : List ℕ) (ways : ℕ) → told
 ends_untold told more digits rest d end ways f g n w small h m none r left counted plain e =
     none left (told_of told more digits rest d end ways f g n w small h m r left counted plain e).3
 
--- these recoveries are told, and what follows them is this and nothing else
+-- these recoveries are reported, and what follows them is this and nothing else
 pub left_told : (told more digits rest d end left : List ℕ) (ways : ℕ) (r : Recoveries) → told ≡ codes "recoveries " ++ more → more ≡ digits ++ 32 ∷ rest
     → has 32 digits ≡ false → digits ≡ decimal ways → ways < 2 ^ 64 → rest ≡ d ++ 44 ∷ end → has 44 d ≡ false → r.ways ≡ ways
     → d ≡ difference_told r.difference → is_one_way r ≡ false → IfSome r.difference (λ n. n < 65536) → end ≡ codes " " ++ left

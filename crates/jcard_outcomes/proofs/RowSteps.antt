@@ -26,13 +26,13 @@ rows_other cuts i first last outcome c text next h e other told =
     ∙ ap (λ t. text ++ t) (sym (ap (rows_from first last outcome) (drop_at cuts i c h e)
     ∙ ap (λ b. if b then rows_from first (last + 1) outcome (drop (i + 1) cuts) else row_text first last outcome ++ rest) other))
 
--- after the last cut the row is told
+-- after the last cut the row is reported
 pub rows_end : (cuts : List Cut) (i first last : ℕ) (outcome : List ℕ) → length cuts ≤ i
     → rows_from first last outcome (drop i cuts) ≡ row_text first last outcome
 unfolding rows_from
 rows_end cuts i first last outcome h = ap (rows_from first last outcome) (drop_all i cuts h)
 
--- the text is whole where the row that was begun is told
+-- the text is whole where the row that was begun is reported
 pub rows_told : {E : Type 0} (r : Result Unit E) (text end start row : List ℕ) → text ++ row ≡ start → OnOk r (end ≡ text ++ row) → OnOk r (end ≡ start)
 rows_told (Ok done) text end start row e p = p ∙ e
 rows_told (Err fault) text end start row e p = tt

@@ -1,4 +1,4 @@
--- What the texts of shares tell.
+-- What the texts of shares say.
 use Rattle.std.proofs.Common.{arith, ◌≡◌, ◌∙◌, inl, ℕ, suc, ◌+◌, ◌<◌, ◌≤◌, ◌&&◌, Bool, true, false, List, [], ◌∷◌, ◌++◌, length, get_or, take, map, ap, sym, refl, subst, codes, decimal, append_assoc, append-nil}
 use Rattle.std.specs.Bool.{MatchBool}
 use Rattle.std.specs.Borrow.{Bor}
@@ -11,7 +11,7 @@ use Rattle.jcard_outcomes.proofs.Splits.{cut_again, decimal_lacks, rest_again}
 
 -- ---- one share
 
--- a text that begins with neither end of the first line tells of no share
+-- a text that begins with neither end of the first line reports no share
 pub no_verdicts : (text : List ℕ) → ((v : List ℕ) → text ≡ codes " all or nothing\n" ++ v → ⊥) → ((v : List ℕ) → text ≡ codes " NOT all or nothing\n" ++ v → ⊥)
     → (whole : Bool) (v : List ℕ) → text ≡ whole_told whole ++ v → ⊥
 no_verdicts text a b true v e = a v e

@@ -40,7 +40,7 @@ pub total : (whole : List Cut) (u : List ℕ) (n : ℕ) → length (told_sweep n
 total whole u n = length-append (map told_cut whole) (replicate n u) ∙ ap (λ k. k + length (replicate n u)) (length-map whole told_cut)
     ∙ ap (λ k. length whole + k) (length-replicate n u)
 
--- ---- what a line tells
+-- ---- what a line says
 
 got : (cuts : List Cut) (i : ℕ) → i < length cuts → (c : Cut) × (slice_get cuts i ≡ Some c)
 got [] i h = absurd (omega arith)
@@ -52,7 +52,7 @@ got_words [] i c e w = absurd cc
 got_words (d ∷ cuts) zero c e w = let same : d ≡ c = cc in subst IsCutOfWords same (All-head IsCutOfWords d cuts w)
 got_words (d ∷ cuts) (suc i) c e w = got_words cuts i c e (All-tail IsCutOfWords d cuts w)
 
--- a line of a cut tells of one
+-- a line of a cut reports one
 pub cut_line : (cuts : List Cut) (u : List ℕ) (n : ℕ) (lines : List (List ℕ)) (i : ℕ) → AreTold cuts u n lines → i < length cuts
     → (c : Cut) × (get_or lines i [] ≡ told_cut c) × IsCutOfWords c
 cut_line cuts u n lines i t h =
@@ -62,7 +62,7 @@ cut_line cuts u n lines i t h =
       got_words cuts i found.0 found.1 t.3,
     )
 
--- a line after them tells of a number that does not cut
+-- a line after them reports a number that does not cut
 pub end_line : (cuts : List Cut) (u : List ℕ) (n : ℕ) (lines : List (List ℕ)) (i : ℕ) → AreTold cuts u n lines → length cuts ≤ i → i < length lines
     → IsUncutTold (get_or lines i [])
 end_line cuts u n lines i t h small =
@@ -79,7 +79,7 @@ first_byte Answers rest e = absurd (omega (arith, e))
 first_byte (Changed d) rest e = absurd (omega (arith, e))
 first_byte (ChangedByCalls d) rest e = absurd (omega (arith, e))
 
--- no cut is told so
+-- no cut is reported so
 pub cut_is_no_end : (c : Cut) → IsUncutTold (told_cut c) → ⊥
 cut_is_no_end c h = by (is_one_way c.recoveries) refl
   where

@@ -1,4 +1,4 @@
--- What a line tells of a cut is told of no other one.
+-- What a line reports of a cut is reported of no other one.
 use Rattle.std.proofs.Common.{arith, ◌≡◌, inl, ◌∙◌, ℕ, ◌<◌, ◌==◌, ◌||◌, Bool, true, false, List, [], ◌∷◌, ◌++◌, if◌then◌else◌, ap, sym, refl, length, drop, ◌-◌, codes, decimal, append_assoc, Option, Some, None}
 use Rattle.std.specs.Prelude.{MatchOption}
 use Rattle.std.proofs.lemmas.Bool.{false≢true}
@@ -95,7 +95,7 @@ no_standing text a b c d e f Answers words h = e h
 no_standing text a b c d e f (Changed difference) words h = f.0 difference words h
 no_standing text a b c d e f (ChangedByCalls difference) words h = f.1 difference words h
 
--- what is left to be told is a change, or none
+-- what is left to be reported is a change, or none
 pub or_changed : (text : List ℕ) (r : Option Standing) → (text ≡ codes "as before" → ⊥) → (text ≡ codes "as before but for PIN tries" → ⊥)
     → (text ≡ codes "as after" → ⊥) → (text ≡ codes "as after but for PIN tries" → ⊥) → (text ≡ codes "with other answers" → ⊥)
     → MatchOption r (((d : Difference) → AreWords d → text ≡ changed_text d → ⊥)
@@ -145,7 +145,7 @@ standing_in_one_line (Changed d) words = changed_lacks 10 (omega arith) refl ref
 standing_in_one_line (ChangedByCalls d) words =
     lacks_both 10 (changed_text d) (codes " by non-atomic calls") (changed_lacks 10 (omega arith) refl refl refl d words) refl
 
--- what is told of non-atomic calls has a hyphen, and nothing else has
+-- what is reported of non-atomic calls has a hyphen, and nothing else has
 pub by_calls_told : (s : Standing) → IsOfWords s → has 45 (standing_text s) ≡ is_by_calls s
 by_calls_told Before words = refl
 by_calls_told BeforeButTries words = refl
@@ -161,13 +161,13 @@ by_calls_told (ChangedByCalls d) words = list_any-append (λ x. x == 45) (change
 
 -- ---- ends of texts
 
--- a text that has no such end tells of no such calls
+-- a text that has no such end reports no such calls
 pub no_calls : (text : List ℕ) → ((front : List ℕ) → text ≡ front ++ codes " by non-atomic calls" → ⊥)
     → ((d : Difference) → AreWords d → text ≡ changed_text d → ⊥)
     → ((d : Difference) → AreWords d → text ≡ changed_text d → ⊥) × ((d : Difference) → AreWords d → text ≡ changed_text d ++ codes " by non-atomic calls" → ⊥)
 no_calls text none plain = (plain, (λ d words e. none (changed_text d) e))
 
--- one that has it tells of what stands before it
+-- one that has it reports what stands before it
 pub only_calls : (text front : List ℕ) → text ≡ front ++ codes " by non-atomic calls" → ((d : Difference) → AreWords d → front ≡ changed_text d → ⊥)
     → ((d : Difference) → AreWords d → text ≡ changed_text d → ⊥) × ((d : Difference) → AreWords d → text ≡ changed_text d ++ codes " by non-atomic calls" → ⊥)
 only_calls text front e plain = (
@@ -227,7 +227,7 @@ told_in_one_line c words = ap (has 10) (told_parts c)
     ∙ lacks_both 10 (standing_text c.standing) (44 ∷ cut_tail c.lost (in_line c.answers.items)) (standing_in_one_line c.standing words.0)
     (tail_in_one_line c.lost (in_line c.answers.items) words.1 (in_line_has_none c.answers.items))
 
--- no cut is told in parts that are none
+-- no cut is reported in parts that are none
 pub no_parts : (told : List ℕ) → ((standing answers : List ℕ) (lost : ℕ) → lost < 65536 → told ≡ standing ++ 44 ∷ cut_tail lost answers
     → has 44 standing ≡ false → ⊥) → (c : Cut) → IsLeftOfWords c → told ≡ told_left c → ⊥
 no_parts told none c words e = none (standing_text c.standing) (in_line c.answers.items) c.lost words.1 (e ∙ told_parts c) (standing_has_no_comma c.standing words.0)
@@ -273,11 +273,11 @@ parts_there told front rest more answers n e f g =
 
 -- ---- the command that is not cut
 
--- no answer is told where none of these is found
+-- no answer is reported where none of these is found
 pub no_colon : (told rest : List ℕ) → told ≡ codes "no cut, answer " ++ rest → has 58 rest ≡ false → (answer : List ℕ) → IsAnswerTold answer told → ⊥
 no_colon told rest e n answer h = not_lacking 58 rest answer h.0 n (rest_again told (codes "no cut, answer ") rest (answer ++ 58 ∷ h.0) e h.1)
 
--- one answer is told
+-- one answer is reported
 pub answer_unique : (told a b : List ℕ) → IsAnswerTold a told → IsAnswerTold b told → a ≡ b
 answer_unique told a b g h = (cut_unique 58 a b g.0 h.0 g.2 h.2 (rest_again told (codes "no cut, answer ") (a ++ 58 ∷ g.0) (b ++ 58 ∷ h.0) g.1 h.1)).0
 

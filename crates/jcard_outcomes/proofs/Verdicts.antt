@@ -5,7 +5,7 @@ use Rattle.jcard_outcomes.specs.Reports.{line_verdict_text, verdicts_text}
 use Rattle.jcard_outcomes.specs.declared.each.LineSweep.{LineSweep}
 use Rattle.jcard_outcomes.proofs.Items.{drop_at}
 
--- the verdict of the next command is told
+-- the verdict of the next command is reported
 pub verdict_more : (rows : Bool) (sweeps : List LineSweep) (i : ℕ) (s : LineSweep) (text next : List ℕ) → i < length sweeps → s ≡ get_or sweeps i s
     → next ≡ text ++ line_verdict_text rows s → next ++ verdicts_text rows (drop (i + 1) sweeps) ≡ text ++ verdicts_text rows (drop i sweeps)
 unfolding verdicts_text

@@ -1,4 +1,4 @@
--- Shares of the commands of a script: what the text of each tells, and what all of them tell together.
+-- Shares of the commands of a script: what the text of each says, and what all of them say together.
 use Rattle.std.specs.Prelude.{ℕ, ◌≡◌, ◌⊎◌, ◌+◌, ◌<◌, ◌&&◌, Bool, true, false, List, [], ◌∷◌, ◌++◌, codes, decimal, length}
 use Rattle.std.specs.List.{slice_index_or}
 use Rattle.jcard_outcomes.specs.Orders.{AreInOrder, AreUnplaced}
@@ -34,7 +34,7 @@ AreShares k n [] verdicts whole = (verdicts ≡ []) × (whole ≡ true)
 AreShares k n (text ∷ texts) verdicts whole = (own : List ℕ) × (is : Bool) × (others : List ℕ) × (are : Bool) × (text ≡ share_text k n is own)
     × AreShares (k + 1) n texts others are × (verdicts ≡ own ++ others) × (whole ≡ is && are)
 
--- these texts, which have no heads, are those of all shares, in any order, and this is what they tell together
+-- these texts, which have no heads, are those of all shares, in any order, and this is what they say together
 abbrev pub AreSharesJoined : List (List ℕ) → Joined → Type 0
 AreSharesJoined texts joined = (ordered : List (List ℕ)) × AreInOrder share_label texts ordered
     × AreShares 0 (length ordered) ordered joined.text.items joined.is_all_or_nothing

@@ -16,7 +16,7 @@ use Rattle.jcard_outcomes.specs.declared.standing.Cut.{Cut}
 
 -- ---- lines in their order
 
--- the texts tell these lines, in parts
+-- the texts state these lines, in parts
 abbrev pub AreOrdered : List (List ℕ) → List (List ℕ) → Type 0
 AreOrdered texts lines = AreDealt texts lines × All (λ told. has 10 told ≡ false) lines
 
@@ -39,26 +39,26 @@ IsNextLine k rests left (Err fault) = IsHeadFault (length rests) k (slice_index_
     × (slice_index_or rests (k % length rests) [] ≡ [] → ⊥)
     × ((told rest : List ℕ) → slice_index_or rests (k % length rests) [] ≡ line_text k told ++ rest → ⊥)
 
--- ---- what they tell
+-- ---- what they say
 
--- a line tells of a number that does not cut
+-- a line reports a number that does not cut
 abbrev pub IsUncutTold : List ℕ → Type 0
 IsUncutTold told = (rest : List ℕ) × (told ≡ codes "no cut, answer " ++ rest)
 
--- it tells this answer, in which no colon stands
+-- it states this answer, in which no colon stands
 abbrev pub IsAnswerTold : List ℕ → List ℕ → Type 0
 IsAnswerTold answer told = (rest : List ℕ) × (told ≡ codes "no cut, answer " ++ (answer ++ 58 ∷ rest)) × (has 58 answer ≡ false)
 
--- the lines tell these cuts, and then of a number that does not cut, if of any
+-- the lines state these cuts, and then of a number that does not cut, if of any
 abbrev pub TellCuts : List (List ℕ) → List Cut → Type 0
 TellCuts lines cuts = (rest : List (List ℕ)) × (lines ≡ map told_cut cuts ++ rest)
     × ((told : List ℕ) (more : List (List ℕ)) → rest ≡ told ∷ more → IsUncutTold told) × All IsReadCut cuts
 
--- the lines tell these cuts, and this of n numbers that do not cut
+-- the lines state these cuts, and this of n numbers that do not cut
 abbrev pub AreTold : List Cut → List ℕ → ℕ → List (List ℕ) → Type 0
 AreTold cuts uncut n lines = (0 < n) × (lines ≡ told_sweep n cuts uncut) × IsUncutTold uncut × All IsCutOfWords cuts
 
--- the report of these cuts, after which as many recoveries were cut, with this line of the command that is not cut, which tells this answer
+-- the report of these cuts, after which as many recoveries were cut, with this line of the command that is not cut, which states this answer
 abbrev pub joined_text : Depth → List Cut → List ℕ → List ℕ → List ℕ
 joined_text depth cuts answer uncut = rows_text cuts ++ uncut ++ codes "\n" ++ verdict_text answer cuts ++ recoveries_text depth cuts
 
@@ -67,7 +67,7 @@ abbrev pub IsReportOf : Depth → List Cut → List ℕ → Joined → Type 0
 IsReportOf depth cuts uncut joined = (answer : List ℕ) × IsAnswerTold answer uncut × (joined.text.items ≡ joined_text depth cuts answer uncut)
     × (joined.is_all_or_nothing ≡ are_whole cuts)
 
--- these texts, which have no heads, tell a sweep in parts, from the first on, and this is its report
+-- these texts, which have no heads, state a sweep in parts, from the first on, and this is its report
 abbrev pub AreJoinedInOrder : Depth → List (List ℕ) → Joined → Type 0
 AreJoinedInOrder depth texts joined = (cuts : List Cut) × (uncut : List ℕ) × AreDealt texts (told_sweep (length texts) cuts uncut)
     × IsReportOf depth cuts uncut joined
@@ -76,18 +76,18 @@ AreJoinedInOrder depth texts joined = (cuts : List Cut) × (uncut : List ℕ) ×
 abbrev pub AreJoined : Depth → List (List ℕ) → Joined → Type 0
 AreJoined depth texts joined = (ordered : List (List ℕ)) × AreInOrder cut_label texts ordered × AreJoinedInOrder depth ordered joined
 
--- the line of the command that is not cut tells no answer; or memory was refused
+-- the line of the command that is not cut states no answer; or memory was refused
 abbrev pub IsNoReport : List Cut → List ℕ → JoinFault → Type 0
 IsNoReport cuts uncut NoMemory = Unit {0}
 IsNoReport cuts uncut (BadLine m) = (m ≡ length cuts) × ((answer : List ℕ) → IsAnswerTold answer uncut → ⊥)
 IsNoReport cuts uncut other = ⊥
 
--- this line tells neither of a cut nor an answer
+-- this line reports neither a cut nor an answer
 abbrev pub IsBadLine : List (List ℕ) → ℕ → Type 0
 IsBadLine lines m = (m < length lines) × ((c : Cut) → IsCutOfWords c → slice_index_or lines m [] ≡ told_cut c → ⊥)
     × ((answer : List ℕ) → IsAnswerTold answer (slice_index_or lines m []) → ⊥)
 
--- this line stands after one that tells of no cut, and is another, or is one more than there are parts
+-- this line stands after one that reports no cut, and is another, or is one more than there are parts
 abbrev pub IsOtherLine : ℕ → List (List ℕ) → ℕ → Type 0
 IsOtherLine n lines m = (first : ℕ) × IsUncutTold (slice_index_or lines first []) × (first ≤ m) × (m < length lines)
     × ((first + n ≤ m) ⊎ (slice_index_or lines m [] ≡ slice_index_or lines first [] → ⊥))
@@ -100,7 +100,7 @@ IsLinesFault n lines (Twice m) = ⊥
 IsLinesFault n lines (BadLine m) = IsBadLine lines m
 IsLinesFault n lines (OtherSweep m) = IsOtherLine n lines m
 
--- a line tells of no cut, and of no command that is not cut; or memory was refused
+-- a line reports no cut, and of no command that is not cut; or memory was refused
 abbrev pub IsNoCut : List (List ℕ) → JoinFault → Type 0
 IsNoCut lines NoMemory = Unit {0}
 IsNoCut lines (BadLine m) = IsBadLine lines m
@@ -132,12 +132,12 @@ IsUnjoined texts fault = IsNextFault texts fault ⊎ ((lines : List (List ℕ)) 
 abbrev pub IsJoinFault : List (List ℕ) → JoinFault → Type 0
 IsJoinFault texts fault = AreUnplaced cut_label texts fault ⊎ ((ordered : List (List ℕ)) × AreInOrder cut_label texts ordered × IsUnjoined ordered fault)
 
--- a sweep is told in lines: its differences are of words, its recoveries are counted, its answer is of one line and has no colon, and recoveries
+-- a sweep is reported in lines: its differences are of words, its recoveries are counted, its answer is of one line and has no colon, and recoveries
 -- were cut as deep as this
 abbrev pub IsTellable : Depth → Sweep → Type 0
 IsTellable depth s = All IsCutOfWords s.cuts.items × (has 10 s.answer.items ≡ false) × (has 58 s.answer.items ≡ false) × (s.depth ≡ depth)
 
--- the lines of n parts tell a sweep, and this is its report; where they are those of a sweep, it is that of the sweep
+-- the lines of n parts state a sweep, and this is its report; where they are those of a sweep, it is that of the sweep
 pub record IsJoinOf (depth : Depth) (n : ℕ) (lines : List (List ℕ)) (result : Result Joined JoinFault) : Type 0 where
   pub fault : IfErr result (λ f. IsLinesFault n lines f)
   pub joined : IfOk result (λ j. (cuts : List Cut) × (uncut : List ℕ) × (lines ≡ told_sweep n cuts uncut)
@@ -145,7 +145,7 @@ pub record IsJoinOf (depth : Depth) (n : ℕ) (lines : List (List ℕ)) (result 
   pub whole : (s : Sweep) → IsTellable depth s → lines ≡ told_sweep n s.cuts.items (told_uncut s.answer.items s.after.answers.items)
       → MatchResult result (λ j. (j.text.items ≡ report_text s) × (j.is_all_or_nothing ≡ are_whole s.cuts.items)) (λ fault. fault ≡ NoMemory)
 
--- the same of lines that tell these cuts
+-- the same of lines that state these cuts
 pub record IsJoinOfCuts (depth : Depth) (n : ℕ) (lines : List (List ℕ)) (cuts : List Cut) (result : Result Joined JoinFault) : Type 0 where
   pub fault : IfErr result (λ f. IsLinesFault n lines f)
   pub joined : IfOk result (λ j. (uncut : List ℕ) × (lines ≡ told_sweep n cuts uncut)

@@ -1,4 +1,4 @@
--- Parts of a sweep: what each tells, and what all of them tell together.
+-- Parts of a sweep: what each says, and what all of them say together.
 use Rattle.std.specs.Prelude.{ℕ, ◌≡◌, ◌+◌, ◌%◌, ◌<◌, ◌^◌, ◌==◌, ◌&&◌, Bool, false, List, [], ◌∷◌, ◌++◌, map, replicate, length, codes, decimal, Option, Some, None, IfSome, is_none, if◌then◌else◌}
 use Rattle.std.specs.List.{list_any, slice_index_or}
 use Rattle.jcard_outcomes.specs.Reports.{in_line, standing_text, words_lost_text}
@@ -28,7 +28,7 @@ cut_label = codes "cut after "
 abbrev pub line_start : ℕ → List ℕ
 line_start k = numbered cut_label k
 
--- that line, which tells this
+-- that line, which states this
 abbrev pub line_text : ℕ → List ℕ → List ℕ
 line_text k told = line_start k ++ (told ++ codes "\n")
 
@@ -41,15 +41,15 @@ difference_told (Some n) = decimal n
 abbrev pub is_one_way : Recoveries → Bool
 is_one_way r = (r.ways == 1) && is_none r.difference
 
--- what a line tells of the recoveries that were cut after a cut, unless they are such: in how many ways, and of a difference
+-- what a line reports of the recoveries that were cut after a cut, unless they are such: in how many ways, and of a difference
 abbrev pub recovered_told : Recoveries → List ℕ
 recovered_told r = if is_one_way r then [] else codes "recoveries " ++ (decimal r.ways ++ 32 ∷ (difference_told r.difference ++ 44 ∷ codes " "))
 
--- what it tells of what a cut left: how that stands, how many words are lost, and the answers
+-- what it reports of what a cut left: how that stands, how many words are lost, and the answers
 unfoldable pub told_left : Cut → List ℕ
 told_left c = standing_text c.standing ++ codes ", " ++ words_lost_text c.lost ++ codes ", answers " ++ in_line c.answers.items
 
--- what it tells of a cut
+-- what it reports of a cut
 abbrev pub told_cut : Cut → List ℕ
 told_cut c = recovered_told c.recoveries ++ told_left c
 
@@ -57,7 +57,7 @@ told_cut c = recovered_told c.recoveries ++ told_left c
 abbrev pub cut_tail : ℕ → List ℕ → List ℕ
 cut_tail lost answers = codes " " ++ (decimal lost ++ 32 ∷ (codes "words lost, answers " ++ answers))
 
--- what it tells where the command is not cut: its answer, and those after it
+-- what it says where the command is not cut: its answer, and those after it
 unfoldable pub told_uncut : List ℕ → List ℕ → List ℕ
 told_uncut answer answers = codes "no cut, answer " ++ (answer ++ codes ": " ++ in_line answers ++ codes "as after")
 
@@ -70,11 +70,11 @@ lines_text k n (c ∷ cuts) uncut = line_text k (told_cut c) ++ lines_text (k + 
 abbrev pub head_text : List ℕ → List ℕ
 head_text name = codes "sweep " ++ (name ++ codes "\n")
 
--- what a part tells after its head
+-- what a part says after its head
 abbrev pub body_text : Part → List ℕ
 body_text p = lines_text p.first p.step p.sweep.cuts.items (told_uncut p.sweep.answer.items p.sweep.after.answers.items)
 
--- what a part tells: of which sweep it is, and its lines
+-- what a part says: of which sweep it is, and its lines
 unfoldable pub part_text : Part → List ℕ
 part_text p = head_text p.name.items ++ body_text p
 
@@ -86,11 +86,11 @@ unfoldable pub dealt : ℕ → ℕ → ℕ → List (List ℕ) → List ℕ
 dealt j n k [] = []
 dealt j n k (told ∷ more) = (if k % n == j then line_text k told else []) ++ dealt j n (k + 1) more
 
--- a text tells the lines of one part of n, in their order
+-- a text states the lines of one part of n, in their order
 abbrev pub AreDealt : List (List ℕ) → List (List ℕ) → Type 0
 AreDealt texts lines = (j : ℕ) → j < length texts → slice_index_or texts j [] ≡ dealt j (length texts) 0 lines
 
--- what all lines of a sweep in n parts tell: each cut, and n numbers that do not cut
+-- what all lines of a sweep in n parts say: each cut, and n numbers that do not cut
 abbrev pub told_sweep : ℕ → List Cut → List ℕ → List (List ℕ)
 told_sweep n cuts uncut = map told_cut cuts ++ replicate n uncut
 
@@ -103,7 +103,7 @@ IsOfWords (Changed d) = AreWords d
 IsOfWords (ChangedByCalls d) = AreWords d
 IsOfWords other = Unit {0}
 
--- a text tells of no recoveries at its beginning
+-- a text reports no recoveries at its beginning
 abbrev pub IsUnrecovered : List ℕ → Type 0
 IsUnrecovered text = (more : List ℕ) → text ≡ codes "recoveries " ++ more → ⊥
 
@@ -119,7 +119,7 @@ AreCounted r = (r.ways < 2 ^ 64) × IfSome r.difference (λ n. n < 65536)
 abbrev pub IsCutOfWords : Cut → Type 0
 IsCutOfWords c = IsLeftOfWords c × AreCounted c.recoveries
 
--- a cut that a line tells
+-- a cut that a line says
 abbrev pub IsReadCut : Cut → Type 0
 IsReadCut c = (has 44 (standing_text c.standing) ≡ false) × IsCutOfWords c
 

@@ -1,4 +1,4 @@
--- Recoveries that are cut, one after the other, after each cut of a command, and the text that tells whether one made a difference.
+-- Recoveries that are cut, one after the other, after each cut of a command, and the text that says whether one made a difference.
 use Rattle.std.specs.Prelude.{ℕ, ◌+◌, ◌==◌, min, List, [], ◌∷◌, ◌++◌, codes, decimal, Option, Some, None, if◌then◌else◌}
 use Rattle.jcard_outcomes.specs.declared.recoveries.Depth.{Depth}
 use Rattle.jcard_outcomes.specs.declared.recoveries.Depth.TheVariants.{Zero, One, Two, Three}
@@ -64,7 +64,7 @@ abbrev pub recoveries_by : Depth → Option (ℕ × ℕ) → List Cut → List �
 recoveries_by depth (Some found) cuts = different_text depth found.0 found.1
 recoveries_by depth None cuts = same_text depth (ways_from 0 cuts)
 
--- what is told of recoveries after these cuts, if any were cut
+-- what is reported of recoveries after these cuts, if any were cut
 abbrev pub recoveries_text : Depth → List Cut → List ℕ
 recoveries_text Zero cuts = []
 recoveries_text depth cuts = recoveries_by depth (first_difference 0 cuts) cuts

@@ -1,4 +1,4 @@
--- The text that tells what cuts left.
+-- The text that says what cuts left.
 use Rattle.std.specs.Prelude.{ℕ, ◌+◌, ◌-◌, ◌==◌, ◌||◌, ◌&&◌, not, max, Bool, true, false, List, [], ◌∷◌, ◌++◌, map, codes, decimal, drop, length, is_none, Option, Some, None, if◌then◌else◌}
 use Rattle.std.specs.List.{starts_with}
 use Rattle.std.specs.Str.{bytes_eq}
@@ -28,7 +28,7 @@ labelled label n = label ++ decimal n
 abbrev pub changed_text : Difference → List ℕ
 changed_text d = labelled (codes "changed: word ") d.address ++ labelled (codes " was ") d.before ++ labelled (codes " and is ") d.now
 
--- how a standing is told
+-- how a standing is reported
 abbrev pub standing_text : Standing → List ℕ
 standing_text Before = codes "as before"
 standing_text BeforeButTries = codes "as before but for PIN tries"
@@ -46,7 +46,7 @@ words_lost_text lost = decimal lost ++ codes " words lost"
 abbrev pub lost_text : ℕ → List ℕ
 lost_text lost = if lost == 0 then [] else codes ", " ++ words_lost_text lost
 
--- what a row tells of a cut: the answers, how what is left stands, and what is lost
+-- what a row reports of a cut: the answers, how what is left stands, and what is lost
 unfoldable pub outcome_text : Cut → List ℕ
 outcome_text c = in_line c.answers.items ++ standing_text c.standing ++ lost_text c.lost
 
@@ -54,7 +54,7 @@ outcome_text c = in_line c.answers.items ++ standing_text c.standing ++ lost_tex
 abbrev pub numbers_text : ℕ → ℕ → List ℕ
 numbers_text first last = if first == last then decimal first else decimal first ++ codes ".." ++ decimal last
 
--- what a row tells after its numbers
+-- what a row says after its numbers
 abbrev pub ended : List ℕ → List ℕ
 ended outcome = codes ": " ++ outcome ++ codes "\n"
 
@@ -182,7 +182,7 @@ no_write_text answer = codes "no write: answered " ++ (answer ++ codes "\n")
 abbrev pub verdict_text : List ℕ → List Cut → List ℕ
 verdict_text answer cuts = if is_refused_at_once answer cuts then no_write_text answer else verdict_by (first_broken 0 cuts) cuts
 
--- all that is told of the cuts of a command
+-- all that is reported of the cuts of a command
 abbrev pub report_text : Sweep → List ℕ
 report_text s = rows_text s.cuts.items ++ uncut_text s.answer.items s.after.answers.items ++ verdict_text s.answer.items s.cuts.items
     ++ recoveries_text s.depth s.cuts.items
@@ -193,11 +193,11 @@ report_text s = rows_text s.cuts.items ++ uncut_text s.answer.items s.after.answ
 abbrev pub line_command_text : ℕ → List ℕ → List ℕ
 line_command_text n command = codes "line " ++ decimal n ++ codes ": " ++ command
 
--- it, and its answer, before what is told of it
+-- it, and its answer, before what is reported of it
 abbrev pub line_answer_text : ℕ → List ℕ → List ℕ → List ℕ
 line_answer_text n command answer = line_command_text n command ++ codes " = " ++ answer ++ codes ": "
 
--- what is told of recoveries after the cuts of a command in a line, if any were cut
+-- what is reported of recoveries after the cuts of a command in a line, if any were cut
 abbrev pub line_recoveries_text : Depth → List ℕ → List Cut → List ℕ
 line_recoveries_text Zero head cuts = []
 line_recoveries_text depth head cuts = head ++ recoveries_text depth cuts
@@ -210,7 +210,7 @@ line_rows_text rows s = if rows then rows_text s.cuts.items ++ uncut_text s.answ
 abbrev pub swept_text : List ℕ → Sweep → List ℕ
 swept_text head s = head ++ verdict_text s.answer.items s.cuts.items ++ line_recoveries_text s.depth head s.cuts.items
 
--- what is told of a command in a line; one at which the card is down was not cut
+-- what is reported of a command in a line; one at which the card is down was not cut
 abbrev pub line_outcome_text : Bool → ℕ → List ℕ → LineOutcome → List ℕ
 line_outcome_text rows n command (Swept s) = line_rows_text rows s ++ swept_text (line_answer_text n command s.answer.items) s
 line_outcome_text rows n command Down = line_command_text n command ++ codes ": the card is down at the command\n"

@@ -9,7 +9,7 @@ use Rattle.jcard_outcomes.specs.declared.standing.Likeness.TheVariants.{Same, Bu
 use Rattle.jcard_outcomes.specs.declared.standing.Standing.{Standing}
 use Rattle.jcard_outcomes.specs.declared.standing.Standing.TheVariants.{Before, BeforeButTries, After, AfterButTries, Answers, Changed, ChangedByCalls}
 
--- the heap stands so, or not; the tries of PINs are the same, or not; and the answers are. Where tries differ, answers may tell them
+-- the heap stands so, or not; the tries of PINs are the same, or not; and the answers are. Where tries differ, answers may show them
 abbrev pub IsLikeness : Type 0 → Type 0 → Type 0 → Likeness → Type 0
 IsLikeness Stands Tries Answered Same = Stands × Tries × Answered
 IsLikeness Stands Tries Answered ButTries = Stands × (Tries → ⊥)
@@ -57,7 +57,7 @@ told_of_calls true (ChangedByCalls d) = ChangedByCalls d
 told_of_calls false judged = judged
 
 -- what a cut left, a heap and answers, stands so beside what was before and what comes after; where the heap is not as before, this
--- word shows it. The lenient words are those that are spared and those that non-atomic calls of the command write: it is told where no
+-- word shows it. The lenient words are those that are spared and those that non-atomic calls of the command write: it is reported where no
 -- other word of what stood before has changed
 abbrev pub IsStanding : List ℕ → List ℕ → Left → Left → List ℕ → List ℕ → Standing → Type 0
 IsStanding spared lenient before after heap answers s = (changed : Option Difference) × (like_before like_after : Likeness)

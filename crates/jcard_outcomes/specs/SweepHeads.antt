@@ -5,11 +5,11 @@ use Rattle.jcard_outcomes.specs.Parts.{has, head_text}
 use Rattle.jcard_outcomes.specs.declared.sweep_head.HeadFault.{HeadFault}
 use Rattle.jcard_outcomes.specs.declared.sweep_head.HeadFault.TheVariants.{NoMemory, OtherSweep}
 
--- after its head, which names this sweep, a text tells this
+-- after its head, which names this sweep, a text states this
 abbrev pub IsBehindHead : List ℕ → List ℕ → List ℕ → Type 0
 IsBehindHead name text body = (text ≡ head_text name ++ body) × (has 10 name ≡ false)
 
--- the texts tell these after their heads, which all name this sweep
+-- the texts state these after their heads, which all name this sweep
 pub record AreBehindHeads (name : List ℕ) (texts bodies : List (List ℕ)) : Type 0 where
   pub all : length bodies ≡ length texts
   pub each : (i : ℕ) → i < length texts → IsBehindHead name (slice_index_or texts i []) (slice_index_or bodies i [])

@@ -1,4 +1,4 @@
-//! Shares of the commands of a script, so that several runs cut them: what the text of each tells, and joining all of them.
+//! Shares of the commands of a script, so that several runs cut them: what the text of each says, and joining all of them.
 ghost use Rattle.std.specs.Prelude.{◌≡◌, ◌++◌, ◌∷◌, ◌<◌, ◌&&◌, ℕ, List, Bool, [], codes, decimal, map, length, slice_index_or, IfErr, IfOk, MatchOption, MatchResult, OnOk};
 ghost use Rattle.std.specs.Bool.{MatchBool};
 ghost use Rattle.std.specs.Borrow.{Bor};
@@ -61,7 +61,7 @@ fn whole_told(is_whole: bool) -> &'static [u8]
     }
 }
 
-/// Joins what the texts of all shares tell after their heads, in any order, to what one run tells of all commands.
+/// Joins what the texts of all shares say after their heads, in any order, to what one run reports of all commands.
 pub fn join_shares(alloc: Global, texts: &[&[u8]]) -> Result<Joined, JoinFault>
     ensures { MatchResult result
         (λ joined. AreSharesJoined (map (λ (t : Bor (List ℕ)). t.now) texts.now) joined)
@@ -100,7 +100,7 @@ fn both(one: bool, other: bool) -> bool
     one && other
 }
 
-// What the text of share `number` of `count` tells.
+// What the text of share `number` of `count` says.
 fn told_by<'a>(
     alloc: Global,
     text: &'a [u8],

@@ -26,7 +26,7 @@ pub struct Joined {
     pub is_all_or_nothing: bool,
 }
 
-/// Joins what the texts of all parts of a sweep tell after their heads, in any order, to what one run tells of it. Recoveries were cut
+/// Joins what the texts of all parts of a sweep say after their heads, in any order, to what one run reports of it. Recoveries were cut
 /// as deep as this.
 pub fn join(alloc: Global, depth: Depth, texts: &[&[u8]]) -> Result<Joined, JoinFault>
     requires { 0 < length texts.now }
@@ -78,7 +78,7 @@ fn joined_lines(
     }
 }
 
-// Joins the lines of this many parts, which tell of these cuts.
+// Joins the lines of this many parts, which report these cuts.
 fn joined_cuts(
     alloc: Global,
     depth: Depth,
@@ -116,7 +116,7 @@ fn joined_report(
     })
 }
 
-// The answer that is told of the command that is not cut; none where its line has no form.
+// The answer that is reported of the command that is not cut; none where its line has no form.
 fn answer_of(uncut: &[u8]) -> Option<&[u8]>
     ensures { MatchOption result ((answer : List ℕ) → IsAnswerTold answer uncut.now → ⊥)
         (λ answer. IsAnswerTold answer.now uncut.now) }
@@ -130,7 +130,7 @@ fn answer_of(uncut: &[u8]) -> Option<&[u8]>
     }
 }
 
-// What the lines of all parts tell, in the order of their numbers.
+// What the lines of all parts say, in the order of their numbers.
 fn ordered<'a>(alloc: Global, texts: &[&'a [u8]]) -> Result<Vec<&'a [u8]>, JoinFault>
     requires { 0 < length texts.now }
     ensures read { IfOk result (λ lines. AreOrdered (map (λ (t : Bor (List ℕ)). t.now) texts.now)
@@ -193,7 +193,7 @@ fn next_line<'a>(
     Ok(Some(told))
 }
 
-// What the line about this many writes tells, with which a text begins, and what follows it.
+// What the line about this many writes says, with which a text begins, and what follows it.
 fn line_at<'a>(
     alloc: Global,
     text: &'a [u8],
@@ -231,7 +231,7 @@ fn are_empty(rests: &[&[u8]]) -> bool
     rests.iter().all(|rest| rest.is_empty())
 }
 
-// The cuts that lines tell of, up to the first that tells of none.
+// The cuts that lines report, up to the first that reports none.
 fn cuts_of(alloc: Global, lines: &[&[u8]]) -> Result<Vec<Cut>, JoinFault>
     requires { All (λ t. has 10 t ≡ false) (map (λ (t : Bor (List ℕ)). t.now) lines.now) }
     ensures told { IfOk result (λ cuts. TellCuts (map (λ (t : Bor (List ℕ)). t.now) lines.now)
@@ -265,7 +265,7 @@ fn push_cut(cuts: &mut Vec<Cut>, cut: Cut) -> Result<(), JoinFault>
     }
 }
 
-// Whether a line tells of a number that does not cut.
+// Whether a line reports a number that does not cut.
 fn is_uncut(told: &[u8]) -> bool
     ensures { MatchBool result (IsUncutTold told.now) (IsUncutTold told.now → ⊥) }
 {
@@ -275,7 +275,7 @@ fn is_uncut(told: &[u8]) -> bool
     }
 }
 
-// What the lines after this many cuts tell: as many as there are parts, and all the same.
+// What the lines after this many cuts say: as many as there are parts, and all the same.
 fn uncut_of<'a>(lines: &[&'a [u8]], count: usize, parts: usize) -> Result<&'a [u8], JoinFault>
     requires some { 0 < parts }
     requires within { count ≤ length lines.now }
@@ -297,7 +297,7 @@ fn uncut_of<'a>(lines: &[&'a [u8]], count: usize, parts: usize) -> Result<&'a [u
     Ok(uncut)
 }
 
-// The report of these cuts and of recoveries as deep as this, with this line of the command that is not cut, which tells this answer.
+// The report of these cuts and of recoveries as deep as this, with this line of the command that is not cut, which states this answer.
 fn joined_text(
     alloc: Global,
     depth: Depth,

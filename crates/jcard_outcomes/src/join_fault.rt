@@ -5,14 +5,14 @@ ghost use Rattle.jcard_outcomes.specs.declared.join_fault.JoinFault.TheVariants.
 use std::alloc::AllocError;
 
 /// Why texts are not the parts of a sweep.
-#[derive(Clone, Copy, Debug, PartialEq, Eq, Drop)]
+#[derive(Clone, Copy, Drop)]
 pub enum JoinFault {
     NoMemory,
     /// The line about this many writes is missing.
     Missing(usize),
     /// It stands twice.
     Twice(usize),
-    /// It tells of no cut.
+    /// It reports no cut.
     BadLine(usize),
     /// It is one of another sweep.
     OtherSweep(usize),

@@ -1,5 +1,5 @@
 //! What cuts of the power left of a card: how the heaps and answers compare with those before and after, and the text that
-//! tells it.
+//! reports it.
 #![tactic(auto)]
 
 pub mod command_shares;

@@ -1,4 +1,4 @@
-//! Reading back what the line of a part tells of a cut.
+//! Reading back what the line of a part reports of a cut.
 ghost use Rattle.std.specs.Prelude.{◌≡◌, ◌++◌, ◌∷◌, ◌<◌, ◌^◌, ℕ, List, Some, false, codes, decimal, IfSome, MatchOption, IfOk};
 ghost use Rattle.std.specs.Str.{bytes_eq};
 ghost use Rattle.jcard_outcomes.specs.Parts.{AreCounted, AreWords, IsCutOfWords, IsLeftOfWords, IsOfWords, IsReadCut, IsUnrecovered, cut_tail, difference_told};
@@ -22,7 +22,7 @@ const ONE_WAY: Recoveries = Recoveries {
     difference: None,
 };
 
-/// The cut of which a line tells this; none where it tells of no cut.
+/// The cut which a line reports this; none where it reports no cut.
 pub(crate) fn cut_of(alloc: Global, told: &[u8]) -> Result<Option<Cut>, AllocError>
     requires { has 10 told.now ≡ false }
     ensures { IfOk result (λ found. MatchOption found
@@ -35,7 +35,7 @@ pub(crate) fn cut_of(alloc: Global, told: &[u8]) -> Result<Option<Cut>, AllocErr
     cut_with(alloc, recoveries, left)
 }
 
-// The recoveries of which a line tells, and what it tells after them.
+// The recoveries which a line reports, and what it says after them.
 fn recovered_of(told: &[u8]) -> Option<(Recoveries, &[u8])>
     ensures { MatchOption result
         ((r : ARecoveries) (rest : List ℕ) → AreCounted r → IsUnrecovered rest → told.now ≡ recovered_told r ++ rest → ⊥)
@@ -63,7 +63,7 @@ fn recovered_of(told: &[u8]) -> Option<(Recoveries, &[u8])>
     }
 }
 
-// The recoveries in this many ways whose difference is told so.
+// The recoveries in this many ways whose difference is reported so.
 fn recoveries_of(ways: u64, difference: &[u8]) -> Option<Recoveries>
     ensures { MatchOption result
         ((r : ARecoveries) → AreCounted r → r.ways ≡ ways → is_one_way r ≡ false → difference.now ≡ difference_told r.difference → ⊥)
@@ -96,7 +96,7 @@ fn alike_in(ways: u64) -> Option<Recoveries>
     })
 }
 
-// The cut of whose recoveries this was told, and of what it left this.
+// The cut of whose recoveries this was reported, and of what it left this.
 fn cut_with(alloc: Global, recoveries: Recoveries, left: &[u8]) -> Result<Option<Cut>, AllocError>
     requires { has 10 left.now ≡ false }
     ensures { IfOk result (λ found. MatchOption found
@@ -139,7 +139,7 @@ fn parts_of(told: &[u8]) -> Option<(&[u8], u16, &[u8])>
     }
 }
 
-// The standing that is told so.
+// The standing that is reported so.
 fn standing_of(text: &[u8]) -> Option<Standing>
     ensures { MatchOption result ((s : AStanding) → IsOfWords s → text.now ≡ standing_text s → ⊥)
         (λ s. (text.now ≡ standing_text s) × IsOfWords s) }
@@ -162,7 +162,7 @@ fn standing_of(text: &[u8]) -> Option<Standing>
     changed_of(text)
 }
 
-// The standing with a word that changed that is told so.
+// The standing with a word that changed that is reported so.
 fn changed_of(text: &[u8]) -> Option<Standing>
     ensures { MatchOption result (((d : ADifference) → AreWords d → text.now ≡ changed_text d → ⊥)
         × ((d : ADifference) → AreWords d → text.now ≡ changed_text d ++ codes " by non-atomic calls" → ⊥))
@@ -180,7 +180,7 @@ fn changed_of(text: &[u8]) -> Option<Standing>
     }
 }
 
-// The difference that is told so.
+// The difference that is reported so.
 fn difference_of(text: &[u8]) -> Option<Difference>
     ensures { MatchOption result ((d : ADifference) → AreWords d → text.now ≡ changed_text d → ⊥)
         (λ d. (text.now ≡ changed_text d) × AreWords d) }

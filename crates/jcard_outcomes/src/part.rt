@@ -23,13 +23,13 @@ pub struct Part {
 }
 
 /// Part I of N of a sweep: how many writes its first cut lets pass, which is I - 1, and N.
-#[derive(Clone, Copy, Debug, PartialEq, Eq, Drop)]
+#[derive(Clone, Copy, Drop)]
 pub struct Share {
     pub first: u16,
     pub step: u16,
 }
 
-/// The part that the text `I/N` tells, with I from 1 to N.
+/// The part that the text `I/N` says, with I from 1 to N.
 pub fn share_of(text: &[u8]) -> Option<Share>
     ensures { MatchOption result ((share : AShare) → IsShareText text.now share → ⊥)
         (λ share. IsShareText text.now share) }
@@ -55,7 +55,7 @@ pub fn share_of(text: &[u8]) -> Option<Share>
     })
 }
 
-/// The lines that tell of which sweep a part is, what its cuts left, and where they end.
+/// The lines that say of which sweep a part is, what its cuts left, and where they end.
 #[tactic(auto, unfolding(crate::specs::Parts::part_text))]
 pub fn part_lines(alloc: Global, part: &Part) -> Result<Vec<u8>, AllocError>
     requires { part.now.first + part.now.step * length part.now.sweep.cuts.items < 2 ^ 64 }
@@ -138,7 +138,7 @@ fn cut_told(alloc: Global, cut: &Cut) -> Result<Vec<u8>, AllocError>
     Ok(text)
 }
 
-// Writes what is told of recoveries, unless they were tried in one way, which made no difference.
+// Writes what is reported of recoveries, unless they were tried in one way, which made no difference.
 fn push_recovered(text: &mut Vec<u8>, recoveries: Recoveries) -> Result<(), AllocError>
     ensures { OnOk result (text.new.items ≡ text.old.items ++ recovered_told recoveries) }
 {

@@ -10,7 +10,7 @@ use itoa::Buffer;
 use std::alloc::AllocError;
 
 /// How many recoveries are cut, one after the other, before one comes to its end.
-#[derive(Clone, Copy, Debug, PartialEq, Eq, Drop)]
+#[derive(Clone, Copy, PartialEq, Eq, Drop)]
 pub enum Depth {
     Zero,
     One,
@@ -19,7 +19,7 @@ pub enum Depth {
 }
 
 /// What recoveries were like that were cut after a cut of a command.
-#[derive(Clone, Copy, Debug, PartialEq, Eq, Drop)]
+#[derive(Clone, Copy, Drop)]
 pub struct Recoveries {
     /// In how many ways they were cut.
     pub ways: u64,

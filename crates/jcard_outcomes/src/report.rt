@@ -19,7 +19,7 @@ pub struct Sweep {
     pub depth: Depth,
 }
 
-/// The text that tells what the cuts left.
+/// The text that says what the cuts left.
 pub fn report(alloc: Global, sweep: &Sweep) -> Result<Vec<u8>, AllocError>
     ensures { IfOk result (λ text. text.items ≡ report_text sweep.now) }
 {
@@ -44,7 +44,7 @@ pub(crate) fn push_told_rows(
     push_uncut(text, &sweep.answer, &outcome)
 }
 
-// What a row tells of the command that is not cut.
+// What a row reports of the command that is not cut.
 fn uncut_outcome(alloc: Global, answers: &[u8]) -> Result<Vec<u8>, AllocError>
     ensures { IfOk result (λ text. text.items ≡ in_line answers.now ++ codes "as after") }
 {

@@ -50,7 +50,7 @@ pub(crate) fn is_same(outcome: &[u8], next: &[u8]) -> bool
     outcome == next
 }
 
-// What a row tells of a cut.
+// What a row reports of a cut.
 #[tactic(auto, unfolding(crate::specs::Reports::outcome_text))]
 fn outcome_of(alloc: Global, cut: &Cut) -> Result<Vec<u8>, AllocError>
     ensures { IfOk result (λ text. text.items ≡ outcome_text cut.now) }
@@ -98,7 +98,7 @@ fn push_row(text: &mut Vec<u8>, first: usize, last: usize, outcome: &[u8]) -> Re
     push_ended(text, outcome)
 }
 
-/// Writes what a row tells after its numbers.
+/// Writes what a row says after its numbers.
 pub(crate) fn push_ended(text: &mut Vec<u8>, outcome: &[u8]) -> Result<(), AllocError>
     ensures { OnOk result (text.new.items ≡ text.old.items ++ ended outcome.now) }
 {
@@ -136,7 +136,7 @@ pub(crate) fn push_in_line(text: &mut Vec<u8>, answers: &[u8]) -> Result<(), All
     Ok(())
 }
 
-/// Writes how a standing is told.
+/// Writes how a standing is reported.
 pub(crate) fn push_standing(text: &mut Vec<u8>, standing: Standing) -> Result<(), AllocError>
     ensures { OnOk result (text.new.items ≡ text.old.items ++ standing_text standing) }
 {

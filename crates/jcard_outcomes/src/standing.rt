@@ -27,7 +27,7 @@ pub struct Cut {
 }
 
 /// How what is left compares with one state of a card.
-#[derive(Clone, Copy, Debug, PartialEq, Eq, Drop)]
+#[derive(Clone, Copy, Drop)]
 pub(crate) enum Likeness {
     Same,
     /// The tries of PINs differ.
@@ -38,7 +38,7 @@ pub(crate) enum Likeness {
 }
 
 /// How what is left compares with what was before and with what comes after.
-#[derive(Clone, Copy, Debug, PartialEq, Eq, Drop)]
+#[derive(Clone, Copy, Drop)]
 pub enum Standing {
     Before,
     /// As before, but for the tries of PINs.

@@ -11,7 +11,7 @@ use crate::rows::is_same;
 use std::alloc::{AllocError, Global};
 
 /// Why texts are not those of one sweep.
-#[derive(Clone, Copy, Debug, PartialEq, Eq, Drop)]
+#[derive(Clone, Copy, Drop)]
 pub enum HeadFault {
     NoMemory,
     /// The text at this place names another sweep than the first text, or none.
@@ -26,14 +26,14 @@ impl From<AllocError> for HeadFault {
     }
 }
 
-/// The name of a sweep, and what the texts of its parts tell after their heads.
+/// The name of a sweep, and what the texts of its parts say after their heads.
 #[derive(Drop)]
 pub struct Bodies<'a> {
     pub name: &'a [u8],
     pub texts: Vec<&'a [u8]>,
 }
 
-/// What the texts of parts tell after their heads, which have to name the same sweep.
+/// What the texts of parts say after their heads, which have to name the same sweep.
 pub fn bodies_of<'a>(alloc: Global, texts: &'a [Vec<u8>]) -> Result<Bodies<'a>, HeadFault>
     requires { 0 < length texts.now }
     ensures { MatchResult result (λ bodies. AreBehindHeads bodies.name.now
@@ -49,7 +49,7 @@ pub fn bodies_of<'a>(alloc: Global, texts: &'a [Vec<u8>]) -> Result<Bodies<'a>, 
     }
 }
 
-// What the texts tell after heads of this name.
+// What the texts say after heads with this name.
 fn bodies_behind<'a>(
     alloc: Global,
     texts: &'a [Vec<u8>],
@@ -84,7 +84,7 @@ fn push_body<'a>(bodies: &mut Vec<&'a [u8]>, body: &'a [u8]) -> Result<(), HeadF
     }
 }
 
-// What a text tells after its head, if that has this name.
+// What a text says after its head, if that has this name.
 fn body_behind<'a>(text: &'a [u8], name: &[u8]) -> Option<&'a [u8]>
     requires { has 10 name.now ≡ false }
     ensures { MatchOption result ((body : List ℕ) → text.now ≡ head_text name.now ++ body → ⊥)
@@ -99,7 +99,7 @@ fn body_behind<'a>(text: &'a [u8], name: &[u8]) -> Option<&'a [u8]>
     None
 }
 
-// The name that the head of a text tells, and what follows.
+// The name that the head of a text says, and what follows.
 fn cut_head(text: &[u8]) -> Option<(&[u8], &[u8])>
     ensures { MatchOption result ((name body : List ℕ) → IsBehindHead name text.now body → ⊥)
         (λ r. IsBehindHead r.0.now text.now r.1.now) }

@@ -10,7 +10,7 @@ use std::alloc::AllocError;
 const CHECKSUM_DIGITS: usize = 40;
 
 /// What the parts of a sweep have.
-#[derive(Clone, Copy, Debug, PartialEq, Eq, Drop)]
+#[derive(Clone, Copy, Drop)]
 pub enum SweepKind {
     /// Cuts of one command, with this many recoveries cut after each.
     Cuts(Depth),

@@ -67,7 +67,7 @@ fn push_no_write(text: &mut Vec<u8>, answer: &[u8]) -> Result<(), AllocError>
     push_ending(text, answer)
 }
 
-/// What is told, without a line feed, where a cut left something else; none where each left what was before or what comes after.
+/// What is reported, without a line feed, where a cut left something else; none where each left what was before or what comes after.
 pub fn broken(alloc: Global, cuts: &[Cut]) -> Result<Option<Vec<u8>>, AllocError>
     ensures { IfOk result (λ found. option_map (λ text. text.items) found
         ≡ option_map (broken_told (broken_by_calls cuts.now)) (first_broken 0 cuts.now)) }

@@ -50,7 +50,7 @@ fit_none [] told b n e = (
 )
 fit_none (w ∷ ws) told b n e = absurd (omega arith)
 
--- a byte is wanted, and told
+-- a byte is wanted, and printed
 plain_fits : (first byte : ℕ) (more rest : List ℕ) → (first ≡ 42 → ⊥) → byte ≡ first → Fits more rest → Fits (first ∷ more) (byte ∷ rest)
 unfolding Fits
 plain_fits first byte more rest plain e h = inr (rest, plain, ap (λ x. x ∷ rest) e, h)
@@ -71,7 +71,7 @@ fit_byte wanted told first byte more rest b w t plain e h = rw (w, t) (
   (λ f. h.1 (fits_plain first byte more rest plain f).1),
 )
 
--- another is told
+-- another is printed
 pub fit_other : (wanted told : List ℕ) (first byte : ℕ) (more rest : List ℕ) (b : Bool) → wanted ≡ first ∷ more → told ≡ byte ∷ rest
     → (first ≡ 42 → ⊥) → (byte ≡ first → ⊥) → b ≡ false → (b ≡ true) ↔ Fits wanted told
 fit_other wanted told first byte more rest b w t plain other never = rw (w, t) (
@@ -84,7 +84,7 @@ unfolding Fits
 fits_short first more plain (inl h) = plain h.2
 fits_short first more plain (inr h) = let e : [] ≡ first ∷ h.0 = h.2 in cc
 
--- none is told
+-- none is printed
 pub fit_short : (wanted told : List ℕ) (first : ℕ) (more : List ℕ) (b : Bool) → wanted ≡ first ∷ more → length told ≡ 0
     → (first ≡ 42 → ⊥) → b ≡ false → (b ≡ true) ↔ Fits wanted told
 fit_short wanted told first more b w t plain never = rw (w, empty told t) (
@@ -152,7 +152,7 @@ unfolding Fits
 fits_any_short first more star (inl h) = fits_any_end first more h.0 h.1 h.3 h.5
 fits_any_short first more star (inr h) = absurd (h.1 star)
 
--- nothing is left to tell
+-- nothing is left to report
 pub fit_any_short : (wanted told : List ℕ) (first : ℕ) (more : List ℕ) (b : Bool) → wanted ≡ first ∷ more → length told ≡ 0
     → first ≡ 42 → (Fits more told → ⊥) → b ≡ false → (b ≡ true) ↔ Fits wanted told
 fit_any_short wanted told first more b w t star never n = (

@@ -18,7 +18,7 @@ unfoldable pub AreAnswered : List Row → List ℕ → List ℕ → Type 0
 AreAnswered [] text rest = text ≡ rest
 AreAnswered (r ∷ rows) text rest = (between : List ℕ) × IsAnswered r text between × AreAnswered rows between rest
 
--- the first line of this text is told, and is no answer that the row wants, or no line feed ends it
+-- the first line of this text is reported, and is no answer that the row wants, or no line feed ends it
 abbrev pub IsUnlike : Row → List ℕ → List ℕ → Type 0
 IsUnlike r text told = IsLine told × ((text ≡ told) ⊎ ((rest : List ℕ) × (text ≡ told ++ 10 ∷ rest) × (FitsUnspaced (string_bytes r.wanted) told → ⊥)))
 

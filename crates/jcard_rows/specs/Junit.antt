@@ -10,7 +10,7 @@ use Rattle.jcard_rows.specs.declared.outcome.Outcome.TheVariants.{NoRow, Held, F
 use Rattle.jcard_rows.specs.declared.outcome.Tested.{Tested}
 use Rattle.jcard_rows.specs.declared.row.Row.{Row}
 
--- what was told in place of what is wanted
+-- what was reported in place of what is wanted
 abbrev pub told_text : List ℕ → List ℕ
 told_text told = if length told == 0 then codes ", but is not answered" else codes ", but is " ++ escaped told
 
@@ -35,7 +35,7 @@ is_behind (Failed f) place = nat_lt f.passed place
 abbrev pub time_at : List ℕ → ℕ → ℕ
 time_at times place = slice_index times place
 
--- the beginning of a test case of the file of this name
+-- the beginning of a test case of the file with this name
 abbrev pub name_text : List ℕ → List ℕ
 name_text name = codes "<testcase classname=\"" ++ escaped name ++ codes "\" name=\""
 
@@ -99,6 +99,6 @@ unfoldable pub suites_text : List Tested → List ℕ
 suites_text [] = []
 suites_text (t ∷ ts) = suite_text t ++ suites_text ts
 
--- all that is told
+-- all that is reported
 abbrev pub junit_text : List Tested → List ℕ
 junit_text ts = codes "<?xml version=\"1.0\" encoding=\"UTF-8\"?>\n<testsuites name=\"jcard\">\n" ++ suites_text ts ++ codes "</testsuites>\n"

@@ -5,7 +5,7 @@ use Rattle.jcard_rows.specs.Comparing.{AreAnswered, IsFirstUnlike}
 use Rattle.jcard_rows.specs.declared.outcome.Failure.{Failure}
 use Rattle.jcard_rows.specs.declared.row.Row.{Row}
 
--- a row failed after this many that hold, and this was told in its place
+-- a row failed after this many that hold, and this was reported in its place
 pub record IsFailureAt (r : Row) (passed : ℕ) (told : List ℕ) (f : Failure) : Type 0 where
   pub behind : f.passed ≡ passed
   pub number : f.number ≡ r.number

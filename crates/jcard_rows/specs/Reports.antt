@@ -1,4 +1,4 @@
--- The text that tells what came of files of rows.
+-- The text that says what came of files of rows.
 use Rattle.std.specs.Prelude.{ℕ, ◌+◌, ◌==◌, Bool, true, false, List, [], ◌∷◌, ◌++◌, codes, decimal, length, min, count_by, if◌then◌else◌}
 use Rattle.std.specs.String.{string_bytes}
 use Rattle.jcard_rows.specs.declared.outcome.Failure.{Failure}
@@ -42,7 +42,7 @@ holds_text rows = codes ": " ++ rows_text rows
 abbrev pub row_text : List ℕ → List ℕ → List ℕ
 row_text command wanted = codes ": " ++ command ++ codes " = " ++ wanted
 
--- what was told in place of what is wanted
+-- what was reported in place of what is wanted
 abbrev pub told_text : List ℕ → List ℕ
 told_text told = if length told == 0 then codes ", but is not answered\n" else codes ", but is " ++ told ++ codes "\n"
 
@@ -68,6 +68,6 @@ lines_text (t ∷ ts) = tested_text t ++ lines_text ts
 abbrev pub total_text : ℕ → ℕ → List ℕ
 total_text passed failed = decimal passed ++ codes " passed, " ++ decimal failed ++ codes " failed\n"
 
--- all that is told: the passed rows are counted up to 2^64 - 1
+-- all that is reported: the passed rows are counted up to 2^64 - 1
 abbrev pub report_text : List Tested → List ℕ
 report_text ts = lines_text ts ++ total_text (min (passed_of ts) 18446744073709551615) (failed_of ts)

@@ -102,7 +102,7 @@ IsEnded (outermost ∷ inner) lines all = IsOneMore outermost.number (codes "for
 abbrev pub IsUnrolled : List ℕ → List Numbered → Type 0
 IsUnrolled text all = (loops : List Loop) × (taken : List Numbered) × AreTaken 1 (lines text) [] [] loops taken × IsEnded loops taken all
 
--- a file of this name in the folder of the file of this path has that path: no slash (47) stands after the folder
+-- a file with this name in the folder of the file of this path has that path: no slash (47) stands after the folder
 abbrev pub IsBeside : List ℕ → List ℕ → List ℕ → Type 0
 IsBeside path name beside = (folder file : List ℕ) × (path ≡ folder ++ file) × NoCharPasses (λ c. c == 47) file
     × ((folder ≡ []) ⊎ ((above : List ℕ) × (folder ≡ above ++ 47 ∷ []))) × (beside ≡ folder ++ name)

@@ -1,9 +1,9 @@
-//! A new card, with the rows that it is told.
+//! A new card, with the rows that it is given.
 ghost use Rattle.std.specs.Prelude.{◌≤◌};
 
 use crate::row::Row;
 
-/// A new card of this many words, and the rows that it is told.
+/// A new card of this many words, and the rows that it is given.
 #[derive(Drop)]
 pub struct CardRows {
     pub words: u16,

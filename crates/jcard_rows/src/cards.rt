@@ -1,4 +1,4 @@
-//! New cards, and the rows that each is told.
+//! New cards, and the rows that each is given.
 ghost use Rattle.std.specs.Prelude.{◌≡◌, ◌≤◌, ℕ, List, codes, IfOk, OnOk, MatchOption, option_map, unwrap_or};
 ghost use Rattle.std.specs.Borrow.{Bor};
 ghost use Rattle.jcard_rows.specs.Cards.{AddsRow, AreCardsOf, IsNewCard, IsRow, IsRowOfLine, ends_with_tear, is_tear, torn};

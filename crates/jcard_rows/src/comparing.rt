@@ -5,7 +5,7 @@ ghost use Rattle.jcard_rows.specs.Comparing.{AreAnswered, IsFirstUnlike, IsLine}
 use crate::answers::fits;
 use crate::row::Row;
 
-/// The first row that is not answered as it says, by its place, and what was told in place of that.
+/// The first row that is not answered as it says, by its place, and what was reported in place of that.
 #[derive(Clone, Copy, Drop)]
 pub struct Unlike<'a> {
     pub row: usize,

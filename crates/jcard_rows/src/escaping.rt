@@ -15,7 +15,7 @@ pub(crate) fn push_escaped(text: &mut Vec<u8>, bytes: &[u8]) -> Result<(), Alloc
     Ok(())
 }
 
-// Writes the first of these bytes, if it is not left out, and tells how many of the next are.
+// Writes the first of these bytes, if it is not left out, and says how many of the next are.
 fn push_next(text: &mut Vec<u8>, bytes: &[u8], left_out: u8) -> Result<u8, AllocError>
     requires { 0 < length bytes.now }
     ensures { IfOk result (λ next. text.new.items ++ escaped_behind next (drop 1 bytes.now)

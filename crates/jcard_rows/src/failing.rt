@@ -25,7 +25,7 @@ pub fn first_failure(
     Ok(Some(failure))
 }
 
-// The failure of a row after this many that hold, in whose place this was told.
+// The failure of a row after this many that hold, in whose place this was reported.
 fn failure_of(alloc: Global, row: &Row, passed: usize, told: &[u8]) -> Result<Failure, AllocError>
     ensures { IfOk result (λ failure. IsFailureAt row.now passed told.now failure) }
 {

@@ -1,4 +1,4 @@
-//! What is told of files of rows to build servers: XML in which each file is a test suite, and each row of it a test case.
+//! What is reported of files of rows to build servers: XML in which each file is a test suite, and each row of it a test case.
 ghost use Rattle.std.specs.Prelude.{◌≡◌, ◌++◌, IfOk, OnOk};
 ghost use Rattle.jcard_rows.specs.Junit.{cards_cases, case_text, cases_text, failed_in, failure_text, head_text, is_behind, junit_text, name_text, no_row_text, row_case, row_text, rows_cases, suite_text, suites_text, test_count, time_at, told_text, verdict_text};
 
@@ -9,7 +9,7 @@ use crate::row::Row;
 use crate::seconds::push_seconds;
 use std::alloc::{AllocError, Global};
 
-/// The XML text that tells what came of files: a test suite for each, with a test case for each of its rows and the time that it took. The
+/// The XML text that says what came of files: a test suite for each, with a test case for each of its rows and the time that it took. The
 /// first row that is not answered as it says is a failure, and those after it are no test cases.
 pub fn junit(alloc: Global, tested: &[Tested]) -> Result<Vec<u8>, AllocError>
     ensures { IfOk result (λ text. text.items ≡ junit_text tested.now) }

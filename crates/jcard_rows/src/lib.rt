@@ -1,4 +1,4 @@
-//! Files of rows: lines of scripts with the answers that are wanted, and what is told of them.
+//! Files of rows: lines of scripts with the answers that are wanted, and what is reported of them.
 #![tactic(auto)]
 
 pub mod answers;

@@ -14,7 +14,7 @@ pub enum Outcome {
 }
 
 /// The first row of a file that is not answered as it says: how many rows before it hold, the number of its line, what it says, and what
-/// was told; nothing where the card did not answer.
+/// was reported; nothing where the card did not answer.
 #[derive(Drop)]
 pub struct Failure {
     pub passed: usize,

@@ -1,4 +1,4 @@
-//! What is told of files of rows: a line for each, and how many rows passed and failed.
+//! What is reported of files of rows: a line for each, and how many rows passed and failed.
 ghost use Rattle.std.specs.Prelude.{◌≡◌, ◌++◌, decimal, min, IfOk, OnOk};
 ghost use Rattle.jcard_rows.specs.Reports.{failed_of, failure_text, hold_text, holds_text, is_failed, lines_text, passed_in, passed_of, report_text, row_text, rows_text, tested_text, told_text, total_text};
 
@@ -6,7 +6,7 @@ use crate::outcome::{Failure, Outcome, Tested};
 use itoa::Buffer;
 use std::alloc::{AllocError, Global};
 
-/// The text that tells what came of files: a line for each, and one for all.
+/// The text that says what came of files: a line for each, and one for all.
 pub fn report(alloc: Global, tested: &[Tested]) -> Result<Vec<u8>, AllocError>
     ensures { IfOk result (λ text. text.items ≡ report_text tested.now) }
 {
@@ -120,7 +120,7 @@ fn push_row(text: &mut Vec<u8>, command: &[u8], wanted: &[u8]) -> Result<(), All
     text.extend_from_slice(wanted)
 }
 
-// Writes what was told in place of what is wanted.
+// Writes what was reported in place of what is wanted.
 fn push_told(text: &mut Vec<u8>, told: &[u8]) -> Result<(), AllocError>
     ensures { OnOk result (text.new.items ≡ text.old.items ++ told_text told.now) }
 {

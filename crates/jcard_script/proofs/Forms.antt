@@ -6,7 +6,7 @@ use Rattle.jcard_script.specs.Script.{Form, Skipped, Asks, Bad}
 use Rattle.jcard_script.specs.declared.line.LineRequest.{LineRequest}
 use Rattle.jcard_script.specs.declared.line.LineRequest.TheVariants.{Nothing, Exchange, Reset, ArmFuse, Refused}
 
--- what is asked for is told as a form
+-- what is asked for is written as a form
 abbrev pub HasForm : LineRequest → Type 0
 HasForm Refused = ⊥
 HasForm other = Unit {0}

@@ -34,7 +34,7 @@ pub(crate) enum CardOrStore<S: WordStore> {
 
 impl<S: WordStore> CardOrStore<S> {
     /// Brings the power back and powers up, with a budget of instructions a command. A refused write leaves the store; any other fault is
-    /// told too.
+    /// shown too.
     pub(crate) fn power_up(
         alloc: Global,
         mut store: FuseStore<S>,
@@ -73,7 +73,7 @@ impl<S: WordStore> CardOrStore<S> {
         }
     }
 
-    /// Tells an explainer what it wants to be told of a command that was carried out.
+    /// Tells an explainer what it wants to know of a command that was carried out.
     pub(crate) fn tell<E: Explainer>(&self, alloc: Global, told: &ToldOf<'_>, explainer: &mut E)
         requires up { IsUp self.now }
     {
@@ -88,7 +88,7 @@ impl<S: WordStore> CardOrStore<S> {
         }
     }
 
-    /// What an explainer wants to be told of a command within which the power was cut.
+    /// What an explainer wants to know of a command within which the power was cut.
     pub(crate) fn told_of_cut<E: Explainer>(
         &self,
         alloc: Global,
@@ -181,7 +181,7 @@ impl<S: WordStore> CardOrStore<S> {
         }
     }
 
-    /// What is told after a power up.
+    /// What is reported after a power up.
     pub(crate) fn power_up_answer(&self) -> Reply
         ensures { (response : List ℕ) → text_for_line result response
             ≡ text_of_reply (answer_of_power_up (state_of_card self.now)) }
@@ -193,7 +193,7 @@ impl<S: WordStore> CardOrStore<S> {
     }
 }
 
-/// A command that an explainer may be told of.
+/// A command that an explainer may be shown.
 #[derive(Clone, Copy, Drop)]
 pub(crate) struct ToldOf<'a> {
     pub(crate) note: &'a Note,
@@ -209,7 +209,7 @@ pub(crate) struct ToldOf<'a> {
     pub(crate) statics: &'a [StaticImage],
 }
 
-// The text that an explainer wants to be told of a command of a card. Its watch is told that the command has ended.
+// The text that an explainer wants to know of a command of a card. Its watch is notified that the command has ended.
 fn text_about<S: WordStore, E: Explainer>(
     alloc: Global,
     card: &Card<FuseStore<S>>,

@@ -6,15 +6,15 @@ use jcard_why::covers::Cover;
 use jcard_why::explanation::{Asked, Wanted};
 use jcard_why::watches::Watch;
 
-/// Somebody who may be told what commands did. No answer depends on it.
+/// Somebody who may be shown what commands did. No answer depends on it.
 pub trait Explainer {
-    /// What it wants to be told; nothing, where it does not ask.
+    /// What it wants to know; nothing, where it does not ask.
     fn wanted(&self) -> Option<Wanted>;
 
     /// A map that names methods; empty where there is none.
     fn map(&self) -> &[u8];
 
-    /// What it wanted to be told of a command.
+    /// What it wanted to know of a command.
     fn tell(&mut self, text: &[u8]);
 
     /// Where it counts instructions, where it wants that.
@@ -28,7 +28,7 @@ pub trait Explainer {
         false
     }
 
-    /// What is told of the arrivals of a command, before which the static images were these; nothing where memory is refused.
+    /// What is reported of the arrivals of a command, before which the static images were these; nothing where memory is refused.
     fn arrivals(&self, _asked: &Asked<'_>, _images: &[StaticImage]) -> Option<Vec<u8>> {
         None
     }
@@ -41,7 +41,7 @@ pub trait Explainer {
 }
 
 /// Nobody asks.
-#[derive(Clone, Copy, Debug, PartialEq, Eq, Drop)]
+#[derive(Clone, Copy, Drop)]
 pub struct Unasked;
 
 impl Explainer for Unasked {

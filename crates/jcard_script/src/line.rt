@@ -14,7 +14,7 @@ use arrayvec::ArrayVec;
 /// The most digits of a line that are kept: two more than the longest command has.
 const DIGITS: usize = 524;
 
-/// The most bytes of a command that are told: one more than the longest command has.
+/// The most bytes of a command that are kept: one more than the longest command has.
 pub(crate) const BYTES: usize = 262;
 
 /// What the bytes of a line are.
@@ -35,7 +35,7 @@ pub(crate) enum Kind {
 pub(crate) enum LineRequest {
     /// Nothing: it is empty or a comment.
     Nothing,
-    /// The command of these bytes, of which 262 at most are told.
+    /// The command of these bytes, of which 262 at most are kept.
     Exchange(ArrayVec<u8, 262>),
     /// A reset.
     Reset,
@@ -222,7 +222,7 @@ impl Line {
         asked_by(&self.content, &self.word)
     }
 
-    /// What is kept of it for who is told of it.
+    /// What is kept of it for who is shown it.
     pub(crate) fn text(&self) -> &LineText {
         &self.text
     }

@@ -1,4 +1,4 @@
-//! What is kept of a line for who is told of it.
+//! What is kept of a line for who is shown it.
 
 use crate::refused_line::{LineFault, is_of_command};
 use arrayvec::ArrayVec;
@@ -6,7 +6,7 @@ use arrayvec::ArrayVec;
 /// How many bytes of a line are kept at most.
 const BEGINNING: usize = 1024;
 
-/// What is kept of a line for who is told of it. No answer depends on it.
+/// What is kept of a line for who is shown it. No answer depends on it.
 #[derive(Drop)]
 pub(crate) struct LineText {
     // The first bytes.

@@ -21,7 +21,7 @@ use thiserror::Error;
 pub const BOUND: usize = 16_777_216;
 
 /// Why a script was not carried out to its end.
-#[derive(Clone, Copy, Debug, PartialEq, Eq, Error, Drop)]
+#[derive(Clone, Copy, Debug, Error, Drop)]
 pub enum ScriptFault {
     /// The script could not be read on. The lines that a line feed ended in what was read are
     /// carried out.
@@ -73,8 +73,8 @@ pub fn run_script<S: WordStore + Drop, R: TextIn, W: TextOut>(
     run_script_explained(alloc, fuse, USUAL_BUDGET, reader, writer, &mut Unasked)
 }
 
-/// The same with any budget of instructions a command; and after each answer of a command the explainer is told what it wants to
-/// be told.
+/// The same with any budget of instructions a command; and after each answer of a command the explainer is shown what it wants to
+/// know.
 pub fn run_script_explained<S: WordStore + Drop, R: TextIn, W: TextOut, E: Explainer>(
     alloc: Global,
     fuse: FuseStore<S>,
@@ -107,7 +107,7 @@ pub fn run_script_explained<S: WordStore + Drop, R: TextIn, W: TextOut, E: Expla
     (session.into_store(), result)
 }
 
-// Notes that are kept where somebody wants to be told of them and there is memory.
+// Notes that are kept where somebody wants to know of them and there is memory.
 fn notes_for(alloc: Global, wanted: Option<Wanted>) -> Notes {
     let Some(wanted) = wanted else {
         return Notes::nowhere();

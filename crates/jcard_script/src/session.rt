@@ -51,9 +51,9 @@ pub(crate) struct Session<S: WordStore> {
     response: Response,
     // The last command, where notes are kept.
     command: ArrayVec<u8, 262>,
-    // The static images before it, where somebody wants to be told of arrivals.
+    // The static images before it, where somebody wants to know of arrivals.
     statics: Vec<StaticImage>,
-    // What is to be told of the last command within which the power was cut, and the number of its line.
+    // What is to be reported of the last command within which the power was cut, and the number of its line.
     cut: Option<Vec<u8>>,
     cut_number: u32,
 }
@@ -281,7 +281,7 @@ impl<S: WordStore + Drop> Session<S> {
         }
     }
 
-    // Tells why the line has no form, where that is the fault.
+    // Says why the line has no form, where that is the fault.
     fn remark_on<E: Explainer>(&self, fault: ScriptFault, explainer: &mut E) {
         let ScriptFault::BadLine(number) = fault else {
             return;
@@ -516,7 +516,7 @@ impl<S: WordStore + Drop> Session<S> {
     }
 }
 
-// What is to be told of the command in a line within which the power was cut.
+// What is to be reported of the command in a line within which the power was cut.
 fn cut_text<S: WordStore, E: Explainer>(
     alloc: Global,
     held: &CardOrStore<S>,
@@ -537,7 +537,7 @@ fn cut_text<S: WordStore, E: Explainer>(
     held.told_of_cut(alloc, &told, explainer)
 }
 
-// The static images before a command, where somebody wants to be told of arrivals and there is memory for them.
+// The static images before a command, where somebody wants to know of arrivals and there is memory for them.
 fn kept_statics<S: WordStore, E: Explainer>(
     alloc: Global,
     held: &Option<CardOrStore<S>>,

@@ -8,12 +8,12 @@ ghost use Rattle.jcard_script.specs.Texts.{AppendsCut};
 use thiserror::Error;
 
 /// A read failed.
-#[derive(Clone, Copy, Debug, PartialEq, Eq, Error, Drop)]
+#[derive(Clone, Copy, Debug, Error, Drop)]
 #[error("a read failed")]
 pub struct ReadFailed;
 
 /// A write failed.
-#[derive(Clone, Copy, Debug, PartialEq, Eq, Error, Drop)]
+#[derive(Clone, Copy, Debug, Error, Drop)]
 #[error("a write failed")]
 pub struct WriteFailed;
 

@@ -52,7 +52,7 @@ reported s j (Err NotAllOrNothing) text e f h = (h.0 ∙ e, sym f ∙ h.1)
 reported s j (Err WriteFailed) text e f h = subst (λ t. IsCutOf t text) e h
 reported s j (Err other) text e f h = absurd h
 
--- the report was told
+-- the report was reported
 pub joined_told : (depth : Depth) (texts : List (List ℕ)) (j : Joined) (ended : Result (Unit {0}) Fault) (text : List ℕ) → AreJoined depth texts j
     → ((s : Sweep) → IsTellable depth s → AreBodiesOf s texts
     → (j.text.items ≡ report_text s) × (j.is_all_or_nothing ≡ are_whole s.cuts.items)) → IsJoinTold j ended text → AreBodiesJoinedTo depth texts ended text

@@ -1,4 +1,4 @@
--- How `jcard tear` ends where a command was not cut, and what is told of a part of the commands.
+-- How `jcard tear` ends where a command was not cut, and what is reported of a part of the commands.
 use Rattle.std.proofs.Common.{◌≡◌, ◌⊎◌, ◌∙◌, ◌*◌, ◌≤◌, ◌++◌, inl, inr, arith, ℕ, Bool, false, List, [], Err, Result, ap, drop, length, subst, take}
 use Rattle.std.specs.Prelude.{◌↔◌, IsTrue}
 use Rattle.std.proofs.lemmas.List.{drop_all, take_all}
@@ -27,7 +27,7 @@ unpowered_unwritten image StoreDown fault h = ap (λ (f : Fault). is_unwritten (
 
 -- ---- parts of the commands
 
--- these verdicts were told
+-- these verdicts were reported
 pub share_told : (name : List ℕ) (share : Share) (rows : Bool) (sweeps : List LineSweep) (whole : Bool) (verdicts : List ℕ) (ended : Result (Unit {0}) Fault)
     (text : List ℕ) → (IsTrue whole ↔ AreAllWhole sweeps) → verdicts ≡ verdicts_text rows sweeps
     → IsTextTold (head_text name ++ share_text share.first share.step whole verdicts) ended text ⊎ EndsUntold ended text

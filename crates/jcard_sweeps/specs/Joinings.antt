@@ -1,4 +1,4 @@
--- `jcard tear --join`: what is read, and what is told.
+-- `jcard tear --join`: what is read, and what is reported.
 use Rattle.std.specs.Prelude.{ℕ, ◌≡◌, ◌⊎◌, true, false, List, [], ◌∷◌, ◌++◌, Result, Ok, Err}
 use Rattle.std.specs.Borrow.{Bor}
 use Rattle.std.specs.List.{slice_index_or}
@@ -23,7 +23,7 @@ use Rattle.jcard_sweeps.specs.Tears.{IsReported}
 use Rattle.jcard_faults.specs.declared.fault.Fault.{Fault}
 use Rattle.jcard_faults.specs.declared.fault.Fault.TheVariants.{BadCut, BadShare, CutMissing, CutTwice, NoMemory, NotAllOrNothing, OtherPart, OtherSweep, ShareMissing, ShareTwice, WriteFailed}
 
--- these texts were read from the files of these names, in their order
+-- these texts were read from the files with these names, in their order
 abbrev pub AreRead : List (List ℕ) → List (List ℕ) → List FileDeed → Type 0
 AreRead [] [] deeds = deeds ≡ []
 AreRead (name ∷ names) (text ∷ texts) deeds = (opened more : List FileDeed) × IsScriptRead name text opened × (deeds ≡ opened ++ more)
@@ -39,7 +39,7 @@ AreUnread names fault deeds = (before rest texts : List (List ℕ)) × (name : L
 abbrev pub AreFirstRead : List (List ℕ) → List FileDeed → Type 0
 AreFirstRead names deeds = (first rest texts : List (List ℕ)) × (names ≡ first ++ rest) × AreRead first texts deeds
 
--- what is told of texts that are not the parts of a sweep
+-- what is reported of texts that are not the parts of a sweep
 abbrev pub told_join_fault : JoinFault → Fault
 told_join_fault joining.NoMemory = NoMemory
 told_join_fault (joining.Missing k) = CutMissing k
@@ -47,7 +47,7 @@ told_join_fault (joining.Twice k) = CutTwice k
 told_join_fault (joining.BadLine k) = BadCut k
 told_join_fault (joining.OtherSweep k) = OtherSweep k
 
--- what is told of texts that are not all shares of the commands of a script
+-- what is reported of texts that are not all shares of the commands of a script
 abbrev pub told_share_fault : JoinFault → Fault
 told_share_fault joining.NoMemory = NoMemory
 told_share_fault (joining.Missing k) = ShareMissing k
@@ -63,7 +63,7 @@ IsJoinTold j (Err WriteFailed) text = IsCutOf j.text.items text
 IsJoinTold j (Err other) text = ⊥
 
 -- texts without heads were joined to a report; or they are not the parts of a sweep, or memory was refused. The parts of a sweep are joined to
--- what is told of it, or memory was refused
+-- what is reported of it, or memory was refused
 pub record AreBodiesJoinedTo (depth : Depth) (texts : List (List ℕ)) (ended : Result Unit Fault) (text : List ℕ) : Type 0 where
   pub joined : ((j : Joined) × AreJoined depth texts j × IsJoinTold j ended text)
       ⊎ ((cause : JoinFault) × IsJoinFault texts cause × (ended ≡ Err (told_join_fault cause)) × (text ≡ []))
@@ -79,13 +79,13 @@ abbrev pub AreJoinedBy : SweepKind → List (List ℕ) → Result Unit Fault →
 AreJoinedBy (Cuts depth) texts ended text = AreBodiesJoinedTo depth texts ended text
 AreJoinedBy Commands texts ended text = AreSharesJoinedTo texts ended text
 
--- the text of one of the files of these names is of another sweep than that of the first: the file is told; or memory was refused
+-- the text of one of the files with these names is of another sweep than that of the first: the file is reported; or memory was refused
 abbrev pub IsOtherTold : List (List ℕ) → HeadFault → Fault → Type 0
 IsOtherTold names heading.NoMemory fault = fault ≡ NoMemory
 IsOtherTold names (heading.OtherSweep j) fault = (path : Bor (List ℕ)) × (fault ≡ OtherPart path) × (path.now ≡ slice_index_or names j [])
 
--- what the texts of the files of these names tell after their heads was joined; or they are not of one sweep. The parts of a sweep are joined
--- to what is told of it, or memory was refused
+-- what the texts of the files with these names say after their heads was joined; or they are not of one sweep. The parts of a sweep are joined
+-- to what is reported of it, or memory was refused
 pub record IsJoinedTo (names texts : List (List ℕ)) (ended : Result Unit Fault) (text : List ℕ) : Type 0 where
   pub joined : ((name : List ℕ) × (bodies : List (List ℕ)) × AreBehindHeads name texts bodies × AreJoinedBy (kind_of name) bodies ended text)
       ⊎ ((cause : HeadFault) × (fault : Fault) × AreOfOthers texts cause × IsOtherTold names cause fault × (ended ≡ Err fault) × (text ≡ []))

@@ -1,4 +1,4 @@
--- What is told where a command was not cut.
+-- What is reported where a command was not cut.
 use Rattle.std.specs.Prelude.{ℕ, ◌≡◌, List}
 use Rattle.jcard_script.specs.declared.script.ScriptFault.{ScriptFault}
 use Rattle.jcard_script.specs.declared.script.ScriptFault.TheVariants as script
@@ -8,7 +8,7 @@ use Rattle.jcard_faults.specs.ScriptFaults.{IsUnpowered}
 use Rattle.jcard_faults.specs.declared.fault.Fault.{Fault}
 use Rattle.jcard_faults.specs.declared.fault.Fault.TheVariants.{BadCommand, BadProbeCommand, Down, NoMemory, ProbeTooLong, ScriptTooLong, TooManyCuts}
 
--- what is told where lines were not carried out in memory over the image of this name, where a text is read and written as long as
+-- what is reported where lines were not carried out in memory over the image with this name, where a text is read and written as long as
 -- there is memory
 abbrev pub IsFaultInMemory : List ℕ → ScriptFault → Fault → Type 0
 IsFaultInMemory image script.ReadFailed fault = fault ≡ NoMemory
@@ -17,13 +17,13 @@ IsFaultInMemory image (script.BadLine n) fault = fault ≡ BadCommand n
 IsFaultInMemory image script.TooLong fault = fault ≡ ScriptTooLong
 IsFaultInMemory image (script.PowerFault cause) fault = IsUnpowered image cause fault
 
--- the same of the lines of a probe, which are told as the probe's
+-- the same of the lines of a probe, which are reported as the probe's
 abbrev pub IsProbeFaultInMemory : List ℕ → ScriptFault → Fault → Type 0
 IsProbeFaultInMemory image (script.BadLine n) fault = fault ≡ BadProbeCommand n
 IsProbeFaultInMemory image script.TooLong fault = fault ≡ ProbeTooLong
 IsProbeFaultInMemory image other fault = IsFaultInMemory image other fault
 
--- what is told where a command was not cut over the image of this name: the fault of the script or of the probe, or the cause itself
+-- what is reported where a command was not cut over the image with this name: the fault of the script or of the probe, or the cause itself
 abbrev pub IsTearFault : List ℕ → TearFault → Fault → Type 0
 IsTearFault image tear.NoMemory fault = fault ≡ NoMemory
 IsTearFault image (tear.Script cause) fault = IsFaultInMemory image cause fault

@@ -1,4 +1,4 @@
--- `jcard tear`: what is read, what is done with it, and what is told.
+-- `jcard tear`: what is read, what is done with it, and what is reported.
 use Rattle.std.specs.Prelude.{ℕ, ◌≡◌, ◌⊎◌, ◌+◌, ◌*◌, ◌/◌, ◌%◌, ◌<◌, ◌==◌, ◌↔◌, if◌then◌else◌, Bool, IsTrue, drop, length, take, false, true, All, map, List, [], ◌∷◌, ◌++◌, Option, Some, None, Result, Ok, Err}
 use Rattle.jcard_outcomes.specs.Reports.{are_whole, is_whole_outcome, report_text, verdicts_text}
 use Rattle.jcard_outcomes.specs.Parts.{IsShareText, head_text, part_text}
@@ -28,7 +28,7 @@ use Rattle.jcard_tear.specs.declared.tearing.TearFault.{TearFault}
 
 -- ---- files
 
--- the image of this name was opened to read it alone, and closed with no write asked for
+-- the image with this name was opened to read it alone, and closed with no write asked for
 abbrev pub IsImageRead : List ℕ → List ℕ → List FileDeed → Type 0
 IsImageRead image w deeds = deeds ≡ ReadsImage image (Ok w) ∷ ClosesImage image (untouched w) ∷ []
 
@@ -37,7 +37,7 @@ abbrev pub IsImageUnread : List ℕ → Fault → List FileDeed → Type 0
 IsImageUnread image fault deeds = (IsNotOpened image fault × (deeds ≡ ReadsImage image (Err fault) ∷ []))
     ⊎ ((w : List ℕ) × (fault ≡ NoMemory) × IsImageRead image w deeds)
 
--- ---- what is told
+-- ---- what is reported
 
 -- the report of a sweep was written, and so it ended: each cut was all or nothing, and no recovery made a difference, or one was not or
 -- one did; or a write failed within it
@@ -54,22 +54,22 @@ AreReported rows sweeps (Err NotAllOrNothing) text = (text ≡ verdicts_text row
 AreReported rows sweeps (Err WriteFailed) text = IsCutOf (verdicts_text rows sweeps) text
 AreReported rows sweeps (Err other) text = ⊥
 
--- commands were not cut for such a cause, which is told over an image of some name; and nothing was written
+-- commands were not cut for such a cause, which is reported over an image of some name; and nothing was written
 abbrev pub EndsUncut : (TearFault → Type 0) → Result Unit Fault → List ℕ → Type 0
 EndsUncut Is ended text = (cause : TearFault) × (image : List ℕ) × (fault : Fault) × Is cause × IsTearFault image cause fault × (ended ≡ Err fault)
     × (text ≡ [])
 
--- memory was refused for what is told, and nothing was written
+-- memory was refused for what is reported, and nothing was written
 abbrev pub EndsUntold : Result Unit Fault → List ℕ → Type 0
 EndsUntold ended text = (ended ≡ Err NoMemory) × (text ≡ [])
 
 -- the command in this line was cut after each number of its writes, on cards of copies of these words, with these lines of a probe, if
--- any, and this after each, and that was told; or it could not be
+-- any, and this after each, and that was reported; or it could not be
 abbrev pub IsTornOne : List ℕ → Line → Behind → Option (List ℕ) → Result Unit Fault → List ℕ → Type 0
 IsTornOne w l behind given ended text = ((s : Sweep) × IsLineSwept w given behind l s × (IsReported s ended text ⊎ EndsUntold ended text))
     ⊎ EndsUncut (IsLineUncut w given behind l 1) ended text
 
--- each command in these lines was cut so, and the verdicts were told, with objects the rows too; or one could not be
+-- each command in these lines was cut so, and the verdicts were reported, with objects the rows too; or one could not be
 abbrev pub IsTornEach : List ℕ → List Line → Behind → Option (List ℕ) → Result Unit Fault → List ℕ → Type 0
 IsTornEach w lines behind given ended text = ((sweeps : List LineSweep) × AreSwept w given behind lines sweeps
     × (AreReported behind.objects sweeps ended text ⊎ EndsUntold ended text)) ⊎ EndsUncut (IsOneUncut w given behind lines) ended text
@@ -104,7 +104,7 @@ abbrev pub IsPartTold : Part → Result Unit Fault → List ℕ → Type 0
 IsPartTold p ended text = IsTextTold (part_text p) ended text
 
 -- the command in this line was cut in this part, on cards of copies of these words, with these lines of a probe, if any, and that was
--- told; or it could not be
+-- reported; or it could not be
 abbrev pub IsTornShare : List ℕ → Line → Behind → Share → Option (List ℕ) → Result Unit Fault → List ℕ → Type 0
 IsTornShare w l behind share given ended text = ((p : Part) × IsLinePart w given behind l share.first share.step p
     × (IsPartTold p ended text ⊎ EndsUntold ended text)) ⊎ EndsUncut (IsLineUncut w given behind l share.step) ended text
@@ -132,7 +132,7 @@ IsShareTold name share rows sweeps ended text = (whole : Bool) × (IsTrue whole 
     × IsTextTold (head_text name ++ share_text share.first share.step whole (verdicts_text rows sweeps)) ended text
 
 -- those of these commands that are in this part were cut, on cards of copies of these words, with these lines of a probe, if any, and that
--- was told under this name; or one could not be
+-- was reported under this name; or one could not be
 abbrev pub IsShareCutAs : List ℕ → List ℕ → List ScriptLine → Behind → Share → Option (List ℕ) → Result Unit Fault → List ℕ → Type 0
 IsShareCutAs name w all behind share given ended text = ((sweeps : List LineSweep) × AreSwept w given behind (map line_of (commands_in share all)) sweeps
     × (IsShareTold name share behind.objects sweeps ended text ⊎ EndsUntold ended text))
@@ -150,22 +150,22 @@ IsShareTorn w script all behind part probe ended text deeds = ((ended ≡ Err Ba
 
 -- ---- scripts
 
--- each of these commands was cut, or those in the part of this name
+-- each of these commands was cut, or those in the part with this name
 abbrev pub AreAllTorn : List ℕ → List ℕ → List ScriptLine → Behind → Option (List ℕ) → Option (List ℕ) → Result Unit Fault → List ℕ → List FileDeed → Type 0
 AreAllTorn w script all behind None probe ended text deeds = IsProbed (IsTornEach w (map line_of all) behind) probe ended text deeds
 AreAllTorn w script all behind (Some part) probe ended text deeds = IsShareTorn w script all behind part probe ended text deeds
 
--- a command was cut whole, or in the part of this name
+-- a command was cut whole, or in the part with this name
 abbrev pub IsTornIf : List ℕ → Line → Behind → Option (List ℕ) → Option (List ℕ) → Result Unit Fault → List ℕ → List FileDeed → Type 0
 IsTornIf w l behind None probe ended text deeds = IsProbed (IsTornOne w l behind) probe ended text deeds
 IsTornIf w l behind (Some part) probe ended text deeds = IsTornPart w l behind part probe ended text deeds
 
--- the text tells a number in decimal digits, if it is not too large; 0 is no number of a line
+-- the text states a number in decimal digits, if it is not too large; 0 is no number of a line
 pub record IsLineNumber (text : List ℕ) (n : ℕ) : Type 0 where
   pub told : (n ≡ 0 → ⊥) → IsNumeral 10 text × (digits_value 10 text ≡ n)
   pub taken : IsNumeral 10 text → digits_value 10 text < 18446744073709551616 → n ≡ digits_value 10 text
 
--- the number of the line that is meant: the one that is told, or none is
+-- the number of the line that is meant: the one that is named, or none is
 abbrev pub IsMeantBy : Option (List ℕ) → Option ℕ → Type 0
 IsMeantBy None number = number ≡ None
 IsMeantBy (Some text) number = (n : ℕ) × (number ≡ Some n) × IsLineNumber text n
@@ -181,7 +181,7 @@ abbrev pub AreTornOf : List ℕ → List ℕ → List ScriptLine → Option (Lis
 AreTornOf w script all line each behind part probe ended text deeds = ((number : Option ℕ) × IsMeantBy line number × (chosen number all ≡ None)
     × (ended ≡ Err NoCommand) × (text ≡ []) × (deeds ≡ [])) ⊎ AreTornBy w script all line each behind part probe ended text deeds
 
--- the whole script was carried out over these words, and then those that are meant were cut; or it was not carried out to its end, which is told
+-- the whole script was carried out over these words, and then those that are meant were cut; or it was not carried out to its end, which is reported
 -- over an image of some name
 abbrev pub AreTornThrough : List ℕ → List ℕ → List ScriptLine → Option (List ℕ) → Bool → Behind → Option (List ℕ) → Option (List ℕ) → Result Unit Fault → List ℕ → List FileDeed → Type 0
 AreTornThrough w script all line each behind part probe ended text deeds = ((cause : RunFault) × (image : List ℕ) × (fault : Fault)

@@ -20,7 +20,7 @@ use jcard_outcomes::sweep_kind::{SweepKind, kind_of};
 use jcard_script::streams::{TextOut, write_all};
 use std::alloc::Global;
 
-/// Joins the texts in the files of these names, which tell the parts of a sweep, in any order, to what one run tells of it.
+/// Joins the texts in the files with these names, which state the parts of a sweep, in any order, to what one run reports of it.
 pub fn join_files<'n, D: Disk, W: TextOut>(
     disk: &mut D,
     files: &[&'n str],
@@ -40,7 +40,7 @@ pub fn join_files<'n, D: Disk, W: TextOut>(
     }
 }
 
-// What the files of these names hold.
+// What the files with these names hold.
 fn texts_of<'n, D: Disk>(disk: &mut D, files: &[&'n str]) -> Result<Vec<Vec<u8>>, Fault<'n>>
     ensures read { (deeds : List FileDeed) × D.does disk.old deeds disk.new × MatchResult result
         (λ texts. AreRead (map (λ (f : Bor (List ℕ)). f.now) files.now) (map (λ t. t.items) texts.items) deeds)
@@ -61,7 +61,7 @@ fn texts_of<'n, D: Disk>(disk: &mut D, files: &[&'n str]) -> Result<Vec<Vec<u8>>
     Ok(texts)
 }
 
-// Joins the texts of the files of these names, and writes the report.
+// Joins the texts of the files with these names, and writes the report.
 fn join_texts<'n, W: TextOut>(
     alloc: Global,
     files: &[&'n str],
@@ -149,7 +149,7 @@ fn join_cuts<'n, W: TextOut>(
     }
 }
 
-// Writes a report, and tells whether each cut was all or nothing, and no recovery made a difference.
+// Writes a report, and says whether each cut was all or nothing, and no recovery made a difference.
 fn tell_joined<'n, W: TextOut>(joined: &Joined, out: &mut W) -> Result<(), Fault<'n>>
     ensures done { (text : List ℕ) × Appends (W.contents out.old) (W.contents out.new) text
         × IsJoinTold joined.now result text }

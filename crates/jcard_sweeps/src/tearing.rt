@@ -7,16 +7,17 @@ ghost use Rattle.jcard_faults.specs.Faults.{is_unwritten};
 ghost use Rattle.jcard_files.specs.FileDeeds.{FileDeed};
 ghost use Rattle.jcard_sweeps.specs.Tears.{AreReported, AreTornOf, AreTornThrough, EndsUntold, IsImageRead, IsImageUnread, IsLineNumber, IsMeantBy, IsProbeRead, IsProbeUnread, IsProbed, IsReported};
 ghost use Rattle.jcard_sweeps.specs.Tears.{AreAllTorn, IsShareCut, IsShareCutAs, IsShareTold, IsShareTorn, IsTear, IsTearOver, commands_in, share_size, IsTornEach, IsTornIn, IsTornOne};
-ghost use Rattle.jcard_sweeps.specs.TearFaults.{IsFaultInMemory, IsProbeFaultInMemory, IsTearFault};
-ghost use Rattle.jcard_tear.specs.Faults.{told_run_fault};
 ghost use Rattle.jcard_sweeps.specs.Tears.{IsPartTold, IsTextTold, IsTornPart, IsTornShare};
 ghost use Rattle.jcard_tear.specs.ScriptLines.{line_of};
 ghost use Rattle.jcard_outcomes.specs.CommandShares.{share_text};
 ghost use Rattle.jcard_outcomes.specs.Parts.{head_text};
 ghost use Rattle.jcard_outcomes.specs.Reports.{report_text, verdicts_text};
 
+use crate::remarking::{remark_on_probe, remark_on_script};
+use crate::tear_faults::{run_fault, tear_fault};
 use jcard_faults::fault::Fault;
-use jcard_faults::script_fault::{Names, power_up_fault};
+use jcard_faults::remarks::Remarks;
+use jcard_faults::script_fault::Names;
 use jcard_files::closed_store::ClosedStore;
 use jcard_files::disk::Disk;
 use jcard_files::reading::script_of;
@@ -25,16 +26,14 @@ use jcard_outcomes::each::{LineSweep, are_all_or_nothing, verdicts};
 use jcard_outcomes::part::{Part, Share, part_lines, share_of};
 use jcard_outcomes::report::{Sweep, report};
 use jcard_outcomes::verdict::is_all_or_nothing;
-use jcard_script::script::ScriptFault;
 use jcard_script::streams::{TextOut, write_all};
 use jcard_tear::cuts::Behind;
 use jcard_tear::each::{tear_each, tear_line};
 use jcard_tear::names::commands_name;
 use jcard_tear::parts::tear_line_part;
 use jcard_tear::progress::Progress;
-use jcard_tear::runs::{RunFault, carried_through, copied};
+use jcard_tear::runs::{carried_through, copied};
 use jcard_tear::script_lines::{ScriptLine, chosen, commands};
-use jcard_tear::tearing::TearFault;
 use std::alloc::{AllocError, Global};
 
 /// What is torn of an image: the names of a script and perhaps of a probe, the command in the line of a number, the last
@@ -50,9 +49,9 @@ pub struct Asked<'a> {
 }
 
 /// `jcard tear`: cuts a command of the script, or each, after each number of its writes, each time on a card of a copy of the image's
-/// words, and tells what is left. The whole script is carried out before, and refused as `jcard run` refuses it. The image is read, and
+/// words, and says what is left. The whole script is carried out before, and refused as `jcard run` refuses it. The image is read, and
 /// never written. A part of one command has some of its cuts, a part of each command some of the commands.
-pub fn tear_image<'n, D: Disk, W: TextOut, P: Progress>(
+pub fn tear_image<'n, D: Disk, W: TextOut, P: Progress + Remarks>(
     disk: &mut D,
     image: &'n str,
     asked: Asked<'n>,
@@ -76,7 +75,7 @@ pub fn tear_image<'n, D: Disk, W: TextOut, P: Progress>(
 }
 
 // Cuts a command of the script over these words.
-fn tear_over<'n, D: Disk, W: TextOut, P: Progress>(
+fn tear_over<'n, D: Disk, W: TextOut, P: Progress + Remarks>(
     disk: &mut D,
     image: &'n str,
     words: &[u16],
@@ -113,7 +112,7 @@ fn tear_over<'n, D: Disk, W: TextOut, P: Progress>(
 }
 
 // Cuts the commands of this script that are meant.
-fn tear_in<'n, D: Disk, W: TextOut, P: Progress>(
+fn tear_in<'n, D: Disk, W: TextOut, P: Progress + Remarks>(
     disk: &mut D,
     names: Names<'n>,
     words: &[u16],
@@ -141,7 +140,7 @@ fn tear_in<'n, D: Disk, W: TextOut, P: Progress>(
 
 // Carries the whole script out, so that a line that has no form is refused wherever it stands, and cuts those commands of it that are
 // meant.
-fn tear_through<'n, D: Disk, W: TextOut, P: Progress>(
+fn tear_through<'n, D: Disk, W: TextOut, P: Progress + Remarks>(
     disk: &mut D,
     names: Names<'n>,
     words: &[u16],
@@ -164,12 +163,15 @@ fn tear_through<'n, D: Disk, W: TextOut, P: Progress>(
 {
     match carried_through(disk.alloc(), words, script, asked.behind.instructions) {
         Ok(()) => tear_meant(disk, names, words, script, commands, asked, out, progress),
-        Err(cause) => Err(run_fault(names, cause)),
+        Err(cause) => {
+            remark_on_script(disk.alloc(), script, cause, progress);
+            Err(run_fault(names, cause))
+        }
     }
 }
 
 // Cuts the one of these commands that is meant, or all of them.
-fn tear_meant<'n, D: Disk, W: TextOut, P: Progress>(
+fn tear_meant<'n, D: Disk, W: TextOut, P: Progress + Remarks>(
     disk: &mut D,
     names: Names<'n>,
     words: &[u16],
@@ -202,8 +204,8 @@ fn tear_meant<'n, D: Disk, W: TextOut, P: Progress>(
     tear_one(disk, names, words, found, asked, out, progress)
 }
 
-// Cuts a command in the part of this name.
-fn tear_part<'n, D: Disk, W: TextOut, P: Progress>(
+// Cuts a command in the part with this name.
+fn tear_part<'n, D: Disk, W: TextOut, P: Progress + Remarks>(
     disk: &mut D,
     names: Names<'n>,
     words: &[u16],
@@ -241,8 +243,8 @@ fn tear_part<'n, D: Disk, W: TextOut, P: Progress>(
     }
 }
 
-// Cuts a command, with the lines of the probe of this name after each cut, if there is one.
-fn tear_one<'n, D: Disk, W: TextOut, P: Progress>(
+// Cuts a command, with the lines of the probe with this name after each cut, if there is one.
+fn tear_one<'n, D: Disk, W: TextOut, P: Progress + Remarks>(
     disk: &mut D,
     names: Names<'n>,
     words: &[u16],
@@ -276,7 +278,7 @@ fn tear_one<'n, D: Disk, W: TextOut, P: Progress>(
 }
 
 // Cuts each of these commands so, or those in the part that is asked for.
-fn tear_all<'n, D: Disk, W: TextOut, P: Progress>(
+fn tear_all<'n, D: Disk, W: TextOut, P: Progress + Remarks>(
     disk: &mut D,
     names: Names<'n>,
     words: &[u16],
@@ -304,8 +306,8 @@ fn tear_all<'n, D: Disk, W: TextOut, P: Progress>(
     }
 }
 
-// Cuts those of these commands that are in the part of this name.
-fn tear_share<'n, D: Disk, W: TextOut, P: Progress>(
+// Cuts those of these commands that are in the part with this name.
+fn tear_share<'n, D: Disk, W: TextOut, P: Progress + Remarks>(
     disk: &mut D,
     names: Names<'n>,
     words: &[u16],
@@ -346,7 +348,7 @@ fn tear_share<'n, D: Disk, W: TextOut, P: Progress>(
 }
 
 // Cuts those of these commands that are in this part, and writes the verdicts over them.
-fn cut_share<'n, W: TextOut, P: Progress>(
+fn cut_share<'n, W: TextOut, P: Progress + Remarks>(
     alloc: Global,
     names: Names<'n>,
     words: &[u16],
@@ -375,7 +377,7 @@ fn cut_share<'n, W: TextOut, P: Progress>(
 }
 
 // Cuts them, and writes the verdicts under this name.
-fn cut_named<'n, W: TextOut, P: Progress>(
+fn cut_named<'n, W: TextOut, P: Progress + Remarks>(
     alloc: Global,
     names: Names<'n>,
     words: &[u16],
@@ -404,7 +406,10 @@ fn cut_named<'n, W: TextOut, P: Progress>(
         progress,
     ) {
         Ok(sweeps) => tell_share(alloc, name, share, &sweeps, behind.objects, out),
-        Err(cause) => Err(tear_fault(names, cause)),
+        Err(cause) => {
+            remark_on_probe(alloc, probe, cause, progress);
+            Err(tear_fault(names, cause))
+        }
     }
 }
 
@@ -488,7 +493,7 @@ fn share_size(commands: usize, parts: usize) -> usize
 }
 
 // Cuts each of these commands so.
-fn tear_every<'n, D: Disk, W: TextOut, P: Progress>(
+fn tear_every<'n, D: Disk, W: TextOut, P: Progress + Remarks>(
     disk: &mut D,
     names: Names<'n>,
     words: &[u16],
@@ -522,7 +527,7 @@ fn tear_every<'n, D: Disk, W: TextOut, P: Progress>(
 }
 
 // Cuts a command, with these lines of a probe, if any, and writes the report.
-fn cut_one<'n, W: TextOut, P: Progress>(
+fn cut_one<'n, W: TextOut, P: Progress + Remarks>(
     alloc: Global,
     names: Names<'n>,
     words: &[u16],
@@ -541,12 +546,15 @@ fn cut_one<'n, W: TextOut, P: Progress>(
 {
     match tear_line(alloc, words, found, probe, behind, progress) {
         Ok(sweep) => tell_sweep(alloc, &sweep, out),
-        Err(cause) => Err(tear_fault(names, cause)),
+        Err(cause) => {
+            remark_on_probe(alloc, probe, cause, progress);
+            Err(tear_fault(names, cause))
+        }
     }
 }
 
 // Cuts a command in this part, with these lines of a probe, if any, and writes what that leaves.
-fn cut_part<'n, W: TextOut, P: Progress>(
+fn cut_part<'n, W: TextOut, P: Progress + Remarks>(
     alloc: Global,
     names: Names<'n>,
     words: &[u16],
@@ -575,7 +583,10 @@ fn cut_part<'n, W: TextOut, P: Progress>(
         progress,
     ) {
         Ok(part) => tell_part(alloc, &part, out),
-        Err(cause) => Err(tear_fault(names, cause)),
+        Err(cause) => {
+            remark_on_probe(alloc, probe, cause, progress);
+            Err(tear_fault(names, cause))
+        }
     }
 }
 
@@ -597,7 +608,7 @@ fn tell_part<'n, W: TextOut>(alloc: Global, part: &Part, out: &mut W) -> Result<
 }
 
 // Cuts each of these commands so, and writes the verdicts.
-fn cut_each<'n, W: TextOut, P: Progress>(
+fn cut_each<'n, W: TextOut, P: Progress + Remarks>(
     alloc: Global,
     names: Names<'n>,
     words: &[u16],
@@ -616,7 +627,10 @@ fn cut_each<'n, W: TextOut, P: Progress>(
 {
     match tear_each(alloc, words, commands, probe, behind, progress) {
         Ok(sweeps) => tell_verdicts(alloc, &sweeps, behind.objects, out),
-        Err(cause) => Err(tear_fault(names, cause)),
+        Err(cause) => {
+            remark_on_probe(alloc, probe, cause, progress);
+            Err(tear_fault(names, cause))
+        }
     }
 }
 
@@ -680,60 +694,7 @@ fn each_all_or_nothing<'n>(sweeps: &[LineSweep], rows: bool) -> Result<(), Fault
     Ok(())
 }
 
-// What it means that a command was not cut.
-fn tear_fault<'n>(names: Names<'n>, cause: TearFault) -> Fault<'n>
-    ensures told { IsTearFault names.entry.image.now cause result }
-    ensures unwritten { is_unwritten (Err result) ≡ false }
-{
-    match cause {
-        TearFault::NoMemory => Fault::NoMemory,
-        TearFault::Script(fault) => tear_script_fault(names, fault),
-        TearFault::Probe(fault) => tear_probe_fault(names, fault),
-        TearFault::Down => Fault::Down,
-        TearFault::TooManyCuts => Fault::TooManyCuts,
-    }
-}
-
-// What it means that a script was not carried out in memory, where a text is read and written as long as there is memory.
-#[tactic(auto, using(crate::proofs::Tears::unpowered_unwritten))]
-fn tear_script_fault<'n>(names: Names<'n>, fault: ScriptFault) -> Fault<'n>
-    ensures told { IsFaultInMemory names.entry.image.now fault result }
-    ensures unwritten { is_unwritten (Err result) ≡ false }
-{
-    match fault {
-        ScriptFault::ReadFailed | ScriptFault::WriteFailed => Fault::NoMemory,
-        ScriptFault::BadLine(n) => Fault::BadCommand(n),
-        ScriptFault::TooLong => Fault::ScriptTooLong,
-        ScriptFault::PowerFault(cause) => power_up_fault(names.image, cause),
-    }
-}
-
-// What it means that the lines of a probe were not.
-fn tear_probe_fault<'n>(names: Names<'n>, fault: ScriptFault) -> Fault<'n>
-    ensures told { IsProbeFaultInMemory names.entry.image.now fault result }
-    ensures unwritten { is_unwritten (Err result) ≡ false }
-{
-    match fault {
-        ScriptFault::BadLine(n) => Fault::BadProbeCommand(n),
-        ScriptFault::TooLong => Fault::ProbeTooLong,
-        ScriptFault::ReadFailed | ScriptFault::WriteFailed | ScriptFault::PowerFault(_) => {
-            tear_script_fault(names, fault)
-        }
-    }
-}
-
-// What it means that the whole script was not.
-fn run_fault<'n>(names: Names<'n>, cause: RunFault) -> Fault<'n>
-    ensures told { IsTearFault names.entry.image.now (told_run_fault cause) result }
-    ensures unwritten { is_unwritten (Err result) ≡ false }
-{
-    match cause {
-        RunFault::NoMemory => Fault::NoMemory,
-        RunFault::Script(fault) => tear_script_fault(names, fault),
-    }
-}
-
-// The number of the line that is meant, if one is told.
+// The number of the line that is meant, if one is named.
 fn number_of(line: Option<&str>) -> Option<usize>
     ensures { IsMeantBy (option_map (λ (text : Bor (List ℕ)). text.now) line.entry) result }
 {
@@ -743,7 +704,7 @@ fn number_of(line: Option<&str>) -> Option<usize>
     }
 }
 
-// The number that a text tells; 0, which no line has, where it tells none.
+// The number that a text spells; 0, which no line has, where it spells none.
 fn line_number(text: &str) -> usize
     ensures { IsLineNumber text.now result }
 {
@@ -756,7 +717,7 @@ fn line_number(text: &str) -> usize
     }
 }
 
-// The words of the image of this name, which is opened to read it alone.
+// The words of the image with this name, which is opened to read it alone.
 fn words_of<'n, D: Disk>(disk: &mut D, image: &'n str) -> Result<Vec<u16>, Fault<'n>>
     ensures read { (deeds : List FileDeed) × D.does disk.old deeds disk.new × MatchResult result
         (λ words. IsImageRead image.now words.items deeds) (λ fault. IsImageUnread image.now fault deeds) }
@@ -776,7 +737,7 @@ fn words_of<'n, D: Disk>(disk: &mut D, image: &'n str) -> Result<Vec<u16>, Fault
     }
 }
 
-// The lines of the probe of this name, if there is one.
+// The lines of the probe with this name, if there is one.
 fn probe_of<'n, D: Disk>(disk: &mut D, probe: Option<&'n str>) -> Result<Option<Vec<u8>>, Fault<'n>>
     ensures read { (deeds : List FileDeed) × D.does disk.old deeds disk.new × MatchResult result
         (λ given. IsProbeRead (option_map (λ (name : Bor (List ℕ)). name.now) probe.entry)

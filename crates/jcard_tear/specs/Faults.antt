@@ -15,12 +15,12 @@ use Rattle.jcard_tear.specs.declared.runs.RunFault.TheVariants as run
 use Rattle.jcard_tear.specs.declared.tearing.TearFault.{TearFault}
 use Rattle.jcard_tear.specs.declared.tearing.TearFault.TheVariants.{NoMemory, Script, Probe, Down, TooManyCuts}
 
--- what is told where a script was not carried out to its end
+-- what is reported where a script was not carried out to its end
 abbrev pub told_run_fault : RunFault → TearFault
 told_run_fault run.NoMemory = NoMemory
 told_run_fault (run.Script fault) = Script fault
 
--- what is told where a recovery or the probe after it was not
+-- what is reported where a recovery or the probe after it was not
 abbrev pub told_probe_fault : RunFault → TearFault
 told_probe_fault run.NoMemory = NoMemory
 told_probe_fault (run.Script fault) = Probe fault

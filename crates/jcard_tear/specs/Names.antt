@@ -17,7 +17,7 @@ measured text = decimal (length text) ++ codes " " ++ text
 abbrev pub instructions_text : ℕ → List ℕ
 instructions_text n = if n == usual_budget then codes "" else codes "instructions " ++ decimal n ++ codes " "
 
--- whether changes are told, the most instructions a command, and the number of parts
+-- whether changes are reported, the most instructions a command, and the number of parts
 abbrev pub options_text : Behind → ℕ → List ℕ
 options_text behind parts = (if behind.objects then codes "objects " else codes "") ++ instructions_text behind.instructions ++ decimal parts
 

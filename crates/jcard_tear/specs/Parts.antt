@@ -10,7 +10,7 @@ use Rattle.jcard_tear.specs.Sweeps.{IsBegun, IsMeasured, IsToldCut, IsUncutAt, p
 use Rattle.jcard_tear.specs.declared.cuts.Behind.{Behind}
 use Rattle.jcard_tear.specs.declared.cuts.Command.{Command}
 
--- what the cuts after k, k + n, k + 2 n, .. writes left is told so
+-- what the cuts after k, k + n, k + 2 n, .. writes left is reported so
 unfoldable pub AreEvery : List ℕ → Command → List ℕ → List ℕ → Option ImageObjects → Left → Left → ℕ → ℕ → List Cut → Type 0
 AreEvery words c spared lenient objects before after k n [] = Unit {0}
 AreEvery words c spared lenient objects before after k n (cut ∷ cuts) = IsToldCut words c spared lenient objects before after k cut × AreEvery words c spared lenient objects before after (k + n) n cuts

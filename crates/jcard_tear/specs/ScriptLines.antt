@@ -45,7 +45,7 @@ commands_from n before (line ∷ more) = if is_command line
 abbrev pub commands_of : List ℕ → List Line
 commands_of script = commands_from 1 [] (whole_lines script)
 
--- the line that is told so
+-- the line that is reported so
 abbrev pub line_of : ScriptLine → Line
 line_of l = record { number = l.number; before = l.before.now; text = l.line.now }
 

@@ -36,16 +36,16 @@ IsCutAt words c k left recoveries = (text : List ℕ) × (after : FuseStoreValue
 abbrev pub IsUncutAt : List ℕ → Command → ℕ → Type 0
 IsUncutAt words c k = (text : List ℕ) × (after : FuseStoreValue) × Runs c.behind.instructions words (cut_script c k) text after × (after.down ≡ false)
 
--- a cut that left this is told so
+-- a cut that left this is reported so
 abbrev pub IsToldAs : List ℕ → List ℕ → Option ImageObjects → Left → Left → Left → Cut → Type 0
 IsToldAs spared lenient objects before after left cut = IsTold objects left cut.answers.items
     × IsStanding spared lenient before after left.words.items left.answers.items cut.standing × (cut.lost ≡ lost_of cut.standing before.words.items left.words.items)
 
--- what a cut left is told so
+-- what a cut left is reported so
 abbrev pub IsToldCut : List ℕ → Command → List ℕ → List ℕ → Option ImageObjects → Left → Left → ℕ → Cut → Type 0
 IsToldCut words c spared lenient objects before after k cut = (left : Left) × IsCutAt words c k left cut.recoveries × IsToldAs spared lenient objects before after left cut
 
--- what the cuts after k, k + 1, .. writes left is told so
+-- what the cuts after k, k + 1, .. writes left is reported so
 unfoldable pub AreCuts : List ℕ → Command → List ℕ → List ℕ → Option ImageObjects → Left → Left → ℕ → List Cut → Type 0
 AreCuts words c spared lenient objects before after k [] = Unit {0}
 AreCuts words c spared lenient objects before after k (cut ∷ cuts) = IsToldCut words c spared lenient objects before after k cut × AreCuts words c spared lenient objects before after (k + 1) cuts
@@ -64,14 +64,14 @@ IsDone words c answer left = (text : List ℕ) × (after : FuseStoreValue) × Ru
 abbrev pub IsBegun : List ℕ → Command → Left → Type 0
 IsBegun words c left = (text : List ℕ) × (after : FuseStoreValue) × Runs c.behind.instructions words c.before.now text after × IsLeft c.behind.instructions after.words c.probe.now left
 
--- a command that is not cut has this answer and leaves this, of which it is told with these objects, and with which cuts are compared that
+-- a command that is not cut has this answer and leaves this, of which the report is with these objects, and with which cuts are compared that
 -- spare these words
 abbrev pub IsMeasured : List ℕ → Command → List ℕ → Option ImageObjects → Left → Sweep → Type 0
 IsMeasured words c spared objects after s = IsDone words c s.answer.items after × (s.after.words.items ≡ after.words.items)
     × IsTold objects after s.after.answers.items × AreTriesIn after.words.items spared × AreObjectsAsked c.behind.objects s.before objects
 
 -- what was before a command and what it leaves, its answer, and what is left of it after each number of its writes, up to the first
--- that does not cut it. The words with the tries left of the OwnerPINs that stand after it are spared in each comparison. Words are told as
+-- that does not cut it. The words with the tries left of the OwnerPINs that stand after it are spared in each comparison. Words are reported as
 -- written by non-atomic calls: no clause says which
 pub record IsSwept (words : List ℕ) (c : Command) (s : Sweep) : Type 0 where
   pub begun : IsBegun words c s.before
@@ -98,7 +98,7 @@ IsLineOutcome words given behind l (Swept sweep) = IsLineSwept words given behin
 IsLineOutcome words given behind l Down = (text : List ℕ) × (after : FuseStoreValue) × Runs behind.instructions words (l.before ++ l.text) text after
     × (after.down ≡ true)
 
--- of this line this is told
+-- of this line this is reported
 abbrev pub IsLineTold : List ℕ → Option (List ℕ) → Behind → Line → LineSweep → Type 0
 IsLineTold words given behind l s = (s.number ≡ l.number) × (s.command.items ≡ command_text l.text) × IsLineOutcome words given behind l s.outcome
 

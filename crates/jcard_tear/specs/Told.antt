@@ -1,4 +1,4 @@
--- What is told of what a cut left: the answers of a probe and, where they are asked for, the cells that changed.
+-- What is reported of what a cut left: the answers of a probe and, where they are asked for, the cells that changed.
 use Rattle.std.specs.Prelude.{ℕ, ◌≡◌, ◌++◌, Bool, true, false, List, Option, Some, None}
 use Rattle.jc_objects.specs.ImageObjects.{AreObjectsOf}
 use Rattle.jc_objects.specs.declared.image_objects.ImageObjects.{ImageObjects}

@@ -19,9 +19,9 @@ use std::alloc::{AllocError, Global};
 /// The most cuts of a command.
 pub(crate) const MOST: u16 = 65_535;
 
-/// What comes after each cut of a command: how many recoveries are cut, whether the cells that changed are told, and with how many
+/// What comes after each cut of a command: how many recoveries are cut, whether the cells that changed are reported, and with how many
 /// instructions a command may run.
-#[derive(Clone, Copy, Debug, PartialEq, Eq, Drop)]
+#[derive(Clone, Copy, Drop)]
 pub struct Behind {
     pub depth: Depth,
     pub objects: bool,
@@ -85,7 +85,7 @@ pub(crate) fn cut_all<P: Progress>(
     Err(TearFault::TooManyCuts)
 }
 
-/// What is told of a cut that left this, and after which recoveries were like this.
+/// What is reported of a cut that left this, and after which recoveries were like this.
 pub(crate) fn told_cut(
     alloc: Global,
     spared: &[u16],

@@ -64,7 +64,7 @@ pub fn tear_each<P: Progress>(
     Ok(sweeps)
 }
 
-// What is told of the command in a line.
+// What is reported of the command in a line.
 fn line_told<P: Progress>(
     alloc: Global,
     words: &[u16],

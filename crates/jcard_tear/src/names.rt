@@ -139,7 +139,7 @@ fn push_measured(text: &mut Vec<u8>, piece: &[u8]) -> Result<(), AllocError>
     text.extend_from_slice(piece)
 }
 
-// Writes whether changes are told, the most instructions a command, and the number of parts.
+// Writes whether changes are reported, the most instructions a command, and the number of parts.
 fn push_options(text: &mut Vec<u8>, behind: Behind, parts: u16) -> Result<(), AllocError>
     ensures { OnOk result (text.new.items ≡ text.old.items ++ options_text behind parts) }
 {

@@ -28,7 +28,7 @@ pub(crate) struct Ran {
 }
 
 /// Why a script was not carried out to its end.
-#[derive(Clone, Copy, Debug, PartialEq, Eq, Drop)]
+#[derive(Clone, Copy, Drop)]
 pub enum RunFault {
     NoMemory,
     Script(ScriptFault),
@@ -111,7 +111,7 @@ pub(crate) fn run_watched(
     run(alloc, copy, script, budget, watcher)
 }
 
-/// What a script left whose last command was watched: which words its non-atomic calls wrote, and what is told of each of its word writes.
+/// What a script left whose last command was watched: which words its non-atomic calls wrote, and what is reported of each of its word writes.
 #[derive(Drop)]
 pub(crate) struct WatchedRun {
     pub(crate) ran: Ran,
@@ -120,7 +120,7 @@ pub(crate) struct WatchedRun {
 }
 
 /// Carries out a script on the card of a copy of these words, and watches its last command. Where there are names, each of its word
-/// writes is told, with what they name.
+/// writes is reported, with what they name.
 pub(crate) fn run_told(
     alloc: Global,
     words: &[u16],

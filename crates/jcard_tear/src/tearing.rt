@@ -24,7 +24,7 @@ pub(crate) const DAMAGED: TearFault = TearFault::Probe(ScriptFault::PowerFault(
 ));
 
 /// Why a command was not cut after each number of its writes.
-#[derive(Clone, Copy, Debug, PartialEq, Eq, Drop)]
+#[derive(Clone, Copy, Drop)]
 pub enum TearFault {
     NoMemory,
     /// The script, up to the command, was not carried out to its end.
@@ -40,7 +40,7 @@ pub enum TearFault {
 /// Carries out the script up to the command on a card of a copy of these words, and then cuts the command after each number
 /// of its writes, each time on a card of a copy of its own. After each cut comes a reset, and then the probe; and as many
 /// recoveries as the command says are cut before a reset that is not. The tries of OwnerPINs do not count in a comparison. Where
-/// the command asks for objects, the cells that changed since before it are told after the answers. Each cut is told as it is made.
+/// the command asks for objects, the cells that changed since before it are reported after the answers. Each cut is reported as it is made.
 pub fn tear<P: Progress>(
     alloc: Global,
     words: &[u16],
@@ -79,7 +79,7 @@ pub(crate) fn joined(alloc: Global, these: &[u16], those: &[u16]) -> Result<Vec<
     Ok(joined)
 }
 
-// The answer of a command that is not cut, what it leaves, and which words its non-atomic calls write. What makes its writes is told.
+// The answer of a command that is not cut, what it leaves, and which words its non-atomic calls write. What makes its writes is reported.
 pub(crate) fn done<P: Progress>(
     alloc: Global,
     words: &[u16],

@@ -1,4 +1,4 @@
-//! What is told of what a cut left: the answers of a probe and, where they are asked for, the cells that changed.
+//! What is reported of what a cut left: the answers of a probe and, where they are asked for, the cells that changed.
 ghost use Rattle.std.specs.Prelude.{ℕ, List, ◌≡◌, Some, IfOk, MatchResult};
 ghost use Rattle.jc_objects.specs.ImageObjects.{AreObjectsOf};
 ghost use Rattle.jcard_tear.specs.Faults.{IsImageFault};

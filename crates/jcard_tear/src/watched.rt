@@ -10,7 +10,7 @@ use jcard_why::explanation::{TracedLines, Wanted};
 use jcard_why::watches::Watch;
 use std::alloc::{AllocError, Global};
 
-/// A store in memory that tells a watch, if there is one, of each word that is written.
+/// A store in memory that notifies a watch, if there is one, of each word that is written.
 #[derive(Drop)]
 pub(crate) struct WatchedStore {
     store: MemStore,
@@ -88,7 +88,7 @@ impl<'a> Watcher<'a> {
         }
     }
 
-    /// Somebody asks. Where there are names, each word write is told, with what they name.
+    /// Somebody asks. Where there are names, each word write is reported, with what they name.
     pub(crate) fn new(alloc: Global, names: Option<&'a [u8]>) -> Result<Watcher<'a>, AllocError> {
         Ok(Watcher {
             watch: Some(Watch::new(alloc, names.is_some())?),
@@ -96,7 +96,7 @@ impl<'a> Watcher<'a> {
         })
     }
 
-    /// The watch that a store tells of its writes.
+    /// The watch that a store reports its writes.
     pub(crate) fn shared(&self) -> Result<Option<Watch>, AllocError> {
         match &self.watch {
             Some(watch) => Ok(Some(watch.share()?)),
@@ -112,7 +112,7 @@ impl<'a> Watcher<'a> {
         }
     }
 
-    /// What is told of each word write of the last command.
+    /// What is reported of each word write of the last command.
     pub(crate) fn told(&self) -> Option<Vec<Vec<u8>>> {
         self.watch.as_ref()?.told()
     }

@@ -58,7 +58,7 @@ pub no_platform_reading : (table : Option (List ℕ)) (fault : Fault) (deeds : L
 no_platform_reading None fault deeds h = subst (λ (ds : List FileDeed). All IsReading ds) (sym h.1) no_reading
 no_platform_reading (Some name) fault deeds h = unread_reading name fault deeds h
 
--- a number that a text tells
+-- a number that a text spells
 pub number_told : (r : Option ℕ) (Tells Good : ℕ → Type 0) → IfSome r (λ n. Tells n) → (r ≡ None → (n : ℕ) → Tells n → ⊥) → ((n : ℕ) → Tells n → Good n)
     → MatchOption r ((n : ℕ) → Tells n → ⊥) (λ n. Tells n × Good n)
 number_told None Tells Good some none good = none refl

@@ -175,7 +175,7 @@ ended_by p card passed (Ok None) e h = (e.0, e.1, (e.2, h))
 ended_by p card passed (Ok (Some f)) e h = (e.0, e.1, inr (e.2, h))
 ended_by p card passed (Err fault) e h = h
 
--- what is told of the cuts of a line
+-- what is reported of the cuts of a line
 told_by : (budget : ℕ) (w : List ℕ) (l : TornLine) (sweep : Sweep) (found : Option (List ℕ)) (first : Option ℕ) → IsLineSwept w None (nothing_more budget) l sweep
     → first_broken 0 sweep.cuts.items ≡ first → found ≡ option_map (broken_told (broken_by_calls sweep.cuts.items)) first → IsToldOfLine budget w l found
 told_by budget w l sweep found None swept e is = subst (IsToldOfLine budget w l) (sym is) (sweep, swept, e)

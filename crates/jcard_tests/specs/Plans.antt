@@ -1,4 +1,4 @@
--- The cards that rows are told, from what was asked for.
+-- The cards that rows are given to, from what was asked for.
 use Rattle.std.specs.Prelude.{ℕ, ◌≡◌, ◌⊎◌, List, [], Option, Some, None, option_map}
 use Rattle.std.specs.Borrow.{Bor}
 use Rattle.jcard_files.specs.FileDeeds.{FileDeed}

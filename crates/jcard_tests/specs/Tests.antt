@@ -1,4 +1,4 @@
--- `jcard test`: what is read, which cards are told it, and what is told of them.
+-- `jcard test`: what is read, which cards are given it, and what is reported of them.
 use Rattle.std.specs.Prelude.{ℕ, ◌≡◌, position, ◌==◌, if◌then◌else◌, option_map, ◌≤◌, ◌<◌, ◌⊎◌, ◌+◌, Any, All, Bool, true, false, List, [], ◌∷◌, ◌++◌, codes, length, min, Option, Some, None, IfSome}
 use Rattle.std.specs.Prelude.{Result, Ok, Err, slice_index_or, take}
 use Rattle.std.specs.Str.{IsUtf8, bytes_eq}
@@ -49,11 +49,11 @@ use Rattle.jcard_faults.specs.declared.fault.Fault.TheVariants.{WriteFailed}
 
 -- ---- files
 
--- the whole text was read from the file of this name
+-- the whole text was read from the file with this name
 abbrev pub IsRowsText : List ℕ → List ℕ → List FileDeed → Type 0
 IsRowsText name text deeds = (known : Option (List ℕ)) × IfSome known (λ bytes. text ≡ bytes) × (deeds ≡ ReadsText name (Ok known) ∷ [])
 
--- the lines of a file that a line of this number includes: it is looked for beside the file of this name
+-- the lines of a file that a line of this number includes: it is looked for beside the file with this name
 abbrev pub IsFilePlace : List ℕ → List ℕ → ℕ → List Numbered → List FileDeed → Type 0
 IsFilePlace name file number here deeds = (path text : List ℕ) × IsBeside name file path × IsRowsText path text deeds × AreLinesOf number text here
 
@@ -86,7 +86,7 @@ abbrev pub IsFileOf : List ℕ → List Numbered → Option (List ℕ) → List 
 IsFileOf name own None lines deeds = IsUnnamed own × AreIncluded name own lines deeds
 IsFileOf name own (Some table) lines deeds = (line : TableLine) × IsNamed own line × IsFileBehind name line (Some table) lines deeds
 
--- this platform table is named in the file of this name, and these are its lines, with those of the files that it includes
+-- this platform table is named in the file with this name, and these are its lines, with those of the files that it includes
 abbrev pub IsFile : List ℕ → Option (List ℕ) → List Numbered → List FileDeed → Type 0
 IsFile name table lines deeds = (text : List ℕ) × (own : List Numbered) × (first more : List FileDeed) × IsRowsText name text first
     × IsUnrolled text own × IsFileOf name own table lines more × (deeds ≡ first ++ more)
@@ -110,11 +110,11 @@ IsPrinted p words script text = (w read rest : List ℕ) × (carried : Result Un
 
 -- ---- rows that are torn
 
--- a cut of a sweep left neither what was before nor what comes after, and that is told
+-- a cut of a sweep left neither what was before nor what comes after, and that is reported
 abbrev pub IsBrokenTold : Sweep → List ℕ → Type 0
 IsBrokenTold sweep told = (k : ℕ) × (first_broken 0 sweep.cuts.items ≡ Some k) × (told ≡ broken_told (broken_by_calls sweep.cuts.items) k)
 
--- what is told of a line that is cut after each number of its writes, over these words, with the last SELECT before it as the probe and so
+-- what is reported of a line that is cut after each number of its writes, over these words, with the last SELECT before it as the probe and so
 -- many instructions a command: nothing where each cut left what was before or what comes after; else the first that did not, or that it
 -- could not be cut
 abbrev pub IsToldOfLine : ℕ → List ℕ → Line → Option (List ℕ) → Type 0
@@ -129,11 +129,11 @@ IsToldOfCuts budget w before r told = IsToldOfLine budget w (record { number = r
 abbrev pub IsCutWell : Plan → ℕ → List Row → Row → Type 0
 IsCutWell p words before r = (w : List ℕ) × IsNewCard p words w × IsToldOfCuts p.budget w before r None
 
--- one did not, and that is told; or it could not be cut
+-- one did not, and that is reported; or it could not be cut
 abbrev pub IsCutBadly : Plan → ℕ → List Row → Row → List ℕ → Type 0
 IsCutBadly p words before r told = (w : List ℕ) × IsNewCard p words w × IsToldOfCuts p.budget w before r (Some told)
 
--- a row that is not torn is not cut; of one that is, this is told of its cuts
+-- a row that is not torn is not cut; of one that is, this is reported of its cuts
 abbrev pub IsToldOf : Plan → ℕ → List Row → Row → Option (List ℕ) → Type 0
 IsToldOf p words before r None = r.torn ≡ true → IsCutWell p words before r
 IsToldOf p words before r (Some told) = (r.torn ≡ true) × IsCutBadly p words before r told
@@ -142,7 +142,7 @@ IsToldOf p words before r (Some told) = (r.torn ≡ true) × IsCutBadly p words 
 abbrev pub AreCutWell : Plan → ℕ → List Row → ℕ → Type 0
 AreCutWell p words rows n = (k : ℕ) (r : Row) → k < n → r ≡ slice_index_or rows k r → r.torn ≡ true → IsCutWell p words (take k rows) r
 
--- a row was cut badly, after this many that hold, and this was told
+-- a row was cut badly, after this many that hold, and this was reported
 pub record IsTornFailure (r : Row) (passed : ℕ) (told : List ℕ) (f : Failure) : Type 0 where
   pub behind : f.passed ≡ passed
   pub number : f.number ≡ r.number
@@ -199,12 +199,12 @@ abbrev pub IsPlanFor : Plan → Option (List ℕ) → Plan → Type 0
 IsPlanFor p None q = q ≡ p
 IsPlanFor p (Some table) q = (q.table.items ≡ table) × (q.words ≡ p.words) × (q.capacity ≡ p.capacity) × (q.budget ≡ p.budget)
 
--- the rows of the file of this name were answered so
+-- the rows of the file with this name were answered so
 abbrev pub IsTested : Plan → List ℕ → Tested → List FileDeed → Type 0
 IsTested p name t deeds = (t.name.now ≡ name) × (table : Option (List ℕ)) × (lines : List Numbered) × IsFile name table lines deeds
     × (q : Plan) × IsPlanFor p table q × AreAnswered q lines t
 
--- those of the files of these names, one after the other
+-- those of the files with these names, one after the other
 unfoldable pub AreTested : Plan → List (List ℕ) → List Tested → List FileDeed → Type 0
 AreTested p [] [] deeds = deeds ≡ []
 AreTested p (name ∷ names) (t ∷ ts) deeds = (first more : List FileDeed) × IsTested p name t first × AreTested p names ts more × (deeds ≡ first ++ more)
@@ -217,23 +217,23 @@ IsUnanswered p (BadTable line) = Reads p.table.items (Err (BadLine line))
 IsUnanswered p ImageTooSmall = Unit {0}
 IsUnanswered p other = ⊥
 
--- why the bytes of the file of this name are no text of rows: they are more than a script may have; or they are not, and are no text
+-- why the bytes of the file with this name are no text of rows: they are more than a script may have; or they are not, and are no text
 abbrev pub IsNoText : List ℕ → List ℕ → Fault → Type 0
 IsNoText name bytes ScriptTooLong = 16777216 < length bytes
 IsNoText name bytes (CannotRead path) = (path.now ≡ name) × (length bytes ≤ 16777216) × (IsUtf8 bytes → ⊥)
 IsNoText name bytes other = ⊥
 
--- why no text of rows was read from the file of this name: it was not read; or its bytes, as far as they were, are none
+-- why no text of rows was read from the file with this name: it was not read; or its bytes, as far as they were, are none
 abbrev pub IsNoRowsText : List ℕ → Fault → List FileDeed → Type 0
 IsNoRowsText name fault deeds = IsUnread name fault deeds ⊎ ((bytes : List ℕ) × IsScriptRead name bytes deeds × IsNoText name bytes fault)
 
--- why not all lines of a text in the file of this name came: memory was refused, or a file that one includes was not read
+-- why not all lines of a text in the file with this name came: memory was refused, or a file that one includes was not read
 abbrev pub IsNotIncluded : List ℕ → Fault → Type 0
 IsNotIncluded name NoMemory = Unit {0}
 IsNotIncluded name (CannotInclude path number) = path.now ≡ name
 IsNotIncluded name other = ⊥
 
--- why the lines of the file of this name did not come
+-- why the lines of the file with this name did not come
 abbrev pub AreNoFileLines : List ℕ → Fault → List FileDeed → Type 0
 AreNoFileLines name fault deeds = IsNoRowsText name fault deeds ⊎ IsNotIncluded name fault
 
@@ -245,7 +245,7 @@ IsUntested name fault deeds = AreNoFileLines name fault deeds ⊎ ((q : Plan) ×
 abbrev pub IsOneUntested : List (List ℕ) → Fault → List FileDeed → Type 0
 IsOneUntested names fault reads = (earlier last : List FileDeed) × (reads ≡ earlier ++ last) × Any (λ name. IsUntested name fault last) names
 
--- what is told where the file that the line of this number includes in the file of this name was not read: want of memory as such
+-- what is reported where the file that the line of this number includes in the file with this name was not read: want of memory as such
 abbrev pub IsIncludeFault : List ℕ → ℕ → Fault → Fault → Type 0
 IsIncludeFault name number NoMemory told = told ≡ NoMemory
 IsIncludeFault name number fault told = (path : Bor (List ℕ)) × (told ≡ CannotInclude path number) × (path.now ≡ name)
@@ -261,7 +261,7 @@ IsVerdict ts (Ok done) = failed_of ts ≡ 0
 IsVerdict ts (Err RowsFailed) = 0 < failed_of ts
 IsVerdict ts (Err other) = ⊥
 
--- the report for build servers was written to the file of this name, which is none of these; or memory was refused for it, and no file was
+-- the report for build servers was written to the file with this name, which is none of these; or memory was refused for it, and no file was
 -- asked for; or it could not be written
 abbrev pub IsJunit : List (List ℕ) → List ℕ → List Tested → Result Unit Fault → List FileDeed → Type 0
 IsJunit names name ts (Ok done) deeds = (position (λ (file : List ℕ). bytes_eq file name) names ≡ None) × (deeds ≡ WritesText name (junit_text ts) (Ok tt) ∷ [])
@@ -280,7 +280,7 @@ IsTold names ts junit ended text deeds = ((ended ≡ Err NoMemory) × (text ≡ 
     ⊎ ((ended ≡ Err WriteFailed) × IsCutOf (report_text ts) text × (deeds ≡ []))
     ⊎ ((text ≡ report_text ts) × IsKept names junit ts ended deeds)
 
--- the rows of the files of these names were answered by cards as planned, and that was told; or those of one were not, and nothing was
+-- the rows of the files with these names were answered by cards as planned, and that was reported; or those of one were not, and nothing was
 -- written. Until then texts were read, and no file was asked for in another way
 abbrev pub IsTestBy : Plan → List (List ℕ) → Option (List ℕ) → Result Unit Fault → List ℕ → List FileDeed → Type 0
 IsTestBy p names junit ended text deeds = (reads more : List FileDeed) × (deeds ≡ reads ++ more) × All IsReading reads

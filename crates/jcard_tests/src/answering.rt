@@ -34,7 +34,7 @@ use jcard_tear::script_lines::ScriptLine;
 use jcard_tear::tearing::TearFault;
 use std::alloc::{AllocError, Global};
 
-/// What comes of the rows of these cards, each of which is new, is as planned, and is told its rows: the first row that is not answered
+/// What comes of the rows of these cards, each of which is new, is as planned, and is given its rows: the first row that is not answered
 /// as it says, or, where all are, the first that is torn and whose cuts are not all or nothing; or how many hold. Without a row that is a
 /// failure. The time that each took is added to those.
 pub(crate) fn outcome_of<'n, T: Timer>(
@@ -253,7 +253,7 @@ fn failure_of<'n>(
     }
 }
 
-// The failure of a torn row after this many that hold, of whose cuts this is told.
+// The failure of a torn row after this many that hold, of whose cuts this is reported.
 fn torn_failure(
     alloc: Global,
     row: &Row,
@@ -271,7 +271,7 @@ fn torn_failure(
     })
 }
 
-// What is told of the cuts of the row after these, if it is torn and they are not all or nothing.
+// What is reported of the cuts of the row after these, if it is torn and they are not all or nothing.
 fn told_of_cuts<'n>(
     alloc: Global,
     plan: &Plan,
@@ -295,7 +295,7 @@ fn told_of_cuts<'n>(
     }
 }
 
-// What is told of its cuts on cards of copies of this store.
+// What is reported of its cuts on cards of copies of this store.
 fn told_of_cuts_on(
     alloc: Global,
     store: &MemStore,
@@ -317,7 +317,7 @@ fn told_of_cuts_on(
     told_of_line(alloc, store.words(), command, budget)
 }
 
-// What is told of the cuts of a line over these words.
+// What is reported of the cuts of a line over these words.
 fn told_of_line(
     alloc: Global,
     words: &[u16],

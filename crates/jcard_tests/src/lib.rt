@@ -1,4 +1,4 @@
-//! Rows of files, told to new cards in memory.
+//! Rows of files, given to new cards in memory.
 #![tactic(auto)]
 
 mod answering;

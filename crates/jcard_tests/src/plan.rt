@@ -1,8 +1,8 @@
-//! What the cards are that rows are told.
+//! What the cards are that rows are given to.
 ghost use Rattle.std.specs.Prelude.{◌≤◌};
 ghost use Rattle.jc_words.specs.Image.{IsCapacity};
 
-/// What the cards are that rows are told: the platform table, how many words a file's first has, how many entries their journals can have,
+/// What the cards are that rows are given to: the platform table, how many words a file's first has, how many entries their journals can have,
 /// and how many instructions a command can have.
 #[derive(Drop)]
 pub(crate) struct Plan {

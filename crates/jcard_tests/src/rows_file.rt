@@ -24,7 +24,7 @@ pub(crate) struct RowFile {
     pub(crate) lines: Vec<Numbered>,
 }
 
-/// The file of rows of this name: its lines, those of loops as often as they stand there, with the lines of each file that it includes in
+/// The file of rows with this name: its lines, those of loops as often as they stand there, with the lines of each file that it includes in
 /// the place of the line that names it. Such a file stands in the same folder, and has rows and comments alone; so does the platform table
 /// that the first line can name.
 pub(crate) fn file_of<'n, D: Disk>(disk: &mut D, name: &'n str) -> Result<RowFile, Fault<'n>>
@@ -38,7 +38,7 @@ pub(crate) fn file_of<'n, D: Disk>(disk: &mut D, name: &'n str) -> Result<RowFil
     }
 }
 
-// The file of this name that has this text.
+// The file with this name that has this text.
 fn unrolled<'n, D: Disk>(disk: &mut D, name: &'n str, text: &str) -> Result<RowFile, Fault<'n>>
     ensures { (deeds : List FileDeed) × D.does disk.old deeds disk.new × All IsReading deeds
         × MatchResult result (λ file. (own : List Numbered) × IsUnrolled text.now own
@@ -51,7 +51,7 @@ fn unrolled<'n, D: Disk>(disk: &mut D, name: &'n str, text: &str) -> Result<RowF
     }
 }
 
-// The file of this name that has these lines.
+// The file with this name that has these lines.
 fn of_lines<'n, D: Disk>(
     disk: &mut D,
     name: &'n str,
@@ -71,7 +71,7 @@ fn of_lines<'n, D: Disk>(
     }
 }
 
-// The file of this name, one of whose lines names that platform table.
+// The file with this name, one of whose lines names that platform table.
 fn with_table<'n, D: Disk>(
     disk: &mut D,
     name: &'n str,
@@ -95,7 +95,7 @@ fn with_table<'n, D: Disk>(
     }
 }
 
-// The text of the platform table that the line of this number in the file of this name names.
+// The text of the platform table that the line of this number in the file with this name names.
 fn table_beside<'n, D: Disk>(
     disk: &mut D,
     name: &'n str,
@@ -115,7 +115,7 @@ fn table_beside<'n, D: Disk>(
     }
 }
 
-// These lines of the file of this name, with those of the files that it includes.
+// These lines of the file with this name, with those of the files that it includes.
 fn with_included<'n, D: Disk>(
     disk: &mut D,
     name: &'n str,
@@ -135,7 +135,7 @@ fn with_included<'n, D: Disk>(
     Ok(lines)
 }
 
-// Adds a line of the file of this name; or, where it includes a file, the lines of that.
+// Adds a line of the file with this name; or, where it includes a file, the lines of that.
 fn add_line<'n, D: Disk>(
     disk: &mut D,
     name: &'n str,
@@ -174,7 +174,7 @@ fn copy_of(alloc: Global, line: &Numbered) -> Result<Numbered, AllocError>
     })
 }
 
-// Adds the lines of a file that the line of this number in the file of this name includes.
+// Adds the lines of a file that the line of this number in the file with this name includes.
 fn add_file<'n, D: Disk>(
     disk: &mut D,
     name: &'n str,
@@ -200,7 +200,7 @@ fn add_file<'n, D: Disk>(
     }
 }
 
-// What it means that a file is not read that the line of this number in the file of this name includes.
+// What it means that a file is not read that the line of this number in the file with this name includes.
 fn include_fault<'n>(name: &'n str, number: usize, fault: Fault) -> Fault<'n>
     ensures untested { IsNotIncluded name.now result }
     ensures told { IsIncludeFault name.now number fault.entry result }
@@ -211,7 +211,7 @@ fn include_fault<'n>(name: &'n str, number: usize, fault: Fault) -> Fault<'n>
     }
 }
 
-// The text in the file of this name.
+// The text in the file with this name.
 fn rows_text<'n, D: Disk>(disk: &mut D, name: &'n str) -> Result<String, Fault<'n>>
     ensures { (deeds : List FileDeed) × D.does disk.old deeds disk.new × All IsReading deeds
         × MatchResult result (λ text. IsRowsText name.now (string_bytes text) deeds)
@@ -223,7 +223,7 @@ fn rows_text<'n, D: Disk>(disk: &mut D, name: &'n str) -> Result<String, Fault<'
     }
 }
 
-// These bytes of the file of this name as a text, which has no more than are read of a script.
+// These bytes of the file with this name as a text, which has no more than are read of a script.
 fn text_of_bytes(name: &str, bytes: Vec<u8>) -> Result<String, Fault<'_>>
     ensures text { IfOk result (λ text. (string_bytes text ≡ bytes.items)
         × (length bytes.items ≤ 16777216)) }

@@ -29,7 +29,7 @@ use jcard_rows::report::{failed, report};
 use jcard_script::streams::{TextOut, write_all};
 use std::alloc::{AllocError, Global};
 
-/// `jcard test`: tells for each of these files how many of its rows hold, or the first that is not answered as it says, and how many
+/// `jcard test`: says for each of these files how many of its rows hold, or the first that is not answered as it says, and how many
 /// passed and failed in all. The cards are new ones in memory, as they are asked for, or as a file says. After it the report for build
 /// servers is written to the file that is named for it, if there is one. Where a row that failed has no form, or a table is none, it is
 /// remarked why.
@@ -178,7 +178,7 @@ fn with_table(plan: &Plan, table: Vec<u8>) -> Plan
     }
 }
 
-// What comes of the rows that these lines of the file of this name make. Where their platform table is none, it is remarked why.
+// What comes of the rows that these lines of the file with this name make. Where their platform table is none, it is remarked why.
 fn tested_by<'n, T: Timer + Remarks>(
     alloc: Global,
     name: &'n str,
@@ -264,7 +264,7 @@ fn tell_tested<'n, D: Disk, W: TextOut>(
     }
 }
 
-// Writes the report for build servers, if a file is named for it, and tells whether all rows passed.
+// Writes the report for build servers, if a file is named for it, and says whether all rows passed.
 fn keep_junit<'n, D: Disk>(
     disk: &mut D,
     tested: &[Tested],
@@ -286,7 +286,7 @@ fn keep_junit<'n, D: Disk>(
     }
 }
 
-// Writes the report for build servers to the file of this name, which is none of these.
+// Writes the report for build servers to the file with this name, which is none of these.
 fn write_junit<'n, D: Disk>(
     disk: &mut D,
     tested: &[Tested],

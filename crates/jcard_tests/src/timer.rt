@@ -1,12 +1,12 @@
-//! What tells the time.
+//! What knows the time.
 
-/// What tells the time. No result depends on it but the times that a report has.
+/// What knows the time. No result depends on it but the times that a report has.
 pub trait Timer {
     /// The microseconds since some moment that stays the same.
     fn microseconds(&self) -> u64;
 }
 
-/// Tells no time.
+/// Knows no time.
 #[derive(Clone, Copy, Drop)]
 pub struct NoTimer;
 

@@ -4,7 +4,7 @@ use Rattle.jcard_why.specs.declared.explanation.TracedLines.{TracedLines}
 use Rattle.jcard_why.specs.declared.explanation.TracedLines.TheVariants.{First, Last}
 use Rattle.jcard_why.specs.declared.explanation.Wanted.{Wanted}
 
--- for the lines that are told: the first are noted as they come; the last are found once all have come
+-- for the lines that are reported: the first are noted as they come; the last are found once all have come
 abbrev pub noted_for : Option TracedLines → ℕ
 noted_for None = 0
 noted_for (Some (First n)) = n

@@ -96,7 +96,7 @@ pub(crate) fn push_class(
     text.push_number(u32::from(class.0 % 256))
 }
 
-// Why code ended, as far as the call at which it ended tells more.
+// Why code ended, as far as the call at which it ended says more.
 enum ToldFault {
     /// As it was noted.
     Noted(FaultKind),
@@ -104,7 +104,7 @@ enum ToldFault {
     AbortOfInstallation,
 }
 
-// What a fault is told as. A call of `abortTransaction`, which takes and returns nothing, ends code only within an installation, and
+// What a fault is reported as. A call of `abortTransaction`, which takes and returns nothing, ends code only within an installation, and
 // one of the superclass's `process` because `Applet` has no code for it.
 fn told_fault(kind: FaultKind, asked: &Asked<'_>) -> ToldFault {
     let (FaultKind::WrongArguments | FaultKind::FullStack) = kind else {

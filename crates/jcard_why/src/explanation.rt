@@ -41,8 +41,8 @@ pub struct Asked<'a> {
     pub lent_code: &'a [u8],
 }
 
-/// Which of the instructions that a command carried out are told.
-#[derive(Clone, Copy, Debug, PartialEq, Eq, Drop)]
+/// Which of the instructions that a command carried out are reported.
+#[derive(Clone, Copy, Drop)]
 pub enum TracedLines {
     /// This many at most, from the first on.
     First(u32),
@@ -65,8 +65,8 @@ impl<'a> Asked<'a> {
     }
 }
 
-/// What is wanted to be told of a command.
-#[derive(Clone, Copy, Debug, PartialEq, Eq, Drop)]
+/// What is asked about a command.
+#[derive(Clone, Copy, Drop)]
 pub struct Wanted {
     /// Why it was not answered by 9000.
     pub why: bool,
@@ -94,7 +94,7 @@ impl Wanted {
     }
 }
 
-/// Tells what is wanted of a command: its instructions; and after them, where it was not answered by 9000, why.
+/// Says what is wanted of a command: its instructions; and after them, where it was not answered by 9000, why.
 pub fn told(asked: &Asked<'_>, wanted: Wanted) -> Result<Vec<u8>, AllocError> {
     let mut text = Text::new(asked.alloc);
     if let Some(lines) = wanted.trace {

@@ -10,7 +10,7 @@ struct LineFault {
     why: &'static [u8],
 }
 
-/// Tells the first line of a map that has no form, where and why: an empty text where each has one. Such a line is passed over.
+/// Says the first line of a map that has no form, where and why: an empty text where each has one. Such a line is passed over.
 pub fn remark_on_map(alloc: Global, map: &[u8]) -> Result<Vec<u8>, AllocError> {
     let mut is_inside = false;
     let mut number = 0u32;
@@ -70,7 +70,7 @@ fn fault_of(line: &[u8], is_inside: bool) -> Option<LineFault> {
     fault_of_method(line)
 }
 
-// A line that tells no method: what an entry of the constant pool, a class, a field or a variable is called.
+// A line that states no method: what an entry of the constant pool, a class, a field or a variable is called.
 fn is_of_another_form(line: &[u8]) -> bool {
     line.starts_with(b"entry ")
         || line.starts_with(b"class ")

@@ -3,7 +3,7 @@ ghost use Rattle.std.specs.Prelude.{◌≡◌, ◌<◌, ◌==◌, [], ◌∷◌,
 ghost use Rattle.std.specs.List.{slice_split};
 ghost use Rattle.jcard_why.specs.Maps.{behind, is_of, name_at, named_by};
 
-/// The name that a map has of the method at an offset of a package's Method component. The package is told by its AID in
+/// The name that a map has of the method at an offset of a package's Method component. The package is named by its AID in
 /// hexadecimal digits, which a line `package AID` of the map has to spell the same, and the offset in decimal ones.
 pub fn name_at<'a>(map: &'a [u8], aid: &[u8], offset: &[u8]) -> Option<&'a [u8]>
     ensures { MatchOption result (name_at map.now aid.now offset.now ≡ None)

@@ -1,12 +1,12 @@
-//! The names of a map in what is told of objects.
+//! The names of a map in what is reported of objects.
 ghost use Rattle.std.specs.Prelude.{◌≡◌, ◌++◌, ◌<◌, length, IfOk, IfSome, OnOk};
 ghost use Rattle.jcard_why.specs.Named.{HasNames, shown};
 
 use crate::naming::Names;
 use std::alloc::{AllocError, Global};
 
-/// A text that tells objects and their cells, with the names that a map has of classes, fields and static fields, each in brackets after
-/// what it names. Words of static images are known by the words of the image that is told, where there are any.
+/// A text about objects and their cells, with the names that a map has of classes, fields and static fields, each in brackets after
+/// what it names. Words of static images are known by the words of the image that is listed, where there are any.
 pub fn with_names(
     alloc: Global,
     map: &[u8],

@@ -1,4 +1,4 @@
-//! Which name of a map belongs after a word of what is told of objects.
+//! Which name of a map belongs after a word of what is reported of objects.
 
 use crate::maps::number_of;
 use crate::records::image_with;
@@ -13,7 +13,7 @@ struct Class<'a> {
     number: u32,
 }
 
-// What the words before told.
+// What the words before said.
 #[derive(Clone, Copy, Drop)]
 enum Place<'a> {
     // A line begins.
@@ -40,7 +40,7 @@ enum Place<'a> {
     Other,
 }
 
-/// The names of a map, and what was told so far.
+/// The names of a map, and what was reported so far.
 #[derive(Drop)]
 pub(crate) struct Names<'a> {
     alloc: Global,
@@ -53,7 +53,7 @@ pub(crate) struct Names<'a> {
 }
 
 impl<'a> Names<'a> {
-    /// Nothing was told yet.
+    /// Nothing was reported yet.
     pub(crate) fn new(alloc: Global, map: &'a [u8], words: &'a [u16]) -> Names<'a> {
         Names {
             alloc,

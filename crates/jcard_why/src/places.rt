@@ -63,7 +63,7 @@ pub fn push_place(text: &mut Text, spot: Spot, asked: &Asked<'_>) -> Result<(), 
     push_operand(text, spot, asked)
 }
 
-/// A package's AID as a map tells it.
+/// A package's AID as a map has it.
 pub fn aid_text(number: u8, asked: &Asked<'_>) -> Result<Vec<u8>, AllocError> {
     let mut aid = Text::new(asked.alloc);
     push_package(&mut aid, number, asked.linked)?;

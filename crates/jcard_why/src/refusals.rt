@@ -13,7 +13,7 @@ use std::alloc::AllocError;
 /// The status word of a component that ends too early.
 const TRUNCATED: u16 = 0x6401;
 
-/// The status word where the Directory tells another size of a component.
+/// The status word where the Directory states another size of a component.
 const SIZES_DISAGREE: u16 = 0x6407;
 
 /// The status word where a component did not come.
@@ -182,7 +182,7 @@ fn named_class(package: &[u8], class: Option<u8>, linked: &Linked) -> Option<Pla
     platform.class_by_token(home, class?)
 }
 
-// The name that the map has of what the entry names, in a line that tells the entry, the package, the class and the member's token.
+// The name that the map has of what the entry names, in a line that states the entry, the package, the class and the member's token.
 fn push_member(
     text: &mut Text,
     entry: u16,

@@ -6,7 +6,7 @@ use jc_platform::lookup::all_classes;
 /// The most classes of a map that stand above one another.
 const MOST_ABOVE: usize = 64;
 
-/// What a line tells of a class: its number in its package, its name, the name of the class above it, and its file.
+/// What a line reports of a class: its number in its package, its name, the name of the class above it, and its file.
 #[derive(Clone, Copy, Drop)]
 pub(crate) struct ClassLine<'a> {
     number: u32,
@@ -31,7 +31,7 @@ pub struct Member<'a> {
     pub at: u32,
 }
 
-/// A method of a package: its AID as the map tells it, and the offset of the method in decimal digits.
+/// A method of a package: its AID as the map has it, and the offset of the method in decimal digits.
 #[derive(Clone, Copy, Drop)]
 pub struct MethodPlace<'a> {
     pub aid: &'a [u8],
@@ -54,7 +54,7 @@ pub(crate) fn class_numbered<'a>(map: &'a [u8], aid: &[u8], number: u32) -> Opti
     None
 }
 
-/// The file of a method of this name in a package: that of the class of the longest name with which the method's begins.
+/// The file of a method with this name in a package: that of the class of the longest name with which the method's begins.
 pub fn file_of<'a>(map: &'a [u8], aid: &[u8], method: &[u8]) -> Option<&'a [u8]> {
     let mut is_inside = false;
     let mut found: Option<ClassLine<'a>> = None;
@@ -151,7 +151,7 @@ pub fn variable_at<'a>(
     None
 }
 
-/// Whether a map tells any variable of a method.
+/// Whether a map has any variable of a method.
 pub fn tells_variables(map: &[u8], method: MethodPlace<'_>) -> bool {
     let mut is_inside = false;
     let mut is_named = false;
@@ -174,7 +174,7 @@ pub(crate) fn is_of_method(line: &[u8], before: bool, offset: &[u8]) -> bool {
     }
 }
 
-// The class of this name, in any package.
+// The class with this name, in any package.
 fn class_named<'a>(map: &'a [u8], name: &[u8]) -> Option<ClassLine<'a>> {
     for line in map.split(|byte| *byte == b'\n') {
         if let Some(class) = class_in(line) {
@@ -186,7 +186,7 @@ fn class_named<'a>(map: &'a [u8], name: &[u8]) -> Option<ClassLine<'a>> {
     None
 }
 
-// How many cells an instance of the class of this name has; none where neither the map nor the platform knows it.
+// How many cells an instance of the class with this name has; none where neither the map nor the platform knows it.
 fn cells_of(map: &[u8], name: &[u8]) -> Option<u32> {
     let mut cells = 0u32;
     let mut above = name;
@@ -200,7 +200,7 @@ fn cells_of(map: &[u8], name: &[u8]) -> Option<u32> {
     None
 }
 
-// How many cells an instance of the platform's class of this name has, which has its Java package before it.
+// How many cells an instance of the platform's class with this name has, which has its Java package before it.
 fn platform_cells(name: &[u8]) -> Option<u32> {
     if !name.starts_with(b"java") {
         return None;
@@ -213,7 +213,7 @@ fn platform_cells(name: &[u8]) -> Option<u32> {
     None
 }
 
-// How many fields the class of this name declares.
+// How many fields the class with this name declares.
 fn own_fields(map: &[u8], name: &[u8]) -> u32 {
     let mut class: &[u8] = b"";
     let mut count = 0u32;
@@ -226,7 +226,7 @@ fn own_fields(map: &[u8], name: &[u8]) -> u32 {
     count
 }
 
-// The field in the cell of this number among those that the class of this name declares.
+// The field in the cell of this number among those that the class with this name declares.
 fn own_field<'a>(map: &'a [u8], name: &'a [u8], cell: u32) -> Option<Member<'a>> {
     let mut class: &[u8] = b"";
     for line in map.split(|byte| *byte == b'\n') {
@@ -246,7 +246,7 @@ fn own_field<'a>(map: &'a [u8], name: &'a [u8], cell: u32) -> Option<Member<'a>>
     None
 }
 
-// The name of the class whose lines follow a line, after those of a class of this name: a line `class ..` begins them, and `package ..` ends them.
+// The name of the class whose lines follow a line, after those of a class with this name: a line `class ..` begins them, and `package ..` ends them.
 fn class_after<'a>(line: &'a [u8], before: &'a [u8]) -> &'a [u8] {
     if line.starts_with(b"package ") {
         return b"";
@@ -257,7 +257,7 @@ fn class_after<'a>(line: &'a [u8], before: &'a [u8]) -> &'a [u8] {
     }
 }
 
-// What a line `class N NAME ABOVE FILE` tells.
+// What a line `class N NAME ABOVE FILE` says.
 fn class_in(line: &[u8]) -> Option<ClassLine<'_>> {
     let rest = line.strip_prefix(b"class ".as_slice())?;
     let (number, rest) = split_word(rest)?;
@@ -271,7 +271,7 @@ fn class_in(line: &[u8]) -> Option<ClassLine<'_>> {
     })
 }
 
-// What a line `WORD N TYPE NAME` tells of a field: where it stands, its type and its name.
+// What a line `WORD N TYPE NAME` reports of a field: where it stands, its type and its name.
 fn member_in<'a>(line: &'a [u8], word: &[u8]) -> Option<(u32, Named<'a>)> {
     let rest = line.strip_prefix(word)?;
     let (at, rest) = split_word(rest)?;
@@ -279,7 +279,7 @@ fn member_in<'a>(line: &'a [u8], word: &[u8]) -> Option<(u32, Named<'a>)> {
     Some((number_of(at)?, Named { kind, name }))
 }
 
-// The variable that a line `local I START END TYPE NAME` tells, where it is this local at this place.
+// The variable that a line `local I START END TYPE NAME` says, where it is this local at this place.
 fn variable_in(line: &[u8], local: u32, place: u32) -> Option<Named<'_>> {
     let rest = line.strip_prefix(b"local ".as_slice())?;
     let (number, rest) = split_word(rest)?;

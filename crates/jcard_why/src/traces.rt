@@ -9,7 +9,7 @@ use jc_transient::Ref;
 use std::alloc::AllocError;
 
 /// Adds the wanted ones of the instructions that a command carried out: a line that begins with `trace:`, and a line for each, with the
-/// top of the stack that it found. Of a command that ran no code nothing is told.
+/// top of the stack that it found. Of a command that ran no code nothing is reported.
 pub(crate) fn push_trace(
     text: &mut Text,
     asked: &Asked<'_>,
@@ -54,7 +54,7 @@ fn push_last(
     push_left_out(text, asked.note.steps_left_out)
 }
 
-// How many instructions came before those that are told.
+// How many instructions came before those that are reported.
 fn push_before(text: &mut Text, before: u32) -> Result<(), AllocError> {
     if before == 0 {
         return Ok(());

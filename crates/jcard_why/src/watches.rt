@@ -28,7 +28,7 @@ struct Seen {
     writes: Vec<SpotWrite>,
     // Those that non-atomic calls wrote of the last command that came to its end.
     words: Vec<u16>,
-    // Whether it is wanted to be told of each write, and what is told of those of that command.
+    // Whether each write is asked about, and what is reported of those of that command.
     is_telling: bool,
     told: Vec<Vec<u8>>,
     // Whether there was no memory for one of them.
@@ -42,13 +42,13 @@ pub struct Watch {
 }
 
 impl Watch {
-    /// Nothing is seen yet. Each write of a command is told where that is wanted.
+    /// Nothing is seen yet. Each write of a command is reported where that is wanted.
     pub fn new(alloc: Global, is_telling: bool) -> Result<Watch, AllocError> {
         let seen = Rc::new(alloc, RefCell::new(Seen::nothing(alloc, is_telling)))?;
         Ok(Watch { seen })
     }
 
-    /// The same watch, for another who tells it something.
+    /// The same watch, for another who notifies it.
     pub fn share(&self) -> Result<Watch, AllocError> {
         match self.seen.clone() {
             Ok(seen) => Ok(Watch { seen }),
@@ -92,7 +92,7 @@ impl Watch {
         }
     }
 
-    /// What is told of each word write of the last command, one after the other, if it is told and there was memory for it. It is told once.
+    /// What is reported of each word write of the last command, one after the other, if it is reported and there was memory for it. It is reported once.
     pub fn told(&self) -> Option<Vec<Vec<u8>>> {
         match self.seen.try_borrow_mut() {
             Ok(mut seen) => Some(seen.take_told()),
@@ -140,7 +140,7 @@ impl Seen {
         self.spot = None;
     }
 
-    // What is told of these writes; nothing where it is not wanted, or where there is no memory for it.
+    // What is reported of these writes; nothing where it is not wanted, or where there is no memory for it.
     fn told_of(&self, writes: &[SpotWrite], asked: &Asked<'_>) -> Vec<Vec<u8>> {
         let mut told = Vec::new(self.alloc);
         if !self.is_telling {

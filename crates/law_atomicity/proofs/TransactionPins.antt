@@ -28,7 +28,7 @@ event_behind : (there : Bool) (f : Facts) (x : Bool) → (if is_persistent_with 
 event_behind false f x e = absurd (false≢true e)
 event_behind true f x e = event_of _ _ x f.event e
 
--- how a PIN is told from its header, its cells and the header of its value
+-- how a PIN is recognised from its header, its cells and the header of its value
 abbrev is_so : Option Facts → ℕ → ℕ → Option Facts → Bool
 is_so own long maximum value = if is_persistent_with Instance 5 own then nat_le long maximum &&
     (if maximum == 0 then true else is_persistent_with ByteArray maximum value) else false

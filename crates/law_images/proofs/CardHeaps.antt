@@ -35,7 +35,7 @@ pub record IsOwnMemory (n : ℕ) (t : Tokens) (p : Packages) (m : MemoryState) :
   pub beginning : KeepsBeginning n t m
   pub layout : AreLaidOut m
 
--- a heap tells the number of words of its image
+-- a heap states the number of words of its image
 pub own_at : (n : ℕ) (t : Tokens) (p : Packages) (h : HeapState) → IsOwnHeap n t p h → IsOwnHeap h.head.1 t p h
 own_at n t p h own = subst (λ k. IsOwnHeap k t p h) (sym (ap (λ (x : ℕ × ℕ). x.1) own.beginning.head)) own
 

@@ -47,7 +47,7 @@ card_heap n t p h own = record {
   whole = own.stands.whole;
 }
 
--- a heap that words keep tells their number
+-- a heap that words keep states their number
 told : (words : List ℕ) (k : KeptState) → Keeps words k → k.durable.head.1 ≡ length words
 told words k keeps =
     sym (ap (λ (h : HeapState). h.head.1) keeps.durable)

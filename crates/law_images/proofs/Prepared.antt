@@ -51,7 +51,7 @@ unless_ok : {A : Type 0} (b : Bool) (e : LoadRefusal) (r : Result A LoadRefusal)
 unless_ok true e r y is = absurd (no_refusal e y is)
 unless_ok false e r y is = is
 
--- its components are a package, and say what the linker was told
+-- its components are a package, and say what the linker got
 pub record IsPrepared (p : Packages) (q : PendingPackageValue) : Type 0 where
   pub contents : PackageContents
   pub read : contents_of q.texts ≡ Ok contents
@@ -97,7 +97,7 @@ pub some_parts : (t : PackageBytes) → 0 < length (parts_of t)
 unfolding parts_of
 some_parts t = omega arith
 
--- the linker was told what the static image is
+-- the linker got what the static image is
 module _ (p : Packages) (q : PendingPackageValue) (is : IsPrepared p q) where
   pub image_size_is : q.linked.image_size ≡ (statics_of q.texts).image_size
   image_size_is = ap (λ v. v.image_size) (made p (linker_view q.texts is.contents) q.linked is.links).is

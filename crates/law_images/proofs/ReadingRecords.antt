@@ -71,7 +71,7 @@ image_behind zero at (w ∷ ws) b e = elim (cases_eq w 0) [
   | inr n ↦ let low = image_behind (1 + words_for (get_or ws 0 0)) (suc at) ws b (sym (image_more at w ws n) ∙ e) in omega (arith, low)
 ]
 
--- a word of the image doesn't tell where an info stands
+-- a word of the image doesn't say where an info stands
 span_set : (tag s at : ℕ) (ws : List ℕ) (q v b : ℕ) → 0 < tag → image_from (records_from part_sizes s at ws) ≡ Some b → b ≤ at + q
     → info_span (records_from part_sizes s at (set ws q v)) tag ≡ info_span (records_from part_sizes s at ws) tag
 span_set tag s at [] q v b some e le = refl

@@ -45,7 +45,7 @@ AddNone [] = Unit {0}
 AddNone (HeapMove (AddPackage components arrays image) ∷ es) = ⊥
 AddNone (e ∷ es) = AddNone es
 
--- it is down, or tells that the fuse is armed
+-- it is down, or answers that the fuse is armed
 abbrev pub IsDown : Reply → Type 0
 IsDown Down = Unit {0}
 IsDown (Armed k) = Unit {0}

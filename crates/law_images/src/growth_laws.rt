@@ -3,7 +3,7 @@ ghost use Rattle.law_images.specs.GrowthRecords.{ImagesHaveWords, RecordsAreRead
 
 /// The packages that a heap's records are read as, after a platform of which a table was read with tokens of
 /// one byte each, were linked, each onto those before it, from class records that are those of a Class
-/// component and applets that are those of an Applet component; and the platform's tokens tell its names.
+/// component and applets that are those of an Applet component; and the platform's tokens stand for its names.
 pub fn packages_that_were_read_are_linked()
     ensures { RecordsAreRead }
 {}

@@ -31,7 +31,7 @@ use Rattle.jc_world.specs.declared.arrays.Stretch.{Stretch}
 use Rattle.jc_world.specs.Arrays.{bytes_in}
 use Rattle.jc_api_framework.specs.Aid.Cells.{aid_cell, cells_of_aid}
 use Rattle.jc_api_framework.specs.Applet.Register.{aid_object}
-use Rattle.jc_api_framework.specs.OwnerPin.Arguments.{is_own_value}
+use Rattle.jc_api_framework.specs.OwnerPin.{is_own_value}
 use Rattle.jc_platform.specs.Names.{aids_rows}
 use Rattle.jc_platform.specs.Signatures.{sets_receiver}
 use Rattle.law_isolation.specs.Natives.{NativesSpare, ReachesCalled}

@@ -25,7 +25,7 @@ use Rattle.jc_heap.specs.Places.{cell_changes}
 use Rattle.jc_platform.specs.declared.names.PlatformClass.TheVariants.{Aid}
 use Rattle.jc_platform.specs.Distinct.{class_word}
 use Rattle.jc_world.specs.Contexts.{context_of, own_designation, situation_of, subject_of}
-use Rattle.jc_api_framework.specs.OwnerPin.Arguments.{is_in_context_of}
+use Rattle.jc_api_framework.specs.OwnerPin.{is_in_context_of}
 use Rattle.law_isolation.specs.Reach.{IsOutside}
 use Rattle.law_isolation.specs.Sparing.{AreBeside}
 use Rattle.jc_api.proofs.Reaching.{err_not_ok, header_is, one_context}

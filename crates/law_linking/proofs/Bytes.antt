@@ -32,7 +32,7 @@ number_low word = where_so IsByte (nat_lt 0 (length word) && all_ascii_digits wo
 
 -- ---- rows
 
--- what rows tell, where it is a byte or nothing, is so with this row in front too
+-- what rows say, where it is a byte or nothing, is so with this row in front too
 abbrev KeepsByte : {R : Type 0} → (List R → Option ℕ) → R → Type 0
 KeepsByte {R = R} told row = (rest : List R) → IfThere IsByte (told rest) → IfThere IsByte (told (row ∷ rest))
 

@@ -3,7 +3,7 @@ use Rattle.std.proofs.Common.{◌≡◌, ℕ, zero, suc, ◌+◌, ◌-◌, ◌<�
 use Rattle.std.proofs.Common.{subst, ap, ◌∙◌, arith, if◌then◌else◌}
 use Rattle.std.specs.Prelude.{is_some, nat_le, nat_lt}
 use Rattle.std.specs.Option.{option_map}
-use Rattle.std.proofs.lemmas.Bool.{and_from, and_parts, cases_Bool, false≢true, le-leb, ltb-true, or_from}
+use Rattle.std.proofs.lemmas.Bool.{and_from, and_parts, cases_Bool, false≢true, le-leb, ltb-true, or_cases}
 use Rattle.std.proofs.lemmas.Option.{none-some, same_Some}
 use Rattle.jc_platform.specs.declared.names.PlatformClass.{PlatformClass}
 use Rattle.jc_platform.specs.Distinct.{class_word}
@@ -21,11 +21,11 @@ use Rattle.law_linking.proofs.Lists.{IfThere, map_there}
 use Rattle.law_linking.specs.Given.{HasByteTokens}
 use Rattle.law_linking.proofs.Chains.{Fits, Reaches, below_reached, cell_of_reached, none_behind, one_first, own, reached_size}
 use Rattle.law_linking.proofs.Good.{AllGood}
-use Rattle.law_linking.proofs.Facts.{above_bare, few_cells}
+use Rattle.law_linking.proofs.Facts.{few_cells, reference_above}
 use Rattle.law_linking.proofs.Nameless.{nameless, names_none, no_class_there, no_interface_there, token_or_none}
 use Rattle.law_linking.proofs.Ordered.{inherited_size, listed, named, not_loaded, ordered, platform_above, platform_interface}
-use Rattle.law_linking.proofs.Ordered.{platform_own, platform_size, superclass_stands}
-use Rattle.law_linking.proofs.Tokens.{HasToken}
+use Rattle.law_linking.proofs.Ordered.{of_some, platform_own, platform_size, superclass_stands}
+use Rattle.law_linking.proofs.Tokens.{HasToken, token_of_word}
 
 module _ (p : Packages) (few : length p.loaded ≤ 32) (names : TellNames p.platform) (bytes : HasByteTokens p.platform) (good : AllGood p) where
   abbrev word : PlatformClass → ℕ
@@ -47,15 +47,15 @@ module _ (p : Packages) (few : length p.loaded ≤ 32) (names : TellNames p.plat
   plain_above c true is above = tt
   plain_above c false is above = above is
 
-  above_by : (w : ℕ) (o : Option ClassValue) → class_in p w ≡ o → (other : Option PlatformClass) → IfThere (λ s. s ≡ nameless → ⊥) (superclass_by p o other)
-  above_by w (Some c) is other = plain_above c c.is_interface refl (good w c is).above
-  above_by w None is None = tt
-  above_by w None is (Some d) = map_there (HasToken p.platform) (λ s. s ≡ nameless → ⊥) (class_word p.platform) (superclass_of d)
-      (superclass_stands p few names bytes d) has_name
+  above_by : (w : ℕ) (o : Option ClassValue) → class_in p w ≡ o → (other : Option PlatformClass) → class_by_word p.platform w ≡ other → IfThere (λ s. s ≡ nameless → ⊥) (superclass_by p o other)
+  above_by w (Some c) is other told = plain_above c c.is_interface refl (good w c is).above
+  above_by w None is None told = tt
+  above_by w None is (Some d) told = map_there (HasToken p.platform) (λ s. s ≡ nameless → ⊥) (class_word p.platform) (superclass_of d)
+      (superclass_stands p few names bytes d (token_of_word p.platform w d told)) has_name
 
   above_named : (w : ℕ) → IfThere (λ s. s ≡ nameless → ⊥) (superclass_in p w)
   unfolding superclass_in
-  above_named w = above_by w (class_in p w) refl (class_by_word p.platform w)
+  above_named w = above_by w (class_in p w) refl (class_by_word p.platform w) refl
 
   not_reached : (n : ℕ) (o : Option ℕ) → IfThere (λ s. s ≡ nameless → ⊥) o → Reaches p nameless n o → ⊥
   unfolding Reaches
@@ -102,20 +102,29 @@ module _ (p : Packages) (few : length p.loaded ≤ 32) (names : TellNames p.plat
   from_platform w zero c there reaches = absurd reaches
   from_platform w (suc n) c there (inl e) = (c, sym e, Itself, there)
   from_platform w (suc n) c there (inr more) = further w n c (superclass_of c) refl
-      (λ d is. from_platform w n d (subst (IfThere (HasToken p.platform)) is (superclass_stands p few names bytes c)))
+      (λ d is. from_platform w n d (subst (IfThere (HasToken p.platform)) is (superclass_stands p few names bytes c there)))
       (subst (Reaches p w n) (platform_above p few names bytes c there) more)
 
   -- ---- cells of the platform
 
-  bare_from : (m k : ℕ) (o : Option PlatformClass) → IfThere (λ d. (j : ℕ) → holds_reference d j ≡ false) o
-      → IfThere (HasToken p.platform) o → any_reference p k (lineage_from p m (option_map (class_word p.platform) o)) ≡ false
+  -- what holds a reference in a class above does in the class
+  held_from : (m k : ℕ) (c : PlatformClass) (o : Option PlatformClass) → IfThere (HasToken p.platform) o
+      → IfThere (λ d. holds_reference d k ≡ true → holds_reference c k ≡ true) o
+      → any_reference p k (lineage_from p m (option_map (class_word p.platform) o)) ≡ true → holds_reference c k ≡ true
   unfolding any_reference lineage_from
-  bare_from zero k o bare there = refl
-  bare_from (suc m) k None bare there = refl
-  bare_from (suc m) k (Some d) bare there =
-      or_from (own p (word d) k) (any_reference p k (lineage_from p m (superclass_in p (word d)))) (platform_own p few names bytes d there k ∙ bare k)
-      (ap (λ o. any_reference p k (lineage_from p m o)) (platform_above p few names bytes d there)
-      ∙ bare_from m k (superclass_of d) (above_bare d) (superclass_stands p few names bytes d))
+  held_from zero k c o there below e = absurd (false≢true e)
+  held_from (suc m) k c None there below e = absurd (false≢true e)
+  held_from (suc m) k c (Some d) there below e =
+      elim (or_cases (own p (word d) k) (any_reference p k (lineage_from p m (superclass_in p (word d)))) e) [
+        | inl here ↦ below (sym (platform_own p few names bytes d there k) ∙ here)
+        | inr more ↦ below (held_from m k d (superclass_of d) (superclass_stands p few names bytes d there) (reference_above d k)
+            (ap (λ o. any_reference p k (lineage_from p m o)) (sym (platform_above p few names bytes d there)) ∙ more))
+      ]
+
+  or_told : (a b : Bool) → (b ≡ true → a ≡ true) → (a || b) ≡ a
+  or_told true b told = refl
+  or_told false true told = absurd (false≢true (told refl))
+  or_told false false told = refl
 
   or_none : (a b : Bool) → b ≡ false → (a || b) ≡ a
   or_none true b e = refl
@@ -130,10 +139,9 @@ module _ (p : Packages) (few : length p.loaded ≤ 32) (names : TellNames p.plat
       let found = cell_of_reached p (ordered p few names bytes good) most_classes (word of) k (Some class) (fits_of class has)
       (reached class of there class_of below)
       (omega (arith, less, size)) in
-      let none : any_reference p k (lineage_from p found.0 (superclass_in p (word of))) ≡ false =
-      ap (λ o. any_reference p k (lineage_from p found.0 o)) (platform_above p few names bytes of there)
-      ∙ bare_from found.0 k (superclass_of of) (above_bare of) (superclass_stands p few names bytes of) in
-      found.1 ∙ or_none (own p (word of) k) (any_reference p k (lineage_from p found.0 (superclass_in p (word of)))) none
+      found.1 ∙ or_told (own p (word of) k) (any_reference p k (lineage_from p found.0 (superclass_in p (word of))))
+      (λ above. platform_own p few names bytes of there k ∙ held_from found.0 k of (superclass_of of) (superclass_stands p few names bytes of there)
+      (reference_above of k) (ap (λ o. any_reference p k (lineage_from p found.0 o)) (sym (platform_above p few names bytes of there)) ∙ above))
       ∙ platform_own p few names bytes of there k
 
   pub sizes_are : (class : ℕ) (of : PlatformClass) → has_instances p class ≡ true → is_interface of ≡ false → is_a p class of ≡ true
@@ -156,10 +164,6 @@ module _ (p : Packages) (few : length p.loaded ≤ 32) (names : TellNames p.plat
         | inl first ↦ inr (below_of other of two (from_platform (word other) first.0 of one first.1))
         | inr second ↦ inl (below_of of other one (from_platform (word of) second.0 other two second.1))
       ]
-
-  of_some : (o : Option ℕ) → is_some o ≡ true → (k : ℕ) × (o ≡ Some k)
-  of_some None there = absurd (false≢true there)
-  of_some (Some k) there = (k, refl)
 
   token_of : (of : PlatformClass) → is_some (token_of_class p.platform of) ≡ true → HasToken p.platform of
   token_of of there = of_some (token_of_class p.platform of) there

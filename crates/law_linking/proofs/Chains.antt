@@ -1,7 +1,7 @@
 -- Lineages: which classes they reach, and whose cells hold references.
 use Rattle.std.proofs.Common.{◌≡◌, ℕ, zero, suc, ◌<◌, ◌≤◌, ◌==◌, ◌⊎◌, inl, inr, ◌&&◌, ◌||◌, Bool, true, false, Option, Some, None, refl, ap, subst, sym, ◌∙◌}
 use Rattle.std.proofs.Common.{arith}
-use Rattle.std.proofs.lemmas.Bool.{and_parts, eqb-true, false_from_ne_true, false≢true, or_cases, or_from}
+use Rattle.std.proofs.lemmas.Bool.{and_parts, eqb-true, false_from_ne_true, false≢true, or_cases, or_from, or_left}
 use Rattle.jc_platform.specs.Platform.{class_by_word}
 use Rattle.jc_linker.specs.Classes.{any_is, any_reference, class_in, extends, extends_within, implements, interfaces_in, is_below, lineage_from, most_classes}
 use Rattle.jc_linker.specs.Classes.{own_reference, size_of, stands_before, superclass_in}
@@ -10,7 +10,7 @@ use Rattle.jc_linker.specs.Values.{Packages}
 use Rattle.law_linking.proofs.Closed.{if_more}
 use Rattle.law_linking.proofs.Lists.{AllOf, IfThere, any_so}
 
--- a cell belongs to the class itself, and holds a reference
+-- a cell belongs to the class itself, of one of the platform also to a superclass, and holds a reference
 abbrev pub own : Packages → ℕ → ℕ → Bool
 own p w cell = own_reference (class_in p w) (class_by_word p.platform w) cell
 
@@ -18,11 +18,11 @@ own p w cell = own_reference (class_in p w) (class_by_word p.platform w) cell
 abbrev pub Fits : Packages → ℕ → Type 0
 Fits p w = size_of p w < 65536
 
--- a class has its superclass's cells first, and its own after them
+-- a class has its superclass's cells first; what else of its cells holds references stands after them
 pub record IsOrdered (p : Packages) : Type 0 where
   pub sizes : (w : ℕ) → Fits p w → IfThere (λ s. size_of p s ≤ size_of p w) (superclass_in p w)
   pub within : (w k : ℕ) → own p w k ≡ true → k < size_of p w
-  pub behind : (w k : ℕ) → Fits p w → own p w k ≡ true → IfThere (λ s. size_of p s ≤ k) (superclass_in p w)
+  pub behind : (w k : ℕ) → Fits p w → own p w k ≡ true → IfThere (λ s. (size_of p s ≤ k) ⊎ (own p s k ≡ true)) (superclass_in p w)
 
 -- the class is among this many, from another one on upwards
 unfoldable pub Reaches : Packages → ℕ → ℕ → Option ℕ → Type 0
@@ -103,10 +103,25 @@ module _ (p : Packages) (ordered : IsOrdered p) where
   reached_size (suc n) w (Some x) fits (inr more) = through n w (size_of p x) (superclass_in p x) more
       (reached_size n w (superclass_in p x) (fits_above x fits) more) (ordered.sizes x fits)
 
-  not_own : (n w x k : ℕ) → Fits p x → Reaches p w n (superclass_in p x) → k < size_of p w → own p x k ≡ false
-  not_own n w x k fits reached less = false_from_ne_true (own p x k) (λ e.
-      let le = through n w k (superclass_in p x) reached (reached_size n w (superclass_in p x) (fits_above x fits) reached) (ordered.behind x k fits e) in
-      absurd (omega (arith, le, less)))
+  through_own : (n w k : ℕ) (o : Option ℕ) → Reaches p w n o → IfThere (λ s. size_of p w ≤ size_of p s) o
+      → IfThere (λ s. (size_of p s ≤ k) ⊎ (own p s k ≡ true)) o → k < size_of p w → any_reference p k (lineage_from p n o) ≡ true
+  unfolding any_reference lineage_from Reaches
+  through_own zero w k o reached low high less = absurd reached
+  through_own (suc n) w k None reached low high less = absurd reached
+  through_own (suc n) w k (Some s) reached low high less = elim high [
+    | inl le ↦ absurd (omega (arith, low, le, less))
+    | inr held ↦ or_left (own p s k) (any_reference p k (lineage_from p n (superclass_in p s))) held
+  ]
+
+  -- a cell of a class that is reached is not told by a class below alone
+  own_above : (n w x k : ℕ) → Fits p x → Reaches p w n (superclass_in p x) → k < size_of p w → own p x k ≡ true
+      → any_reference p k (lineage_from p n (superclass_in p x)) ≡ true
+  own_above n w x k fits reached less e = through_own n w k (superclass_in p x) reached
+      (reached_size n w (superclass_in p x) (fits_above x fits) reached) (ordered.behind x k fits e) less
+
+  told_above : (a b : Bool) → (a ≡ true → b ≡ true) → (a || b) ≡ b
+  told_above true b above = sym (above refl)
+  told_above false b above = refl
 
   -- a cell of a class that is reached holds a reference where one from that class on upwards says so
   pub cell_of_reached : (n w k : ℕ) (o : Option ℕ) → IfThere (Fits p) o → Reaches p w n o → k < size_of p w
@@ -117,7 +132,7 @@ module _ (p : Packages) (ordered : IsOrdered p) where
   cell_of_reached (suc n) w k (Some x) fits (inl e) less = (n, ap (λ y. own p y k || any_reference p k (lineage_from p n (superclass_in p y))) e)
   cell_of_reached (suc n) w k (Some x) fits (inr more) less =
       let rest = cell_of_reached n w k (superclass_in p x) (fits_above x fits) more less in
-      (rest.0, ap (λ b. b || any_reference p k (lineage_from p n (superclass_in p x))) (not_own n w x k fits more less) ∙ rest.1)
+      (rest.0, told_above (own p x k) (any_reference p k (lineage_from p n (superclass_in p x))) (own_above n w x k fits more less) ∙ rest.1)
 
   -- a cell after all those of a class is none of it
   pub none_behind : (n k : ℕ) (o : Option ℕ) → IfThere (Fits p) o → IfThere (λ x. size_of p x ≤ k) o → any_reference p k (lineage_from p n o) ≡ false

@@ -19,7 +19,7 @@ use Rattle.law_linking.proofs.Numbers.{package_low, then_some}
 use Rattle.law_linking.specs.Given.{HasByteTokens}
 use Rattle.law_linking.proofs.Chains.{Reaches}
 use Rattle.law_linking.proofs.Ordered.{no_value, platform_above, superclass_stands}
-use Rattle.law_linking.proofs.Tokens.{HasToken}
+use Rattle.law_linking.proofs.Tokens.{HasToken, token_of_word}
 use Rattle.law_linking.proofs.Behind.{AllBehind}
 
 -- from a class on upwards are this many at most
@@ -95,8 +95,8 @@ module _ (p : Packages) (few : length p.loaded ≤ 32) (names : TellNames p.plat
   through n c None is each = nothing_more n
   through n c (Some d) is each = each d is
 
-  above_stands : (c d : PlatformClass) → superclass_of c ≡ Some d → HasToken p.platform d
-  above_stands c d is = subst (IfThere (HasToken p.platform)) is (superclass_stands p few names bytes c)
+  above_stands : (c d : PlatformClass) → HasToken p.platform c → superclass_of c ≡ Some d → HasToken p.platform d
+  above_stands c d stands is = subst (IfThere (HasToken p.platform)) is (superclass_stands p few names bytes c stands)
 
   platform_ends : (bound n : ℕ) (c : PlatformClass) → HasToken p.platform c → class_number c < bound → bound ≤ n → Ends p n (Some (class_word p.platform c))
   unfolding Ends
@@ -105,7 +105,7 @@ module _ (p : Packages) (few : length p.loaded ≤ 32) (names : TellNames p.plat
   platform_ends (suc bound) (suc n) c stands less le = subst (Ends p n) (sym (platform_above p few names bytes c stands))
       (through n c (superclass_of c) refl (λ d is.
       let lower = ltb-true (class_number d) (class_number c) (subst (IfThere (λ e. nat_lt (class_number e) (class_number c) ≡ true)) is (superclass_before c)) in
-      platform_ends bound n d (above_stands c d is) (omega (arith, less, lower)) (omega (arith, le))))
+      platform_ends bound n d (above_stands c d stands is) (omega (arith, less, lower)) (omega (arith, le))))
 
   -- ---- all classes
 
@@ -115,7 +115,8 @@ module _ (p : Packages) (few : length p.loaded ≤ 32) (names : TellNames p.plat
     where
       by_word : (o : Option PlatformClass) → class_by_word p.platform w ≡ o → Ends p n (superclass_by p None o)
       by_word None is = nothing_more n
-      by_word (Some c) is = through n c (superclass_of c) refl (λ d above. platform_ends class_count n d (above_stands c d above) (class_below d) le)
+      by_word (Some c) is = through n c (superclass_of c) refl (λ d above. platform_ends class_count n d
+          (above_stands c d (token_of_word p.platform w c is) above) (class_below d) le)
 
   other_ends : (n w : ℕ) → class_in p w ≡ None → class_count + 1 ≤ n → Ends p n (Some w)
   unfolding Ends

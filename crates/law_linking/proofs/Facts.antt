@@ -1,5 +1,5 @@
 -- What holds of all classes of the platform, computed over their rows: a new row needs no proof.
-use Rattle.std.proofs.Common.{◌≡◌, ◌<◌, ◌≤◌, ℕ, zero, suc, ◌&&◌, ◌||◌, not, Bool, true, false, List, [], ◌∷◌, Option, Some, None, length, refl, subst, ap, sym, ◌∙◌}
+use Rattle.std.proofs.Common.{◌≡◌, ◌<◌, ◌≤◌, ◌⊎◌, inl, inr, ℕ, zero, suc, ◌&&◌, ◌||◌, not, Bool, true, false, List, [], ◌∷◌, Option, Some, None, length, refl, subst, ap, sym, ◌∙◌}
 use Rattle.std.proofs.Common.{arith, take}
 use Rattle.std.specs.List.{list_all}
 use Rattle.std.specs.Prelude.{is_none, nat_le, nat_lt, slice_get}
@@ -41,10 +41,19 @@ is_listed d = is_needed_class d && is_interface d
 abbrev pub are_numbers : List CellKind → Bool
 are_numbers = list_all (λ kind. not (is_reference (Some kind)))
 
--- it stands before the class, each table has it, it has no more cells, and neither it nor the class in these cells holds references
+abbrev agree : Bool → Bool → Bool
+agree true b = b
+agree false b = not b
+
+-- the second cells begin with the first ones
+abbrev begin_with : List CellKind → List CellKind → Bool
+begin_with [] cells = true
+begin_with (kind ∷ kinds) [] = false
+begin_with (kind ∷ kinds) (other ∷ others) = agree (is_reference (Some kind)) (is_reference (Some other)) && begin_with kinds others
+
+-- it stands before the class, has no more cells, and its cells are the first of the class
 abbrev is_above : PlatformClass → PlatformClass → Bool
-is_above c d = nat_lt (class_number d) (class_number c) && (is_needed_class d && (nat_le (cells_of d) (cells_of c) && (
-    are_numbers (entry_of_class d).cells && are_numbers (take (cells_of d) (entry_of_class c).cells))))
+is_above c d = nat_lt (class_number d) (class_number c) && (nat_le (cells_of d) (cells_of c) && begin_with (entry_of_class d).cells (entry_of_class c).cells)
 
 superclass_rows : list_all (λ e. passes (is_above e.class) (superclass_of e.class)) classes ≡ true
 unfolding superclass_of cells_of classes
@@ -61,18 +70,14 @@ of_above c (Some d) P is each = each d is
 -- what a superclass is
 record IsAbove (c d : PlatformClass) : Type 0 where
   before : nat_lt (class_number d) (class_number c) ≡ true
-  needed : is_needed_class d ≡ true
   fewer : nat_le (cells_of d) (cells_of c) ≡ true
-  numbers : are_numbers (entry_of_class d).cells ≡ true
-  first : are_numbers (take (cells_of d) (entry_of_class c).cells) ≡ true
+  first : begin_with (entry_of_class d).cells (entry_of_class c).cells ≡ true
 
 above_parts : (c d : PlatformClass) → is_above c d ≡ true → IsAbove c d
 above_parts c d is =
     let one = and_parts (nat_lt (class_number d) (class_number c)) _ is in
-    let two = and_parts (is_needed_class d) _ one.1 in
-    let three = and_parts (nat_le (cells_of d) (cells_of c)) _ two.1 in
-    let four = and_parts (are_numbers (entry_of_class d).cells) (are_numbers (take (cells_of d) (entry_of_class c).cells)) three.1 in
-    record { before = one.0; needed = two.0; fewer = three.0; numbers = four.0; first = four.1 }
+    let two = and_parts (nat_le (cells_of d) (cells_of c)) (begin_with (entry_of_class d).cells (entry_of_class c).cells) one.1 in
+    record { before = one.0; fewer = two.0; first = two.1 }
 
 of_superclass : (c : PlatformClass) (P : PlatformClass → Type 0) → ((d : PlatformClass) → IsAbove c d → P d) → IfThere P (superclass_of c)
 of_superclass c P each = of_above c (superclass_of c) P (superclass_is_above c) (λ d is. each d (above_parts c d is))
@@ -80,18 +85,39 @@ of_superclass c P each = of_above c (superclass_of c) P (superclass_is_above c) 
 pub superclass_before : (c : PlatformClass) → IfThere (λ d. nat_lt (class_number d) (class_number c) ≡ true) (superclass_of c)
 superclass_before c = of_superclass c _ (λ d is. is.before)
 
-pub superclass_needed : (c : PlatformClass) → IfThere (λ d. is_needed_class d ≡ true) (superclass_of c)
-superclass_needed c = of_superclass c _ (λ d is. is.needed)
-
 pub fewer_above : (c : PlatformClass) → IfThere (λ d. nat_le (cells_of d) (cells_of c) ≡ true) (superclass_of c)
 fewer_above c = of_superclass c _ (λ d is. is.fewer)
 
 -- ---- cells that hold references
 
-all_numbers : (kinds : List CellKind) → are_numbers kinds ≡ true → (k : ℕ) → is_reference (slice_get kinds k) ≡ false
-all_numbers [] e k = refl
-all_numbers (kind ∷ kinds) e zero = not-true (is_reference (Some kind)) (and_parts (not (is_reference (Some kind))) (are_numbers kinds) e).0
-all_numbers (kind ∷ kinds) e (suc k) = all_numbers kinds (and_parts (not (is_reference (Some kind))) (are_numbers kinds) e).1 k
+agree_then : (a b : Bool) → agree a b ≡ true → a ≡ true → b ≡ true
+agree_then true b e is = e
+agree_then false b e is = absurd (false≢true is)
+
+agree_back : (a b : Bool) → agree a b ≡ true → b ≡ true → a ≡ true
+agree_back true b e is = refl
+agree_back false b e is = absurd (false≢true (sym (not-true b e) ∙ is))
+
+held_then : (kinds others : List CellKind) (k : ℕ) → begin_with kinds others ≡ true → is_reference (slice_get kinds k) ≡ true
+    → is_reference (slice_get others k) ≡ true
+held_then [] others k e held = absurd (false≢true held)
+held_then (kind ∷ kinds) [] k e held = absurd (false≢true e)
+held_then (kind ∷ kinds) (other ∷ others) zero e held = agree_then (is_reference (Some kind)) (is_reference (Some other))
+    (and_parts (agree (is_reference (Some kind)) (is_reference (Some other))) (begin_with kinds others) e).0 held
+held_then (kind ∷ kinds) (other ∷ others) (suc k) e held = held_then kinds others k
+    (and_parts (agree (is_reference (Some kind)) (is_reference (Some other))) (begin_with kinds others) e).1 held
+
+held_back : (kinds others : List CellKind) (k : ℕ) → begin_with kinds others ≡ true → is_reference (slice_get others k) ≡ true
+    → (length kinds ≤ k) ⊎ (is_reference (slice_get kinds k) ≡ true)
+held_back [] others k e held = inl (omega arith)
+held_back (kind ∷ kinds) [] k e held = absurd (false≢true e)
+held_back (kind ∷ kinds) (other ∷ others) zero e held = inr (agree_back (is_reference (Some kind)) (is_reference (Some other))
+    (and_parts (agree (is_reference (Some kind)) (is_reference (Some other))) (begin_with kinds others) e).0 held)
+held_back (kind ∷ kinds) (other ∷ others) (suc k) e held =
+    elim (held_back kinds others k (and_parts (agree (is_reference (Some kind)) (is_reference (Some other))) (begin_with kinds others) e).1 held) [
+      | inl le ↦ inl (omega (arith, le))
+      | inr is ↦ inr is
+    ]
 
 held_within : (kinds : List CellKind) (k : ℕ) → is_reference (slice_get kinds k) ≡ true → k < length kinds
 held_within [] k e = absurd (false≢true e)
@@ -112,18 +138,20 @@ unfolding holds_reference
 numbers_before c n numbers k lt = false_from_ne_true (is_reference (slice_get (entry_of_class c).cells k))
     (λ e. let le = held_behind n (entry_of_class c).cells k numbers e in omega (arith, lt, le))
 
--- no superclass has cells that hold references
-pub above_bare : (c : PlatformClass) → IfThere (λ d. (k : ℕ) → holds_reference d k ≡ false) (superclass_of c)
+-- a cell that holds a reference in the superclass does in the class
+pub reference_above : (c : PlatformClass) (k : ℕ) → IfThere (λ d. holds_reference d k ≡ true → holds_reference c k ≡ true) (superclass_of c)
 unfolding holds_reference
-above_bare c = of_superclass c _ (λ d is k. all_numbers (entry_of_class d).cells is.numbers k)
+reference_above c k = of_superclass c _ (λ d is. held_then (entry_of_class d).cells (entry_of_class c).cells k is.first)
 
 pub reference_within : (c : PlatformClass) (k : ℕ) → holds_reference c k ≡ true → k < cells_of c
 unfolding holds_reference cells_of
 reference_within c k e = held_within (entry_of_class c).cells k e
 
-pub reference_behind : (c : PlatformClass) (k : ℕ) → holds_reference c k ≡ true → IfThere (λ d. cells_of d ≤ k) (superclass_of c)
-unfolding holds_reference
-reference_behind c k e = of_superclass c _ (λ d is. held_behind (cells_of d) (entry_of_class c).cells k is.first e)
+-- and a cell that does in the class stands after the superclass's cells, or does in the superclass
+pub reference_behind : (c : PlatformClass) (k : ℕ) → holds_reference c k ≡ true
+    → IfThere (λ d. (cells_of d ≤ k) ⊎ (holds_reference d k ≡ true)) (superclass_of c)
+unfolding holds_reference cells_of
+reference_behind c k e = of_superclass c _ (λ d is. held_back (entry_of_class d).cells (entry_of_class c).cells k is.first e)
 
 -- ---- a class alone
 

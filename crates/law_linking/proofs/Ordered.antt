@@ -2,7 +2,7 @@
 use Rattle.std.proofs.Common.{◌≡◌, ℕ, ◌+◌, ◌-◌, ◌<◌, ◌≤◌, ◌⊎◌, inl, inr, ◌&&◌, Bool, true, false, List, [], ◌∷◌, Option, Some, None, length, refl, ap, ◌∙◌}
 use Rattle.std.proofs.Common.{arith}
 use Rattle.std.proofs.Common.{if◌then◌else◌}
-use Rattle.std.specs.Prelude.{min, nat_le, nat_lt}
+use Rattle.std.specs.Prelude.{is_some, min, nat_le, nat_lt}
 use Rattle.std.specs.List.{list_all}
 use Rattle.std.specs.Option.{option_map}
 use Rattle.std.proofs.lemmas.Bool.{and_parts, cases_lt, false≢true, leb-true, ltb-true}
@@ -11,25 +11,30 @@ use Rattle.jc_platform.specs.declared.names.PlatformClass.{PlatformClass}
 use Rattle.jc_platform.specs.Distinct.{class_word, is_needed_class}
 use Rattle.jc_platform.specs.Hierarchy.{cells_of, holds_reference, interfaces_of, is_interface, superclass_of}
 use Rattle.jc_platform.specs.Platform.{TellNames, class_by_word}
+use Rattle.jc_platform.specs.Tokens.{token_of_class}
 use Rattle.jc_linker.specs.Classes.{class_in, declares_reference, interfaces_by, interfaces_in, platform_interfaces, own_reference, size_by, size_of}
 use Rattle.jc_linker.specs.Classes.{superclass_by, superclass_in}
 use Rattle.jc_linker.specs.Resolves.{interface_by, names_interface}
 use Rattle.jc_linker.specs.Values.{ClassValue, Packages}
 use Rattle.law_linking.proofs.Fields.{no_class}
-use Rattle.law_linking.proofs.Closed.{if_more}
+use Rattle.law_linking.proofs.Closed.{if_each}
 use Rattle.law_linking.proofs.Lists.{IfThere, both_there, map_there}
 use Rattle.law_linking.proofs.Numbers.{word_high}
 use Rattle.law_linking.specs.Given.{HasByteTokens}
 use Rattle.law_linking.proofs.Chains.{Fits, IsOrdered, own}
 use Rattle.law_linking.proofs.Good.{AllGood, AreInterfaces, IsGood}
-use Rattle.law_linking.proofs.Facts.{fewer_above, interfaces_are, is_listed, reference_behind, reference_within, superclass_needed}
-use Rattle.law_linking.proofs.Tokens.{HasToken, word_told}
+use Rattle.law_linking.proofs.Facts.{fewer_above, interfaces_are, is_listed, reference_behind, reference_within}
+use Rattle.law_linking.proofs.Tokens.{HasToken, token_of_word, word_told}
 
 -- ---- they stand after their words
 
 pub no_value : (o : Option ClassValue) → ((c : ClassValue) → o ≡ Some c → ⊥) → o ≡ None
 no_value None never = refl
 no_value (Some c) never = absurd (never c refl)
+
+pub of_some : (o : Option ℕ) → is_some o ≡ true → (k : ℕ) × (o ≡ Some k)
+of_some None there = absurd (false≢true there)
+of_some (Some k) there = (k, refl)
 
 module _ (p : Packages) (few : length p.loaded ≤ 32) (names : TellNames p.platform) (bytes : HasByteTokens p.platform) where
   abbrev word : PlatformClass → ℕ
@@ -38,9 +43,10 @@ module _ (p : Packages) (few : length p.loaded ≤ 32) (names : TellNames p.plat
   pub not_loaded : (c : PlatformClass) → class_in p (word c) ≡ None
   not_loaded c = no_value (class_in p (word c)) (λ x is. no_class p (word c) few (word_high p.platform c) x is)
 
-  -- superclasses stand, and so does the interface that a class lists
-  pub superclass_stands : (c : PlatformClass) → IfThere (HasToken p.platform) (superclass_of c)
-  superclass_stands c = if_more (λ d. is_needed_class d ≡ true) (HasToken p.platform) (superclass_of c) names.needed_classes (superclass_needed c)
+  -- the superclass of a class that stands does
+  pub superclass_stands : (c : PlatformClass) → HasToken p.platform c → IfThere (HasToken p.platform) (superclass_of c)
+  superclass_stands c stands = if_each (HasToken p.platform) (superclass_of c)
+      (λ d is. of_some (token_of_class p.platform d) (names.superclasses c d is (ap is_some stands.1)))
 
   pub named : (c : PlatformClass) → HasToken p.platform c → class_by_word p.platform (word c) ≡ Some c
   named c stands = word_told p.platform names bytes c stands
@@ -104,20 +110,20 @@ module _ (p : Packages) (few : length p.loaded ≤ 32) (names : TellNames p.plat
   loaded_above P c true is class = tt
   loaded_above P c false is class = class is
 
-  sizes_by : (w : ℕ) (o : Option ClassValue) → class_in p w ≡ o → (other : Option PlatformClass) → size_by o other < 65536
+  sizes_by : (w : ℕ) (o : Option ClassValue) → class_in p w ≡ o → (other : Option PlatformClass) → class_by_word p.platform w ≡ other → size_by o other < 65536
       → IfThere (λ s. size_of p s ≤ size_by o other) (superclass_by p o other)
-  sizes_by w (Some c) is other fits = loaded_above (λ s. size_of p s ≤ c.inherited_cells + c.declared_cells) c c.is_interface refl
+  sizes_by w (Some c) is other told fits = loaded_above (λ s. size_of p s ≤ c.inherited_cells + c.declared_cells) c c.is_interface refl
       (λ class. let same = inherited_size p c (good w c is) class fits in omega (arith, same))
-  sizes_by w None is None fits = tt
-  sizes_by w None is (Some d) fits = map_there (λ e. (nat_le (cells_of e) (cells_of d) ≡ true) × HasToken p.platform e) (λ s. size_of p s ≤ cells_of d)
+  sizes_by w None is None told fits = tt
+  sizes_by w None is (Some d) told fits = map_there (λ e. (nat_le (cells_of e) (cells_of d) ≡ true) × HasToken p.platform e) (λ s. size_of p s ≤ cells_of d)
       (class_word p.platform) (superclass_of d)
       (both_there (λ e. nat_le (cells_of e) (cells_of d) ≡ true) (HasToken p.platform) (superclass_of d) (fewer_above d)
-      (superclass_stands p few names bytes d))
+      (superclass_stands p few names bytes d (token_of_word p.platform w d told)))
       (λ e both. let same = platform_size p few names bytes e both.1 in let less = leb-true (cells_of e) (cells_of d) both.0 in omega (arith, same, less))
 
   sizes : (w : ℕ) → Fits p w → IfThere (λ s. size_of p s ≤ size_of p w) (superclass_in p w)
   unfolding size_of superclass_in
-  sizes w fits = sizes_by w (class_in p w) refl (class_by_word p.platform w) fits
+  sizes w fits = sizes_by w (class_in p w) refl (class_by_word p.platform w) refl fits
 
   -- ---- a class's own cells stand after its superclass's, and among its own
 
@@ -138,20 +144,24 @@ module _ (p : Packages) (few : length p.loaded ≤ 32) (names : TellNames p.plat
   unfolding size_of
   within w k e = within_by w k (class_in p w) refl (class_by_word p.platform w) e
 
-  behind_by : (w k : ℕ) (o : Option ClassValue) → class_in p w ≡ o → (other : Option PlatformClass) → size_by o other < 65536 → own_reference o other k ≡ true
-      → IfThere (λ s. size_of p s ≤ k) (superclass_by p o other)
-  behind_by w k (Some c) is other fits e = loaded_above (λ s. size_of p s ≤ k) c c.is_interface refl
-      (λ class. let same = inherited_size p c (good w c is) class fits in let parts = own_parts c k (good w c is) e in let low = parts.0 in omega
-      (arith, same, low))
-  behind_by w k None is None fits e = tt
-  behind_by w k None is (Some d) fits e = map_there (λ x. (cells_of x ≤ k) × HasToken p.platform x) (λ s. size_of p s ≤ k) (class_word p.platform)
-      (superclass_of d)
-      (both_there (λ x. cells_of x ≤ k) (HasToken p.platform) (superclass_of d) (reference_behind d k e) (superclass_stands p few names bytes d))
-      (λ x both. let same = platform_size p few names bytes x both.1 in let le = both.0 in omega (arith, same, le))
+  behind_by : (w k : ℕ) (o : Option ClassValue) → class_in p w ≡ o → (other : Option PlatformClass) → class_by_word p.platform w ≡ other
+      → size_by o other < 65536 → own_reference o other k ≡ true → IfThere (λ s. (size_of p s ≤ k) ⊎ (own p s k ≡ true)) (superclass_by p o other)
+  behind_by w k (Some c) is other told fits e = loaded_above (λ s. (size_of p s ≤ k) ⊎ (own p s k ≡ true)) c c.is_interface refl
+      (λ class. let same = inherited_size p c (good w c is) class fits in let parts = own_parts c k (good w c is) e in let low = parts.0 in
+      inl (omega (arith, same, low)))
+  behind_by w k None is None told fits e = tt
+  behind_by w k None is (Some d) told fits e = map_there (λ x. ((cells_of x ≤ k) ⊎ (holds_reference x k ≡ true)) × HasToken p.platform x)
+      (λ s. (size_of p s ≤ k) ⊎ (own p s k ≡ true)) (class_word p.platform) (superclass_of d)
+      (both_there (λ x. (cells_of x ≤ k) ⊎ (holds_reference x k ≡ true)) (HasToken p.platform) (superclass_of d) (reference_behind d k e)
+      (superclass_stands p few names bytes d (token_of_word p.platform w d told)))
+      (λ x both. elim both.0 [
+        | inl le ↦ let same = platform_size p few names bytes x both.1 in inl (omega (arith, same, le))
+        | inr held ↦ inr (platform_own p few names bytes x both.1 k ∙ held)
+      ])
 
-  behind : (w k : ℕ) → Fits p w → own p w k ≡ true → IfThere (λ s. size_of p s ≤ k) (superclass_in p w)
+  behind : (w k : ℕ) → Fits p w → own p w k ≡ true → IfThere (λ s. (size_of p s ≤ k) ⊎ (own p s k ≡ true)) (superclass_in p w)
   unfolding size_of superclass_in
-  behind w k fits e = behind_by w k (class_in p w) refl (class_by_word p.platform w) fits e
+  behind w k fits e = behind_by w k (class_in p w) refl (class_by_word p.platform w) refl fits e
 
   pub ordered : IsOrdered p
   ordered = record { sizes = sizes; within = within; behind = behind }

@@ -11,10 +11,11 @@ use Rattle.jc_platform.specs.declared.names.PlatformPackage.TheVariants.{JavaLan
 use Rattle.jc_platform.specs.declared.names.PlatformClass.{PlatformClass}
 use Rattle.jc_platform.specs.declared.names.PlatformMethod.{PlatformMethod}
 use Rattle.jc_platform.specs.Distinct.{is_needed_class, is_needed_method}
+use Rattle.jc_platform.specs.Hierarchy.{superclass_of}
 use Rattle.jc_platform.specs.Names.{ClassEntry, MethodEntry, classes, methods, packages}
 use Rattle.jc_platform.specs.Names.{objects_rows, exceptions_rows, utilities_rows, system_rows, aids_rows, pins_rows, applets_rows, apdus_rows, events_rows, engines_rows}
 use Rattle.jc_platform.specs.Numbers.{class_number, is_needed_package, method_number, package_number, same_class, same_kind, same_method, same_package}
-use Rattle.jc_platform.specs.Rows.{Above, above, allows, class_row, has_class_token, has_method_token, has_needed_packages, is_package}
+use Rattle.jc_platform.specs.Rows.{Above, above, allows, class_row, has_class_token, has_method_token, has_needed_packages, has_superclass, is_package}
 use Rattle.jc_platform.specs.Rows.{kind_of, largest_token, may_be_class, may_be_extended, may_be_method, may_be_package, method_named, method_row}
 use Rattle.jc_platform.specs.Rows.{bytes_of, may_be_random, number_of, package_row, parts_at, random_row, row_of}
 use Rattle.jc_platform.specs.Table.{Say, no_random}
@@ -96,9 +97,10 @@ module _ (a : Above) (plain : a.extended ≡ false) where
       → (c : PlatformClass) → is_needed_class c ≡ false → same_class e.class c ≡ true → ⊥
   no_class e name t found may c optional same =
       let home = is_package a.home e.home in
+      let stands = has_superclass a (superclass_of e.class) in
       let new = not (is_some (a.class_token e.class)) in
-      let one = (and_parts (allows a e.needed && home && new) (not (has_class_token a e.home t)) may).0 in
-      let two = (and_parts (allows a e.needed && home) new one).0 in
+      let one = (and_parts (allows a e.needed && home && stands && new) (not (has_class_token a e.home t)) may).0 in
+      let two = (and_parts (allows a e.needed && home) stands (and_parts (allows a e.needed && home && stands) new one).0).0 in
       let needed : is_needed_class e.class ≡ true = allowed e.needed a.extended (is_needed_class e.class) (and_parts (allows a e.needed) home two).0 plain
       (found_has (λ f. not f.needed || is_needed_class f.class) (λ f. bytes_eq f.name name) classes e class_entries found) in
       let its : e.class ≡ c = class_by_number e.class c (eqb-true (class_number e.class) (class_number c) same) in

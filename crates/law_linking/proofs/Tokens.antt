@@ -103,6 +103,12 @@ word_of_class t w c is =
     (λ home at more. let a = class_is t home (w % 256) c more in back_again w (number_in t (home_of c)) (w % 256) (package_is t (w / 256) home at ∙ a.0) refl
     ∙ sym (ap (word_of_token (number_in t (home_of c))) a.1))
 
+pub token_of_word : (t : Tokens) (w : ℕ) (c : PlatformClass) → class_by_word t w ≡ Some c → HasToken t c
+unfolding class_by_word
+token_of_word t w c is =
+    option_and_then_some (λ home. class_by_token t home (w % 256)) (package_by_number t (w / 256)) c is
+    (λ home at more. (w % 256, (class_is t home (w % 256) c more).1))
+
 -- ---- the class and the kind of a method
 
 pub place_of_method : (t : Tokens) (c : PlatformClass) (kind : MethodKind) (token : ℕ) (m : PlatformMethod) → method_by_token t c kind token ≡ Some m

@@ -18,7 +18,7 @@ HasByteTokens t = (c : PlatformClass) → class_token t c < 256
 abbrev pub HasClassComponent : LinkerComponents → Type 0
 HasClassComponent c = (format : Format) × (info : List ℕ) × AreClasses format c.classes info
 
--- packages of these components were linked, where the platform's tokens, of one byte each, tell its names, and each package's
+-- packages of these components were linked, where the platform's tokens, of one byte each, stand for its names, and each package's
 -- class records are those of a Class component
 pub record AreRead (cs : List LinkerComponents) (p : Packages) : Type 0 where
   pub names : TellNames p.platform

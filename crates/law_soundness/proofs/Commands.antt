@@ -64,7 +64,7 @@ carried_owner : (most more : ℕ) (h g : HeapState) (n : ℕ) → most ≤ more 
     → is_owner_up_to more g n ≡ true
 carried_owner most more h g n le same is = ap (λ k. n == 0 || (nat_le n more || (nat_lt 256 n && nat_le (n - 256) k))) same ∙ owner_more most more h n le is
 
--- the owner that an applet is
+-- the owner of an applet
 applet_parts : (h : HeapState) (a : AppletNumber) → is_applet h a ≡ true → (0 < a.0) × (a.0 ≤ h.counts.1)
 applet_parts h a is = let both = and_parts (nat_lt 0 a.0) _ is in (ltb-true 0 a.0 both.0, leb-true a.0 h.counts.1 both.1)
 

@@ -33,7 +33,7 @@ unfolding bytes_of_packed
 unpacked_same n xs ys le same = map_same (packed_byte xs) (packed_byte ys) 0 n 16 (omega (arith, le))
     (λ k lt. byte_same xs ys k (same (k / 2) (omega (arith, lt))))
 
--- an AID is told by nine cells
+-- an AID is held by nine cells
 pub aid_same : (xs ys : List ℕ) → Agree 9 xs ys → get_or ys 0 0 ≤ 16 → aid_in xs ≡ aid_in ys
 aid_same xs ys same le =
     let rest : Agree 8 (drop 1 xs) (drop 1 ys) = λ k lt. get_or-drop 1 xs k 0 ∙ same (1 + k) (omega (arith, lt)) ∙ sym (get_or-drop 1 ys k 0) in

@@ -1,4 +1,4 @@
--- Cells of an AID object: what they tell, and how they are set.
+-- Cells of an AID object: what they hold, and how they are set.
 use Rattle.std.proofs.Common.{◌≡◌, ℕ, zero, suc, ◌+◌, ◌/◌, ◌%◌, ◌<◌, ◌≤◌, Bool, true, false, inl, inr, List, [], ◌∷◌, length, map, drop, get_or, find, Option}
 use Rattle.std.proofs.Common.{Some, None, refl, sym, ◌∙◌, ap, subst, arith, if◌then◌else◌}
 use Rattle.std.proofs.lemmas.Bool.{cases_eq, cond-true, le-leb}
@@ -60,7 +60,7 @@ all_set vs h r long =
     let place : 0 + j ≡ j = omega arith in
     sym (ap (λ n. get_or (cells (set_cells h r 0 vs) r) n 0) place) ∙ in_run vs h r 0 j (omega (arith, lt, now, long)) (omega (arith, long)))
 
--- ---- what they tell
+-- ---- what they hold
 
 map_same : (f g : ℕ → ℕ) (xs : List ℕ) → ((x : ℕ) → f x ≡ g x) → map f xs ≡ map g xs
 map_same f g [] same = refl

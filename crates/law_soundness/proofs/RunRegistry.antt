@@ -91,7 +91,7 @@ module _ (p : Packages) (m : MemoryState) (known : KnowsClasses p) (sound : IsSo
       let place : 3 * (a + 1 - 1) + 0 ≡ 3 * a + 0 = omega arith in
       ap (option_map (λ e. e.aid)) (cond-true (is_applet m.heap.now (a + 1)) _ _ is) ∙ ap (λ n. Some (slice_index m.heap.now.applets n)) place
 
-  -- where no applet has an AID, no AID object of the registry tells it
+  -- where no applet has an AID, no AID object of the registry holds it
   pub unlike : (aid : List ℕ) (a : ℕ) → is_some (applet_with_aid m aid) ≡ false → m.heap.now.counts.1 < most_applets → a < m.heap.now.counts.1
       → aid_of_entry m.heap.now a ≡ aid → ⊥
   unfolding applet_with_aid numbered

@@ -44,7 +44,7 @@ image_low zero at (w ∷ ws) = elim (cases_eq w 0) [
 low_of : (s at : ℕ) (ws : List ℕ) (b : ℕ) → image_from (records_from part_sizes s at ws) ≡ Some b → at + 1 ≤ b
 low_of s at ws b e = subst (λ o. IfSome o (λ n. at + 1 ≤ n)) e (image_low s at ws)
 
--- a word after its begin doesn't tell it
+-- a word after its begin doesn't say it
 image_set : (s at : ℕ) (ws : List ℕ) (q v b : ℕ) → image_from (records_from part_sizes s at ws) ≡ Some b → b ≤ at + q
     → image_from (records_from part_sizes s at (set ws q v)) ≡ Some b
 image_set s at [] q v b e le = e
@@ -87,7 +87,7 @@ statics_set_at (w ∷ ws) (suc q) v b four e le =
     is_image w (set ws q v) b (λ z. parts.0 (sym (get_or-set_other ws q 0 v 0 (λ n. omega (arith, n, four))) ∙ z))
     (image_set 0 1 ws q v b parts.1 (omega (arith, le)))
 
--- a word of the image doesn't tell where it begins
+-- a word of the image doesn't say where it begins
 pub statics_set : (words : List ℕ) (j v b : ℕ) → IsStatic words j → statics_of words ≡ Some b → statics_of (set words j v) ≡ Some b
 statics_set words j v b there e =
     let same : there.begin ≡ b = same_Some there.begin b (sym there.image ∙ e) in

@@ -84,7 +84,7 @@ module _ (ram : RamState) (sizes : HasSizes ram) (at : ℕ) (vs : List CellValue
   put_at P Reset Deselect k old new = old (λ is. absurd cc)
   put_at P Deselect Reset k old new = old (λ is. absurd cc)
 
--- what is told to be a reference is one
+-- what is recognised as a reference is one
 pub names_object : (h : HeapState) (v : ℕ) → is_reference h v ≡ true → IsReference h v
 names_object h v is = elim (or_cases (v == 0) (is_object_address h v) is) [
   | inl z ↦ inl (eqb-true v 0 z)

@@ -14,7 +14,7 @@ use Rattle.law_soundness.specs.Fit.{FitsTurn, IsFit}
 use Rattle.law_soundness.specs.State.{IsSoundMemory, is_home, is_open, is_owner_up_to}
 use Rattle.law_soundness.proofs.Effects.{keeps_sound}
 
--- registers that tell of the same owner, the same installation and the same selected applet
+-- registers that have the same owner, the same installation and the same selected applet
 module _ (p : Packages) (m : MemoryState) (sound : IsSoundMemory p m) (g : Registers) (active : g.active ≡ m.registers.active)
     (installation : g.installation ≡ m.registers.installation) (selected : g.selected ≡ m.registers.selected) where
   known_for : (i : Installation) → m.registers.installation ≡ i → is_owner_up_to (if is_open i then m.heap.durable.counts.1 + 1 else m.heap.now.counts.1)

@@ -42,7 +42,7 @@ module _ (passed : ℕ) (old new : Refusals) (refused : new ≡ refused_once fal
   unfolding refused_once
   by_fuse small same = fault_if (is_at passed old.fuse) old.faults small (sym (ap (λ (r : Refusals). r.faults) refused) ∙ same)
 
-  -- and it is burnt out, and nothing else is told
+  -- and it is burnt out, and nothing else is known
   burns : is_at passed old.fuse ≡ true → new ≡ record old { count = saturating_count old.count 1; fuse = None }
   unfolding refused_once
   burns on = refused ∙ ap (λ b. refused_if b old) on

@@ -20,6 +20,13 @@ pub mod Complete
 pub mod Counted
 pub mod Cuts
 pub mod References
+pub mod Restarting
 pub mod Witness
+pub mod Ways
+pub mod TableText
+pub mod TableRead
+pub mod Scenario
+pub mod Computing
+pub mod Eventful
 pub mod Dispatching
 pub mod Tears

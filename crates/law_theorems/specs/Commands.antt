@@ -18,7 +18,7 @@ pub record CommandsRunCode : Type 0 where
   -- and of what code left open the runtime environment does nothing but take it back
   pub left : (t : Tokens) (card : CardState) (bytes : List ℕ) (es : List Effect) (move : Move) → ComesWithin t card bytes (es ++ (HeapMove move ∷ []))
       → (memory_at card es).heap.begun ≡ true → (move ≡ Abort) ⊎ IsOfRun card.packages card.memory es (HeapMove move)
-  -- and each such run is one of which `references_name_what_is_there` tells
+  -- and each such run is one to which `references_name_what_is_there` applies
   pub runs : (t : Tokens) (card : CardState) (bytes : List ℕ) (es : List Effect) (e : Effect) → ComesWithin t card bytes (es ++ (e ∷ []))
       → (r : IsOfRun card.packages card.memory es e)
       → RunsFrom t card bytes r.before r.taken r.lent r.first r.last (apply_effects r.ran (memory_at card r.before))

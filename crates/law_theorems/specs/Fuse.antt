@@ -7,7 +7,7 @@ use Rattle.jc_session.specs.Power.{PowerState, armed, durable_state}
 use Rattle.jc_session.specs.Serving.{SessionRun}
 use Rattle.law_theorems.specs.DownRuns.{ArmNone, RunWithDown}
 
--- what is told of the writes that its store refused
+-- what is known of the writes that its store refused
 abbrev pub refusals_of : PowerState → Refusals
 refusals_of s = (durable_state s).refusals
 

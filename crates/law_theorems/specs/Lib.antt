@@ -11,3 +11,4 @@ pub mod Witness
 pub mod References
 pub mod Commands
 pub mod Tears
+pub mod Eventful

@@ -1,4 +1,4 @@
--- What `jcard tear` tells of a cut is what the law on cuts names.
+-- What `jcard tear` reports of a cut is what the law on cuts names.
 use Rattle.std.specs.Prelude.{ℕ, ◌≡◌, ◌<◌, ◌⊎◌, true, List, [], ◌∷◌, ◌++◌}
 use Rattle.std.specs.Str.Lines.{lines}
 use Rattle.jc_words.specs.Stores.{FuseStoreValue}
@@ -37,7 +37,7 @@ pub record IsNamed (t : Tokens) (bytes : List ℕ) (k faults : ℕ) (h : HeapSta
   pub stopped : faults ≡ 0 → writes ≡ k
 
 -- over an image of the product's own, a script that was carried out up to the command, with `stop k` before it, and left the card down: the
--- card was off as the command came; or the heap that is told is so
+-- card was off as the command came; or the heap that is reported is so
 abbrev pub CutsAreNamed : Type 0
 CutsAreNamed = (t : Tokens) (words : List ℕ) (c : CutCommand) (k : ℕ) (bytes text : List ℕ) (after : FuseStoreValue) (left : Left)
     → IsOwnStore t (state_of (store_of words)) → ReadsAsCut (cut_script c k) k bytes → Runs c.behind.instructions words (cut_script c k) text after

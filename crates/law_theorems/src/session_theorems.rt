@@ -2,6 +2,7 @@
 ghost use Rattle.law_images.specs.Comes.{StoresCome};
 ghost use Rattle.law_theorems.specs.Commands.{CommandsRunCode};
 ghost use Rattle.law_theorems.specs.Cuts.{KeepWhatWasDone, LeaveTheChangesBeforeThem};
+ghost use Rattle.law_theorems.specs.Eventful.{HaveEventfulWitness};
 ghost use Rattle.law_theorems.specs.Fuse.{FusesCut};
 ghost use Rattle.law_theorems.specs.Images.{PowerUpAgain};
 ghost use Rattle.law_theorems.specs.Isolation.{StayApart};
@@ -43,7 +44,7 @@ pub fn a_cut_leaves_the_changes_before_it()
     ensures stays { KeepWhatWasDone }
 {}
 
-/// What `jcard tear` tells of a cut is what `a_cut_leaves_the_changes_before_it` names: over an image of the product's own,
+/// What `jcard tear` reports of a cut is what `a_cut_leaves_the_changes_before_it` names: over an image of the product's own,
 /// the heap after the cut after k writes is the one after those changes of the command that are complete by then.
 pub fn cuts_that_are_told_are_those_that_the_law_names()
     ensures { CutsAreNamed }
@@ -59,7 +60,7 @@ pub fn sessions_change_tries_by_pin_calls_alone()
 /// refused, at most K more pass, and the fuse stands K writes ahead of those that had passed; or exactly one is, when K
 /// more have passed, and burns the fuse out. A reset in between changes nothing of that, and its own writes count. That
 /// the store lets no more writes pass than its fuse does is a premise that each store meets (`WordStore::passed_writes`),
-/// and that `run_script` and `session` tell of the one that they give back.
+/// and that `run_script` and `session` report of the one that they give back.
 pub fn fuses_cut_where_they_were_set()
     ensures { FusesCut }
 {}
@@ -95,9 +96,12 @@ pub fn images_power_up_again()
 
 /// The premises of these laws can be met, each by what is named beside it, over any table that reads: by a new image, the card
 /// after its first reset, also a cut one, a command of it, and code that begins within the command; by a session over each
-/// store of a new image; and each session over a store that commands left is one of which they tell.
+/// store of a new image; and each session over a store that commands left is one of which they tell. And by a session in which
+/// much happens: two packages come in, and an applet of each with an OwnerPIN; the first counts a try, writes a field, updates
+/// its PIN in a transaction that it commits and in one that it aborts, or that is cut, while the other's PIN is out of its reach.
 pub fn premises_can_be_met()
     ensures witnesses { HaveWitnesses }
     ensures new_stores { NewStoresServe }
     ensures stores { StoresCome }
+    ensures eventful { HaveEventfulWitness }
 {}

@@ -1,8 +1,6 @@
-//! Tests of what neither a contract nor a row nor a call that fails can say: sessions, which no program serves, without memory, and
-//! the texts of faults. It has no code of its own.
+//! Tests of what neither a contract nor a row nor a call that fails can say: sessions, which no program serves, without memory. It has no
+//! code of its own.
 #![tactic(auto)]
 
-#[cfg(test)]
-mod fault_texts;
 #[cfg(test)]
 mod sessions;

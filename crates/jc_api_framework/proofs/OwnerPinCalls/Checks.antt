@@ -9,7 +9,7 @@ use Rattle.jc_memory.specs.State.{MemoryState}
 use Rattle.jc_pin.specs.Pins.{record_of}
 use Rattle.jc_world.specs.Contexts.{context_of}
 use Rattle.jc_api.proofs.Exits.{FaultsOnly, plain_if}
-use Rattle.jc_api_framework.specs.OwnerPin.Arguments.{at_least_1, is_in_context_of, is_own_value}
+use Rattle.jc_api_framework.specs.OwnerPin.{at_least_1, is_in_context_of, is_own_value}
 
 pub plain_least : (v : ℤ) → FaultsOnly (at_least_1 v)
 plain_least (pos n) = plain_if (nat_le 1 n) _ _ tt tt

@@ -36,7 +36,7 @@ use Rattle.jc_api.proofs.Passing.{Turns}
 use Rattle.jc_api_framework.specs.OwnerPin.{owner_pin_get_tries_remaining, owner_pin_is_validated, return_unless_refused, changed_or_thrown, owner_pin_init}
 use Rattle.jc_api_framework.specs.OwnerPin.{pin_comparison, guess_of, owner_pin_check, owner_pin_reset, owner_pin_reset_and_unblock}
 use Rattle.jc_api_framework.specs.OwnerPin.{owner_pin_set_validated_flag, owner_pin_update}
-use Rattle.jc_api_framework.specs.OwnerPin.Arguments.{receiver, at_least_1, is_own_value}
+use Rattle.jc_api_framework.specs.OwnerPin.{receiver, at_least_1, is_own_value}
 use Rattle.jc_api_framework.proofs.OwnerPinCalls.Checks.{plain_least, plain_own}
 use Rattle.jc_api_framework.proofs.Passing.{MethodPasses, IsPinCall}
 

@@ -15,6 +15,6 @@ aid_cell aid k = 256 * slice_index aid (2 * k) + slice_index aid (2 * k + 1)
 abbrev pub cells_of_aid : List ℕ → List ℕ
 cells_of_aid aid = length aid ∷ map (aid_cell aid) (range_with_len 0 8)
 
--- what the cells of an AID object tell is the AID that was put into it
+-- the cells of an AID object hold the AID that was put into it
 abbrev pub AreReadBack : Type 0
 AreReadBack = (aid : List ℕ) → length aid ≤ 16 → ((i : ℕ) → i < length aid → slice_index aid i < 256) → aid_of_cells (cells_of_aid aid) ≡ Some aid

@@ -21,7 +21,7 @@ is_chained c = (c / 16) % 2 == 1
 abbrev pub is_further : ℕ → Bool
 is_further c = (c / 64) % 2 == 1
 
--- secure messaging: two bits tell it on the channels 0 to 3, and one on the others
+-- secure messaging: two bits say so on the channels 0 to 3, and one on the others
 abbrev pub is_secured : ℕ → Bool
 is_secured c = if is_further c then (c / 32) % 2 == 1 else not ((c / 4) % 4 == 0)
 

@@ -40,7 +40,7 @@ fn is_further(class: u8) -> bool
     class / 64 % 2 == 1
 }
 
-/// Whether it tells secure messaging.
+/// Whether it says secure messaging.
 pub(crate) fn is_secured(class: u8) -> bool
     ensures { result ≡ is_secured class }
 {

@@ -51,6 +51,7 @@ fn receive_in_phase<S: WordStore>(memory: &mut Memory<S>) -> Result<NativeResult
 /// `APDU.setIncomingAndReceive`: puts the data of the command into the buffer and returns their number, once
 /// and before anything is sent.
 #[tactic(auto, unfolding(crate::specs::Apdu::apdu_set_incoming_and_receive))]
+#[inline(never)]
 pub(crate) fn apdu_set_incoming_and_receive<S: WordStore>(
     memory: &mut Memory<S>,
 ) -> Result<NativeResult, StepExit>
@@ -65,6 +66,7 @@ pub(crate) fn apdu_set_incoming_and_receive<S: WordStore>(
 }
 
 /// `APDU.receiveBytes`: returns 0: all data were received at once.
+#[inline(never)]
 pub(crate) fn apdu_receive_bytes<S: WordStore>(memory: &Memory<S>) -> Result<NativeResult, StepExit>
     ensures { Executes (apdu_receive_bytes (phase_of memory.now)) memory.now
         (after_call result memory.now) }

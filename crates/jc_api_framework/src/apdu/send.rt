@@ -22,7 +22,7 @@ use jc_world::{NativeResult, StepExit};
 pub(crate) const MOST_SENT: u16 = 256;
 
 /// Bytes of the buffer, from one on.
-#[derive(Clone, Copy, PartialEq, Eq)]
+#[derive(Clone, Copy)]
 pub(crate) struct Piece {
     pub start: u16,
     pub count: u16,
@@ -163,6 +163,7 @@ fn send_in_phase<S: WordStore>(
 
 /// `APDU.sendBytes`: sends bytes of the buffer, after `setOutgoingLength`.
 #[tactic(auto, unfolding(crate::specs::Apdu::apdu_send_bytes))]
+#[inline(never)]
 pub(crate) fn apdu_send_bytes<S: WordStore>(
     start: i16,
     count: i16,
@@ -181,6 +182,7 @@ pub(crate) fn apdu_send_bytes<S: WordStore>(
 /// `APDU.setOutgoingAndSend`: `setOutgoing`, `setOutgoingLength` and `sendBytes` in a row. What passed before
 /// one of them throws stays.
 #[tactic(auto, unfolding(crate::specs::Apdu::apdu_set_outgoing_and_send))]
+#[inline(never)]
 pub(crate) fn apdu_set_outgoing_and_send<S: WordStore>(
     start: i16,
     count: i16,

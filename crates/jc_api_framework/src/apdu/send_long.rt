@@ -70,6 +70,7 @@ fn send_in_phase<S: WordStore>(
 
 /// `APDU.sendBytesLong`: sends elements of an array of bytes, after `setOutgoingLength`.
 #[tactic(auto, unfolding(crate::specs::Apdu::apdu_send_bytes_long))]
+#[inline(never)]
 pub(crate) fn apdu_send_bytes_long<S: WordStore>(
     args: &[Cell],
     memory: &mut Memory<S>,

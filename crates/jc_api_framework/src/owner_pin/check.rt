@@ -5,10 +5,10 @@ ghost use Rattle.jc_heap.specs.Completions.{after_step};
 ghost use Rattle.jc_world.specs.NativeCalls.{after_call};
 ghost use Rattle.jc_pin.specs.Checking.{pin_check};
 ghost use Rattle.jc_pin.specs.Pins.{IsPin};
-ghost use Rattle.jc_world.specs.Arrays.{IsInArray};
-ghost use Rattle.jc_api_framework.specs.OwnerPin.{bytes_in, pin_comparison, owner_pin_check};
+ghost use Rattle.jc_world.specs.Arrays.{IsInArray, bytes_in};
+ghost use Rattle.jc_api_framework.specs.OwnerPin.{pin_comparison, owner_pin_check};
 
-use crate::owner_pin::arguments::receiver;
+use crate::owner_pin::receiver;
 use jc_api::{MOST_ELEMENTS, argument_bytes, array_arguments};
 use jc_frames::{Cell, FrameExit};
 use jc_linker::linked::Linked;

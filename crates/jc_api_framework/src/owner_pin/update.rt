@@ -5,20 +5,49 @@ ghost use Rattle.jc_world.specs.NativeCalls.{after_call};
 ghost use Rattle.jc_pin.specs.Pins.{IsPin};
 ghost use Rattle.jc_pin.specs.PinInit.{pin_init};
 ghost use Rattle.jc_pin.specs.Updating.{after_pin, pin_update};
-ghost use Rattle.jc_world.specs.Arrays.{IsInArray};
-ghost use Rattle.jc_api_framework.specs.OwnerPin.{answer_of, bytes_in, owner_pin_init, changed_or_thrown, owner_pin_update};
+ghost use Rattle.jc_world.specs.Arrays.{IsInArray, bytes_in};
+ghost use Rattle.jc_api_framework.specs.OwnerPin.{answer_of, at_least_1, changed_or_thrown, is_own_value, owner_pin_init, owner_pin_update};
 
-use crate::owner_pin::arguments::{at_least_1, is_own_value, receiver};
+use crate::owner_pin::receiver;
 use jc_api::{MOST_ELEMENTS, counted_of};
-use jc_frames::Cell;
 use jc_frames::reasons::{BUFFER_FULL, ILLEGAL_PIN_VALUE, NO_RESOURCE};
+use jc_frames::{Cell, Exception, FrameExit};
 use jc_linker::linked::Linked;
-use jc_memory::{MOST_COMMAND, Memory};
-use jc_pin::{PinRefusal, init, update};
+use jc_memory::{MOST_COMMAND, Memory, Owner};
+use jc_pin::{PinRefusal, init, record, update};
 use jc_transient::Ref;
 use jc_words::WordStore;
 use jc_world::arguments::short_argument;
+use jc_world::contexts::context_of;
 use jc_world::{NativeResult, StepExit, Stretch};
+
+// A limit or a maximum: none below 1.
+fn at_least_1(number: i16) -> Result<u16, FrameExit>
+    ensures { result ≡ at_least_1 number }
+{
+    if number < 1 {
+        return Err(FrameExit::Throw(ILLEGAL_PIN_VALUE));
+    }
+    Ok(number.cast_unsigned())
+}
+
+// The array in which a PIN keeps its value belongs to the context of the PIN, as it does for each PIN that code made; an
+// image of another maker may name another's, which nobody is to set by way of a PIN. A PIN of which the maximum is 0 may have none.
+fn is_own_value<S: WordStore>(pin: Ref, memory: &Memory<S>) -> Result<(), FrameExit>
+    requires up { memory.now.heap.down ≡ false }
+    requires pin { IsPin memory.now pin }
+    ensures { result ≡ is_own_value memory.now pin }
+{
+    let Some(value) = memory.header(record(memory, pin).value) else {
+        return Ok(());
+    };
+    let context = context_of(Owner::of(memory.facts(pin).owner()), memory);
+    if context_of(Owner::of(value.owner()), memory).is(context) {
+        Ok(())
+    } else {
+        Err(FrameExit::Throw(Exception::SecurityException))
+    }
+}
 
 // What a call answers that changes a PIN.
 fn answer_of(change: Result<(), PinRefusal>) -> Result<NativeResult, StepExit>

@@ -4,7 +4,6 @@ use Rattle.jc_des.specs.Des.{bits_of, crypted, mangled, place_of, right_of, roun
 use Rattle.jc_des.specs.Numbers.{number_of}
 use Rattle.jc_des.specs.Gathering.{IsHalves, source}
 use Rattle.jc_des.specs.Tables.{final_permutation, initial_permutation}
-use Rattle.jc_des.proofs.Gathered.{final_is, initial_is}
 use Rattle.jc_des.proofs.Halves.{IsBits-bits_of, IsBits-right_of, IsBits-rounds, IsBits-select, IsBits-swapped, block-number, bytes-are, halves-of, right-number, round-halves, selected-number, sources_final, sources_initial, swapped-number}
 use Rattle.jc_des.proofs.Listed.{listed-at}
 use Rattle.jc_des.proofs.des.crypted.Goals as goal
@@ -18,7 +17,7 @@ rounds-init c = (
       let plain : List ℕ = bits_of block in
       let whole = c.from_be_bytes.ensures ∙ block-number block (λ k low. c.fits-block k) in
       halves-of (select initial_permutation plain) c.permuted-halves.result (IsBits-select initial_permutation plain (IsBits-bits_of block))
-      (c.permuted-halves.ensures (slice_index plain) initial_permutation (IsBits-bits_of block) whole initial_is sources_initial
+      (c.permuted-halves.ensures (slice_index plain) initial_permutation (IsBits-bits_of block) whole c.initial.ensures sources_initial
       ∙ selected-number initial_permutation plain refl),
 )
 
@@ -64,7 +63,7 @@ returns c = λ bits are is.
     ∙ swapped-number last c.rounds.left c.rounds.right halves in
     let g : ℕ → ℕ = λ j. slice_index (swapped last) (source final_permutation j) in
     let swapped_bits = IsBits-swapped last last_bits in
-    let result = c.permuted.ensures (slice_index (swapped last)) final_permutation swapped_bits whole final_is sources_final in
+    let result = c.permuted.ensures (slice_index (swapped last)) final_permutation swapped_bits whole c.undoing.ensures sources_final in
     c.to_be_bytes.ensures
     ∙ bytes-are g (select final_permutation (swapped last)) c.permuted.result (λ j. swapped_bits (source final_permutation j))
     (λ j low. listed-at (selected_bit final_permutation (swapped last)) 64 j low) result

@@ -3,8 +3,7 @@ use Rattle.jc_des.specs.Des.{keyed, select, substituted_bit}
 use Rattle.jc_des.specs.Numbers.{number_of}
 use Rattle.jc_des.specs.Gathering.{source}
 use Rattle.jc_des.specs.Tables.{expansion, permutation}
-use Rattle.jc_des.specs.declared.tables.TheConstants.{SUBSTITUTED}
-use Rattle.jc_des.proofs.Gathered.{box_entry-is, substituted_is}
+use Rattle.jc_des.proofs.Gathered.{box_entry-is}
 use Rattle.jc_des.proofs.Halves.{groups_permutation, key_bit, key_bit-lt, keyed-at, mangled-number, six-is}
 use Rattle.jc_des.proofs.Numbers.{gathered_all, gathered_bit, gathered_more, gathered_none}
 use Rattle.jc_des.proofs.des.mangled.Goals as goal
@@ -25,8 +24,9 @@ boxes-preserved c = λ half bits bh bb whole is.
     ap (λ (k : ℕ). bit_xor (w / 2 ^ (28 - 4 * i)) k % 64) c.from.ensures
     ∙ six-is half bits c.args.keys.now n i w bh bb is c.requires low (c.wide-wide.ensures (slice_index half) bh whole) in
     let at = ap (λ (k : ℕ). 64 * i + k) six in
-    (λ t. bit_xor (c.boxes.invariant half bits bh bb whole is t)
-    (box_entry-is SUBSTITUTED kd (key_bit half bits n i) i _ (key_bit-lt half bits n i bh bb) substituted_is low (λ t lt. keyed-at half bits n i t bh bb low lt) at t))
+    let made = c.substituted-mixed.ensures
+    ∙ box_entry-is kd (key_bit half bits n i) i _ (key_bit-lt half bits n i bh bb) low (λ t lt. keyed-at half bits n i t bh bb low lt) at in
+    (λ t. bit_xor (c.boxes.invariant half bits bh bb whole is t) (made t))
     ∙ gathered_more (λ j. source permutation j / 4) v i 32 (λ j. omega arith)
 
 pub returns : goal.returns

@@ -1,7 +1,7 @@
-use Rattle.std.proofs.Common.{◌≡◌, ◌∙◌, ◌+◌, ◌*◌, ◌++◌, List, ℕ, suc, take, slice_index, ap, sym, arith, refl}
+use Rattle.std.proofs.Common.{◌≡◌, ◌∙◌, ◌+◌, ◌*◌, ◌++◌, ℕ, suc, take, ap, sym, arith, refl}
 use Rattle.std.proofs.lemmas.List.{take_all}
 use Rattle.jc_des.specs.Des.{halves, schedule, select, shifted}
-use Rattle.jc_des.specs.Tables.{key_choice_1, key_choice_2, shifts}
+use Rattle.jc_des.specs.Tables.{key_choice_1, key_choice_2}
 use Rattle.jc_des.proofs.schedule.schedule.Goals as goal
 
 pub keys-init : goal.keys-init
@@ -14,7 +14,7 @@ keys-preserved c =
     let key = c.args.key.now in
     let n = c.keys.n in
     let next : suc n ≡ n + 1 = omega arith in
-    let turned = c.shifted-halves.ensures ∙ ap (λ (h : List ℕ). shifted h (slice_index shifts n)) c.keys.invariant.0 in
+    let turned = c.shifted-halves.ensures ∙ (λ j. shifted (c.keys.invariant.0 j) (c.shift.ensures j)) in
     let bytes : 48 * (n + 1) ≡ 48 * n + 48 = omega arith in
     let before = c.keys.invariant.1 in
     let word = c.select-in-keys.ensures ∙ ap (select key_choice_2) turned in (

@@ -20,6 +20,10 @@ public abstract class MessageDigest {
     MessageDigest() {
     }
 
+    public static final InitializedMessageDigest getInitializedMessageDigestInstance(byte algorithm, boolean externalAccess) {
+        return null;
+    }
+
     public static final MessageDigest getInstance(byte algorithm, boolean externalAccess) {
         return null;
     }

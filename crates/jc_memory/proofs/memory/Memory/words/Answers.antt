@@ -1,13 +1,9 @@
-use Rattle.std.proofs.Common.{◌<◌, length, arith}
-use Rattle.jc_memory.specs.Cells.{word_at}
-use Rattle.jc_memory.proofs.Running.{read_more, read_all}
+use Rattle.std.proofs.Common.{length, sym, ap, ◌∙◌}
+use Rattle.jc_memory.proofs.Running.{area_words_at}
 use Rattle.jc_memory.proofs.memory.Memory.words.Goals as goal
 
-pub loop-k-preserved : goal.loop-k-preserved
-loop-k-preserved g c =
-    let within : c.loop-k.k < length c.loop-k.out = omega arith in
-    read_more (word_at c.args.self.now c.args.object) c.loop-k.out c.args.i c.loop-k.k c.word.result within c.word.ensures c.loop-k.invariant
-
-pub returns : goal.returns
-returns g c = read_all (word_at c.args.self.now c.args.object) c.loop-k.out c.args.i c.loop-k.k (length c.args.out.now) (omega arith)
-    (omega arith) c.loop-k.invariant
+pub returns-in-Some : goal.returns-in-Some
+returns-in-Some g c =
+    c.area_words.ensures
+    ∙ area_words_at c.args.self.now c.args.object c.args.i (length c.args.out.now) c.facts-facts.result.place c.self.inside.ram c.in-Some.event
+    (ap (λ s. s.ram) c.self.view_is) (ap (λ f. f.place) c.facts-facts.ensures.is) (sym (ap (λ f. f.event) c.facts-facts.ensures.is) ∙ c.in-Some.is)
