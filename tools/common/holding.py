@@ -61,6 +61,10 @@ class Holders:
         record, name = self.objects[at], self.found[at]
         if "pin" in record:
             return [(record["pin"]["value"], f"{name} value")]
+        if "key" in record:
+            return [(record["key"]["array"], f"{name} key")]
+        if "engine" in record:
+            return [(record["engine"]["state"], f"{name} state")]
         if record["class"].endswith("[]"):
             return [(told, f"{name}[{index}]") for index, told in enumerate(record.get("cells", ()))]
         return [(told, f"{name}.{field.rpartition('.')[2]}") for told, field in self.fields(record) if field]

@@ -18,6 +18,7 @@ IMPORTED = re.compile(r"  package ([0-9A-F]+)")
 POOL = re.compile(r"  entry (\d+): (?:package ([0-9A-F]+)|a package that is not imported), class (\d+)(?: \((\w+)\))?(?:, token (\d+))?(?:: (.+))?")
 ASKED = re.compile(r"  asked for (\d+) (.*), (\d+) left")
 CHANGE = re.compile(r"(?:@(\d+) (\S+) \[(\d+)\](?: \([^()]*\))?|word (\d+)(?: \(([^()]*)\))?) (\S+)>(\S+)")
+HIDDEN_CHANGE = re.compile(r"@(\d+) (\S+) \[(\d+)\] not shown")
 CUTS = re.compile(r"cut after (\d+)(?:\.\.(\d+))?: (.*)")
 UNCUT = re.compile(r"(?:cut after (\d+): )?no cut, answer (\S+): (.*)")
 STANDING = re.compile(
@@ -41,6 +42,9 @@ REGISTERED = re.compile(r"applet (\d+): AID object @(\d+), instance (?:@(\d+)|nu
 OBJECT = re.compile(r"@(\d+) (\S+) of (.*?), length (\d+)(?:, (reset|deselect) area from (\d+))?(?::(?: (.*))?)?")
 FURTHER = re.compile(r"(cannot be read further)")
 PIN = re.compile(r"tries (\d+) of (\d+), length (\d+) of (\d+), value (@\d+|null)")
+KEY = re.compile(r"type ([0-9A-Z_]+)(?:, (\d+) bits, (set|not set))?, key (@\d+|null)")
+HIDDEN = "key bytes, not shown"
+ENGINE = re.compile(r"algorithm (\d+), holds (nothing), state (@\d+|null)")
 
 
 def whole(pattern, line):
@@ -293,9 +297,16 @@ def object_record(found):
     made = {"record": "object", "at": at, "class": kind, "owner": str(owner), "length": length}
     if area:
         made.update(area=area, place=place)
-    pin = whole(PIN, str(cells or ""))
+    pin, key, engine = (whole(form, str(cells or "")) for form in (PIN, KEY, ENGINE))
     if pin:
         made["pin"] = dict(zip(("left", "limit", "length", "most", "value"), pin))
+    elif key:
+        kind, bits, is_set, array = key
+        made["key"] = {"type": str(kind), **({} if bits is None else {"bits": bits, "set": is_set == "set"}), "array": array}
+    elif engine:
+        made["engine"] = dict(zip(("algorithm", "holds", "state"), engine))
+    elif cells == HIDDEN:
+        made["hidden"] = True
     elif kind == "AID" and re.fullmatch("(?:[0-9A-F]{2})*", str(cells)):
         made["aid"] = str(cells)
     elif cells is not None:
@@ -324,6 +335,9 @@ def dumped_line(line):
     changed = CHANGE.fullmatch(line)
     if changed:
         return {"record": "changed", **changes(line)[1][0]}
+    hidden = whole(HIDDEN_CHANGE, line)
+    if hidden:
+        return {"record": "changed", **dict(zip(("object", "class", "cell"), hidden)), "hidden": True}
     for pattern, made in DUMPED:
         found = whole(pattern, line)
         if found:

@@ -4,7 +4,7 @@ from .refusal import Refusal, class_name, unknown_class
 OBJECT = "java/lang/Object"
 APPLET = "javacard/framework/Applet"
 SHAREABLE = "javacard/framework/Shareable"
-LANG, FRAMEWORK, APDU, SECURITY = "java/lang", "javacard/framework", "javacardx/apdu", "javacard/security"
+LANG, FRAMEWORK, APDU, SECURITY, CRYPTO = "java/lang", "javacard/framework", "javacardx/apdu", "javacard/security", "javacardx/crypto"
 CONSTANTS_ALONE = "javacard/framework/ISO7816"  # an interface of which nothing is left in the code that is made
 
 

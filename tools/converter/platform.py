@@ -7,7 +7,7 @@ import glob
 import os
 import re
 
-from .library import APDU, FRAMEWORK, LANG, SECURITY, Classes, ClassInfo, PackageInfo
+from .library import APDU, CRYPTO, FRAMEWORK, LANG, SECURITY, Classes, ClassInfo, PackageInfo
 from .refusal import Refusal, class_name
 
 HERE = os.path.dirname(os.path.realpath(__file__))
@@ -20,7 +20,9 @@ RANDOM = "random"  # the first word of a line of such a table: the bytes of whic
 RANDOM_DIGITS = re.compile("[0-9A-Fa-f]{64}")
 LONGEST_TABLE = 16384  # bytes
 LARGEST_NUMBER, LARGEST_VIRTUAL = 255, 127
-NAMES = {"A0000000620001": LANG, "A0000000620101": FRAMEWORK, "A0000000620209": APDU, "A0000000620102": SECURITY}
+NAMES = {"A0000000620001": LANG, "A0000000620101": FRAMEWORK, "A0000000620209": APDU, "A0000000620102": SECURITY, "A0000000620201": CRYPTO}
+OPTIONAL = (APDU, SECURITY, CRYPTO)  # packages that an extended table may have
+OWN = ("KeyObject", "DESKeyObject", "AESKeyObject", "HMACKeyObject")  # classes of the card that no kit exports: those of its keys
 # The classes of java.lang that stand above others than RuntimeException.
 ABOVE = {
     "Object": None, "Throwable": "Object", "Exception": "Throwable", "RuntimeException": "Exception",
@@ -32,6 +34,10 @@ ALIASES = {
     ("Applet", "registerBytes"): ("register", "([BSB)V"), ("AID", "equalsBytes"): ("equals", "([BSB)Z"),
     ("JCSystem", "getAvailableMemoryShorts"): ("getAvailableMemory", "([SSB)V"),
     ("UserException", "<init>WithoutReason"): ("<init>", "()V"),
+    ("Cipher", "getInstanceOfCipherAndPadding"): ("getInstance", "(BBZ)Ljavacardx/crypto/Cipher;"),
+    ("Cipher", "initWithVector"): ("init", "(Ljavacard/security/Key;B[BSS)V"),
+    ("Signature", "getInstanceOfDigestCipherAndPadding"): ("getInstance", "(BBBZ)Ljavacard/security/Signature;"),
+    ("Signature", "initWithVector"): ("init", "(Ljavacard/security/Key;B[BSS)V"),
 }
 LETTERS = {"void": "V", "byte": "B", "short": "S", "boolean": "Z"}
 CLASS = re.compile(r"public (?:final |abstract )*(class|interface) (\w+)(?: extends (\w+))?(?: implements (\w+))? \{")
@@ -122,7 +128,7 @@ class Table:
 
     def package_line(self, kind, aid, major, minor):
         self.info, name = None, self.take(kind, aid)
-        if NAMES[aid] in (APDU, SECURITY) and len(self.packages) < 2:  # they stand after both others
+        if NAMES[aid] in OPTIONAL and len(self.packages) < 2:  # they stand after both others
             raise ValueError
         self.packages.append(PackageInfo(NAMES[aid], bytes.fromhex(aid), (number_of(major), number_of(minor))))
         return name
@@ -134,6 +140,11 @@ class Table:
         self.free.remove((home, owner, kind, word))
         return home, owner, kind, word
 
+    def stands(self, name):
+        """Whether a class is one that each table has, or stands above."""
+        home, _, word = name.rpartition("/")
+        return (home, None, "class", word) in names_of(NEEDED) or any(name in package.classes for package in self.packages)
+
     def add_class(self, token, word):
         package = self.packages[-1]
         name = f"{package.name}/{word}"
@@ -142,6 +153,8 @@ class Table:
             self.info = ClassInfo(name, package, above and f"{LANG}/{above}", token=token)
         else:
             stub = self.stubs[word]
+            if not all(self.stands(above) for above in (stub.superclass, *stub.interfaces) if above):
+                raise ValueError
             self.info = ClassInfo(name, package, stub.superclass, stub.interfaces, stub.is_interface, token)
         package.add(self.info)
 

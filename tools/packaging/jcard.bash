@@ -11,7 +11,7 @@ _jcard() {
             case ${COMP_WORDS[1]} in
             new) words="--words --table --journal --help" ;;
             run) words="--why --trace --lines --map --cover --instructions --expect --help" ;;
-            dump) words="--objects --all --against --help" ;;
+            dump) words="--objects --all --secrets --against --help" ;;
             try) words="--words --table --instructions --help" ;;
             tear) words="--probe --line --each --recovery --part --join --objects --instructions --help" ;;
             test) words="--junit --table --words --journal --instructions --help" ;;

@@ -95,7 +95,7 @@ class Session:
         """An engine in each slot; the references of all depend on how many objects stand below them."""
         chance = self.chance
         for slot in range(engines.SLOTS):
-            self.made("digest", slot, chance.choice(list(engines.DIGESTS)), chance.randrange(2))
+            self.made(chance.choice(("digest", "initialized")), slot, chance.choice(list(engines.DIGESTS)), chance.randrange(2))
             self.made("checksum", slot, chance.choice(list(engines.CHECKSUMS)), chance.randrange(2))
             self.made("random", slot, chance.choice(engines.RANDOMS))
 
@@ -132,19 +132,57 @@ class Session:
 
     def step(self):
         chance, slot = self.chance, self.chance.randrange(engines.SLOTS)
-        kind = chance.choice(("update", "update", "update", "final", "final", "reset", "asked", "add", "add", "sum", "init", "generate", "next", "seed",
-                              "put"))
+        kind = chance.choice(("update", "update", "update", "final", "final", "reset", "asked", "begin", "begin", "add", "add", "sum", "init", "generate",
+                              "next", "seed", "put"))
         if kind in ("update", "add", "seed", "generate", "next"):
             return [(kind, slot, *self.stretch())]
         if kind in ("final", "sum"):
-            place, offset, _ = to = self.stretch(64)
-            return [(kind, slot, *self.stretch(), place, offset), *([("show", *to)] if place != NULL and 0 <= offset <= SIZE - 64 else [])]
+            return self.ended(kind, slot)
+        if kind == "begin":
+            return self.begin_after(slot)
         if kind == "init":
             return [(kind, slot, *self.stretch(self.chance.choice((2, 4))))]
         if kind == "put":
             data = chance.randbytes(chance.randrange(1, 60))
             return [put(chance.choice((KEPT, PASSING)), chance.randrange(SIZE - len(data)), data)]
         return [(kind if kind == "reset" else chance.choice(("algorithm", "length")), slot)]
+
+    def ended(self, kind, slot):
+        """What a digest or a checksum ends with is put into an array, and shown."""
+        place, offset, _ = to = self.stretch(64)
+        return [(kind, slot, *self.stretch(), place, offset), *([("show", *to)] if place != NULL and 0 <= offset <= SIZE - 64 else [])]
+
+    def begin_after(self, slot):
+        """Puts a hash value and a count into arrays, and has a message begin after them; seldom what is refused, or another digest."""
+        chance = self.chance
+        if chance.random() < 0.1:
+            return [("begin_after", slot, *self.stretch(), *self.stretch())]
+        able = [at for at, engine in enumerate(self.card.slots["digest"]) if isinstance(engine, engines.InitializedDigest)]
+        if able and chance.random() < 0.95:
+            slot = chance.choice(able)
+        before = chance.randbytes(self.hash_length(slot))
+        count = self.count_before(slot)
+        count = bytes(chance.choice((0, 0, 0, 1, 5))) + count.to_bytes((count.bit_length() + 7) // 8, "big")
+        place, offset = chance.choice((KEPT, PASSING)), chance.randrange(SIZE - 80)
+        other, other_offset = chance.choice((KEPT, PASSING)), chance.randrange(SIZE - 20)
+        return [put(place, offset, before), put(other, other_offset, count),
+                ("begin_after", slot, place, offset, len(before), other, other_offset, len(count)),
+                *chance.choice(([], [("update", slot, *self.stretch(self.block(slot)))], self.ended("final", slot)))]
+
+    def hash_length(self, slot):
+        """Bytes of a hash value; seldom of another one, or of the digest."""
+        if self.chance.random() < 0.1:
+            return self.chance.choice((0, 15, 16, 17, 20, 28, 32, 48, 64))
+        return engines.hash_length(self.card.slots["digest"][slot].number)
+
+    def block(self, slot):
+        return engines.block_length(self.card.slots["digest"][slot].number)
+
+    def count_before(self, slot):
+        """How many bytes are hashed: whole blocks; seldom none, other bytes, or about as many as a length counts."""
+        chance, block = self.chance, self.block(slot)
+        return chance.choice((block, block * chance.randrange(1, 2 ** 20), block * chance.randrange(1, 2 ** 20), 2 ** 61 - block, 2 ** 64 - block,
+                              chance.choice((0, 1, block - 1, block + 1, 2 ** 61, 2 ** 64, chance.randrange(2 ** 64)))))
 
     def reset(self):
         self.add("reset", "ready")

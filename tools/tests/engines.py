@@ -2,22 +2,26 @@
 import binascii
 import hashlib
 
+from hash_functions import FUNCTIONS
+
 DIGESTS = {1: "sha1", 2: "md5", 4: "sha256", 5: "sha384", 6: "sha512", 7: "sha224"}  # by their numbers
 CHECKSUMS = {1: 2, 2: 4}  # the bytes of each
 RANDOMS = range(1, 7)
 BUFFER, KEPT, PASSING, NULL = range(4)  # places of arrays
 SIZE, BUFFER_SIZE, ANSWER_SIZE, SLOTS = 320, 261, 256, 4
-DONE, SECURITY, NULL_POINTER, INDEX = 0x9000, 0xEB00, 0xEA00, 0xE600
+DONE, SECURITY, NULL_POINTER, INDEX, CLASS_CAST = 0x9000, 0xEB00, 0xEA00, 0xE600, 0xEC00
 CRYPTO, SYSTEM, TRANSACTION = 0xC000, 0xD000, 0xDA00
 ILLEGAL_VALUE, NO_SUCH_ALGORITHM = CRYPTO + 1, CRYPTO + 3
+LENGTHS = 2 ** 64  # a message's length counts modulo these; one of 0 bytes begins with the initial hash value
 # The first byte of each step, and its operands: a byte, an array's place, or two bytes.
 FORMS = {
     "begin": (0x00, ""), "commit": (0x01, ""), "abort": (0x02, ""), "capacity": (0x03, ""), "cells": (0x04, ""), "memory": (0x05, ""),
     "attempt": (0x06, ""), "throw": (0x07, "w"), "reason": (0x08, "w"), "thrown": (0x09, "w"),
-    "digest": (0x10, "bbb"), "checksum": (0x12, "bbb"), "random": (0x13, "bb"), "most": (0x14, "bb"),
+    "digest": (0x10, "bbb"), "initialized": (0x11, "bbb"), "checksum": (0x12, "bbb"), "random": (0x13, "bb"), "most": (0x14, "bb"),
     "forget": (0x15, "b"), "has_digest": (0x16, "b"), "has_checksum": (0x18, "b"), "has_random": (0x19, "b"),
     "take_cells": (0x1A, "w"), "take_words": (0x1B, "w"),
     "algorithm": (0x20, "b"), "length": (0x21, "b"), "reset": (0x22, "b"), "update": (0x23, "bpww"), "final": (0x24, "bpwwpw"),
+    "begin_after": (0x25, "bpwwpww"),
     "checksum_algorithm": (0x30, "b"), "init": (0x31, "bpww"), "add": (0x33, "bpww"), "sum": (0x34, "bpwwpw"),
     "random_algorithm": (0x40, "b"), "generate": (0x41, "bpww"), "next": (0x42, "bpww"), "seed": (0x43, "bpww"),
     "show": (0x50, "pww"), "put": (0x51, "pww"), "fill": (0x52, "pwwb"),
@@ -53,6 +57,15 @@ def crc16(data, before):
     return reversed_bits(register, 16)
 
 
+def block_length(number):
+    """The bytes of a block of a digest; the bytes of a hash value that goes from block to block below."""
+    return FUNCTIONS[DIGESTS[number]].block
+
+
+def hash_length(number):
+    return len(FUNCTIONS[DIGESTS[number]].initial)
+
+
 class Thrown(Exception):
     """An exception of the card, by the status word that the applet answers."""
 
@@ -74,10 +87,46 @@ class Digest:
     def length(self):
         return hashlib.new(self.name).digest_size
 
+    def take(self, data):
+        self.message += data
+
     def final(self):
-        digest = hashlib.new(self.name, self.message).digest()
+        digest = self.whole_digest()
         self.reset()
         return digest
+
+    def whole_digest(self):
+        return hashlib.new(self.name, self.message).digest()
+
+
+class InitializedDigest(Digest):
+    """An InitializedMessageDigest: what came before the message is known by its hash value, and by how many bytes it is."""
+
+    def __init__(self, number):
+        self.function = FUNCTIONS[DIGESTS[number]]
+        super().__init__(number)
+
+    def reset(self):
+        super().reset()
+        self.before, self.count = self.function.initial, 0
+
+    def begin_after(self, before, count):
+        """Sets the hash value of the bytes before, and how many these are: whole blocks, and no more than the length counts."""
+        count, block = int.from_bytes(count, "big"), block_length(self.number)
+        if len(before) != hash_length(self.number) or count == 0 or count % block or count >= (2 ** 64 if block == 128 else 2 ** 61):
+            raise Thrown(ILLEGAL_VALUE)
+        self.before, self.count, self.message = before, count, b""
+
+    def whole_length(self):
+        return (self.count + len(self.message)) % LENGTHS
+
+    def take(self, data):
+        super().take(data)
+        if self.whole_length() == 0:
+            self.reset()
+
+    def whole_digest(self):
+        return self.function.digest(self.before, self.message, self.whole_length())
 
 
 class Checksum:
@@ -228,6 +277,11 @@ class Card:
             raise Thrown(NO_SUCH_ALGORITHM)
         self.keep("digest", slot, Digest(algorithm))
 
+    def initialized(self, slot, algorithm, _):
+        if algorithm not in DIGESTS:
+            raise Thrown(NO_SUCH_ALGORITHM)
+        self.keep("digest", slot, InitializedDigest(algorithm))
+
     def checksum(self, slot, algorithm, _):
         if algorithm not in CHECKSUMS:
             raise Thrown(NO_SUCH_ALGORITHM)
@@ -261,11 +315,17 @@ class Card:
 
     def update(self, slot, *stretch):
         engine = self.engine("digest", slot)
-        engine.message += self.stretch(*stretch)
+        engine.take(self.stretch(*stretch))
 
     def final(self, slot, place, offset, length, to_place, to_offset):
         engine = self.engine("digest", slot)
-        self.last(engine, lambda data: setattr(engine, "message", engine.message + data), (place, offset, length), to_place, to_offset, engine.length())
+        self.last(engine, engine.take, (place, offset, length), to_place, to_offset, engine.length())
+
+    def begin_after(self, slot, place, offset, length, *count):
+        engine = self.engine("digest", slot)
+        if not isinstance(engine, InitializedDigest):
+            raise Thrown(CLASS_CAST)
+        engine.begin_after(self.stretch(place, offset, length), self.stretch(*count))
 
     def last(self, engine, take, stretch, to_place, to_offset, size):
         """Takes the last bytes, and hands out what they end."""

@@ -65,19 +65,19 @@ cut_set (Some event) reason s new r i v e kept none cut = absurd (none-some even
 -- ---- the whole call
 
 -- a call with all space and room makes the object
-pub factory_is : (e : NewEngine) (p : Packages) (m : MemoryState) → is_in_table e.class p ≡ true → has_space_for_both m ≡ true → keeps_no_cells m ≡ true
+pub factory_is : (e : NewEngine) (p : Packages) (m : MemoryState) → is_in_table e.class p ≡ true → has_space_for_both e m ≡ true → keeps_no_cells e m ≡ true
     → creation_refusal m (state_array e m) ≡ None → factory_call (Ok e) p m ≡ engine_creation e p m
 factory_is e p m there space cells room =
-    ap (λ (b : Bool). if b then (if has_space_for_both m then (if keeps_no_cells m then unless (creation_refusal m (state_array e m)) (engine_creation e p m)
+    ap (λ (b : Bool). if b then (if has_space_for_both e m then (if keeps_no_cells e m then unless (creation_refusal m (state_array e m)) (engine_creation e p m)
     else throw_exception buffer_full) else throw_exception no_resource) else code_fault) there
-    ∙ ap (λ (b : Bool). if b then (if keeps_no_cells m then unless (creation_refusal m (state_array e m)) (engine_creation e p m)
+    ∙ ap (λ (b : Bool). if b then (if keeps_no_cells e m then unless (creation_refusal m (state_array e m)) (engine_creation e p m)
     else throw_exception buffer_full) else throw_exception no_resource) space
     ∙ ap (λ (b : Bool). if b then unless (creation_refusal m (state_array e m)) (engine_creation e p m) else throw_exception buffer_full) cells
     ∙ ap (λ o. unless o (engine_creation e p m)) room
 
 -- it was cut after the array was made
-pub cut_later : (e : NewEngine) (p : Packages) (m mid new : MemoryState) (array : ℕ) → is_in_table e.class p ≡ true → has_space_for_both m ≡ true
-    → keeps_no_cells m ≡ true → Completes (new_object m (state_array e m)) m (Done array) mid → IsTornIn (instance_creation e array p mid) mid new
+pub cut_later : (e : NewEngine) (p : Packages) (m mid new : MemoryState) (array : ℕ) → is_in_table e.class p ≡ true → has_space_for_both e m ≡ true
+    → keeps_no_cells e m ≡ true → Completes (new_object m (state_array e m)) m (Done array) mid → IsTornIn (instance_creation e array p mid) mid new
     → IsTornIn (factory_call (Ok e) p m) m new
 cut_later e p m mid new array there space cells made cut =
     let alone = made_alone (creation_refusal m (state_array e m)) m mid (state_array e m) array made in

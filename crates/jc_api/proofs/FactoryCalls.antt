@@ -33,7 +33,7 @@ module _ (P : Effect → MemoryState → Type 0) (L : MemoryState → ℕ → Ty
   -- each effect of such a call is due, and it answers plainly
   pub factory_due : (answer : Result NewEngine FrameExit) → ((e : NewEngine) → answer ≡ Ok e → HasState e.class) → IsPlainCall P L (factory_call answer p m) m
   factory_due answer classes = called_ok P L m (plainly answer) _ (plainly_faults answer) (λ e is.
-      called_if P L m (is_in_table e.class p) _ _ (λ there. called_if P L m (has_space_for_both m) _ _ (λ space.
-      called_if P L m (keeps_no_cells m) _ _ (λ cells. called_unless P L m (creation_refusal m (state_array e m)) _ (λ room.
+      called_if P L m (is_in_table e.class p) _ _ (λ there. called_if P L m (has_space_for_both e m) _ _ (λ space.
+      called_if P L m (keeps_no_cells e m) _ _ (λ cells. called_unless P L m (creation_refusal m (state_array e m)) _ (λ room.
       due_then P (IsPlainAnswer L) (engine_creation e p m) m (pass.engine e (classes e (plainly_ok answer e is)) there space room) (answered e)))
       (λ full. tt)) (λ full. tt)) (λ lacks. tt))

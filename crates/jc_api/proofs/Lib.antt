@@ -14,3 +14,5 @@ pub mod ChangingCalls
 pub mod FactoryCalls
 pub mod EngineRoom
 pub mod EngineMaking
+pub mod InitializingCalls
+pub mod TransientEvents

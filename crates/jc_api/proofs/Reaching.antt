@@ -82,9 +82,10 @@ ok_of (Err y) = None
 pub same_Ok : {A : Type 0} (a b : A) → ◌≡◌ {A = Result A FrameExit} (Ok a) (Ok b) → a ≡ b
 same_Ok a b e = same_Some a b (ap ok_of e)
 
-or_found : (o : Option Facts) (f : Facts) → some_or_fault o ≡ Ok f → o ≡ Some f
-or_found None f e = absurd (err_not_ok e)
-or_found (Some g) f e = ap ok_of e
+-- it is there
+pub or_found : {A : Type 0} (o : Option A) (a : A) → some_or_fault o ≡ Ok a → o ≡ Some a
+or_found None a e = absurd (err_not_ok e)
+or_found (Some b) a e = ap ok_of e
 
 pub object_is : (m : MemoryState) (r : ℕ) (f : Facts) → object_at m r ≡ Ok f → IsObject m.heap.now r × (f ≡ facts m.heap.now r)
 unfolding object_at

@@ -6,3 +6,5 @@ pub mod Referring
 pub mod NewArrays
 pub mod Changing
 pub mod Factory
+pub mod Initializing
+pub mod TransientEvents

@@ -65,7 +65,7 @@ pub fn state_at<S: WordStore>(
 
 // Sets cells of a state.
 #[inline(always)]
-fn set_state<S: WordStore>(memory: &mut Memory<S>, state: Stretch, words: &[u16])
+pub(crate) fn set_state<S: WordStore>(memory: &mut Memory<S>, state: Stretch, words: &[u16])
     requires up { memory.old.heap.down ≡ false }
     requires there { IsState memory.old state }
     requires all { length words.now ≡ state.count }

@@ -1,5 +1,5 @@
 //! Form 3 of calls: an object of the platform with a state is made.
-ghost use Rattle.std.specs.Prelude.{◌≡◌, ◌<◌, false, true, None, List, [], ◌∷◌, Ok, IfOk, OnOk};
+ghost use Rattle.std.specs.Prelude.{◌≡◌, ◌≤◌, ◌<◌, false, true, None, List, [], ◌∷◌, Ok, OnOk};
 ghost use Rattle.jc_heap.specs.Completions.{after_making, after_step};
 ghost use Rattle.jc_heap.specs.Heap.{IsObject, facts};
 ghost use Rattle.jc_heap.specs.declared.object.Kind.TheVariants.{Instance};
@@ -10,12 +10,13 @@ ghost use Rattle.jc_memory.specs.Cells.{MayHave, word_of};
 ghost use Rattle.jc_memory.specs.Making.{new_object};
 ghost use Rattle.jc_memory.specs.Programs.{Executes};
 ghost use Rattle.jc_memory.specs.Room.{has_space, lacks_capacity};
+ghost use Rattle.jc_platform.specs.Hierarchy.{cells_of};
 ghost use Rattle.jc_world.specs.NativeCalls.{after_call};
-ghost use Rattle.jc_api.specs.Factory.{cell_update, cells_set, engine_object, factory_call, has_space_for_both, instance_creation, is_in_table, keeps_no_cells, state_array};
+ghost use Rattle.jc_api.specs.Factory.{HasState, array_words, cell_update, cells_set, engine_object, factory_call, has_space_for_both, instance_creation, is_in_table, keeps_no_cells, kind_of_state, state_array};
 
 use jc_frames::reasons::{BUFFER_FULL, NO_RESOURCE};
 use jc_frames::{Cell, Outcome};
-use jc_heap::layout::TRANSIENT;
+use jc_heap::layout::{HEADER, TRANSIENT};
 use jc_heap::{HeapRefusal, Kind, Touch};
 use jc_linker::linked::Linked;
 use jc_memory::{Memory, NewObject, has_space, make_within_capacity};
@@ -24,18 +25,39 @@ use jc_transient::{CellValue, ClearEvent, NO_CLASS, Ref};
 use jc_words::{StoreDown, WordStore};
 use jc_world::{NativeResult, StepExit};
 
+/// What the elements of a state are.
+#[derive(Clone, Copy)]
+pub enum StateKind {
+    Shorts,
+    Bytes,
+}
+
+impl StateKind {
+    // The kind of the array of a state.
+    fn kind(self) -> Kind
+        ensures { result ≡ kind_of_state self }
+    {
+        match self {
+            StateKind::Shorts => Kind::ShortArray,
+            StateKind::Bytes => Kind::ByteArray,
+        }
+    }
+}
+
 /// What an object of the platform with a state is to be.
 #[derive(Clone, Copy)]
 pub struct NewEngine {
+    /// Its class, whose instances have a number in their first cell and the array of their state in the second.
     pub class: PlatformClass,
     /// The number in its first cell.
     pub number: i16,
-    /// How many shorts its state has.
+    /// What the elements of its state are.
+    pub elements: StateKind,
+    /// What is to clear its state; none, where it is to be persistent.
+    pub event: Option<ClearEvent>,
+    /// How many elements its state has.
     pub state: u16,
 }
-
-// How many cells the instance has: its number, and the array of its state.
-const ENGINE_CELLS: u16 = 2;
 
 // The platform table has the class.
 fn is_in_table(class: PlatformClass, linked: &Linked) -> bool
@@ -44,30 +66,58 @@ fn is_in_table(class: PlatformClass, linked: &Linked) -> bool
     linked.platform().table().token_of_class(class).is_some()
 }
 
-// The words of the instance's cells, which stand after the array's header, need no room in the open transaction.
-fn keeps_no_cells<S: WordStore>(memory: &Memory<S>) -> bool
-    requires up { memory.now.heap.down ≡ false }
-    requires space { has_space_for_both memory.now ≡ true }
-    ensures { result ≡ keeps_no_cells memory.now }
+// How many words of the heap the array of a state takes: of a transient one only its header stands there.
+fn array_words(engine: NewEngine) -> u32
+    ensures { result ≡ array_words engine }
 {
-    memory.heap().cost(&[Touch::NewCell(TRANSIENT), Touch::NewCell(TRANSIENT + 1)]) == 0
+    if engine.event.is_some() {
+        return u32::from(TRANSIENT);
+    }
+    let length = u32::from(engine.state);
+    let words = match engine.elements {
+        StateKind::Shorts => length,
+        StateKind::Bytes => (length + 1) / 2,
+    };
+    u32::from(HEADER) + words
+}
+
+// The heap has space for the array and the instance.
+fn has_space_for_both<S: WordStore>(engine: NewEngine, memory: &Memory<S>) -> bool
+    requires up { memory.now.heap.down ≡ false }
+    ensures { result ≡ has_space_for_both engine memory.now }
+{
+    let _ = memory.heap().free_words(); // so that the proof knows: the heap has fewer than 65,536 words free
+    match u16::try_from(array_words(engine) + u32::from(engine.class.cells())) {
+        Ok(cells) => has_space(memory, Kind::Instance, cells),
+        Err(_) => false,
+    }
+}
+
+// The words of the instance's first two cells, which stand after the array, need no room in the open transaction.
+fn keeps_no_cells<S: WordStore>(engine: NewEngine, memory: &Memory<S>) -> bool
+    requires up { memory.now.heap.down ≡ false }
+    requires cells { 2 ≤ cells_of engine.class }
+    requires space { has_space_for_both engine memory.now ≡ true }
+    ensures { result ≡ keeps_no_cells engine memory.now }
+{
+    let _ = memory.heap().free_words(); // so that the proof knows: the heap has fewer than 65,536 words free
+    let first = array_words(engine) as u16;
+    memory
+        .heap()
+        .cost(&[Touch::NewCell(first), Touch::NewCell(first + 1)])
+        == 0
 }
 
 // Makes the array of a state.
 fn make_state<S: WordStore>(engine: NewEngine, memory: &mut Memory<S>) -> Result<Ref, HeapRefusal>
     requires up { memory.old.heap.down ≡ false }
-    requires space { has_space_for_both memory.old ≡ true }
-    requires cells { keeps_no_cells memory.old ≡ true }
-    ensures made { Executes (new_object memory.old (state_array engine memory.old)) memory.old
+    ensures { Executes (new_object memory.old (state_array engine memory.old)) memory.old
         (after_making result memory.new) }
-    ensures space { IfOk result (λ r. has_space memory.new Instance 2 ≡ true) }
-    ensures room { IfOk result (λ r. lacks_capacity memory.new
-        (touch.HeapEnd ∷ touch.NewCell 0 ∷ touch.NewCell 1 ∷ []) ≡ false) }
 {
     let owner = memory.registers().active;
     memory.make(NewObject {
-        kind: Kind::ShortArray,
-        event: Some(ClearEvent::Reset),
+        kind: engine.elements.kind(),
+        event: engine.event,
         class: NO_CLASS,
         owner,
         length: engine.state,
@@ -115,7 +165,7 @@ fn set_cells<S: WordStore>(
     requires there { IsObject memory.old.heap.now instance }
     requires kind { (facts memory.old.heap.now instance).kind ≡ Instance }
     requires persistent { (facts memory.old.heap.now instance).event ≡ None }
-    requires cells { (facts memory.old.heap.now instance).length ≡ 2 }
+    requires cells { 2 ≤ (facts memory.old.heap.now instance).length }
     requires room { lacks_capacity memory.old
         (touch.Place (place.Cell instance 0) ∷ touch.Place (place.Cell instance 1) ∷ []) ≡ false }
     ensures { Executes (cells_set instance number array memory.old) memory.old
@@ -134,7 +184,8 @@ fn make_instance<S: WordStore>(
     linked: &Linked,
 ) -> Result<Ref, StoreDown>
     requires up { memory.old.heap.down ≡ false }
-    requires space { has_space memory.old Instance 2 ≡ true }
+    requires cells { 2 ≤ cells_of engine.class }
+    requires space { has_space memory.old Instance (cells_of engine.class) ≡ true }
     requires room { lacks_capacity memory.old
         (touch.HeapEnd ∷ touch.NewCell 0 ∷ touch.NewCell 1 ∷ []) ≡ false }
     ensures { Executes (instance_creation engine array linked.now memory.old) memory.old
@@ -145,7 +196,7 @@ fn make_instance<S: WordStore>(
         event: None,
         class: linked.platform().class_word(engine.class),
         owner: memory.registers().active,
-        length: ENGINE_CELLS,
+        length: u16::from(engine.class.cells()),
     };
     let instance = make_within_capacity(memory, object)?;
     set_cells(memory, instance, engine.number, array)?;
@@ -162,16 +213,17 @@ pub fn make_engine<S: WordStore>(
     linked: &Linked,
 ) -> Result<NativeResult, StepExit>
     requires up { memory.old.heap.down ≡ false }
+    requires state { HasState engine.class }
     ensures { Executes (factory_call (Ok engine) linked.now memory.old) memory.old
         (after_call result memory.new) }
 {
     if !is_in_table(engine.class, linked) {
         return Err(StepExit::End(Outcome::Fault));
     }
-    if !has_space(memory, Kind::Instance, TRANSIENT + ENGINE_CELLS) {
+    if !has_space_for_both(engine, memory) {
         return Err(StepExit::Throw(NO_RESOURCE));
     }
-    if !keeps_no_cells(memory) {
+    if !keeps_no_cells(engine, memory) {
         return Err(StepExit::Throw(BUFFER_FULL));
     }
     let array = make_state(engine, memory)?;

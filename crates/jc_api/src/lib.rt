@@ -4,14 +4,18 @@
 pub mod arguments;
 pub mod changing;
 pub mod factory;
+pub mod initializing;
 pub mod kinds;
 pub mod short_arrays;
+pub mod transient_events;
 
 pub use arguments::{
     ArrayArguments, MOST_ELEMENTS, Pair, PairArguments, argument_bytes, array_arguments,
     counted_of, elements_at, given_elements, pair_arguments, pair_of, two_of,
 };
 pub use changing::{change_state, change_state_and_put, state_at};
-pub use factory::{NewEngine, make_engine};
+pub use factory::{NewEngine, StateKind, make_engine};
+pub use initializing::{FieldValue, MOST_FIELDS, initialize};
 pub use kinds::have_kinds;
 pub use short_arrays::two_shorts_of;
+pub use transient_events::allow_making;

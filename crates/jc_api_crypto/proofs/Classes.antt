@@ -1,5 +1,6 @@
 -- The classes of the objects that calls make: each has a number and a state, and no other cell.
-use Rattle.std.proofs.Common.{◌≡◌, List, Bool, true, false, Result, Ok, Err, refl, subst, if◌then◌else◌}
+use Rattle.std.proofs.Common.{◌≡◌, List, Bool, true, false, Some, Result, Ok, Err, refl, subst, arith, if◌then◌else◌}
+use Rattle.jc_transient.specs.declared.cell.ClearEvent.TheVariants.{Reset}
 use Rattle.jc_platform.specs.Hierarchy.{cells_of, holds_reference, is_interface}
 use Rattle.jc_platform.specs.Names.{classes}
 use Rattle.jc_platform.specs.declared.names.PlatformClass.{PlatformClass}
@@ -10,6 +11,7 @@ use Rattle.jc_frames.specs.declared.outcome.FrameExit.TheVariants.{Throw}
 use Rattle.jc_world.specs.Objects.{short_argument, some_or_fault}
 use Rattle.jc_api.specs.Factory.{HasState}
 use Rattle.jc_api.specs.declared.factory.NewEngine.{NewEngine}
+use Rattle.jc_api.specs.declared.factory.StateKind.TheVariants.{Shorts}
 use Rattle.jc_api.proofs.Reaching.{err_not_ok, same_Ok}
 use Rattle.jc_api.proofs.Stretches.{both_ok}
 use Rattle.jc_api_crypto.specs.Checksum.{checksum_get_instance, checksum_named}
@@ -20,19 +22,19 @@ use Rattle.jc_api_crypto.specs.Receivers.{named_or_throw}
 
 pub digests_have_state : HasState class.MessageDigest
 unfolding is_interface cells_of holds_reference classes
-digests_have_state = record { instances = refl; cells = refl; number = refl; state = refl }
+digests_have_state = record { instances = refl; cells = omega arith; number = refl; state = refl }
 
 pub initialized_digests_have_state : HasState class.InitializedMessageDigest
 unfolding is_interface cells_of holds_reference classes
-initialized_digests_have_state = record { instances = refl; cells = refl; number = refl; state = refl }
+initialized_digests_have_state = record { instances = refl; cells = omega arith; number = refl; state = refl }
 
 pub checksums_have_state : HasState class.Checksum
 unfolding is_interface cells_of holds_reference classes
-checksums_have_state = record { instances = refl; cells = refl; number = refl; state = refl }
+checksums_have_state = record { instances = refl; cells = omega arith; number = refl; state = refl }
 
 pub random_data_have_state : HasState class.RandomData
 unfolding is_interface cells_of holds_reference classes
-random_data_have_state = record { instances = refl; cells = refl; number = refl; state = refl }
+random_data_have_state = record { instances = refl; cells = omega arith; number = refl; state = refl }
 
 -- what a call makes is of its class
 made_of : (c : PlatformClass) → HasState c → (args : List Cell) (e : NewEngine) → new_digest c args ≡ Ok e → HasState e.class
@@ -66,4 +68,4 @@ pub made_random : (args : List Cell) (e : NewEngine) → random_data_get_instanc
 unfolding random_data_get_instance
 made_random args e is =
     let number = both_ok (some_or_fault (short_argument args 0)) _ e is in
-    if_random (is_random_algorithm number.0) (record { class = class.RandomData; number = number.0; state = random_shorts }) e random_data_have_state number.2
+    if_random (is_random_algorithm number.0) (record { class = class.RandomData; number = number.0; elements = Shorts; event = Some Reset; state = random_shorts }) e random_data_have_state number.2

@@ -5,3 +5,6 @@ pub mod Whole
 mod Counts
 pub mod Classes
 pub mod EngineCalls
+pub mod KeyClasses
+pub mod KeyCalls
+pub mod CipherCalls

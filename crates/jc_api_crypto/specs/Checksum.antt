@@ -1,6 +1,7 @@
 -- Checksum (API specification). A checksum is the complement of a remainder, and the next piece goes on from it; it begins with 0.
 use Rattle.std.specs.Ordering.{int_eq}
 use Rattle.std.specs.Prelude.{ℕ, ℤ, pos, ◌≡◌, ◌+◌, ◌-◌, ◌*◌, ◌/◌, ◌%◌, ◌==◌, List, [], ◌∷◌, replicate, slice_index, Option, Some, None, Result, Ok, Err, if◌then◌else◌}
+use Rattle.jc_transient.specs.declared.cell.ClearEvent.TheVariants.{Reset}
 use Rattle.jc_digests.specs.Remainders.{generator_16, generator_32, remainder}
 use Rattle.jc_frames.specs.declared.cell.Cell.{Cell}
 use Rattle.jc_frames.specs.declared.outcome.FrameExit.{FrameExit}
@@ -17,6 +18,7 @@ use Rattle.jc_api.specs.Arguments.{counted_of}
 use Rattle.jc_api.specs.Changing.{EngineAnswer, IsState, changes, changes_and_puts, state_at}
 use Rattle.jc_api.specs.Forms.{CallAnswer, tells}
 use Rattle.jc_api.specs.declared.factory.NewEngine.{NewEngine}
+use Rattle.jc_api.specs.declared.factory.StateKind.TheVariants.{Shorts}
 use Rattle.jc_api_crypto.specs.Exceptions.{illegal_value}
 use Rattle.jc_api_crypto.specs.Receivers.{named_or_throw, output_of, receiver_of}
 use Rattle.jc_api_crypto.specs.Shorts.{bytes_of_shorts, first_shorts}
@@ -68,7 +70,13 @@ running_checksum args p m = and_then (receiver_of class.Checksum args p m) (λ o
 -- Checksum.getInstance: a new object with the checksum of this number, which is 0; whether it is for access from outside does not matter
 unfoldable pub checksum_get_instance : List Cell → Result NewEngine FrameExit
 checksum_get_instance args = and_then (some_or_fault (short_argument args 0)) (λ number. and_then (some_or_fault (short_argument args 1))
-    (λ external. and_then (named_or_throw (checksum_named number)) (λ a. Ok (record { class = class.Checksum; number = number; state = checksum_shorts a }))))
+    (λ external. and_then (named_or_throw (checksum_named number)) (λ a. Ok (record {
+      class = class.Checksum;
+      number = number;
+      elements = Shorts;
+      event = Some Reset;
+      state = checksum_shorts a;
+    }))))
 
 -- Checksum.getAlgorithm: the number of the checksum
 unfoldable pub checksum_get_algorithm : List Cell → Packages → MemoryState → Result CallAnswer FrameExit

@@ -8,6 +8,10 @@ use Rattle.jc_platform.specs.declared.names.PlatformClass.TheVariants.{CryptoExc
 abbrev pub illegal_value : Exception
 illegal_value = Further CryptoException (pos 1)
 
+-- CryptoException.UNINITIALIZED_KEY: a key is not set
+abbrev pub uninitialized_key : Exception
+uninitialized_key = Further CryptoException (pos 2)
+
 -- CryptoException.NO_SUCH_ALGORITHM: there is no algorithm of this number
 abbrev pub no_such_algorithm : Exception
 no_such_algorithm = Further CryptoException (pos 3)

@@ -6,4 +6,8 @@ pub mod InitializedMessageDigest
 pub mod MessagesInPieces
 pub mod Checksum
 pub mod RandomData
+pub mod KeyBuilder
+pub mod KeyObjects
 pub mod Engines
+pub mod Keys
+pub mod Ciphers

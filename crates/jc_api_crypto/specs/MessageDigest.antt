@@ -1,6 +1,7 @@
 -- MessageDigest (API specification).
 use Rattle.std.specs.Ordering.{int_eq}
 use Rattle.std.specs.Prelude.{ℕ, ℤ, pos, ◌≡◌, ◌/◌, List, replicate, Option, Some, None, Result, Ok, if◌then◌else◌}
+use Rattle.jc_transient.specs.declared.cell.ClearEvent.TheVariants.{Reset}
 use Rattle.jc_digests.specs.Kept.{digest_of_state, digest_size, state_after, state_size}
 use Rattle.jc_digests.specs.declared.kept.HashAlgorithm.{HashAlgorithm}
 use Rattle.jc_digests.specs.declared.kept.HashAlgorithm.TheVariants as hash
@@ -18,6 +19,7 @@ use Rattle.jc_api.specs.Arguments.{counted_of}
 use Rattle.jc_api.specs.Changing.{EngineAnswer, IsState, changes, changes_and_puts, state_at}
 use Rattle.jc_api.specs.Forms.{CallAnswer, tells}
 use Rattle.jc_api.specs.declared.factory.NewEngine.{NewEngine}
+use Rattle.jc_api.specs.declared.factory.StateKind.TheVariants.{Shorts}
 use Rattle.jc_api_crypto.specs.Receivers.{bytes_of_state, named_or_throw, output_of, receiver_of}
 use Rattle.jc_api_crypto.specs.Shorts.{shorts_of}
 use Rattle.jc_api_crypto.specs.declared.message_digest.RunningDigest.{RunningDigest}
@@ -50,7 +52,13 @@ running_digest c args p m = and_then (receiver_of c args p m) (λ own. and_then 
 -- a new object of a class, with the hash function of this number, to which nothing came; whether it is for access from outside does not matter
 unfoldable pub new_digest : PlatformClass → List Cell → Result NewEngine FrameExit
 new_digest c args = and_then (some_or_fault (short_argument args 0)) (λ number. and_then (some_or_fault (short_argument args 1))
-    (λ external. and_then (named_or_throw (hash_named number)) (λ a. Ok (record { class = c; number = number; state = digest_shorts a }))))
+    (λ external. and_then (named_or_throw (hash_named number)) (λ a. Ok (record {
+      class = c;
+      number = number;
+      elements = Shorts;
+      event = Some Reset;
+      state = digest_shorts a;
+    }))))
 
 -- MessageDigest.getInstance: a new object with a hash function
 abbrev pub message_digest_get_instance : List Cell → Result NewEngine FrameExit

@@ -2,6 +2,7 @@
 -- of what setSeed was given.
 use Rattle.std.specs.Prelude.{ℕ, ℤ, int_le, zero, suc, pos, ◌≡◌, ◌+◌, ◌*◌, ◌/◌, ◌%◌, ◌^◌, ◌==◌, ◌&&◌, Bool, List, [], ◌∷◌, ◌++◌, take, Option, Some, None, Result, Ok, Err, if◌then◌else◌}
 use Rattle.std.specs.Int.{cast_signed, to_be_bytes, w16, w32}
+use Rattle.jc_transient.specs.declared.cell.ClearEvent.TheVariants.{Reset}
 use Rattle.sha2.specs.Sha256.{sha256}
 use Rattle.jc_frames.specs.declared.cell.Cell.{Cell}
 use Rattle.jc_frames.specs.declared.outcome.FrameExit.{FrameExit}
@@ -18,6 +19,7 @@ use Rattle.jc_api.specs.Arguments.{counted_of}
 use Rattle.jc_api.specs.Changing.{EngineAnswer, IsState, changes, changes_and_puts, state_at}
 use Rattle.jc_api.specs.Forms.{CallAnswer, tells}
 use Rattle.jc_api.specs.declared.factory.NewEngine.{NewEngine}
+use Rattle.jc_api.specs.declared.factory.StateKind.TheVariants.{Shorts}
 use Rattle.jc_api_crypto.specs.Exceptions.{illegal_value, no_such_algorithm}
 use Rattle.jc_api_crypto.specs.Receivers.{receiver_of}
 use Rattle.jc_api_crypto.specs.Shorts.{bytes_of_shorts, first_shorts}
@@ -83,7 +85,8 @@ source_of p m own = record { seed = p.platform.random; object = own.own; mixed =
 -- RandomData.getInstance: a new object with the algorithm of this number
 unfoldable pub random_data_get_instance : List Cell → Result NewEngine FrameExit
 random_data_get_instance args = and_then (some_or_fault (short_argument args 0)) (λ number. if is_random_algorithm number
-    then Ok (record { class = class.RandomData; number = number; state = random_shorts }) else Err (Throw no_such_algorithm))
+    then Ok (record { class = class.RandomData; number = number; elements = Shorts; event = Some Reset; state = random_shorts })
+    else Err (Throw no_such_algorithm))
 
 -- RandomData.getAlgorithm: the number of the algorithm
 unfoldable pub random_data_get_algorithm : List Cell → Packages → MemoryState → Result CallAnswer FrameExit

@@ -14,11 +14,12 @@ ghost use Rattle.jc_api_crypto.specs.Checksum.{IsRunning, checksum_do_final, che
 use crate::checksum::state::{begin, finish, update};
 use crate::exceptions::NO_SUCH_ALGORITHM;
 use crate::receivers::{output_of, receiver_of};
-use jc_api::{NewEngine, counted_of, make_engine, state_at};
+use jc_api::{NewEngine, StateKind, counted_of, make_engine, state_at};
 use jc_frames::{Cell, FrameExit, Outcome};
 use jc_linker::linked::Linked;
 use jc_memory::Memory;
 use jc_platform::names::PlatformClass;
+use jc_transient::ClearEvent;
 use jc_words::WordStore;
 use jc_world::arguments::short_argument;
 use jc_world::{NativeResult, StepExit, Stretch, short};
@@ -101,6 +102,8 @@ fn new_checksum(args: &[Cell]) -> Result<NewEngine, FrameExit>
     Ok(NewEngine {
         class: PlatformClass::Checksum,
         number,
+        elements: StateKind::Shorts,
+        event: Some(ClearEvent::Reset),
         state: u16::from(checksum_shorts(algorithm)),
     })
 }

@@ -16,12 +16,13 @@ ghost use Rattle.jc_api_crypto.specs.MessageDigest.{IsRunning, digest_shorts, ha
 use crate::exceptions::NO_SUCH_ALGORITHM;
 use crate::message_digest::state::{finish, forget, update};
 use crate::receivers::{output_of, receiver_of};
-use jc_api::{NewEngine, counted_of, make_engine, state_at};
+use jc_api::{NewEngine, StateKind, counted_of, make_engine, state_at};
 use jc_digests::kept::HashAlgorithm;
 use jc_frames::{Cell, FrameExit, Outcome};
 use jc_linker::linked::Linked;
 use jc_memory::Memory;
 use jc_platform::names::PlatformClass;
+use jc_transient::ClearEvent;
 use jc_words::WordStore;
 use jc_world::arguments::short_argument;
 use jc_world::{NativeResult, StepExit, Stretch, short};
@@ -103,6 +104,8 @@ fn new_digest(class: PlatformClass, args: &[Cell]) -> Result<NewEngine, FrameExi
     Ok(NewEngine {
         class,
         number,
+        elements: StateKind::Shorts,
+        event: Some(ClearEvent::Reset),
         state: digest_shorts(algorithm),
     })
 }

@@ -17,12 +17,12 @@ ghost use Rattle.jc_api_crypto.specs.RandomData.{IsRunning, is_random_algorithm,
 use crate::exceptions::NO_SUCH_ALGORITHM;
 use crate::random_data::state::{draw, mix};
 use crate::receivers::receiver_of;
-use jc_api::{NewEngine, counted_of, make_engine, state_at};
+use jc_api::{NewEngine, StateKind, counted_of, make_engine, state_at};
 use jc_frames::{Cell, FrameExit};
 use jc_linker::linked::Linked;
 use jc_memory::Memory;
 use jc_platform::names::PlatformClass;
-use jc_transient::Ref;
+use jc_transient::{ClearEvent, Ref};
 use jc_words::WordStore;
 use jc_world::arguments::short_argument;
 use jc_world::{NativeResult, StepExit, Stretch, short};
@@ -75,6 +75,8 @@ fn new_random(args: &[Cell]) -> Result<NewEngine, FrameExit>
         Ok(NewEngine {
             class: PlatformClass::RandomData,
             number,
+            elements: StateKind::Shorts,
+            event: Some(ClearEvent::Reset),
             state: RANDOM_SHORTS,
         })
     } else {

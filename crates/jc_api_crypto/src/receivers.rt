@@ -30,8 +30,11 @@ pub struct Receiver {
     pub array: Ref,
 }
 
-// The header of an instance with two cells. Null throws, and anything else is a code fault.
-fn instance_of_two<S: WordStore>(own: Ref, memory: &Memory<S>) -> Result<Facts, FrameExit>
+/// The header of an instance with two cells. Null throws, and anything else is a code fault.
+pub(crate) fn instance_of_two<S: WordStore>(
+    own: Ref,
+    memory: &Memory<S>,
+) -> Result<Facts, FrameExit>
     requires up { memory.now.heap.down ≡ false }
     ensures header { result ≡ instance_at memory.now own 2 }
     ensures there { IfOk result (λ facts. IsInstanceWith memory.now own 2) }

@@ -17,7 +17,7 @@ use jc_cap_linkage::tags;
 use jc_heap::layout::HEADER;
 use jc_linker::fault::LinkFault;
 use jc_linker::linked::Linked;
-use jc_memory::{Memory, Notes, RefusedLoad, Shortage, Space};
+use jc_memory::{Member, MemberKind, Memory, Notes, RefusedLoad, Shortage, Space};
 use jc_words::WordStore;
 use std::alloc::{AllocError, Global};
 
@@ -107,19 +107,19 @@ impl OpenLoad {
     }
 }
 
-// What an entry of a pool names: the token of an imported package, of a class there, and of a field or method.
+// What an entry of a pool names: the token of an imported package, of a class there, and a field or method.
 struct Named {
     package_token: Option<u8>,
     class: Option<u8>,
-    token: Option<u8>,
+    member: Option<Member>,
 }
 
-fn named_class(class: ClassRef, token: Option<u8>) -> Named {
+fn named_class(class: ClassRef, member: Option<Member>) -> Named {
     match class {
         ClassRef::Internal(_) => Named {
             package_token: None,
             class: None,
-            token,
+            member,
         },
         ClassRef::External {
             package_token,
@@ -127,17 +127,17 @@ fn named_class(class: ClassRef, token: Option<u8>) -> Named {
         } => Named {
             package_token: Some(package_token),
             class: Some(class_token),
-            token,
+            member,
         },
     }
 }
 
-fn named_static(member: StaticRef) -> Named {
-    match member {
+fn named_static(kind: MemberKind, place: StaticRef) -> Named {
+    match place {
         StaticRef::Internal(_) => Named {
             package_token: None,
             class: None,
-            token: None,
+            member: None,
         },
         StaticRef::External {
             package_token,
@@ -146,25 +146,40 @@ fn named_static(member: StaticRef) -> Named {
         } => Named {
             package_token: Some(package_token),
             class: Some(class_token),
-            token: Some(token),
+            member: Some(Member { kind, token }),
         },
     }
 }
 
-fn number_of(token: VirtualToken) -> u8 {
+fn method_of(token: VirtualToken) -> Member {
     match token {
-        VirtualToken::Public(number) | VirtualToken::PackageVisible(number) => number,
+        VirtualToken::Public(token) => Member {
+            kind: MemberKind::VirtualMethod,
+            token,
+        },
+        VirtualToken::PackageVisible(token) => Member {
+            kind: MemberKind::PackageVisibleMethod,
+            token,
+        },
+    }
+}
+
+fn field_of(token: u8) -> Member {
+    Member {
+        kind: MemberKind::Field,
+        token,
     }
 }
 
 fn named_by(entry: Entry) -> Named {
     match entry {
         Entry::Class(class) => named_class(class, None),
-        Entry::InstanceField { class, token } => named_class(class, Some(token)),
+        Entry::InstanceField { class, token } => named_class(class, Some(field_of(token))),
         Entry::VirtualMethod { class, token } | Entry::SuperMethod { class, token } => {
-            named_class(class, Some(number_of(token)))
+            named_class(class, Some(method_of(token)))
         }
-        Entry::StaticField(member) | Entry::StaticMethod(member) => named_static(member),
+        Entry::StaticField(place) => named_static(MemberKind::Field, place),
+        Entry::StaticMethod(place) => named_static(MemberKind::StaticMethod, place),
     }
 }
 
@@ -345,10 +360,10 @@ fn note_entry(index: u16, contents: &Contents<'_>, notes: &Notes) {
     let Named {
         package_token,
         class,
-        token,
+        member,
     } = named_by(contents.pool.get(index));
     let package = package_named(contents, package_token);
-    notes.refused_load(RefusedLoad::of_entry(index, package, class, token));
+    notes.refused_load(RefusedLoad::of_entry(index, package, class, member));
 }
 
 // Words, and this many bytes more, of which two stand in each.

@@ -10,7 +10,9 @@ use Rattle.jc_frames.specs.declared.outcome.FrameExit.{FrameExit}
 use Rattle.jc_world.specs.declared.native_result.NativeResult.{NativeResult}
 use Rattle.jc_api.proofs.Due.{IsPlainCall, DueThen, Anything, due_any, due_of}
 use Rattle.jc_api.proofs.Passing.{Turns}
+use Rattle.jc_api_crypto.proofs.CipherCalls.{ciphers_due}
 use Rattle.jc_api_crypto.proofs.EngineCalls.{engines_due}
+use Rattle.jc_api_crypto.proofs.KeyCalls.{keys_due}
 use Rattle.jc_api_framework.proofs.AidCalls.{aids_due}
 use Rattle.jc_api_framework.proofs.ApduCalls.{apdus_due}
 use Rattle.jc_api_framework.proofs.AppletCalls.{IsPlainAppletMethod, applets_due, applets_then}
@@ -44,6 +46,9 @@ module _ (P : Effect → MemoryState → Type 0) (L : MemoryState → ℕ → Ty
   method_called (rooms.Apdus method) plain pass = apdus_due P L Q turns args p m so refers method pass
   method_called (rooms.Events method) plain pass = events_due P L m method
   method_called (rooms.Engines method) plain pass = engines_due P L args p m refers.made method pass.calls
+  method_called (rooms.Keys method) plain pass = keys_due P L args p m refers.made method pass.calls
+  method_called (rooms.KeyInterfaces method) plain pass = tt
+  method_called (rooms.Ciphers method) plain pass = ciphers_due P L args p m refers.made method pass.calls
 
 -- where it is so of such a method, it is so of each
 module _ (P : Effect → MemoryState → Type 0) (R : Result NativeResult FrameExit → MemoryState → Type 0) (Q : MemoryState → Type 0) (bears : Bears P Q)

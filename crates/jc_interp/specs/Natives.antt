@@ -4,9 +4,12 @@ use Rattle.jc_frames.specs.declared.cell.Cell.{Cell}
 use Rattle.jc_memory.specs.State.{MemoryState}
 use Rattle.jc_platform.specs.declared.names.PlatformMethod.{PlatformMethod}
 use Rattle.jc_platform.specs.declared.names.PlatformMethod.TheVariants.{Objects, Exceptions, Utilities, System, Aids, Pins, Applets, Apdus, Events, Engines}
+use Rattle.jc_platform.specs.declared.names.PlatformMethod.TheVariants.{Keys, KeyInterfaces, Ciphers}
 use Rattle.jc_linker.specs.Values.{Packages}
-use Rattle.jc_world.specs.NativeCalls.{NativeProgram}
+use Rattle.jc_world.specs.NativeCalls.{NativeProgram, code_fault}
+use Rattle.jc_api_crypto.specs.Ciphers.{cipher_call}
 use Rattle.jc_api_crypto.specs.Engines.{engine_call}
+use Rattle.jc_api_crypto.specs.Keys.{key_call}
 use Rattle.jc_api_framework.specs.Aid.{aid_call}
 use Rattle.jc_api_framework.specs.Applet.{applet_call}
 use Rattle.jc_api_framework.specs.Apdu.{apdu_call}
@@ -17,7 +20,7 @@ use Rattle.jc_api_framework.specs.Exceptions.{exception_call}
 use Rattle.jc_api_framework.specs.Objects.{object_call}
 use Rattle.jc_api_framework.specs.Util.{util_call}
 
--- by the room that has the method, with these arguments, the receiver first
+-- by the room that has the method, with these arguments, the receiver first; the interfaces of keys have no code
 unfoldable pub native_call : PlatformMethod → List Cell → Packages → MemoryState → NativeProgram
 native_call (Objects method) args p m = object_call method args
 native_call (Exceptions method) args p m = exception_call method args m
@@ -29,3 +32,6 @@ native_call (Applets method) args p m = applet_call method args p m
 native_call (Apdus method) args p m = apdu_call method args p m
 native_call (Events method) args p m = event_call method
 native_call (Engines method) args p m = engine_call method args p m
+native_call (Keys method) args p m = key_call method args p m
+native_call (KeyInterfaces method) args p m = code_fault
+native_call (Ciphers method) args p m = cipher_call method args p m

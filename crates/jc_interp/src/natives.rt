@@ -4,12 +4,12 @@ ghost use Rattle.jc_memory.specs.Programs.{Executes};
 ghost use Rattle.jc_world.specs.NativeCalls.{after_call};
 ghost use Rattle.jc_interp.specs.Natives.{native_call};
 
-use jc_api_crypto::call_engine;
+use jc_api_crypto::{call_cipher, call_engine, call_key};
 use jc_api_framework::{
     call_aid, call_apdu, call_applet, call_event, call_exception, call_object, call_pin,
     call_system, call_util,
 };
-use jc_frames::Cell;
+use jc_frames::{Cell, Outcome};
 use jc_linker::linked::Linked;
 use jc_memory::Memory;
 use jc_platform::names::PlatformMethod;
@@ -40,5 +40,8 @@ pub fn call_native<S: WordStore>(
         PlatformMethod::Apdus(method) => call_apdu(method, args, memory, linked),
         PlatformMethod::Events(method) => call_event(method, memory),
         PlatformMethod::Engines(method) => call_engine(method, args, memory, linked),
+        PlatformMethod::Keys(method) => call_key(method, args, memory, linked),
+        PlatformMethod::KeyInterfaces(_) => Err(StepExit::End(Outcome::Fault)),
+        PlatformMethod::Ciphers(method) => call_cipher(method, args, memory, linked),
     }
 }

@@ -27,8 +27,8 @@ pub use making::NewObject;
 pub use marks::{Marks, unset_flags};
 pub use memory::{MOST_COMMAND, MOST_FIXED, MOST_SENT, Memory};
 pub use notes::{
-    Cause, Denial, FaultKind, MOST_AID, MOST_SPOTS, Note, Notes, Phase, RefusedLoad, Shortage,
-    Space, Spot, Step, TopCell,
+    Cause, Denial, FaultKind, MOST_AID, MOST_SPOTS, Member, MemberKind, Note, Notes, Phase,
+    RefusedLoad, Shortage, Space, Spot, Step, TopCell,
 };
 pub use power::Volatile;
 pub use program_laws::{

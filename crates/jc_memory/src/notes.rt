@@ -122,6 +122,27 @@ pub struct Shortage {
     pub left: u32,
 }
 
+/// The kinds of what an entry of a constant pool names of a class.
+#[derive(Clone, Copy)]
+pub enum MemberKind {
+    /// A static field, or a field of the class's instances.
+    Field,
+    /// A static method, or a constructor.
+    StaticMethod,
+    /// A method that is called on an instance of the class.
+    VirtualMethod,
+    /// A method that is called on an instance, and is visible only in the package.
+    PackageVisibleMethod,
+}
+
+/// A field or a method of a class.
+#[derive(Clone, Copy)]
+pub struct Member {
+    pub kind: MemberKind,
+    /// Its token among the members of this kind.
+    pub token: u8,
+}
+
 /// Why a package was not loaded.
 #[derive(Drop)]
 pub enum RefusedLoad {
@@ -130,13 +151,13 @@ pub enum RefusedLoad {
         tag: u8,
         offset: u16,
     },
-    /// An entry of the constant pool names what is not there: the package by its AID, the class and the method or field by
-    /// their tokens, as far as the entry has them. 65535: no entry, but what a class of the package names.
+    /// An entry of the constant pool names what is not there: the package by its AID, the class by its token and the member, as
+    /// far as the entry has them. 65535: no entry, but what a class of the package names.
     Entry {
         entry: u16,
         package: ArrayVec<u8, MOST_AID>,
         class: Option<u8>,
-        token: Option<u8>,
+        member: Option<Member>,
     },
 }
 
@@ -146,7 +167,7 @@ impl RefusedLoad {
         entry: u16,
         package: &[u8],
         class: Option<u8>,
-        token: Option<u8>,
+        member: Option<Member>,
     ) -> RefusedLoad {
         let mut kept = ArrayVec::new();
         let _ = kept.try_extend_from_slice(&package[..package.len().min(MOST_AID)]);
@@ -154,7 +175,7 @@ impl RefusedLoad {
             entry,
             package: kept,
             class,
-            token,
+            member,
         }
     }
 }

@@ -2,3 +2,13 @@ pub mod Front
 pub mod Pieces
 pub mod Undoing
 pub mod StandardFacts
+pub mod DigestSizes
+pub mod HmacPieces
+pub mod KeptBlocks
+pub mod KeptCiphers
+pub mod KeptEnds
+pub mod Ready
+pub mod InPieces
+pub mod WholeConversions
+pub mod EndsInPieces
+pub mod MacPieces

@@ -125,7 +125,7 @@ ecb_undone size d e first m n u bf bm =
 
 -- ---- sums of blocks
 
-length-xor_first : (xs ys : List ℕ) (n : ℕ) → length (xor_first xs ys n) ≡ n
+pub length-xor_first : (xs ys : List ℕ) (n : ℕ) → length (xor_first xs ys n) ≡ n
 unfolding xor_first
 length-xor_first xs ys zero = refl
 length-xor_first xs ys (suc n) =

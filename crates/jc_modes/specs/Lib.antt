@@ -2,3 +2,8 @@ pub mod Modes
 pub mod Paddings
 pub mod Macs
 pub mod Laws
+pub mod Kept
+pub mod KeptHmac
+pub mod KeptMacs
+pub mod Conversions
+pub mod ConversionsInPieces

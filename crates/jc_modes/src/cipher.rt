@@ -42,7 +42,7 @@ fn block_16(block: &[u8]) -> [u8; 16]
     bytes
 }
 
-fn block_8(block: &[u8]) -> [u8; 8]
+pub(crate) fn block_8(block: &[u8]) -> [u8; 8]
     requires { length block.now ≡ 8 }
     ensures { result ≡ block.now }
 {

@@ -47,7 +47,7 @@ pub fn flush<S: Step>(
 }
 
 // Converts the open block if it is full, so that there is room for a byte.
-fn make_room<S: Step>(
+pub(crate) fn make_room<S: Step>(
     step: &S,
     chain: &mut [u8],
     block: &mut [u8],
@@ -95,6 +95,7 @@ pub fn convert<S: Step>(
         → IsUnderWay (S.chained step.now) (S.written step.now) S.size first (m ++ piece.now) chain.new block.new result.used
         (out ++ take result.written to.new) }
     ensures used { result.used ≤ S.size }
+    ensures filled { 1 ≤ used + length piece.now → 1 ≤ result.used }
     ensures bytes { result.written + result.used ≡ used + length piece.now }
 {
     let mut progress = Progress { used, written: 0 };

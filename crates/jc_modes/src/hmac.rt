@@ -16,7 +16,7 @@ pub struct Hmac<D: Digest> {
     pub outer: D,
 }
 
-fn mark(to: &mut [u8], key: &[u8], pad: u8)
+pub(crate) fn mark(to: &mut [u8], key: &[u8], pad: u8)
     requires { length to.old ≡ length key.now }
     ensures { to.new ≡ marked key.now pad (length key.now) }
 {
@@ -26,7 +26,7 @@ fn mark(to: &mut [u8], key: &[u8], pad: u8)
 }
 
 // Bytes and zeros.
-fn put_padded(to: &mut [u8], bytes: &[u8])
+pub(crate) fn put_padded(to: &mut [u8], bytes: &[u8])
     requires { length bytes.now ≤ length to.old }
     ensures { to.new ≡ bytes.now ++ replicate (length to.old - length bytes.now) 0 }
 {

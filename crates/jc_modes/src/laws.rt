@@ -1,5 +1,8 @@
 //! What holds of the definitions.
 
+ghost use Rattle.jc_modes.specs.ConversionsInPieces.{ConversionsAreOfTheWhole};
+ghost use Rattle.jc_modes.specs.KeptHmac.{HmacIsOfTheWhole};
+ghost use Rattle.jc_modes.specs.KeptMacs.{MacsInPieces};
 ghost use Rattle.jc_modes.specs.Laws.{CbcIsUndone, EcbIsUndone};
 
 /// Where a cipher is undone by its inverse, so is ECB.
@@ -10,4 +13,19 @@ pub fn ecb_is_undone()
 /// Where a cipher is undone by its inverse, so is CBC.
 pub fn cbc_is_undone()
     ensures { CbcIsUndone }
+{}
+
+/// What is written of the pieces of a message is what the mode makes of the whole message.
+pub fn conversions_are_of_the_whole()
+    ensures { ConversionsAreOfTheWhole }
+{}
+
+/// Where a hash function takes in a message in pieces, the code by HMAC of a message in any pieces is that of the whole.
+pub fn hmac_is_of_the_whole()
+    ensures { HmacIsOfTheWhole }
+{}
+
+/// The code by a block cipher of a message in any pieces is that of the whole.
+pub fn macs_are_of_the_whole()
+    ensures { MacsInPieces }
 {}

@@ -5,6 +5,7 @@ mod bytes;
 pub mod cipher;
 pub mod conversion;
 pub mod hmac;
+pub mod kept;
 pub mod laws;
 pub mod macs;
 pub mod padding;

@@ -48,6 +48,7 @@ pub(crate) fn pad(padding: Padding, size: usize, used: usize, to: &mut [u8; 16])
     requires used { used ≤ size }
     ensures padded { take result to.new ≡ padding_of padding size used }
     ensures within { result ≤ size }
+    ensures room { result ≤ space size used }
 {
     let room = space(size, used);
     match padding {

@@ -9,7 +9,8 @@ ghost use Rattle.jc_heap.specs.Completions.{after_step};
 ghost use Rattle.jc_pin.specs.Pins.{IsPersistentWith, IsPin};
 ghost use Rattle.jc_pin.specs.Checking.{is_value, comparison, pin_check};
 
-use crate::pin::{COUNTER, record};
+use crate::counting::set_tries;
+use crate::pin::record;
 use jc_memory::Memory;
 use jc_transient::Ref;
 use jc_words::{StoreDown, WordStore};
@@ -60,7 +61,7 @@ fn compare<S: WordStore>(
         return Ok(false);
     }
     let limit = record(memory, pin).limit;
-    memory.nonatomic_write(pin, COUNTER, limit)?;
+    set_tries(memory, pin, limit)?;
     memory.set_flag(pin, true);
     Ok(true)
 }
@@ -84,6 +85,6 @@ pub fn check<S: WordStore>(
         return Ok(false);
     }
     memory.set_flag(pin, false);
-    memory.nonatomic_write(pin, COUNTER, tries - 1)?;
+    set_tries(memory, pin, tries - 1)?;
     compare(memory, pin, guess)
 }

@@ -3,6 +3,7 @@
 #![tactic(auto)]
 
 mod checking;
+mod counting;
 mod pin;
 mod pin_init;
 mod resetting;

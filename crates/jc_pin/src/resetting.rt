@@ -5,7 +5,8 @@ ghost use Rattle.jc_heap.specs.Completions.{after_step};
 ghost use Rattle.jc_pin.specs.Pins.{IsPin};
 ghost use Rattle.jc_pin.specs.Resetting.{pin_unblock, pin_reset};
 
-use crate::pin::{COUNTER, record};
+use crate::counting::set_tries;
+use crate::pin::record;
 use jc_memory::Memory;
 use jc_transient::Ref;
 use jc_words::{StoreDown, WordStore};
@@ -18,7 +19,7 @@ pub fn reset_and_unblock<S: WordStore>(memory: &mut Memory<S>, pin: Ref) -> Resu
 {
     let limit = record(memory, pin).limit;
     memory.set_flag(pin, false);
-    memory.nonatomic_write(pin, COUNTER, limit)
+    set_tries(memory, pin, limit)
 }
 
 /// The same, where the value was given. Else it does nothing.

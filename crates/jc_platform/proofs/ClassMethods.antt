@@ -5,9 +5,11 @@ use Rattle.jc_platform.specs.declared.names.PlatformClass.{PlatformClass}
 use Rattle.jc_platform.specs.declared.names.PlatformClass.TheVariants.{Object}
 use Rattle.jc_platform.specs.declared.rows.Room.{Room}
 use Rattle.jc_platform.specs.declared.rows.Room.TheVariants.{Objects, Exceptions, Utilities, System, Aids, Pins, Applets, Apdus, Events, Engines}
+use Rattle.jc_platform.specs.declared.rows.Room.TheVariants.{Keys, KeyInterfaces, Ciphers}
 use Rattle.jc_platform.specs.declared.rows.Stretch.{Stretch}
 use Rattle.jc_platform.specs.declared.rows.MethodRow.{MethodRow}
 use Rattle.jc_platform.specs.Names.{objects_rows, exceptions_rows, utilities_rows, system_rows, aids_rows, pins_rows, applets_rows, apdus_rows, events_rows, engines_rows}
+use Rattle.jc_platform.specs.Names.{keys_rows, key_interfaces_rows, ciphers_rows}
 use Rattle.jc_platform.specs.Numbers.{class_number}
 use Rattle.jc_platform.specs.Rooms.{rows_of}
 use Rattle.jc_platform.specs.Rows.{methods_of}
@@ -63,19 +65,31 @@ stretches =
     stretch Engines 7 12 ∷
     stretch Engines 12 17 ∷
     stretch Engines 17 18 ∷
+    stretch KeyInterfaces 0 4 ∷
+    stretch KeyInterfaces 4 8 ∷
+    stretch KeyInterfaces 8 14 ∷
+    stretch KeyInterfaces 14 20 ∷
+    stretch KeyInterfaces 20 26 ∷
+    stretch Keys 0 1 ∷
+    stretch Keys 1 7 ∷
+    stretch Objects 0 0 ∷
+    stretch Objects 0 0 ∷
+    stretch Keys 7 8 ∷
+    stretch Ciphers 9 21 ∷
+    stretch Ciphers 0 9 ∷
     []
 
 abbrev pub stretch_of : ℕ → Stretch
 stretch_of n = get_or stretches n (stretch Objects 0 0)
 
 pub ends_within : (c : PlatformClass) → (stretch_of (class_number c)).end ≤ length (rows_of (stretch_of (class_number c)).room)
-unfolding objects_rows exceptions_rows utilities_rows system_rows aids_rows pins_rows applets_rows apdus_rows events_rows engines_rows
+unfolding objects_rows exceptions_rows utilities_rows system_rows aids_rows pins_rows applets_rows apdus_rows events_rows engines_rows keys_rows key_interfaces_rows ciphers_rows
 ends_within Object = lit≤ tt
 ends_within _ = lit≤ tt
 
 stand_together : (c : PlatformClass) → take ((stretch_of (class_number c)).end - (stretch_of (class_number c)).first)
     (drop (stretch_of (class_number c)).first (rows_of (stretch_of (class_number c)).room)) ≡ methods_of c
-unfolding objects_rows exceptions_rows utilities_rows system_rows aids_rows pins_rows applets_rows apdus_rows events_rows engines_rows
+unfolding objects_rows exceptions_rows utilities_rows system_rows aids_rows pins_rows applets_rows apdus_rows events_rows engines_rows keys_rows key_interfaces_rows ciphers_rows
 stand_together Object = refl
 stand_together _ = refl
 

@@ -14,10 +14,9 @@ use Rattle.jc_platform.specs.declared.names.PlatformPackage.{PlatformPackage}
 use Rattle.jc_platform.specs.declared.row.Row.{Row}
 use Rattle.jc_platform.specs.declared.row.Row.TheVariants.{Extended, Random, Package, Class, Method}
 use Rattle.jc_platform.specs.Distinct.{AreDistinct, class_of, entry_of_class, home_of, kind_of_method}
-use Rattle.jc_platform.specs.Hierarchy.{superclass_of}
 use Rattle.jc_platform.specs.Names.{MethodEntry, classes, methods, no_class, no_method}
 use Rattle.jc_platform.specs.Numbers.{class_number, method_number, same_class, same_kind, same_package}
-use Rattle.jc_platform.specs.Rows.{Above, above, class_token_in, has_class_token, has_method_token, has_superclass, is_package, is_token, largest_token, method_token_in}
+use Rattle.jc_platform.specs.Rows.{Above, above, class_token_in, has_class_token, has_method_token, has_supertypes, is_package, is_token, largest_token, method_token_in}
 use Rattle.jc_platform.specs.Rows.{parts_at}
 use Rattle.jc_platform.specs.Table.{Reads, Say}
 use Rattle.jc_platform.specs.Tokens.{Tokens}
@@ -75,7 +74,7 @@ class_free a b s fit d k token =
     let e = fit.0 in
     let here = found_has (λ f. same_package (home_of f.class) f.home) (λ f. bytes_eq f.name fit.2) classes e homes fit.3 in
     let no : has_class_token a e.home s ≡ false = not_true (has_class_token a e.home s)
-    (and_true ((e.needed || a.extended) && is_package a.home e.home && has_superclass a (superclass_of e.class) && not (is_some (a.class_token e.class))) (not (has_class_token a e.home s)) fit.4).1 in
+    (and_true ((e.needed || a.extended) && is_package a.home e.home && has_supertypes a e.class && not (is_some (a.class_token e.class))) (not (has_class_token a e.home s)) fit.4).1 in
     let place : class_number d < length classes = omega (arith, class_below d, class_places) in
     let home : same_package (home_of d) e.home ≡ true = subst (λ (p : PlatformPackage). same_package p e.home ≡ true) (ap home_of fit.1 ∙ k) here in
     let has : is_token (a.class_token (entry_of_class d).class) s ≡ true =

@@ -11,6 +11,7 @@ use Rattle.jc_platform.specs.declared.names.MethodKind.{MethodKind}
 use Rattle.jc_platform.specs.declared.names.MethodKind.TheVariants.{Static, Virtual, Interface}
 use Rattle.jc_platform.specs.declared.names.PlatformMethod.{PlatformMethod}
 use Rattle.jc_platform.specs.declared.names.PlatformMethod.TheVariants.{Objects, Exceptions, Utilities, System, Aids, Pins, Applets, Apdus, Events, Engines}
+use Rattle.jc_platform.specs.declared.names.PlatformMethod.TheVariants.{Keys, KeyInterfaces, Ciphers}
 use Rattle.jc_platform.specs.declared.names.ObjectsMethod.TheVariants.{ObjectInit}
 use Rattle.jc_platform.specs.declared.names.ExceptionsMethod.TheVariants.{CardExceptionInit}
 use Rattle.jc_platform.specs.declared.names.UtilitiesMethod.TheVariants.{UtilArrayCompare}
@@ -21,13 +22,18 @@ use Rattle.jc_platform.specs.declared.names.AppletsMethod.TheVariants.{AppletIni
 use Rattle.jc_platform.specs.declared.names.ApdusMethod.TheVariants.{ApduGetBuffer}
 use Rattle.jc_platform.specs.declared.names.EventsMethod.TheVariants.{MultiSelectableSelect}
 use Rattle.jc_platform.specs.declared.names.EnginesMethod.TheVariants.{MessageDigestGetInstance}
+use Rattle.jc_platform.specs.declared.names.KeysMethod.TheVariants.{KeyBuilderBuildKey}
+use Rattle.jc_platform.specs.declared.names.KeyInterfacesMethod.TheVariants.{KeyClearKey}
+use Rattle.jc_platform.specs.declared.names.CiphersMethod.TheVariants.{CipherGetInstance}
 use Rattle.jc_platform.specs.Distinct.{class_of, entry_of_class, entry_of_method, home_of, kind_of_method, name_of_method}
 use Rattle.jc_platform.specs.Hierarchy.{is_exception_form, is_interface_form}
 use Rattle.jc_platform.specs.Names.{MethodEntry, classes, methods, no_method}
 use Rattle.jc_platform.specs.Names.{objects_rows, exceptions_rows, utilities_rows, system_rows, aids_rows, pins_rows, applets_rows, apdus_rows, events_rows, engines_rows}
+use Rattle.jc_platform.specs.Names.{keys_rows, key_interfaces_rows, ciphers_rows}
 use Rattle.jc_platform.specs.Numbers.{class_count, class_number, method_count, method_number, same_class, same_kind, same_package}
 use Rattle.jc_platform.specs.Signatures.{is_constructor_name, receiver_cells}
 use Rattle.jc_platform.specs.Numbers.{objects_count, exceptions_count, utilities_count, system_count, aids_count, pins_count, applets_count, apdus_count, events_count, engines_count}
+use Rattle.jc_platform.specs.Numbers.{keys_count, key_interfaces_count, ciphers_count}
 
 -- ---- how many there are
 
@@ -36,7 +42,7 @@ unfolding classes
 class_places = refl
 
 pub method_places : length methods ≡ method_count
-unfolding objects_rows exceptions_rows utilities_rows system_rows aids_rows pins_rows applets_rows apdus_rows events_rows engines_rows
+unfolding objects_rows exceptions_rows utilities_rows system_rows aids_rows pins_rows applets_rows apdus_rows events_rows engines_rows keys_rows key_interfaces_rows ciphers_rows
 method_places = refl
 
 pub objects_places : length objects_rows ≡ objects_count
@@ -79,6 +85,18 @@ pub engines_places : length engines_rows ≡ engines_count
 unfolding engines_rows
 engines_places = refl
 
+pub keys_places : length keys_rows ≡ keys_count
+unfolding keys_rows
+keys_places = refl
+
+pub key_interfaces_places : length key_interfaces_rows ≡ key_interfaces_count
+unfolding key_interfaces_rows
+key_interfaces_places = refl
+
+pub ciphers_places : length ciphers_rows ≡ ciphers_count
+unfolding ciphers_rows
+ciphers_places = refl
+
 -- ---- each name has its own row, so numbers are distinct
 
 pub class_at_place : (c : PlatformClass) → (entry_of_class c).class ≡ c
@@ -87,7 +105,7 @@ class_at_place Object = refl
 class_at_place _ = refl
 
 pub method_at_place : (m : PlatformMethod) → (entry_of_method m).method ≡ m
-unfolding objects_rows exceptions_rows utilities_rows system_rows aids_rows pins_rows applets_rows apdus_rows events_rows engines_rows
+unfolding objects_rows exceptions_rows utilities_rows system_rows aids_rows pins_rows applets_rows apdus_rows events_rows engines_rows keys_rows key_interfaces_rows ciphers_rows
 method_at_place (Objects ObjectInit) = refl
 method_at_place (Objects _) = refl
 method_at_place (Exceptions CardExceptionInit) = refl
@@ -108,10 +126,16 @@ method_at_place (Events MultiSelectableSelect) = refl
 method_at_place (Events _) = refl
 method_at_place (Engines MessageDigestGetInstance) = refl
 method_at_place (Engines _) = refl
+method_at_place (Keys KeyBuilderBuildKey) = refl
+method_at_place (Keys _) = refl
+method_at_place (KeyInterfaces KeyClearKey) = refl
+method_at_place (KeyInterfaces _) = refl
+method_at_place (Ciphers CipherGetInstance) = refl
+method_at_place (Ciphers _) = refl
 
 -- a method's number is its place in the list of all
 pub at_number : (m : PlatformMethod) → get_or methods (method_number m) no_method ≡ entry_of_method m
-unfolding objects_rows exceptions_rows utilities_rows system_rows aids_rows pins_rows applets_rows apdus_rows events_rows engines_rows
+unfolding objects_rows exceptions_rows utilities_rows system_rows aids_rows pins_rows applets_rows apdus_rows events_rows engines_rows keys_rows key_interfaces_rows ciphers_rows
 at_number (Objects ObjectInit) = refl
 at_number (Objects _) = refl
 at_number (Exceptions CardExceptionInit) = refl
@@ -132,6 +156,12 @@ at_number (Events MultiSelectableSelect) = refl
 at_number (Events _) = refl
 at_number (Engines MessageDigestGetInstance) = refl
 at_number (Engines _) = refl
+at_number (Keys KeyBuilderBuildKey) = refl
+at_number (Keys _) = refl
+at_number (KeyInterfaces KeyClearKey) = refl
+at_number (KeyInterfaces _) = refl
+at_number (Ciphers CipherGetInstance) = refl
+at_number (Ciphers _) = refl
 
 -- ---- the lists
 
@@ -140,7 +170,7 @@ unfolding classes
 homes = refl
 
 pub method_homes : list_all (λ e. same_class (class_of e.method) e.class && same_kind (kind_of_method e.method) e.kind) methods ≡ true
-unfolding objects_rows exceptions_rows utilities_rows system_rows aids_rows pins_rows applets_rows apdus_rows events_rows engines_rows
+unfolding objects_rows exceptions_rows utilities_rows system_rows aids_rows pins_rows applets_rows apdus_rows events_rows engines_rows keys_rows key_interfaces_rows ciphers_rows
 method_homes = refl
 
 -- cells and parameters are counted in a byte
@@ -149,7 +179,7 @@ unfolding classes
 few_cells = refl
 
 pub few_parameters : list_all (λ e. nat_lt (length e.parameters) 255) methods ≡ true
-unfolding objects_rows exceptions_rows utilities_rows system_rows aids_rows pins_rows applets_rows apdus_rows events_rows engines_rows
+unfolding objects_rows exceptions_rows utilities_rows system_rows aids_rows pins_rows applets_rows apdus_rows events_rows engines_rows keys_rows key_interfaces_rows ciphers_rows
 few_parameters = refl
 
 -- superclasses and interfaces come earlier, and they are of that form
@@ -191,22 +221,27 @@ agree true b = b
 agree false b = not b
 
 pub receivers_are_there : list_all (λ e. agree (not (is_absent e.receiver)) (has_receiver e)) methods ≡ true
-unfolding objects_rows exceptions_rows utilities_rows system_rows aids_rows pins_rows applets_rows apdus_rows events_rows engines_rows
+unfolding objects_rows exceptions_rows utilities_rows system_rows aids_rows pins_rows applets_rows apdus_rows events_rows engines_rows keys_rows key_interfaces_rows ciphers_rows
 receivers_are_there = refl
 
 -- a constructor is a static method that is called on an object
 pub constructors_are_told : list_all (λ e. agree (same_kind e.kind Static && receiver_cells e.receiver == 1) (is_constructor_name e.name)) methods ≡ true
-unfolding objects_rows exceptions_rows utilities_rows system_rows aids_rows pins_rows applets_rows apdus_rows events_rows engines_rows
+unfolding objects_rows exceptions_rows utilities_rows system_rows aids_rows pins_rows applets_rows apdus_rows events_rows engines_rows keys_rows key_interfaces_rows ciphers_rows
 constructors_are_told = refl
 
--- a method of an interface is carried out by a virtual method with the same name, of a class that implements the interface
+-- a class is this one or directly below it
+abbrev is_at_or_below : PlatformClass → Option PlatformClass → PlatformClass → Bool
+is_at_or_below c None d = same_class c d
+is_at_or_below c (Some s) d = same_class c d || same_class s d
+
+-- a method of an interface is carried out by a virtual method with the same name, of a class that implements the interface or of its superclass
 abbrev is_carried_out : MethodEntry → Option PlatformMethod → Bool
 is_carried_out e None = true
 is_carried_out e (Some m) = bytes_eq (name_of_method m) e.name && same_kind (kind_of_method m) Virtual
-    && list_any (λ i. same_class i e.class) (entry_of_class (class_of m)).interfaces
+    && list_any (λ c. is_at_or_below c.class c.superclass (class_of m) && list_any (λ i. same_class i e.class) c.interfaces) classes
 
 pub carried_out : list_all (λ e. is_carried_out e e.implementation) methods ≡ true
-unfolding classes objects_rows exceptions_rows utilities_rows system_rows aids_rows pins_rows applets_rows apdus_rows events_rows engines_rows
+unfolding classes objects_rows exceptions_rows utilities_rows system_rows aids_rows pins_rows applets_rows apdus_rows events_rows engines_rows keys_rows key_interfaces_rows ciphers_rows
 carried_out = refl
 
 -- names tell the methods of a class and a kind apart
@@ -257,3 +292,15 @@ events_apart = refl
 pub engines_apart : told_apart engines_rows ≡ true
 unfolding engines_rows
 engines_apart = refl
+
+pub keys_apart : told_apart keys_rows ≡ true
+unfolding keys_rows
+keys_apart = refl
+
+pub key_interfaces_apart : told_apart key_interfaces_rows ≡ true
+unfolding key_interfaces_rows
+key_interfaces_apart = refl
+
+pub ciphers_apart : told_apart ciphers_rows ≡ true
+unfolding ciphers_rows
+ciphers_apart = refl

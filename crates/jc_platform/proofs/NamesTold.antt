@@ -10,11 +10,11 @@ use Rattle.jc_platform.specs.declared.names.MethodKind.{MethodKind}
 use Rattle.jc_platform.specs.declared.names.MethodKind.TheVariants.{Static, Virtual, Interface}
 use Rattle.jc_platform.specs.declared.names.PlatformMethod.{PlatformMethod}
 use Rattle.jc_platform.specs.declared.names.PlatformPackage.{PlatformPackage}
-use Rattle.jc_platform.specs.declared.names.PlatformPackage.TheVariants.{JavaLang, JavacardFramework, JavacardxApdu, JavacardSecurity}
+use Rattle.jc_platform.specs.declared.names.PlatformPackage.TheVariants.{JavaLang, JavacardFramework, JavacardxApdu, JavacardSecurity, JavacardxCrypto}
 use Rattle.jc_platform.specs.Distinct.{AreDistinct, class_of, entry_of_class, entry_of_method, home_of, is_needed_class, is_needed_method}
 use Rattle.jc_platform.specs.Distinct.{kind_of_method}
 use Rattle.jc_platform.specs.Names.{ClassEntry, MethodEntry, classes, methods, no_class, no_method}
-use Rattle.jc_platform.specs.Numbers.{class_number, is_needed_package, method_number, same_class, same_kind, same_package}
+use Rattle.jc_platform.specs.Numbers.{class_number, is_needed_package, method_number, package_number, same_class, same_kind, same_package}
 use Rattle.jc_platform.specs.Platform.{TellNames, class_by_token, method_by_token, package_by_number}
 use Rattle.jc_platform.specs.Rows.{Above, above, is_token}
 use Rattle.jc_platform.specs.Table.{AreThoseOf, Reads}
@@ -23,7 +23,7 @@ use Rattle.jc_platform.proofs.Distinct.{both, class_by_number, distinct, found_h
 use Rattle.jc_platform.proofs.Facts.{at_number, class_at_place, class_places, homes, method_at_place, method_homes, method_places}
 use Rattle.jc_platform.proofs.Lists.{and_true}
 use Rattle.jc_platform.proofs.Numbers.{class_below, method_below}
-use Rattle.jc_platform.proofs.Superclasses.{superclass_token}
+use Rattle.jc_platform.proofs.Superclasses.{interface_tokens, superclass_token}
 use Rattle.jc_platform.proofs.Versions.{class_stands, first_needed, method_stands}
 
 -- an element that passes is found
@@ -39,23 +39,20 @@ found_at p [] k d h passes = absurd (omega arith)
 found_at p (x ∷ xs) zero d h passes = found_case p x xs true passes (λ no. absurd (let e : true ≡ false = no in cc))
 found_at p (x ∷ xs) (suc k) d h passes = found_case p x xs (p x) refl (λ no. found_at p xs k d (omega arith) passes)
 
+-- the package whose place this is
+abbrev package_of_place : ℕ → PlatformPackage
+package_of_place n = get_or (JavaLang ∷ JavacardFramework ∷ JavacardxApdu ∷ JavacardSecurity ∷ JavacardxCrypto ∷ []) n JavaLang
+
+package_at_place : (p : PlatformPackage) → package_of_place (package_number p) ≡ p
+package_at_place JavaLang = refl
+package_at_place JavacardFramework = refl
+package_at_place JavacardxApdu = refl
+package_at_place JavacardSecurity = refl
+package_at_place JavacardxCrypto = refl
+
 same_package_is : (p q : PlatformPackage) → same_package p q ≡ true → p ≡ q
-same_package_is JavaLang JavaLang e = refl
-same_package_is JavaLang JavacardFramework e = absurd (false≢true e)
-same_package_is JavaLang JavacardxApdu e = absurd (false≢true e)
-same_package_is JavaLang JavacardSecurity e = absurd (false≢true e)
-same_package_is JavacardFramework JavaLang e = absurd (false≢true e)
-same_package_is JavacardFramework JavacardFramework e = refl
-same_package_is JavacardFramework JavacardxApdu e = absurd (false≢true e)
-same_package_is JavacardFramework JavacardSecurity e = absurd (false≢true e)
-same_package_is JavacardxApdu JavaLang e = absurd (false≢true e)
-same_package_is JavacardxApdu JavacardFramework e = absurd (false≢true e)
-same_package_is JavacardxApdu JavacardxApdu e = refl
-same_package_is JavacardxApdu JavacardSecurity e = absurd (false≢true e)
-same_package_is JavacardSecurity JavaLang e = absurd (false≢true e)
-same_package_is JavacardSecurity JavacardFramework e = absurd (false≢true e)
-same_package_is JavacardSecurity JavacardxApdu e = absurd (false≢true e)
-same_package_is JavacardSecurity JavacardSecurity e = refl
+same_package_is p q e =
+    sym (package_at_place p) ∙ ap package_of_place ((Decides-eqb (package_number p) (package_number q)).0 e) ∙ package_at_place q
 
 same_kind_is : (k l : MethodKind) → same_kind k l ≡ true → k ≡ l
 same_kind_is Static Static e = refl
@@ -73,22 +70,27 @@ same_class_is c d e = class_by_number c d ((Decides-eqb (class_number c) (class_
 
 -- the number of a package where this one stands first
 abbrev numbered : PlatformPackage → PlatformPackage → ℕ
-numbered first p = if same_package p JavacardxApdu then 66 else (if same_package p JavacardSecurity then 67 else (if same_package p first then 64 else 65))
+numbered first p = if same_package p JavacardxApdu then 66 else (if same_package p JavacardSecurity then 67 else
+    (if same_package p JavacardxCrypto then 68 else (if same_package p first then 64 else 65)))
 
 package_told : (first p : PlatformPackage) → is_needed_package first ≡ true → (if numbered first p == numbered first JavaLang then Some JavaLang else
     (if numbered first p == numbered first JavacardFramework then Some JavacardFramework else
     (if numbered first p == numbered first JavacardxApdu then Some JavacardxApdu else
-    (if numbered first p == numbered first JavacardSecurity then Some JavacardSecurity else None)))) ≡ Some p
+    (if numbered first p == numbered first JavacardSecurity then Some JavacardSecurity else
+    (if numbered first p == numbered first JavacardxCrypto then Some JavacardxCrypto else None))))) ≡ Some p
 package_told JavaLang JavaLang needed = refl
 package_told JavaLang JavacardFramework needed = refl
 package_told JavaLang JavacardxApdu needed = refl
 package_told JavaLang JavacardSecurity needed = refl
+package_told JavaLang JavacardxCrypto needed = refl
 package_told JavacardFramework JavaLang needed = refl
 package_told JavacardFramework JavacardFramework needed = refl
 package_told JavacardFramework JavacardxApdu needed = refl
 package_told JavacardFramework JavacardSecurity needed = refl
+package_told JavacardFramework JavacardxCrypto needed = refl
 package_told JavacardxApdu p needed = absurd (false≢true needed)
 package_told JavacardSecurity p needed = absurd (false≢true needed)
+package_told JavacardxCrypto p needed = absurd (false≢true needed)
 
 told_package : (t : Tokens) → is_needed_package t.first ≡ true → (p : PlatformPackage) → package_by_number t (number_in t p) ≡ Some p
 unfolding package_by_number
@@ -156,5 +158,6 @@ names_told text t read =
       methods = told_method t apart;
       needed_classes = needed_class a t read.1.2;
       superclasses = superclass_token said.0 read.1.0 t said.2 read.1.2;
+      interfaces = interface_tokens said.0 read.1.0 t said.2 read.1.2;
       needed_methods = needed_method a t read.1.2;
     }

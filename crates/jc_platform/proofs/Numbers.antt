@@ -1,11 +1,12 @@
 -- Each number below the count of the classes or the methods is that of one of them, and of one alone.
 use Rattle.std.proofs.Common.{◌≡◌, ◌<◌, ℕ, map, refl, ◌∙◌, zero-add, lit<}
 use Rattle.jc_platform.specs.declared.names.PlatformPackage.{PlatformPackage}
-use Rattle.jc_platform.specs.declared.names.PlatformPackage.TheVariants.{JavaLang, JavacardFramework, JavacardxApdu, JavacardSecurity}
+use Rattle.jc_platform.specs.declared.names.PlatformPackage.TheVariants.{JavaLang, JavacardFramework, JavacardxApdu, JavacardSecurity, JavacardxCrypto}
 use Rattle.jc_platform.specs.declared.names.PlatformClass.{PlatformClass}
 use Rattle.jc_platform.specs.declared.names.PlatformClass.TheVariants.{Object}
 use Rattle.jc_platform.specs.declared.names.PlatformMethod.{PlatformMethod}
 use Rattle.jc_platform.specs.declared.names.PlatformMethod.TheVariants.{Objects, Exceptions, Utilities, System, Aids, Pins, Applets, Apdus, Events, Engines}
+use Rattle.jc_platform.specs.declared.names.PlatformMethod.TheVariants.{Keys, KeyInterfaces, Ciphers}
 use Rattle.jc_platform.specs.declared.names.ObjectsMethod.TheVariants.{ObjectInit}
 use Rattle.jc_platform.specs.declared.names.ExceptionsMethod.TheVariants.{CardExceptionInit}
 use Rattle.jc_platform.specs.declared.names.UtilitiesMethod.TheVariants.{UtilArrayCompare}
@@ -16,8 +17,12 @@ use Rattle.jc_platform.specs.declared.names.AppletsMethod.TheVariants.{AppletIni
 use Rattle.jc_platform.specs.declared.names.ApdusMethod.TheVariants.{ApduGetBuffer}
 use Rattle.jc_platform.specs.declared.names.EventsMethod.TheVariants.{MultiSelectableSelect}
 use Rattle.jc_platform.specs.declared.names.EnginesMethod.TheVariants.{MessageDigestGetInstance}
+use Rattle.jc_platform.specs.declared.names.KeysMethod.TheVariants.{KeyBuilderBuildKey}
+use Rattle.jc_platform.specs.declared.names.KeyInterfacesMethod.TheVariants.{KeyClearKey}
+use Rattle.jc_platform.specs.declared.names.CiphersMethod.TheVariants.{CipherGetInstance}
 use Rattle.jc_platform.specs.Names.{classes, methods, packages}
 use Rattle.jc_platform.specs.Names.{objects_rows, exceptions_rows, utilities_rows, system_rows, aids_rows, pins_rows, applets_rows, apdus_rows, events_rows, engines_rows}
+use Rattle.jc_platform.specs.Names.{keys_rows, key_interfaces_rows, ciphers_rows}
 use Rattle.jc_platform.specs.Numbers.{package_count, package_number, class_count, class_number, method_count, method_number}
 use Rattle.jc_platform.proofs.Lists.{numbered_at}
 
@@ -28,7 +33,7 @@ class_at k h =
     (w.0, w.1 ∙ zero-add k)
 
 pub method_at : (k : ℕ) → k < method_count → (m : PlatformMethod) × (method_number m ≡ k)
-unfolding objects_rows exceptions_rows utilities_rows system_rows aids_rows pins_rows applets_rows apdus_rows events_rows engines_rows
+unfolding objects_rows exceptions_rows utilities_rows system_rows aids_rows pins_rows applets_rows apdus_rows events_rows engines_rows keys_rows key_interfaces_rows ciphers_rows
 method_at k h =
     let w = numbered_at method_number (map (λ e. e.method) methods) 0 k refl h in
     (w.0, w.1 ∙ zero-add k)
@@ -44,6 +49,7 @@ package_below JavaLang = lit< tt
 package_below JavacardFramework = lit< tt
 package_below JavacardxApdu = lit< tt
 package_below JavacardSecurity = lit< tt
+package_below JavacardxCrypto = lit< tt
 
 pub class_below : (c : PlatformClass) → class_number c < class_count
 class_below Object = lit< tt
@@ -70,3 +76,9 @@ method_below (Events MultiSelectableSelect) = lit< tt
 method_below (Events _) = lit< tt
 method_below (Engines MessageDigestGetInstance) = lit< tt
 method_below (Engines _) = lit< tt
+method_below (Keys KeyBuilderBuildKey) = lit< tt
+method_below (Keys _) = lit< tt
+method_below (KeyInterfaces KeyClearKey) = lit< tt
+method_below (KeyInterfaces _) = lit< tt
+method_below (Ciphers CipherGetInstance) = lit< tt
+method_below (Ciphers _) = lit< tt

@@ -2,7 +2,7 @@
 use Rattle.std.proofs.Common.{◌≡◌, ◌≤◌, ◌+◌, ◌-◌, ℕ, List, [], ◌∷◌, take, drop, map, get_or, arith, refl, ◌∙◌}
 use Rattle.jc_platform.specs.declared.rows.ClassRow.{ClassRow}
 use Rattle.jc_platform.specs.declared.names.PlatformPackage.{PlatformPackage}
-use Rattle.jc_platform.specs.declared.names.PlatformPackage.TheVariants.{JavaLang, JavacardFramework, JavacardxApdu, JavacardSecurity}
+use Rattle.jc_platform.specs.declared.names.PlatformPackage.TheVariants.{JavaLang, JavacardFramework, JavacardxApdu, JavacardSecurity, JavacardxCrypto}
 use Rattle.jc_platform.specs.Names.{classes}
 use Rattle.jc_platform.specs.Numbers.{package_number}
 use Rattle.jc_platform.specs.Rows.{classes_of}
@@ -11,13 +11,14 @@ use Rattle.jc_platform.proofs.Lists.{shown_between}
 
 -- the places of the packages' first classes, and after them how many classes there are
 abbrev pub firsts : List ℕ
-firsts = 0 ∷ 12 ∷ 31 ∷ 32 ∷ 37 ∷ []
+firsts = 0 ∷ 12 ∷ 31 ∷ 32 ∷ 48 ∷ 49 ∷ []
 
-pub ends_within : (p : PlatformPackage) → get_or firsts (package_number p + 1) 0 ≤ 37
+pub ends_within : (p : PlatformPackage) → get_or firsts (package_number p + 1) 0 ≤ 49
 ends_within JavaLang = omega arith
 ends_within JavacardFramework = omega arith
 ends_within JavacardxApdu = omega arith
 ends_within JavacardSecurity = omega arith
+ends_within JavacardxCrypto = omega arith
 
 -- those of a package stand from its first one to the next package's
 stand_together : (p : PlatformPackage) → take (get_or firsts (package_number p + 1) 0 - get_or firsts (package_number p) 0) (drop (get_or firsts (package_number p) 0) classes) ≡ classes_of p
@@ -26,6 +27,7 @@ stand_together JavaLang = refl
 stand_together JavacardFramework = refl
 stand_together JavacardxApdu = refl
 stand_together JavacardSecurity = refl
+stand_together JavacardxCrypto = refl
 
 pub are_together : (p : PlatformPackage) (n : ℕ) (all : List ClassRow) → map class_value all ≡ classes → n ≡ package_number p
     → map class_value (take (get_or firsts (n + 1) 0 - get_or firsts n 0) (drop (get_or firsts n 0) all)) ≡ classes_of p

@@ -5,9 +5,12 @@ use Rattle.jc_platform.specs.declared.names.PlatformClass.{PlatformClass}
 use Rattle.jc_platform.specs.declared.names.MethodKind.{MethodKind}
 use Rattle.jc_platform.specs.declared.names.PlatformMethod.{PlatformMethod}
 use Rattle.jc_platform.specs.declared.names.PlatformMethod.TheVariants.{Objects, Exceptions, Utilities, System, Aids, Pins, Applets, Apdus, Events, Engines}
+use Rattle.jc_platform.specs.declared.names.PlatformMethod.TheVariants.{Keys, KeyInterfaces, Ciphers}
 use Rattle.jc_platform.specs.Names.{ClassEntry, MethodEntry, classes, no_class, no_method, objects_rows, exceptions_rows, utilities_rows, system_rows}
 use Rattle.jc_platform.specs.Names.{aids_rows, pins_rows, applets_rows, apdus_rows, events_rows, engines_rows}
+use Rattle.jc_platform.specs.Names.{keys_rows, key_interfaces_rows, ciphers_rows}
 use Rattle.jc_platform.specs.Numbers.{class_number, objects_number, exceptions_number, utilities_number, system_number, aids_number, pins_number, applets_number, apdus_number, events_number, engines_number}
+use Rattle.jc_platform.specs.Numbers.{keys_number, key_interfaces_number, ciphers_number}
 use Rattle.jc_platform.specs.Tokens.{Tokens, number_in, token_of_class, token_of_method}
 
 -- the row of a class
@@ -26,6 +29,9 @@ entry_of_method (Applets m) = slice_index_or applets_rows (applets_number m) no_
 entry_of_method (Apdus m) = slice_index_or apdus_rows (apdus_number m) no_method
 entry_of_method (Events m) = slice_index_or events_rows (events_number m) no_method
 entry_of_method (Engines m) = slice_index_or engines_rows (engines_number m) no_method
+entry_of_method (Keys m) = slice_index_or keys_rows (keys_number m) no_method
+entry_of_method (KeyInterfaces m) = slice_index_or key_interfaces_rows (key_interfaces_number m) no_method
+entry_of_method (Ciphers m) = slice_index_or ciphers_rows (ciphers_number m) no_method
 
 -- the package of a class
 abbrev pub home_of : PlatformClass → PlatformPackage

@@ -2,7 +2,7 @@
 use Rattle.std.specs.Prelude.{ℕ, Bool, true, false, Option, None, Some, List, [], ◌∷◌, ◌++◌, codes}
 use Rattle.hex.specs.Hex.{encode_upper}
 use Rattle.jc_platform.specs.declared.names.PlatformPackage.{PlatformPackage}
-use Rattle.jc_platform.specs.declared.names.PlatformPackage.TheVariants.{JavaLang, JavacardFramework, JavacardxApdu, JavacardSecurity}
+use Rattle.jc_platform.specs.declared.names.PlatformPackage.TheVariants.{JavaLang, JavacardFramework, JavacardxApdu, JavacardSecurity, JavacardxCrypto}
 use Rattle.jc_platform.specs.declared.names.PlatformClass.{PlatformClass}
 use Rattle.jc_platform.specs.declared.names.PlatformClass.TheVariants.{Object, Throwable, Exception, RuntimeException, IndexOutOfBoundsException}
 use Rattle.jc_platform.specs.declared.names.PlatformClass.TheVariants.{ArithmeticException, ArrayIndexOutOfBoundsException, ArrayStoreException}
@@ -11,10 +11,13 @@ use Rattle.jc_platform.specs.declared.names.PlatformClass.TheVariants.{Shareable
 use Rattle.jc_platform.specs.declared.names.PlatformClass.TheVariants.{CardRuntimeException, IsoException, PinException, SystemException, TransactionException}
 use Rattle.jc_platform.specs.declared.names.PlatformClass.TheVariants.{ApduException, UserException, Iso7816, MultiSelectable, AppletEvent, ExtendedLength}
 use Rattle.jc_platform.specs.declared.names.PlatformClass.TheVariants.{CryptoException, MessageDigest, Checksum, RandomData, InitializedMessageDigest}
+use Rattle.jc_platform.specs.declared.names.PlatformClass.TheVariants.{Key, SecretKey, DesKey, AesKey, HmacKey, KeyBuilder, KeyObject, DesKeyObject}
+use Rattle.jc_platform.specs.declared.names.PlatformClass.TheVariants.{AesKeyObject, HmacKeyObject, Signature, Cipher}
 use Rattle.jc_platform.specs.declared.names.MethodKind.{MethodKind}
 use Rattle.jc_platform.specs.declared.names.MethodKind.TheVariants as kind
 use Rattle.jc_platform.specs.declared.names.PlatformMethod.{PlatformMethod}
 use Rattle.jc_platform.specs.declared.names.PlatformMethod.TheVariants.{Objects, Exceptions, Utilities, System, Aids, Pins, Applets, Apdus, Events, Engines}
+use Rattle.jc_platform.specs.declared.names.PlatformMethod.TheVariants.{Keys, KeyInterfaces, Ciphers}
 use Rattle.jc_platform.specs.declared.names.ObjectsMethod.TheVariants.{ObjectInit, ObjectEquals, ThrowableInit, ExceptionInit, RuntimeExceptionInit}
 use Rattle.jc_platform.specs.declared.names.ObjectsMethod.TheVariants.{IndexOutOfBoundsExceptionInit, ArithmeticExceptionInit}
 use Rattle.jc_platform.specs.declared.names.ObjectsMethod.TheVariants.{ArrayIndexOutOfBoundsExceptionInit, ArrayStoreExceptionInit, ClassCastExceptionInit}
@@ -58,6 +61,21 @@ use Rattle.jc_platform.specs.declared.names.EnginesMethod.TheVariants.{ChecksumI
 use Rattle.jc_platform.specs.declared.names.EnginesMethod.TheVariants.{RandomDataNextBytes, RandomDataSetSeed, RandomDataGetAlgorithm}
 use Rattle.jc_platform.specs.declared.names.EnginesMethod.TheVariants.{MessageDigestGetInitializedMessageDigestInstance}
 use Rattle.jc_platform.specs.declared.names.EnginesMethod.TheVariants.{InitializedMessageDigestSetInitialDigest}
+use Rattle.jc_platform.specs.declared.names.KeysMethod.TheVariants.{KeyBuilderBuildKey, KeyObjectClearKey, KeyObjectGetSize, KeyObjectGetType}
+use Rattle.jc_platform.specs.declared.names.KeysMethod.TheVariants.{KeyObjectIsInitialized, KeyObjectGetKey, KeyObjectSetKey, HmacKeyObjectSetKey}
+use Rattle.jc_platform.specs.declared.names.KeyInterfacesMethod.TheVariants.{KeyClearKey, KeyGetSize, KeyGetType, KeyIsInitialized, SecretKeyClearKey}
+use Rattle.jc_platform.specs.declared.names.KeyInterfacesMethod.TheVariants.{SecretKeyGetSize, SecretKeyGetType, SecretKeyIsInitialized, DesKeyClearKey}
+use Rattle.jc_platform.specs.declared.names.KeyInterfacesMethod.TheVariants.{DesKeyGetSize, DesKeyGetType, DesKeyIsInitialized, DesKeyGetKey, DesKeySetKey}
+use Rattle.jc_platform.specs.declared.names.KeyInterfacesMethod.TheVariants.{AesKeyClearKey, AesKeyGetSize, AesKeyGetType, AesKeyIsInitialized, AesKeyGetKey}
+use Rattle.jc_platform.specs.declared.names.KeyInterfacesMethod.TheVariants.{AesKeySetKey, HmacKeyClearKey, HmacKeyGetSize, HmacKeyGetType}
+use Rattle.jc_platform.specs.declared.names.KeyInterfacesMethod.TheVariants.{HmacKeyIsInitialized, HmacKeyGetKey, HmacKeySetKey}
+use Rattle.jc_platform.specs.declared.names.CiphersMethod.TheVariants.{CipherGetInstance, CipherGetInstanceOfCipherAndPadding, CipherInit}
+use Rattle.jc_platform.specs.declared.names.CiphersMethod.TheVariants.{CipherInitWithVector, CipherUpdate, CipherDoFinal, CipherGetAlgorithm}
+use Rattle.jc_platform.specs.declared.names.CiphersMethod.TheVariants.{CipherGetCipherAlgorithm, CipherGetPaddingAlgorithm, SignatureGetInstance}
+use Rattle.jc_platform.specs.declared.names.CiphersMethod.TheVariants.{SignatureGetInstanceOfDigestCipherAndPadding, SignatureInit, SignatureInitWithVector}
+use Rattle.jc_platform.specs.declared.names.CiphersMethod.TheVariants.{SignatureUpdate, SignatureSign, SignatureVerify, SignatureGetAlgorithm}
+use Rattle.jc_platform.specs.declared.names.CiphersMethod.TheVariants.{SignatureGetMessageDigestAlgorithm, SignatureGetCipherAlgorithm}
+use Rattle.jc_platform.specs.declared.names.CiphersMethod.TheVariants.{SignatureGetPaddingAlgorithm, SignatureGetLength}
 use Rattle.jc_platform.specs.declared.kinds.ClassForm.{ClassForm}
 use Rattle.jc_platform.specs.declared.kinds.ClassForm.TheVariants as form
 use Rattle.jc_platform.specs.declared.kinds.CellKind.{CellKind}
@@ -126,6 +144,11 @@ abbrev pub implemented_method : PlatformClass → MethodKind → PlatformMethod 
 implemented_method c k m n ps a r i =
     record { method = m; class = c; kind = k; name = n; needed = true; parameters = ps; answer = a; receiver = r; implementation = Some i }
 
+-- the row of an interface's method that an extended table may have, with the one that carries it out
+abbrev pub optional_implemented_method : PlatformClass → MethodKind → PlatformMethod → List ℕ → List ParameterKind → Answer → Receiver → PlatformMethod → MethodEntry
+optional_implemented_method c k m n ps a r i =
+    record { method = m; class = c; kind = k; name = n; needed = false; parameters = ps; answer = a; receiver = r; implementation = Some i }
+
 -- every package
 unfoldable pub packages : List PackageEntry
 packages =
@@ -133,6 +156,7 @@ packages =
     record { package_id = JavacardFramework; aid_text = encode_upper (160 ∷ 0 ∷ 0 ∷ 0 ∷ 98 ∷ 1 ∷ 1 ∷ []) } ∷
     record { package_id = JavacardxApdu; aid_text = encode_upper (160 ∷ 0 ∷ 0 ∷ 0 ∷ 98 ∷ 2 ∷ 9 ∷ []) } ∷
     record { package_id = JavacardSecurity; aid_text = encode_upper (160 ∷ 0 ∷ 0 ∷ 0 ∷ 98 ∷ 1 ∷ 2 ∷ []) } ∷
+    record { package_id = JavacardxCrypto; aid_text = encode_upper (160 ∷ 0 ∷ 0 ∷ 0 ∷ 98 ∷ 2 ∷ 1 ∷ []) } ∷
     []
 
 -- every class
@@ -175,6 +199,18 @@ classes =
     optional_class JavacardSecurity Checksum (codes "Checksum") (Some Object) [] form.Object (Number ∷ Reference ∷ []) false false ∷
     optional_class JavacardSecurity RandomData (codes "RandomData") (Some Object) [] form.Object (Number ∷ Reference ∷ []) false false ∷
     optional_class JavacardSecurity InitializedMessageDigest (codes "InitializedMessageDigest") (Some MessageDigest) [] form.Object (Number ∷ Reference ∷ []) false false ∷
+    optional_class JavacardSecurity Key (codes "Key") None [] form.Interface [] false false ∷
+    optional_class JavacardSecurity SecretKey (codes "SecretKey") None (Key ∷ []) form.Interface [] false false ∷
+    optional_class JavacardSecurity DesKey (codes "DESKey") None (SecretKey ∷ Key ∷ []) form.Interface [] false false ∷
+    optional_class JavacardSecurity AesKey (codes "AESKey") None (SecretKey ∷ Key ∷ []) form.Interface [] false false ∷
+    optional_class JavacardSecurity HmacKey (codes "HMACKey") None (SecretKey ∷ Key ∷ []) form.Interface [] false false ∷
+    optional_class JavacardSecurity KeyBuilder (codes "KeyBuilder") (Some Object) [] form.Static [] false false ∷
+    optional_class JavacardSecurity KeyObject (codes "KeyObject") (Some Object) (SecretKey ∷ Key ∷ []) form.Object (Number ∷ Reference ∷ []) false false ∷
+    optional_class JavacardSecurity DesKeyObject (codes "DESKeyObject") (Some KeyObject) (DesKey ∷ SecretKey ∷ Key ∷ []) form.Object (Number ∷ Reference ∷ []) false false ∷
+    optional_class JavacardSecurity AesKeyObject (codes "AESKeyObject") (Some KeyObject) (AesKey ∷ SecretKey ∷ Key ∷ []) form.Object (Number ∷ Reference ∷ []) false false ∷
+    optional_class JavacardSecurity HmacKeyObject (codes "HMACKeyObject") (Some KeyObject) (HmacKey ∷ SecretKey ∷ Key ∷ []) form.Object (Number ∷ Reference ∷ []) false false ∷
+    optional_class JavacardSecurity Signature (codes "Signature") (Some Object) [] form.Object (Number ∷ Reference ∷ Reference ∷ Number ∷ Number ∷ Number ∷ Number ∷ Number ∷ Number ∷ Number ∷ Number ∷ Number ∷ []) false false ∷
+    optional_class JavacardxCrypto Cipher (codes "Cipher") (Some Object) [] form.Object (Number ∷ Reference ∷ Reference ∷ Number ∷ Number ∷ Number ∷ Number ∷ Number ∷ Number ∷ Number ∷ Number ∷ Number ∷ []) false false ∷
     []
 
 -- the methods of java.lang
@@ -367,9 +403,79 @@ engines_rows =
     optional_method InitializedMessageDigest kind.Virtual (Engines InitializedMessageDigestSetInitialDigest) (codes "setInitialDigest") (Bytes ∷ Short ∷ Short ∷ Bytes ∷ Short ∷ Short ∷ []) answer.Void Kept ∷
     []
 
+-- the methods of KeyBuilder and the classes of keys
+unfoldable pub keys_rows : List MethodEntry
+keys_rows =
+    optional_method KeyBuilder kind.Static (Keys KeyBuilderBuildKey) (codes "buildKey") (Byte ∷ Short ∷ Boolean ∷ []) answer.Reference Absent ∷
+    optional_method KeyObject kind.Virtual (Keys KeyObjectClearKey) (codes "clearKey") [] answer.Void Kept ∷
+    optional_method KeyObject kind.Virtual (Keys KeyObjectGetSize) (codes "getSize") [] answer.Short Kept ∷
+    optional_method KeyObject kind.Virtual (Keys KeyObjectGetType) (codes "getType") [] answer.Byte Kept ∷
+    optional_method KeyObject kind.Virtual (Keys KeyObjectIsInitialized) (codes "isInitialized") [] answer.Boolean Kept ∷
+    optional_method KeyObject kind.Virtual (Keys KeyObjectGetKey) (codes "getKey") (Bytes ∷ Short ∷ []) answer.Byte Kept ∷
+    optional_method KeyObject kind.Virtual (Keys KeyObjectSetKey) (codes "setKey") (Bytes ∷ Short ∷ []) answer.Void Kept ∷
+    optional_method HmacKeyObject kind.Virtual (Keys HmacKeyObjectSetKey) (codes "setKey") (Bytes ∷ Short ∷ Short ∷ []) answer.Void Kept ∷
+    []
+
+-- the methods of the interfaces of keys
+unfoldable pub key_interfaces_rows : List MethodEntry
+key_interfaces_rows =
+    optional_implemented_method Key kind.Interface (KeyInterfaces KeyClearKey) (codes "clearKey") [] answer.Void Kept (Keys KeyObjectClearKey) ∷
+    optional_implemented_method Key kind.Interface (KeyInterfaces KeyGetSize) (codes "getSize") [] answer.Short Kept (Keys KeyObjectGetSize) ∷
+    optional_implemented_method Key kind.Interface (KeyInterfaces KeyGetType) (codes "getType") [] answer.Byte Kept (Keys KeyObjectGetType) ∷
+    optional_implemented_method Key kind.Interface (KeyInterfaces KeyIsInitialized) (codes "isInitialized") [] answer.Boolean Kept (Keys KeyObjectIsInitialized) ∷
+    optional_implemented_method SecretKey kind.Interface (KeyInterfaces SecretKeyClearKey) (codes "clearKey") [] answer.Void Kept (Keys KeyObjectClearKey) ∷
+    optional_implemented_method SecretKey kind.Interface (KeyInterfaces SecretKeyGetSize) (codes "getSize") [] answer.Short Kept (Keys KeyObjectGetSize) ∷
+    optional_implemented_method SecretKey kind.Interface (KeyInterfaces SecretKeyGetType) (codes "getType") [] answer.Byte Kept (Keys KeyObjectGetType) ∷
+    optional_implemented_method SecretKey kind.Interface (KeyInterfaces SecretKeyIsInitialized) (codes "isInitialized") [] answer.Boolean Kept (Keys KeyObjectIsInitialized) ∷
+    optional_implemented_method DesKey kind.Interface (KeyInterfaces DesKeyClearKey) (codes "clearKey") [] answer.Void Kept (Keys KeyObjectClearKey) ∷
+    optional_implemented_method DesKey kind.Interface (KeyInterfaces DesKeyGetSize) (codes "getSize") [] answer.Short Kept (Keys KeyObjectGetSize) ∷
+    optional_implemented_method DesKey kind.Interface (KeyInterfaces DesKeyGetType) (codes "getType") [] answer.Byte Kept (Keys KeyObjectGetType) ∷
+    optional_implemented_method DesKey kind.Interface (KeyInterfaces DesKeyIsInitialized) (codes "isInitialized") [] answer.Boolean Kept (Keys KeyObjectIsInitialized) ∷
+    optional_implemented_method DesKey kind.Interface (KeyInterfaces DesKeyGetKey) (codes "getKey") (Bytes ∷ Short ∷ []) answer.Byte Kept (Keys KeyObjectGetKey) ∷
+    optional_implemented_method DesKey kind.Interface (KeyInterfaces DesKeySetKey) (codes "setKey") (Bytes ∷ Short ∷ []) answer.Void Kept (Keys KeyObjectSetKey) ∷
+    optional_implemented_method AesKey kind.Interface (KeyInterfaces AesKeyClearKey) (codes "clearKey") [] answer.Void Kept (Keys KeyObjectClearKey) ∷
+    optional_implemented_method AesKey kind.Interface (KeyInterfaces AesKeyGetSize) (codes "getSize") [] answer.Short Kept (Keys KeyObjectGetSize) ∷
+    optional_implemented_method AesKey kind.Interface (KeyInterfaces AesKeyGetType) (codes "getType") [] answer.Byte Kept (Keys KeyObjectGetType) ∷
+    optional_implemented_method AesKey kind.Interface (KeyInterfaces AesKeyIsInitialized) (codes "isInitialized") [] answer.Boolean Kept (Keys KeyObjectIsInitialized) ∷
+    optional_implemented_method AesKey kind.Interface (KeyInterfaces AesKeyGetKey) (codes "getKey") (Bytes ∷ Short ∷ []) answer.Byte Kept (Keys KeyObjectGetKey) ∷
+    optional_implemented_method AesKey kind.Interface (KeyInterfaces AesKeySetKey) (codes "setKey") (Bytes ∷ Short ∷ []) answer.Void Kept (Keys KeyObjectSetKey) ∷
+    optional_implemented_method HmacKey kind.Interface (KeyInterfaces HmacKeyClearKey) (codes "clearKey") [] answer.Void Kept (Keys KeyObjectClearKey) ∷
+    optional_implemented_method HmacKey kind.Interface (KeyInterfaces HmacKeyGetSize) (codes "getSize") [] answer.Short Kept (Keys KeyObjectGetSize) ∷
+    optional_implemented_method HmacKey kind.Interface (KeyInterfaces HmacKeyGetType) (codes "getType") [] answer.Byte Kept (Keys KeyObjectGetType) ∷
+    optional_implemented_method HmacKey kind.Interface (KeyInterfaces HmacKeyIsInitialized) (codes "isInitialized") [] answer.Boolean Kept (Keys KeyObjectIsInitialized) ∷
+    optional_implemented_method HmacKey kind.Interface (KeyInterfaces HmacKeyGetKey) (codes "getKey") (Bytes ∷ Short ∷ []) answer.Byte Kept (Keys KeyObjectGetKey) ∷
+    optional_implemented_method HmacKey kind.Interface (KeyInterfaces HmacKeySetKey) (codes "setKey") (Bytes ∷ Short ∷ Short ∷ []) answer.Void Kept (Keys HmacKeyObjectSetKey) ∷
+    []
+
+-- the methods of Cipher and Signature
+unfoldable pub ciphers_rows : List MethodEntry
+ciphers_rows =
+    optional_method Cipher kind.Static (Ciphers CipherGetInstance) (codes "getInstance") (Byte ∷ Boolean ∷ []) answer.Reference Absent ∷
+    optional_method Cipher kind.Static (Ciphers CipherGetInstanceOfCipherAndPadding) (codes "getInstanceOfCipherAndPadding") (Byte ∷ Byte ∷ Boolean ∷ []) answer.Reference Absent ∷
+    optional_method Cipher kind.Virtual (Ciphers CipherInit) (codes "init") (Anything ∷ Byte ∷ []) answer.Void Changed ∷
+    optional_method Cipher kind.Virtual (Ciphers CipherInitWithVector) (codes "initWithVector") (Anything ∷ Byte ∷ Bytes ∷ Short ∷ Short ∷ []) answer.Void Changed ∷
+    optional_method Cipher kind.Virtual (Ciphers CipherUpdate) (codes "update") (Bytes ∷ Short ∷ Short ∷ Bytes ∷ Short ∷ []) answer.Short Kept ∷
+    optional_method Cipher kind.Virtual (Ciphers CipherDoFinal) (codes "doFinal") (Bytes ∷ Short ∷ Short ∷ Bytes ∷ Short ∷ []) answer.Short Kept ∷
+    optional_method Cipher kind.Virtual (Ciphers CipherGetAlgorithm) (codes "getAlgorithm") [] answer.Byte Kept ∷
+    optional_method Cipher kind.Virtual (Ciphers CipherGetCipherAlgorithm) (codes "getCipherAlgorithm") [] answer.Byte Kept ∷
+    optional_method Cipher kind.Virtual (Ciphers CipherGetPaddingAlgorithm) (codes "getPaddingAlgorithm") [] answer.Byte Kept ∷
+    optional_method Signature kind.Static (Ciphers SignatureGetInstance) (codes "getInstance") (Byte ∷ Boolean ∷ []) answer.Reference Absent ∷
+    optional_method Signature kind.Static (Ciphers SignatureGetInstanceOfDigestCipherAndPadding) (codes "getInstanceOfDigestCipherAndPadding") (Byte ∷ Byte ∷ Byte ∷ Boolean ∷ []) answer.Reference Absent ∷
+    optional_method Signature kind.Virtual (Ciphers SignatureInit) (codes "init") (Anything ∷ Byte ∷ []) answer.Void Changed ∷
+    optional_method Signature kind.Virtual (Ciphers SignatureInitWithVector) (codes "initWithVector") (Anything ∷ Byte ∷ Bytes ∷ Short ∷ Short ∷ []) answer.Void Changed ∷
+    optional_method Signature kind.Virtual (Ciphers SignatureUpdate) (codes "update") (Bytes ∷ Short ∷ Short ∷ []) answer.Void Kept ∷
+    optional_method Signature kind.Virtual (Ciphers SignatureSign) (codes "sign") (Bytes ∷ Short ∷ Short ∷ Bytes ∷ Short ∷ []) answer.Short Kept ∷
+    optional_method Signature kind.Virtual (Ciphers SignatureVerify) (codes "verify") (Bytes ∷ Short ∷ Short ∷ Bytes ∷ Short ∷ Short ∷ []) answer.Boolean Kept ∷
+    optional_method Signature kind.Virtual (Ciphers SignatureGetAlgorithm) (codes "getAlgorithm") [] answer.Byte Kept ∷
+    optional_method Signature kind.Virtual (Ciphers SignatureGetMessageDigestAlgorithm) (codes "getMessageDigestAlgorithm") [] answer.Byte Kept ∷
+    optional_method Signature kind.Virtual (Ciphers SignatureGetCipherAlgorithm) (codes "getCipherAlgorithm") [] answer.Byte Kept ∷
+    optional_method Signature kind.Virtual (Ciphers SignatureGetPaddingAlgorithm) (codes "getPaddingAlgorithm") [] answer.Byte Kept ∷
+    optional_method Signature kind.Virtual (Ciphers SignatureGetLength) (codes "getLength") [] answer.Short Kept ∷
+    []
+
 -- every method
 abbrev pub methods : List MethodEntry
-methods = objects_rows ++ (exceptions_rows ++ (utilities_rows ++ (system_rows ++ (aids_rows ++ (pins_rows ++ (applets_rows ++ (apdus_rows ++ (events_rows ++ (engines_rows)))))))))
+methods = objects_rows ++ (exceptions_rows ++ (utilities_rows ++ (system_rows ++ (aids_rows ++ (pins_rows ++ (applets_rows ++ (apdus_rows ++ (events_rows ++ (engines_rows ++ (keys_rows ++ (key_interfaces_rows ++ (ciphers_rows))))))))))))
 
 -- no class's row
 unfoldable pub no_class : ClassEntry

@@ -1,7 +1,7 @@
 -- The numbers of the platform's names: their places in the lists of all, and of a method also its place in its room.
 use Rattle.std.specs.Prelude.{ℕ, Bool, true, false, ◌==◌, ◌+◌}
 use Rattle.jc_platform.specs.declared.names.PlatformPackage.{PlatformPackage}
-use Rattle.jc_platform.specs.declared.names.PlatformPackage.TheVariants.{JavaLang, JavacardFramework, JavacardxApdu, JavacardSecurity}
+use Rattle.jc_platform.specs.declared.names.PlatformPackage.TheVariants.{JavaLang, JavacardFramework, JavacardxApdu, JavacardSecurity, JavacardxCrypto}
 use Rattle.jc_platform.specs.declared.names.PlatformClass.{PlatformClass}
 use Rattle.jc_platform.specs.declared.names.PlatformClass.TheVariants.{Object, Throwable, Exception, RuntimeException, IndexOutOfBoundsException}
 use Rattle.jc_platform.specs.declared.names.PlatformClass.TheVariants.{ArithmeticException, ArrayIndexOutOfBoundsException, ArrayStoreException}
@@ -10,10 +10,13 @@ use Rattle.jc_platform.specs.declared.names.PlatformClass.TheVariants.{Shareable
 use Rattle.jc_platform.specs.declared.names.PlatformClass.TheVariants.{CardRuntimeException, IsoException, PinException, SystemException, TransactionException}
 use Rattle.jc_platform.specs.declared.names.PlatformClass.TheVariants.{ApduException, UserException, Iso7816, MultiSelectable, AppletEvent, ExtendedLength}
 use Rattle.jc_platform.specs.declared.names.PlatformClass.TheVariants.{CryptoException, MessageDigest, Checksum, RandomData, InitializedMessageDigest}
+use Rattle.jc_platform.specs.declared.names.PlatformClass.TheVariants.{Key, SecretKey, DesKey, AesKey, HmacKey, KeyBuilder, KeyObject, DesKeyObject}
+use Rattle.jc_platform.specs.declared.names.PlatformClass.TheVariants.{AesKeyObject, HmacKeyObject, Signature, Cipher}
 use Rattle.jc_platform.specs.declared.names.MethodKind.{MethodKind}
 use Rattle.jc_platform.specs.declared.names.MethodKind.TheVariants.{Static, Virtual, Interface}
 use Rattle.jc_platform.specs.declared.names.PlatformMethod.{PlatformMethod}
 use Rattle.jc_platform.specs.declared.names.PlatformMethod.TheVariants.{Objects, Exceptions, Utilities, System, Aids, Pins, Applets, Apdus, Events, Engines}
+use Rattle.jc_platform.specs.declared.names.PlatformMethod.TheVariants.{Keys, KeyInterfaces, Ciphers}
 use Rattle.jc_platform.specs.declared.names.ObjectsMethod.{ObjectsMethod}
 use Rattle.jc_platform.specs.declared.names.ObjectsMethod.TheVariants.{ObjectInit, ObjectEquals, ThrowableInit, ExceptionInit, RuntimeExceptionInit}
 use Rattle.jc_platform.specs.declared.names.ObjectsMethod.TheVariants.{IndexOutOfBoundsExceptionInit, ArithmeticExceptionInit}
@@ -67,13 +70,31 @@ use Rattle.jc_platform.specs.declared.names.EnginesMethod.TheVariants.{ChecksumI
 use Rattle.jc_platform.specs.declared.names.EnginesMethod.TheVariants.{RandomDataNextBytes, RandomDataSetSeed, RandomDataGetAlgorithm}
 use Rattle.jc_platform.specs.declared.names.EnginesMethod.TheVariants.{MessageDigestGetInitializedMessageDigestInstance}
 use Rattle.jc_platform.specs.declared.names.EnginesMethod.TheVariants.{InitializedMessageDigestSetInitialDigest}
+use Rattle.jc_platform.specs.declared.names.KeysMethod.{KeysMethod}
+use Rattle.jc_platform.specs.declared.names.KeysMethod.TheVariants.{KeyBuilderBuildKey, KeyObjectClearKey, KeyObjectGetSize, KeyObjectGetType}
+use Rattle.jc_platform.specs.declared.names.KeysMethod.TheVariants.{KeyObjectIsInitialized, KeyObjectGetKey, KeyObjectSetKey, HmacKeyObjectSetKey}
+use Rattle.jc_platform.specs.declared.names.KeyInterfacesMethod.{KeyInterfacesMethod}
+use Rattle.jc_platform.specs.declared.names.KeyInterfacesMethod.TheVariants.{KeyClearKey, KeyGetSize, KeyGetType, KeyIsInitialized, SecretKeyClearKey}
+use Rattle.jc_platform.specs.declared.names.KeyInterfacesMethod.TheVariants.{SecretKeyGetSize, SecretKeyGetType, SecretKeyIsInitialized, DesKeyClearKey}
+use Rattle.jc_platform.specs.declared.names.KeyInterfacesMethod.TheVariants.{DesKeyGetSize, DesKeyGetType, DesKeyIsInitialized, DesKeyGetKey, DesKeySetKey}
+use Rattle.jc_platform.specs.declared.names.KeyInterfacesMethod.TheVariants.{AesKeyClearKey, AesKeyGetSize, AesKeyGetType, AesKeyIsInitialized, AesKeyGetKey}
+use Rattle.jc_platform.specs.declared.names.KeyInterfacesMethod.TheVariants.{AesKeySetKey, HmacKeyClearKey, HmacKeyGetSize, HmacKeyGetType}
+use Rattle.jc_platform.specs.declared.names.KeyInterfacesMethod.TheVariants.{HmacKeyIsInitialized, HmacKeyGetKey, HmacKeySetKey}
+use Rattle.jc_platform.specs.declared.names.CiphersMethod.{CiphersMethod}
+use Rattle.jc_platform.specs.declared.names.CiphersMethod.TheVariants.{CipherGetInstance, CipherGetInstanceOfCipherAndPadding, CipherInit}
+use Rattle.jc_platform.specs.declared.names.CiphersMethod.TheVariants.{CipherInitWithVector, CipherUpdate, CipherDoFinal, CipherGetAlgorithm}
+use Rattle.jc_platform.specs.declared.names.CiphersMethod.TheVariants.{CipherGetCipherAlgorithm, CipherGetPaddingAlgorithm, SignatureGetInstance}
+use Rattle.jc_platform.specs.declared.names.CiphersMethod.TheVariants.{SignatureGetInstanceOfDigestCipherAndPadding, SignatureInit, SignatureInitWithVector}
+use Rattle.jc_platform.specs.declared.names.CiphersMethod.TheVariants.{SignatureUpdate, SignatureSign, SignatureVerify, SignatureGetAlgorithm}
+use Rattle.jc_platform.specs.declared.names.CiphersMethod.TheVariants.{SignatureGetMessageDigestAlgorithm, SignatureGetCipherAlgorithm}
+use Rattle.jc_platform.specs.declared.names.CiphersMethod.TheVariants.{SignatureGetPaddingAlgorithm, SignatureGetLength}
 
 -- how many packages and classes there are
 abbrev pub package_count : ℕ
-package_count = 4
+package_count = 5
 
 abbrev pub class_count : ℕ
-class_count = 37
+class_count = 49
 
 -- how many methods each room has
 abbrev pub objects_count : ℕ
@@ -106,6 +127,15 @@ events_count = 3
 abbrev pub engines_count : ℕ
 engines_count = 18
 
+abbrev pub keys_count : ℕ
+keys_count = 8
+
+abbrev pub key_interfaces_count : ℕ
+key_interfaces_count = 26
+
+abbrev pub ciphers_count : ℕ
+ciphers_count = 21
+
 -- the places of the first method of each room but the first
 abbrev pub exceptions_first : ℕ
 exceptions_first = objects_count
@@ -134,9 +164,18 @@ events_first = apdus_first + apdus_count
 abbrev pub engines_first : ℕ
 engines_first = events_first + events_count
 
+abbrev pub keys_first : ℕ
+keys_first = engines_first + engines_count
+
+abbrev pub key_interfaces_first : ℕ
+key_interfaces_first = keys_first + keys_count
+
+abbrev pub ciphers_first : ℕ
+ciphers_first = key_interfaces_first + key_interfaces_count
+
 -- how many methods there are
 abbrev pub method_count : ℕ
-method_count = engines_first + engines_count
+method_count = ciphers_first + ciphers_count
 
 -- the place of a package
 abbrev pub package_number : PlatformPackage → ℕ
@@ -144,6 +183,7 @@ package_number JavaLang = 0
 package_number JavacardFramework = 1
 package_number JavacardxApdu = 2
 package_number JavacardSecurity = 3
+package_number JavacardxCrypto = 4
 
 -- each table has the package
 abbrev pub is_needed_package : PlatformPackage → Bool
@@ -151,6 +191,7 @@ is_needed_package JavaLang = true
 is_needed_package JavacardFramework = true
 is_needed_package JavacardxApdu = false
 is_needed_package JavacardSecurity = false
+is_needed_package JavacardxCrypto = false
 
 -- the two are one
 abbrev pub same_package : PlatformPackage → PlatformPackage → Bool
@@ -195,6 +236,18 @@ class_number MessageDigest = 33
 class_number Checksum = 34
 class_number RandomData = 35
 class_number InitializedMessageDigest = 36
+class_number Key = 37
+class_number SecretKey = 38
+class_number DesKey = 39
+class_number AesKey = 40
+class_number HmacKey = 41
+class_number KeyBuilder = 42
+class_number KeyObject = 43
+class_number DesKeyObject = 44
+class_number AesKeyObject = 45
+class_number HmacKeyObject = 46
+class_number Signature = 47
+class_number Cipher = 48
 
 -- the two are one
 abbrev pub same_class : PlatformClass → PlatformClass → Bool
@@ -371,6 +424,67 @@ engines_number RandomDataSetSeed = 15
 engines_number RandomDataGetAlgorithm = 16
 engines_number InitializedMessageDigestSetInitialDigest = 17
 
+abbrev pub keys_number : KeysMethod → ℕ
+keys_number KeyBuilderBuildKey = 0
+keys_number KeyObjectClearKey = 1
+keys_number KeyObjectGetSize = 2
+keys_number KeyObjectGetType = 3
+keys_number KeyObjectIsInitialized = 4
+keys_number KeyObjectGetKey = 5
+keys_number KeyObjectSetKey = 6
+keys_number HmacKeyObjectSetKey = 7
+
+abbrev pub key_interfaces_number : KeyInterfacesMethod → ℕ
+key_interfaces_number KeyClearKey = 0
+key_interfaces_number KeyGetSize = 1
+key_interfaces_number KeyGetType = 2
+key_interfaces_number KeyIsInitialized = 3
+key_interfaces_number SecretKeyClearKey = 4
+key_interfaces_number SecretKeyGetSize = 5
+key_interfaces_number SecretKeyGetType = 6
+key_interfaces_number SecretKeyIsInitialized = 7
+key_interfaces_number DesKeyClearKey = 8
+key_interfaces_number DesKeyGetSize = 9
+key_interfaces_number DesKeyGetType = 10
+key_interfaces_number DesKeyIsInitialized = 11
+key_interfaces_number DesKeyGetKey = 12
+key_interfaces_number DesKeySetKey = 13
+key_interfaces_number AesKeyClearKey = 14
+key_interfaces_number AesKeyGetSize = 15
+key_interfaces_number AesKeyGetType = 16
+key_interfaces_number AesKeyIsInitialized = 17
+key_interfaces_number AesKeyGetKey = 18
+key_interfaces_number AesKeySetKey = 19
+key_interfaces_number HmacKeyClearKey = 20
+key_interfaces_number HmacKeyGetSize = 21
+key_interfaces_number HmacKeyGetType = 22
+key_interfaces_number HmacKeyIsInitialized = 23
+key_interfaces_number HmacKeyGetKey = 24
+key_interfaces_number HmacKeySetKey = 25
+
+abbrev pub ciphers_number : CiphersMethod → ℕ
+ciphers_number CipherGetInstance = 0
+ciphers_number CipherGetInstanceOfCipherAndPadding = 1
+ciphers_number CipherInit = 2
+ciphers_number CipherInitWithVector = 3
+ciphers_number CipherUpdate = 4
+ciphers_number CipherDoFinal = 5
+ciphers_number CipherGetAlgorithm = 6
+ciphers_number CipherGetCipherAlgorithm = 7
+ciphers_number CipherGetPaddingAlgorithm = 8
+ciphers_number SignatureGetInstance = 9
+ciphers_number SignatureGetInstanceOfDigestCipherAndPadding = 10
+ciphers_number SignatureInit = 11
+ciphers_number SignatureInitWithVector = 12
+ciphers_number SignatureUpdate = 13
+ciphers_number SignatureSign = 14
+ciphers_number SignatureVerify = 15
+ciphers_number SignatureGetAlgorithm = 16
+ciphers_number SignatureGetMessageDigestAlgorithm = 17
+ciphers_number SignatureGetCipherAlgorithm = 18
+ciphers_number SignatureGetPaddingAlgorithm = 19
+ciphers_number SignatureGetLength = 20
+
 -- the place of a method
 abbrev pub method_number : PlatformMethod → ℕ
 method_number (Objects m) = objects_number m
@@ -383,6 +497,9 @@ method_number (Applets m) = applets_first + applets_number m
 method_number (Apdus m) = apdus_first + apdus_number m
 method_number (Events m) = events_first + events_number m
 method_number (Engines m) = engines_first + engines_number m
+method_number (Keys m) = keys_first + keys_number m
+method_number (KeyInterfaces m) = key_interfaces_first + key_interfaces_number m
+method_number (Ciphers m) = ciphers_first + ciphers_number m
 
 -- the two are one
 abbrev pub same_method : PlatformMethod → PlatformMethod → Bool

@@ -2,7 +2,9 @@
 use Rattle.std.specs.Prelude.{List}
 use Rattle.jc_platform.specs.declared.rows.Room.{Room}
 use Rattle.jc_platform.specs.declared.rows.Room.TheVariants.{Objects, Exceptions, Utilities, System, Aids, Pins, Applets, Apdus, Events, Engines}
+use Rattle.jc_platform.specs.declared.rows.Room.TheVariants.{Keys, KeyInterfaces, Ciphers}
 use Rattle.jc_platform.specs.Names.{MethodEntry, objects_rows, exceptions_rows, utilities_rows, system_rows, aids_rows, pins_rows, applets_rows, apdus_rows, events_rows, engines_rows}
+use Rattle.jc_platform.specs.Names.{keys_rows, key_interfaces_rows, ciphers_rows}
 
 -- the methods of a room
 abbrev pub rows_of : Room → List MethodEntry
@@ -16,3 +18,6 @@ rows_of Applets = applets_rows
 rows_of Apdus = apdus_rows
 rows_of Events = events_rows
 rows_of Engines = engines_rows
+rows_of Keys = keys_rows
+rows_of KeyInterfaces = key_interfaces_rows
+rows_of Ciphers = ciphers_rows

@@ -1,7 +1,7 @@
 -- What the lines of a platform table say.
 use Rattle.std.specs.Prelude.{ℕ, Bool, true, false, not, ◌&&◌, ◌||◌, ◌==◌, nat_le, nat_lt, if◌then◌else◌, List, [], ◌∷◌, length, codes, Option, None, Some, is_some}
 use Rattle.std.specs.Prelude.{unwrap_or, filter, find}
-use Rattle.std.specs.List.{list_any, slice_split}
+use Rattle.std.specs.List.{list_all, list_any, slice_split}
 use Rattle.std.specs.Option.{option_and_then}
 use Rattle.std.specs.Result.{result_ok}
 use Rattle.std.specs.Str.{bytes_eq, all_ascii_digits}
@@ -18,7 +18,7 @@ use Rattle.jc_platform.specs.declared.row.Row.{Row}
 use Rattle.jc_platform.specs.declared.row.Row.TheVariants.{Extended, Random, Package, Class, Method}
 use Rattle.jc_platform.specs.Names.{ClassEntry, MethodEntry, packages, classes, methods}
 use Rattle.jc_platform.specs.Distinct.{is_needed_class}
-use Rattle.jc_platform.specs.Hierarchy.{superclass_of}
+use Rattle.jc_platform.specs.Hierarchy.{interfaces_of, superclass_of}
 use Rattle.jc_platform.specs.Numbers.{is_needed_package, same_package, same_class, same_kind, same_method}
 
 -- ---- what stands above a line: rows from the nearest up
@@ -178,14 +178,23 @@ may_be_random a = a.extended && not (is_some a.random)
 abbrev pub allows : Above → Bool → Bool
 allows a needed = needed || a.extended
 
--- a superclass, where there is one, is one that each table has, or stands above
+-- a class is one that each table has, or stands above
+abbrev pub has_class : Above → PlatformClass → Bool
+has_class a c = is_needed_class c || is_some (a.class_token c)
+
+-- a superclass, where there is one, is such a class
 abbrev pub has_superclass : Above → Option PlatformClass → Bool
 has_superclass a None = true
-has_superclass a (Some c) = is_needed_class c || is_some (a.class_token c)
+has_superclass a (Some c) = has_class a c
 
--- a class may stand here: in a table that may have it, in its own package, where the table has its superclass, nowhere above, and with a token of its own
+-- so are a class's superclass and all its interfaces
+abbrev pub has_supertypes : Above → PlatformClass → Bool
+has_supertypes a c = has_superclass a (superclass_of c) && list_all (has_class a) (interfaces_of c)
+
+-- a class may stand here: in a table that may have it, in its own package, where the table has its superclass and its interfaces, nowhere above, and with a
+-- token of its own
 abbrev pub may_be_class : Above → ClassEntry → ℕ → Bool
-may_be_class a e token = allows a e.needed && is_package a.home e.home && has_superclass a (superclass_of e.class) && not (is_some (a.class_token e.class)) && not (has_class_token a e.home token)
+may_be_class a e token = allows a e.needed && is_package a.home e.home && has_supertypes a e.class && not (is_some (a.class_token e.class)) && not (has_class_token a e.home token)
 
 -- a method may stand here, in its own class: in a table that may have it, nowhere above, and with a token of its own that its kind may have
 abbrev pub may_be_method : Above → MethodEntry → ℕ → Bool

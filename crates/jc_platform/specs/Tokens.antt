@@ -1,7 +1,7 @@
 -- What a table says.
 use Rattle.std.specs.Prelude.{ℕ, List, Option, None, if◌then◌else◌, slice_index_or, unwrap_or}
 use Rattle.jc_platform.specs.declared.names.PlatformPackage.{PlatformPackage}
-use Rattle.jc_platform.specs.declared.names.PlatformPackage.TheVariants.{JavacardxApdu, JavacardSecurity}
+use Rattle.jc_platform.specs.declared.names.PlatformPackage.TheVariants.{JavacardxApdu, JavacardSecurity, JavacardxCrypto}
 use Rattle.jc_platform.specs.declared.names.PlatformClass.{PlatformClass}
 use Rattle.jc_platform.specs.declared.names.PlatformMethod.{PlatformMethod}
 use Rattle.jc_platform.specs.declared.row.Version.{Version}
@@ -19,7 +19,7 @@ pub record Tokens : Type 0 where
 -- the number that a package has among all packages of a card: 64 and 65 of those that each table has, in the table's order; of others their own
 abbrev pub number_in : Tokens → PlatformPackage → ℕ
 number_in t p = if same_package p JavacardxApdu then 66 else (if same_package p JavacardSecurity then 67 else
-    (if same_package p t.first then 64 else 65))
+    (if same_package p JavacardxCrypto then 68 else (if same_package p t.first then 64 else 65)))
 
 -- the version of a package, where the table has it
 abbrev pub version_of_package : Tokens → PlatformPackage → Option Version

@@ -61,8 +61,8 @@ impl PlatformClass {
         }
     }
 
-    /// Code may make instances of it by `new`: it is no interface, nor one of `Applet`, `APDU`, `JCSystem`, `Util` and
-    /// the engines of `javacard.security`.
+    /// Code may make instances of it by `new`: it is no interface, nor one of `Applet`, `APDU`, `JCSystem`, `Util`,
+    /// `KeyBuilder`, the engines and the classes of keys.
     #[tactic(auto, unfolding(crate::specs::Hierarchy::is_instantiable))]
     pub fn is_instantiable(self) -> bool
         ensures { result ≡ is_instantiable self }
@@ -79,8 +79,9 @@ impl PlatformClass {
     }
 
     /// How many cells an instance has: an exception of the card has 1, its reason; an `AID` 9, its length and its
-    /// bytes, two in a cell; an `OwnerPIN` 5, its limit, maximum size, tries, length and value; an engine of
-    /// `javacard.security` 2, its algorithm and its state; others have none.
+    /// bytes, two in a cell; an `OwnerPIN` 5, its limit, maximum size, tries, length and value; a digest, a checksum
+    /// and random data 2, their algorithm and their state; a key 2, its type and its data; a `Cipher` and a `Signature`
+    /// 12, their algorithm, state, key, mode and vector, two bytes in a cell; others have none.
     #[tactic(auto, unfolding(crate::specs::Hierarchy::cells_of))]
     pub fn cells(self) -> u8
         ensures { result ≡ cells_of self }
@@ -88,7 +89,8 @@ impl PlatformClass {
         self.row().cells.len() as u8
     }
 
-    /// This cell of an instance holds a reference: the fifth of an `OwnerPIN` does, and the second of an engine.
+    /// This cell of an instance holds a reference: the fifth of an `OwnerPIN` does, the second of an engine or a key,
+    /// and the third of a `Cipher` or a `Signature`.
     #[tactic(auto, unfolding(crate::specs::Hierarchy::holds_reference))]
     pub fn holds_reference(self, cell: u16) -> bool
         ensures { result ≡ holds_reference self cell }

@@ -6,19 +6,22 @@ ghost use Rattle.std.specs.Str.{bytes_eq};
 ghost use Rattle.jc_platform.specs.Distinct.{entry_of_class, entry_of_method};
 ghost use Rattle.jc_platform.specs.Names.{classes, packages};
 ghost use Rattle.jc_platform.specs.Names.{objects_rows, exceptions_rows, utilities_rows, system_rows, aids_rows, pins_rows, applets_rows, apdus_rows, events_rows, engines_rows};
+ghost use Rattle.jc_platform.specs.Names.{keys_rows, key_interfaces_rows, ciphers_rows};
 ghost use Rattle.jc_platform.specs.Rooms.{rows_of};
 ghost use Rattle.jc_platform.specs.Rows.{classes_of, method_named, methods_of};
 ghost use Rattle.jc_platform.specs.Seen.{class_value, method_value, package_value};
 ghost use Rattle.jc_platform.specs.declared.names.PlatformMethod.TheVariants.{Objects, Exceptions, Utilities, System, Aids, Pins, Applets, Apdus, Events, Engines};
+ghost use Rattle.jc_platform.specs.declared.names.PlatformMethod.TheVariants.{Keys, KeyInterfaces, Ciphers};
 
 use crate::names::{
-    AidsMethod, ApdusMethod, AppletsMethod, EnginesMethod, EventsMethod, ExceptionsMethod,
-    MethodKind, ObjectsMethod, PinsMethod, PlatformClass, PlatformMethod, PlatformPackage,
-    SystemMethod, UtilitiesMethod,
+    AidsMethod, ApdusMethod, AppletsMethod, CiphersMethod, EnginesMethod, EventsMethod,
+    ExceptionsMethod, KeyInterfacesMethod, KeysMethod, MethodKind, ObjectsMethod, PinsMethod,
+    PlatformClass, PlatformMethod, PlatformPackage, SystemMethod, UtilitiesMethod,
 };
 use crate::rows::{
-    AIDS, APDUS, APPLETS, CLASSES, ClassRow, ENGINES, EVENTS, EXCEPTIONS, FIRST_CLASSES, MethodRow,
-    OBJECTS, PACKAGES, PINS, PackageRow, Room, STRETCHES, SYSTEM, UTILITIES,
+    AIDS, APDUS, APPLETS, CIPHERS, CLASSES, ClassRow, ENGINES, EVENTS, EXCEPTIONS, FIRST_CLASSES,
+    KEY_INTERFACES, KEYS, MethodRow, OBJECTS, PACKAGES, PINS, PackageRow, Room, STRETCHES, SYSTEM,
+    UTILITIES,
 };
 
 /// Every package.
@@ -113,6 +116,27 @@ pub(crate) fn engines_rows() -> &'static [MethodRow]
     &ENGINES
 }
 
+/// The methods of `KeyBuilder` and the classes of keys.
+pub(crate) fn keys_rows() -> &'static [MethodRow]
+    ensures { map method_value result.now ≡ keys_rows }
+{
+    &KEYS
+}
+
+/// The methods of the interfaces of keys.
+pub(crate) fn key_interfaces_rows() -> &'static [MethodRow]
+    ensures { map method_value result.now ≡ key_interfaces_rows }
+{
+    &KEY_INTERFACES
+}
+
+/// The methods of `Cipher` and `Signature`.
+pub(crate) fn ciphers_rows() -> &'static [MethodRow]
+    ensures { map method_value result.now ≡ ciphers_rows }
+{
+    &CIPHERS
+}
+
 impl Room {
     /// Its methods.
     pub(crate) fn rows(self) -> &'static [MethodRow]
@@ -129,6 +153,9 @@ impl Room {
             Room::Apdus => apdus_rows(),
             Room::Events => events_rows(),
             Room::Engines => engines_rows(),
+            Room::Keys => keys_rows(),
+            Room::KeyInterfaces => key_interfaces_rows(),
+            Room::Ciphers => ciphers_rows(),
         }
     }
 }
@@ -251,6 +278,36 @@ impl EnginesMethod {
     }
 }
 
+impl KeysMethod {
+    // Its row.
+    #[inline(always)]
+    fn row(self) -> &'static MethodRow
+        ensures { method_value result.now ≡ entry_of_method (Keys self) }
+    {
+        &keys_rows()[self.index()]
+    }
+}
+
+impl KeyInterfacesMethod {
+    // Its row.
+    #[inline(always)]
+    fn row(self) -> &'static MethodRow
+        ensures { method_value result.now ≡ entry_of_method (KeyInterfaces self) }
+    {
+        &key_interfaces_rows()[self.index()]
+    }
+}
+
+impl CiphersMethod {
+    // Its row.
+    #[inline(always)]
+    fn row(self) -> &'static MethodRow
+        ensures { method_value result.now ≡ entry_of_method (Ciphers self) }
+    {
+        &ciphers_rows()[self.index()]
+    }
+}
+
 impl PlatformMethod {
     /// Its row.
     #[inline(always)]
@@ -268,6 +325,9 @@ impl PlatformMethod {
             PlatformMethod::Apdus(method) => method.row(),
             PlatformMethod::Events(method) => method.row(),
             PlatformMethod::Engines(method) => method.row(),
+            PlatformMethod::Keys(method) => method.row(),
+            PlatformMethod::KeyInterfaces(method) => method.row(),
+            PlatformMethod::Ciphers(method) => method.row(),
         }
     }
 }

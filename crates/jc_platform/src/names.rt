@@ -3,7 +3,7 @@
 ghost use Rattle.std.specs.Prelude.{◌≡◌, ◌<◌};
 ghost use Rattle.jc_platform.specs.Numbers.{class_number, kind_number, method_number, package_number, same_class, same_kind, same_package};
 ghost use Rattle.jc_platform.specs.Numbers.{objects_number, exceptions_number, utilities_number, system_number, aids_number, pins_number, applets_number, apdus_number, events_number};
-ghost use Rattle.jc_platform.specs.Numbers.{engines_number, is_needed_package};
+ghost use Rattle.jc_platform.specs.Numbers.{engines_number, keys_number, key_interfaces_number, ciphers_number, is_needed_package};
 ghost use Rattle.jc_platform.specs.Rows.{largest_token};
 
 /// A package of the platform.
@@ -17,6 +17,8 @@ pub enum PlatformPackage {
     JavacardxApdu,
     /// `javacard.security`, which an extended table may have
     JavacardSecurity,
+    /// `javacardx.crypto`, which an extended table may have
+    JavacardxCrypto,
 }
 
 /// A class or an interface of the platform, in Rust's spelling of its name: `Pin` is `PIN`.
@@ -59,6 +61,18 @@ pub enum PlatformClass {
     Checksum,
     RandomData,
     InitializedMessageDigest,
+    Key,
+    SecretKey,
+    DesKey,
+    AesKey,
+    HmacKey,
+    KeyBuilder,
+    KeyObject,
+    DesKeyObject,
+    AesKeyObject,
+    HmacKeyObject,
+    Signature,
+    Cipher,
 }
 
 /// What kind of method a name stands for. Constructors are static here, as their tokens are.
@@ -259,6 +273,76 @@ pub enum EnginesMethod {
     InitializedMessageDigestSetInitialDigest,
 }
 
+/// A method of `KeyBuilder` or the class of a key.
+#[derive(Clone, Copy)]
+pub enum KeysMethod {
+    KeyBuilderBuildKey,
+    KeyObjectClearKey,
+    KeyObjectGetSize,
+    KeyObjectGetType,
+    KeyObjectIsInitialized,
+    KeyObjectGetKey,
+    KeyObjectSetKey,
+    HmacKeyObjectSetKey,
+}
+
+/// A method of an interface of keys.
+#[derive(Clone, Copy)]
+pub enum KeyInterfacesMethod {
+    KeyClearKey,
+    KeyGetSize,
+    KeyGetType,
+    KeyIsInitialized,
+    SecretKeyClearKey,
+    SecretKeyGetSize,
+    SecretKeyGetType,
+    SecretKeyIsInitialized,
+    DesKeyClearKey,
+    DesKeyGetSize,
+    DesKeyGetType,
+    DesKeyIsInitialized,
+    DesKeyGetKey,
+    DesKeySetKey,
+    AesKeyClearKey,
+    AesKeyGetSize,
+    AesKeyGetType,
+    AesKeyIsInitialized,
+    AesKeyGetKey,
+    AesKeySetKey,
+    HmacKeyClearKey,
+    HmacKeyGetSize,
+    HmacKeyGetType,
+    HmacKeyIsInitialized,
+    HmacKeyGetKey,
+    HmacKeySetKey,
+}
+
+/// A method of `Cipher` or `Signature`.
+#[derive(Clone, Copy)]
+pub enum CiphersMethod {
+    CipherGetInstance,
+    CipherGetInstanceOfCipherAndPadding,
+    CipherInit,
+    CipherInitWithVector,
+    CipherUpdate,
+    CipherDoFinal,
+    CipherGetAlgorithm,
+    CipherGetCipherAlgorithm,
+    CipherGetPaddingAlgorithm,
+    SignatureGetInstance,
+    SignatureGetInstanceOfDigestCipherAndPadding,
+    SignatureInit,
+    SignatureInitWithVector,
+    SignatureUpdate,
+    SignatureSign,
+    SignatureVerify,
+    SignatureGetAlgorithm,
+    SignatureGetMessageDigestAlgorithm,
+    SignatureGetCipherAlgorithm,
+    SignatureGetPaddingAlgorithm,
+    SignatureGetLength,
+}
+
 /// A method of the platform, by its room: an enum of some classes' methods. Each is named by its class and its name:
 /// `OwnerPinCheck` is `check` of `OwnerPIN`, and `ObjectInit` the constructor `<init>` of `Object`.
 #[derive(Clone, Copy)]
@@ -273,13 +357,16 @@ pub enum PlatformMethod {
     Apdus(ApdusMethod),
     Events(EventsMethod),
     Engines(EnginesMethod),
+    Keys(KeysMethod),
+    KeyInterfaces(KeyInterfacesMethod),
+    Ciphers(CiphersMethod),
 }
 
 /// How many packages there are.
-pub(crate) const PACKAGE_COUNT: usize = 4;
+pub(crate) const PACKAGE_COUNT: usize = 5;
 
 /// How many classes and interfaces there are.
-pub(crate) const CLASS_COUNT: usize = 37;
+pub(crate) const CLASS_COUNT: usize = 49;
 
 /// How many methods the room `Objects` has.
 pub(crate) const OBJECTS_COUNT: usize = 13;
@@ -311,6 +398,15 @@ pub(crate) const EVENTS_COUNT: usize = 3;
 /// How many methods the room `Engines` has.
 pub(crate) const ENGINES_COUNT: usize = 18;
 
+/// How many methods the room `Keys` has.
+pub(crate) const KEYS_COUNT: usize = 8;
+
+/// How many methods the room `KeyInterfaces` has.
+pub(crate) const KEY_INTERFACES_COUNT: usize = 26;
+
+/// How many methods the room `Ciphers` has.
+pub(crate) const CIPHERS_COUNT: usize = 21;
+
 const EXCEPTIONS_FIRST: usize = OBJECTS_COUNT;
 
 const UTILITIES_FIRST: usize = EXCEPTIONS_FIRST + EXCEPTIONS_COUNT;
@@ -329,8 +425,14 @@ const EVENTS_FIRST: usize = APDUS_FIRST + APDUS_COUNT;
 
 const ENGINES_FIRST: usize = EVENTS_FIRST + EVENTS_COUNT;
 
+const KEYS_FIRST: usize = ENGINES_FIRST + ENGINES_COUNT;
+
+const KEY_INTERFACES_FIRST: usize = KEYS_FIRST + KEYS_COUNT;
+
+const CIPHERS_FIRST: usize = KEY_INTERFACES_FIRST + KEY_INTERFACES_COUNT;
+
 /// How many methods there are.
-pub(crate) const METHOD_COUNT: usize = ENGINES_FIRST + ENGINES_COUNT;
+pub(crate) const METHOD_COUNT: usize = CIPHERS_FIRST + CIPHERS_COUNT;
 
 impl PlatformPackage {
     /// Whether the two are one, by their places.
@@ -354,7 +456,9 @@ impl PlatformPackage {
     {
         match self {
             PlatformPackage::JavaLang | PlatformPackage::JavacardFramework => true,
-            PlatformPackage::JavacardxApdu | PlatformPackage::JavacardSecurity => false,
+            PlatformPackage::JavacardxApdu
+            | PlatformPackage::JavacardSecurity
+            | PlatformPackage::JavacardxCrypto => false,
         }
     }
 }
@@ -476,6 +580,36 @@ impl EnginesMethod {
     }
 }
 
+impl KeysMethod {
+    /// Its place in its room.
+    pub(crate) const fn index(self) -> usize
+        ensures place { result ≡ keys_number self }
+        ensures bound { result < KEYS_COUNT }
+    {
+        self as usize
+    }
+}
+
+impl KeyInterfacesMethod {
+    /// Its place in its room.
+    pub(crate) const fn index(self) -> usize
+        ensures place { result ≡ key_interfaces_number self }
+        ensures bound { result < KEY_INTERFACES_COUNT }
+    {
+        self as usize
+    }
+}
+
+impl CiphersMethod {
+    /// Its place in its room.
+    pub(crate) const fn index(self) -> usize
+        ensures place { result ≡ ciphers_number self }
+        ensures bound { result < CIPHERS_COUNT }
+    {
+        self as usize
+    }
+}
+
 impl PlatformMethod {
     /// Its place among the methods, room after room.
     #[inline(always)]
@@ -494,6 +628,9 @@ impl PlatformMethod {
             PlatformMethod::Apdus(method) => APDUS_FIRST + method.index(),
             PlatformMethod::Events(method) => EVENTS_FIRST + method.index(),
             PlatformMethod::Engines(method) => ENGINES_FIRST + method.index(),
+            PlatformMethod::Keys(method) => KEYS_FIRST + method.index(),
+            PlatformMethod::KeyInterfaces(method) => KEY_INTERFACES_FIRST + method.index(),
+            PlatformMethod::Ciphers(method) => CIPHERS_FIRST + method.index(),
         }
     }
 }

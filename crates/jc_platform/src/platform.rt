@@ -44,6 +44,7 @@ impl PlatformPackage {
             PlatformPackage::JavacardFramework => &[0xA0, 0, 0, 0, 0x62, 1, 1],
             PlatformPackage::JavacardxApdu => &[0xA0, 0, 0, 0, 0x62, 2, 9],
             PlatformPackage::JavacardSecurity => &[0xA0, 0, 0, 0, 0x62, 1, 2],
+            PlatformPackage::JavacardxCrypto => &[0xA0, 0, 0, 0, 0x62, 2, 1],
         }
     }
 }
@@ -86,13 +87,17 @@ impl Platform {
             && self.version(PlatformPackage::JavacardSecurity).is_some()
         {
             Some(PlatformPackage::JavacardSecurity)
+        } else if aid == PlatformPackage::JavacardxCrypto.aid()
+            && self.version(PlatformPackage::JavacardxCrypto).is_some()
+        {
+            Some(PlatformPackage::JavacardxCrypto)
         } else {
             None
         }
     }
 
-    /// The number of a package: 64 and 65 of those that each table has, in its order; 66 of `javacardx.apdu`, and 67 of
-    /// `javacard.security`.
+    /// The number of a package: 64 and 65 of those that each table has, in its order; 66 of `javacardx.apdu`, 67 of
+    /// `javacard.security`, and 68 of `javacardx.crypto`.
     pub fn number(&self, named: PlatformPackage) -> u8
         ensures { result ≡ number_in self.now named }
     {
@@ -112,6 +117,8 @@ impl Platform {
             Some(PlatformPackage::JavacardxApdu)
         } else if number == self.number(PlatformPackage::JavacardSecurity) {
             Some(PlatformPackage::JavacardSecurity)
+        } else if number == self.number(PlatformPackage::JavacardxCrypto) {
+            Some(PlatformPackage::JavacardxCrypto)
         } else {
             None
         }

@@ -2,7 +2,8 @@
 
 ghost use Rattle.std.specs.Prelude.{◌≡◌, [], ◌∷◌, List, MatchOption, Some, map, slice_set, unwrap_or};
 ghost use Rattle.jc_platform.specs.Rows.{above, class_row, has_class_token, has_method_token, is_package, may_be_class, may_be_extended, may_be_method, method_row};
-ghost use Rattle.jc_platform.specs.Rows.{has_needed_packages, has_superclass, may_be_package};
+ghost use Rattle.std.specs.List.{list_all};
+ghost use Rattle.jc_platform.specs.Rows.{has_class, has_needed_packages, has_superclass, has_supertypes, may_be_package};
 ghost use Rattle.jc_platform.specs.Rows.{allows, bytes_of, extended_row, may_be_random, package_row, random_row, row_of_line};
 ghost use Rattle.jc_platform.specs.Numbers.{package_number};
 ghost use Rattle.jc_platform.specs.Table.{AreThoseOf, IsMissing, has_needed_classes, has_needed_methods, has_needed_of};
@@ -11,9 +12,9 @@ ghost use Rattle.jc_platform.specs.Seen.{class_value, method_value};
 ghost use Rattle.jc_platform.specs.declared.row.Row.{Row};
 
 use crate::lookup::{
-    aids_rows, all_classes, apdus_rows, applets_rows, class_named, engines_rows, events_rows,
-    exceptions_rows, method_named, methods_of, objects_rows, package_with, pins_rows, system_rows,
-    utilities_rows,
+    aids_rows, all_classes, apdus_rows, applets_rows, ciphers_rows, class_named, engines_rows,
+    events_rows, exceptions_rows, key_interfaces_rows, keys_rows, method_named, methods_of,
+    objects_rows, package_with, pins_rows, system_rows, utilities_rows,
 };
 use crate::names::{
     CLASS_COUNT, METHOD_COUNT, MethodKind, PACKAGE_COUNT, PlatformClass, PlatformMethod,
@@ -201,24 +202,45 @@ impl Reading {
         needed || self.extended
     }
 
+    /// A class is one that each table has, or stands above.
+    fn has_class(&self, class: PlatformClass) -> bool
+        ensures { result ≡ has_class (above_of self.now) class }
+    {
+        class.row().needed || self.class_token(class).is_some()
+    }
+
     /// A superclass, where there is one, is one that each table has, or stands above.
     fn has_superclass(&self, superclass: Option<PlatformClass>) -> bool
         ensures { result ≡ has_superclass (above_of self.now) superclass }
     {
         match superclass {
-            Some(class) => class.row().needed || self.class_token(class).is_some(),
+            Some(class) => self.has_class(class),
             None => true,
         }
     }
 
-    /// A class may stand here: in a table that may have it, in its own package, where the table has its superclass,
-    /// nowhere above, and with a token of its own.
+    /// Each of these classes is one that each table has, or stands above.
+    fn has_classes(&self, classes: &[PlatformClass]) -> bool
+        ensures { result ≡ list_all (has_class (above_of self.now)) classes.now }
+    {
+        classes.iter().all(|class| self.has_class(*class))
+    }
+
+    /// The superclass of a class and its interfaces are classes that each table has, or stand above.
+    fn has_supertypes(&self, class: PlatformClass) -> bool
+        ensures { result ≡ has_supertypes (above_of self.now) class }
+    {
+        self.has_superclass(class.superclass()) && self.has_classes(class.interfaces())
+    }
+
+    /// A class may stand here: in a table that may have it, in its own package, where the table has its superclass and
+    /// its interfaces, nowhere above, and with a token of its own.
     fn may_be_class(&self, entry: &ClassRow, token: u8) -> bool
         ensures { result ≡ may_be_class (above_of self.now) (class_value entry.now) token }
     {
         self.allows(entry.needed)
             && is_package(self.home, entry.home)
-            && self.has_superclass(entry.class.superclass())
+            && self.has_supertypes(entry.class)
             && self.class_token(entry.class).is_none()
             && !self.has_class_token(entry.home, token)
     }
@@ -326,6 +348,9 @@ impl Reading {
             && self.has_needed_of(apdus_rows())
             && self.has_needed_of(events_rows())
             && self.has_needed_of(engines_rows())
+            && self.has_needed_of(keys_rows())
+            && self.has_needed_of(key_interfaces_rows())
+            && self.has_needed_of(ciphers_rows())
     }
 
     /// Each of these methods that each table has stands above.

@@ -2,10 +2,12 @@
 
 use crate::kinds::{Answer, CellKind, ClassForm, ParameterKind, Receiver};
 use crate::names::{
-    AIDS_COUNT, APDUS_COUNT, APPLETS_COUNT, AidsMethod, ApdusMethod, AppletsMethod, CLASS_COUNT,
-    ENGINES_COUNT, EVENTS_COUNT, EXCEPTIONS_COUNT, EnginesMethod, EventsMethod, ExceptionsMethod,
-    MethodKind, OBJECTS_COUNT, ObjectsMethod, PACKAGE_COUNT, PINS_COUNT, PinsMethod, PlatformClass,
-    PlatformMethod, PlatformPackage, SYSTEM_COUNT, SystemMethod, UTILITIES_COUNT, UtilitiesMethod,
+    AIDS_COUNT, APDUS_COUNT, APPLETS_COUNT, AidsMethod, ApdusMethod, AppletsMethod, CIPHERS_COUNT,
+    CLASS_COUNT, CiphersMethod, ENGINES_COUNT, EVENTS_COUNT, EXCEPTIONS_COUNT, EnginesMethod,
+    EventsMethod, ExceptionsMethod, KEY_INTERFACES_COUNT, KEYS_COUNT, KeyInterfacesMethod,
+    KeysMethod, MethodKind, OBJECTS_COUNT, ObjectsMethod, PACKAGE_COUNT, PINS_COUNT, PinsMethod,
+    PlatformClass, PlatformMethod, PlatformPackage, SYSTEM_COUNT, SystemMethod, UTILITIES_COUNT,
+    UtilitiesMethod,
 };
 
 /// A package with the text of its AID, in upper case hexadecimal.
@@ -164,6 +166,22 @@ macro_rules! implemented_method {
     };
 }
 
+macro_rules! optional_implemented_method {
+    ($room:ident $methods:ident $class:ident $kind:ident $method:ident $name:literal [$($parameter:ident $(($wanted:ident))?)*] $answer:ident $receiver:ident $other_room:ident $other_methods:ident $implementation:ident) => {
+        MethodRow {
+            method: PlatformMethod::$room($methods::$method),
+            class: PlatformClass::$class,
+            kind: MethodKind::$kind,
+            name: $name,
+            needed: false,
+            parameters: &[$(ParameterKind::$parameter $((PlatformClass::$wanted))?),*],
+            answer: Answer::$answer,
+            receiver: Receiver::$receiver,
+            implementation: Some(PlatformMethod::$other_room($other_methods::$implementation)),
+        }
+    };
+}
+
 /// Every package.
 pub(crate) static PACKAGES: [PackageRow; PACKAGE_COUNT] = [
     PackageRow {
@@ -181,6 +199,10 @@ pub(crate) static PACKAGES: [PackageRow; PACKAGE_COUNT] = [
     PackageRow {
         package_id: PlatformPackage::JavacardSecurity,
         aid_text: b"A0000000620102",
+    },
+    PackageRow {
+        package_id: PlatformPackage::JavacardxCrypto,
+        aid_text: b"A0000000620201",
     },
 ];
 
@@ -224,6 +246,18 @@ pub(crate) static CLASSES: [ClassRow; CLASS_COUNT] = [
     optional_class!(JavacardSecurity Checksum b"Checksum" [Object] [] Object [Number Reference] false false),
     optional_class!(JavacardSecurity RandomData b"RandomData" [Object] [] Object [Number Reference] false false),
     optional_class!(JavacardSecurity InitializedMessageDigest b"InitializedMessageDigest" [MessageDigest] [] Object [Number Reference] false false),
+    optional_class!(JavacardSecurity Key b"Key" [] [] Interface [] false false),
+    optional_class!(JavacardSecurity SecretKey b"SecretKey" [] [Key] Interface [] false false),
+    optional_class!(JavacardSecurity DesKey b"DESKey" [] [SecretKey Key] Interface [] false false),
+    optional_class!(JavacardSecurity AesKey b"AESKey" [] [SecretKey Key] Interface [] false false),
+    optional_class!(JavacardSecurity HmacKey b"HMACKey" [] [SecretKey Key] Interface [] false false),
+    optional_class!(JavacardSecurity KeyBuilder b"KeyBuilder" [Object] [] Static [] false false),
+    optional_class!(JavacardSecurity KeyObject b"KeyObject" [Object] [SecretKey Key] Object [Number Reference] false false),
+    optional_class!(JavacardSecurity DesKeyObject b"DESKeyObject" [KeyObject] [DesKey SecretKey Key] Object [Number Reference] false false),
+    optional_class!(JavacardSecurity AesKeyObject b"AESKeyObject" [KeyObject] [AesKey SecretKey Key] Object [Number Reference] false false),
+    optional_class!(JavacardSecurity HmacKeyObject b"HMACKeyObject" [KeyObject] [HmacKey SecretKey Key] Object [Number Reference] false false),
+    optional_class!(JavacardSecurity Signature b"Signature" [Object] [] Object [Number Reference Reference Number Number Number Number Number Number Number Number Number] false false),
+    optional_class!(JavacardxCrypto Cipher b"Cipher" [Object] [] Object [Number Reference Reference Number Number Number Number Number Number Number Number Number] false false),
 ];
 
 /// The methods of `java.lang`, in the order of `ObjectsMethod`: class, kind, method, name, parameters, what is returned, the receiver.
@@ -406,8 +440,75 @@ pub(crate) static ENGINES: [MethodRow; ENGINES_COUNT] = [
     optional_method!(Engines EnginesMethod InitializedMessageDigest Virtual InitializedMessageDigestSetInitialDigest b"setInitialDigest" [Bytes Short Short Bytes Short Short] Void Kept),
 ];
 
+/// The methods of `KeyBuilder` and the classes of keys, in the order of `KeysMethod`: class, kind, method, name, parameters, what is returned, the receiver.
+pub(crate) static KEYS: [MethodRow; KEYS_COUNT] = [
+    optional_method!(Keys KeysMethod KeyBuilder Static KeyBuilderBuildKey b"buildKey" [Byte Short Boolean] Reference Absent),
+    optional_method!(Keys KeysMethod KeyObject Virtual KeyObjectClearKey b"clearKey" [] Void Kept),
+    optional_method!(Keys KeysMethod KeyObject Virtual KeyObjectGetSize b"getSize" [] Short Kept),
+    optional_method!(Keys KeysMethod KeyObject Virtual KeyObjectGetType b"getType" [] Byte Kept),
+    optional_method!(Keys KeysMethod KeyObject Virtual KeyObjectIsInitialized b"isInitialized" [] Boolean Kept),
+    optional_method!(Keys KeysMethod KeyObject Virtual KeyObjectGetKey b"getKey" [Bytes Short] Byte Kept),
+    optional_method!(Keys KeysMethod KeyObject Virtual KeyObjectSetKey b"setKey" [Bytes Short] Void Kept),
+    optional_method!(Keys KeysMethod HmacKeyObject Virtual HmacKeyObjectSetKey b"setKey" [Bytes Short Short] Void Kept),
+];
+
+/// The methods of the interfaces of keys, in the order of `KeyInterfacesMethod`: class, kind, method, name, parameters, what is returned, the receiver, what carries it out.
+pub(crate) static KEY_INTERFACES: [MethodRow; KEY_INTERFACES_COUNT] = [
+    optional_implemented_method!(KeyInterfaces KeyInterfacesMethod Key Interface KeyClearKey b"clearKey" [] Void Kept Keys KeysMethod KeyObjectClearKey),
+    optional_implemented_method!(KeyInterfaces KeyInterfacesMethod Key Interface KeyGetSize b"getSize" [] Short Kept Keys KeysMethod KeyObjectGetSize),
+    optional_implemented_method!(KeyInterfaces KeyInterfacesMethod Key Interface KeyGetType b"getType" [] Byte Kept Keys KeysMethod KeyObjectGetType),
+    optional_implemented_method!(KeyInterfaces KeyInterfacesMethod Key Interface KeyIsInitialized b"isInitialized" [] Boolean Kept Keys KeysMethod KeyObjectIsInitialized),
+    optional_implemented_method!(KeyInterfaces KeyInterfacesMethod SecretKey Interface SecretKeyClearKey b"clearKey" [] Void Kept Keys KeysMethod KeyObjectClearKey),
+    optional_implemented_method!(KeyInterfaces KeyInterfacesMethod SecretKey Interface SecretKeyGetSize b"getSize" [] Short Kept Keys KeysMethod KeyObjectGetSize),
+    optional_implemented_method!(KeyInterfaces KeyInterfacesMethod SecretKey Interface SecretKeyGetType b"getType" [] Byte Kept Keys KeysMethod KeyObjectGetType),
+    optional_implemented_method!(KeyInterfaces KeyInterfacesMethod SecretKey Interface SecretKeyIsInitialized b"isInitialized" [] Boolean Kept Keys KeysMethod KeyObjectIsInitialized),
+    optional_implemented_method!(KeyInterfaces KeyInterfacesMethod DesKey Interface DesKeyClearKey b"clearKey" [] Void Kept Keys KeysMethod KeyObjectClearKey),
+    optional_implemented_method!(KeyInterfaces KeyInterfacesMethod DesKey Interface DesKeyGetSize b"getSize" [] Short Kept Keys KeysMethod KeyObjectGetSize),
+    optional_implemented_method!(KeyInterfaces KeyInterfacesMethod DesKey Interface DesKeyGetType b"getType" [] Byte Kept Keys KeysMethod KeyObjectGetType),
+    optional_implemented_method!(KeyInterfaces KeyInterfacesMethod DesKey Interface DesKeyIsInitialized b"isInitialized" [] Boolean Kept Keys KeysMethod KeyObjectIsInitialized),
+    optional_implemented_method!(KeyInterfaces KeyInterfacesMethod DesKey Interface DesKeyGetKey b"getKey" [Bytes Short] Byte Kept Keys KeysMethod KeyObjectGetKey),
+    optional_implemented_method!(KeyInterfaces KeyInterfacesMethod DesKey Interface DesKeySetKey b"setKey" [Bytes Short] Void Kept Keys KeysMethod KeyObjectSetKey),
+    optional_implemented_method!(KeyInterfaces KeyInterfacesMethod AesKey Interface AesKeyClearKey b"clearKey" [] Void Kept Keys KeysMethod KeyObjectClearKey),
+    optional_implemented_method!(KeyInterfaces KeyInterfacesMethod AesKey Interface AesKeyGetSize b"getSize" [] Short Kept Keys KeysMethod KeyObjectGetSize),
+    optional_implemented_method!(KeyInterfaces KeyInterfacesMethod AesKey Interface AesKeyGetType b"getType" [] Byte Kept Keys KeysMethod KeyObjectGetType),
+    optional_implemented_method!(KeyInterfaces KeyInterfacesMethod AesKey Interface AesKeyIsInitialized b"isInitialized" [] Boolean Kept Keys KeysMethod KeyObjectIsInitialized),
+    optional_implemented_method!(KeyInterfaces KeyInterfacesMethod AesKey Interface AesKeyGetKey b"getKey" [Bytes Short] Byte Kept Keys KeysMethod KeyObjectGetKey),
+    optional_implemented_method!(KeyInterfaces KeyInterfacesMethod AesKey Interface AesKeySetKey b"setKey" [Bytes Short] Void Kept Keys KeysMethod KeyObjectSetKey),
+    optional_implemented_method!(KeyInterfaces KeyInterfacesMethod HmacKey Interface HmacKeyClearKey b"clearKey" [] Void Kept Keys KeysMethod KeyObjectClearKey),
+    optional_implemented_method!(KeyInterfaces KeyInterfacesMethod HmacKey Interface HmacKeyGetSize b"getSize" [] Short Kept Keys KeysMethod KeyObjectGetSize),
+    optional_implemented_method!(KeyInterfaces KeyInterfacesMethod HmacKey Interface HmacKeyGetType b"getType" [] Byte Kept Keys KeysMethod KeyObjectGetType),
+    optional_implemented_method!(KeyInterfaces KeyInterfacesMethod HmacKey Interface HmacKeyIsInitialized b"isInitialized" [] Boolean Kept Keys KeysMethod KeyObjectIsInitialized),
+    optional_implemented_method!(KeyInterfaces KeyInterfacesMethod HmacKey Interface HmacKeyGetKey b"getKey" [Bytes Short] Byte Kept Keys KeysMethod KeyObjectGetKey),
+    optional_implemented_method!(KeyInterfaces KeyInterfacesMethod HmacKey Interface HmacKeySetKey b"setKey" [Bytes Short Short] Void Kept Keys KeysMethod HmacKeyObjectSetKey),
+];
+
+/// The methods of `Cipher` and `Signature`, in the order of `CiphersMethod`: class, kind, method, name, parameters, what is returned, the receiver.
+pub(crate) static CIPHERS: [MethodRow; CIPHERS_COUNT] = [
+    optional_method!(Ciphers CiphersMethod Cipher Static CipherGetInstance b"getInstance" [Byte Boolean] Reference Absent),
+    optional_method!(Ciphers CiphersMethod Cipher Static CipherGetInstanceOfCipherAndPadding b"getInstanceOfCipherAndPadding" [Byte Byte Boolean] Reference Absent),
+    optional_method!(Ciphers CiphersMethod Cipher Virtual CipherInit b"init" [Anything Byte] Void Changed),
+    optional_method!(Ciphers CiphersMethod Cipher Virtual CipherInitWithVector b"initWithVector" [Anything Byte Bytes Short Short] Void Changed),
+    optional_method!(Ciphers CiphersMethod Cipher Virtual CipherUpdate b"update" [Bytes Short Short Bytes Short] Short Kept),
+    optional_method!(Ciphers CiphersMethod Cipher Virtual CipherDoFinal b"doFinal" [Bytes Short Short Bytes Short] Short Kept),
+    optional_method!(Ciphers CiphersMethod Cipher Virtual CipherGetAlgorithm b"getAlgorithm" [] Byte Kept),
+    optional_method!(Ciphers CiphersMethod Cipher Virtual CipherGetCipherAlgorithm b"getCipherAlgorithm" [] Byte Kept),
+    optional_method!(Ciphers CiphersMethod Cipher Virtual CipherGetPaddingAlgorithm b"getPaddingAlgorithm" [] Byte Kept),
+    optional_method!(Ciphers CiphersMethod Signature Static SignatureGetInstance b"getInstance" [Byte Boolean] Reference Absent),
+    optional_method!(Ciphers CiphersMethod Signature Static SignatureGetInstanceOfDigestCipherAndPadding b"getInstanceOfDigestCipherAndPadding" [Byte Byte Byte Boolean] Reference Absent),
+    optional_method!(Ciphers CiphersMethod Signature Virtual SignatureInit b"init" [Anything Byte] Void Changed),
+    optional_method!(Ciphers CiphersMethod Signature Virtual SignatureInitWithVector b"initWithVector" [Anything Byte Bytes Short Short] Void Changed),
+    optional_method!(Ciphers CiphersMethod Signature Virtual SignatureUpdate b"update" [Bytes Short Short] Void Kept),
+    optional_method!(Ciphers CiphersMethod Signature Virtual SignatureSign b"sign" [Bytes Short Short Bytes Short] Short Kept),
+    optional_method!(Ciphers CiphersMethod Signature Virtual SignatureVerify b"verify" [Bytes Short Short Bytes Short Short] Boolean Kept),
+    optional_method!(Ciphers CiphersMethod Signature Virtual SignatureGetAlgorithm b"getAlgorithm" [] Byte Kept),
+    optional_method!(Ciphers CiphersMethod Signature Virtual SignatureGetMessageDigestAlgorithm b"getMessageDigestAlgorithm" [] Byte Kept),
+    optional_method!(Ciphers CiphersMethod Signature Virtual SignatureGetCipherAlgorithm b"getCipherAlgorithm" [] Byte Kept),
+    optional_method!(Ciphers CiphersMethod Signature Virtual SignatureGetPaddingAlgorithm b"getPaddingAlgorithm" [] Byte Kept),
+    optional_method!(Ciphers CiphersMethod Signature Virtual SignatureGetLength b"getLength" [] Short Kept),
+];
+
 /// The place of each package's first class, in the order of `PlatformPackage`; after them how many classes there are.
-pub(crate) static FIRST_CLASSES: [usize; PACKAGE_COUNT + 1] = [0, 12, 31, 32, CLASS_COUNT];
+pub(crate) static FIRST_CLASSES: [usize; PACKAGE_COUNT + 1] = [0, 12, 31, 32, 48, CLASS_COUNT];
 
 /// A room: the methods of some classes.
 #[derive(Clone, Copy)]
@@ -422,6 +523,9 @@ pub(crate) enum Room {
     Apdus,
     Events,
     Engines,
+    Keys,
+    KeyInterfaces,
+    Ciphers,
 }
 
 /// Where the methods of a class stand: a room, the place of the first one there, and that after the last.
@@ -481,4 +585,16 @@ pub(crate) static STRETCHES: [Stretch; CLASS_COUNT] = [
     stretch!(Engines 7 12),
     stretch!(Engines 12 17),
     stretch!(Engines 17 18),
+    stretch!(KeyInterfaces 0 4),
+    stretch!(KeyInterfaces 4 8),
+    stretch!(KeyInterfaces 8 14),
+    stretch!(KeyInterfaces 14 20),
+    stretch!(KeyInterfaces 20 26),
+    stretch!(Keys 0 1),
+    stretch!(Keys 1 7),
+    stretch!(Objects 0 0),
+    stretch!(Objects 0 0),
+    stretch!(Keys 7 8),
+    stretch!(Ciphers 9 21),
+    stretch!(Ciphers 0 9),
 ];

@@ -106,14 +106,15 @@ impl Table {
         &self.random
     }
 
-    /// The number of a package: 64 and 65 of those that each table has, in its order; 66 of `javacardx.apdu`, and 67 of
-    /// `javacard.security`.
+    /// The number of a package: 64 and 65 of those that each table has, in its order; 66 of `javacardx.apdu`, 67 of
+    /// `javacard.security`, and 68 of `javacardx.crypto`.
     pub fn package_number(&self, named: PlatformPackage) -> u8
         ensures { result ≡ number_in self.now named }
     {
         match named {
             PlatformPackage::JavacardxApdu => Self::FIRST_PACKAGE + 2,
             PlatformPackage::JavacardSecurity => Self::FIRST_PACKAGE + 3,
+            PlatformPackage::JavacardxCrypto => Self::FIRST_PACKAGE + 4,
             _ if named == self.first => Self::FIRST_PACKAGE,
             _ => Self::FIRST_PACKAGE + 1,
         }

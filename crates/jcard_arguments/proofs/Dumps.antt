@@ -63,12 +63,15 @@ unfolding clap_on_literals
 image_next [] h = record { fault = refl; walk = refl }
 image_next (x ∷ xs) h = record { fault = simp (no_hyphen x xs h); walk = simp (no_hyphen x xs h) }
 
--- after the flag of objects, and after that of all
+-- after the flag of objects, and after that of all, or of secrets
 with_objects : Walk → Walk
 with_objects w = walked shape.rules [] w (codes "--objects")
 
 with_all : Walk → Walk
 with_all w = walked shape.rules [] w (codes "--all")
+
+with_secrets : Walk → Walk
+with_secrets w = walked shape.rules [] w (codes "--secrets")
 
 objects_next : (image : Text) → Goes (at_image image) (codes "--objects") (with_objects (at_image image))
 unfolding clap_on_literals with_objects
@@ -78,17 +81,25 @@ all_next : (image : Text) → Goes (with_objects (at_image image)) (codes "--all
 unfolding clap_on_literals with_objects with_all
 all_next image = record { fault = refl; walk = refl }
 
+secrets_next : (image : Text) → Goes (with_objects (at_image image)) (codes "--secrets") (with_secrets (with_objects (at_image image)))
+unfolding clap_on_literals with_objects with_secrets
+secrets_next image = record { fault = refl; walk = refl }
+
 image_last : (image : Text) → after (at_image image) [] ≡ Some (ToList image)
 unfolding request_after clap_on_literals
 image_last image = refl
 
-objects_last : (image : Text) → after (with_objects (at_image image)) [] ≡ Some (ToListObjects image false None)
+objects_last : (image : Text) → after (with_objects (at_image image)) [] ≡ Some (ToListObjects image false false None)
 unfolding request_after clap_on_literals with_objects
 objects_last image = refl
 
-all_last : (image : Text) → after (with_all (with_objects (at_image image))) [] ≡ Some (ToListObjects image true None)
+all_last : (image : Text) → after (with_all (with_objects (at_image image))) [] ≡ Some (ToListObjects image true false None)
 unfolding request_after clap_on_literals with_objects with_all
 all_last image = refl
+
+secrets_last : (image : Text) → after (with_secrets (with_objects (at_image image))) [] ≡ Some (ToListObjects image false true None)
+unfolding request_after clap_on_literals with_objects with_secrets
+secrets_last image = refl
 
 pub dumps : TakesDumps
 dumps name image hi = (
@@ -97,4 +108,6 @@ dumps name image hi = (
       ∙ (step (objects_next image) [] ∙ objects_last image)),
   opened name (image ∷ codes "--objects" ∷ codes "--all" ∷ []) ∙ (step (image_next image hi) (codes "--objects" ∷ codes "--all" ∷ [])
       ∙ (step (objects_next image) (codes "--all" ∷ []) ∙ (step (all_next image) [] ∙ all_last image))),
+  opened name (image ∷ codes "--objects" ∷ codes "--secrets" ∷ []) ∙ (step (image_next image hi) (codes "--objects" ∷ codes "--secrets" ∷ [])
+      ∙ (step (objects_next image) (codes "--secrets" ∷ []) ∙ (step (secrets_next image) [] ∙ secrets_last image))),
 )

@@ -59,10 +59,10 @@ pub data CommandLineRequest : Type 0 where
   ToRun : Text → Text → RunAsked → CommandLineRequest
   -- what the image with this name holds is listed
   ToList : Text → CommandLineRequest
-  -- and its objects, all or those of packages, with what a map names
-  ToListObjects : Text → Bool → Option Text → CommandLineRequest
-  -- the two images are compared, in all objects or those of packages, with what a map names
-  ToCompare : Text → Text → Bool → Option Text → CommandLineRequest
+  -- and its objects, all or those of packages, with the bytes of keys or without them, with what a map names
+  ToListObjects : Text → Bool → Bool → Option Text → CommandLineRequest
+  -- the two images are compared, in all objects or those of packages, with the bytes of keys or without them, with what a map names
+  ToCompare : Text → Text → Bool → Bool → Option Text → CommandLineRequest
   -- the script is carried out on a new card in memory of N words, with the platform table with this name or the usual one, and at most
   -- this many instructions a command
   ToTry : Text → Text → Option Text → Option ℕ → CommandLineRequest
@@ -115,12 +115,12 @@ abbrev pub run_by : Option Text → Option Text → Option RunAsked → Option C
 run_by (Some image) (Some script) (Some asked) = Some (ToRun image script asked)
 run_by image script asked = None
 
--- objects are listed or compared, not both, and all of them, and with a map, only there
-abbrev pub dump_by : Option Text → Bool → Option Text → Bool → Option Text → Option CommandLineRequest
-dump_by (Some image) false None false None = Some (ToList image)
-dump_by (Some image) true None all map = Some (ToListObjects image all map)
-dump_by (Some image) false (Some other) all map = Some (ToCompare image other all map)
-dump_by image objects against all map = None
+-- objects are listed or compared, not both, and all of them, with the bytes of keys, and with a map, only there
+abbrev pub dump_by : Option Text → Bool → Option Text → Bool → Bool → Option Text → Option CommandLineRequest
+dump_by (Some image) false None false false None = Some (ToList image)
+dump_by (Some image) true None all secrets map = Some (ToListObjects image all secrets map)
+dump_by (Some image) false (Some other) all secrets map = Some (ToCompare image other all secrets map)
+dump_by image objects against all secrets map = None
 
 abbrev pub try_by : Option Text → Option Text → Option Text → Option (Option ℕ) → Option CommandLineRequest
 try_by (Some script) words table (Some instructions) = Some (ToTry script (unwrap_or words (codes "8192")) table instructions)
@@ -208,7 +208,7 @@ run_of rows = run_by (first_of (codes "image") rows) (first_of (codes "script") 
 
 abbrev pub dump_of : List Row → Option CommandLineRequest
 dump_of rows = dump_by (first_of (codes "image") rows) (is_given (first_of (codes "objects") rows)) (first_of (codes "against") rows)
-    (is_given (first_of (codes "all") rows)) (first_of (codes "map") rows)
+    (is_given (first_of (codes "all") rows)) (is_given (first_of (codes "secrets") rows)) (first_of (codes "map") rows)
 
 abbrev pub try_of : List Row → Option CommandLineRequest
 try_of rows = try_by (first_of (codes "script") rows) (first_of (codes "words") rows) (first_of (codes "table") rows)
@@ -303,8 +303,8 @@ abbrev pub request_by : Action → CommandLineRequest
 request_by (New image words journal table) = ToMake image.now words.now journal.now (text_of table)
 request_by (Run image script options) = ToRun image.now script.now (run_asked_by options)
 request_by (Dump image) = ToList image.now
-request_by (DumpObjects image all map) = ToListObjects image.now all (text_of map)
-request_by (Compare image other all map) = ToCompare image.now other.now all (text_of map)
+request_by (DumpObjects image all secrets map) = ToListObjects image.now all secrets (text_of map)
+request_by (Compare image other all secrets map) = ToCompare image.now other.now all secrets (text_of map)
 request_by (Try script words table instructions) = ToTry script.now words.now (text_of table) instructions
 request_by (Tear image script options) = ToTear image.now script.now (tear_asked_by options)
 request_by (Join files) = ToJoin (texts_of files.items)

@@ -49,10 +49,10 @@ run_grammar = with_rules (new_app (codes "run")) (operand (codes "image") ∷ op
     ∷ flag (codes "expect") ∷ value_option (codes "lines") ∷ value_option (codes "map") ∷ value_option (codes "break")
     ∷ value_option (codes "cover") ∷ value_option (codes "instructions") ∷ [])
 
--- `dump IMAGE [--objects | --against OTHER] [--all] [--map FILE]`
+-- `dump IMAGE [--objects | --against OTHER] [--all] [--secrets] [--map FILE]`
 abbrev pub dump_grammar : App
 dump_grammar = with_rules (new_app (codes "dump")) (operand (codes "image") ∷ flag (codes "objects") ∷ value_option (codes "against")
-    ∷ flag (codes "all") ∷ value_option (codes "map") ∷ [])
+    ∷ flag (codes "all") ∷ flag (codes "secrets") ∷ value_option (codes "map") ∷ [])
 
 -- `try SCRIPT [--words N] [--table FILE] [--instructions N]`
 abbrev pub try_grammar : App

@@ -27,12 +27,14 @@ abbrev pub TakesRuns : Type 0
 TakesRuns = (name image script : Text) → IsNoFlag image → IsNoFlag script
     → request_of_words (name ∷ codes "run" ∷ image ∷ script ∷ []) ≡ Some (ToRun image script plain_run)
 
--- `NAME dump IMAGE` asks to list what exactly this image holds; with `--objects`, its objects too; with `--all` after it, all of them
+-- `NAME dump IMAGE` asks to list what exactly this image holds; with `--objects`, its objects too; with `--all` after it, all of them; with
+-- `--secrets` after it, the bytes of keys too
 abbrev pub TakesDumps : Type 0
 TakesDumps = (name image : Text) → IsNoFlag image
     → (request_of_words (name ∷ codes "dump" ∷ image ∷ []) ≡ Some (ToList image))
-    × (request_of_words (name ∷ codes "dump" ∷ image ∷ codes "--objects" ∷ []) ≡ Some (ToListObjects image false None))
-    × (request_of_words (name ∷ codes "dump" ∷ image ∷ codes "--objects" ∷ codes "--all" ∷ []) ≡ Some (ToListObjects image true None))
+    × (request_of_words (name ∷ codes "dump" ∷ image ∷ codes "--objects" ∷ []) ≡ Some (ToListObjects image false false None))
+    × (request_of_words (name ∷ codes "dump" ∷ image ∷ codes "--objects" ∷ codes "--all" ∷ []) ≡ Some (ToListObjects image true false None))
+    × (request_of_words (name ∷ codes "dump" ∷ image ∷ codes "--objects" ∷ codes "--secrets" ∷ []) ≡ Some (ToListObjects image false true None))
 
 -- in which order the options of `new` stand
 pub data NewOrder : Type 0 where

@@ -122,15 +122,24 @@ fn dump_action<'a>(values: &ArgMatches<'a>) -> Result<Action<'a>, NoAction>
     let objects = is_given(values, "objects");
     let against = value_of(values, "against");
     let all = is_given(values, "all");
+    let secrets = is_given(values, "secrets");
     let map = value_of(values, "map");
     match (objects, against) {
-        (false, None) if !all && map.is_none() => Ok(Action::Dump { image }),
-        (false, None) => Err(NoAction::Misused("--all and --map go with --objects or --against")),
-        (true, None) => Ok(Action::DumpObjects { image, all, map }),
+        (false, None) if !all && !secrets && map.is_none() => Ok(Action::Dump { image }),
+        (false, None) => Err(NoAction::Misused(
+            "--all, --secrets and --map go with --objects or --against",
+        )),
+        (true, None) => Ok(Action::DumpObjects {
+            image,
+            all,
+            secrets,
+            map,
+        }),
         (false, Some(other)) => Ok(Action::Compare {
             image,
             other,
             all,
+            secrets,
             map,
         }),
         (true, Some(_)) => Err(NoAction::Misused("--objects does not go with --against")),

@@ -33,10 +33,12 @@ pub enum Action<'a> {
     Dump {
         image: &'a str,
     },
-    /// And its objects, those of the runtime environment too where all are asked for, with what a map names, if there is one.
+    /// And its objects, those of the runtime environment too where all are asked for, and the bytes of keys where secrets are; with
+    /// what a map names, if there is one.
     DumpObjects {
         image: &'a str,
         all: bool,
+        secrets: bool,
         map: Option<&'a str>,
     },
     /// What differs in two images is listed, of objects as above.
@@ -44,6 +46,7 @@ pub enum Action<'a> {
         image: &'a str,
         other: &'a str,
         all: bool,
+        secrets: bool,
         map: Option<&'a str>,
     },
     /// The script is carried out, on a new card in memory; a command has at most this number of instructions, or the usual one.

@@ -130,6 +130,12 @@ const ALL: Entry<'static> = Entry {
     help: "With --objects or --against: also the objects of the runtime environment",
 };
 
+const SECRETS: Entry<'static> = Entry {
+    kind: Kind::Flag,
+    name: "secrets",
+    help: "With --objects or --against: also the bytes of keys",
+};
+
 const PARTS: Entry<'static> = Entry {
     kind: Kind::Operands,
     name: "file",
@@ -269,7 +275,7 @@ fn dump_command<'a>(alloc: Global) -> Result<Command<'a>, AllocError>
         alloc,
         "dump",
         "Lists what an image holds, or what differs in two images",
-        &[IMAGE, OBJECTS, AGAINST, ALL, MAP],
+        &[IMAGE, OBJECTS, AGAINST, ALL, SECRETS, MAP],
     )
 }
 

@@ -26,8 +26,8 @@ IsTearWith image script asked = IsTear image script asked.line asked.each
 
 -- this was listed, without names
 abbrev pub IsListed : Listed → Tells
-IsListed (Objects image all) = IsObjectsDump image.now all
-IsListed (Compared image other all) = IsComparison image.now other.now all
+IsListed (Objects image shown) = IsObjectsDump image.now shown
+IsListed (Compared image other shown) = IsComparison image.now other.now shown
 IsListed (Torn image script options) = IsTearWith image.now script.now (tear_asked_by options)
 
 -- the end of what was written into memory, where a write fails as memory is refused

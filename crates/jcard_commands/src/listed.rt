@@ -19,6 +19,7 @@ use jcard_files::disk::Disk;
 use jcard_files::reading::script_of;
 use jcard_listing::comparison::compare_images;
 use jcard_listing::dump::dump_objects;
+use jcard_listing::shown::Shown;
 use jcard_script::streams::{TextOut, write_all};
 use jcard_sweeps::tearing::{Asked, tear_image};
 use jcard_tear::cuts::Behind;
@@ -30,16 +31,16 @@ use std::alloc::{AllocError, Global};
 /// What is listed.
 #[derive(Clone, Copy, Drop)]
 pub(crate) enum Listed<'n> {
-    /// What an image holds, with its objects, those of the runtime environment too where all are asked for.
+    /// What an image holds, with its objects.
     Objects {
         image: &'n str,
-        all: bool,
+        shown: Shown,
     },
     /// What differs in two images.
     Compared {
         image: &'n str,
         other: &'n str,
-        all: bool,
+        shown: Shown,
     },
     /// What cuts of commands of a script leave.
     Torn {
@@ -115,8 +116,12 @@ fn list_plainly<'n, D: Disk, W: TextOut, P: Progress + Listener + Remarks>(
         (is_unwritten result) }
 {
     match listed {
-        Listed::Objects { image, all } => dump_objects(disk, image, all, out),
-        Listed::Compared { image, other, all } => compare_images(disk, image, other, all, out),
+        Listed::Objects { image, shown } => dump_objects(disk, image, shown, out),
+        Listed::Compared {
+            image,
+            other,
+            shown,
+        } => compare_images(disk, image, other, shown, out),
         Listed::Torn {
             image,
             script,

@@ -22,6 +22,7 @@ use jcard_faults::remarks::Remarks;
 use jcard_files::disk::Disk;
 use jcard_images::dump::dump_image;
 use jcard_images::new_image::make_image;
+use jcard_listing::shown::Shown;
 use jcard_script::streams::{TextOut, write_all};
 use jcard_sweeps::joining::join_files;
 use jcard_tear::progress::Progress;
@@ -134,16 +135,28 @@ fn act<'n, D: Disk, W: TextOut, P: Progress + Listener + Remarks + Timer>(
             options,
         } => run_with(disk, image, script, options, out, progress),
         Action::Dump { image } => dump_image(disk, image, out),
-        Action::DumpObjects { image, all, map } => {
-            list(disk, Listed::Objects { image, all }, map, out, progress)
+        Action::DumpObjects {
+            image,
+            all,
+            secrets,
+            map,
+        } => {
+            let shown = Shown { all, secrets };
+            list(disk, Listed::Objects { image, shown }, map, out, progress)
         }
         Action::Compare {
             image,
             other,
             all,
+            secrets,
             map,
         } => {
-            let listed = Listed::Compared { image, other, all };
+            let shown = Shown { all, secrets };
+            let listed = Listed::Compared {
+                image,
+                other,
+                shown,
+            };
             list(disk, listed, map, out, progress)
         }
         Action::Try {

@@ -33,7 +33,7 @@ fn usual_text<'n>(alloc: Global) -> Result<Vec<u8>, Fault<'n>>
     }
 }
 
-/// The text of `examples/extended.table`, 3,984 bytes: each name that can stand, with a token.
+/// The text of `examples/extended.table`, 5,540 bytes: each name that can stand, with a token.
 pub const USUAL_TABLE: &str = "\
 extended
 package A0000000620001 1 0
@@ -217,4 +217,72 @@ virtual 3 setSeed
 virtual 4 getAlgorithm
 class 4 InitializedMessageDigest
 virtual 6 setInitialDigest
+class 5 Key
+interface 0 clearKey
+interface 1 getSize
+interface 2 getType
+interface 3 isInitialized
+class 6 SecretKey
+interface 0 clearKey
+interface 1 getSize
+interface 2 getType
+interface 3 isInitialized
+class 7 DESKey
+interface 0 clearKey
+interface 1 getSize
+interface 2 getType
+interface 3 isInitialized
+interface 4 getKey
+interface 5 setKey
+class 8 AESKey
+interface 0 clearKey
+interface 1 getSize
+interface 2 getType
+interface 3 isInitialized
+interface 4 getKey
+interface 5 setKey
+class 9 HMACKey
+interface 0 clearKey
+interface 1 getSize
+interface 2 getType
+interface 3 isInitialized
+interface 4 getKey
+interface 5 setKey
+class 10 KeyBuilder
+static 0 buildKey
+class 11 KeyObject
+virtual 1 clearKey
+virtual 2 getSize
+virtual 3 getType
+virtual 4 isInitialized
+virtual 5 getKey
+virtual 6 setKey
+class 12 DESKeyObject
+class 13 AESKeyObject
+class 14 HMACKeyObject
+virtual 7 setKey
+class 15 Signature
+static 0 getInstance
+static 1 getInstanceOfDigestCipherAndPadding
+virtual 1 init
+virtual 2 initWithVector
+virtual 3 update
+virtual 4 sign
+virtual 5 verify
+virtual 6 getAlgorithm
+virtual 7 getMessageDigestAlgorithm
+virtual 8 getCipherAlgorithm
+virtual 9 getPaddingAlgorithm
+virtual 10 getLength
+package A0000000620201 1 0
+class 0 Cipher
+static 0 getInstance
+static 1 getInstanceOfCipherAndPadding
+virtual 1 init
+virtual 2 initWithVector
+virtual 3 update
+virtual 4 doFinal
+virtual 5 getAlgorithm
+virtual 6 getCipherAlgorithm
+virtual 7 getPaddingAlgorithm
 ";

@@ -14,6 +14,7 @@ use Rattle.jcard_listing.specs.declared.fault.ListFault.{ListFault}
 use Rattle.jcard_listing.specs.declared.fault.ListFault.TheVariants.{Unreadable, NoMemory}
 use Rattle.jcard_listing.proofs.Listed.{lists_then, then_read}
 use Rattle.jcard_listing.proofs.Listings.{areas_readable}
+use Rattle.jcard_listing.specs.declared.shown.Shown.{Shown}
 
 left_of : (a b : Bool) → (a && b) ≡ true → a ≡ true
 left_of true b e = refl
@@ -47,41 +48,41 @@ pub other_bounds : (w v old new : List ℕ) → Lists old new (area_lines w v) (
 other_bounds w v old new told = right_of (has_bounds w) (has_bounds v) (sym (both_readable w v) ∙ told.0)
 
 -- and where one was not, nothing else is reported
-pub areas_untold : (stop : ListFault) (w v : List ℕ) (all : Bool) (old new : List ℕ) → Lists old new (area_lines w v) (Err stop)
-    → AreToldTo w v all old new (Err stop)
-areas_untold Unreadable w v all old new told = (area_lines w v, inl (sym (both_readable w v) ∙ told.0, refl), told)
-areas_untold NoMemory w v all old new told = tt
+pub areas_untold : (stop : ListFault) (w v : List ℕ) (shown : Shown) (old new : List ℕ) → Lists old new (area_lines w v) (Err stop)
+    → AreToldTo w v shown old new (Err stop)
+areas_untold Unreadable w v shown old new told = (area_lines w v, inl (sym (both_readable w v) ∙ told.0, refl), told)
+areas_untold NoMemory w v shown old new told = tt
 
 -- what is reported after them
-pub content_by : (r : Result Unit ListFault) (w v : List ℕ) (all : Bool) (old new : List ℕ) (l : Lines) → IsContent w v all l → Lists old new l r
-    → IsContentTold w v all old new r
-content_by (Ok done) w v all old new l is told = (l, is, told)
-content_by (Err Unreadable) w v all old new l is told = (l, is, told)
-content_by (Err NoMemory) w v all old new l is told = tt
+pub content_by : (r : Result Unit ListFault) (w v : List ℕ) (shown : Shown) (old new : List ℕ) (l : Lines) → IsContent w v shown l → Lists old new l r
+    → IsContentTold w v shown old new r
+content_by (Ok done) w v shown old new l is told = (l, is, told)
+content_by (Err Unreadable) w v shown old new l is told = (l, is, told)
+content_by (Err NoMemory) w v shown old new l is told = tt
 
 -- where a table cannot be read, which that is; or memory was refused
-pub no_table : (fault : ListFault) (r : Result Unit ListFault) (w v : List ℕ) (all : Bool) (old new : List ℕ) → IsLegendFor w (Err fault)
-    → Lists old new (end_lines false true) r → (fault ≡ NoMemory → r ≡ Err NoMemory) → IsContentTold w v all old new r
-no_table Unreadable r w v all old new none told memory = content_by r w v all old new (end_lines false true) (inl (none, refl)) told
-no_table NoMemory r w v all old new none told memory = subst (λ (s : Result Unit ListFault). IsContentTold w v all old new s) (sym (memory refl)) tt
+pub no_table : (fault : ListFault) (r : Result Unit ListFault) (w v : List ℕ) (shown : Shown) (old new : List ℕ) → IsLegendFor w (Err fault)
+    → Lists old new (end_lines false true) r → (fault ≡ NoMemory → r ≡ Err NoMemory) → IsContentTold w v shown old new r
+no_table Unreadable r w v shown old new none told memory = content_by r w v shown old new (end_lines false true) (inl (none, refl)) told
+no_table NoMemory r w v shown old new none told memory = subst (λ (s : Result Unit ListFault). IsContentTold w v shown old new s) (sym (memory refl)) tt
 
-pub no_other_table : (fault : ListFault) (r : Result Unit ListFault) (w v : List ℕ) (all : Bool) (old new : List ℕ) (t : Legend) → IsLegendOf w (Some t)
-    → IsLegendFor v (Err fault) → Lists old new (end_lines true false) r → (fault ≡ NoMemory → r ≡ Err NoMemory) → IsContentTold w v all old new r
-no_other_table Unreadable r w v all old new t table none told memory =
-    content_by r w v all old new (end_lines true false) (inr (inl (t, table, none, refl))) told
-no_other_table NoMemory r w v all old new t table none told memory =
-    subst (λ (s : Result Unit ListFault). IsContentTold w v all old new s) (sym (memory refl)) tt
+pub no_other_table : (fault : ListFault) (r : Result Unit ListFault) (w v : List ℕ) (shown : Shown) (old new : List ℕ) (t : Legend) → IsLegendOf w (Some t)
+    → IsLegendFor v (Err fault) → Lists old new (end_lines true false) r → (fault ≡ NoMemory → r ≡ Err NoMemory) → IsContentTold w v shown old new r
+no_other_table Unreadable r w v shown old new t table none told memory =
+    content_by r w v shown old new (end_lines true false) (inr (inl (t, table, none, refl))) told
+no_other_table NoMemory r w v shown old new t table none told memory =
+    subst (λ (s : Result Unit ListFault). IsContentTold w v shown old new s) (sym (memory refl)) tt
 
-pub content_told : (r : Result Unit ListFault) (w v : List ℕ) (all : Bool) (old new next : List ℕ) → Lists old new (area_lines w v) (Ok tt)
-    → IsContentTold w v all new next r → AreToldTo w v all old next r
-content_told (Ok done) w v all old new next told more = (
+pub content_told : (r : Result Unit ListFault) (w v : List ℕ) (shown : Shown) (old new next : List ℕ) → Lists old new (area_lines w v) (Ok tt)
+    → IsContentTold w v shown new next r → AreToldTo w v shown old next r
+content_told (Ok done) w v shown old new next told more = (
   then_lines (area_lines w v) more.0,
   inr (more.0, first_bounds w v old new told, other_bounds w v old new told, more.1, refl),
   lists_then (Ok tt) old new next (area_lines w v) more.0 told more.2,
 )
-content_told (Err Unreadable) w v all old new next told more = (
+content_told (Err Unreadable) w v shown old new next told more = (
   then_lines (area_lines w v) more.0,
   inr (more.0, first_bounds w v old new told, other_bounds w v old new told, more.1, refl),
   lists_then (Err Unreadable) old new next (area_lines w v) more.0 told more.2,
 )
-content_told (Err NoMemory) w v all old new next told more = tt
+content_told (Err NoMemory) w v shown old new next told more = tt

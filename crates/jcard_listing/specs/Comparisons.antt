@@ -1,5 +1,5 @@
 -- What is reported of two images that are compared.
-use Rattle.std.specs.Prelude.{ℕ, ◌≡◌, ◌⊎◌, ◌*◌, ◌∷◌, ◌++◌, Bool, List, [], length, Result, Ok, Err}
+use Rattle.std.specs.Prelude.{ℕ, ◌≡◌, ◌⊎◌, ◌*◌, ◌∷◌, ◌++◌, List, [], length, Result, Ok, Err}
 use Rattle.jc_words.specs.Files.{IsImageSize}
 use Rattle.jc_words.specs.declared.image.ImageFault.{ImageFault}
 use Rattle.jc_card.specs.PowerUp.{HasHead, PowerUpRefuses, fault_of}
@@ -15,6 +15,7 @@ use Rattle.jcard_listing.specs.Pairs.{unread_text}
 use Rattle.jcard_listing.specs.Told.{AreLinesTold}
 use Rattle.jcard_listing.specs.declared.pairs.Side.{Side}
 use Rattle.jcard_listing.specs.declared.pairs.Side.TheVariants.{One, Other}
+use Rattle.jcard_listing.specs.declared.shown.Shown.{Shown}
 
 -- it was reported that an image cannot be read because of a fault of its first words, or the beginning of this where a write failed
 abbrev pub IsRefusalTold : Side → ImageFault → Result Unit Fault → List ℕ → Type 0
@@ -28,30 +29,30 @@ abbrev pub IsNoImageTold : Side → List ℕ → Result Unit Fault → List ℕ 
 IsNoImageTold side w ended text = (fault : ImageFault) × PowerUpRefuses (fault_of fault) w × IsRefusalTold side fault ended text
 
 -- how the differences were reported; or memory was refused for them, and nothing was reported
-abbrev pub AreLinesOfBoth : List ℕ → List ℕ → Bool → Result Unit Fault → List ℕ → Type 0
-AreLinesOfBoth w v all ended text = ((l : Lines) × AreDifferences w v all l × AreLinesTold l ended text)
+abbrev pub AreLinesOfBoth : List ℕ → List ℕ → Shown → Result Unit Fault → List ℕ → Type 0
+AreLinesOfBoth w v shown ended text = ((l : Lines) × AreDifferences w v shown l × AreLinesTold l ended text)
     ⊎ ((ended ≡ Err NoMemory) × (text ≡ []))
 
 -- what is reported of these words, which are an image's, and of those of the other image: these are none, or what is not the same
-abbrev pub AreToldBeside : List ℕ → List ℕ → Bool → Result Unit Fault → List ℕ → Type 0
-AreToldBeside w v all ended text = IsNoImageTold Other v ended text ⊎ (HasHead v × AreLinesOfBoth w v all ended text)
+abbrev pub AreToldBeside : List ℕ → List ℕ → Shown → Result Unit Fault → List ℕ → Type 0
+AreToldBeside w v shown ended text = IsNoImageTold Other v ended text ⊎ (HasHead v × AreLinesOfBoth w v shown ended text)
 
 -- the same of any words
-abbrev pub AreDifferencesTold : List ℕ → List ℕ → Bool → Result Unit Fault → List ℕ → Type 0
-AreDifferencesTold w v all ended text = IsNoImageTold One w ended text ⊎ (HasHead w × AreToldBeside w v all ended text)
+abbrev pub AreDifferencesTold : List ℕ → List ℕ → Shown → Result Unit Fault → List ℕ → Type 0
+AreDifferencesTold w v shown ended text = IsNoImageTold One w ended text ⊎ (HasHead w × AreToldBeside w v shown ended text)
 
 -- the image with this name could not be opened to read it alone beside these words, and nothing was written; or its words were compared with them,
 -- and it was closed with no write asked for
-abbrev pub IsBesideTold : List ℕ → List ℕ → Bool → Result Unit Fault → List ℕ → List FileDeed → Type 0
-IsBesideTold w other all ended text deeds =
+abbrev pub IsBesideTold : List ℕ → List ℕ → Shown → Result Unit Fault → List ℕ → List FileDeed → Type 0
+IsBesideTold w other shown ended text deeds =
     ((fault : Fault) × (ended ≡ Err fault) × IsNotOpened other fault × (text ≡ []) × (deeds ≡ ReadsImage other (Err fault) ∷ []))
-    ⊎ ((v : List ℕ) × IsImageSize (2 * length v) × AreDifferencesTold w v all ended text
+    ⊎ ((v : List ℕ) × IsImageSize (2 * length v) × AreDifferencesTold w v shown ended text
     × (deeds ≡ ReadsImage other (Ok v) ∷ ClosesImage other (untouched v) ∷ []))
 
 -- the image of the first name could not be opened to read it alone, and nothing was written; or its words were compared with the image of
 -- the other name, and it was closed with no write asked for
-abbrev pub IsComparison : List ℕ → List ℕ → Bool → Result Unit Fault → List ℕ → List FileDeed → Type 0
-IsComparison image other all ended text deeds =
+abbrev pub IsComparison : List ℕ → List ℕ → Shown → Result Unit Fault → List ℕ → List FileDeed → Type 0
+IsComparison image other shown ended text deeds =
     ((fault : Fault) × (ended ≡ Err fault) × IsNotOpened image fault × (text ≡ []) × (deeds ≡ ReadsImage image (Err fault) ∷ []))
-    ⊎ ((w : List ℕ) × (within : List FileDeed) × IsImageSize (2 * length w) × IsBesideTold w other all ended text within
+    ⊎ ((w : List ℕ) × (within : List FileDeed) × IsImageSize (2 * length w) × IsBesideTold w other shown ended text within
     × (deeds ≡ ReadsImage image (Ok w) ∷ (within ++ ClosesImage image (untouched w) ∷ [])))

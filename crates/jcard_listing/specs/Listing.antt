@@ -1,5 +1,5 @@
 -- All that is listed of an image.
-use Rattle.std.specs.Prelude.{ℕ, ◌≡◌, ◌⊎◌, true, false, Bool, List, slice_index, Option, Some, None, Ok, Err, Result}
+use Rattle.std.specs.Prelude.{ℕ, ◌≡◌, ◌⊎◌, true, false, List, slice_index, Option, Some, None, Ok, Err, Result}
 use Rattle.jc_words.specs.Layout.{applets_address, packages_address}
 use Rattle.jc_commit.specs.Image.{count_of}
 use Rattle.jc_heap.specs.Image.{table_text}
@@ -17,6 +17,7 @@ use Rattle.jcard_listing.specs.Objects.{objects_lines}
 use Rattle.jcard_listing.specs.Packages.{package_lines}
 use Rattle.jcard_listing.specs.declared.fault.ListFault.{ListFault}
 use Rattle.jcard_listing.specs.declared.fault.ListFault.TheVariants.{Unreadable, NoMemory}
+use Rattle.jcard_listing.specs.declared.shown.Shown.{Shown}
 
 -- What the cells of objects are read by: the platform of the table text of words, and the packages that they have once they are
 -- recovered; nothing where it is no table
@@ -25,20 +26,20 @@ IsLegendOf w (Some t) = Reads (table_text w) (Ok t.platform) × IsLegend t.platf
 IsLegendOf w None = (t : Tokens) → Reads (table_text w) (Ok t) → ⊥
 
 -- the journal's entries, the packages' records, the applets' entries and the objects, printed by a legend
-abbrev pub contents_lines : Option Legend → List ℕ → Bool → Lines
-contents_lines None w all = line_if None
-contents_lines (Some t) w all = then_lines (each_line (entry_lines t.platform w) (count_of w))
+abbrev pub contents_lines : Option Legend → List ℕ → Shown → Lines
+contents_lines None w shown = line_if None
+contents_lines (Some t) w shown = then_lines (each_line (entry_lines t.platform w) (count_of w))
     (then_lines (each_line (package_lines t w) (slice_index w packages_address))
-    (then_lines (each_line (applet_lines w) (slice_index w applets_address)) (objects_lines t w all)))
+    (then_lines (each_line (applet_lines w) (slice_index w applets_address)) (objects_lines t w shown)))
 
 -- these are the lines that list what words hold: nothing after a heap that is out of its bounds, nor after a text that is no table
-abbrev pub IsListing : List ℕ → Bool → Lines → Type 0
-IsListing w all l = ((has_bounds w ≡ false) × (l ≡ line_if (areas_line w)))
+abbrev pub IsListing : List ℕ → Shown → Lines → Type 0
+IsListing w shown l = ((has_bounds w ≡ false) × (l ≡ line_if (areas_line w)))
     ⊎ ((legend : Option Legend) × (has_bounds w ≡ true) × IsLegendOf w legend
-    × (l ≡ then_lines (line_if (areas_line w)) (contents_lines legend w all)))
+    × (l ≡ then_lines (line_if (areas_line w)) (contents_lines legend w shown)))
 
 -- a text grew by such lines, or memory was refused
-abbrev pub IsListed : List ℕ → Bool → List ℕ → List ℕ → Result Unit ListFault → Type 0
-IsListed w all old new (Err NoMemory) = Unit {0}
-IsListed w all old new (Ok done) = (l : Lines) × IsListing w all l × Lists old new l (Ok tt)
-IsListed w all old new (Err Unreadable) = (l : Lines) × IsListing w all l × Lists old new l (Err Unreadable)
+abbrev pub IsListed : List ℕ → Shown → List ℕ → List ℕ → Result Unit ListFault → Type 0
+IsListed w shown old new (Err NoMemory) = Unit {0}
+IsListed w shown old new (Ok done) = (l : Lines) × IsListing w shown l × Lists old new l (Ok tt)
+IsListed w shown old new (Err Unreadable) = (l : Lines) × IsListing w shown l × Lists old new l (Err Unreadable)

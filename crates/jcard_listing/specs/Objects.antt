@@ -22,7 +22,10 @@ use Rattle.jc_platform.specs.declared.names.PlatformClass.TheVariants.{Aid, Owne
 use Rattle.jc_records.specs.Records.{are_whole, standing_items}
 use Rattle.jcard_images.specs.Listings.{Lines}
 use Rattle.jcard_objects.specs.ClassTexts.{kind_text}
+use Rattle.jc_image_keys.specs.Keys.{is_key}
+use Rattle.jcard_listing.specs.Keys.{hidden_in, is_hidden, key_text}
 use Rattle.jcard_listing.specs.Texts.{each_text, labelled_text, reference_text, short_text}
+use Rattle.jcard_listing.specs.declared.shown.Shown.{Shown}
 
 -- the AID of an applet or of a package, or its number where none is known
 abbrev pub applet_name : Option NamedApplet → ℕ → List ℕ
@@ -98,9 +101,9 @@ is_engine_class (Some class) = cells_of class == 2 && class_holds_reference clas
 abbrev pub is_engine : Legend → Facts → Bool
 is_engine t f = is_instance f.kind && (f.length == 2 && is_engine_class (class_by_word t.platform f.class))
 
--- its fields: the number of its algorithm, and the array with its state
+-- its fields: the number of its algorithm, and the array with its state, which is transient: an engine holds nothing in an image
 abbrev pub engine_text : List ℕ → List ℕ
-engine_text cells = labelled_text (codes ": algorithm ") (slice_index cells 0) (codes ", state ") ++ reference_text (slice_index cells 1)
+engine_text cells = labelled_text (codes ": algorithm ") (slice_index cells 0) (codes ", holds nothing, state ") ++ reference_text (slice_index cells 1)
 
 -- the header is that of an AID
 abbrev pub is_aid : Legend → Facts → Bool
@@ -126,27 +129,34 @@ abbrev pub plain_text : Legend → Facts → List ℕ → Option ℕ → List �
 plain_text t f cells (Some long) = aid_text cells long
 plain_text t f cells None = cells_text t f cells
 
-abbrev pub contents_text : Legend → Facts → List ℕ → List ℕ
-contents_text t f cells = if is_pin t f then pin_text cells else (if is_engine t f then engine_text cells else plain_text t f cells (aid_length t f cells))
+abbrev pub contents_text : Legend → List ℕ → List ℕ → ℕ → Facts → List ℕ → List ℕ
+contents_text t w hidden r f cells = if is_pin t f then pin_text cells
+    else (if is_key t.platform f then key_text w cells
+    else (if is_engine t f then engine_text cells
+    else (if is_hidden hidden r f then codes ": key bytes, not shown" else plain_text t f cells (aid_length t f cells))))
 
 -- after the header: the cells, or where they are
-abbrev pub behind_text : Legend → Facts → Option ClearEvent → List ℕ → List ℕ
-behind_text t f (Some event) cells = area_text event f.place
-behind_text t f None cells = contents_text t f cells
+abbrev pub behind_text : Legend → List ℕ → List ℕ → ℕ → Facts → Option ClearEvent → List ℕ → List ℕ
+behind_text t w hidden r f (Some event) cells = area_text event f.place
+behind_text t w hidden r f None cells = contents_text t w hidden r f cells
 
--- an object by its address, its header and its cells
-abbrev pub object_text : Legend → List ℕ → ℕ → Facts → List ℕ → List ℕ
-object_text t w r f cells = header_text t w r f ++ (behind_text t f f.event cells ++ codes "\n")
+-- an object by its address, its header and its cells, where the bytes of these arrays are not shown
+abbrev pub object_text : Legend → List ℕ → List ℕ → ℕ → Facts → List ℕ → List ℕ
+object_text t w hidden r f cells = header_text t w r f ++ (behind_text t w hidden r f f.event cells ++ codes "\n")
 
 -- an object is reported: any one, or one that is not the runtime environment's
 abbrev pub is_told : Facts → Bool → Bool
 is_told f all = all || not (f.owner == 0)
 
 -- what stands at an address: nothing is reported here of a package
-abbrev pub item_text : Legend → List ℕ → Bool → ℕ × Item → List ℕ
-item_text t w all (r, AnObject o) = if is_told o.facts all then object_text t w r o.facts o.cells else []
-item_text t w all (r, APackage ws) = []
+abbrev pub item_text : Legend → List ℕ → List ℕ → Bool → ℕ × Item → List ℕ
+item_text t w hidden all (r, AnObject o) = if is_told o.facts all then object_text t w hidden r o.facts o.cells else []
+item_text t w hidden all (r, APackage ws) = []
 
 -- all objects that stand in the heap that words are, up to a record that lacks words
-abbrev pub objects_lines : Legend → List ℕ → Bool → Lines
-objects_lines t w all = record { text = flat_map (item_text t w all) (standing_items w); readable = are_whole w }
+abbrev pub items_lines : Legend → List ℕ → List ℕ → Bool → Lines
+items_lines t w hidden all = record { text = flat_map (item_text t w hidden all) (standing_items w); readable = are_whole w }
+
+-- the same, where the bytes of the arrays that hold keys are shown or not
+abbrev pub objects_lines : Legend → List ℕ → Shown → Lines
+objects_lines t w shown = items_lines t w (hidden_in t w shown.secrets) shown.all

@@ -10,6 +10,7 @@ use Rattle.jcard_files.specs.Images.{IsNotOpened}
 use Rattle.jcard_images.specs.Dumps.{IsTold, dump_text}
 use Rattle.jcard_images.specs.Listings.{Lines}
 use Rattle.jcard_listing.specs.Listing.{IsListing}
+use Rattle.jcard_listing.specs.declared.shown.Shown.{Shown}
 
 -- how a listing ends whose lines were all written, and that could be read to its end or not
 abbrev pub end_of : Bool → Result Unit Fault
@@ -23,19 +24,19 @@ AreLinesTold l (Err (BadImage damage)) text = (l.readable ≡ false) × (damage 
 AreLinesTold l (Err other) text = ⊥
 
 -- how a listing was reported; or memory was refused for it, and nothing was reported
-abbrev pub IsListingTold : List ℕ → Bool → Result Unit Fault → List ℕ → Type 0
-IsListingTold w all ended text = ((l : Lines) × IsListing w all l × AreLinesTold l ended text)
+abbrev pub IsListingTold : List ℕ → Shown → Result Unit Fault → List ℕ → Type 0
+IsListingTold w shown ended text = ((l : Lines) × IsListing w shown l × AreLinesTold l ended text)
     ⊎ ((ended ≡ Err NoMemory) × (text ≡ []))
 
 -- what is reported of these words: their packages and applets, as far as they read, and then a listing
-abbrev pub AreObjectsTold : List ℕ → Bool → Result Unit Fault → List ℕ → Type 0
-AreObjectsTold w all ended text = ((fault : Fault) × (ended ≡ Err fault) × IsTold w ended text)
-    ⊎ ((behind : List ℕ) × IsTold w (Ok tt) (dump_text w).text × IsListingTold w all ended behind × (text ≡ (dump_text w).text ++ behind))
+abbrev pub AreObjectsTold : List ℕ → Shown → Result Unit Fault → List ℕ → Type 0
+AreObjectsTold w shown ended text = ((fault : Fault) × (ended ≡ Err fault) × IsTold w ended text)
+    ⊎ ((behind : List ℕ) × IsTold w (Ok tt) (dump_text w).text × IsListingTold w shown ended behind × (text ≡ (dump_text w).text ++ behind))
 
 -- the image with this name could not be opened to read it alone, and nothing was written; or its words were reported, and it was closed
 -- with no write asked for
-abbrev pub IsObjectsDump : List ℕ → Bool → Result Unit Fault → List ℕ → List FileDeed → Type 0
-IsObjectsDump image all ended text deeds =
+abbrev pub IsObjectsDump : List ℕ → Shown → Result Unit Fault → List ℕ → List FileDeed → Type 0
+IsObjectsDump image shown ended text deeds =
     ((fault : Fault) × (ended ≡ Err fault) × IsNotOpened image fault × (text ≡ []) × (deeds ≡ ReadsImage image (Err fault) ∷ []))
-    ⊎ ((w : List ℕ) × IsImageSize (2 * length w) × AreObjectsTold w all ended text
+    ⊎ ((w : List ℕ) × IsImageSize (2 * length w) × AreObjectsTold w shown ended text
     × (deeds ≡ ReadsImage image (Ok w) ∷ ClosesImage image (untouched w) ∷ []))

@@ -5,15 +5,17 @@ ghost use Rattle.jc_heap.specs.Object.{event_number, kind_number};
 ghost use Rattle.jc_records.specs.Bounds.{has_bounds};
 ghost use Rattle.jc_records.specs.Places.{IsPlaceFor, IsStanding};
 ghost use Rattle.jc_records.specs.Records.{IsRecord, item_at};
-ghost use Rattle.jcard_listing.specs.Compared.{alone_text, beside_text, change_line, change_text, changes_text, compared_lines, compared_text, heap_lines, is_same, kept_text};
+ghost use Rattle.jcard_listing.specs.Compared.{alone_text, beside_text, both_lines, change_line, change_text, changes_text, compared_lines, compared_text, heap_lines, is_same, kept_text, values_text};
 ghost use Rattle.jcard_listing.specs.Fault.{Lists};
 ghost use Rattle.jcard_listing.specs.Objects.{is_told};
 ghost use Rattle.jcard_listing.specs.Pairs.{lines_of};
 
 use crate::fault::ListFault;
+use crate::keys::{hidden_in_both, is_hidden};
 use crate::listing::Listing;
 use crate::objects::{is_told, push_object, push_value};
 use crate::pairs::{Side, listing_by, push_end};
+use crate::shown::Shown;
 use crate::texts::push_labelled;
 use jc_heap::{Facts, Kind};
 use jc_objects::legend::Legend;
@@ -26,8 +28,7 @@ use jc_words::layout::TOP;
 use jcard_objects::class_texts::push_kind;
 use std::alloc::{AllocError, Global};
 
-/// Writes the cells that are not the same, and the objects that one image alone has, up to where one cannot be read. Those of the
-/// runtime environment are reported where all are asked for.
+/// Writes the cells that are not the same, and the objects that one image alone has, up to where one cannot be read.
 pub(crate) fn push_heaps<S: WordStore>(
     alloc: Global,
     text: &mut Vec<u8>,
@@ -35,15 +36,37 @@ pub(crate) fn push_heaps<S: WordStore>(
     store: &S,
     others: &Legend,
     other: &S,
-    all: bool,
+    shown: Shown,
 ) -> Result<(), ListFault>
     requires bounds { has_bounds (S.words store.now) ≡ true }
     requires other_bounds { has_bounds (S.words other.now) ≡ true }
     ensures { Lists text.old.items text.new.items (heap_lines legend.now others.now
-        (S.words store.now) (S.words other.now) all) result }
+        (S.words store.now) (S.words other.now) shown) result }
 {
-    let first = compared(alloc, Side::One, legend, store, other, all)?;
-    let second = compared(alloc, Side::Other, others, other, store, all)?;
+    let hidden = hidden_in_both(alloc, legend, store, others, other, shown.secrets)?;
+    push_both_heaps(
+        alloc, text, legend, store, others, other, &hidden, shown.all,
+    )
+}
+
+// Writes them without the bytes of these arrays.
+fn push_both_heaps<S: WordStore>(
+    alloc: Global,
+    text: &mut Vec<u8>,
+    legend: &Legend,
+    store: &S,
+    others: &Legend,
+    other: &S,
+    hidden: &[u16],
+    all: bool,
+) -> Result<(), ListFault>
+    requires bounds { has_bounds (S.words store.now) ≡ true }
+    requires other_bounds { has_bounds (S.words other.now) ≡ true }
+    ensures { Lists text.old.items text.new.items (both_lines legend.now others.now
+        (S.words store.now) (S.words other.now) hidden.now all) result }
+{
+    let first = compared(alloc, Side::One, legend, store, other, hidden, all)?;
+    let second = compared(alloc, Side::Other, others, other, store, hidden, all)?;
     push_texts(text, &first.text, &second.text)?;
     push_end(text, first.readable, second.readable)
 }
@@ -63,15 +86,16 @@ fn compared<S: WordStore>(
     legend: &Legend,
     store: &S,
     other: &S,
+    hidden: &[u16],
     all: bool,
 ) -> Result<Listing, AllocError>
     requires bounds { has_bounds (S.words store.now) ≡ true }
     requires other_bounds { has_bounds (S.words other.now) ≡ true }
     ensures { IfOk result (λ found. lines_of found ≡ compared_lines side legend.now
-        (S.words store.now) (S.words other.now) all) }
+        (S.words store.now) (S.words other.now) hidden.now all) }
 {
     let mut text = Vec::new(alloc);
-    let told = push_compared(alloc, &mut text, side, legend, store, other, all);
+    let told = push_compared(alloc, &mut text, side, legend, store, other, hidden, all);
     listing_by(text, told)
 }
 
@@ -83,12 +107,13 @@ fn push_compared<S: WordStore>(
     legend: &Legend,
     store: &S,
     other: &S,
+    hidden: &[u16],
     all: bool,
 ) -> Result<(), ListFault>
     requires bounds { has_bounds (S.words store.now) ≡ true }
     requires other_bounds { has_bounds (S.words other.now) ≡ true }
     ensures { Lists text.old.items text.new.items (compared_lines side legend.now
-        (S.words store.now) (S.words other.now) all) result }
+        (S.words store.now) (S.words other.now) hidden.now all) result }
 {
     let _ = store.size(); // so that the proof knows that there are fewer than 65,536 words
     let top = store.read(TOP);
@@ -98,7 +123,9 @@ fn push_compared<S: WordStore>(
         let Some(size) = whole_size(store, at, top) else {
             return Err(ListFault::Unreadable);
         };
-        push_item(alloc, text, side, legend, store, other, &mut place, at, all)?;
+        push_item(
+            alloc, text, side, legend, store, other, hidden, &mut place, at, all,
+        )?;
         at += size;
     }
     Ok(())
@@ -112,6 +139,7 @@ fn push_item<S: WordStore>(
     legend: &Legend,
     store: &S,
     other: &S,
+    hidden: &[u16],
     place: &mut u16,
     at: u16,
     all: bool,
@@ -121,7 +149,7 @@ fn push_item<S: WordStore>(
     requires record { IsRecord (S.words store.now) at }
     requires place { IsPlaceFor (S.words other.now) place.old at }
     ensures told { OnOk result (text.new.items ≡ text.old.items ++ compared_text side legend.now
-        (S.words store.now) (S.words other.now) all (at, item_at (S.words store.now) at)) }
+        (S.words store.now) (S.words other.now) hidden.now all (at, item_at (S.words store.now) at)) }
     ensures place { IsPlaceFor (S.words other.now) place.new at }
 {
     match object_at(store, at) {
@@ -132,6 +160,7 @@ fn push_item<S: WordStore>(
             legend,
             store,
             other,
+            hidden,
             at,
             facts,
             standing_from(other, place, at),
@@ -148,6 +177,7 @@ fn push_beside<S: WordStore>(
     legend: &Legend,
     store: &S,
     other: &S,
+    hidden: &[u16],
     at: u16,
     facts: Facts,
     standing: Standing,
@@ -157,14 +187,16 @@ fn push_beside<S: WordStore>(
     requires object { IsStanding (S.words store.now) at (Standing.Object facts) }
     requires standing { IsStanding (S.words other.now) at standing }
     ensures { OnOk result (text.new.items ≡ text.old.items ++ beside_text side legend.now
-        (S.words store.now) (S.words other.now) at facts standing) }
+        (S.words store.now) (S.words other.now) hidden.now at facts standing) }
 {
     match standing {
         Standing::Object(found) if is_same(facts, found) => {
-            push_kept(alloc, text, side, legend, store, other, at, facts, found)
+            push_kept(
+                alloc, text, side, legend, store, other, hidden, at, facts, found,
+            )
         }
         Standing::Unread => Ok(()),
-        _ => push_alone(alloc, text, side, legend, store, at, facts),
+        _ => push_alone(alloc, text, side, legend, store, hidden, at, facts),
     }
 }
 
@@ -211,16 +243,17 @@ fn push_alone<S: WordStore>(
     side: Side,
     legend: &Legend,
     store: &S,
+    hidden: &[u16],
     at: u16,
     facts: Facts,
 ) -> Result<(), AllocError>
     requires bounds { has_bounds (S.words store.now) ≡ true }
     requires object { IsStanding (S.words store.now) at (Standing.Object facts) }
     ensures { OnOk result (text.new.items ≡ text.old.items
-        ++ alone_text side legend.now (S.words store.now) at facts) }
+        ++ alone_text side legend.now (S.words store.now) hidden.now at facts) }
 {
     text.extend_from_slice(side.sign())?;
-    push_object(alloc, text, legend, store, at, facts)
+    push_object(alloc, text, legend, store, hidden, at, facts)
 }
 
 // Writes the cells that are not the same of an object that both images have, for the first of them.
@@ -231,6 +264,7 @@ fn push_kept<S: WordStore>(
     legend: &Legend,
     store: &S,
     other: &S,
+    hidden: &[u16],
     at: u16,
     facts: Facts,
     found: Facts,
@@ -241,11 +275,11 @@ fn push_kept<S: WordStore>(
     requires found { IsStanding (S.words other.now) at (Standing.Object found) }
     requires length { facts.length ≡ found.length }
     ensures { OnOk result (text.new.items ≡ text.old.items ++ kept_text side legend.now
-        (S.words store.now) (S.words other.now) at facts found) }
+        (S.words store.now) (S.words other.now) hidden.now at facts found) }
 {
     match side {
         Side::One if facts.event.is_none() && found.event.is_none() => {
-            push_changes(alloc, text, legend, store, other, at, facts, found)
+            push_changes(alloc, text, legend, store, other, hidden, at, facts, found)
         }
         _ => Ok(()),
     }
@@ -258,6 +292,7 @@ fn push_changes<S: WordStore>(
     legend: &Legend,
     store: &S,
     other: &S,
+    hidden: &[u16],
     at: u16,
     facts: Facts,
     found: Facts,
@@ -269,7 +304,7 @@ fn push_changes<S: WordStore>(
     requires length { facts.length ≡ found.length }
     requires persistent { (facts.event ≡ None) × (found.event ≡ None) }
     ensures { OnOk result (text.new.items ≡ text.old.items ++ changes_text legend.now
-        (S.words store.now) (S.words other.now) at facts None None) }
+        (S.words store.now) (S.words other.now) hidden.now at facts None None) }
 {
     for i in 0..facts.length {
         push_change(
@@ -277,6 +312,7 @@ fn push_changes<S: WordStore>(
             text,
             legend,
             store,
+            hidden,
             at,
             facts,
             i,
@@ -293,6 +329,7 @@ fn push_change<S: WordStore>(
     text: &mut Vec<u8>,
     legend: &Legend,
     store: &S,
+    hidden: &[u16],
     at: u16,
     facts: Facts,
     i: u16,
@@ -301,12 +338,12 @@ fn push_change<S: WordStore>(
 ) -> Result<(), AllocError>
     requires { text_start ≤ length (S.words store.now) }
     ensures { OnOk result (text.new.items ≡ text.old.items
-        ++ change_text legend.now (S.words store.now) at facts i one other) }
+        ++ change_text legend.now (S.words store.now) hidden.now at facts i one other) }
 {
     if one == other {
         return Ok(());
     }
-    push_change_line(alloc, text, legend, store, at, facts, i, one, other)
+    push_change_line(alloc, text, legend, store, hidden, at, facts, i, one, other)
 }
 
 fn push_change_line<S: WordStore>(
@@ -314,6 +351,7 @@ fn push_change_line<S: WordStore>(
     text: &mut Vec<u8>,
     legend: &Legend,
     store: &S,
+    hidden: &[u16],
     at: u16,
     facts: Facts,
     i: u16,
@@ -322,7 +360,7 @@ fn push_change_line<S: WordStore>(
 ) -> Result<(), AllocError>
     requires { text_start ≤ length (S.words store.now) }
     ensures { OnOk result (text.new.items ≡ text.old.items
-        ++ change_line legend.now (S.words store.now) at facts i one other) }
+        ++ change_line legend.now (S.words store.now) hidden.now at facts i one other) }
 {
     push_labelled(text, b"@", at, b" ")?;
     push_kind(
@@ -334,9 +372,38 @@ fn push_change_line<S: WordStore>(
         facts.class(),
     )?;
     push_labelled(text, b" [", i, b"] ")?;
-    push_value(alloc, text, legend, facts, i, one)?;
-    text.extend_from_slice(b">")?;
-    push_value(alloc, text, legend, facts, i, other)?;
+    push_values(
+        alloc,
+        text,
+        legend,
+        is_hidden(hidden, at, facts),
+        facts,
+        i,
+        one,
+        other,
+    )?;
     text.extend_from_slice(b"\n")?;
     Ok(())
+}
+
+// Writes what stands in both cells, or that it is not shown.
+fn push_values(
+    alloc: Global,
+    text: &mut Vec<u8>,
+    legend: &Legend,
+    is_hidden: bool,
+    facts: Facts,
+    i: u16,
+    one: u16,
+    other: u16,
+) -> Result<(), AllocError>
+    ensures { OnOk result (text.new.items ≡ text.old.items
+        ++ values_text legend.now is_hidden facts i one other) }
+{
+    if is_hidden {
+        return text.extend_from_slice(b"not shown");
+    }
+    push_value(alloc, text, legend, facts, i, one)?;
+    text.extend_from_slice(b">")?;
+    push_value(alloc, text, legend, facts, i, other)
 }

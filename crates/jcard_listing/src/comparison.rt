@@ -11,6 +11,7 @@ ghost use Rattle.jcard_listing.specs.Comparisons.{AreDifferencesTold, AreLinesOf
 use crate::differences::differences_of;
 use crate::dump::write_listing;
 use crate::pairs::Side;
+use crate::shown::Shown;
 use jc_words::{ImageFault, WordStore};
 use jcard_faults::fault::{Damage, Fault};
 use jcard_files::closed_store::ClosedStore;
@@ -19,24 +20,23 @@ use jcard_script::card::inventory::Inventory;
 use jcard_script::streams::{TextOut, write_all};
 use std::alloc::{AllocError, Global};
 
-/// `jcard dump IMAGE --against OTHER`: prints what is not the same in two images, each of which is read alone. The objects of the
-/// runtime environment are compared where all are asked for. Nothing is recovered.
+/// `jcard dump IMAGE --against OTHER`: prints what is not the same in two images, each of which is read alone. Nothing is recovered.
 pub fn compare_images<'n, D: Disk, W: TextOut>(
     disk: &mut D,
     image: &'n str,
     other: &'n str,
-    all: bool,
+    shown: Shown,
     out: &mut W,
 ) -> Result<(), Fault<'n>>
     ensures told { (text : List ℕ) × (deeds : List FileDeed)
         × Appends (W.contents out.old) (W.contents out.new) text
-        × IsComparison image.now other.now all result text deeds × D.does disk.old deeds disk.new }
+        × IsComparison image.now other.now shown result text deeds × D.does disk.old deeds disk.new }
     ensures writes { W.failures out.new ≡ failures_after (W.failures out.old)
         (is_unwritten result) }
 {
     match disk.open_image_to_read(image) {
         Ok(store) => {
-            let told = compare_with(disk, &store, other, all, out);
+            let told = compare_with(disk, &store, other, shown, out);
             disk.close_image(image, ClosedStore::new(store));
             told
         }
@@ -49,19 +49,19 @@ fn compare_with<'n, D: Disk, W: TextOut>(
     disk: &mut D,
     store: &D::Image,
     other: &'n str,
-    all: bool,
+    shown: Shown,
     out: &mut W,
 ) -> Result<(), Fault<'n>>
     ensures told { (text : List ℕ) × (deeds : List FileDeed)
         × Appends (W.contents out.old) (W.contents out.new) text
-        × IsBesideTold (D.Image.words store.now) other.now all result text deeds
+        × IsBesideTold (D.Image.words store.now) other.now shown result text deeds
         × D.does disk.old deeds disk.new }
     ensures writes { W.failures out.new ≡ failures_after (W.failures out.old)
         (is_unwritten result) }
 {
     match disk.open_image_to_read(other) {
         Ok(second) => {
-            let told = tell_differences(disk.alloc(), store, &second, all, out);
+            let told = tell_differences(disk.alloc(), store, &second, shown, out);
             disk.close_image(other, ClosedStore::new(second));
             told
         }
@@ -74,16 +74,16 @@ fn tell_differences<'a, S: WordStore, W: TextOut>(
     alloc: Global,
     store: &S,
     other: &S,
-    all: bool,
+    shown: Shown,
     out: &mut W,
 ) -> Result<(), Fault<'a>>
     ensures told { (text : List ℕ) × Appends (W.contents out.old) (W.contents out.new) text
-        × AreDifferencesTold (S.words store.now) (S.words other.now) all result text }
+        × AreDifferencesTold (S.words store.now) (S.words other.now) shown result text }
     ensures writes { W.failures out.new ≡ failures_after (W.failures out.old)
         (is_unwritten result) }
 {
     match Inventory::of(store) {
-        Ok(_) => tell_beside(alloc, store, other, all, out),
+        Ok(_) => tell_beside(alloc, store, other, shown, out),
         Err(fault) => tell_no_image(Side::One, fault, out),
     }
 }
@@ -93,17 +93,17 @@ fn tell_beside<'a, S: WordStore, W: TextOut>(
     alloc: Global,
     store: &S,
     other: &S,
-    all: bool,
+    shown: Shown,
     out: &mut W,
 ) -> Result<(), Fault<'a>>
     requires { HasSize (S.words store.now) }
     ensures told { (text : List ℕ) × Appends (W.contents out.old) (W.contents out.new) text
-        × AreToldBeside (S.words store.now) (S.words other.now) all result text }
+        × AreToldBeside (S.words store.now) (S.words other.now) shown result text }
     ensures writes { W.failures out.new ≡ failures_after (W.failures out.old)
         (is_unwritten result) }
 {
     match Inventory::of(other) {
-        Ok(_) => tell_lines(alloc, store, other, all, out),
+        Ok(_) => tell_lines(alloc, store, other, shown, out),
         Err(fault) => tell_no_image(Side::Other, fault, out),
     }
 }
@@ -130,17 +130,17 @@ fn tell_lines<'a, S: WordStore, W: TextOut>(
     alloc: Global,
     store: &S,
     other: &S,
-    all: bool,
+    shown: Shown,
     out: &mut W,
 ) -> Result<(), Fault<'a>>
     requires size { HasSize (S.words store.now) }
     requires other_size { HasSize (S.words other.now) }
     ensures told { (text : List ℕ) × Appends (W.contents out.old) (W.contents out.new) text
-        × AreLinesOfBoth (S.words store.now) (S.words other.now) all result text }
+        × AreLinesOfBoth (S.words store.now) (S.words other.now) shown result text }
     ensures writes { W.failures out.new ≡ failures_after (W.failures out.old)
         (is_unwritten result) }
 {
-    match differences_of(alloc, store, other, all) {
+    match differences_of(alloc, store, other, shown) {
         Ok(listing) => write_listing(&listing, out),
         Err(AllocError) => Err(Fault::NoMemory),
     }

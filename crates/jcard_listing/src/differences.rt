@@ -15,6 +15,7 @@ use crate::fault::ListFault;
 use crate::listing::Listing;
 use crate::pairs::{listing_by, push_end, push_pair};
 use crate::parts::{Part, push_part};
+use crate::shown::Shown;
 use crate::table::legend_of;
 use jc_objects::legend::Legend;
 use jc_words::WordStore;
@@ -27,15 +28,15 @@ pub fn differences_of<S: WordStore>(
     alloc: Global,
     store: &S,
     other: &S,
-    all: bool,
+    shown: Shown,
 ) -> Result<Listing, AllocError>
     requires size { HasSize (S.words store.now) }
     requires other_size { HasSize (S.words other.now) }
-    ensures { IfOk result (λ found. AreDifferences (S.words store.now) (S.words other.now) all
+    ensures { IfOk result (λ found. AreDifferences (S.words store.now) (S.words other.now) shown
         (lines_of found)) }
 {
     let mut text = Vec::new(alloc);
-    match push_differences(alloc, &mut text, store, other, all) {
+    match push_differences(alloc, &mut text, store, other, shown) {
         Ok(()) => Ok(Listing {
             text,
             readable: true,
@@ -54,15 +55,15 @@ fn push_differences<S: WordStore>(
     text: &mut Vec<u8>,
     store: &S,
     other: &S,
-    all: bool,
+    shown: Shown,
 ) -> Result<(), ListFault>
     requires size { HasSize (S.words store.now) }
     requires other_size { HasSize (S.words other.now) }
-    ensures { AreToldTo (S.words store.now) (S.words other.now) all text.old.items text.new.items
+    ensures { AreToldTo (S.words store.now) (S.words other.now) shown text.old.items text.new.items
         result }
 {
     push_area_pair(alloc, text, store, other)?;
-    push_content(alloc, text, store, other, all)
+    push_content(alloc, text, store, other, shown)
 }
 
 // Writes the lines of the heaps' ends.
@@ -98,17 +99,17 @@ fn push_content<S: WordStore>(
     text: &mut Vec<u8>,
     store: &S,
     other: &S,
-    all: bool,
+    shown: Shown,
 ) -> Result<(), ListFault>
     requires size { HasSize (S.words store.now) }
     requires bounds { has_bounds (S.words store.now) ≡ true }
     requires other_size { HasSize (S.words other.now) }
     requires other_bounds { has_bounds (S.words other.now) ≡ true }
-    ensures { IsContentTold (S.words store.now) (S.words other.now) all text.old.items
+    ensures { IsContentTold (S.words store.now) (S.words other.now) shown text.old.items
         text.new.items result }
 {
     match legend_of(alloc, store) {
-        Ok(legend) => push_beside_table(alloc, text, &legend, store, other, all),
+        Ok(legend) => push_beside_table(alloc, text, &legend, store, other, shown),
         Err(fault) => push_no_table(text, false, true, fault),
     }
 }
@@ -120,18 +121,18 @@ fn push_beside_table<S: WordStore>(
     legend: &Legend,
     store: &S,
     other: &S,
-    all: bool,
+    shown: Shown,
 ) -> Result<(), ListFault>
     requires size { HasSize (S.words store.now) }
     requires bounds { has_bounds (S.words store.now) ≡ true }
     requires table { IsLegendOf (S.words store.now) (Some legend.now) }
     requires other_size { HasSize (S.words other.now) }
     requires other_bounds { has_bounds (S.words other.now) ≡ true }
-    ensures { IsContentTold (S.words store.now) (S.words other.now) all text.old.items
+    ensures { IsContentTold (S.words store.now) (S.words other.now) shown text.old.items
         text.new.items result }
 {
     match legend_of(alloc, other) {
-        Ok(others) => push_lines(alloc, text, legend, store, &others, other, all),
+        Ok(others) => push_lines(alloc, text, legend, store, &others, other, shown),
         Err(fault) => push_no_table(text, true, false, fault),
     }
 }
@@ -160,18 +161,18 @@ fn push_lines<S: WordStore>(
     store: &S,
     others: &Legend,
     other: &S,
-    all: bool,
+    shown: Shown,
 ) -> Result<(), ListFault>
     requires size { HasSize (S.words store.now) }
     requires bounds { has_bounds (S.words store.now) ≡ true }
     requires other_size { HasSize (S.words other.now) }
     requires other_bounds { has_bounds (S.words other.now) ≡ true }
     ensures { Lists text.old.items text.new.items (content_lines legend.now others.now
-        (S.words store.now) (S.words other.now) all) result }
+        (S.words store.now) (S.words other.now) shown) result }
 {
     push_named(alloc, text, legend, store, others, other)?;
     push_placed(alloc, text, legend, store, others, other)?;
-    push_heaps(alloc, text, legend, store, others, other, all)
+    push_heaps(alloc, text, legend, store, others, other, shown)
 }
 
 // Writes the lines that name what is there.

@@ -8,6 +8,7 @@ ghost use Rattle.jcard_files.specs.FileDeeds.{FileDeed};
 ghost use Rattle.jcard_listing.specs.Told.{AreLinesTold, AreObjectsTold, IsListingTold, IsObjectsDump, end_of};
 
 use crate::listing::{Listing, listing_of};
+use crate::shown::Shown;
 use jc_words::WordStore;
 use jcard_faults::fault::{Damage, Fault};
 use jcard_files::closed_store::ClosedStore;
@@ -17,23 +18,22 @@ use jcard_script::streams::{TextOut, write_all};
 use std::alloc::{AllocError, Global};
 
 /// `jcard dump IMAGE --objects`: prints what `jcard dump` does, and then the heap's end, the journal's entries that count, the
-/// packages' records, the applets' entries and the objects; those of the runtime environment where all are asked for. Nothing is
-/// recovered.
+/// packages' records, the applets' entries and the objects. Nothing is recovered.
 pub fn dump_objects<'n, D: Disk, W: TextOut>(
     disk: &mut D,
     image: &'n str,
-    all: bool,
+    shown: Shown,
     out: &mut W,
 ) -> Result<(), Fault<'n>>
     ensures told { (text : List ℕ) × (deeds : List FileDeed)
         × Appends (W.contents out.old) (W.contents out.new) text
-        × IsObjectsDump image.now all result text deeds × D.does disk.old deeds disk.new }
+        × IsObjectsDump image.now shown result text deeds × D.does disk.old deeds disk.new }
     ensures writes { W.failures out.new ≡ failures_after (W.failures out.old)
         (is_unwritten result) }
 {
     match disk.open_image_to_read(image) {
         Ok(store) => {
-            let told = tell_objects(disk.alloc(), &store, all, out);
+            let told = tell_objects(disk.alloc(), &store, shown, out);
             disk.close_image(image, ClosedStore::new(store));
             told
         }
@@ -45,16 +45,16 @@ pub fn dump_objects<'n, D: Disk, W: TextOut>(
 fn tell_objects<'a, S: WordStore, W: TextOut>(
     alloc: Global,
     store: &S,
-    all: bool,
+    shown: Shown,
     out: &mut W,
 ) -> Result<(), Fault<'a>>
     ensures told { (text : List ℕ) × Appends (W.contents out.old) (W.contents out.new) text
-        × AreObjectsTold (S.words store.now) all result text }
+        × AreObjectsTold (S.words store.now) shown result text }
     ensures writes { W.failures out.new ≡ failures_after (W.failures out.old)
         (is_unwritten result) }
 {
     match dump_store(store, out) {
-        Ok(()) => tell_listing(alloc, store, all, out),
+        Ok(()) => tell_listing(alloc, store, shown, out),
         Err(fault) => Err(fault),
     }
 }
@@ -63,16 +63,16 @@ fn tell_objects<'a, S: WordStore, W: TextOut>(
 fn tell_listing<'a, S: WordStore, W: TextOut>(
     alloc: Global,
     store: &S,
-    all: bool,
+    shown: Shown,
     out: &mut W,
 ) -> Result<(), Fault<'a>>
     requires { HasSize (S.words store.now) }
     ensures told { (text : List ℕ) × Appends (W.contents out.old) (W.contents out.new) text
-        × IsListingTold (S.words store.now) all result text }
+        × IsListingTold (S.words store.now) shown result text }
     ensures writes { W.failures out.new ≡ failures_after (W.failures out.old)
         (is_unwritten result) }
 {
-    match listing_of(alloc, store, all) {
+    match listing_of(alloc, store, shown) {
         Ok(listing) => write_listing(&listing, out),
         Err(AllocError) => Err(Fault::NoMemory),
     }

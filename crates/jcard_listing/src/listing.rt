@@ -11,6 +11,7 @@ use crate::entries::push_entries;
 use crate::fault::ListFault;
 use crate::objects::push_objects;
 use crate::packages::push_packages;
+use crate::shown::Shown;
 use crate::table::legend_of;
 use jc_objects::legend::Legend;
 use jc_words::WordStore;
@@ -23,17 +24,20 @@ pub struct Listing {
     pub readable: bool,
 }
 
-/// Lists what the words of an image hold, as they stand. The objects of the runtime environment are listed where all are
-/// asked for.
-pub fn listing_of<S: WordStore>(alloc: Global, store: &S, all: bool) -> Result<Listing, AllocError>
+/// Lists what the words of an image hold, as they stand.
+pub fn listing_of<S: WordStore>(
+    alloc: Global,
+    store: &S,
+    shown: Shown,
+) -> Result<Listing, AllocError>
     requires { HasSize (S.words store.now) }
-    ensures { IfOk result (λ found. IsListing (S.words store.now) all (record {
+    ensures { IfOk result (λ found. IsListing (S.words store.now) shown (record {
       text = found.text.items;
       readable = found.readable;
     })) }
 {
     let mut text = Vec::new(alloc);
-    match push_listing(alloc, &mut text, store, all) {
+    match push_listing(alloc, &mut text, store, shown) {
         Ok(()) => Ok(Listing {
             text,
             readable: true,
@@ -51,14 +55,14 @@ fn push_listing<S: WordStore>(
     alloc: Global,
     text: &mut Vec<u8>,
     store: &S,
-    all: bool,
+    shown: Shown,
 ) -> Result<(), ListFault>
     requires { HasSize (S.words store.now) }
-    ensures { IsListed (S.words store.now) all text.old.items text.new.items result }
+    ensures { IsListed (S.words store.now) shown text.old.items text.new.items result }
 {
     push_areas(text, store)?;
     let legend = legend_of(alloc, store)?;
-    push_contents(alloc, text, &legend, store, all)
+    push_contents(alloc, text, &legend, store, shown)
 }
 
 // Writes the lines after the first one.
@@ -67,15 +71,15 @@ fn push_contents<S: WordStore>(
     text: &mut Vec<u8>,
     legend: &Legend,
     store: &S,
-    all: bool,
+    shown: Shown,
 ) -> Result<(), ListFault>
     requires size { HasSize (S.words store.now) }
     requires bounds { has_bounds (S.words store.now) ≡ true }
     ensures { Lists text.old.items text.new.items
-        (contents_lines (Some legend.now) (S.words store.now) all) result }
+        (contents_lines (Some legend.now) (S.words store.now) shown) result }
 {
     push_entries(alloc, text, &legend.platform, store)?;
     push_packages(alloc, text, legend, store)?;
     push_applets(text, store)?;
-    push_objects(alloc, text, legend, store, all)
+    push_objects(alloc, text, legend, store, shown)
 }

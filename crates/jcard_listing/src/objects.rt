@@ -5,12 +5,15 @@ ghost use Rattle.jc_heap.specs.Object.{cells_of};
 ghost use Rattle.jc_records.specs.Bounds.{has_bounds};
 ghost use Rattle.jc_records.specs.Records.{IsRecord, item_at, object_in};
 ghost use Rattle.jcard_listing.specs.Fault.{Lists};
-ghost use Rattle.jcard_listing.specs.Objects.{aid_length, aid_text, applet_name, area_text, behind_text, byte_text, cell_text, cells_text, contents_text, engine_text, field_text, header_text, is_aid, is_engine, is_engine_class, is_pin, is_told, item_text, object_text, objects_lines, owner_text, package_name, pin_text, value_text};
+ghost use Rattle.jcard_listing.specs.Objects.{aid_length, aid_text, applet_name, area_text, behind_text, byte_text, cell_text, cells_text, contents_text, engine_text, field_text, header_text, is_aid, is_engine, is_engine_class, is_pin, is_told, item_text, items_lines, object_text, objects_lines, owner_text, package_name, pin_text, value_text};
 
 use crate::fault::ListFault;
+use crate::keys::{hidden_in, is_hidden, push_key, push_not_shown};
+use crate::shown::Shown;
 use crate::texts::{push_hex, push_labelled, push_number, push_reference, push_short};
 use jc_heap::{Facts, Kind};
 use jc_image::{AppletName, PackageName, applet_at, package_at};
+use jc_image_keys::keys::is_key;
 use jc_objects::legend::Legend;
 use jc_platform::names::PlatformClass;
 use jc_records::bounds::first_record;
@@ -36,18 +39,34 @@ const AID_CELLS: u16 = 9;
 /// How many bytes an AID has at most.
 const MOST_AID: u16 = 16;
 
-/// Writes the line of each object, up to the first record that lacks words. Those of the runtime environment are reported
-/// where all are asked for.
+/// Writes the line of each object, up to the first record that lacks words.
 pub(crate) fn push_objects<S: WordStore>(
     alloc: Global,
     text: &mut Vec<u8>,
     legend: &Legend,
     store: &S,
+    shown: Shown,
+) -> Result<(), ListFault>
+    requires { has_bounds (S.words store.now) ≡ true }
+    ensures { Lists text.old.items text.new.items
+        (objects_lines legend.now (S.words store.now) shown) result }
+{
+    let hidden = hidden_in(alloc, legend, store, shown.secrets)?;
+    push_items(alloc, text, legend, store, &hidden, shown.all)
+}
+
+// Writes them without the bytes of these arrays.
+fn push_items<S: WordStore>(
+    alloc: Global,
+    text: &mut Vec<u8>,
+    legend: &Legend,
+    store: &S,
+    hidden: &[u16],
     all: bool,
 ) -> Result<(), ListFault>
     requires { has_bounds (S.words store.now) ≡ true }
     ensures { Lists text.old.items text.new.items
-        (objects_lines legend.now (S.words store.now) all) result }
+        (items_lines legend.now (S.words store.now) hidden.now all) result }
 {
     let _ = store.size(); // so that the proof knows that there are fewer than 65,536 words
     let top = store.read(TOP);
@@ -56,7 +75,7 @@ pub(crate) fn push_objects<S: WordStore>(
         let Some(size) = whole_size(store, at, top) else {
             return Err(ListFault::Unreadable);
         };
-        push_item(alloc, text, legend, store, at, all)?;
+        push_item(alloc, text, legend, store, hidden, at, all)?;
         at += size;
     }
     Ok(())
@@ -68,16 +87,19 @@ fn push_item<S: WordStore>(
     text: &mut Vec<u8>,
     legend: &Legend,
     store: &S,
+    hidden: &[u16],
     at: u16,
     all: bool,
 ) -> Result<(), AllocError>
     requires bounds { has_bounds (S.words store.now) ≡ true }
     requires record { IsRecord (S.words store.now) at }
     ensures { OnOk result (text.new.items ≡ text.old.items
-        ++ item_text legend.now (S.words store.now) all (at, item_at (S.words store.now) at)) }
+        ++ item_text legend.now (S.words store.now) hidden.now all (at, item_at (S.words store.now) at)) }
 {
     match object_at(store, at) {
-        Some(facts) if is_told(facts, all) => push_object(alloc, text, legend, store, at, facts),
+        Some(facts) if is_told(facts, all) => {
+            push_object(alloc, text, legend, store, hidden, at, facts)
+        }
         _ => Ok(()),
     }
 }
@@ -89,12 +111,13 @@ pub(crate) fn is_told(facts: Facts, all: bool) -> bool
     all || facts.owner().0 != 0
 }
 
-/// Writes the line of an object.
+/// Writes the line of an object, without the bytes of these arrays.
 pub(crate) fn push_object<S: WordStore>(
     alloc: Global,
     text: &mut Vec<u8>,
     legend: &Legend,
     store: &S,
+    hidden: &[u16],
     at: u16,
     facts: Facts,
 ) -> Result<(), AllocError>
@@ -104,11 +127,11 @@ pub(crate) fn push_object<S: WordStore>(
     requires cells { facts.event ≡ None
         → length (cells_of (item_at (S.words store.now) at)) ≡ facts.length }
     ensures { OnOk result (text.new.items ≡ text.old.items
-        ++ object_text legend.now (S.words store.now) at facts
+        ++ object_text legend.now (S.words store.now) hidden.now at facts
         (cells_of (item_at (S.words store.now) at))) }
 {
     push_header(alloc, text, legend, store, at, facts)?;
-    push_behind(alloc, text, legend, store, at, facts)?;
+    push_behind(alloc, text, legend, store, hidden, at, facts)?;
     text.extend_from_slice(b"\n")?;
     Ok(())
 }
@@ -119,6 +142,7 @@ fn push_behind<S: WordStore>(
     text: &mut Vec<u8>,
     legend: &Legend,
     store: &S,
+    hidden: &[u16],
     at: u16,
     facts: Facts,
 ) -> Result<(), AllocError>
@@ -128,11 +152,12 @@ fn push_behind<S: WordStore>(
     requires cells { facts.event ≡ None
         → length (cells_of (item_at (S.words store.now) at)) ≡ facts.length }
     ensures { OnOk result (text.new.items ≡ text.old.items
-        ++ behind_text legend.now facts facts.event (cells_of (item_at (S.words store.now) at))) }
+        ++ behind_text legend.now (S.words store.now) hidden.now at facts facts.event
+        (cells_of (item_at (S.words store.now) at))) }
 {
     match facts.event {
         Some(event) => push_area(text, event, facts.place),
-        None => push_contents(alloc, text, legend, store, at, facts),
+        None => push_contents(alloc, text, legend, store, hidden, at, facts),
     }
 }
 
@@ -232,6 +257,7 @@ fn push_contents<S: WordStore>(
     text: &mut Vec<u8>,
     legend: &Legend,
     store: &S,
+    hidden: &[u16],
     at: u16,
     facts: Facts,
 ) -> Result<(), AllocError>
@@ -240,13 +266,20 @@ fn push_contents<S: WordStore>(
     requires object { object_in (item_at (S.words store.now) at) ≡ Some facts }
     requires cells { length (cells_of (item_at (S.words store.now) at)) ≡ facts.length }
     ensures { OnOk result (text.new.items ≡ text.old.items
-        ++ contents_text legend.now facts (cells_of (item_at (S.words store.now) at))) }
+        ++ contents_text legend.now (S.words store.now) hidden.now at facts
+        (cells_of (item_at (S.words store.now) at))) }
 {
     if is_pin(legend, facts) {
         return push_pin(text, store, at, facts);
     }
+    if is_key(&legend.platform, facts) {
+        return push_key(text, store, at, facts);
+    }
     if is_engine(legend, facts) {
         return push_engine(text, store, at, facts);
+    }
+    if is_hidden(hidden, at, facts) {
+        return push_not_shown(text);
     }
     match aid_length(legend, store, at, facts) {
         Some(long) => push_aid(alloc, text, store, at, facts, long),
@@ -390,7 +423,7 @@ fn push_pin<S: WordStore>(
     push_reference(text, cell_of(store, at, facts, 4))
 }
 
-// Writes the fields of an engine.
+// Writes the fields of an engine. Its state is transient, so in an image it holds nothing.
 fn push_engine<S: WordStore>(
     text: &mut Vec<u8>,
     store: &S,
@@ -408,7 +441,7 @@ fn push_engine<S: WordStore>(
         text,
         b": algorithm ",
         cell_of(store, at, facts, 0),
-        b", state ",
+        b", holds nothing, state ",
     )?;
     push_reference(text, cell_of(store, at, facts, 1))
 }

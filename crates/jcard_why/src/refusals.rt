@@ -1,13 +1,14 @@
 //! What was refused: by the firewall, for want of room, or as a package was loaded.
 
+use crate::callees::push_platform_method;
 use crate::explanation::Asked;
 use crate::maps::entry_name;
 use crate::places::push_context;
 use crate::text::Text;
 use jc_firewall::access::Access;
 use jc_linker::linked::Linked;
-use jc_memory::{Cause, Denial, RefusedLoad, Shortage, Space};
-use jc_platform::names::PlatformClass;
+use jc_memory::{Cause, Denial, Member, MemberKind, RefusedLoad, Shortage, Space};
+use jc_platform::names::{MethodKind, PlatformClass, PlatformMethod};
 use std::alloc::AllocError;
 
 /// The status word of a component that ends too early.
@@ -116,7 +117,7 @@ fn push_load(text: &mut Text, refused: &RefusedLoad, asked: &Asked<'_>) -> Resul
             entry,
             package,
             class,
-            token,
+            member,
         } => {
             if let NO_PACKAGE | OTHER_VERSION = asked.status {
                 text.push(b"  package ")?;
@@ -125,10 +126,15 @@ fn push_load(text: &mut Text, refused: &RefusedLoad, asked: &Asked<'_>) -> Resul
             }
             push_entry(text, *entry)?;
             push_home(text, package.as_slice())?;
+            let package = package.as_slice();
+            let named = named_class(package, *class, asked.linked);
             push_token(text, b", class ", *class)?;
-            push_class_name(text, package.as_slice(), *class, asked.linked)?;
-            push_token(text, b", token ", *token)?;
-            push_member(text, *entry, package.as_slice(), *class, *token, asked)?;
+            push_class_name(text, named)?;
+            push_token(text, b", token ", token_of(*member))?;
+            match name_in_map(*entry, package, *class, *member, asked)? {
+                Some(name) => push_name(text, name)?,
+                None => push_method(text, named, *member, asked.linked)?,
+            }
             text.push(b"\n")
         }
     }
@@ -159,14 +165,9 @@ fn push_home(text: &mut Text, package: &[u8]) -> Result<(), AllocError> {
     text.push_hex(package)
 }
 
-// The name of a class of the platform, where the card has it.
-fn push_class_name(
-    text: &mut Text,
-    package: &[u8],
-    class: Option<u8>,
-    linked: &Linked,
-) -> Result<(), AllocError> {
-    match named_class(package, class, linked) {
+// The name of a class of the platform.
+fn push_class_name(text: &mut Text, named: Option<PlatformClass>) -> Result<(), AllocError> {
+    match named {
         None => Ok(()),
         Some(named) => {
             text.push(b" (")?;
@@ -176,23 +177,27 @@ fn push_class_name(
     }
 }
 
+// The class of the platform that has a token in a package with this AID, where the card has it.
 fn named_class(package: &[u8], class: Option<u8>, linked: &Linked) -> Option<PlatformClass> {
     let platform = linked.platform();
     let home = platform.package_with_aid(package)?;
     platform.class_by_token(home, class?)
 }
 
+fn token_of(member: Option<Member>) -> Option<u8> {
+    Some(member?.token)
+}
+
 // The name that the map has of what the entry names, in a line that states the entry, the package, the class and the member's token.
-fn push_member(
-    text: &mut Text,
+fn name_in_map<'a>(
     entry: u16,
     package: &[u8],
     class: Option<u8>,
-    token: Option<u8>,
-    asked: &Asked<'_>,
-) -> Result<(), AllocError> {
+    member: Option<Member>,
+    asked: &Asked<'a>,
+) -> Result<Option<&'a [u8]>, AllocError> {
     let Some(class) = class else {
-        return Ok(());
+        return Ok(None);
     };
     let mut head = Text::new(asked.alloc);
     head.push(b"entry ")?;
@@ -200,15 +205,46 @@ fn push_member(
     head.push(b" ")?;
     head.push_hex(package)?;
     push_token(&mut head, b" ", Some(class))?;
-    push_token(&mut head, b" ", token)?;
+    push_token(&mut head, b" ", token_of(member))?;
     head.push(b": ")?;
-    match entry_name(asked.map, &head.into_bytes()) {
+    Ok(entry_name(asked.map, &head.into_bytes()))
+}
+
+fn push_name(text: &mut Text, name: &[u8]) -> Result<(), AllocError> {
+    text.push(b": ")?;
+    text.push(name)
+}
+
+fn push_method(
+    text: &mut Text,
+    named: Option<PlatformClass>,
+    member: Option<Member>,
+    linked: &Linked,
+) -> Result<(), AllocError> {
+    match named_method(named, member, linked) {
         None => Ok(()),
-        Some(name) => {
+        Some(method) => {
             text.push(b": ")?;
-            text.push(name)
+            push_platform_method(text, method)
         }
     }
+}
+
+// The method of the platform that has this kind and token in a class, where the card has it. It is one of an interface, which is
+// called by its class alone, or one that the superclass of the class lacks.
+fn named_method(
+    named: Option<PlatformClass>,
+    member: Option<Member>,
+    linked: &Linked,
+) -> Option<PlatformMethod> {
+    let (class, member) = (named?, member?);
+    let kind = match member.kind {
+        MemberKind::StaticMethod => MethodKind::Static,
+        MemberKind::VirtualMethod if class.is_interface() => MethodKind::Interface,
+        MemberKind::VirtualMethod => MethodKind::Virtual,
+        MemberKind::Field | MemberKind::PackageVisibleMethod => return None,
+    };
+    linked.platform().method_by_token(class, kind, member.token)
 }
 
 fn push_entry(text: &mut Text, entry: u16) -> Result<(), AllocError> {

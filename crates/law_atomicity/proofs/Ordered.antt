@@ -80,7 +80,8 @@ module _ (p : Packages) (m : MemoryState) where
           (store_due KeepsTransactionOrder r (λ i x v element. inr element) words e.start m kind (omega (arith, w, long)) tt);
       behind = λ q n e bytes is long r count s words event state kept all. tt;
       transient = λ o is room r new. made_orderly m o.event o;
-      engine = λ e has there space room array new. (tt, λ r other. (tt, (tt, (tt, tt))));
+      engine = λ e has there space room array new. (made_orderly m e.event _, λ r other. (tt, (tt, (tt, tt))));
+      initial = λ a own is r count s words event state kept all. (cells_orderly m (facts m.heap.now own).event own a.start _, tt);
     };
     aid = λ init own bytes is long fine. cells_orderly m (facts m.heap.now own).event own 0 (cells_of_aid bytes);
     buffer = λ r words is fits. cells_orderly m (facts m.heap.now r).event r 5 words;

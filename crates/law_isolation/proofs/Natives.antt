@@ -1,5 +1,5 @@
 -- Methods of the platform spare what is outside reach.
-use Rattle.std.proofs.Common.{◌≡◌, ℕ, ◌<◌, ◌≤◌, true, false, inl, inr, List, length, map, Some, None, Ok, refl, sym, ◌∙◌, ap, subst, arith}
+use Rattle.std.proofs.Common.{◌≡◌, ℕ, ◌<◌, ◌≤◌, true, false, inl, inr, List, length, map, Option, Some, None, Ok, refl, sym, ◌∙◌, ap, subst, arith}
 use Rattle.std.proofs.lemmas.List.{length-map}
 use Rattle.std.proofs.lemmas.List.FromFn.{length-range_with_len}
 use Rattle.std.specs.List.{range_with_len}
@@ -8,14 +8,15 @@ use Rattle.jc_words.specs.Layout.{most_applets}
 use Rattle.jc_transient.specs.declared.cell.CellValue.TheVariants.{Short}
 use Rattle.jc_transient.specs.Cells.{number_of}
 use Rattle.jc_transient.specs.declared.cell.ClearEvent.{ClearEvent}
-use Rattle.jc_transient.specs.declared.cell.ClearEvent.TheVariants.{Reset}
-use Rattle.jc_heap.specs.declared.object.Kind.TheVariants.{ByteArray, ShortArray}
+use Rattle.jc_heap.specs.declared.object.Kind.TheVariants.{ByteArray}
+use Rattle.jc_heap.specs.Object.{is_object}
 use Rattle.jc_heap.specs.Heap.{IsObject, facts, is_allocated}
 use Rattle.jc_frames.specs.declared.cell.Cell.{Cell}
 use Rattle.jc_memory.specs.declared.registers.PackageNumber.{PackageNumber}
-use Rattle.jc_memory.specs.Making.{creation_refusal}
+use Rattle.jc_memory.specs.Making.{creation_move, creation_refusal}
 use Rattle.jc_memory.specs.Owners.{owner_number}
-use Rattle.jc_memory.specs.State.{MemoryState, IsNew, SetTransient, apply_effect}
+use Rattle.jc_memory.specs.State.{HeapMove, IsNew, MemoryState, SetTransient, apply_effect}
+use Rattle.jc_memory.specs.declared.making.NewObject.{NewObject}
 use Rattle.jc_memory.specs.Changing.{nonatomic_store}
 use Rattle.jc_memory.specs.Reading.{AllDue}
 use Rattle.jc_memory.specs.Cells.{header_at, cells_effect}
@@ -38,9 +39,11 @@ use Rattle.law_isolation.specs.Natives.{NativesSpare, ReachesCalled}
 use Rattle.law_isolation.specs.Reach.{IsOutside}
 use Rattle.law_isolation.specs.Sparing.{LeavesObject}
 use Rattle.jc_api.specs.Factory.{HasState, engine_creation, engine_object, has_space_for_both, is_in_table, state_array}
+use Rattle.jc_api.specs.Initializing.{FieldsAnswer, word_given, words_given}
 use Rattle.jc_api.specs.declared.factory.NewEngine.{NewEngine}
 use Rattle.jc_api.proofs.EngineRoom.{with_array}
-use Rattle.jc_api.proofs.Standing.{facts_after_run, object_after_transient}
+use Rattle.jc_api.proofs.Passing.{IsInitializing}
+use Rattle.jc_api.proofs.Standing.{facts_after_run, item_after_object, object_after_transient}
 use Rattle.jc_api.proofs.Stretches.{IsStretch}
 use Rattle.jc_api_framework.proofs.AppletCalls.Registering.{MayRegister, Registering, entry_of, home_of, with_aid}
 use Rattle.jc_api_framework.proofs.Passing.{Bears, IsPinCall, MethodPasses, RegistersSo, recorded}
@@ -100,25 +103,48 @@ module _ (method : PlatformMethod) (args : List Cell) (p : Packages) (m : Memory
       subst (λ a. AllDue (LeavesObject q) (nonatomic_store m a e.start words) m) (sym is.array)
       (store_due (LeavesObject q) r (λ i x v element. ne) words e.start m kind (omega (arith, w, long)) (ne, omega (arith, w, long, n)))
 
-  -- the cells of a transient array, after elements of another
-  state_spares : (q' : ℕ) (n : ℤ) (e : Stretch) (bytes : List ℕ) → IsStretch p m q' n e → length bytes ≡ e.count → (r : ℕ) (count : ℤ) (s : Stretch)
-      (words : List ℕ) (event : ClearEvent) → IsStretch p m r count s → (facts m.heap.now r).event ≡ Some event → length words ≡ s.count
-      → LeavesObject q (SetTransient s.array s.start (map number_of words)) (apply_effect (cells_effect m e.array e.start bytes) m)
-  state_spares q' n e bytes is long r count s words event state kept all =
+  -- the cells of a transient array, after cells of another object
+  state_spares_after : (object i : ℕ) (bytes : List ℕ) (r : ℕ) (count : ℤ) (s : Stretch) (words : List ℕ) → IsStretch p m r count s → length words ≡ s.count
+      → LeavesObject q (SetTransient s.array s.start (map number_of words)) (apply_effect (cells_effect m object i bytes) m)
+  state_spares_after object i bytes r count s words state all =
       let w = state.within in
       let size = length-map words number_of in
-      let header : (facts (apply_effect (cells_effect m e.array e.start bytes) m).heap.now s.array).length ≡ (facts m.heap.now r).length =
-      ap (λ f. f.length) (facts_after_run (facts m.heap.now e.array).event e.array e.start bytes m s.array ∙ ap (facts m.heap.now) state.array) in (
+      let header : (facts (apply_effect (cells_effect m object i bytes) m).heap.now s.array).length ≡ (facts m.heap.now r).length =
+      ap (λ f. f.length) (facts_after_run (facts m.heap.now object).event object i bytes m s.array ∙ ap (facts m.heap.now) state.array) in (
         λ same. not_outside p m q r (facts m.heap.now r) out refl state.reach (sym state.array ∙ same),
         omega (arith, w, size, all, header),
       )
 
+  -- cells of the object that is called, and those of a state
+  fields_spare : (a : FieldsAnswer) (own : ℕ) → IsInitializing method args p m a own → (r : ℕ) (count : ℤ) (s : Stretch) (words : List ℕ) (event : ClearEvent)
+      → IsStretch p m r count s → (facts m.heap.now r).event ≡ Some event → length words ≡ s.count
+      → LeavesObject q (cells_effect m own a.start (words_given args a.values)) m
+      × LeavesObject q (SetTransient s.array s.start (map number_of words)) (apply_effect (cells_effect m own a.start (words_given args a.values)) m)
+  fields_spare a own is r count s words event state kept all =
+      let n = length-map a.values (word_given args) in
+      let long = is.there.cells in (
+        run_spares q m own a.start (words_given args a.values) (other is.sets own is.called) (omega (arith, n, long)),
+        state_spares_after own a.start (words_given args a.values) r count s words state all,
+      )
+
+  -- after elements of another array
+  state_spares : (q' : ℕ) (n : ℤ) (e : Stretch) (bytes : List ℕ) → IsStretch p m q' n e → length bytes ≡ e.count → (r : ℕ) (count : ℤ) (s : Stretch)
+      (words : List ℕ) (event : ClearEvent) → IsStretch p m r count s → (facts m.heap.now r).event ≡ Some event → length words ≡ s.count
+      → LeavesObject q (SetTransient s.array s.start (map number_of words)) (apply_effect (cells_effect m e.array e.start bytes) m)
+  state_spares q' n e bytes is long r count s words event state kept all = state_spares_after e.array e.start bytes r count s words state all
+
+  -- what is there stays there where an object is made
+  there_after : (event : Option ClearEvent) (o : NewObject) → is_allocated m.heap.now m.heap.now.top ≡ false
+      → IsObject (apply_effect (HeapMove (creation_move event o)) m).heap.now q
+  there_after None o free = ap is_object (item_after_object m.heap.now _ _ q free out.there) ∙ out.there
+  there_after (Some event) o free = object_after_transient m.heap.now o.kind event o.class (owner_number o.owner) o.length q free out.there
+
   -- an object with a state
-  engine_spares : (e : NewEngine) → HasState e.class → is_in_table e.class p ≡ true → has_space_for_both m ≡ true → creation_refusal m (state_array e m) ≡ None
-      → AllDue (LeavesObject q) (engine_creation e p m) m
+  engine_spares : (e : NewEngine) → HasState e.class → is_in_table e.class p ≡ true → has_space_for_both e m ≡ true
+      → creation_refusal m (state_array e m) ≡ None → AllDue (LeavesObject q) (engine_creation e p m) m
   engine_spares e has table space room array new =
-      let there : IsObject (with_array e m).heap.now q = object_after_transient m.heap.now ShortArray Reset 0 (owner_number m.registers.active) e.state q
-      (subst (λ t. is_allocated m.heap.now t ≡ false) new.chosen new.free) out.there in (
+      let there : IsObject (with_array e m).heap.now q = there_after e.event (state_array e m)
+      (subst (λ t. is_allocated m.heap.now t ≡ false) new.chosen new.free) in (
         new_makes q m (state_array e m) array new,
         λ r other. let apart = new_other (with_array e m) q r there other in
             (new_makes q (with_array e m) (engine_object e p (with_array e m)) r other, (apart, (apart, tt))),
@@ -149,6 +175,7 @@ module _ (method : PlatformMethod) (args : List Cell) (p : Packages) (m : Memory
       behind = state_spares;
       transient = λ o is room. new_makes q m o;
       engine = engine_spares;
+      initial = fields_spare;
     };
     aid = λ init own bytes is long fine. run_spares q m own 0 (cells_of_aid bytes) (other (sets_aid init) own is)
         (let l = long.cells in let n = nine bytes in omega (arith, l, n));

@@ -32,9 +32,6 @@ pub either : (a b : Bool) → (a || b) ≡ true → a ≡ false → b ≡ true
 either true b e is = absurd (false≢true (subst (λ x. x ≡ true) is e))
 either false b e is = e
 
-abbrev pub is_listed : PlatformClass → Bool
-is_listed d = is_needed_class d && is_interface d
-
 -- ---- superclasses
 
 -- cells of which none holds a reference
@@ -182,13 +179,13 @@ few_cells c = (more_is c).1
 
 -- ---- interfaces
 
--- each table has what a class lists, and it is an interface
-interface_rows : list_all (λ e. list_all is_listed (interfaces_of e.class)) classes ≡ true
+-- what a class lists is an interface
+interface_rows : list_all (λ e. list_all is_interface (interfaces_of e.class)) classes ≡ true
 unfolding interfaces_of is_interface classes
 interface_rows = refl
 
-pub interfaces_are : (c : PlatformClass) → list_all is_listed (interfaces_of c) ≡ true
-interfaces_are = of_each (λ x. list_all is_listed (interfaces_of x)) interface_rows
+pub interfaces_are : (c : PlatformClass) → list_all is_interface (interfaces_of c) ≡ true
+interfaces_are = of_each (λ x. list_all is_interface (interfaces_of x)) interface_rows
 
 -- no interface has instances that code makes
 instantiable_rows : list_all (λ e. not (is_instantiable e.class) || not (is_interface e.class)) classes ≡ true

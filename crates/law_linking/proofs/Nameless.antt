@@ -4,7 +4,7 @@ use Rattle.std.specs.Prelude.{is_some, ◌%◌}
 use Rattle.std.specs.Option.{option_and_then}
 use Rattle.std.proofs.lemmas.Bool.{false≢true}
 use Rattle.jc_platform.specs.declared.names.PlatformPackage.{PlatformPackage}
-use Rattle.jc_platform.specs.declared.names.PlatformPackage.TheVariants.{JavaLang, JavacardFramework, JavacardxApdu, JavacardSecurity}
+use Rattle.jc_platform.specs.declared.names.PlatformPackage.TheVariants.{JavaLang, JavacardFramework, JavacardxApdu, JavacardSecurity, JavacardxCrypto}
 use Rattle.jc_platform.specs.declared.names.PlatformClass.{PlatformClass}
 use Rattle.jc_platform.specs.Distinct.{class_word, home_of, word_of_token}
 use Rattle.jc_platform.specs.Numbers.{same_package}
@@ -29,16 +29,19 @@ token_or_none t c = by_token (token_of_class t c) refl
 
 -- the number of a package where this one stands first
 abbrev numbered : PlatformPackage → PlatformPackage → ℕ
-numbered first p = if same_package p JavacardxApdu then 66 else (if same_package p JavacardSecurity then 67 else (if same_package p first then 64 else 65))
+numbered first p = if same_package p JavacardxApdu then 66 else (if same_package p JavacardSecurity then 67 else
+    (if same_package p JavacardxCrypto then 68 else (if same_package p first then 64 else 65)))
 
 no_package : (first : PlatformPackage) → (if 255 == numbered first JavaLang then Some JavaLang else
     (if 255 == numbered first JavacardFramework then Some JavacardFramework else
     (if 255 == numbered first JavacardxApdu then Some JavacardxApdu else
-    (if 255 == numbered first JavacardSecurity then Some JavacardSecurity else None)))) ≡ None
+    (if 255 == numbered first JavacardSecurity then Some JavacardSecurity else
+    (if 255 == numbered first JavacardxCrypto then Some JavacardxCrypto else None))))) ≡ None
 no_package JavaLang = refl
 no_package JavacardFramework = refl
 no_package JavacardxApdu = refl
 no_package JavacardSecurity = refl
+no_package JavacardxCrypto = refl
 
 pub names_none : (t : Tokens) → class_by_word t nameless ≡ None
 unfolding class_by_word package_by_number

@@ -5,7 +5,7 @@ use Rattle.std.specs.Prelude.{is_some, slice_get}
 use Rattle.std.specs.Option.{option_and_then}
 use Rattle.std.proofs.lemmas.Bool.{false≢true, eqb-true}
 use Rattle.jc_platform.specs.declared.names.PlatformPackage.{PlatformPackage}
-use Rattle.jc_platform.specs.declared.names.PlatformPackage.TheVariants.{JavaLang, JavacardFramework, JavacardxApdu, JavacardSecurity}
+use Rattle.jc_platform.specs.declared.names.PlatformPackage.TheVariants.{JavaLang, JavacardFramework, JavacardxApdu, JavacardSecurity, JavacardxCrypto}
 use Rattle.jc_platform.specs.declared.names.PlatformClass.{PlatformClass}
 use Rattle.jc_platform.specs.Distinct.{class_word, home_of, word_of_token}
 use Rattle.jc_platform.specs.Numbers.{same_package}
@@ -29,14 +29,15 @@ stands_beside bound number few (inr high) e = absurd (omega (arith, few, high, e
 
 -- ---- the platform's
 
-of_four : (a b c : Bool) → 64 ≤ (if a then 66 else (if b then 67 else (if c then 64 else 65)))
-of_four true b c = omega arith
-of_four false true c = omega arith
-of_four false false true = omega arith
-of_four false false false = omega arith
+of_five : (a b c d : Bool) → 64 ≤ (if a then 66 else (if b then 67 else (if c then 68 else (if d then 64 else 65))))
+of_five true b c d = omega arith
+of_five false true c d = omega arith
+of_five false false true d = omega arith
+of_five false false false true = omega arith
+of_five false false false false = omega arith
 
 pub platform_high : (t : Tokens) (p : PlatformPackage) → 64 ≤ number_in t p
-platform_high t p = of_four (same_package p JavacardxApdu) (same_package p JavacardSecurity) (same_package p t.first)
+platform_high t p = of_five (same_package p JavacardxApdu) (same_package p JavacardSecurity) (same_package p JavacardxCrypto) (same_package p t.first)
 
 high_word : (n x : ℕ) → 64 ≤ n → 64 ≤ (256 * n + x) / 256
 high_word n x high = omega (arith, high)
@@ -48,14 +49,15 @@ high_token n (Some k) high = high_word n k high
 pub word_high : (t : Tokens) (c : PlatformClass) → 64 ≤ class_word t c / 256
 word_high t c = high_token (number_in t (home_of c)) (token_of_class t c) (platform_high t (home_of c))
 
-by_number : (n : ℕ) (a b c d : Bool) → (a ≡ true → 64 ≤ n) → (b ≡ true → 64 ≤ n) → (c ≡ true → 64 ≤ n) → (d ≡ true → 64 ≤ n) → is_some
-    (if a then Some JavaLang else (if b then Some JavacardFramework else (if c then Some JavacardxApdu else
-    (if d then Some JavacardSecurity else None)))) ≡ true → 64 ≤ n
-by_number n true b c d first second third fourth there = first refl
-by_number n false true c d first second third fourth there = second refl
-by_number n false false true d first second third fourth there = third refl
-by_number n false false false true first second third fourth there = fourth refl
-by_number n false false false false first second third fourth there = absurd (false≢true there)
+by_number : (n : ℕ) (a b c d e : Bool) → (a ≡ true → 64 ≤ n) → (b ≡ true → 64 ≤ n) → (c ≡ true → 64 ≤ n) → (d ≡ true → 64 ≤ n) → (e ≡ true → 64 ≤ n)
+    → is_some (if a then Some JavaLang else (if b then Some JavacardFramework else (if c then Some JavacardxApdu else
+    (if d then Some JavacardSecurity else (if e then Some JavacardxCrypto else None))))) ≡ true → 64 ≤ n
+by_number n true b c d e first second third fourth fifth there = first refl
+by_number n false true c d e first second third fourth fifth there = second refl
+by_number n false false true d e first second third fourth fifth there = third refl
+by_number n false false false true e first second third fourth fifth there = fourth refl
+by_number n false false false false true first second third fourth fifth there = fifth refl
+by_number n false false false false false first second third fourth fifth there = absurd (false≢true there)
 
 same_high : (t : Tokens) (p : PlatformPackage) (n : ℕ) → (n == number_in t p) ≡ true → 64 ≤ n
 same_high t p n e = subst (λ m. 64 ≤ m) (sym (eqb-true n (number_in t p) e)) (platform_high t p)
@@ -63,8 +65,8 @@ same_high t p n e = subst (λ m. 64 ≤ m) (sym (eqb-true n (number_in t p) e)) 
 number_high : (t : Tokens) (n : ℕ) → is_some (package_by_number t n) ≡ true → 64 ≤ n
 unfolding package_by_number
 number_high t n there = by_number n (n == number_in t JavaLang) (n == number_in t JavacardFramework) (n == number_in t JavacardxApdu)
-    (n == number_in t JavacardSecurity) (same_high t JavaLang n) (same_high t JavacardFramework n) (same_high t JavacardxApdu n)
-    (same_high t JavacardSecurity n) there
+    (n == number_in t JavacardSecurity) (n == number_in t JavacardxCrypto) (same_high t JavaLang n) (same_high t JavacardFramework n)
+    (same_high t JavacardxApdu n) (same_high t JavacardSecurity n) (same_high t JavacardxCrypto n) there
 
 -- ---- those of loaded packages
 

@@ -8,7 +8,7 @@ use Rattle.std.specs.Option.{option_map}
 use Rattle.std.proofs.lemmas.Bool.{and_parts, cases_lt, false≢true, leb-true, ltb-true}
 use Rattle.std.proofs.Math.Nat.{min-eq_left, min-eq_right}
 use Rattle.jc_platform.specs.declared.names.PlatformClass.{PlatformClass}
-use Rattle.jc_platform.specs.Distinct.{class_word, is_needed_class}
+use Rattle.jc_platform.specs.Distinct.{class_word}
 use Rattle.jc_platform.specs.Hierarchy.{cells_of, holds_reference, interfaces_of, is_interface, superclass_of}
 use Rattle.jc_platform.specs.Platform.{TellNames, class_by_word}
 use Rattle.jc_platform.specs.Tokens.{token_of_class}
@@ -23,7 +23,7 @@ use Rattle.law_linking.proofs.Numbers.{word_high}
 use Rattle.law_linking.specs.Given.{HasByteTokens}
 use Rattle.law_linking.proofs.Chains.{Fits, IsOrdered, own}
 use Rattle.law_linking.proofs.Good.{AllGood, AreInterfaces, IsGood}
-use Rattle.law_linking.proofs.Facts.{fewer_above, interfaces_are, is_listed, reference_behind, reference_within}
+use Rattle.law_linking.proofs.Facts.{fewer_above, interfaces_are, reference_behind, reference_within}
 use Rattle.law_linking.proofs.Tokens.{HasToken, token_of_word, word_told}
 
 -- ---- they stand after their words
@@ -70,13 +70,20 @@ module _ (p : Packages) (few : length p.loaded ≤ 32) (names : TellNames p.plat
   unfolding names_interface
   platform_interface c stands = by_both interface_by c stands
 
-  -- the interfaces that a class of the platform lists are such
-  named_interfaces : (cs : List PlatformClass) → list_all is_listed cs ≡ true → AreInterfaces p (platform_interfaces p cs)
-  named_interfaces [] listed = tt
-  named_interfaces (c ∷ cs) listed =
-      let parts = and_parts (is_listed c) (list_all is_listed cs) listed in
-      let own = and_parts (is_needed_class c) (is_interface c) parts.0 in
-      (platform_interface c (names.needed_classes c own.0) ∙ own.1, named_interfaces cs parts.1)
+  abbrev is_there : PlatformClass → Bool
+  is_there c = is_some (token_of_class p.platform c)
+
+  -- interfaces of the platform that stand are such
+  named_interfaces : (cs : List PlatformClass) → list_all is_interface cs ≡ true → list_all is_there cs ≡ true → AreInterfaces p (platform_interfaces p cs)
+  named_interfaces [] each there = tt
+  named_interfaces (c ∷ cs) each there =
+      let parts = and_parts (is_interface c) (list_all is_interface cs) each in
+      let stand = and_parts (is_there c) (list_all is_there cs) there in
+      (platform_interface c (of_some (token_of_class p.platform c) stand.0) ∙ parts.0, named_interfaces cs parts.1 stand.1)
+
+  -- so are those that a class of the platform lists that stands
+  pub class_interfaces : (c : PlatformClass) → HasToken p.platform c → AreInterfaces p (platform_interfaces p (interfaces_of c))
+  class_interfaces c stands = named_interfaces (interfaces_of c) (interfaces_are c) (names.interfaces c (ap is_some stands.1))
 
 -- ---- all classes
 
@@ -168,11 +175,12 @@ module _ (p : Packages) (few : length p.loaded ≤ 32) (names : TellNames p.plat
 
   -- ---- what classes list are interfaces
 
-  listed_by : (w : ℕ) (o : Option ClassValue) → class_in p w ≡ o → (other : Option PlatformClass) → AreInterfaces p (interfaces_by p o other)
-  listed_by w (Some c) is other = (good w c is).interfaces
-  listed_by w None is None = tt
-  listed_by w None is (Some d) = named_interfaces p few names bytes (interfaces_of d) (interfaces_are d)
+  listed_by : (w : ℕ) (o : Option ClassValue) → class_in p w ≡ o → (other : Option PlatformClass) → class_by_word p.platform w ≡ other
+      → AreInterfaces p (interfaces_by p o other)
+  listed_by w (Some c) is other told = (good w c is).interfaces
+  listed_by w None is None told = tt
+  listed_by w None is (Some d) told = class_interfaces p few names bytes d (token_of_word p.platform w d told)
 
   pub listed : (w : ℕ) → AreInterfaces p (interfaces_in p w)
   unfolding interfaces_in
-  listed w = listed_by w (class_in p w) refl (class_by_word p.platform w)
+  listed w = listed_by w (class_in p w) refl (class_by_word p.platform w) refl

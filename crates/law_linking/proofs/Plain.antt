@@ -7,15 +7,15 @@ use Rattle.std.specs.Option.{option_and_then}
 use Rattle.std.specs.Str.{bytes_eq}
 use Rattle.std.proofs.lemmas.Bool.{and_from, and_parts, eqb-true, false≢true, or_cases}
 use Rattle.jc_platform.specs.declared.names.PlatformPackage.{PlatformPackage}
-use Rattle.jc_platform.specs.declared.names.PlatformPackage.TheVariants.{JavaLang, JavacardFramework, JavacardxApdu, JavacardSecurity}
+use Rattle.jc_platform.specs.declared.names.PlatformPackage.TheVariants.{JavaLang, JavacardFramework, JavacardxApdu, JavacardSecurity, JavacardxCrypto}
 use Rattle.jc_platform.specs.declared.names.PlatformClass.{PlatformClass}
 use Rattle.jc_platform.specs.declared.names.PlatformMethod.{PlatformMethod}
 use Rattle.jc_platform.specs.Distinct.{is_needed_class, is_needed_method}
-use Rattle.jc_platform.specs.Hierarchy.{superclass_of}
 use Rattle.jc_platform.specs.Names.{ClassEntry, MethodEntry, classes, methods, packages}
 use Rattle.jc_platform.specs.Names.{objects_rows, exceptions_rows, utilities_rows, system_rows, aids_rows, pins_rows, applets_rows, apdus_rows, events_rows, engines_rows}
+use Rattle.jc_platform.specs.Names.{keys_rows, key_interfaces_rows, ciphers_rows}
 use Rattle.jc_platform.specs.Numbers.{class_number, is_needed_package, method_number, package_number, same_class, same_kind, same_method, same_package}
-use Rattle.jc_platform.specs.Rows.{Above, above, allows, class_row, has_class_token, has_method_token, has_needed_packages, has_superclass, is_package}
+use Rattle.jc_platform.specs.Rows.{Above, above, allows, class_row, has_class_token, has_method_token, has_needed_packages, has_supertypes, is_package}
 use Rattle.jc_platform.specs.Rows.{kind_of, largest_token, may_be_class, may_be_extended, may_be_method, may_be_package, method_named, method_row}
 use Rattle.jc_platform.specs.Rows.{bytes_of, may_be_random, number_of, package_row, parts_at, random_row, row_of}
 use Rattle.jc_platform.specs.Table.{Say, no_random}
@@ -48,7 +48,7 @@ unfolding classes
 class_entries = refl
 
 method_entries : list_all (λ e. not e.needed || is_needed_method e.method) methods ≡ true
-unfolding objects_rows exceptions_rows utilities_rows system_rows aids_rows pins_rows applets_rows apdus_rows events_rows engines_rows
+unfolding objects_rows exceptions_rows utilities_rows system_rows aids_rows pins_rows applets_rows apdus_rows events_rows engines_rows keys_rows key_interfaces_rows ciphers_rows
 method_entries = refl
 
 -- where only that may stand which each table has, another has no token
@@ -77,6 +77,7 @@ needed_number JavaLang = refl
 needed_number JavacardFramework = refl
 needed_number JavacardxApdu = refl
 needed_number JavacardSecurity = refl
+needed_number JavacardxCrypto = refl
 
 same_needed : (p q : PlatformPackage) → same_package p q ≡ true → is_needed_package p ≡ is_needed_package q
 same_needed p q same = needed_number p ∙ ap (λ n. nat_lt n 2) (eqb-true (package_number p) (package_number q) same) ∙ sym (needed_number q)
@@ -97,7 +98,7 @@ module _ (a : Above) (plain : a.extended ≡ false) where
       → (c : PlatformClass) → is_needed_class c ≡ false → same_class e.class c ≡ true → ⊥
   no_class e name t found may c optional same =
       let home = is_package a.home e.home in
-      let stands = has_superclass a (superclass_of e.class) in
+      let stands = has_supertypes a e.class in
       let new = not (is_some (a.class_token e.class)) in
       let one = (and_parts (allows a e.needed && home && stands && new) (not (has_class_token a e.home t)) may).0 in
       let two = (and_parts (allows a e.needed && home) stands (and_parts (allows a e.needed && home && stands) new one).0).0 in

@@ -6,7 +6,7 @@ use Rattle.std.specs.Option.{option_map, option_and_then}
 use Rattle.std.proofs.lemmas.Bool.{and_parts, eqb-true, false≢true}
 use Rattle.std.proofs.lemmas.Option.{none-some, option_and_then_some, same_Some}
 use Rattle.jc_platform.specs.declared.names.PlatformPackage.{PlatformPackage}
-use Rattle.jc_platform.specs.declared.names.PlatformPackage.TheVariants.{JavaLang, JavacardFramework, JavacardxApdu, JavacardSecurity}
+use Rattle.jc_platform.specs.declared.names.PlatformPackage.TheVariants.{JavaLang, JavacardFramework, JavacardxApdu, JavacardSecurity, JavacardxCrypto}
 use Rattle.jc_platform.specs.declared.names.PlatformClass.{PlatformClass}
 use Rattle.jc_platform.specs.declared.names.MethodKind.{MethodKind}
 use Rattle.jc_platform.specs.declared.names.PlatformMethod.{PlatformMethod}
@@ -43,20 +43,23 @@ word_told t told bytes c stands =
 
 -- ---- the word of a class that a word names
 
-by_numbers : (a b c d : Bool) (home : PlatformPackage) (P : PlatformPackage → Type 0) → (a ≡ true → P JavaLang) → (b ≡ true → P JavacardFramework)
-    → (c ≡ true → P JavacardxApdu) → (d ≡ true → P JavacardSecurity) → (if a then Some JavaLang else (if b then Some JavacardFramework else
-    (if c then Some JavacardxApdu else (if d then Some JavacardSecurity else None)))) ≡ Some home → P home
-by_numbers true b c d home P first second third fourth is = subst P (same_Some JavaLang home is) (first refl)
-by_numbers false true c d home P first second third fourth is = subst P (same_Some JavacardFramework home is) (second refl)
-by_numbers false false true d home P first second third fourth is = subst P (same_Some JavacardxApdu home is) (third refl)
-by_numbers false false false true home P first second third fourth is = subst P (same_Some JavacardSecurity home is) (fourth refl)
-by_numbers false false false false home P first second third fourth is = absurd (none-some home is)
+by_numbers : (a b c d e : Bool) (home : PlatformPackage) (P : PlatformPackage → Type 0) → (a ≡ true → P JavaLang) → (b ≡ true → P JavacardFramework)
+    → (c ≡ true → P JavacardxApdu) → (d ≡ true → P JavacardSecurity) → (e ≡ true → P JavacardxCrypto)
+    → (if a then Some JavaLang else (if b then Some JavacardFramework else (if c then Some JavacardxApdu else
+    (if d then Some JavacardSecurity else (if e then Some JavacardxCrypto else None))))) ≡ Some home → P home
+by_numbers true b c d e home P first second third fourth fifth is = subst P (same_Some JavaLang home is) (first refl)
+by_numbers false true c d e home P first second third fourth fifth is = subst P (same_Some JavacardFramework home is) (second refl)
+by_numbers false false true d e home P first second third fourth fifth is = subst P (same_Some JavacardxApdu home is) (third refl)
+by_numbers false false false true e home P first second third fourth fifth is = subst P (same_Some JavacardSecurity home is) (fourth refl)
+by_numbers false false false false true home P first second third fourth fifth is = subst P (same_Some JavacardxCrypto home is) (fifth refl)
+by_numbers false false false false false home P first second third fourth fifth is = absurd (none-some home is)
 
 package_is : (t : Tokens) (n : ℕ) (home : PlatformPackage) → package_by_number t n ≡ Some home → n ≡ number_in t home
 unfolding package_by_number
 package_is t n home is = by_numbers (n == number_in t JavaLang) (n == number_in t JavacardFramework) (n == number_in t JavacardxApdu)
-    (n == number_in t JavacardSecurity) home (λ q. n ≡ number_in t q) (eqb-true n (number_in t JavaLang)) (eqb-true n (number_in t JavacardFramework))
-    (eqb-true n (number_in t JavacardxApdu)) (eqb-true n (number_in t JavacardSecurity)) is
+    (n == number_in t JavacardSecurity) (n == number_in t JavacardxCrypto) home (λ q. n ≡ number_in t q) (eqb-true n (number_in t JavaLang))
+    (eqb-true n (number_in t JavacardFramework)) (eqb-true n (number_in t JavacardxApdu)) (eqb-true n (number_in t JavacardSecurity))
+    (eqb-true n (number_in t JavacardxCrypto)) is
 
 passing : {X : Type 0} (test : X → Bool) (x e : X) (xs : List X) (b : Bool) → test x ≡ b → (find test xs ≡ Some e → test e ≡ true)
     → (if b then Some x else find test xs) ≡ Some e → test e ≡ true
@@ -91,7 +94,9 @@ class_is t home token c is =
     )
   where
     number_same : (u : Tokens) (p q : PlatformPackage) → same_package p q ≡ true → number_in u p ≡ number_in u q
-    number_same u p q same = ap (λ n. if n == 2 then 66 else (if n == 3 then 67 else (if n == package_number u.first then 64 else 65))) (eqb-true (package_number p) (package_number q) same)
+    number_same u p q same =
+        ap (λ n. if n == 2 then 66 else (if n == 3 then 67 else (if n == 4 then 68 else (if n == package_number u.first then 64 else 65))))
+        (eqb-true (package_number p) (package_number q) same)
 
 back_again : (w n token : ℕ) → w / 256 ≡ n → token ≡ w % 256 → w ≡ 256 * n + token
 back_again w n token high low = omega (arith, high, low)

@@ -1,5 +1,5 @@
 -- Applet: an applet is registered, with an AID object that is made for it.
-use Rattle.std.proofs.Common.{◌≡◌, ℕ, ◌+◌, ◌*◌, ◌<◌, ◌≤◌, Bool, true, false, List, length, Option, Some, None, Result, Ok, refl, sym, ◌∙◌, ap, subst, arith}
+use Rattle.std.proofs.Common.{◌≡◌, ℕ, ◌+◌, ◌*◌, ◌<◌, ◌≤◌, Bool, true, false, inl, List, length, Option, Some, None, Result, Ok, refl, sym, ◌∙◌, ap, subst, arith}
 use Rattle.std.proofs.Common.{if◌then◌else◌}
 use Rattle.std.proofs.lemmas.Bool.{and_from, and_parts, cond-true, eq-eqb, false_from_ne_true, leb-true, ltb-true, true≢false}
 use Rattle.std.proofs.lemmas.List.{length-replicate}
@@ -142,7 +142,7 @@ module _ (keeps : KeepsSound) (p : Packages) (m : MemoryState) (known : KnowsCla
 
     cells_fit : (aid : List ℕ) → is_aid_length (length aid) ≡ true → FitsRun p after_new r 0 (cells_of_aid aid)
     cells_fit aid long = (
-      λ stays. record {
+      λ stays. inl (record {
         bytes = aid;
         first = refl;
         is = refl;
@@ -152,7 +152,7 @@ module _ (keeps : KeepsSound) (p : Packages) (m : MemoryState) (known : KnowsCla
         apart = λ a lt same.
             let there : a < m.heap.now.counts.1 = subst (λ n. a < n) (applets-add_object m.heap.now aid_new (object_size Instance 9)).0 lt in
             other (entry_word m.heap.now a 0) (entry_old a there) (sym same ∙ entry_same a);
-      },
+      }),
       λ array. absurd (true≢false (ap is_instance (ap (λ f. f.kind) (sym facts_new) ∙ array))),
     )
 

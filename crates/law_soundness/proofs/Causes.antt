@@ -44,6 +44,8 @@ use Rattle.jc_world.specs.Contexts.{firewall_decision, installed_package}
 use Rattle.jc_world.specs.declared.native_result.NativeResult.{NativeResult}
 use Rattle.jc_world.specs.declared.native_result.NativeResult.TheVariants.{ReturnVoid, ReturnValue, CallServer, Aborted}
 use Rattle.jc_api_framework.specs.Aid.Cells.{cells_of_aid}
+use Rattle.jc_api.specs.Factory.{state_array}
+use Rattle.jc_api.specs.Initializing.{words_given}
 use Rattle.jc_api.proofs.Due.{Anything, DueThen, due_of, results_of}
 use Rattle.jc_api.proofs.Reaching.{err_not_ok, same_Ok}
 use Rattle.jc_api_framework.proofs.AppletCalls.Registering.{MayRegister, Registering, home_of}
@@ -126,7 +128,8 @@ module _ (m : MemoryState) where
             (store_due IsInMethod r (λ i x v element. tt) words e.start m kind (omega (arith, w, long)) tt);
         behind = λ q n e bytes is long r count s words event state kept all. tt;
         transient = λ o is room r new. made_in o.event o;
-        engine = λ e has there space room array new. (tt, λ r other. (tt, (tt, (tt, tt))));
+        engine = λ e has there space room array new. (made_in e.event (state_array e m), λ r other. (tt, (tt, (tt, tt))));
+        initial = λ a own is r count s words event state kept all. (run_in (facts m.heap.now own).event own a.start (words_given args a.values), tt);
       };
       aid = λ init own bytes is long fine. run_in (facts m.heap.now own).event own 0 (cells_of_aid bytes);
       buffer = λ r words is fits. run_in (facts m.heap.now r).event r 5 words;

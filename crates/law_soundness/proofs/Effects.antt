@@ -42,7 +42,7 @@ use Rattle.law_soundness.proofs.Objects.{object_added, transient_added}
 use Rattle.law_soundness.proofs.Pins.{PinAt, array_bytes, counter_kept, first_kept, pin_at, pin_still, update_kept}
 use Rattle.law_soundness.proofs.Registry.{IsEntry, entered, facts_still, item_still}
 use Rattle.law_soundness.proofs.Statics.{static_kept, words_kept}
-use Rattle.law_soundness.proofs.Values.{aid_run_kept, none_of, of_all, run_kept, value_kept}
+use Rattle.law_soundness.proofs.Values.{aid_run_kept, fields_kept, none_of, of_all, run_kept, value_kept}
 
 -- ---- what the moves need to keep the heap whole
 
@@ -305,7 +305,10 @@ module _ (p : Packages) (m : MemoryState) (s : IsSoundMemory p m) where
       (keeps (SetCells r i words) m.heap (λ kind. absurd (fits.1 kind)) s.whole)
       (λ most sound. of_all most (last_own m) p m.heap.now (set_cells m.heap.now r i words)
       (λ but. elim (cases_Bool (is_persistent_instance (facts m.heap.now r))) [
-        | inl kept ↦ aid_set most but (fits.0 kept)
+        | inl kept ↦ elim (fits.0 kept) [
+          | inl aid ↦ aid_set most but aid
+          | inr fields ↦ fields_kept (last_own m) most (last_own m) p words m.heap.now r i (λ k lt. fields.fits k lt) but
+        ]
         | inr none ↦ run_kept (last_own m) most (last_own m) p words m.heap.now r i none but
       ]) sound)
     where

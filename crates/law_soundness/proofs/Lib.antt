@@ -22,7 +22,9 @@ pub mod Making
 pub mod Below
 pub mod Turning
 pub mod Small
+pub mod Stateful
 pub mod Engines
+pub mod Initializing
 pub mod NativeArrays
 pub mod RunPins
 pub mod RunCells

@@ -57,7 +57,7 @@ module _ (p : Packages) (m : MemoryState) (known : KnowsClasses p) (sound : IsSo
       → is_aid_length (length bytes) ≡ true → FitsRun p m own 0 (cells_of_aid bytes)
   unfolding cells_of is_interface classes
   aid_fits own bytes class owned there fine = (
-    λ stays. (let instances = kept_fits p m sound own there.there stays in record {
+    λ stays. inl (let instances = kept_fits p m sound own there.there stays in record {
       bytes = bytes;
       first = refl;
       is = refl;

@@ -1,13 +1,15 @@
 -- Methods of the platform fit, and leave a memory between two instructions.
 use Rattle.std.specs.Prelude.{ℤ}
-use Rattle.std.proofs.Common.{◌≡◌, ℕ, true, false, inl, inr, List, Some, refl, sym, ◌∙◌, ap, subst, arith}
+use Rattle.std.proofs.Common.{◌≡◌, ℕ, true, false, inl, inr, List, length, map, Some, refl, sym, ◌∙◌, ap, subst, arith}
+use Rattle.std.proofs.lemmas.List.{length-map}
+use Rattle.jc_transient.specs.Cells.{number_of}
 use Rattle.jc_transient.specs.declared.cell.CellValue.TheVariants.{Short}
 use Rattle.jc_heap.specs.declared.object.Kind.{Kind}
 use Rattle.jc_heap.specs.declared.object.Kind.TheVariants.{ByteArray, ReferenceArray}
 use Rattle.jc_heap.specs.Heap.{HeapState, facts, set_cell}
 use Rattle.jc_heap.specs.Whole.{IsReference}
 use Rattle.jc_frames.specs.declared.cell.Cell.{Cell}
-use Rattle.jc_memory.specs.State.{MemoryState, apply_effect}
+use Rattle.jc_memory.specs.State.{MemoryState, SetTransient, apply_effect}
 use Rattle.jc_memory.specs.Cells.{cells_effect}
 use Rattle.jc_memory.specs.Changing.{nonatomic_store}
 use Rattle.jc_memory.specs.Reading.{AllDue}
@@ -30,6 +32,7 @@ use Rattle.jc_interp.specs.Natives.{native_call}
 use Rattle.jc_world.specs.NativeCalls.{NativeProgram}
 use Rattle.jc_platform.specs.Signatures.{minds_receiver}
 use Rattle.law_isolation.proofs.Facts.{sets_minds}
+use Rattle.jc_api.specs.Initializing.{word_given, words_given}
 use Rattle.jc_api.proofs.Due.{DueThen, due_of, due_then, results_of}
 use Rattle.jc_api.proofs.Standing.{facts_after_run, object-set_cell}
 use Rattle.jc_api.proofs.Stretches.{HoldsNumbers, IsStretch, length_bytes}
@@ -42,7 +45,9 @@ use Rattle.law_soundness.specs.Fit.{IsFit, IsPinObject, OfValue}
 use Rattle.law_soundness.specs.State.{IsSoundMemory, IsSteady}
 use Rattle.law_soundness.proofs.Effects.{keeps_sound}
 use Rattle.law_soundness.proofs.Engines.{engine_fits}
+use Rattle.law_soundness.specs.Living.{AreLivingCells}
 use Rattle.law_soundness.specs.Natives.{IsReceiver, NativesFit}
+use Rattle.law_soundness.proofs.Initializing.{fields_fit}
 use Rattle.law_soundness.proofs.Applets.{bytes_small, entry_named, open_home, registering_fits}
 use Rattle.law_soundness.proofs.Below.{reasoned}
 use Rattle.law_soundness.proofs.NativeArrays.{aid_fits, elements_fit, run_in}
@@ -96,7 +101,7 @@ unfolding applets_rows
 class_given method is = ap class_of is
 
 module _ (method : PlatformMethod) (args : List Cell) (p : Packages) (m : MemoryState) (known : KnowsClasses p) (aids : HasAids p) (sound : IsSoundMemory p m)
-    (steady : IsSteady m) (receiver : IsReceiver p m method args) where
+    (steady : IsSteady m) (receiver : IsReceiver p m method args) (living : AreLivingCells m.heap.now args) where
   -- the receiver is of the class of the method, or of one below it
   called_on : (of : PlatformClass) → minds_receiver method ≡ true → class_of method ≡ of → (r : ℕ) → reference_argument args 0 ≡ Some r
       → is_a p (facts m.heap.now r).class of ≡ true
@@ -105,10 +110,16 @@ module _ (method : PlatformMethod) (args : List Cell) (p : Packages) (m : Memory
   object_of : (pin : ℕ) → IsPinCall method args m pin → IsPinObject p m pin
   object_of pin is = pin_object p m known sound pin is.is (called_on _ (sets_minds method is.sets) is.class pin is.called)
 
-  -- the header of a state, after elements of another array were set
-  header_behind : (e : Stretch) (bytes : List ℕ) (r : ℕ) (count : ℤ) (s : Stretch) → IsStretch p m r count s
-      → facts (apply_effect (cells_effect m e.array e.start bytes) m).heap.now s.array ≡ facts m.heap.now r
-  header_behind e bytes r count s state = facts_after_run (facts m.heap.now e.array).event e.array e.start bytes m s.array ∙ ap (facts m.heap.now) state.array
+  -- the cells of a state fit, after cells of another object were set
+  state_fits : (object i : ℕ) (bytes : List ℕ) (r : ℕ) (count : ℤ) (s : Stretch) (words : List ℕ) → IsStretch p m r count s → length words ≡ s.count
+      → IsFit p (SetTransient s.array s.start (map number_of words)) (apply_effect (cells_effect m object i bytes) m)
+  state_fits object i bytes r count s words state all =
+      let header : facts (apply_effect (cells_effect m object i bytes) m).heap.now s.array ≡ facts m.heap.now r =
+      facts_after_run (facts m.heap.now object).event object i bytes m s.array ∙ ap (facts m.heap.now) state.array in
+      let w = state.within in
+      let long = ap (λ f. f.length) header in
+      numbers_fit _ s.array s.start words (omega (arith, w, all, long))
+      (λ references. numbers_no_array (facts m.heap.now r).kind state.kind (ap (λ f. f.kind) (sym header) ∙ references))
 
   passes : MethodPasses (IsFit p) method args p m
   passes = record {
@@ -123,11 +134,15 @@ module _ (method : PlatformMethod) (args : List Cell) (p : Packages) (m : Memory
           subst (λ a. AllDue (IsFit p) (nonatomic_store m a e.start words) m) (sym is.array)
           (store_due (IsFit p) r (λ i x v element. inr element) words e.start m kind (omega (arith, w, long))
           (numbers_fit m r e.start words (omega (arith, w, long)) (array_of_bytes (facts m.heap.now r).kind kind)));
-      behind = λ q n e bytes is long r count s words event state kept all. numbers_fit _ s.array s.start words
-          (let w = state.within in let header = ap (λ f. f.length) (header_behind e bytes r count s state) in omega (arith, w, all, header))
-          (λ references. numbers_no_array (facts m.heap.now r).kind state.kind (ap (λ f. f.kind) (sym (header_behind e bytes r count s state)) ∙ references));
+      behind = λ q n e bytes is long r count s words event state kept all. state_fits e.array e.start bytes r count s words state all;
       transient = transient_fits p m known sound steady;
       engine = λ e has there space. engine_fits p m known sound steady e has there;
+      initial = λ a own is r count s words event state kept all. (
+        run_in p m own a.start (words_given args a.values) (facts m.heap.now own).event refl
+            (let n = length-map a.values (word_given args) in let long = is.there.cells in omega (arith, n, long))
+            (fields_fit p m known sound method args living a own is),
+        state_fits own a.start (words_given args a.values) r count s words state all,
+      );
     };
     aid = λ init own bytes is there long. run_in p m own 0 (cells_of_aid bytes) (facts m.heap.now own).event refl
         (let l = there.cells in let n = nine bytes in omega (arith, l, n))
@@ -179,8 +194,8 @@ module _ (method : PlatformMethod) (args : List Cell) (p : Packages) (m : Memory
 
 pub natives_are_fit : NativesFit
 natives_are_fit method args p m given = due_of (IsFit p) (IsCallResult m) (native_call method args p m) m
-    (natively method args p m given.classes given.aids given.sound given.steady given.receiver given.environment)
+    (natively method args p m given.classes given.aids given.sound given.steady given.receiver given.living given.environment)
 
 pub natives_leave : NativesLeave
 natives_leave method args p m given = results_of (IsFit p) (IsCallResult m) (native_call method args p m) m
-    (natively method args p m given.classes given.aids given.sound given.steady given.receiver given.environment)
+    (natively method args p m given.classes given.aids given.sound given.steady given.receiver given.living given.environment)

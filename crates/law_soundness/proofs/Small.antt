@@ -66,14 +66,15 @@ module _ (p : Packages) (m : MemoryState) (known : KnowsClasses p) (sound : IsSo
   fits_for ShortArray n none = refl
   fits_for ReferenceArray n none = (and_parts (is_class p (class_word p.platform Object)) _ (known.platform.own Object (known.platform.needed Object refl) refl)).0
 
-  wanted_fits : (o : NewObject) → IsTransientArray p m o → FitsNew p m o.kind o.class (owner_number o.owner) o.length
-  wanted_fits o is = record {
-    there = subst (λ c. fits_class p o.kind c o.length ≡ true) (sym is.class) (fits_for o.kind o.length is.array);
-    known = subst (λ a. is_owner_up_to (most_new m) m.heap.now (owner_number a) ≡ true) (sym is.owner) (active_known p m sound steady);
-    small = λ instance. absurd (is.array (instance_kind o.kind instance));
-    environments = λ instance zero. absurd (is.array (instance_kind o.kind instance));
+  pub array_new : (o : NewObject) → (o.kind ≡ Instance → ⊥) → o.class ≡ class_for o.kind p → o.owner ≡ m.registers.active
+      → FitsNew p m o.kind o.class (owner_number o.owner) o.length
+  array_new o array class owner = record {
+    there = subst (λ c. fits_class p o.kind c o.length ≡ true) (sym class) (fits_for o.kind o.length array);
+    known = subst (λ a. is_owner_up_to (most_new m) m.heap.now (owner_number a) ≡ true) (sym owner) (active_known p m sound steady);
+    small = λ instance. absurd (array (instance_kind o.kind instance));
+    environments = λ instance zero. absurd (array (instance_kind o.kind instance));
   }
 
   pub transient_fits : (o : NewObject) → IsTransientArray p m o → creation_refusal m o ≡ None → Makes (IsFit p) m o
-  transient_fits o is room = new_transient p m o (wanted_fits o is) is.event is.kept (has_space o is.event is.kept room)
+  transient_fits o is room = new_transient p m o (array_new o is.array is.class is.owner) is.event is.kept (has_space o is.event is.kept room)
       (false_from_ne_true (is_instance o.kind) (λ instance. is.array (instance_kind o.kind instance)))

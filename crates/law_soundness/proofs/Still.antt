@@ -19,6 +19,8 @@ use Rattle.jc_pin.specs.Pins.{record_of}
 use Rattle.jc_platform.specs.declared.names.PlatformMethod.{PlatformMethod}
 use Rattle.jc_api_framework.specs.Aid.Cells.{cells_of_aid}
 use Rattle.law_isolation.proofs.Bytes.{store_due}
+use Rattle.jc_api.specs.Factory.{state_array}
+use Rattle.jc_api.specs.Initializing.{words_given}
 use Rattle.jc_api.proofs.Passing.{Turns}
 use Rattle.jc_api_framework.proofs.Passing.{MethodPasses}
 use Rattle.law_isolation.proofs.Passing.{ArraysPass, FieldsPass, InstancesPass}
@@ -64,7 +66,8 @@ module _ (m : MemoryState) where
           (store_due IsStill r (λ i x v element. (tt, refl)) words e.start m kind (omega (arith, w, long)) (tt, refl));
       behind = λ q n e bytes is long r count s words event state kept all. (tt, refl);
       transient = λ o is room r new. made_still o.event o;
-      engine = λ e has there space room array new. ((tt, refl), λ r other. ((tt, refl), ((tt, refl), ((tt, refl), tt))));
+      engine = λ e has there space room array new. (made_still e.event (state_array e m), λ r other. ((tt, refl), ((tt, refl), ((tt, refl), tt))));
+      initial = λ a own is r count s words event state kept all. (run_still (facts m.heap.now own).event own a.start (words_given args a.values), (tt, refl));
     };
     aid = λ init own bytes is long fine. run_still (facts m.heap.now own).event own 0 (cells_of_aid bytes);
     buffer = λ r words is fits. run_still (facts m.heap.now r).event r 5 words;

@@ -140,9 +140,14 @@ pub record SetsAid (p : Packages) (m : MemoryState) (r i : ℕ) (words : List �
   pub pin : is_a p (facts m.heap.now r).class OwnerPin ≡ false
   pub apart : (a : ℕ) → a < m.heap.now.counts.1 → entry_word m.heap.now a 0 ≡ r → ⊥
 
--- cells set from an index on: of an array of numbers, or of an AID object
+-- words set in an instance from a cell on, each of which fits
+pub record SetsFields (p : Packages) (m : MemoryState) (r i : ℕ) (words : List ℕ) : Type 0 where
+  pub fits : (k : ℕ) → k < length words → FitsCell p m.heap.now r (i + k) (slice_index words k)
+
+-- cells set from an index on: of an array of numbers, of an AID object, or of an instance that is neither an AID's nor a PIN's
 abbrev pub FitsRun : Packages → MemoryState → ℕ → ℕ → List ℕ → Type 0
-FitsRun p m r i words = ((is_persistent_instance (facts m.heap.now r) ≡ true) → SetsAid p m r i words) × ((facts m.heap.now r).kind ≡ ReferenceArray → ⊥)
+FitsRun p m r i words = (is_persistent_instance (facts m.heap.now r) ≡ true → SetsAid p m r i words ⊎ SetsFields p m r i words)
+    × ((facts m.heap.now r).kind ≡ ReferenceArray → ⊥)
 
 -- values fit the cells of a transient object from an index on: they lie within it, and keep it one without references to what is gone
 pub record FitsFill (m : MemoryState) (r i : ℕ) (values : List CellValue) : Type 0 where

@@ -228,14 +228,15 @@ module _ (p : Packages) (m : MemoryState) (s : IsSoundMemory p m) (apart : Stand
             (let k = record_in (heap_item_at h q) j inside in omega (arith, k)) is
       ]
 
-  -- cells of another object
-  run_away : (q n i : ℕ) → AreCellsOf h q (i + n) → (q ≡ r → ⊥) → NonePlaced h w (cells_from q i n)
+  -- cells of another object, or other cells of the PIN
+  run_away : (q n i : ℕ) → AreCellsOf h q (i + n) → ((k : ℕ) → k < n → q ≡ r → i + k ≡ 2 → ⊥) → NonePlaced h w (cells_from q i n)
   run_away q zero i of other = tt
   run_away q (suc n) i of other =
       let end = of.1 in
       let next : suc i ≡ i + 1 = omega arith in (
-        other_object q i (of.0, omega (arith, end)) other,
-        subst (λ k. NonePlaced h w (cells_from q k n)) next (run_away q n (suc i) (of.0, omega (arith, end)) other),
+        cell_away q i (of.0, omega (arith, end)) (λ same two. other 0 (omega arith) same (omega (arith, two))),
+        subst (λ k. NonePlaced h w (cells_from q k n)) next (run_away q n (suc i) (of.0, omega (arith, end))
+            (λ k lt same two. other (suc k) (omega (arith, lt)) same (omega (arith, two)))),
       )
 
   changes_away : (q i : ℕ) (values : List ℕ) → (0 < length values → AreCellsOf h q (i + length values)) → (0 < length values → q ≡ r → ⊥)
@@ -347,9 +348,13 @@ module _ (p : Packages) (m : MemoryState) (s : IsSoundMemory p m) (apart : Stand
   place_away AppletCount v fits is = absurd fits
 
   cells_away : (q i : ℕ) (words : List ℕ) → FitsRun p m q i words → AreCellsOf h q (i + length words) → IsNone w (words_at h (cells_from q i (length words)))
-  cells_away q i words fits of = none_placed h w (cells_from q i (length words)) (run_away q (length words) i of (λ same.
+  cells_away q i words fits of = none_placed h w (cells_from q i (length words)) (run_away q (length words) i of (λ k lt same two.
       let kept = subst (λ x. is_persistent_instance (facts h x) ≡ true) (sym same) pin.kept in
-      true≢false (sym (subst (λ x. is_a p (facts h x).class OwnerPin ≡ true) (sym same) pin.pin) ∙ (fits.0 kept).pin)))
+      let own = subst (λ x. is_a p (facts h x).class OwnerPin ≡ true) (sym same) pin.pin in
+      elim (fits.0 kept) [
+        | inl aid ↦ true≢false (sym own ∙ aid.pin)
+        | inr fields ↦ let low = (fields.fits k lt).pin own in omega (arith, low, two)
+      ]))
 
   area_away : (event : ClearEvent) → area_end_address event ≡ w → ⊥
   area_away Reset is = below _ (omega arith) is

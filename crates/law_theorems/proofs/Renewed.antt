@@ -27,9 +27,9 @@ use Rattle.jc_platform.specs.declared.names.PlatformClass.TheVariants.{OwnerPin}
 use Rattle.jc_card.specs.Answers.{exchange}
 use Rattle.jc_card_checks.specs.Objects.{is_bytes, is_instance, is_object_address, is_persistent_instance}
 use Rattle.jc_linker.specs.Classes.{is_a}
-use Rattle.law_isolation.proofs.OnHeap.{StandsBeside, cells_set, count_set, not_top, place_set, registry_set, transient_added}
+use Rattle.law_isolation.proofs.OnHeap.{StandsBeside, count_set, not_top, place_set, registry_set, transient_added}
 use Rattle.law_soundness.specs.Commands.{IsServed}
-use Rattle.law_soundness.specs.Fit.{AreStatics, FitsChange, FitsPlace, IsPinObject, OfPin, OfRegistry, OfStatics, OfValue}
+use Rattle.law_soundness.specs.Fit.{AreStatics, FitsChange, FitsPlace, FitsRun, IsPinObject, OfPin, OfRegistry, OfStatics, OfValue}
 use Rattle.law_soundness.specs.State.{IsSoundMemory}
 use Rattle.law_soundness.proofs.Effects.{event_none}
 use Rattle.law_images.specs.Cards.{IsOwnCard}
@@ -110,6 +110,15 @@ module _ (q n : ℕ) (f : Facts) where
   held_place h (Registry k) v other held = as_it_stands h (set_place h (Registry k) v) held (registry_set q held.object h k v (beside h held)).item
   held_place h AppletCount v other held = as_it_stands h (set_place h AppletCount v) held (count_set q held.object h v (beside h held)).item
 
+  held_cells : (r i : ℕ) (vs : List ℕ) (h : HeapState) → ((k : ℕ) → k < length vs → IsBeside q (Cell r (i + k))) → Holds q n f h
+      → Holds q n f (set_cells h r i vs)
+  held_cells r i [] h other held = held
+  held_cells r i (v ∷ vs) h other held =
+      let here : i + 0 ≡ i = omega arith in
+      held_cells r (suc i) vs (set_cell h r i v)
+      (λ k lt. let next : i + suc k ≡ suc i + k = omega arith in subst (λ j. IsBeside q (Cell r j)) next (other (suc k) (omega (arith, lt))))
+      (held_place h (Cell r i) v (subst (λ j. IsBeside q (Cell r j)) here (other 0 (omega arith))) held)
+
   held_places : (cs : List (Place × ℕ)) (h : HeapState) → AreBeside q cs → Holds q n f h → Holds q n f (set_places h cs)
   held_places [] h other held = held
   held_places (c ∷ cs) h other held = held_places cs (set_place h c.0 c.1) other.1 (held_place h c.0 c.1 other.0 held)
@@ -149,6 +158,15 @@ module _ (p : Packages) (m : MemoryState) (s : IsSoundMemory p m) (q : ℕ) (pin
   place_beside (Static r j) v fits = no_cell q (Static r j) (λ x. x)
   place_beside (Registry j) v fits = absurd fits
   place_beside AppletCount v fits = absurd fits
+
+  run_beside : (r i : ℕ) (vs : List ℕ) → FitsRun p m r i vs → (k : ℕ) → k < length vs → IsBeside q (Cell r (i + k))
+  run_beside r i vs fits k lt = λ e.
+      let same : r ≡ q = ap object_of e in
+      let two : i + k ≡ 2 = ap index_of e in
+      elim (fits.0 (kept_of r same)) [
+        | inl aid ↦ true≢false (sym (class_of r same) ∙ aid.pin)
+        | inr fields ↦ let low = (fields.fits k lt).pin (class_of r same) in omega (arith, low, two)
+      ]
 
   value_other : (r : ℕ) (bytes : List ℕ) → IsPinObject p m r → length bytes ≤ (record_of m r).maximum → 0 < length bytes → (record_of m r).value ≡ q → ⊥
   value_other r bytes object short some same =
@@ -191,8 +209,7 @@ module _ (p : Packages) (m : MemoryState) (s : IsSoundMemory p m) (q : ℕ) (pin
     held_behind (HeapMove (Write place v)) fits none = held_place q n f m.heap.now place v (place_beside place v fits) held
     held_behind (HeapMove (SetPlaces cs)) fits none = held_changes cs (changes_beside cs fits) none
     held_behind (HeapMove (WriteNonAtomic place v)) fits none = held_place q n f m.heap.now place v none held
-    held_behind (HeapMove (SetCells r i vs)) fits none = as_it_stands q n f m.heap.now (set_cells m.heap.now r i vs) held
-        (cells_set q held.object vs m.heap.now r i (λ same. true≢false (sym (class_of r same) ∙ (fits.1.0 (kept_of r same)).pin)) (beside q n f m.heap.now held)).item
+    held_behind (HeapMove (SetCells r i vs)) fits none = held_cells q n f r i vs m.heap.now (run_beside r i vs fits.1) held
     held_behind (HeapMove (AddObject o size)) fits none = as_it_stands q n f m.heap.now (add_object m.heap.now o size) held
         (heap_item_at-add_other m.heap.now o size q (not_top q held.object m.heap.now free held.item) ∙ held.item)
     held_behind (HeapMove (AddTransient kind event class owner long)) fits none =

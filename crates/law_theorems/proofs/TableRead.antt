@@ -10,10 +10,10 @@ use Rattle.std.proofs.lemmas.Option.{option_and_then_some, same_Some}
 use Rattle.jc_platform.specs.declared.names.PlatformClass.{PlatformClass}
 use Rattle.jc_platform.specs.declared.names.PlatformMethod.{PlatformMethod}
 use Rattle.jc_platform.specs.declared.names.PlatformPackage.{PlatformPackage}
-use Rattle.jc_platform.specs.declared.names.PlatformPackage.TheVariants.{JavaLang, JavacardFramework, JavacardxApdu, JavacardSecurity}
-use Rattle.jc_platform.specs.Hierarchy.{superclass_of}
+use Rattle.jc_platform.specs.declared.names.PlatformPackage.TheVariants.{JavaLang, JavacardFramework, JavacardxApdu, JavacardSecurity, JavacardxCrypto}
+use Rattle.jc_platform.specs.Hierarchy.{interfaces_of, superclass_of}
 use Rattle.jc_platform.specs.Names.{packages, classes, methods, objects_rows, exceptions_rows, utilities_rows, system_rows, aids_rows, pins_rows}
-use Rattle.jc_platform.specs.Names.{applets_rows, apdus_rows, events_rows, engines_rows}
+use Rattle.jc_platform.specs.Names.{applets_rows, apdus_rows, events_rows, engines_rows, keys_rows, key_interfaces_rows, ciphers_rows}
 use Rattle.jc_platform.specs.Rows.{Above, above, row_of_line}
 use Rattle.jc_platform.specs.Table.{Reads}
 use Rattle.jc_platform.specs.Tokens.{token_of_class, token_of_method, version_of_package}
@@ -91,11 +91,11 @@ methods_told above o rows is told m =
 
 -- all that the reading of the text computes with
 other_names : Unit {0}
-unfolding applets_rows apdus_rows events_rows engines_rows
+unfolding applets_rows apdus_rows events_rows engines_rows keys_rows key_interfaces_rows ciphers_rows
 other_names = tt
 
 names : Unit {0}
-unfolding encode_with superclass_of packages classes objects_rows exceptions_rows utilities_rows system_rows aids_rows pins_rows other_names
+unfolding encode_with superclass_of interfaces_of packages classes objects_rows exceptions_rows utilities_rows system_rows aids_rows pins_rows other_names
 names = tt
 
 pub reads : Reads table_text (Ok table)
@@ -130,3 +130,4 @@ reads =
     versions JavacardFramework = refl
     versions JavacardxApdu = refl
     versions JavacardSecurity = refl
+    versions JavacardxCrypto = refl

@@ -1,6 +1,8 @@
 -- A platform table: its text, and what it tells.
-use Rattle.std.specs.Prelude.{ℕ, List, [], ◌∷◌, ◌++◌, codes, None, Some}
+use Rattle.std.specs.Prelude.{ℕ, ◌-◌, List, [], ◌∷◌, ◌++◌, codes, length, map, replicate, Option, None, Some}
 use Rattle.jc_platform.specs.declared.names.PlatformPackage.TheVariants.{JavaLang}
+use Rattle.jc_platform.specs.Numbers.{package_count, class_count, method_count, objects_count, exceptions_count, utilities_count, system_count, aids_count}
+use Rattle.jc_platform.specs.Numbers.{pins_count, applets_count, apdus_count, events_first}
 use Rattle.jc_platform.specs.Table.{no_random}
 use Rattle.jc_platform.specs.Tokens.{Tokens}
 
@@ -129,24 +131,26 @@ text_of_lines (line ∷ more) = line ++ 10 ∷ text_of_lines more
 abbrev pub table_text : List ℕ
 table_text = text_of_lines table_lines
 
--- the names that it has, by their numbers
+-- as many tokens, of which the first are there
+abbrev pub padded : ℕ → List ℕ → List (Option ℕ)
+padded count tokens = map (λ token. Some token) tokens ++ replicate (count - length tokens) None
+
+-- the names that it has, by their numbers: of the packages, the classes and each room the first ones
 abbrev pub table : Tokens
 table = record {
   first = JavaLang;
-  versions = Some (record { major = 1; minor = 0 }) ∷ Some (record { major = 1; minor = 0 }) ∷ None ∷ None ∷ [];
+  versions = Some (record { major = 1; minor = 0 }) ∷ Some (record { major = 1; minor = 0 }) ∷ replicate (package_count - 2) None;
   class_tokens =
-      Some 0 ∷ Some 1 ∷ Some 2 ∷ Some 3 ∷ Some 4 ∷ Some 5 ∷ Some 6 ∷ Some 7 ∷ Some 8 ∷ Some 9 ∷ Some 10 ∷ Some 11 ∷ Some 0 ∷ Some 1 ∷ Some 2 ∷
-      Some 3 ∷ Some 4 ∷ Some 5 ∷ Some 6 ∷ Some 7 ∷ Some 8 ∷ Some 9 ∷ Some 10 ∷ Some 11 ∷ Some 12 ∷ Some 13 ∷ Some 14 ∷ Some 15 ∷ None ∷ None ∷
-      None ∷ None ∷ None ∷ None ∷ None ∷ None ∷ None ∷ [];
+      padded class_count (0 ∷ 1 ∷ 2 ∷ 3 ∷ 4 ∷ 5 ∷ 6 ∷ 7 ∷ 8 ∷ 9 ∷ 10 ∷ 11 ∷ 0 ∷ 1 ∷ 2 ∷ 3 ∷ 4 ∷ 5 ∷ 6 ∷ 7 ∷ 8 ∷ 9 ∷ 10 ∷ 11 ∷ 12 ∷ 13 ∷ 14 ∷ 15 ∷ []);
   method_tokens =
-      Some 0 ∷ Some 0 ∷ Some 0 ∷ Some 0 ∷ Some 0 ∷ Some 0 ∷ Some 0 ∷ Some 0 ∷ Some 0 ∷ Some 0 ∷ Some 0 ∷ Some 0 ∷ Some 0 ∷ Some 0 ∷ Some 1 ∷
-      Some 1 ∷ Some 2 ∷ Some 0 ∷ Some 1 ∷ Some 1 ∷ Some 2 ∷ Some 0 ∷ Some 1 ∷ Some 0 ∷ Some 1 ∷ Some 0 ∷ Some 1 ∷ Some 0 ∷ Some 1 ∷ Some 0 ∷
-      Some 1 ∷ Some 0 ∷ Some 1 ∷ None ∷ None ∷ None ∷ Some 0 ∷ Some 1 ∷ Some 2 ∷ Some 3 ∷ Some 4 ∷ None ∷ None ∷ None ∷ Some 0 ∷ Some 1 ∷
-      Some 2 ∷ Some 3 ∷ Some 4 ∷ Some 5 ∷ Some 6 ∷ Some 7 ∷ Some 8 ∷ Some 9 ∷ Some 10 ∷ Some 11 ∷ Some 12 ∷ Some 13 ∷ Some 14 ∷ None ∷ None ∷
-      None ∷ None ∷ None ∷ None ∷ None ∷ Some 0 ∷ Some 0 ∷ Some 1 ∷ Some 2 ∷ None ∷ None ∷ None ∷ Some 0 ∷ Some 1 ∷ Some 2 ∷ Some 3 ∷ Some 0 ∷
-      Some 1 ∷ Some 2 ∷ Some 3 ∷ Some 4 ∷ Some 5 ∷ Some 6 ∷ None ∷ None ∷ Some 0 ∷ Some 1 ∷ Some 2 ∷ Some 3 ∷ Some 4 ∷ Some 5 ∷ Some 6 ∷ Some 7 ∷
-      None ∷ Some 1 ∷ Some 2 ∷ Some 3 ∷ Some 4 ∷ Some 5 ∷ Some 6 ∷ Some 7 ∷ None ∷ None ∷ None ∷ None ∷ None ∷ None ∷ None ∷ None ∷ None ∷ None ∷
-      None ∷ None ∷ None ∷ None ∷ None ∷ None ∷ None ∷ None ∷ None ∷ None ∷ None ∷ None ∷ None ∷ None ∷ None ∷ None ∷ None ∷ None ∷ None ∷ None ∷
-      None ∷ None ∷ None ∷ None ∷ None ∷ None ∷ None ∷ None ∷ [];
+      padded objects_count (0 ∷ 0 ∷ 0 ∷ 0 ∷ 0 ∷ 0 ∷ 0 ∷ 0 ∷ 0 ∷ 0 ∷ 0 ∷ 0 ∷ 0 ∷ []) ++ (
+      padded exceptions_count (0 ∷ 1 ∷ 1 ∷ 2 ∷ 0 ∷ 1 ∷ 1 ∷ 2 ∷ 0 ∷ 1 ∷ 0 ∷ 1 ∷ 0 ∷ 1 ∷ 0 ∷ 1 ∷ 0 ∷ 1 ∷ 0 ∷ 1 ∷ []) ++ (
+      padded utilities_count (0 ∷ 1 ∷ 2 ∷ 3 ∷ 4 ∷ []) ++ (
+      padded system_count (0 ∷ 1 ∷ 2 ∷ 3 ∷ 4 ∷ 5 ∷ 6 ∷ 7 ∷ 8 ∷ 9 ∷ 10 ∷ 11 ∷ 12 ∷ 13 ∷ 14 ∷ []) ++ (
+      padded aids_count (0 ∷ 0 ∷ 1 ∷ 2 ∷ []) ++ (
+      padded pins_count (0 ∷ 1 ∷ 2 ∷ 3 ∷ 0 ∷ 1 ∷ 2 ∷ 3 ∷ 4 ∷ 5 ∷ 6 ∷ []) ++ (
+      padded applets_count (0 ∷ 1 ∷ 2 ∷ 3 ∷ 4 ∷ 5 ∷ 6 ∷ 7 ∷ []) ++ (
+      padded apdus_count (1 ∷ 2 ∷ 3 ∷ 4 ∷ 5 ∷ 6 ∷ 7 ∷ []) ++ (
+      replicate (method_count - events_first) None))))))));
   random = no_random;
 }

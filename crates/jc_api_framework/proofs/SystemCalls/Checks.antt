@@ -3,17 +3,11 @@ use Rattle.std.specs.Ordering.{int_eq}
 use Rattle.std.specs.Prelude.{◌==◌, ℤ, pos, nat_le}
 use Rattle.std.proofs.Common.{◌+◌, ◌≡◌, ◌∙◌, ◌≤◌, ℕ, Option, Some, None, Ok, refl, sym, ap, Bool, true, false, Err, if◌then◌else◌, length, subst, inr}
 use Rattle.std.proofs.lemmas.Bool.{leb-true}
-use Rattle.jc_transient.specs.declared.cell.ClearEvent.{ClearEvent}
-use Rattle.jc_transient.specs.declared.cell.ClearEvent.TheVariants.{Reset, Deselect}
 use Rattle.jc_heap.specs.Heap.{facts}
 use Rattle.jc_heap.specs.declared.object.Facts.{Facts}
 use Rattle.jc_heap.specs.declared.object.Kind.{Kind}
 use Rattle.jc_heap.specs.declared.object.Kind.TheVariants.{Instance, BooleanArray, ByteArray, ShortArray, ReferenceArray}
 use Rattle.jc_firewall.specs.Reach.{IsInReach}
-use Rattle.jc_firewall.specs.Table.{decision}
-use Rattle.jc_firewall.specs.declared.access.Access.TheVariants.{ArrayElement}
-use Rattle.jc_firewall.specs.declared.decide.Decision.{Decision}
-use Rattle.jc_firewall.specs.declared.decide.Decision.TheVariants.{Allow, Switch, Deny}
 use Rattle.jc_memory.specs.Cells.{header_at}
 use Rattle.jc_memory.specs.State.{MemoryState}
 use Rattle.jc_memory.specs.declared.making.NewObject.{NewObject}
@@ -24,12 +18,14 @@ use Rattle.jc_world.specs.Arrays.{within}
 use Rattle.jc_world.specs.Contexts.{firewall_check, situation_of}
 use Rattle.jc_world.specs.Numbers.{not_negative}
 use Rattle.jc_api.specs.NewArrays.{class_for}
+use Rattle.jc_api.specs.TransientEvents.{allowed_event}
 use Rattle.jc_api.proofs.Exits.{FaultsOnly, plain_if, plain_then}
 use Rattle.jc_api.proofs.Passing.{IsTransientArray}
 use Rattle.jc_api.proofs.Reaching.{err_not_ok, same_Ok, header_is, element_allowed}
 use Rattle.jc_api.proofs.Stretches.{IsStretch, both_ok}
+use Rattle.jc_api.proofs.TransientEvents.{plain_allowed}
 use Rattle.jc_api_framework.specs.System.Memory.{available_bytes}
-use Rattle.jc_api_framework.specs.System.Transient.{length_in, event_named, if_usable, allowed_event, own_array, requested_array}
+use Rattle.jc_api_framework.specs.System.Transient.{length_in, event_named, requested_array}
 
 plain_count : (o : Option ℕ) → FaultsOnly (length_in o)
 plain_count None = tt
@@ -37,15 +33,6 @@ plain_count (Some n) = tt
 
 plain_event : (v : ℤ) → FaultsOnly (event_named v)
 plain_event v = plain_if (int_eq v (pos 1)) _ _ tt (plain_if (int_eq v (pos 2)) _ _ tt tt)
-
-plain_usable : (d : Decision) → FaultsOnly (if_usable d)
-plain_usable Allow = tt
-plain_usable (Switch c) = tt
-plain_usable (Deny rule) = tt
-
-plain_allowed : (event : ClearEvent) (m : MemoryState) → FaultsOnly (allowed_event event m)
-plain_allowed Reset m = tt
-plain_allowed Deselect m = plain_usable (decision ArrayElement (own_array m))
 
 pub plain_requested : (kind : Kind) (count event : ℤ) (p : Packages) (m : MemoryState) → FaultsOnly (requested_array kind count event p m)
 unfolding requested_array

@@ -1,19 +1,13 @@
 -- JCSystem's transient arrays (API specification).
 use Rattle.std.specs.Ordering.{int_eq}
-use Rattle.std.specs.Prelude.{ℕ, ℤ, pos, ◌==◌, if◌then◌else◌, true, false, List, Option, Some, None, Result, Ok, Err}
+use Rattle.std.specs.Prelude.{ℕ, ℤ, pos, ◌==◌, if◌then◌else◌, List, Option, Some, None, Result, Ok, Err}
 use Rattle.jc_transient.specs.declared.cell.ClearEvent.{ClearEvent}
 use Rattle.jc_transient.specs.declared.cell.ClearEvent.TheVariants.{Reset, Deselect}
 use Rattle.jc_heap.specs.declared.object.Kind.{Kind}
-use Rattle.jc_firewall.specs.declared.access.Access.TheVariants.{ArrayElement}
-use Rattle.jc_firewall.specs.declared.decide.Decision.{Decision}
-use Rattle.jc_firewall.specs.declared.decide.Decision.TheVariants.{Allow, Switch, Deny}
-use Rattle.jc_firewall.specs.declared.subject.Designation.TheVariants.{Ordinary}
 use Rattle.jc_heap.specs.Object.{event_number}
-use Rattle.jc_firewall.specs.declared.subject.Situation.{Situation}
-use Rattle.jc_firewall.specs.Table.{decision}
 use Rattle.jc_frames.specs.declared.cell.Cell.{Cell}
 use Rattle.jc_frames.specs.declared.cell.Cell.TheVariants.{Reference}
-use Rattle.jc_frames.specs.Reasons.{illegal_transient, illegal_value}
+use Rattle.jc_frames.specs.Reasons.{illegal_value}
 use Rattle.jc_frames.specs.declared.outcome.Exception.TheVariants.{NegativeArraySizeException}
 use Rattle.jc_frames.specs.declared.outcome.FrameExit.{FrameExit}
 use Rattle.jc_frames.specs.declared.outcome.FrameExit.TheVariants.{Throw}
@@ -24,11 +18,11 @@ use Rattle.jc_memory.specs.Cells.{header_at}
 use Rattle.jc_linker.specs.Values.{Packages}
 use Rattle.jc_world.specs.declared.native_result.NativeResult.TheVariants.{ReturnValue}
 use Rattle.jc_world.specs.NativeCalls.{NativeProgram, return_value, if_some, if_ok, unless}
-use Rattle.jc_world.specs.Contexts.{context_of, selected_context}
 use Rattle.jc_world.specs.Objects.{short_argument, reference_argument}
 use Rattle.jc_world.specs.Answers.{and_then, returns_short}
 use Rattle.jc_world.specs.Numbers.{not_negative}
 use Rattle.jc_api.specs.NewArrays.{class_for}
+use Rattle.jc_api.specs.TransientEvents.{allowed_event}
 
 -- the length of a new array
 abbrev pub length_in : Option ℕ → Result ℕ FrameExit
@@ -38,24 +32,6 @@ length_in (Some n) = Ok n
 -- CLEAR_ON_RESET and CLEAR_ON_DESELECT by their numbers
 abbrev pub event_named : ℤ → Result ClearEvent FrameExit
 event_named v = if int_eq v (pos 1) then Ok Reset else if int_eq v (pos 2) then Ok Deselect else Err (Throw illegal_value)
-
--- an array of the code that runs, cleared as its applet is deselected
-abbrev pub own_array : MemoryState → Situation
-own_array m = record {
-  active = context_of m m.registers.active;
-  selected = selected_context m;
-  object = record { owner = context_of m m.registers.active; designation = Ordinary; has_shareable_interface = false; is_clear_on_deselect = true };
-}
-
-abbrev pub if_usable : Decision → Result (Unit {0}) FrameExit
-if_usable Allow = Ok tt
-if_usable (Switch c) = Ok tt
-if_usable (Deny rule) = Err (Throw illegal_transient)
-
--- the code that runs may use what it makes: an array that is cleared at a deselection only while its applet is selected
-abbrev pub allowed_event : ClearEvent → MemoryState → Result (Unit {0}) FrameExit
-allowed_event Reset m = Ok tt
-allowed_event Deselect m = if_usable (decision ArrayElement (own_array m))
 
 -- the array that is asked for: its length, then its event, then whether it may be made
 unfoldable pub requested_array : Kind → ℤ → ℤ → Packages → MemoryState → Result NewObject FrameExit

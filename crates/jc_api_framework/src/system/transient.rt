@@ -4,13 +4,11 @@ ghost use Rattle.jc_heap.specs.Object.{event_number};
 ghost use Rattle.jc_memory.specs.Programs.{Executes};
 ghost use Rattle.jc_world.specs.NativeCalls.{after_call};
 ghost use Rattle.jc_api.specs.NewArrays.{class_for};
-ghost use Rattle.jc_api_framework.specs.System.Transient.{event_named, allowed_event, requested_array, jc_system_make_transient_array};
+ghost use Rattle.jc_api_framework.specs.System.Transient.{event_named, requested_array, jc_system_make_transient_array};
 ghost use Rattle.jc_api_framework.specs.System.Transient.{jc_system_is_transient};
 
-use jc_firewall::access::Access;
-use jc_firewall::decide::{Decision, decide};
-use jc_firewall::subject::{Designation, Subject};
-use jc_frames::reasons::{ILLEGAL_TRANSIENT, ILLEGAL_VALUE};
+use jc_api::allow_making;
+use jc_frames::reasons::ILLEGAL_VALUE;
 use jc_frames::{Cell, Exception, FrameExit, Outcome};
 use jc_heap::Kind;
 use jc_linker::linked::Linked;
@@ -19,7 +17,6 @@ use jc_platform::names::PlatformClass;
 use jc_transient::{ClassWord, ClearEvent, NO_CLASS};
 use jc_words::WordStore;
 use jc_world::arguments::{reference_argument, short_argument};
-use jc_world::contexts::{context_of, selected_context};
 use jc_world::{NativeResult, StepExit, not_negative, short};
 
 // CLEAR_ON_RESET or CLEAR_ON_DESELECT by its number; ILLEGAL_VALUE for another.
@@ -32,30 +29,6 @@ pub(crate) fn event_named(number: i16) -> Result<ClearEvent, FrameExit>
         Ok(ClearEvent::Deselect)
     } else {
         Err(FrameExit::Throw(ILLEGAL_VALUE))
-    }
-}
-
-// Whether the code that runs may use an array with this event, and so may make it.
-fn allow_making<S: WordStore>(event: ClearEvent, memory: &Memory<S>) -> Result<(), FrameExit>
-    requires up { memory.now.heap.down ≡ false }
-    ensures { result ≡ allowed_event event memory.now }
-{
-    match event {
-        ClearEvent::Reset => return Ok(()),
-        ClearEvent::Deselect => {}
-    }
-    let active = context_of(memory.registers().active, memory);
-    let selected = selected_context(memory);
-    let own = Subject {
-        owner: active,
-        designation: Designation::Ordinary,
-        has_shareable_interface: false,
-        is_clear_on_deselect: true,
-    };
-    match decide(Access::ArrayElement, active, selected, own) {
-        Decision::Allow => Ok(()),
-        Decision::Switch(_) => Ok(()),
-        Decision::Deny(_) => Err(FrameExit::Throw(ILLEGAL_TRANSIENT)),
     }
 }
 

@@ -12,6 +12,7 @@ import javacard.framework.TransactionException;
 import javacard.framework.Util;
 import javacard.security.Checksum;
 import javacard.security.CryptoException;
+import javacard.security.InitializedMessageDigest;
 import javacard.security.MessageDigest;
 import javacard.security.RandomData;
 
@@ -174,6 +175,9 @@ public abstract class Engines extends Applet implements Lender {
             case 0x10:
                 digests[next()] = MessageDigest.getInstance(next(), next() != 0);
                 break;
+            case 0x11:
+                digests[next()] = MessageDigest.getInitializedMessageDigestInstance(next(), next() != 0);
+                break;
             case 0x12:
                 checksums[next()] = Checksum.getInstance(next(), next() != 0);
                 break;
@@ -247,9 +251,17 @@ public abstract class Engines extends Applet implements Lender {
             case 0x23:
                 engine.update(place(), two(), two());
                 break;
-            default:
+            case 0x24:
                 answer(engine.doFinal(place(), two(), two(), place(), two()));
+                break;
+            default:
+                beginAfter(engine, place(), two(), two(), place(), two(), two());
         }
+    }
+
+    /** The message begins after bytes whose hash value is known; all operands are read before the engine is looked at. */
+    private void beginAfter(MessageDigest engine, byte[] hash, short hashOffset, short hashLength, byte[] count, short countOffset, short countLength) {
+        ((InitializedMessageDigest) engine).setInitialDigest(hash, hashOffset, hashLength, count, countOffset, countLength);
     }
 
     private void askChecksum(byte which) {

@@ -1,4 +1,4 @@
-use Rattle.std.proofs.Common.{◌≡◌, ◌∙◌, ◌+◌, ◌*◌, ◌<◌, ◌≤◌, ◌^◌, ℕ, Some, suc, length, refl, sym, ap, arith}
+use Rattle.std.proofs.Common.{◌≡◌, ◌∙◌, ◌+◌, ◌*◌, Some, suc, length, refl, sym, ap, arith}
 use Rattle.jc_api_crypto.specs.InitializedMessageDigest.{first_number}
 use Rattle.jc_api_crypto.proofs.Counts.{counted, not_counted}
 use Rattle.jc_api_crypto.proofs.initialized_message_digest.count_in.Goals as goal

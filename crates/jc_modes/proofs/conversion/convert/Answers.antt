@@ -25,6 +25,7 @@ parts-preserved g c =
     record {
       done = omega (arith, least);
       used = omega (arith, least, long, room.ensures.used);
+      filled = λ some. omega (arith, least, long, room.ensures.used, c.parts-test.true);
       chain = room.auto.chain ∙ inv.chain;
       block = c.put.auto.to ∙ long;
       bytes = omega (arith, bytes, before);

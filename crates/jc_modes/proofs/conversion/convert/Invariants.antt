@@ -6,6 +6,7 @@ abbrev pub invariant-parts : goal.invariant-parts
 invariant-parts g l = record {
   done : l.done ≤ length l.piece;
   used : l.progress.used ≤ g.S.Step.size;
+  filled : 1 ≤ l.fn.used + l.done → 1 ≤ l.progress.used;
   chain : length l.chain ≡ g.S.Step.size;
   block : length l.block ≡ g.S.Step.size;
   bytes : l.progress.written + l.progress.used ≡ l.fn.used + l.done;

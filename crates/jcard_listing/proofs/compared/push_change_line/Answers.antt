@@ -1,7 +1,8 @@
-use Rattle.std.proofs.Common.{◌++◌, List, ℕ}
+use Rattle.std.proofs.Common.{◌∙◌, ◌++◌, Bool, List, ℕ, ap}
 use Rattle.std.specs.Prelude.{codes}
 use Rattle.jcard_objects.specs.ClassTexts.{kind_text}
-use Rattle.jcard_listing.specs.Objects.{value_text}
+use Rattle.jcard_listing.specs.Compared.{values_text}
+use Rattle.jcard_listing.specs.Keys.{is_hidden}
 use Rattle.jcard_listing.specs.Texts.{labelled_text}
 use Rattle.jcard_listing.proofs.Chains.{push_behind}
 use Rattle.jcard_listing.proofs.compared.push_change_line.Goals as goal
@@ -14,20 +15,16 @@ returns g c =
     let one : List ℕ = c.push_labelled.new.text.items in
     let two : List ℕ = c.push_kind.new.text.items in
     let three : List ℕ = c.push_labelled-2.new.text.items in
-    let four : List ℕ = c.push_value.new.text.items in
-    let five : List ℕ = c.extend_from_slice.new.self.items in
-    let six : List ℕ = c.push_value-2.new.text.items in
-    let new : List ℕ = c.extend_from_slice-2.new.self.items in
+    let four : List ℕ = c.push_values.new.text.items in
+    let new : List ℕ = c.extend_from_slice.new.self.items in
     let a : List ℕ = labelled_text (codes "@") c.args.at (codes " ") in
     let b : List ℕ = kind_text c.args.legend.now.platform w f.kind f.class in
     let d : List ℕ = labelled_text (codes " [") c.args.i (codes "] ") in
-    let e : List ℕ = value_text c.args.legend.now f c.args.i c.args.one in
-    let h : List ℕ = codes ">" in
-    let k : List ℕ = value_text c.args.legend.now f c.args.i c.args.other in
+    let e : List ℕ = values_text c.args.legend.now (is_hidden c.args.hidden.now c.args.at f) f c.args.i c.args.one c.args.other in
     let m : List ℕ = codes "\n" in
-    push_behind old one new a (b ++ (d ++ (e ++ (h ++ (k ++ m))))) c.in_ok-push_labelled.ensures
-    (push_behind one two new b (d ++ (e ++ (h ++ (k ++ m)))) (rw c.class.ensures at c.in_ok-push_kind.ensures)
-    (push_behind two three new d (e ++ (h ++ (k ++ m))) c.in_ok-push_labelled-2.ensures
-    (push_behind three four new e (h ++ (k ++ m)) c.in_ok-push_value.ensures
-    (push_behind four five new h (k ++ m) c.in_ok-extend_from_slice.ensures.items
-    (push_behind five six new k m c.in_ok-push_value-2.ensures c.in_ok-extend_from_slice-2.ensures.items)))))
+    push_behind old one new a (b ++ (d ++ (e ++ m))) c.in_ok-push_labelled.ensures
+    (push_behind one two new b (d ++ (e ++ m)) (rw c.class.ensures at c.in_ok-push_kind.ensures)
+    (push_behind two three new d (e ++ m) c.in_ok-push_labelled-2.ensures
+    (push_behind three four new e m (c.in_ok-push_values.ensures
+    ∙ ap (λ (b : Bool). three ++ values_text c.args.legend.now b f c.args.i c.args.one c.args.other) c.is_hidden.ensures)
+    c.in_ok-extend_from_slice.ensures.items)))

@@ -9,7 +9,7 @@ pub loop-i-init : goal.loop-i-init
 loop-i-init g c =
     let w : List ℕ = g.S.WordStore.words c.args.store.now in
     let v : List ℕ = g.S.WordStore.words c.args.other.now in
-    let one = change_at c.args.legend.now w v c.args.at c.args.facts in
+    let one = change_at c.args.legend.now w v c.args.hidden.now c.args.at c.args.facts in
     sym (ap (λ (l : List ℕ). c.args.text.now.items ++ l) (text_none one) ∙ append-nil c.args.text.now.items)
 
 pub loop-i-preserved : goal.loop-i-preserved
@@ -19,10 +19,10 @@ loop-i-preserved g c =
     let t = c.args.legend.now in
     let old : List ℕ = c.args.text.now.items in
     let i : ℕ = c.loop-i.i in
-    let one = change_at t w v c.args.at c.args.facts in
+    let one = change_at t w v c.args.hidden.now c.args.at c.args.facts in
     c.in_ok-push_change.ensures
     ∙ ap₂ (λ (l m : List ℕ). l ++ m) c.loop-i.invariant
-    (ap₂ (λ (a b : ℕ). change_text t w c.args.at c.args.facts i a b) c.cell_of.ensures c.cell_of-in-loop-i.ensures)
+    (ap₂ (λ (a b : ℕ). change_text t w c.args.hidden.now c.args.at c.args.facts i a b) c.cell_of.ensures c.cell_of-in-loop-i.ensures)
     ∙ append_assoc old (each_text one i) (one i)
     ∙ ap (λ (l : List ℕ). old ++ l) (sym (text_more one i))
 
@@ -35,6 +35,6 @@ pub returns : goal.returns
 returns g c =
     let w : List ℕ = g.S.WordStore.words c.args.store.now in
     let v : List ℕ = g.S.WordStore.words c.args.other.now in
-    let one = change_at c.args.legend.now w v c.args.at c.args.facts in
+    let one = change_at c.args.legend.now w v c.args.hidden.now c.args.at c.args.facts in
     let last : c.loop-i.i ≡ c.args.facts.length = omega arith in
     c.loop-i.invariant ∙ ap (λ (n : ℕ). c.args.text.now.items ++ each_text one n) last

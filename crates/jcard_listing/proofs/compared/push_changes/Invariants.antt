@@ -5,4 +5,4 @@ use Rattle.jcard_listing.proofs.compared.push_changes.Given as goal
 
 abbrev pub invariant-loop-i : goal.invariant-loop-i
 invariant-loop-i g l = l.text.items ≡ l.fn.text.items ++ each_text
-    (change_at l.legend (g.S.WordStore.words l.store) (g.S.WordStore.words l.other) l.at l.facts) l.i
+    (change_at l.legend (g.S.WordStore.words l.store) (g.S.WordStore.words l.other) l.hidden l.at l.facts) l.i

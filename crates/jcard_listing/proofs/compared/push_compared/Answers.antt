@@ -15,8 +15,8 @@ pub loop-at-init : goal.loop-at-init
 loop-at-init g c =
     let w : List ℕ = g.S.WordStore.words c.args.store.now in
     let v : List ℕ = g.S.WordStore.words c.args.other.now in
-    let f : Texts = compared_text c.args.side c.args.legend.now w v c.args.all in
-    let lines : Lines = compared_lines c.args.side c.args.legend.now w v c.args.all in
+    let f : Texts = compared_text c.args.side c.args.legend.now w v c.args.hidden.now c.args.all in
+    let lines : Lines = compared_lines c.args.side c.args.legend.now w v c.args.hidden.now c.args.all in
     let b : Bounds w = bounds w c.requires.bounds in
     record {
       low = omega (arith, c.first_record-at.ensures);
@@ -31,8 +31,8 @@ pub returns-in_default : goal.returns-in_default
 returns-in_default g c =
     let w : List ℕ = g.S.WordStore.words c.args.store.now in
     let v : List ℕ = g.S.WordStore.words c.args.other.now in
-    let f : Texts = compared_text c.args.side c.args.legend.now w v c.args.all in
-    let lines : Lines = compared_lines c.args.side c.args.legend.now w v c.args.all in
+    let f : Texts = compared_text c.args.side c.args.legend.now w v c.args.hidden.now c.args.all in
+    let lines : Lines = compared_lines c.args.side c.args.legend.now w v c.args.hidden.now c.args.all in
     let at : ℕ = c.loop-at.at in
     let short : top_of w - at < record_size w at = size_none w at c.in_default.ensures in
     let none = lines_short f w at c.requires.bounds (omega (arith, c.read-top.ensures)) (omega (arith, short)) in
@@ -43,8 +43,8 @@ pub loop-at-preserved : goal.loop-at-preserved
 loop-at-preserved g c =
     let w : List ℕ = g.S.WordStore.words c.args.store.now in
     let v : List ℕ = g.S.WordStore.words c.args.other.now in
-    let f : Texts = compared_text c.args.side c.args.legend.now w v c.args.all in
-    let lines : Lines = compared_lines c.args.side c.args.legend.now w v c.args.all in
+    let f : Texts = compared_text c.args.side c.args.legend.now w v c.args.hidden.now c.args.all in
+    let lines : Lines = compared_lines c.args.side c.args.legend.now w v c.args.hidden.now c.args.all in
     let at : ℕ = c.loop-at.at in
     let size = size_some w at c.in-Some.size c.in-Some.ensures in
     let piece : List ℕ = f (at, item_at w at) in
@@ -63,8 +63,8 @@ pub returns : goal.returns
 returns g c =
     let w : List ℕ = g.S.WordStore.words c.args.store.now in
     let v : List ℕ = g.S.WordStore.words c.args.other.now in
-    let f : Texts = compared_text c.args.side c.args.legend.now w v c.args.all in
-    let lines : Lines = compared_lines c.args.side c.args.legend.now w v c.args.all in
+    let f : Texts = compared_text c.args.side c.args.legend.now w v c.args.hidden.now c.args.all in
+    let lines : Lines = compared_lines c.args.side c.args.legend.now w v c.args.hidden.now c.args.all in
     let at : ℕ = c.loop-at.at in
     let none = lines_end f w at c.requires.bounds (omega (arith, c.read-top.ensures)) in
     telling_then (Ok tt) c.args.text.now.items c.loop-at.text.items c.loop-at.text.items lines

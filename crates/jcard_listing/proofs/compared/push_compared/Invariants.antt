@@ -14,8 +14,8 @@ invariant-loop-at g l =
       low : text_start ≤ l.at;
       high : l.at ≤ l.top;
       place : IsPlaceFor v l.place l.at;
-      told : IsTelling l.fn.text.items l.text.items (compared_lines l.side l.legend w v l.all)
-          (lines_from (compared_text l.side l.legend w v l.all) w l.at);
+      told : IsTelling l.fn.text.items l.text.items (compared_lines l.side l.legend w v l.hidden l.all)
+          (lines_from (compared_text l.side l.legend w v l.hidden l.all) w l.at);
     }
 
 abbrev pub decreases-loop-at : goal.decreases-loop-at

@@ -9,12 +9,12 @@ returns-in-Ok g c =
     let v : List ℕ = g.S.WordStore.words c.args.other.now in
     let t = c.args.legend.now in
     let u = c.in-Ok.others in
-    content_by c.push_lines.result w v c.args.all _ _ (content_lines t u w v c.args.all) (inr (inr (t, u, c.requires.table, c.in-Ok.ensures, refl)))
+    content_by c.push_lines.result w v c.args.shown _ _ (content_lines t u w v c.args.shown) (inr (inr (t, u, c.requires.table, c.in-Ok.ensures, refl)))
     c.push_lines.ensures
 
 pub returns-in-Err : goal.returns-in-Err
 returns-in-Err g c =
     let w : List ℕ = g.S.WordStore.words c.args.store.now in
     let v : List ℕ = g.S.WordStore.words c.args.other.now in
-    no_other_table c.in-Err.fault c.push_no_table.result w v c.args.all _ _ c.args.legend.now c.requires.table c.in-Err.ensures c.push_no_table.ensures.told
+    no_other_table c.in-Err.fault c.push_no_table.result w v c.args.shown _ _ c.args.legend.now c.requires.table c.in-Err.ensures c.push_no_table.ensures.told
     c.push_no_table.ensures.memory

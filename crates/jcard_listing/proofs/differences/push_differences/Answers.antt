@@ -17,10 +17,10 @@ returns-in_err-push_area_pair g c =
     let stop = c.in_err-push_area_pair.field-0.0 in
     let w : List ℕ = g.S.WordStore.words c.args.store.now in
     let v : List ℕ = g.S.WordStore.words c.args.other.now in
-    rw (p.1, p.2) (areas_untold stop w v c.args.all _ _ c.in_err-push_area_pair.ensures)
+    rw (p.1, p.2) (areas_untold stop w v c.args.shown _ _ c.in_err-push_area_pair.ensures)
 
 pub returns : goal.returns
 returns g c =
     let w : List ℕ = g.S.WordStore.words c.args.store.now in
     let v : List ℕ = g.S.WordStore.words c.args.other.now in
-    content_told c.push_content.result w v c.args.all _ _ _ c.in_ok-push_area_pair.ensures c.push_content.ensures
+    content_told c.push_content.result w v c.args.shown _ _ _ c.in_ok-push_area_pair.ensures c.push_content.ensures

@@ -15,7 +15,7 @@ returns-in_err-push_named g c =
     let t = c.args.legend.now in
     let u = c.args.others.now in
     let a : Lines = named_lines t u w v in
-    let b : Lines = then_lines (placed_lines t u w v) (heap_lines t u w v c.args.all) in
+    let b : Lines = then_lines (placed_lines t u w v) (heap_lines t u w v c.args.shown) in
     rw (p.1, p.2) (lists_stopped stop _ _ a b c.in_err-push_named.ensures)
 
 pub returns-in_err-push_placed : goal.returns-in_err-push_placed
@@ -28,7 +28,7 @@ returns-in_err-push_placed g c =
     let u = c.args.others.now in
     let a : Lines = named_lines t u w v in
     let b : Lines = placed_lines t u w v in
-    let d : Lines = heap_lines t u w v c.args.all in
+    let d : Lines = heap_lines t u w v c.args.shown in
     rw (p.1, p.2) (lists_then (Err stop) _ _ _ a (then_lines b d) c.in_ok-push_named.ensures (lists_stopped stop _ _ b d c.in_err-push_placed.ensures))
 
 pub returns : goal.returns
@@ -40,5 +40,5 @@ returns g c =
     let r = c.push_heaps.result in
     let a : Lines = named_lines t u w v in
     let b : Lines = placed_lines t u w v in
-    let d : Lines = heap_lines t u w v c.args.all in
+    let d : Lines = heap_lines t u w v c.args.shown in
     lists_then r _ _ _ a (then_lines b d) c.in_ok-push_named.ensures (lists_then r _ _ _ b d c.in_ok-push_placed.ensures c.push_heaps.ensures)

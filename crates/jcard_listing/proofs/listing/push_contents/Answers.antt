@@ -21,7 +21,7 @@ returns-in_err-push_entries g c =
     let entries = each_line (entry_lines t.platform w) (count_of w) in
     let packages = each_line (package_lines t w) (slice_index w packages_address) in
     let applets = each_line (applet_lines w) (slice_index w applets_address) in
-    rw (p.1, p.2) (lists_stopped stop _ _ entries (then_lines packages (then_lines applets (objects_lines t w c.args.all))) c.in_err-push_entries.ensures)
+    rw (p.1, p.2) (lists_stopped stop _ _ entries (then_lines packages (then_lines applets (objects_lines t w c.args.shown))) c.in_err-push_entries.ensures)
 
 pub returns-in_err-push_packages : goal.returns-in_err-push_packages
 returns-in_err-push_packages g c =
@@ -32,7 +32,7 @@ returns-in_err-push_packages g c =
     let entries = each_line (entry_lines t.platform w) (count_of w) in
     let packages = each_line (package_lines t w) (slice_index w packages_address) in
     let applets = each_line (applet_lines w) (slice_index w applets_address) in
-    let behind = then_lines applets (objects_lines t w c.args.all) in
+    let behind = then_lines applets (objects_lines t w c.args.shown) in
     rw (p.1, p.2) (lists_then (Err stop) _ _ _ entries (then_lines packages behind) c.in_ok-push_entries.ensures
     (lists_stopped stop _ _ packages behind c.in_err-push_packages.ensures))
 
@@ -45,7 +45,7 @@ returns-in_err-push_applets g c =
     let entries = each_line (entry_lines t.platform w) (count_of w) in
     let packages = each_line (package_lines t w) (slice_index w packages_address) in
     let applets = each_line (applet_lines w) (slice_index w applets_address) in
-    let objects = objects_lines t w c.args.all in
+    let objects = objects_lines t w c.args.shown in
     rw (p.1, p.2) (lists_then (Err stop) _ _ _ entries (then_lines packages (then_lines applets objects)) c.in_ok-push_entries.ensures
     (lists_then (Err stop) _ _ _ packages (then_lines applets objects) c.in_ok-push_packages.ensures
     (lists_stopped stop _ _ applets objects c.in_err-push_applets.ensures)))
@@ -58,7 +58,7 @@ returns g c =
     let entries = each_line (entry_lines t.platform w) (count_of w) in
     let packages = each_line (package_lines t w) (slice_index w packages_address) in
     let applets = each_line (applet_lines w) (slice_index w applets_address) in
-    let objects = objects_lines t w c.args.all in
+    let objects = objects_lines t w c.args.shown in
     lists_then r _ _ _ entries (then_lines packages (then_lines applets objects)) c.in_ok-push_entries.ensures
     (lists_then r _ _ _ packages (then_lines applets objects) c.in_ok-push_packages.ensures
     (lists_then r _ _ _ applets objects c.in_ok-push_applets.ensures c.push_objects.ensures))

@@ -14,9 +14,9 @@ returns g c =
     let old : List ℕ = c.args.text.now.items in
     let one : List ℕ = c.push_labelled.new.text.items in
     let new : List ℕ = c.push_reference.new.text.items in
-    let a : List ℕ = labelled_text (codes ": algorithm ") (slice_index cells 0) (codes ", state ") in
+    let a : List ℕ = labelled_text (codes ": algorithm ") (slice_index cells 0) (codes ", holds nothing, state ") in
     let b : List ℕ = reference_text (slice_index cells 1) in
     on_ok_weaker c.push_reference.result (λ (last : new ≡ one ++ reference_text c.cell_of-2.result).
     push_behind old one new a b
-    (c.in_ok-push_labelled.ensures ∙ ap (λ (v : ℕ). old ++ labelled_text (codes ": algorithm ") v (codes ", state ")) c.cell_of.ensures)
+    (c.in_ok-push_labelled.ensures ∙ ap (λ (v : ℕ). old ++ labelled_text (codes ": algorithm ") v (codes ", holds nothing, state ")) c.cell_of.ensures)
     (last ∙ ap (λ (v : ℕ). one ++ reference_text v) c.cell_of-2.ensures)) c.push_reference.ensures

@@ -1,0 +1,45 @@
+-- The lines of keys, and the arrays that hold them.
+use Rattle.std.specs.Prelude.{ℕ, ◌==◌, ◌&&◌, ◌++◌, Bool, List, [], codes, decimal, slice_index, Option, Some, None, if◌then◌else◌}
+use Rattle.std.specs.List.{list_any}
+use Rattle.jc_heap.specs.declared.object.Facts.{Facts}
+use Rattle.jc_objects.specs.declared.legend.Legend.{Legend}
+use Rattle.jc_image_keys.specs.Keys.{is_bytes, key_arrays, key_at}
+use Rattle.jc_image_keys.specs.declared.keys.KeyFacts.{KeyFacts}
+use Rattle.jcard_listing.specs.Texts.{labelled_text, reference_text}
+
+-- the arrays whose bytes are not shown: those that hold keys, unless secrets are shown
+abbrev pub hidden_in : Legend → List ℕ → Bool → List ℕ
+hidden_in t w secrets = if secrets then [] else key_arrays t.platform w
+
+-- the same of two images
+abbrev pub hidden_in_both : Legend → Legend → List ℕ → List ℕ → Bool → List ℕ
+hidden_in_both t u w v secrets = hidden_in t w secrets ++ hidden_in u v secrets
+
+-- the bytes of an array at an address are not shown
+abbrev pub is_hidden : List ℕ → ℕ → Facts → Bool
+is_hidden hidden r f = is_bytes f.kind && list_any (λ y. y == r) hidden
+
+-- KeyBuilder's name of a type of keys, or its number
+abbrev pub type_text : ℕ → List ℕ
+type_text n = if n == 1 then codes "DES_TRANSIENT_RESET"
+    else (if n == 2 then codes "DES_TRANSIENT_DESELECT"
+    else (if n == 3 then codes "DES"
+    else (if n == 13 then codes "AES_TRANSIENT_RESET"
+    else (if n == 14 then codes "AES_TRANSIENT_DESELECT"
+    else (if n == 15 then codes "AES"
+    else (if n == 19 then codes "HMAC_TRANSIENT_RESET"
+    else (if n == 20 then codes "HMAC_TRANSIENT_DESELECT"
+    else (if n == 21 then codes "HMAC" else decimal n))))))))
+
+abbrev pub set_text : Bool → List ℕ
+set_text is_set = if is_set then codes ", set" else codes ", not set"
+
+-- how many bits a key has, and whether it is set; nothing where no array holds it
+abbrev pub size_text : Option KeyFacts → List ℕ
+size_text None = []
+size_text (Some key) = labelled_text (codes ", ") key.size (codes " bits") ++ set_text key.is_set
+
+-- a key by its fields: its type, the key that its array holds, and the array
+abbrev pub key_text : List ℕ → List ℕ → List ℕ
+key_text w cells = codes ": type " ++ (type_text (slice_index cells 0) ++ (size_text (key_at w (slice_index cells 1))
+    ++ (codes ", key " ++ reference_text (slice_index cells 1))))
