@@ -55,7 +55,7 @@ pub record RefersToNew (L : MemoryState → ℕ → Type 0) : Type 0 where
   pub new : (o : NewObject) (m : MemoryState) (r : ℕ) → IsNew m.heap.now r → L (apply_effect (HeapMove (creation_move o.event o)) m) r
   pub stays : (q i v : ℕ) (m : MemoryState) (r : ℕ) → L m r → L (apply_effect (HeapMove (Write (place.Cell q i) v)) m) r
 
--- the object that a call is on, whose cells get values from one on: an instance of a class that has such cells
+-- the receiver of a call, whose cells get values from one on: an instance of a class that has such cells
 pub record IsInitializing (method : PlatformMethod) (args : List Cell) (p : Packages) (m : MemoryState) (a : FieldsAnswer) (own : ℕ) : Type 0 where
   pub sets : sets_receiver method ≡ true
   pub called : reference_argument args 0 ≡ Some own

@@ -1,4 +1,4 @@
-//! Form 4 of calls: cells of the object that a call is on are set, and then its state.
+//! Form 4 of calls: cells of the receiver are set, and then its state.
 ghost use Rattle.std.specs.Prelude.{◌≡◌, ◌+◌, ◌≤◌, ◌<◌, false, length, IfOk, Ok};
 ghost use Rattle.jc_memory.specs.Programs.{Executes};
 ghost use Rattle.jc_world.specs.Instances.{IsInstanceWith};
@@ -17,7 +17,7 @@ use jc_world::arguments::reference_argument;
 use jc_world::objects::is_instance_of;
 use jc_world::{NativeResult, StepExit, instance};
 
-/// A value for a cell of the object that a call is on.
+/// A value for a cell of the receiver.
 #[derive(Clone, Copy)]
 pub enum FieldValue {
     Word(u16),

@@ -26,11 +26,11 @@ unfoldable pub first_number : List ℕ → ℕ → ℕ
 first_number bytes zero = 0
 first_number bytes (suc n) = first_number bytes n * 256 + slice_index bytes n
 
--- the number that bytes are, if a state can count so many
+-- the number that bytes are, where a state can count up to it
 abbrev pub count_in : List ℕ → Option ℕ
 count_in bytes = if nat_lt (first_number bytes (length bytes)) (2 ^ 64) then Some (first_number bytes (length bytes)) else None
 
--- the length that ends the padding, in bits, counts so many bytes: it has 64 bits, for SHA-384 and SHA-512 128
+-- the length that ends the padding, in bits, can be that of n bytes: it has 64 bits, for SHA-384 and SHA-512 128
 abbrev pub is_counted : HashAlgorithm → ℕ → Bool
 is_counted Md5 n = nat_lt n (2 ^ 61)
 is_counted Sha1 n = nat_lt n (2 ^ 61)
@@ -39,7 +39,7 @@ is_counted Sha256 n = nat_lt n (2 ^ 61)
 is_counted Sha384 n = true
 is_counted Sha512 n = true
 
--- so many bytes are whole blocks, and some
+-- n bytes are whole blocks, at least one
 abbrev pub is_whole : HashAlgorithm → ℕ → Bool
 is_whole a n = not (n == 0) && n % block_size a == 0
 
@@ -48,7 +48,7 @@ abbrev pub count_before : HashAlgorithm → ℕ → List ℕ → Option ℕ
 count_before a long bytes = if long == hash_size a
     then option_and_then (λ n. if is_whole a n && is_counted a n then Some n else None) (count_in bytes) else None
 
--- the first elements are the hash value of so many bytes as the others say
+-- the first elements are a hash value, the others the number of bytes before it
 abbrev pub begins_after : MemoryState → RunningDigest → Stretch → Option ℕ → Result EngineAnswer FrameExit
 begins_after m own hash None = Err (Throw illegal_value)
 begins_after m own hash (Some n) = Ok (sets_state own (shorts_of (state_from own.algorithm (bytes_in m hash) n)))

@@ -23,7 +23,7 @@ use jc_platform::names::PlatformClass;
 use jc_words::WordStore;
 use jc_world::{NativeResult, StepExit, Stretch};
 
-// The number that bytes are, the high one first, if a state can count so many.
+// The number that bytes are, the high byte first, where a state can count up to it.
 fn count_in(bytes: &[u8]) -> Option<u64>
     ensures { result ≡ count_in bytes.now }
 {
@@ -37,7 +37,7 @@ fn count_in(bytes: &[u8]) -> Option<u64>
     Some(count)
 }
 
-// The length that ends the padding counts so many bytes.
+// The length that ends the padding can be that of this number of bytes.
 fn is_counted(algorithm: HashAlgorithm, count: u64) -> bool
     ensures { result ≡ is_counted algorithm count }
 {
@@ -89,7 +89,7 @@ fn count_of<S: WordStore>(
     count_before(algorithm, long, bytes)
 }
 
-// The state is that after so many bytes with this hash value.
+// Sets the state after a number of bytes, whose hash value is this one.
 fn begin_after<S: WordStore>(
     own: &RunningDigest,
     hash: Stretch,
@@ -113,7 +113,7 @@ fn begin_after<S: WordStore>(
     set_bytes(own, bytes, memory, linked)
 }
 
-// The state is that after so many bytes as elements say, with the hash value that others are.
+// Sets the state after a number of bytes: some elements are the number, others the hash value.
 fn begin<S: WordStore>(
     own: &RunningDigest,
     hash: Stretch,

@@ -26,7 +26,7 @@ use Rattle.law_theorems.specs.References.{RunsFrom}
 use Rattle.law_theorems.specs.TryChanges.{Renews}
 
 -- a card, a command, and the PINs of the applet that answers it and of one in another context. The command's effects, in their order: some; it counts a
--- try of its PIN, and so many are left; it writes a field; some, with a transaction; it commits; some, with another transaction; it
+-- try of its PIN, and the rest are left; it writes a field; some, with a transaction; it commits; some, with another transaction; it
 -- updates the PIN; some; and it aborts
 pub record Acts : Type 0 where
   pub card : CardState
@@ -115,7 +115,7 @@ pub record MeetPremises (t : Tokens) (a : Acts) : Type 0 where
   pub standing : Frames
   pub gone_on : Frames
   pub apart : RunsApart t a.card a.bytes (to_count a) a.other 1 [] standing gone_on (memory_at a.card (to_field a))
-  -- of `references_name_what_is_there`: code began within it, and took so many steps before it committed
+  -- of `references_name_what_is_there`: code began within it, and took this number of steps before it committed
   pub begun_with : List Effect
   pub steps : ℕ
   pub lent : List ℕ
