@@ -123,7 +123,7 @@ copy_for_proof() {
     mapfile -t crates < <(crates_of jcard)
     # rt wants the top of a repository.
     mkdir -p "$1/.git" "$1/crates" &&
-        tar -C "$here/crates" --anchored --no-wildcards-match-slash --exclude='*/out' --exclude='*/must-fail' -cf - "${crates[@]}" |
+        tar -C "$here/crates" --anchored --no-wildcards-match-slash --exclude='*/out' --exclude='*/must-fail' --exclude='*/planted' -cf - "${crates[@]}" |
         tar -C "$1/crates" -xf - &&
         awk -F: -v names="${crates[*]}" 'BEGIN { split(names, list, " "); for (i in list) wanted[list[i]] } { split($1, words, " ") } words[1] in wanted' \
             "$here/crates.txt" >"$1/crates.txt" &&
