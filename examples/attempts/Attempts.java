@@ -15,7 +15,7 @@ import javacard.framework.Util;
  *
  * Its commands have the class 80.
  *   20 UNLOCK    with a code of two bytes as data: refused by 6983 once three attempts have failed, and by 6982 where it is wrong
- *   30 ATTEMPTS  answers the counter that outlasts, the one that does not, and how often the right code came
+ *   30 ATTEMPTS  answers the counter that outlasts, the one that does not, and how often the right code came, modulo 256
  */
 public class Attempts extends Applet {
     private static final byte UNLOCK = 0x20;
@@ -52,7 +52,7 @@ public class Attempts extends Applet {
         }
     }
 
-    /** The attempt is counted before the code is compared: whoever cuts the power behind the comparison gains none. */
+    /** The attempt is counted before the code is compared: whoever cuts the power after the comparison gains none. */
     private void unlock(short code) {
         if (kept[0] == MOST) {
             ISOException.throwIt(ISO7816.SW_FILE_INVALID);

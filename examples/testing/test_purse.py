@@ -1,38 +1,20 @@
 #!/usr/bin/python3
 """Tests of the purse: pytest test_purse.py, or python3 test_purse.py.
 
-They run the program that ./jcard --program prints. The environment may name another file of it as JCARD, and as PURSE an image that
-has the purse.
+images.py says with which program and image.
 """
 import os
 import struct
-import subprocess
 import sys
-import tempfile
 
 sys.dont_write_bytecode = True
-HERE = os.path.dirname(os.path.realpath(__file__))
-EXAMPLES = os.path.dirname(HERE)
-sys.path.insert(0, HERE)
+sys.path.insert(0, os.path.dirname(os.path.realpath(__file__)))
 
+from images import PROGRAM, image_of, run_all
 from jcard import Card
 
-LAUNCHER = os.path.join(os.path.dirname(EXAMPLES), "jcard")
-PROGRAM = os.environ.get("JCARD") or subprocess.run([LAUNCHER, "--program"], check=True, stdout=subprocess.PIPE, text=True).stdout.strip()
-ROOM = tempfile.TemporaryDirectory()
 DEBIT = "80400000 02 0078"
 BEFORE, AFTER = (500, 1, 500, 500), (380, 2, -120, 380)
-
-
-def image():
-    """The image of a card that has the purse, which is made once."""
-    path = os.environ.get("PURSE", os.path.join(ROOM.name, "purse.img"))
-    if not os.path.exists(path):
-        table = os.path.join(EXAMPLES, "platform.table")
-        subprocess.run([PROGRAM, "new", path, "--words", "8192", "--table", table], check=True)
-        load = [PROGRAM, "run", path, os.path.join(EXAMPLES, "purse/purse.load")]
-        assert set(subprocess.run(load, stdout=subprocess.PIPE, text=True).stdout.split()) == {"9000"}
-    return path
 
 
 def credit(card):
@@ -55,7 +37,7 @@ def sweep(*recoveries):
     """Cuts the power after 0 writes of the debit, after 1, and so on, until the debit is not cut. Nothing of a cut one may be left."""
     writes, response = 0, None
     while response is None:
-        with Card(PROGRAM, image()) as card:
+        with Card(PROGRAM, image_of("purse")) as card:
             credit(card)
             response = card.tear(writes, DEBIT, *recoveries)
             select(card)
@@ -65,7 +47,7 @@ def sweep(*recoveries):
 
 
 def test_debit():
-    with Card(PROGRAM, image()) as card:
+    with Card(PROGRAM, image_of("purse")) as card:
         credit(card)
         assert state(card) == BEFORE
         assert card.transmit(DEBIT).sw == 0x9000
@@ -82,7 +64,7 @@ def test_debit_at_each_cut_of_its_recovery():
 
 
 def test_tries_of_the_pin_count_before_they_are_compared():
-    with Card(PROGRAM, image()) as card:
+    with Card(PROGRAM, image_of("purse")) as card:
         credit(card)
         assert card.tear(1, "80200000 04 31323334") is None
         select(card)
@@ -90,7 +72,4 @@ def test_tries_of_the_pin_count_before_they_are_compared():
 
 
 if __name__ == "__main__":
-    TESTS = [value for name, value in list(globals().items()) if name.startswith("test_")]
-    for each in TESTS:
-        each()
-    print(f"{len(TESTS)} tests passed")
+    run_all(globals())

@@ -44,7 +44,7 @@ FURTHER = re.compile(r"(cannot be read further)")
 PIN = re.compile(r"tries (\d+) of (\d+), length (\d+) of (\d+), value (@\d+|null)")
 KEY = re.compile(r"type ([0-9A-Z_]+)(?:, (\d+) bits, (set|not set))?, key (@\d+|null)")
 HIDDEN = "key bytes, not shown"
-ENGINE = re.compile(r"algorithm (\d+), holds (nothing), state (@\d+|null)")
+ENGINE = re.compile(r"algorithm (\d+)(?:, key (@\d+|null), mode (\d+))?, holds (nothing), state (@\d+|null)")
 
 
 def whole(pattern, line):
@@ -304,7 +304,8 @@ def object_record(found):
         kind, bits, is_set, array = key
         made["key"] = {"type": str(kind), **({} if bits is None else {"bits": bits, "set": is_set == "set"}), "array": array}
     elif engine:
-        made["engine"] = dict(zip(("algorithm", "holds", "state"), engine))
+        algorithm, key, mode, holds, state = engine
+        made["engine"] = {"algorithm": algorithm, **({} if key is None else {"key": key, "mode": mode}), "holds": holds, "state": state}
     elif cells == HIDDEN:
         made["hidden"] = True
     elif kind == "AID" and re.fullmatch("(?:[0-9A-F]{2})*", str(cells)):

@@ -3,7 +3,7 @@ from . import arithmetic
 from .arithmetic import BOOLEAN, REFERENCE, SHORT, between, value_of_type
 from .bytecode import ENDS, decode
 from .class_file import FLOAT, INTEGER, STRING, CLASS
-from .refusal import Refusal, class_name, fault_of_type, is_reference, types_of
+from .refusal import Reasons, Refusal, class_name, fault_of_type, is_reference, types_of
 
 ELEMENTS = {4: "Z", 8: "B", 9: "S", 5: "C", 6: "F", 7: "D", 10: "I", 11: "J"}  # of newarray
 CONSTANTS = {STRING: "a string", CLASS: "a class literal", FLOAT: "a float"}
@@ -32,8 +32,8 @@ def what_is_not_there(name):
 
 
 class Walk:
-    """The instructions of a method, and what is known before each that is reached. What is refused goes to the reasons; where the types
-    or the instructions are, no values are followed."""
+    """The instructions of a method, and what is known before each that is reached. What is refused goes to the reasons; values are followed
+    up to an instruction that is refused, unless the card's values are known after it all the same."""
 
     def __init__(self, owner, method, code, reasons):
         self.owner, self.method, self.code, self.constants = owner, method, code, owner.constants
@@ -41,16 +41,18 @@ class Walk:
         self.types = ([] if method.is_static else [f"L{owner.name};"]) + parameters
         self.instructions = decode(code.bytes)
         self.at = {instruction.pc: instruction for instruction in self.instructions}
-        self.refused_lines = self.check_names(reasons)
+        self.reasons = reasons
+        self.refused_lines, self.ends = set(), set()  # the lines, and the instructions after which no values are known
+        self.refused_variables = set()  # the numbers of variables whose type is refused
+        self.check_names()
         self.states, self.visits, self.waiting = {}, {}, []
         self.uses = {}  # where a loaded `this` is used
         self.objects = {}  # the loads of `this` that an access to a field may take its object from
         self.mixed = set()  # loads of `this` that also go another way
         self.keeps_this = not method.is_static and not any(
             instruction.name == "astore" and instruction.operand == 0 for instruction in self.instructions)
-        if not self.refused_lines:
-            with reasons:
-                self.follow()
+        with reasons:
+            self.follow()
 
     def follow(self):
         """Follows the values from the first instruction on."""
@@ -63,30 +65,43 @@ class Walk:
     def refuse(self, what, pc=0):
         raise Refusal(f"{self.owner.place(self.method, pc)}: {what}")
 
+    def refuse_value(self, what, pc):
+        """Refuses a value, after which the others are followed as if it were a short; unless its line is refused already."""
+        if self.code.line(pc) not in self.refused_lines:
+            with self.reasons:
+                self.refuse(what, pc)
+
     def check_type(self, descriptor, what="", pc=0):
         fault = fault_of_type(descriptor)
         if fault:
             self.refuse(f"{what}{fault}, which the card does not have", pc)
 
-    def check_names(self, reasons):
+    def check_names(self):
         """That the card has the types and the instructions that the code names, whatever values they meet. Of instructions one a
-        line is refused, and none where a variable of the line is. Gives the lines where something is."""
-        refused = set()
+        line is refused, and none where a variable of the line is."""
         for variable in self.code.variables:
             if variable.start and fault_of_type(variable.descriptor):  # at 0 stand parameters
                 pc = variable.start - 1  # in the instruction that first stores it
-                refused.add(self.code.line(pc))
-                with reasons:
+                self.refused_lines.add(self.code.line(pc))
+                self.refused_variables.add(variable.number)
+                with self.reasons:
                     self.check_type(variable.descriptor, f"the variable {variable.name} has ", pc)
         for instruction in self.instructions:
-            line = self.code.line(instruction.pc)
-            if line not in refused:
-                before = len(reasons.reasons)
-                with reasons:
-                    self.check_instruction(instruction.name, instruction.operand, instruction.pc)
-                if len(reasons.reasons) > before:
-                    refused.add(line)
-        return refused
+            line, found = self.code.line(instruction.pc), Reasons()
+            with found:
+                self.check_instruction(instruction.name, instruction.operand, instruction.pc)
+            if found.reasons and not self.is_followed(instruction):
+                self.ends.add(instruction.pc)
+            if found.reasons and line not in self.refused_lines:
+                self.refused_lines.add(line)
+                with self.reasons:
+                    found.end()
+
+    def is_followed(self, instruction):
+        """Whether the values after an instruction that is refused are known: of text and classes, and where it names an object's type."""
+        if instruction.name == "ldc":
+            return self.constants.entries[instruction.operand][0] in (STRING, CLASS)
+        return instruction.name == "newarray" or instruction.name in TYPE_USES
 
     def check_instruction(self, name, operand, pc):
         if name == "ldc":
@@ -139,6 +154,8 @@ class Walk:
 
     def step(self, instruction, variables, stack):
         """Carries out one instruction, and goes on to those that may come next."""
+        if instruction.pc in self.ends:
+            return
         for handler in self.code.handlers:
             if handler.start <= instruction.pc < handler.end:
                 self.go(handler.at, list(variables), [REFERENCE])
@@ -191,9 +208,10 @@ class Step:
 
     def exact(self, use):
         value = self.integer()
-        if not value.is_exact:
-            self.refuse(f"{use} may leave 16 bits; cast the intermediate value to short or byte")
-        return value
+        if value.is_exact:
+            return value
+        self.walk.refuse_value(f"{use} may leave 16 bits; cast the intermediate value to short or byte", self.pc)
+        return SHORT
 
     def of_type(self, descriptor, use):
         return self.reference() if is_reference(descriptor) else self.exact(use)
@@ -239,8 +257,8 @@ class Step:
         self.push(between(self.operand, self.operand))
 
     def loaded_constant(self):
-        _, value = self.walk.constants.entries[self.operand]
-        self.push(between(value, value))
+        tag, value = self.walk.constants.entries[self.operand]
+        self.push(between(value, value) if tag == INTEGER else REFERENCE)
 
     def load(self):
         value = self.variables[self.operand]
@@ -257,7 +275,9 @@ class Step:
         self.stack[:] = [each.of_variable(None) if each and each.variable == number else each for each in self.stack]
 
     def store_integer(self):
-        self.set(self.operand, self.exact("the value of a variable").of_variable(None))
+        is_refused = self.operand in self.walk.refused_variables
+        value = arithmetic.cast(self.integer(), SHORT) if is_refused else self.exact("the value of a variable")
+        self.set(self.operand, value.of_variable(None))
 
     def store_reference(self):
         self.walk.mixed.add(self.reference().origin)
@@ -293,14 +313,16 @@ class Step:
         value = self.variables[number]
         result = between(value.low + difference, value.high + difference) if value and value.is_exact else arithmetic.INEXACT
         if not result.is_exact:
-            self.refuse("an int variable is counted beyond 16 bits, and the card does not have int")
+            if number not in self.walk.refused_variables:
+                self.walk.refuse_value("an int variable is counted beyond 16 bits, and the card does not have int", self.pc)
+            result = SHORT
         self.set(number, result)
 
     def switch(self):
         self.exact("the value of a switch")
         for value, _ in self.operand[1]:
             if not arithmetic.LOWEST <= value <= arithmetic.HIGHEST:
-                self.refuse(f"the case {value} is no short")
+                self.walk.refuse_value(f"the case {value} is no short", self.pc)
 
     def give_back(self):
         if self.name == "ireturn":

@@ -28,10 +28,10 @@ FORMS = {
 }
 
 
-def encoded(step):
+def encoded(step, forms=None):
     """The bytes of a step: its name, its operands, and of `put` the bytes after them."""
     name, *operands = step
-    code, form = FORMS[name]
+    code, form = (forms or FORMS)[name]
     content = bytes([code])
     for kind, value in zip(form, operands):
         content += (value & 0xFFFF).to_bytes(2, "big") if kind == "w" else bytes([value & 0xFF])
@@ -177,6 +177,8 @@ class Random:
 class Card:
     """An applet of the steps. `reference` gives the reference of the next engine."""
 
+    forms = FORMS
+
     def __init__(self, seed=bytes(32), reference=None):
         self.random_seed, self.reference = seed, reference
         self.arrays = {BUFFER: bytearray(BUFFER_SIZE), KEPT: bytearray(SIZE), PASSING: bytearray(SIZE), NULL: None}
@@ -198,7 +200,7 @@ class Card:
 
     def command(self, *steps):
         """What the card answers to a command of these steps: the bytes in hexadecimal, and the status word."""
-        data = b"".join(map(encoded, steps))
+        data = b"".join(encoded(step, self.forms) for step in steps)
         assert len(data) <= 255, len(data)
         self.arrays[BUFFER][:] = (bytes([0, 0, 0, 0, len(data)]) + data).ljust(BUFFER_SIZE, b"\0")
         self.answer, self.steps = b"", list(steps)

@@ -3,7 +3,7 @@
 ghost use Rattle.std.specs.Prelude.{◌≤◌};
 
 use crate::loops::timed;
-use crate::messages::{hmac, mac};
+use crate::messages::{hmac, mac, mode};
 use crate::words::{bytes, pieces};
 use jc_aes::aes::Aes;
 use jc_des::des::Des;
@@ -19,75 +19,129 @@ use std::alloc::{AllocError, Global};
 /// The answer of a line, which is empty where the line is no case.
 pub fn answer(alloc: Global, line: &str) -> Result<String, AllocError> {
     let words = line.split(' ').collect::<Vec<&str>>(alloc)?;
-    match words.as_slice() {
-        ["digest", name, cuts, message] => {
-            let pieces = pieces(alloc, cuts, message)?;
-            digest(alloc, name, pieces.as_slice())
+    answer_of(alloc, words.as_slice())
+}
+
+// The cases by the number of their words.
+fn answer_of(alloc: Global, words: &[&str]) -> Result<String, AllocError> {
+    match words {
+        [kind, first, last] => short_case(alloc, kind, first, last),
+        ["digest", name, cuts, message] => digest(alloc, name, cuts, message),
+        [kind, name, second, third, last] => {
+            block_or_keyed_digest(alloc, kind, name, second, third, last)
         }
-        ["crc16", cuts, message] => {
-            let mut register = 0xffffu16;
-            for piece in pieces(alloc, cuts, message)?.as_slice() {
-                register = update_16(register, piece.as_slice());
-            }
-            hex::encode(alloc, (!register).to_be_bytes())
+        [code, name, padding, key, cuts, message] => {
+            code_of(alloc, [code, name, padding, key], cuts, message)
         }
-        ["crc32", cuts, message] => {
-            let mut register = 0xffff_ffffu32;
-            for piece in pieces(alloc, cuts, message)?.as_slice() {
-                register = update_32(register, piece.as_slice());
-            }
-            hex::encode(alloc, (!register).to_be_bytes())
-        }
-        ["block", name, way, key, block] => {
-            let key = bytes(alloc, key)?;
-            let block = bytes(alloc, block)?;
-            match *name {
-                "aes" => aes(alloc, way, key.as_slice(), block.as_slice()),
-                _ => des(alloc, way, key.as_slice(), block.as_slice()),
-            }
-        }
-        [
-            mode @ ("ecb" | "cbc"),
-            name,
-            way,
-            padding,
-            key,
-            first,
+        [mode, name, way, padding, key, first, cuts, message] => through_mode(
+            alloc,
+            [mode, name, way, padding, key, first],
             cuts,
             message,
-        ] => {
-            let pieces = pieces(alloc, cuts, message)?;
-            crate::messages::mode(
-                alloc,
-                [mode, name, way, padding, key, first],
-                pieces.as_slice(),
-            )
-        }
-        [
-            code @ ("mac1" | "mac3" | "cmac"),
-            name,
-            padding,
-            key,
-            cuts,
-            message,
-        ] => {
-            let pieces = pieces(alloc, cuts, message)?;
-            mac(alloc, [code, name, padding, key], pieces.as_slice())
-        }
-        ["hmac", name, key, cuts, message] => {
-            let key = bytes(alloc, key)?;
-            let pieces = pieces(alloc, cuts, message)?;
-            keyed(alloc, name, key.as_slice(), pieces.as_slice())
-        }
-        ["time", name, count] => {
-            let count = count.parse::<u32>().unwrap_or(0);
-            hex::encode(alloc, timed(name, count))
-        }
+        ),
         _ => Ok(String::new(alloc)),
     }
 }
 
-fn digest(alloc: Global, name: &str, pieces: &[Vec<u8>]) -> Result<String, AllocError> {
+fn short_case(alloc: Global, kind: &str, first: &str, last: &str) -> Result<String, AllocError> {
+    match kind {
+        "crc16" => crc16(alloc, first, last),
+        "crc32" => crc32(alloc, first, last),
+        "time" => hex::encode(alloc, timed(first, last.parse::<u32>().unwrap_or(0))),
+        _ => Ok(String::new(alloc)),
+    }
+}
+
+fn block_or_keyed_digest(
+    alloc: Global,
+    kind: &str,
+    name: &str,
+    second: &str,
+    third: &str,
+    last: &str,
+) -> Result<String, AllocError> {
+    match kind {
+        "block" => through_block(alloc, name, second, third, last),
+        "hmac" => keyed(alloc, name, second, third, last),
+        _ => Ok(String::new(alloc)),
+    }
+}
+
+fn digest(alloc: Global, name: &str, cuts: &str, message: &str) -> Result<String, AllocError> {
+    let pieces = pieces(alloc, cuts, message)?;
+    digest_by(alloc, name, pieces.as_slice())
+}
+
+fn crc16(alloc: Global, cuts: &str, message: &str) -> Result<String, AllocError> {
+    let mut register = 0xffffu16;
+    for piece in pieces(alloc, cuts, message)?.as_slice() {
+        register = update_16(register, piece.as_slice());
+    }
+    hex::encode(alloc, (!register).to_be_bytes())
+}
+
+fn crc32(alloc: Global, cuts: &str, message: &str) -> Result<String, AllocError> {
+    let mut register = 0xffff_ffffu32;
+    for piece in pieces(alloc, cuts, message)?.as_slice() {
+        register = update_32(register, piece.as_slice());
+    }
+    hex::encode(alloc, (!register).to_be_bytes())
+}
+
+fn through_block(
+    alloc: Global,
+    name: &str,
+    way: &str,
+    key: &str,
+    block: &str,
+) -> Result<String, AllocError> {
+    let key = bytes(alloc, key)?;
+    let block = bytes(alloc, block)?;
+    match name {
+        "aes" => aes(alloc, way, key.as_slice(), block.as_slice()),
+        _ => des(alloc, way, key.as_slice(), block.as_slice()),
+    }
+}
+
+fn through_mode(
+    alloc: Global,
+    words: [&str; 6],
+    cuts: &str,
+    message: &str,
+) -> Result<String, AllocError> {
+    let ("ecb" | "cbc") = words[0] else {
+        return Ok(String::new(alloc));
+    };
+    let pieces = pieces(alloc, cuts, message)?;
+    mode(alloc, words, pieces.as_slice())
+}
+
+fn code_of(
+    alloc: Global,
+    words: [&str; 4],
+    cuts: &str,
+    message: &str,
+) -> Result<String, AllocError> {
+    let ("mac1" | "mac3" | "cmac") = words[0] else {
+        return Ok(String::new(alloc));
+    };
+    let pieces = pieces(alloc, cuts, message)?;
+    mac(alloc, words, pieces.as_slice())
+}
+
+fn keyed(
+    alloc: Global,
+    name: &str,
+    key: &str,
+    cuts: &str,
+    message: &str,
+) -> Result<String, AllocError> {
+    let key = bytes(alloc, key)?;
+    let pieces = pieces(alloc, cuts, message)?;
+    keyed_by(alloc, name, key.as_slice(), pieces.as_slice())
+}
+
+fn digest_by(alloc: Global, name: &str, pieces: &[Vec<u8>]) -> Result<String, AllocError> {
     match name {
         "md5" => digest_of::<Md5>(alloc, pieces),
         "sha1" => digest_of::<Sha1>(alloc, pieces),
@@ -98,7 +152,12 @@ fn digest(alloc: Global, name: &str, pieces: &[Vec<u8>]) -> Result<String, Alloc
     }
 }
 
-fn keyed(alloc: Global, name: &str, key: &[u8], pieces: &[Vec<u8>]) -> Result<String, AllocError> {
+fn keyed_by(
+    alloc: Global,
+    name: &str,
+    key: &[u8],
+    pieces: &[Vec<u8>],
+) -> Result<String, AllocError> {
     match name {
         "md5" => hmac::<Md5>(alloc, key, pieces),
         "sha1" => hmac::<Sha1>(alloc, key, pieces),

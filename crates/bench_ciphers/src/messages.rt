@@ -130,43 +130,43 @@ pub fn mode(alloc: Global, words: [&str; 6], pieces: &[Vec<u8>]) -> Result<Strin
     let [mode, name, way, padding, key, first] = words;
     let key = bytes(alloc, key)?;
     let first = bytes(alloc, first)?;
-    let padding = padding_of(padding);
+    mode_by(
+        alloc,
+        [mode, name, way],
+        padding_of(padding),
+        key.as_slice(),
+        first.as_slice(),
+        pieces,
+    )
+}
+
+fn mode_by(
+    alloc: Global,
+    words: [&str; 3],
+    padding: Padding,
+    key: &[u8],
+    first: &[u8],
+    pieces: &[Vec<u8>],
+) -> Result<String, AllocError> {
+    let [mode, name, way] = words;
     match name {
         "aes" => match key.len() {
-            16 | 24 | 32 => through(
-                alloc,
-                Aes::new(key.as_slice()),
-                16,
-                mode,
-                way,
-                padding,
-                first.as_slice(),
-                pieces,
-            ),
+            16 | 24 | 32 => through(alloc, Aes::new(key), 16, mode, way, padding, first, pieces),
             _ => Ok(String::new(alloc)),
         },
         _ => match key.len() {
             16 | 24 => through(
                 alloc,
-                TripleDes::new(key.as_slice()),
+                TripleDes::new(key),
                 8,
                 mode,
                 way,
                 padding,
-                first.as_slice(),
+                first,
                 pieces,
             ),
-            _ => match <[u8; 8]>::try_from(key.as_slice()) {
-                Ok(key) => through(
-                    alloc,
-                    Des::new(&key),
-                    8,
-                    mode,
-                    way,
-                    padding,
-                    first.as_slice(),
-                    pieces,
-                ),
+            _ => match <[u8; 8]>::try_from(key) {
+                Ok(key) => through(alloc, Des::new(&key), 8, mode, way, padding, first, pieces),
                 Err(_) => Ok(String::new(alloc)),
             },
         },
@@ -238,34 +238,50 @@ fn code<C: BlockCipher>(
 pub fn mac(alloc: Global, words: [&str; 4], pieces: &[Vec<u8>]) -> Result<String, AllocError> {
     let [name, cipher, padding, key] = words;
     let key = bytes(alloc, key)?;
-    let padding = padding_of(padding);
-    let none = Ok(String::new(alloc));
+    mac_by(
+        alloc,
+        name,
+        cipher,
+        padding_of(padding),
+        key.as_slice(),
+        pieces,
+    )
+}
+
+fn mac_by(
+    alloc: Global,
+    name: &str,
+    cipher: &str,
+    padding: Padding,
+    key: &[u8],
+    pieces: &[Vec<u8>],
+) -> Result<String, AllocError> {
     match cipher {
         "aes" => match key.len() {
             16 | 24 | 32 => code(
                 alloc,
-                Aes::new(key.as_slice()),
-                Aes::new(key.as_slice()),
+                Aes::new(key),
+                Aes::new(key),
                 16,
                 name,
                 padding,
                 pieces,
             ),
-            _ => none,
+            _ => Ok(String::new(alloc)),
         },
         "tdes" => match key.len() {
             16 | 24 => code(
                 alloc,
-                TripleDes::new(key.as_slice()),
-                TripleDes::new(key.as_slice()),
+                TripleDes::new(key),
+                TripleDes::new(key),
                 8,
                 name,
                 padding,
                 pieces,
             ),
-            _ => none,
+            _ => Ok(String::new(alloc)),
         },
-        _ => match <[u8; 16]>::try_from(key.as_slice()) {
+        _ => match <[u8; 16]>::try_from(key) {
             Ok(key) => code(
                 alloc,
                 Des::new(&half(&key, 0)),
@@ -275,7 +291,7 @@ pub fn mac(alloc: Global, words: [&str; 4], pieces: &[Vec<u8>]) -> Result<String
                 padding,
                 pieces,
             ),
-            Err(_) => none,
+            Err(_) => Ok(String::new(alloc)),
         },
     }
 }

@@ -26,23 +26,25 @@ pub fn bytes(alloc: Global, word: &str) -> Result<Vec<u8>, AllocError> {
 /// A message in pieces of these lengths, with commas between, and the rest as the last.
 pub fn pieces(alloc: Global, cuts: &str, message: &str) -> Result<Vec<Vec<u8>>, AllocError> {
     let message = bytes(alloc, message)?;
-    let mut rest = message.iter();
+    pieces_of(alloc, cuts, message.as_slice())
+}
+
+fn pieces_of(alloc: Global, cuts: &str, message: &[u8]) -> Result<Vec<Vec<u8>>, AllocError> {
+    let mut rest = message;
     let mut pieces = Vec::new(alloc);
     for cut in cuts.split(',') {
         if let Ok(length) = cut.parse::<u16>() {
-            let mut piece = Vec::new(alloc);
-            for _byte in 0..length {
-                if let Some(byte) = rest.next() {
-                    piece.push(*byte)?;
-                }
-            }
-            pieces.push(piece)?;
+            let (piece, others) = rest.split_at(rest.len().min(usize::from(length)));
+            push_copy(alloc, &mut pieces, piece)?;
+            rest = others;
         }
     }
-    let mut last = Vec::new(alloc);
-    for byte in rest {
-        last.push(*byte)?;
-    }
-    pieces.push(last)?;
+    push_copy(alloc, &mut pieces, rest)?;
     Ok(pieces)
+}
+
+fn push_copy(alloc: Global, pieces: &mut Vec<Vec<u8>>, piece: &[u8]) -> Result<(), AllocError> {
+    let piece = Vec::from_slice(alloc, piece)?;
+    pieces.push(piece)?;
+    Ok(())
 }

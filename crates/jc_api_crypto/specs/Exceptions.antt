@@ -15,3 +15,11 @@ uninitialized_key = Further CryptoException (pos 2)
 -- CryptoException.NO_SUCH_ALGORITHM: there is no algorithm of this number
 abbrev pub no_such_algorithm : Exception
 no_such_algorithm = Further CryptoException (pos 3)
+
+-- CryptoException.INVALID_INIT: an object is not initialized for this
+abbrev pub invalid_init : Exception
+invalid_init = Further CryptoException (pos 4)
+
+-- CryptoException.ILLEGAL_USE: what was given has no whole blocks, or does not end by a padding
+abbrev pub illegal_use : Exception
+illegal_use = Further CryptoException (pos 5)

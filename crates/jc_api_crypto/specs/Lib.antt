@@ -4,10 +4,16 @@ pub mod Receivers
 pub mod MessageDigest
 pub mod InitializedMessageDigest
 pub mod MessagesInPieces
+pub mod SignaturesInPieces
 pub mod Checksum
 pub mod RandomData
 pub mod KeyBuilder
 pub mod KeyObjects
+pub mod Initialized
+pub mod CipherAlgorithms
+pub mod Cipher
+pub mod SignatureAlgorithms
+pub mod Signature
 pub mod Engines
 pub mod Keys
 pub mod Ciphers

@@ -1,4 +1,5 @@
 -- Objects of the platform with a state, as their calls find them.
+use Rattle.std.specs.Int.{cast_signed, w16}
 use Rattle.std.specs.Prelude.{ℕ, ◌+◌, pos, if◌then◌else◌, List, Option, Some, None, Result, Ok, Err}
 use Rattle.jc_heap.specs.declared.object.Facts.{Facts}
 use Rattle.jc_frames.specs.declared.cell.Cell.{Cell}
@@ -36,6 +37,11 @@ bytes_of_state m e = bytes_of_shorts (words_at m e.array e.start e.count)
 unfoldable pub output_of : ℕ → ℕ → List Cell → Packages → MemoryState → Result Stretch FrameExit
 output_of i count args p m = and_then (some_or_fault (reference_argument args i)) (λ array. and_then (some_or_fault (short_argument args (i + 1)))
     (λ start. elements_at p m array start (pos count)))
+
+-- the same for a number of elements that may be more than an array has
+unfoldable pub output_for : ℕ → ℕ → List Cell → Packages → MemoryState → Result Stretch FrameExit
+output_for i count args p m = and_then (some_or_fault (reference_argument args i)) (λ array. and_then (some_or_fault (short_argument args (i + 1)))
+    (λ start. elements_at p m array start (cast_signed w16 count)))
 
 -- what a number names, or what throws
 abbrev pub named_or_throw : {A : Type 0} → Option A → Result A FrameExit

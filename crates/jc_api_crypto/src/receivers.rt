@@ -5,10 +5,10 @@ ghost use Rattle.jc_world.specs.Instances.{IsInstanceWith, instance_at};
 ghost use Rattle.jc_api.specs.Arguments.{AreAsked};
 ghost use Rattle.jc_api.specs.Changing.{IsState};
 ghost use Rattle.jc_api.specs.Exits.{plainly};
-ghost use Rattle.jc_api_crypto.specs.Receivers.{bytes_of_state, output_of, receiver_of};
+ghost use Rattle.jc_api_crypto.specs.Receivers.{bytes_of_state, output_for, output_of, receiver_of};
 
 use crate::shorts::put_bytes_of;
-use jc_api::elements_at;
+use jc_api::{MOST_ELEMENTS, elements_at};
 use jc_frames::{Cell, FrameExit, Outcome};
 use jc_heap::Facts;
 use jc_linker::linked::Linked;
@@ -88,6 +88,29 @@ pub(crate) fn output_of<S: WordStore>(
     let array = reference_argument(args, place)?;
     let start = short_argument(args, place + 1)?;
     elements_at(array, start, i16::from(count), memory, linked)
+}
+
+/// The same for a number of elements that may be more than an array has.
+#[tactic(auto, unfolding(crate::specs::Receivers::output_for))]
+pub(crate) fn output_for<S: WordStore>(
+    place: u8,
+    count: u16,
+    args: &[Cell],
+    memory: &Memory<S>,
+    linked: &Linked,
+) -> Result<Stretch, FrameExit>
+    requires up { memory.now.heap.down ≡ false }
+    ensures output { result ≡ output_for place count args.now linked.now memory.now }
+    ensures there { IfOk result (IsInArray memory.now) }
+    ensures asked { IfOk result (AreAsked linked.now memory.now) }
+    ensures plain { plainly result ≡ result }
+    ensures count { IfOk result (λ e. e.count ≡ count) }
+    ensures few { IfOk result (λ e. e.count ≤ MOST_ELEMENTS) }
+{
+    let place = usize::from(place);
+    let array = reference_argument(args, place)?;
+    let start = short_argument(args, place + 1)?;
+    elements_at(array, start, count.cast_signed(), memory, linked)
 }
 
 /// Reads the bytes of a state, by way of its shorts.

@@ -1,6 +1,7 @@
 -- APDU: what its calls may do.
 pub mod Each
 pub mod Checks
+pub mod InARow
 use Rattle.std.specs.Int.{w16, cast_signed}
 use Rattle.std.specs.Prelude.{pos}
 use Rattle.std.proofs.Common.{ℕ, List, length}

@@ -1,7 +1,7 @@
 -- Arguments that were read one by one are of the kinds in a row.
-use Rattle.std.proofs.Common.{◌≡◌, ◌+◌, ◌∙◌, ℕ, suc, Bool, true, false, List, [], ◌∷◌, Option, Some, None, Result, Ok, Err, refl, sym, ap, if◌then◌else◌}
+use Rattle.std.proofs.Common.{◌≡◌, ◌∙◌, ℕ, suc, Bool, true, false, List, [], ◌∷◌, Option, Some, None, Result, Ok, Err, refl, sym, ap, if◌then◌else◌}
 use Rattle.std.proofs.lemmas.Option.{none-some, same_Some}
-use Rattle.std.specs.Prelude.{ℤ, ◌==◌, ◌&&◌, ◌||◌, not, slice_get}
+use Rattle.std.specs.Prelude.{ℤ, ◌==◌, ◌&&◌, ◌||◌, slice_get}
 use Rattle.std.specs.Option.{option_and_then}
 use Rattle.jc_heap.specs.declared.object.Facts.{Facts}
 use Rattle.jc_heap.specs.declared.object.Kind.{Kind}
@@ -21,7 +21,7 @@ use Rattle.jc_world.specs.Answers.{and_then}
 use Rattle.jc_world.specs.Arrays.{bytes_argument, if_array, if_bytes}
 use Rattle.jc_world.specs.Objects.{reference_argument, short_argument, some_or_fault}
 use Rattle.jc_api.specs.Kinds.{have_kinds, is_bytes, is_number, is_object_of, is_of_kind, is_present_and}
-use Rattle.jc_api.proofs.Reaching.{err_not_ok, same_Ok}
+use Rattle.jc_api.proofs.Reaching.{err_not_ok}
 
 -- ---- what is read, and then something that is a code fault
 

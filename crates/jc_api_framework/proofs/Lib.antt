@@ -1,16 +1,9 @@
-pub mod Runs
 pub mod KindsRead
-pub mod UtilKinds
-pub mod Fitting
-pub mod Orders
-pub mod InARow
-pub mod Settling
-pub mod Lengths
-pub mod ReadBack
 pub mod Passing
 pub mod ObjectCalls
 pub mod ExceptionCalls
 pub mod UtilCalls
+pub mod ConstructingCalls
 pub mod AidCalls
 pub mod OwnerPinCalls
 pub mod ApduCalls

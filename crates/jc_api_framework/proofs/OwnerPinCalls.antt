@@ -1,6 +1,7 @@
 -- OwnerPIN: what its calls may do.
 pub mod Each
 pub mod Checks
+pub mod Settling
 use Rattle.std.proofs.Common.{ℕ, List, refl}
 use Rattle.jc_memory.specs.State.{MemoryState, Effect}
 use Rattle.jc_platform.specs.Names.{pins_rows}

@@ -1,4 +1,7 @@
 -- Util: what its calls may do, all of which only read and then do what they answer.
+pub mod Kinds
+pub mod Fitting
+pub mod Orders
 use Rattle.std.proofs.Common.{ℕ, List}
 use Rattle.jc_memory.specs.State.{MemoryState, Effect}
 use Rattle.jc_platform.specs.declared.names.PlatformMethod.TheVariants as rooms

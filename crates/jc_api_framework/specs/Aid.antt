@@ -9,16 +9,14 @@ use Rattle.jc_frames.specs.declared.outcome.FrameExit.{FrameExit}
 use Rattle.jc_frames.specs.declared.outcome.FrameExit.TheVariants.{Throw}
 use Rattle.jc_frames.specs.Reasons.{illegal_value}
 use Rattle.jc_memory.specs.State.{MemoryState}
-use Rattle.jc_memory.specs.Programs.{Perform}
-use Rattle.jc_memory.specs.Cells.{header_at, cells_refusal, cells_effect}
+use Rattle.jc_memory.specs.Cells.{header_at}
 use Rattle.jc_platform.specs.declared.names.PlatformClass.TheVariants.{Aid}
 use Rattle.jc_platform.specs.declared.names.AidsMethod.{AidsMethod}
 use Rattle.jc_platform.specs.declared.names.AidsMethod.TheVariants.{AidInit, AidEquals, AidEqualsBytes, AidGetBytes, AidRidEquals, AidPartialEquals}
 use Rattle.jc_platform.specs.declared.names.AidsMethod.TheVariants.{AidGetPartialBytes}
 use Rattle.jc_platform.specs.Distinct.{class_word}
 use Rattle.jc_linker.specs.Values.{Packages}
-use Rattle.jc_world.specs.declared.native_result.NativeResult.TheVariants.{ReturnVoid}
-use Rattle.jc_world.specs.NativeCalls.{NativeProgram, return_value, throw_exception, if_some, if_ok, unless}
+use Rattle.jc_world.specs.NativeCalls.{NativeProgram}
 use Rattle.jc_world.specs.Objects.{is_instance_of, reference_argument, short_argument, some_or_fault}
 use Rattle.jc_registry.specs.Aids.{aid_at}
 use Rattle.jc_registry.specs.Registry.{is_aid}
@@ -26,8 +24,10 @@ use Rattle.jc_world.specs.Answers.{and_then}
 use Rattle.jc_world.specs.Arrays.{bytes_in}
 use Rattle.jc_world.specs.Numbers.{not_negative}
 use Rattle.jc_world.specs.Instances.{instance_at}
+use Rattle.jc_world.specs.declared.arrays.Stretch.{Stretch}
 use Rattle.jc_api.specs.Arguments.{argument_bytes, array_arguments}
 use Rattle.jc_api.specs.Forms.{CallAnswer, puts_at, reading_call, tells_whether}
+use Rattle.jc_api_framework.specs.Constructing.{constructing_call}
 use Rattle.jc_api_framework.specs.Aid.Cells.{is_aid_length, cells_of_aid}
 use Rattle.jc_api_framework.specs.declared.aid.Extent.{Extent}
 use Rattle.jc_api_framework.specs.declared.aid.Extent.TheVariants.{Beginning, Whole}
@@ -40,13 +40,16 @@ aid_behind p m r (Some f) = if is_instance_of p f (class_word p.platform Aid) th
 abbrev pub aid_of_object : Packages → MemoryState → ℕ → Option (List ℕ)
 aid_of_object p m r = if r == 0 then None else aid_behind p m r (header_at m r)
 
--- AID.<init>: all nine cells are set, as one change
-unfoldable pub aid_init : List Cell → Packages → MemoryState → NativeProgram
-aid_init args p m = if_some (reference_argument args 0) (λ own. if_ok (array_arguments 1 args m)
-    (λ given. if_ok (instance_at m own 9) (λ f. if_ok (argument_bytes given p m) (λ e.
-    if is_aid_length e.count then unless (cells_refusal m own 0 (cells_of_aid (bytes_in m e)))
-    (Perform (cells_effect m own 0 (cells_of_aid (bytes_in m e))) (return_value ReturnVoid))
-    else throw_exception illegal_value))))
+-- ---- the words that the constructor answers for the cells of its object
+
+-- those of the AID that elements of an array are, if an AID has as many bytes
+abbrev pub cells_of_elements : MemoryState → Stretch → Result (List ℕ) FrameExit
+cells_of_elements m e = if is_aid_length e.count then Ok (cells_of_aid (bytes_in m e)) else Err (Throw illegal_value)
+
+-- AID.<init>: the AID is given by elements of an array, which are looked at after the object
+unfoldable pub aid_init : List Cell → Packages → MemoryState → Result (List ℕ) FrameExit
+aid_init args p m = and_then (some_or_fault (reference_argument args 0)) (λ own. and_then (array_arguments 1 args m)
+    (λ given. and_then (instance_at m own 9) (λ f. and_then (argument_bytes given p m) (cells_of_elements m))))
 
 -- ---- what the calls answer that only read their receiver
 
@@ -125,9 +128,9 @@ aid_get_partial_bytes args m = and_then (some_or_fault (reference_argument args 
     and_then (part_or_throw (part_within aid (not_negative from) (not_negative given.count)))
     (λ part. Ok (puts_at given.array given.start part (pos (length part))))))))
 
--- what a call of a method of AID may do: its constructor sets its cells, each other what its answer says
+-- what a call of a method of AID may do: what its answer says, which for its constructor are the words of the object's cells
 unfoldable pub aid_call : AidsMethod → List Cell → Packages → MemoryState → NativeProgram
-aid_call AidInit args p m = aid_init args p m
+aid_call AidInit args p m = constructing_call (aid_init args p m) args m
 aid_call AidEquals args p m = reading_call (aid_equals args p m) p m
 aid_call AidEqualsBytes args p m = reading_call (aid_equals_bytes args p m) p m
 aid_call AidGetBytes args p m = reading_call (aid_get_bytes args m) p m

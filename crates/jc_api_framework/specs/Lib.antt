@@ -1,6 +1,7 @@
 pub mod Aid
 pub mod Apdu
 pub mod Applet
+pub mod Constructing
 pub mod Events
 pub mod Exceptions
 pub mod Objects

@@ -3,25 +3,23 @@
 pub mod cells;
 pub mod law;
 
-ghost use Rattle.std.specs.Prelude.{◌≡◌, ◌≤◌, false, length};
+ghost use Rattle.std.specs.Prelude.{◌≡◌, ◌≤◌, false, length, Ok};
 ghost use Rattle.std.specs.Option.{option_copied};
 ghost use Rattle.jc_world.specs.Numbers.{not_negative};
 ghost use Rattle.jc_memory.specs.Programs.{Executes};
-ghost use Rattle.jc_heap.specs.Completions.{after_change};
-ghost use Rattle.jc_memory.specs.Cells.{cells_store};
 ghost use Rattle.jc_world.specs.NativeCalls.{after_call};
 ghost use Rattle.jc_world.specs.Arrays.{IsInArray, bytes_in};
-ghost use Rattle.jc_world.specs.Instances.{IsInstanceWith};
 ghost use Rattle.jc_api.specs.Forms.{reading_call};
+ghost use Rattle.jc_api_framework.specs.Constructing.{constructing_call};
 ghost use Rattle.jc_api_framework.specs.Aid.Cells.{cells_of_aid};
 ghost use Rattle.jc_api_framework.specs.Aid.{agree, agrees_with_bytes, aid_call, aid_get_bytes, aid_get_partial_bytes, aid_init, aid_of_object};
 ghost use Rattle.jc_api_framework.specs.Aid.{begins_with, compared_with_bytes, compared_with_object, part_within, rid_of};
 
 use crate::aid::cells::{cells_of_aid, is_aid_length};
+use crate::constructing::{construct, new_instance};
 use jc_api::{argument_bytes, array_arguments, elements_at, given_elements};
 use jc_frames::reasons::ILLEGAL_VALUE;
 use jc_frames::{Cell, Exception, Outcome};
-use jc_heap::ChangeRefusal;
 use jc_linker::linked::Linked;
 use jc_memory::Memory;
 use jc_platform::names::{AidsMethod, PlatformClass};
@@ -30,7 +28,7 @@ use jc_transient::Ref;
 use jc_words::WordStore;
 use jc_world::arguments::{reference_argument, short_argument};
 use jc_world::objects::is_instance_of;
-use jc_world::{NativeResult, StepExit, Stretch, boolean, instance, put, short};
+use jc_world::{NativeResult, StepExit, Stretch, boolean, put, short};
 
 // The AID of an instance of `AID`.
 fn aid_of_object<S: WordStore>(object: Ref, memory: &Memory<S>, linked: &Linked) -> Option<Aid>
@@ -50,19 +48,22 @@ fn aid_of_object<S: WordStore>(object: Ref, memory: &Memory<S>, linked: &Linked)
 }
 
 // Sets the cells of an AID object to those of as many bytes of an array as an AID has.
-fn set_aid<S: WordStore>(memory: &mut Memory<S>, own: Ref, e: Stretch) -> Result<(), ChangeRefusal>
+fn set_aid<S: WordStore>(
+    e: Stretch,
+    args: &[Cell],
+    memory: &mut Memory<S>,
+) -> Result<NativeResult, StepExit>
     requires up { memory.old.heap.down ≡ false }
-    requires own { IsInstanceWith memory.old own 9 }
     requires there { IsInArray memory.old e }
     requires few { e.count ≤ MOST_AID }
-    ensures { Executes (cells_store memory.old own 0 (cells_of_aid (bytes_in memory.old e)))
-        memory.old (after_change result memory.new) }
+    ensures { Executes (constructing_call (Ok (cells_of_aid (bytes_in memory.old e))) args.now
+        memory.old) memory.old (after_call result memory.new) }
 {
     let count = e.count as usize;
     let mut bytes = [0; MOST_AID];
     memory.bytes(e.array, e.start, &mut bytes[..count]);
     let cells = cells_of_aid(&bytes[..count]);
-    memory.set_run(own, 0, &cells)
+    construct(&cells, args, memory)
 }
 
 // `AID.<init>`: sets the cells of an AID, as one change.
@@ -73,18 +74,17 @@ fn aid_init<S: WordStore>(
     linked: &Linked,
 ) -> Result<NativeResult, StepExit>
     requires up { memory.old.heap.down ≡ false }
-    ensures { Executes (aid_init args.now linked.now memory.old) memory.old
-        (after_call result memory.new) }
+    ensures { Executes (constructing_call (aid_init args.now linked.now memory.old) args.now
+        memory.old) memory.old (after_call result memory.new) }
 {
     let own = reference_argument(args, 0)?;
     let given = array_arguments(1, args, memory)?;
-    let _facts = instance(own, 9, memory)?;
+    let _facts = new_instance(own, 9, memory)?;
     let e = argument_bytes(&given, memory, linked)?;
     if !is_aid_length(e.count) {
         return Err(StepExit::Throw(ILLEGAL_VALUE));
     }
-    set_aid(memory, own, e)?;
-    Ok(NativeResult::ReturnVoid)
+    set_aid(e, args, memory)
 }
 
 /// How much of an AID is compared.

@@ -5,6 +5,7 @@
 pub mod aid;
 mod apdu;
 mod applet;
+mod constructing;
 pub mod events;
 pub mod exceptions;
 pub mod objects;

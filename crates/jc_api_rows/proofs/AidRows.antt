@@ -3,8 +3,7 @@ use Rattle.std.proofs.Common.{◌≡◌, ◌∙◌, ℕ, Bool, true, false, List
 use Rattle.std.proofs.lemmas.Bool.{false≢true}
 use Rattle.std.specs.Prelude.{ℤ, pos, ◌==◌}
 use Rattle.jc_heap.specs.declared.object.Facts.{Facts}
-use Rattle.jc_memory.specs.Cells.{cells_effect, cells_refusal}
-use Rattle.jc_memory.specs.Programs.{Perform}
+use Rattle.jc_memory.specs.Programs.{Finish}
 use Rattle.jc_memory.specs.State.{MemoryState}
 use Rattle.jc_platform.specs.Names.{aids_rows}
 use Rattle.jc_platform.specs.Signatures.{parameters_of, receiver_of}
@@ -14,7 +13,6 @@ use Rattle.jc_platform.specs.declared.names.AidsMethod.{AidsMethod}
 use Rattle.jc_platform.specs.declared.names.AidsMethod.TheVariants as aids
 use Rattle.jc_platform.specs.declared.names.PlatformMethod.TheVariants as rooms
 use Rattle.jc_linker.specs.Values.{Packages}
-use Rattle.jc_frames.specs.Reasons.{illegal_value}
 use Rattle.jc_frames.specs.declared.cell.Cell.{Cell}
 use Rattle.jc_frames.specs.declared.cell.Cell.TheVariants as cell
 use Rattle.jc_frames.specs.declared.outcome.FrameExit.{FrameExit}
@@ -25,22 +23,23 @@ use Rattle.jc_registry.specs.Registry.{is_aid}
 use Rattle.jc_world.specs.Answers.{and_then}
 use Rattle.jc_world.specs.Arrays.{bytes_in}
 use Rattle.jc_world.specs.Instances.{instance_at}
-use Rattle.jc_world.specs.NativeCalls.{NativeProgram, code_fault, if_ok, if_some, return_value, throw_exception, unless}
+use Rattle.jc_world.specs.NativeCalls.{NativeProgram, code_fault, if_ok, if_some, return_value}
 use Rattle.jc_world.specs.Numbers.{not_negative}
 use Rattle.jc_world.specs.Objects.{reference_argument, short_argument, some_or_fault}
 use Rattle.jc_world.specs.declared.arrays.Stretch.{Stretch}
-use Rattle.jc_world.specs.declared.native_result.NativeResult.TheVariants.{ReturnVoid}
 use Rattle.jc_api.specs.Arguments.{argument_bytes, array_arguments, elements_at}
 use Rattle.jc_api.specs.Forms.{CallAnswer, put_then, puts_at, reading_call, result_value, tells_whether}
 use Rattle.jc_api.specs.Kinds.{have_kinds}
+use Rattle.jc_api.proofs.Exits.{FaultsOnly, plain_instance}
 use Rattle.jc_api_framework.specs.Aid.{aid_call, aid_equals_bytes, aid_get_bytes, aid_get_partial_bytes, aid_init, aid_partial_equals, begins_with}
-use Rattle.jc_api_framework.specs.Aid.{part_or_throw, part_within}
-use Rattle.jc_api_framework.specs.Aid.Cells.{cells_of_aid, is_aid_length}
+use Rattle.jc_api_framework.specs.Aid.{cells_of_elements, part_or_throw, part_within}
+use Rattle.jc_api_framework.specs.Constructing.{constructing_call}
 use Rattle.jc_api_rows.specs.Reading.{elements_in, handed_out, has_array, is_null_in, number_in, reference_in, stretches_in}
 use Rattle.jc_api_rows.specs.Rows.{IsReadSo, aid_weighs}
 use Rattle.jc_api_framework.proofs.KindsRead.{AreAt, bytes_at, have_all, number_at, past_bytes, past_some}
 use Rattle.jc_api_rows.proofs.ShortsRead.{given_faults}
-use Rattle.jc_api_rows.proofs.ReadByRow.{after_some, all_at, at_read, bytes_read, given_read, number_read, one_follows, one_is, the_one, wants_given, with_one}
+use Rattle.jc_api_rows.proofs.ReadByRow.{after_some, all_at, at_read, bytes_read, elements_plain_in, exit_same, given_read, number_read, one_follows, one_is}
+use Rattle.jc_api_rows.proofs.ReadByRow.{the_one, wants_given, with_one}
 
 abbrev given_kinds : List ParameterKind
 given_kinds = Bytes ∷ Short ∷ Byte ∷ []
@@ -67,9 +66,9 @@ copied m bytes e = put_then false bytes m e (return_value (result_value (Some (p
 abbrev part_of : List ℕ → (ℕ → ℤ) → Result (List ℕ) FrameExit
 part_of aid numbers = part_or_throw (part_within aid (not_negative (numbers 0)) (not_negative (numbers 3)))
 
+-- of the arguments of a constructor its form sees the receiver alone
 abbrev constructed : ℕ → MemoryState → Stretch → NativeProgram
-constructed own m e = if is_aid_length e.count then unless (cells_refusal m own 0 (cells_of_aid (bytes_in m e)))
-    (Perform (cells_effect m own 0 (cells_of_aid (bytes_in m e))) (return_value ReturnVoid)) else throw_exception illegal_value
+constructed own m e = constructing_call (cells_of_elements m e) (cell.Reference own ∷ []) m
 
 module _ (own : ℕ) (args : List Cell) (p : Packages) (m : MemoryState) where
   abbrev all : List Cell
@@ -184,24 +183,31 @@ module _ (own : ℕ) (args : List Cell) (p : Packages) (m : MemoryState) where
 
   -- ---- the constructor
 
-  init_faults : have_kinds given_kinds p m args ≡ false → aid_init all p m ≡ code_fault
+  init_faults : have_kinds given_kinds p m args ≡ false → constructing_call (aid_init all p m) all m ≡ code_fault
   unfolding aid_init
-  init_faults off = ap (λ x. if_ok x (λ given. if_ok (instance_at m own 9) (λ f. if_ok (argument_bytes given p m) (constructed own m))))
-      (given_faults args p m Short Byte refl refl off)
+  init_faults off = ap (λ x. constructing_call (and_then x (λ given. and_then (instance_at m own 9)
+      (λ f. and_then (argument_bytes given p m) (cells_of_elements m)))) all m) (given_faults args p m Short Byte refl refl off)
 
-  init_after : (x : Result Facts FrameExit) (count : ℤ) → if_ok x (λ f. if_ok (elements_in args p m 0 count) (constructed own m))
+  init_with : (x : Result Stretch FrameExit) → FaultsOnly x → constructing_call (and_then x (cells_of_elements m)) all m
+      ≡ if_ok (and_then x (λ e. Ok (e ∷ []))) (with_one (constructed own m))
+  init_with (Ok e) plain = refl
+  init_with (Err z) plain = ap (λ y. Finish (Err y)) (exit_same z plain)
+
+  init_after : (x : Result Facts FrameExit) → FaultsOnly x → (count : ℤ)
+      → constructing_call (and_then x (λ f. and_then (elements_in args p m 0 count) (cells_of_elements m))) all m
       ≡ if_ok (and_then (and_then x (λ f. Ok (count ∷ []))) (λ counts. stretches_in given_kinds 0 counts args p m)) (with_one (constructed own m))
-  init_after (Ok f) count = one_follows (elements_in args p m 0 count) (constructed own m)
-  init_after (Err z) count = refl
+  init_after (Ok f) plain count = init_with (elements_in args p m 0 count) (elements_plain_in p m args 0 count)
+  init_after (Err z) plain count = ap (λ y. Finish (Err y)) (exit_same z plain)
 
-  init_read : have_kinds given_kinds p m args ≡ true → aid_init all p m
+  init_read : have_kinds given_kinds p m args ≡ true → constructing_call (aid_init all p m) all m
       ≡ if_ok (handed_out given_kinds (λ own numbers m. and_then (instance_at m own 9) (λ f. Ok (numbers 2 ∷ []))) own args p m) (with_one (constructed own m))
   unfolding aid_init
   init_read on =
       let at = all_at p m given_kinds args on in
-      ap (λ x. if_ok x (λ given. if_ok (instance_at m own 9) (λ f. if_ok (argument_bytes given p m) (constructed own m))))
+      ap (λ x. constructing_call (and_then x (λ given. and_then (instance_at m own 9)
+      (λ f. and_then (argument_bytes given p m) (cells_of_elements m)))) all m)
       (given_read p m args 0 Short Byte refl refl at.0 (at.1).0 ((at.1).1).0)
-      ∙ init_after (instance_at m own 9) (number_in args 2)
+      ∙ init_after (instance_at m own 9) (plain_instance m own 9) (number_in args 2)
 
 pub aids_by_rows : (method : AidsMethod) → has_array (parameters_of (rooms.Aids method)) ≡ true → IsReadSo (aid_weighs method) (rooms.Aids method) (aid_call method)
 unfolding aid_call parameters_of receiver_of aids_rows aid_equals_bytes aid_partial_equals aid_get_bytes aid_get_partial_bytes

@@ -30,6 +30,7 @@ use Rattle.jc_api.specs.declared.arguments.ArrayArguments.{ArrayArguments}
 use Rattle.jc_api.specs.declared.arguments.Pair.{Pair}
 use Rattle.jc_api.specs.declared.arguments.PairArguments.{PairArguments}
 use Rattle.jc_api.specs.Kinds.{have_kinds, is_bytes, is_number, is_object_of, is_of_kind, is_present_and, is_shorts}
+use Rattle.jc_api.specs.Exits.{plain_exit}
 use Rattle.jc_api.specs.Forms.{CallAnswer, reading_call}
 use Rattle.jc_api_rows.specs.Reading.{Wanting, elements_in, named_header, number_in, reference_in}
 use Rattle.jc_api.proofs.Exits.{FaultsOnly, IsPlainExit, plain_elements}
@@ -269,14 +270,18 @@ pub one_follows : (x : Result Stretch FrameExit) (go : Stretch → NativeProgram
 one_follows (Ok e) go = refl
 one_follows (Err z) go = refl
 
+-- a plain exit of a check is that of the call
+pub exit_same : (z : FrameExit) → IsPlainExit z → plain_exit z ≡ z
+exit_same (Throw e) plain = refl
+exit_same (End Void) plain = absurd plain
+exit_same (End (ShortResult v)) plain = absurd plain
+exit_same (End (ReferenceResult r)) plain = absurd plain
+exit_same (End (Thrown r)) plain = absurd plain
+exit_same (End Fault) plain = refl
+
 -- a call in form 1 that answers by what it read
 answered_exit : (z : FrameExit) → IsPlainExit z → (p : Packages) (m : MemoryState) → reading_call (Err z) p m ≡ Finish (Err z)
-answered_exit (Throw e) plain p m = refl
-answered_exit (End Void) plain p m = absurd plain
-answered_exit (End (ShortResult v)) plain p m = absurd plain
-answered_exit (End (ReferenceResult r)) plain p m = absurd plain
-answered_exit (End (Thrown r)) plain p m = absurd plain
-answered_exit (End Fault) plain p m = refl
+answered_exit z plain p m = ap (λ y. Finish (Err y)) (exit_same z plain)
 
 module _ (p : Packages) (m : MemoryState) where
   pub one_answers : (x : Result Stretch FrameExit) → FaultsOnly x → (answer : Stretch → CallAnswer)

@@ -27,7 +27,7 @@ use Rattle.jc_api.specs.Forms.{CallAnswer, puts, puts_for_good, reading_call, te
 use Rattle.jc_api_framework.specs.Util.{bytes_of_short, end_of, filling_of, named_pair, short_of, sign_of, util_answer, util_array_compare, util_array_copy}
 use Rattle.jc_api_framework.specs.Util.{util_array_copy_non_atomic, util_array_fill, util_array_fill_non_atomic, util_call, util_get_short, util_make_short}
 use Rattle.jc_api_framework.specs.Util.{util_set_short}
-use Rattle.jc_api_framework.proofs.UtilKinds.{by_kinds}
+use Rattle.jc_api_framework.proofs.UtilCalls.Kinds.{by_kinds}
 use Rattle.jc_api_rows.specs.Reading.{IsReadByRow, elements_in, handed_out, number_in}
 use Rattle.jc_api_rows.proofs.ReadByRow.{after_some, all_at, counted_read, elements_plain_in, number_read, one_answers, pair_read, two_answer, two_read}
 use Rattle.jc_api_rows.proofs.ReadByRow.{wants_both, wants_given, wants_none, wants_two, with_one, with_two}

@@ -1,4 +1,5 @@
 mod CellWalk
 mod CellWords
 mod Opened
+mod ToldWords
 mod Walked

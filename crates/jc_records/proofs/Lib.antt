@@ -1,3 +1,4 @@
+pub mod Arrays
 pub mod HeapBounds
 pub mod Holding
 pub mod ItemWords

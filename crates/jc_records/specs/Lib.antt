@@ -1,4 +1,5 @@
 pub mod Bounds
 pub mod Holders
+pub mod Keys
 pub mod Places
 pub mod Records

@@ -4,6 +4,7 @@ pub mod Digits
 pub mod Dumps
 pub mod EntryRules
 pub mod Hyphens
+pub mod JoinedWords
 pub mod OptionLines
 pub mod PlainLines
 pub mod Runs

@@ -6,6 +6,7 @@ use Rattle.clap.specs.declared.builder.action.ArgAction.TheVariants.{Append, Set
 use Rattle.jcard_arguments.specs.declared.grammar.Kind.{Kind}
 use Rattle.jcard_arguments.specs.declared.grammar.Kind.TheVariants.{Operand, Operands, Value, Flag}
 use Rattle.jcard_arguments.specs.declared.grammar.Entry.{Entry}
+use Rattle.jcard_arguments.specs.declared.grammar.Usage.{Usage}
 
 -- a word that must stand there
 abbrev pub operand : Text → Rule
@@ -37,6 +38,18 @@ rule_by Flag name = flag name
 
 abbrev pub rules_of : List Entry → List Rule
 rules_of entries = map (λ (e : Entry). rule_by e.kind e.name.now) entries
+
+-- the grammar of a command by its entries, and those of commands
+abbrev pub grammar_of : Usage → App
+grammar_of usage = with_rules (new_app usage.name.now) (rules_of usage.entries.now)
+
+abbrev pub grammars_of : List Usage → List App
+grammars_of usages = map grammar_of usages
+
+-- a program with these commands more
+abbrev pub with_commands : App → List App → App
+with_commands program [] = program
+with_commands program (command ∷ commands) = with_commands (with_subcommand program command.top) commands
 
 -- `new IMAGE [--words N] [--table FILE] [--journal C]`
 abbrev pub new_grammar : App

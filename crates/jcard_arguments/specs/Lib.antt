@@ -1,4 +1,5 @@
 pub mod CommandLine
 pub mod Grammar
+pub mod JoinedWords
 pub mod Numbers
 pub mod PlainLines

@@ -1,8 +1,8 @@
 //! The grammar of the command line: which commands there are, their operands and options, and their help.
 ghost use Rattle.std.specs.Prelude.{◌≡◌, false, true, IfOk};
 ghost use Rattle.clap.specs.Words.{app_of, new_app, rule_of, with_rule, with_subcommand};
-ghost use Rattle.jcard_arguments.specs.Grammar.{dump_grammar, flag, new_grammar, operand, operands, program_alone, program_grammar};
-ghost use Rattle.jcard_arguments.specs.Grammar.{rule_by, rules_of, run_grammar, tear_grammar, test_grammar, try_grammar, value_option, with_rules};
+ghost use Rattle.jcard_arguments.specs.Grammar.{flag, grammar_of, grammars_of, operand, operands, program_alone, program_grammar};
+ghost use Rattle.jcard_arguments.specs.Grammar.{rule_by, rules_of, value_option, with_commands, with_rules};
 
 use clap::{Arg, ArgAction, Command};
 use std::alloc::{AllocError, Global};
@@ -196,22 +196,85 @@ const JUNIT: Entry<'static> = Entry {
     help: "Writes a report for build servers to this file",
 };
 
+/// A command: its name, what it does, and its entries.
+#[derive(Clone, Copy, Drop)]
+pub(crate) struct Usage<'a> {
+    name: &'a str,
+    about: &'a str,
+    entries: &'a [Entry<'a>],
+}
+
+const NEW: Usage<'static> = Usage {
+    name: "new",
+    about: "Makes the image of a new card, in place of any file of that name",
+    entries: &[IMAGE, WORDS, TABLE, JOURNAL],
+};
+
+const RUN: Usage<'static> = Usage {
+    name: "run",
+    about: "Powers up the card of an image and carries out a script on it",
+    entries: &[
+        IMAGE,
+        SCRIPT,
+        WHY,
+        TRACE,
+        EXPECT,
+        LINES,
+        MAP,
+        BREAK,
+        COVER,
+        INSTRUCTIONS,
+    ],
+};
+
+const DUMP: Usage<'static> = Usage {
+    name: "dump",
+    about: "Lists what an image holds, or what differs in two images",
+    entries: &[IMAGE, OBJECTS, AGAINST, ALL, SECRETS, MAP],
+};
+
+const TRY: Usage<'static> = Usage {
+    name: "try",
+    about: "Carries out a script on a new card in memory",
+    entries: &[SCRIPT, WORDS, TABLE, INSTRUCTIONS],
+};
+
+const TEAR: Usage<'static> = Usage {
+    name: "tear",
+    about: "Cuts the power after each word write of a script's last command, and says what is left",
+    entries: &[
+        PARTS,
+        JOIN,
+        EACH,
+        CELLS,
+        WRITES,
+        MAP,
+        PROBE,
+        LINE,
+        RECOVERY,
+        PART,
+        INSTRUCTIONS,
+    ],
+};
+
+const TEST: Usage<'static> = Usage {
+    name: "test",
+    about: "Says which rows of files hold, on new cards in memory",
+    entries: &[ROWS, JUNIT, TABLE, WORDS, JOURNAL, INSTRUCTIONS],
+};
+
 /// The program's commands.
 pub(crate) fn program<'a>(alloc: Global) -> Result<Command<'a>, AllocError>
     ensures { IfOk result (λ c. app_of c ≡ program_grammar) }
 {
-    let new = new_command(alloc)?;
-    let run = run_command(alloc)?;
-    let dump = dump_command(alloc)?;
-    let trial = try_command(alloc)?;
-    let tear = tear_command(alloc)?;
-    let test = test_command(alloc)?;
-    let program = with_command(program_alone(alloc), new)?;
-    let program = with_command(program, run)?;
-    let program = with_command(program, dump)?;
-    let program = with_command(program, trial)?;
-    let program = with_command(program, tear)?;
-    with_command(program, test)
+    program_with(alloc, &[NEW, RUN, DUMP, TRY, TEAR, TEST])
+}
+
+// The program with these commands.
+fn program_with<'a>(alloc: Global, usages: &[Usage<'a>]) -> Result<Command<'a>, AllocError>
+    ensures { IfOk result (λ c. app_of c ≡ with_commands program_alone (grammars_of usages.now)) }
+{
+    with_commands(alloc, program_alone(alloc), usages)
 }
 
 // The program with no command.
@@ -226,6 +289,23 @@ fn program_alone<'a>(alloc: Global) -> Command<'a>
     .disable_help_subcommand(true)
 }
 
+// The program with these commands more.
+fn with_commands<'a>(
+    alloc: Global,
+    program: Command<'a>,
+    usages: &[Usage<'a>],
+) -> Result<Command<'a>, AllocError>
+    ensures { IfOk result (λ c. app_of c ≡ with_commands (app_of program.entry)
+        (grammars_of usages.now)) }
+{
+    let Some((usage, others)) = usages.split_first() else {
+        return Ok(program);
+    };
+    let command = command(alloc, *usage)?;
+    let program = with_command(program, command)?;
+    with_commands(alloc, program, others)
+}
+
 // The program with one command more.
 fn with_command<'a>(program: Command<'a>, command: Command<'a>) -> Result<Command<'a>, AllocError>
     requires { (app_of command).top.is_plain ≡ true }
@@ -235,106 +315,15 @@ fn with_command<'a>(program: Command<'a>, command: Command<'a>) -> Result<Comman
     program.subcommand(command)
 }
 
-fn new_command<'a>(alloc: Global) -> Result<Command<'a>, AllocError>
-    ensures { IfOk result (λ c. app_of c ≡ new_grammar) }
+// A command with its entries.
+fn command<'a>(alloc: Global, usage: Usage<'a>) -> Result<Command<'a>, AllocError>
+    ensures { IfOk result (λ c. app_of c ≡ grammar_of usage.entry) }
 {
-    command(
+    with_entries(
         alloc,
-        "new",
-        "Makes the image of a new card, in place of any file of that name",
-        &[IMAGE, WORDS, TABLE, JOURNAL],
+        plain_command(alloc, usage.name, usage.about),
+        usage.entries,
     )
-}
-
-fn run_command<'a>(alloc: Global) -> Result<Command<'a>, AllocError>
-    ensures { IfOk result (λ c. app_of c ≡ run_grammar) }
-{
-    command(
-        alloc,
-        "run",
-        "Powers up the card of an image and carries out a script on it",
-        &[
-            IMAGE,
-            SCRIPT,
-            WHY,
-            TRACE,
-            EXPECT,
-            LINES,
-            MAP,
-            BREAK,
-            COVER,
-            INSTRUCTIONS,
-        ],
-    )
-}
-
-fn dump_command<'a>(alloc: Global) -> Result<Command<'a>, AllocError>
-    ensures { IfOk result (λ c. app_of c ≡ dump_grammar) }
-{
-    command(
-        alloc,
-        "dump",
-        "Lists what an image holds, or what differs in two images",
-        &[IMAGE, OBJECTS, AGAINST, ALL, SECRETS, MAP],
-    )
-}
-
-fn try_command<'a>(alloc: Global) -> Result<Command<'a>, AllocError>
-    ensures { IfOk result (λ c. app_of c ≡ try_grammar) }
-{
-    command(
-        alloc,
-        "try",
-        "Carries out a script on a new card in memory",
-        &[SCRIPT, WORDS, TABLE, INSTRUCTIONS],
-    )
-}
-
-fn tear_command<'a>(alloc: Global) -> Result<Command<'a>, AllocError>
-    ensures { IfOk result (λ c. app_of c ≡ tear_grammar) }
-{
-    command(
-        alloc,
-        "tear",
-        "Cuts the power after each word write of a script's last command, and says what is left",
-        &[
-            PARTS,
-            JOIN,
-            EACH,
-            CELLS,
-            WRITES,
-            MAP,
-            PROBE,
-            LINE,
-            RECOVERY,
-            PART,
-            INSTRUCTIONS,
-        ],
-    )
-}
-
-fn test_command<'a>(alloc: Global) -> Result<Command<'a>, AllocError>
-    ensures { IfOk result (λ c. app_of c ≡ test_grammar) }
-{
-    command(
-        alloc,
-        "test",
-        "Says which rows of files hold, on new cards in memory",
-        &[ROWS, JUNIT, TABLE, WORDS, JOURNAL, INSTRUCTIONS],
-    )
-}
-
-// A command with this name, what it does, and its entries.
-fn command<'a>(
-    alloc: Global,
-    name: &'a str,
-    about: &'a str,
-    entries: &[Entry<'a>],
-) -> Result<Command<'a>, AllocError>
-    ensures { IfOk result (λ c. app_of c ≡ with_rules (new_app name.entry.now)
-        (rules_of entries.now)) }
-{
-    with_entries(alloc, plain_command(alloc, name, about), entries)
 }
 
 // The command with these entries more.

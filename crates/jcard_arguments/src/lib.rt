@@ -4,6 +4,7 @@
 mod actions;
 pub mod arguments;
 mod grammar;
+pub mod joined_words;
 mod numbers;
 pub mod options;
 mod values;

@@ -31,14 +31,14 @@ pub fn told_arrivals(
 ) -> Result<Vec<u8>, AllocError> {
     let mut text = Text::new(asked.alloc);
     if points.is_empty() {
-        return Ok(text.into_bytes());
+        return text.into_bytes();
     }
     let stops = stops_of(points, asked)?;
     if is_reached(&stops, asked.note.steps.as_slice()) {
         let learned = learned_in(asked, images)?;
         push_arrivals(&mut text, &stops, learned, asked, images)?;
     }
-    Ok(text.into_bytes())
+    text.into_bytes()
 }
 
 // The places, in the packages that the card has.
@@ -122,11 +122,12 @@ fn push_arrivals(
     for (number, step) in steps.iter().enumerate() {
         machine.arrive(number, step)?;
         if is_stop(stops, step.spot) {
-            push_arrival(text, &machine, step.spot, asked)?;
+            push_arrival(text, &machine, step.spot, asked);
         }
         machine.carry_out(number, step, following(steps, number))?;
     }
-    push_unseen(text, asked.note.steps_left_out)
+    push_unseen(text, asked.note.steps_left_out);
+    Ok(())
 }
 
 fn following(steps: &[Step], number: usize) -> Option<&Step> {
@@ -134,42 +135,40 @@ fn following(steps: &[Step], number: usize) -> Option<&Step> {
 }
 
 // Instructions after the last one that was noted are not looked at.
-fn push_unseen(text: &mut Text, unseen: u32) -> Result<(), AllocError> {
+fn push_unseen(text: &mut Text, unseen: u32) {
     if unseen == 0 {
-        return Ok(());
+        return;
     }
-    text.push(b"break: ")?;
-    text.push_count(unseen, b"more instruction")?;
-    text.push(b" not looked at\n")
+    text.push(b"break: ");
+    text.push_count(unseen, b"more instruction");
+    text.push(b" not looked at\n");
 }
 
-fn push_arrival(
-    text: &mut Text,
-    machine: &Machine<'_>,
-    spot: Spot,
-    asked: &Asked<'_>,
-) -> Result<(), AllocError> {
-    text.push(b"break: line ")?;
-    text.push_number(asked.line)?;
-    text.push(b"\n")?;
-    push_place(text, spot, asked)?;
-    push_callee(text, spot, asked)?;
-    text.push(b"\n")?;
+fn push_arrival(text: &mut Text, machine: &Machine<'_>, spot: Spot, asked: &Asked<'_>) {
+    text.push(b"break: line ");
+    text.push_number(asked.line);
+    text.push(b"\n");
+    push_place(text, spot, asked);
+    push_callee(text, spot, asked);
+    text.push(b"\n");
     let Some((frame, callers)) = machine.frames.as_slice().split_last() else {
-        return Ok(());
+        return;
     };
     for caller in callers.iter().rev() {
-        push_place(text, caller.spot, asked)?;
-        text.push(b"\n")?;
+        push_place(text, caller.spot, asked);
+        text.push(b"\n");
     }
-    push_locals(text, frame, asked)?;
-    push_stack(text, frame)?;
-    push_statics(text, machine, spot, asked)
+    push_locals(text, frame, asked);
+    push_stack(text, frame);
+    push_statics(text, machine, spot, asked);
 }
 
 // The locals that are variables there; where the map has none of the method, all that are known.
-fn push_locals(text: &mut Text, frame: &Frame, asked: &Asked<'_>) -> Result<(), AllocError> {
-    let aid = aid_text(frame.spot.package_number, asked)?;
+fn push_locals(text: &mut Text, frame: &Frame, asked: &Asked<'_>) {
+    let Ok(aid) = aid_text(frame.spot.package_number, asked) else {
+        text.give_up();
+        return;
+    };
     let mut digits = Buffer::new();
     let method = MethodPlace {
         aid: &aid,
@@ -180,123 +179,115 @@ fn push_locals(text: &mut Text, frame: &Frame, asked: &Asked<'_>) -> Result<(), 
     for (number, cell) in frame.locals.as_slice().iter().enumerate() {
         let number = u32::try_from(number).unwrap_or(u32::MAX);
         match variable_at(asked.map, method, number, place) {
-            Some(variable) => push_variable(text, variable, *cell)?,
+            Some(variable) => push_variable(text, variable, *cell),
             None if is_told || cell.is_none() => {}
             None => {
-                text.push(b"  local ")?;
-                text.push_number(number)?;
-                text.push(b": ")?;
-                push_cell(text, *cell)?;
-                text.push(b"\n")?;
+                text.push(b"  local ");
+                text.push_number(number);
+                text.push(b": ");
+                push_cell(text, *cell);
+                text.push(b"\n");
             }
         }
     }
-    Ok(())
 }
 
-fn push_variable(text: &mut Text, variable: Named<'_>, cell: Known) -> Result<(), AllocError> {
-    text.push(b"  local ")?;
-    text.push(variable.name)?;
-    text.push(b": ")?;
+fn push_variable(text: &mut Text, variable: Named<'_>, cell: Known) {
+    text.push(b"  local ");
+    text.push(variable.name);
+    text.push(b": ");
     match cell {
         Some(TopCell::Short(value)) if variable.kind == b"boolean".as_slice() => {
-            push_boolean(text, value != 0)?;
+            push_boolean(text, value != 0);
         }
-        _ => push_cell(text, cell)?,
+        _ => push_cell(text, cell),
     }
-    text.push(b"\n")
+    text.push(b"\n");
 }
 
-fn push_boolean(text: &mut Text, value: bool) -> Result<(), AllocError> {
-    text.push(if value { b"true" } else { b"false" })
+fn push_boolean(text: &mut Text, value: bool) {
+    text.push(if value { b"true" } else { b"false" });
 }
 
-fn push_stack(text: &mut Text, frame: &Frame) -> Result<(), AllocError> {
-    text.push(b"  stack:")?;
+fn push_stack(text: &mut Text, frame: &Frame) {
+    text.push(b"  stack:");
     if frame.stack.is_empty() {
-        text.push(b" empty")?;
+        text.push(b" empty");
     }
     for cell in frame.stack.as_slice() {
-        text.push(b" ")?;
-        push_cell(text, *cell)?;
+        text.push(b" ");
+        push_cell(text, *cell);
     }
-    text.push(b"\n")
+    text.push(b"\n");
 }
 
-fn push_cell(text: &mut Text, cell: Known) -> Result<(), AllocError> {
+fn push_cell(text: &mut Text, cell: Known) {
     match cell {
         Some(cell) => push_known(text, cell),
         None => text.push(b"?"),
     }
 }
 
-fn push_known(text: &mut Text, cell: TopCell) -> Result<(), AllocError> {
+fn push_known(text: &mut Text, cell: TopCell) {
     match cell {
         TopCell::Empty => text.push(b"?"),
         TopCell::Short(value) => text.push_signed(value),
         TopCell::Reference(reference) => push_object(text, reference),
         TopCell::ReturnAddress(place) => {
-            text.push(b"return address ")?;
-            text.push_number(u32::from(place))
+            text.push(b"return address ");
+            text.push_number(u32::from(place));
         }
     }
 }
 
-fn push_object(text: &mut Text, reference: Ref) -> Result<(), AllocError> {
-    push_reference(text, reference.address())
+fn push_object(text: &mut Text, reference: Ref) {
+    push_reference(text, reference.address());
 }
 
-fn push_reference(text: &mut Text, address: u16) -> Result<(), AllocError> {
+fn push_reference(text: &mut Text, address: u16) {
     if address == 0 {
-        return text.push(b"null");
+        text.push(b"null");
+        return;
     }
-    text.push(b"@")?;
-    text.push_number(u32::from(address))
+    text.push(b"@");
+    text.push_number(u32::from(address));
 }
 
 // The static fields that the map names of the package of a spot.
-fn push_statics(
-    text: &mut Text,
-    machine: &Machine<'_>,
-    spot: Spot,
-    asked: &Asked<'_>,
-) -> Result<(), AllocError> {
-    let aid = aid_text(spot.package_number, asked)?;
+fn push_statics(text: &mut Text, machine: &Machine<'_>, spot: Spot, asked: &Asked<'_>) {
+    let Ok(aid) = aid_text(spot.package_number, asked) else {
+        text.give_up();
+        return;
+    };
     let (size, _) = asked.linked.statics_at(spot.package_number);
     let mut from = 0u32;
     for _field in 0..size {
         let Some(member) = static_from(asked.map, &aid, from) else {
-            return Ok(());
+            return;
         };
-        push_static(text, machine, spot.package_number, member)?;
+        push_static(text, machine, spot.package_number, member);
         from = member.at.saturating_add(1);
     }
-    Ok(())
 }
 
-fn push_static(
-    text: &mut Text,
-    machine: &Machine<'_>,
-    package_number: u8,
-    member: Member<'_>,
-) -> Result<(), AllocError> {
+fn push_static(text: &mut Text, machine: &Machine<'_>, package_number: u8, member: Member<'_>) {
     let Some(first) = machine.statics.byte(package_number, member.at) else {
-        return Ok(());
+        return;
     };
     let second = machine
         .statics
         .byte(package_number, member.at.saturating_add(1))
         .unwrap_or(0);
-    text.push(b"  static ")?;
-    text.push(member.class)?;
-    text.push(b".")?;
-    text.push(member.field.name)?;
-    text.push(b": ")?;
+    text.push(b"  static ");
+    text.push(member.class);
+    text.push(b".");
+    text.push(member.field.name);
+    text.push(b": ");
     match member.field.kind {
-        b"boolean" => push_boolean(text, first != 0)?,
-        b"byte" => text.push_signed(i16::from(first.cast_signed()))?,
-        b"short" => text.push_signed(i16::from_be_bytes([first, second]))?,
-        _ => push_reference(text, u16::from_be_bytes([first, second]))?,
+        b"boolean" => push_boolean(text, first != 0),
+        b"byte" => text.push_signed(i16::from(first.cast_signed())),
+        b"short" => text.push_signed(i16::from_be_bytes([first, second])),
+        _ => push_reference(text, u16::from_be_bytes([first, second])),
     }
-    text.push(b"\n")
+    text.push(b"\n");
 }

@@ -9,27 +9,25 @@ use std::alloc::{AllocError, Global};
 /// Says that a map has no such place: a whole line.
 pub(crate) fn remark_on(alloc: Global, map: &[u8], word: &[u8]) -> Result<Vec<u8>, AllocError> {
     let mut text = Text::new(alloc);
-    text.push(b"jcard: --break ")?;
-    text.push(word)?;
+    text.push(b"jcard: --break ");
+    text.push(word);
     match file_and_line(word) {
-        Some((file, line)) => push_line(&mut text, map, file, line)?,
-        None => text.push(b": the map names no such method")?,
+        Some((file, line)) => push_line(&mut text, map, file, line),
+        None => text.push(b": the map names no such method"),
     }
-    text.push(b"\n")?;
-    Ok(text.into_bytes())
+    text.push(b"\n");
+    text.into_bytes()
 }
 
-fn push_line(text: &mut Text, map: &[u8], file: &[u8], line: u32) -> Result<(), AllocError> {
+fn push_line(text: &mut Text, map: &[u8], file: &[u8], line: u32) {
     if !has_file(map, file) {
-        return text.push(b": the map names no such file with lines");
+        text.push(b": the map names no such file with lines");
+        return;
     }
-    text.push(b": no instruction begins in that line")?;
-    match next_line(map, file, line) {
-        Some(next) => {
-            text.push(b"; the next is line ")?;
-            text.push_number(next)
-        }
-        None => Ok(()),
+    text.push(b": no instruction begins in that line");
+    if let Some(next) = next_line(map, file, line) {
+        text.push(b"; the next is line ");
+        text.push_number(next);
     }
 }
 

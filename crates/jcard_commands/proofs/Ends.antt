@@ -3,13 +3,13 @@ use Rattle.std.proofs.Common.{◌≡◌, ℕ, Bool, List, [], ◌++◌, Option, 
 use Rattle.std.specs.Io.KnownBytes.{Appends}
 use Rattle.jc_words.specs.Count.{failures_after}
 use Rattle.jcard_files.specs.FileDeeds.{FileDeed}
-use Rattle.jcard_faults.specs.Faults.{failures_of, is_unwritten, status_of, IsLastLine}
+use Rattle.jcard_files.specs.Faults.{failures_of, is_unwritten, status_of, IsLastLine}
 use Rattle.jcard_arguments.specs.CommandLine.{IsTakenAs}
 use Rattle.jcard_arguments.specs.declared.arguments.NoAction.{NoAction}
 use Rattle.jcard_arguments.specs.declared.arguments.NoAction.TheVariants.{Help, Refused, Misused, NoMemory as NoRoom}
 use Rattle.jcard_commands.specs.Commands.{IsAnswered, IsPerformed, IsStarted, IsUnbegun}
-use Rattle.jcard_faults.specs.declared.fault.Fault.{Fault}
-use Rattle.jcard_faults.specs.declared.fault.Fault.TheVariants.{BadCommandLine, NoMemory, CannotRead}
+use Rattle.jcard_files.specs.declared.fault.Fault.{Fault}
+use Rattle.jcard_files.specs.declared.fault.Fault.TheVariants.{BadCommandLine, NoMemory, CannotRead}
 
 -- words that ask for no action
 pub nothing_done : (words : List (List ℕ)) (why : NoAction) (ended : Result (Unit {0}) Fault) (text : List ℕ) → IsTakenAs words (Err why)

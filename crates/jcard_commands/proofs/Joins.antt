@@ -5,8 +5,8 @@ use Rattle.jcard_arguments.specs.CommandLine.{ToJoin, texts_of}
 use Rattle.jcard_files.specs.FileDeeds.{FileDeed}
 use Rattle.jcard_sweeps.specs.Joinings.{IsJoining}
 use Rattle.jcard_commands.specs.Commands.{IsDone}
-use Rattle.jcard_faults.specs.declared.fault.Fault.{Fault}
-use Rattle.jcard_faults.specs.declared.fault.Fault.TheVariants.{BadCommandLine}
+use Rattle.jcard_files.specs.declared.fault.Fault.{Fault}
+use Rattle.jcard_files.specs.declared.fault.Fault.TheVariants.{BadCommandLine}
 
 -- there are none
 pub not_joined : (files : List (Bor (List ℕ))) → length files ≡ 0 → IsDone (ToJoin (texts_of files)) (Err BadCommandLine) [] []

@@ -2,8 +2,8 @@
 use Rattle.std.proofs.Common.{ℕ, List, [], Option, Ok, Err, refl, inl, inr}
 use Rattle.jcard_commands.specs.Trials.{IsTriedOn}
 use Rattle.jcard_images.specs.NewImages.{IsNewImageInMemory}
-use Rattle.jcard_faults.specs.declared.fault.Fault.{Fault}
-use Rattle.jcard_faults.specs.declared.fault.Fault.TheVariants.{ImageTooSmall, NoMemory}
+use Rattle.jcard_files.specs.declared.fault.Fault.{Fault}
+use Rattle.jcard_files.specs.declared.fault.Fault.TheVariants.{ImageTooSmall, NoMemory}
 
 -- a script that was not tried, since there is no new image in memory
 pub not_tried : (budget : ℕ) (script : List ℕ) (n : ℕ) (table : List ℕ) (fault : Fault) (known : Option (List ℕ)) → IsNewImageInMemory n table (Err fault)

@@ -5,9 +5,9 @@ use Rattle.jc_card.specs.declared.power_up.PowerFault.TheVariants as power
 use Rattle.jcard_script.specs.declared.script.ScriptFault.{ScriptFault}
 use Rattle.jcard_script.specs.declared.script.ScriptFault.TheVariants as cause
 use Rattle.jcard_script.specs.Script.{is_write_failed}
-use Rattle.jcard_faults.specs.declared.fault.Fault.{Fault}
-use Rattle.jcard_faults.specs.Faults.{is_unwritten}
-use Rattle.jcard_faults.specs.ScriptFaults.{IsScriptFault, IsUnpowered}
+use Rattle.jcard_files.specs.declared.fault.Fault.{Fault}
+use Rattle.jcard_files.specs.Faults.{is_unwritten}
+use Rattle.jcard_files.specs.ScriptFaults.{IsScriptFault, IsUnpowered}
 use Rattle.jcard_commands.specs.RunOptions.{ended_by}
 
 unpowered_written : (image : List ℕ) (why : PowerFault) (fault : Fault) → IsUnpowered image why fault → is_unwritten (Err fault) ≡ false

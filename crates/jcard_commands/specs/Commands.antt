@@ -14,8 +14,8 @@ use Rattle.jcard_listing.specs.Comparisons.{IsComparison}
 use Rattle.jcard_listing.specs.Told.{IsObjectsDump}
 use Rattle.jcard_tests.specs.Tests.{IsTest}
 use Rattle.jcard_tests.specs.declared.asked.Asked.{Asked}
-use Rattle.jcard_faults.specs.declared.fault.Fault.{Fault}
-use Rattle.jcard_faults.specs.declared.fault.Fault.TheVariants.{BadCommandLine, NoMemory, CannotRead, WriteFailed}
+use Rattle.jcard_files.specs.declared.fault.Fault.{Fault}
+use Rattle.jcard_files.specs.declared.fault.Fault.TheVariants.{BadCommandLine, NoMemory, CannotRead, WriteFailed}
 use Rattle.jcard_commands.specs.Listed.{IsTearWith, IsToldBy}
 use Rattle.jcard_commands.specs.Runs.{IsRun}
 use Rattle.jcard_commands.specs.RunOptions.{AreNamesRead, AreNamesUnread, AreOperands, IsCompared, IsCoverBegun, IsCovered}

@@ -3,8 +3,8 @@ use Rattle.std.specs.Prelude.{ℕ, ◌≡◌, ◌⊎◌, List, [], ◌++◌, Boo
 use Rattle.std.specs.Option.{unwrap_or}
 use Rattle.jc_card.specs.Dispatching.{usual_budget}
 use Rattle.jcard_arguments.specs.CommandLine.{TearAsked, tear_asked_by}
-use Rattle.jcard_faults.specs.declared.fault.Fault.{Fault}
-use Rattle.jcard_faults.specs.declared.fault.Fault.TheVariants.{NoMemory, WriteFailed}
+use Rattle.jcard_files.specs.declared.fault.Fault.{Fault}
+use Rattle.jcard_files.specs.declared.fault.Fault.TheVariants.{NoMemory, WriteFailed}
 use Rattle.jcard_files.specs.FileDeeds.{FileDeed}
 use Rattle.jcard_files.specs.Readings.{IsScriptRead, IsUnread}
 use Rattle.jcard_listing.specs.Comparisons.{IsComparison}

@@ -5,10 +5,10 @@ use Rattle.jcard_files.specs.Images.{IsUnwritten}
 use Rattle.jcard_files.specs.Operands.{IsNoOperand}
 use Rattle.jcard_files.specs.Readings.{IsScriptRead, IsUnread}
 use Rattle.jcard_files.specs.declared.operand.Operand.{Operand}
-use Rattle.jcard_faults.specs.declared.fault.FileKind.{FileKind}
-use Rattle.jcard_faults.specs.declared.fault.FileKind.TheVariants as kind
-use Rattle.jcard_faults.specs.declared.fault.Fault.{Fault}
-use Rattle.jcard_faults.specs.declared.fault.Fault.TheVariants.{NoMemory, NothingExpected, OtherAnswer}
+use Rattle.jcard_files.specs.declared.fault.FileKind.{FileKind}
+use Rattle.jcard_files.specs.declared.fault.FileKind.TheVariants as kind
+use Rattle.jcard_files.specs.declared.fault.Fault.{Fault}
+use Rattle.jcard_files.specs.declared.fault.Fault.TheVariants.{NoMemory, NothingExpected, OtherAnswer}
 
 -- the map with this name was read, if there is one
 abbrev pub AreNamesRead : Option (List ℕ) → List FileDeed → Type 0

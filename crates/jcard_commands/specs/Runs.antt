@@ -9,8 +9,8 @@ use Rattle.jcard_script.specs.Script.{EndsWithin, IsWholeScript}
 use Rattle.jcard_script.specs.declared.script.ScriptFault.{ScriptFault}
 use Rattle.jcard_files.specs.FileDeeds.{FileDeed, ClosesImage, OpensImage, ReadsText, fresh_store, untouched}
 use Rattle.jcard_files.specs.Images.{IsNotOpenedToWrite, IsUnopened}
-use Rattle.jcard_faults.specs.declared.fault.Fault.{Fault}
-use Rattle.jcard_faults.specs.ScriptFaults.{IsOutcomeOf}
+use Rattle.jcard_files.specs.declared.fault.Fault.{Fault}
+use Rattle.jcard_files.specs.ScriptFaults.{IsOutcomeOf}
 
 -- the script, of whose bytes so much was known before and is known after, was carried out to this end, with this budget, from one store to the other,
 -- and this text was written

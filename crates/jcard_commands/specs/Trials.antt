@@ -8,8 +8,8 @@ use Rattle.jcard_files.specs.FileDeeds.{FileDeed, ReadsText, fresh_store}
 use Rattle.jcard_files.specs.Images.{IsUnopened}
 use Rattle.jcard_images.specs.NewImages.{IsNewImage, IsTable, IsWordCount, usual_capacity}
 use Rattle.jcard_images.specs.UsualTables.{IsNoPlatform, IsPlatform}
-use Rattle.jcard_faults.specs.declared.fault.Fault.{Fault}
-use Rattle.jcard_faults.specs.declared.fault.Fault.TheVariants.{NoMemory, BadWords, BadTable, ImageTooSmall}
+use Rattle.jcard_files.specs.declared.fault.Fault.{Fault}
+use Rattle.jcard_files.specs.declared.fault.Fault.TheVariants.{NoMemory, BadWords, BadTable, ImageTooSmall}
 use Rattle.jcard_commands.specs.Runs.{IsCarriedOut}
 
 -- the script in the file with this name was tried, with this budget, on a new card of n words with the platform table of this text, of whose

@@ -2,18 +2,19 @@
 ghost use Rattle.std.specs.Prelude.{◌≡◌, ◌++◌, ℕ, List, Bool, Result, Err};
 ghost use Rattle.std.specs.Io.KnownBytes.{Appends};
 ghost use Rattle.jcard_files.specs.FileDeeds.{FileDeed};
-ghost use Rattle.jcard_faults.specs.Faults.{failures_of, status_of, IsLastLine};
+ghost use Rattle.jcard_files.specs.Faults.{failures_of, status_of, IsLastLine};
 ghost use Rattle.jcard_commands.specs.Commands.{IsStarted, IsUnbegun};
-ghost use Rattle.jcard_faults.specs.declared.fault.Fault.{Fault};
+ghost use Rattle.jcard_files.specs.declared.fault.Fault.{Fault};
 
 use crate::progress_line::ProgressLine;
 use crate::run::perform;
 use jc_words::{EmptyFile, FlushFile, LockFile};
-use jcard_faults::fault::{Fault, tell};
+use jcard_arguments::joined_words::joined;
 use jcard_files::disk::SystemDisk;
+use jcard_files::fault::{Fault, tell};
 use jcard_script::streams::TextOut;
-use std::alloc::AllocError;
-use std::env::{self, Env};
+use std::alloc::{AllocError, Global};
+use std::env::{self, Args, Env};
 use std::fs;
 use std::io::{self, ErrorKind};
 use std::rt::{Clock, Files};
@@ -43,7 +44,7 @@ where
         return tell(Err(folder_fault()), out);
     };
     match env::args(rt) {
-        Ok(args) => match args.collect::<Vec<String>>(rt.alloc()) {
+        Ok(args) => match words_of(rt.alloc(), args) {
             Ok(words) => {
                 let mut progress = ProgressLine::new(rt, is_terminal);
                 let ended = perform(&mut SystemDisk::new(rt), &words, out, &mut progress);
@@ -57,6 +58,12 @@ where
         },
         Err(error) => tell(Err(arguments_fault(error.kind())), out),
     }
+}
+
+// The words of the arguments, those that belong together as one.
+fn words_of(alloc: Global, args: Args) -> Result<Vec<String>, AllocError> {
+    let words = args.collect::<Vec<String>>(alloc)?;
+    joined(alloc, &words)
 }
 
 // As many openings of a folder as there are standard streams. The closed ones are the first to be taken.

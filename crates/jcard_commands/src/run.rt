@@ -4,11 +4,12 @@ ghost use Rattle.std.specs.String.{string_bytes};
 ghost use Rattle.std.specs.Io.KnownBytes.{Appends};
 ghost use Rattle.jc_words.specs.Count.{failures_after};
 ghost use Rattle.jcard_arguments.specs.CommandLine.{request_by};
+ghost use Rattle.jcard_arguments.specs.JoinedWords.{joined};
 ghost use Rattle.jcard_files.specs.FileDeeds.{FileDeed};
-ghost use Rattle.jcard_faults.specs.Faults.{status_of, failures_of, is_unwritten, IsLastLine};
+ghost use Rattle.jcard_files.specs.Faults.{status_of, failures_of, is_unwritten, IsLastLine};
 ghost use Rattle.jcard_arguments.specs.CommandLine.{ToJoin, test_asked_by, texts_of};
 ghost use Rattle.jcard_commands.specs.Commands.{IsAnswered, IsDone, IsHelped, IsPerformed, IsTestWith};
-ghost use Rattle.jcard_faults.specs.declared.fault.Fault.{Fault};
+ghost use Rattle.jcard_files.specs.declared.fault.Fault.{Fault};
 
 use crate::listed::{Listed, list};
 use crate::script_run::run_with;
@@ -16,10 +17,11 @@ use crate::told::Listener;
 use crate::trial::try_script;
 use jc_card::card::USUAL_BUDGET;
 use jcard_arguments::arguments::{Action, NoAction, parse};
+use jcard_arguments::joined_words::joined;
 use jcard_arguments::options::TestOptions;
-use jcard_faults::fault::{Fault, tell};
-use jcard_faults::remarks::Remarks;
 use jcard_files::disk::Disk;
+use jcard_files::fault::{Fault, tell};
+use jcard_files::remarks::Remarks;
 use jcard_images::dump::dump_image;
 use jcard_images::new_image::make_image;
 use jcard_listing::shown::Shown;
@@ -29,11 +31,33 @@ use jcard_tear::progress::Progress;
 use jcard_tests::asked::Asked as TestRequest;
 use jcard_tests::testing::test_files;
 use jcard_tests::timer::Timer;
+use std::alloc::AllocError;
 
 /// Does what the words ask for, the program's name among them as the first, and answers the exit
 /// status. What is written goes to `out`: the answers, and after a fault one last line. How far a sweep has come goes to `progress`,
 /// and so does what commands of a run did, where the words ask for it, and what is wrong with the words.
 pub fn run_words<D: Disk, W: TextOut, P: Progress + Listener + Remarks + Timer>(
+    disk: &mut D,
+    words: &[String],
+    out: &mut W,
+    progress: &mut P,
+) -> u8
+    ensures { (text last : List ℕ) × (ended : Result Unit Fault) × (deeds : List FileDeed)
+        × (failed : Bool)
+        × Appends (W.contents out.old) (W.contents out.new) (text ++ last)
+        × IsPerformed (joined (map string_bytes words.now)) ended text deeds
+        × IsLastLine ended failed last
+        × (W.failures out.new ≡ failures_of (W.failures out.old) ended failed)
+        × D.does disk.old deeds disk.new × (result ≡ status_of ended) }
+{
+    match joined(disk.alloc(), words) {
+        Ok(words) => run_joined(disk, &words, out, progress),
+        Err(AllocError) => tell(Err(Fault::NoMemory), out),
+    }
+}
+
+// The same, where words that belong together are one.
+fn run_joined<D: Disk, W: TextOut, P: Progress + Listener + Remarks + Timer>(
     disk: &mut D,
     words: &[String],
     out: &mut W,

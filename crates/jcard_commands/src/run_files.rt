@@ -2,11 +2,11 @@
 ghost use Rattle.std.specs.Prelude.{◌≡◌, ℕ, List, Err, false, option_map, IfErr, MatchResult};
 ghost use Rattle.std.specs.Borrow.{Bor};
 ghost use Rattle.jcard_files.specs.FileDeeds.{FileDeed};
-ghost use Rattle.jcard_faults.specs.Faults.{is_unwritten};
+ghost use Rattle.jcard_files.specs.Faults.{is_unwritten};
 ghost use Rattle.jcard_commands.specs.RunOptions.{AreNamesRead, AreNamesUnread, AreOperands, IsCoverBegun, IsCovered, IsCoverWritten, ended_by};
 
-use jcard_faults::fault::{Fault, FileKind};
 use jcard_files::disk::Disk;
+use jcard_files::fault::{Fault, FileKind};
 use jcard_files::operand::Operand;
 use jcard_files::reading::script_of;
 use jcard_why::covers::Cover;

@@ -3,7 +3,7 @@
 use jcard_arguments::options::{Lines, RunOptions};
 use jcard_breaks::arrivals::told_arrivals;
 use jcard_breaks::points::Point;
-use jcard_faults::remarks::Remarks;
+use jcard_files::remarks::Remarks;
 use jcard_script::expectations::Expectations;
 use jcard_script::explainer::Explainer;
 use jcard_script::static_image::StaticImage;

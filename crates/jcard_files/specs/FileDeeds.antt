@@ -2,7 +2,7 @@
 use Rattle.std.specs.Prelude.{ℕ, List, false, Option, Result, Ok, Err}
 use Rattle.jc_words.specs.Refusals.{no_refusals}
 use Rattle.jc_words.specs.Stores.{FuseStoreValue, StoreValue}
-use Rattle.jcard_faults.specs.declared.fault.Fault.{Fault}
+use Rattle.jcard_files.specs.declared.fault.Fault.{Fault}
 
 -- one thing that is done with a file, by its name. What was not done holds its fault
 pub data FileDeed : Type 0 where

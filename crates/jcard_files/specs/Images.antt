@@ -17,10 +17,10 @@ use Rattle.jc_words.specs.declared.lock.LockFault.TheVariants as locking
 use Rattle.jc_words.specs.declared.opening.NotOpened.{NotOpened}
 use Rattle.jc_words.specs.declared.word_file.FileFailed.{FileFailed}
 use Rattle.jc_words.specs.declared.word_file.StdFile.{StdFile}
-use Rattle.jcard_faults.specs.declared.fault.Damage.TheVariants.{Size}
-use Rattle.jcard_faults.specs.declared.fault.FileKind.TheVariants.{Image}
-use Rattle.jcard_faults.specs.declared.fault.Fault.{Fault}
-use Rattle.jcard_faults.specs.declared.fault.Fault.TheVariants.{NoMemory, CannotRead, CannotOpenToWrite, CannotWrite, NotReplaced, BadImage, ImageInUse}
+use Rattle.jcard_files.specs.declared.fault.Damage.TheVariants.{Size}
+use Rattle.jcard_files.specs.declared.fault.FileKind.TheVariants.{Image}
+use Rattle.jcard_files.specs.declared.fault.Fault.{Fault}
+use Rattle.jcard_files.specs.declared.fault.Fault.TheVariants.{NoMemory, CannotRead, CannotOpenToWrite, CannotWrite, NotReplaced, BadImage, ImageInUse}
 use Rattle.jc_words.specs.declared.replacing.ReplaceFault.{ReplaceFault}
 use Rattle.jc_words.specs.declared.replacing.ReplaceFault.TheVariants as replacing
 use Rattle.jc_words.specs.declared.word_file.FileReadFault.TheVariants as reading

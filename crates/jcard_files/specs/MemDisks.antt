@@ -8,7 +8,7 @@ use Rattle.byteorder.specs.Endian.{big_bytes}
 use Rattle.jc_words.specs.Count.{saturating_count}
 use Rattle.jc_words.specs.Files.{AreWordsOf}
 use Rattle.jc_words.specs.Stores.{StoreValue}
-use Rattle.jcard_faults.specs.declared.fault.Fault.{Fault}
+use Rattle.jcard_files.specs.declared.fault.Fault.{Fault}
 use Rattle.jcard_files.specs.FileDeeds.{FileDeed, ClosesImage, MakesImage, OpensImage, ReadsImage, ReadsText, WritesText}
 use Rattle.jcard_files.specs.declared.text_file.TextFile.{TextFile}
 use Rattle.jcard_files.specs.declared.text_file.WrittenText.{WrittenText}

@@ -1,7 +1,7 @@
 -- The files that a command names, beside the one that it writes.
 use Rattle.std.specs.Prelude.{ℕ, ◌≡◌, List, position, slice_get, Option, Some, None}
 use Rattle.std.specs.Str.{bytes_eq}
-use Rattle.jcard_faults.specs.declared.fault.FileKind.{FileKind}
+use Rattle.jcard_files.specs.declared.fault.FileKind.{FileKind}
 use Rattle.jcard_files.specs.declared.operand.Operand.{Operand}
 
 -- where the first of these files stands that has this name

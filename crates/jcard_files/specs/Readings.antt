@@ -4,8 +4,8 @@ use Rattle.std.specs.declared.io.ErrorKind.{ErrorKind}
 use Rattle.std.specs.declared.io.ErrorKind.TheVariants.{OutOfMemory}
 use Rattle.jcard_files.specs.FileDeeds.{FileDeed, ReadsText}
 use Rattle.jcard_files.specs.Images.{IsNotRead, IsUnopened}
-use Rattle.jcard_faults.specs.declared.fault.Fault.{Fault}
-use Rattle.jcard_faults.specs.declared.fault.Fault.TheVariants.{NoMemory}
+use Rattle.jcard_files.specs.declared.fault.Fault.{Fault}
+use Rattle.jcard_files.specs.declared.fault.Fault.TheVariants.{NoMemory}
 
 -- a platform table of this text was read from what is known of a file
 abbrev pub IsTextOf : List ℕ → Option (List ℕ) → Type 0

@@ -8,13 +8,13 @@ ghost use Rattle.jcard_files.specs.Images.{IsCreateFault, IsCreatedAs, IsFilled,
 ghost use Rattle.jcard_files.specs.Operands.{IsNoOperand};
 
 use crate::closed_store::ClosedStore;
+use crate::fault::{Damage, Fault, FileKind};
 use crate::operand::{Operand, operand_named};
 use jc_words::{
     EmptyFile, FileCreateFault, FileLockFault, FileOpenFault, FileReadFault, FileStore, FlushFile,
     Lock, LockFault, LockFile, OpenPath, Opening, ReplaceFault, StdFile, WordStore, ZeroWords,
     open_to_replace,
 };
-use jcard_faults::fault::{Damage, Fault, FileKind};
 use std::alloc::{AllocError, Global};
 use std::fs;
 use std::io::{Read, Write};

@@ -4,8 +4,8 @@ ghost use Rattle.jc_words.specs.Files.{AreWordsOf, IsImageSize};
 ghost use Rattle.jcard_files.specs.MemDisks.{image_after, zero_image};
 
 use crate::closed_store::ClosedStore;
+use crate::fault::{Damage, Fault};
 use jc_words::{MemStore, WordStore, is_image_size, put_words, words_of_bytes};
-use jcard_faults::fault::{Damage, Fault};
 use std::alloc::{AllocError, Global};
 use std::marker::Model;
 

@@ -10,11 +10,11 @@ ghost use Rattle.jcard_files.specs.MemDisks.{AreDeeds, deeds_then, image_place, 
 
 use crate::closed_store::ClosedStore;
 use crate::disk::Disk;
+use crate::fault::{Fault, FileKind};
 use crate::image_file::ImageFile;
 use crate::operand::{Operand, operand_named};
 use crate::text_file::{TextFile, WrittenText};
 use jc_words::MemStore;
-use jcard_faults::fault::{Fault, FileKind};
 use std::alloc::{AllocError, Global};
 use std::marker::Model;
 

@@ -2,7 +2,7 @@
 ghost use Rattle.std.specs.Prelude.{◌≡◌, ◌<◌, length, IfSome, MatchOption};
 ghost use Rattle.jcard_files.specs.Operands.{IsNoOperand, IsOperand, operand_place};
 
-use jcard_faults::fault::FileKind;
+use crate::fault::FileKind;
 
 /// A file that a command names beside the one that it writes, and what it is to the command.
 #[derive(Clone, Copy, Drop)]

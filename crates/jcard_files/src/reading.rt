@@ -3,10 +3,10 @@ ghost use Rattle.std.specs.Prelude.{◌≡◌, List, [], false, MatchResult, IfO
 ghost use Rattle.jcard_files.specs.FileDeeds.{FileDeed};
 ghost use Rattle.jcard_files.specs.Images.{IsNotRead, IsUnopened};
 ghost use Rattle.jcard_files.specs.Readings.{IsRead, IsUnread, IsUnreadFault, IsScriptRead};
-ghost use Rattle.jcard_faults.specs.Faults.{is_unwritten};
+ghost use Rattle.jcard_files.specs.Faults.{is_unwritten};
 
 use crate::disk::Disk;
-use jcard_faults::fault::Fault;
+use crate::fault::Fault;
 use std::alloc::Global;
 use std::io::{ErrorKind, Read};
 

@@ -12,8 +12,8 @@ use Rattle.jc_card.specs.declared.formatting.FormatFault.{FormatFault}
 use Rattle.jc_card.specs.declared.formatting.FormatFault.TheVariants.{StoreDown, BadSize, BadCapacity, BadTable, TooSmall}
 use Rattle.jcard_files.specs.FileDeeds.{untouched}
 use Rattle.jcard_images.specs.NewImages.{IsFormatFault, IsLaid, IsLaidInMemory, IsNewImageInMemoryOf, IsNewImageOf, IsTable}
-use Rattle.jcard_faults.specs.declared.fault.Fault.{Fault}
-use Rattle.jcard_faults.specs.declared.fault.Fault.TheVariants.{ImageTooSmall}
+use Rattle.jcard_files.specs.declared.fault.Fault.{Fault}
+use Rattle.jcard_files.specs.declared.fault.Fault.TheVariants.{ImageTooSmall}
 
 -- a format that made an image
 pub laid_new : {S : Type 0} (words : S → List ℕ) (down : S → Bool) (passed : S → ℕ) (refusals : S → Refusals) (old new : S) (capacity : ℕ) (text : List ℕ)

@@ -1,8 +1,8 @@
 -- The usual platform table.
 use Rattle.std.proofs.Common.{◌≡◌, ℕ, List, [], Result, Ok, Err, None, refl}
 use Rattle.std.specs.Prelude.{MatchResult}
-use Rattle.jcard_faults.specs.declared.fault.Fault.{Fault}
-use Rattle.jcard_faults.specs.declared.fault.Fault.TheVariants.{NoMemory}
+use Rattle.jcard_files.specs.declared.fault.Fault.{Fault}
+use Rattle.jcard_files.specs.declared.fault.Fault.TheVariants.{NoMemory}
 use Rattle.jcard_images.specs.UsualTables.{IsNoPlatform, IsPlatform}
 use Rattle.jcard_images.specs.declared.usual_table.TheConstants.{USUAL_TABLE}
 

@@ -11,10 +11,10 @@ use Rattle.jcard_files.specs.Images.{IsNotOpened}
 use Rattle.jcard_images.specs.Listings.{Lines, count_line, journal_line, line, listing_of, then_lines}
 use Rattle.jcard_images.specs.declared.listing.ListingFault.{ListingFault}
 use Rattle.jcard_images.specs.declared.listing.ListingFault.TheVariants.{Unreadable, NotWritten}
-use Rattle.jcard_faults.specs.declared.fault.Damage.{Damage}
-use Rattle.jcard_faults.specs.declared.fault.Damage.TheVariants.{Magic, Package, Size, Version}
-use Rattle.jcard_faults.specs.declared.fault.Fault.{Fault}
-use Rattle.jcard_faults.specs.declared.fault.Fault.TheVariants.{BadImage, WriteFailed}
+use Rattle.jcard_files.specs.declared.fault.Damage.{Damage}
+use Rattle.jcard_files.specs.declared.fault.Damage.TheVariants.{Magic, Package, Size, Version}
+use Rattle.jcard_files.specs.declared.fault.Fault.{Fault}
+use Rattle.jcard_files.specs.declared.fault.Fault.TheVariants.{BadImage, WriteFailed}
 use Rattle.jc_words.specs.declared.image.ImageFault.TheVariants.{BadMagic, BadVersion, BadSize}
 
 -- the damage that a fault of the first words is

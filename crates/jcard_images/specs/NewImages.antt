@@ -15,8 +15,8 @@ use Rattle.jc_card.specs.declared.formatting.FormatFault.{FormatFault}
 use Rattle.jc_card.specs.declared.formatting.FormatFault.TheVariants as format
 use Rattle.jcard_files.specs.FileDeeds.{FileDeed, ClosesImage, MakesImage, untouched}
 use Rattle.jcard_files.specs.Images.{IsNotMade}
-use Rattle.jcard_faults.specs.declared.fault.Fault.{Fault}
-use Rattle.jcard_faults.specs.declared.fault.Fault.TheVariants.{NoMemory, BadJournal, BadWords, BadTable, ImageTooSmall, CannotWrite}
+use Rattle.jcard_files.specs.declared.fault.Fault.{Fault}
+use Rattle.jcard_files.specs.declared.fault.Fault.TheVariants.{NoMemory, BadJournal, BadWords, BadTable, ImageTooSmall, CannotWrite}
 use Rattle.jcard_images.specs.UsualTables.{IsNoPlatform, IsPlatform}
 
 -- the text is decimal digits, and spells a number that is neither below the least nor above the most

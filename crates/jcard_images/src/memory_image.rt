@@ -7,7 +7,7 @@ ghost use Rattle.jcard_images.specs.NewImages.{IsLaidInMemory, IsNewImageInMemor
 use crate::new_image::format_fault;
 use jc_words::MemStore;
 use jc_words::layout::USUAL_CAPACITY;
-use jcard_faults::fault::Fault;
+use jcard_files::fault::Fault;
 use jcard_script::card::formatting::format;
 use std::alloc::{AllocError, Global};
 

@@ -14,10 +14,10 @@ use jc_platform::fault::TableFault;
 use jc_platform::read::read_table;
 use jc_words::WordStore;
 use jc_words::layout::{LEAST_CAPACITY, LEAST_SIZE, MOST_CAPACITY};
-use jcard_faults::fault::Fault;
-use jcard_faults::remarks::Remarks;
 use jcard_files::closed_store::ClosedStore;
 use jcard_files::disk::Disk;
+use jcard_files::fault::Fault;
+use jcard_files::remarks::Remarks;
 use jcard_script::card::formatting::{FormatFault, format};
 
 // How many words an image has, and how many entries its journal can have.

@@ -4,8 +4,8 @@ ghost use Rattle.std.specs.Borrow.{Bor};
 ghost use Rattle.jcard_files.specs.FileDeeds.{FileDeed};
 ghost use Rattle.jcard_images.specs.UsualTables.{IsNoPlatform, IsPlatform};
 
-use jcard_faults::fault::Fault;
 use jcard_files::disk::Disk;
+use jcard_files::fault::Fault;
 use jcard_files::reading::text_of;
 use std::alloc::{AllocError, Global};
 

@@ -1,9 +1,9 @@
 -- How lines were reported that were all written.
 use Rattle.std.proofs.Common.{◌≡◌, Result, Ok, Err, inl, inr, refl, sym, subst, ap, ◌∙◌}
 use Rattle.std.proofs.lemmas.Bool.{cases_Bool}
-use Rattle.jcard_faults.specs.declared.fault.Fault.{Fault}
-use Rattle.jcard_faults.specs.declared.fault.Fault.TheVariants.{BadImage}
-use Rattle.jcard_faults.specs.declared.fault.Damage.TheVariants.{Package}
+use Rattle.jcard_files.specs.declared.fault.Fault.{Fault}
+use Rattle.jcard_files.specs.declared.fault.Fault.TheVariants.{BadImage}
+use Rattle.jcard_files.specs.declared.fault.Damage.TheVariants.{Package}
 use Rattle.jcard_images.specs.Listings.{Lines}
 use Rattle.jcard_listing.specs.Told.{AreLinesTold, end_of}
 

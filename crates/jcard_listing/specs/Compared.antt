@@ -10,7 +10,7 @@ use Rattle.jc_records.specs.Records.{are_whole, item_at, standing_items}
 use Rattle.jc_records.specs.declared.places.Standing.{Standing}
 use Rattle.jc_records.specs.declared.places.Standing.TheVariants.{Object, Nothing, Unread}
 use Rattle.jcard_images.specs.Listings.{Lines, line, then_lines}
-use Rattle.jcard_objects.specs.ClassTexts.{kind_text}
+use Rattle.jc_objects.specs.ClassTexts.{kind_text}
 use Rattle.jcard_listing.specs.Keys.{hidden_in_both, is_hidden}
 use Rattle.jcard_listing.specs.Objects.{is_told, object_text, value_text}
 use Rattle.jcard_listing.specs.Pairs.{end_lines, sign}

@@ -4,8 +4,8 @@ use Rattle.jc_words.specs.Files.{IsImageSize}
 use Rattle.jc_words.specs.declared.image.ImageFault.{ImageFault}
 use Rattle.jc_card.specs.PowerUp.{HasHead, PowerUpRefuses, fault_of}
 use Rattle.jcard_script.specs.Texts.{IsCutOf}
-use Rattle.jcard_faults.specs.declared.fault.Fault.{Fault}
-use Rattle.jcard_faults.specs.declared.fault.Fault.TheVariants.{BadImage, NoMemory, WriteFailed}
+use Rattle.jcard_files.specs.declared.fault.Fault.{Fault}
+use Rattle.jcard_files.specs.declared.fault.Fault.TheVariants.{BadImage, NoMemory, WriteFailed}
 use Rattle.jcard_files.specs.FileDeeds.{FileDeed, ClosesImage, ReadsImage, untouched}
 use Rattle.jcard_files.specs.Images.{IsNotOpened}
 use Rattle.jcard_images.specs.Dumps.{damage_of}

@@ -7,8 +7,8 @@ use Rattle.jc_platform.specs.Tokens.{Tokens}
 use Rattle.jc_records.specs.Holders.{holder_in}
 use Rattle.jc_records.specs.Records.{standing_items}
 use Rattle.jc_records.specs.declared.holders.Holder.{Holder}
-use Rattle.jcard_objects.specs.Changes.{value_text}
-use Rattle.jcard_objects.specs.ClassTexts.{kind_text}
+use Rattle.jc_objects.specs.Changes.{value_text}
+use Rattle.jc_objects.specs.ClassTexts.{kind_text}
 use Rattle.jcard_images.specs.Listings.{Lines, line_if}
 use Rattle.jcard_listing.specs.Texts.{labelled_text}
 

@@ -3,8 +3,8 @@ use Rattle.std.specs.Prelude.{ℕ, ◌==◌, ◌&&◌, ◌++◌, Bool, List, [],
 use Rattle.std.specs.List.{list_any}
 use Rattle.jc_heap.specs.declared.object.Facts.{Facts}
 use Rattle.jc_objects.specs.declared.legend.Legend.{Legend}
-use Rattle.jc_image_keys.specs.Keys.{is_bytes, key_arrays, key_at}
-use Rattle.jc_image_keys.specs.declared.keys.KeyFacts.{KeyFacts}
+use Rattle.jc_records.specs.Keys.{is_bytes, key_arrays, key_at}
+use Rattle.jc_records.specs.declared.keys.KeyFacts.{KeyFacts}
 use Rattle.jcard_listing.specs.Texts.{labelled_text, reference_text}
 
 -- the arrays whose bytes are not shown: those that hold keys, unless secrets are shown

@@ -21,8 +21,8 @@ use Rattle.jc_platform.specs.declared.names.PlatformClass.{PlatformClass}
 use Rattle.jc_platform.specs.declared.names.PlatformClass.TheVariants.{Aid, OwnerPin}
 use Rattle.jc_records.specs.Records.{are_whole, standing_items}
 use Rattle.jcard_images.specs.Listings.{Lines}
-use Rattle.jcard_objects.specs.ClassTexts.{kind_text}
-use Rattle.jc_image_keys.specs.Keys.{is_key}
+use Rattle.jc_objects.specs.ClassTexts.{kind_text}
+use Rattle.jc_records.specs.Keys.{is_key}
 use Rattle.jcard_listing.specs.Keys.{hidden_in, is_hidden, key_text}
 use Rattle.jcard_listing.specs.Texts.{each_text, labelled_text, reference_text, short_text}
 use Rattle.jcard_listing.specs.declared.shown.Shown.{Shown}
@@ -105,6 +105,21 @@ is_engine t f = is_instance f.kind && (f.length == 2 && is_engine_class (class_b
 abbrev pub engine_text : List ℕ → List ℕ
 engine_text cells = labelled_text (codes ": algorithm ") (slice_index cells 0) (codes ", holds nothing, state ") ++ reference_text (slice_index cells 1)
 
+-- a class of engines with a key: its instances have 12 cells, the second and the third of which hold references
+abbrev pub is_keyed_engine_class : Option PlatformClass → Bool
+is_keyed_engine_class None = false
+is_keyed_engine_class (Some class) = cells_of class == 12 && (class_holds_reference class 1 && class_holds_reference class 2)
+
+-- the header is that of a Cipher or a Signature
+abbrev pub is_keyed_engine : Legend → Facts → Bool
+is_keyed_engine t f = is_instance f.kind && (f.length == 12 && is_keyed_engine_class (class_by_word t.platform f.class))
+
+-- its fields: the number of its algorithm, its key, its mode, and the array with its state, which is transient as that of any engine
+abbrev pub keyed_engine_text : List ℕ → List ℕ
+keyed_engine_text cells = labelled_text (codes ": algorithm ") (slice_index cells 0) (codes ", key ")
+    ++ (reference_text (slice_index cells 2)
+    ++ (labelled_text (codes ", mode ") (slice_index cells 3) (codes ", holds nothing, state ") ++ reference_text (slice_index cells 1)))
+
 -- the header is that of an AID
 abbrev pub is_aid : Legend → Facts → Bool
 is_aid t f = is_instance f.kind && (f.length == 9 && f.class == class_word t.platform Aid)
@@ -133,7 +148,8 @@ abbrev pub contents_text : Legend → List ℕ → List ℕ → ℕ → Facts �
 contents_text t w hidden r f cells = if is_pin t f then pin_text cells
     else (if is_key t.platform f then key_text w cells
     else (if is_engine t f then engine_text cells
-    else (if is_hidden hidden r f then codes ": key bytes, not shown" else plain_text t f cells (aid_length t f cells))))
+    else (if is_keyed_engine t f then keyed_engine_text cells
+    else (if is_hidden hidden r f then codes ": key bytes, not shown" else plain_text t f cells (aid_length t f cells)))))
 
 -- after the header: the cells, or where they are
 abbrev pub behind_text : Legend → List ℕ → List ℕ → ℕ → Facts → Option ClearEvent → List ℕ → List ℕ

@@ -2,9 +2,9 @@
 use Rattle.std.specs.Prelude.{ℕ, ◌≡◌, ◌⊎◌, ◌*◌, ◌∷◌, ◌++◌, true, false, Bool, List, [], length, Result, Ok, Err, if◌then◌else◌}
 use Rattle.jc_words.specs.Files.{IsImageSize}
 use Rattle.jcard_script.specs.Texts.{IsCutOf}
-use Rattle.jcard_faults.specs.declared.fault.Damage.TheVariants.{Package}
-use Rattle.jcard_faults.specs.declared.fault.Fault.{Fault}
-use Rattle.jcard_faults.specs.declared.fault.Fault.TheVariants.{BadImage, NoMemory, WriteFailed}
+use Rattle.jcard_files.specs.declared.fault.Damage.TheVariants.{Package}
+use Rattle.jcard_files.specs.declared.fault.Fault.{Fault}
+use Rattle.jcard_files.specs.declared.fault.Fault.TheVariants.{BadImage, NoMemory, WriteFailed}
 use Rattle.jcard_files.specs.FileDeeds.{FileDeed, ClosesImage, ReadsImage, untouched}
 use Rattle.jcard_files.specs.Images.{IsNotOpened}
 use Rattle.jcard_images.specs.Dumps.{IsTold, dump_text}

@@ -18,6 +18,7 @@ use crate::pairs::{Side, listing_by, push_end};
 use crate::shown::Shown;
 use crate::texts::push_labelled;
 use jc_heap::{Facts, Kind};
+use jc_objects::class_texts::push_kind;
 use jc_objects::legend::Legend;
 use jc_records::bounds::first_record;
 use jc_records::places::{Standing, first_place, standing_from};
@@ -25,7 +26,6 @@ use jc_records::records::{cell_of, object_at, whole_size};
 use jc_transient::ClearEvent;
 use jc_words::WordStore;
 use jc_words::layout::TOP;
-use jcard_objects::class_texts::push_kind;
 use std::alloc::{AllocError, Global};
 
 /// Writes the cells that are not the same, and the objects that one image alone has, up to where one cannot be read.

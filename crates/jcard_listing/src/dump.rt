@@ -3,16 +3,16 @@ ghost use Rattle.std.specs.Prelude.{◌≡◌, ℕ, List};
 ghost use Rattle.std.specs.Io.KnownBytes.{Appends};
 ghost use Rattle.jc_words.specs.Count.{failures_after};
 ghost use Rattle.jc_words.specs.Image.{HasSize};
-ghost use Rattle.jcard_faults.specs.Faults.{is_unwritten};
+ghost use Rattle.jcard_files.specs.Faults.{is_unwritten};
 ghost use Rattle.jcard_files.specs.FileDeeds.{FileDeed};
 ghost use Rattle.jcard_listing.specs.Told.{AreLinesTold, AreObjectsTold, IsListingTold, IsObjectsDump, end_of};
 
 use crate::listing::{Listing, listing_of};
 use crate::shown::Shown;
 use jc_words::WordStore;
-use jcard_faults::fault::{Damage, Fault};
 use jcard_files::closed_store::ClosedStore;
 use jcard_files::disk::Disk;
+use jcard_files::fault::{Damage, Fault};
 use jcard_images::dump::dump_store;
 use jcard_script::streams::{TextOut, write_all};
 use std::alloc::{AllocError, Global};

@@ -6,16 +6,16 @@ ghost use Rattle.jc_commit.specs.Image.{capacity_of, count_of};
 ghost use Rattle.jc_records.specs.Bounds.{has_bounds};
 ghost use Rattle.jcard_listing.specs.Entries.{cell_text, entry_lines, entry_text, found_text};
 ghost use Rattle.jcard_listing.specs.Fault.{Lists, each_line};
-ghost use Rattle.jcard_objects.specs.Changes.{value_text};
+ghost use Rattle.jc_objects.specs.Changes.{value_text};
 
 use crate::fault::ListFault;
 use crate::texts::{push_labelled, push_number, push_word};
+use jc_objects::class_texts::push_kind;
 use jc_platform::platform::Platform;
 use jc_records::holders::{Holder, holder_of};
 use jc_records::records::is_packed;
 use jc_words::layout::COUNT;
 use jc_words::{Log, WordStore};
-use jcard_objects::class_texts::push_kind;
 use std::alloc::{AllocError, Global};
 
 /// Writes the line of each entry of the journal that counts, up to the first for which the journal has no place.

@@ -7,8 +7,8 @@ ghost use Rattle.jcard_listing.specs.Keys.{hidden_in, hidden_in_both, is_hidden,
 
 use crate::texts::{push_labelled, push_number, push_reference};
 use jc_heap::{Facts, Kind};
-use jc_image_keys::keys::{KeyFacts, key_arrays, key_at};
 use jc_objects::legend::Legend;
+use jc_records::keys::{KeyFacts, key_arrays, key_at};
 use jc_records::records::cell_of;
 use jc_words::WordStore;
 use std::alloc::{AllocError, Global};

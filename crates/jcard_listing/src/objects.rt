@@ -5,7 +5,7 @@ ghost use Rattle.jc_heap.specs.Object.{cells_of};
 ghost use Rattle.jc_records.specs.Bounds.{has_bounds};
 ghost use Rattle.jc_records.specs.Records.{IsRecord, item_at, object_in};
 ghost use Rattle.jcard_listing.specs.Fault.{Lists};
-ghost use Rattle.jcard_listing.specs.Objects.{aid_length, aid_text, applet_name, area_text, behind_text, byte_text, cell_text, cells_text, contents_text, engine_text, field_text, header_text, is_aid, is_engine, is_engine_class, is_pin, is_told, item_text, items_lines, object_text, objects_lines, owner_text, package_name, pin_text, value_text};
+ghost use Rattle.jcard_listing.specs.Objects.{aid_length, aid_text, applet_name, area_text, behind_text, byte_text, cell_text, cells_text, contents_text, engine_text, field_text, header_text, is_aid, is_engine, is_engine_class, is_keyed_engine, is_keyed_engine_class, is_pin, is_told, item_text, items_lines, keyed_engine_text, object_text, objects_lines, owner_text, package_name, pin_text, value_text};
 
 use crate::fault::ListFault;
 use crate::keys::{hidden_in, is_hidden, push_key, push_not_shown};
@@ -13,15 +13,15 @@ use crate::shown::Shown;
 use crate::texts::{push_hex, push_labelled, push_number, push_reference, push_short};
 use jc_heap::{Facts, Kind};
 use jc_image::{AppletName, PackageName, applet_at, package_at};
-use jc_image_keys::keys::is_key;
+use jc_objects::class_texts::push_kind;
 use jc_objects::legend::Legend;
 use jc_platform::names::PlatformClass;
 use jc_records::bounds::first_record;
+use jc_records::keys::is_key;
 use jc_records::records::{cell_of, object_at, whole_size};
 use jc_transient::{ClearEvent, OwnerWord};
 use jc_words::WordStore;
 use jc_words::layout::TOP;
-use jcard_objects::class_texts::push_kind;
 use std::alloc::{AllocError, Global};
 
 /// The first owner word that names a package.
@@ -32,6 +32,9 @@ const PIN_CELLS: u16 = 5;
 
 /// How many cells an engine has.
 const ENGINE_CELLS: u16 = 2;
+
+/// How many cells a Cipher or a Signature has.
+const KEYED_ENGINE_CELLS: u16 = 12;
 
 /// How many cells an AID has.
 const AID_CELLS: u16 = 9;
@@ -278,6 +281,9 @@ fn push_contents<S: WordStore>(
     if is_engine(legend, facts) {
         return push_engine(text, store, at, facts);
     }
+    if is_keyed_engine(legend, facts) {
+        return push_keyed_engine(text, store, at, facts);
+    }
     if is_hidden(hidden, at, facts) {
         return push_not_shown(text);
     }
@@ -311,6 +317,29 @@ fn is_engine_class(found: Option<PlatformClass>) -> bool
 {
     match found {
         Some(class) => u16::from(class.cells()) == ENGINE_CELLS && class.holds_reference(1),
+        None => false,
+    }
+}
+
+// Whether an object is a Cipher or a Signature.
+fn is_keyed_engine(legend: &Legend, facts: Facts) -> bool
+    ensures { result ≡ is_keyed_engine legend.now facts }
+{
+    matches!(facts.kind, Kind::Instance)
+        && facts.length == KEYED_ENGINE_CELLS
+        && is_keyed_engine_class(legend.platform.class_by_word(facts.class()))
+}
+
+// Whether a class is one of engines with a key: its instances have 12 cells, the second and the third of which hold references.
+fn is_keyed_engine_class(found: Option<PlatformClass>) -> bool
+    ensures { result ≡ is_keyed_engine_class found }
+{
+    match found {
+        Some(class) => {
+            u16::from(class.cells()) == KEYED_ENGINE_CELLS
+                && class.holds_reference(1)
+                && class.holds_reference(2)
+        }
         None => false,
     }
 }
@@ -441,6 +470,32 @@ fn push_engine<S: WordStore>(
         text,
         b": algorithm ",
         cell_of(store, at, facts, 0),
+        b", holds nothing, state ",
+    )?;
+    push_reference(text, cell_of(store, at, facts, 1))
+}
+
+// Writes the fields of a Cipher or a Signature. Its state is transient, so in an image it holds nothing.
+fn push_keyed_engine<S: WordStore>(
+    text: &mut Vec<u8>,
+    store: &S,
+    at: u16,
+    facts: Facts,
+) -> Result<(), AllocError>
+    requires bounds { has_bounds (S.words store.now) ≡ true }
+    requires record { IsRecord (S.words store.now) at }
+    requires object { object_in (item_at (S.words store.now) at) ≡ Some facts }
+    requires cells { length (cells_of (item_at (S.words store.now) at)) ≡ 12 }
+    ensures { OnOk result (text.new.items ≡ text.old.items
+        ++ keyed_engine_text (cells_of (item_at (S.words store.now) at))) }
+{
+    let algorithm = cell_of(store, at, facts, 0);
+    push_labelled(text, b": algorithm ", algorithm, b", key ")?;
+    push_reference(text, cell_of(store, at, facts, 2))?;
+    push_labelled(
+        text,
+        b", mode ",
+        cell_of(store, at, facts, 3),
         b", holds nothing, state ",
     )?;
     push_reference(text, cell_of(store, at, facts, 1))

@@ -1,12 +1,13 @@
 -- How lines and scripts end.
-use Rattle.std.proofs.Common.{◌≡◌, ℕ, ◌+◌, ◌<◌, true, false, List, [], ◌∷◌, ◌++◌, length, take, Result, Ok, Err, refl, sym, ◌∙◌, ap, subst, arith, append_assoc}
+use Rattle.std.proofs.Common.{◌≡◌, ℕ, ◌+◌, ◌<◌, Bool, inl, inr, true, false, List, [], ◌∷◌, ◌++◌, length, take, Result, Ok, Err, refl, sym, ◌∙◌, ap, subst, arith, append_assoc}
 use Rattle.std.proofs.Common.{append-nil, length-append, slice_index, ◌==◌, drop, take-append-drop}
 use Rattle.std.proofs.lemmas.List.{take_more}
 use Rattle.std.specs.Prelude.{OnOk, Option}
 use Rattle.std.specs.Io.KnownBytes.{Appends}
 use Rattle.std.specs.Str.Lines.{lines}
+use Rattle.jc_words.specs.Stores.{FuseStoreValue}
 use Rattle.jcard_script.specs.ScriptStates.{ScriptState}
-use Rattle.jcard_script.specs.Script.{Form, form_of, AreCarriedOut, FailsAtBadLine, FailsAtReset, EndsInsideLine, EndsFrom, IsWrittenFor, ended_lines, bound}
+use Rattle.jcard_script.specs.Script.{Form, form_of, AreCarriedOut, FailsAtBadLine, FailsAtReset, EndsInsideLine, EndsFrom, EndsSelecting, EndsWithin, IsWrittenFor, ended_lines, bound}
 use Rattle.jcard_script.specs.Session.{LineEnds, LineFails, LinesEnd, IsWrittenOut, unfinished_line}
 use Rattle.jcard_script.specs.declared.script.ScriptFault.{ScriptFault}
 use Rattle.jcard_script.specs.declared.script.ScriptFault.TheVariants.{ReadFailed, WriteFailed, BadLine, TooLong, PowerFault}
@@ -136,3 +137,9 @@ failed_line (PowerFault f) n form s t h = (h.0, h.1, refl)
 failed_line ReadFailed n form s t h = absurd h
 failed_line WriteFailed n form s t h = absurd h
 failed_line TooLong n form s t h = absurd h
+
+-- a script of which it is known what is selected at its end has ended so
+pub ends_within : (budget : ℕ) (r : Result Unit ScriptFault) (before after : FuseStoreValue) (at_end : Bool) (script text : List ℕ) (selected : Option (List ℕ))
+    → EndsSelecting budget r before after at_end script text selected → EndsWithin budget r before after at_end script text
+ends_within budget r before after at_end script text selected (inl f) = inl f.0
+ends_within budget r before after at_end script text selected (inr e) = inr (e.0, e.1, e.2, e.3, e.4)

@@ -1,6 +1,6 @@
 -- Scripts: their lines, what the lines ask for, and what is written for them.
 use Rattle.std.specs.Prelude.{ℕ, ◌+◌, ◌≡◌, ◌≤◌, ◌<◌, ◌==◌, Bool, true, false, not, if◌then◌else◌, IsTrue, List, [], ◌∷◌, ◌++◌, length, take, drop, filter}
-use Rattle.std.specs.Prelude.{nat_le, nat_lt, nat_eq, ◌&&◌, ◌⊎◌, codes, decimal, Option, Result, Ok, Err}
+use Rattle.std.specs.Prelude.{nat_le, nat_lt, nat_eq, ◌&&◌, ◌⊎◌, codes, decimal, Option, None, Result, Ok, Err}
 use Rattle.std.specs.Io.KnownBytes.{IsAtEnd}
 use Rattle.std.specs.List.{slice_split, starts_with}
 use Rattle.std.specs.Str.{bytes_eq, all_ascii_digits}
@@ -13,7 +13,7 @@ use Rattle.jc_card.specs.Dispatching.{usual_budget}
 use Rattle.jc_card.specs.declared.power_up.PowerFault.{PowerFault as Fault}
 use Rattle.jc_session.specs.Requests.{Request, Command, Reset, ArmFuse, Reply, Response, Ready, Down, Armed}
 use Rattle.jc_session.specs.Serving.{ServesOver}
-use Rattle.jcard_script.specs.ScriptStates.{ScriptState, IsSessionStore, PowersUp, FailsUp, FailsReset, fuse_kind}
+use Rattle.jcard_script.specs.ScriptStates.{ScriptState, IsSessionStore, PowersUp, FailsUp, FailsReset, fuse_kind, selected_in}
 use Rattle.jcard_script.specs.Texts.{IsCutOf}
 use Rattle.jcard_script.specs.declared.script.ScriptFault.{ScriptFault}
 use Rattle.jcard_script.specs.declared.script.ScriptFault.TheVariants.{ReadFailed, WriteFailed, BadLine, TooLong, PowerFault}
@@ -154,6 +154,12 @@ abbrev pub EndsWithin : ℕ → Result Unit ScriptFault → FuseStoreValue → F
 EndsWithin budget result before after at_end script text =
     FailsAtOnce result before after script text ⊎ ((first last : ScriptState) × PowersUp budget before first × IsSessionStore last after
     × EndsFrom result at_end script first last text)
+
+-- it did so, and at its end this applet is selected, by its AID, if one is
+abbrev pub EndsSelecting : ℕ → Result Unit ScriptFault → FuseStoreValue → FuseStoreValue → Bool → List ℕ → List ℕ → Option (List ℕ) → Type 0
+EndsSelecting budget result before after at_end script text selected = (FailsAtOnce result before after script text × (selected ≡ None))
+    ⊎ ((first last : ScriptState) × PowersUp budget before first × IsSessionStore last after × EndsFrom result at_end script first last text
+    × (selected ≡ selected_in last))
 
 -- the same with the usual budget
 abbrev pub Ends : Result Unit ScriptFault → FuseStoreValue → FuseStoreValue → Bool → List ℕ → List ℕ → Type 0

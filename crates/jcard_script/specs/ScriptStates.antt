@@ -1,5 +1,5 @@
 -- How the session of a script stands, and what a power up makes of it.
-use Rattle.std.specs.Prelude.{ℕ, ◌≡◌, false}
+use Rattle.std.specs.Prelude.{ℕ, ◌≡◌, false, List, Option, None}
 use Rattle.jc_words.specs.Count.{saturating_count}
 use Rattle.jc_words.specs.Refusals.{with_fuse_at}
 use Rattle.jc_words.specs.Stores.{FuseStoreValue, with_fuse_armed}
@@ -7,6 +7,7 @@ use Rattle.jc_commit.specs.Image.{IsGoodLog, limit_of, recovered_of}
 use Rattle.jc_heap.specs.Heap.{HeapState, HeapView, heap_of, heap_at_rest}
 use Rattle.jc_heap.specs.Image.{IsWellFormed}
 use Rattle.jc_heap.specs.Moves.{IsTorn}
+use Rattle.jc_card.specs.CardState.{selected_aid}
 use Rattle.jc_card.specs.PoweringUp.{IsPoweredOver, PowerUpFails}
 use Rattle.jc_card.specs.declared.power_up.PowerFault.{PowerFault as Fault}
 use Rattle.jc_card.specs.declared.power_up.PowerFault.TheVariants.{StoreDown}
@@ -71,6 +72,11 @@ with_fuse k (Off budget store) = Off budget (with_fuse_armed k store)
 -- the store of a heap that such a loss of power leaves
 abbrev pub IsStoreLeft : (ℕ → HeapState → Type 0) → HeapView → FuseStoreValue → Type 0
 IsStoreLeft May heap store = (torn : HeapView) × IsTorn May heap torn × IsStoreOf torn store
+
+-- the AID of the applet that is selected; none where none is, or the card is off
+abbrev pub selected_in : ScriptState → Option (List ℕ)
+selected_in (Up card) = selected_aid card
+selected_in (Off budget store) = None
 
 -- sessions that keep the store itself
 abbrev pub fuse_kind : StoreKind FuseStoreValue

@@ -6,7 +6,7 @@ ghost use Rattle.jc_session.specs.Power.{Off, budget_of};
 ghost use Rattle.jc_session.specs.Requests.{Down, Response as Responds};
 ghost use Rattle.jc_session.specs.SessionStates.{answer_of_power_up};
 ghost use Rattle.jc_session.specs.Serving.{AnswersCommandOver};
-ghost use Rattle.jcard_script.specs.ScriptStates.{IsSessionStore, PowersUp, FailsUp, fuse_kind, with_fuse};
+ghost use Rattle.jcard_script.specs.ScriptStates.{IsSessionStore, PowersUp, FailsUp, fuse_kind, selected_in, with_fuse};
 ghost use Rattle.jcard_script.specs.CardOrStore.{IsUp, state_of_card};
 ghost use Rattle.jcard_script.specs.Reply.{text_for_line};
 ghost use Rattle.jcard_script.specs.Script.{text_of_reply};
@@ -18,6 +18,7 @@ use jc_card::card::Card;
 use jc_card::power_up::PowerFault;
 use jc_card::response::Response;
 use jc_memory::{Note, Notes};
+use jc_registry::Aid;
 use jc_words::{FuseStore, StoreDown, WordStore};
 use jcard_why::cuts::told_of_cut;
 use jcard_why::explanation::{Asked, told};
@@ -128,6 +129,17 @@ impl<S: WordStore> CardOrStore<S> {
         match self {
             CardOrStore::Card(card) => card.budget(),
             CardOrStore::Store(_, budget) => *budget,
+        }
+    }
+
+    /// The AID of the applet that is selected; nothing where none is, or where there is no card.
+    pub(crate) fn selected_aid(&self) -> Option<Aid>
+        requires up { IsUp self.now }
+        ensures { result ≡ selected_in (state_of_card self.now) }
+    {
+        match self {
+            CardOrStore::Card(card) => card.selected_aid(),
+            CardOrStore::Store(_, _) => None,
         }
     }
 

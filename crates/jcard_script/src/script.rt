@@ -4,7 +4,7 @@ ghost use Rattle.std.specs.Bool.{OnTrue};
 ghost use Rattle.std.specs.Io.KnownBytes.{Appends, Consumes};
 ghost use Rattle.jc_words.specs.Count.{failures_after};
 ghost use Rattle.jc_words.specs.Refusals.{IsWithinFuse};
-ghost use Rattle.jcard_script.specs.Script.{Ends, EndsWithin, IsWholeScript, is_read_failed, is_write_failed};
+ghost use Rattle.jcard_script.specs.Script.{Ends, EndsSelecting, EndsWithin, IsWholeScript, is_read_failed, is_write_failed};
 
 use crate::explainer::{Explainer, Unasked};
 use crate::session::Session;
@@ -12,6 +12,7 @@ use crate::streams::{TextIn, TextOut};
 use jc_card::card::USUAL_BUDGET;
 use jc_card::power_up::PowerFault;
 use jc_memory::Notes;
+use jc_registry::Aid;
 use jc_words::{FuseStore, WordStore};
 use jcard_why::explanation::Wanted;
 use std::alloc::{AllocError, Global};
@@ -95,16 +96,48 @@ pub fn run_script_explained<S: WordStore + Drop, R: TextIn, W: TextOut, E: Expla
     // Its fuse let no more writes pass than it was set to.
     ensures within { IsWithinFuse result.0.passed result.0.refusals.fuse }
 {
+    let (store, result, _selected) = run_script_selecting(
+        alloc, fuse, budget, reader, writer, explainer,
+    );
+    (store, result)
+}
+
+/// The same, with the AID of the applet that is selected at the end; nothing where none is, or the card is down.
+pub fn run_script_selecting<S: WordStore + Drop, R: TextIn, W: TextOut, E: Explainer>(
+    alloc: Global,
+    fuse: FuseStore<S>,
+    budget: u32,
+    reader: &mut R,
+    writer: &mut W,
+    explainer: &mut E,
+) -> (FuseStore<S>, Result<(), ScriptFault>, Option<Aid>)
+    ensures script { (script text : List ℕ) × (at_end : Bool)
+        × Consumes (R.remaining reader.old) (R.remaining reader.new) script
+        × Appends (W.contents writer.old) (W.contents writer.new) text
+        × OnTrue at_end (IsWholeScript (R.remaining reader.new) script)
+        × EndsSelecting budget result.1 fuse result.0 at_end script text result.2 }
+    ensures reads { R.failures reader.new ≡ failures_after (R.failures reader.old)
+        (is_read_failed result.1) }
+    ensures writes { W.failures writer.new ≡ failures_after (W.failures writer.old)
+        (is_write_failed result.1) }
+    // Its fuse let no more writes pass than it was set to.
+    ensures within { IsWithinFuse result.0.passed result.0.refusals.fuse }
+{
     let notes = notes_for(alloc, explainer.wanted());
     if let Some(watch) = explainer.watch() {
         watch.follow(notes.share());
     }
     let (mut session, started) = Session::start(alloc, fuse, budget, notes);
     if let Err(fault) = started {
-        return (session.into_store(), Err(ScriptFault::PowerFault(fault)));
+        return (
+            session.into_store(),
+            Err(ScriptFault::PowerFault(fault)),
+            None,
+        );
     }
     let result = session.run(reader, writer, explainer);
-    (session.into_store(), result)
+    let selected = session.selected_aid();
+    (session.into_store(), result, selected)
 }
 
 // Notes that are kept where somebody wants to know of them and there is memory.

@@ -13,7 +13,7 @@ ghost use Rattle.jcard_script.specs.Script.{EndsFrom, IsAnswered, IsWholeScript,
 ghost use Rattle.jcard_script.specs.Script.{is_write_failed, ended_lines};
 ghost use Rattle.jc_session.specs.Power.{Off, budget_of};
 ghost use Rattle.jc_session.specs.Requests.{Command, Reset};
-ghost use Rattle.jcard_script.specs.ScriptStates.{ScriptState, IsSessionStore, PowersUp, FailsUp, FailsReset, with_fuse};
+ghost use Rattle.jcard_script.specs.ScriptStates.{ScriptState, IsSessionStore, PowersUp, FailsUp, FailsReset, selected_in, with_fuse};
 ghost use Rattle.jcard_script.specs.Session.{EndsLine, StandsAt, IsUnbroken, IsWrittenOut, LineEnds, LineFails, LinesEnd};
 
 use crate::card_or_store::{CardOrStore, ToldOf};
@@ -29,6 +29,7 @@ use arrayvec::ArrayVec;
 use jc_card::power_up::PowerFault;
 use jc_card::response::Response;
 use jc_memory::Notes;
+use jc_registry::Aid;
 use jc_words::{FuseStore, WordStore};
 use memchr::memchr;
 use std::alloc::Global;
@@ -88,6 +89,17 @@ impl<S: WordStore + Drop> Session<S> {
             cut_number: 0,
         };
         (session, started)
+    }
+
+    /// The AID of the applet that is selected; nothing where none is, or the card is down.
+    pub(crate) fn selected_aid(&self) -> Option<Aid>
+        requires { IsState self.now.held }
+        ensures { result ≡ selected_in (state_of_held self.now.held) }
+    {
+        match &self.held {
+            Some(held) => held.selected_aid(),
+            None => None,
+        }
     }
 
     /// The store of the card, without power. Its fuse let no more writes pass than it was set to.

@@ -21,8 +21,8 @@ use Rattle.jcard_files.specs.FileDeeds.{FileDeed}
 use Rattle.jcard_sweeps.specs.Joinings.{AreBodiesJoinedTo, AreFirstRead, AreJoinedBy, AreRead, AreUnread, IsJoinTold, IsJoinedTo, IsJoining, IsOtherTold, told_join_fault}
 use Rattle.jcard_files.specs.Readings.{IsUnread, IsScriptRead}
 use Rattle.jcard_sweeps.specs.Tears.{IsReported}
-use Rattle.jcard_faults.specs.declared.fault.Fault.{Fault}
-use Rattle.jcard_faults.specs.declared.fault.Fault.TheVariants.{NoMemory, NotAllOrNothing, WriteFailed}
+use Rattle.jcard_files.specs.declared.fault.Fault.{Fault}
+use Rattle.jcard_files.specs.declared.fault.Fault.TheVariants.{NoMemory, NotAllOrNothing, WriteFailed}
 
 -- files that could not be read are not joined
 pub unread_joining : (names : List (List ℕ)) (fault : Fault) (deeds : List FileDeed)

@@ -10,9 +10,9 @@ use Rattle.jcard_outcomes.specs.declared.part.Share.{Share}
 use Rattle.jcard_sweeps.specs.Tears.{AreAllWhole, EndsUntold, IsShareTold, IsTextTold}
 use Rattle.jc_card.specs.declared.power_up.PowerFault.{PowerFault}
 use Rattle.jc_card.specs.declared.power_up.PowerFault.TheVariants.{BadMagic, BadVersion, BadSize, BadLog, BadTable, BadPackage, StoreDown, NoMemory}
-use Rattle.jcard_faults.specs.ScriptFaults.{IsUnpowered}
-use Rattle.jcard_faults.specs.Faults.{is_unwritten}
-use Rattle.jcard_faults.specs.declared.fault.Fault.{Fault}
+use Rattle.jcard_files.specs.ScriptFaults.{IsUnpowered}
+use Rattle.jcard_files.specs.Faults.{is_unwritten}
+use Rattle.jcard_files.specs.declared.fault.Fault.{Fault}
 
 -- no write failed where a card does not power up
 pub unpowered_unwritten : (image : List ℕ) (cause : PowerFault) (fault : Fault) → IsUnpowered image cause fault → is_unwritten (Err fault) ≡ false

@@ -20,8 +20,8 @@ use Rattle.jcard_script.specs.Texts.{IsCutOf}
 use Rattle.jcard_files.specs.FileDeeds.{FileDeed}
 use Rattle.jcard_files.specs.Readings.{IsUnread, IsScriptRead}
 use Rattle.jcard_sweeps.specs.Tears.{IsReported}
-use Rattle.jcard_faults.specs.declared.fault.Fault.{Fault}
-use Rattle.jcard_faults.specs.declared.fault.Fault.TheVariants.{BadCut, BadShare, CutMissing, CutTwice, NoMemory, NotAllOrNothing, OtherPart, OtherSweep, ShareMissing, ShareTwice, WriteFailed}
+use Rattle.jcard_files.specs.declared.fault.Fault.{Fault}
+use Rattle.jcard_files.specs.declared.fault.Fault.TheVariants.{BadCut, BadShare, CutMissing, CutTwice, NoMemory, NotAllOrNothing, OtherPart, OtherSweep, ShareMissing, ShareTwice, WriteFailed}
 
 -- these texts were read from the files with these names, in their order
 abbrev pub AreRead : List (List ℕ) → List (List ℕ) → List FileDeed → Type 0

@@ -4,9 +4,9 @@ use Rattle.jcard_script.specs.declared.script.ScriptFault.{ScriptFault}
 use Rattle.jcard_script.specs.declared.script.ScriptFault.TheVariants as script
 use Rattle.jcard_tear.specs.declared.tearing.TearFault.{TearFault}
 use Rattle.jcard_tear.specs.declared.tearing.TearFault.TheVariants as tear
-use Rattle.jcard_faults.specs.ScriptFaults.{IsUnpowered}
-use Rattle.jcard_faults.specs.declared.fault.Fault.{Fault}
-use Rattle.jcard_faults.specs.declared.fault.Fault.TheVariants.{BadCommand, BadProbeCommand, Down, NoMemory, ProbeTooLong, ScriptTooLong, TooManyCuts}
+use Rattle.jcard_files.specs.ScriptFaults.{IsUnpowered}
+use Rattle.jcard_files.specs.declared.fault.Fault.{Fault}
+use Rattle.jcard_files.specs.declared.fault.Fault.TheVariants.{BadCommand, BadProbeCommand, Down, NoMemory, ProbeTooLong, ScriptTooLong, TooManyCuts}
 
 -- what is reported where lines were not carried out in memory over the image with this name, where a text is read and written as long as
 -- there is memory

@@ -18,8 +18,8 @@ use Rattle.jcard_tear.specs.declared.script_lines.ScriptLine.{ScriptLine}
 use Rattle.jcard_files.specs.Readings.{IsScriptRead, IsUnread}
 use Rattle.jcard_files.specs.FileDeeds.{FileDeed, ClosesImage, ReadsImage, untouched}
 use Rattle.jcard_files.specs.Images.{IsNotOpened}
-use Rattle.jcard_faults.specs.declared.fault.Fault.{Fault}
-use Rattle.jcard_faults.specs.declared.fault.Fault.TheVariants.{BadPart, NoCommand, NoMemory, NotAllOrNothing, WriteFailed}
+use Rattle.jcard_files.specs.declared.fault.Fault.{Fault}
+use Rattle.jcard_files.specs.declared.fault.Fault.TheVariants.{BadPart, NoCommand, NoMemory, NotAllOrNothing, WriteFailed}
 use Rattle.jcard_sweeps.specs.TearFaults.{IsTearFault}
 use Rattle.jcard_tear.specs.Faults.{IsLineUncut, IsOneUncut, told_run_fault}
 use Rattle.jcard_tear.specs.Runs.{IsCarriedThrough, IsRunFault}

@@ -3,13 +3,13 @@ ghost use Rattle.std.specs.Prelude.{◌≡◌, ◌⊎◌, ◌<◌, ℕ, List, Er
 ghost use Rattle.std.specs.Borrow.{Bor};
 ghost use Rattle.std.specs.Io.KnownBytes.{Appends};
 ghost use Rattle.jc_words.specs.Count.{failures_after};
-ghost use Rattle.jcard_faults.specs.Faults.{is_unwritten};
+ghost use Rattle.jcard_files.specs.Faults.{is_unwritten};
 ghost use Rattle.jcard_files.specs.FileDeeds.{FileDeed};
 ghost use Rattle.jcard_outcomes.specs.SweepHeads.{AreOfOthers};
 ghost use Rattle.jcard_sweeps.specs.Joinings.{AreBodiesJoinedTo, AreFirstRead, AreRead, AreJoinedBy, AreSharesJoinedTo, AreUnread, IsJoinTold, IsJoinedTo, IsJoining, IsOtherTold, told_join_fault, told_share_fault};
 
-use jcard_faults::fault::Fault;
 use jcard_files::disk::Disk;
+use jcard_files::fault::Fault;
 use jcard_files::reading::script_of;
 use jcard_outcomes::command_shares::join_shares;
 use jcard_outcomes::join::{Joined, join};

@@ -1,7 +1,7 @@
 //! Remarks on lines of a script and of a probe that have no form.
 
 use itoa::Buffer;
-use jcard_faults::remarks::Remarks;
+use jcard_files::remarks::Remarks;
 use jcard_script::refused_line::{LineFault, refusal_of, told_fault};
 use jcard_script::script::ScriptFault;
 use jcard_tear::runs::RunFault;

@@ -1,11 +1,11 @@
 //! What is told where commands were not cut.
 ghost use Rattle.std.specs.Prelude.{◌≡◌, Err, false};
-ghost use Rattle.jcard_faults.specs.Faults.{is_unwritten};
+ghost use Rattle.jcard_files.specs.Faults.{is_unwritten};
 ghost use Rattle.jcard_sweeps.specs.TearFaults.{IsFaultInMemory, IsProbeFaultInMemory, IsTearFault};
 ghost use Rattle.jcard_tear.specs.Faults.{told_run_fault};
 
-use jcard_faults::fault::Fault;
-use jcard_faults::script_fault::{Names, power_up_fault};
+use jcard_files::fault::Fault;
+use jcard_files::script_fault::{Names, power_up_fault};
 use jcard_script::script::ScriptFault;
 use jcard_tear::runs::RunFault;
 use jcard_tear::tearing::TearFault;

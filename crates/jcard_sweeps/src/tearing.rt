@@ -3,7 +3,7 @@ ghost use Rattle.std.specs.Prelude.{◌≡◌, ◌++◌, ◌⊎◌, ◌+◌, ◌
 ghost use Rattle.std.specs.Borrow.{Bor};
 ghost use Rattle.std.specs.Io.KnownBytes.{Appends};
 ghost use Rattle.jc_words.specs.Count.{failures_after};
-ghost use Rattle.jcard_faults.specs.Faults.{is_unwritten};
+ghost use Rattle.jcard_files.specs.Faults.{is_unwritten};
 ghost use Rattle.jcard_files.specs.FileDeeds.{FileDeed};
 ghost use Rattle.jcard_sweeps.specs.Tears.{AreReported, AreTornOf, AreTornThrough, EndsUntold, IsImageRead, IsImageUnread, IsLineNumber, IsMeantBy, IsProbeRead, IsProbeUnread, IsProbed, IsReported};
 ghost use Rattle.jcard_sweeps.specs.Tears.{AreAllTorn, IsShareCut, IsShareCutAs, IsShareTold, IsShareTorn, IsTear, IsTearOver, commands_in, share_size, IsTornEach, IsTornIn, IsTornOne};
@@ -15,12 +15,12 @@ ghost use Rattle.jcard_outcomes.specs.Reports.{report_text, verdicts_text};
 
 use crate::remarking::{remark_on_probe, remark_on_script};
 use crate::tear_faults::{run_fault, tear_fault};
-use jcard_faults::fault::Fault;
-use jcard_faults::remarks::Remarks;
-use jcard_faults::script_fault::Names;
 use jcard_files::closed_store::ClosedStore;
 use jcard_files::disk::Disk;
+use jcard_files::fault::Fault;
 use jcard_files::reading::script_of;
+use jcard_files::remarks::Remarks;
+use jcard_files::script_fault::Names;
 use jcard_outcomes::command_shares::share_lines;
 use jcard_outcomes::each::{LineSweep, are_all_or_nothing, verdicts};
 use jcard_outcomes::part::{Part, Share, part_lines, share_of};

@@ -1,5 +1,5 @@
 -- Lists of commands that were cut.
-use Rattle.std.proofs.Common.{◌≡◌, ◌∙◌, ℕ, suc, add-one, drop, drop-cons, append_assoc, append-nil, false, true, Bool, ◌+◌, ◌<◌, ◌≤◌, List, [], ◌∷◌, ◌++◌, Option, length, get_or, take, map, ap, sym, subst}
+use Rattle.std.proofs.Common.{◌≡◌, ◌∙◌, ℕ, suc, add-one, drop, drop-cons, append_assoc, append-nil, false, true, Bool, ◌+◌, ◌<◌, ◌≤◌, List, [], ◌∷◌, ◌++◌, Option, length, get_or, take, map, ap, sym, subst, inl, inr}
 use Rattle.std.proofs.lemmas.List.{map-append, take_more}
 use Rattle.jcard_outcomes.specs.declared.each.LineSweep.{LineSweep}
 use Rattle.jcard_tear.specs.ScriptLines.{Line, line_of}
@@ -46,10 +46,11 @@ swept_next words given behind lines i d sweeps next s h a t e =
 -- the card is down at the command in a line
 pub down_outcome : (words : List ℕ) (given : Option (List ℕ)) (behind : Behind) (l : Line) → IsLineUncut words given behind l 1 DownAt
     → IsLineOutcome words given behind l Down
-down_outcome words given behind l h =
+down_outcome words given behind l (inl h) = absurd h
+down_outcome words given behind l (inr h) =
     let c = h.0 in
     let is = h.5 in
-    let runs = subst (λ (b : Behind). Runs b.instructions words (c.before.now ++ c.line.now) is.0 is.1) h.4 is.2 in
+    let runs = subst (λ (b : Behind). Runs b.instructions words (c.before.now ++ c.line.now) is.0 is.1) h.3 is.2 in
     (is.0, is.1, subst (λ t. Runs behind.instructions words t is.0 is.1) (ap (λ t. t ++ c.line.now) h.1 ∙ ap (λ t. l.before ++ t) h.2) runs, is.3)
 
 -- ---- the text of a command

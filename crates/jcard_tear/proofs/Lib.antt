@@ -2,7 +2,6 @@ pub mod WholeRuns
 pub mod CutLists
 pub mod EachSwept
 pub mod Lines
-pub mod Selects
 pub mod CutRecoveries
 pub mod Powers
 pub mod Fuses

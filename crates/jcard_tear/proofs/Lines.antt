@@ -3,7 +3,7 @@ use Rattle.std.proofs.Common.{◌≡◌, ◌∙◌, ◌⊎◌, ◌==◌, inl, in
 use Rattle.std.proofs.Common.{take, drop, ap, sym, refl, arith, eq-eqb, take-add, Some, None}
 use Rattle.std.proofs.lemmas.Bool.{ne_eqb}
 use Rattle.std.proofs.lemmas.List.{drop-drop, drop_all, drop_more, get_or-drop, length-drop}
-use Rattle.jcard_tear.specs.ScriptLines.{commands_from, first_numbered, is_command, selected_behind, selected_by, whole_lines, with_first}
+use Rattle.jcard_tear.specs.ScriptLines.{commands_from, first_numbered, is_command, whole_lines, with_first}
 use Rattle.jcard_tear.specs.declared.script_lines.ScriptLine.{ScriptLine}
 
 -- the byte at a place is a line feed
@@ -118,16 +118,3 @@ number_passed n all i d h e = ap (first_numbered n) (drop_more all i d h)
 pub number_missing : (n : ℕ) (all : List ScriptLine) (i : ℕ) → length all ≤ i → first_numbered n (drop i all) ≡ None
 unfolding first_numbered
 number_missing n all i h = ap (first_numbered n) (drop_all i all h)
-
--- what is selected from a line on: what that line leaves in force, after the lines that follow
-pub selected_next : (script found : List ℕ) (start end : ℕ) → start < end → end ≤ length script
-    → ((i : ℕ) → start ≤ i → i + 1 < end → is_feed script i → ⊥) → (end ≡ length script) ⊎ is_feed script (end - 1)
-    → selected_by found (whole_lines (drop start script))
-    ≡ selected_by (selected_behind found (take (end - start) (drop start script))) (whole_lines (drop end script))
-unfolding selected_by
-selected_next script found start end after within plain ends = ap (selected_by found) (next_line script start end after within plain ends)
-
--- no line is left
-pub selected_last : (script found : List ℕ) (start : ℕ) → length script ≤ start → selected_by found (whole_lines (drop start script)) ≡ found
-unfolding selected_by whole_lines
-selected_last script found start h = ap (λ d. selected_by found (whole_lines d)) (drop_all start script h)

@@ -4,7 +4,7 @@ use Rattle.std.proofs.Math.Nat.{mul-suc, suc-mul}
 use Rattle.jc_objects.specs.declared.image_objects.ImageObjects.{ImageObjects}
 use Rattle.jcard_outcomes.specs.declared.standing.Cut.{Cut}
 use Rattle.jcard_outcomes.specs.declared.standing.Left.{Left}
-use Rattle.jcard_tear.specs.Faults.{IsCarriedOut, IsCutPast, IsImageFault, IsLeftFault, IsLogFault, IsProbeFault, IsScriptFor, IsUncutFor, told_probe_fault, told_run_fault}
+use Rattle.jcard_tear.specs.Faults.{IsCarriedOut, IsCutPast, IsImageFault, IsLeftFault, IsLogFault, IsProbeFault, IsScriptFor, IsUnbegun, IsUncutFor, told_probe_fault, told_run_fault}
 use Rattle.jcard_tear.specs.Parts.{AreEvery}
 use Rattle.jc_words.specs.Stores.{FuseStoreValue}
 use Rattle.jcard_tear.specs.Runs.{IsRunFault, Runs}
@@ -24,6 +24,16 @@ pub run_uncut : (words : List ℕ) (c : Command) (step : ℕ) (script : List ℕ
     → IsRunFault c.behind.instructions words script cause → fault ≡ told_run_fault cause → IsUncutFor words c step fault
 run_uncut words c step script run.NoMemory fault for is e = memory_uncut words c step fault e
 run_uncut words c step script (run.Script x) fault for is e = subst (λ (f : TearFault). IsUncutFor words c step f) (sym e) (script, for, is)
+
+-- the script before a line was not
+pub run_unbegun : (budget : ℕ) (words before : List ℕ) (cause : RunFault) (fault : TearFault) → IsRunFault budget words before cause
+    → fault ≡ told_run_fault cause → IsUnbegun budget words before fault
+run_unbegun budget words before run.NoMemory fault is e = subst (IsUnbegun budget words before) (sym e) tt
+run_unbegun budget words before (run.Script x) fault is e = subst (IsUnbegun budget words before) (sym e) is
+
+-- memory was refused
+pub memory_unbegun : (budget : ℕ) (words before : List ℕ) (fault : TearFault) → fault ≡ NoMemory → IsUnbegun budget words before fault
+memory_unbegun budget words before fault e = subst (IsUnbegun budget words before) (sym e) tt
 
 -- a recovery or the probe after it was not
 pub probe_uncut : (words : List ℕ) (c : Command) (step : ℕ) (fault : TearFault) → IsCarriedOut words c

@@ -5,7 +5,7 @@ use Rattle.jcard_outcomes.specs.declared.recoveries.Recoveries.{Recoveries}
 use Rattle.jcard_outcomes.specs.declared.standing.Left.{Left}
 use Rattle.jcard_tear.specs.Runs.{IsRunFault, Runs}
 use Rattle.jcard_tear.specs.ScriptLines.{Line}
-use Rattle.jcard_tear.specs.Sweeps.{IsCutAt, cut_script, probe_of}
+use Rattle.jcard_tear.specs.Sweeps.{IsCutAt, IsProbe, cut_script}
 use Rattle.jc_card.specs.declared.power_up.PowerFault.TheVariants.{BadLog, BadPackage}
 use Rattle.jcard_script.specs.declared.script.ScriptFault.TheVariants.{PowerFault}
 use Rattle.jcard_tear.specs.declared.cuts.Behind.{Behind}
@@ -71,10 +71,17 @@ IsUncutFor words c step (Probe fault) = IsCarriedOut words c × IsProbeFault c.b
 IsUncutFor words c step Down = (text : List ℕ) × (after : FuseStoreValue) × Runs c.behind.instructions words (c.before.now ++ c.line.now) text after × (after.down ≡ true)
 IsUncutFor words c step TooManyCuts = IsCutPast words c step
 
+-- memory was refused, or the script before a line was not carried out to its end
+abbrev pub IsUnbegun : ℕ → List ℕ → List ℕ → TearFault → Type 0
+IsUnbegun budget words before NoMemory = Unit {0}
+IsUnbegun budget words before (Script fault) = IsRunFault budget words before (run.Script fault)
+IsUnbegun budget words before other = ⊥
+
 -- the same of the command in a line, after whose cuts this was to come
 abbrev pub IsLineUncut : List ℕ → Option (List ℕ) → Behind → Line → ℕ → TearFault → Type 0
-IsLineUncut words given behind l step fault = (c : Command) × (c.before.now ≡ l.before) × (c.line.now ≡ l.text) × (c.probe.now ≡ probe_of given l.before)
-    × (c.behind ≡ behind) × IsUncutFor words c step fault
+IsLineUncut words given behind l step fault = IsUnbegun behind.instructions words l.before fault
+    ⊎ ((c : Command) × (c.before.now ≡ l.before) × (c.line.now ≡ l.text) × (c.behind ≡ behind)
+    × IsProbe behind.instructions words given l.before c.probe.now × IsUncutFor words c step fault)
 
 -- one of the commands in these lines was not cut after each of its writes; or memory was refused for them
 abbrev pub IsOneUncut : List ℕ → Option (List ℕ) → Behind → List Line → TearFault → Type 0

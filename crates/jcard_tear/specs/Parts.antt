@@ -6,7 +6,7 @@ use Rattle.jcard_outcomes.specs.declared.standing.Cut.{Cut}
 use Rattle.jcard_outcomes.specs.declared.standing.Left.{Left}
 use Rattle.jcard_tear.specs.Names.{sweep_name}
 use Rattle.jcard_tear.specs.ScriptLines.{Line}
-use Rattle.jcard_tear.specs.Sweeps.{IsBegun, IsMeasured, IsToldCut, IsUncutAt, probe_of}
+use Rattle.jcard_tear.specs.Sweeps.{IsBegun, IsMeasured, IsProbe, IsToldCut, IsUncutAt}
 use Rattle.jcard_tear.specs.declared.cuts.Behind.{Behind}
 use Rattle.jcard_tear.specs.declared.cuts.Command.{Command}
 
@@ -29,5 +29,5 @@ pub record IsPartSwept (words : List ℕ) (c : Command) (first n : ℕ) (p : Par
 
 -- a part of the cuts of the command in this line, after which this was to come
 abbrev pub IsLinePart : List ℕ → Option (List ℕ) → Behind → Line → ℕ → ℕ → Part → Type 0
-IsLinePart words given behind l first n p = (c : Command) × (c.before.now ≡ l.before) × (c.line.now ≡ l.text) × (c.probe.now ≡ probe_of given l.before)
-    × (c.behind ≡ behind) × IsPartSwept words c first n p
+IsLinePart words given behind l first n p = (c : Command) × (c.before.now ≡ l.before) × (c.line.now ≡ l.text) × (c.behind ≡ behind)
+    × IsProbe behind.instructions words given l.before c.probe.now × IsPartSwept words c first n p

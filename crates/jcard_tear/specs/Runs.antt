@@ -1,11 +1,11 @@
 -- Scripts that are run on cards in memory.
-use Rattle.std.specs.Prelude.{ℕ, ◌≡◌, Bool, true, false, List, ◌++◌, Ok, Err}
+use Rattle.std.specs.Prelude.{ℕ, ◌≡◌, Bool, true, false, List, ◌++◌, Option, Ok, Err}
 use Rattle.jc_words.specs.Refusals.{no_refusals}
 use Rattle.jc_words.specs.Stores.{FuseStoreValue}
 use Rattle.jc_commit.specs.Image.{plain_of, recovered_of}
 use Rattle.jc_commit.specs.Migration.{migrated}
 use Rattle.jcard_outcomes.specs.declared.standing.Left.{Left}
-use Rattle.jcard_script.specs.Script.{EndsWithin}
+use Rattle.jcard_script.specs.Script.{EndsSelecting, EndsWithin}
 use Rattle.jcard_tear.specs.declared.runs.Ran.{Ran}
 use Rattle.jcard_tear.specs.declared.runs.RunFault.{RunFault}
 use Rattle.jcard_tear.specs.declared.runs.RunFault.TheVariants.{NoMemory, Script}
@@ -29,6 +29,11 @@ abbrev pub IsRunFault : ℕ → List ℕ → List ℕ → RunFault → Type 0
 IsRunFault budget words script NoMemory = Unit {0}
 IsRunFault budget words script (Script fault) = (read rest text : List ℕ) × (at_end : Bool) × (after : FuseStoreValue) × (script ≡ read ++ rest)
     × EndsWithin budget (Err fault) (store_of words) after at_end read text
+
+-- it was, and then this applet is selected, by its AID, if one is
+abbrev pub IsSelectedBy : ℕ → List ℕ → List ℕ → Option (List ℕ) → Type 0
+IsSelectedBy budget words script selected = (text : List ℕ) × (after : FuseStoreValue)
+    × EndsSelecting budget (Ok tt) (store_of words) after true script text selected
 
 -- a power up over these words leaves this heap, and after it a card gives the lines of the probe these answers
 abbrev pub IsLeft : ℕ → List ℕ → List ℕ → Left → Type 0

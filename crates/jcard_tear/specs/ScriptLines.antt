@@ -1,7 +1,6 @@
 -- The lines of a script, and which of them are commands.
-use Rattle.std.specs.Prelude.{ℕ, ◌+◌, ◌-◌, ◌==◌, ◌||◌, Bool, false, List, [], ◌∷◌, ◌++◌, codes, length, if◌then◌else◌, Option, Some, None, slice_get}
-use Rattle.std.specs.Char.{is_ascii_hexdigit, to_ascii_uppercase}
-use Rattle.std.specs.List.{starts_with}
+use Rattle.std.specs.Prelude.{ℕ, ◌+◌, ◌-◌, ◌==◌, ◌||◌, Bool, false, List, [], ◌∷◌, ◌++◌, length, if◌then◌else◌, Option, Some, None, slice_get}
+use Rattle.std.specs.Char.{is_ascii_hexdigit}
 use Rattle.jcard_tear.specs.declared.script_lines.ScriptLine.{ScriptLine}
 
 -- a line of a script: its number, counted from 1, what stands before it, and it, with the line feed that ends it
@@ -58,27 +57,3 @@ first_numbered n (line ∷ more) = if line.number == n then Some line else first
 abbrev pub chosen : Option ℕ → List ScriptLine → Option ScriptLine
 chosen None all = slice_get all (length all - 1)
 chosen (Some n) all = first_numbered n all
-
--- ---- what a script selects
-
--- a line without its spaces, in capital letters
-unfoldable pub solid : List ℕ → List ℕ
-solid [] = []
-solid (x ∷ xs) = if x == 32 then solid xs else to_ascii_uppercase x ∷ solid xs
-
--- a text begins with this one
-abbrev pub begins : List ℕ → List ℕ → Bool
-begins text first = starts_with (λ a b. a == b) text first
-
--- the line that selects an applet by its name and is in force after a line, if this one was before it: a reset ends it
-abbrev pub selected_behind : List ℕ → List ℕ → List ℕ
-selected_behind found line = if begins line (codes "reset") then [] else (if begins (solid line) (codes "00A40400") then line else found)
-
--- after these lines
-unfoldable pub selected_by : List ℕ → List (List ℕ) → List ℕ
-selected_by found [] = found
-selected_by found (line ∷ more) = selected_by (selected_behind found line) more
-
--- the last line of a script that selects an applet by its name, if no reset follows
-abbrev pub last_select : List ℕ → List ℕ
-last_select script = selected_by [] (whole_lines script)

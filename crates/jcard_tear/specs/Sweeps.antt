@@ -1,5 +1,6 @@
 -- A command of a script that is cut after each number of its word writes.
 use Rattle.std.specs.Prelude.{ℕ, ◌≡◌, ◌+◌, ◌-◌, ◌<◌, ◌≤◌, ◌≢◌, ◌⊎◌, true, false, List, [], ◌∷◌, ◌++◌, codes, decimal, drop, take, length, slice_index, Option, Some, None}
+use Rattle.hex.specs.Hex.{encode_upper}
 use Rattle.jc_words.specs.Stores.{FuseStoreValue}
 use Rattle.jc_objects.specs.Pins.{AreTriesIn}
 use Rattle.jc_objects.specs.declared.image_objects.ImageObjects.{ImageObjects}
@@ -13,8 +14,8 @@ use Rattle.jcard_outcomes.specs.declared.each.LineOutcome.TheVariants.{Down, Swe
 use Rattle.jcard_outcomes.specs.declared.each.LineSweep.{LineSweep}
 use Rattle.jcard_outcomes.specs.declared.report.Sweep.{Sweep}
 use Rattle.jcard_tear.specs.Recoveries.{AreRecoveries}
-use Rattle.jcard_tear.specs.Runs.{IsLeft, Runs}
-use Rattle.jcard_tear.specs.ScriptLines.{Line, command_text, last_select}
+use Rattle.jcard_tear.specs.Runs.{IsLeft, IsSelectedBy, Runs}
+use Rattle.jcard_tear.specs.ScriptLines.{Line, command_text}
 use Rattle.jcard_tear.specs.Told.{AreObjectsAsked, IsTold}
 use Rattle.jcard_tear.specs.declared.cuts.Behind.{Behind}
 use Rattle.jcard_tear.specs.declared.cuts.Command.{Command}
@@ -82,15 +83,20 @@ pub record IsSwept (words : List ℕ) (c : Command) (s : Sweep) : Type 0 where
 
 -- ---- the commands of a script
 
--- the lines of a probe: those that are given, or else the one before the command that selects an applet
-abbrev pub probe_of : Option (List ℕ) → List ℕ → List ℕ
-probe_of (Some given) before = given
-probe_of None before = last_select before
+-- the line of the command that selects the applet with this AID; nothing where there is none
+abbrev pub select_line : Option (List ℕ) → List ℕ
+select_line None = []
+select_line (Some aid) = codes "00A40400" ++ encode_upper (length aid ∷ []) ++ encode_upper aid ++ codes "\n"
+
+-- the lines of a probe: those that are given, or else the SELECT of the applet that is selected before the command
+abbrev pub IsProbe : ℕ → List ℕ → Option (List ℕ) → List ℕ → List ℕ → Type 0
+IsProbe budget words (Some given) before probe = probe ≡ given
+IsProbe budget words None before probe = (selected : Option (List ℕ)) × IsSelectedBy budget words before selected × (probe ≡ select_line selected)
 
 -- the command in this line was cut, and this came after each cut
 abbrev pub IsLineSwept : List ℕ → Option (List ℕ) → Behind → Line → Sweep → Type 0
-IsLineSwept words given behind l sweep = (c : Command) × (c.before.now ≡ l.before) × (c.line.now ≡ l.text) × (c.probe.now ≡ probe_of given l.before)
-    × (c.behind ≡ behind) × IsSwept words c sweep
+IsLineSwept words given behind l sweep = (c : Command) × (c.before.now ≡ l.before) × (c.line.now ≡ l.text) × (c.behind ≡ behind)
+    × IsProbe behind.instructions words given l.before c.probe.now × IsSwept words c sweep
 
 -- the command in this line was cut, or the card is down at it
 abbrev pub IsLineOutcome : List ℕ → Option (List ℕ) → Behind → Line → LineOutcome → Type 0

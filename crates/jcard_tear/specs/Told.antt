@@ -2,7 +2,7 @@
 use Rattle.std.specs.Prelude.{ℕ, ◌≡◌, ◌++◌, Bool, true, false, List, Option, Some, None}
 use Rattle.jc_objects.specs.ImageObjects.{AreObjectsOf}
 use Rattle.jc_objects.specs.declared.image_objects.ImageObjects.{ImageObjects}
-use Rattle.jcard_objects.specs.Changes.{AreChangesTold}
+use Rattle.jc_objects.specs.Changes.{AreChangesTold}
 use Rattle.jcard_outcomes.specs.declared.standing.Left.{Left}
 
 -- these objects, if any, are those of an image

@@ -4,18 +4,19 @@ ghost use Rattle.std.specs.Borrow.{Bor};
 ghost use Rattle.jcard_tear.specs.declared.tearing.TearFault.TheVariants.{NoMemory};
 ghost use Rattle.jcard_tear.specs.Faults.{IsLineUncut, IsOneUncut};
 ghost use Rattle.jcard_tear.specs.ScriptLines.{command_text, is_blank, line_of};
-ghost use Rattle.jcard_tear.specs.Sweeps.{AreSwept, IsLineOutcome, IsLineSwept, IsLineTold, probe_of};
+ghost use Rattle.jcard_tear.specs.Sweeps.{AreSwept, IsLineOutcome, IsLineSwept, IsLineTold};
 
 use crate::cuts::{Behind, Command};
+use crate::probes::probe_for;
 use crate::progress::Progress;
-use crate::script_lines::{ScriptLine, last_select};
+use crate::script_lines::ScriptLine;
 use crate::tearing::{TearFault, tear};
 use jcard_outcomes::each::{LineOutcome, LineSweep};
 use jcard_outcomes::report::Sweep;
 use std::alloc::{AllocError, Global};
 
-/// Cuts the command in a line, with these lines of a probe after each cut; or, where none are given, with the last SELECT
-/// before it, and what else is to come after a cut.
+/// Cuts the command in a line, with these lines of a probe after each cut; or, where none are given, with the SELECT of the applet
+/// that is selected before it, and what else is to come after a cut.
 pub fn tear_line<P: Progress>(
     alloc: Global,
     words: &[u16],
@@ -31,10 +32,11 @@ pub fn tear_line<P: Progress>(
         (option_map (λ (text : Bor (List ℕ)). text.now) probe.entry) behind (line_of line.entry) 1
         fault) }
 {
+    let probe = probe_for(alloc, words, probe, line.before, behind.instructions)?;
     let command = Command {
         before: line.before,
         line: line.line,
-        probe: probe_for(probe, line.before),
+        probe: &probe,
         behind,
     };
     tear(alloc, words, command, progress)
@@ -131,17 +133,6 @@ fn is_blank(byte: u8) -> bool
     ensures { result ≡ is_blank byte }
 {
     byte == b' ' || byte == b'\n' || byte == b'\r'
-}
-
-// The lines of the probe of a command that stands after this text.
-pub(crate) fn probe_for<'a>(probe: Option<&'a [u8]>, before: &'a [u8]) -> &'a [u8]
-    ensures { result.now ≡ probe_of (option_map (λ (text : Bor (List ℕ)). text.now) probe.entry)
-        before.now }
-{
-    match probe {
-        Some(text) => text,
-        None => last_select(before),
-    }
 }
 
 fn push_sweep(sweeps: &mut Vec<LineSweep>, sweep: LineSweep) -> Result<(), TearFault>

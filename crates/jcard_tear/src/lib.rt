@@ -6,6 +6,7 @@ pub mod each;
 pub mod kept_text;
 pub mod names;
 pub mod parts;
+mod probes;
 pub mod progress;
 mod recoveries;
 pub mod runs;

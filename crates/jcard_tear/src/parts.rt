@@ -8,8 +8,8 @@ ghost use Rattle.jcard_tear.specs.Sweeps.{IsUncutAt};
 ghost use Rattle.jcard_tear.specs.Told.{AreOfImage};
 
 use crate::cuts::{Behind, Command, MOST, cut_at, push_cut, told_cut};
-use crate::each::probe_for;
 use crate::names::sweep_name;
+use crate::probes::probe_for;
 use crate::progress::Progress;
 use crate::script_lines::ScriptLine;
 use crate::tearing::{TearFault, begun, done, joined, tries_in};
@@ -21,7 +21,7 @@ use jcard_outcomes::standing::{Cut, Left};
 use std::alloc::Global;
 
 /// Cuts the command in a line after `first` writes, and each `step`-th number after it. After each cut come these lines of a
-/// probe; or, where none are given, the last SELECT before the command, and what else is to come after a cut.
+/// probe; or, where none are given, the SELECT of the applet that is selected before the command, and what else is to come after a cut.
 pub fn tear_line_part<P: Progress>(
     alloc: Global,
     words: &[u16],
@@ -40,10 +40,11 @@ pub fn tear_line_part<P: Progress>(
         (line_of line.entry) step fault) }
     ensures below { IfOk result (λ part. part.first + part.step * length part.sweep.cuts.items < 65536) }
 {
+    let probe = probe_for(alloc, words, probe, line.before, behind.instructions)?;
     let command = Command {
         before: line.before,
         line: line.line,
-        probe: probe_for(probe, line.before),
+        probe: &probe,
         behind,
     };
     tear_part(alloc, words, command, first, step, progress)

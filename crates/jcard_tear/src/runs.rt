@@ -2,7 +2,7 @@
 ghost use Rattle.std.specs.Prelude.{◌≡◌, ◌<◌, length, vec_len, IfOk, MatchResult};
 ghost use Rattle.jcard_tear.specs.declared.runs.RunFault.TheVariants.{NoMemory};
 ghost use Rattle.jcard_tear.specs.Faults.{IsLeftFault, IsLogFault};
-ghost use Rattle.jcard_tear.specs.Runs.{HasRun, IsCarriedThrough, IsLeft, IsRunFault};
+ghost use Rattle.jcard_tear.specs.Runs.{HasRun, IsCarriedThrough, IsLeft, IsRunFault, IsSelectedBy};
 ghost use Rattle.jc_commit.specs.Image.{plain_of, recovered_of};
 ghost use Rattle.jc_commit.specs.Migration.{migrated};
 
@@ -10,10 +10,12 @@ use crate::kept_text::KeptText;
 use crate::watched::{WatchedStore, Watcher};
 use jc_card::power_up::PowerFault;
 use jc_commit::Journal;
+use jc_registry::Aid;
 use jc_words::{FuseStore, MemStore, WordStore};
 use jcard_outcomes::standing::Left;
+use jcard_script::explainer::Unasked;
 use jcard_script::mem_text::MemText;
-use jcard_script::script::{ScriptFault, run_script_explained};
+use jcard_script::script::{ScriptFault, run_script_explained, run_script_selecting};
 use std::alloc::{AllocError, Global};
 
 /// The entries of a journal cannot be taken back, or two of them name the same word, as no transaction leaves them.
@@ -163,6 +165,37 @@ pub fn carried_through(
     match run_copy(alloc, words, script, budget) {
         Ok(_ran) => Ok(()),
         Err(fault) => Err(fault),
+    }
+}
+
+/// The AID of the applet that is selected after a script was carried out on the card of a copy of these words; nothing where none is.
+pub(crate) fn selected_by(
+    alloc: Global,
+    words: &[u16],
+    script: &[u8],
+    budget: u32,
+) -> Result<Option<Aid>, RunFault>
+    requires { length words.now < 65536 }
+    ensures { MatchResult result
+        (λ selected. IsSelectedBy budget words.now script.now selected)
+        (λ fault. IsRunFault budget words.now script.now fault) }
+{
+    let copy = Vec::from_slice(alloc, words)?;
+    let mut reader = MemText::new(alloc, script, 0)?;
+    let mut writer = KeptText::new(alloc);
+    let store = FuseStore::new(MemStore::of(copy));
+    let (_store, ended, selected) = run_script_selecting(
+        alloc,
+        store,
+        budget,
+        &mut reader,
+        &mut writer,
+        &mut Unasked,
+    );
+    match ended {
+        Ok(()) => Ok(selected),
+        Err(ScriptFault::WriteFailed) => Err(RunFault::NoMemory),
+        Err(fault) => Err(RunFault::Script(fault)),
     }
 }
 

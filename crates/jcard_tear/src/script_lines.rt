@@ -1,11 +1,8 @@
-//! The lines of a script: which of them are commands, and which selects an applet.
-ghost use Rattle.std.specs.Prelude.{◌≡◌, ◌≢◌, ◌⊎◌, ◌+◌, ◌-◌, ◌<◌, ◌≤◌, ◌++◌, ◌∷◌, [], ℕ, codes, map, length, slice_index, IfOk, OnOk};
-ghost use Rattle.jcard_tear.specs.ScriptLines.{begins, chosen, commands_of, first_numbered, is_command, last_select, line_of, solid};
+//! The lines of a script, and which of them are commands.
+ghost use Rattle.std.specs.Prelude.{◌≡◌, ◌≢◌, ◌⊎◌, ◌+◌, ◌-◌, ◌<◌, ◌≤◌, ◌++◌, ◌∷◌, [], ℕ, map, length, slice_index, IfOk, OnOk};
+ghost use Rattle.jcard_tear.specs.ScriptLines.{chosen, commands_of, first_numbered, is_command, line_of};
 
 use std::alloc::{AllocError, Global};
-
-/// The digits with which a command begins that selects an applet by its name.
-const SELECT: [u8; 8] = *b"00A40400";
 
 /// A line of a script: its number, counted from 1 with all lines, the text before it, and it, with its line feed.
 #[derive(Clone, Copy, Drop)]
@@ -60,25 +57,6 @@ fn with_number<'a>(commands: &[ScriptLine<'a>], number: usize) -> Option<ScriptL
     None
 }
 
-/// The last line that selects an applet by its name, after the last reset; an empty text where there is none.
-pub fn last_select(script: &[u8]) -> &[u8]
-    ensures { result.now ≡ last_select script.now }
-{
-    let mut found = &script[..0];
-    let mut start = 0;
-    while start < script.len() {
-        let end = line_end(script, start);
-        let line = &script[start..end];
-        if line.starts_with(b"reset") {
-            found = &script[..0];
-        } else if is_select(line) {
-            found = line;
-        }
-        start = end;
-    }
-    found
-}
-
 // Where the line ends that starts here, after its line feed.
 fn line_end(script: &[u8], start: usize) -> usize
     requires { start < length script.now }
@@ -102,29 +80,6 @@ fn is_command(line: &[u8]) -> bool
         [first, ..] => *first == b' ' || first.is_ascii_hexdigit(),
         [] => false,
     }
-}
-
-// Whether a line selects an applet by its name: spaces, and small letters, say the same.
-fn is_select(line: &[u8]) -> bool
-    ensures { result ≡ begins (solid line.now) (codes "00A40400") }
-{
-    let mut matched = 0;
-    for byte in line {
-        if matched == SELECT.len() {
-            return true;
-        }
-        if *byte == b' ' {
-            continue;
-        }
-        if byte.to_ascii_uppercase() != SELECT[matched] {
-            return false;
-        }
-        matched += 1;
-    }
-    if matched == SELECT.len() {
-        return true;
-    }
-    false
 }
 
 fn push_line<'a>(found: &mut Vec<ScriptLine<'a>>, line: ScriptLine<'a>) -> Result<(), AllocError>

@@ -5,8 +5,8 @@ ghost use Rattle.jcard_tear.specs.Faults.{IsImageFault};
 ghost use Rattle.jcard_tear.specs.Told.{AreObjectsAsked, AreOfImage, IsTold};
 
 use crate::tearing::{DAMAGED, TearFault};
+use jc_objects::changes::push_changes;
 use jc_objects::image_objects::{ImageFault, ImageObjects, objects_of};
-use jcard_objects::changes::push_changes;
 use jcard_outcomes::standing::Left;
 use std::alloc::{AllocError, Global};
 

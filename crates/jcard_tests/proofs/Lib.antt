@@ -1,2 +1,11 @@
-pub mod RowTests
+pub mod CardSteps
+pub mod Compared
+pub mod Fitting
+pub mod Items
+pub mod NamedTables
+pub mod Numbering
+pub mod Paths
 pub mod Planned
+pub mod Reports
+pub mod RowTests
+pub mod Said

@@ -1,13 +1,13 @@
 -- Cards that are planned.
 use Rattle.std.proofs.Common.{◌≡◌, ℕ, List, Result, Ok, Err, Option, Some, None, false, refl, ap, subst, sym, inl, inr}
 use Rattle.std.specs.Prelude.{All, IfSome, MatchOption, MatchResult}
-use Rattle.jcard_rows.specs.Cards.{AreCardsOf}
-use Rattle.jcard_rows.specs.declared.card_rows.CardRows.{CardRows}
-use Rattle.jcard_rows.specs.declared.numbered.Numbered.{Numbered}
-use Rattle.jcard_rows.specs.declared.outcome.Tested.{Tested}
-use Rattle.jcard_faults.specs.declared.fault.Fault.{Fault}
+use Rattle.jcard_tests.specs.Cards.{AreCardsOf}
+use Rattle.jcard_tests.specs.declared.card_rows.CardRows.{CardRows}
+use Rattle.jcard_tests.specs.declared.numbered.Numbered.{Numbered}
+use Rattle.jcard_tests.specs.declared.outcome.Tested.{Tested}
+use Rattle.jcard_files.specs.declared.fault.Fault.{Fault}
 use Rattle.jcard_tests.specs.Tests.{AreAnswered, IsOutcome, IsPlanFor, IsReading, IsUnanswered}
-use Rattle.jcard_faults.specs.Faults.{is_unwritten}
+use Rattle.jcard_files.specs.Faults.{is_unwritten}
 use Rattle.jcard_files.specs.FileDeeds.{FileDeed}
 use Rattle.jcard_images.specs.UsualTables.{IsNoPlatform, IsPlatform}
 use Rattle.jcard_tests.specs.Plans.{IsUnplanned, table_asked}

@@ -12,39 +12,39 @@ use Rattle.std.specs.Borrow.{Bor}
 use Rattle.std.proofs.lemmas.List.{drop_all, get_or_default, length-map, length-take, map-append, take_all, take_more}
 use Rattle.std.proofs.lemmas.List.Elements.{All-append}
 use Rattle.std.proofs.lemmas.Bool.{cases_lt}
-use Rattle.jcard_rows.proofs.Items.{drop_at}
+use Rattle.jcard_tests.proofs.Items.{drop_at}
 use Rattle.std.specs.String.{string_bytes}
-use Rattle.jcard_rows.specs.Cards.{AreCardsOf}
-use Rattle.jcard_rows.specs.Lines.{Says}
-use Rattle.jcard_rows.specs.Unrolled.{IsLineOf, IsUnrolled}
-use Rattle.jcard_rows.specs.declared.line.Line.{Line}
-use Rattle.jcard_rows.specs.declared.line.Line.TheVariants.{Include}
-use Rattle.jcard_rows.specs.Outcomes.{AllAnswered, IsFirstFailure}
-use Rattle.jcard_rows.specs.Rows.{script_text}
-use Rattle.jcard_rows.specs.declared.card_rows.CardRows.{CardRows}
-use Rattle.jcard_rows.specs.declared.numbered.Numbered.{Numbered}
-use Rattle.jcard_rows.specs.declared.outcome.Failure.{Failure}
-use Rattle.jcard_rows.specs.declared.outcome.Outcome.{Outcome}
-use Rattle.jcard_rows.specs.declared.outcome.Outcome.TheVariants.{Held, Failed}
-use Rattle.jcard_rows.specs.declared.outcome.Tested.{Tested}
-use Rattle.jcard_rows.specs.Junit.{junit_text}
-use Rattle.jcard_rows.specs.NamedTables.{IsNamed}
-use Rattle.jcard_rows.specs.declared.row.Row.{Row}
-use Rattle.jcard_rows.specs.declared.table_line.TableLine.{TableLine}
+use Rattle.jcard_tests.specs.Cards.{AreCardsOf}
+use Rattle.jcard_tests.specs.Lines.{Says}
+use Rattle.jcard_tests.specs.Unrolled.{IsLineOf, IsUnrolled}
+use Rattle.jcard_tests.specs.declared.line.Line.{Line}
+use Rattle.jcard_tests.specs.declared.line.Line.TheVariants.{Include}
+use Rattle.jcard_tests.specs.Outcomes.{AllAnswered, IsFirstFailure}
+use Rattle.jcard_tests.specs.Rows.{script_text}
+use Rattle.jcard_tests.specs.declared.card_rows.CardRows.{CardRows}
+use Rattle.jcard_tests.specs.declared.numbered.Numbered.{Numbered}
+use Rattle.jcard_tests.specs.declared.outcome.Failure.{Failure}
+use Rattle.jcard_tests.specs.declared.outcome.Outcome.{Outcome}
+use Rattle.jcard_tests.specs.declared.outcome.Outcome.TheVariants.{Held, Failed}
+use Rattle.jcard_tests.specs.declared.outcome.Tested.{Tested}
+use Rattle.jcard_tests.specs.Junit.{junit_text}
+use Rattle.jcard_tests.specs.NamedTables.{IsNamed}
+use Rattle.jcard_tests.specs.declared.row.Row.{Row}
+use Rattle.jcard_tests.specs.declared.table_line.TableLine.{TableLine}
 use Rattle.jcard_files.specs.Operands.{IsNoOperand}
 use Rattle.jcard_files.specs.declared.operand.Operand.{Operand}
 use Rattle.jc_words.specs.Stores.{FuseStoreValue, MemStoreValue}
 use Rattle.jcard_script.specs.Script.{EndsWithin}
 use Rattle.jcard_script.specs.declared.script.ScriptFault.{ScriptFault}
-use Rattle.jcard_faults.specs.Faults.{is_unwritten}
+use Rattle.jcard_files.specs.Faults.{is_unwritten}
 use Rattle.jcard_files.specs.FileDeeds.{FileDeed, ReadsText, WritesText, fresh_store}
 use Rattle.jcard_files.specs.Images.{IsNotRead, IsUnwritten}
 use Rattle.jcard_images.specs.NewImages.{IsNewImageInMemoryOf}
 use Rattle.jcard_files.specs.Readings.{IsUnread, IsScriptRead}
-use Rattle.jcard_tests.specs.Tests.{AreAnswered, AreAnsweredOn, AreCut, AreCutWell, EndsOn, IsFile, IsFileBehind, IsFileOf, IsJunit, IsNewCard, IsPlanFor, IsCutWell, IsToldOf, IsToldOfLine, IsTornFailure, AreIncluded, AreTested, IsFilePlace, IsPlace, IsPrinted, AreNoFileLines, IsNoRowsText, IsNoText, IsNotIncluded, IsOneUntested, IsReading, IsRowsText, IsTested, IsUnanswered, IsUntested, lacked_memory, rows_operand}
+use Rattle.jcard_tests.specs.Tests.{AreAnswered, AreAnsweredOn, AreCut, AreCutWell, EndsOn, IsFile, IsFileBehind, IsFileOf, IsKeptIn, IsNewCard, IsPlanFor, IsCutWell, IsToldOf, IsToldOfLine, IsTornFailure, AreIncluded, AreTested, IsFilePlace, IsPlace, IsPrinted, AreNoFileLines, IsNoRowsText, IsNoText, IsNotIncluded, IsOneUntested, IsReading, IsRowsText, IsTested, IsUnanswered, IsUntested, files_read, lacked_memory, operands_read, rows_operand}
 use Rattle.jcard_tests.specs.declared.plan.Plan.{Plan}
-use Rattle.jcard_faults.specs.declared.fault.Fault.{Fault}
-use Rattle.jcard_faults.specs.declared.fault.Fault.TheVariants.{BadTable, CannotRead, ImageTooSmall, NoMemory, WriteFailed}
+use Rattle.jcard_files.specs.declared.fault.Fault.{Fault}
+use Rattle.jcard_files.specs.declared.fault.Fault.TheVariants.{BadTable, CannotRead, ImageTooSmall, NoMemory, WriteFailed}
 
 -- a text that is read up to one byte more than it may have
 pub whole_text : (known : Option (List ℕ)) (text : List ℕ) → IfSome known (λ bytes. text ≡ take 16777217 bytes) → length text ≤ 16777216
@@ -336,33 +336,47 @@ pub file_pushed : (r : Result (Unit {0}) Fault) (p : Plan) (name : List ℕ) (ol
 file_pushed (Ok done) p name old new file deeds t e refused = (file, t, e)
 file_pushed (Err f) p name old new file deeds t e refused = inr (p, subst (λ x. IsUnanswered p x) (sym refused) tt)
 
--- the place of a name among the files of a command
-place_same : (files : List (Bor (List ℕ))) (name : List ℕ) → position_or_len (λ (o : Operand). bytes_eq o.name.now name) (map rows_operand files)
-    ≡ position_or_len (λ (f : List ℕ). bytes_eq f name) (names_of files)
+-- the names of files that a command reads
+abbrev names_in : List Operand → List (List ℕ)
+names_in operands = map (λ (o : Operand). o.name.now) operands
+
+-- the place of a name among them
+place_same : (operands : List Operand) (name : List ℕ) → position_or_len (λ (o : Operand). bytes_eq o.name.now name) operands
+    ≡ position_or_len (λ (f : List ℕ). bytes_eq f name) (names_in operands)
 place_same [] name = refl
-place_same (x ∷ xs) name = ap (λ (n : ℕ). cond (not (bytes_eq x.now name)) (1 + n) 0) (place_same xs name)
+place_same (x ∷ xs) name = ap (λ (n : ℕ). cond (not (bytes_eq x.name.now name)) (1 + n) 0) (place_same xs name)
 
--- none of these files is named so
-pub no_file : (files : List (Bor (List ℕ))) (name : List ℕ) → IsNoOperand name (map rows_operand files)
-    → position (λ (f : List ℕ). bytes_eq f name) (names_of files) ≡ None
-no_file files name none =
-    let long : length (names_of files) ≡ length (map rows_operand files) = length-map files (λ (b : Bor (List ℕ)). b.now) ∙ sym (length-map files rows_operand) in
-    ap₂ (λ (n l : ℕ). cond (nat_lt n l) (Some n) None) (sym (place_same files name)) long ∙ none
+-- none of them is named so
+no_operand : (operands : List Operand) (name : List ℕ) → IsNoOperand name operands
+    → position (λ (f : List ℕ). bytes_eq f name) (names_in operands) ≡ None
+no_operand operands name none =
+    ap₂ (λ (n l : ℕ). cond (nat_lt n l) (Some n) None) (sym (place_same operands name)) (length-map operands (λ (o : Operand). o.name.now)) ∙ none
 
--- the report for build servers
-pub junit_kept : (r : Result (Unit {0}) Fault) (files : List (Bor (List ℕ))) (operands : List Operand) (name text : List ℕ) (ts : List Tested)
-    → operands ≡ map rows_operand files → text ≡ junit_text ts → IfOk r (λ _. IsNoOperand name operands) → IfErr r (λ f. IsUnwritten name f)
-    → IsJunit (names_of files) name ts r (WritesText name text r ∷ [])
-junit_kept (Ok done) files operands name text ts named is spared refused = (
-  no_file files name (subst (λ (os : List Operand). IsNoOperand name os) named spared),
-  ap (λ (t : List ℕ). WritesText name t (Ok tt) ∷ []) is,
+names_of_rows : (files : List (Bor (List ℕ))) → names_in (map rows_operand files) ≡ names_of files
+names_of_rows [] = refl
+names_of_rows (x ∷ xs) = ap (λ (l : List (List ℕ)). x.now ∷ l) (names_of_rows xs)
+
+-- those of the files of rows, and of the platform table
+names_of_read : (files : List (Bor (List ℕ))) (table : Option (Bor (List ℕ)))
+    → names_in (operands_read files table) ≡ files_read (names_of files) (option_map (λ (b : Bor (List ℕ)). b.now) table)
+names_of_read files None = names_of_rows files
+names_of_read files (Some t) = map-append (λ (o : Operand). o.name.now) (map rows_operand files) _ ∙ ap (λ (l : List (List ℕ)). l ++ t.now ∷ []) (names_of_rows files)
+
+-- bytes that were written to a file beside these
+pub kept_in : (r : Result (Unit {0}) Fault) (files : List (Bor (List ℕ))) (table : Option (Bor (List ℕ))) (operands : List Operand) (name bytes : List ℕ)
+    → operands ≡ operands_read files table → IfOk r (λ _. IsNoOperand name operands) → IfErr r (λ f. IsUnwritten name f)
+    → IsKeptIn (files_read (names_of files) (option_map (λ (b : Bor (List ℕ)). b.now) table)) name bytes r (WritesText name bytes r ∷ [])
+kept_in (Ok done) files table operands name bytes named spared refused = (
+  subst (λ (names : List (List ℕ)). position (λ (f : List ℕ). bytes_eq f name) names ≡ None) (ap names_in named ∙ names_of_read files table)
+      (no_operand operands name spared),
+  refl,
 )
-junit_kept (Err f) files operands name text ts named is spared refused = inr (refused, ap (λ (t : List ℕ). WritesText name t (Err f) ∷ []) is)
+kept_in (Err f) files table operands name bytes named spared refused = inr (refused, refl)
 
 unwritten_fault : (fault : Fault) (name : List ℕ) → IsUnwritten name fault → is_unwritten (Err fault) ≡ false
 unwritten_fault WriteFailed name h = absurd h
 unwritten_fault other name h = refl
 
-pub junit_unwritten : (r : Result (Unit {0}) Fault) (name : List ℕ) → IfErr r (λ f. IsUnwritten name f) → is_unwritten r ≡ false
-junit_unwritten (Ok done) name h = refl
-junit_unwritten (Err f) name h = unwritten_fault f name h
+pub kept_unwritten : (r : Result (Unit {0}) Fault) (name : List ℕ) → IfErr r (λ f. IsUnwritten name f) → is_unwritten r ≡ false
+kept_unwritten (Ok done) name h = refl
+kept_unwritten (Err f) name h = unwritten_fault f name h

@@ -1,2 +1,14 @@
+pub mod Answers
+pub mod Cards
+pub mod Comparing
+pub mod Escapes
+pub mod Junit
+pub mod Lines
+pub mod NamedTables
+pub mod Outcomes
 pub mod Plans
+pub mod Reports
+pub mod Rows
+pub mod Seconds
 pub mod Tests
+pub mod Unrolled

@@ -4,8 +4,8 @@ use Rattle.std.specs.Borrow.{Bor}
 use Rattle.jcard_files.specs.FileDeeds.{FileDeed}
 use Rattle.jcard_images.specs.NewImages.{IsJournalCapacity, IsWordCount}
 use Rattle.jcard_images.specs.UsualTables.{IsNoPlatform, IsPlatform}
-use Rattle.jcard_faults.specs.declared.fault.Fault.{Fault}
-use Rattle.jcard_faults.specs.declared.fault.Fault.TheVariants.{BadJournal, BadWords}
+use Rattle.jcard_files.specs.declared.fault.Fault.{Fault}
+use Rattle.jcard_files.specs.declared.fault.Fault.TheVariants.{BadJournal, BadWords}
 use Rattle.jcard_tests.specs.declared.asked.Asked.{Asked}
 use Rattle.jcard_tests.specs.declared.plan.Plan.{Plan}
 

@@ -1,5 +1,5 @@
 -- `jcard test`: what is read, which cards are given it, and what is reported of them.
-use Rattle.std.specs.Prelude.{ℕ, ◌≡◌, position, ◌==◌, if◌then◌else◌, option_map, ◌≤◌, ◌<◌, ◌⊎◌, ◌+◌, Any, All, Bool, true, false, List, [], ◌∷◌, ◌++◌, codes, length, min, Option, Some, None, IfSome}
+use Rattle.std.specs.Prelude.{ℕ, ◌≡◌, map, position, ◌==◌, if◌then◌else◌, option_map, ◌≤◌, ◌<◌, ◌⊎◌, ◌+◌, Any, All, Bool, true, false, List, [], ◌∷◌, ◌++◌, codes, length, min, Option, Some, None, IfSome}
 use Rattle.std.specs.Prelude.{Result, Ok, Err, slice_index_or, take}
 use Rattle.std.specs.Str.{IsUtf8, bytes_eq}
 use Rattle.std.specs.String.{string_bytes}
@@ -12,40 +12,40 @@ use Rattle.jcard_script.specs.Script.{EndsWithin}
 use Rattle.jcard_script.specs.Texts.{IsCutOf}
 use Rattle.jcard_script.specs.declared.script.ScriptFault.{ScriptFault}
 use Rattle.jcard_script.specs.declared.script.ScriptFault.TheVariants.{PowerFault as NotPoweredUp, WriteFailed as NotWritten}
-use Rattle.jcard_rows.specs.Cards.{AreCardsOf}
-use Rattle.jcard_rows.specs.Junit.{junit_text}
-use Rattle.jcard_rows.specs.Lines.{Says}
-use Rattle.jcard_rows.specs.Outcomes.{AllAnswered, IsFirstFailure}
-use Rattle.jcard_rows.specs.Reports.{failed_of, report_text}
+use Rattle.jcard_tests.specs.Cards.{AreCardsOf}
+use Rattle.jcard_tests.specs.Junit.{junit_text}
+use Rattle.jcard_tests.specs.Lines.{Says}
+use Rattle.jcard_tests.specs.Outcomes.{AllAnswered, IsFirstFailure}
+use Rattle.jcard_tests.specs.Reports.{failed_of, report_text}
 use Rattle.jcard_outcomes.specs.Reports.{broken_by_calls, broken_told, first_broken}
 use Rattle.jcard_outcomes.specs.declared.report.Sweep.{Sweep}
 use Rattle.jcard_tear.specs.ScriptLines.{Line}
 use Rattle.jcard_tear.specs.Sweeps.{IsLineSwept, nothing_more}
-use Rattle.jcard_rows.specs.Rows.{line_text, script_text}
-use Rattle.jcard_rows.specs.NamedTables.{IsNamed, IsUnnamed}
-use Rattle.jcard_rows.specs.Unrolled.{AreLinesOf, IsBeside, IsLineOf, IsUnrolled}
-use Rattle.jcard_rows.specs.declared.card_rows.CardRows.{CardRows}
-use Rattle.jcard_rows.specs.declared.line.Line.{Line as RowLine}
-use Rattle.jcard_rows.specs.declared.line.Line.TheVariants.{Include}
-use Rattle.jcard_rows.specs.declared.numbered.Numbered.{Numbered}
-use Rattle.jcard_rows.specs.declared.outcome.Failure.{Failure}
-use Rattle.jcard_rows.specs.declared.outcome.Outcome.{Outcome}
-use Rattle.jcard_rows.specs.declared.outcome.Outcome.TheVariants.{NoRow, Held, Failed}
-use Rattle.jcard_rows.specs.declared.outcome.Tested.{Tested}
-use Rattle.jcard_rows.specs.declared.row.Row.{Row}
-use Rattle.jcard_rows.specs.declared.table_line.TableLine.{TableLine}
+use Rattle.jcard_tests.specs.Rows.{line_text, script_text}
+use Rattle.jcard_tests.specs.NamedTables.{IsNamed, IsUnnamed}
+use Rattle.jcard_tests.specs.Unrolled.{AreLinesOf, IsBeside, IsLineOf, IsUnrolled}
+use Rattle.jcard_tests.specs.declared.card_rows.CardRows.{CardRows}
+use Rattle.jcard_tests.specs.declared.line.Line.{Line as RowLine}
+use Rattle.jcard_tests.specs.declared.line.Line.TheVariants.{Include}
+use Rattle.jcard_tests.specs.declared.numbered.Numbered.{Numbered}
+use Rattle.jcard_tests.specs.declared.outcome.Failure.{Failure}
+use Rattle.jcard_tests.specs.declared.outcome.Outcome.{Outcome}
+use Rattle.jcard_tests.specs.declared.outcome.Outcome.TheVariants.{NoRow, Held, Failed}
+use Rattle.jcard_tests.specs.declared.outcome.Tested.{Tested}
+use Rattle.jcard_tests.specs.declared.row.Row.{Row}
+use Rattle.jcard_tests.specs.declared.table_line.TableLine.{TableLine}
 use Rattle.jcard_files.specs.declared.operand.Operand.{Operand}
 use Rattle.jcard_files.specs.FileDeeds.{FileDeed, ReadsText, WritesText, fresh_store}
 use Rattle.jcard_files.specs.Images.{IsUnwritten}
 use Rattle.jcard_files.specs.Readings.{IsRead, IsScriptRead, IsUnread}
 use Rattle.jcard_images.specs.NewImages.{IsNewImageOf}
-use Rattle.jcard_faults.specs.declared.fault.FileKind.TheVariants.{Rows}
-use Rattle.jcard_faults.specs.declared.fault.Fault.{Fault}
-use Rattle.jcard_tests.specs.Plans.{IsPlanned, IsUnplanned}
+use Rattle.jcard_files.specs.declared.fault.FileKind.TheVariants.{Rows, Table}
+use Rattle.jcard_files.specs.declared.fault.Fault.{Fault}
+use Rattle.jcard_tests.specs.Plans.{IsPlanned, IsUnplanned, table_asked}
 use Rattle.jcard_tests.specs.declared.asked.Asked.{Asked}
 use Rattle.jcard_tests.specs.declared.plan.Plan.{Plan}
-use Rattle.jcard_faults.specs.declared.fault.Fault.TheVariants.{BadTable, CannotInclude, CannotRead, ImageTooSmall, NoMemory, RowsFailed, ScriptTooLong}
-use Rattle.jcard_faults.specs.declared.fault.Fault.TheVariants.{WriteFailed}
+use Rattle.jcard_files.specs.declared.fault.Fault.TheVariants.{BadTable, CannotInclude, CannotRead, ImageTooSmall, NoMemory, RowsFailed, ScriptTooLong}
+use Rattle.jcard_files.specs.declared.fault.Fault.TheVariants.{WriteFailed}
 
 -- ---- files
 
@@ -114,9 +114,9 @@ IsPrinted p words script text = (w read rest : List ℕ) × (carried : Result Un
 abbrev pub IsBrokenTold : Sweep → List ℕ → Type 0
 IsBrokenTold sweep told = (k : ℕ) × (first_broken 0 sweep.cuts.items ≡ Some k) × (told ≡ broken_told (broken_by_calls sweep.cuts.items) k)
 
--- what is reported of a line that is cut after each number of its writes, over these words, with the last SELECT before it as the probe and so
--- many instructions a command: nothing where each cut left what was before or what comes after; else the first that did not, or that it
--- could not be cut
+-- what is reported of a line that is cut after each number of its writes, over these words, with the SELECT of what is selected before it as
+-- the probe and at most this many instructions a command: nothing where each cut left what was before or what comes after; else the first that
+-- did not, or that it could not be cut
 abbrev pub IsToldOfLine : ℕ → List ℕ → Line → Option (List ℕ) → Type 0
 IsToldOfLine budget w l None = (sweep : Sweep) × IsLineSwept w None (nothing_more budget) l sweep × (first_broken 0 sweep.cuts.items ≡ None)
 IsToldOfLine budget w l (Some told) = ((sweep : Sweep) × IsLineSwept w None (nothing_more budget) l sweep × IsBrokenTold sweep told) ⊎ (told ≡ codes "not cut")
@@ -261,12 +261,34 @@ IsVerdict ts (Ok done) = failed_of ts ≡ 0
 IsVerdict ts (Err RowsFailed) = 0 < failed_of ts
 IsVerdict ts (Err other) = ⊥
 
--- the report for build servers was written to the file with this name, which is none of these; or memory was refused for it, and no file was
--- asked for; or it could not be written
+-- these bytes were written to the file with this name, which is none of these; or memory was refused for it, and no file was asked for; or
+-- they could not be written
+abbrev pub IsKeptIn : List (List ℕ) → List ℕ → List ℕ → Result Unit Fault → List FileDeed → Type 0
+IsKeptIn names name bytes (Ok done) deeds = (position (λ (file : List ℕ). bytes_eq file name) names ≡ None) × (deeds ≡ WritesText name bytes (Ok tt) ∷ [])
+IsKeptIn names name bytes (Err fault) deeds = ((fault ≡ NoMemory) × (deeds ≡ []))
+    ⊎ (IsUnwritten name fault × (deeds ≡ WritesText name bytes (Err fault) ∷ []))
+
+-- the files that a command reads: those with these names, and its platform table, if it names one
+abbrev pub files_read : List (List ℕ) → Option (List ℕ) → List (List ℕ)
+files_read names None = names
+files_read names (Some table) = names ++ table ∷ []
+
+-- the name of the report for build servers that was asked for
+abbrev pub junit_asked : Asked → Option (List ℕ)
+junit_asked a = option_map (λ (name : Bor (List ℕ)). name.now) a.junit
+
+-- the file with this name was emptied, if one is named, and is none of these; or it could not be
+abbrev pub IsEmptied : List (List ℕ) → Option (List ℕ) → Result Unit Fault → List FileDeed → Type 0
+IsEmptied names None begun deeds = (begun ≡ Ok tt) × (deeds ≡ [])
+IsEmptied names (Some name) begun deeds = IsKeptIn names name [] begun deeds
+
+-- the file of the report for build servers was emptied, if one was asked for: it is none of those that the command reads
+abbrev pub IsJunitBegun : List (List ℕ) → Asked → Result Unit Fault → List FileDeed → Type 0
+IsJunitBegun names a begun deeds = IsEmptied (files_read names (table_asked a)) (junit_asked a) begun deeds
+
+-- the report for build servers was written to the file with this name, or it could not be
 abbrev pub IsJunit : List (List ℕ) → List ℕ → List Tested → Result Unit Fault → List FileDeed → Type 0
-IsJunit names name ts (Ok done) deeds = (position (λ (file : List ℕ). bytes_eq file name) names ≡ None) × (deeds ≡ WritesText name (junit_text ts) (Ok tt) ∷ [])
-IsJunit names name ts (Err fault) deeds = ((fault ≡ NoMemory) × (deeds ≡ []))
-    ⊎ (IsUnwritten name fault × (deeds ≡ WritesText name (junit_text ts) (Err fault) ∷ []))
+IsJunit names name ts ended deeds = IsKeptIn names name (junit_text ts) ended deeds
 
 -- so it was, if a file was named for it
 abbrev pub IsKept : List (List ℕ) → Option (List ℕ) → List Tested → Result Unit Fault → List FileDeed → Type 0
@@ -282,17 +304,31 @@ IsTold names ts junit ended text deeds = ((ended ≡ Err NoMemory) × (text ≡ 
 
 -- the rows of the files with these names were answered by cards as planned, and that was reported; or those of one were not, and nothing was
 -- written. Until then texts were read, and no file was asked for in another way
-abbrev pub IsTestBy : Plan → List (List ℕ) → Option (List ℕ) → Result Unit Fault → List ℕ → List FileDeed → Type 0
-IsTestBy p names junit ended text deeds = (reads more : List FileDeed) × (deeds ≡ reads ++ more) × All IsReading reads
+abbrev pub IsTestOn : Plan → List (List ℕ) → Option (List ℕ) → Result Unit Fault → List ℕ → List FileDeed → Type 0
+IsTestOn p names junit ended text deeds = (reads more : List FileDeed) × (deeds ≡ reads ++ more) × All IsReading reads
     × (((fault : Fault) × (ended ≡ Err fault) × IsOneUntested names fault reads × (text ≡ []) × (more ≡ []))
     ⊎ ((ts : List Tested) × AreTested p names ts reads × IsTold names ts junit ended text more))
+
+-- so they were after the file of the report for build servers was emptied; or nothing was done, where it could not be
+abbrev pub IsTestAfter : Plan → List (List ℕ) → Option (List ℕ) → Result Unit Fault → Result Unit Fault → List ℕ → List FileDeed → Type 0
+IsTestAfter p names junit (Ok done) ended text deeds = IsTestOn p names junit ended text deeds
+IsTestAfter p names junit (Err fault) ended text deeds = (ended ≡ Err fault) × (text ≡ []) × (deeds ≡ [])
+
+-- that file was emptied, if one was asked for, and then the rows were answered
+abbrev pub IsTestBy : Plan → List (List ℕ) → Asked → Result Unit Fault → List ℕ → List FileDeed → Type 0
+IsTestBy p names a ended text deeds = (begun : Result Unit Fault) × (begins more : List FileDeed) × (deeds ≡ begins ++ more)
+    × IsJunitBegun names a begun begins × IsTestAfter p names (junit_asked a) begun ended text more
 
 -- so they were by the cards that were asked for; or no card can be as it was asked for, and nothing was written
 abbrev pub IsTest : List (List ℕ) → Asked → Result Unit Fault → List ℕ → List FileDeed → Type 0
 IsTest names a ended text deeds = ((fault : Fault) × (ended ≡ Err fault) × IsUnplanned a fault deeds × (text ≡ []))
-    ⊎ ((p : Plan) × (first more : List FileDeed) × (deeds ≡ first ++ more) × IsPlanned a p first
-    × IsTestBy p names (option_map (λ (name : Bor (List ℕ)). name.now) a.junit) ended text more)
+    ⊎ ((p : Plan) × (first more : List FileDeed) × (deeds ≡ first ++ more) × IsPlanned a p first × IsTestBy p names a ended text more)
 
 -- a file of rows, as a file that the command names
 abbrev pub rows_operand : Bor (List ℕ) → Operand
 rows_operand name = record { name = name; kind = Rows }
+
+-- these files, and a platform table, if there is one, as files that the command names
+abbrev pub operands_read : List (Bor (List ℕ)) → Option (Bor (List ℕ)) → List Operand
+operands_read files None = map rows_operand files
+operands_read files (Some table) = map rows_operand files ++ record { name = table; kind = Table } ∷ []

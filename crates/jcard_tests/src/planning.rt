@@ -10,8 +10,8 @@ ghost use Rattle.jcard_tests.specs.Tests.{IsReading};
 use crate::asked::Asked;
 use crate::plan::Plan;
 use jc_words::layout::USUAL_CAPACITY;
-use jcard_faults::fault::Fault;
 use jcard_files::disk::Disk;
+use jcard_files::fault::Fault;
 use jcard_images::new_image::{journal_capacity, word_count};
 use jcard_images::usual_table::platform_of;
 

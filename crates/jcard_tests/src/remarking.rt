@@ -1,8 +1,8 @@
 //! Remarks on rows that have no form.
 
+use crate::outcome::{Failure, Outcome, Tested};
 use itoa::Buffer;
-use jcard_faults::remarks::Remarks;
-use jcard_rows::outcome::{Failure, Outcome, Tested};
+use jcard_files::remarks::Remarks;
 use jcard_script::refused_line::{LineFault, refusal_of, told_fault};
 use std::alloc::{AllocError, Global};
 

@@ -3,17 +3,17 @@ ghost use Rattle.std.specs.Prelude.{◌≡◌, ◌<◌, ◌++◌, ◌∷◌, [],
 ghost use Rattle.std.specs.String.{string_bytes};
 ghost use Rattle.jcard_files.specs.FileDeeds.{FileDeed};
 ghost use Rattle.jcard_tests.specs.Tests.{AreIncluded, AreNoFileLines, IsFile, IsFileBehind, IsFileOf, IsFilePlace, IsIncludeFault, IsNoRowsText, IsNoText, IsNotIncluded, IsPlace, IsReading, IsRowsText, IsTableBeside};
-ghost use Rattle.jcard_rows.specs.Unrolled.{IsLineOf, IsUnrolled};
-ghost use Rattle.jcard_rows.specs.declared.numbered.Numbered.{Numbered};
+ghost use Rattle.jcard_tests.specs.Unrolled.{IsLineOf, IsUnrolled};
+ghost use Rattle.jcard_tests.specs.declared.numbered.Numbered.{Numbered};
 
-use jcard_faults::fault::Fault;
+use crate::line::{Line, read_line};
+use crate::lines::{add_lines, beside, unroll};
+use crate::named_table::named_table;
+use crate::numbered::Numbered;
+use crate::table_line::TableLine;
 use jcard_files::disk::Disk;
+use jcard_files::fault::Fault;
 use jcard_files::reading::{script_of, text_of};
-use jcard_rows::line::{Line, read_line};
-use jcard_rows::lines::{add_lines, beside, unroll};
-use jcard_rows::named_table::named_table;
-use jcard_rows::numbered::Numbered;
-use jcard_rows::table_line::TableLine;
 use jcard_script::script::BOUND;
 use std::alloc::{AllocError, Global};
 

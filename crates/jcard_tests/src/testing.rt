@@ -3,36 +3,36 @@ ghost use Rattle.std.specs.Prelude.{◌≡◌, ◌++◌, ◌∷◌, [], ℕ, Lis
 ghost use Rattle.std.specs.Borrow.{Bor};
 ghost use Rattle.std.specs.Io.KnownBytes.{Appends};
 ghost use Rattle.jc_words.specs.Count.{failures_after};
-ghost use Rattle.jcard_faults.specs.Faults.{is_unwritten};
+ghost use Rattle.jcard_files.specs.Faults.{is_unwritten};
 ghost use Rattle.jcard_files.specs.FileDeeds.{FileDeed};
-ghost use Rattle.jcard_tests.specs.Tests.{AreAnswered, AreTested, IsJunit, IsKept, IsOneUntested, IsOutcome, IsPlanFor, IsReading, IsTest, IsTestBy, IsTested, IsTold, IsUnanswered, IsUntested, IsVerdict, rows_operand};
-ghost use Rattle.jcard_rows.specs.declared.outcome.Tested.{Tested};
+ghost use Rattle.jcard_tests.specs.Tests.{AreAnswered, AreTested, IsJunit, IsJunitBegun, IsKept, IsKeptIn, IsOneUntested, IsOutcome, IsPlanFor, IsReading, IsTest, IsTestBy, IsTestOn, IsTested, IsTold, IsUnanswered, IsUntested, IsVerdict, files_read, operands_read, rows_operand};
+ghost use Rattle.jcard_tests.specs.declared.outcome.Tested.{Tested};
 
 use crate::answering::outcome_of;
 use crate::asked::Asked;
+use crate::card_rows::CardRows;
+use crate::cards::cards_of;
+use crate::junit::junit;
+use crate::numbered::Numbered;
+use crate::outcome::Tested;
 use crate::plan::Plan;
 use crate::planning::plan_of;
 use crate::remarking::remark_on;
+use crate::report::{failed, report};
 use crate::rows_file::{RowFile, file_of};
 use crate::timer::Timer;
-use jcard_faults::fault::{Fault, FileKind};
-use jcard_faults::remarks::Remarks;
 use jcard_files::disk::Disk;
+use jcard_files::fault::{Fault, FileKind};
 use jcard_files::operand::Operand;
+use jcard_files::remarks::Remarks;
 use jcard_images::table_remarks::remark_on_table;
-use jcard_rows::card_rows::CardRows;
-use jcard_rows::cards::cards_of;
-use jcard_rows::junit::junit;
-use jcard_rows::numbered::Numbered;
-use jcard_rows::outcome::Tested;
-use jcard_rows::report::{failed, report};
 use jcard_script::streams::{TextOut, write_all};
 use std::alloc::{AllocError, Global};
 
 /// `jcard test`: says for each of these files how many of its rows hold, or the first that is not answered as it says, and how many
 /// passed and failed in all. The cards are new ones in memory, as they are asked for, or as a file says. After it the report for build
-/// servers is written to the file that is named for it, if there is one. Where a row that failed has no form, or a table is none, it is
-/// remarked why.
+/// servers is written to the file that is named for it, if there is one; the file is emptied before any row is read, so that one that is not
+/// to be written is refused then. Where a row that failed has no form, or a table is none, it is remarked why.
 pub fn test_files<'n, D: Disk, W: TextOut, T: Timer + Remarks>(
     disk: &mut D,
     files: &[&'n str],
@@ -48,7 +48,7 @@ pub fn test_files<'n, D: Disk, W: TextOut, T: Timer + Remarks>(
         (is_unwritten result) }
 {
     match plan_of(disk, asked) {
-        Ok(plan) => test_by(disk, files, &plan, asked.junit, out, timer),
+        Ok(plan) => test_by(disk, files, &plan, asked, out, timer),
         Err(fault) => Err(fault),
     }
 }
@@ -58,13 +58,49 @@ fn test_by<'n, D: Disk, W: TextOut, T: Timer + Remarks>(
     disk: &mut D,
     files: &[&'n str],
     plan: &Plan,
+    asked: Asked<'n>,
+    out: &mut W,
+    timer: &mut T,
+) -> Result<(), Fault<'n>>
+    ensures done { (text : List ℕ) × (deeds : List FileDeed)
+        × Appends (W.contents out.old) (W.contents out.new) text
+        × IsTestBy plan.now (map (λ (name : Bor (List ℕ)). name.now) files.now) asked.entry
+        result text deeds
+        × D.does disk.old deeds disk.new }
+    ensures writes { W.failures out.new ≡ failures_after (W.failures out.old)
+        (is_unwritten result) }
+{
+    match begin_junit(disk, asked, files) {
+        Ok(()) => test_on(disk, files, plan, asked.junit, out, timer),
+        Err(fault) => Err(fault),
+    }
+}
+
+// Empties the file of the report for build servers, which is none of these and not the platform table, if one is named.
+fn begin_junit<'n, D: Disk>(disk: &mut D, asked: Asked<'n>, files: &[&str]) -> Result<(), Fault<'n>>
+    ensures begun { (deeds : List FileDeed)
+        × IsJunitBegun (map (λ (name : Bor (List ℕ)). name.now) files.now) asked.entry result deeds
+        × D.does disk.old deeds disk.new }
+    ensures unwritten { is_unwritten result ≡ false }
+{
+    match asked.junit {
+        Some(name) => keep_in(disk, name, files, asked.table, b""),
+        None => Ok(()),
+    }
+}
+
+// Answers the rows, and writes the reports.
+fn test_on<'n, D: Disk, W: TextOut, T: Timer + Remarks>(
+    disk: &mut D,
+    files: &[&'n str],
+    plan: &Plan,
     junit: Option<&'n str>,
     out: &mut W,
     timer: &mut T,
 ) -> Result<(), Fault<'n>>
     ensures done { (text : List ℕ) × (deeds : List FileDeed)
         × Appends (W.contents out.old) (W.contents out.new) text
-        × IsTestBy plan.now (map (λ (name : Bor (List ℕ)). name.now) files.now)
+        × IsTestOn plan.now (map (λ (name : Bor (List ℕ)). name.now) files.now)
         (option_map (λ (name : Bor (List ℕ)). name.now) junit.entry) result text deeds
         × D.does disk.old deeds disk.new }
     ensures writes { W.failures out.new ≡ failures_after (W.failures out.old)
@@ -298,21 +334,53 @@ fn write_junit<'n, D: Disk>(
         × D.does disk.old deeds disk.new }
     ensures unwritten { is_unwritten result ≡ false }
 {
-    let Ok(operands) = operands_of(disk.alloc(), files) else {
-        return Err(Fault::NoMemory);
-    };
     match junit(disk.alloc(), tested) {
-        Ok(text) => {
-            let kept = operands.as_slice();
-            let shown = text.as_slice();
-            disk.write_text(name, kept, shown)
-        }
+        Ok(text) => keep_in(disk, name, files, None, &text),
         Err(AllocError) => Err(Fault::NoMemory),
     }
 }
 
+// Writes these bytes to the file with this name, which is none of these files and not this platform table.
+fn keep_in<'n, D: Disk>(
+    disk: &mut D,
+    name: &'n str,
+    files: &[&str],
+    table: Option<&str>,
+    bytes: &[u8],
+) -> Result<(), Fault<'n>>
+    ensures written { (deeds : List FileDeed)
+        × IsKeptIn (files_read (map (λ (name : Bor (List ℕ)). name.now) files.now)
+        (option_map (λ (name : Bor (List ℕ)). name.now) table.entry)) name.now bytes.now result deeds
+        × D.does disk.old deeds disk.new }
+    ensures unwritten { is_unwritten result ≡ false }
+{
+    let Ok(operands) = operands_of(disk.alloc(), files, table) else {
+        return Err(Fault::NoMemory);
+    };
+    let kept = operands.as_slice();
+    disk.write_text(name, kept, bytes)
+}
+
+// These files, which are files of rows, and this one, which is a platform table, if there is one.
+fn operands_of<'a>(
+    alloc: Global,
+    files: &[&'a str],
+    table: Option<&'a str>,
+) -> Result<Vec<Operand<'a>>, AllocError>
+    ensures { IfOk result (λ operands. operands.items ≡ operands_read files.now table.entry) }
+{
+    let mut operands = row_files(alloc, files)?;
+    if let Some(name) = table {
+        operands.push(Operand {
+            name,
+            kind: FileKind::Table,
+        })?;
+    }
+    Ok(operands)
+}
+
 // These files, which are files of rows.
-fn operands_of<'a>(alloc: Global, files: &[&'a str]) -> Result<Vec<Operand<'a>>, AllocError>
+fn row_files<'a>(alloc: Global, files: &[&'a str]) -> Result<Vec<Operand<'a>>, AllocError>
     ensures { IfOk result (λ operands. operands.items ≡ map rows_operand files.now) }
 {
     files

@@ -10,7 +10,6 @@ use jc_linker::target::{Method, Target};
 use jc_memory::Spot;
 use jc_platform::names::{MethodKind, PlatformMethod};
 use jc_transient::ClassWord;
-use std::alloc::AllocError;
 
 const INVOKEVIRTUAL: u8 = 139;
 
@@ -115,23 +114,18 @@ fn target_at(spot: Spot, code: &[u8], at: usize, linked: &Linked) -> Option<Targ
 }
 
 /// Adds what the instruction at a spot calls, if it is a call.
-pub fn push_callee(text: &mut Text, spot: Spot, asked: &Asked<'_>) -> Result<(), AllocError> {
+pub fn push_callee(text: &mut Text, spot: Spot, asked: &Asked<'_>) {
     let Some(callee) = callee_at(spot, asked) else {
-        return Ok(());
+        return;
     };
-    text.push(b" ")?;
+    text.push(b" ");
     match callee {
         Callee::Method(method) => push_method(text, spot, method, asked),
         Callee::OfInterface(class, token) => push_interface_method(text, class, token, asked),
     }
 }
 
-fn push_method(
-    text: &mut Text,
-    spot: Spot,
-    method: Method,
-    asked: &Asked<'_>,
-) -> Result<(), AllocError> {
+fn push_method(text: &mut Text, spot: Spot, method: Method, asked: &Asked<'_>) {
     match method {
         Method::Native(named) => push_platform_method(text, named),
         Method::Code {
@@ -142,45 +136,32 @@ fn push_method(
 }
 
 /// Adds a method of the platform.
-pub(crate) fn push_platform_method(
-    text: &mut Text,
-    method: PlatformMethod,
-) -> Result<(), AllocError> {
-    text.push(method.class().name())?;
-    text.push(b".")?;
-    text.push(method.name())
+pub(crate) fn push_platform_method(text: &mut Text, method: PlatformMethod) {
+    text.push(method.class().name());
+    text.push(b".");
+    text.push(method.name());
 }
 
 // A method in bytecode, with its package where that is another one.
-fn push_code(
-    text: &mut Text,
-    spot: Spot,
-    package_number: u8,
-    offset: u16,
-    asked: &Asked<'_>,
-) -> Result<(), AllocError> {
+fn push_code(text: &mut Text, spot: Spot, package_number: u8, offset: u16, asked: &Asked<'_>) {
     if package_number != spot.package_number {
-        push_package(text, package_number, asked.linked)?;
-        text.push(b" ")?;
+        push_package(text, package_number, asked.linked);
+        text.push(b" ");
     }
-    push_method_at(text, package_number, offset, asked)
+    push_method_at(text, package_number, offset, asked);
 }
 
-fn push_interface_method(
-    text: &mut Text,
-    class: ClassWord,
-    token: u8,
-    asked: &Asked<'_>,
-) -> Result<(), AllocError> {
+fn push_interface_method(text: &mut Text, class: ClassWord, token: u8, asked: &Asked<'_>) {
     let platform = asked.linked.platform();
     let named = platform.class_by_word(class);
-    push_class(text, class, named, asked.linked)?;
+    push_class(text, class, named, asked.linked);
     if let Some(interface) = named {
         if let Some(method) = platform.method_by_token(interface, MethodKind::Interface, token) {
-            text.push(b".")?;
-            return text.push(method.name());
+            text.push(b".");
+            text.push(method.name());
+            return;
         }
     }
-    text.push(b" token ")?;
-    text.push_number(u32::from(token))
+    text.push(b" token ");
+    text.push_number(u32::from(token));
 }

@@ -10,22 +10,21 @@ use jc_linker::linked::Linked;
 use jc_memory::{Cause, FaultKind, Phase};
 use jc_platform::names::{AppletsMethod, PlatformClass, PlatformMethod, SystemMethod};
 use jc_transient::ClassWord;
-use std::alloc::AllocError;
 
 /// Adds the cause.
-pub(crate) fn push_cause(text: &mut Text, asked: &Asked<'_>) -> Result<(), AllocError> {
+pub(crate) fn push_cause(text: &mut Text, asked: &Asked<'_>) {
     let phase = asked.note.phase;
     match asked.note.cause {
         Cause::Nothing => text.push(own_answer(asked.status, phase, asked.has_run())),
         Cause::Exception(class, reason) => {
-            push_exception(text, class, reason, asked.linked)?;
-            push_phase(text, phase)
+            push_exception(text, class, reason, asked.linked);
+            push_phase(text, phase);
         }
         Cause::Fault(kind) => {
-            text.push(b"code fault")?;
-            push_phase(text, phase)?;
-            text.push(b": ")?;
-            text.push(told_text(told_fault(kind, asked)))
+            text.push(b"code fault");
+            push_phase(text, phase);
+            text.push(b": ");
+            text.push(told_text(told_fault(kind, asked)));
         }
     }
 }
@@ -44,40 +43,32 @@ const fn own_answer(status: u16, phase: Option<Phase>, has_run: bool) -> &'stati
 }
 
 /// Adds what the runtime environment had begun, if it had begun anything.
-pub(crate) fn push_phase(text: &mut Text, phase: Option<Phase>) -> Result<(), AllocError> {
+pub(crate) fn push_phase(text: &mut Text, phase: Option<Phase>) {
     let Some(phase) = phase else {
-        return Ok(());
+        return;
     };
-    text.push(b" in ")?;
+    text.push(b" in ");
     text.push(match phase {
         Phase::Install => b"install".as_slice(),
         Phase::Select => b"select".as_slice(),
         Phase::Deselect => b"deselect".as_slice(),
         Phase::Process => b"process".as_slice(),
         Phase::RunCode => b"run code".as_slice(),
-    })
+    });
 }
 
-fn push_exception(
-    text: &mut Text,
-    class: ClassWord,
-    reason: Option<i16>,
-    linked: &Linked,
-) -> Result<(), AllocError> {
+fn push_exception(text: &mut Text, class: ClassWord, reason: Option<i16>, linked: &Linked) {
     let named = linked.platform().class_by_word(class);
-    push_class(text, class, named, linked)?;
+    push_class(text, class, named, linked);
     let Some(reason) = reason else {
-        return Ok(());
+        return;
     };
-    text.push(b" with reason ")?;
-    text.push_hex(&reason.to_be_bytes())?;
-    match named.and_then(|named| reason_name(named, reason)) {
-        Some(name) => {
-            text.push(b" (")?;
-            text.push(name)?;
-            text.push(b")")
-        }
-        None => Ok(()),
+    text.push(b" with reason ");
+    text.push_hex(&reason.to_be_bytes());
+    if let Some(name) = named.and_then(|named| reason_name(named, reason)) {
+        text.push(b" (");
+        text.push(name);
+        text.push(b")");
     }
 }
 
@@ -87,13 +78,14 @@ pub(crate) fn push_class(
     class: ClassWord,
     named: Option<PlatformClass>,
     linked: &Linked,
-) -> Result<(), AllocError> {
+) {
     if let Some(named) = named {
-        return text.push(named.name());
+        text.push(named.name());
+        return;
     }
-    push_package(text, (class.0 / 256) as u8, linked)?;
-    text.push(b".")?;
-    text.push_number(u32::from(class.0 % 256))
+    push_package(text, (class.0 / 256) as u8, linked);
+    text.push(b".");
+    text.push_number(u32::from(class.0 % 256));
 }
 
 // Why code ended, as far as the call at which it ended says more.

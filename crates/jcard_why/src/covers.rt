@@ -45,14 +45,14 @@ impl Cover {
     pub fn text(&self) -> Result<Vec<u8>, AllocError> {
         let mut text = Text::new(self.alloc);
         for package in self.packages.as_slice() {
-            push_package(&mut text, package)?;
+            push_package(&mut text, package);
         }
         if self.left_out > 0 {
-            text.push(b"left out ")?;
-            text.push_wide(self.left_out)?;
-            text.push(b"\n")?;
+            text.push(b"left out ");
+            text.push_wide(self.left_out);
+            text.push(b"\n");
         }
-        Ok(text.into_bytes())
+        text.into_bytes()
     }
 
     fn leave_out(&mut self, count: u64) {
@@ -99,22 +99,21 @@ impl PackageCover {
     }
 }
 
-fn push_package(text: &mut Text, package: &PackageCover) -> Result<(), AllocError> {
-    text.push(b"package ")?;
-    text.push_hex(&package.aid)?;
-    text.push(b"\n")?;
+fn push_package(text: &mut Text, package: &PackageCover) {
+    text.push(b"package ");
+    text.push_hex(&package.aid);
+    text.push(b"\n");
     for (offset, count) in package.counts.iter().enumerate() {
-        push_count(text, offset, *count)?;
+        push_count(text, offset, *count);
     }
-    Ok(())
 }
 
-fn push_count(text: &mut Text, offset: usize, count: u64) -> Result<(), AllocError> {
+fn push_count(text: &mut Text, offset: usize, count: u64) {
     if count == 0 {
-        return Ok(());
+        return;
     }
-    text.push_wide(offset as u64)?;
-    text.push(b" ")?;
-    text.push_wide(count)?;
-    text.push(b"\n")
+    text.push_wide(offset as u64);
+    text.push(b" ");
+    text.push_wide(count);
+    text.push(b"\n");
 }

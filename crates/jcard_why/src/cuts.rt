@@ -15,14 +15,14 @@ pub fn told_of_cut(asked: &Asked<'_>) -> Result<Option<Vec<u8>>, AllocError> {
         return Ok(None);
     };
     let mut text = Text::new(asked.alloc);
-    text.push(b"why: line ")?;
-    text.push_number(asked.line)?;
-    text.push(b": the power was cut within ")?;
-    push_platform_method(&mut text, method)?;
-    push_phase(&mut text, asked.note.phase)?;
-    text.push(b"\n")?;
-    push_spots(&mut text, asked)?;
-    Ok(Some(text.into_bytes()))
+    text.push(b"why: line ");
+    text.push_number(asked.line);
+    text.push(b": the power was cut within ");
+    push_platform_method(&mut text, method);
+    push_phase(&mut text, asked.note.phase);
+    text.push(b"\n");
+    push_spots(&mut text, asked);
+    Ok(Some(text.into_bytes()?))
 }
 
 // The call within which a write was refused, if it is a non-atomic one.

@@ -98,41 +98,41 @@ impl Wanted {
 pub fn told(asked: &Asked<'_>, wanted: Wanted) -> Result<Vec<u8>, AllocError> {
     let mut text = Text::new(asked.alloc);
     if let Some(lines) = wanted.trace {
-        push_trace(&mut text, asked, lines)?;
+        push_trace(&mut text, asked, lines);
     }
     if wanted.why && asked.status != SUCCESS {
-        push_why(&mut text, asked)?;
+        push_why(&mut text, asked);
     }
-    Ok(text.into_bytes())
+    text.into_bytes()
 }
 
 // Says why a command was not answered by 9000: a line that begins with `why:`, and lines below it.
-fn push_why(text: &mut Text, asked: &Asked<'_>) -> Result<(), AllocError> {
-    text.push(b"why: line ")?;
-    text.push_number(asked.line)?;
-    text.push(b": ")?;
-    push_cause(text, asked)?;
-    text.push(b"\n")?;
-    push_refusals(text, asked)?;
-    push_spots(text, asked)?;
-    push_cost(text, asked)
+fn push_why(text: &mut Text, asked: &Asked<'_>) {
+    text.push(b"why: line ");
+    text.push_number(asked.line);
+    text.push(b": ");
+    push_cause(text, asked);
+    text.push(b"\n");
+    push_refusals(text, asked);
+    push_spots(text, asked);
+    push_cost(text, asked);
 }
 
 // What the command cost, where code ran.
-fn push_cost(text: &mut Text, asked: &Asked<'_>) -> Result<(), AllocError> {
+fn push_cost(text: &mut Text, asked: &Asked<'_>) {
     let Some(left) = asked.note.left else {
-        return Ok(());
+        return;
     };
-    text.push(b"  ")?;
-    text.push_count(asked.budget.saturating_sub(left), b"instruction")?;
-    text.push(b", ")?;
+    text.push(b"  ");
+    text.push_count(asked.budget.saturating_sub(left), b"instruction");
+    text.push(b", ");
     text.push_count(
         u32::try_from(asked.word_writes).unwrap_or(u32::MAX),
         b"word write",
-    )?;
-    text.push(b", up to ")?;
-    text.push_number(u32::from(asked.note.highest))?;
-    text.push(b" of 512 cells, ")?;
-    text.push_count(u32::from(asked.free_words), b"free word")?;
-    text.push(b"\n")
+    );
+    text.push(b", up to ");
+    text.push_number(u32::from(asked.note.highest));
+    text.push(b" of 512 cells, ");
+    text.push_count(u32::from(asked.free_words), b"free word");
+    text.push(b"\n");
 }

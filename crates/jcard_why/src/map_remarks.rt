@@ -26,14 +26,14 @@ pub fn remark_on_map(alloc: Global, map: &[u8]) -> Result<Vec<u8>, AllocError> {
 
 fn remark_of(alloc: Global, number: u32, fault: &LineFault) -> Result<Vec<u8>, AllocError> {
     let mut text = Text::new(alloc);
-    text.push(b"jcard: map line ")?;
-    text.push_number(number)?;
-    text.push(b", column ")?;
-    text.push_wide(fault.column as u64)?;
-    text.push(b": ")?;
-    text.push(fault.why)?;
-    text.push(b"; the line is passed over\n")?;
-    Ok(text.into_bytes())
+    text.push(b"jcard: map line ");
+    text.push_number(number);
+    text.push(b", column ");
+    text.push_wide(fault.column as u64);
+    text.push(b": ");
+    text.push(fault.why);
+    text.push(b"; the line is passed over\n");
+    text.into_bytes()
 }
 
 const fn at(column: usize, why: &'static [u8]) -> Option<LineFault> {

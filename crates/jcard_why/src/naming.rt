@@ -75,27 +75,25 @@ impl<'a> Names<'a> {
             self.place = Place::Line;
         }
         self.take(bare(word), rest, &mut text)?;
-        Ok(text.into_bytes())
+        text.into_bytes()
     }
 
     fn take(&mut self, word: &'a [u8], rest: &[u8], text: &mut Text) -> Result<(), AllocError> {
         match self.place {
             Place::Cell(class, cell) => {
                 self.place = Place::Cell(class, cell.saturating_add(1));
-                self.push_field(text, class, cell)
+                self.push_field(text, class, cell);
             }
             Place::Static(package, number) => {
                 self.place = Place::Static(package, number.saturating_add(1));
-                self.push_statics(text, package, number)
+                self.push_statics(text, package, number);
             }
             Place::OfClass(class) => self.take_after_class(class, word, text),
-            Place::Word => self.take_address(word, text),
+            Place::Word => self.take_address(word, text)?,
             Place::Object => self.take_class(word, rest, text),
-            place => {
-                self.place = self.place_after(place, word)?;
-                Ok(())
-            }
+            place => self.place = self.place_after(place, word)?,
         }
+        Ok(())
     }
 
     // Where the words stand after one that has no name.
@@ -138,46 +136,34 @@ impl<'a> Names<'a> {
     }
 
     // The class of an object; its name stands there, where no cell follows.
-    fn take_class(
-        &mut self,
-        word: &'a [u8],
-        rest: &[u8],
-        text: &mut Text,
-    ) -> Result<(), AllocError> {
+    fn take_class(&mut self, word: &'a [u8], rest: &[u8], text: &mut Text) {
         let Some(class) = class_of(word) else {
             self.place = Place::Other;
-            return Ok(());
+            return;
         };
         self.place = Place::OfClass(class);
         if rest.starts_with(b" [") {
-            return Ok(());
+            return;
         }
-        match class_numbered(self.map, class.aid, class.number) {
-            Some(found) => text.push(found.name),
-            None => Ok(()),
+        if let Some(found) = class_numbered(self.map, class.aid, class.number) {
+            text.push(found.name);
         }
     }
 
-    fn take_after_class(
-        &mut self,
-        class: Class<'a>,
-        word: &'a [u8],
-        text: &mut Text,
-    ) -> Result<(), AllocError> {
+    fn take_after_class(&mut self, class: Class<'a>, word: &'a [u8], text: &mut Text) {
         self.place = Place::Other;
         if let Some(cell) = cell_of(word) {
-            return self.push_field(text, class, cell);
+            self.push_field(text, class, cell);
+            return;
         }
         if word == b"of".as_slice() {
             self.place = Place::Listed(class);
         }
-        Ok(())
     }
 
-    fn push_field(&self, text: &mut Text, class: Class<'a>, cell: u32) -> Result<(), AllocError> {
-        match field_at(self.map, class.aid, class.number, cell) {
-            Some(member) => push_member(text, member),
-            None => Ok(()),
+    fn push_field(&self, text: &mut Text, class: Class<'a>, cell: u32) {
+        if let Some(member) = field_at(self.map, class.aid, class.number, cell) {
+            push_member(text, member);
         }
     }
 
@@ -188,47 +174,43 @@ impl<'a> Names<'a> {
             return Ok(());
         };
         let address = address as usize;
-        match image_with(self.alloc, self.words, address)? {
-            Some(image) => {
-                let number = u32::try_from(address.saturating_sub(image.start)).unwrap_or(u32::MAX);
-                self.push_word(text, &image.aid, number)
-            }
-            None => Ok(()),
+        if let Some(image) = image_with(self.alloc, self.words, address)? {
+            let number = u32::try_from(address.saturating_sub(image.start)).unwrap_or(u32::MAX);
+            self.push_word(text, &image.aid, number);
         }
+        Ok(())
     }
 
-    fn push_statics(&self, text: &mut Text, package: u32, number: u32) -> Result<(), AllocError> {
-        match self.packages.get(index_of(package)).copied() {
-            Some(aid) => self.push_word(text, aid, number),
-            None => Ok(()),
+    fn push_statics(&self, text: &mut Text, package: u32, number: u32) {
+        if let Some(aid) = self.packages.get(index_of(package)).copied() {
+            self.push_word(text, aid, number);
         }
     }
 
     // The static fields in a word of the image of a package: one, or two of a byte each.
-    fn push_word(&self, text: &mut Text, aid: &[u8], number: u32) -> Result<(), AllocError> {
+    fn push_word(&self, text: &mut Text, aid: &[u8], number: u32) {
         let first = number.saturating_mul(2);
         let end = first.saturating_add(2);
         let Some(member) = static_from(self.map, aid, first) else {
-            return Ok(());
+            return;
         };
         if member.at >= end {
-            return Ok(());
+            return;
         }
-        push_member(text, member)?;
-        match static_from(self.map, aid, member.at.saturating_add(1)) {
-            Some(other) if other.at < end => {
-                text.push(b", ")?;
-                push_member(text, other)
+        push_member(text, member);
+        if let Some(other) = static_from(self.map, aid, member.at.saturating_add(1)) {
+            if other.at < end {
+                text.push(b", ");
+                push_member(text, other);
             }
-            _ => Ok(()),
         }
     }
 }
 
-fn push_member(text: &mut Text, member: Member<'_>) -> Result<(), AllocError> {
-    text.push(member.class)?;
-    text.push(b".")?;
-    text.push(member.field.name)
+fn push_member(text: &mut Text, member: Member<'_>) {
+    text.push(member.class);
+    text.push(b".");
+    text.push(member.field.name);
 }
 
 fn push<T: Copy>(items: &mut Vec<T>, item: T) -> Result<(), AllocError> {

@@ -10,65 +10,51 @@ use jc_memory::Spot;
 use jc_opcodes::decode::decode;
 use jc_opcodes::instr::{FieldOp, Instr, LocalOp};
 use jc_transient::ClassWord;
-use std::alloc::AllocError;
 
 /// Adds the name that the map has of the local or the field that the instruction at a spot uses.
-pub(crate) fn push_operand(
-    text: &mut Text,
-    spot: Spot,
-    asked: &Asked<'_>,
-) -> Result<(), AllocError> {
+pub(crate) fn push_operand(text: &mut Text, spot: Spot, asked: &Asked<'_>) {
     if asked.map.is_empty() || spot.package_number == 0 {
-        return Ok(());
+        return;
     }
     let code = asked.code_at(spot);
     let Some((instr, after)) = decode::<Spot>(code, usize::from(spot.place)) else {
-        return Ok(());
+        return;
     };
     match instr {
         Instr::Local(op) => push_local(text, spot, op, after, asked),
         Instr::Field(op) => push_field(text, spot, op, asked),
-        _ => Ok(()),
+        _ => {}
     }
 }
 
 // A variable is there from the instruction on that follows the one which sets it first.
-fn push_local(
-    text: &mut Text,
-    spot: Spot,
-    op: LocalOp,
-    after: usize,
-    asked: &Asked<'_>,
-) -> Result<(), AllocError> {
+fn push_local(text: &mut Text, spot: Spot, op: LocalOp, after: usize, asked: &Asked<'_>) {
     let place = u32::from(spot.place);
     let next = u32::try_from(after).unwrap_or(place);
     let (local, place) = match op {
         LocalOp::Aload(local) | LocalOp::Sload(local) | LocalOp::Sinc(local, _) => (local, place),
         LocalOp::Astore(local) | LocalOp::Sstore(local) => (local, next),
     };
-    let aid = aid_text(spot.package_number, asked)?;
+    let Ok(aid) = aid_text(spot.package_number, asked) else {
+        text.give_up();
+        return;
+    };
     let mut digits = Buffer::new();
     let method = MethodPlace {
         aid: &aid,
         offset: digits.format(u32::from(spot.method)).as_bytes(),
     };
-    match variable_at(asked.map, method, u32::from(local), place) {
-        Some(variable) => push_name(text, variable),
-        None => Ok(()),
+    if let Some(variable) = variable_at(asked.map, method, u32::from(local), place) {
+        push_name(text, variable);
     }
 }
 
-fn push_name(text: &mut Text, named: Named<'_>) -> Result<(), AllocError> {
-    text.push(b" ")?;
-    text.push(named.name)
+fn push_name(text: &mut Text, named: Named<'_>) {
+    text.push(b" ");
+    text.push(named.name);
 }
 
-fn push_field(
-    text: &mut Text,
-    spot: Spot,
-    op: FieldOp,
-    asked: &Asked<'_>,
-) -> Result<(), AllocError> {
+fn push_field(text: &mut Text, spot: Spot, op: FieldOp, asked: &Asked<'_>) {
     match asked.linked.target_at(spot.package_number, index_of(op)) {
         Some(Target::InstanceField { class, cell, .. }) => push_cell(text, *class, *cell, asked),
         Some(
@@ -77,7 +63,7 @@ fn push_field(
                 offset,
             },
         ) => push_static(text, *package_number, u32::from(*offset), asked),
-        _ => Ok(()),
+        _ => {}
     }
 }
 
@@ -93,28 +79,24 @@ const fn index_of(op: FieldOp) -> u16 {
     }
 }
 
-fn push_cell(
-    text: &mut Text,
-    class: ClassWord,
-    cell: u32,
-    asked: &Asked<'_>,
-) -> Result<(), AllocError> {
-    let aid = aid_text((class.0 / 256) as u8, asked)?;
-    match field_at(asked.map, &aid, u32::from(class.0 % 256), cell) {
-        Some(member) => push_name(text, member.field),
-        None => Ok(()),
+fn push_cell(text: &mut Text, class: ClassWord, cell: u32, asked: &Asked<'_>) {
+    let Ok(aid) = aid_text((class.0 / 256) as u8, asked) else {
+        text.give_up();
+        return;
+    };
+    if let Some(member) = field_at(asked.map, &aid, u32::from(class.0 % 256), cell) {
+        push_name(text, member.field);
     }
 }
 
-fn push_static(
-    text: &mut Text,
-    package_number: u8,
-    offset: u32,
-    asked: &Asked<'_>,
-) -> Result<(), AllocError> {
-    let aid = aid_text(package_number, asked)?;
-    match static_from(asked.map, &aid, offset) {
-        Some(member) if member.at == offset => push_name(text, member.field),
-        _ => Ok(()),
+fn push_static(text: &mut Text, package_number: u8, offset: u32, asked: &Asked<'_>) {
+    let Ok(aid) = aid_text(package_number, asked) else {
+        text.give_up();
+        return;
+    };
+    if let Some(member) = static_from(asked.map, &aid, offset) {
+        if member.at == offset {
+            push_name(text, member.field);
+        }
     }
 }

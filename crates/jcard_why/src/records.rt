@@ -76,9 +76,9 @@ fn aid_at(alloc: Global, words: &[u16], info: usize) -> Result<Vec<u8>, AllocErr
 {
     let mut text = Text::new(alloc);
     for number in 0..usize::from(byte_at(words, info, AID_LENGTH)).min(16) {
-        text.push_hex(&[byte_at(words, info, AID_LENGTH + 1 + number)])?;
+        text.push_hex(&[byte_at(words, info, AID_LENGTH + 1 + number)]);
     }
-    Ok(text.into_bytes())
+    text.into_bytes()
 }
 
 // A byte of the words from an address on, two in a word, the high one first.

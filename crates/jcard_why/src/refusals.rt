@@ -29,26 +29,24 @@ const OTHER_VERSION: u16 = 0x6422;
 const NO_ENTRY: u16 = 65_535;
 
 /// Adds a line for each of what was refused.
-pub(crate) fn push_refusals(text: &mut Text, asked: &Asked<'_>) -> Result<(), AllocError> {
-    push_denial(text, asked)?;
+pub(crate) fn push_refusals(text: &mut Text, asked: &Asked<'_>) {
+    push_denial(text, asked);
     if let Some(shortage) = asked.note.shortage {
-        push_shortage(text, shortage)?;
+        push_shortage(text, shortage);
     }
-    match &asked.note.refused_load {
-        Some(refused) => push_load(text, refused, asked),
-        None => Ok(()),
+    if let Some(refused) = &asked.note.refused_load {
+        push_load(text, refused, asked);
     }
 }
 
 // The firewall's refusal, where that is what was thrown.
-fn push_denial(text: &mut Text, asked: &Asked<'_>) -> Result<(), AllocError> {
+fn push_denial(text: &mut Text, asked: &Asked<'_>) {
     let Some(denial) = asked.note.denial else {
-        return Ok(());
+        return;
     };
     if throws_security(asked.note.cause, asked.linked) {
-        return push_rule(text, denial, asked);
+        push_rule(text, denial, asked);
     }
-    Ok(())
 }
 
 // What was thrown is a SecurityException.
@@ -61,16 +59,16 @@ fn throws_security(cause: Cause, linked: &Linked) -> bool {
     }
 }
 
-fn push_rule(text: &mut Text, denial: Denial, asked: &Asked<'_>) -> Result<(), AllocError> {
-    text.push(b"  firewall rule ")?;
-    text.push_number(u32::from(denial.rule.number()))?;
-    text.push(b": ")?;
-    text.push(access_text(denial.access))?;
-    text.push(b", by code of ")?;
-    push_context(text, denial.active, asked.linked)?;
-    text.push(b", the object is of ")?;
-    push_context(text, denial.owner, asked.linked)?;
-    text.push(b"\n")
+fn push_rule(text: &mut Text, denial: Denial, asked: &Asked<'_>) {
+    text.push(b"  firewall rule ");
+    text.push_number(u32::from(denial.rule.number()));
+    text.push(b": ");
+    text.push(access_text(denial.access));
+    text.push(b", by code of ");
+    push_context(text, denial.active, asked.linked);
+    text.push(b", the object is of ");
+    push_context(text, denial.owner, asked.linked);
+    text.push(b"\n");
 }
 
 const fn access_text(access: Access) -> &'static [u8] {
@@ -89,16 +87,16 @@ const fn access_text(access: Access) -> &'static [u8] {
     }
 }
 
-fn push_shortage(text: &mut Text, shortage: Shortage) -> Result<(), AllocError> {
-    text.push(b"  asked for ")?;
+fn push_shortage(text: &mut Text, shortage: Shortage) {
+    text.push(b"  asked for ");
     match shortage.space {
-        Space::Heap => text.push_count(shortage.asked, b"word")?,
-        Space::ResetArea | Space::DeselectArea => text.push_count(shortage.asked, b"cell")?,
-        Space::Transaction => text.push_count(shortage.asked, b"place")?,
+        Space::Heap => text.push_count(shortage.asked, b"word"),
+        Space::ResetArea | Space::DeselectArea => text.push_count(shortage.asked, b"cell"),
+        Space::Transaction => text.push_count(shortage.asked, b"place"),
     }
-    text.push(space_text(shortage.space))?;
-    text.push_number(shortage.left)?;
-    text.push(b" left\n")
+    text.push(space_text(shortage.space));
+    text.push_number(shortage.left);
+    text.push(b" left\n");
 }
 
 const fn space_text(space: Space) -> &'static [u8] {
@@ -110,7 +108,7 @@ const fn space_text(space: Space) -> &'static [u8] {
     }
 }
 
-fn push_load(text: &mut Text, refused: &RefusedLoad, asked: &Asked<'_>) -> Result<(), AllocError> {
+fn push_load(text: &mut Text, refused: &RefusedLoad, asked: &Asked<'_>) {
     match refused {
         RefusedLoad::Component { tag, offset } => push_component(text, *tag, *offset, asked.status),
         RefusedLoad::Entry {
@@ -120,60 +118,62 @@ fn push_load(text: &mut Text, refused: &RefusedLoad, asked: &Asked<'_>) -> Resul
             member,
         } => {
             if let NO_PACKAGE | OTHER_VERSION = asked.status {
-                text.push(b"  package ")?;
-                text.push_hex(package.as_slice())?;
-                return text.push(b"\n");
+                text.push(b"  package ");
+                text.push_hex(package.as_slice());
+                text.push(b"\n");
+                return;
             }
-            push_entry(text, *entry)?;
-            push_home(text, package.as_slice())?;
+            push_entry(text, *entry);
+            push_home(text, package.as_slice());
             let package = package.as_slice();
             let named = named_class(package, *class, asked.linked);
-            push_token(text, b", class ", *class)?;
-            push_class_name(text, named)?;
-            push_token(text, b", token ", token_of(*member))?;
-            match name_in_map(*entry, package, *class, *member, asked)? {
-                Some(name) => push_name(text, name)?,
-                None => push_method(text, named, *member, asked.linked)?,
+            push_token(text, b", class ", *class);
+            push_class_name(text, named);
+            push_token(text, b", token ", token_of(*member));
+            match name_in_map(*entry, package, *class, *member, asked) {
+                Ok(Some(name)) => push_name(text, name),
+                Ok(None) => push_method(text, named, *member, asked.linked),
+                Err(_) => text.give_up(),
             }
-            text.push(b"\n")
+            text.push(b"\n");
         }
     }
 }
 
 // A component, and where it is wrong.
-fn push_component(text: &mut Text, tag: u8, offset: u16, status: u16) -> Result<(), AllocError> {
-    text.push(b"  component ")?;
-    text.push_number(u32::from(tag))?;
+fn push_component(text: &mut Text, tag: u8, offset: u16, status: u16) {
+    text.push(b"  component ");
+    text.push_number(u32::from(tag));
     match (status, offset) {
-        (MISSING, 0) => return text.push(b" did not come\n"),
-        (SIZES_DISAGREE, 0) => {
-            return text.push(b" has another size than the Directory tells\n");
-        }
-        (TRUNCATED, _) => text.push(b", which ends at offset ")?,
-        _ => text.push(b", wrong at offset ")?,
+        (MISSING, 0) => text.push(b" did not come\n"),
+        (SIZES_DISAGREE, 0) => text.push(b" has another size than the Directory tells\n"),
+        (TRUNCATED, _) => push_offset(text, b", which ends at offset ", offset),
+        _ => push_offset(text, b", wrong at offset ", offset),
     }
-    text.push_number(u32::from(offset))?;
-    text.push(b" from its tag\n")
+}
+
+fn push_offset(text: &mut Text, word: &[u8], offset: u16) {
+    text.push(word);
+    text.push_number(u32::from(offset));
+    text.push(b" from its tag\n");
 }
 
 // The package that an entry names.
-fn push_home(text: &mut Text, package: &[u8]) -> Result<(), AllocError> {
+fn push_home(text: &mut Text, package: &[u8]) {
     if package.is_empty() {
-        return text.push(b": a package that is not imported");
+        text.push(b": a package that is not imported");
+        return;
     }
-    text.push(b": package ")?;
-    text.push_hex(package)
+    text.push(b": package ");
+    text.push_hex(package);
 }
 
 // The name of a class of the platform.
-fn push_class_name(text: &mut Text, named: Option<PlatformClass>) -> Result<(), AllocError> {
-    match named {
-        None => Ok(()),
-        Some(named) => {
-            text.push(b" (")?;
-            text.push(named.name())?;
-            text.push(b")")
-        }
+fn push_class_name(text: &mut Text, named: Option<PlatformClass>) {
+    if let Some(named) = named {
+        text.push(b" (");
+        text.push(named.name());
+        text.push(b")");
     }
 }
 
@@ -200,19 +200,19 @@ fn name_in_map<'a>(
         return Ok(None);
     };
     let mut head = Text::new(asked.alloc);
-    head.push(b"entry ")?;
-    head.push_number(u32::from(entry))?;
-    head.push(b" ")?;
-    head.push_hex(package)?;
-    push_token(&mut head, b" ", Some(class))?;
-    push_token(&mut head, b" ", token_of(member))?;
-    head.push(b": ")?;
-    Ok(entry_name(asked.map, &head.into_bytes()))
+    head.push(b"entry ");
+    head.push_number(u32::from(entry));
+    head.push(b" ");
+    head.push_hex(package);
+    push_token(&mut head, b" ", Some(class));
+    push_token(&mut head, b" ", token_of(member));
+    head.push(b": ");
+    Ok(entry_name(asked.map, &head.into_bytes()?))
 }
 
-fn push_name(text: &mut Text, name: &[u8]) -> Result<(), AllocError> {
-    text.push(b": ")?;
-    text.push(name)
+fn push_name(text: &mut Text, name: &[u8]) {
+    text.push(b": ");
+    text.push(name);
 }
 
 fn push_method(
@@ -220,13 +220,10 @@ fn push_method(
     named: Option<PlatformClass>,
     member: Option<Member>,
     linked: &Linked,
-) -> Result<(), AllocError> {
-    match named_method(named, member, linked) {
-        None => Ok(()),
-        Some(method) => {
-            text.push(b": ")?;
-            push_platform_method(text, method)
-        }
+) {
+    if let Some(method) = named_method(named, member, linked) {
+        text.push(b": ");
+        push_platform_method(text, method);
     }
 }
 
@@ -247,18 +244,18 @@ fn named_method(
     linked.platform().method_by_token(class, kind, member.token)
 }
 
-fn push_entry(text: &mut Text, entry: u16) -> Result<(), AllocError> {
+fn push_entry(text: &mut Text, entry: u16) {
     if entry == NO_ENTRY {
-        return text.push(b"  a class");
+        text.push(b"  a class");
+        return;
     }
-    text.push(b"  entry ")?;
-    text.push_number(u32::from(entry))
+    text.push(b"  entry ");
+    text.push_number(u32::from(entry));
 }
 
-fn push_token(text: &mut Text, word: &[u8], token: Option<u8>) -> Result<(), AllocError> {
-    let Some(token) = token else {
-        return Ok(());
-    };
-    text.push(word)?;
-    text.push_number(u32::from(token))
+fn push_token(text: &mut Text, word: &[u8], token: Option<u8>) {
+    if let Some(token) = token {
+        text.push(word);
+        text.push_number(u32::from(token));
+    }
 }

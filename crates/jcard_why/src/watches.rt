@@ -189,22 +189,22 @@ fn told_of_write(
     asked: &Asked<'_>,
 ) -> Result<Vec<u8>, AllocError> {
     let mut text = Text::new(asked.alloc);
-    text.push(b"why: line ")?;
-    text.push_number(asked.line)?;
-    text.push(b", cut after ")?;
-    text.push_wide(number as u64)?;
-    text.push(b": the write of word ")?;
-    text.push_number(u32::from(write.address))?;
+    text.push(b"why: line ");
+    text.push_number(asked.line);
+    text.push(b", cut after ");
+    text.push_wide(number as u64);
+    text.push(b": the write of word ");
+    text.push_number(u32::from(write.address));
     match write.spot {
         Some(spot) => {
-            text.push(b"\n")?;
-            push_place(&mut text, spot, asked)?;
-            push_callee(&mut text, spot, asked)?;
-            text.push(b"\n")?;
+            text.push(b"\n");
+            push_place(&mut text, spot, asked);
+            push_callee(&mut text, spot, asked);
+            text.push(b"\n");
         }
-        None => text.push(b", by the runtime environment\n")?,
+        None => text.push(b", by the runtime environment\n"),
     }
-    Ok(text.into_bytes())
+    text.into_bytes()
 }
 
 // Where the instruction stands that is carried out, by what was noted since it was last asked; after what kept code from going on, none.

@@ -12,7 +12,7 @@ use Rattle.jc_heap.proofs.Laws.{cells-set_cell, heap_item_at-set_other, length-c
 use Rattle.jc_card_checks.specs.Sound.{aid_in}
 use Rattle.jc_registry.specs.Aids.{aid_byte, aid_of_cells}
 use Rattle.jc_api_framework.specs.Aid.Cells.{cells_of_aid}
-use Rattle.jc_api_framework.proofs.ReadBack.{read_back}
+use Rattle.jc_api_framework.proofs.AidCalls.ReadBack.{read_back}
 
 -- ---- a run of cells that is set
 

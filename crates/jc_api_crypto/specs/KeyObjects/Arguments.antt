@@ -1,5 +1,5 @@
 -- Key objects that calls of other objects are given, and that these have kept.
-use Rattle.std.specs.Prelude.{ℕ, ◌==◌, List, Result, Ok, Err, if◌then◌else◌}
+use Rattle.std.specs.Prelude.{ℕ, ◌==◌, List, Result, Err, if◌then◌else◌}
 use Rattle.jc_heap.specs.declared.object.Facts.{Facts}
 use Rattle.jc_firewall.specs.declared.access.Access.TheVariants.{VirtualCall}
 use Rattle.jc_frames.specs.declared.cell.Cell.{Cell}

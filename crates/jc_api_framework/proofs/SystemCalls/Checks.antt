@@ -1,28 +1,19 @@
 -- JCSystem: what its checks give where a call does not go on, and what they say where it does.
 use Rattle.std.specs.Ordering.{int_eq}
-use Rattle.std.specs.Prelude.{◌==◌, ℤ, pos, nat_le}
-use Rattle.std.proofs.Common.{◌+◌, ◌≡◌, ◌∙◌, ◌≤◌, ℕ, Option, Some, None, Ok, refl, sym, ap, Bool, true, false, Err, if◌then◌else◌, length, subst, inr}
-use Rattle.std.proofs.lemmas.Bool.{leb-true}
-use Rattle.jc_heap.specs.Heap.{facts}
-use Rattle.jc_heap.specs.declared.object.Facts.{Facts}
+use Rattle.std.specs.Prelude.{ℤ, pos}
+use Rattle.std.proofs.Common.{◌≡◌, ℕ, Option, Some, None, Ok, refl, subst}
 use Rattle.jc_heap.specs.declared.object.Kind.{Kind}
-use Rattle.jc_heap.specs.declared.object.Kind.TheVariants.{Instance, BooleanArray, ByteArray, ShortArray, ReferenceArray}
-use Rattle.jc_firewall.specs.Reach.{IsInReach}
-use Rattle.jc_memory.specs.Cells.{header_at}
+use Rattle.jc_heap.specs.declared.object.Kind.TheVariants.{Instance}
 use Rattle.jc_memory.specs.State.{MemoryState}
 use Rattle.jc_memory.specs.declared.making.NewObject.{NewObject}
 use Rattle.jc_linker.specs.Values.{Packages}
-use Rattle.jc_frames.specs.declared.outcome.Exception.TheVariants.{NullPointerException, ArrayIndexOutOfBoundsException}
-use Rattle.jc_frames.specs.declared.outcome.FrameExit.TheVariants.{Throw}
-use Rattle.jc_world.specs.Arrays.{within}
-use Rattle.jc_world.specs.Contexts.{firewall_check, situation_of}
 use Rattle.jc_world.specs.Numbers.{not_negative}
 use Rattle.jc_api.specs.NewArrays.{class_for}
 use Rattle.jc_api.specs.TransientEvents.{allowed_event}
 use Rattle.jc_api.proofs.Exits.{FaultsOnly, plain_if, plain_then}
 use Rattle.jc_api.proofs.Passing.{IsTransientArray}
-use Rattle.jc_api.proofs.Reaching.{err_not_ok, same_Ok, header_is, element_allowed}
-use Rattle.jc_api.proofs.Stretches.{IsStretch, both_ok}
+use Rattle.jc_api.proofs.Reaching.{same_Ok}
+use Rattle.jc_api.proofs.Stretches.{both_ok}
 use Rattle.jc_api.proofs.TransientEvents.{plain_allowed}
 use Rattle.jc_api_framework.specs.System.Memory.{available_bytes}
 use Rattle.jc_api_framework.specs.System.Transient.{length_in, event_named, requested_array}

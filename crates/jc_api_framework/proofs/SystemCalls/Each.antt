@@ -6,7 +6,6 @@ use Rattle.std.proofs.Common.{◌≡◌, ℕ, List, Bool, true, false, if◌then
 use Rattle.jc_heap.specs.declared.object.Facts.{Facts}
 use Rattle.jc_heap.specs.declared.object.Kind.{Kind}
 use Rattle.jc_heap.specs.declared.object.Kind.TheVariants.{Instance}
-use Rattle.jc_firewall.specs.declared.access.Access.TheVariants.{ArrayElement}
 use Rattle.jc_memory.specs.Cells.{header_at, cells_refusal}
 use Rattle.jc_memory.specs.Making.{creation_refusal}
 use Rattle.jc_memory.specs.State.{MemoryState, Effect}
@@ -19,8 +18,6 @@ use Rattle.jc_platform.specs.declared.names.PlatformMethod.{PlatformMethod}
 use Rattle.jc_linker.specs.Values.{Packages}
 use Rattle.jc_frames.specs.declared.cell.Cell.{Cell}
 use Rattle.jc_world.specs.Arrays.{bytes_in}
-use Rattle.jc_world.specs.Contexts.{firewall_check}
-use Rattle.jc_world.specs.Numbers.{not_negative}
 use Rattle.jc_world.specs.Objects.{short_argument, reference_argument, is_instance_of}
 use Rattle.jc_api.specs.Arguments.{counted_of, two_shorts_of}
 use Rattle.jc_api.proofs.ArgumentExits.{plain_counted}

@@ -2,7 +2,7 @@ use Rattle.std.proofs.Common.{◌≡◌, length, arith}
 use Rattle.std.proofs.lemmas.List.FromFn.{length-map-range_with_len}
 use Rattle.jc_memory.specs.Cells.{byte_at}
 use Rattle.jc_world.specs.Arrays.{bytes_in}
-use Rattle.jc_api_framework.proofs.Lengths.{longer_disagree}
+use Rattle.jc_api_framework.proofs.AidCalls.Lengths.{longer_disagree}
 use Rattle.jc_api_framework.proofs.aid.agrees_with.Goals as goal
 
 pub returns-then-count-aid : goal.returns-then-count-aid

@@ -1,4 +1,4 @@
-use Rattle.std.proofs.Common.{◌≡◌, subst, sym}
+use Rattle.std.proofs.Common.{subst, sym}
 use Rattle.jc_memory.specs.Programs.{Executes}
 use Rattle.jc_world.specs.NativeCalls.{after_call}
 use Rattle.jc_api_framework.specs.Util.{util_answer, util_call}

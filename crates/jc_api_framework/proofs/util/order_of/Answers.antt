@@ -1,5 +1,5 @@
 use Rattle.jc_memory.specs.Cells.{byte_at}
-use Rattle.jc_api_framework.proofs.Orders.{one_more}
+use Rattle.jc_api_framework.proofs.UtilCalls.Orders.{one_more}
 use Rattle.jc_api_framework.proofs.util.order_of.Goals as goal
 
 pub loop-k-preserved : goal.loop-k-preserved

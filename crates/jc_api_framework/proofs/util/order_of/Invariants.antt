@@ -1,6 +1,6 @@
 use Rattle.std.proofs.Common.{◌≡◌, ◌+◌, ◌-◌}
 use Rattle.jc_memory.specs.Cells.{byte_at}
-use Rattle.jc_api_framework.proofs.Orders.{order_from}
+use Rattle.jc_api_framework.proofs.UtilCalls.Orders.{order_from}
 use Rattle.jc_api_framework.proofs.util.order_of.Given as goal
 
 abbrev pub invariant-loop-k : goal.invariant-loop-k

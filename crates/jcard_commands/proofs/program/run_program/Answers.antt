@@ -2,7 +2,7 @@ use Rattle.std.proofs.Common.{Err, ◌∙◌, ap, inl, map}
 use Rattle.std.specs.String.{string_bytes}
 use Rattle.jc_words.specs.Count.{failures_after}
 use Rattle.jcard_script.proofs.Known.{appends_then_appends}
-use Rattle.jcard_faults.specs.declared.fault.Fault.TheVariants.{NoMemory}
+use Rattle.jcard_files.specs.declared.fault.Fault.TheVariants.{NoMemory}
 use Rattle.jcard_commands.proofs.Ends.{unbegun_told}
 use Rattle.jcard_commands.proofs.program.run_program.Goals as goal
 
@@ -11,8 +11,8 @@ returns-in_default g c =
     let told = c.tell.ensures.line in
     unbegun_told _ _ _ _ _ told.0 told.1 (Err c.folder_fault.result) told.3 c.folder_fault.ensures told.2 told.4 c.tell.ensures.status
 
-pub returns-in-Ok-collect : goal.returns-in-Ok-collect
-returns-in-Ok-collect g c =
+pub returns-in-Ok-words_of : goal.returns-in-Ok-words_of
+returns-in-Ok-words_of g c =
     let done = c.perform-ended.ensures.done in
     let told = c.tell-status.ensures.line in
     let failures = told.4 ∙ ap (λ n. failures_after n told.1) c.perform-ended.ensures.writes in (
@@ -30,8 +30,8 @@ returns-in-Ok-collect g c =
 
 pub returns-in-Ok-args : goal.returns-in-Ok-args
 returns-in-Ok-args g c =
-    let told = rw c.words_fault.ensures at c.tell-in-Err-collect.ensures.line in
-    let status = rw c.words_fault.ensures at c.tell-in-Err-collect.ensures.status in
+    let told = rw c.words_fault.ensures at c.tell-in-Err-words_of.ensures.line in
+    let status = rw c.words_fault.ensures at c.tell-in-Err-words_of.ensures.status in
     unbegun_told _ _ _ _ _ told.0 told.1 (Err NoMemory) told.3 tt told.2 told.4 status
 
 pub returns : goal.returns

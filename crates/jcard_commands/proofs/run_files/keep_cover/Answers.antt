@@ -1,5 +1,5 @@
 use Rattle.std.proofs.Common.{◌∙◌, ap}
-use Rattle.jcard_faults.specs.Faults.{is_unwritten}
+use Rattle.jcard_files.specs.Faults.{is_unwritten}
 use Rattle.jcard_commands.proofs.Unwritten.{ended_unwritten}
 use Rattle.jcard_commands.proofs.run_files.keep_cover.Goals as goal
 

@@ -1,6 +1,6 @@
 use Rattle.std.proofs.Common.{◌∙◌, ◌++◌, Bool, List, ℕ, ap}
 use Rattle.std.specs.Prelude.{codes}
-use Rattle.jcard_objects.specs.ClassTexts.{kind_text}
+use Rattle.jc_objects.specs.ClassTexts.{kind_text}
 use Rattle.jcard_listing.specs.Compared.{values_text}
 use Rattle.jcard_listing.specs.Keys.{is_hidden}
 use Rattle.jcard_listing.specs.Texts.{labelled_text}

@@ -2,8 +2,8 @@ use Rattle.std.proofs.Common.{◌≡◌, ◌∙◌, ◌++◌, List, ℕ, Option,
 use Rattle.std.specs.Prelude.{codes, slice_index}
 use Rattle.std.proofs.lemmas.Result.{on_ok_weaker}
 use Rattle.jc_heap.specs.Object.{cells_of}
-use Rattle.jc_image_keys.specs.Keys.{key_at}
-use Rattle.jc_image_keys.specs.declared.keys.KeyFacts.{KeyFacts}
+use Rattle.jc_records.specs.Keys.{key_at}
+use Rattle.jc_records.specs.declared.keys.KeyFacts.{KeyFacts}
 use Rattle.jc_records.specs.Records.{item_at}
 use Rattle.jcard_listing.specs.Keys.{size_text, type_text}
 use Rattle.jcard_listing.specs.Texts.{reference_text}

@@ -1,7 +1,7 @@
 use Rattle.std.proofs.Common.{◌≡◌, ◌++◌, [], List, ℕ}
 use Rattle.std.specs.Prelude.{codes}
 use Rattle.std.proofs.lemmas.Result.{on_ok_weaker}
-use Rattle.jcard_objects.specs.ClassTexts.{kind_text}
+use Rattle.jc_objects.specs.ClassTexts.{kind_text}
 use Rattle.jcard_listing.specs.Objects.{owner_text}
 use Rattle.jcard_listing.specs.Texts.{labelled_text}
 use Rattle.jcard_listing.proofs.Chains.{push_behind}

@@ -1,12 +1,8 @@
-use Rattle.std.proofs.Common.{[], refl, inl, false}
-use Rattle.jcard_script.specs.CardOrStore.{state_of_held}
-use Rattle.jcard_script.proofs.Known.{appends_same, consumes_same}
-use Rattle.jcard_script.proofs.Kept.{failed_store}
+use Rattle.jcard_script.proofs.Ending.{ends_within}
 use Rattle.jcard_script.proofs.script.run_script_explained.Goals as goal
 
-pub returns-in-Err-clause-script : goal.returns-in-Err-clause-script
-returns-in-Err-clause-script g c =
-    let fails = rw c.in-Err.is at c.start-session.ensures.fault in
-    let store = failed_store c.args.budget (state_of_held c.start-session.result.0.held) c.args.fuse fails.0 c.into_store.result c.in-Err.fault fails.1 fails.2
-    c.into_store.ensures.store in
-    ([], [], false, consumes_same _, appends_same _, tt, inl (store, refl, refl))
+pub returns-clause-script : goal.returns-clause-script
+returns-clause-script g c =
+    let d = c.run_script_selecting-store.ensures.script in
+    let r = c.run_script_selecting-store.result in
+    (d.0, d.1, d.2, d.3, d.4, d.5, ends_within c.args.budget r.1 c.args.fuse r.0 d.2 d.0 d.1 r.2 d.6)

@@ -1,10 +1,8 @@
-use Rattle.std.proofs.Common.{refl, subst, sym}
+use Rattle.std.proofs.Common.{inl, refl, subst, sym}
 use Rattle.std.specs.Prelude.{option_map}
 use Rattle.jcard_tear.specs.Faults.{IsLineUncut}
 use Rattle.jcard_tear.specs.ScriptLines.{line_of}
-use Rattle.jcard_tear.specs.Sweeps.{probe_of}
-use Rattle.jcard_tear.specs.declared.cuts.Command.{Command}
-use Rattle.jcard_tear.proofs.Uncut.{memory_uncut, passed_on}
+use Rattle.jcard_tear.proofs.Uncut.{memory_unbegun, passed_on}
 use Rattle.jcard_tear.proofs.each.line_told.Goals as goal
 
 pub returns : goal.returns
@@ -16,13 +14,5 @@ returns-in_err-outcome g c = passed_on _ _ c.from_residual.result c.from_residua
     c.in_err-outcome.ensures)
 
 pub returns-in_err-command : goal.returns-in_err-command
-returns-in_err-command g c =
-    let given = option_map (λ text. text.now) c.args.probe in
-    let command : Command = record {
-      before = c.args.line.before;
-      line = c.args.line.line;
-      probe = record { ref_ptr = (0, 0); now = probe_of given c.args.line.before.now };
-      behind = c.args.behind;
-    } in
-    passed_on _ _ c.from_residual-in_err-command.result c.from_residual-in_err-command.ensures.1
-    (λ fault e. (command, refl, refl, refl, refl, memory_uncut c.args.words.now command 1 fault e))
+returns-in_err-command g c = passed_on _ _ c.from_residual-in_err-command.result c.from_residual-in_err-command.ensures.1
+    (λ fault e. inl (memory_unbegun c.args.behind.instructions c.args.words.now c.args.line.before.now fault e))

@@ -1,4 +1,4 @@
-use Rattle.std.proofs.Common.{◌∙◌, ap, sym, refl, inl, subst}
+use Rattle.std.proofs.Common.{refl, inl, subst}
 use Rattle.std.proofs.lemmas.Result.{MatchResult-weaker}
 use Rattle.jcard_tear.specs.Runs.{IsLeft}
 use Rattle.jcard_tear.proofs.Uncut.{passed_on, probe_uncut, run_uncut}

@@ -1,4 +1,4 @@
-use Rattle.std.proofs.Common.{◌≡◌, ◌∙◌, ◌++◌, ap, sym, refl, inl, inr, subst}
+use Rattle.std.proofs.Common.{◌∙◌, ◌++◌, ap, sym, refl, inl, inr, subst}
 use Rattle.jcard_tear.specs.Faults.{IsCarriedOut, IsProbeFault}
 use Rattle.jcard_tear.specs.Runs.{IsLeft, IsRunFault, Runs}
 use Rattle.jcard_tear.specs.Sweeps.{IsLastLine}

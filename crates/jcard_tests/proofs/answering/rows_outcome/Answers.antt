@@ -1,6 +1,6 @@
 use Rattle.std.proofs.Common.{◌∙◌, ◌+◌, ap, length, min, refl, drop, subst}
 use Rattle.jcard_tests.specs.Tests.{AreAnsweredOn, EndsOn}
-use Rattle.jcard_rows.specs.declared.outcome.Outcome.TheVariants.{Held, Failed}
+use Rattle.jcard_tests.specs.declared.outcome.Outcome.TheVariants.{Held, Failed}
 use Rattle.jcard_tests.proofs.RowTests.{answered_all, answered_next, answered_not}
 use Rattle.jcard_tests.proofs.answering.rows_outcome.Goals as goal
 

@@ -1,6 +1,6 @@
 use Rattle.std.proofs.Common.{drop}
 use Rattle.jcard_tests.specs.Tests.{AreAnsweredOn}
-use Rattle.jcard_rows.specs.declared.outcome.Outcome.{Outcome}
+use Rattle.jcard_tests.specs.declared.outcome.Outcome.{Outcome}
 use Rattle.jcard_tests.proofs.answering.rows_outcome.Given as goal
 
 abbrev pub invariant-loop-card : goal.invariant-loop-card

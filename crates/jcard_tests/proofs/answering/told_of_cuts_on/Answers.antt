@@ -1,5 +1,5 @@
 use Rattle.std.proofs.Common.{◌∙◌, ℕ, List, ap₂}
-use Rattle.jcard_rows.specs.Rows.{line_text, script_text}
+use Rattle.jcard_tests.specs.Rows.{line_text, script_text}
 use Rattle.jcard_tear.specs.ScriptLines.{Line}
 use Rattle.jcard_tests.proofs.RowTests.{told_on}
 use Rattle.jcard_tests.proofs.answering.told_of_cuts_on.Goals as goal

@@ -1,6 +1,6 @@
 use Rattle.std.proofs.Common.{[], ◌∷◌, refl, subst}
 use Rattle.std.specs.String.{string_bytes}
-use Rattle.jcard_rows.specs.Lines.{Says}
+use Rattle.jcard_tests.specs.Lines.{Says}
 use Rattle.jcard_tests.proofs.RowTests.{no_reading, place_of_file, place_of_other}
 use Rattle.jcard_tests.proofs.rows_file.add_line.Goals as goal
 

@@ -1,21 +1,15 @@
-use Rattle.std.proofs.Common.{[], ◌∷◌, ◌∙◌, refl, inl}
-use Rattle.jcard_files.specs.FileDeeds.{WritesText}
-use Rattle.jcard_tests.proofs.RowTests.{junit_kept, junit_unwritten}
+use Rattle.std.proofs.Common.{[], ◌∙◌, refl, inl, subst}
+use Rattle.jcard_tests.specs.Tests.{IsKeptIn}
+use Rattle.jcard_tests.proofs.RowTests.{names_of}
 use Rattle.jcard_tests.proofs.testing.write_junit.Goals as goal
 
-pub returns-in_default-clause-written : goal.returns-in_default-clause-written
-returns-in_default-clause-written g c = ([], inl (refl, refl), g.met.D.Disk.none c.args.disk.now)
+pub returns-in-Ok-clause-written : goal.returns-in-Ok-clause-written
+returns-in-Ok-clause-written g c =
+    let written = c.keep_in.ensures.written in (
+      written.0,
+      subst (λ bytes. IsKeptIn (names_of c.args.files.now) c.args.name.now bytes c.keep_in.result written.0) (c.deref.ensures.value ∙ c.in-Ok.ensures) written.1,
+      written.2,
+    )
 
-pub returns-in-Ok-junit-clause-written : goal.returns-in-Ok-junit-clause-written
-returns-in-Ok-junit-clause-written g c = (
-  WritesText c.args.name.now c.as_slice-shown.result.now c.write_text.result ∷ [],
-  junit_kept c.write_text.result c.args.files.now c.as_slice-kept.result.now c.args.name.now c.as_slice-shown.result.now c.args.tested.now
-      (c.as_slice-kept.ensures.value ∙ c.in-Ok.ensures) (c.as_slice-shown.ensures.value ∙ c.in-Ok-junit.ensures) c.write_text.ensures.spared c.write_text.ensures.refused,
-  c.write_text.ensures.does,
-)
-
-pub returns-in-Ok-junit-clause-unwritten : goal.returns-in-Ok-junit-clause-unwritten
-returns-in-Ok-junit-clause-unwritten g c = junit_unwritten c.write_text.result c.args.name.now c.write_text.ensures.refused
-
-pub returns-clause-written : goal.returns-clause-written
-returns-clause-written g c = ([], inl (refl, refl), g.met.D.Disk.none c.args.disk.now)
+pub returns-in-Err-clause-written : goal.returns-in-Err-clause-written
+returns-in-Err-clause-written g c = ([], inl (refl, refl), g.met.D.Disk.none c.args.disk.now)

@@ -2,6 +2,7 @@ package javacard.security;
 
 /** An engine that makes digests of messages. It is made by a call, and no class of an applet extends it. */
 public abstract class MessageDigest {
+    public static final byte ALG_NULL = 0;
     public static final byte ALG_SHA = 1;
     public static final byte ALG_MD5 = 2;
     public static final byte ALG_RIPEMD160 = 3;

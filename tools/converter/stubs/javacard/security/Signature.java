@@ -19,6 +19,11 @@ public abstract class Signature {
     public static final byte ALG_HMAC_SHA_512 = 27;
     public static final byte ALG_HMAC_MD5 = 28;
     public static final byte ALG_AES_CMAC_128 = 49;
+    public static final byte SIG_CIPHER_DES_MAC4 = 1;
+    public static final byte SIG_CIPHER_DES_MAC8 = 2;
+    public static final byte SIG_CIPHER_AES_MAC128 = 6;
+    public static final byte SIG_CIPHER_HMAC = 7;
+    public static final byte SIG_CIPHER_AES_CMAC128 = 10;
     public static final byte MODE_SIGN = 1;
     public static final byte MODE_VERIFY = 2;
 
@@ -48,9 +53,11 @@ public abstract class Signature {
     /** The parameters are the vector before the first block. */
     public abstract void init(Key theKey, byte theMode, byte[] bArray, short bOff, short bLen);
 
+    /** Takes the last bytes, hands out the signature, and begins anew. */
     public abstract short sign(byte[] inBuff, short inOffset, short inLength, byte[] sigBuff, short sigOffset);
 
     public abstract void update(byte[] inBuff, short inOffset, short inLength);
 
+    /** Takes the last bytes, and begins anew. A signature of another length is none. */
     public abstract boolean verify(byte[] inBuff, short inOffset, short inLength, byte[] sigBuff, short sigOffset, short sigLength);
 }

@@ -20,6 +20,16 @@ public abstract class Cipher {
     public static final byte ALG_AES_ECB_ISO9797_M1 = 25;
     public static final byte ALG_AES_ECB_ISO9797_M2 = 26;
     public static final byte ALG_AES_ECB_PKCS5 = 27;
+    public static final byte CIPHER_AES_CBC = 1;
+    public static final byte CIPHER_AES_ECB = 2;
+    public static final byte CIPHER_DES_CBC = 3;
+    public static final byte CIPHER_DES_ECB = 4;
+    public static final byte PAD_NULL = 0;
+    public static final byte PAD_NOPAD = 1;
+    public static final byte PAD_ISO9797_M1 = 2;
+    public static final byte PAD_ISO9797_M2 = 3;
+    public static final byte PAD_ISO9797_1_M2_ALG3 = 5;
+    public static final byte PAD_PKCS5 = 6;
     public static final byte MODE_DECRYPT = 1;
     public static final byte MODE_ENCRYPT = 2;
 
@@ -48,6 +58,6 @@ public abstract class Cipher {
     /** The parameters are the vector before the first block. */
     public abstract void init(Key theKey, byte theMode, byte[] bArray, short bOff, short bLen);
 
-    /** Hands out whole blocks. */
+    /** Hands out the whole blocks that came, all but the last one where a padding may stand in it. */
     public abstract short update(byte[] inBuff, short inOffset, short inLength, byte[] outBuff, short outOffset);
 }

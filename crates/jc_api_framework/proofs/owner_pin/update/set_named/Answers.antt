@@ -4,7 +4,7 @@ use Rattle.jc_pin.specs.Updating.{pin_update}
 use Rattle.jc_world.specs.Arrays.{bytes_in}
 use Rattle.jc_world.specs.NativeCalls.{after_call}
 use Rattle.jc_api_framework.specs.OwnerPin.{changed_or_thrown}
-use Rattle.jc_api_framework.proofs.Settling.{answered}
+use Rattle.jc_api_framework.proofs.OwnerPinCalls.Settling.{answered}
 use Rattle.jc_api_framework.proofs.owner_pin.update.set_named.Goals as goal
 
 pub returns : goal.returns

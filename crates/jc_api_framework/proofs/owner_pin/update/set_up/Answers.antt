@@ -3,7 +3,7 @@ use Rattle.jc_memory.specs.Programs.{Executes}
 use Rattle.jc_pin.specs.PinInit.{pin_init}
 use Rattle.jc_world.specs.NativeCalls.{after_call}
 use Rattle.jc_api_framework.specs.OwnerPin.{changed_or_thrown}
-use Rattle.jc_api_framework.proofs.Settling.{answered}
+use Rattle.jc_api_framework.proofs.OwnerPinCalls.Settling.{answered}
 use Rattle.jc_api_framework.proofs.owner_pin.update.set_up.Goals as goal
 
 pub returns : goal.returns

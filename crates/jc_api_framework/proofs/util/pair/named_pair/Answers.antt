@@ -1,4 +1,4 @@
-use Rattle.jc_api_framework.proofs.Fitting.{all_fit}
+use Rattle.jc_api_framework.proofs.UtilCalls.Fitting.{all_fit}
 use Rattle.jc_api_framework.proofs.util.pair.named_pair.Goals as goal
 
 pub returns-clause-fits : goal.returns-clause-fits

@@ -1,5 +1,0 @@
-//! Texts about objects: their classes, and which of their cells changed.
-#![tactic(auto)]
-
-pub mod changes;
-pub mod class_texts;

@@ -1,9 +1,0 @@
-pub mod Items
-pub mod Fitting
-pub mod CardSteps
-pub mod Compared
-pub mod NamedTables
-pub mod Numbering
-pub mod Paths
-pub mod Reports
-pub mod Said

@@ -1,0 +1,57 @@
+//! The lines that a card is asked after a cut.
+ghost use Rattle.std.specs.Prelude.{◌≡◌, ◌<◌, ◌++◌, ℕ, List, length, option_map, IfOk, MatchResult, OnOk};
+ghost use Rattle.std.specs.Borrow.{Bor};
+ghost use Rattle.hex.specs.Hex.{encode_upper};
+ghost use Rattle.jcard_tear.specs.Runs.{IsRunFault};
+ghost use Rattle.jcard_tear.specs.Sweeps.{IsProbe, select_line};
+
+use crate::runs::{RunFault, selected_by};
+use jc_registry::Aid;
+use std::alloc::{AllocError, Global};
+
+/// The lines of the probe of a command that stands after this text: those that are given, or else the SELECT of the applet that is
+/// selected there, over a copy of these words; none where none is.
+pub(crate) fn probe_for(
+    alloc: Global,
+    words: &[u16],
+    probe: Option<&[u8]>,
+    before: &[u8],
+    budget: u32,
+) -> Result<Vec<u8>, RunFault>
+    requires { length words.now < 65536 }
+    ensures { MatchResult result (λ lines. IsProbe budget words.now
+        (option_map (λ (text : Bor (List ℕ)). text.now) probe.entry) before.now lines.items)
+        (λ fault. IsRunFault budget words.now before.now fault) }
+{
+    match probe {
+        Some(lines) => Ok(Vec::from_slice(alloc, lines)?),
+        None => {
+            let selected = selected_by(alloc, words, before, budget)?;
+            Ok(select_line(alloc, &selected)?)
+        }
+    }
+}
+
+// The line of the command that selects the applet with this AID; nothing where there is none.
+fn select_line(alloc: Global, selected: &Option<Aid>) -> Result<Vec<u8>, AllocError>
+    ensures { IfOk result (λ line. line.items ≡ select_line selected.now) }
+{
+    let mut line = Vec::new(alloc);
+    if let Some(aid) = selected {
+        let bytes = aid.bytes();
+        line.extend_from_slice(b"00A40400")?;
+        push_digits(alloc, &mut line, &[bytes.len() as u8])?;
+        push_digits(alloc, &mut line, bytes)?;
+        line.extend_from_slice(b"\n")?;
+    }
+    Ok(line)
+}
+
+// Bytes in hexadecimal digits.
+fn push_digits(alloc: Global, line: &mut Vec<u8>, bytes: &[u8]) -> Result<(), AllocError>
+    ensures { OnOk result (line.new.items ≡ line.old.items ++ encode_upper bytes.now) }
+{
+    let digits = hex::encode_upper(alloc, bytes)?;
+    line.extend_from_slice(digits.as_bytes())?;
+    Ok(())
+}

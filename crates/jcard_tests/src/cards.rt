@@ -1,0 +1,128 @@
+//! New cards, and the rows that each is given.
+ghost use Rattle.std.specs.Prelude.{◌≡◌, ◌≤◌, ℕ, List, codes, IfOk, OnOk, MatchOption, option_map, unwrap_or};
+ghost use Rattle.std.specs.Borrow.{Bor};
+ghost use Rattle.jcard_tests.specs.Cards.{AddsRow, AreCardsOf, IsNewCard, IsRow, IsRowOfLine, ends_with_tear, is_tear, torn};
+
+use crate::card_rows::CardRows;
+use crate::line::{Line, read_line};
+use crate::numbered::Numbered;
+use crate::row::Row;
+use std::alloc::{AllocError, Global};
+
+/// The fewest words that a card has.
+const LEAST: u16 = 4096;
+
+/// The cards that lines make by `card WORDS`, after one of this many words with which they begin, and the rows of each; 9000 is wanted where a
+/// row says nothing. The row after a line `tear all-or-nothing` is torn. A directive that is left is a row too, which no card answers.
+pub fn cards_of(alloc: Global, first: u16, lines: &[Numbered]) -> Result<Vec<CardRows>, AllocError>
+    requires { 4096 ≤ first }
+    ensures { IfOk result (λ cards. AreCardsOf first lines.now cards.items) }
+{
+    let mut cards = Vec::new(alloc);
+    let mut words = first;
+    let mut rows = Vec::new(alloc);
+    for line in lines {
+        let Some(row) = row_of(alloc, line)? else {
+            continue;
+        };
+        match card_size(row.command.as_str()) {
+            Some(size) => {
+                cards.push(CardRows { words, rows })?;
+                words = size;
+                rows = Vec::new(alloc);
+            }
+            None => push_row(&mut rows, row)?,
+        }
+    }
+    cards.push(CardRows { words, rows })?;
+    Ok(cards)
+}
+
+// Adds a row, which is torn where the one before it says so, and stands in its place.
+fn push_row(rows: &mut Vec<Row>, row: Row) -> Result<(), AllocError>
+    ensures { OnOk result (AddsRow rows.old.items row rows.new.items) }
+{
+    if is_tear(&row) || !ends_with_tear(rows) {
+        rows.push(row)?;
+        return Ok(());
+    }
+    let _directive = rows.pop();
+    rows.push(torn(row))?;
+    Ok(())
+}
+
+// The last row says that the one after it is torn.
+fn ends_with_tear(rows: &[Row]) -> bool
+    ensures { result ≡ ends_with_tear rows.now }
+{
+    match rows.last() {
+        Some(row) => is_tear(row),
+        None => false,
+    }
+}
+
+fn is_tear(row: &Row) -> bool
+    ensures { result ≡ is_tear row.now }
+{
+    row.command.as_str() == "tear all-or-nothing"
+}
+
+// The row, torn.
+fn torn(row: Row) -> Row
+    ensures { result ≡ torn row }
+{
+    Row {
+        number: row.number,
+        command: row.command,
+        wanted: row.wanted,
+        torn: true,
+    }
+}
+
+// The row of a line, if it is one.
+fn row_of(alloc: Global, line: &Numbered) -> Result<Option<Row>, AllocError>
+    ensures { IfOk result (λ row. IsRowOfLine line.now row) }
+{
+    match read_line(line.text.as_str()) {
+        Line::Nothing => Ok(None),
+        Line::Row(command, answer) => {
+            let row = new_row(alloc, line.number, command, wanted_of(answer))?;
+            Ok(Some(row))
+        }
+        _ => {
+            let row = new_row(alloc, line.number, line.text.as_str(), "9000")?;
+            Ok(Some(row))
+        }
+    }
+}
+
+// What is wanted where a row says this after its command, or nothing.
+fn wanted_of(answer: Option<&str>) -> &str
+    ensures { result.now ≡ unwrap_or (option_map (λ (told : Bor (List ℕ)). told.now) answer.entry)
+        (codes "9000") }
+{
+    match answer {
+        Some(told) => told,
+        None => "9000",
+    }
+}
+
+fn new_row(alloc: Global, number: usize, command: &str, wanted: &str) -> Result<Row, AllocError>
+    ensures { IfOk result (λ row. IsRow number command.now wanted.now row) }
+{
+    Ok(Row {
+        number,
+        command: String::from_str(alloc, command)?,
+        wanted: String::from_str(alloc, wanted)?,
+        torn: false,
+    })
+}
+
+// How many words the card has that a line makes, where it makes one.
+fn card_size(command: &str) -> Option<u16>
+    ensures { MatchOption result ((words : ℕ) → IsNewCard command.now words → ⊥)
+        (λ words. IsNewCard command.now words) }
+{
+    let words = command.strip_prefix("card ")?.parse::<u16>().ok()?;
+    if words < LEAST { None } else { Some(words) }
+}
