@@ -1,11 +1,14 @@
-/* Loaded into a program, tells on standard error the longest time from the end of one write to standard output to the begin of the
-   next, in nanoseconds. The first SKIPPED writes are left out. */
+/* Loaded into a program, says on standard error how long it took at most from the end of one answer's writing to the begin of the next
+   one's, in nanoseconds. The first SKIPPED answers are left out. What is written of an image is a word, of two bytes; all else are
+   answers, whatever the number of the file. */
 #define _GNU_SOURCE
 #include <dlfcn.h>
 #include <stdio.h>
 #include <stdlib.h>
 #include <time.h>
 #include <unistd.h>
+
+enum { WORD = 2 };
 
 static long last, longest, writes, skipped;
 static ssize_t (*real)(int, const void *, size_t);
@@ -23,7 +26,7 @@ __attribute__((constructor)) static void begin(void) {
 }
 
 ssize_t write(int file, const void *bytes, size_t size) {
-    if (file != STDOUT_FILENO) return real(file, bytes, size);
+    if (size <= WORD) return real(file, bytes, size);
     long time = now();
     if (writes > skipped && time - last > longest) longest = time - last;
     writes++;
