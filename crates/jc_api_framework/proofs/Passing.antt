@@ -1,6 +1,7 @@
 -- What is to be shown of something that is to hold of each effect of a call of these classes.
 use Rattle.std.specs.Prelude.{slice_index}
 use Rattle.std.proofs.Common.{◌≡◌, ◌≤◌, ◌+◌, ℕ, true, false, List, None, Option, Result, Ok, Err, Some, Bool, length}
+use Rattle.jc_transient.specs.State.{buffer_size}
 use Rattle.jc_heap.specs.Moves.{Begin, Commit, Abort, SetPlaces, WriteNonAtomic}
 use Rattle.jc_memory.specs.Cells.{cells_effect}
 use Rattle.jc_memory.specs.Making.{object_creation}
@@ -102,7 +103,7 @@ pub record MethodPasses (P : Effect → MemoryState → Type 0) (method : Platfo
   pub calls : CallPasses P method args p m
   pub aid : method ≡ Aids AidInit → (own : ℕ) (bytes : List ℕ) → reference_argument args 0 ≡ Some own → IsInstanceWith m own 9 → is_aid_length (length bytes) ≡ true
       → P (cells_effect m own 0 (cells_of_aid bytes)) m
-  pub buffer : (r : ℕ) (words : List ℕ) → IsCommandBuffer m r → (length m.command ≤ 261 → 5 + length words ≤ 261) → P (cells_effect m r 5 words) m
+  pub buffer : (r : ℕ) (words : List ℕ) → IsCommandBuffer m r → (length m.command ≤ buffer_size → 5 + length words ≤ buffer_size) → P (cells_effect m r 5 words) m
   pub starts : (pin : ℕ) → IsPinCall method args m pin → (limit maximum : ℕ) → AllDue P (object_creation (value_array m maximum) (recorded pin limit maximum)) m
   pub flags : (pin : ℕ) → IsPinCall method args m pin → (flag : Bool) (v : MemoryState) → P (SetFlag pin flag) v
   pub counts : (pin : ℕ) → IsPinCall method args m pin → (n : ℕ) → P (HeapMove (WriteNonAtomic (counter pin) n)) (apply_effect (SetFlag pin false) m)

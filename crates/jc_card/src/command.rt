@@ -1,6 +1,7 @@
 //! Commands.
 ghost use Rattle.std.specs.Prelude.{◌≡◌, ◌<◌, ◌≤◌, IfSome, length};
 ghost use Rattle.std.specs.Option.{option_map};
+ghost use Rattle.jc_transient.specs.State.{buffer_size};
 ghost use Rattle.jc_card.specs.Apdu.{apdu_of, data_of};
 ghost use Rattle.jc_card.specs.Commands.{apdu_value};
 ghost use Rattle.jc_dispatch.specs.Slices.{slice_bytes};
@@ -23,7 +24,7 @@ impl<'a> Command<'a> {
     pub fn parse(bytes: &'a [u8]) -> Option<Self>
         ensures value { option_map apdu_value result ≡ apdu_of bytes.entry.now }
         ensures short { IfSome result (λ command. length command.data.now < 256) }
-        ensures long { IfSome result (λ command. length bytes.entry.now ≤ 261) }
+        ensures long { IfSome result (λ command. length bytes.entry.now ≤ buffer_size) }
     {
         let data = data_in(bytes)?;
         Some(Command {
@@ -40,7 +41,7 @@ impl<'a> Command<'a> {
 fn data_in(bytes: &[u8]) -> Option<&[u8]>
     ensures value { option_map slice_bytes result ≡ data_of bytes.now }
     ensures long { IfSome result (λ found. (length found.now < 256)
-        × ((3 < length bytes.now) × (length bytes.now ≤ 261))) }
+        × ((3 < length bytes.now) × (length bytes.now ≤ buffer_size))) }
 {
     if bytes.len() < 4 {
         return None;

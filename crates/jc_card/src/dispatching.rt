@@ -1,5 +1,6 @@
 //! Commands that applets answer, and "create applet".
 ghost use Rattle.std.specs.Prelude.{◌≡◌, ◌≤◌, false, length, OnErr, OnOk};
+ghost use Rattle.jc_transient.specs.State.{buffer_size};
 ghost use Rattle.jc_memory.specs.Programs.{Executes};
 ghost use Rattle.jc_heap.specs.Completions.{after_step};
 ghost use Rattle.jc_card.specs.Answers.{after_exchange, answered};
@@ -124,7 +125,7 @@ impl<S: WordStore> Card<S> {
         response: &mut Response,
     ) -> Result<(), StoreDown>
         requires up { self.old.memory.heap.down ≡ false }
-        requires long { length bytes.now ≤ 261 }
+        requires long { length bytes.now ≤ buffer_size }
         ensures executes { Executes (dispatch bytes.now (apdu_value command.entry) self.old)
             self.old.memory (after_exchange (answered result response.new) self.new) }
         ensures unanswered { OnErr result (response.new ≡ response.old) }

@@ -19,7 +19,7 @@ use Rattle.jc_commit.specs.Image.{IsGoodLog}
 use Rattle.jc_commit.specs.Entries.{addresses_of, AreDistinct, ArePlaces, IsBeside, AreBeside, SameBefore, HasEntries}
 use Rattle.jc_commit.specs.State.{State, IsShort, live_words, born_of}
 use Rattle.jc_commit.specs.Keeping.{writes_inside, is_taken_back}
-use Rattle.jc_commit.specs.EntryIndex.{named_by, needing, with_entries, IsIndexOf, GoBack, KeepsAddresses}
+use Rattle.jc_commit.specs.EntryIndex.{named_by, needing, with_entries, IsIndexOf, IsGapFor, GoBack, KeepsAddresses}
 use Rattle.jc_commit.proofs.Words.{Spot, bounds_of, place_spot, log-set}
 use Rattle.jc_commit.proofs.Steps.{IsGoodLog-set_place, count-set_place, entries-set_place, plain-set_place}
 use Rattle.jc_commit.proofs.Entries.{same_after, target, target-take, places_beside}
@@ -137,6 +137,14 @@ named_by_kept l w v n same =
 pub index_kept : (l : Log) (w v : List ℕ) (n : ℕ) (numbers : List ℕ) → SameBefore l n w v → IsIndexOf l w n numbers → IsIndexOf l v n numbers
 index_kept l w v n numbers same index = IsIndexOf-same l w v n numbers (named_by_same l w v n same) index
 
+-- and a gap stays one
+pub gap_kept : (l : Log) (w v : List ℕ) (n : ℕ) (numbers : List ℕ) (a i : ℕ) → SameBefore l n w v → IsIndexOf l w n numbers → IsGapFor l w numbers a i → IsGapFor l v numbers a i
+gap_kept l w v n numbers a i same index gap = record {
+  within = gap.within;
+  lower = λ k less. let g = gap.lower k less in let s = named_by_same l w v n same (slice_index numbers k) (index.counted k (omega (arith, less, gap.within))) in omega (arith, g, s);
+  higher = λ k le within. let g = gap.higher k le within in let s = named_by_same l w v n same (slice_index numbers k) (index.counted k within) in omega (arith, g, s);
+}
+
 -- one entry more names one address more
 named_by_more : (l : Log) (w : List ℕ) (k : ℕ) → named_by l w (k + 1) ≡ named_by l w k ++ address_at l w k ∷ []
 unfolding named_by
@@ -180,19 +188,6 @@ others_before changes i within distinct k d below same =
     get_or-map [] j lt = absurd (omega (arith, lt))
     get_or-map (c ∷ cs) zero lt = refl
     get_or-map (c ∷ cs) (suc j) lt = get_or-map cs j (omega (arith, lt))
-
-or_none : (a b : Bool) → (a || b) ≡ false → a ≡ false
-or_none true b is = absurd (false≢true (sym is))
-or_none false b is = refl
-
--- an entry that is put names an address that no other does
-pub own_entry : (l : Log) (w v : List ℕ) (k born a : ℕ) → k < l.capacity → l.start + 2 * l.capacity ≤ length w → SameBefore l k w v → v ≡ with_entries l w k ((a, 0) ∷ [])
-    → is_taken_back (named_by l w k) born a ≡ false →
-    list_any (λ x. x == address_at l v k) (named_by l v k) ≡ false
-own_entry l w v k born a few size same put needs =
-    ap (λ (ls : List ℕ). list_any (λ x. x == address_at l v k) ls) (named_by_kept l w v k same)
-    ∙ ap (λ (b : ℕ). list_any (λ x. x == b) (named_by l w k)) (ap (λ (u : List ℕ). address_at l u k) put ∙ entry_address l w k (a, 0) few size)
-    ∙ or_none (list_any (λ x. x == a) (named_by l w k)) (nat_le born a) needs
 
 or_false : (a b : Bool) → b ≡ false → (a || b) ≡ a
 or_false true b is = refl

@@ -1,8 +1,6 @@
 //! The entries that count, in the order of the addresses that they name.
-ghost use Rattle.std.specs.Prelude.{◌≡◌, ◌<◌, ◌≤◌, ◌+◌, ◌*◌, ◌^◌, ◌==◌, false, length, MatchResult};
+ghost use Rattle.std.specs.Prelude.{◌≡◌, ◌<◌, ◌≤◌, ◌+◌, ◌*◌, ◌^◌, ◌==◌, length, IfSome, MatchResult};
 ghost use Rattle.std.specs.List.{list_any};
-ghost use Rattle.jc_commit.specs.Image.{address_at};
-ghost use Rattle.jc_words.specs.Layout.{most_capacity};
 ghost use Rattle.jc_commit.specs.EntryIndex.{named_by, IsIndexOf, StandsAt, IsGapFor};
 
 use arrayvec::ArrayVec;
@@ -14,6 +12,45 @@ const MOST_ENTRIES: usize = MOST_CAPACITY as usize;
 
 /// The numbers of entries.
 pub(crate) type EntryIndex = ArrayVec<u16, MOST_ENTRIES>;
+
+// The same numbers.
+pub(crate) fn copy_of(numbers: &EntryIndex) -> EntryIndex
+    ensures { result.items ≡ numbers.now.items }
+{
+    let mut copy = EntryIndex::new();
+    match copy.try_extend_from_slice(numbers.as_slice()) {
+        Ok(()) => copy,
+        Err(_) => unreachable!(),
+    }
+}
+
+// The end of the index where an entry that names the address would belong, if it would belong at one: code mostly writes the
+// words of an array in their order.
+fn gap_at_end<S: WordStore>(
+    store: &S,
+    log: Log,
+    n: u16,
+    numbers: &[u16],
+    address: u16,
+) -> Option<usize>
+    requires few { n ≤ log.capacity }
+    requires size { log.start + 2 * log.capacity ≤ length (S.words store.now) }
+    requires small { log.start + 2 * log.capacity < 2 ^ 16 }
+    requires index { IsIndexOf log (S.words store.now) n numbers.now }
+    ensures { IfSome result (λ i. IsGapFor log (S.words store.now) numbers.now address i) }
+{
+    let count = numbers.len();
+    if count == 0 {
+        return Some(0);
+    }
+    if store.read(log.address_word(numbers[count - 1])) < address {
+        return Some(count);
+    }
+    if address < store.read(log.address_word(numbers[0])) {
+        return Some(0);
+    }
+    None
+}
 
 // Where in the index of the first n entries one stands that names the address, or where one would
 // belong.
@@ -31,6 +68,9 @@ pub(crate) fn find<S: WordStore>(
     ensures { MatchResult result (λ i. StandsAt log (S.words store.now) numbers.now address i)
         (λ i. IsGapFor log (S.words store.now) numbers.now address i) }
 {
+    if let Some(end) = gap_at_end(store, log, n, numbers, address) {
+        return Err(end);
+    }
     let mut low = 0;
     let mut high = numbers.len();
     while low < high {
@@ -63,22 +103,4 @@ pub(crate) fn is_named<S: WordStore>(
     ensures { result ≡ list_any (λ x. x == address) (named_by log (S.words store.now) n) }
 {
     find(store, log, n, numbers, address).is_ok()
-}
-
-// The index of the first n entries becomes that of one more, which names an address of its own.
-pub(crate) fn insert<S: WordStore>(store: &S, log: Log, n: u16, numbers: &mut EntryIndex)
-    requires few { n < log.capacity }
-    requires most { log.capacity ≤ most_capacity }
-    requires size { log.start + 2 * log.capacity ≤ length (S.words store.now) }
-    requires small { log.start + 2 * log.capacity < 2 ^ 16 }
-    requires index { IsIndexOf log (S.words store.now) n numbers.old.items }
-    requires own { list_any (λ x. x == address_at log (S.words store.now) n)
-        (named_by log (S.words store.now) n) ≡ false }
-    ensures { IsIndexOf log (S.words store.now) (n + 1) numbers.new.items }
-{
-    let address = store.read(log.address_word(n));
-    let Err(place) = find(store, log, n, numbers.as_slice(), address) else {
-        return;
-    };
-    numbers.insert(place, n);
 }

@@ -1,5 +1,5 @@
 //! Changes in a transaction: a word's first old value is kept, and none of a word born in it.
-ghost use Rattle.std.specs.Prelude.{◌≡◌, ◌<◌, ◌≤◌, ◌+◌, ◌*◌, ◌^◌, ◌++◌, ◌==◌, [], ◌∷◌, length, OnOk, OnErr, IfOk, slice_set, filter, not, is_ok, true, if◌then◌else◌};
+ghost use Rattle.std.specs.Prelude.{◌≡◌, ◌<◌, ◌≤◌, ◌+◌, ◌*◌, ◌^◌, ◌++◌, ◌==◌, [], ◌∷◌, length, OnOk, OnErr, IfOk, IfSome, is_none, slice_set, filter, not, is_ok, true, if◌then◌else◌};
 ghost use Rattle.jc_words.specs.Count.{saturating_count};
 ghost use Rattle.jc_words.specs.Refusals.{refused_once};
 ghost use Rattle.jc_words.specs.Layout.{count_address, log_end, most_capacity};
@@ -8,10 +8,10 @@ ghost use Rattle.jc_commit.specs.Image.{count_of, limit_of, entries, plain_of, r
 ghost use Rattle.jc_commit.specs.Entries.{addresses_of, AreDistinct, ArePlaces, IsBeside, AreBeside, SameBefore};
 ghost use Rattle.jc_commit.specs.State.{live_words, IsShort};
 ghost use Rattle.jc_commit.specs.Keeping.{is_taken_back, writes_inside};
-ghost use Rattle.jc_commit.specs.EntryIndex.{named_by, needing, with_entries, IsIndexOf, GoBack, KeepsAddresses};
+ghost use Rattle.jc_commit.specs.EntryIndex.{named_by, needing, with_entries, IsIndexOf, IsGapFor, GoBack, KeepsAddresses};
 
 use crate::changes::WordChanges;
-use crate::index::{EntryIndex, insert, is_named};
+use crate::index::{EntryIndex, find, is_named};
 use jc_words::layout::COUNT;
 use jc_words::{Log, StoreDown, WordStore};
 
@@ -31,6 +31,31 @@ pub(crate) fn is_taken_back<S: WordStore>(
     ensures { result ≡ is_taken_back (named_by log (S.words store.now) n) born address }
 {
     is_named(store, log, n, numbers, address) || born <= address
+}
+
+// Where in the index an entry of the address belongs; `None` where nothing is to be kept of its word.
+fn place_to_keep<S: WordStore>(
+    store: &S,
+    log: Log,
+    n: u16,
+    numbers: &[u16],
+    born: u16,
+    address: u16,
+) -> Option<usize>
+    requires few { n ≤ log.capacity }
+    requires size { log.start + 2 * log.capacity ≤ length (S.words store.now) }
+    requires small { log.start + 2 * log.capacity < 2 ^ 16 }
+    requires index { IsIndexOf log (S.words store.now) n numbers.now }
+    ensures kept { is_none result ≡ is_taken_back (named_by log (S.words store.now) n) born address }
+    ensures gap { IfSome result (λ i. IsGapFor log (S.words store.now) numbers.now address i) }
+{
+    if born <= address {
+        return None;
+    }
+    match find(store, log, n, numbers, address) {
+        Ok(_) => None,
+        Err(place) => Some(place),
+    }
 }
 
 // How many of these changes have an old value to keep.
@@ -141,11 +166,11 @@ fn put_change<S: WordStore>(
         refused_once (S.down store.old) (S.passed store.new) (S.refusals store.old)) }
 {
     let (address, _) = change;
-    if is_taken_back(store, log, k, numbers.as_slice(), born, address) {
+    let Some(place) = place_to_keep(store, log, k, numbers.as_slice(), born, address) else {
         return Ok(k);
-    }
+    };
     put_entry(store, log, k, address)?;
-    insert(store, log, k, numbers);
+    numbers.insert(place, k);
     Ok(k + 1)
 }
 

@@ -1,6 +1,7 @@
 -- The APDU buffer as the runtime environment fills it.
 use Rattle.std.specs.Prelude.{ℕ, ◌-◌, ◌==◌, ◌&&◌, nat_le, Bool, true, false, List, ◌++◌, length, replicate, is_some, slice_index, Option, Some, None}
 use Rattle.std.specs.Prelude.{if◌then◌else◌}
+use Rattle.jc_transient.specs.State.{buffer_size}
 use Rattle.jc_environment.specs.Objects.{apdu_place, buffer_place}
 use Rattle.jc_heap.specs.declared.object.Facts.{Facts}
 use Rattle.jc_heap.specs.declared.object.Kind.{Kind}
@@ -8,10 +9,6 @@ use Rattle.jc_heap.specs.declared.object.Kind.TheVariants.{Instance, BooleanArra
 use Rattle.jc_memory.specs.State.{MemoryState}
 use Rattle.jc_memory.specs.Programs.{Program, Perform, Finish}
 use Rattle.jc_memory.specs.Cells.{header_at, cells_effect}
-
--- the bytes that the buffer has room for
-abbrev pub buffer_length : ℕ
-buffer_length = 261
 
 -- the APDU object, and the APDU buffer
 abbrev pub apdu_object : MemoryState → ℕ
@@ -22,7 +19,7 @@ apdu_buffer m = slice_index m.fixed buffer_place
 
 -- these bytes, and zeros after them
 abbrev pub padded_bytes : List ℕ → List ℕ
-padded_bytes bytes = bytes ++ replicate (buffer_length - length bytes) 0
+padded_bytes bytes = bytes ++ replicate (buffer_size - length bytes) 0
 
 abbrev pub is_of_bytes : Kind → Bool
 is_of_bytes Instance = false
@@ -33,7 +30,7 @@ is_of_bytes ReferenceArray = false
 
 -- a transient array of this many bytes
 abbrev pub is_buffer : Facts → Bool
-is_buffer f = is_of_bytes f.kind && is_some f.event && nat_le buffer_length f.length
+is_buffer f = is_of_bytes f.kind && is_some f.event && nat_le buffer_size f.length
 
 -- the buffer is filled, as every image has it
 abbrev pub buffer_fill_in : MemoryState → Option Facts → List ℕ → Program (Unit {0})

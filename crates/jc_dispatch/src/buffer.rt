@@ -33,7 +33,7 @@ fn is_buffer(facts: Facts) -> bool
     of_bytes && facts.event.is_some() && usize::from(facts.length) >= MOST_COMMAND
 }
 
-/// The buffer holds these bytes, at most 261, and zeros after them.
+/// The buffer holds these bytes, as many as it has room for at most, and zeros after them.
 #[tactic(auto, unfolding(crate::specs::Buffer::buffer_fill))]
 pub(crate) fn fill<S: WordStore>(bytes: &[u8], memory: &mut Memory<S>)
     requires up { memory.old.heap.down ≡ false }

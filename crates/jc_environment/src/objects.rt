@@ -170,7 +170,7 @@ fn is_of(object: &FixedObject, class: PlatformClass) -> bool
     ensures { result ≡ is_of object.now class }
 {
     match object.class {
-        Some(of) => of == class,
+        Some(of) => of.is(class),
         None => false,
     }
 }

@@ -1,6 +1,8 @@
 //! A heap: reading, cells, transactions.
-ghost use Rattle.std.specs.Prelude.{ℕ, ◌≡◌, ◌<◌, ◌≤◌, [], ◌∷◌, true, false, length, slice_index, OnOk, ◌+◌, ◌↔◌, IsTrue, None, IfSome};
+ghost use Rattle.std.specs.Prelude.{ℕ, ◌≡◌, ◌<◌, ◌≤◌, [], ◌∷◌, true, false, length, slice_index, OnOk, ◌+◌, ◌↔◌, IsTrue, None, IfSome, IfOk};
+ghost use Rattle.jc_words.specs.Count.{saturating_count};
 ghost use Rattle.jc_words.specs.Layout.{least_capacity, most_capacity};
+ghost use Rattle.jc_words.specs.Refusals.{with_fuse_at};
 ghost use Rattle.jc_heap.specs.Object.{IsElement};
 ghost use Rattle.jc_heap.specs.Image.{IsWellFormed};
 ghost use Rattle.jc_heap.specs.Heap.{HeapView, heap_view, IsSound, cells, facts, IsObject, HasEnd, next_object, room_left};
@@ -22,7 +24,8 @@ use crate::walk::{begins_package, begins_record};
 use jc_commit::Journal;
 use jc_transient::Ref;
 use jc_words::layout::{TEXT_LENGTH, TEXT_START, TOP};
-use jc_words::{StoreDown, WordStore};
+use jc_words::{CopyStore, FuseStore, StoreDown, WordStore};
+use std::alloc::{AllocError, Global};
 use std::marker::Model;
 
 /// Objects by reference, with transactions.
@@ -44,6 +47,34 @@ impl<S: WordStore> Model for Heap<S> {
     ghost view = { λ h. heap_view h.journal h.size };
 
     ghost invariant = { λ h. IsSound h.journal h.size };
+}
+
+impl<S: CopyStore> Heap<S> {
+    /// Another heap over a copy of the store. Without memory for it, it answers the error.
+    pub fn copy(&self, alloc: Global) -> Result<Heap<S>, AllocError>
+        ensures { IfOk result (λ copy. copy ≡ self.now) }
+    {
+        let journal = self.journal.copy(alloc)?;
+        Ok(Heap {
+            journal,
+            size: self.size,
+        })
+    }
+}
+
+impl<S: WordStore> Heap<FuseStore<S>> {
+    /// Arms the fuse of the store, while no transaction is open: `k` further writes pass, and the next is refused.
+    pub fn arm(&mut self, k: u64)
+        requires up { self.old.down ≡ false }
+        requires outside { self.old.begun ≡ false }
+        ensures armed { self.new ≡ record self.old {
+          refusals = with_fuse_at (saturating_count self.old.passed k) self.old.refusals;
+        } }
+        ensures settled { self.old.durable ≡ self.old.now }
+        ensures none { self.old.touched ≡ [] }
+    {
+        self.journal.arm(k);
+    }
 }
 
 impl<S: WordStore> Heap<S> {

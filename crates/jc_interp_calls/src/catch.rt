@@ -3,6 +3,7 @@ ghost use Rattle.std.specs.Prelude.{◌≡◌, ◌<◌, ◌^◌, Some, option_co
 ghost use Rattle.jc_interp_calls.specs.Catching.{catch_in_component, catch_by_class, catch_by_handler, catch_in_method, handler_target, catch_by_entry};
 ghost use Rattle.jc_opcodes.specs.Handlers.{handler_in};
 
+use crate::invoke::is_below;
 use crate::method_component::method_component_of;
 use jc_frames::Origin;
 use jc_linker::linked::Linked;
@@ -44,7 +45,7 @@ fn catch_by_class(
 {
     match entry {
         Some(Target::Class(class)) => {
-            if linked.is_below(thrown, *class) {
+            if is_below(thrown, *class, linked) {
                 caught
             } else {
                 HandlerResult::NotCaught

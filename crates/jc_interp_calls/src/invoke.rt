@@ -208,7 +208,7 @@ fn class_of(facts: Facts, linked: &Linked) -> ClassWord
 // The class is the other, below it, or implements it.
 #[tactic(auto, using(jc_world::proofs::Below::below_same))]
 #[inline(always)]
-fn is_below(own: ClassWord, class: ClassWord, linked: &Linked) -> bool
+pub(crate) fn is_below(own: ClassWord, class: ClassWord, linked: &Linked) -> bool
     ensures { result ≡ is_below linked.now own class }
 {
     own == class || linked.is_below(own, class)

@@ -1,5 +1,6 @@
 //! Static images: where their words stand, and what these hold.
 ghost use Rattle.std.specs.Prelude.{◌≡◌, ◌<◌, ◌≤◌, false, length, IfSome};
+ghost use Rattle.std.specs.Option.{option_map};
 ghost use Rattle.jc_heap.specs.Components.{record_of};
 ghost use Rattle.jc_interp_objects.specs.StaticImages.{record_at, image_word, next_word, place_of, word_value, byte_of, with_byte, image_byte, image_pair};
 ghost use Rattle.jc_interp_objects.specs.StaticImages.{IsImageWord};
@@ -127,8 +128,30 @@ pub(crate) fn image_byte<S: WordStore>(
     Some(byte_of(word_value(memory.heap(), &word), offset))
 }
 
-/// The word whose two bytes stand from an offset on.
+// What a word of a package's static image holds, by its number.
+fn image_whole<S: WordStore>(memory: &Memory<S>, package_number: u8, number: u16) -> Option<u16>
+    requires { memory.now.heap.down ≡ false }
+    ensures { result ≡ option_map (word_value memory.now.heap.now)
+        (image_word memory.now.heap.now package_number number) }
+{
+    let word = image_word(memory, package_number, number)?;
+    Some(word_value(memory.heap(), &word))
+}
+
+// The word whose two bytes stand from an offset on, byte by byte.
 #[tactic(auto, unfolding(crate::specs::StaticImages::image_pair))]
+#[inline(never)]
+fn split_pair<S: WordStore>(memory: &Memory<S>, package_number: u8, offset: u16) -> Option<u16>
+    requires { memory.now.heap.down ≡ false }
+    ensures { result ≡ image_pair memory.now.heap.now package_number offset }
+{
+    let high = image_byte(memory, package_number, u32::from(offset))?;
+    let low = image_byte(memory, package_number, u32::from(offset) + 1)?;
+    Some(u16::from(high) * 256 + u16::from(low))
+}
+
+/// The word whose two bytes stand from an offset on: at an even one they are a word of the image.
+#[tactic(auto, using(crate::proofs::Pairs::even_pair))]
 pub(crate) fn image_pair<S: WordStore>(
     memory: &Memory<S>,
     package_number: u8,
@@ -137,7 +160,8 @@ pub(crate) fn image_pair<S: WordStore>(
     requires { memory.now.heap.down ≡ false }
     ensures { result ≡ image_pair memory.now.heap.now package_number offset }
 {
-    let high = image_byte(memory, package_number, u32::from(offset))?;
-    let low = image_byte(memory, package_number, u32::from(offset) + 1)?;
-    Some(u16::from(high) * 256 + u16::from(low))
+    if offset % 2 == 0 {
+        return image_whole(memory, package_number, offset / 2);
+    }
+    split_pair(memory, package_number, offset)
 }

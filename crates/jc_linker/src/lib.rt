@@ -7,6 +7,7 @@
 pub mod class;
 mod classes;
 mod classes_linked;
+mod clones;
 mod completeness;
 pub mod copies;
 pub mod fault;

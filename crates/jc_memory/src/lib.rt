@@ -7,6 +7,7 @@ mod apdu;
 mod bytes;
 mod cells;
 mod commit_capacity;
+mod copying;
 mod filling;
 mod flags;
 mod making;

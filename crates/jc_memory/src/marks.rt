@@ -76,6 +76,14 @@ impl Marks {
         Marks { marks: flags }
     }
 
+    // The same marks.
+    pub(crate) fn copy(&self, alloc: Global) -> Result<Marks, AllocError>
+        ensures { IfOk result (λ copy. copy ≡ self.now) }
+    {
+        let marks = Vec::from_slice(alloc, &self.marks)?;
+        Ok(Marks { marks })
+    }
+
     // Whether an address is marked.
     #[inline(always)]
     pub(crate) fn has(&self, address: Ref) -> bool

@@ -12,12 +12,12 @@ use crate::notes::Notes;
 use crate::registers::Registers;
 use arrayvec::ArrayVec;
 use jc_heap::{Facts, Heap};
-use jc_transient::{Ram, Ref};
+use jc_transient::{BUFFER_CELLS, Ram, Ref};
 use jc_words::WordStore;
 use std::marker::Model;
 
 /// How many bytes a command has at most.
-pub const MOST_COMMAND: usize = 261;
+pub const MOST_COMMAND: usize = BUFFER_CELLS as usize;
 
 /// How many bytes are sent in answer to it at most.
 pub const MOST_SENT: usize = 256;

@@ -4,16 +4,16 @@ use Rattle.jc_platform.specs.declared.rows.ClassRow.{ClassRow}
 use Rattle.jc_platform.specs.declared.names.PlatformPackage.{PlatformPackage}
 use Rattle.jc_platform.specs.declared.names.PlatformPackage.TheVariants.{JavaLang, JavacardFramework, JavacardxApdu, JavacardSecurity, JavacardxCrypto}
 use Rattle.jc_platform.specs.Names.{classes}
-use Rattle.jc_platform.specs.Numbers.{package_number}
+use Rattle.jc_platform.specs.Numbers.{class_count, package_number}
 use Rattle.jc_platform.specs.Rows.{classes_of}
 use Rattle.jc_platform.specs.Seen.{class_value}
 use Rattle.jc_platform.proofs.Lists.{shown_between}
 
 -- the places of the packages' first classes, and after them how many classes there are
 abbrev pub firsts : List ℕ
-firsts = 0 ∷ 12 ∷ 31 ∷ 32 ∷ 48 ∷ 49 ∷ []
+firsts = 0 ∷ 12 ∷ 31 ∷ 32 ∷ 48 ∷ class_count ∷ []
 
-pub ends_within : (p : PlatformPackage) → get_or firsts (package_number p + 1) 0 ≤ 49
+pub ends_within : (p : PlatformPackage) → get_or firsts (package_number p + 1) 0 ≤ class_count
 ends_within JavaLang = omega arith
 ends_within JavacardFramework = omega arith
 ends_within JavacardxApdu = omega arith

@@ -464,11 +464,12 @@ impl PlatformPackage {
 }
 
 impl PlatformClass {
-    /// Whether the two are one, by their places.
-    pub(crate) const fn is(self, other: PlatformClass) -> bool
+    /// Whether the two are one class.
+    pub const fn is(self, other: PlatformClass) -> bool
         ensures { result ≡ same_class self other }
     {
-        self.index() == other.index()
+        let place = self.index();
+        place == other.index()
     }
 
     /// Its place among the classes.

@@ -56,6 +56,14 @@ impl Platform {
         Platform { table }
     }
 
+    /// Another platform with the same tokens.
+    pub fn copy(&self) -> Self
+        ensures { result ≡ self.now }
+    {
+        let table = self.table.copy();
+        Platform { table }
+    }
+
     /// The table that gives the tokens.
     pub fn table(&self) -> &Table
         ensures { result.now ≡ self.now }

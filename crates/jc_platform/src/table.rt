@@ -63,6 +63,19 @@ impl Table {
         }
     }
 
+    /// Another table with the same tokens.
+    pub(crate) fn copy(&self) -> Self
+        ensures { result ≡ self.now }
+    {
+        Table {
+            first: self.first,
+            versions: self.versions,
+            class_tokens: self.class_tokens,
+            method_tokens: self.method_tokens,
+            random: self.random,
+        }
+    }
+
     /// The token of a class that the table has, by which packages name it.
     pub fn token_of_class(&self, class: PlatformClass) -> Option<u8>
         ensures { result ≡ token_of_class self.now class }

@@ -43,6 +43,18 @@ impl Area {
         })
     }
 
+    /// Another area with the same cells.
+    pub(crate) fn copy(&self, alloc: Global) -> Result<Area, AllocError>
+        ensures { IfOk result (λ copy. copy ≡ self.now) }
+    {
+        let cells = Vec::from_slice(alloc, &self.cells)?;
+        Ok(Area {
+            cells,
+            used: self.used,
+            has_references: self.has_references,
+        })
+    }
+
     /// The cell at a place.
     #[inline(always)]
     pub(crate) fn get(&self, place: usize) -> CellValue

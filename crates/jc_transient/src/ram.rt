@@ -61,6 +61,20 @@ impl Ram {
         })
     }
 
+    /// Another memory with the same contents. Without memory for it, it answers the error.
+    pub fn copy(&self, alloc: Global) -> Result<Ram, AllocError>
+        ensures { IfOk result (λ copy. copy ≡ self.now) }
+    {
+        let reset_cells = self.reset_cells.copy(alloc)?;
+        let deselect_cells = self.deselect_cells.copy(alloc)?;
+        let flags = Vec::from_slice(alloc, &self.flags)?;
+        Ok(Ram {
+            reset_cells,
+            deselect_cells,
+            flags,
+        })
+    }
+
     /// The cell at a place of an event's area.
     #[inline(always)]
     pub fn get(&self, event: ClearEvent, place: u16) -> CellValue

@@ -8,7 +8,7 @@ ghost use Rattle.jcard_files.specs.declared.fault.Fault.{Fault};
 
 use crate::progress_line::ProgressLine;
 use crate::run::perform;
-use jc_words::{EmptyFile, FlushFile, LockFile};
+use jc_words::{EmptyFile, FlushFile, LockFile, WriteAt};
 use jcard_arguments::joined_words::joined;
 use jcard_files::disk::SystemDisk;
 use jcard_files::fault::{Fault, tell};
@@ -32,7 +32,7 @@ pub fn run_program<R: Env + Files + Clock + Eprint + AllocGlobal, W: TextOut>(
     out: &mut W,
 ) -> u8
 where
-    R::File: LockFile + EmptyFile + FlushFile,
+    R::File: LockFile + EmptyFile + FlushFile + WriteAt,
     ensures { (text last : List ℕ) × (ended : Result Unit Fault) × (deeds : List FileDeed)
         × (failed : Bool)
         × Appends (W.contents out.old) (W.contents out.new) (text ++ last)

@@ -12,8 +12,8 @@ use crate::fault::{Damage, Fault, FileKind};
 use crate::operand::{Operand, operand_named};
 use jc_words::{
     EmptyFile, FileCreateFault, FileLockFault, FileOpenFault, FileReadFault, FileStore, FlushFile,
-    Lock, LockFault, LockFile, OpenPath, Opening, ReplaceFault, StdFile, WordStore, ZeroWords,
-    open_to_replace,
+    Lock, LockFault, LockFile, OpenPath, Opening, ReplaceFault, StdFile, WordStore, WriteAt,
+    ZeroWords, open_to_replace,
 };
 use std::alloc::{AllocError, Global};
 use std::fs;
@@ -111,7 +111,7 @@ impl<'a, R: Files + AllocGlobal> SystemDisk<'a, R> {
 
 impl<'a, R: Files + AllocGlobal> SystemDisk<'a, R>
 where
-    R::File: LockFile + EmptyFile + FlushFile,
+    R::File: LockFile + EmptyFile + FlushFile + WriteAt,
 {
     // Makes a file with this name and these zero words. No memory is asked for.
     fn make_of<'n>(
@@ -133,7 +133,7 @@ where
 
 impl<'a, R: Files + AllocGlobal> Disk for SystemDisk<'a, R>
 where
-    R::File: LockFile + EmptyFile + FlushFile,
+    R::File: LockFile + EmptyFile + FlushFile + WriteAt,
 {
     type Image = FileStore<StdFile<R::File>>;
 

@@ -5,6 +5,7 @@ use Rattle.std.proofs.lemmas.Bool.{cases_lt, ne_eqb}
 use Rattle.std.proofs.lemmas.Bool.Decides.{nat_tests}
 use Rattle.std.proofs.lemmas.List.{take_all}
 use Rattle.std.proofs.lemmas.Grind.{common_steps}
+use Rattle.jc_transient.specs.State.{buffer_size}
 use Rattle.hex.specs.Hex.{IsBytes}
 use Rattle.jc_card.specs.Apdu.{apdu_of, data_of}
 use Rattle.jc_memory.specs.Programs.{Completes, TearLeaves}
@@ -20,8 +21,8 @@ use Rattle.jcard_script.specs.ScriptStates.{ScriptState, IsStoreLeft, fuse_kind}
 use Rattle.jcard_script.proofs.Decoding.{command_bytes}
 use Rattle.jcard_script.proofs.Words.{form_command}
 
--- a command of more than 261 bytes has no data
-data_none : (c : List ℕ) → 261 < length c → slice_index c 4 < 256 → data_of c ≡ None
+-- a command longer than the buffer has no data
+data_none : (c : List ℕ) → buffer_size < length c → slice_index c 4 < 256 → data_of c ≡ None
 data_none c h k =
     let first : nat_lt (length c) 4 ≡ false = grind (arith, nat_tests) in
     let second : nat_le (length c) 5 ≡ false = grind (arith, nat_tests) in
@@ -36,7 +37,7 @@ data_none c h k =
     none_if a b false d e x y w ha hb hd he = rw (ha, hb, hd, he) refl
 
 -- so it is no command
-apdu_none : (c : List ℕ) → 261 < length c → slice_index c 4 < 256 → apdu_of c ≡ None
+apdu_none : (c : List ℕ) → buffer_size < length c → slice_index c 4 < 256 → apdu_of c ≡ None
 apdu_none c h k = rw (data_none c h k) refl
 
 -- what the first 262 bytes ask for the whole command asks for

@@ -91,7 +91,7 @@ module _ (begins : EffectsKeepBeginnings) (t : Tokens) (card : CardState) (own :
 module _ (bytes : List ℕ) (are : AreBytes bytes) where
   long_by : (few bare one two : Bool) → nat_le (length bytes) 5 ≡ few → (length bytes == 5 + slice_index bytes 4) ≡ one
       → (length bytes == 6 + slice_index bytes 4) ≡ two → slice_index bytes 4 < 256 → (x y d : List ℕ) →
-      (if few then Some [] else (if bare then None else (if one then Some x else (if two then Some y else None)))) ≡ Some d → length bytes ≤ 261
+      (if few then Some [] else (if bare then None else (if one then Some x else (if two then Some y else None)))) ≡ Some d → length bytes ≤ buffer_size
   long_by true bare one two le is other byte x y d e = let n = leb-true (length bytes) 5 le in omega (arith, n)
   long_by false true one two le is other byte x y d e = absurd (none-some d e)
   long_by false false true two le is other byte x y d e = let n = eqb-true (length bytes) (5 + slice_index bytes 4) is in omega (arith, n, byte)
@@ -101,12 +101,12 @@ module _ (bytes : List ℕ) (are : AreBytes bytes) where
   long_in : (short : Bool) (d : List ℕ) → 4 < length bytes → (if short then None else
       (if nat_le (length bytes) 5 then Some [] else (if slice_index bytes 4 == 0 then None else (if length bytes == 5 + slice_index bytes 4 then Some
       (drop 5 bytes) else (if length bytes == 6 + slice_index bytes 4 then Some (take (slice_index bytes 4) (drop 5 bytes)) else None))))) ≡ Some d
-      → length bytes ≤ 261
+      → length bytes ≤ buffer_size
   long_in true d there e = absurd (none-some d e)
   long_in false d there e = long_by (nat_le (length bytes) 5) (slice_index bytes 4 == 0) (length bytes == 5 + slice_index bytes 4)
       (length bytes == 6 + slice_index bytes 4) refl refl refl (All-get_or (λ b. b < 256) bytes 4 0 there are) _ _ d e
 
-  fits_if : (f : List ℕ → Apdu) (o : Option (List ℕ)) (c : Apdu) → data_of bytes ≡ o → option_map f o ≡ Some c → 4 < length bytes → length bytes ≤ 261
+  fits_if : (f : List ℕ → Apdu) (o : Option (List ℕ)) (c : Apdu) → data_of bytes ≡ o → option_map f o ≡ Some c → 4 < length bytes → length bytes ≤ buffer_size
   fits_if f None c is e there = absurd (none-some c e)
   fits_if f (Some d) c is e there = long_in (nat_lt (length bytes) 4) d there is
 

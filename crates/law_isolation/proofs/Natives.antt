@@ -8,6 +8,7 @@ use Rattle.jc_words.specs.Layout.{most_applets}
 use Rattle.jc_transient.specs.declared.cell.CellValue.TheVariants.{Short}
 use Rattle.jc_transient.specs.Cells.{number_of}
 use Rattle.jc_transient.specs.declared.cell.ClearEvent.{ClearEvent}
+use Rattle.jc_transient.specs.State.{buffer_size}
 use Rattle.jc_heap.specs.declared.object.Kind.TheVariants.{ByteArray}
 use Rattle.jc_heap.specs.Object.{is_object}
 use Rattle.jc_heap.specs.Heap.{IsObject, facts, is_allocated}
@@ -72,7 +73,7 @@ counts_kept p m aid r = (applets-set_cells (cells_of_aid aid) _ r 0).0 ∙ (appl
 pub nine : (aid : List ℕ) → length (cells_of_aid aid) ≡ 9
 nine aid = let l = length-map (range_with_len 0 8) (aid_cell aid) in let n = length-range_with_len 0 8 in omega (arith, l, n)
 
-module _ (method : PlatformMethod) (args : List Cell) (p : Packages) (m : MemoryState) (q : ℕ) (out : IsOutside p m q) (few : length m.command ≤ 261)
+module _ (method : PlatformMethod) (args : List Cell) (p : Packages) (m : MemoryState) (q : ℕ) (out : IsOutside p m q) (few : length m.command ≤ buffer_size)
     (reach : sets_receiver method ≡ true → ReachesCalled args p m) where
   -- what is called, and sets cells of it, is another object
   other : sets_receiver method ≡ true → (own : ℕ) → reference_argument args 0 ≡ Some own → own ≡ q → ⊥

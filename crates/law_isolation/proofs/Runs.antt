@@ -1,5 +1,6 @@
 -- Runs.
 use Rattle.std.proofs.Common.{◌≡◌, ℕ, zero, suc, ◌≤◌, List, ◌++◌, length, sym, subst}
+use Rattle.jc_transient.specs.State.{buffer_size}
 use Rattle.jc_heap.specs.Object.{Object, AnObject}
 use Rattle.jc_heap.specs.Heap.{heap_item_at}
 use Rattle.jc_memory.specs.State.{MemoryState, Effect, apply_effects}
@@ -19,8 +20,8 @@ use Rattle.law_isolation.proofs.Steps.{steps_spare}
 -- an object stands as it stood when the run began
 module _ (p : Packages) (statics : NamesStatics p) (lent : List ℕ) (start : MemoryState) (set : IsSet start) (q : ℕ) (out : IsOutside p start q) (o : Object)
     (is : heap_item_at start.heap.now q ≡ AnObject o) where
-  fits : (m : MemoryState) → Stands q o start m → length m.command ≤ 261
-  fits m st = subst (λ l. length l ≤ 261) (sym st.command) set.command
+  fits : (m : MemoryState) → Stands q o start m → length m.command ≤ buffer_size
+  fits m st = subst (λ l. length l ≤ buffer_size) (sym st.command) set.command
 
   step_taken : (s : Frames) (m : MemoryState) (es : List Effect) (next : Next Frames) → Stands q o start m → Stays lent p s m
       → HasTrace (machine_step lent p s m) m es next → AllEffectsDue (LeavesObject q) es m

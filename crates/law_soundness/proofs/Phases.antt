@@ -29,7 +29,7 @@ use Rattle.jc_linker.specs.Values.{Packages}
 use Rattle.jc_platform.specs.declared.names.PlatformMethod.{PlatformMethod}
 use Rattle.jc_interp_calls.specs.Entering.{first_frames_of, first_frames_with, first_frames}
 use Rattle.jc_interp.specs.Running.{run_methods}
-use Rattle.jc_dispatch.specs.Buffer.{apdu_buffer, buffer_fill, buffer_fill_in, buffer_length, is_buffer, is_of_bytes, padded_bytes}
+use Rattle.jc_dispatch.specs.Buffer.{apdu_buffer, buffer_fill, buffer_fill_in, is_buffer, is_of_bytes, padded_bytes}
 use Rattle.jc_dispatch.specs.Phases.{then_with, applet_method_call, close, abort_if_open, method_named, registers_idle, method_run, method_run_from, run_method}
 use Rattle.jc_dispatch.specs.Phases.{registers_for, registers_released}
 use Rattle.jc_api.proofs.Reaching.{header_is}
@@ -218,8 +218,8 @@ module _ (p : Packages) where
 -- the buffer has room for what it is filled with
 padded_fits : (bytes : List ℕ) → length bytes ≤ buffer_size → length (padded_bytes bytes) ≤ buffer_size
 padded_fits bytes few =
-    let whole = length-append bytes (replicate (buffer_length - length bytes) 0) in
-    let behind = length-replicate {A = ℕ} (buffer_length - length bytes) 0 in
+    let whole = length-append bytes (replicate (buffer_size - length bytes) 0) in
+    let behind = length-replicate {A = ℕ} (buffer_size - length bytes) 0 in
     omega (arith, whole, behind, few)
 
 -- nothing but the contents of transient objects changed

@@ -71,22 +71,31 @@ ssize_t read(int file, void *bytes, size_t size) {
     return most <= 0 ? most : real(file, bytes, (size_t)most);
 }
 
-static ssize_t write_word(int file, const void *bytes, ssize_t (*real)(int, const void *, size_t)) {
+static ssize_t put(int file, const void *bytes, size_t size, off_t place) {
+    ssize_t (*real)(int, const void *, size_t, off_t) = dlsym(RTLD_NEXT, "pwrite");
+    return real(file, bytes, size, place);
+}
+
+static ssize_t write_word(int file, const void *bytes, off_t place) {
     const char *fuse = getenv("FUSE"), *count = getenv("COUNT");
     if (fuse && !is_used_up && passed == strtoul(fuse, 0, 10)) return is_used_up = 1, errno = EIO, -1;
-    ssize_t moved = real(file, bytes, WORD);
+    ssize_t moved = put(file, bytes, WORD, place);
     if (moved == WORD && count) {
         char text[24];
         ++passed;
-        if (pwrite(atoi(count), text, (size_t)snprintf(text, sizeof text, "%lu\n", passed), 0) < 0) abort();
+        if (put(atoi(count), text, (size_t)snprintf(text, sizeof text, "%lu\n", passed), 0) < 0) abort();
     }
     return moved;
 }
 
+ssize_t pwrite(int file, const void *bytes, size_t size, off_t place) {
+    return file == image && size == WORD ? write_word(file, bytes, place) : put(file, bytes, size, place);
+}
+ssize_t pwrite64(int file, const void *bytes, size_t size, off_t place) __attribute__((alias("pwrite")));
+
 ssize_t write(int file, const void *bytes, size_t size) {
     ssize_t (*real)(int, const void *, size_t) = dlsym(RTLD_NEXT, "write");
     const char *room = getenv("ROOM");
-    if (file == image && size == WORD) return write_word(file, bytes, real);
     if (file != STDOUT_FILENO) return real(file, bytes, size);
     ssize_t most = allowed(&writes, "WRITES", size);
     if (most <= 0) return most;

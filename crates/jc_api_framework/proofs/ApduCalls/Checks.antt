@@ -35,12 +35,12 @@ plain_piece m left start count = plain_if (is_too_much m left count) _ _ tt (pla
 pub record IsCommandBuffer (m : MemoryState) (r : ℕ) : Type 0 where
   pub is : r ≡ slice_index m.fixed 16
   pub kind : (facts m.heap.now r).kind ≡ ByteArray
-  pub long : 261 ≤ (facts m.heap.now r).length
+  pub long : buffer_size ≤ (facts m.heap.now r).length
 
-buffer_kind : (kind : Kind) (n : ℕ) → is_buffer_of kind n ≡ true → (kind ≡ ByteArray) × (261 ≤ n)
+buffer_kind : (kind : Kind) (n : ℕ) → is_buffer_of kind n ≡ true → (kind ≡ ByteArray) × (buffer_size ≤ n)
 buffer_kind Instance n e = absurd cc
 buffer_kind BooleanArray n e = absurd cc
-buffer_kind ByteArray n e = (refl, (let is = eqb-true n 261 e in omega (arith, is)))
+buffer_kind ByteArray n e = (refl, (let is = eqb-true n buffer_size e in omega (arith, is)))
 buffer_kind ShortArray n e = absurd cc
 buffer_kind ReferenceArray n e = absurd cc
 
@@ -52,7 +52,7 @@ buffer_in m (Some f) is true on r e =
     let bytes = buffer_kind f.kind f.length on in
     let header = (header_is m (slice_index m.fixed 16) f is).1 in
     let kind : (facts m.heap.now (slice_index m.fixed 16)).kind ≡ ByteArray = subst (λ g. g.kind ≡ ByteArray) header bytes.0 in
-    let long : 261 ≤ (facts m.heap.now (slice_index m.fixed 16)).length = subst (λ g. 261 ≤ g.length) header bytes.1 in
+    let long : buffer_size ≤ (facts m.heap.now (slice_index m.fixed 16)).length = subst (λ g. buffer_size ≤ g.length) header bytes.1 in
     subst (IsCommandBuffer m) (same_Some (slice_index m.fixed 16) r e) (record { is = refl; kind = kind; long = long })
 
 pub buffer_is : (m : MemoryState) (r : ℕ) → buffer_of m ≡ Some r → IsCommandBuffer m r
@@ -68,13 +68,13 @@ pub apdu_is : (m : MemoryState) (r : ℕ) → apdu_object m ≡ Some r → slice
 unfolding apdu_object
 apdu_is m r is = apdu_found m (header_at m (slice_index m.fixed 15)) r is
 
-pub data_fits : (command : List ℕ) → length command ≤ 261 → 5 + length (data_of command) ≤ 261
+pub data_fits : (command : List ℕ) → length command ≤ buffer_size → 5 + length (data_of command) ≤ buffer_size
 unfolding data_of
 data_fits command few = either (nat_le (length command) 5)
   where
-    most : (n : ℕ) → n ≤ length command → 5 + length (slice_range command 5 n) ≤ 261
+    most : (n : ℕ) → n ≤ length command → 5 + length (slice_range command 5 n) ≤ buffer_size
     most n le = let l = length-between command 5 n le in omega (arith, l, le, few)
 
-    either : (b : Bool) → 5 + length (if b then [] else slice_range command 5 (min (5 + slice_index command 4) (length command))) ≤ 261
+    either : (b : Bool) → 5 + length (if b then [] else slice_range command 5 (min (5 + slice_index command 4) (length command))) ≤ buffer_size
     either true = omega arith
     either false = most (min (5 + slice_index command 4) (length command)) (omega arith)

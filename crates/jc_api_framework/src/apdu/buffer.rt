@@ -7,11 +7,8 @@ use jc_environment::APDU_BUFFER;
 use jc_frames::CodeFault;
 use jc_heap::Kind;
 use jc_memory::Memory;
-use jc_transient::Ref;
+use jc_transient::{BUFFER_CELLS, Ref};
 use jc_words::WordStore;
-
-/// How many bytes the buffer has.
-pub(crate) const BUFFER_SIZE: u16 = 261;
 
 /// The APDU buffer. A heap that does not begin with one is a code fault.
 #[tactic(auto, unfolding(crate::specs::Apdu::Buffer::buffer_of))]
@@ -23,7 +20,7 @@ pub fn buffer<S: WordStore>(memory: &Memory<S>) -> Result<Ref, CodeFault>
     let buffer = memory.fixed(APDU_BUFFER);
     let facts = memory.header(buffer).ok_or(CodeFault)?;
     match facts.kind {
-        Kind::ByteArray if facts.length == BUFFER_SIZE => Ok(buffer),
+        Kind::ByteArray if facts.length == BUFFER_CELLS => Ok(buffer),
         _ => Err(CodeFault),
     }
 }

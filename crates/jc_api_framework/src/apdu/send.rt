@@ -9,12 +9,12 @@ ghost use Rattle.jc_api_framework.specs.Apdu.Buffer.{IsBuffer};
 ghost use Rattle.jc_api_framework.specs.Apdu.{apdu_set_outgoing_and_send, apdu_send_bytes, send_in_phase, expected_of, is_too_much, length_of};
 ghost use Rattle.jc_api_framework.specs.Apdu.{apdu_set_outgoing_length, apdu_set_outgoing, piece_of, buffer_piece};
 
-use crate::apdu::buffer::{BUFFER_SIZE, buffer};
+use crate::apdu::buffer::buffer;
 use crate::apdu::phase::set_phase;
 use jc_frames::reasons::{BAD_LENGTH, BUFFER_BOUNDS, ILLEGAL_USE};
 use jc_frames::{Cell, FrameExit};
 use jc_memory::{ApduPhase, Memory};
-use jc_transient::Ref;
+use jc_transient::{BUFFER_CELLS, Ref};
 use jc_words::WordStore;
 use jc_world::{NativeResult, StepExit};
 
@@ -103,7 +103,7 @@ fn buffer_piece(start: i16, count: i16) -> Result<Piece, FrameExit>
         return Err(FrameExit::Throw(BUFFER_BOUNDS));
     }
     let (start, count) = (start.cast_unsigned(), count.cast_unsigned());
-    if start + count > BUFFER_SIZE {
+    if start + count > BUFFER_CELLS {
         return Err(FrameExit::Throw(BUFFER_BOUNDS));
     }
     Ok(Piece { start, count })
@@ -118,7 +118,7 @@ fn piece_of<S: WordStore>(
     memory: &Memory<S>,
 ) -> Result<Piece, FrameExit>
     ensures piece { result ≡ piece_of memory.now left start count }
-    ensures within { IfOk result (λ piece. piece.start + piece.count ≤ BUFFER_SIZE) }
+    ensures within { IfOk result (λ piece. piece.start + piece.count ≤ BUFFER_CELLS) }
     ensures left { IfOk result (λ piece. piece.count ≤ left) }
     ensures few { IfOk result (λ piece. length memory.now.sent + piece.count ≤ MOST_SENT) }
 {
@@ -132,7 +132,7 @@ fn piece_of<S: WordStore>(
 fn send_piece<S: WordStore>(piece: Piece, buffer: Ref, memory: &mut Memory<S>)
     requires up { memory.old.heap.down ≡ false }
     requires buffer { IsBuffer memory.old buffer }
-    requires within { piece.start + piece.count ≤ BUFFER_SIZE }
+    requires within { piece.start + piece.count ≤ BUFFER_CELLS }
     requires few { length memory.old.sent + piece.count ≤ MOST_SENT }
     ensures { memory.new ≡ apply_effect (SendBytes (bytes_at memory.old buffer piece.start
         piece.count)) memory.old }

@@ -1,13 +1,22 @@
-use Rattle.std.proofs.Common.{sym, ◌∙◌, rules}
-use Rattle.jc_commit.proofs.EntryKeeping.{index_kept, own_entry}
+use Rattle.std.proofs.Common.{◌≡◌, ◌+◌, sym, ap, subst, ◌∙◌, rules}
+use Rattle.jc_commit.specs.Image.{address_at}
+use Rattle.jc_commit.specs.EntryIndex.{IsIndexOf, IsGapFor}
+use Rattle.jc_commit.proofs.Indexes.{index_more}
+use Rattle.jc_commit.proofs.EntryKeeping.{entry_address, index_kept, gap_kept}
 use Rattle.jc_commit.proofs.keep.put_change.Goals as goal
 
-pub insert-requires-clause-index : goal.insert-requires-clause-index
-insert-requires-clause-index g c = index_kept c.args.log (g.S.WordStore.words c.args.store.now) (g.S.WordStore.words c.put_entry.new.store) c.args.k
-    c.args.numbers.now.items c.put_entry.ensures.same c.requires.index
-
-pub insert-requires-clause-own : goal.insert-requires-clause-own
-insert-requires-clause-own g c =
-    own_entry c.args.log (g.S.WordStore.words c.args.store.now) (g.S.WordStore.words c.put_entry.new.store) c.args.k c.args.born c.args.change.0 (search rules)
-    c.requires.size c.put_entry.ensures.same c.in_ok-put_entry.ensures.words
-    (sym c.is_taken_back.ensures ∙ c.if-is_taken_back.false)
+pub returns-clause-index : goal.returns-clause-index
+returns-clause-index g c =
+    let w = g.S.WordStore.words c.args.store.now in
+    let v = g.S.WordStore.words c.put_entry.new.store in
+    let k = c.args.k in
+    let numbers = c.args.numbers.now.items in
+    let a = c.args.change.0 in
+    let i = c.in-Some.place in
+    let names : address_at c.args.log v k ≡ a = ap (λ u. address_at c.args.log u k) c.in_ok-put_entry.ensures.words
+    ∙ entry_address c.args.log w k (a, 0) (search rules) c.requires.size in
+    let gap : IsGapFor c.args.log w numbers a i = subst (λ l. IsGapFor c.args.log w l a i) c.as_slice.ensures.value c.in-Some.ensures.gap in
+    let still : IsGapFor c.args.log v numbers a i = gap_kept c.args.log w v k numbers a i c.put_entry.ensures.same c.requires.index gap in
+    subst (IsIndexOf c.args.log v (k + 1)) (sym c.insert.ensures.items) (index_more c.args.log v numbers k i
+    (index_kept c.args.log w v k numbers c.put_entry.ensures.same c.requires.index)
+    (subst (λ x. IsGapFor c.args.log v numbers x i) (sym names) still))
