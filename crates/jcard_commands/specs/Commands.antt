@@ -1,5 +1,5 @@
 -- What the program does for the words of its command line.
-use Rattle.std.specs.Prelude.{ℕ, ◌≡◌, ◌⊎◌, Bool, List, [], ◌∷◌, ◌++◌, codes, Result, Ok, Err, Option, Some, None}
+use Rattle.std.specs.Prelude.{ℕ, ◌≡◌, ◌⊎◌, List, [], ◌∷◌, ◌++◌, codes, Result, Ok, Err, Option, Some}
 use Rattle.std.specs.Option.{unwrap_or}
 use Rattle.jcard_arguments.specs.CommandLine.{AskForHelp, AskForNothing, CommandLineRequest, RunAsked, TestAsked, request_of_words, text_of}
 use Rattle.jcard_arguments.specs.CommandLine.{ToCompare, ToJoin, ToList, ToListObjects, ToMake, ToRun, ToTear, ToTest, ToTry}

@@ -1,5 +1,5 @@
 -- Listings and sweeps, with the names of a map in them where one is given.
-use Rattle.std.specs.Prelude.{ℕ, ◌≡◌, ◌⊎◌, List, [], ◌++◌, Bool, Result, Ok, Err, Option, Some, None}
+use Rattle.std.specs.Prelude.{ℕ, ◌≡◌, ◌⊎◌, List, [], ◌++◌, Result, Err, Option, Some, None}
 use Rattle.std.specs.Option.{unwrap_or}
 use Rattle.jc_card.specs.Dispatching.{usual_budget}
 use Rattle.jcard_arguments.specs.CommandLine.{TearAsked, tear_asked_by}
@@ -10,19 +10,27 @@ use Rattle.jcard_files.specs.Readings.{IsScriptRead, IsUnread}
 use Rattle.jcard_listing.specs.Comparisons.{IsComparison}
 use Rattle.jcard_listing.specs.Told.{IsObjectsDump}
 use Rattle.jcard_script.specs.Texts.{IsCutOf}
+use Rattle.jcard_sweeps.specs.SweepsAsked.{SweepAsked}
 use Rattle.jcard_sweeps.specs.Tears.{IsTear}
+use Rattle.jcard_sweeps.specs.Writings.{Tells}
 use Rattle.jcard_why.specs.Named.{HasNames}
 use Rattle.jcard_commands.specs.declared.listed.Listed.{Listed}
 use Rattle.jcard_commands.specs.declared.listed.Listed.TheVariants.{Objects, Compared, Torn}
 
--- what is done with files, and the text that is written, to some end
-abbrev pub Tells : Type 1
-Tells = Result Unit Fault → List ℕ → List FileDeed → Type 0
+-- what words ask of a sweep over the script with this name
+abbrev pub sweep_asked : List ℕ → TearAsked → SweepAsked
+sweep_asked script asked = record {
+  script = script;
+  probe = asked.probe;
+  line = asked.line;
+  each = asked.each;
+  behind = record { depth = asked.depth; objects = asked.objects; instructions = unwrap_or asked.instructions usual_budget };
+  part = asked.part;
+}
 
 -- a sweep over the words of an image
 abbrev pub IsTearWith : List ℕ → List ℕ → TearAsked → Tells
-IsTearWith image script asked = IsTear image script asked.line asked.each
-    (record { depth = asked.depth; objects = asked.objects; instructions = unwrap_or asked.instructions usual_budget }) asked.part asked.probe
+IsTearWith image script asked = IsTear image (sweep_asked script asked)
 
 -- this was listed, without names
 abbrev pub IsListed : Listed → Tells

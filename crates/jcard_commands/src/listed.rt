@@ -1,12 +1,10 @@
 //! Listings and sweeps, with the names of a map in them where one is given.
-ghost use Rattle.std.specs.Prelude.{◌≡◌, ℕ, List, Some, false, option_map};
-ghost use Rattle.std.specs.Borrow.{Bor};
-ghost use Rattle.std.specs.Io.KnownBytes.{Appends};
-ghost use Rattle.jc_words.specs.Count.{failures_after};
-ghost use Rattle.jcard_arguments.specs.CommandLine.{tear_asked_by};
+ghost use Rattle.std.specs.Prelude.{◌≡◌, Some, false};
+ghost use Rattle.jcard_arguments.specs.CommandLine.{tear_asked_by, text_of};
 ghost use Rattle.jcard_files.specs.Faults.{is_unwritten};
-ghost use Rattle.jcard_files.specs.FileDeeds.{FileDeed};
-ghost use Rattle.jcard_commands.specs.Listed.{IsListed, IsNamed, IsTearWith, IsToldBy, IsWritten, in_memory};
+ghost use Rattle.jcard_sweeps.specs.SweepsAsked.{sweep_asked_by};
+ghost use Rattle.jcard_sweeps.specs.Writings.{Does, Writes};
+ghost use Rattle.jcard_commands.specs.Listed.{IsListed, IsNamed, IsToldBy, IsWritten, in_memory, sweep_asked};
 
 use crate::script_run::remark_on;
 use crate::told::Listener;
@@ -58,12 +56,8 @@ pub(crate) fn list<'n, D: Disk, W: TextOut, P: Progress + Listener + Remarks>(
     out: &mut W,
     progress: &mut P,
 ) -> Result<(), Fault<'n>>
-    ensures done { (text : List ℕ) × (deeds : List FileDeed)
-        × Appends (W.contents out.old) (W.contents out.new) text
-        × IsToldBy (option_map (λ (name : Bor (List ℕ)). name.now) map.entry)
-        (IsListed listed.entry) result text deeds × D.does disk.old deeds disk.new }
-    ensures writes { W.failures out.new ≡ failures_after (W.failures out.old)
-        (is_unwritten result) }
+    ensures { Does D.does W.contents W.failures disk.old disk.new out.old out.new result
+        (IsToldBy (text_of map.entry) (IsListed listed.entry)) }
 {
     match map {
         None => {
@@ -82,17 +76,10 @@ fn list_named<'n, D: Disk, W: TextOut, P: Progress + Listener + Remarks>(
     out: &mut W,
     progress: &mut P,
 ) -> Result<(), Fault<'n>>
-    ensures done { (text : List ℕ) × (deeds : List FileDeed)
-        × Appends (W.contents out.old) (W.contents out.new) text
-        × IsToldBy (Some map.now) (IsListed listed.entry) result text deeds
-        × D.does disk.old deeds disk.new }
-    ensures writes { W.failures out.new ≡ failures_after (W.failures out.old)
-        (is_unwritten result) }
+    ensures { Does D.does W.contents W.failures disk.old disk.new out.old out.new result
+        (IsToldBy (Some map.now) (IsListed listed.entry)) }
 {
-    let names = match script_of(disk, map) {
-        Ok(names) => names,
-        Err(fault) => return Err(fault),
-    };
+    let names = script_of(disk, map)?;
     remark_on(disk.alloc(), &names, progress);
     let mut words = Vec::new(disk.alloc());
     let mut kept = KeptText::new(disk.alloc());
@@ -109,11 +96,8 @@ fn list_plainly<'n, D: Disk, W: TextOut, P: Progress + Listener + Remarks>(
     out: &mut W,
     progress: &mut P,
 ) -> Result<(), Fault<'n>>
-    ensures done { (text : List ℕ) × (deeds : List FileDeed)
-        × Appends (W.contents out.old) (W.contents out.new) text
-        × IsListed listed.entry result text deeds × D.does disk.old deeds disk.new }
-    ensures writes { W.failures out.new ≡ failures_after (W.failures out.old)
-        (is_unwritten result) }
+    ensures { Does D.does W.contents W.failures disk.old disk.new out.old out.new result
+        (IsListed listed.entry) }
 {
     match listed {
         Listed::Objects { image, shown } => dump_objects(disk, image, shown, out),
@@ -126,30 +110,19 @@ fn list_plainly<'n, D: Disk, W: TextOut, P: Progress + Listener + Remarks>(
             image,
             script,
             options,
-        } => tear(disk, image, script, options, names, words, out, progress),
+        } => {
+            let mut lines = WriteLines::new(disk.alloc(), progress, options.why, names, words);
+            tear_image(disk, image, asked_by(script, options), out, &mut lines)
+        }
     }
 }
 
-// Cuts commands of the script over the words of the image, as the options ask.
-fn tear<'n, D: Disk, W: TextOut, P: Progress + Listener + Remarks>(
-    disk: &mut D,
-    image: &'n str,
-    script: &'n str,
-    options: TearOptions<'n>,
-    names: &[u8],
-    words: &mut Vec<u16>,
-    out: &mut W,
-    progress: &mut P,
-) -> Result<(), Fault<'n>>
-    ensures done { (text : List ℕ) × (deeds : List FileDeed)
-        × Appends (W.contents out.old) (W.contents out.new) text
-        × IsTearWith image.now script.now (tear_asked_by options.entry) result text deeds
-        × D.does disk.old deeds disk.new }
-    ensures writes { W.failures out.new ≡ failures_after (W.failures out.old)
-        (is_unwritten result) }
+// What these options ask of a sweep over the script with this name.
+fn asked_by<'n>(script: &'n str, options: TearOptions<'n>) -> Asked<'n>
+    ensures { sweep_asked_by result ≡ sweep_asked script.now (tear_asked_by options.entry) }
 {
     let instructions = options.instructions.unwrap_or(USUAL_BUDGET);
-    let asked = Asked {
+    Asked {
         script,
         probe: options.probe,
         line: options.line,
@@ -160,9 +133,7 @@ fn tear<'n, D: Disk, W: TextOut, P: Progress + Listener + Remarks>(
             instructions,
         },
         part: options.part,
-    };
-    let mut lines = WriteLines::new(disk.alloc(), progress, options.why, names, words);
-    tear_image(disk, image, asked, out, &mut lines)
+    }
 }
 
 // Writes a text that was written to this end, with names in it.
@@ -174,10 +145,7 @@ fn write_named<'n, W: TextOut>(
     told: Result<(), Fault<'n>>,
     out: &mut W,
 ) -> Result<(), Fault<'n>>
-    ensures named { (text : List ℕ) × Appends (W.contents out.old) (W.contents out.new) text
-        × IsNamed plain.now told.entry result text }
-    ensures writes { W.failures out.new ≡ failures_after (W.failures out.old)
-        (is_unwritten result) }
+    ensures { Writes W.contents W.failures out.old out.new result (IsNamed plain.now told.entry) }
 {
     match with_names(alloc, names, words, plain) {
         Ok(text) => write_told(&text, told, out),
@@ -191,10 +159,7 @@ fn write_told<'n, W: TextOut>(
     told: Result<(), Fault<'n>>,
     out: &mut W,
 ) -> Result<(), Fault<'n>>
-    ensures written { (text : List ℕ) × Appends (W.contents out.old) (W.contents out.new) text
-        × IsWritten whole.now told.entry result text }
-    ensures writes { W.failures out.new ≡ failures_after (W.failures out.old)
-        (is_unwritten result) }
+    ensures { Writes W.contents W.failures out.old out.new result (IsWritten whole.now told.entry) }
 {
     match write_all(out, whole) {
         Ok(()) => in_memory(told),

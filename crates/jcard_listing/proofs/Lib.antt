@@ -1,4 +1,3 @@
-pub mod Beside
 pub mod Chains
 pub mod Differing
 pub mod EachText
@@ -7,6 +6,5 @@ pub mod Listed
 pub mod Listings
 pub mod ListingEnds
 pub mod ObjectLines
-pub mod ObjectTexts
 pub mod PackageRecords
 pub mod PartLines

@@ -1,11 +1,12 @@
 -- All that is not the same in two images.
-use Rattle.std.specs.Prelude.{ℕ, ◌≡◌, ◌⊎◌, ◌&&◌, true, false, List, Some, None, Ok, Err, Result}
+use Rattle.std.specs.Prelude.{ℕ, ◌≡◌, ◌⊎◌, ◌&&◌, ◌++◌, true, false, Bool, List, Some, None, Ok, Err, Result}
 use Rattle.jc_objects.specs.declared.legend.Legend.{Legend}
 use Rattle.jc_records.specs.Bounds.{has_bounds}
 use Rattle.jcard_images.specs.Listings.{Lines, line_if, then_lines}
 use Rattle.jcard_listing.specs.Areas.{areas_line}
 use Rattle.jcard_listing.specs.Compared.{heap_lines}
 use Rattle.jcard_listing.specs.Fault.{Lists}
+use Rattle.jcard_listing.specs.Images.{ListedImage, hiding, image_of, keys_in}
 use Rattle.jcard_listing.specs.Listing.{IsLegendOf}
 use Rattle.jcard_listing.specs.Pairs.{end_lines, pair_lines}
 use Rattle.jcard_listing.specs.Parts.{part_lines}
@@ -19,21 +20,25 @@ abbrev pub area_lines : List ℕ → List ℕ → Lines
 area_lines w v = pair_lines (line_if (areas_line w)) (line_if (areas_line v))
 
 -- the numbered lines that name what is there, and those that say where it stands
-abbrev pub named_lines : Legend → Legend → List ℕ → List ℕ → Lines
-named_lines t u w v = then_lines (part_lines Sizes t u w v) (then_lines (part_lines Packages t u w v) (part_lines Applets t u w v))
+abbrev pub named_lines : ListedImage → ListedImage → Lines
+named_lines i j = then_lines (part_lines Sizes i j) (then_lines (part_lines Packages i j) (part_lines Applets i j))
 
-abbrev pub placed_lines : Legend → Legend → List ℕ → List ℕ → Lines
-placed_lines t u w v = then_lines (part_lines Entries t u w v) (then_lines (part_lines Records t u w v) (part_lines Registrations t u w v))
+abbrev pub placed_lines : ListedImage → ListedImage → Lines
+placed_lines i j = then_lines (part_lines Entries i j) (then_lines (part_lines Records i j) (part_lines Registrations i j))
 
--- all lines of two images that have these legends
-abbrev pub content_lines : Legend → Legend → List ℕ → List ℕ → Shown → Lines
-content_lines t u w v shown = then_lines (named_lines t u w v) (then_lines (placed_lines t u w v) (heap_lines t u w v shown))
+-- all lines of two images
+abbrev pub both_lines : ListedImage → ListedImage → Lines
+both_lines i j = then_lines (named_lines i j) (then_lines (placed_lines i j) (heap_lines i j))
+
+-- the same, where the bytes of the arrays that hold keys in either are shown or not
+abbrev pub content_lines : ListedImage → ListedImage → Bool → Lines
+content_lines i j secrets = let keys : List ℕ = keys_in i secrets ++ keys_in j secrets in both_lines (hiding i keys) (hiding j keys)
 
 -- what is reported after the heaps' ends: nothing where a text is no table
 abbrev pub IsContent : List ℕ → List ℕ → Shown → Lines → Type 0
 IsContent w v shown l = (IsLegendOf w None × (l ≡ end_lines false true))
     ⊎ ((t : Legend) × IsLegendOf w (Some t) × IsLegendOf v None × (l ≡ end_lines true false))
-    ⊎ ((t u : Legend) × IsLegendOf w (Some t) × IsLegendOf v (Some u) × (l ≡ content_lines t u w v shown))
+    ⊎ ((t u : Legend) × IsLegendOf w (Some t) × IsLegendOf v (Some u) × (l ≡ content_lines (image_of t w shown.all) (image_of u v shown.all) shown.secrets))
 
 -- these lines say what is not the same in words and in others: nothing after a heap that is out of its bounds
 abbrev pub AreDifferences : List ℕ → List ℕ → Shown → Lines → Type 0

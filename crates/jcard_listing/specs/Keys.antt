@@ -1,23 +1,8 @@
--- The lines of keys, and the arrays that hold them.
-use Rattle.std.specs.Prelude.{ℕ, ◌==◌, ◌&&◌, ◌++◌, Bool, List, [], codes, decimal, slice_index, Option, Some, None, if◌then◌else◌}
-use Rattle.std.specs.List.{list_any}
-use Rattle.jc_heap.specs.declared.object.Facts.{Facts}
-use Rattle.jc_objects.specs.declared.legend.Legend.{Legend}
-use Rattle.jc_records.specs.Keys.{is_bytes, key_arrays, key_at}
+-- The lines of keys.
+use Rattle.std.specs.Prelude.{ℕ, ◌==◌, ◌++◌, Bool, List, [], codes, decimal, slice_index, Option, Some, None, if◌then◌else◌}
+use Rattle.jc_records.specs.Keys.{key_at}
 use Rattle.jc_records.specs.declared.keys.KeyFacts.{KeyFacts}
 use Rattle.jcard_listing.specs.Texts.{labelled_text, reference_text}
-
--- the arrays whose bytes are not shown: those that hold keys, unless secrets are shown
-abbrev pub hidden_in : Legend → List ℕ → Bool → List ℕ
-hidden_in t w secrets = if secrets then [] else key_arrays t.platform w
-
--- the same of two images
-abbrev pub hidden_in_both : Legend → Legend → List ℕ → List ℕ → Bool → List ℕ
-hidden_in_both t u w v secrets = hidden_in t w secrets ++ hidden_in u v secrets
-
--- the bytes of an array at an address are not shown
-abbrev pub is_hidden : List ℕ → ℕ → Facts → Bool
-is_hidden hidden r f = is_bytes f.kind && list_any (λ y. y == r) hidden
 
 -- KeyBuilder's name of a type of keys, or its number
 abbrev pub type_text : ℕ → List ℕ

@@ -5,6 +5,7 @@ pub mod Comparisons
 pub mod Differences
 pub mod Entries
 pub mod Fault
+pub mod Images
 pub mod Keys
 pub mod Listing
 pub mod Objects

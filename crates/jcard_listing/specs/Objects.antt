@@ -1,10 +1,11 @@
 -- The lines of the objects.
-use Rattle.std.specs.Prelude.{ℕ, ◌+◌, ◌-◌, ◌/◌, ◌%◌, ◌++◌, ◌∷◌, ◌==◌, ◌&&◌, ◌||◌, not, nat_lt, Bool, true, false, [], List, codes, decimal, slice_index, Option, Some, None, if◌then◌else◌}
+use Rattle.std.specs.Prelude.{ℕ, ◌+◌, ◌-◌, ◌/◌, ◌%◌, ◌++◌, ◌∷◌, ◌==◌, ◌&&◌, nat_lt, Bool, true, false, [], List, codes, decimal, slice_index, Option, Some, None, if◌then◌else◌}
 use Rattle.std.specs.List.{flat_map}
 use Rattle.hex.specs.Hex.{encode_upper}
 use Rattle.jc_transient.specs.declared.cell.ClearEvent.{ClearEvent}
 use Rattle.jc_transient.specs.declared.cell.ClearEvent.TheVariants.{Reset, Deselect}
-use Rattle.jc_heap.specs.Object.{Item, AnObject, APackage}
+use Rattle.jc_heap.specs.Object.{Item}
+use Rattle.jc_heap.specs.Object.{cells_of as item_cells}
 use Rattle.jc_heap.specs.declared.object.Facts.{Facts}
 use Rattle.jc_heap.specs.declared.object.Kind.{Kind}
 use Rattle.jc_heap.specs.declared.object.Kind.TheVariants.{Instance, BooleanArray, ByteArray, ShortArray, ReferenceArray}
@@ -23,9 +24,10 @@ use Rattle.jc_records.specs.Records.{are_whole, standing_items}
 use Rattle.jcard_images.specs.Listings.{Lines}
 use Rattle.jc_objects.specs.ClassTexts.{kind_text}
 use Rattle.jc_records.specs.Keys.{is_key}
-use Rattle.jcard_listing.specs.Keys.{hidden_in, is_hidden, key_text}
+use Rattle.jcard_listing.specs.Images.{ListedImage, is_hidden, is_listed, object_here}
+use Rattle.jcard_listing.specs.Keys.{key_text}
 use Rattle.jcard_listing.specs.Texts.{each_text, labelled_text, reference_text, short_text}
-use Rattle.jcard_listing.specs.declared.shown.Shown.{Shown}
+use Rattle.jcard_listing.specs.declared.image.PlacedObject.{PlacedObject}
 
 -- the AID of an applet or of a package, or its number where none is known
 abbrev pub applet_name : Option NamedApplet → ℕ → List ℕ
@@ -43,9 +45,9 @@ owner_text w owner = if owner == 0 then codes "environment"
     else codes "package " ++ package_name (package_at w (owner - 256)) (owner - 256))
 
 -- an object's address, its class, its owner, and how many cells it has
-abbrev pub header_text : Legend → List ℕ → ℕ → Facts → List ℕ
-header_text t w r f = labelled_text (codes "@") r (codes " ") ++ (kind_text t.platform w f.kind f.class ++ (codes " of " ++ (owner_text w f.owner
-    ++ labelled_text (codes ", length ") f.length [])))
+abbrev pub header_text : ListedImage → PlacedObject → List ℕ
+header_text i o = labelled_text (codes "@") o.at (codes " ") ++ (kind_text i.legend.platform i.words o.facts.kind o.facts.class
+    ++ (codes " of " ++ (owner_text i.words o.facts.owner ++ labelled_text (codes ", length ") o.facts.length [])))
 
 -- where the cells of a transient object are: the area that an event clears, and the first of them
 abbrev pub area_text : ClearEvent → ℕ → List ℕ
@@ -92,29 +94,20 @@ pin_text cells = labelled_text (codes ": tries ") (slice_index cells 2) (codes "
     ++ (labelled_text [] (slice_index cells 3) (codes " of ")
     ++ (labelled_text [] (slice_index cells 1) (codes ", value ") ++ reference_text (slice_index cells 4))))
 
--- a class of engines: its instances have two cells, the second of which holds a reference
-abbrev pub is_engine_class : Option PlatformClass → Bool
-is_engine_class None = false
-is_engine_class (Some class) = cells_of class == 2 && class_holds_reference class 1
+-- a class of engines by its row: its instances have this many cells, of which the second and this one hold references
+abbrev pub is_engine_class : Option PlatformClass → ℕ → ℕ → Bool
+is_engine_class None cells last = false
+is_engine_class (Some class) cells last = cells_of class == cells && (class_holds_reference class 1 && class_holds_reference class last)
 
--- the header is that of an engine
-abbrev pub is_engine : Legend → Facts → Bool
-is_engine t f = is_instance f.kind && (f.length == 2 && is_engine_class (class_by_word t.platform f.class))
+-- the header is that of an engine of such a class
+abbrev pub is_engine : Legend → Facts → ℕ → ℕ → Bool
+is_engine t f cells last = is_instance f.kind && (f.length == cells && is_engine_class (class_by_word t.platform f.class) cells last)
 
 -- its fields: the number of its algorithm, and the array with its state, which is transient: an engine holds nothing in an image
 abbrev pub engine_text : List ℕ → List ℕ
 engine_text cells = labelled_text (codes ": algorithm ") (slice_index cells 0) (codes ", holds nothing, state ") ++ reference_text (slice_index cells 1)
 
--- a class of engines with a key: its instances have 12 cells, the second and the third of which hold references
-abbrev pub is_keyed_engine_class : Option PlatformClass → Bool
-is_keyed_engine_class None = false
-is_keyed_engine_class (Some class) = cells_of class == 12 && (class_holds_reference class 1 && class_holds_reference class 2)
-
--- the header is that of a Cipher or a Signature
-abbrev pub is_keyed_engine : Legend → Facts → Bool
-is_keyed_engine t f = is_instance f.kind && (f.length == 12 && is_keyed_engine_class (class_by_word t.platform f.class))
-
--- its fields: the number of its algorithm, its key, its mode, and the array with its state, which is transient as that of any engine
+-- those of an engine with a key, a Cipher or a Signature: the number of its algorithm, its key, its mode, and the array with its state
 abbrev pub keyed_engine_text : List ℕ → List ℕ
 keyed_engine_text cells = labelled_text (codes ": algorithm ") (slice_index cells 0) (codes ", key ")
     ++ (reference_text (slice_index cells 2)
@@ -144,35 +137,31 @@ abbrev pub plain_text : Legend → Facts → List ℕ → Option ℕ → List �
 plain_text t f cells (Some long) = aid_text cells long
 plain_text t f cells None = cells_text t f cells
 
-abbrev pub contents_text : Legend → List ℕ → List ℕ → ℕ → Facts → List ℕ → List ℕ
-contents_text t w hidden r f cells = if is_pin t f then pin_text cells
-    else (if is_key t.platform f then key_text w cells
-    else (if is_engine t f then engine_text cells
-    else (if is_keyed_engine t f then keyed_engine_text cells
-    else (if is_hidden hidden r f then codes ": key bytes, not shown" else plain_text t f cells (aid_length t f cells)))))
+abbrev pub contents_text : ListedImage → PlacedObject → List ℕ → List ℕ
+contents_text i o cells = if is_pin i.legend o.facts then pin_text cells
+    else (if is_key i.legend.platform o.facts then key_text i.words cells
+    else (if is_engine i.legend o.facts 2 1 then engine_text cells
+    else (if is_engine i.legend o.facts 12 2 then keyed_engine_text cells
+    else (if is_hidden i o then codes ": key bytes, not shown" else plain_text i.legend o.facts cells (aid_length i.legend o.facts cells)))))
 
 -- after the header: the cells, or where they are
-abbrev pub behind_text : Legend → List ℕ → List ℕ → ℕ → Facts → Option ClearEvent → List ℕ → List ℕ
-behind_text t w hidden r f (Some event) cells = area_text event f.place
-behind_text t w hidden r f None cells = contents_text t w hidden r f cells
+abbrev pub rest_text : ListedImage → PlacedObject → Option ClearEvent → List ℕ → List ℕ
+rest_text i o (Some event) cells = area_text event o.facts.place
+rest_text i o None cells = contents_text i o cells
 
--- an object by its address, its header and its cells, where the bytes of these arrays are not shown
-abbrev pub object_text : Legend → List ℕ → List ℕ → ℕ → Facts → List ℕ → List ℕ
-object_text t w hidden r f cells = header_text t w r f ++ (behind_text t w hidden r f f.event cells ++ codes "\n")
+-- an object with these cells
+abbrev pub object_text : ListedImage → PlacedObject → List ℕ → List ℕ
+object_text i o cells = header_text i o ++ (rest_text i o o.facts.event cells ++ codes "\n")
 
--- an object is reported: any one, or one that is not the runtime environment's
-abbrev pub is_told : Facts → Bool → Bool
-is_told f all = all || not (f.owner == 0)
+-- the same, if it is listed
+abbrev pub listed_text : ListedImage → Option PlacedObject → List ℕ → List ℕ
+listed_text i (Some o) cells = if is_listed i o then object_text i o cells else []
+listed_text i None cells = []
 
 -- what stands at an address: nothing is reported here of a package
-abbrev pub item_text : Legend → List ℕ → List ℕ → Bool → ℕ × Item → List ℕ
-item_text t w hidden all (r, AnObject o) = if is_told o.facts all then object_text t w hidden r o.facts o.cells else []
-item_text t w hidden all (r, APackage ws) = []
+abbrev pub item_text : ListedImage → ℕ × Item → List ℕ
+item_text i (at, item) = listed_text i (object_here at item) (item_cells item)
 
--- all objects that stand in the heap that words are, up to a record that lacks words
-abbrev pub items_lines : Legend → List ℕ → List ℕ → Bool → Lines
-items_lines t w hidden all = record { text = flat_map (item_text t w hidden all) (standing_items w); readable = are_whole w }
-
--- the same, where the bytes of the arrays that hold keys are shown or not
-abbrev pub objects_lines : Legend → List ℕ → Shown → Lines
-objects_lines t w shown = items_lines t w (hidden_in t w shown.secrets) shown.all
+-- all objects that stand in the heap, up to a record that lacks words
+abbrev pub objects_lines : ListedImage → Lines
+objects_lines i = record { text = flat_map (item_text i) (standing_items i.words); readable = are_whole i.words }

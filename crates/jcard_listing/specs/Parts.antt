@@ -2,11 +2,11 @@
 use Rattle.std.specs.Prelude.{ℕ, ◌==◌, nat_le, nat_lt, List, [], length, slice_index, codes, if◌then◌else◌}
 use Rattle.jc_words.specs.Layout.{applets_address, packages_address}
 use Rattle.jc_commit.specs.Image.{capacity_of, count_of}
-use Rattle.jc_objects.specs.declared.legend.Legend.{Legend}
 use Rattle.jcard_images.specs.Listings.{Lines, applet_text, count_line, journal_line, line, line_if, package_text}
 use Rattle.jcard_listing.specs.Applets.{applet_lines}
 use Rattle.jcard_listing.specs.Entries.{entry_lines}
 use Rattle.jcard_listing.specs.Fault.{each_line}
+use Rattle.jcard_listing.specs.Images.{ListedImage}
 use Rattle.jcard_listing.specs.Packages.{package_lines}
 use Rattle.jcard_listing.specs.Pairs.{pair_lines}
 use Rattle.jcard_listing.specs.declared.parts.Part.{Part}
@@ -26,25 +26,25 @@ part_count Records w = slice_index w packages_address
 part_count Registrations w = slice_index w applets_address
 
 -- the line with a number, from 1 on
-abbrev pub part_line : Part → Legend → List ℕ → ℕ → Lines
-part_line Sizes t w n = line (size_text w n)
-part_line Packages t w n = line_if (package_text w n)
-part_line Applets t w n = line_if (applet_text w n)
-part_line Entries t w n = entry_lines t.platform w n
-part_line Records t w n = package_lines t w n
-part_line Registrations t w n = applet_lines w n
+abbrev pub part_line : Part → ListedImage → ℕ → Lines
+part_line Sizes i n = line (size_text i.words n)
+part_line Packages i n = line_if (package_text i.words n)
+part_line Applets i n = line_if (applet_text i.words n)
+part_line Entries i n = entry_lines i.legend.platform i.words n
+part_line Records i n = package_lines i.legend i.words n
+part_line Registrations i n = applet_lines i.words n
 
 -- the same, or nothing after the last
-abbrev pub line_among : Part → Legend → List ℕ → ℕ → Lines
-line_among part t w n = if nat_le n (part_count part w) then part_line part t w n else line []
+abbrev pub line_among : Part → ListedImage → ℕ → Lines
+line_among part i n = if nat_le n (part_count part i.words) then part_line part i n else line []
 
--- the lines with a number of two images, of which each has its platform
-abbrev pub pair_at : Part → Legend → Legend → List ℕ → List ℕ → ℕ → Lines
-pair_at part t u w v n = pair_lines (line_among part t w n) (line_among part u v n)
+-- the lines with a number of two images
+abbrev pub pair_at : Part → ListedImage → ListedImage → ℕ → Lines
+pair_at part i j n = pair_lines (line_among part i n) (line_among part j n)
 
 abbrev pub larger : ℕ → ℕ → ℕ
 larger a b = if nat_lt a b then b else a
 
 -- those with each number that either has
-abbrev pub part_lines : Part → Legend → Legend → List ℕ → List ℕ → Lines
-part_lines part t u w v = each_line (pair_at part t u w v) (larger (part_count part w) (part_count part v))
+abbrev pub part_lines : Part → ListedImage → ListedImage → Lines
+part_lines part i j = each_line (pair_at part i j) (larger (part_count part i.words) (part_count part j.words))

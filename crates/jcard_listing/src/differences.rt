@@ -4,7 +4,7 @@ ghost use Rattle.jc_words.specs.Image.{HasSize};
 ghost use Rattle.jc_records.specs.Bounds.{has_bounds};
 ghost use Rattle.jcard_images.specs.Listings.{line_if};
 ghost use Rattle.jcard_listing.specs.Areas.{areas_line};
-ghost use Rattle.jcard_listing.specs.Differences.{AreDifferences, AreToldTo, IsContentTold, area_lines, content_lines, named_lines, placed_lines};
+ghost use Rattle.jcard_listing.specs.Differences.{AreDifferences, AreToldTo, IsContentTold, area_lines, both_lines, content_lines, named_lines, placed_lines};
 ghost use Rattle.jcard_listing.specs.Fault.{Lists};
 ghost use Rattle.jcard_listing.specs.Listing.{IsLegendOf};
 ghost use Rattle.jcard_listing.specs.Pairs.{end_lines, lines_of};
@@ -12,12 +12,12 @@ ghost use Rattle.jcard_listing.specs.Pairs.{end_lines, lines_of};
 use crate::areas::push_areas;
 use crate::compared::push_heaps;
 use crate::fault::ListFault;
+use crate::image::Image;
 use crate::listing::Listing;
 use crate::pairs::{listing_by, push_end, push_pair};
 use crate::parts::{Part, push_part};
 use crate::shown::Shown;
 use crate::table::legend_of;
-use jc_objects::legend::Legend;
 use jc_words::WordStore;
 use std::alloc::{AllocError, Global};
 
@@ -36,7 +36,7 @@ pub fn differences_of<S: WordStore>(
         (lines_of found)) }
 {
     let mut text = Vec::new(alloc);
-    match push_differences(alloc, &mut text, store, other, shown) {
+    match push_differences(&mut text, store, other, shown) {
         Ok(()) => Ok(Listing {
             text,
             readable: true,
@@ -51,7 +51,6 @@ pub fn differences_of<S: WordStore>(
 
 // Writes the lines.
 fn push_differences<S: WordStore>(
-    alloc: Global,
     text: &mut Vec<u8>,
     store: &S,
     other: &S,
@@ -62,24 +61,19 @@ fn push_differences<S: WordStore>(
     ensures { AreToldTo (S.words store.now) (S.words other.now) shown text.old.items text.new.items
         result }
 {
-    push_area_pair(alloc, text, store, other)?;
-    push_content(alloc, text, store, other, shown)
+    push_area_pair(text, store, other)?;
+    push_content(text, store, other, shown)
 }
 
 // Writes the lines of the heaps' ends.
-fn push_area_pair<S: WordStore>(
-    alloc: Global,
-    text: &mut Vec<u8>,
-    store: &S,
-    other: &S,
-) -> Result<(), ListFault>
+fn push_area_pair<S: WordStore>(text: &mut Vec<u8>, store: &S, other: &S) -> Result<(), ListFault>
     requires size { HasSize (S.words store.now) }
     requires other_size { HasSize (S.words other.now) }
     ensures { Lists text.old.items text.new.items
         (area_lines (S.words store.now) (S.words other.now)) result }
 {
-    let one = areas_of(alloc, store)?;
-    let second = areas_of(alloc, other)?;
+    let one = areas_of(*text.allocator(), store)?;
+    let second = areas_of(*text.allocator(), other)?;
     push_pair(text, &one, &second)
 }
 
@@ -95,7 +89,6 @@ fn areas_of<S: WordStore>(alloc: Global, store: &S) -> Result<Listing, AllocErro
 
 // Writes the lines after those of the heaps' ends.
 fn push_content<S: WordStore>(
-    alloc: Global,
     text: &mut Vec<u8>,
     store: &S,
     other: &S,
@@ -108,31 +101,33 @@ fn push_content<S: WordStore>(
     ensures { IsContentTold (S.words store.now) (S.words other.now) shown text.old.items
         text.new.items result }
 {
-    match legend_of(alloc, store) {
-        Ok(legend) => push_beside_table(alloc, text, &legend, store, other, shown),
+    match legend_of(*text.allocator(), store) {
+        Ok(legend) => {
+            let image = Image::new(&legend, store, shown.all);
+            push_beside_image(text, &image, other, shown.secrets)
+        }
         Err(fault) => push_no_table(text, false, true, fault),
     }
 }
 
-// Writes them, where the first image has this legend.
-fn push_beside_table<S: WordStore>(
-    alloc: Global,
+// Writes them beside the first image.
+fn push_beside_image<S: WordStore>(
     text: &mut Vec<u8>,
-    legend: &Legend,
-    store: &S,
+    image: &Image<'_, S>,
     other: &S,
-    shown: Shown,
+    secrets: bool,
 ) -> Result<(), ListFault>
-    requires size { HasSize (S.words store.now) }
-    requires bounds { has_bounds (S.words store.now) ≡ true }
-    requires table { IsLegendOf (S.words store.now) (Some legend.now) }
+    requires legend { IsLegendOf image.now.words (Some image.now.legend) }
     requires other_size { HasSize (S.words other.now) }
     requires other_bounds { has_bounds (S.words other.now) ≡ true }
-    ensures { IsContentTold (S.words store.now) (S.words other.now) shown text.old.items
-        text.new.items result }
+    ensures { IsContentTold image.now.words (S.words other.now)
+        (record { all = image.now.all; secrets = secrets }) text.old.items text.new.items result }
 {
-    match legend_of(alloc, other) {
-        Ok(others) => push_lines(alloc, text, legend, store, &others, other, shown),
+    match legend_of(*text.allocator(), other) {
+        Ok(legend) => {
+            let other = Image::new(&legend, other, image.all());
+            push_both(text, image, &other, secrets)
+        }
         Err(fault) => push_no_table(text, true, false, fault),
     }
 }
@@ -153,74 +148,56 @@ fn push_no_table(
     }
 }
 
-// Writes them for images with these legends.
-fn push_lines<S: WordStore>(
-    alloc: Global,
+// Writes them for two images.
+fn push_both<S: WordStore>(
     text: &mut Vec<u8>,
-    legend: &Legend,
-    store: &S,
-    others: &Legend,
-    other: &S,
-    shown: Shown,
+    one: &Image<'_, S>,
+    other: &Image<'_, S>,
+    secrets: bool,
 ) -> Result<(), ListFault>
-    requires size { HasSize (S.words store.now) }
-    requires bounds { has_bounds (S.words store.now) ≡ true }
-    requires other_size { HasSize (S.words other.now) }
-    requires other_bounds { has_bounds (S.words other.now) ≡ true }
-    ensures { Lists text.old.items text.new.items (content_lines legend.now others.now
-        (S.words store.now) (S.words other.now) shown) result }
+    ensures { Lists text.old.items text.new.items (content_lines one.now other.now secrets) result }
 {
-    push_named(alloc, text, legend, store, others, other)?;
-    push_placed(alloc, text, legend, store, others, other)?;
-    push_heaps(alloc, text, legend, store, others, other, shown)
+    let mut keys = one.keys(*text.allocator(), secrets)?;
+    let others = other.keys(*text.allocator(), secrets)?;
+    keys.extend_from_slice(&others)?;
+    push_lines(text, &one.hiding(&keys), &other.hiding(&keys))
+}
+
+// Writes them without the bytes that the images hide.
+fn push_lines<S: WordStore>(
+    text: &mut Vec<u8>,
+    one: &Image<'_, S>,
+    other: &Image<'_, S>,
+) -> Result<(), ListFault>
+    ensures { Lists text.old.items text.new.items (both_lines one.now other.now) result }
+{
+    push_named(text, one, other)?;
+    push_placed(text, one, other)?;
+    push_heaps(text, one, other)
 }
 
 // Writes the lines that name what is there.
 fn push_named<S: WordStore>(
-    alloc: Global,
     text: &mut Vec<u8>,
-    legend: &Legend,
-    store: &S,
-    others: &Legend,
-    other: &S,
+    one: &Image<'_, S>,
+    other: &Image<'_, S>,
 ) -> Result<(), ListFault>
-    requires size { HasSize (S.words store.now) }
-    requires bounds { has_bounds (S.words store.now) ≡ true }
-    requires other_size { HasSize (S.words other.now) }
-    requires other_bounds { has_bounds (S.words other.now) ≡ true }
-    ensures { Lists text.old.items text.new.items (named_lines legend.now others.now
-        (S.words store.now) (S.words other.now)) result }
+    ensures { Lists text.old.items text.new.items (named_lines one.now other.now) result }
 {
-    push_part(alloc, text, Part::Sizes, legend, store, others, other)?;
-    push_part(alloc, text, Part::Packages, legend, store, others, other)?;
-    push_part(alloc, text, Part::Applets, legend, store, others, other)
+    push_part(text, Part::Sizes, one, other)?;
+    push_part(text, Part::Packages, one, other)?;
+    push_part(text, Part::Applets, one, other)
 }
 
 // Writes the lines that say where it stands.
 fn push_placed<S: WordStore>(
-    alloc: Global,
     text: &mut Vec<u8>,
-    legend: &Legend,
-    store: &S,
-    others: &Legend,
-    other: &S,
+    one: &Image<'_, S>,
+    other: &Image<'_, S>,
 ) -> Result<(), ListFault>
-    requires size { HasSize (S.words store.now) }
-    requires bounds { has_bounds (S.words store.now) ≡ true }
-    requires other_size { HasSize (S.words other.now) }
-    requires other_bounds { has_bounds (S.words other.now) ≡ true }
-    ensures { Lists text.old.items text.new.items (placed_lines legend.now others.now
-        (S.words store.now) (S.words other.now)) result }
+    ensures { Lists text.old.items text.new.items (placed_lines one.now other.now) result }
 {
-    push_part(alloc, text, Part::Entries, legend, store, others, other)?;
-    push_part(alloc, text, Part::Records, legend, store, others, other)?;
-    push_part(
-        alloc,
-        text,
-        Part::Registrations,
-        legend,
-        store,
-        others,
-        other,
-    )
+    push_part(text, Part::Entries, one, other)?;
+    push_part(text, Part::Records, one, other)?;
+    push_part(text, Part::Registrations, one, other)
 }

@@ -16,11 +16,10 @@ use jc_records::holders::{Holder, holder_of};
 use jc_records::records::is_packed;
 use jc_words::layout::COUNT;
 use jc_words::{Log, WordStore};
-use std::alloc::{AllocError, Global};
+use std::alloc::AllocError;
 
 /// Writes the line of each entry of the journal that counts, up to the first for which the journal has no place.
 pub(crate) fn push_entries<S: WordStore>(
-    alloc: Global,
     text: &mut Vec<u8>,
     platform: &Platform,
     store: &S,
@@ -32,14 +31,13 @@ pub(crate) fn push_entries<S: WordStore>(
 {
     let count = store.read(COUNT);
     for i in 0..count {
-        push_entry_at(alloc, text, platform, store, i)?;
+        push_entry_at(text, platform, store, i)?;
     }
     Ok(())
 }
 
 /// Writes the line of the entry after this many others.
 pub(crate) fn push_entry_at<S: WordStore>(
-    alloc: Global,
     text: &mut Vec<u8>,
     platform: &Platform,
     store: &S,
@@ -55,13 +53,12 @@ pub(crate) fn push_entry_at<S: WordStore>(
     if before >= log.capacity {
         return Err(ListFault::Unreadable);
     }
-    push_entry(alloc, text, platform, store, log, before)?;
+    push_entry(text, platform, store, log, before)?;
     Ok(())
 }
 
 // Writes the line of this entry of a journal.
 fn push_entry<S: WordStore>(
-    alloc: Global,
     text: &mut Vec<u8>,
     platform: &Platform,
     store: &S,
@@ -81,7 +78,6 @@ fn push_entry<S: WordStore>(
     push_labelled(text, b"entry ", before + 1, b": word ")?;
     push_labelled(text, b"", address, b" was ")?;
     push_found(
-        alloc,
         text,
         platform,
         store,
@@ -92,7 +88,6 @@ fn push_entry<S: WordStore>(
 
 // Writes the old value, and the cell that stands in the word.
 fn push_found<S: WordStore>(
-    alloc: Global,
     text: &mut Vec<u8>,
     platform: &Platform,
     store: &S,
@@ -104,14 +99,13 @@ fn push_found<S: WordStore>(
         ++ found_text platform.now (S.words store.now) found old) }
 {
     match found {
-        Some(holder) => push_cell(alloc, text, platform, store, holder, old),
+        Some(holder) => push_cell(text, platform, store, holder, old),
         None => push_labelled(text, b"", old, b"\n"),
     }
 }
 
 // Writes the old value of a cell, and which it is.
 fn push_cell<S: WordStore>(
-    alloc: Global,
     text: &mut Vec<u8>,
     platform: &Platform,
     store: &S,
@@ -122,10 +116,10 @@ fn push_cell<S: WordStore>(
     ensures { OnOk result (text.new.items ≡ text.old.items
         ++ cell_text platform.now (S.words store.now) holder old) }
 {
-    push_value(alloc, text, is_packed(holder.facts), old)?;
+    push_value(text, is_packed(holder.facts), old)?;
     push_labelled(text, b" @", holder.object, b" ")?;
     push_kind(
-        alloc,
+        *text.allocator(),
         text,
         platform,
         store,
@@ -136,11 +130,11 @@ fn push_cell<S: WordStore>(
 }
 
 // Writes a word: two elements in hexadecimal, or a number.
-fn push_value(alloc: Global, text: &mut Vec<u8>, packed: bool, word: u16) -> Result<(), AllocError>
+fn push_value(text: &mut Vec<u8>, packed: bool, word: u16) -> Result<(), AllocError>
     ensures { OnOk result (text.new.items ≡ text.old.items ++ value_text packed word) }
 {
     if packed {
-        return push_word(alloc, text, word);
+        return push_word(text, word);
     }
     push_number(text, word)
 }

@@ -1,61 +1,13 @@
-//! The lines of keys, and the arrays that hold them.
-ghost use Rattle.std.specs.Prelude.{◌≡◌, ◌++◌, Some, true, codes, length, IfOk, OnOk};
-ghost use Rattle.jc_heap.specs.Object.{cells_of};
-ghost use Rattle.jc_records.specs.Bounds.{has_bounds};
-ghost use Rattle.jc_records.specs.Records.{IsRecord, item_at, object_in};
-ghost use Rattle.jcard_listing.specs.Keys.{hidden_in, hidden_in_both, is_hidden, key_text, set_text, size_text, type_text};
+//! The lines of keys.
+ghost use Rattle.std.specs.Prelude.{◌≡◌, ◌++◌, codes, length, OnOk};
+ghost use Rattle.jcard_listing.specs.Images.{IsObjectIn, cells_in};
+ghost use Rattle.jcard_listing.specs.Keys.{key_text, set_text, size_text, type_text};
 
+use crate::image::{Image, PlacedObject};
 use crate::texts::{push_labelled, push_number, push_reference};
-use jc_heap::{Facts, Kind};
-use jc_objects::legend::Legend;
-use jc_records::keys::{KeyFacts, key_arrays, key_at};
-use jc_records::records::cell_of;
+use jc_records::keys::{KeyFacts, key_at};
 use jc_words::WordStore;
-use std::alloc::{AllocError, Global};
-
-/// The arrays whose bytes are not shown: those that hold keys, unless secrets are shown.
-pub(crate) fn hidden_in<S: WordStore>(
-    alloc: Global,
-    legend: &Legend,
-    store: &S,
-    secrets: bool,
-) -> Result<Vec<u16>, AllocError>
-    requires { has_bounds (S.words store.now) ≡ true }
-    ensures { IfOk result (λ hidden. hidden.items
-        ≡ hidden_in legend.now (S.words store.now) secrets) }
-{
-    if secrets {
-        return Ok(Vec::new(alloc));
-    }
-    key_arrays(alloc, &legend.platform, store)
-}
-
-/// The same of two images.
-pub(crate) fn hidden_in_both<S: WordStore>(
-    alloc: Global,
-    legend: &Legend,
-    store: &S,
-    others: &Legend,
-    other: &S,
-    secrets: bool,
-) -> Result<Vec<u16>, AllocError>
-    requires bounds { has_bounds (S.words store.now) ≡ true }
-    requires other_bounds { has_bounds (S.words other.now) ≡ true }
-    ensures { IfOk result (λ hidden. hidden.items ≡ hidden_in_both legend.now others.now
-        (S.words store.now) (S.words other.now) secrets) }
-{
-    let mut hidden = hidden_in(alloc, legend, store, secrets)?;
-    let more = hidden_in(alloc, others, other, secrets)?;
-    hidden.extend_from_slice(&more)?;
-    Ok(hidden)
-}
-
-/// Whether an object is an array whose bytes are not shown.
-pub(crate) fn is_hidden(hidden: &[u16], at: u16, facts: Facts) -> bool
-    ensures { result ≡ is_hidden hidden.now at facts }
-{
-    matches!(facts.kind, Kind::ByteArray) && hidden.contains(&at)
-}
+use std::alloc::AllocError;
 
 /// Writes that the bytes of an array are not shown.
 pub(crate) fn push_not_shown(text: &mut Vec<u8>) -> Result<(), AllocError>
@@ -68,22 +20,19 @@ pub(crate) fn push_not_shown(text: &mut Vec<u8>) -> Result<(), AllocError>
 /// Writes the fields of a key.
 pub(crate) fn push_key<S: WordStore>(
     text: &mut Vec<u8>,
-    store: &S,
-    at: u16,
-    facts: Facts,
+    image: &Image<'_, S>,
+    object: PlacedObject,
 ) -> Result<(), AllocError>
-    requires bounds { has_bounds (S.words store.now) ≡ true }
-    requires record { IsRecord (S.words store.now) at }
-    requires object { object_in (item_at (S.words store.now) at) ≡ Some facts }
-    requires cells { length (cells_of (item_at (S.words store.now) at)) ≡ 2 }
+    requires object { IsObjectIn image.now.words object }
+    requires cells { length (cells_in image.now.words object) ≡ 2 }
     ensures { OnOk result (text.new.items ≡ text.old.items
-        ++ key_text (S.words store.now) (cells_of (item_at (S.words store.now) at))) }
+        ++ key_text image.now.words (cells_in image.now.words object)) }
 {
-    let number = cell_of(store, at, facts, 0);
-    let array = cell_of(store, at, facts, 1);
+    let number = image.cell(object, 0);
+    let array = image.cell(object, 1);
     text.extend_from_slice(b": type ")?;
     push_type(text, number)?;
-    push_size(text, key_at(store, array))?;
+    push_size(text, key_at(image.store(), array))?;
     text.extend_from_slice(b", key ")?;
     push_reference(text, array)
 }

@@ -9,6 +9,7 @@ pub mod differences;
 pub mod dump;
 mod entries;
 pub mod fault;
+mod image;
 mod keys;
 pub mod listing;
 mod names;

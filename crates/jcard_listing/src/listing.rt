@@ -1,14 +1,15 @@
 //! All that is listed of an image.
-ghost use Rattle.std.specs.Prelude.{◌≡◌, Some, true, IfOk};
+ghost use Rattle.std.specs.Prelude.{◌≡◌, true, IfOk};
 ghost use Rattle.jc_words.specs.Image.{HasSize};
 ghost use Rattle.jc_records.specs.Bounds.{has_bounds};
 ghost use Rattle.jcard_listing.specs.Fault.{Lists};
-ghost use Rattle.jcard_listing.specs.Listing.{IsListed, IsListing, contents_lines};
+ghost use Rattle.jcard_listing.specs.Listing.{IsListed, IsListing, image_lines, shown_lines, tables_lines};
 
 use crate::applets::push_applets;
 use crate::areas::push_areas;
 use crate::entries::push_entries;
 use crate::fault::ListFault;
+use crate::image::Image;
 use crate::objects::push_objects;
 use crate::packages::push_packages;
 use crate::shown::Shown;
@@ -37,7 +38,7 @@ pub fn listing_of<S: WordStore>(
     })) }
 {
     let mut text = Vec::new(alloc);
-    match push_listing(alloc, &mut text, store, shown) {
+    match push_listing(&mut text, store, shown) {
         Ok(()) => Ok(Listing {
             text,
             readable: true,
@@ -51,35 +52,48 @@ pub fn listing_of<S: WordStore>(
 }
 
 // Writes the lines.
-fn push_listing<S: WordStore>(
-    alloc: Global,
-    text: &mut Vec<u8>,
-    store: &S,
-    shown: Shown,
-) -> Result<(), ListFault>
+fn push_listing<S: WordStore>(text: &mut Vec<u8>, store: &S, shown: Shown) -> Result<(), ListFault>
     requires { HasSize (S.words store.now) }
     ensures { IsListed (S.words store.now) shown text.old.items text.new.items result }
 {
     push_areas(text, store)?;
-    let legend = legend_of(alloc, store)?;
-    push_contents(alloc, text, &legend, store, shown)
+    let legend = legend_of(*text.allocator(), store)?;
+    let image = Image::new(&legend, store, shown.all);
+    push_image(text, &image, shown.secrets)
 }
 
 // Writes the lines after the first one.
-fn push_contents<S: WordStore>(
-    alloc: Global,
+fn push_image<S: WordStore>(
+    text: &mut Vec<u8>,
+    image: &Image<'_, S>,
+    secrets: bool,
+) -> Result<(), ListFault>
+    ensures { Lists text.old.items text.new.items (shown_lines image.now secrets) result }
+{
+    let keys = image.keys(*text.allocator(), secrets)?;
+    push_contents(text, &image.hiding(&keys))
+}
+
+// Writes them without the bytes that the image hides.
+fn push_contents<S: WordStore>(text: &mut Vec<u8>, image: &Image<'_, S>) -> Result<(), ListFault>
+    ensures { Lists text.old.items text.new.items (image_lines image.now) result }
+{
+    push_tables(text, image.legend(), image.store())?;
+    push_objects(text, image)
+}
+
+// Writes those before the objects.
+fn push_tables<S: WordStore>(
     text: &mut Vec<u8>,
     legend: &Legend,
     store: &S,
-    shown: Shown,
 ) -> Result<(), ListFault>
     requires size { HasSize (S.words store.now) }
     requires bounds { has_bounds (S.words store.now) ≡ true }
     ensures { Lists text.old.items text.new.items
-        (contents_lines (Some legend.now) (S.words store.now) shown) result }
+        (tables_lines legend.now (S.words store.now)) result }
 {
-    push_entries(alloc, text, &legend.platform, store)?;
-    push_packages(alloc, text, legend, store)?;
-    push_applets(text, store)?;
-    push_objects(alloc, text, legend, store, shown)
+    push_entries(text, &legend.platform, store)?;
+    push_packages(text, legend, store)?;
+    push_applets(text, store)
 }

@@ -8,11 +8,10 @@ use crate::fault::ListFault;
 use crate::texts::{push_hex, push_labelled, push_number};
 use jc_image::{AppletName, PackageName, applet_at, package_at};
 use jc_words::WordStore;
-use std::alloc::{AllocError, Global};
+use std::alloc::AllocError;
 
 /// Writes the line of the package with this number.
 pub(crate) fn push_package_name<S: WordStore>(
-    alloc: Global,
     text: &mut Vec<u8>,
     store: &S,
     number: u16,
@@ -24,13 +23,12 @@ pub(crate) fn push_package_name<S: WordStore>(
     let Some(named) = package_at(store, number) else {
         return Err(ListFault::Unreadable);
     };
-    push_package(alloc, text, &named, number)?;
+    push_package(text, &named, number)?;
     Ok(())
 }
 
 /// Writes the line of the applet with this number.
 pub(crate) fn push_applet_name<S: WordStore>(
-    alloc: Global,
     text: &mut Vec<u8>,
     store: &S,
     number: u16,
@@ -42,48 +40,32 @@ pub(crate) fn push_applet_name<S: WordStore>(
     let Some(named) = applet_at(store, number) else {
         return Err(ListFault::Unreadable);
     };
-    push_applet(alloc, text, &named, number)?;
+    push_applet(text, &named, number)?;
     Ok(())
 }
 
 // Writes a package's AID and version.
-fn push_package(
-    alloc: Global,
-    text: &mut Vec<u8>,
-    named: &PackageName,
-    number: u16,
-) -> Result<(), AllocError>
+fn push_package(text: &mut Vec<u8>, named: &PackageName, number: u16) -> Result<(), AllocError>
     ensures { OnOk result (text.new.items ≡ text.old.items ++ package_line number named.now) }
 {
-    push_name(alloc, text, b"package ", number, named.aid())?;
+    push_name(text, b"package ", number, named.aid())?;
     push_version(text, named.major_version(), named.minor_version())
 }
 
 // Writes an applet's AID and the number of its package.
-fn push_applet(
-    alloc: Global,
-    text: &mut Vec<u8>,
-    named: &AppletName,
-    number: u16,
-) -> Result<(), AllocError>
+fn push_applet(text: &mut Vec<u8>, named: &AppletName, number: u16) -> Result<(), AllocError>
     ensures { OnOk result (text.new.items ≡ text.old.items ++ applet_line number named.now) }
 {
-    push_name(alloc, text, b"applet ", number, named.aid())?;
+    push_name(text, b"applet ", number, named.aid())?;
     push_labelled(text, b"package ", named.package_number(), b"\n")
 }
 
 // Writes how a line begins: what it is of, the number, the AID.
-fn push_name(
-    alloc: Global,
-    text: &mut Vec<u8>,
-    name: &[u8],
-    number: u16,
-    aid: &[u8],
-) -> Result<(), AllocError>
+fn push_name(text: &mut Vec<u8>, name: &[u8], number: u16, aid: &[u8]) -> Result<(), AllocError>
     ensures { OnOk result (text.new.items ≡ text.old.items ++ name_text name.now number aid.now) }
 {
     push_labelled(text, name, number, b" ")?;
-    push_hex(alloc, text, aid)?;
+    push_hex(text, aid)?;
     text.extend_from_slice(b" ")
 }
 

@@ -1,28 +1,23 @@
 //! The lines of the objects.
-ghost use Rattle.std.specs.Prelude.{◌≡◌, ◌<◌, ◌≤◌, ◌+◌, ◌++◌, ◌&&◌, ◌==◌, Some, None, true, length, Option, IfSome, OnOk};
+ghost use Rattle.std.specs.Prelude.{◌≡◌, ◌<◌, ◌≤◌, ◌++◌, None, true, length, IfSome, OnOk};
 ghost use Rattle.jc_words.specs.Layout.{text_start};
-ghost use Rattle.jc_heap.specs.Object.{cells_of};
-ghost use Rattle.jc_records.specs.Bounds.{has_bounds};
-ghost use Rattle.jc_records.specs.Records.{IsRecord, item_at, object_in};
+ghost use Rattle.jc_records.specs.Records.{IsRecord, item_at};
 ghost use Rattle.jcard_listing.specs.Fault.{Lists};
-ghost use Rattle.jcard_listing.specs.Objects.{aid_length, aid_text, applet_name, area_text, behind_text, byte_text, cell_text, cells_text, contents_text, engine_text, field_text, header_text, is_aid, is_engine, is_engine_class, is_keyed_engine, is_keyed_engine_class, is_pin, is_told, item_text, items_lines, keyed_engine_text, object_text, objects_lines, owner_text, package_name, pin_text, value_text};
+ghost use Rattle.jcard_listing.specs.Images.{IsObjectIn, cells_in};
+ghost use Rattle.jcard_listing.specs.Objects.{aid_length, aid_text, applet_name, area_text, byte_text, cell_text, cells_text, contents_text, engine_text, field_text, header_text, is_aid, is_engine, is_engine_class, is_pin, item_text, keyed_engine_text, object_text, objects_lines, owner_text, package_name, pin_text, rest_text, value_text};
 
 use crate::fault::ListFault;
-use crate::keys::{hidden_in, is_hidden, push_key, push_not_shown};
-use crate::shown::Shown;
+use crate::image::{Image, PlacedObject};
+use crate::keys::{push_key, push_not_shown};
 use crate::texts::{push_hex, push_labelled, push_number, push_reference, push_short};
 use jc_heap::{Facts, Kind};
 use jc_image::{AppletName, PackageName, applet_at, package_at};
-use jc_objects::class_texts::push_kind;
 use jc_objects::legend::Legend;
 use jc_platform::names::PlatformClass;
-use jc_records::bounds::first_record;
 use jc_records::keys::is_key;
-use jc_records::records::{cell_of, object_at, whole_size};
 use jc_transient::{ClearEvent, OwnerWord};
 use jc_words::WordStore;
-use jc_words::layout::TOP;
-use std::alloc::{AllocError, Global};
+use std::alloc::AllocError;
 
 /// The first owner word that names a package.
 const FIRST_PACKAGE: u16 = 256;
@@ -30,11 +25,15 @@ const FIRST_PACKAGE: u16 = 256;
 /// How many cells an OwnerPIN has.
 const PIN_CELLS: u16 = 5;
 
-/// How many cells an engine has.
+/// How many cells an engine has; the last of them holds a reference.
 const ENGINE_CELLS: u16 = 2;
 
-/// How many cells a Cipher or a Signature has.
+const ENGINE_REFERENCE: u16 = 1;
+
+/// How many cells an engine with a key has, a Cipher or a Signature, and the last of them that holds a reference.
 const KEYED_ENGINE_CELLS: u16 = 12;
+
+const KEYED_ENGINE_REFERENCE: u16 = 2;
 
 /// How many cells an AID has.
 const AID_CELLS: u16 = 9;
@@ -44,156 +43,72 @@ const MOST_AID: u16 = 16;
 
 /// Writes the line of each object, up to the first record that lacks words.
 pub(crate) fn push_objects<S: WordStore>(
-    alloc: Global,
     text: &mut Vec<u8>,
-    legend: &Legend,
-    store: &S,
-    shown: Shown,
+    image: &Image<'_, S>,
 ) -> Result<(), ListFault>
-    requires { has_bounds (S.words store.now) ≡ true }
-    ensures { Lists text.old.items text.new.items
-        (objects_lines legend.now (S.words store.now) shown) result }
+    ensures { Lists text.old.items text.new.items (objects_lines image.now) result }
 {
-    let hidden = hidden_in(alloc, legend, store, shown.secrets)?;
-    push_items(alloc, text, legend, store, &hidden, shown.all)
-}
-
-// Writes them without the bytes of these arrays.
-fn push_items<S: WordStore>(
-    alloc: Global,
-    text: &mut Vec<u8>,
-    legend: &Legend,
-    store: &S,
-    hidden: &[u16],
-    all: bool,
-) -> Result<(), ListFault>
-    requires { has_bounds (S.words store.now) ≡ true }
-    ensures { Lists text.old.items text.new.items
-        (items_lines legend.now (S.words store.now) hidden.now all) result }
-{
-    let _ = store.size(); // so that the proof knows that there are fewer than 65,536 words
-    let top = store.read(TOP);
-    let mut at = first_record(store) as u16;
+    let top = image.top();
+    let mut at = image.first_record();
     while at < top {
-        let Some(size) = whole_size(store, at, top) else {
+        let Some(size) = image.record_size(at) else {
             return Err(ListFault::Unreadable);
         };
-        push_item(alloc, text, legend, store, hidden, at, all)?;
+        push_item(text, image, at)?;
         at += size;
     }
     Ok(())
 }
 
-// Writes the line of what stands at an address, if it is an object that is reported.
+// Writes the line of what stands at an address, if it is an object that is listed.
 fn push_item<S: WordStore>(
-    alloc: Global,
     text: &mut Vec<u8>,
-    legend: &Legend,
-    store: &S,
-    hidden: &[u16],
+    image: &Image<'_, S>,
     at: u16,
-    all: bool,
 ) -> Result<(), AllocError>
-    requires bounds { has_bounds (S.words store.now) ≡ true }
-    requires record { IsRecord (S.words store.now) at }
+    requires { IsRecord image.now.words at }
     ensures { OnOk result (text.new.items ≡ text.old.items
-        ++ item_text legend.now (S.words store.now) hidden.now all (at, item_at (S.words store.now) at)) }
+        ++ item_text image.now (at, item_at image.now.words at)) }
 {
-    match object_at(store, at) {
-        Some(facts) if is_told(facts, all) => {
-            push_object(alloc, text, legend, store, hidden, at, facts)
-        }
+    match image.object_at(at) {
+        Some(object) if image.is_listed(object) => push_object(text, image, object),
         _ => Ok(()),
     }
 }
 
-/// Whether an object is reported.
-pub(crate) fn is_told(facts: Facts, all: bool) -> bool
-    ensures { result ≡ is_told facts all }
-{
-    all || facts.owner().0 != 0
-}
-
-/// Writes the line of an object, without the bytes of these arrays.
+/// Writes the line of an object.
 pub(crate) fn push_object<S: WordStore>(
-    alloc: Global,
     text: &mut Vec<u8>,
-    legend: &Legend,
-    store: &S,
-    hidden: &[u16],
-    at: u16,
-    facts: Facts,
+    image: &Image<'_, S>,
+    object: PlacedObject,
 ) -> Result<(), AllocError>
-    requires bounds { has_bounds (S.words store.now) ≡ true }
-    requires record { IsRecord (S.words store.now) at }
-    requires object { object_in (item_at (S.words store.now) at) ≡ Some facts }
-    requires cells { facts.event ≡ None
-        → length (cells_of (item_at (S.words store.now) at)) ≡ facts.length }
+    requires { IsObjectIn image.now.words object }
     ensures { OnOk result (text.new.items ≡ text.old.items
-        ++ object_text legend.now (S.words store.now) hidden.now at facts
-        (cells_of (item_at (S.words store.now) at))) }
+        ++ object_text image.now object (cells_in image.now.words object)) }
 {
-    push_header(alloc, text, legend, store, at, facts)?;
-    push_behind(alloc, text, legend, store, hidden, at, facts)?;
+    push_header(text, image, object)?;
+    push_rest(text, image, object)?;
     text.extend_from_slice(b"\n")?;
     Ok(())
 }
 
-// Writes the cells of an object, or where they are.
-fn push_behind<S: WordStore>(
-    alloc: Global,
-    text: &mut Vec<u8>,
-    legend: &Legend,
-    store: &S,
-    hidden: &[u16],
-    at: u16,
-    facts: Facts,
-) -> Result<(), AllocError>
-    requires bounds { has_bounds (S.words store.now) ≡ true }
-    requires record { IsRecord (S.words store.now) at }
-    requires object { object_in (item_at (S.words store.now) at) ≡ Some facts }
-    requires cells { facts.event ≡ None
-        → length (cells_of (item_at (S.words store.now) at)) ≡ facts.length }
-    ensures { OnOk result (text.new.items ≡ text.old.items
-        ++ behind_text legend.now (S.words store.now) hidden.now at facts facts.event
-        (cells_of (item_at (S.words store.now) at))) }
-{
-    match facts.event {
-        Some(event) => push_area(text, event, facts.place),
-        None => push_contents(alloc, text, legend, store, hidden, at, facts),
-    }
-}
-
 // Writes the address, the class, the owner and the length.
 fn push_header<S: WordStore>(
-    alloc: Global,
     text: &mut Vec<u8>,
-    legend: &Legend,
-    store: &S,
-    at: u16,
-    facts: Facts,
+    image: &Image<'_, S>,
+    object: PlacedObject,
 ) -> Result<(), AllocError>
-    requires { text_start ≤ length (S.words store.now) }
-    ensures { OnOk result (text.new.items ≡ text.old.items
-        ++ header_text legend.now (S.words store.now) at facts) }
+    ensures { OnOk result (text.new.items ≡ text.old.items ++ header_text image.now object) }
 {
-    push_labelled(text, b"@", at, b" ")?;
-    push_kind(
-        alloc,
-        text,
-        &legend.platform,
-        store,
-        facts.kind,
-        facts.class(),
-    )?;
+    push_labelled(text, b"@", object.at, b" ")?;
+    image.push_kind(text, object)?;
     text.extend_from_slice(b" of ")?;
-    push_owner(alloc, text, store, facts.owner())?;
-    push_labelled(text, b", length ", facts.length, b"")
+    push_owner(text, image.store(), object.facts.owner())?;
+    push_labelled(text, b", length ", object.facts.length, b"")
 }
 
 // Writes an owner.
 fn push_owner<S: WordStore>(
-    alloc: Global,
     text: &mut Vec<u8>,
     store: &S,
     owner: OwnerWord,
@@ -207,16 +122,15 @@ fn push_owner<S: WordStore>(
     }
     if number < FIRST_PACKAGE {
         text.extend_from_slice(b"applet ")?;
-        return push_applet_name(alloc, text, applet_at(store, number), number);
+        return push_applet_name(text, applet_at(store, number), number);
     }
     text.extend_from_slice(b"package ")?;
     let package = number - FIRST_PACKAGE;
-    push_package_name(alloc, text, package_at(store, package), package)
+    push_package_name(text, package_at(store, package), package)
 }
 
 // Writes the AID of an applet, or its number where none is known.
 fn push_applet_name(
-    alloc: Global,
     text: &mut Vec<u8>,
     found: Option<AppletName>,
     number: u16,
@@ -224,14 +138,13 @@ fn push_applet_name(
     ensures { OnOk result (text.new.items ≡ text.old.items ++ applet_name found number) }
 {
     match found {
-        Some(named) => push_hex(alloc, text, named.aid()),
+        Some(named) => push_hex(text, named.aid()),
         None => push_number(text, number),
     }
 }
 
 // Writes the AID of a package, or its number where none is known.
 fn push_package_name(
-    alloc: Global,
     text: &mut Vec<u8>,
     found: Option<PackageName>,
     number: u16,
@@ -239,8 +152,24 @@ fn push_package_name(
     ensures { OnOk result (text.new.items ≡ text.old.items ++ package_name found number) }
 {
     match found {
-        Some(named) => push_hex(alloc, text, named.aid()),
+        Some(named) => push_hex(text, named.aid()),
         None => push_number(text, number),
+    }
+}
+
+// Writes the cells of an object, or where they are.
+fn push_rest<S: WordStore>(
+    text: &mut Vec<u8>,
+    image: &Image<'_, S>,
+    object: PlacedObject,
+) -> Result<(), AllocError>
+    requires { IsObjectIn image.now.words object }
+    ensures { OnOk result (text.new.items ≡ text.old.items
+        ++ rest_text image.now object object.facts.event (cells_in image.now.words object)) }
+{
+    match object.facts.event {
+        Some(event) => push_area(text, event, object.facts.place),
+        None => push_contents(text, image, object),
     }
 }
 
@@ -256,40 +185,39 @@ fn push_area(text: &mut Vec<u8>, event: ClearEvent, place: u16) -> Result<(), Al
 
 // Writes the cells of a persistent object.
 fn push_contents<S: WordStore>(
-    alloc: Global,
     text: &mut Vec<u8>,
-    legend: &Legend,
-    store: &S,
-    hidden: &[u16],
-    at: u16,
-    facts: Facts,
+    image: &Image<'_, S>,
+    object: PlacedObject,
 ) -> Result<(), AllocError>
-    requires bounds { has_bounds (S.words store.now) ≡ true }
-    requires record { IsRecord (S.words store.now) at }
-    requires object { object_in (item_at (S.words store.now) at) ≡ Some facts }
-    requires cells { length (cells_of (item_at (S.words store.now) at)) ≡ facts.length }
+    requires object { IsObjectIn image.now.words object }
+    requires cells { length (cells_in image.now.words object) ≡ object.facts.length }
     ensures { OnOk result (text.new.items ≡ text.old.items
-        ++ contents_text legend.now (S.words store.now) hidden.now at facts
-        (cells_of (item_at (S.words store.now) at))) }
+        ++ contents_text image.now object (cells_in image.now.words object)) }
 {
-    if is_pin(legend, facts) {
-        return push_pin(text, store, at, facts);
+    let legend = image.legend();
+    if is_pin(legend, object.facts) {
+        return push_pin(text, image, object);
     }
-    if is_key(&legend.platform, facts) {
-        return push_key(text, store, at, facts);
+    if is_key(&legend.platform, object.facts) {
+        return push_key(text, image, object);
     }
-    if is_engine(legend, facts) {
-        return push_engine(text, store, at, facts);
+    if is_engine(legend, object.facts, ENGINE_CELLS, ENGINE_REFERENCE) {
+        return push_engine(text, image, object);
     }
-    if is_keyed_engine(legend, facts) {
-        return push_keyed_engine(text, store, at, facts);
+    if is_engine(
+        legend,
+        object.facts,
+        KEYED_ENGINE_CELLS,
+        KEYED_ENGINE_REFERENCE,
+    ) {
+        return push_keyed_engine(text, image, object);
     }
-    if is_hidden(hidden, at, facts) {
+    if image.is_hidden(object) {
         return push_not_shown(text);
     }
-    match aid_length(legend, store, at, facts) {
-        Some(long) => push_aid(alloc, text, store, at, facts, long),
-        None => push_cells(alloc, text, legend, store, at, facts),
+    match aid_length(image, object) {
+        Some(long) => push_aid(text, image, object, long),
+        None => push_cells(text, image, object),
     }
 }
 
@@ -302,62 +230,43 @@ fn is_pin(legend: &Legend, facts: Facts) -> bool
         && facts.class() == legend.platform.class_word(PlatformClass::OwnerPin)
 }
 
-// Whether an object is an engine.
-fn is_engine(legend: &Legend, facts: Facts) -> bool
-    ensures { result ≡ is_engine legend.now facts }
+// Whether an object is an engine of a class with this many cells, of which this one is the last that holds a reference.
+fn is_engine(legend: &Legend, facts: Facts, cells: u16, last: u16) -> bool
+    ensures { result ≡ is_engine legend.now facts cells last }
 {
     matches!(facts.kind, Kind::Instance)
-        && facts.length == ENGINE_CELLS
-        && is_engine_class(legend.platform.class_by_word(facts.class()))
+        && facts.length == cells
+        && is_engine_class(legend.platform.class_by_word(facts.class()), cells, last)
 }
 
-// Whether a class is one of engines: its instances have two cells, the second of which holds a reference.
-fn is_engine_class(found: Option<PlatformClass>) -> bool
-    ensures { result ≡ is_engine_class found }
-{
-    match found {
-        Some(class) => u16::from(class.cells()) == ENGINE_CELLS && class.holds_reference(1),
-        None => false,
-    }
-}
-
-// Whether an object is a Cipher or a Signature.
-fn is_keyed_engine(legend: &Legend, facts: Facts) -> bool
-    ensures { result ≡ is_keyed_engine legend.now facts }
-{
-    matches!(facts.kind, Kind::Instance)
-        && facts.length == KEYED_ENGINE_CELLS
-        && is_keyed_engine_class(legend.platform.class_by_word(facts.class()))
-}
-
-// Whether a class is one of engines with a key: its instances have 12 cells, the second and the third of which hold references.
-fn is_keyed_engine_class(found: Option<PlatformClass>) -> bool
-    ensures { result ≡ is_keyed_engine_class found }
+// Whether a class is one of engines: by its row its instances have this many cells, of which the second, which holds their
+// state, and this one are references.
+fn is_engine_class(found: Option<PlatformClass>, cells: u16, last: u16) -> bool
+    ensures { result ≡ is_engine_class found cells last }
 {
     match found {
         Some(class) => {
-            u16::from(class.cells()) == KEYED_ENGINE_CELLS
+            u16::from(class.cells()) == cells
                 && class.holds_reference(1)
-                && class.holds_reference(2)
+                && class.holds_reference(last)
         }
         None => false,
     }
 }
 
 // How many bytes an AID has; none where an object is no AID, or has more than an AID can have.
-fn aid_length<S: WordStore>(legend: &Legend, store: &S, at: u16, facts: Facts) -> Option<u16>
-    requires bounds { has_bounds (S.words store.now) ≡ true }
-    requires record { IsRecord (S.words store.now) at }
-    requires object { object_in (item_at (S.words store.now) at) ≡ Some facts }
-    requires cells { length (cells_of (item_at (S.words store.now) at)) ≡ facts.length }
-    ensures length { result ≡ aid_length legend.now facts (cells_of (item_at (S.words store.now) at)) }
+fn aid_length<S: WordStore>(image: &Image<'_, S>, object: PlacedObject) -> Option<u16>
+    requires object { IsObjectIn image.now.words object }
+    requires cells { length (cells_in image.now.words object) ≡ object.facts.length }
+    ensures length { result ≡ aid_length image.now.legend object.facts
+        (cells_in image.now.words object) }
     ensures cells { IfSome result (λ long. (long ≤ 16)
-        × (length (cells_of (item_at (S.words store.now) at)) ≡ 9)) }
+        × (length (cells_in image.now.words object) ≡ 9)) }
 {
-    if !is_aid(legend, facts) {
+    if !is_aid(image.legend(), object.facts) {
         return None;
     }
-    let long = cell_of(store, at, facts, 0);
+    let long = image.cell(object, 0);
     if long > MOST_AID {
         return None;
     }
@@ -376,57 +285,49 @@ fn is_aid(legend: &Legend, facts: Facts) -> bool
 
 // Writes the bytes of an AID, two of which stand in each cell after the first.
 fn push_aid<S: WordStore>(
-    alloc: Global,
     text: &mut Vec<u8>,
-    store: &S,
-    at: u16,
-    facts: Facts,
+    image: &Image<'_, S>,
+    object: PlacedObject,
     long: u16,
 ) -> Result<(), AllocError>
-    requires bounds { has_bounds (S.words store.now) ≡ true }
-    requires record { IsRecord (S.words store.now) at }
-    requires object { object_in (item_at (S.words store.now) at) ≡ Some facts }
-    requires cells { length (cells_of (item_at (S.words store.now) at)) ≡ 9 }
+    requires object { IsObjectIn image.now.words object }
+    requires cells { length (cells_in image.now.words object) ≡ 9 }
     requires long { long ≤ 16 }
     ensures { OnOk result (text.new.items ≡ text.old.items
-        ++ aid_text (cells_of (item_at (S.words store.now) at)) long) }
+        ++ aid_text (cells_in image.now.words object) long) }
 {
     text.extend_from_slice(b": ")?;
     for i in 0..long {
-        push_byte(alloc, text, cell_of(store, at, facts, 1 + i / 2), i)?;
+        push_byte(text, image.cell(object, 1 + i / 2), i)?;
     }
     Ok(())
 }
 
 // Writes the byte of an index, of the two in its word.
-fn push_byte(alloc: Global, text: &mut Vec<u8>, word: u16, i: u16) -> Result<(), AllocError>
+fn push_byte(text: &mut Vec<u8>, word: u16, i: u16) -> Result<(), AllocError>
     ensures { OnOk result (text.new.items ≡ text.old.items ++ byte_text word i) }
 {
     if i % 2 == 0 {
-        return push_hex(alloc, text, &[(word / 256) as u8]);
+        return push_hex(text, &[(word / 256) as u8]);
     }
-    push_hex(alloc, text, &[(word % 256) as u8])
+    push_hex(text, &[(word % 256) as u8])
 }
 
 // Writes the cells of an object one after another.
 fn push_cells<S: WordStore>(
-    alloc: Global,
     text: &mut Vec<u8>,
-    legend: &Legend,
-    store: &S,
-    at: u16,
-    facts: Facts,
+    image: &Image<'_, S>,
+    object: PlacedObject,
 ) -> Result<(), AllocError>
-    requires bounds { has_bounds (S.words store.now) ≡ true }
-    requires record { IsRecord (S.words store.now) at }
-    requires object { object_in (item_at (S.words store.now) at) ≡ Some facts }
-    requires cells { length (cells_of (item_at (S.words store.now) at)) ≡ facts.length }
+    requires object { IsObjectIn image.now.words object }
+    requires cells { length (cells_in image.now.words object) ≡ object.facts.length }
     ensures { OnOk result (text.new.items ≡ text.old.items
-        ++ cells_text legend.now facts (cells_of (item_at (S.words store.now) at))) }
+        ++ cells_text image.now.legend object.facts (cells_in image.now.words object)) }
 {
+    let legend = image.legend();
     text.extend_from_slice(b":")?;
-    for i in 0..facts.length {
-        push_cell(alloc, text, legend, facts, i, cell_of(store, at, facts, i))?;
+    for i in 0..object.facts.length {
+        push_cell(text, legend, object.facts, i, image.cell(object, i))?;
     }
     Ok(())
 }
@@ -434,76 +335,62 @@ fn push_cells<S: WordStore>(
 // Writes the fields of an OwnerPIN.
 fn push_pin<S: WordStore>(
     text: &mut Vec<u8>,
-    store: &S,
-    at: u16,
-    facts: Facts,
+    image: &Image<'_, S>,
+    object: PlacedObject,
 ) -> Result<(), AllocError>
-    requires bounds { has_bounds (S.words store.now) ≡ true }
-    requires record { IsRecord (S.words store.now) at }
-    requires object { object_in (item_at (S.words store.now) at) ≡ Some facts }
-    requires cells { length (cells_of (item_at (S.words store.now) at)) ≡ 5 }
+    requires object { IsObjectIn image.now.words object }
+    requires cells { length (cells_in image.now.words object) ≡ 5 }
     ensures { OnOk result (text.new.items ≡ text.old.items
-        ++ pin_text (cells_of (item_at (S.words store.now) at))) }
+        ++ pin_text (cells_in image.now.words object)) }
 {
-    push_labelled(text, b": tries ", cell_of(store, at, facts, 2), b" of ")?;
-    push_labelled(text, b"", cell_of(store, at, facts, 0), b", length ")?;
-    push_labelled(text, b"", cell_of(store, at, facts, 3), b" of ")?;
-    push_labelled(text, b"", cell_of(store, at, facts, 1), b", value ")?;
-    push_reference(text, cell_of(store, at, facts, 4))
+    push_labelled(text, b": tries ", image.cell(object, 2), b" of ")?;
+    push_labelled(text, b"", image.cell(object, 0), b", length ")?;
+    push_labelled(text, b"", image.cell(object, 3), b" of ")?;
+    push_labelled(text, b"", image.cell(object, 1), b", value ")?;
+    push_reference(text, image.cell(object, 4))
 }
 
 // Writes the fields of an engine. Its state is transient, so in an image it holds nothing.
 fn push_engine<S: WordStore>(
     text: &mut Vec<u8>,
-    store: &S,
-    at: u16,
-    facts: Facts,
+    image: &Image<'_, S>,
+    object: PlacedObject,
 ) -> Result<(), AllocError>
-    requires bounds { has_bounds (S.words store.now) ≡ true }
-    requires record { IsRecord (S.words store.now) at }
-    requires object { object_in (item_at (S.words store.now) at) ≡ Some facts }
-    requires cells { length (cells_of (item_at (S.words store.now) at)) ≡ 2 }
+    requires object { IsObjectIn image.now.words object }
+    requires cells { length (cells_in image.now.words object) ≡ 2 }
     ensures { OnOk result (text.new.items ≡ text.old.items
-        ++ engine_text (cells_of (item_at (S.words store.now) at))) }
+        ++ engine_text (cells_in image.now.words object)) }
 {
     push_labelled(
         text,
         b": algorithm ",
-        cell_of(store, at, facts, 0),
+        image.cell(object, 0),
         b", holds nothing, state ",
     )?;
-    push_reference(text, cell_of(store, at, facts, 1))
+    push_reference(text, image.cell(object, 1))
 }
 
-// Writes the fields of a Cipher or a Signature. Its state is transient, so in an image it holds nothing.
+// Writes the fields of an engine with a key. Its state is transient, so in an image it holds nothing.
 fn push_keyed_engine<S: WordStore>(
     text: &mut Vec<u8>,
-    store: &S,
-    at: u16,
-    facts: Facts,
+    image: &Image<'_, S>,
+    object: PlacedObject,
 ) -> Result<(), AllocError>
-    requires bounds { has_bounds (S.words store.now) ≡ true }
-    requires record { IsRecord (S.words store.now) at }
-    requires object { object_in (item_at (S.words store.now) at) ≡ Some facts }
-    requires cells { length (cells_of (item_at (S.words store.now) at)) ≡ 12 }
+    requires object { IsObjectIn image.now.words object }
+    requires cells { length (cells_in image.now.words object) ≡ 12 }
     ensures { OnOk result (text.new.items ≡ text.old.items
-        ++ keyed_engine_text (cells_of (item_at (S.words store.now) at))) }
+        ++ keyed_engine_text (cells_in image.now.words object)) }
 {
-    let algorithm = cell_of(store, at, facts, 0);
+    let algorithm = image.cell(object, 0);
     push_labelled(text, b": algorithm ", algorithm, b", key ")?;
-    push_reference(text, cell_of(store, at, facts, 2))?;
-    push_labelled(
-        text,
-        b", mode ",
-        cell_of(store, at, facts, 3),
-        b", holds nothing, state ",
-    )?;
-    push_reference(text, cell_of(store, at, facts, 1))
+    push_reference(text, image.cell(object, 2))?;
+    let mode = image.cell(object, 3);
+    push_labelled(text, b", mode ", mode, b", holds nothing, state ")?;
+    push_reference(text, image.cell(object, 1))
 }
 
 // Writes a cell of an object.
 fn push_cell(
-    alloc: Global,
     text: &mut Vec<u8>,
     legend: &Legend,
     facts: Facts,
@@ -513,12 +400,11 @@ fn push_cell(
     ensures { OnOk result (text.new.items ≡ text.old.items ++ cell_text legend.now facts i cell) }
 {
     text.extend_from_slice(b" ")?;
-    push_value(alloc, text, legend, facts, i, cell)
+    push_value(text, legend, facts, i, cell)
 }
 
 /// Writes what stands in the cell with a number of an object.
 pub(crate) fn push_value(
-    alloc: Global,
     text: &mut Vec<u8>,
     legend: &Legend,
     facts: Facts,
@@ -528,7 +414,7 @@ pub(crate) fn push_value(
     ensures { OnOk result (text.new.items ≡ text.old.items ++ value_text legend.now facts i cell) }
 {
     match facts.kind {
-        Kind::BooleanArray | Kind::ByteArray => push_hex(alloc, text, &[(cell % 256) as u8]),
+        Kind::BooleanArray | Kind::ByteArray => push_hex(text, &[(cell % 256) as u8]),
         Kind::ReferenceArray => push_reference(text, cell),
         Kind::ShortArray => push_short(text, cell),
         Kind::Instance => push_field(text, legend.holds_reference(facts.class(), i), cell),

@@ -14,7 +14,7 @@ use jc_records::bounds::first_record;
 use jc_records::records::whole_size;
 use jc_words::WordStore;
 use jc_words::layout::{ADDRESSES, MOST_PACKAGES, PACKAGES, TOP};
-use std::alloc::{AllocError, Global};
+use std::alloc::AllocError;
 
 /// Where a package's record begins, and how many words it has.
 #[derive(Clone, Copy, Drop)]
@@ -25,7 +25,6 @@ struct Record {
 
 /// Writes the line of each package's record, up to the first that cannot be read.
 pub(crate) fn push_packages<S: WordStore>(
-    alloc: Global,
     text: &mut Vec<u8>,
     legend: &Legend,
     store: &S,
@@ -37,14 +36,13 @@ pub(crate) fn push_packages<S: WordStore>(
 {
     let count = store.read(PACKAGES);
     for i in 0..count {
-        push_package(alloc, text, legend, store, i)?;
+        push_package(text, legend, store, i)?;
     }
     Ok(())
 }
 
 /// Writes the line of the package after this many others.
 pub(crate) fn push_package<S: WordStore>(
-    alloc: Global,
     text: &mut Vec<u8>,
     legend: &Legend,
     store: &S,
@@ -58,7 +56,7 @@ pub(crate) fn push_package<S: WordStore>(
     let Some(found) = record_at(store, before) else {
         return Err(ListFault::Unreadable);
     };
-    push_record(alloc, text, legend, store, before + 1, found)
+    push_record(text, legend, store, before + 1, found)
 }
 
 // Where the record of the package after this many others stands, if its words lie in the heap.
@@ -89,7 +87,6 @@ fn record_from<S: WordStore>(store: &S, at: u16) -> Option<Record>
 
 // Writes what a record has.
 fn push_record<S: WordStore>(
-    alloc: Global,
     text: &mut Vec<u8>,
     legend: &Legend,
     store: &S,
@@ -102,7 +99,7 @@ fn push_record<S: WordStore>(
     ensures { Lists text.old.items text.new.items (record_lines legend.now (S.words store.now) number found) result }
 {
     push_head(text, number, found)?;
-    let told = push_parts(alloc, text, legend.static_references(number), store, found);
+    let told = push_parts(text, legend.static_references(number), store, found);
     text.extend_from_slice(b"\n")?;
     told
 }
@@ -118,7 +115,6 @@ fn push_head(text: &mut Vec<u8>, number: u16, found: Record) -> Result<(), Alloc
 
 // Writes the components of a record, and its static image, which begins with this many references.
 fn push_parts<S: WordStore>(
-    alloc: Global,
     text: &mut Vec<u8>,
     references: u16,
     store: &S,
@@ -137,7 +133,7 @@ fn push_parts<S: WordStore>(
         let left = found.size - offset;
         let tag = store.read(at);
         if tag == 0 {
-            push_image(alloc, text, references, store, at + 1, left - 1)?;
+            push_image(text, references, store, at + 1, left - 1)?;
             return Ok(());
         }
         let Some(bytes) = component_bytes(store, at, left) else {
@@ -182,7 +178,6 @@ fn push_component(text: &mut Vec<u8>, tag: u16, bytes: u16) -> Result<(), AllocE
 
 // Writes this many words of a static image, from an address on, the first as references.
 fn push_image<S: WordStore>(
-    alloc: Global,
     text: &mut Vec<u8>,
     references: u16,
     store: &S,
@@ -196,23 +191,18 @@ fn push_image<S: WordStore>(
     let _ = store.size(); // so that the proof knows that there are fewer than 65,536 words
     text.extend_from_slice(b", static image")?;
     for i in 0..count {
-        push_static(alloc, text, i < references, store.read(at + i))?;
+        push_static(text, i < references, store.read(at + i))?;
     }
     Ok(())
 }
 
 // Writes a word of a static image: a reference, or two bytes.
-fn push_static(
-    alloc: Global,
-    text: &mut Vec<u8>,
-    is_reference: bool,
-    word: u16,
-) -> Result<(), AllocError>
+fn push_static(text: &mut Vec<u8>, is_reference: bool, word: u16) -> Result<(), AllocError>
     ensures { OnOk result (text.new.items ≡ text.old.items ++ static_text is_reference word) }
 {
     text.extend_from_slice(b" ")?;
     if is_reference {
         return push_reference(text, word);
     }
-    push_word(alloc, text, word)
+    push_word(text, word)
 }

@@ -1,8 +1,6 @@
 //! The numbered lines of two images, compared.
-ghost use Rattle.std.specs.Prelude.{◌≡◌, ◌<◌, ◌≤◌, ◌+◌, ◌++◌, true, length, IfOk, OnOk};
+ghost use Rattle.std.specs.Prelude.{◌≡◌, ◌<◌, ◌+◌, ◌++◌, IfOk, OnOk};
 ghost use Rattle.jc_words.specs.Image.{HasSize};
-ghost use Rattle.jc_words.specs.Layout.{text_start};
-ghost use Rattle.jc_records.specs.Bounds.{has_bounds};
 ghost use Rattle.jcard_listing.specs.Fault.{Lists};
 ghost use Rattle.jcard_listing.specs.Pairs.{lines_of};
 ghost use Rattle.jcard_listing.specs.Parts.{larger, line_among, pair_at, part_count, part_line, part_lines, size_text};
@@ -10,12 +8,12 @@ ghost use Rattle.jcard_listing.specs.Parts.{larger, line_among, pair_at, part_co
 use crate::applets::push_applet_at;
 use crate::entries::push_entry_at;
 use crate::fault::ListFault;
+use crate::image::Image;
 use crate::listing::Listing;
 use crate::names::{push_applet_name, push_package_name};
 use crate::packages::push_package;
 use crate::pairs::{listing_by, push_pair};
 use crate::texts::push_labelled;
-use jc_objects::legend::Legend;
 use jc_words::layout::{APPLETS, COUNT, PACKAGES};
 use jc_words::{Log, WordStore};
 use std::alloc::{AllocError, Global};
@@ -39,24 +37,16 @@ pub(crate) enum Part {
 
 /// Writes those of these lines that are not the same in two images, up to the first that cannot be read.
 pub(crate) fn push_part<S: WordStore>(
-    alloc: Global,
     text: &mut Vec<u8>,
     part: Part,
-    legend: &Legend,
-    store: &S,
-    others: &Legend,
-    other: &S,
+    one: &Image<'_, S>,
+    other: &Image<'_, S>,
 ) -> Result<(), ListFault>
-    requires size { HasSize (S.words store.now) }
-    requires bounds { has_bounds (S.words store.now) ≡ true }
-    requires other_size { HasSize (S.words other.now) }
-    requires other_bounds { has_bounds (S.words other.now) ≡ true }
-    ensures { Lists text.old.items text.new.items (part_lines part legend.now others.now
-        (S.words store.now) (S.words other.now)) result }
+    ensures { Lists text.old.items text.new.items (part_lines part one.now other.now) result }
 {
-    let count = larger(part_count(part, store), part_count(part, other));
+    let count = larger(part_count(part, one), part_count(part, other));
     for i in 0..count {
-        push_pair_at(alloc, text, part, legend, store, others, other, i)?;
+        push_pair_at(text, part, one, other, i)?;
     }
     Ok(())
 }
@@ -68,10 +58,10 @@ fn larger(one: u16, other: u16) -> u16
 }
 
 // How many lines there are.
-fn part_count<S: WordStore>(part: Part, store: &S) -> u16
-    requires { text_start ≤ length (S.words store.now) }
-    ensures { result ≡ part_count part (S.words store.now) }
+fn part_count<S: WordStore>(part: Part, image: &Image<'_, S>) -> u16
+    ensures { result ≡ part_count part image.now.words }
 {
+    let store = image.store();
     match part {
         Part::Sizes => 2,
         Part::Packages | Part::Records => store.read(PACKAGES),
@@ -82,25 +72,18 @@ fn part_count<S: WordStore>(part: Part, store: &S) -> u16
 
 // Writes the lines after this many others, if they are not the same.
 fn push_pair_at<S: WordStore>(
-    alloc: Global,
     text: &mut Vec<u8>,
     part: Part,
-    legend: &Legend,
-    store: &S,
-    others: &Legend,
-    other: &S,
+    one: &Image<'_, S>,
+    other: &Image<'_, S>,
     before: u16,
 ) -> Result<(), ListFault>
-    requires size { HasSize (S.words store.now) }
-    requires bounds { has_bounds (S.words store.now) ≡ true }
-    requires other_size { HasSize (S.words other.now) }
-    requires other_bounds { has_bounds (S.words other.now) ≡ true }
-    requires number { before < 65535 }
-    ensures { Lists text.old.items text.new.items (pair_at part legend.now others.now
-        (S.words store.now) (S.words other.now) (before + 1)) result }
+    requires { before < 65535 }
+    ensures { Lists text.old.items text.new.items
+        (pair_at part one.now other.now (before + 1)) result }
 {
-    let one_line = line_among(alloc, part, legend, store, before)?;
-    let other_line = line_among(alloc, part, others, other, before)?;
+    let one_line = line_among(*text.allocator(), part, one, before)?;
+    let other_line = line_among(*text.allocator(), part, other, before)?;
     push_pair(text, &one_line, &other_line)
 }
 
@@ -108,51 +91,44 @@ fn push_pair_at<S: WordStore>(
 fn line_among<S: WordStore>(
     alloc: Global,
     part: Part,
-    legend: &Legend,
-    store: &S,
+    image: &Image<'_, S>,
     before: u16,
 ) -> Result<Listing, AllocError>
-    requires size { HasSize (S.words store.now) }
-    requires bounds { has_bounds (S.words store.now) ≡ true }
-    requires number { before < 65535 }
-    ensures { IfOk result (λ found. lines_of found
-        ≡ line_among part legend.now (S.words store.now) (before + 1)) }
+    requires { before < 65535 }
+    ensures { IfOk result (λ found. lines_of found ≡ line_among part image.now (before + 1)) }
 {
     let mut text = Vec::new(alloc);
-    if before >= part_count(part, store) {
+    if before >= part_count(part, image) {
         return Ok(Listing {
             text,
             readable: true,
         });
     }
-    let told = push_line(alloc, &mut text, part, legend, store, before);
+    let told = push_line(&mut text, part, image, before);
     listing_by(text, told)
 }
 
 // Writes the line after this many others.
 fn push_line<S: WordStore>(
-    alloc: Global,
     text: &mut Vec<u8>,
     part: Part,
-    legend: &Legend,
-    store: &S,
+    image: &Image<'_, S>,
     before: u16,
 ) -> Result<(), ListFault>
-    requires size { HasSize (S.words store.now) }
-    requires bounds { has_bounds (S.words store.now) ≡ true }
-    requires number { before < 65535 }
-    ensures { Lists text.old.items text.new.items
-        (part_line part legend.now (S.words store.now) (before + 1)) result }
+    requires { before < 65535 }
+    ensures { Lists text.old.items text.new.items (part_line part image.now (before + 1)) result }
 {
+    let legend = image.legend();
+    let store = image.store();
     match part {
         Part::Sizes => {
             push_size(text, store, before + 1)?;
             Ok(())
         }
-        Part::Packages => push_package_name(alloc, text, store, before + 1),
-        Part::Applets => push_applet_name(alloc, text, store, before + 1),
-        Part::Entries => push_entry_at(alloc, text, &legend.platform, store, before),
-        Part::Records => push_package(alloc, text, legend, store, before),
+        Part::Packages => push_package_name(text, store, before + 1),
+        Part::Applets => push_applet_name(text, store, before + 1),
+        Part::Entries => push_entry_at(text, &legend.platform, store, before),
+        Part::Records => push_package(text, legend, store, before),
         Part::Registrations => push_applet_at(text, store, before),
     }
 }

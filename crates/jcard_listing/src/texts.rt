@@ -4,7 +4,7 @@ ghost use Rattle.hex.specs.Hex.{encode_upper};
 ghost use Rattle.jcard_listing.specs.Texts.{labelled_text, reference_text, short_text, word_text};
 
 use itoa::Buffer;
-use std::alloc::{AllocError, Global};
+use std::alloc::AllocError;
 
 /// Writes a number in decimal digits.
 pub(crate) fn push_number(text: &mut Vec<u8>, number: u16) -> Result<(), AllocError>
@@ -38,19 +38,19 @@ pub(crate) fn push_labelled(
 }
 
 /// Writes bytes in hexadecimal.
-pub(crate) fn push_hex(alloc: Global, text: &mut Vec<u8>, bytes: &[u8]) -> Result<(), AllocError>
+pub(crate) fn push_hex(text: &mut Vec<u8>, bytes: &[u8]) -> Result<(), AllocError>
     ensures { OnOk result (text.new.items ≡ text.old.items ++ encode_upper bytes.now) }
 {
-    let digits = hex::encode_upper(alloc, bytes)?;
+    let digits = hex::encode_upper(*text.allocator(), bytes)?;
     text.extend_from_slice(digits.as_bytes())
 }
 
 /// Writes the two bytes of a word in hexadecimal.
-pub(crate) fn push_word(alloc: Global, text: &mut Vec<u8>, word: u16) -> Result<(), AllocError>
+pub(crate) fn push_word(text: &mut Vec<u8>, word: u16) -> Result<(), AllocError>
     ensures { OnOk result (text.new.items ≡ text.old.items ++ word_text word) }
 {
     let bytes = [(word / 256) as u8, (word % 256) as u8];
-    push_hex(alloc, text, &bytes)
+    push_hex(text, &bytes)
 }
 
 /// Writes a reference: the address of an object, or null.

@@ -1,10 +1,10 @@
 -- Reading the texts of parts, and joining them.
-use Rattle.std.proofs.Common.{arith, ◌≡◌, ◌∙◌, ◌⊎◌, inl, inr, ℕ, suc, Bool, add-one, drop-cons, ◌+◌, ◌<◌, ◌≤◌, List, [], ◌∷◌, ◌++◌, length, get_or, take, drop, map, ap, sym, refl, subst, append_assoc, append-nil, Ok, Err, Result, None, true, false, ◌&&◌}
+use Rattle.std.proofs.Common.{◌≡◌, ◌∙◌, ◌⊎◌, inl, inr, ℕ, suc, Bool, add-one, drop-cons, ◌+◌, ◌<◌, List, [], ◌∷◌, ◌++◌, length, get_or, take, drop, map, ap, sym, refl, subst, append_assoc, append-nil, Ok, Err, Result, false}
 use Rattle.std.specs.Borrow.{Bor}
 use Rattle.std.specs.Prelude.{if◌then◌else◌, is_err, is_ok}
 use Rattle.std.proofs.lemmas.Bool.{true≢false}
 use Rattle.std.proofs.lemmas.List.{map-append, take-append-drop, take_more}
-use Rattle.jcard_outcomes.specs.Joins.{AreBodiesOf, AreJoined, ArePartsOf, IsJoinFault, IsTellable}
+use Rattle.jcard_outcomes.specs.Joins.{AreBodiesOf, AreJoined, IsJoinFault, IsTellable}
 use Rattle.jcard_outcomes.specs.Reports.{are_whole, report_text}
 use Rattle.jcard_outcomes.specs.SweepKinds.{kind_of}
 use Rattle.jcard_outcomes.specs.declared.recoveries.Depth.{Depth}
@@ -18,9 +18,8 @@ use Rattle.jcard_outcomes.specs.declared.sweep_head.HeadFault.TheVariants as hea
 use Rattle.jcard_outcomes.proofs.PartHeads.{bodies_of_parts, name_of_parts, parts_of_one}
 use Rattle.jcard_script.specs.Texts.{IsCutOf}
 use Rattle.jcard_files.specs.FileDeeds.{FileDeed}
-use Rattle.jcard_sweeps.specs.Joinings.{AreBodiesJoinedTo, AreFirstRead, AreJoinedBy, AreRead, AreUnread, IsJoinTold, IsJoinedTo, IsJoining, IsOtherTold, told_join_fault}
-use Rattle.jcard_files.specs.Readings.{IsUnread, IsScriptRead}
-use Rattle.jcard_sweeps.specs.Tears.{IsReported}
+use Rattle.jcard_sweeps.specs.Joinings.{AreBodiesJoinedTo, AreFirstRead, AreJoinedBy, AreRead, AreUnread, IsJoinTold, IsJoinedTo, IsJoining, IsOtherTold, IsReported, told_join_fault}
+use Rattle.jcard_files.specs.Readings.{IsScriptRead}
 use Rattle.jcard_files.specs.declared.fault.Fault.{Fault}
 use Rattle.jcard_files.specs.declared.fault.Fault.TheVariants.{NoMemory, NotAllOrNothing, WriteFailed}
 

@@ -1,2 +1,5 @@
+pub mod Cuttings
 pub mod Joinings
+pub mod NamedParts
 pub mod Tears
+pub mod Writings

@@ -1,10 +1,11 @@
 -- `jcard tear --join`: what is read, and what is reported.
-use Rattle.std.specs.Prelude.{ℕ, ◌≡◌, ◌⊎◌, true, false, List, [], ◌∷◌, ◌++◌, Result, Ok, Err}
+use Rattle.std.specs.Prelude.{ℕ, ◌≡◌, ◌⊎◌, false, List, [], ◌∷◌, ◌++◌, Result, Err}
 use Rattle.std.specs.Borrow.{Bor}
 use Rattle.std.specs.List.{slice_index_or}
 use Rattle.jcard_outcomes.specs.Joins.{AreBodiesOf, AreJoined, ArePartsOf, IsJoinFault, IsTellable}
 use Rattle.jcard_outcomes.specs.CommandShares.{AreNoShares, AreSharesJoined}
 use Rattle.jcard_outcomes.specs.Parts.{has}
+use Rattle.jcard_outcomes.specs.Reports.{are_whole, report_text}
 use Rattle.jcard_outcomes.specs.SweepKinds.{kind_of}
 use Rattle.jcard_outcomes.specs.declared.recoveries.Depth.{Depth}
 use Rattle.jcard_outcomes.specs.declared.sweep_kind.SweepKind.{SweepKind}
@@ -16,12 +17,11 @@ use Rattle.jcard_outcomes.specs.declared.join_fault.JoinFault.{JoinFault}
 use Rattle.jcard_outcomes.specs.declared.join_fault.JoinFault.TheVariants as joining
 use Rattle.jcard_outcomes.specs.declared.join.Joined.{Joined}
 use Rattle.jcard_outcomes.specs.declared.report.Sweep.{Sweep}
-use Rattle.jcard_script.specs.Texts.{IsCutOf}
 use Rattle.jcard_files.specs.FileDeeds.{FileDeed}
 use Rattle.jcard_files.specs.Readings.{IsUnread, IsScriptRead}
-use Rattle.jcard_sweeps.specs.Tears.{IsReported}
+use Rattle.jcard_sweeps.specs.Writings.{IsTold, Says}
 use Rattle.jcard_files.specs.declared.fault.Fault.{Fault}
-use Rattle.jcard_files.specs.declared.fault.Fault.TheVariants.{BadCut, BadShare, CutMissing, CutTwice, NoMemory, NotAllOrNothing, OtherPart, OtherSweep, ShareMissing, ShareTwice, WriteFailed}
+use Rattle.jcard_files.specs.declared.fault.Fault.TheVariants.{BadCut, BadShare, CutMissing, CutTwice, NoMemory, OtherPart, OtherSweep, ShareMissing, ShareTwice}
 
 -- these texts were read from the files with these names, in their order
 abbrev pub AreRead : List (List ℕ) → List (List ℕ) → List FileDeed → Type 0
@@ -55,12 +55,13 @@ told_share_fault (joining.Twice k) = ShareTwice k
 told_share_fault (joining.BadLine k) = BadShare k
 told_share_fault (joining.OtherSweep k) = BadShare k
 
--- the report was written, and so it ended
-abbrev pub IsJoinTold : Joined → Result Unit Fault → List ℕ → Type 0
-IsJoinTold j (Ok done) text = (text ≡ j.text.items) × (j.is_all_or_nothing ≡ true)
-IsJoinTold j (Err NotAllOrNothing) text = (text ≡ j.text.items) × (j.is_all_or_nothing ≡ false)
-IsJoinTold j (Err WriteFailed) text = IsCutOf j.text.items text
-IsJoinTold j (Err other) text = ⊥
+-- the report was written
+abbrev pub IsJoinTold : Joined → Says
+IsJoinTold j = IsTold j.text.items j.is_all_or_nothing
+
+-- the report of a sweep was written
+abbrev pub IsReported : Sweep → Says
+IsReported s = IsTold (report_text s) (are_whole s.cuts.items)
 
 -- texts without heads were joined to a report; or they are not the parts of a sweep, or memory was refused. The parts of a sweep are joined to
 -- what is reported of it, or memory was refused

@@ -1,11 +1,11 @@
 use Rattle.jcard_commands.proofs.listed.list.Goals as goal
 
-pub returns-in-None-clause-done : goal.returns-in-None-clause-done
-returns-in-None-clause-done g c =
-    let done = c.list_plainly.ensures.done in
-    (done.0, done.1, done.2, rw c.in-None.is done.3, done.4)
+pub returns-in-None : goal.returns-in-None
+returns-in-None g c =
+    let done = c.list_plainly.ensures.0 in
+    ((done.0, done.1, done.2, rw c.in-None.is done.3, done.4), c.list_plainly.ensures.1)
 
-pub returns-in-Some-clause-done : goal.returns-in-Some-clause-done
-returns-in-Some-clause-done g c =
-    let done = c.list_named.ensures.done in
-    (done.0, done.1, done.2, rw c.in-Some.is done.3, done.4)
+pub returns-in-Some : goal.returns-in-Some
+returns-in-Some g c =
+    let done = c.list_named.ensures.0 in
+    ((done.0, done.1, done.2, rw c.in-Some.is done.3, done.4), c.list_named.ensures.1)

@@ -1,16 +1,19 @@
+use Rattle.std.proofs.Common.{subst}
+use Rattle.jcard_sweeps.specs.Tears.{IsTear}
 use Rattle.jcard_commands.proofs.listed.list_plainly.Goals as goal
 
-pub returns-in-Objects-clause-done : goal.returns-in-Objects-clause-done
-returns-in-Objects-clause-done g c =
+pub returns-in-Objects : goal.returns-in-Objects
+returns-in-Objects g c =
     let done = c.dump_objects.ensures.told in
-    (done.0, done.1, done.2, rw c.in-Objects.is done.3, done.4)
+    ((done.0, done.1, done.2, rw c.in-Objects.is done.3, done.4), c.dump_objects.ensures.writes)
 
-pub returns-in-Compared-clause-done : goal.returns-in-Compared-clause-done
-returns-in-Compared-clause-done g c =
+pub returns-in-Compared : goal.returns-in-Compared
+returns-in-Compared g c =
     let done = c.compare_images.ensures.told in
-    (done.0, done.1, done.2, rw c.in-Compared.is done.3, done.4)
+    ((done.0, done.1, done.2, rw c.in-Compared.is done.3, done.4), c.compare_images.ensures.writes)
 
-pub returns-in-Torn-clause-done : goal.returns-in-Torn-clause-done
-returns-in-Torn-clause-done g c =
-    let done = c.tear.ensures.done in
-    (done.0, done.1, done.2, rw c.in-Torn.is done.3, done.4)
+pub returns-in-Torn : goal.returns-in-Torn
+returns-in-Torn g c =
+    let done = c.tear_image.ensures.0 in
+    let torn = subst (λ asked. IsTear c.in-Torn.image.now asked c.tear_image.result done.0 done.1) c.asked_by.ensures done.3 in
+    ((done.0, done.1, done.2, rw c.in-Torn.is torn, done.4), c.tear_image.ensures.1)

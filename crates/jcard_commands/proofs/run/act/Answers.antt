@@ -23,12 +23,12 @@ returns-in-Dump-clause-done g c =
 
 pub returns-in-DumpObjects-clause-done : goal.returns-in-DumpObjects-clause-done
 returns-in-DumpObjects-clause-done g c =
-    let done = c.list.ensures.done in
+    let done = c.list.ensures.0 in
     (done.0, done.1, done.2, rw c.in-DumpObjects.is done.3, done.4)
 
 pub returns-in-Compare-clause-done : goal.returns-in-Compare-clause-done
 returns-in-Compare-clause-done g c =
-    let done = c.list-in-Compare.ensures.done in
+    let done = c.list-in-Compare.ensures.0 in
     (done.0, done.1, done.2, rw c.in-Compare.is done.3, done.4)
 
 pub returns-in-Try-clause-done : goal.returns-in-Try-clause-done
@@ -40,7 +40,7 @@ returns-in-Try-clause-done g c =
 
 pub returns-in-Tear-clause-done : goal.returns-in-Tear-clause-done
 returns-in-Tear-clause-done g c =
-    let done = c.list-in-Tear.ensures.done in
+    let done = c.list-in-Tear.ensures.0 in
     (done.0, done.1, done.2, rw c.in-Tear.is done.3, done.4)
 
 pub returns-in-Join-clause-done : goal.returns-in-Join-clause-done

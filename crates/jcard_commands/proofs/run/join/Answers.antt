@@ -9,5 +9,5 @@ returns-in_default-clause-done g c =
 
 pub returns-clause-done : goal.returns-clause-done
 returns-clause-done g c =
-    let done = c.join_files.ensures.done in
+    let done = c.join_files.ensures.0 in
     (done.0, done.1, done.2, joined c.args.files.now _ _ _ _ _ c.in-Some.ensures.cases.0 done.3, done.4)

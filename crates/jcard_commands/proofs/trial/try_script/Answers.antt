@@ -1,4 +1,4 @@
-use Rattle.std.proofs.Common.{List, [], ◌∷◌, ◌++◌, Ok, refl, sym, subst, ◌∙◌, inl, inr, rules, arith}
+use Rattle.std.proofs.Common.{[], ◌∷◌, ◌++◌, Ok, refl, sym, subst, ◌∙◌, inl, inr, rules, arith}
 use Rattle.std.proofs.lemmas.Grind.{common_steps}
 use Rattle.jc_platform.specs.Table.{Reads}
 use Rattle.jcard_script.proofs.Known.{appends_same}

@@ -1,15 +1,27 @@
-use Rattle.std.proofs.Common.{◌≡◌, ◌∙◌, List, ℕ, subst}
-use Rattle.jcard_listing.specs.Compared.{both_lines}
+use Rattle.std.proofs.Common.{◌≡◌, ◌∙◌, ◌++◌, ap, ap₂, subst, List, ℕ}
+use Rattle.jc_records.specs.Records.{are_whole}
+use Rattle.jcard_images.specs.Listings.{Lines}
+use Rattle.jcard_listing.specs.Compared.{compared_lines}
 use Rattle.jcard_listing.specs.Fault.{Lists}
-use Rattle.jcard_listing.specs.Keys.{hidden_in_both}
+use Rattle.jcard_listing.specs.Pairs.{end_lines, lines_of}
+use Rattle.jcard_listing.specs.declared.pairs.Side.TheVariants.{One, Other}
+use Rattle.jcard_listing.proofs.Differing.{text_then}
 use Rattle.jcard_listing.proofs.compared.push_heaps.Goals as goal
 
 pub returns : goal.returns
 returns g c =
-    let w : List ℕ = g.S.WordStore.words c.args.store.now in
-    let v : List ℕ = g.S.WordStore.words c.args.other.now in
-    let t = c.args.legend.now in
-    let u = c.args.others.now in
-    let hidden : c.deref.result.now ≡ hidden_in_both t u w v c.args.shown.secrets = c.deref.ensures.value ∙ c.in_ok-hidden.ensures in
-    subst (λ (h : List ℕ). Lists c.args.text.now.items c.push_both_heaps.new.text.items (both_lines t u w v h c.args.shown.all) c.push_both_heaps.result)
-    hidden c.push_both_heaps.ensures
+    let w : List ℕ = c.args.one.now.words in
+    let v : List ℕ = c.args.other.now.words in
+    let old : List ℕ = c.args.text.now.items in
+    let mid : List ℕ = c.push_texts.new.text.items in
+    let new : List ℕ = c.push_end.new.text.items in
+    let r = c.push_end.result in
+    let a : Lines = compared_lines One c.args.one.now c.args.other.now in
+    let b : Lines = compared_lines Other c.args.other.now c.args.one.now in
+    let first : lines_of c.in_ok-first.first ≡ a = c.in_ok-first.ensures in
+    let second : lines_of c.in_ok-second.second ≡ b = c.in_ok-second.ensures in
+    let pushed : mid ≡ old ++ (a.text ++ b.text) = c.in_ok-push_texts.ensures
+    ∙ ap₂ (λ (l m : List ℕ). old ++ (l ++ m)) (c.deref.ensures.value ∙ ap (λ (l : Lines). l.text) first)
+    (c.deref-2.ensures.value ∙ ap (λ (l : Lines). l.text) second) in
+    text_then r old mid new (a.text ++ b.text) (end_lines (are_whole w) (are_whole v)) pushed
+    (subst (λ (l : Lines). Lists mid new l r) (ap₂ end_lines (ap (λ (l : Lines). l.readable) first) (ap (λ (l : Lines). l.readable) second)) c.push_end.ensures)

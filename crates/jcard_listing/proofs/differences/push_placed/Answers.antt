@@ -1,4 +1,4 @@
-use Rattle.std.proofs.Common.{List, ℕ, Err}
+use Rattle.std.proofs.Common.{Err}
 use Rattle.std.proofs.lemmas.Result.{err_from_is_err_and}
 use Rattle.jcard_images.specs.Listings.{Lines, then_lines}
 use Rattle.jcard_listing.specs.Parts.{part_lines}
@@ -10,35 +10,29 @@ pub returns-in_err-push_part : goal.returns-in_err-push_part
 returns-in_err-push_part g c =
     let p = err_from_is_err_and c.from_residual.result c.from_residual.ensures.1 in
     let stop = c.in_err-push_part.field-0.0 in
-    let w : List ℕ = g.S.WordStore.words c.args.store.now in
-    let v : List ℕ = g.S.WordStore.words c.args.other.now in
-    let t = c.args.legend.now in
-    let u = c.args.others.now in
-    let a : Lines = part_lines Entries t u w v in
-    let b : Lines = then_lines (part_lines Records t u w v) (part_lines Registrations t u w v) in
+    let i = c.args.one.now in
+    let j = c.args.other.now in
+    let a : Lines = part_lines Entries i j in
+    let b : Lines = then_lines (part_lines Records i j) (part_lines Registrations i j) in
     rw (p.1, p.2) (lists_stopped stop _ _ a b c.in_err-push_part.ensures)
 
 pub returns-in_err-push_part-2 : goal.returns-in_err-push_part-2
 returns-in_err-push_part-2 g c =
     let p = err_from_is_err_and c.from_residual-in_err-push_part-2.result c.from_residual-in_err-push_part-2.ensures.1 in
     let stop = c.in_err-push_part-2.field-0.0 in
-    let w : List ℕ = g.S.WordStore.words c.args.store.now in
-    let v : List ℕ = g.S.WordStore.words c.args.other.now in
-    let t = c.args.legend.now in
-    let u = c.args.others.now in
-    let a : Lines = part_lines Entries t u w v in
-    let b : Lines = part_lines Records t u w v in
-    let d : Lines = part_lines Registrations t u w v in
+    let i = c.args.one.now in
+    let j = c.args.other.now in
+    let a : Lines = part_lines Entries i j in
+    let b : Lines = part_lines Records i j in
+    let d : Lines = part_lines Registrations i j in
     rw (p.1, p.2) (lists_then (Err stop) _ _ _ a (then_lines b d) c.in_ok-push_part.ensures (lists_stopped stop _ _ b d c.in_err-push_part-2.ensures))
 
 pub returns : goal.returns
 returns g c =
-    let w : List ℕ = g.S.WordStore.words c.args.store.now in
-    let v : List ℕ = g.S.WordStore.words c.args.other.now in
-    let t = c.args.legend.now in
-    let u = c.args.others.now in
+    let i = c.args.one.now in
+    let j = c.args.other.now in
     let r = c.push_part-3.result in
-    let a : Lines = part_lines Entries t u w v in
-    let b : Lines = part_lines Records t u w v in
-    let d : Lines = part_lines Registrations t u w v in
+    let a : Lines = part_lines Entries i j in
+    let b : Lines = part_lines Records i j in
+    let d : Lines = part_lines Registrations i j in
     lists_then r _ _ _ a (then_lines b d) c.in_ok-push_part.ensures (lists_then r _ _ _ b d c.in_ok-push_part-2.ensures c.push_part-3.ensures)

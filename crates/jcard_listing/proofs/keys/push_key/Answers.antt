@@ -1,10 +1,9 @@
-use Rattle.std.proofs.Common.{◌≡◌, ◌∙◌, ◌++◌, List, ℕ, Option, ap}
+use Rattle.std.proofs.Common.{◌≡◌, ◌∙◌, ◌++◌, List, ℕ, Option, ap, ap₂}
 use Rattle.std.specs.Prelude.{codes, slice_index}
 use Rattle.std.proofs.lemmas.Result.{on_ok_weaker}
-use Rattle.jc_heap.specs.Object.{cells_of}
 use Rattle.jc_records.specs.Keys.{key_at}
 use Rattle.jc_records.specs.declared.keys.KeyFacts.{KeyFacts}
-use Rattle.jc_records.specs.Records.{item_at}
+use Rattle.jcard_listing.specs.Images.{cells_in}
 use Rattle.jcard_listing.specs.Keys.{size_text, type_text}
 use Rattle.jcard_listing.specs.Texts.{reference_text}
 use Rattle.jcard_listing.proofs.Chains.{push_behind}
@@ -12,8 +11,8 @@ use Rattle.jcard_listing.proofs.keys.push_key.Goals as goal
 
 pub returns : goal.returns
 returns g c =
-    let w : List ℕ = g.S.WordStore.words c.args.store.now in
-    let cells : List ℕ = cells_of (item_at w c.args.at) in
+    let w : List ℕ = c.args.image.now.words in
+    let cells : List ℕ = cells_in c.args.image.now.words c.args.object in
     let old : List ℕ = c.args.text.now.items in
     let one : List ℕ = c.extend_from_slice.new.self.items in
     let two : List ℕ = c.push_type.new.text.items in
@@ -25,10 +24,11 @@ returns g c =
     let d : List ℕ = size_text (key_at w (slice_index cells 1)) in
     let e : List ℕ = codes ", key " in
     let h : List ℕ = reference_text (slice_index cells 1) in
-    on_ok_weaker c.push_reference.result (λ (last : new ≡ four ++ reference_text c.cell_of-array.result).
+    on_ok_weaker c.push_reference.result (λ (last : new ≡ four ++ reference_text c.cell-array.result).
     push_behind old one new a (b ++ (d ++ (e ++ h))) c.in_ok-extend_from_slice.ensures.items
-    (push_behind one two new b (d ++ (e ++ h)) (c.in_ok-push_type.ensures ∙ ap (λ (v : ℕ). one ++ type_text v) c.cell_of-number.ensures)
+    (push_behind one two new b (d ++ (e ++ h)) (c.in_ok-push_type.ensures ∙ ap (λ (v : ℕ). one ++ type_text v) c.cell-number.ensures)
     (push_behind two three new d (e ++ h) (c.in_ok-push_size.ensures
-    ∙ ap (λ (k : Option KeyFacts). two ++ size_text k) (c.key_at.ensures ∙ ap (λ (v : ℕ). key_at w v) c.cell_of-array.ensures))
+    ∙ ap (λ (k : Option KeyFacts). two ++ size_text k) (c.key_at.ensures
+    ∙ ap₂ key_at c.store.ensures.words c.cell-array.ensures))
     (push_behind three four new e h c.in_ok-extend_from_slice-2.ensures.items
-    (last ∙ ap (λ (v : ℕ). four ++ reference_text v) c.cell_of-array.ensures))))) c.push_reference.ensures
+    (last ∙ ap (λ (v : ℕ). four ++ reference_text v) c.cell-array.ensures))))) c.push_reference.ensures

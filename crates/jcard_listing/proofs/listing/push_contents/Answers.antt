@@ -1,64 +1,28 @@
-use Rattle.std.proofs.Common.{Err}
+use Rattle.std.proofs.Common.{ap₂, subst, Ok, Err}
 use Rattle.std.proofs.lemmas.Result.{err_from_is_err_and}
-use Rattle.jc_words.specs.Layout.{applets_address, packages_address}
-use Rattle.std.specs.Prelude.{slice_index}
-use Rattle.jc_commit.specs.Image.{count_of}
-use Rattle.jcard_images.specs.Listings.{then_lines}
-use Rattle.jcard_listing.specs.Applets.{applet_lines}
-use Rattle.jcard_listing.specs.Entries.{entry_lines}
-use Rattle.jcard_listing.specs.Fault.{each_line}
+use Rattle.jcard_images.specs.Listings.{Lines}
+use Rattle.jcard_listing.specs.Fault.{Lists}
+use Rattle.jcard_listing.specs.Listing.{tables_lines}
 use Rattle.jcard_listing.specs.Objects.{objects_lines}
-use Rattle.jcard_listing.specs.Packages.{package_lines}
 use Rattle.jcard_listing.proofs.Listed.{lists_stopped, lists_then}
 use Rattle.jcard_listing.proofs.listing.push_contents.Goals as goal
 
-pub returns-in_err-push_entries : goal.returns-in_err-push_entries
-returns-in_err-push_entries g c =
+pub returns-in_err-push_tables : goal.returns-in_err-push_tables
+returns-in_err-push_tables g c =
     let p = err_from_is_err_and c.from_residual.result c.from_residual.ensures.1 in
-    let stop = c.in_err-push_entries.field-0.0 in
-    let w = g.S.WordStore.words c.args.store.now in
-    let t = c.args.legend.now in
-    let entries = each_line (entry_lines t.platform w) (count_of w) in
-    let packages = each_line (package_lines t w) (slice_index w packages_address) in
-    let applets = each_line (applet_lines w) (slice_index w applets_address) in
-    rw (p.1, p.2) (lists_stopped stop _ _ entries (then_lines packages (then_lines applets (objects_lines t w c.args.shown))) c.in_err-push_entries.ensures)
-
-pub returns-in_err-push_packages : goal.returns-in_err-push_packages
-returns-in_err-push_packages g c =
-    let p = err_from_is_err_and c.from_residual-in_err-push_packages.result c.from_residual-in_err-push_packages.ensures.1 in
-    let stop = c.in_err-push_packages.field-0.0 in
-    let w = g.S.WordStore.words c.args.store.now in
-    let t = c.args.legend.now in
-    let entries = each_line (entry_lines t.platform w) (count_of w) in
-    let packages = each_line (package_lines t w) (slice_index w packages_address) in
-    let applets = each_line (applet_lines w) (slice_index w applets_address) in
-    let behind = then_lines applets (objects_lines t w c.args.shown) in
-    rw (p.1, p.2) (lists_then (Err stop) _ _ _ entries (then_lines packages behind) c.in_ok-push_entries.ensures
-    (lists_stopped stop _ _ packages behind c.in_err-push_packages.ensures))
-
-pub returns-in_err-push_applets : goal.returns-in_err-push_applets
-returns-in_err-push_applets g c =
-    let p = err_from_is_err_and c.from_residual-in_err-push_applets.result c.from_residual-in_err-push_applets.ensures.1 in
-    let stop = c.in_err-push_applets.field-0.0 in
-    let w = g.S.WordStore.words c.args.store.now in
-    let t = c.args.legend.now in
-    let entries = each_line (entry_lines t.platform w) (count_of w) in
-    let packages = each_line (package_lines t w) (slice_index w packages_address) in
-    let applets = each_line (applet_lines w) (slice_index w applets_address) in
-    let objects = objects_lines t w c.args.shown in
-    rw (p.1, p.2) (lists_then (Err stop) _ _ _ entries (then_lines packages (then_lines applets objects)) c.in_ok-push_entries.ensures
-    (lists_then (Err stop) _ _ _ packages (then_lines applets objects) c.in_ok-push_packages.ensures
-    (lists_stopped stop _ _ applets objects c.in_err-push_applets.ensures)))
+    let stop = c.in_err-push_tables.field-0.0 in
+    let i = c.args.image.now in
+    let old = c.args.text.now.items in
+    let new = c.push_tables.new.text.items in
+    let tables = tables_lines i.legend i.words in
+    rw (p.1, p.2) (lists_stopped stop old new tables (objects_lines i)
+    (subst (λ (l : Lines). Lists old new l (Err stop)) (ap₂ tables_lines c.legend.ensures c.store.ensures.words) c.in_err-push_tables.ensures))
 
 pub returns : goal.returns
 returns g c =
-    let w = g.S.WordStore.words c.args.store.now in
-    let t = c.args.legend.now in
-    let r = c.push_objects.result in
-    let entries = each_line (entry_lines t.platform w) (count_of w) in
-    let packages = each_line (package_lines t w) (slice_index w packages_address) in
-    let applets = each_line (applet_lines w) (slice_index w applets_address) in
-    let objects = objects_lines t w c.args.shown in
-    lists_then r _ _ _ entries (then_lines packages (then_lines applets objects)) c.in_ok-push_entries.ensures
-    (lists_then r _ _ _ packages (then_lines applets objects) c.in_ok-push_packages.ensures
-    (lists_then r _ _ _ applets objects c.in_ok-push_applets.ensures c.push_objects.ensures))
+    let i = c.args.image.now in
+    let old = c.args.text.now.items in
+    let mid = c.push_tables.new.text.items in
+    let tables = tables_lines i.legend i.words in
+    lists_then c.push_objects.result old mid _ tables (objects_lines i)
+    (subst (λ (l : Lines). Lists old mid l (Ok tt)) (ap₂ tables_lines c.legend.ensures c.store.ensures.words) c.in_ok-push_tables.ensures) c.push_objects.ensures

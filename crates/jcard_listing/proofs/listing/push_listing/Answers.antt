@@ -1,9 +1,13 @@
+use Rattle.std.proofs.Common.{subst}
 use Rattle.std.proofs.lemmas.Result.{err_from_is_err_and}
+use Rattle.jcard_listing.specs.Fault.{Lists}
+use Rattle.jcard_listing.specs.Images.{ListedImage}
+use Rattle.jcard_listing.specs.Listing.{shown_lines}
 use Rattle.jcard_listing.proofs.Listings.{areas_told, areas_untold, contents_told, table_untold}
 use Rattle.jcard_listing.proofs.listing.push_listing.Goals as goal
 
-pub push_contents-requires-clause-bounds : goal.push_contents-requires-clause-bounds
-push_contents-requires-clause-bounds g c = areas_told (g.S.WordStore.words c.args.store.now) _ _ c.in_ok-push_areas.ensures
+pub new-image-requires-clause-bounds : goal.new-image-requires-clause-bounds
+new-image-requires-clause-bounds g c = areas_told (g.S.WordStore.words c.args.store.now) _ _ c.in_ok-push_areas.ensures
 
 pub returns-in_err-push_areas : goal.returns-in_err-push_areas
 returns-in_err-push_areas g c =
@@ -18,5 +22,10 @@ returns-in_err-legend g c =
     rw (p.1, p.2) (table_untold stop (g.S.WordStore.words c.args.store.now) c.args.shown _ _ c.in_ok-push_areas.ensures c.in_err-legend.ensures)
 
 pub returns : goal.returns
-returns g c = contents_told c.push_contents.result (g.S.WordStore.words c.args.store.now) c.args.shown c.in_ok-legend.legend _ _ _ c.in_ok-push_areas.ensures
-    c.in_ok-legend.ensures c.push_contents.ensures
+returns g c =
+    let w = g.S.WordStore.words c.args.store.now in
+    let secrets = c.args.shown.secrets in
+    let old = c.push_areas.new.text.items in
+    let new = c.push_image.new.text.items in
+    contents_told c.push_image.result w c.args.shown c.in_ok-legend.legend _ _ _ c.in_ok-push_areas.ensures c.in_ok-legend.ensures
+    (subst (λ (i : ListedImage). Lists old new (shown_lines i secrets) c.push_image.result) c.new-image.ensures c.push_image.ensures)

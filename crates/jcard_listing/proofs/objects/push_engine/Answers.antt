@@ -1,22 +1,20 @@
 use Rattle.std.proofs.Common.{◌≡◌, ◌∙◌, ◌++◌, List, ℕ, ap}
 use Rattle.std.specs.Prelude.{codes, slice_index}
 use Rattle.std.proofs.lemmas.Result.{on_ok_weaker}
-use Rattle.jc_heap.specs.Object.{cells_of}
-use Rattle.jc_records.specs.Records.{item_at}
+use Rattle.jcard_listing.specs.Images.{cells_in}
 use Rattle.jcard_listing.specs.Texts.{labelled_text, reference_text}
 use Rattle.jcard_listing.proofs.Chains.{push_behind}
 use Rattle.jcard_listing.proofs.objects.push_engine.Goals as goal
 
 pub returns : goal.returns
 returns g c =
-    let w : List ℕ = g.S.WordStore.words c.args.store.now in
-    let cells : List ℕ = cells_of (item_at w c.args.at) in
+    let cells : List ℕ = cells_in c.args.image.now.words c.args.object in
     let old : List ℕ = c.args.text.now.items in
     let one : List ℕ = c.push_labelled.new.text.items in
     let new : List ℕ = c.push_reference.new.text.items in
     let a : List ℕ = labelled_text (codes ": algorithm ") (slice_index cells 0) (codes ", holds nothing, state ") in
     let b : List ℕ = reference_text (slice_index cells 1) in
-    on_ok_weaker c.push_reference.result (λ (last : new ≡ one ++ reference_text c.cell_of-2.result).
+    on_ok_weaker c.push_reference.result (λ (last : new ≡ one ++ reference_text c.cell-2.result).
     push_behind old one new a b
-    (c.in_ok-push_labelled.ensures ∙ ap (λ (v : ℕ). old ++ labelled_text (codes ": algorithm ") v (codes ", holds nothing, state ")) c.cell_of.ensures)
-    (last ∙ ap (λ (v : ℕ). one ++ reference_text v) c.cell_of-2.ensures)) c.push_reference.ensures
+    (c.in_ok-push_labelled.ensures ∙ ap (λ (v : ℕ). old ++ labelled_text (codes ": algorithm ") v (codes ", holds nothing, state ")) c.cell.ensures)
+    (last ∙ ap (λ (v : ℕ). one ++ reference_text v) c.cell-2.ensures)) c.push_reference.ensures

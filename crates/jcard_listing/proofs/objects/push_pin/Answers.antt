@@ -1,16 +1,14 @@
 use Rattle.std.proofs.Common.{◌≡◌, ◌∙◌, ◌++◌, [], List, ℕ, ap}
 use Rattle.std.specs.Prelude.{codes, slice_index}
 use Rattle.std.proofs.lemmas.Result.{on_ok_weaker}
-use Rattle.jc_heap.specs.Object.{cells_of}
-use Rattle.jc_records.specs.Records.{item_at}
+use Rattle.jcard_listing.specs.Images.{cells_in}
 use Rattle.jcard_listing.specs.Texts.{labelled_text, reference_text}
 use Rattle.jcard_listing.proofs.Chains.{push_behind}
 use Rattle.jcard_listing.proofs.objects.push_pin.Goals as goal
 
 pub returns : goal.returns
 returns g c =
-    let w : List ℕ = g.S.WordStore.words c.args.store.now in
-    let cells : List ℕ = cells_of (item_at w c.args.at) in
+    let cells : List ℕ = cells_in c.args.image.now.words c.args.object in
     let old : List ℕ = c.args.text.now.items in
     let one : List ℕ = c.push_labelled.new.text.items in
     let two : List ℕ = c.push_labelled-2.new.text.items in
@@ -22,13 +20,13 @@ returns g c =
     let d : List ℕ = labelled_text [] (slice_index cells 3) (codes " of ") in
     let e : List ℕ = labelled_text [] (slice_index cells 1) (codes ", value ") in
     let h : List ℕ = reference_text (slice_index cells 4) in
-    on_ok_weaker c.push_reference.result (λ (last : new ≡ four ++ reference_text c.cell_of-5.result).
+    on_ok_weaker c.push_reference.result (λ (last : new ≡ four ++ reference_text c.cell-5.result).
     push_behind old one new a (b ++ (d ++ (e ++ h)))
-    (c.in_ok-push_labelled.ensures ∙ ap (λ (v : ℕ). old ++ labelled_text (codes ": tries ") v (codes " of ")) c.cell_of.ensures)
+    (c.in_ok-push_labelled.ensures ∙ ap (λ (v : ℕ). old ++ labelled_text (codes ": tries ") v (codes " of ")) c.cell.ensures)
     (push_behind one two new b (d ++ (e ++ h))
-    (c.in_ok-push_labelled-2.ensures ∙ ap (λ (v : ℕ). one ++ labelled_text [] v (codes ", length ")) c.cell_of-2.ensures)
+    (c.in_ok-push_labelled-2.ensures ∙ ap (λ (v : ℕ). one ++ labelled_text [] v (codes ", length ")) c.cell-2.ensures)
     (push_behind two three new d (e ++ h)
-    (c.in_ok-push_labelled-3.ensures ∙ ap (λ (v : ℕ). two ++ labelled_text [] v (codes " of ")) c.cell_of-3.ensures)
+    (c.in_ok-push_labelled-3.ensures ∙ ap (λ (v : ℕ). two ++ labelled_text [] v (codes " of ")) c.cell-3.ensures)
     (push_behind three four new e h
-    (c.in_ok-push_labelled-4.ensures ∙ ap (λ (v : ℕ). three ++ labelled_text [] v (codes ", value ")) c.cell_of-4.ensures)
-    (last ∙ ap (λ (v : ℕ). four ++ reference_text v) c.cell_of-5.ensures))))) c.push_reference.ensures
+    (c.in_ok-push_labelled-4.ensures ∙ ap (λ (v : ℕ). three ++ labelled_text [] v (codes ", value ")) c.cell-4.ensures)
+    (last ∙ ap (λ (v : ℕ). four ++ reference_text v) c.cell-5.ensures))))) c.push_reference.ensures

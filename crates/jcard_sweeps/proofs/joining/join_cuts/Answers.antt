@@ -1,18 +1,31 @@
-use Rattle.std.proofs.Common.{[], ℕ, List, map}
-use Rattle.std.specs.Borrow.{Bor}
+use Rattle.std.proofs.Common.{[], subst}
 use Rattle.jcard_script.proofs.Known.{appends_same}
+use Rattle.jcard_sweeps.specs.Texts.{texts_of}
+use Rattle.jcard_sweeps.specs.Writings.{IsTold}
 use Rattle.jcard_sweeps.proofs.Joinings.{joined_told, unjoined}
+use Rattle.jcard_sweeps.proofs.Writings.{unfailed}
 use Rattle.jcard_sweeps.proofs.joining.join_cuts.Goals as goal
 
-pub returns-in-Ok-clause-done : goal.returns-in-Ok-clause-done
-returns-in-Ok-clause-done g c =
-    let told = c.tell_joined.ensures.done in
-    (told.0, told.1, joined_told c.args.depth (map (λ (t : Bor (List ℕ)). t.now) c.args.texts.now) c.in-Ok.joined c.tell_joined.result told.0 c.in-Ok.ensures.joined c.in-Ok.ensures.parts told.2)
+pub returns-in-Ok : goal.returns-in-Ok
+returns-in-Ok g c =
+    let j = c.in-Ok.joined in
+    let written = c.write_report.ensures.0 in
+    let told = subst (λ report. IsTold report j.is_all_or_nothing c.write_report.result written.0) c.deref.ensures.value written.2 in (
+      (
+        written.0,
+        written.1,
+        joined_told c.args.depth (texts_of c.args.texts.now) j c.write_report.result written.0 c.in-Ok.ensures.joined c.in-Ok.ensures.parts told,
+      ),
+      c.write_report.ensures.1,
+    )
 
-pub returns-in-Err-clause-done : goal.returns-in-Err-clause-done
-returns-in-Err-clause-done g c = (
-  [],
-  appends_same _,
-  unjoined c.args.depth (map (λ (t : Bor (List ℕ)). t.now) c.args.texts.now) c.in-Err.cause c.join_fault.result c.join_fault.ensures.told c.in-Err.ensures.joined
-      c.in-Err.ensures.parts,
+pub returns-in-Err : goal.returns-in-Err
+returns-in-Err g c = (
+  (
+    [],
+    appends_same _,
+    unjoined c.args.depth (texts_of c.args.texts.now) c.in-Err.cause c.join_fault.result c.join_fault.ensures.told c.in-Err.ensures.joined
+        c.in-Err.ensures.parts,
+  ),
+  unfailed _ c.join_fault.result c.join_fault.ensures.unwritten,
 )

@@ -1,8 +1,9 @@
-use Rattle.std.proofs.Common.{[], ℕ, List, arith, length, map, refl}
+use Rattle.std.proofs.Common.{[], ℕ, List, arith, map}
 use Rattle.std.specs.Borrow.{Bor}
 use Rattle.std.proofs.lemmas.List.{length-map}
 use Rattle.jcard_script.proofs.Known.{appends_same}
 use Rattle.jcard_sweeps.proofs.Joinings.{heads_joined, others_told}
+use Rattle.jcard_sweeps.proofs.Writings.{unfailed}
 use Rattle.jcard_sweeps.proofs.joining.join_texts.Goals as goal
 
 pub join_bodies-requires : goal.join_bodies-requires
@@ -16,21 +17,27 @@ join_bodies-requires g c =
       c.requires.some,
     ))
 
-pub returns-in-Ok-clause-done : goal.returns-in-Ok-clause-done
-returns-in-Ok-clause-done g c =
-    let told = c.join_bodies.ensures.done in
+pub returns-in-Ok : goal.returns-in-Ok
+returns-in-Ok g c =
+    let told = c.join_bodies.ensures.0 in
     let behind = c.in-Ok.ensures in (
-      told.0,
-      told.1,
-      heads_joined (map (λ (f : Bor (List ℕ)). f.now) c.args.files.now) (map (λ t. t.items) c.args.texts.now)
-          (map (λ (t : Bor (List ℕ)). t.now) c.in-Ok.bodies.texts.items) c.in-Ok.bodies.name.now c.join_bodies.result told.0
-          (omega (arith, length-map c.args.texts.now (λ t. t.items), c.requires.some)) behind (rw (c.deref.ensures.value, c.kind_of.ensures) at told.2),
+      (
+        told.0,
+        told.1,
+        heads_joined (map (λ (f : Bor (List ℕ)). f.now) c.args.files.now) (map (λ t. t.items) c.args.texts.now)
+            (map (λ (t : Bor (List ℕ)). t.now) c.in-Ok.bodies.texts.items) c.in-Ok.bodies.name.now c.join_bodies.result told.0
+            (omega (arith, length-map c.args.texts.now (λ t. t.items), c.requires.some)) behind (rw (c.deref.ensures.value, c.kind_of.ensures) at told.2),
+      ),
+      c.join_bodies.ensures.1,
     )
 
-pub returns-in-Err-clause-done : goal.returns-in-Err-clause-done
-returns-in-Err-clause-done g c = (
-  [],
-  appends_same _,
-  others_told (map (λ (f : Bor (List ℕ)). f.now) c.args.files.now) (map (λ t. t.items) c.args.texts.now) c.in-Err.cause c.head_fault.result
-      (omega (arith, length-map c.args.texts.now (λ t. t.items), c.requires.some)) c.in-Err.ensures c.head_fault.ensures.told,
+pub returns-in-Err : goal.returns-in-Err
+returns-in-Err g c = (
+  (
+    [],
+    appends_same _,
+    others_told (map (λ (f : Bor (List ℕ)). f.now) c.args.files.now) (map (λ t. t.items) c.args.texts.now) c.in-Err.cause c.head_fault.result
+        (omega (arith, length-map c.args.texts.now (λ t. t.items), c.requires.some)) c.in-Err.ensures c.head_fault.ensures.told,
+  ),
+  unfailed _ c.head_fault.result c.head_fault.ensures.unwritten,
 )
