@@ -9,3 +9,4 @@ pub mod Planned
 pub mod Reports
 pub mod RowTests
 pub mod Said
+pub mod Sparing

@@ -1,8 +1,6 @@
 -- Files of rows that were read and answered, one after the other.
-use Rattle.std.proofs.Common.{Bool, true, false, cond, nat_lt, not, ⊎_elim, Result, Ok, Err, ◌≡◌, ◌∙◌, ◌⊎◌, ℕ, zero, suc, ◌+◌, ◌<◌, ◌≤◌, List, [], ◌∷◌, ◌++◌, length, get_or, take, drop, map, min, Option, Some, None, IfSome, refl, ap, ap₂, sym, subst, inl, inr, append-nil, append_assoc, arith}
-use Rattle.std.specs.Str.{bytes_eq}
-use Rattle.std.specs.List.{position_or_len}
-use Rattle.std.specs.Prelude.{position, All, Any, IfOk, IfErr, IsSomeAnd, MatchResult, OnOk, option_map, slice_index_or}
+use Rattle.std.proofs.Common.{true, false, ⊎_elim, Result, Ok, Err, ◌≡◌, ◌∙◌, ℕ, zero, suc, ◌+◌, ◌<◌, ◌≤◌, List, [], ◌∷◌, ◌++◌, length, get_or, take, drop, map, min, Option, Some, None, IfSome, refl, ap, sym, subst, inl, inr, append-nil, append_assoc, arith}
+use Rattle.std.specs.Prelude.{All, Any, IfOk, IfErr, IsSomeAnd, MatchResult, OnOk, option_map, slice_index_or}
 use Rattle.std.specs.declared.alloc.AllocError.{AllocError}
 use Rattle.jcard_outcomes.specs.Reports.{broken_by_calls, broken_told, first_broken}
 use Rattle.jcard_outcomes.specs.declared.report.Sweep.{Sweep}
@@ -10,16 +8,16 @@ use Rattle.jcard_tear.specs.ScriptLines.{Line as TornLine}
 use Rattle.jcard_tear.specs.Sweeps.{IsLineSwept, nothing_more}
 use Rattle.std.specs.Borrow.{Bor}
 use Rattle.std.proofs.lemmas.List.{drop_all, get_or_default, length-map, length-take, map-append, take_all, take_more}
+use Rattle.std.proofs.lemmas.Grind.{flat_map-append}
 use Rattle.std.proofs.lemmas.List.Elements.{All-append}
 use Rattle.std.proofs.lemmas.Bool.{cases_lt}
 use Rattle.jcard_tests.proofs.Items.{drop_at}
 use Rattle.std.specs.String.{string_bytes}
-use Rattle.jcard_tests.specs.Cards.{AreCardsOf}
 use Rattle.jcard_tests.specs.Lines.{Says}
 use Rattle.jcard_tests.specs.Unrolled.{IsLineOf, IsUnrolled}
 use Rattle.jcard_tests.specs.declared.line.Line.{Line}
 use Rattle.jcard_tests.specs.declared.line.Line.TheVariants.{Include}
-use Rattle.jcard_tests.specs.Outcomes.{AllAnswered, IsFirstFailure}
+use Rattle.jcard_tests.specs.Outcomes.{AllAnswered}
 use Rattle.jcard_tests.specs.Rows.{script_text}
 use Rattle.jcard_tests.specs.declared.card_rows.CardRows.{CardRows}
 use Rattle.jcard_tests.specs.declared.numbered.Numbered.{Numbered}
@@ -27,24 +25,23 @@ use Rattle.jcard_tests.specs.declared.outcome.Failure.{Failure}
 use Rattle.jcard_tests.specs.declared.outcome.Outcome.{Outcome}
 use Rattle.jcard_tests.specs.declared.outcome.Outcome.TheVariants.{Held, Failed}
 use Rattle.jcard_tests.specs.declared.outcome.Tested.{Tested}
-use Rattle.jcard_tests.specs.Junit.{junit_text}
 use Rattle.jcard_tests.specs.NamedTables.{IsNamed}
 use Rattle.jcard_tests.specs.declared.row.Row.{Row}
+use Rattle.jcard_tests.specs.declared.rows_file.NamedFile.{NamedFile}
+use Rattle.jcard_tests.specs.declared.sources.Source.{Source}
 use Rattle.jcard_tests.specs.declared.table_line.TableLine.{TableLine}
-use Rattle.jcard_files.specs.Operands.{IsNoOperand}
 use Rattle.jcard_files.specs.declared.operand.Operand.{Operand}
-use Rattle.jc_words.specs.Stores.{FuseStoreValue, MemStoreValue}
-use Rattle.jcard_script.specs.Script.{EndsWithin}
-use Rattle.jcard_script.specs.declared.script.ScriptFault.{ScriptFault}
+use Rattle.jc_words.specs.Stores.{MemStoreValue}
 use Rattle.jcard_files.specs.Faults.{is_unwritten}
-use Rattle.jcard_files.specs.FileDeeds.{FileDeed, ReadsText, WritesText, fresh_store}
-use Rattle.jcard_files.specs.Images.{IsNotRead, IsUnwritten}
+use Rattle.jcard_files.specs.FileDeeds.{FileDeed, ReadsText}
+use Rattle.jcard_files.specs.Images.{IsNotRead}
 use Rattle.jcard_images.specs.NewImages.{IsNewImageInMemoryOf}
-use Rattle.jcard_files.specs.Readings.{IsUnread, IsScriptRead}
-use Rattle.jcard_tests.specs.Tests.{AreAnswered, AreAnsweredOn, AreCut, AreCutWell, EndsOn, IsFile, IsFileBehind, IsFileOf, IsKeptIn, IsNewCard, IsPlanFor, IsCutWell, IsToldOf, IsToldOfLine, IsTornFailure, AreIncluded, AreTested, IsFilePlace, IsPlace, IsPrinted, AreNoFileLines, IsNoRowsText, IsNoText, IsNotIncluded, IsOneUntested, IsReading, IsRowsText, IsTested, IsUnanswered, IsUntested, files_read, lacked_memory, operands_read, rows_operand}
+use Rattle.jcard_files.specs.Readings.{IsRead, IsUnread, IsScriptRead}
+use Rattle.jcard_tests.specs.Sources.{AreNoted, IsReading, files_named, name_of, names_in, names_of, path_read, paths_of, paths_read}
+use Rattle.jcard_tests.specs.Tests.{AreAnsweredOn, AreCut, AreCutWell, AreFilesRead, EndsOn, IsFile, IsFileBehind, IsFileOf, IsFileRead, IsNewCard, IsCutWell, IsToldOf, IsToldOfLine, IsTornFailure, AreIncluded, AreTested, IsFilePlace, IsPlace, IsPrinted, AreNoFileLines, IsNoRowsText, IsNoText, IsNotIncluded, IsOneUnread, IsRowsText, IsTested, IsUnanswered, IsUntested, operands_named, rows_operand}
 use Rattle.jcard_tests.specs.declared.plan.Plan.{Plan}
 use Rattle.jcard_files.specs.declared.fault.Fault.{Fault}
-use Rattle.jcard_files.specs.declared.fault.Fault.TheVariants.{BadTable, CannotRead, ImageTooSmall, NoMemory, WriteFailed}
+use Rattle.jcard_files.specs.declared.fault.Fault.TheVariants.{ImageTooSmall, NoMemory, WriteFailed}
 
 -- a text that is read up to one byte more than it may have
 pub whole_text : (known : Option (List ℕ)) (text : List ℕ) → IfSome known (λ bytes. text ≡ take 16777217 bytes) → length text ≤ 16777216
@@ -93,42 +90,54 @@ included_next name own i line lines next deeds here last h e a p n =
     (subst (λ (ls : List Numbered). AreIncluded name (take i own ++ line ∷ []) ls (deeds ++ last)) (sym n)
     (included_more name (take i own) lines deeds line here last a p))
 
--- one file more
-tested_more : (q : Plan) (names : List (List ℕ)) (ts : List Tested) (deeds : List FileDeed) (name : List ℕ) (t : Tested) (last : List FileDeed)
-    → AreTested q names ts deeds → IsTested q name t last → AreTested q (names ++ name ∷ []) (ts ++ t ∷ []) (deeds ++ last)
-unfolding AreTested
-tested_more q [] [] deeds name t last a p = (last, [], p, refl, ap (λ (ds : List FileDeed). ds ++ last) a ∙ sym (append-nil last))
-tested_more q [] (y ∷ ys) deeds name t last a p = absurd a
-tested_more q (x ∷ xs) [] deeds name t last a p = absurd a
-tested_more q (x ∷ xs) (y ∷ ys) deeds name t last a p = (
+-- one file more was read
+files_more : (names : List (List ℕ)) (fs : List NamedFile) (deeds : List FileDeed) (name : List ℕ) (f : NamedFile) (last : List FileDeed)
+    → AreFilesRead names fs deeds → IsFileRead name f last → AreFilesRead (names ++ name ∷ []) (fs ++ f ∷ []) (deeds ++ last)
+unfolding AreFilesRead
+files_more [] [] deeds name f last a p = (last, [], p, refl, ap (λ (ds : List FileDeed). ds ++ last) a ∙ sym (append-nil last))
+files_more [] (y ∷ ys) deeds name f last a p = absurd a
+files_more (x ∷ xs) [] deeds name f last a p = absurd a
+files_more (x ∷ xs) (y ∷ ys) deeds name f last a p = (
   a.0,
   a.1 ++ last,
   a.2,
-  tested_more q xs ys a.1 name t last a.3 p,
+  files_more xs ys a.1 name f last a.3 p,
   ap (λ (ds : List FileDeed). ds ++ last) a.4 ∙ append_assoc a.0 a.1 last,
 )
 
-pub tested_none : (q : Plan) → AreTested q [] [] []
+pub files_none : AreFilesRead [] [] []
+unfolding AreFilesRead
+files_none = refl
+
+pub files_next : (names : List (Bor (List ℕ))) (i : ℕ) (d : Bor (List ℕ)) (fs next : List NamedFile) (deeds : List FileDeed) (f : NamedFile)
+    (last : List FileDeed) → i < length names → AreFilesRead (names_of (take i names)) fs deeds
+    → IsFileRead (get_or names i d).now f last → next ≡ fs ++ f ∷ [] → AreFilesRead (names_of (take (i + 1) names)) next (deeds ++ last)
+files_next names i d fs next deeds f last h a p n =
+    let step : names_of (take (i + 1) names) ≡ names_of (take i names) ++ (get_or names i d).now ∷ [] = ap names_of (take_more names i d h)
+    ∙ map-append (λ (name : Bor (List ℕ)). name.now) (take i names) (get_or names i d ∷ []) in
+    subst (λ (ns : List (List ℕ)). AreFilesRead ns next (deeds ++ last)) (sym step)
+    (subst (λ (xs : List NamedFile). AreFilesRead (names_of (take i names) ++ (get_or names i d).now ∷ []) xs (deeds ++ last)) (sym n)
+    (files_more (names_of (take i names)) fs deeds (get_or names i d).now f last a p))
+
+-- the rows of one file more were answered
+tested_more : (q : Plan) (fs : List NamedFile) (ts : List Tested) (f : NamedFile) (t : Tested) → AreTested q fs ts → IsTested q f t
+    → AreTested q (fs ++ f ∷ []) (ts ++ t ∷ [])
 unfolding AreTested
-tested_none q = refl
+tested_more q [] [] f t a p = (p, tt)
+tested_more q [] (y ∷ ys) f t a p = absurd a
+tested_more q (x ∷ xs) [] f t a p = absurd a
+tested_more q (x ∷ xs) (y ∷ ys) f t a p = (a.0, tested_more q xs ys f t a.1 p)
 
--- the names of files
-abbrev pub names_of : List (Bor (List ℕ)) → List (List ℕ)
-names_of files = map (λ (name : Bor (List ℕ)). name.now) files
+pub tested_none : (q : Plan) → AreTested q [] []
+unfolding AreTested
+tested_none q = tt
 
-pub tested_next : (q : Plan) (files : List (Bor (List ℕ))) (i : ℕ) (d : Bor (List ℕ)) (ts next : List Tested) (deeds : List FileDeed) (t : Tested)
-    (last : List FileDeed) → i < length files → AreTested q (names_of (take i files)) ts deeds
-    → IsTested q (get_or files i d).now t last → next ≡ ts ++ t ∷ [] → AreTested q (names_of (take (i + 1) files)) next (deeds ++ last)
-tested_next q files i d ts next deeds t last h a p n =
-    let step : names_of (take (i + 1) files) ≡ names_of (take i files) ++ (get_or files i d).now ∷ [] = ap names_of (take_more files i d h)
-    ∙ map-append (λ (name : Bor (List ℕ)). name.now) (take i files) (get_or files i d ∷ []) in
-    subst (λ (ns : List (List ℕ)). AreTested q ns next (deeds ++ last)) (sym step)
-    (subst (λ (xs : List Tested). AreTested q (names_of (take i files) ++ (get_or files i d).now ∷ []) xs (deeds ++ last)) (sym n)
-    (tested_more q (names_of (take i files)) ts deeds (get_or files i d).now t last a p))
-
--- deeds that read texts, and more of them
-pub reads_more : (first more : List FileDeed) → All IsReading first → All IsReading more → All IsReading (first ++ more)
-reads_more first more a b = All-append IsReading first more a b
+pub tested_next : (q : Plan) (files : List NamedFile) (i : ℕ) (f : NamedFile) (ts next : List Tested) (t : Tested) → i < length files
+    → f ≡ get_or files i f → AreTested q (take i files) ts → IsTested q f t → next ≡ ts ++ t ∷ [] → AreTested q (take (i + 1) files) next
+tested_next q files i f ts next t h e a p n =
+    let step : take (i + 1) files ≡ take i files ++ f ∷ [] = take_more files i f h ∙ ap (λ (x : NamedFile). take i files ++ x ∷ []) (sym e) in
+    subst (λ (fs : List NamedFile). AreTested q fs next) (sym step)
+    (subst (λ (xs : List Tested). AreTested q (take i files ++ f ∷ []) xs) (sym n) (tested_more q (take i files) ts f t a p))
 
 -- a text at a place
 get_or_texts : (texts : List (Bor (List ℕ))) (i : ℕ) (d : Bor (List ℕ)) → get_or (names_of texts) i d.now ≡ (get_or texts i d).now
@@ -239,7 +248,64 @@ pub unread_reading : (name : List ℕ) (fault : Fault) (deeds : List FileDeed) �
 unread_reading name fault deeds (inl u) = one_reading name (Err fault) deeds u.1
 unread_reading name fault deeds (inr u) = one_reading name (Ok u.1.0) deeds u.1.1
 
--- no write failed where a file was not tested
+-- ---- texts that were noted
+
+-- none was asked for
+pub nothing_noted : (sources : List Source) → AreNoted sources sources []
+nothing_noted sources = (no_reading, sym (append-nil (paths_of sources)))
+
+-- some were, and then others
+pub noted_more : (old between new : List Source) (first more : List FileDeed) → AreNoted old between first → AreNoted between new more
+    → AreNoted old new (first ++ more)
+noted_more old between new first more a b = (
+  All-append IsReading first more a.0 b.0,
+  b.1 ∙ ap (λ (ps : List (List ℕ)). ps ++ paths_read more) a.1 ∙ append_assoc (paths_of old) (paths_read first) (paths_read more)
+      ∙ ap (λ (ps : List (List ℕ)). paths_of old ++ ps) (sym (flat_map-append path_read first more)),
+)
+
+-- one was
+one_noted : (old new : List Source) (name : List ℕ) (told : Result (Option (List ℕ)) Fault) (deeds : List FileDeed)
+    → paths_of new ≡ paths_of old ++ name ∷ [] → deeds ≡ ReadsText name told ∷ [] → AreNoted old new deeds
+one_noted old new name told deeds noted e =
+    (one_reading name told deeds e, noted ∙ ap (λ (ds : List FileDeed). paths_of old ++ paths_read ds) (sym e))
+
+-- one was, though it was not read
+unread_noted : (old new : List Source) (name : List ℕ) (fault : Fault) (deeds : List FileDeed) → paths_of new ≡ paths_of old ++ name ∷ []
+    → IsUnread name fault deeds → AreNoted old new deeds
+unread_noted old new name fault deeds noted (inl u) = one_noted old new name (Err fault) deeds noted u.1
+unread_noted old new name fault deeds noted (inr u) = one_noted old new name (Ok u.1.0) deeds noted u.1.1
+
+no_rows_noted : (old new : List Source) (name : List ℕ) (fault : Fault) (deeds : List FileDeed) → paths_of new ≡ paths_of old ++ name ∷ []
+    → IsNoRowsText name fault deeds → AreNoted old new deeds
+no_rows_noted old new name fault deeds noted (inl u) = unread_noted old new name fault deeds noted u
+no_rows_noted old new name fault deeds noted (inr t) = one_noted old new name (Ok t.1.0) deeds noted t.1.2
+
+-- that of a file of rows was noted, and then read
+pub rows_noted : {V : Type 0} (text_of : V → List ℕ) (r : Result V Fault) (old new : List Source) (name : List ℕ) (deeds : List FileDeed)
+    → paths_of new ≡ paths_of old ++ name ∷ [] → MatchResult r (λ t. IsRowsText name (text_of t) deeds) (λ f. IsNoRowsText name f deeds)
+    → AreNoted old new deeds
+rows_noted text_of (Ok t) old new name deeds noted h = one_noted old new name (Ok h.0) deeds noted h.2
+rows_noted text_of (Err f) old new name deeds noted h = no_rows_noted old new name f deeds noted h
+
+pub rows_or_fault : {V : Type 0} (text_of : V → List ℕ) (r : Result V Fault) (name : List ℕ) (deeds : List FileDeed)
+    → MatchResult r (λ t. IsRowsText name (text_of t) deeds) (λ f. IsNoRowsText name f deeds)
+    → MatchResult r (λ t. IsRowsText name (text_of t) deeds) (λ f. AreNoFileLines name f deeds)
+rows_or_fault text_of (Ok t) name deeds h = h
+rows_or_fault text_of (Err f) name deeds h = inl h
+
+-- that of a platform table was
+pub table_noted : {V : Type 0} (text_of : V → List ℕ) (r : Result V Fault) (old new : List Source) (name : List ℕ) (deeds : List FileDeed)
+    → paths_of new ≡ paths_of old ++ name ∷ [] → MatchResult r (λ t. IsRead name (text_of t) deeds) (λ f. IsUnread name f deeds)
+    → AreNoted old new deeds
+table_noted text_of (Ok t) old new name deeds noted h = one_noted old new name (Ok h.0) deeds noted h.2
+table_noted text_of (Err f) old new name deeds noted h = unread_noted old new name f deeds noted h
+
+pub table_read : {V : Type 0} (text_of : V → List ℕ) (r : Result V Fault) (name : List ℕ) (deeds : List FileDeed)
+    → MatchResult r (λ t. IsRead name (text_of t) deeds) (λ f. IsUnread name f deeds) → IfOk r (λ t. IsRead name (text_of t) deeds)
+table_read text_of (Ok t) name deeds h = h
+table_read text_of (Err f) name deeds h = tt
+
+-- no write failed where a file was not read
 not_read_unwritten : (name : List ℕ) (fault : Fault) → IsNotRead name fault → is_unwritten (Err fault) ≡ false
 not_read_unwritten name WriteFailed h = absurd h
 not_read_unwritten name other h = refl
@@ -260,12 +326,15 @@ pub unread_unwritten : (name : List ℕ) (fault : Fault) (deeds : List FileDeed)
 unread_unwritten name fault deeds (inl u) = ap (λ (f : Fault). is_unwritten (Err f)) u.0.1
 unread_unwritten name fault deeds (inr u) = not_read_unwritten name fault u.0
 
-untested_unwritten : (name : List ℕ) (fault : Fault) (deeds : List FileDeed) → IsUntested name fault deeds → is_unwritten (Err fault) ≡ false
-untested_unwritten name fault deeds (inl (inl (inl (inl u)))) = ap (λ (f : Fault). is_unwritten (Err f)) u.0.1
-untested_unwritten name fault deeds (inl (inl (inl (inr u)))) = not_read_unwritten name fault u.0
-untested_unwritten name fault deeds (inl (inl (inr t))) = no_text_unwritten name t.0 fault t.2
-untested_unwritten name fault deeds (inl (inr n)) = not_included_unwritten name fault n
-untested_unwritten name fault deeds (inr n) = unanswered_unwritten n.0 fault n.1
+no_lines_unwritten : (name : List ℕ) (fault : Fault) (deeds : List FileDeed) → AreNoFileLines name fault deeds → is_unwritten (Err fault) ≡ false
+no_lines_unwritten name fault deeds (inl (inl (inl u))) = ap (λ (f : Fault). is_unwritten (Err f)) u.0.1
+no_lines_unwritten name fault deeds (inl (inl (inr u))) = not_read_unwritten name fault u.0
+no_lines_unwritten name fault deeds (inl (inr t)) = no_text_unwritten name t.0 fault t.2
+no_lines_unwritten name fault deeds (inr n) = not_included_unwritten name fault n
+
+-- nor where the rows of one were not answered
+pub untested_unwritten : (fault : Fault) → IsUntested fault → is_unwritten (Err fault) ≡ false
+untested_unwritten fault n = unanswered_unwritten n.0 fault n.1
 
 -- ---- results of calls, from what their parts are
 
@@ -318,65 +387,30 @@ pub place_of_other : (name : List ℕ) (line : Numbered) (said : Line) (here : L
 place_of_other name line (Include file) here other says same is e = absurd (other file refl)
 place_of_other name line said here other says same is e = (said, says, (same, is, e, refl))
 
-pub file_tested : (r : Result Tested Fault) (p : Plan) (name : List ℕ) (table : Option (List ℕ)) (lines : List Numbered) (deeds : List FileDeed)
-    → IsFile name table lines deeds
-    → MatchResult r (λ t. (t.name.now ≡ name) × (q : Plan) × IsPlanFor p table q × AreAnswered q lines t) (λ f. (q : Plan) × IsUnanswered q f)
-    → MatchResult r (λ t. IsTested p name t deeds) (λ f. IsUntested name f deeds)
-file_tested (Ok t) p name table lines deeds read h = (h.0, table, lines, read, h.1, h.2, h.3)
-file_tested (Err f) p name table lines deeds read h = inr h
+-- no write failed where one of some files was not read
+pub any_unwritten : (names : List (List ℕ)) (fault : Fault) (reads : List FileDeed) → IsOneUnread names fault reads → is_unwritten (Err fault) ≡ false
+any_unwritten names fault reads one = no_lines_unwritten one.3.1 fault one.1 one.3.4
 
--- no write failed where a file was not tested
-pub any_unwritten : (names : List (List ℕ)) (fault : Fault) (reads : List FileDeed) → IsOneUntested names fault reads → is_unwritten (Err fault) ≡ false
-any_unwritten names fault reads one = untested_unwritten one.3.1 fault one.1 one.3.4
+-- a file was read, and kept after others
+pub file_pushed : (r : Result (Unit {0}) Fault) (name : List ℕ) (old new : List NamedFile) (file : NamedFile) (deeds : List FileDeed)
+    → IsFileRead name file deeds → OnOk r (new ≡ old ++ file ∷ []) → IfErr r (λ f. f ≡ NoMemory)
+    → MatchResult r (λ _. (f : NamedFile) × IsFileRead name f deeds × (new ≡ old ++ f ∷ [])) (λ f. AreNoFileLines name f deeds)
+file_pushed (Ok done) name old new file deeds t e refused = (file, t, e)
+file_pushed (Err f) name old new file deeds t e refused = inr (subst (λ x. IsNotIncluded name x) (sym refused) tt)
 
--- a file was tested, and kept after others
-pub file_pushed : (r : Result (Unit {0}) Fault) (p : Plan) (name : List ℕ) (old new : List Tested) (file : Tested) (deeds : List FileDeed)
-    → IsTested p name file deeds → OnOk r (new ≡ old ++ file ∷ []) → IfErr r (λ f. f ≡ NoMemory)
-    → MatchResult r (λ _. (f : Tested) × IsTested p name f deeds × (new ≡ old ++ f ∷ [])) (λ f. IsUntested name f deeds)
-file_pushed (Ok done) p name old new file deeds t e refused = (file, t, e)
-file_pushed (Err f) p name old new file deeds t e refused = inr (p, subst (λ x. IsUnanswered p x) (sym refused) tt)
+-- its rows were answered, and what came of them was kept after others
+pub tested_pushed : (r : Result (Unit {0}) Fault) (p : Plan) (f : NamedFile) (old new : List Tested) (t : Tested) → IsTested p f t
+    → OnOk r (new ≡ old ++ t ∷ []) → IfErr r (λ fault. fault ≡ NoMemory)
+    → MatchResult r (λ _. (of : Tested) × IsTested p f of × (new ≡ old ++ of ∷ [])) (λ fault. IsUntested fault)
+tested_pushed (Ok done) p f old new t is e refused = (t, is, e)
+tested_pushed (Err fault) p f old new t is e refused = (p, subst (λ x. IsUnanswered p x) (sym refused) tt)
 
--- the names of files that a command reads
-abbrev names_in : List Operand → List (List ℕ)
-names_in operands = map (λ (o : Operand). o.name.now) operands
-
--- the place of a name among them
-place_same : (operands : List Operand) (name : List ℕ) → position_or_len (λ (o : Operand). bytes_eq o.name.now name) operands
-    ≡ position_or_len (λ (f : List ℕ). bytes_eq f name) (names_in operands)
-place_same [] name = refl
-place_same (x ∷ xs) name = ap (λ (n : ℕ). cond (not (bytes_eq x.name.now name)) (1 + n) 0) (place_same xs name)
-
--- none of them is named so
-no_operand : (operands : List Operand) (name : List ℕ) → IsNoOperand name operands
-    → position (λ (f : List ℕ). bytes_eq f name) (names_in operands) ≡ None
-no_operand operands name none =
-    ap₂ (λ (n l : ℕ). cond (nat_lt n l) (Some n) None) (sym (place_same operands name)) (length-map operands (λ (o : Operand). o.name.now)) ∙ none
-
+-- the names of files that the words of a command name
 names_of_rows : (files : List (Bor (List ℕ))) → names_in (map rows_operand files) ≡ names_of files
 names_of_rows [] = refl
 names_of_rows (x ∷ xs) = ap (λ (l : List (List ℕ)). x.now ∷ l) (names_of_rows xs)
 
--- those of the files of rows, and of the platform table
-names_of_read : (files : List (Bor (List ℕ))) (table : Option (Bor (List ℕ)))
-    → names_in (operands_read files table) ≡ files_read (names_of files) (option_map (λ (b : Bor (List ℕ)). b.now) table)
-names_of_read files None = names_of_rows files
-names_of_read files (Some t) = map-append (λ (o : Operand). o.name.now) (map rows_operand files) _ ∙ ap (λ (l : List (List ℕ)). l ++ t.now ∷ []) (names_of_rows files)
-
--- bytes that were written to a file beside these
-pub kept_in : (r : Result (Unit {0}) Fault) (files : List (Bor (List ℕ))) (table : Option (Bor (List ℕ))) (operands : List Operand) (name bytes : List ℕ)
-    → operands ≡ operands_read files table → IfOk r (λ _. IsNoOperand name operands) → IfErr r (λ f. IsUnwritten name f)
-    → IsKeptIn (files_read (names_of files) (option_map (λ (b : Bor (List ℕ)). b.now) table)) name bytes r (WritesText name bytes r ∷ [])
-kept_in (Ok done) files table operands name bytes named spared refused = (
-  subst (λ (names : List (List ℕ)). position (λ (f : List ℕ). bytes_eq f name) names ≡ None) (ap names_in named ∙ names_of_read files table)
-      (no_operand operands name spared),
-  refl,
-)
-kept_in (Err f) files table operands name bytes named spared refused = inr (refused, refl)
-
-unwritten_fault : (fault : Fault) (name : List ℕ) → IsUnwritten name fault → is_unwritten (Err fault) ≡ false
-unwritten_fault WriteFailed name h = absurd h
-unwritten_fault other name h = refl
-
-pub kept_unwritten : (r : Result (Unit {0}) Fault) (name : List ℕ) → IfErr r (λ f. IsUnwritten name f) → is_unwritten r ≡ false
-kept_unwritten (Ok done) name h = refl
-kept_unwritten (Err f) name h = unwritten_fault f name h
+pub names_of_named : (files : List (Bor (List ℕ))) (table : Option (Bor (List ℕ)))
+    → names_in (operands_named files table) ≡ files_named (names_of files) (name_of table)
+names_of_named files None = names_of_rows files
+names_of_named files (Some t) = map-append (λ (o : Operand). o.name.now) (map rows_operand files) _ ∙ ap (λ (l : List (List ℕ)). l ++ t.now ∷ []) (names_of_rows files)

@@ -3,6 +3,7 @@ pub mod Cards
 pub mod Comparing
 pub mod Escapes
 pub mod Junit
+pub mod JunitFiles
 pub mod Lines
 pub mod NamedTables
 pub mod Outcomes
@@ -10,5 +11,6 @@ pub mod Plans
 pub mod Reports
 pub mod Rows
 pub mod Seconds
+pub mod Sources
 pub mod Tests
 pub mod Unrolled

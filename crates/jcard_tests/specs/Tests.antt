@@ -1,7 +1,7 @@
 -- `jcard test`: what is read, which cards are given it, and what is reported of them.
-use Rattle.std.specs.Prelude.{ℕ, ◌≡◌, map, position, ◌==◌, if◌then◌else◌, option_map, ◌≤◌, ◌<◌, ◌⊎◌, ◌+◌, Any, All, Bool, true, false, List, [], ◌∷◌, ◌++◌, codes, length, min, Option, Some, None, IfSome}
-use Rattle.std.specs.Prelude.{Result, Ok, Err, slice_index_or, take}
-use Rattle.std.specs.Str.{IsUtf8, bytes_eq}
+use Rattle.std.specs.Prelude.{ℕ, ◌≡◌, map, ◌==◌, if◌then◌else◌, option_map, ◌≤◌, ◌<◌, ◌⊎◌, ◌+◌, Any, All, Bool, true, false, List, [], ◌∷◌, ◌++◌, codes, length, min, Option, Some, None, IfSome}
+use Rattle.std.specs.Prelude.{Result, Ok, Err, slice_index_or, take, unwrap_or}
+use Rattle.std.specs.Str.{IsUtf8}
 use Rattle.std.specs.String.{string_bytes}
 use Rattle.std.specs.Borrow.{Bor}
 use Rattle.jc_platform.specs.Table.{Reads}
@@ -13,10 +13,11 @@ use Rattle.jcard_script.specs.Texts.{IsCutOf}
 use Rattle.jcard_script.specs.declared.script.ScriptFault.{ScriptFault}
 use Rattle.jcard_script.specs.declared.script.ScriptFault.TheVariants.{PowerFault as NotPoweredUp, WriteFailed as NotWritten}
 use Rattle.jcard_tests.specs.Cards.{AreCardsOf}
-use Rattle.jcard_tests.specs.Junit.{junit_text}
+use Rattle.jcard_tests.specs.JunitFiles.{IsBegun, IsKept}
 use Rattle.jcard_tests.specs.Lines.{Says}
 use Rattle.jcard_tests.specs.Outcomes.{AllAnswered, IsFirstFailure}
-use Rattle.jcard_tests.specs.Reports.{failed_of, report_text}
+use Rattle.jcard_tests.specs.Reports.{report_text}
+use Rattle.jcard_tests.specs.Sources.{AreSpared, IsReading, name_of, paths_read}
 use Rattle.jcard_outcomes.specs.Reports.{broken_by_calls, broken_told, first_broken}
 use Rattle.jcard_outcomes.specs.declared.report.Sweep.{Sweep}
 use Rattle.jcard_tear.specs.ScriptLines.{Line}
@@ -33,10 +34,11 @@ use Rattle.jcard_tests.specs.declared.outcome.Outcome.{Outcome}
 use Rattle.jcard_tests.specs.declared.outcome.Outcome.TheVariants.{NoRow, Held, Failed}
 use Rattle.jcard_tests.specs.declared.outcome.Tested.{Tested}
 use Rattle.jcard_tests.specs.declared.row.Row.{Row}
+use Rattle.jcard_tests.specs.declared.rows_file.NamedFile.{NamedFile}
+use Rattle.jcard_tests.specs.declared.rows_file.RowFile.{RowFile}
 use Rattle.jcard_tests.specs.declared.table_line.TableLine.{TableLine}
 use Rattle.jcard_files.specs.declared.operand.Operand.{Operand}
-use Rattle.jcard_files.specs.FileDeeds.{FileDeed, ReadsText, WritesText, fresh_store}
-use Rattle.jcard_files.specs.Images.{IsUnwritten}
+use Rattle.jcard_files.specs.FileDeeds.{FileDeed, ReadsText, fresh_store}
 use Rattle.jcard_files.specs.Readings.{IsRead, IsScriptRead, IsUnread}
 use Rattle.jcard_images.specs.NewImages.{IsNewImageOf}
 use Rattle.jcard_files.specs.declared.fault.FileKind.TheVariants.{Rows, Table}
@@ -44,7 +46,7 @@ use Rattle.jcard_files.specs.declared.fault.Fault.{Fault}
 use Rattle.jcard_tests.specs.Plans.{IsPlanned, IsUnplanned, table_asked}
 use Rattle.jcard_tests.specs.declared.asked.Asked.{Asked}
 use Rattle.jcard_tests.specs.declared.plan.Plan.{Plan}
-use Rattle.jcard_files.specs.declared.fault.Fault.TheVariants.{BadTable, CannotInclude, CannotRead, ImageTooSmall, NoMemory, RowsFailed, ScriptTooLong}
+use Rattle.jcard_files.specs.declared.fault.Fault.TheVariants.{BadTable, CannotInclude, CannotRead, ImageTooSmall, NoMemory, ScriptTooLong}
 use Rattle.jcard_files.specs.declared.fault.Fault.TheVariants.{WriteFailed}
 
 -- ---- files
@@ -196,19 +198,31 @@ AreAnswered p lines t = AreCardsOf p.words lines t.cards.items × IsOutcome p t.
 
 -- the cards of a file are as planned, but for the platform table that it names
 abbrev pub IsPlanFor : Plan → Option (List ℕ) → Plan → Type 0
-IsPlanFor p None q = q ≡ p
-IsPlanFor p (Some table) q = (q.table.items ≡ table) × (q.words ≡ p.words) × (q.capacity ≡ p.capacity) × (q.budget ≡ p.budget)
+IsPlanFor p table q = (q.table.items ≡ unwrap_or table p.table.items) × (q.words ≡ p.words) × (q.capacity ≡ p.capacity) × (q.budget ≡ p.budget)
 
--- the rows of the file with this name were answered so
-abbrev pub IsTested : Plan → List ℕ → Tested → List FileDeed → Type 0
-IsTested p name t deeds = (t.name.now ≡ name) × (table : Option (List ℕ)) × (lines : List Numbered) × IsFile name table lines deeds
-    × (q : Plan) × IsPlanFor p table q × AreAnswered q lines t
+-- the text of the platform table that a file names
+abbrev pub table_of : RowFile → Option (List ℕ)
+table_of f = option_map (λ text. text.items) f.table
 
--- those of the files with these names, one after the other
-unfoldable pub AreTested : Plan → List (List ℕ) → List Tested → List FileDeed → Type 0
-AreTested p [] [] deeds = deeds ≡ []
-AreTested p (name ∷ names) (t ∷ ts) deeds = (first more : List FileDeed) × IsTested p name t first × AreTested p names ts more × (deeds ≡ first ++ more)
-AreTested p names ts deeds = ⊥
+-- the file of rows with this name was read so
+abbrev pub IsFileRead : List ℕ → NamedFile → List FileDeed → Type 0
+IsFileRead name f deeds = (f.name.now ≡ name) × IsFile name (table_of f.file) f.file.lines.items deeds
+
+-- those with these names were, one after the other
+unfoldable pub AreFilesRead : List (List ℕ) → List NamedFile → List FileDeed → Type 0
+AreFilesRead [] [] deeds = deeds ≡ []
+AreFilesRead (name ∷ names) (f ∷ fs) deeds = (first more : List FileDeed) × IsFileRead name f first × AreFilesRead names fs more × (deeds ≡ first ++ more)
+AreFilesRead names fs deeds = ⊥
+
+-- the rows of a file that was read were answered so
+abbrev pub IsTested : Plan → NamedFile → Tested → Type 0
+IsTested p f t = (t.name.now ≡ f.name.now) × (q : Plan) × IsPlanFor p (table_of f.file) q × AreAnswered q f.file.lines.items t
+
+-- those of each of these files were
+unfoldable pub AreTested : Plan → List NamedFile → List Tested → Type 0
+AreTested p [] [] = Unit {0}
+AreTested p (f ∷ fs) (t ∷ ts) = IsTested p f t × AreTested p fs ts
+AreTested p fs ts = ⊥
 
 -- why the rows of cards were not answered: memory was refused, or the platform table is none, or does not fit
 abbrev pub IsUnanswered : Plan → Fault → Type 0
@@ -216,6 +230,10 @@ IsUnanswered p NoMemory = Unit {0}
 IsUnanswered p (BadTable line) = Reads p.table.items (Err (BadLine line))
 IsUnanswered p ImageTooSmall = Unit {0}
 IsUnanswered p other = ⊥
+
+-- so those of a file were not, by some cards
+abbrev pub IsUntested : Fault → Type 0
+IsUntested fault = (q : Plan) × IsUnanswered q fault
 
 -- why the bytes of the file with this name are no text of rows: they are more than a script may have; or they are not, and are no text
 abbrev pub IsNoText : List ℕ → List ℕ → Fault → Type 0
@@ -237,87 +255,59 @@ IsNotIncluded name other = ⊥
 abbrev pub AreNoFileLines : List ℕ → Fault → List FileDeed → Type 0
 AreNoFileLines name fault deeds = IsNoRowsText name fault deeds ⊎ IsNotIncluded name fault
 
--- why its rows were not answered
-abbrev pub IsUntested : List ℕ → Fault → List FileDeed → Type 0
-IsUntested name fault deeds = AreNoFileLines name fault deeds ⊎ ((q : Plan) × IsUnanswered q fault)
-
--- those of one of these files were not, and it was the last that was read
-abbrev pub IsOneUntested : List (List ℕ) → Fault → List FileDeed → Type 0
-IsOneUntested names fault reads = (earlier last : List FileDeed) × (reads ≡ earlier ++ last) × Any (λ name. IsUntested name fault last) names
+-- those of one of these files did not, and it was the last that was read
+abbrev pub IsOneUnread : List (List ℕ) → Fault → List FileDeed → Type 0
+IsOneUnread names fault reads = (earlier last : List FileDeed) × (reads ≡ earlier ++ last) × Any (λ name. AreNoFileLines name fault last) names
 
 -- what is reported where the file that the line of this number includes in the file with this name was not read: want of memory as such
 abbrev pub IsIncludeFault : List ℕ → ℕ → Fault → Fault → Type 0
 IsIncludeFault name number NoMemory told = told ≡ NoMemory
 IsIncludeFault name number fault told = (path : Bor (List ℕ)) × (told ≡ CannotInclude path number) × (path.now ≡ name)
 
--- a text was read
-abbrev pub IsReading : FileDeed → Type 0
-IsReading (ReadsText name told) = Unit {0}
-IsReading other = ⊥
+-- the report over these was written; or memory was refused for it, or a write failed within it
+abbrev pub IsReported : List Tested → Result Unit Fault → List ℕ → Type 0
+IsReported ts (Ok done) text = text ≡ report_text ts
+IsReported ts (Err NoMemory) text = text ≡ []
+IsReported ts (Err WriteFailed) text = IsCutOf (report_text ts) text
+IsReported ts (Err other) text = ⊥
 
--- the command ends as rows that failed demand: with the status for them exactly where one did
-abbrev pub IsVerdict : List Tested → Result Unit Fault → Type 0
-IsVerdict ts (Ok done) = failed_of ts ≡ 0
-IsVerdict ts (Err RowsFailed) = 0 < failed_of ts
-IsVerdict ts (Err other) = ⊥
+-- after it that for build servers was written to the file that is named for it, which is none of these; where it was not, the command ended so
+abbrev pub IsKeptAfter : List Operand → Option (List ℕ) → List Tested → Result Unit Fault → Result Unit Fault → List FileDeed → Type 0
+IsKeptAfter operands junit ts (Ok done) ended deeds = IsKept operands junit ts ended deeds
+IsKeptAfter operands junit ts (Err fault) ended deeds = (ended ≡ Err fault) × (deeds ≡ [])
 
--- these bytes were written to the file with this name, which is none of these; or memory was refused for it, and no file was asked for; or
--- they could not be written
-abbrev pub IsKeptIn : List (List ℕ) → List ℕ → List ℕ → Result Unit Fault → List FileDeed → Type 0
-IsKeptIn names name bytes (Ok done) deeds = (position (λ (file : List ℕ). bytes_eq file name) names ≡ None) × (deeds ≡ WritesText name bytes (Ok tt) ∷ [])
-IsKeptIn names name bytes (Err fault) deeds = ((fault ≡ NoMemory) × (deeds ≡ []))
-    ⊎ (IsUnwritten name fault × (deeds ≡ WritesText name bytes (Err fault) ∷ []))
+-- both were
+abbrev pub IsTold : List Operand → Option (List ℕ) → List Tested → Result Unit Fault → List ℕ → List FileDeed → Type 0
+IsTold operands junit ts ended text deeds = (told : Result Unit Fault) × IsReported ts told text × IsKeptAfter operands junit ts told ended deeds
 
--- the files that a command reads: those with these names, and its platform table, if it names one
-abbrev pub files_read : List (List ℕ) → Option (List ℕ) → List (List ℕ)
-files_read names None = names
-files_read names (Some table) = names ++ table ∷ []
-
--- the name of the report for build servers that was asked for
-abbrev pub junit_asked : Asked → Option (List ℕ)
-junit_asked a = option_map (λ (name : Bor (List ℕ)). name.now) a.junit
-
--- the file with this name was emptied, if one is named, and is none of these; or it could not be
-abbrev pub IsEmptied : List (List ℕ) → Option (List ℕ) → Result Unit Fault → List FileDeed → Type 0
-IsEmptied names None begun deeds = (begun ≡ Ok tt) × (deeds ≡ [])
-IsEmptied names (Some name) begun deeds = IsKeptIn names name [] begun deeds
-
--- the file of the report for build servers was emptied, if one was asked for: it is none of those that the command reads
-abbrev pub IsJunitBegun : List (List ℕ) → Asked → Result Unit Fault → List FileDeed → Type 0
-IsJunitBegun names a begun deeds = IsEmptied (files_read names (table_asked a)) (junit_asked a) begun deeds
-
--- the report for build servers was written to the file with this name, or it could not be
-abbrev pub IsJunit : List (List ℕ) → List ℕ → List Tested → Result Unit Fault → List FileDeed → Type 0
-IsJunit names name ts ended deeds = IsKeptIn names name (junit_text ts) ended deeds
-
--- so it was, if a file was named for it
-abbrev pub IsKept : List (List ℕ) → Option (List ℕ) → List Tested → Result Unit Fault → List FileDeed → Type 0
-IsKept names None ts ended deeds = IsVerdict ts ended × (deeds ≡ [])
-IsKept names (Some name) ts ended deeds = (IsVerdict ts ended × IsJunit names name ts (Ok tt) deeds)
-    ⊎ ((fault : Fault) × (ended ≡ Err fault) × IsJunit names name ts (Err fault) deeds)
-
--- the report over these files was not written, for memory or since a write failed within it; or it was, and then that for build servers
-abbrev pub IsTold : List (List ℕ) → List Tested → Option (List ℕ) → Result Unit Fault → List ℕ → List FileDeed → Type 0
-IsTold names ts junit ended text deeds = ((ended ≡ Err NoMemory) × (text ≡ []) × (deeds ≡ []))
-    ⊎ ((ended ≡ Err WriteFailed) × IsCutOf (report_text ts) text × (deeds ≡ []))
-    ⊎ ((text ≡ report_text ts) × IsKept names junit ts ended deeds)
-
--- the rows of the files with these names were answered by cards as planned, and that was reported; or those of one were not, and nothing was
--- written. Until then texts were read, and no file was asked for in another way
-abbrev pub IsTestOn : Plan → List (List ℕ) → Option (List ℕ) → Result Unit Fault → List ℕ → List FileDeed → Type 0
-IsTestOn p names junit ended text deeds = (reads more : List FileDeed) × (deeds ≡ reads ++ more) × All IsReading reads
-    × (((fault : Fault) × (ended ≡ Err fault) × IsOneUntested names fault reads × (text ≡ []) × (more ≡ []))
-    ⊎ ((ts : List Tested) × AreTested p names ts reads × IsTold names ts junit ended text more))
+-- the rows of these files were answered by cards as planned, and that was reported; or those of one were not, and nothing was written
+abbrev pub IsTestOn : Plan → List NamedFile → List Operand → Option (List ℕ) → Result Unit Fault → List ℕ → List FileDeed → Type 0
+IsTestOn p files operands junit ended text deeds = ((fault : Fault) × (ended ≡ Err fault) × IsUntested fault × (text ≡ []) × (deeds ≡ []))
+    ⊎ ((ts : List Tested) × AreTested p files ts × IsTold operands junit ts ended text deeds)
 
 -- so they were after the file of the report for build servers was emptied; or nothing was done, where it could not be
-abbrev pub IsTestAfter : Plan → List (List ℕ) → Option (List ℕ) → Result Unit Fault → Result Unit Fault → List ℕ → List FileDeed → Type 0
-IsTestAfter p names junit (Ok done) ended text deeds = IsTestOn p names junit ended text deeds
-IsTestAfter p names junit (Err fault) ended text deeds = (ended ≡ Err fault) × (text ≡ []) × (deeds ≡ [])
+abbrev pub IsTestAfter : Plan → List NamedFile → List Operand → Option (List ℕ) → Result Unit Fault → Result Unit Fault → List ℕ → List FileDeed → Type 0
+IsTestAfter p files operands junit (Ok done) ended text deeds = IsTestOn p files operands junit ended text deeds
+IsTestAfter p files operands junit (Err fault) ended text deeds = (ended ≡ Err fault) × (text ≡ []) × (deeds ≡ [])
 
--- that file was emptied, if one was asked for, and then the rows were answered
+-- that file was emptied, if one was asked for, which is none of these, and then the rows were answered
+abbrev pub IsTestBeside : Plan → List NamedFile → List Operand → Option (List ℕ) → Result Unit Fault → List ℕ → List FileDeed → Type 0
+IsTestBeside p files operands junit ended text deeds = (begun : Result Unit Fault) × (begins more : List FileDeed) × (deeds ≡ begins ++ more)
+    × IsBegun operands junit begun begins × IsTestAfter p files operands junit begun ended text more
+
+-- so they were, after these files were read from these paths: the report for build servers is none of the files that the command names, and none
+-- that was read. Or memory was refused, and nothing was done
+abbrev pub IsTestOfRead : Plan → List (List ℕ) → List NamedFile → List (List ℕ) → Asked → Result Unit Fault → List ℕ → List FileDeed → Type 0
+IsTestOfRead p names files paths a ended text deeds = ((ended ≡ Err NoMemory) × (text ≡ []) × (deeds ≡ []))
+    ⊎ ((operands : List Operand) × AreSpared names (table_asked a) paths operands
+    × IsTestBeside p files operands (name_of a.junit) ended text deeds)
+
+-- all files with these names were read, with what they include and name, before one was written, and then their rows were answered; or one was
+-- not read, and nothing was written
 abbrev pub IsTestBy : Plan → List (List ℕ) → Asked → Result Unit Fault → List ℕ → List FileDeed → Type 0
-IsTestBy p names a ended text deeds = (begun : Result Unit Fault) × (begins more : List FileDeed) × (deeds ≡ begins ++ more)
-    × IsJunitBegun names a begun begins × IsTestAfter p names (junit_asked a) begun ended text more
+IsTestBy p names a ended text deeds = (reads more : List FileDeed) × (deeds ≡ reads ++ more) × All IsReading reads
+    × (((fault : Fault) × (ended ≡ Err fault) × IsOneUnread names fault reads × (text ≡ []) × (more ≡ []))
+    ⊎ ((files : List NamedFile) × AreFilesRead names files reads × IsTestOfRead p names files (paths_read reads) a ended text more))
 
 -- so they were by the cards that were asked for; or no card can be as it was asked for, and nothing was written
 abbrev pub IsTest : List (List ℕ) → Asked → Result Unit Fault → List ℕ → List FileDeed → Type 0
@@ -329,6 +319,6 @@ abbrev pub rows_operand : Bor (List ℕ) → Operand
 rows_operand name = record { name = name; kind = Rows }
 
 -- these files, and a platform table, if there is one, as files that the command names
-abbrev pub operands_read : List (Bor (List ℕ)) → Option (Bor (List ℕ)) → List Operand
-operands_read files None = map rows_operand files
-operands_read files (Some table) = map rows_operand files ++ record { name = table; kind = Table } ∷ []
+abbrev pub operands_named : List (Bor (List ℕ)) → Option (Bor (List ℕ)) → List Operand
+operands_named files None = map rows_operand files
+operands_named files (Some table) = map rows_operand files ++ record { name = table; kind = Table } ∷ []

@@ -5,7 +5,7 @@ ghost use Rattle.jc_words.specs.Image.{IsCapacity};
 ghost use Rattle.jcard_files.specs.FileDeeds.{FileDeed};
 ghost use Rattle.jcard_images.specs.NewImages.{IsJournalCapacity, IsWordCount};
 ghost use Rattle.jcard_tests.specs.Plans.{IsNumberAsked, IsPlanned, IsUnplanned};
-ghost use Rattle.jcard_tests.specs.Tests.{IsReading};
+ghost use Rattle.jcard_tests.specs.Sources.{IsReading};
 
 use crate::asked::Asked;
 use crate::plan::Plan;

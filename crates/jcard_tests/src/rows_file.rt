@@ -1,8 +1,10 @@
 //! The lines of files of rows.
-ghost use Rattle.std.specs.Prelude.{◌≡◌, ◌<◌, ◌++◌, ◌∷◌, [], OnOk, List, All, length, ◌≤◌, IfOk, IfErr, MatchResult, option_map};
+ghost use Rattle.std.specs.Prelude.{◌≡◌, ◌<◌, ◌++◌, ◌∷◌, [], OnOk, List, length, ◌≤◌, IfOk, IfErr, MatchResult};
 ghost use Rattle.std.specs.String.{string_bytes};
 ghost use Rattle.jcard_files.specs.FileDeeds.{FileDeed};
-ghost use Rattle.jcard_tests.specs.Tests.{AreIncluded, AreNoFileLines, IsFile, IsFileBehind, IsFileOf, IsFilePlace, IsIncludeFault, IsNoRowsText, IsNoText, IsNotIncluded, IsPlace, IsReading, IsRowsText, IsTableBeside};
+ghost use Rattle.jcard_files.specs.Readings.{IsRead};
+ghost use Rattle.jcard_tests.specs.Sources.{AreNoted};
+ghost use Rattle.jcard_tests.specs.Tests.{AreIncluded, AreNoFileLines, IsFile, IsFileBehind, IsFileOf, IsFilePlace, IsIncludeFault, IsNoRowsText, IsNoText, IsNotIncluded, IsPlace, IsRowsText, IsTableBeside, table_of};
 ghost use Rattle.jcard_tests.specs.Unrolled.{IsLineOf, IsUnrolled};
 ghost use Rattle.jcard_tests.specs.declared.numbered.Numbered.{Numbered};
 
@@ -10,9 +12,10 @@ use crate::line::{Line, read_line};
 use crate::lines::{add_lines, beside, unroll};
 use crate::named_table::named_table;
 use crate::numbered::Numbered;
+use crate::sources::{Source, note};
 use crate::table_line::TableLine;
 use jcard_files::disk::Disk;
-use jcard_files::fault::Fault;
+use jcard_files::fault::{Fault, FileKind};
 use jcard_files::reading::{script_of, text_of};
 use jcard_script::script::BOUND;
 use std::alloc::{AllocError, Global};
@@ -24,29 +27,47 @@ pub(crate) struct RowFile {
     pub(crate) lines: Vec<Numbered>,
 }
 
+/// A file of rows that was read, by its name.
+#[derive(Drop)]
+pub(crate) struct NamedFile<'n> {
+    pub(crate) name: &'n str,
+    pub(crate) file: RowFile,
+}
+
 /// The file of rows with this name: its lines, those of loops as often as they stand there, with the lines of each file that it includes in
 /// the place of the line that names it. Such a file stands in the same folder, and has rows and comments alone; so does the platform table
-/// that the first line can name.
-pub(crate) fn file_of<'n, D: Disk>(disk: &mut D, name: &'n str) -> Result<RowFile, Fault<'n>>
-    ensures { (deeds : List FileDeed) × D.does disk.old deeds disk.new × All IsReading deeds
-        × MatchResult result (λ file. IsFile name.now (option_map (λ text. text.items) file.table)
-        file.lines.items deeds) (λ fault. AreNoFileLines name.now fault deeds) }
+/// that the first line can name. Each file is noted before it is read.
+pub(crate) fn file_of<'n, D: Disk>(
+    disk: &mut D,
+    name: &'n str,
+    sources: &mut Vec<Source>,
+) -> Result<RowFile, Fault<'n>>
+    ensures { (deeds : List FileDeed) × D.does disk.old deeds disk.new
+        × AreNoted sources.old.items sources.new.items deeds × MatchResult result
+        (λ file. IsFile name.now (table_of file) file.lines.items deeds)
+        (λ fault. AreNoFileLines name.now fault deeds) }
 {
-    match rows_text(disk, name) {
-        Ok(text) => unrolled(disk, name, text.as_str()),
+    match rows_text(disk, name, sources) {
+        Ok(text) => unrolled(disk, name, text.as_str(), sources),
         Err(fault) => Err(fault),
     }
 }
 
 // The file with this name that has this text.
-fn unrolled<'n, D: Disk>(disk: &mut D, name: &'n str, text: &str) -> Result<RowFile, Fault<'n>>
-    ensures { (deeds : List FileDeed) × D.does disk.old deeds disk.new × All IsReading deeds
-        × MatchResult result (λ file. (own : List Numbered) × IsUnrolled text.now own
-        × IsFileOf name.now own (option_map (λ text. text.items) file.table) file.lines.items deeds)
+fn unrolled<'n, D: Disk>(
+    disk: &mut D,
+    name: &'n str,
+    text: &str,
+    sources: &mut Vec<Source>,
+) -> Result<RowFile, Fault<'n>>
+    ensures { (deeds : List FileDeed) × D.does disk.old deeds disk.new
+        × AreNoted sources.old.items sources.new.items deeds × MatchResult result
+        (λ file. (own : List Numbered) × IsUnrolled text.now own
+        × IsFileOf name.now own (table_of file) file.lines.items deeds)
         (λ fault. IsNotIncluded name.now fault) }
 {
     match unroll(disk.alloc(), text) {
-        Ok(lines) => of_lines(disk, name, &lines),
+        Ok(lines) => of_lines(disk, name, &lines, sources),
         Err(AllocError) => Err(Fault::NoMemory),
     }
 }
@@ -56,15 +77,16 @@ fn of_lines<'n, D: Disk>(
     disk: &mut D,
     name: &'n str,
     own: &[Numbered],
+    sources: &mut Vec<Source>,
 ) -> Result<RowFile, Fault<'n>>
-    ensures { (deeds : List FileDeed) × D.does disk.old deeds disk.new × All IsReading deeds
-        × MatchResult result (λ file. IsFileOf name.now own.now
-        (option_map (λ text. text.items) file.table) file.lines.items deeds)
+    ensures { (deeds : List FileDeed) × D.does disk.old deeds disk.new
+        × AreNoted sources.old.items sources.new.items deeds × MatchResult result
+        (λ file. IsFileOf name.now own.now (table_of file) file.lines.items deeds)
         (λ fault. IsNotIncluded name.now fault) }
 {
     match named_table(own) {
-        Some(line) => with_table(disk, name, line),
-        None => match with_included(disk, name, own) {
+        Some(line) => with_table(disk, name, line, sources),
+        None => match with_included(disk, name, own, sources) {
             Ok(lines) => Ok(RowFile { table: None, lines }),
             Err(fault) => Err(fault),
         },
@@ -76,17 +98,18 @@ fn with_table<'n, D: Disk>(
     disk: &mut D,
     name: &'n str,
     line: TableLine,
+    sources: &mut Vec<Source>,
 ) -> Result<RowFile, Fault<'n>>
-    ensures { (deeds : List FileDeed) × D.does disk.old deeds disk.new × All IsReading deeds
-        × MatchResult result (λ file. IsFileBehind name.now line.entry
-        (option_map (λ text. text.items) file.table) file.lines.items deeds)
+    ensures { (deeds : List FileDeed) × D.does disk.old deeds disk.new
+        × AreNoted sources.old.items sources.new.items deeds × MatchResult result
+        (λ file. IsFileBehind name.now line.entry (table_of file) file.lines.items deeds)
         (λ fault. IsNotIncluded name.now fault) }
 {
-    let table = match table_beside(disk, name, line.name, line.number) {
+    let table = match table_beside(disk, name, line.name, line.number, sources) {
         Ok(table) => table,
         Err(fault) => return Err(fault),
     };
-    match with_included(disk, name, line.rest) {
+    match with_included(disk, name, line.rest, sources) {
         Ok(lines) => Ok(RowFile {
             table: Some(table),
             lines,
@@ -101,15 +124,17 @@ fn table_beside<'n, D: Disk>(
     name: &'n str,
     file: &str,
     number: usize,
+    sources: &mut Vec<Source>,
 ) -> Result<Vec<u8>, Fault<'n>>
-    ensures { (deeds : List FileDeed) × D.does disk.old deeds disk.new × All IsReading deeds
-        × MatchResult result (λ text. IsTableBeside name.now file.now text.items deeds)
+    ensures { (deeds : List FileDeed) × D.does disk.old deeds disk.new
+        × AreNoted sources.old.items sources.new.items deeds × MatchResult result
+        (λ text. IsTableBeside name.now file.now text.items deeds)
         (λ fault. IsNotIncluded name.now fault) }
 {
     let Ok(table) = beside(disk.alloc(), name, file) else {
         return Err(Fault::NoMemory);
     };
-    match text_of(disk, table.as_str()) {
+    match table_text(disk, table.as_str(), sources) {
         Ok(text) => Ok(text),
         Err(fault) => Err(include_fault(name, number, fault)),
     }
@@ -120,14 +145,16 @@ fn with_included<'n, D: Disk>(
     disk: &mut D,
     name: &'n str,
     own: &[Numbered],
+    sources: &mut Vec<Source>,
 ) -> Result<Vec<Numbered>, Fault<'n>>
-    ensures { (deeds : List FileDeed) × D.does disk.old deeds disk.new × All IsReading deeds
-        × MatchResult result (λ lines. AreIncluded name.now own.now lines.items deeds)
+    ensures { (deeds : List FileDeed) × D.does disk.old deeds disk.new
+        × AreNoted sources.old.items sources.new.items deeds × MatchResult result
+        (λ lines. AreIncluded name.now own.now lines.items deeds)
         (λ fault. IsNotIncluded name.now fault) }
 {
     let mut lines = Vec::new(disk.alloc());
     for line in own {
-        match add_line(disk, name, line, &mut lines) {
+        match add_line(disk, name, line, &mut lines, sources) {
             Ok(()) => (),
             Err(fault) => return Err(fault),
         }
@@ -141,13 +168,15 @@ fn add_line<'n, D: Disk>(
     name: &'n str,
     line: &Numbered,
     lines: &mut Vec<Numbered>,
+    sources: &mut Vec<Source>,
 ) -> Result<(), Fault<'n>>
-    ensures { (deeds : List FileDeed) × D.does disk.old deeds disk.new × All IsReading deeds
-        × MatchResult result (λ _. (here : List Numbered) × IsPlace name.now line.now here deeds
+    ensures { (deeds : List FileDeed) × D.does disk.old deeds disk.new
+        × AreNoted sources.old.items sources.new.items deeds × MatchResult result
+        (λ _. (here : List Numbered) × IsPlace name.now line.now here deeds
         × (lines.new.items ≡ lines.old.items ++ here)) (λ fault. IsNotIncluded name.now fault) }
 {
     if let Line::Include(file) = read_line(line.text.as_str()) {
-        return add_file(disk, name, file, line.number, lines);
+        return add_file(disk, name, file, line.number, lines, sources);
     }
     match add_copy(disk.alloc(), line, lines) {
         Ok(()) => Ok(()),
@@ -181,17 +210,19 @@ fn add_file<'n, D: Disk>(
     file: &str,
     number: usize,
     lines: &mut Vec<Numbered>,
+    sources: &mut Vec<Source>,
 ) -> Result<(), Fault<'n>>
     requires { 0 < number }
-    ensures { (deeds : List FileDeed) × D.does disk.old deeds disk.new × All IsReading deeds
-        × MatchResult result (λ _. (here : List Numbered)
+    ensures { (deeds : List FileDeed) × D.does disk.old deeds disk.new
+        × AreNoted sources.old.items sources.new.items deeds × MatchResult result
+        (λ _. (here : List Numbered)
         × IsFilePlace name.now file.now number here deeds
         × (lines.new.items ≡ lines.old.items ++ here)) (λ fault. IsNotIncluded name.now fault) }
 {
     let Ok(path) = beside(disk.alloc(), name, file) else {
         return Err(Fault::NoMemory);
     };
-    match rows_text(disk, path.as_str()) {
+    match rows_text(disk, path.as_str(), sources) {
         Ok(text) => match add_lines(disk.alloc(), text.as_str(), number, lines) {
             Ok(()) => Ok(()),
             Err(AllocError) => Err(Fault::NoMemory),
@@ -211,10 +242,43 @@ fn include_fault<'n>(name: &'n str, number: usize, fault: Fault) -> Fault<'n>
     }
 }
 
-// The text in the file with this name.
-fn rows_text<'n, D: Disk>(disk: &mut D, name: &'n str) -> Result<String, Fault<'n>>
-    ensures { (deeds : List FileDeed) × D.does disk.old deeds disk.new × All IsReading deeds
-        × MatchResult result (λ text. IsRowsText name.now (string_bytes text) deeds)
+// The text in the file with this name, which is noted before it is read.
+fn rows_text<'n, D: Disk>(
+    disk: &mut D,
+    name: &'n str,
+    sources: &mut Vec<Source>,
+) -> Result<String, Fault<'n>>
+    ensures { (deeds : List FileDeed) × D.does disk.old deeds disk.new
+        × AreNoted sources.old.items sources.new.items deeds × MatchResult result
+        (λ text. IsRowsText name.now (string_bytes text) deeds)
+        (λ fault. AreNoFileLines name.now fault deeds) }
+{
+    match note(disk.alloc(), name, FileKind::Rows, sources) {
+        Ok(()) => read_rows(disk, name),
+        Err(AllocError) => Err(Fault::NoMemory),
+    }
+}
+
+// The platform table in the file with this name, which is noted before it is read.
+fn table_text<'n, D: Disk>(
+    disk: &mut D,
+    name: &'n str,
+    sources: &mut Vec<Source>,
+) -> Result<Vec<u8>, Fault<'n>>
+    ensures { (deeds : List FileDeed) × D.does disk.old deeds disk.new
+        × AreNoted sources.old.items sources.new.items deeds
+        × IfOk result (λ text. IsRead name.now text.items deeds) }
+{
+    match note(disk.alloc(), name, FileKind::Table, sources) {
+        Ok(()) => text_of(disk, name),
+        Err(AllocError) => Err(Fault::NoMemory),
+    }
+}
+
+// What is read from the file with this name.
+fn read_rows<'n, D: Disk>(disk: &mut D, name: &'n str) -> Result<String, Fault<'n>>
+    ensures { (deeds : List FileDeed) × D.does disk.old deeds disk.new × MatchResult result
+        (λ text. IsRowsText name.now (string_bytes text) deeds)
         (λ fault. IsNoRowsText name.now fault deeds) }
 {
     match script_of(disk, name) {

@@ -1,4 +1,4 @@
-use Rattle.std.proofs.Common.{◌∙◌, ℕ, List, [], get_or, ap, subst, sym, take}
+use Rattle.std.proofs.Common.{ℕ, List, [], get_or, subst}
 use Rattle.std.specs.Borrow.{Bor}
 use Rattle.std.proofs.lemmas.List.{take_all}
 use Rattle.jcard_tests.specs.Unrolled.{AreTaken, IsTakenIn}

@@ -2,11 +2,11 @@ use Rattle.std.proofs.Common.{[], subst}
 use Rattle.std.specs.String.{string_bytes}
 use Rattle.jcard_tests.specs.Unrolled.{AreLinesOf}
 use Rattle.jcard_tests.specs.Tests.{IsRowsText}
-use Rattle.jcard_tests.proofs.RowTests.{no_reading}
+use Rattle.jcard_tests.proofs.RowTests.{nothing_noted}
 use Rattle.jcard_tests.proofs.rows_file.add_file.Goals as goal
 
 pub returns-in_default : goal.returns-in_default
-returns-in_default g c = ([], g.met.D.Disk.none c.args.disk.now, no_reading, tt)
+returns-in_default g c = ([], g.met.D.Disk.none c.args.disk.now, nothing_noted c.args.sources.now.items, tt)
 
 pub returns-in-Ok-add_lines : goal.returns-in-Ok-add_lines
 returns-in-Ok-add_lines g c =

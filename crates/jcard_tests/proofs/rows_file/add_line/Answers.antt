@@ -1,7 +1,7 @@
 use Rattle.std.proofs.Common.{[], ◌∷◌, refl, subst}
 use Rattle.std.specs.String.{string_bytes}
 use Rattle.jcard_tests.specs.Lines.{Says}
-use Rattle.jcard_tests.proofs.RowTests.{no_reading, place_of_file, place_of_other}
+use Rattle.jcard_tests.proofs.RowTests.{nothing_noted, place_of_file, place_of_other}
 use Rattle.jcard_tests.proofs.rows_file.add_line.Goals as goal
 
 pub returns-in-Include : goal.returns-in-Include
@@ -17,7 +17,7 @@ returns-in-Ok g c =
     let same = c.in-Ok.ensures in (
       [],
       g.met.D.Disk.none c.args.disk.now,
-      no_reading,
+      nothing_noted c.args.sources.now.items,
       (
         same.0 ∷ [],
         place_of_other c.args.name.now c.args.line.now c.read_line.result (same.0 ∷ [])
@@ -27,4 +27,4 @@ returns-in-Ok g c =
     )
 
 pub returns-in-Err : goal.returns-in-Err
-returns-in-Err g c = ([], g.met.D.Disk.none c.args.disk.now, no_reading, tt)
+returns-in-Err g c = ([], g.met.D.Disk.none c.args.disk.now, nothing_noted c.args.sources.now.items, tt)

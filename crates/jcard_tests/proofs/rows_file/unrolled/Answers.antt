@@ -1,7 +1,7 @@
-use Rattle.std.proofs.Common.{[], sym, subst}
+use Rattle.std.proofs.Common.{[], subst}
 use Rattle.std.specs.Prelude.{MatchResult, option_map}
 use Rattle.jcard_tests.specs.Tests.{IsFileOf, IsNotIncluded}
-use Rattle.jcard_tests.proofs.RowTests.{no_reading, unrolled_file}
+use Rattle.jcard_tests.proofs.RowTests.{nothing_noted, unrolled_file}
 use Rattle.jcard_tests.proofs.rows_file.unrolled.Goals as goal
 
 pub returns-in-Ok : goal.returns-in-Ok
@@ -18,4 +18,4 @@ returns-in-Ok g c =
     )
 
 pub returns-in-Err : goal.returns-in-Err
-returns-in-Err g c = ([], g.met.D.Disk.none c.args.disk.now, no_reading, tt)
+returns-in-Err g c = ([], g.met.D.Disk.none c.args.disk.now, nothing_noted c.args.sources.now.items, tt)

@@ -1,11 +1,11 @@
 use Rattle.std.proofs.Common.{[], ◌++◌, subst}
 use Rattle.std.proofs.lemmas.List.{take_all}
 use Rattle.jcard_tests.specs.Tests.{AreIncluded}
-use Rattle.jcard_tests.proofs.RowTests.{no_reading, included_next, included_none, reads_more}
+use Rattle.jcard_tests.proofs.RowTests.{included_next, included_none, noted_more, nothing_noted}
 use Rattle.jcard_tests.proofs.rows_file.with_included.Goals as goal
 
 pub loop-line-init : goal.loop-line-init
-loop-line-init g c = ([], g.met.D.Disk.none c.args.disk.now, no_reading, rw c.new-lines.ensures.items (included_none c.args.name.now))
+loop-line-init g c = ([], g.met.D.Disk.none c.args.disk.now, nothing_noted c.args.sources.now.items, rw c.new-lines.ensures.items (included_none c.args.name.now))
 
 pub loop-line-preserved : goal.loop-line-preserved
 loop-line-preserved g c =
@@ -13,7 +13,7 @@ loop-line-preserved g c =
     let next = c.in-Ok.ensures in (
       so_far.0 ++ next.0,
       g.met.D.Disk.then _ _ _ so_far.0 next.0 so_far.1 next.1,
-      reads_more so_far.0 next.0 so_far.2 next.2,
+      noted_more _ _ _ so_far.0 next.0 so_far.2 next.2,
       included_next c.args.name.now c.args.own.now c.loop-line.line-index c.line-item.result c.loop-line.lines.items _ so_far.0 next.3.0 next.0
           c.loop-line-test.true c.line-item.is so_far.3 next.3.1 next.3.2,
     )
@@ -22,7 +22,7 @@ pub returns-in-Err : goal.returns-in-Err
 returns-in-Err g c =
     let so_far = c.loop-line.invariant in
     let last = c.in-Err.ensures in
-    (so_far.0 ++ last.0, g.met.D.Disk.then _ _ _ so_far.0 last.0 so_far.1 last.1, reads_more so_far.0 last.0 so_far.2 last.2, last.3)
+    (so_far.0 ++ last.0, g.met.D.Disk.then _ _ _ so_far.0 last.0 so_far.1 last.1, noted_more _ _ _ so_far.0 last.0 so_far.2 last.2, last.3)
 
 pub returns : goal.returns
 returns g c =

@@ -1,19 +1,13 @@
-use Rattle.std.proofs.Common.{inl}
-use Rattle.std.specs.Prelude.{option_map}
-use Rattle.jcard_tests.proofs.RowTests.{file_tested}
+use Rattle.std.proofs.Common.{◌≡◌, subst}
+use Rattle.std.specs.Prelude.{MatchResult}
+use Rattle.jcard_tests.specs.Tests.{AreAnswered, IsUntested}
+use Rattle.jcard_tests.proofs.Planned.{tested_as}
 use Rattle.jcard_tests.proofs.testing.tested_file.Goals as goal
 
 pub returns-in-Ok : goal.returns-in-Ok
 returns-in-Ok g c =
-    let read = c.in-Ok.ensures in (
-      read.0,
-      read.1,
-      read.2,
-      file_tested c.tested_rows.result c.args.plan.now c.args.name.now (option_map (λ t. t.items) c.in-Ok.file.table) c.in-Ok.file.lines.items
-          read.0 read.3 c.tested_rows.ensures,
-    )
-
-pub returns-in-Err : goal.returns-in-Err
-returns-in-Err g c =
-    let read = c.in-Err.ensures in
-    (read.0, read.1, read.2, inl read.3)
+    let f = c.args.named.now in
+    let own = c.in-Ok.own in
+    tested_as c.tested_by.result c.args.plan.now own f c.in-Ok.ensures (subst
+    (λ lines. MatchResult c.tested_by.result (λ t. (t.name.now ≡ f.name.now) × AreAnswered own lines t) (λ fault. IsUntested fault))
+    c.deref.ensures.value c.tested_by.ensures)
