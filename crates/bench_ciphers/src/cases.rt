@@ -4,6 +4,7 @@ ghost use Rattle.std.specs.Prelude.{◌≤◌};
 
 use crate::loops::timed;
 use crate::messages::{hmac, mac, mode};
+use crate::numbers::modular;
 use crate::words::{bytes, pieces};
 use jc_aes::aes::Aes;
 use jc_des::des::Des;
@@ -27,6 +28,7 @@ fn answer_of(alloc: Global, words: &[&str]) -> Result<String, AllocError> {
     match words {
         [kind, first, last] => short_case(alloc, kind, first, last),
         ["digest", name, cuts, message] => digest(alloc, name, cuts, message),
+        [kind, number, other, modulus] => modular_case(alloc, kind, number, other, modulus),
         [kind, name, second, third, last] => {
             block_or_keyed_digest(alloc, kind, name, second, third, last)
         }
@@ -48,6 +50,19 @@ fn short_case(alloc: Global, kind: &str, first: &str, last: &str) -> Result<Stri
         "crc16" => crc16(alloc, first, last),
         "crc32" => crc32(alloc, first, last),
         "time" => hex::encode(alloc, timed(first, last.parse::<u32>().unwrap_or(0))),
+        _ => Ok(String::new(alloc)),
+    }
+}
+
+fn modular_case(
+    alloc: Global,
+    kind: &str,
+    number: &str,
+    other: &str,
+    modulus: &str,
+) -> Result<String, AllocError> {
+    match kind {
+        "power" | "product" | "inverse" => modular(alloc, kind, number, other, modulus),
         _ => Ok(String::new(alloc)),
     }
 }

@@ -1,9 +1,10 @@
-//! Answers cases of ciphers, digests and codes, a line each, and runs loops of them, which `bench/run ciphers` times.
+//! Answers cases of ciphers, digests, codes and long numbers, a line each, and runs loops of them, which `bench/run ciphers` times.
 #![tactic(auto)]
 
 mod cases;
 mod loops;
 mod messages;
+mod numbers;
 mod words;
 
 use std::alloc::Global;

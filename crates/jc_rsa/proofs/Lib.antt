@@ -1,0 +1,11 @@
+pub mod Blocks
+pub mod DigestInfos
+pub mod Digests
+pub mod Encoded
+pub mod Examples
+pub mod Headings
+pub mod Masks
+pub mod OaepBlocks
+pub mod OneMessage
+pub mod PssBlocks
+pub mod Xor

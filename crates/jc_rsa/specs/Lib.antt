@@ -1,0 +1,10 @@
+pub mod Bytes
+pub mod Hashing
+pub mod EmsaPkcs1
+pub mod EmePkcs1
+pub mod Mgf1
+pub mod EmeOaep
+pub mod EmsaPss
+pub mod Iso9796
+pub mod Examples
+pub mod Laws

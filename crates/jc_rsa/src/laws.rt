@@ -1,0 +1,14 @@
+//! What holds of the definitions.
+
+ghost use Rattle.jc_rsa.specs.Examples.{PublishedExamples};
+ghost use Rattle.jc_rsa.specs.Laws.{DecodedIsEncoded};
+
+/// What is encoded is an encoding of its message, and of no other: so decoding gives back the message.
+pub fn decoded_is_encoded()
+    ensures { DecodedIsEncoded }
+{}
+
+/// The definitions of EME-OAEP and EMSA-PSS make the encodings that RSA Laboratories published with PKCS #1 v2.1.
+pub fn published_examples_hold()
+    ensures { PublishedExamples }
+{}
