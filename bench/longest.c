@@ -1,6 +1,6 @@
 /* Loaded into a program, says on standard error how long it took at most from the end of one answer's writing to the begin of the next
-   one's, in nanoseconds. The first SKIPPED answers are left out. What is written of an image is a word, of two bytes; all else are
-   answers, whatever the number of the file. */
+   one's, in nanoseconds. The first SKIPPED answers are left out. A word of an image is written by pwrite, or by a write of two bytes in older
+   programs; all other writes are answers, whatever the number of the file. */
 #define _GNU_SOURCE
 #include <dlfcn.h>
 #include <stdio.h>

@@ -7,6 +7,10 @@
 program=$here/crates/jcard/out/jcard
 stamp=$program.proved
 refused=$program.refused
+# What was found beside the stamp is noted, for tools/unchanged: the first checksum, of the sources as they are; and, of the program, that of the
+# sources that it is proved of.
+noted_sources=crates/jcard/out/jcard.sources
+noted_program=crates/jcard/out/jcard.current
 rt=$(type -P "${RT:-rt}" || true)
 rt=${rt:+$(realpath "$rt")}
 
@@ -47,13 +51,21 @@ crates_of() {
     ' "$here/crates.txt"
 }
 
-# The folders, from $here, in which the sources of a crate and of those that it stands on lie.
-folders_of() {
+# The folders, from $here, in which the sources of a crate and of those that it stands on may lie.
+places_of() {
     local crate part
     for crate in $(crates_of "$1"); do
         for part in src specs proofs; do
-            [ ! -d "$here/crates/$crate/$part" ] || echo "crates/$crate/$part"
+            echo "crates/$crate/$part"
         done
+    done
+}
+
+# Those of them that are there.
+folders_of() {
+    local place
+    for place in $(places_of "$1"); do
+        [ ! -d "$here/$place" ] || echo "$place"
     done
 }
 
@@ -72,11 +84,57 @@ checksum_of_program() {
     sha256sum <"$program"
 }
 
+# Prints what a command finds of files, and notes it as long as they stay as they are. They are listed before it reads them: one that changes
+# meanwhile is not as it was listed. $1 is the record, and $2 a function that prints the files' names, a zero byte after each.
+find_and_note() {
+    local record=$here/$1 names=$2 since=$EPOCHSECONDS listing found
+    shift 2
+    listing=$({ mkdir -p "${record%/*}" && mktemp "$record.XXXXXX"; } 2>/dev/null) || listing=""
+    [ -z "$listing" ] || (set -o pipefail; "$names" | "$here/tools/unchanged" --list "$since" >"$listing") 2>/dev/null || : >"$listing"
+    found=$("$@") || { rm -f "$listing"; return 1; }
+    if [ -s "$listing" ]; then
+        printf '%s\n' "$found" | cat - "$listing" >"$listing.noted" && mv "$listing.noted" "$record"
+    fi
+    rm -f "$listing"
+    printf '%s\n' "$found"
+}
+
+# Prints what is noted of files that are as they were; the status is 1 where one is not. Without Perl none is known to be.
+noted_of() {
+    "$here/tools/unchanged" "$@" 2>/dev/null
+}
+
+# The names of the sources, and of what says which files these are.
+names_of_sources() {
+    local places folders
+    mapfile -t places < <(places_of jcard)
+    mapfile -t folders < <(folders_of jcard)
+    printf '%s\0' crates.txt tools/proved.sh tools/unchanged "${places[@]}"
+    cd "$here" && find "${folders[@]}" -mindepth 1 -print0
+}
+
+names_of_program() {
+    printf '%s\0' "${program#"$here/"}" "${stamp#"$here/"}"
+}
+
+# Prints the checksum of the sources as it was noted, where they are unchanged, and else computes it.
+known_checksum_of_sources() {
+    noted_of "$noted_sources" || find_and_note "$noted_sources" names_of_sources checksum_of_sources
+}
+
+# Prints the checksum of the sources that the stamp has, where it is the stamp of this program.
+stamped_checksum() {
+    local sources made
+    made=$(checksum_of_program) && sources=$(head -n 1 "$stamp") && [ "$(cat "$stamp")" = "$sources"$'\n'"$made" ] && printf '%s\n' "$sources"
+}
+
 # Whether the program is proved, and of these sources. Where one of the two is not known, it is not.
 is_current() {
-    local sources made
-    [ -x "$program" ] && [ -s "$stamp" ] && sources=$(checksum_of_sources) && made=$(checksum_of_program) &&
-        [ "$(cat "$stamp")" = "$sources"$'\n'"$made" ]
+    local sources proved
+    [ -x "$program" ] && [ -s "$stamp" ] || return 1
+    ! noted_of "$noted_sources" "$noted_program" >/dev/null || return 0
+    sources=$(known_checksum_of_sources) && proved=$(noted_of "$noted_program" || find_and_note "$noted_program" names_of_program stamped_checksum) &&
+        [ "$sources" = "$proved" ]
 }
 
 # Notes that the toolchain proved the program from the sources with this checksum, unless they have changed since.
@@ -91,7 +149,7 @@ note_proved() {
 
 # Whether the toolchain refused the sources as they are, when they were last proved.
 is_refused() {
-    [ -s "$refused" ] && [ "$(cat "$refused")" = "$(checksum_of_sources)" ]
+    [ -s "$refused" ] && [ "$(cat "$refused")" = "$(known_checksum_of_sources)" ]
 }
 
 # One proof at a time. ./jcard --prove and ./test hold the lock of the folder crates/ while they prove, as descriptor 9,
