@@ -14,8 +14,7 @@ use jc_words::WordStore;
 use jc_world::arguments::reference_argument;
 use jc_world::{NativeResult, StepExit, instance};
 
-/// The header of the object that a constructor is called on, an instance with this many cells. Null throws, and anything else is a
-/// code fault.
+/// The header of a constructor's receiver, which is an instance with `cells` cells. Null throws, and anything else is a code fault.
 pub(crate) fn new_instance<S: WordStore>(
     own: Ref,
     cells: u16,
@@ -28,8 +27,8 @@ pub(crate) fn new_instance<S: WordStore>(
     instance(own, cells, memory)
 }
 
-/// Sets the first cells of the object that a constructor is called on to these words, as one change. Null throws; anything but an instance
-/// with as many cells is a code fault. Where the transaction has no room for the cells it throws, and nothing is done.
+/// Sets the first cells of a constructor's receiver to these words, as one change. Null throws; anything but an instance with as many
+/// cells is a code fault. Where the transaction has no room for the cells it throws, and nothing is done.
 pub(crate) fn construct<S: WordStore>(
     words: &[u16],
     args: &[Cell],

@@ -21,7 +21,7 @@ abbrev pub Writes : {W : Type 0} → (W → Option (List ℕ)) → (W → ℕ) �
 Writes contents failures old new ended says = ((text : List ℕ) × Appends (contents old) (contents new) text × says ended text)
     × (failures new ≡ failures_after (failures old) (is_unwritten ended))
 
--- so it was, and what was done with the files of a disk for that is told
+-- the same, and what was done with the files of a disk, as is said
 abbrev pub Does : {D W : Type 0} → (D → List FileDeed → D → Type 0) → (W → Option (List ℕ)) → (W → ℕ) → D → D → W → W → Result Unit Fault → Tells → Type 0
 Does does contents failures before after old new ended tells = ((text : List ℕ) × (deeds : List FileDeed) × Appends (contents old) (contents new) text
     × tells ended text deeds × does before deeds after) × (failures new ≡ failures_after (failures old) (is_unwritten ended))
