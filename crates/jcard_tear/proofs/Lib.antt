@@ -7,5 +7,3 @@ pub mod Powers
 pub mod Fuses
 pub mod EveryLists
 pub mod Uncut
-pub mod SameHeaps
-pub mod Answered

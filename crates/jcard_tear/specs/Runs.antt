@@ -35,14 +35,9 @@ abbrev pub IsSelectedBy : ℕ → List ℕ → List ℕ → Option (List ℕ) �
 IsSelectedBy budget words script selected = (text : List ℕ) × (after : FuseStoreValue)
     × EndsSelecting budget (Ok tt) (store_of words) after true script text selected
 
--- a card powered up over these words gives the lines of the probe these answers
-abbrev pub IsAnswered : ℕ → List ℕ → Left → Type 0
-IsAnswered budget probe left = (last : FuseStoreValue) × Runs budget left.words.items probe left.answers.items last
-
--- a recovery and a migration of these words leave this heap, and a card powered up over it gives the lines of the probe these answers
+-- a power up over these words leaves this heap, and after it a card gives the lines of the probe these answers
 abbrev pub IsLeft : ℕ → List ℕ → List ℕ → Left → Type 0
-IsLeft budget words probe left = (last : FuseStoreValue) × (plain_of left.words.items ≡ migrated 3 (recovered_of words))
-    × Runs budget left.words.items probe left.answers.items last
+IsLeft budget words probe left = (last : FuseStoreValue) × (plain_of left.words.items ≡ migrated 3 (recovered_of words)) × Runs budget words probe left.answers.items last
 
 -- the whole script was carried out to its end over these words
 abbrev pub IsCarriedThrough : ℕ → List ℕ → List ℕ → Type 0

@@ -1,15 +1,14 @@
 //! Cutting the power within a command, after each number of its word writes.
-ghost use Rattle.std.specs.Prelude.{◌≡◌, ◌<◌, ◌++◌, ◌∷◌, ℕ, [], length, IfOk, unwrap_or, MatchOption, MatchResult};
+ghost use Rattle.std.specs.Prelude.{◌≡◌, ◌<◌, ◌++◌, ◌∷◌, ℕ, [], length, IfOk, MatchOption, MatchResult};
 ghost use Rattle.jcard_tear.specs.declared.tearing.TearFault.TheVariants.{NoMemory};
 ghost use Rattle.jcard_tear.specs.Faults.{IsUncutFor};
-ghost use Rattle.jcard_tear.specs.Runs.{IsAnswered};
 ghost use Rattle.jcard_tear.specs.Sweeps.{AreCuts, IsCutAt, IsToldAs, IsUncutAt, cut_script, nothing_more};
 ghost use Rattle.jcard_tear.specs.Told.{AreOfImage};
 
 use crate::progress::Progress;
 use crate::recoveries::recoveries;
 use crate::runs::run_copy;
-use crate::tearing::{TearFault, left_after_last, probe_fault};
+use crate::tearing::{TearFault, left_by_probe, probe_fault};
 use crate::told::told;
 use itoa::Buffer;
 use jc_objects::image_objects::ImageObjects;
@@ -67,126 +66,23 @@ pub(crate) fn cut_all<P: Progress>(
 ) -> Result<Vec<Cut>, TearFault>
     requires short { length words.now < 65536 }
     requires whole { AreOfImage objects.now }
-    requires answered { IsAnswered command.behind.instructions command.probe.now before.now }
     ensures { MatchResult result
         (λ cuts. AreCuts words.now command.entry spared.now lenient.now objects.now before.now after.now 0 cuts.items
         × IsUncutAt words.now command.entry (length cuts.items))
         (λ fault. IsUncutFor words.now command.entry 1 fault) }
 {
     let mut cuts = Vec::new(alloc);
-    let mut told = told_first(alloc, spared, lenient, objects, before, after)?;
     for number in 0..MOST {
         progress.tell_cut(number);
-        let Some((found, recoveries)) = cut_at(alloc, words, command, number, &told.left)? else {
+        let Some((left, recoveries)) = cut_at(alloc, words, command, number)? else {
             return Ok(cuts);
         };
-        let kept = told_next(
-            alloc, spared, lenient, objects, before, after, told, found, recoveries,
+        let cut = told_cut(
+            alloc, spared, lenient, objects, before, after, &left, recoveries,
         )?;
-        let cut = copy_of_cut(alloc, &kept.cut)?;
-        told = kept;
         push_cut(&mut cuts, cut)?;
     }
     Err(TearFault::TooManyCuts)
-}
-
-/// What is left, and what is reported of a cut that left it.
-#[derive(Drop)]
-pub(crate) struct Told {
-    pub(crate) left: Left,
-    pub(crate) cut: Cut,
-}
-
-/// What a cut would leave that leaves what was before the command.
-pub(crate) fn told_first(
-    alloc: Global,
-    spared: &[u16],
-    lenient: &[u16],
-    objects: &Option<ImageObjects>,
-    before: &Left,
-    after: &Left,
-) -> Result<Told, AllocError>
-    requires { AreOfImage objects.now }
-    ensures words { IfOk result (λ first. first.left.words.items ≡ before.now.words.items) }
-    ensures answers { IfOk result (λ first. first.left.answers.items ≡ before.now.answers.items) }
-    ensures told { IfOk result (λ first.
-        IsToldAs spared.now lenient.now objects.now before.now after.now first.left first.cut) }
-{
-    let left = copy_of(alloc, before)?;
-    let none_cut = Recoveries {
-        ways: 1,
-        difference: None,
-    };
-    let cut = told_cut(
-        alloc, spared, lenient, objects, before, after, &left, none_cut,
-    )?;
-    Ok(Told { left, cut })
-}
-
-/// What the next cut left, and what is reported of it; the same, where the last cut left it.
-pub(crate) fn told_next(
-    alloc: Global,
-    spared: &[u16],
-    lenient: &[u16],
-    objects: &Option<ImageObjects>,
-    before: &Left,
-    after: &Left,
-    last: Told,
-    found: Option<Left>,
-    recoveries: Recoveries,
-) -> Result<Told, AllocError>
-    requires whole { AreOfImage objects.now }
-    requires told { IsToldAs spared.now lenient.now objects.now before.now after.now last.left last.cut }
-    ensures left { IfOk result (λ next. next.left ≡ unwrap_or found last.left) }
-    ensures told { IfOk result (λ next.
-        IsToldAs spared.now lenient.now objects.now before.now after.now next.left next.cut) }
-    ensures recoveries { IfOk result (λ next. next.cut.recoveries ≡ recoveries) }
-{
-    match found {
-        Some(left) => {
-            let cut = told_cut(
-                alloc, spared, lenient, objects, before, after, &left, recoveries,
-            )?;
-            Ok(Told { left, cut })
-        }
-        None => Ok(told_again(last, recoveries)),
-    }
-}
-
-// The same again, after which recoveries were like this.
-fn told_again(last: Told, recoveries: Recoveries) -> Told
-    ensures { result ≡ record { left = last.left; cut = record last.cut { recoveries = recoveries } } }
-{
-    let Told { left, cut } = last;
-    let Cut {
-        standing,
-        lost,
-        answers,
-        recoveries: _,
-    } = cut;
-    let cut = Cut {
-        standing,
-        lost,
-        answers,
-        recoveries,
-    };
-    Told { left, cut }
-}
-
-/// The same of a cut.
-pub(crate) fn copy_of_cut(alloc: Global, cut: &Cut) -> Result<Cut, AllocError>
-    ensures standing { IfOk result (λ copy. copy.standing ≡ cut.now.standing) }
-    ensures lost { IfOk result (λ copy. copy.lost ≡ cut.now.lost) }
-    ensures answers { IfOk result (λ copy. copy.answers.items ≡ cut.now.answers.items) }
-    ensures recoveries { IfOk result (λ copy. copy.recoveries ≡ cut.now.recoveries) }
-{
-    let answers = Vec::from_slice(alloc, &cut.answers)?;
-    Ok(Cut {
-        standing: cut.standing,
-        lost: cut.lost,
-        answers,
-        recoveries: cut.recoveries,
-    })
 }
 
 /// What is reported of a cut that left this, and after which recoveries were like this.
@@ -227,18 +123,16 @@ pub(crate) fn push_cut(cuts: &mut Vec<Cut>, cut: Cut) -> Result<(), TearFault>
 }
 
 // What is left of a command that is cut after this many writes, and what recoveries were like that were cut after it; none where it
-// is not cut. Where the last cut left the same heap, nothing stands for what is left: it is what was left last.
+// is not cut.
 pub(crate) fn cut_at(
     alloc: Global,
     words: &[u16],
     command: Command,
     number: u16,
-    last: &Left,
-) -> Result<Option<(Option<Left>, Recoveries)>, TearFault>
-    requires short { length words.now < 65536 }
-    requires answered { IsAnswered command.behind.instructions command.probe.now last.now }
+) -> Result<Option<(Left, Recoveries)>, TearFault>
+    requires { length words.now < 65536 }
     ensures { MatchResult result (λ cut. MatchOption cut (IsUncutAt words.now command.entry number)
-        (λ found. IsCutAt words.now command.entry number (unwrap_or found.0 last.now) found.1))
+        (λ found. IsCutAt words.now command.entry number found.0 found.1))
         (λ fault. (step : ℕ) → IsUncutFor words.now command.entry step fault) }
 {
     let script = cut_script(alloc, command, number)?;
@@ -247,45 +141,18 @@ pub(crate) fn cut_at(
         return Ok(None);
     }
     let torn = Vec::from_slice(alloc, &ran.words)?;
-    let found = left_after_last(
-        alloc,
-        ran.words,
-        command.probe,
-        command.behind.instructions,
-        last,
-    )?;
-    let left = left_or(&found, last);
+    let left = left_by_probe(alloc, ran.words, command.probe, command.behind.instructions)?;
     match recoveries(
         alloc,
         &torn,
         command.probe,
         command.behind.instructions,
         command.behind.depth,
-        left,
+        &left,
     ) {
-        Ok(recoveries) => Ok(Some((found, recoveries))),
+        Ok(recoveries) => Ok(Some((left, recoveries))),
         Err(fault) => Err(probe_fault(fault)),
     }
-}
-
-// What was found, or else what was left last.
-fn left_or<'a>(found: &'a Option<Left>, last: &'a Left) -> &'a Left
-    ensures { result.now ≡ unwrap_or found.entry.now last.entry.now }
-{
-    match found {
-        Some(left) => left,
-        None => last,
-    }
-}
-
-// The same words and answers.
-pub(crate) fn copy_of(alloc: Global, left: &Left) -> Result<Left, AllocError>
-    ensures words { IfOk result (λ copy. copy.words.items ≡ left.now.words.items) }
-    ensures answers { IfOk result (λ copy. copy.answers.items ≡ left.now.answers.items) }
-{
-    let words = Vec::from_slice(alloc, &left.words)?;
-    let answers = Vec::from_slice(alloc, &left.answers)?;
-    Ok(Left { words, answers })
 }
 
 // The script up to the command, with the power cut after this many of its writes.

@@ -1,7 +1,6 @@
 //! A command with the power cut after each number of its word writes, on cards in memory.
 #![tactic(auto)]
 
-mod alike;
 pub mod cuts;
 pub mod each;
 pub mod kept_text;

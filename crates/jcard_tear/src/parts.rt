@@ -3,12 +3,11 @@ ghost use Rattle.std.specs.Prelude.{◌<◌, ◌+◌, ◌*◌, ℕ, List, length
 ghost use Rattle.std.specs.Borrow.{Bor};
 ghost use Rattle.jcard_tear.specs.Faults.{IsLineUncut, IsUncutFor};
 ghost use Rattle.jcard_tear.specs.Parts.{AreEvery, IsLinePart, IsPartSwept};
-ghost use Rattle.jcard_tear.specs.Runs.{IsAnswered};
 ghost use Rattle.jcard_tear.specs.ScriptLines.{line_of};
 ghost use Rattle.jcard_tear.specs.Sweeps.{IsUncutAt};
 ghost use Rattle.jcard_tear.specs.Told.{AreOfImage};
 
-use crate::cuts::{Behind, Command, MOST, copy_of_cut, cut_at, push_cut, told_first, told_next};
+use crate::cuts::{Behind, Command, MOST, cut_at, push_cut, told_cut};
 use crate::names::sweep_name;
 use crate::probes::probe_for;
 use crate::progress::Progress;
@@ -107,7 +106,6 @@ fn cut_every<P: Progress>(
 ) -> Result<Vec<Cut>, TearFault>
     requires short { length words.now < 65536 }
     requires whole { AreOfImage objects.now }
-    requires answered { IsAnswered command.behind.instructions command.probe.now before.now }
     ensures cut { MatchResult result
         (λ cuts. AreEvery words.now command.entry spared.now lenient.now objects.now before.now after.now first step cuts.items
         × IsUncutAt words.now command.entry (first + step * length cuts.items))
@@ -115,18 +113,15 @@ fn cut_every<P: Progress>(
     ensures below { IfOk result (λ cuts. first + step * length cuts.items < 65536) }
 {
     let mut cuts = Vec::new(alloc);
-    let mut told = told_first(alloc, spared, lenient, objects, before, after)?;
     let mut number = first;
     for _place in 0..MOST {
         progress.tell_cut(number);
-        let Some((found, recoveries)) = cut_at(alloc, words, command, number, &told.left)? else {
+        let Some((left, recoveries)) = cut_at(alloc, words, command, number)? else {
             return Ok(cuts);
         };
-        let kept = told_next(
-            alloc, spared, lenient, objects, before, after, told, found, recoveries,
+        let cut = told_cut(
+            alloc, spared, lenient, objects, before, after, &left, recoveries,
         )?;
-        let cut = copy_of_cut(alloc, &kept.cut)?;
-        told = kept;
         push_cut(&mut cuts, cut)?;
         let Some(next) = number.checked_add(step) else {
             return Err(TearFault::TooManyCuts);

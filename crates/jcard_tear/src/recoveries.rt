@@ -7,10 +7,9 @@ ghost use Rattle.jc_commit.specs.Replay.{replay_writes, torn_replay};
 ghost use Rattle.jcard_outcomes.specs.Recoveries.{recoveries_of};
 ghost use Rattle.jcard_tear.specs.Faults.{IsLeftFault, IsLogFault};
 ghost use Rattle.jcard_tear.specs.Recoveries.{AreRecoveries, AreTheSame, ComesToAnother, ComesToTheSame, IsSameLeft, NamesEachOnce};
-ghost use Rattle.jcard_tear.specs.Runs.{IsAnswered, IsLeft};
+ghost use Rattle.jcard_tear.specs.Runs.{IsLeft};
 
-use crate::alike::are_alike;
-use crate::runs::{BAD_LOG, RunFault, probed, recovered, words_of};
+use crate::runs::{BAD_LOG, RunFault, left, words_of};
 use jc_commit::{Journal, OpenRefusal};
 use jc_words::layout::{
     CAPACITY_WORD, COUNT, FIRST_VERSION, JOURNAL_WORD, LEAST_SIZE, VERSION_WORD,
@@ -140,18 +139,13 @@ fn comes_to_the_same(
     budget: u32,
     whole: &Left,
 ) -> Result<bool, RunFault>
-    requires short { length words.now < 65536 }
-    requires answered { IsAnswered budget probe.now whole.now }
+    requires { length words.now < 65536 }
     ensures { MatchResult result (λ same. MatchBool same (ComesToTheSame budget words.now probe.now whole.now)
         (ComesToAnother budget words.now probe.now whole.now))
         (λ fault. IsLeftFault budget probe.now fault) }
 {
     let copy = Vec::from_slice(alloc, words)?;
-    let heap = recovered(copy)?;
-    if are_alike(&whole.words, &heap) {
-        return Ok(true);
-    }
-    let found = probed(alloc, heap, probe, budget)?;
+    let found = left(alloc, copy, probe, budget)?;
     Ok(is_same(whole, &found))
 }
 
@@ -161,7 +155,7 @@ fn is_same(a: &Left, b: &Left) -> bool
     a.words == b.words && a.answers == b.answers
 }
 
-pub(crate) fn are_equal(a: &[u16], b: &[u16]) -> bool
+fn are_equal(a: &[u16], b: &[u16]) -> bool
     ensures { IsTrue result → a.now ≡ b.now }
 {
     a == b
@@ -206,7 +200,7 @@ fn entries(words: &[u16]) -> Option<u16>
 
 // Where the journal of these words stands; nothing where it cannot stand there, or where the version is the first.
 #[tactic(auto, unfolding(jc_words::specs::Image::log_of))]
-pub(crate) fn journal_of(words: &[u16]) -> Option<Log>
+fn journal_of(words: &[u16]) -> Option<Log>
     requires { length words.now < 65536 }
     ensures log { IfSome result (λ log. log ≡ log_of words.now) }
     ensures fits { IfSome result (λ log. IsLogAmong (length words.now) log) }

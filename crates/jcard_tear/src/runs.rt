@@ -1,12 +1,11 @@
 //! Running a script on a card in memory, and what a reset finds then.
-ghost use Rattle.std.specs.Prelude.{◌≡◌, ◌<◌, length, vec_len, unwrap_or, IfOk, MatchResult};
+ghost use Rattle.std.specs.Prelude.{◌≡◌, ◌<◌, length, vec_len, IfOk, MatchResult};
 ghost use Rattle.jcard_tear.specs.declared.runs.RunFault.TheVariants.{NoMemory};
 ghost use Rattle.jcard_tear.specs.Faults.{IsLeftFault, IsLogFault};
-ghost use Rattle.jcard_tear.specs.Runs.{HasRun, IsAnswered, IsCarriedThrough, IsLeft, IsRunFault, IsSelectedBy};
+ghost use Rattle.jcard_tear.specs.Runs.{HasRun, IsCarriedThrough, IsLeft, IsRunFault, IsSelectedBy};
 ghost use Rattle.jc_commit.specs.Image.{plain_of, recovered_of};
 ghost use Rattle.jc_commit.specs.Migration.{migrated};
 
-use crate::alike::are_alike;
 use crate::kept_text::KeptText;
 use crate::watched::{WatchedStore, Watcher};
 use jc_card::power_up::PowerFault;
@@ -200,7 +199,7 @@ pub(crate) fn selected_by(
     }
 }
 
-/// What a recovery of these words leaves, and what the lines of a probe are answered after a power up over that.
+/// What a power up over these words leaves, and what the lines of a probe are answered after it.
 pub(crate) fn left(
     alloc: Global,
     words: Vec<u16>,
@@ -211,62 +210,23 @@ pub(crate) fn left(
     ensures { MatchResult result (λ left. IsLeft budget words.items probe.now left)
         (λ fault. IsLeftFault budget probe.now fault) }
 {
-    let found = recovered(words)?;
-    probed(alloc, found, probe, budget)
-}
-
-/// The same, where it is known what was left last; nothing, where this is left again: then the probe need not be asked.
-pub(crate) fn left_after(
-    alloc: Global,
-    words: Vec<u16>,
-    probe: &[u8],
-    budget: u32,
-    last: &Left,
-) -> Result<Option<Left>, RunFault>
-    requires short { vec_len words < 65536 }
-    requires answered { IsAnswered budget probe.now last.now }
-    ensures { MatchResult result (λ found. IsLeft budget words.items probe.now (unwrap_or found last.now))
-        (λ fault. IsLeftFault budget probe.now fault) }
-{
-    let found = recovered(words)?;
-    if are_alike(&last.words, &found) {
-        return Ok(None);
-    }
-    let left = probed(alloc, found, probe, budget)?;
-    Ok(Some(left))
-}
-
-/// What the lines of a probe are answered after a power up over these words.
-pub(crate) fn probed(
-    alloc: Global,
-    words: Vec<u16>,
-    probe: &[u8],
-    budget: u32,
-) -> Result<Left, RunFault>
-    requires { vec_len words < 65536 }
-    ensures { MatchResult result (λ left. (left.words.items ≡ words.items) × IsAnswered budget probe.now left)
-        (λ fault. IsLeftFault budget probe.now fault) }
-{
-    let ran = run_copy(alloc, &words, probe, budget)?;
+    let copy = Vec::from_slice(alloc, &words)?;
+    let found = recovered(copy)?;
+    let probed = run(alloc, words, probe, budget, &mut Watcher::nobody())?;
     Ok(Left {
-        words,
-        answers: ran.text,
+        words: found,
+        answers: probed.text,
     })
 }
 
-/// The words that a recovery and a migration of these leave.
-pub(crate) fn recovered(words: Vec<u16>) -> Result<Vec<u16>, RunFault>
+// The words that a recovery and a migration of these leave.
+fn recovered(words: Vec<u16>) -> Result<Vec<u16>, RunFault>
     requires { vec_len words < 65536 }
-    ensures left { MatchResult result (λ found. plain_of found.items
+    ensures { MatchResult result (λ found. plain_of found.items
         ≡ migrated 3 (recovered_of words.items)) (λ fault. IsLogFault fault) }
-    ensures short { IfOk result (λ found. vec_len found < 65536) }
 {
     match Journal::open(MemStore::of(words)) {
-        Ok(journal) => {
-            let store = journal.into_store();
-            let _size = store.size();
-            Ok(store.into_words())
-        }
+        Ok(journal) => Ok(journal.into_store().into_words()),
         Err(_) => Err(BAD_LOG),
     }
 }

@@ -1,14 +1,14 @@
 //! A command that is cut after each number of its writes, beside what was before it and what it leaves.
-ghost use Rattle.std.specs.Prelude.{◌≡◌, ◌<◌, ◌++◌, ℕ, length, vec_len, unwrap_or, IfOk, MatchResult};
+ghost use Rattle.std.specs.Prelude.{◌≡◌, ◌<◌, ◌++◌, ℕ, length, vec_len, IfOk, MatchResult};
 ghost use Rattle.jcard_tear.specs.declared.tearing.TearFault.TheVariants.{NoMemory};
 ghost use Rattle.jcard_tear.specs.Sweeps.{IsBegun, IsDone, IsLastLine, IsSwept};
-ghost use Rattle.jcard_tear.specs.Runs.{IsAnswered, IsLeft};
+ghost use Rattle.jcard_tear.specs.Runs.{IsLeft};
 ghost use Rattle.jcard_tear.specs.Faults.{IsImageFault, IsProbeFault, IsUncutFor, told_probe_fault, told_run_fault};
 ghost use Rattle.jc_objects.specs.Pins.{AreTriesIn};
 
 use crate::cuts::{Command, cut_all};
 use crate::progress::Progress;
-use crate::runs::{RunFault, left, left_after, run_copy, run_told};
+use crate::runs::{RunFault, left, run_copy, run_told};
 use crate::told::{left_told, objects_asked};
 use jc_card::power_up::PowerFault;
 use jc_objects::image_objects::ImageFault;
@@ -132,25 +132,6 @@ pub(crate) fn left_by_probe(
 {
     match left(alloc, words, probe, budget) {
         Ok(left) => Ok(left),
-        Err(fault) => Err(probe_fault(fault)),
-    }
-}
-
-// The same, where it is known what was left last; nothing, where this is left again.
-pub(crate) fn left_after_last(
-    alloc: Global,
-    words: Vec<u16>,
-    probe: &[u8],
-    budget: u32,
-    last: &Left,
-) -> Result<Option<Left>, TearFault>
-    requires short { vec_len words < 65536 }
-    requires answered { IsAnswered budget probe.now last.now }
-    ensures { MatchResult result (λ found. IsLeft budget words.items probe.now (unwrap_or found last.now))
-        (λ fault. IsProbeFault budget probe.now fault) }
-{
-    match left_after(alloc, words, probe, budget, last) {
-        Ok(found) => Ok(found),
         Err(fault) => Err(probe_fault(fault)),
     }
 }

@@ -1,12 +1,9 @@
 use Rattle.std.proofs.Common.{◌≡◌, length}
-use Rattle.jcard_tear.specs.Runs.{IsAnswered}
-use Rattle.jcard_tear.specs.Sweeps.{AreCuts, IsToldAs}
+use Rattle.jcard_tear.specs.Sweeps.{AreCuts}
 use Rattle.jcard_tear.proofs.cuts.cut_all.Given as goal
 
 abbrev pub invariant-loop-number : goal.invariant-loop-number
 invariant-loop-number g l = record {
   cuts : AreCuts l.words l.command l.spared l.lenient l.objects l.before l.after 0 l.cuts.items;
   count : length l.cuts.items ≡ l.number;
-  answered : IsAnswered l.command.behind.instructions l.command.probe.now l.told.left;
-  told : IsToldAs l.spared l.lenient l.objects l.before l.after l.told.left l.told.cut;
 }

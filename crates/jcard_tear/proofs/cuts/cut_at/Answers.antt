@@ -1,5 +1,4 @@
-use Rattle.std.proofs.Common.{◌∙◌, sym, refl, inr, subst, unwrap_or}
-use Rattle.jcard_outcomes.specs.declared.standing.Left.{Left}
+use Rattle.std.proofs.Common.{◌∙◌, sym, refl, inr, subst}
 use Rattle.jcard_tear.specs.Faults.{IsCarriedOut, IsProbeFault}
 use Rattle.jcard_tear.specs.Recoveries.{AreRecoveries}
 use Rattle.jcard_tear.specs.Runs.{IsLeft, IsRunFault, Runs}
@@ -8,19 +7,16 @@ use Rattle.jcard_tear.proofs.Uncut.{left_probed, memory_uncut, passed_on, probe_
 use Rattle.jcard_tear.proofs.cuts.cut_at.Goals as goal
 
 pub recoveries-requires-clause-left : goal.recoveries-requires-clause-left
-recoveries-requires-clause-left c = rw (c.deref-3.ensures.value, c.in_ok-torn.ensures.items, c.deref-2.ensures.value, c.left_or-left.ensures) c.in_ok-found.ensures
+recoveries-requires-clause-left c = rw (c.deref-3.ensures.value, c.in_ok-torn.ensures.items, c.deref-2.ensures.value) c.in_ok-left.ensures
 
 pub returns-in-Ok : goal.returns-in-Ok
 returns-in-Ok c =
     let ran = c.in_ok-ran.ensures.ran in
     let runs = subst (λ s. Runs c.args.command.behind.instructions c.args.words.now s c.in_ok-ran.ran.text.items ran.0) (c.deref.ensures.value ∙ c.in_ok-script.ensures) ran.1 in
-    let left = subst (λ w. IsLeft c.args.command.behind.instructions w c.args.command.probe.now (unwrap_or c.in_ok-found.found c.args.last.now)) ran.2
-    c.in_ok-found.ensures in
+    let left = subst (λ w. IsLeft c.args.command.behind.instructions w c.args.command.probe.now c.in_ok-left.left) ran.2 c.in_ok-left.ensures in
     let torn = c.deref-3.ensures.value ∙ c.in_ok-torn.ensures.items ∙ c.deref-2.ensures.value ∙ ran.2 in
-    let whole = subst (λ (l : Left). AreRecoveries c.args.command.behind.depth c.args.command.behind.instructions c.deref-3.result.now c.args.command.probe.now l
-    c.in-Ok.recoveries) c.left_or-left.ensures c.in-Ok.ensures in
-    let deep = subst (λ w. AreRecoveries c.args.command.behind.depth c.args.command.behind.instructions w c.args.command.probe.now
-    (unwrap_or c.in_ok-found.found c.args.last.now) c.in-Ok.recoveries) torn whole in
+    let deep = subst (λ w. AreRecoveries c.args.command.behind.depth c.args.command.behind.instructions w c.args.command.probe.now c.in_ok-left.left c.in-Ok.recoveries) torn
+    c.in-Ok.ensures in
     (c.in_ok-ran.ran.text.items, ran.0, runs, sym ran.3 ∙ c.if-not-ran.false, left, deep)
 
 pub returns-in_err-script : goal.returns-in_err-script
@@ -37,13 +33,13 @@ pub returns-in_err-torn : goal.returns-in_err-torn
 returns-in_err-torn c = passed_on _ _ c.from_residual-in_err-torn.result c.from_residual-in_err-torn.ensures.1
     (λ fault e step. memory_uncut c.args.words.now c.args.command step fault e)
 
-pub returns-in_err-found : goal.returns-in_err-found
-returns-in_err-found c =
+pub returns-in_err-left : goal.returns-in_err-left
+returns-in_err-left c =
     let ran = c.in_ok-ran.ensures.ran in
     let runs = subst (λ s. Runs c.args.command.behind.instructions c.args.words.now s c.in_ok-ran.ran.text.items ran.0) (c.deref.ensures.value ∙ c.in_ok-script.ensures) ran.1 in
     let carried : IsCarriedOut c.args.words.now c.args.command = (cut_script c.args.command c.args.number, c.in_ok-ran.ran.text.items, ran.0, inr (inr (c.args.number, refl)), runs) in
-    passed_on _ _ c.from_residual-in_err-found.result c.from_residual-in_err-found.ensures.1
-    (λ fault e step. probe_uncut c.args.words.now c.args.command step fault carried (subst (IsProbeFault c.args.command.behind.instructions c.args.command.probe.now) (sym e) c.in_err-found.ensures))
+    passed_on _ _ c.from_residual-in_err-left.result c.from_residual-in_err-left.ensures.1
+    (λ fault e step. probe_uncut c.args.words.now c.args.command step fault carried (subst (IsProbeFault c.args.command.behind.instructions c.args.command.probe.now) (sym e) c.in_err-left.ensures))
 
 pub returns : goal.returns
 returns c = λ step.

@@ -1,7 +1,5 @@
 use Rattle.std.proofs.Common.{◌≡◌, ◌+◌, ◌*◌, ◌<◌, length}
 use Rattle.jcard_tear.specs.Parts.{AreEvery}
-use Rattle.jcard_tear.specs.Runs.{IsAnswered}
-use Rattle.jcard_tear.specs.Sweeps.{IsToldAs}
 use Rattle.jcard_tear.proofs.parts.cut_every.Given as goal
 
 abbrev pub invariant-loop-place : goal.invariant-loop-place
@@ -10,6 +8,4 @@ invariant-loop-place g l = record {
   count : l.number ≡ l.first + l.step * length l.cuts.items;
   fits : l.number < 65536;
   places : length l.cuts.items ≡ l._place;
-  answered : IsAnswered l.command.behind.instructions l.command.probe.now l.told.left;
-  told : IsToldAs l.spared l.lenient l.objects l.before l.after l.told.left l.told.cut;
 }
