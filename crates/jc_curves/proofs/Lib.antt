@@ -1,0 +1,16 @@
+pub mod Additions
+pub mod BinaryMethod
+pub mod CallLaws
+pub mod Congruences
+pub mod CurveLaws
+pub mod DerLaws
+pub mod Doublings
+pub mod ElementLaws
+pub mod Formulas
+pub mod Limbs
+pub mod Places
+pub mod PointBytes
+pub mod SignatureLaws
+pub mod Standing
+pub mod Sums
+pub mod Thirds
