@@ -1,11 +1,17 @@
 pub mod Blocks
+pub mod ByteNumbers
+pub mod Candidates
 pub mod DigestInfos
 pub mod Digests
 pub mod Encoded
 pub mod Examples
 pub mod Headings
+pub mod InverseLaws
+pub mod Joined
 pub mod Masks
 pub mod OaepBlocks
 pub mod OneMessage
 pub mod PssBlocks
+pub mod Strong
+pub mod WholeModuli
 pub mod Xor

@@ -1,11 +1,13 @@
--- What the encodings are to their messages.
-use Rattle.std.specs.Prelude.{◌≡◌, ◌≤◌, ℕ, ◌+◌, ◌*◌, Bool, IsTrue, List, length}
+-- What the encodings are to their messages, and how long moduli are.
+use Rattle.std.specs.Prelude.{◌≡◌, ◌≤◌, ℕ, ◌+◌, ◌-◌, ◌*◌, ◌^◌, Bool, IsTrue, List, length}
 use Rattle.jc_digests.specs.Kept.{digest_size}
 use Rattle.jc_digests.specs.declared.kept.HashAlgorithm.{HashAlgorithm}
+use Rattle.jc_numbers.specs.Numbers.{number_of_bytes}
 use Rattle.jc_rsa.specs.EmeOaep.{IsOaep, oaep}
 use Rattle.jc_rsa.specs.EmePkcs1.{AreNonzero, IsEncryptionBlock, encryption_block}
 use Rattle.jc_rsa.specs.EmsaPkcs1.{IsSignatureBlock, signature_block}
 use Rattle.jc_rsa.specs.Iso9796.{IsRepresentative, representative, trailer_bytes}
+use Rattle.jc_rsa.specs.KeyPair.{ArePrimesOf}
 use Rattle.jc_rsa.specs.declared.iso_9796.Trailer.{Trailer}
 
 -- em is an encoding of m, and of no other message
@@ -30,3 +32,8 @@ pub record DecodedIsEncoded : Type 0 where
       → length m + length digest + length (trailer_bytes trailer) + 1 ≤ n
       → (IsTrue more → length m + length digest + length (trailer_bytes trailer) + 1 ≡ n)
       → IsOnlyOfParts trailer (length digest) more m digest (representative more m digest trailer n)
+
+-- the product of the primes of a seed begins with a bit 1: it has 16 times as many bits as a prime has bytes
+pub record ModuliAreWhole : Type 0 where
+  pub product : (seed : List ℕ) (e size : ℕ) (p q : List ℕ) → 2 ≤ size → ArePrimesOf seed e size p q
+      → 2 ^ (16 * size - 1) ≤ number_of_bytes p * number_of_bytes q

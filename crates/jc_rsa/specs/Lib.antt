@@ -7,4 +7,8 @@ pub mod EmeOaep
 pub mod EmsaPss
 pub mod Iso9796
 pub mod Examples
+pub mod Power
+pub mod Crt
+pub mod Primes
+pub mod KeyPair
 pub mod Laws
