@@ -1,0 +1,5 @@
+pub mod BytesOfNumbers
+pub mod Powers
+pub mod Encodings
+pub mod Messages
+pub mod NonzeroBytes

@@ -1,0 +1,4 @@
+pub mod Random
+pub mod Rsa
+pub mod RsaCiphers
+pub mod RsaSignatures
