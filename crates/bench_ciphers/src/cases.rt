@@ -2,9 +2,11 @@
 
 ghost use Rattle.std.specs.Prelude.{◌≤◌};
 
+use crate::curves::curve_case;
 use crate::loops::timed;
 use crate::messages::{hmac, mac, mode};
-use crate::numbers::modular;
+use crate::numbers::{divided, modular};
+use crate::rsa::{rsa_crt, rsa_key, rsa_power, rsa_prime};
 use crate::words::{bytes, pieces};
 use jc_aes::aes::Aes;
 use jc_des::des::Des;
@@ -26,6 +28,13 @@ pub fn answer(alloc: Global, line: &str) -> Result<String, AllocError> {
 // The cases by the number of their words.
 fn answer_of(alloc: Global, words: &[&str]) -> Result<String, AllocError> {
     match words {
+        ["curve", rest @ ..] => curve_case(alloc, rest),
+        ["rsa-prime", candidate, bases] => rsa_prime(alloc, candidate, bases),
+        ["rsa-power", modulus, exponent, message] => rsa_power(alloc, modulus, exponent, message),
+        ["rsa-key", seed, exponent, size] => rsa_key(alloc, seed, exponent, size),
+        ["rsa-crt", p, q, dp, dq, q_inverse, message] => {
+            rsa_crt(alloc, [p, q, dp, dq, q_inverse, message])
+        }
         [kind, first, last] => short_case(alloc, kind, first, last),
         ["digest", name, cuts, message] => digest(alloc, name, cuts, message),
         [kind, number, other, modulus] => modular_case(alloc, kind, number, other, modulus),
@@ -62,7 +71,8 @@ fn modular_case(
     modulus: &str,
 ) -> Result<String, AllocError> {
     match kind {
-        "power" | "product" | "inverse" => modular(alloc, kind, number, other, modulus),
+        "power" | "product" | "forms" | "inverse" => modular(alloc, kind, number, other, modulus),
+        "divide" | "invert" => divided(alloc, kind, number, modulus),
         _ => Ok(String::new(alloc)),
     }
 }

@@ -2,9 +2,11 @@
 #![tactic(auto)]
 
 mod cases;
+mod curves;
 mod loops;
 mod messages;
 mod numbers;
+mod rsa;
 mod words;
 
 use std::alloc::Global;

@@ -1,11 +1,15 @@
-//! Products, powers and inverses modulo odd numbers.
+//! Products, powers and inverses modulo odd numbers, quotients, and inverses modulo any number.
 
 ghost use Rattle.std.specs.Prelude.{◌≡◌, ◌<◌, ◌≤◌, length};
+ghost use Rattle.jc_numbers.specs.Montgomery.{IsResidue};
 ghost use Rattle.jc_numbers.specs.Numbers.{value};
 
 use crate::words::bytes;
 use jc_numbers::bytes::{from_bytes, to_bytes};
+use jc_numbers::comparison::{is_one, is_zero};
+use jc_numbers::inverses::invert;
 use jc_numbers::moduli::{MOST_LIMBS, Modulus};
+use jc_numbers::quotients::divide;
 use jc_numbers::residues::remainder;
 use std::alloc::{AllocError, Global};
 
@@ -57,7 +61,13 @@ fn modular_of(
     let mut result = [0; MOST_LIMBS];
     match kind {
         "power" => prepared.power(&mut result[..count], &first_limbs, &second_limbs),
-        "product" => product(&prepared, &mut result[..count], &first_limbs, &second_limbs),
+        "product" | "forms" => product(
+            &prepared,
+            kind,
+            &mut result[..count],
+            &first_limbs,
+            &second_limbs,
+        ),
         _ => inverse(&prepared, &mut result[..count], &first_limbs),
     }
     let mut answer = [0; 512];
@@ -65,8 +75,8 @@ fn modular_of(
     hex::encode(alloc, &answer[..modulus.len()])
 }
 
-// The product of two numbers modulo a third.
-fn product(prepared: &Modulus, to: &mut [u32], first: &[u32], second: &[u32])
+// The product of two numbers modulo a third, by forms or not.
+fn product(prepared: &Modulus, kind: &str, to: &mut [u32], first: &[u32], second: &[u32])
     requires to { (length to.old ≡ length prepared.now) × (length to.old ≤ 128) }
     requires modulus { 0 < value prepared.now }
     requires numbers { (length first.now ≤ 128) × (length second.now ≤ 128) }
@@ -76,7 +86,26 @@ fn product(prepared: &Modulus, to: &mut [u32], first: &[u32], second: &[u32])
     remainder(&mut a[..count], first, prepared.limbs());
     let mut b = [0; MOST_LIMBS];
     remainder(&mut b[..count], second, prepared.limbs());
-    prepared.multiply(to, &a[..count], &b[..count]);
+    match kind {
+        "forms" => product_of_forms(prepared, to, &a[..count], &b[..count]),
+        _ => prepared.multiply(to, &a[..count], &b[..count]),
+    }
+}
+
+// The product of two residues by their forms.
+fn product_of_forms(prepared: &Modulus, to: &mut [u32], a: &[u32], b: &[u32])
+    requires to { (length to.old ≡ length prepared.now) × (length to.old ≤ 128) }
+    requires a { IsResidue prepared.now a.now }
+    requires b { IsResidue prepared.now b.now }
+{
+    let count = to.len();
+    let mut first = [0; MOST_LIMBS];
+    prepared.to_form(&mut first[..count], a);
+    let mut second = [0; MOST_LIMBS];
+    prepared.to_form(&mut second[..count], b);
+    let mut form = [0; MOST_LIMBS];
+    prepared.multiply_forms(&mut form[..count], &first[..count], &second[..count]);
+    prepared.from_form(to, &form[..count]);
 }
 
 // A number to the power of a modulus less 2.
@@ -89,4 +118,59 @@ fn inverse(prepared: &Modulus, to: &mut [u32], number: &[u32])
     let mut residue = [0; MOST_LIMBS];
     remainder(&mut residue[..count], number, prepared.limbs());
     let _is_inverse = prepared.invert(to, &residue[..count]);
+}
+
+/// The quotient and the remainder of two numbers, in as many bytes as these have, or the inverse of the first modulo the second. It is
+/// empty where the second is 0, or no modulus of an inverse, or a word has more than 512 bytes.
+pub fn divided(alloc: Global, kind: &str, first: &str, second: &str) -> Result<String, AllocError> {
+    let first = bytes(alloc, first)?;
+    let second = bytes(alloc, second)?;
+    if first.len() > 512 || second.len() > 512 {
+        return Ok(String::new(alloc));
+    }
+    match kind {
+        "divide" => quotient(alloc, first.as_slice(), second.as_slice()),
+        _ => inverse_of_any(alloc, first.as_slice(), second.as_slice()),
+    }
+}
+
+fn quotient(alloc: Global, first: &[u8], second: &[u8]) -> Result<String, AllocError>
+    requires first { length first.now ≤ 512 }
+    requires second { length second.now ≤ 512 }
+{
+    let mut number = [0; MOST_LIMBS];
+    from_bytes(&mut number, first);
+    let mut divisor = [0; MOST_LIMBS];
+    from_bytes(&mut divisor, second);
+    if is_zero(&divisor) {
+        return Ok(String::new(alloc));
+    }
+    let mut quotient = [0; MOST_LIMBS];
+    let mut rest = [0; MOST_LIMBS];
+    divide(&mut quotient, &mut rest, &number, &divisor);
+    let mut answer = [0; 1024];
+    let end = first.len() + second.len();
+    to_bytes(&mut answer[..first.len()], &quotient);
+    to_bytes(&mut answer[first.len()..end], &rest);
+    hex::encode(alloc, &answer[..end])
+}
+
+fn inverse_of_any(alloc: Global, first: &[u8], second: &[u8]) -> Result<String, AllocError>
+    requires first { length first.now ≤ 512 }
+    requires second { length second.now ≤ 512 }
+{
+    let mut limbs = [0; MOST_LIMBS];
+    from_bytes(&mut limbs, second);
+    if is_zero(&limbs) || is_one(&limbs) {
+        return Ok(String::new(alloc));
+    }
+    let mut number = [0; MOST_LIMBS];
+    from_bytes(&mut number, first);
+    let mut residue = [0; MOST_LIMBS];
+    remainder(&mut residue, &number, &limbs);
+    let mut result = [0; MOST_LIMBS];
+    let _found = invert(&mut result, &residue, &limbs);
+    let mut answer = [0; 512];
+    to_bytes(&mut answer[..second.len()], &result);
+    hex::encode(alloc, &answer[..second.len()])
 }

@@ -1,0 +1,151 @@
+//! Powers with RSA keys, probable primes, and key pairs.
+
+ghost use Rattle.std.specs.Prelude.{◌≡◌, ◌≤◌, length};
+
+use crate::words::bytes;
+use jc_rsa::crt::{CrtKey, crt_power};
+use jc_rsa::key_pair::{FEWEST_OF_PRIME, KeyPairError, KeyParts, MOST_OF_PRIME, SEED, generate};
+use jc_rsa::power::{PowerError, power};
+use jc_rsa::primes::is_probable_prime;
+use std::alloc::{AllocError, Global};
+
+/// A power with a modulus and an exponent, or why there is none.
+pub fn rsa_power(
+    alloc: Global,
+    modulus: &str,
+    exponent: &str,
+    message: &str,
+) -> Result<String, AllocError> {
+    let modulus = bytes(alloc, modulus)?;
+    let exponent = bytes(alloc, exponent)?;
+    let message = bytes(alloc, message)?;
+    if modulus.len() > 512 || exponent.len() > 512 || message.len() > 512 {
+        return Ok(String::new(alloc));
+    }
+    let mut to = [0; 512];
+    let to = &mut to[..modulus.len()];
+    match power(
+        modulus.as_slice(),
+        exponent.as_slice(),
+        message.as_slice(),
+        to,
+    ) {
+        Ok(()) => hex::encode(alloc, &*to),
+        Err(error) => name_of(alloc, error),
+    }
+}
+
+fn name_of(alloc: Global, error: PowerError) -> Result<String, AllocError> {
+    match error {
+        PowerError::ModulusNotUsable => String::from_str(alloc, "modulus"),
+        PowerError::MessageOutOfRange => String::from_str(alloc, "message"),
+    }
+}
+
+/// What a key of p, q, dP, dQ and qInv makes of a message, in as many bytes as p and q have, or why it makes nothing.
+pub fn rsa_crt(alloc: Global, words: [&str; 6]) -> Result<String, AllocError> {
+    let p = bytes(alloc, words[0])?;
+    let q = bytes(alloc, words[1])?;
+    let dp = bytes(alloc, words[2])?;
+    let dq = bytes(alloc, words[3])?;
+    let q_inverse = bytes(alloc, words[4])?;
+    let message = bytes(alloc, words[5])?;
+    if p.len() > 256 || q.len() > 256 || dp.len() > 512 || dq.len() > 512 {
+        return Ok(String::new(alloc));
+    }
+    if q_inverse.len() > 512 || message.len() > 512 {
+        return Ok(String::new(alloc));
+    }
+    let key = CrtKey {
+        p: p.as_slice(),
+        q: q.as_slice(),
+        dp: dp.as_slice(),
+        dq: dq.as_slice(),
+        q_inverse: q_inverse.as_slice(),
+    };
+    let mut to = [0; 512];
+    let to = &mut to[..p.len() + q.len()];
+    match crt_power(&key, message.as_slice(), to) {
+        Ok(()) => hex::encode(alloc, &*to),
+        Err(error) => name_of(alloc, error),
+    }
+}
+
+/// Whether a number is probably a prime: `1` or `0`.
+pub fn rsa_prime(alloc: Global, candidate: &str, bases: &str) -> Result<String, AllocError> {
+    let candidate = bytes(alloc, candidate)?;
+    let bases = bytes(alloc, bases)?;
+    if candidate.len() > 512 {
+        return Ok(String::new(alloc));
+    }
+    let probable = is_probable_prime(candidate.as_slice(), bases.as_slice());
+    String::from_str(alloc, if probable { "1" } else { "0" })
+}
+
+/// The parts of a key pair of a seed, with spaces between, where a prime has this many bytes.
+pub fn rsa_key(
+    alloc: Global,
+    seed: &str,
+    exponent: &str,
+    size: &str,
+) -> Result<String, AllocError> {
+    let seed = bytes(alloc, seed)?;
+    let exponent = bytes(alloc, exponent)?;
+    let size = usize::from(size.parse::<u16>().unwrap_or(0));
+    let Ok(seed) = <&[u8; SEED]>::try_from(seed.as_slice()) else {
+        return Ok(String::new(alloc));
+    };
+    if exponent.len() > 512 || size < FEWEST_OF_PRIME || size > MOST_OF_PRIME {
+        return Ok(String::new(alloc));
+    }
+    key_of(alloc, seed, exponent.as_slice(), size)
+}
+
+fn key_of(
+    alloc: Global,
+    seed: &[u8; SEED],
+    exponent: &[u8],
+    size: usize,
+) -> Result<String, AllocError>
+    requires exponent { length exponent.now ≤ 512 }
+    requires some { 32 ≤ size }
+    requires few { size ≤ 256 }
+{
+    let mut p = [0; MOST_OF_PRIME];
+    let mut q = [0; MOST_OF_PRIME];
+    let mut dp = [0; MOST_OF_PRIME];
+    let mut dq = [0; MOST_OF_PRIME];
+    let mut q_inverse = [0; MOST_OF_PRIME];
+    let mut modulus = [0; 512];
+    let mut private_exponent = [0; 512];
+    let made = generate(
+        seed,
+        exponent,
+        KeyParts {
+            p: &mut p[..size],
+            q: &mut q[..size],
+            dp: &mut dp[..size],
+            dq: &mut dq[..size],
+            q_inverse: &mut q_inverse[..size],
+            modulus: &mut modulus[..2 * size],
+            private_exponent: &mut private_exponent[..2 * size],
+        },
+    );
+    match made {
+        Ok(()) => {
+            let mut text = hex::encode(alloc, &modulus[..2 * size])?;
+            push_part(alloc, &mut text, &private_exponent[..2 * size])?;
+            for part in &[p, q, dp, dq, q_inverse] {
+                push_part(alloc, &mut text, &part[..size])?;
+            }
+            Ok(text)
+        }
+        Err(KeyPairError::ExponentNotUsable) => String::from_str(alloc, "exponent"),
+        Err(KeyPairError::NoPrimesFound) => String::from_str(alloc, "primes"),
+    }
+}
+
+fn push_part(alloc: Global, text: &mut String, part: &[u8]) -> Result<(), AllocError> {
+    text.push(' ')?;
+    text.push_str(&hex::encode(alloc, part)?)
+}
