@@ -54,14 +54,14 @@ own_is true r own e = (refl, same_Ok r own e)
 own_is false r own e = absurd (err_not_ok e)
 
 module _ (class : PlatformClass) (cells : ℕ) (args : List Cell) (p : Packages) (m : MemoryState) where
-  plain_called : FaultsOnly (instance_called class cells args p m)
+  pub plain_called : FaultsOnly (instance_called class cells args p m)
   unfolding instance_called
   plain_called = plain_then (some_or_fault (reference_argument args 0)) _ (plain_some (reference_argument args 0)) (λ own.
       plain_then (instance_at m own cells) _ (plain_instance m own cells)
       (λ f. plain_if (is_instance_of p f (class_word p.platform class)) _ _ tt tt))
 
   -- it is the first argument, and an instance of the class
-  called_is : (own : ℕ) → instance_called class cells args p m ≡ Ok own → (reference_argument args 0 ≡ Some own) × (IsInstanceWith m own cells
+  pub called_is : (own : ℕ) → instance_called class cells args p m ≡ Ok own → (reference_argument args 0 ≡ Some own) × (IsInstanceWith m own cells
       × (is_instance_of p (facts m.heap.now own) (class_word p.platform class) ≡ true))
   unfolding instance_called
   called_is own e =

@@ -16,3 +16,4 @@ pub mod EngineRoom
 pub mod EngineMaking
 pub mod InitializingCalls
 pub mod TransientEvents
+pub mod PairingCalls

@@ -7,4 +7,6 @@ pub mod NewArrays
 pub mod Changing
 pub mod Factory
 pub mod Initializing
+pub mod Pairing
+pub mod Keeping
 pub mod TransientEvents

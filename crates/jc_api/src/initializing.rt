@@ -53,7 +53,7 @@ fn put_words(values: &[FieldValue], args: &[Cell], words: &mut [u16])
 
 // The receiver of a call, an instance of the class with this many cells. Null throws, and anything else is a code fault.
 #[tactic(auto, unfolding(crate::specs::Initializing::instance_called))]
-fn instance_called<S: WordStore>(
+pub(crate) fn instance_called<S: WordStore>(
     class: PlatformClass,
     cells: u16,
     args: &[Cell],

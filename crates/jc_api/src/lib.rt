@@ -5,7 +5,9 @@ pub mod arguments;
 pub mod changing;
 pub mod factory;
 pub mod initializing;
+pub mod keeping;
 pub mod kinds;
+pub mod pairing;
 pub mod short_arrays;
 pub mod transient_events;
 
@@ -16,6 +18,8 @@ pub use arguments::{
 pub use changing::{change_state, change_state_and_put, state_at};
 pub use factory::{NewEngine, StateKind, make_engine};
 pub use initializing::{FieldValue, MOST_FIELDS, initialize};
+pub use keeping::kept_reference;
 pub use kinds::have_kinds;
+pub use pairing::{NamedObject, NewPair, make_pair};
 pub use short_arrays::two_shorts_of;
 pub use transient_events::allow_making;
