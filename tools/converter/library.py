@@ -39,16 +39,16 @@ class ClassInfo:
 
 
 class Classes:
-    """All classes that a package can name. `extended` are the names of those that an extended platform table can have."""
+    """All classes that a package can name. `extended` has, by its name, for each that an extended platform table can have the table with it."""
 
-    def __init__(self, packages, extended=()):
-        self.packages, self.extended = list(packages), extended
+    def __init__(self, packages, extended=None):
+        self.packages, self.extended = list(packages), extended or {}
         self.known = {name: info for package in self.packages for name, info in package.classes.items()}
 
     def find(self, name, where):
         info = self.known.get(name)
         if info is None:
-            raise Refusal(f"{where}: {unknown_class(name, name in self.extended)}")
+            raise Refusal(f"{where}: {unknown_class(name, self.extended.get(name))}")
         return info
 
     def above(self, info):

@@ -3,7 +3,7 @@ from dataclasses import dataclass, field
 
 from .class_file import NATIVE, SYNCHRONIZED
 from .library import OBJECT, Classes, ClassInfo, PackageInfo
-from .platform import extended_classes, is_extended
+from .platform import table_with, tables_of_classes
 from .refusal import Reasons, Refusal, class_name, fault_of_type, is_reference, lacking, method_name, types_of
 from .statics import StaticImage
 from .translation import Translation
@@ -36,7 +36,7 @@ class Package:
     def __init__(self, request, files, imported, style):
         self.request, self.files, self.style = request, files, style
         self.info = PackageInfo(request.name, request.aid, request.version)
-        self.classes = Classes(imported, extended_classes().known)
+        self.classes = Classes(imported, tables_of_classes())
         self.imports = []  # packages in the order of their tokens
         self.entries = {}  # of the constant pool, in the order in which they are met
         self.missing = {}  # the abstract methods that a class has of its interfaces without a declaration
@@ -279,7 +279,7 @@ class Package:
                     return self.entry(STATIC_METHOD, OWN, each.name, name, descriptor)
             elif (name, descriptor) in each.static_methods:
                 return self.entry(STATIC_METHOD, self.reference(each, where), each.static_methods[name, descriptor])
-        raise Refusal(f"{where}: {lacking(owner, name, descriptor, is_extended(owner, (name, descriptor)))}")
+        raise Refusal(f"{where}: {lacking(owner, name, descriptor, table_with(owner, (name, descriptor)))}")
 
     def private_method_entry(self, owner, name, descriptor):
         """Of a private method of the package; None where the method is another one."""
@@ -306,7 +306,7 @@ class Package:
         found, token = self.lookup(info, (name, descriptor), "package_methods")
         if found is not None and self.is_own(found):
             return token | OF_PACKAGE
-        raise Refusal(f"{where}: {lacking(info.name, name, descriptor, is_extended(info.name, (name, descriptor)))}")
+        raise Refusal(f"{where}: {lacking(info.name, name, descriptor, table_with(info.name, (name, descriptor)))}")
 
     def virtual_method_entry(self, owner, name, descriptor, where):
         info = self.classes.find(OBJECT if owner[0] == "[" else owner, where)
@@ -316,5 +316,5 @@ class Package:
         info = self.classes.find(owner, where)
         token = info.interface_methods.get((name, descriptor))
         if token is None:
-            raise Refusal(f"{where}: {lacking(owner, name, descriptor, is_extended(owner, (name, descriptor)))}")
+            raise Refusal(f"{where}: {lacking(owner, name, descriptor, table_with(owner, (name, descriptor)))}")
         return self.entry(CLASS, self.reference(info, where)), token

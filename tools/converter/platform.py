@@ -14,7 +14,8 @@ HERE = os.path.dirname(os.path.realpath(__file__))
 STUBS = os.path.join(HERE, "stubs")
 ABSENT = os.path.join(HERE, "absent")  # stubs of classes that no card has
 NEEDED = os.path.join(HERE, "../../examples/platform.table")  # has the names that each table has
-ALLOWED = os.path.join(HERE, "../../examples/extended.table")  # has all names that an extended table may have
+USUAL = os.path.join(HERE, "../../examples/extended.table")  # has the names that the usual card has
+ALLOWED = os.path.join(HERE, "../../examples/all.table")  # has all names that an extended table may have
 EXTENDED = "extended"  # the first line of such a table
 RANDOM = "random"  # the first word of a line of such a table: the bytes of which random data are made
 RANDOM_DIGITS = re.compile("[0-9A-Fa-f]{64}")
@@ -22,7 +23,11 @@ LONGEST_TABLE = 16384  # bytes
 LARGEST_NUMBER, LARGEST_VIRTUAL = 255, 127
 NAMES = {"A0000000620001": LANG, "A0000000620101": FRAMEWORK, "A0000000620209": APDU, "A0000000620102": SECURITY, "A0000000620201": CRYPTO}
 OPTIONAL = (APDU, SECURITY, CRYPTO)  # packages that an extended table may have
-OWN = ("KeyObject", "DESKeyObject", "AESKeyObject", "HMACKeyObject")  # classes of the card that no kit exports: those of its keys
+# Classes of the card that no kit exports: those of its keys.
+OWN = (
+    "KeyObject", "DESKeyObject", "AESKeyObject", "HMACKeyObject", "RSAKeyObject", "RSAPublicKeyObject", "RSAPrivateKeyObject", "RSAPrivateCrtKeyObject",
+    "ECKeyObject", "ECPublicKeyObject", "ECPrivateKeyObject",
+)
 # The classes of java.lang that stand above others than RuntimeException.
 ABOVE = {
     "Object": None, "Throwable": "Object", "Exception": "Throwable", "RuntimeException": "Exception",
@@ -38,9 +43,11 @@ ALIASES = {
     ("Cipher", "initWithVector"): ("init", "(Ljavacard/security/Key;B[BSS)V"),
     ("Signature", "getInstanceOfDigestCipherAndPadding"): ("getInstance", "(BBBZ)Ljavacard/security/Signature;"),
     ("Signature", "initWithVector"): ("init", "(Ljavacard/security/Key;B[BSS)V"),
+    ("KeyPair", "<init>OfKeys"): ("<init>", "(Ljavacard/security/PublicKey;Ljavacard/security/PrivateKey;)V"),
+    **{(owner, "setFieldF2MOfThree"): ("setFieldF2M", "(SSS)V") for owner in ("ECKey", "ECPublicKey", "ECPrivateKey", "ECKeyObject")},
 }
 LETTERS = {"void": "V", "byte": "B", "short": "S", "boolean": "Z"}
-CLASS = re.compile(r"public (?:final |abstract )*(class|interface) (\w+)(?: extends (\w+))?(?: implements (\w+))? \{")
+CLASS = re.compile(r"public (?:final |abstract )*(class|interface) (\w+)(?: extends ([\w, ]+?))?(?: implements (\w+))? \{")
 METHOD = re.compile(r"^    ((?:public |protected |private |static |final |abstract )*)(?:([\w\[\]]+) )?(\w+)\(([^)]*)\)[^;{]*[;{]", re.M)
 
 
@@ -72,7 +79,7 @@ class Stub:
         kind, self.word, above, interface = CLASS.search(text).groups()
         self.is_interface = kind == "interface"
         self.superclass = None if self.is_interface else name_of(above or "Object")
-        self.interfaces = [name_of(word) for word in ((above if self.is_interface else interface),) if word]
+        self.interfaces = [name_of(word) for word in ((above if self.is_interface else interface) or "").split(", ") if word]
         self.methods = []  # keys, and whether the method is static
         for modifiers, result, name, parameters in METHOD.findall(text):
             if not self.is_interface and "public" not in modifiers and "protected" not in modifiers:
@@ -244,14 +251,29 @@ def read_table(path):
 
 
 @functools.cache
-def extended_classes():
-    """All classes and methods that an extended platform table can have."""
-    return Classes(read_table(ALLOWED))
+def classes_of(path):
+    """All classes and methods of a platform table."""
+    return Classes(read_table(path))
 
 
-def is_extended(owner, key):
-    """Whether an extended platform table can have a method, by its name and its descriptor. A constructor is not inherited."""
-    info = extended_classes().known.get(owner)
+@functools.cache
+def tables_of_classes():
+    """By each class that an extended platform table can have: the first example table that has it."""
+    return {name: shown(path) for path in (ALLOWED, USUAL) for name in classes_of(path).known}
+
+
+def shown(path):
+    return f"examples/{os.path.basename(path)}"
+
+
+def table_with(owner, key):
+    """The first example table, of those that are extended, that has a method, by its name and its descriptor; None where none has it."""
+    return next((shown(path) for path in (USUAL, ALLOWED) if has_method(classes_of(path), owner, key)), None)
+
+
+def has_method(classes, owner, key):
+    """Whether one of some classes has a method. A constructor is not inherited."""
+    info = classes.known.get(owner)
     return info is not None and any(
-        key in methods for each in ([info] if key[0] == "<init>" else extended_classes().chain(info))
+        key in methods for each in ([info] if key[0] == "<init>" else classes.chain(info))
         for methods in (each.static_methods, each.virtual_methods, each.interface_methods))

@@ -4,7 +4,6 @@ PRIMITIVE = {"B": "byte", "S": "short", "Z": "boolean", "V": "void", "I": "int",
 CARD_TYPES = ("B", "S", "Z")
 OF_API = ("java/", "javacard/", "javacardx/")
 CRYPTOGRAPHY = ("javacard/security/", "javacardx/crypto/", "javacardx/security/")
-EXTENDED_TABLE = "examples/extended.table"
 
 
 class Refusal(Exception):
@@ -71,20 +70,20 @@ def method_name(owner, name, descriptor):
     return f"{called}({parameters})"
 
 
-def lacking(owner, name, descriptor, is_extended=False):
-    """That the card has no such method, and where those of the API are listed. An extended one stands in an extended table."""
-    if is_extended:
-        listed = f" of this platform table; {EXTENDED_TABLE} has it"
+def lacking(owner, name, descriptor, table=None):
+    """That the card has no such method, and the example table that has it, or where those of the API are listed."""
+    if table:
+        listed = f" of this platform table; {table} has it"
     else:
         listed = " (docs/api.table lists what can be)" if owner.startswith(OF_API) else ""
     return f"{method_name(owner, name, descriptor)} is not on the card{listed}"
 
 
-def unknown_class(name, is_extended=False):
-    """That no package has the class. An extended one stands in an extended table."""
+def unknown_class(name, table=None):
+    """That no package has the class, and the example table that has it."""
     called = f"class {class_name(name)}"
-    if is_extended:
-        return f"{called} is not on the card of this platform table; {EXTENDED_TABLE} has it"
+    if table:
+        return f"{called} is not on the card of this platform table; {table} has it"
     if name.startswith(CRYPTOGRAPHY):
         return f"{called} is not on the card (docs/api.table lists what can be)"
     return f"{called} is neither on the card nor in an export file"

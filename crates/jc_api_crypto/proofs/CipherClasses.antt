@@ -16,9 +16,9 @@ use Rattle.jc_api.proofs.Stretches.{both_ok}
 use Rattle.jc_api_crypto.specs.Cipher.{cipher_get_instance, cipher_get_instance_of_cipher_and_padding, cipher_init, cipher_init_with_vector, cipher_requirements, new_cipher}
 use Rattle.jc_api_crypto.specs.CipherAlgorithms.{algorithm_number, cipher_named, cipher_of_numbers}
 use Rattle.jc_api_crypto.specs.Initialized.{engine_of, initializes, key_init, taken_key, taken_mode, taken_vector, vector_init}
-use Rattle.jc_api_crypto.specs.KeyObjects.Contents.{key_elements}
-use Rattle.jc_api_crypto.specs.Receivers.{named_or_throw}
-use Rattle.jc_api_crypto.specs.Shorts.{first_shorts}
+use Rattle.jc_api_keys.specs.KeyObjects.Contents.{key_elements}
+use Rattle.jc_api_keys.specs.Receivers.{named_or_throw}
+use Rattle.jc_api_keys.specs.Shorts.{first_shorts}
 use Rattle.jc_api_crypto.specs.declared.initialized.KeyedEngine.{KeyedEngine}
 use Rattle.jc_api_crypto.specs.declared.initialized.Requirements.{Requirements}
 

@@ -15,10 +15,10 @@ use Rattle.jc_api.specs.declared.factory.StateKind.TheVariants.{Shorts}
 use Rattle.jc_api.proofs.Reaching.{err_not_ok, same_Ok}
 use Rattle.jc_api.proofs.Stretches.{both_ok}
 use Rattle.jc_api_crypto.specs.Checksum.{checksum_get_instance, checksum_named}
-use Rattle.jc_api_crypto.specs.Exceptions.{no_such_algorithm}
+use Rattle.jc_api_keys.specs.Exceptions.{no_such_algorithm}
 use Rattle.jc_api_crypto.specs.MessageDigest.{hash_named, message_digest_get_initialized_message_digest_instance, message_digest_get_instance, new_digest}
 use Rattle.jc_api_crypto.specs.RandomData.{is_random_algorithm, random_data_get_instance, random_shorts}
-use Rattle.jc_api_crypto.specs.Receivers.{named_or_throw}
+use Rattle.jc_api_keys.specs.Receivers.{named_or_throw}
 
 pub digests_have_state : HasState class.MessageDigest
 unfolding is_interface cells_of holds_reference classes

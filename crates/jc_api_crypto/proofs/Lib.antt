@@ -6,9 +6,8 @@ pub mod HmacWhole
 mod Counts
 pub mod Classes
 pub mod EngineCalls
-pub mod KeyClasses
-pub mod KeyCalls
 mod Released
 pub mod CipherClasses
 pub mod SignatureClasses
 pub mod CipherCalls
+pub mod NotOfferedCalls

@@ -14,9 +14,9 @@ use Rattle.jc_api.specs.declared.factory.NewEngine.{NewEngine}
 use Rattle.jc_api.proofs.Reaching.{same_Ok}
 use Rattle.jc_api.proofs.Stretches.{both_ok}
 use Rattle.jc_api_crypto.specs.Initialized.{engine_of, initializes, key_init, taken_key, taken_mode, taken_vector, vector_init}
-use Rattle.jc_api_crypto.specs.KeyObjects.Contents.{key_elements}
-use Rattle.jc_api_crypto.specs.Receivers.{named_or_throw}
-use Rattle.jc_api_crypto.specs.Shorts.{first_shorts}
+use Rattle.jc_api_keys.specs.KeyObjects.Contents.{key_elements}
+use Rattle.jc_api_keys.specs.Receivers.{named_or_throw}
+use Rattle.jc_api_keys.specs.Shorts.{first_shorts}
 use Rattle.jc_api_crypto.specs.Signature.{key_of_length, new_signature, signature_get_instance, signature_get_instance_of_digest_cipher_and_padding}
 use Rattle.jc_api_crypto.specs.Signature.{signature_init, signature_init_with_vector, signature_of_one, signature_requirements}
 use Rattle.jc_api_crypto.specs.SignatureAlgorithms.{signature_named, signature_of_numbers}

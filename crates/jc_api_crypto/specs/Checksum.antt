@@ -19,13 +19,13 @@ use Rattle.jc_api.specs.Changing.{EngineAnswer, IsState, changes, changes_and_pu
 use Rattle.jc_api.specs.Forms.{CallAnswer, tells}
 use Rattle.jc_api.specs.declared.factory.NewEngine.{NewEngine}
 use Rattle.jc_api.specs.declared.factory.StateKind.TheVariants.{Shorts}
-use Rattle.jc_api_crypto.specs.Exceptions.{illegal_value}
-use Rattle.jc_api_crypto.specs.Receivers.{named_or_throw, output_of, receiver_of}
-use Rattle.jc_api_crypto.specs.Shorts.{bytes_of_shorts, first_shorts}
+use Rattle.jc_api_keys.specs.Exceptions.{illegal_value}
+use Rattle.jc_api_keys.specs.Receivers.{named_or_throw, output_of, receiver_of}
+use Rattle.jc_api_keys.specs.Shorts.{bytes_of_shorts, first_shorts}
 use Rattle.jc_api_crypto.specs.declared.checksum.ChecksumAlgorithm.{ChecksumAlgorithm}
 use Rattle.jc_api_crypto.specs.declared.checksum.ChecksumAlgorithm.TheVariants.{Crc16, Crc32}
 use Rattle.jc_api_crypto.specs.declared.checksum.RunningChecksum.{RunningChecksum}
-use Rattle.jc_api_crypto.specs.declared.receivers.Receiver.{Receiver}
+use Rattle.jc_api_keys.specs.declared.receivers.Receiver.{Receiver}
 
 -- the checksum of a number: ISO3309_CRC16, ISO3309_CRC32
 abbrev pub checksum_named : ℤ → Option ChecksumAlgorithm

@@ -29,16 +29,16 @@ use Rattle.jc_api.specs.Initializing.{FieldsAnswer}
 use Rattle.jc_api.specs.declared.factory.NewEngine.{NewEngine}
 use Rattle.jc_api.specs.declared.factory.StateKind.TheVariants.{Shorts}
 use Rattle.jc_api_crypto.specs.CipherAlgorithms.{algorithm_number, cipher_named, cipher_number, cipher_of_numbers, padding_number}
-use Rattle.jc_api_crypto.specs.Exceptions.{illegal_use, invalid_init}
+use Rattle.jc_api_keys.specs.Exceptions.{illegal_use, invalid_init}
 use Rattle.jc_api_crypto.specs.Initialized.{engine_of, kept_key, key_init, keyed_cells, vector_at, vector_init}
-use Rattle.jc_api_crypto.specs.Receivers.{bytes_of_state, named_or_throw, output_for}
-use Rattle.jc_api_crypto.specs.Shorts.{shorts_of}
+use Rattle.jc_api_keys.specs.Receivers.{bytes_of_state, named_or_throw, output_for}
+use Rattle.jc_api_keys.specs.Shorts.{shorts_of}
 use Rattle.jc_api_crypto.specs.declared.cipher.RunningCipher.{RunningCipher}
 use Rattle.jc_api_crypto.specs.declared.cipher.algorithms.CipherAlgorithm.{CipherAlgorithm}
 use Rattle.jc_api_crypto.specs.declared.initialized.KeyedEngine.{KeyedEngine}
 use Rattle.jc_api_crypto.specs.declared.initialized.Requirements.{Requirements}
-use Rattle.jc_api_crypto.specs.declared.key_builder.KeyAlgorithm.{KeyAlgorithm}
-use Rattle.jc_api_crypto.specs.declared.key_builder.KeyAlgorithm.TheVariants as keys
+use Rattle.jc_api_keys.specs.declared.key_types.KeyAlgorithm.{KeyAlgorithm}
+use Rattle.jc_api_keys.specs.declared.key_types.KeyAlgorithm.TheVariants as keys
 
 -- ---- the objects
 

@@ -22,17 +22,19 @@ use Rattle.jc_api.specs.Arguments.{counted_of}
 use Rattle.jc_api.specs.Initializing.{FieldsAnswer, sets_fields}
 use Rattle.jc_api.specs.declared.initializing.FieldValue.{FieldValue}
 use Rattle.jc_api.specs.declared.initializing.FieldValue.TheVariants.{Argument, Word}
-use Rattle.jc_api_crypto.specs.Exceptions.{illegal_value}
-use Rattle.jc_api_crypto.specs.KeyBuilder.{key_type_named}
-use Rattle.jc_api_crypto.specs.KeyObjects.Arguments.{key_argument, key_at}
-use Rattle.jc_api_crypto.specs.KeyObjects.Contents.{key_elements}
-use Rattle.jc_api_crypto.specs.Shorts.{bytes_of_shorts, first_shorts}
+use Rattle.jc_api_keys.specs.Exceptions.{illegal_value}
+use Rattle.jc_api_keys.specs.KeyTypes.{key_type_named}
+use Rattle.jc_api_keys.specs.KeyObjects.Arguments.{key_argument, key_at}
+use Rattle.jc_api_keys.specs.KeyObjects.Contents.{key_elements}
+use Rattle.jc_api_keys.specs.Shorts.{bytes_of_shorts, first_shorts}
 use Rattle.jc_api_crypto.specs.declared.initialized.KeyedEngine.{KeyedEngine}
 use Rattle.jc_api_crypto.specs.declared.initialized.Requirements.{Requirements}
-use Rattle.jc_api_crypto.specs.declared.key_builder.KeyAlgorithm.{KeyAlgorithm}
-use Rattle.jc_api_crypto.specs.declared.key_builder.KeyAlgorithm.TheVariants.{Aes, Des, Hmac}
-use Rattle.jc_api_crypto.specs.declared.key_builder.KeyType.{KeyType}
-use Rattle.jc_api_crypto.specs.declared.key_objects.contents.Key.{Key}
+use Rattle.jc_api_keys.specs.declared.key_types.KeyAlgorithm.{KeyAlgorithm}
+use Rattle.jc_api_keys.specs.declared.key_types.KeyAlgorithm.TheVariants.{Aes, Des, Hmac}
+use Rattle.jc_api_keys.specs.declared.key_types.KeyKind.{KeyKind}
+use Rattle.jc_api_keys.specs.declared.key_types.KeyKind.TheVariants.{Secret, OfPair}
+use Rattle.jc_api_keys.specs.declared.key_types.KeyType.{KeyType}
+use Rattle.jc_api_keys.specs.declared.key_objects.contents.Key.{Key}
 
 -- ---- their cells: the number of the algorithm, the array of the state, the key, the mode, and the vector, two bytes in a cell
 
@@ -81,9 +83,13 @@ is_for Hmac Des = false
 is_for Hmac Aes = false
 is_for Hmac Hmac = true
 
+abbrev pub takes_kind : KeyAlgorithm → KeyKind → Bool
+takes_kind a (Secret b) = is_for a b
+takes_kind a (OfPair k) = false
+
 abbrev pub takes_type : KeyAlgorithm → Option KeyType → Bool
 takes_type a None = false
-takes_type a (Some t) = is_for a t.algorithm
+takes_type a (Some t) = takes_kind a t.kind
 
 -- MODE_DECRYPT and MODE_ENCRYPT, MODE_SIGN and MODE_VERIFY
 abbrev pub is_mode : ℤ → Bool

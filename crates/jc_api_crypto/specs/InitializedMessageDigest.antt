@@ -16,9 +16,9 @@ use Rattle.jc_world.specs.Arrays.{bytes_in}
 use Rattle.jc_world.specs.declared.arrays.Stretch.{Stretch}
 use Rattle.jc_api.specs.Arguments.{counted_of}
 use Rattle.jc_api.specs.Changing.{EngineAnswer}
-use Rattle.jc_api_crypto.specs.Exceptions.{illegal_value}
+use Rattle.jc_api_keys.specs.Exceptions.{illegal_value}
 use Rattle.jc_api_crypto.specs.MessageDigest.{running_digest, sets_state}
-use Rattle.jc_api_crypto.specs.Shorts.{shorts_of}
+use Rattle.jc_api_keys.specs.Shorts.{shorts_of}
 use Rattle.jc_api_crypto.specs.declared.message_digest.RunningDigest.{RunningDigest}
 
 -- the number that the first n bytes are, the high one first

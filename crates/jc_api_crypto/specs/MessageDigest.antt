@@ -20,10 +20,10 @@ use Rattle.jc_api.specs.Changing.{EngineAnswer, IsState, changes, changes_and_pu
 use Rattle.jc_api.specs.Forms.{CallAnswer, tells}
 use Rattle.jc_api.specs.declared.factory.NewEngine.{NewEngine}
 use Rattle.jc_api.specs.declared.factory.StateKind.TheVariants.{Shorts}
-use Rattle.jc_api_crypto.specs.Receivers.{bytes_of_state, named_or_throw, output_of, receiver_of}
-use Rattle.jc_api_crypto.specs.Shorts.{shorts_of}
+use Rattle.jc_api_keys.specs.Receivers.{bytes_of_state, named_or_throw, output_of, receiver_of}
+use Rattle.jc_api_keys.specs.Shorts.{shorts_of}
 use Rattle.jc_api_crypto.specs.declared.message_digest.RunningDigest.{RunningDigest}
-use Rattle.jc_api_crypto.specs.declared.receivers.Receiver.{Receiver}
+use Rattle.jc_api_keys.specs.declared.receivers.Receiver.{Receiver}
 
 -- the hash function of a number: SHA, MD5, SHA_256, SHA_384, SHA_512, SHA_224
 abbrev pub hash_named : ℤ → Option HashAlgorithm

@@ -20,9 +20,9 @@ use Rattle.jc_api.specs.Changing.{EngineAnswer, IsState, changes, changes_and_pu
 use Rattle.jc_api.specs.Forms.{CallAnswer, tells}
 use Rattle.jc_api.specs.declared.factory.NewEngine.{NewEngine}
 use Rattle.jc_api.specs.declared.factory.StateKind.TheVariants.{Shorts}
-use Rattle.jc_api_crypto.specs.Exceptions.{illegal_value, no_such_algorithm}
-use Rattle.jc_api_crypto.specs.Receivers.{receiver_of}
-use Rattle.jc_api_crypto.specs.Shorts.{bytes_of_shorts, first_shorts}
+use Rattle.jc_api_keys.specs.Exceptions.{illegal_value, no_such_algorithm}
+use Rattle.jc_api_keys.specs.Receivers.{receiver_of}
+use Rattle.jc_api_keys.specs.Shorts.{bytes_of_shorts, first_shorts}
 use Rattle.jc_api_crypto.specs.declared.random_data.RunningRandom.{RunningRandom}
 use Rattle.jc_api_crypto.specs.declared.random_data.source.Source.{Source}
 

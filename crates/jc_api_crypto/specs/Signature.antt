@@ -30,19 +30,19 @@ use Rattle.jc_api.specs.Initializing.{FieldsAnswer}
 use Rattle.jc_api.specs.declared.factory.NewEngine.{NewEngine}
 use Rattle.jc_api.specs.declared.factory.StateKind.TheVariants.{Shorts}
 use Rattle.jc_api_crypto.specs.Cipher.{has_key_length, keys_of}
-use Rattle.jc_api_crypto.specs.Exceptions.{illegal_use, illegal_value, invalid_init}
+use Rattle.jc_api_keys.specs.Exceptions.{illegal_use, illegal_value, invalid_init}
 use Rattle.jc_api_crypto.specs.Initialized.{engine_of, is_mode, kept_key, key_init, keyed_cells, vector_at, vector_init}
-use Rattle.jc_api_crypto.specs.KeyObjects.Arguments.{key_argument}
-use Rattle.jc_api_crypto.specs.KeyObjects.Contents.{capacity, most_key}
-use Rattle.jc_api_crypto.specs.Receivers.{bytes_of_state, named_or_throw, output_of}
-use Rattle.jc_api_crypto.specs.Shorts.{shorts_of}
+use Rattle.jc_api_keys.specs.KeyObjects.Arguments.{key_argument}
+use Rattle.jc_api_keys.specs.KeyObjects.Contents.{capacity, most_key}
+use Rattle.jc_api_keys.specs.Receivers.{bytes_of_state, named_or_throw, output_of}
+use Rattle.jc_api_keys.specs.Shorts.{shorts_of}
 use Rattle.jc_api_crypto.specs.SignatureAlgorithms.{code_size, digest_number, signature_cipher_number, signature_named, signature_of_numbers}
 use Rattle.jc_api_crypto.specs.SignatureAlgorithms.{signature_padding_number, signature_size}
 use Rattle.jc_api_crypto.specs.declared.initialized.KeyedEngine.{KeyedEngine}
 use Rattle.jc_api_crypto.specs.declared.initialized.Requirements.{Requirements}
-use Rattle.jc_api_crypto.specs.declared.key_builder.KeyAlgorithm.{KeyAlgorithm}
-use Rattle.jc_api_crypto.specs.declared.key_builder.KeyAlgorithm.TheVariants as keys
-use Rattle.jc_api_crypto.specs.declared.key_objects.contents.Key.{Key}
+use Rattle.jc_api_keys.specs.declared.key_types.KeyAlgorithm.{KeyAlgorithm}
+use Rattle.jc_api_keys.specs.declared.key_types.KeyAlgorithm.TheVariants as keys
+use Rattle.jc_api_keys.specs.declared.key_objects.contents.Key.{Key}
 use Rattle.jc_api_crypto.specs.declared.signature.Purpose.{Purpose}
 use Rattle.jc_api_crypto.specs.declared.signature.Purpose.TheVariants.{Either, Signing, Verifying}
 use Rattle.jc_api_crypto.specs.declared.signature.RunningSignature.{RunningSignature}

@@ -12,9 +12,9 @@ ghost use Rattle.jc_api.specs.Forms.{reading_call};
 ghost use Rattle.jc_api_crypto.specs.Checksum.{IsRunning, checksum_do_final, checksum_get_algorithm, checksum_get_instance, checksum_init, checksum_named, checksum_shorts, checksum_update, running_checksum};
 
 use crate::checksum::state::{begin, finish, update};
-use crate::exceptions::NO_SUCH_ALGORITHM;
-use crate::receivers::{output_of, receiver_of};
 use jc_api::{NewEngine, StateKind, counted_of, make_engine, state_at};
+use jc_api_keys::exceptions::NO_SUCH_ALGORITHM;
+use jc_api_keys::receivers::{output_of, receiver_of};
 use jc_frames::{Cell, FrameExit, Outcome};
 use jc_linker::linked::Linked;
 use jc_memory::Memory;

@@ -19,13 +19,13 @@ ghost use Rattle.jc_api_crypto.specs.Cipher.{IsRunning, cipher_do_final, cipher_
 
 use crate::cipher::algorithms::{CipherAlgorithm, cipher_named, cipher_of_numbers};
 use crate::cipher::state::{end, go_on};
-use crate::exceptions::{INVALID_INIT, NO_SUCH_ALGORITHM};
 use crate::initialized::{
     KeyedEngine, MOST_VECTOR, Requirements, check, engine_of, init, init_with_vector, kept_key,
 };
-use crate::key_builder::KeyAlgorithm;
 use crate::message_digest::state::MOST_SHORTS;
 use jc_api::{NewEngine, StateKind, counted_of, make_engine, state_at};
+use jc_api_keys::exceptions::{INVALID_INIT, NO_SUCH_ALGORITHM};
+use jc_api_keys::key_types::KeyAlgorithm;
 use jc_frames::{Cell, FrameExit, Outcome};
 use jc_linker::linked::Linked;
 use jc_memory::Memory;

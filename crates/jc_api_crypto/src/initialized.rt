@@ -9,18 +9,18 @@ ghost use Rattle.jc_api.specs.declared.initializing.FieldValue.TheVariants.{Argu
 ghost use Rattle.jc_world.specs.Arrays.{IsInArray, bytes_in};
 ghost use Rattle.jc_world.specs.Instances.{IsInstanceWith, instance_at};
 ghost use Rattle.jc_api.specs.Exits.{plainly};
-ghost use Rattle.jc_api_crypto.specs.Initialized.{engine_of, initializes, is_for, is_mode, kept_key, key_init, keyed_cells, taken_key, taken_mode, taken_vector, takes_type, takes_vector, values_given, vector_at, vector_init, vector_words};
-ghost use Rattle.jc_api_crypto.specs.KeyBuilder.{key_type_named};
-ghost use Rattle.jc_api_crypto.specs.KeyObjects.Contents.{IsKey};
+ghost use Rattle.jc_api_crypto.specs.Initialized.{engine_of, initializes, is_for, is_mode, kept_key, key_init, keyed_cells, taken_key, taken_mode, taken_vector, takes_kind, takes_type, takes_vector, values_given, vector_at, vector_init, vector_words};
+ghost use Rattle.jc_api_keys.specs.KeyTypes.{key_type_named};
+ghost use Rattle.jc_api_keys.specs.KeyObjects.Contents.{IsKey};
 
-use crate::exceptions::ILLEGAL_VALUE;
-use crate::key_builder::{KeyAlgorithm, key_type_named};
-use crate::key_objects::arguments::{key_argument, key_at};
-use crate::key_objects::contents::{Key, MOST_KEY, key_elements};
 use crate::message_digest::state::MOST_SHORTS;
-use crate::receivers::read;
-use crate::shorts::{put_bytes_of, put_shorts_of};
 use jc_api::{FieldValue, MOST_FIELDS, counted_of, initialize};
+use jc_api_keys::exceptions::ILLEGAL_VALUE;
+use jc_api_keys::key_objects::arguments::{key_argument, key_at};
+use jc_api_keys::key_objects::contents::{Key, MOST_KEY, key_elements};
+use jc_api_keys::key_types::{KeyAlgorithm, KeyKind, key_type_named};
+use jc_api_keys::receivers::read;
+use jc_api_keys::shorts::{put_bytes_of, put_shorts_of};
 use jc_frames::{Cell, FrameExit, Outcome};
 use jc_heap::Facts;
 use jc_linker::linked::Linked;
@@ -136,12 +136,22 @@ fn is_for(algorithm: KeyAlgorithm, other: KeyAlgorithm) -> bool
     }
 }
 
+// Keys are secret ones for an algorithm.
+fn takes_kind(algorithm: KeyAlgorithm, kind: KeyKind) -> bool
+    ensures { result ≡ takes_kind algorithm kind }
+{
+    match kind {
+        KeyKind::Secret(other) => is_for(algorithm, other),
+        KeyKind::OfPair(_) => false,
+    }
+}
+
 // It is the number of a type of such keys.
 fn takes_type(algorithm: KeyAlgorithm, number: i16) -> bool
     ensures { result ≡ takes_type algorithm (key_type_named number) }
 {
     match key_type_named(number) {
-        Some(key_type) => is_for(algorithm, key_type.algorithm),
+        Some(named) => takes_kind(algorithm, named.kind),
         None => false,
     }
 }

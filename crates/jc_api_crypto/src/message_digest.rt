@@ -13,10 +13,10 @@ ghost use Rattle.jc_api.specs.Factory.{factory_call};
 ghost use Rattle.jc_api.specs.Forms.{reading_call};
 ghost use Rattle.jc_api_crypto.specs.MessageDigest.{IsRunning, digest_shorts, hash_named, message_digest_do_final, message_digest_get_algorithm, message_digest_get_initialized_message_digest_instance, message_digest_get_instance, message_digest_get_length, message_digest_reset, message_digest_update, new_digest, running_digest};
 
-use crate::exceptions::NO_SUCH_ALGORITHM;
 use crate::message_digest::state::{finish, forget, update};
-use crate::receivers::{output_of, receiver_of};
 use jc_api::{NewEngine, StateKind, counted_of, make_engine, state_at};
+use jc_api_keys::exceptions::NO_SUCH_ALGORITHM;
+use jc_api_keys::receivers::{output_of, receiver_of};
 use jc_digests::kept::HashAlgorithm;
 use jc_frames::{Cell, FrameExit, Outcome};
 use jc_linker::linked::Linked;

@@ -14,10 +14,10 @@ ghost use Rattle.jc_api.specs.Factory.{factory_call};
 ghost use Rattle.jc_api.specs.Forms.{reading_call};
 ghost use Rattle.jc_api_crypto.specs.RandomData.{IsRunning, is_random_algorithm, random_data_generate_data, random_data_get_algorithm, random_data_get_instance, random_data_next_bytes, random_data_set_seed, running_random};
 
-use crate::exceptions::NO_SUCH_ALGORITHM;
 use crate::random_data::state::{draw, mix};
-use crate::receivers::receiver_of;
 use jc_api::{NewEngine, StateKind, counted_of, make_engine, state_at};
+use jc_api_keys::exceptions::NO_SUCH_ALGORITHM;
+use jc_api_keys::receivers::receiver_of;
 use jc_frames::{Cell, FrameExit};
 use jc_linker::linked::Linked;
 use jc_memory::Memory;

@@ -15,24 +15,24 @@ ghost use Rattle.jc_api.specs.Factory.{factory_call};
 ghost use Rattle.jc_api.specs.Forms.{reading_call};
 ghost use Rattle.jc_api.specs.Initializing.{initializing_call};
 ghost use Rattle.jc_api_crypto.specs.Initialized.{keyed_cells};
-ghost use Rattle.jc_api_crypto.specs.KeyObjects.Contents.{most_key};
+ghost use Rattle.jc_api_keys.specs.KeyObjects.Contents.{most_key};
 ghost use Rattle.jc_api_crypto.specs.Signature.{FitsKey, IsRunning, allows, initialized_for, key_of_length, mac_takes_length, mac_vector, new_signature, running_in, running_signature, signature_get_algorithm, signature_get_cipher_algorithm, signature_get_instance, signature_get_instance_of_digest_cipher_and_padding, signature_get_length, signature_get_message_digest_algorithm, signature_get_padding_algorithm, signature_init, signature_init_with_vector, signature_key, signature_keys, signature_of_one, signature_requirements, signature_shorts, signature_sign, signature_update, signature_verify, taken_vector_size, takes_length, vector_size};
 ghost use Rattle.jc_modes.specs.KeptMacs.{IsMacKeyLength};
 
 use crate::cipher::{cipher_shorts, has_key_length, keys_of};
-use crate::exceptions::{ILLEGAL_VALUE, INVALID_INIT, NO_SUCH_ALGORITHM};
 use crate::initialized::{
     KeyedEngine, MOST_VECTOR, Requirements, check, engine_of, init, init_with_vector, is_mode,
     kept_key,
 };
-use crate::key_builder::KeyAlgorithm;
-use crate::key_objects::arguments::key_argument;
 use crate::message_digest::digest_shorts;
 use crate::message_digest::state::MOST_SHORTS;
-use crate::receivers::output_of;
 use crate::signature::algorithms::{SignatureAlgorithm, signature_named, signature_of_numbers};
 use crate::signature::state::{sign, update, verify};
 use jc_api::{NewEngine, StateKind, counted_of, make_engine, state_at};
+use jc_api_keys::exceptions::{ILLEGAL_VALUE, INVALID_INIT, NO_SUCH_ALGORITHM};
+use jc_api_keys::key_objects::arguments::key_argument;
+use jc_api_keys::key_types::KeyAlgorithm;
+use jc_api_keys::receivers::output_of;
 use jc_frames::{Cell, FrameExit, Outcome};
 use jc_linker::linked::Linked;
 use jc_memory::Memory;

@@ -5,11 +5,15 @@ use Rattle.jc_memory.specs.State.{MemoryState}
 use Rattle.jc_platform.specs.declared.names.PlatformMethod.{PlatformMethod}
 use Rattle.jc_platform.specs.declared.names.PlatformMethod.TheVariants.{Objects, Exceptions, Utilities, System, Aids, Pins, Applets, Apdus, Events, Engines}
 use Rattle.jc_platform.specs.declared.names.PlatformMethod.TheVariants.{Keys, KeyInterfaces, Ciphers}
+use Rattle.jc_platform.specs.declared.names.PlatformMethod.TheVariants.{RsaKeys, EcKeys, RsaInterfaces, EcInterfaces, KeyPairs}
 use Rattle.jc_linker.specs.Values.{Packages}
 use Rattle.jc_world.specs.NativeCalls.{NativeProgram, code_fault}
 use Rattle.jc_api_crypto.specs.Ciphers.{cipher_call}
 use Rattle.jc_api_crypto.specs.Engines.{engine_call}
-use Rattle.jc_api_crypto.specs.Keys.{key_call}
+use Rattle.jc_api_crypto.specs.NotOffered.{key_pair_call}
+use Rattle.jc_api_keys.specs.EcKeys.{ec_key_call}
+use Rattle.jc_api_keys.specs.Keys.{key_call}
+use Rattle.jc_api_keys.specs.RsaKeys.{rsa_key_call}
 use Rattle.jc_api_framework.specs.Aid.{aid_call}
 use Rattle.jc_api_framework.specs.Applet.{applet_call}
 use Rattle.jc_api_framework.specs.Apdu.{apdu_call}
@@ -35,3 +39,8 @@ native_call (Engines method) args p m = engine_call method args p m
 native_call (Keys method) args p m = key_call method args p m
 native_call (KeyInterfaces method) args p m = code_fault
 native_call (Ciphers method) args p m = cipher_call method args p m
+native_call (RsaKeys method) args p m = rsa_key_call method args p m
+native_call (EcKeys method) args p m = ec_key_call method args p m
+native_call (RsaInterfaces method) args p m = code_fault
+native_call (EcInterfaces method) args p m = code_fault
+native_call (KeyPairs method) args p m = key_pair_call method args p m

@@ -4,11 +4,12 @@ ghost use Rattle.jc_memory.specs.Programs.{Executes};
 ghost use Rattle.jc_world.specs.NativeCalls.{after_call};
 ghost use Rattle.jc_interp.specs.Natives.{native_call};
 
-use jc_api_crypto::{call_cipher, call_engine, call_key};
+use jc_api_crypto::{call_cipher, call_engine, call_key_pair};
 use jc_api_framework::{
     call_aid, call_apdu, call_applet, call_event, call_exception, call_object, call_pin,
     call_system, call_util,
 };
+use jc_api_keys::{call_ec_key, call_key, call_rsa_key};
 use jc_frames::{Cell, Outcome};
 use jc_linker::linked::Linked;
 use jc_memory::Memory;
@@ -43,5 +44,11 @@ pub fn call_native<S: WordStore>(
         PlatformMethod::Keys(method) => call_key(method, args, memory, linked),
         PlatformMethod::KeyInterfaces(_) => Err(StepExit::End(Outcome::Fault)),
         PlatformMethod::Ciphers(method) => call_cipher(method, args, memory, linked),
+        PlatformMethod::RsaKeys(method) => call_rsa_key(method, args, memory, linked),
+        PlatformMethod::EcKeys(method) => call_ec_key(method, args, memory, linked),
+        PlatformMethod::RsaInterfaces(_) | PlatformMethod::EcInterfaces(_) => Err(StepExit::End(
+            Outcome::Fault,
+        )),
+        PlatformMethod::KeyPairs(method) => call_key_pair(method, args, memory, linked),
     }
 }

@@ -6,10 +6,12 @@ use Rattle.jc_platform.specs.declared.names.PlatformClass.TheVariants.{Object}
 use Rattle.jc_platform.specs.declared.rows.Room.{Room}
 use Rattle.jc_platform.specs.declared.rows.Room.TheVariants.{Objects, Exceptions, Utilities, System, Aids, Pins, Applets, Apdus, Events, Engines}
 use Rattle.jc_platform.specs.declared.rows.Room.TheVariants.{Keys, KeyInterfaces, Ciphers}
+use Rattle.jc_platform.specs.declared.rows.Room.TheVariants.{RsaKeys, EcKeys, RsaInterfaces, EcInterfaces, KeyPairs}
 use Rattle.jc_platform.specs.declared.rows.Stretch.{Stretch}
 use Rattle.jc_platform.specs.declared.rows.MethodRow.{MethodRow}
 use Rattle.jc_platform.specs.Names.{objects_rows, exceptions_rows, utilities_rows, system_rows, aids_rows, pins_rows, applets_rows, apdus_rows, events_rows, engines_rows}
 use Rattle.jc_platform.specs.Names.{keys_rows, key_interfaces_rows, ciphers_rows}
+use Rattle.jc_platform.specs.Names.{rsa_keys_rows, ec_keys_rows, rsa_interfaces_rows, ec_interfaces_rows, key_pairs_rows}
 use Rattle.jc_platform.specs.Numbers.{class_number}
 use Rattle.jc_platform.specs.Rooms.{rows_of}
 use Rattle.jc_platform.specs.Rows.{methods_of}
@@ -76,6 +78,23 @@ stretches =
     stretch Objects 0 0 ∷
     stretch Keys 7 8 ∷
     stretch Ciphers 9 21 ∷
+    stretch RsaInterfaces 0 4 ∷
+    stretch RsaInterfaces 4 8 ∷
+    stretch RsaInterfaces 8 16 ∷
+    stretch RsaInterfaces 16 24 ∷
+    stretch RsaInterfaces 24 38 ∷
+    stretch EcInterfaces 0 15 ∷
+    stretch EcInterfaces 15 36 ∷
+    stretch EcInterfaces 36 57 ∷
+    stretch KeyPairs 0 5 ∷
+    stretch KeyPairs 5 9 ∷
+    stretch RsaKeys 0 4 ∷
+    stretch Objects 0 0 ∷
+    stretch Objects 0 0 ∷
+    stretch RsaKeys 4 14 ∷
+    stretch EcKeys 0 15 ∷
+    stretch EcKeys 15 17 ∷
+    stretch EcKeys 17 19 ∷
     stretch Ciphers 0 9 ∷
     []
 
@@ -83,13 +102,13 @@ abbrev pub stretch_of : ℕ → Stretch
 stretch_of n = get_or stretches n (stretch Objects 0 0)
 
 pub ends_within : (c : PlatformClass) → (stretch_of (class_number c)).end ≤ length (rows_of (stretch_of (class_number c)).room)
-unfolding objects_rows exceptions_rows utilities_rows system_rows aids_rows pins_rows applets_rows apdus_rows events_rows engines_rows keys_rows key_interfaces_rows ciphers_rows
+unfolding objects_rows exceptions_rows utilities_rows system_rows aids_rows pins_rows applets_rows apdus_rows events_rows engines_rows keys_rows key_interfaces_rows ciphers_rows rsa_keys_rows ec_keys_rows rsa_interfaces_rows ec_interfaces_rows key_pairs_rows
 ends_within Object = lit≤ tt
 ends_within _ = lit≤ tt
 
 stand_together : (c : PlatformClass) → take ((stretch_of (class_number c)).end - (stretch_of (class_number c)).first)
     (drop (stretch_of (class_number c)).first (rows_of (stretch_of (class_number c)).room)) ≡ methods_of c
-unfolding objects_rows exceptions_rows utilities_rows system_rows aids_rows pins_rows applets_rows apdus_rows events_rows engines_rows keys_rows key_interfaces_rows ciphers_rows
+unfolding objects_rows exceptions_rows utilities_rows system_rows aids_rows pins_rows applets_rows apdus_rows events_rows engines_rows keys_rows key_interfaces_rows ciphers_rows rsa_keys_rows ec_keys_rows rsa_interfaces_rows ec_interfaces_rows key_pairs_rows
 stand_together Object = refl
 stand_together _ = refl
 

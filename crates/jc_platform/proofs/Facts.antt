@@ -12,6 +12,7 @@ use Rattle.jc_platform.specs.declared.names.MethodKind.TheVariants.{Static, Virt
 use Rattle.jc_platform.specs.declared.names.PlatformMethod.{PlatformMethod}
 use Rattle.jc_platform.specs.declared.names.PlatformMethod.TheVariants.{Objects, Exceptions, Utilities, System, Aids, Pins, Applets, Apdus, Events, Engines}
 use Rattle.jc_platform.specs.declared.names.PlatformMethod.TheVariants.{Keys, KeyInterfaces, Ciphers}
+use Rattle.jc_platform.specs.declared.names.PlatformMethod.TheVariants.{RsaKeys, EcKeys, RsaInterfaces, EcInterfaces, KeyPairs}
 use Rattle.jc_platform.specs.declared.names.ObjectsMethod.TheVariants.{ObjectInit}
 use Rattle.jc_platform.specs.declared.names.ExceptionsMethod.TheVariants.{CardExceptionInit}
 use Rattle.jc_platform.specs.declared.names.UtilitiesMethod.TheVariants.{UtilArrayCompare}
@@ -25,15 +26,22 @@ use Rattle.jc_platform.specs.declared.names.EnginesMethod.TheVariants.{MessageDi
 use Rattle.jc_platform.specs.declared.names.KeysMethod.TheVariants.{KeyBuilderBuildKey}
 use Rattle.jc_platform.specs.declared.names.KeyInterfacesMethod.TheVariants.{KeyClearKey}
 use Rattle.jc_platform.specs.declared.names.CiphersMethod.TheVariants.{CipherGetInstance}
+use Rattle.jc_platform.specs.declared.names.RsaKeysMethod.TheVariants.{RsaKeyObjectSetModulus}
+use Rattle.jc_platform.specs.declared.names.EcKeysMethod.TheVariants.{EcKeyObjectSetFieldFp}
+use Rattle.jc_platform.specs.declared.names.RsaInterfacesMethod.TheVariants.{PrivateKeyClearKey}
+use Rattle.jc_platform.specs.declared.names.EcInterfacesMethod.TheVariants.{EcKeySetFieldFp}
+use Rattle.jc_platform.specs.declared.names.KeyPairsMethod.TheVariants.{KeyPairInit}
 use Rattle.jc_platform.specs.Distinct.{class_of, entry_of_class, entry_of_method, home_of, kind_of_method, name_of_method}
 use Rattle.jc_platform.specs.Hierarchy.{is_exception_form, is_interface_form}
 use Rattle.jc_platform.specs.Names.{MethodEntry, classes, methods, no_method}
 use Rattle.jc_platform.specs.Names.{objects_rows, exceptions_rows, utilities_rows, system_rows, aids_rows, pins_rows, applets_rows, apdus_rows, events_rows, engines_rows}
 use Rattle.jc_platform.specs.Names.{keys_rows, key_interfaces_rows, ciphers_rows}
+use Rattle.jc_platform.specs.Names.{rsa_keys_rows, ec_keys_rows, rsa_interfaces_rows, ec_interfaces_rows, key_pairs_rows}
 use Rattle.jc_platform.specs.Numbers.{class_count, class_number, method_count, method_number, same_class, same_kind, same_package}
 use Rattle.jc_platform.specs.Signatures.{is_constructor_name, receiver_cells}
 use Rattle.jc_platform.specs.Numbers.{objects_count, exceptions_count, utilities_count, system_count, aids_count, pins_count, applets_count, apdus_count, events_count, engines_count}
 use Rattle.jc_platform.specs.Numbers.{keys_count, key_interfaces_count, ciphers_count}
+use Rattle.jc_platform.specs.Numbers.{rsa_keys_count, ec_keys_count, rsa_interfaces_count, ec_interfaces_count, key_pairs_count}
 
 -- ---- how many there are
 
@@ -42,7 +50,7 @@ unfolding classes
 class_places = refl
 
 pub method_places : length methods ≡ method_count
-unfolding objects_rows exceptions_rows utilities_rows system_rows aids_rows pins_rows applets_rows apdus_rows events_rows engines_rows keys_rows key_interfaces_rows ciphers_rows
+unfolding objects_rows exceptions_rows utilities_rows system_rows aids_rows pins_rows applets_rows apdus_rows events_rows engines_rows keys_rows key_interfaces_rows ciphers_rows rsa_keys_rows ec_keys_rows rsa_interfaces_rows ec_interfaces_rows key_pairs_rows
 method_places = refl
 
 pub objects_places : length objects_rows ≡ objects_count
@@ -97,6 +105,26 @@ pub ciphers_places : length ciphers_rows ≡ ciphers_count
 unfolding ciphers_rows
 ciphers_places = refl
 
+pub rsa_keys_places : length rsa_keys_rows ≡ rsa_keys_count
+unfolding rsa_keys_rows
+rsa_keys_places = refl
+
+pub ec_keys_places : length ec_keys_rows ≡ ec_keys_count
+unfolding ec_keys_rows
+ec_keys_places = refl
+
+pub rsa_interfaces_places : length rsa_interfaces_rows ≡ rsa_interfaces_count
+unfolding rsa_interfaces_rows
+rsa_interfaces_places = refl
+
+pub ec_interfaces_places : length ec_interfaces_rows ≡ ec_interfaces_count
+unfolding ec_interfaces_rows
+ec_interfaces_places = refl
+
+pub key_pairs_places : length key_pairs_rows ≡ key_pairs_count
+unfolding key_pairs_rows
+key_pairs_places = refl
+
 -- ---- each name has its own row, so numbers are distinct
 
 pub class_at_place : (c : PlatformClass) → (entry_of_class c).class ≡ c
@@ -105,7 +133,7 @@ class_at_place Object = refl
 class_at_place _ = refl
 
 pub method_at_place : (m : PlatformMethod) → (entry_of_method m).method ≡ m
-unfolding objects_rows exceptions_rows utilities_rows system_rows aids_rows pins_rows applets_rows apdus_rows events_rows engines_rows keys_rows key_interfaces_rows ciphers_rows
+unfolding objects_rows exceptions_rows utilities_rows system_rows aids_rows pins_rows applets_rows apdus_rows events_rows engines_rows keys_rows key_interfaces_rows ciphers_rows rsa_keys_rows ec_keys_rows rsa_interfaces_rows ec_interfaces_rows key_pairs_rows
 method_at_place (Objects ObjectInit) = refl
 method_at_place (Objects _) = refl
 method_at_place (Exceptions CardExceptionInit) = refl
@@ -132,10 +160,20 @@ method_at_place (KeyInterfaces KeyClearKey) = refl
 method_at_place (KeyInterfaces _) = refl
 method_at_place (Ciphers CipherGetInstance) = refl
 method_at_place (Ciphers _) = refl
+method_at_place (RsaKeys RsaKeyObjectSetModulus) = refl
+method_at_place (RsaKeys _) = refl
+method_at_place (EcKeys EcKeyObjectSetFieldFp) = refl
+method_at_place (EcKeys _) = refl
+method_at_place (RsaInterfaces PrivateKeyClearKey) = refl
+method_at_place (RsaInterfaces _) = refl
+method_at_place (EcInterfaces EcKeySetFieldFp) = refl
+method_at_place (EcInterfaces _) = refl
+method_at_place (KeyPairs KeyPairInit) = refl
+method_at_place (KeyPairs _) = refl
 
 -- a method's number is its place in the list of all
 pub at_number : (m : PlatformMethod) → get_or methods (method_number m) no_method ≡ entry_of_method m
-unfolding objects_rows exceptions_rows utilities_rows system_rows aids_rows pins_rows applets_rows apdus_rows events_rows engines_rows keys_rows key_interfaces_rows ciphers_rows
+unfolding objects_rows exceptions_rows utilities_rows system_rows aids_rows pins_rows applets_rows apdus_rows events_rows engines_rows keys_rows key_interfaces_rows ciphers_rows rsa_keys_rows ec_keys_rows rsa_interfaces_rows ec_interfaces_rows key_pairs_rows
 at_number (Objects ObjectInit) = refl
 at_number (Objects _) = refl
 at_number (Exceptions CardExceptionInit) = refl
@@ -162,6 +200,16 @@ at_number (KeyInterfaces KeyClearKey) = refl
 at_number (KeyInterfaces _) = refl
 at_number (Ciphers CipherGetInstance) = refl
 at_number (Ciphers _) = refl
+at_number (RsaKeys RsaKeyObjectSetModulus) = refl
+at_number (RsaKeys _) = refl
+at_number (EcKeys EcKeyObjectSetFieldFp) = refl
+at_number (EcKeys _) = refl
+at_number (RsaInterfaces PrivateKeyClearKey) = refl
+at_number (RsaInterfaces _) = refl
+at_number (EcInterfaces EcKeySetFieldFp) = refl
+at_number (EcInterfaces _) = refl
+at_number (KeyPairs KeyPairInit) = refl
+at_number (KeyPairs _) = refl
 
 -- ---- the lists
 
@@ -170,7 +218,7 @@ unfolding classes
 homes = refl
 
 pub method_homes : list_all (λ e. same_class (class_of e.method) e.class && same_kind (kind_of_method e.method) e.kind) methods ≡ true
-unfolding objects_rows exceptions_rows utilities_rows system_rows aids_rows pins_rows applets_rows apdus_rows events_rows engines_rows keys_rows key_interfaces_rows ciphers_rows
+unfolding objects_rows exceptions_rows utilities_rows system_rows aids_rows pins_rows applets_rows apdus_rows events_rows engines_rows keys_rows key_interfaces_rows ciphers_rows rsa_keys_rows ec_keys_rows rsa_interfaces_rows ec_interfaces_rows key_pairs_rows
 method_homes = refl
 
 -- cells and parameters are counted in a byte
@@ -179,7 +227,7 @@ unfolding classes
 few_cells = refl
 
 pub few_parameters : list_all (λ e. nat_lt (length e.parameters) 255) methods ≡ true
-unfolding objects_rows exceptions_rows utilities_rows system_rows aids_rows pins_rows applets_rows apdus_rows events_rows engines_rows keys_rows key_interfaces_rows ciphers_rows
+unfolding objects_rows exceptions_rows utilities_rows system_rows aids_rows pins_rows applets_rows apdus_rows events_rows engines_rows keys_rows key_interfaces_rows ciphers_rows rsa_keys_rows ec_keys_rows rsa_interfaces_rows ec_interfaces_rows key_pairs_rows
 few_parameters = refl
 
 -- superclasses and interfaces come earlier, and they are of that form
@@ -221,27 +269,32 @@ agree true b = b
 agree false b = not b
 
 pub receivers_are_there : list_all (λ e. agree (not (is_absent e.receiver)) (has_receiver e)) methods ≡ true
-unfolding objects_rows exceptions_rows utilities_rows system_rows aids_rows pins_rows applets_rows apdus_rows events_rows engines_rows keys_rows key_interfaces_rows ciphers_rows
+unfolding objects_rows exceptions_rows utilities_rows system_rows aids_rows pins_rows applets_rows apdus_rows events_rows engines_rows keys_rows key_interfaces_rows ciphers_rows rsa_keys_rows ec_keys_rows rsa_interfaces_rows ec_interfaces_rows key_pairs_rows
 receivers_are_there = refl
 
 -- a constructor is a static method that is called on an object
 pub constructors_are_told : list_all (λ e. agree (same_kind e.kind Static && receiver_cells e.receiver == 1) (is_constructor_name e.name)) methods ≡ true
-unfolding objects_rows exceptions_rows utilities_rows system_rows aids_rows pins_rows applets_rows apdus_rows events_rows engines_rows keys_rows key_interfaces_rows ciphers_rows
+unfolding objects_rows exceptions_rows utilities_rows system_rows aids_rows pins_rows applets_rows apdus_rows events_rows engines_rows keys_rows key_interfaces_rows ciphers_rows rsa_keys_rows ec_keys_rows rsa_interfaces_rows ec_interfaces_rows key_pairs_rows
 constructors_are_told = refl
 
--- a class is this one or directly below it
+-- a class is this one
+abbrev is_that : PlatformClass → Option PlatformClass → Bool
+is_that d None = false
+is_that d (Some s) = same_class s d
+
+-- a class is this one, directly below it or below such a one
 abbrev is_at_or_below : PlatformClass → Option PlatformClass → PlatformClass → Bool
 is_at_or_below c None d = same_class c d
-is_at_or_below c (Some s) d = same_class c d || same_class s d
+is_at_or_below c (Some s) d = same_class c d || same_class s d || is_that d (entry_of_class s).superclass
 
--- a method of an interface is carried out by a virtual method with the same name, of a class that implements the interface or of its superclass
+-- a method of an interface is carried out by a virtual method with the same name, of a class that implements the interface, of its superclass or of that one's
 abbrev is_carried_out : MethodEntry → Option PlatformMethod → Bool
 is_carried_out e None = true
 is_carried_out e (Some m) = bytes_eq (name_of_method m) e.name && same_kind (kind_of_method m) Virtual
     && list_any (λ c. is_at_or_below c.class c.superclass (class_of m) && list_any (λ i. same_class i e.class) c.interfaces) classes
 
 pub carried_out : list_all (λ e. is_carried_out e e.implementation) methods ≡ true
-unfolding classes objects_rows exceptions_rows utilities_rows system_rows aids_rows pins_rows applets_rows apdus_rows events_rows engines_rows keys_rows key_interfaces_rows ciphers_rows
+unfolding classes objects_rows exceptions_rows utilities_rows system_rows aids_rows pins_rows applets_rows apdus_rows events_rows engines_rows keys_rows key_interfaces_rows ciphers_rows rsa_keys_rows ec_keys_rows rsa_interfaces_rows ec_interfaces_rows key_pairs_rows
 carried_out = refl
 
 -- names tell the methods of a class and a kind apart
@@ -304,3 +357,23 @@ key_interfaces_apart = refl
 pub ciphers_apart : told_apart ciphers_rows ≡ true
 unfolding ciphers_rows
 ciphers_apart = refl
+
+pub rsa_keys_apart : told_apart rsa_keys_rows ≡ true
+unfolding rsa_keys_rows
+rsa_keys_apart = refl
+
+pub ec_keys_apart : told_apart ec_keys_rows ≡ true
+unfolding ec_keys_rows
+ec_keys_apart = refl
+
+pub rsa_interfaces_apart : told_apart rsa_interfaces_rows ≡ true
+unfolding rsa_interfaces_rows
+rsa_interfaces_apart = refl
+
+pub ec_interfaces_apart : told_apart ec_interfaces_rows ≡ true
+unfolding ec_interfaces_rows
+ec_interfaces_apart = refl
+
+pub key_pairs_apart : told_apart key_pairs_rows ≡ true
+unfolding key_pairs_rows
+key_pairs_apart = refl

@@ -7,6 +7,7 @@ use Rattle.jc_platform.specs.declared.names.PlatformClass.TheVariants.{Object}
 use Rattle.jc_platform.specs.declared.names.PlatformMethod.{PlatformMethod}
 use Rattle.jc_platform.specs.declared.names.PlatformMethod.TheVariants.{Objects, Exceptions, Utilities, System, Aids, Pins, Applets, Apdus, Events, Engines}
 use Rattle.jc_platform.specs.declared.names.PlatformMethod.TheVariants.{Keys, KeyInterfaces, Ciphers}
+use Rattle.jc_platform.specs.declared.names.PlatformMethod.TheVariants.{RsaKeys, EcKeys, RsaInterfaces, EcInterfaces, KeyPairs}
 use Rattle.jc_platform.specs.declared.names.ObjectsMethod.TheVariants.{ObjectInit}
 use Rattle.jc_platform.specs.declared.names.ExceptionsMethod.TheVariants.{CardExceptionInit}
 use Rattle.jc_platform.specs.declared.names.UtilitiesMethod.TheVariants.{UtilArrayCompare}
@@ -20,9 +21,15 @@ use Rattle.jc_platform.specs.declared.names.EnginesMethod.TheVariants.{MessageDi
 use Rattle.jc_platform.specs.declared.names.KeysMethod.TheVariants.{KeyBuilderBuildKey}
 use Rattle.jc_platform.specs.declared.names.KeyInterfacesMethod.TheVariants.{KeyClearKey}
 use Rattle.jc_platform.specs.declared.names.CiphersMethod.TheVariants.{CipherGetInstance}
+use Rattle.jc_platform.specs.declared.names.RsaKeysMethod.TheVariants.{RsaKeyObjectSetModulus}
+use Rattle.jc_platform.specs.declared.names.EcKeysMethod.TheVariants.{EcKeyObjectSetFieldFp}
+use Rattle.jc_platform.specs.declared.names.RsaInterfacesMethod.TheVariants.{PrivateKeyClearKey}
+use Rattle.jc_platform.specs.declared.names.EcInterfacesMethod.TheVariants.{EcKeySetFieldFp}
+use Rattle.jc_platform.specs.declared.names.KeyPairsMethod.TheVariants.{KeyPairInit}
 use Rattle.jc_platform.specs.Names.{classes, methods, packages}
 use Rattle.jc_platform.specs.Names.{objects_rows, exceptions_rows, utilities_rows, system_rows, aids_rows, pins_rows, applets_rows, apdus_rows, events_rows, engines_rows}
 use Rattle.jc_platform.specs.Names.{keys_rows, key_interfaces_rows, ciphers_rows}
+use Rattle.jc_platform.specs.Names.{rsa_keys_rows, ec_keys_rows, rsa_interfaces_rows, ec_interfaces_rows, key_pairs_rows}
 use Rattle.jc_platform.specs.Numbers.{package_count, package_number, class_count, class_number, method_count, method_number}
 use Rattle.jc_platform.proofs.Lists.{numbered_at}
 
@@ -33,7 +40,7 @@ class_at k h =
     (w.0, w.1 ∙ zero-add k)
 
 pub method_at : (k : ℕ) → k < method_count → (m : PlatformMethod) × (method_number m ≡ k)
-unfolding objects_rows exceptions_rows utilities_rows system_rows aids_rows pins_rows applets_rows apdus_rows events_rows engines_rows keys_rows key_interfaces_rows ciphers_rows
+unfolding objects_rows exceptions_rows utilities_rows system_rows aids_rows pins_rows applets_rows apdus_rows events_rows engines_rows keys_rows key_interfaces_rows ciphers_rows rsa_keys_rows ec_keys_rows rsa_interfaces_rows ec_interfaces_rows key_pairs_rows
 method_at k h =
     let w = numbered_at method_number (map (λ e. e.method) methods) 0 k refl h in
     (w.0, w.1 ∙ zero-add k)
@@ -82,3 +89,13 @@ method_below (KeyInterfaces KeyClearKey) = lit< tt
 method_below (KeyInterfaces _) = lit< tt
 method_below (Ciphers CipherGetInstance) = lit< tt
 method_below (Ciphers _) = lit< tt
+method_below (RsaKeys RsaKeyObjectSetModulus) = lit< tt
+method_below (RsaKeys _) = lit< tt
+method_below (EcKeys EcKeyObjectSetFieldFp) = lit< tt
+method_below (EcKeys _) = lit< tt
+method_below (RsaInterfaces PrivateKeyClearKey) = lit< tt
+method_below (RsaInterfaces _) = lit< tt
+method_below (EcInterfaces EcKeySetFieldFp) = lit< tt
+method_below (EcInterfaces _) = lit< tt
+method_below (KeyPairs KeyPairInit) = lit< tt
+method_below (KeyPairs _) = lit< tt

@@ -11,7 +11,7 @@ use Rattle.jc_platform.proofs.Lists.{shown_between}
 
 -- the places of the packages' first classes, and after them how many classes there are
 abbrev pub firsts : List ℕ
-firsts = 0 ∷ 12 ∷ 31 ∷ 32 ∷ 48 ∷ class_count ∷ []
+firsts = 0 ∷ 12 ∷ 31 ∷ 32 ∷ 65 ∷ class_count ∷ []
 
 pub ends_within : (p : PlatformPackage) → get_or firsts (package_number p + 1) 0 ≤ class_count
 ends_within JavaLang = omega arith

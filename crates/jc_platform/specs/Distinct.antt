@@ -6,11 +6,14 @@ use Rattle.jc_platform.specs.declared.names.MethodKind.{MethodKind}
 use Rattle.jc_platform.specs.declared.names.PlatformMethod.{PlatformMethod}
 use Rattle.jc_platform.specs.declared.names.PlatformMethod.TheVariants.{Objects, Exceptions, Utilities, System, Aids, Pins, Applets, Apdus, Events, Engines}
 use Rattle.jc_platform.specs.declared.names.PlatformMethod.TheVariants.{Keys, KeyInterfaces, Ciphers}
+use Rattle.jc_platform.specs.declared.names.PlatformMethod.TheVariants.{RsaKeys, EcKeys, RsaInterfaces, EcInterfaces, KeyPairs}
 use Rattle.jc_platform.specs.Names.{ClassEntry, MethodEntry, classes, no_class, no_method, objects_rows, exceptions_rows, utilities_rows, system_rows}
 use Rattle.jc_platform.specs.Names.{aids_rows, pins_rows, applets_rows, apdus_rows, events_rows, engines_rows}
 use Rattle.jc_platform.specs.Names.{keys_rows, key_interfaces_rows, ciphers_rows}
+use Rattle.jc_platform.specs.Names.{rsa_keys_rows, ec_keys_rows, rsa_interfaces_rows, ec_interfaces_rows, key_pairs_rows}
 use Rattle.jc_platform.specs.Numbers.{class_number, objects_number, exceptions_number, utilities_number, system_number, aids_number, pins_number, applets_number, apdus_number, events_number, engines_number}
 use Rattle.jc_platform.specs.Numbers.{keys_number, key_interfaces_number, ciphers_number}
+use Rattle.jc_platform.specs.Numbers.{rsa_keys_number, ec_keys_number, rsa_interfaces_number, ec_interfaces_number, key_pairs_number}
 use Rattle.jc_platform.specs.Tokens.{Tokens, number_in, token_of_class, token_of_method}
 
 -- the row of a class
@@ -32,6 +35,11 @@ entry_of_method (Engines m) = slice_index_or engines_rows (engines_number m) no_
 entry_of_method (Keys m) = slice_index_or keys_rows (keys_number m) no_method
 entry_of_method (KeyInterfaces m) = slice_index_or key_interfaces_rows (key_interfaces_number m) no_method
 entry_of_method (Ciphers m) = slice_index_or ciphers_rows (ciphers_number m) no_method
+entry_of_method (RsaKeys m) = slice_index_or rsa_keys_rows (rsa_keys_number m) no_method
+entry_of_method (EcKeys m) = slice_index_or ec_keys_rows (ec_keys_number m) no_method
+entry_of_method (RsaInterfaces m) = slice_index_or rsa_interfaces_rows (rsa_interfaces_number m) no_method
+entry_of_method (EcInterfaces m) = slice_index_or ec_interfaces_rows (ec_interfaces_number m) no_method
+entry_of_method (KeyPairs m) = slice_index_or key_pairs_rows (key_pairs_number m) no_method
 
 -- the package of a class
 abbrev pub home_of : PlatformClass → PlatformPackage

@@ -45,8 +45,8 @@ unfoldable pub is_thrown : PlatformClass → Bool
 is_thrown c = (entry_of_class c).thrown
 
 -- how many cells an instance has: an exception of the card its reason, an AID its length and its bytes, two in a cell, an
--- OwnerPIN its limit, maximum size, tries, length and value, an engine its algorithm and its state, a Cipher and a Signature also their key, mode and
--- vector, two bytes in a cell, and a key its type and its data
+-- OwnerPIN its limit, maximum size, tries, length and value, an engine its algorithm and its state, a KeyAgreement also its key, a Cipher and a Signature
+-- their key, mode and vector, two bytes in a cell, a key its type and its data, and a KeyPair its algorithm and its two keys
 unfoldable pub cells_of : PlatformClass → ℕ
 cells_of c = length (entry_of_class c).cells
 
@@ -55,8 +55,8 @@ is_reference None = false
 is_reference (Some Number) = false
 is_reference (Some Reference) = true
 
--- a cell of an instance holds a reference: the fifth of an OwnerPIN, its value, the second of an engine, its state, or of a key, its data, and the third of
--- a Cipher or a Signature, its key
+-- a cell of an instance holds a reference: the fifth of an OwnerPIN, its value, the second of an engine, its state, or of a key, its data, the third of
+-- a Cipher, a Signature or a KeyAgreement, its key, and both keys of a KeyPair
 unfoldable pub holds_reference : PlatformClass → ℕ → Bool
 holds_reference c cell = is_reference (slice_get (entry_of_class c).cells cell)
 

@@ -13,11 +13,15 @@ use Rattle.jc_platform.specs.declared.names.PlatformClass.TheVariants.{ApduExcep
 use Rattle.jc_platform.specs.declared.names.PlatformClass.TheVariants.{CryptoException, MessageDigest, Checksum, RandomData, InitializedMessageDigest}
 use Rattle.jc_platform.specs.declared.names.PlatformClass.TheVariants.{Key, SecretKey, DesKey, AesKey, HmacKey, KeyBuilder, KeyObject, DesKeyObject}
 use Rattle.jc_platform.specs.declared.names.PlatformClass.TheVariants.{AesKeyObject, HmacKeyObject, Signature, Cipher}
+use Rattle.jc_platform.specs.declared.names.PlatformClass.TheVariants.{PrivateKey, PublicKey, RsaPublicKey, RsaPrivateKey, RsaPrivateCrtKey, EcKey, EcPublicKey}
+use Rattle.jc_platform.specs.declared.names.PlatformClass.TheVariants.{EcPrivateKey, KeyPair, KeyAgreement, RsaKeyObject, RsaPublicKeyObject, RsaPrivateKeyObject}
+use Rattle.jc_platform.specs.declared.names.PlatformClass.TheVariants.{RsaPrivateCrtKeyObject, EcKeyObject, EcPublicKeyObject, EcPrivateKeyObject}
 use Rattle.jc_platform.specs.declared.names.MethodKind.{MethodKind}
 use Rattle.jc_platform.specs.declared.names.MethodKind.TheVariants as kind
 use Rattle.jc_platform.specs.declared.names.PlatformMethod.{PlatformMethod}
 use Rattle.jc_platform.specs.declared.names.PlatformMethod.TheVariants.{Objects, Exceptions, Utilities, System, Aids, Pins, Applets, Apdus, Events, Engines}
 use Rattle.jc_platform.specs.declared.names.PlatformMethod.TheVariants.{Keys, KeyInterfaces, Ciphers}
+use Rattle.jc_platform.specs.declared.names.PlatformMethod.TheVariants.{RsaKeys, EcKeys, RsaInterfaces, EcInterfaces, KeyPairs}
 use Rattle.jc_platform.specs.declared.names.ObjectsMethod.TheVariants.{ObjectInit, ObjectEquals, ThrowableInit, ExceptionInit, RuntimeExceptionInit}
 use Rattle.jc_platform.specs.declared.names.ObjectsMethod.TheVariants.{IndexOutOfBoundsExceptionInit, ArithmeticExceptionInit}
 use Rattle.jc_platform.specs.declared.names.ObjectsMethod.TheVariants.{ArrayIndexOutOfBoundsExceptionInit, ArrayStoreExceptionInit, ClassCastExceptionInit}
@@ -76,6 +80,46 @@ use Rattle.jc_platform.specs.declared.names.CiphersMethod.TheVariants.{Signature
 use Rattle.jc_platform.specs.declared.names.CiphersMethod.TheVariants.{SignatureUpdate, SignatureSign, SignatureVerify, SignatureGetAlgorithm}
 use Rattle.jc_platform.specs.declared.names.CiphersMethod.TheVariants.{SignatureGetMessageDigestAlgorithm, SignatureGetCipherAlgorithm}
 use Rattle.jc_platform.specs.declared.names.CiphersMethod.TheVariants.{SignatureGetPaddingAlgorithm, SignatureGetLength}
+use Rattle.jc_platform.specs.declared.names.RsaKeysMethod.TheVariants.{RsaKeyObjectSetModulus, RsaKeyObjectSetExponent, RsaKeyObjectGetModulus}
+use Rattle.jc_platform.specs.declared.names.RsaKeysMethod.TheVariants.{RsaKeyObjectGetExponent, RsaPrivateCrtKeyObjectSetP, RsaPrivateCrtKeyObjectSetQ}
+use Rattle.jc_platform.specs.declared.names.RsaKeysMethod.TheVariants.{RsaPrivateCrtKeyObjectSetDp1, RsaPrivateCrtKeyObjectSetDq1, RsaPrivateCrtKeyObjectSetPq}
+use Rattle.jc_platform.specs.declared.names.RsaKeysMethod.TheVariants.{RsaPrivateCrtKeyObjectGetP, RsaPrivateCrtKeyObjectGetQ, RsaPrivateCrtKeyObjectGetDp1}
+use Rattle.jc_platform.specs.declared.names.RsaKeysMethod.TheVariants.{RsaPrivateCrtKeyObjectGetDq1, RsaPrivateCrtKeyObjectGetPq}
+use Rattle.jc_platform.specs.declared.names.EcKeysMethod.TheVariants.{EcKeyObjectSetFieldFp, EcKeyObjectSetFieldF2m, EcKeyObjectSetFieldF2mOfThree}
+use Rattle.jc_platform.specs.declared.names.EcKeysMethod.TheVariants.{EcKeyObjectSetA, EcKeyObjectSetB, EcKeyObjectSetG, EcKeyObjectSetR, EcKeyObjectSetK}
+use Rattle.jc_platform.specs.declared.names.EcKeysMethod.TheVariants.{EcKeyObjectGetField, EcKeyObjectGetA, EcKeyObjectGetB, EcKeyObjectGetG, EcKeyObjectGetR}
+use Rattle.jc_platform.specs.declared.names.EcKeysMethod.TheVariants.{EcKeyObjectGetK, EcKeyObjectCopyDomainParametersFrom, EcPublicKeyObjectSetW}
+use Rattle.jc_platform.specs.declared.names.EcKeysMethod.TheVariants.{EcPublicKeyObjectGetW, EcPrivateKeyObjectSetS, EcPrivateKeyObjectGetS}
+use Rattle.jc_platform.specs.declared.names.RsaInterfacesMethod.TheVariants.{PrivateKeyClearKey, PrivateKeyGetSize, PrivateKeyGetType, PrivateKeyIsInitialized}
+use Rattle.jc_platform.specs.declared.names.RsaInterfacesMethod.TheVariants.{PublicKeyClearKey, PublicKeyGetSize, PublicKeyGetType, PublicKeyIsInitialized}
+use Rattle.jc_platform.specs.declared.names.RsaInterfacesMethod.TheVariants.{RsaPublicKeyClearKey, RsaPublicKeyGetSize, RsaPublicKeyGetType}
+use Rattle.jc_platform.specs.declared.names.RsaInterfacesMethod.TheVariants.{RsaPublicKeyIsInitialized, RsaPublicKeySetModulus, RsaPublicKeySetExponent}
+use Rattle.jc_platform.specs.declared.names.RsaInterfacesMethod.TheVariants.{RsaPublicKeyGetModulus, RsaPublicKeyGetExponent, RsaPrivateKeyClearKey}
+use Rattle.jc_platform.specs.declared.names.RsaInterfacesMethod.TheVariants.{RsaPrivateKeyGetSize, RsaPrivateKeyGetType, RsaPrivateKeyIsInitialized}
+use Rattle.jc_platform.specs.declared.names.RsaInterfacesMethod.TheVariants.{RsaPrivateKeySetModulus, RsaPrivateKeySetExponent, RsaPrivateKeyGetModulus}
+use Rattle.jc_platform.specs.declared.names.RsaInterfacesMethod.TheVariants.{RsaPrivateKeyGetExponent, RsaPrivateCrtKeyClearKey, RsaPrivateCrtKeyGetSize}
+use Rattle.jc_platform.specs.declared.names.RsaInterfacesMethod.TheVariants.{RsaPrivateCrtKeyGetType, RsaPrivateCrtKeyIsInitialized, RsaPrivateCrtKeySetP}
+use Rattle.jc_platform.specs.declared.names.RsaInterfacesMethod.TheVariants.{RsaPrivateCrtKeySetQ, RsaPrivateCrtKeySetDp1, RsaPrivateCrtKeySetDq1}
+use Rattle.jc_platform.specs.declared.names.RsaInterfacesMethod.TheVariants.{RsaPrivateCrtKeySetPq, RsaPrivateCrtKeyGetP, RsaPrivateCrtKeyGetQ}
+use Rattle.jc_platform.specs.declared.names.RsaInterfacesMethod.TheVariants.{RsaPrivateCrtKeyGetDp1, RsaPrivateCrtKeyGetDq1, RsaPrivateCrtKeyGetPq}
+use Rattle.jc_platform.specs.declared.names.EcInterfacesMethod.TheVariants.{EcKeySetFieldFp, EcKeySetFieldF2m, EcKeySetFieldF2mOfThree, EcKeySetA, EcKeySetB}
+use Rattle.jc_platform.specs.declared.names.EcInterfacesMethod.TheVariants.{EcKeySetG, EcKeySetR, EcKeySetK, EcKeyGetField, EcKeyGetA, EcKeyGetB, EcKeyGetG}
+use Rattle.jc_platform.specs.declared.names.EcInterfacesMethod.TheVariants.{EcKeyGetR, EcKeyGetK, EcKeyCopyDomainParametersFrom, EcPublicKeyClearKey}
+use Rattle.jc_platform.specs.declared.names.EcInterfacesMethod.TheVariants.{EcPublicKeyGetSize, EcPublicKeyGetType, EcPublicKeyIsInitialized}
+use Rattle.jc_platform.specs.declared.names.EcInterfacesMethod.TheVariants.{EcPublicKeySetFieldFp, EcPublicKeySetFieldF2m, EcPublicKeySetFieldF2mOfThree}
+use Rattle.jc_platform.specs.declared.names.EcInterfacesMethod.TheVariants.{EcPublicKeySetA, EcPublicKeySetB, EcPublicKeySetG, EcPublicKeySetR, EcPublicKeySetK}
+use Rattle.jc_platform.specs.declared.names.EcInterfacesMethod.TheVariants.{EcPublicKeyGetField, EcPublicKeyGetA, EcPublicKeyGetB, EcPublicKeyGetG}
+use Rattle.jc_platform.specs.declared.names.EcInterfacesMethod.TheVariants.{EcPublicKeyGetR, EcPublicKeyGetK, EcPublicKeyCopyDomainParametersFrom}
+use Rattle.jc_platform.specs.declared.names.EcInterfacesMethod.TheVariants.{EcPublicKeySetW, EcPublicKeyGetW, EcPrivateKeyClearKey, EcPrivateKeyGetSize}
+use Rattle.jc_platform.specs.declared.names.EcInterfacesMethod.TheVariants.{EcPrivateKeyGetType, EcPrivateKeyIsInitialized, EcPrivateKeySetFieldFp}
+use Rattle.jc_platform.specs.declared.names.EcInterfacesMethod.TheVariants.{EcPrivateKeySetFieldF2m, EcPrivateKeySetFieldF2mOfThree, EcPrivateKeySetA}
+use Rattle.jc_platform.specs.declared.names.EcInterfacesMethod.TheVariants.{EcPrivateKeySetB, EcPrivateKeySetG, EcPrivateKeySetR, EcPrivateKeySetK}
+use Rattle.jc_platform.specs.declared.names.EcInterfacesMethod.TheVariants.{EcPrivateKeyGetField, EcPrivateKeyGetA, EcPrivateKeyGetB, EcPrivateKeyGetG}
+use Rattle.jc_platform.specs.declared.names.EcInterfacesMethod.TheVariants.{EcPrivateKeyGetR, EcPrivateKeyGetK, EcPrivateKeyCopyDomainParametersFrom}
+use Rattle.jc_platform.specs.declared.names.EcInterfacesMethod.TheVariants.{EcPrivateKeySetS, EcPrivateKeyGetS}
+use Rattle.jc_platform.specs.declared.names.KeyPairsMethod.TheVariants.{KeyPairInit, KeyPairInitOfKeys, KeyPairGenKeyPair, KeyPairGetPublic, KeyPairGetPrivate}
+use Rattle.jc_platform.specs.declared.names.KeyPairsMethod.TheVariants.{KeyAgreementGetInstance, KeyAgreementInit, KeyAgreementGenerateSecret}
+use Rattle.jc_platform.specs.declared.names.KeyPairsMethod.TheVariants.{KeyAgreementGetAlgorithm}
 use Rattle.jc_platform.specs.declared.kinds.ClassForm.{ClassForm}
 use Rattle.jc_platform.specs.declared.kinds.ClassForm.TheVariants as form
 use Rattle.jc_platform.specs.declared.kinds.CellKind.{CellKind}
@@ -205,11 +249,28 @@ classes =
     optional_class JavacardSecurity AesKey (codes "AESKey") None (SecretKey ∷ Key ∷ []) form.Interface [] false false ∷
     optional_class JavacardSecurity HmacKey (codes "HMACKey") None (SecretKey ∷ Key ∷ []) form.Interface [] false false ∷
     optional_class JavacardSecurity KeyBuilder (codes "KeyBuilder") (Some Object) [] form.Static [] false false ∷
-    optional_class JavacardSecurity KeyObject (codes "KeyObject") (Some Object) (SecretKey ∷ Key ∷ []) form.Object (Number ∷ Reference ∷ []) false false ∷
+    optional_class JavacardSecurity KeyObject (codes "KeyObject") (Some Object) (Key ∷ []) form.Object (Number ∷ Reference ∷ []) false false ∷
     optional_class JavacardSecurity DesKeyObject (codes "DESKeyObject") (Some KeyObject) (DesKey ∷ SecretKey ∷ Key ∷ []) form.Object (Number ∷ Reference ∷ []) false false ∷
     optional_class JavacardSecurity AesKeyObject (codes "AESKeyObject") (Some KeyObject) (AesKey ∷ SecretKey ∷ Key ∷ []) form.Object (Number ∷ Reference ∷ []) false false ∷
     optional_class JavacardSecurity HmacKeyObject (codes "HMACKeyObject") (Some KeyObject) (HmacKey ∷ SecretKey ∷ Key ∷ []) form.Object (Number ∷ Reference ∷ []) false false ∷
     optional_class JavacardSecurity Signature (codes "Signature") (Some Object) [] form.Object (Number ∷ Reference ∷ Reference ∷ Number ∷ Number ∷ Number ∷ Number ∷ Number ∷ Number ∷ Number ∷ Number ∷ Number ∷ []) false false ∷
+    optional_class JavacardSecurity PrivateKey (codes "PrivateKey") None (Key ∷ []) form.Interface [] false false ∷
+    optional_class JavacardSecurity PublicKey (codes "PublicKey") None (Key ∷ []) form.Interface [] false false ∷
+    optional_class JavacardSecurity RsaPublicKey (codes "RSAPublicKey") None (PublicKey ∷ Key ∷ []) form.Interface [] false false ∷
+    optional_class JavacardSecurity RsaPrivateKey (codes "RSAPrivateKey") None (PrivateKey ∷ Key ∷ []) form.Interface [] false false ∷
+    optional_class JavacardSecurity RsaPrivateCrtKey (codes "RSAPrivateCrtKey") None (PrivateKey ∷ Key ∷ []) form.Interface [] false false ∷
+    optional_class JavacardSecurity EcKey (codes "ECKey") None [] form.Interface [] false false ∷
+    optional_class JavacardSecurity EcPublicKey (codes "ECPublicKey") None (PublicKey ∷ Key ∷ EcKey ∷ []) form.Interface [] false false ∷
+    optional_class JavacardSecurity EcPrivateKey (codes "ECPrivateKey") None (PrivateKey ∷ Key ∷ EcKey ∷ []) form.Interface [] false false ∷
+    optional_class JavacardSecurity KeyPair (codes "KeyPair") (Some Object) [] form.Object (Number ∷ Reference ∷ Reference ∷ []) true false ∷
+    optional_class JavacardSecurity KeyAgreement (codes "KeyAgreement") (Some Object) [] form.Object (Number ∷ Reference ∷ Reference ∷ []) false false ∷
+    optional_class JavacardSecurity RsaKeyObject (codes "RSAKeyObject") (Some KeyObject) (Key ∷ []) form.Object (Number ∷ Reference ∷ []) false false ∷
+    optional_class JavacardSecurity RsaPublicKeyObject (codes "RSAPublicKeyObject") (Some RsaKeyObject) (RsaPublicKey ∷ PublicKey ∷ Key ∷ []) form.Object (Number ∷ Reference ∷ []) false false ∷
+    optional_class JavacardSecurity RsaPrivateKeyObject (codes "RSAPrivateKeyObject") (Some RsaKeyObject) (RsaPrivateKey ∷ PrivateKey ∷ Key ∷ []) form.Object (Number ∷ Reference ∷ []) false false ∷
+    optional_class JavacardSecurity RsaPrivateCrtKeyObject (codes "RSAPrivateCrtKeyObject") (Some KeyObject) (RsaPrivateCrtKey ∷ PrivateKey ∷ Key ∷ []) form.Object (Number ∷ Reference ∷ []) false false ∷
+    optional_class JavacardSecurity EcKeyObject (codes "ECKeyObject") (Some KeyObject) (EcKey ∷ Key ∷ []) form.Object (Number ∷ Reference ∷ []) false false ∷
+    optional_class JavacardSecurity EcPublicKeyObject (codes "ECPublicKeyObject") (Some EcKeyObject) (EcPublicKey ∷ PublicKey ∷ Key ∷ EcKey ∷ []) form.Object (Number ∷ Reference ∷ []) false false ∷
+    optional_class JavacardSecurity EcPrivateKeyObject (codes "ECPrivateKeyObject") (Some EcKeyObject) (EcPrivateKey ∷ PrivateKey ∷ Key ∷ EcKey ∷ []) form.Object (Number ∷ Reference ∷ []) false false ∷
     optional_class JavacardxCrypto Cipher (codes "Cipher") (Some Object) [] form.Object (Number ∷ Reference ∷ Reference ∷ Number ∷ Number ∷ Number ∷ Number ∷ Number ∷ Number ∷ Number ∷ Number ∷ Number ∷ []) false false ∷
     []
 
@@ -473,9 +534,171 @@ ciphers_rows =
     optional_method Signature kind.Virtual (Ciphers SignatureGetLength) (codes "getLength") [] answer.Short Kept ∷
     []
 
+-- the methods of the classes of RSA keys
+unfoldable pub rsa_keys_rows : List MethodEntry
+rsa_keys_rows =
+    optional_method RsaKeyObject kind.Virtual (RsaKeys RsaKeyObjectSetModulus) (codes "setModulus") (Bytes ∷ Short ∷ Short ∷ []) answer.Void Kept ∷
+    optional_method RsaKeyObject kind.Virtual (RsaKeys RsaKeyObjectSetExponent) (codes "setExponent") (Bytes ∷ Short ∷ Short ∷ []) answer.Void Kept ∷
+    optional_method RsaKeyObject kind.Virtual (RsaKeys RsaKeyObjectGetModulus) (codes "getModulus") (Bytes ∷ Short ∷ []) answer.Short Kept ∷
+    optional_method RsaKeyObject kind.Virtual (RsaKeys RsaKeyObjectGetExponent) (codes "getExponent") (Bytes ∷ Short ∷ []) answer.Short Kept ∷
+    optional_method RsaPrivateCrtKeyObject kind.Virtual (RsaKeys RsaPrivateCrtKeyObjectSetP) (codes "setP") (Bytes ∷ Short ∷ Short ∷ []) answer.Void Kept ∷
+    optional_method RsaPrivateCrtKeyObject kind.Virtual (RsaKeys RsaPrivateCrtKeyObjectSetQ) (codes "setQ") (Bytes ∷ Short ∷ Short ∷ []) answer.Void Kept ∷
+    optional_method RsaPrivateCrtKeyObject kind.Virtual (RsaKeys RsaPrivateCrtKeyObjectSetDp1) (codes "setDP1") (Bytes ∷ Short ∷ Short ∷ []) answer.Void Kept ∷
+    optional_method RsaPrivateCrtKeyObject kind.Virtual (RsaKeys RsaPrivateCrtKeyObjectSetDq1) (codes "setDQ1") (Bytes ∷ Short ∷ Short ∷ []) answer.Void Kept ∷
+    optional_method RsaPrivateCrtKeyObject kind.Virtual (RsaKeys RsaPrivateCrtKeyObjectSetPq) (codes "setPQ") (Bytes ∷ Short ∷ Short ∷ []) answer.Void Kept ∷
+    optional_method RsaPrivateCrtKeyObject kind.Virtual (RsaKeys RsaPrivateCrtKeyObjectGetP) (codes "getP") (Bytes ∷ Short ∷ []) answer.Short Kept ∷
+    optional_method RsaPrivateCrtKeyObject kind.Virtual (RsaKeys RsaPrivateCrtKeyObjectGetQ) (codes "getQ") (Bytes ∷ Short ∷ []) answer.Short Kept ∷
+    optional_method RsaPrivateCrtKeyObject kind.Virtual (RsaKeys RsaPrivateCrtKeyObjectGetDp1) (codes "getDP1") (Bytes ∷ Short ∷ []) answer.Short Kept ∷
+    optional_method RsaPrivateCrtKeyObject kind.Virtual (RsaKeys RsaPrivateCrtKeyObjectGetDq1) (codes "getDQ1") (Bytes ∷ Short ∷ []) answer.Short Kept ∷
+    optional_method RsaPrivateCrtKeyObject kind.Virtual (RsaKeys RsaPrivateCrtKeyObjectGetPq) (codes "getPQ") (Bytes ∷ Short ∷ []) answer.Short Kept ∷
+    []
+
+-- the methods of the classes of keys on elliptic curves
+unfoldable pub ec_keys_rows : List MethodEntry
+ec_keys_rows =
+    optional_method EcKeyObject kind.Virtual (EcKeys EcKeyObjectSetFieldFp) (codes "setFieldFP") (Bytes ∷ Short ∷ Short ∷ []) answer.Void Kept ∷
+    optional_method EcKeyObject kind.Virtual (EcKeys EcKeyObjectSetFieldF2m) (codes "setFieldF2M") (Short ∷ []) answer.Void Kept ∷
+    optional_method EcKeyObject kind.Virtual (EcKeys EcKeyObjectSetFieldF2mOfThree) (codes "setFieldF2MOfThree") (Short ∷ Short ∷ Short ∷ []) answer.Void Kept ∷
+    optional_method EcKeyObject kind.Virtual (EcKeys EcKeyObjectSetA) (codes "setA") (Bytes ∷ Short ∷ Short ∷ []) answer.Void Kept ∷
+    optional_method EcKeyObject kind.Virtual (EcKeys EcKeyObjectSetB) (codes "setB") (Bytes ∷ Short ∷ Short ∷ []) answer.Void Kept ∷
+    optional_method EcKeyObject kind.Virtual (EcKeys EcKeyObjectSetG) (codes "setG") (Bytes ∷ Short ∷ Short ∷ []) answer.Void Kept ∷
+    optional_method EcKeyObject kind.Virtual (EcKeys EcKeyObjectSetR) (codes "setR") (Bytes ∷ Short ∷ Short ∷ []) answer.Void Kept ∷
+    optional_method EcKeyObject kind.Virtual (EcKeys EcKeyObjectSetK) (codes "setK") (Short ∷ []) answer.Void Kept ∷
+    optional_method EcKeyObject kind.Virtual (EcKeys EcKeyObjectGetField) (codes "getField") (Bytes ∷ Short ∷ []) answer.Short Kept ∷
+    optional_method EcKeyObject kind.Virtual (EcKeys EcKeyObjectGetA) (codes "getA") (Bytes ∷ Short ∷ []) answer.Short Kept ∷
+    optional_method EcKeyObject kind.Virtual (EcKeys EcKeyObjectGetB) (codes "getB") (Bytes ∷ Short ∷ []) answer.Short Kept ∷
+    optional_method EcKeyObject kind.Virtual (EcKeys EcKeyObjectGetG) (codes "getG") (Bytes ∷ Short ∷ []) answer.Short Kept ∷
+    optional_method EcKeyObject kind.Virtual (EcKeys EcKeyObjectGetR) (codes "getR") (Bytes ∷ Short ∷ []) answer.Short Kept ∷
+    optional_method EcKeyObject kind.Virtual (EcKeys EcKeyObjectGetK) (codes "getK") [] answer.Short Kept ∷
+    optional_method EcKeyObject kind.Virtual (EcKeys EcKeyObjectCopyDomainParametersFrom) (codes "copyDomainParametersFrom") (Anything ∷ []) answer.Void Kept ∷
+    optional_method EcPublicKeyObject kind.Virtual (EcKeys EcPublicKeyObjectSetW) (codes "setW") (Bytes ∷ Short ∷ Short ∷ []) answer.Void Kept ∷
+    optional_method EcPublicKeyObject kind.Virtual (EcKeys EcPublicKeyObjectGetW) (codes "getW") (Bytes ∷ Short ∷ []) answer.Short Kept ∷
+    optional_method EcPrivateKeyObject kind.Virtual (EcKeys EcPrivateKeyObjectSetS) (codes "setS") (Bytes ∷ Short ∷ Short ∷ []) answer.Void Kept ∷
+    optional_method EcPrivateKeyObject kind.Virtual (EcKeys EcPrivateKeyObjectGetS) (codes "getS") (Bytes ∷ Short ∷ []) answer.Short Kept ∷
+    []
+
+-- the methods of the interfaces of public keys, of private keys and of RSA keys
+unfoldable pub rsa_interfaces_rows : List MethodEntry
+rsa_interfaces_rows =
+    optional_implemented_method PrivateKey kind.Interface (RsaInterfaces PrivateKeyClearKey) (codes "clearKey") [] answer.Void Kept (Keys KeyObjectClearKey) ∷
+    optional_implemented_method PrivateKey kind.Interface (RsaInterfaces PrivateKeyGetSize) (codes "getSize") [] answer.Short Kept (Keys KeyObjectGetSize) ∷
+    optional_implemented_method PrivateKey kind.Interface (RsaInterfaces PrivateKeyGetType) (codes "getType") [] answer.Byte Kept (Keys KeyObjectGetType) ∷
+    optional_implemented_method PrivateKey kind.Interface (RsaInterfaces PrivateKeyIsInitialized) (codes "isInitialized") [] answer.Boolean Kept (Keys KeyObjectIsInitialized) ∷
+    optional_implemented_method PublicKey kind.Interface (RsaInterfaces PublicKeyClearKey) (codes "clearKey") [] answer.Void Kept (Keys KeyObjectClearKey) ∷
+    optional_implemented_method PublicKey kind.Interface (RsaInterfaces PublicKeyGetSize) (codes "getSize") [] answer.Short Kept (Keys KeyObjectGetSize) ∷
+    optional_implemented_method PublicKey kind.Interface (RsaInterfaces PublicKeyGetType) (codes "getType") [] answer.Byte Kept (Keys KeyObjectGetType) ∷
+    optional_implemented_method PublicKey kind.Interface (RsaInterfaces PublicKeyIsInitialized) (codes "isInitialized") [] answer.Boolean Kept (Keys KeyObjectIsInitialized) ∷
+    optional_implemented_method RsaPublicKey kind.Interface (RsaInterfaces RsaPublicKeyClearKey) (codes "clearKey") [] answer.Void Kept (Keys KeyObjectClearKey) ∷
+    optional_implemented_method RsaPublicKey kind.Interface (RsaInterfaces RsaPublicKeyGetSize) (codes "getSize") [] answer.Short Kept (Keys KeyObjectGetSize) ∷
+    optional_implemented_method RsaPublicKey kind.Interface (RsaInterfaces RsaPublicKeyGetType) (codes "getType") [] answer.Byte Kept (Keys KeyObjectGetType) ∷
+    optional_implemented_method RsaPublicKey kind.Interface (RsaInterfaces RsaPublicKeyIsInitialized) (codes "isInitialized") [] answer.Boolean Kept (Keys KeyObjectIsInitialized) ∷
+    optional_implemented_method RsaPublicKey kind.Interface (RsaInterfaces RsaPublicKeySetModulus) (codes "setModulus") (Bytes ∷ Short ∷ Short ∷ []) answer.Void Kept (RsaKeys RsaKeyObjectSetModulus) ∷
+    optional_implemented_method RsaPublicKey kind.Interface (RsaInterfaces RsaPublicKeySetExponent) (codes "setExponent") (Bytes ∷ Short ∷ Short ∷ []) answer.Void Kept (RsaKeys RsaKeyObjectSetExponent) ∷
+    optional_implemented_method RsaPublicKey kind.Interface (RsaInterfaces RsaPublicKeyGetModulus) (codes "getModulus") (Bytes ∷ Short ∷ []) answer.Short Kept (RsaKeys RsaKeyObjectGetModulus) ∷
+    optional_implemented_method RsaPublicKey kind.Interface (RsaInterfaces RsaPublicKeyGetExponent) (codes "getExponent") (Bytes ∷ Short ∷ []) answer.Short Kept (RsaKeys RsaKeyObjectGetExponent) ∷
+    optional_implemented_method RsaPrivateKey kind.Interface (RsaInterfaces RsaPrivateKeyClearKey) (codes "clearKey") [] answer.Void Kept (Keys KeyObjectClearKey) ∷
+    optional_implemented_method RsaPrivateKey kind.Interface (RsaInterfaces RsaPrivateKeyGetSize) (codes "getSize") [] answer.Short Kept (Keys KeyObjectGetSize) ∷
+    optional_implemented_method RsaPrivateKey kind.Interface (RsaInterfaces RsaPrivateKeyGetType) (codes "getType") [] answer.Byte Kept (Keys KeyObjectGetType) ∷
+    optional_implemented_method RsaPrivateKey kind.Interface (RsaInterfaces RsaPrivateKeyIsInitialized) (codes "isInitialized") [] answer.Boolean Kept (Keys KeyObjectIsInitialized) ∷
+    optional_implemented_method RsaPrivateKey kind.Interface (RsaInterfaces RsaPrivateKeySetModulus) (codes "setModulus") (Bytes ∷ Short ∷ Short ∷ []) answer.Void Kept (RsaKeys RsaKeyObjectSetModulus) ∷
+    optional_implemented_method RsaPrivateKey kind.Interface (RsaInterfaces RsaPrivateKeySetExponent) (codes "setExponent") (Bytes ∷ Short ∷ Short ∷ []) answer.Void Kept (RsaKeys RsaKeyObjectSetExponent) ∷
+    optional_implemented_method RsaPrivateKey kind.Interface (RsaInterfaces RsaPrivateKeyGetModulus) (codes "getModulus") (Bytes ∷ Short ∷ []) answer.Short Kept (RsaKeys RsaKeyObjectGetModulus) ∷
+    optional_implemented_method RsaPrivateKey kind.Interface (RsaInterfaces RsaPrivateKeyGetExponent) (codes "getExponent") (Bytes ∷ Short ∷ []) answer.Short Kept (RsaKeys RsaKeyObjectGetExponent) ∷
+    optional_implemented_method RsaPrivateCrtKey kind.Interface (RsaInterfaces RsaPrivateCrtKeyClearKey) (codes "clearKey") [] answer.Void Kept (Keys KeyObjectClearKey) ∷
+    optional_implemented_method RsaPrivateCrtKey kind.Interface (RsaInterfaces RsaPrivateCrtKeyGetSize) (codes "getSize") [] answer.Short Kept (Keys KeyObjectGetSize) ∷
+    optional_implemented_method RsaPrivateCrtKey kind.Interface (RsaInterfaces RsaPrivateCrtKeyGetType) (codes "getType") [] answer.Byte Kept (Keys KeyObjectGetType) ∷
+    optional_implemented_method RsaPrivateCrtKey kind.Interface (RsaInterfaces RsaPrivateCrtKeyIsInitialized) (codes "isInitialized") [] answer.Boolean Kept (Keys KeyObjectIsInitialized) ∷
+    optional_implemented_method RsaPrivateCrtKey kind.Interface (RsaInterfaces RsaPrivateCrtKeySetP) (codes "setP") (Bytes ∷ Short ∷ Short ∷ []) answer.Void Kept (RsaKeys RsaPrivateCrtKeyObjectSetP) ∷
+    optional_implemented_method RsaPrivateCrtKey kind.Interface (RsaInterfaces RsaPrivateCrtKeySetQ) (codes "setQ") (Bytes ∷ Short ∷ Short ∷ []) answer.Void Kept (RsaKeys RsaPrivateCrtKeyObjectSetQ) ∷
+    optional_implemented_method RsaPrivateCrtKey kind.Interface (RsaInterfaces RsaPrivateCrtKeySetDp1) (codes "setDP1") (Bytes ∷ Short ∷ Short ∷ []) answer.Void Kept (RsaKeys RsaPrivateCrtKeyObjectSetDp1) ∷
+    optional_implemented_method RsaPrivateCrtKey kind.Interface (RsaInterfaces RsaPrivateCrtKeySetDq1) (codes "setDQ1") (Bytes ∷ Short ∷ Short ∷ []) answer.Void Kept (RsaKeys RsaPrivateCrtKeyObjectSetDq1) ∷
+    optional_implemented_method RsaPrivateCrtKey kind.Interface (RsaInterfaces RsaPrivateCrtKeySetPq) (codes "setPQ") (Bytes ∷ Short ∷ Short ∷ []) answer.Void Kept (RsaKeys RsaPrivateCrtKeyObjectSetPq) ∷
+    optional_implemented_method RsaPrivateCrtKey kind.Interface (RsaInterfaces RsaPrivateCrtKeyGetP) (codes "getP") (Bytes ∷ Short ∷ []) answer.Short Kept (RsaKeys RsaPrivateCrtKeyObjectGetP) ∷
+    optional_implemented_method RsaPrivateCrtKey kind.Interface (RsaInterfaces RsaPrivateCrtKeyGetQ) (codes "getQ") (Bytes ∷ Short ∷ []) answer.Short Kept (RsaKeys RsaPrivateCrtKeyObjectGetQ) ∷
+    optional_implemented_method RsaPrivateCrtKey kind.Interface (RsaInterfaces RsaPrivateCrtKeyGetDp1) (codes "getDP1") (Bytes ∷ Short ∷ []) answer.Short Kept (RsaKeys RsaPrivateCrtKeyObjectGetDp1) ∷
+    optional_implemented_method RsaPrivateCrtKey kind.Interface (RsaInterfaces RsaPrivateCrtKeyGetDq1) (codes "getDQ1") (Bytes ∷ Short ∷ []) answer.Short Kept (RsaKeys RsaPrivateCrtKeyObjectGetDq1) ∷
+    optional_implemented_method RsaPrivateCrtKey kind.Interface (RsaInterfaces RsaPrivateCrtKeyGetPq) (codes "getPQ") (Bytes ∷ Short ∷ []) answer.Short Kept (RsaKeys RsaPrivateCrtKeyObjectGetPq) ∷
+    []
+
+-- the methods of the interfaces of keys on elliptic curves
+unfoldable pub ec_interfaces_rows : List MethodEntry
+ec_interfaces_rows =
+    optional_implemented_method EcKey kind.Interface (EcInterfaces EcKeySetFieldFp) (codes "setFieldFP") (Bytes ∷ Short ∷ Short ∷ []) answer.Void Kept (EcKeys EcKeyObjectSetFieldFp) ∷
+    optional_implemented_method EcKey kind.Interface (EcInterfaces EcKeySetFieldF2m) (codes "setFieldF2M") (Short ∷ []) answer.Void Kept (EcKeys EcKeyObjectSetFieldF2m) ∷
+    optional_implemented_method EcKey kind.Interface (EcInterfaces EcKeySetFieldF2mOfThree) (codes "setFieldF2MOfThree") (Short ∷ Short ∷ Short ∷ []) answer.Void Kept (EcKeys EcKeyObjectSetFieldF2mOfThree) ∷
+    optional_implemented_method EcKey kind.Interface (EcInterfaces EcKeySetA) (codes "setA") (Bytes ∷ Short ∷ Short ∷ []) answer.Void Kept (EcKeys EcKeyObjectSetA) ∷
+    optional_implemented_method EcKey kind.Interface (EcInterfaces EcKeySetB) (codes "setB") (Bytes ∷ Short ∷ Short ∷ []) answer.Void Kept (EcKeys EcKeyObjectSetB) ∷
+    optional_implemented_method EcKey kind.Interface (EcInterfaces EcKeySetG) (codes "setG") (Bytes ∷ Short ∷ Short ∷ []) answer.Void Kept (EcKeys EcKeyObjectSetG) ∷
+    optional_implemented_method EcKey kind.Interface (EcInterfaces EcKeySetR) (codes "setR") (Bytes ∷ Short ∷ Short ∷ []) answer.Void Kept (EcKeys EcKeyObjectSetR) ∷
+    optional_implemented_method EcKey kind.Interface (EcInterfaces EcKeySetK) (codes "setK") (Short ∷ []) answer.Void Kept (EcKeys EcKeyObjectSetK) ∷
+    optional_implemented_method EcKey kind.Interface (EcInterfaces EcKeyGetField) (codes "getField") (Bytes ∷ Short ∷ []) answer.Short Kept (EcKeys EcKeyObjectGetField) ∷
+    optional_implemented_method EcKey kind.Interface (EcInterfaces EcKeyGetA) (codes "getA") (Bytes ∷ Short ∷ []) answer.Short Kept (EcKeys EcKeyObjectGetA) ∷
+    optional_implemented_method EcKey kind.Interface (EcInterfaces EcKeyGetB) (codes "getB") (Bytes ∷ Short ∷ []) answer.Short Kept (EcKeys EcKeyObjectGetB) ∷
+    optional_implemented_method EcKey kind.Interface (EcInterfaces EcKeyGetG) (codes "getG") (Bytes ∷ Short ∷ []) answer.Short Kept (EcKeys EcKeyObjectGetG) ∷
+    optional_implemented_method EcKey kind.Interface (EcInterfaces EcKeyGetR) (codes "getR") (Bytes ∷ Short ∷ []) answer.Short Kept (EcKeys EcKeyObjectGetR) ∷
+    optional_implemented_method EcKey kind.Interface (EcInterfaces EcKeyGetK) (codes "getK") [] answer.Short Kept (EcKeys EcKeyObjectGetK) ∷
+    optional_implemented_method EcKey kind.Interface (EcInterfaces EcKeyCopyDomainParametersFrom) (codes "copyDomainParametersFrom") (Anything ∷ []) answer.Void Kept (EcKeys EcKeyObjectCopyDomainParametersFrom) ∷
+    optional_implemented_method EcPublicKey kind.Interface (EcInterfaces EcPublicKeyClearKey) (codes "clearKey") [] answer.Void Kept (Keys KeyObjectClearKey) ∷
+    optional_implemented_method EcPublicKey kind.Interface (EcInterfaces EcPublicKeyGetSize) (codes "getSize") [] answer.Short Kept (Keys KeyObjectGetSize) ∷
+    optional_implemented_method EcPublicKey kind.Interface (EcInterfaces EcPublicKeyGetType) (codes "getType") [] answer.Byte Kept (Keys KeyObjectGetType) ∷
+    optional_implemented_method EcPublicKey kind.Interface (EcInterfaces EcPublicKeyIsInitialized) (codes "isInitialized") [] answer.Boolean Kept (Keys KeyObjectIsInitialized) ∷
+    optional_implemented_method EcPublicKey kind.Interface (EcInterfaces EcPublicKeySetFieldFp) (codes "setFieldFP") (Bytes ∷ Short ∷ Short ∷ []) answer.Void Kept (EcKeys EcKeyObjectSetFieldFp) ∷
+    optional_implemented_method EcPublicKey kind.Interface (EcInterfaces EcPublicKeySetFieldF2m) (codes "setFieldF2M") (Short ∷ []) answer.Void Kept (EcKeys EcKeyObjectSetFieldF2m) ∷
+    optional_implemented_method EcPublicKey kind.Interface (EcInterfaces EcPublicKeySetFieldF2mOfThree) (codes "setFieldF2MOfThree") (Short ∷ Short ∷ Short ∷ []) answer.Void Kept (EcKeys EcKeyObjectSetFieldF2mOfThree) ∷
+    optional_implemented_method EcPublicKey kind.Interface (EcInterfaces EcPublicKeySetA) (codes "setA") (Bytes ∷ Short ∷ Short ∷ []) answer.Void Kept (EcKeys EcKeyObjectSetA) ∷
+    optional_implemented_method EcPublicKey kind.Interface (EcInterfaces EcPublicKeySetB) (codes "setB") (Bytes ∷ Short ∷ Short ∷ []) answer.Void Kept (EcKeys EcKeyObjectSetB) ∷
+    optional_implemented_method EcPublicKey kind.Interface (EcInterfaces EcPublicKeySetG) (codes "setG") (Bytes ∷ Short ∷ Short ∷ []) answer.Void Kept (EcKeys EcKeyObjectSetG) ∷
+    optional_implemented_method EcPublicKey kind.Interface (EcInterfaces EcPublicKeySetR) (codes "setR") (Bytes ∷ Short ∷ Short ∷ []) answer.Void Kept (EcKeys EcKeyObjectSetR) ∷
+    optional_implemented_method EcPublicKey kind.Interface (EcInterfaces EcPublicKeySetK) (codes "setK") (Short ∷ []) answer.Void Kept (EcKeys EcKeyObjectSetK) ∷
+    optional_implemented_method EcPublicKey kind.Interface (EcInterfaces EcPublicKeyGetField) (codes "getField") (Bytes ∷ Short ∷ []) answer.Short Kept (EcKeys EcKeyObjectGetField) ∷
+    optional_implemented_method EcPublicKey kind.Interface (EcInterfaces EcPublicKeyGetA) (codes "getA") (Bytes ∷ Short ∷ []) answer.Short Kept (EcKeys EcKeyObjectGetA) ∷
+    optional_implemented_method EcPublicKey kind.Interface (EcInterfaces EcPublicKeyGetB) (codes "getB") (Bytes ∷ Short ∷ []) answer.Short Kept (EcKeys EcKeyObjectGetB) ∷
+    optional_implemented_method EcPublicKey kind.Interface (EcInterfaces EcPublicKeyGetG) (codes "getG") (Bytes ∷ Short ∷ []) answer.Short Kept (EcKeys EcKeyObjectGetG) ∷
+    optional_implemented_method EcPublicKey kind.Interface (EcInterfaces EcPublicKeyGetR) (codes "getR") (Bytes ∷ Short ∷ []) answer.Short Kept (EcKeys EcKeyObjectGetR) ∷
+    optional_implemented_method EcPublicKey kind.Interface (EcInterfaces EcPublicKeyGetK) (codes "getK") [] answer.Short Kept (EcKeys EcKeyObjectGetK) ∷
+    optional_implemented_method EcPublicKey kind.Interface (EcInterfaces EcPublicKeyCopyDomainParametersFrom) (codes "copyDomainParametersFrom") (Anything ∷ []) answer.Void Kept (EcKeys EcKeyObjectCopyDomainParametersFrom) ∷
+    optional_implemented_method EcPublicKey kind.Interface (EcInterfaces EcPublicKeySetW) (codes "setW") (Bytes ∷ Short ∷ Short ∷ []) answer.Void Kept (EcKeys EcPublicKeyObjectSetW) ∷
+    optional_implemented_method EcPublicKey kind.Interface (EcInterfaces EcPublicKeyGetW) (codes "getW") (Bytes ∷ Short ∷ []) answer.Short Kept (EcKeys EcPublicKeyObjectGetW) ∷
+    optional_implemented_method EcPrivateKey kind.Interface (EcInterfaces EcPrivateKeyClearKey) (codes "clearKey") [] answer.Void Kept (Keys KeyObjectClearKey) ∷
+    optional_implemented_method EcPrivateKey kind.Interface (EcInterfaces EcPrivateKeyGetSize) (codes "getSize") [] answer.Short Kept (Keys KeyObjectGetSize) ∷
+    optional_implemented_method EcPrivateKey kind.Interface (EcInterfaces EcPrivateKeyGetType) (codes "getType") [] answer.Byte Kept (Keys KeyObjectGetType) ∷
+    optional_implemented_method EcPrivateKey kind.Interface (EcInterfaces EcPrivateKeyIsInitialized) (codes "isInitialized") [] answer.Boolean Kept (Keys KeyObjectIsInitialized) ∷
+    optional_implemented_method EcPrivateKey kind.Interface (EcInterfaces EcPrivateKeySetFieldFp) (codes "setFieldFP") (Bytes ∷ Short ∷ Short ∷ []) answer.Void Kept (EcKeys EcKeyObjectSetFieldFp) ∷
+    optional_implemented_method EcPrivateKey kind.Interface (EcInterfaces EcPrivateKeySetFieldF2m) (codes "setFieldF2M") (Short ∷ []) answer.Void Kept (EcKeys EcKeyObjectSetFieldF2m) ∷
+    optional_implemented_method EcPrivateKey kind.Interface (EcInterfaces EcPrivateKeySetFieldF2mOfThree) (codes "setFieldF2MOfThree") (Short ∷ Short ∷ Short ∷ []) answer.Void Kept (EcKeys EcKeyObjectSetFieldF2mOfThree) ∷
+    optional_implemented_method EcPrivateKey kind.Interface (EcInterfaces EcPrivateKeySetA) (codes "setA") (Bytes ∷ Short ∷ Short ∷ []) answer.Void Kept (EcKeys EcKeyObjectSetA) ∷
+    optional_implemented_method EcPrivateKey kind.Interface (EcInterfaces EcPrivateKeySetB) (codes "setB") (Bytes ∷ Short ∷ Short ∷ []) answer.Void Kept (EcKeys EcKeyObjectSetB) ∷
+    optional_implemented_method EcPrivateKey kind.Interface (EcInterfaces EcPrivateKeySetG) (codes "setG") (Bytes ∷ Short ∷ Short ∷ []) answer.Void Kept (EcKeys EcKeyObjectSetG) ∷
+    optional_implemented_method EcPrivateKey kind.Interface (EcInterfaces EcPrivateKeySetR) (codes "setR") (Bytes ∷ Short ∷ Short ∷ []) answer.Void Kept (EcKeys EcKeyObjectSetR) ∷
+    optional_implemented_method EcPrivateKey kind.Interface (EcInterfaces EcPrivateKeySetK) (codes "setK") (Short ∷ []) answer.Void Kept (EcKeys EcKeyObjectSetK) ∷
+    optional_implemented_method EcPrivateKey kind.Interface (EcInterfaces EcPrivateKeyGetField) (codes "getField") (Bytes ∷ Short ∷ []) answer.Short Kept (EcKeys EcKeyObjectGetField) ∷
+    optional_implemented_method EcPrivateKey kind.Interface (EcInterfaces EcPrivateKeyGetA) (codes "getA") (Bytes ∷ Short ∷ []) answer.Short Kept (EcKeys EcKeyObjectGetA) ∷
+    optional_implemented_method EcPrivateKey kind.Interface (EcInterfaces EcPrivateKeyGetB) (codes "getB") (Bytes ∷ Short ∷ []) answer.Short Kept (EcKeys EcKeyObjectGetB) ∷
+    optional_implemented_method EcPrivateKey kind.Interface (EcInterfaces EcPrivateKeyGetG) (codes "getG") (Bytes ∷ Short ∷ []) answer.Short Kept (EcKeys EcKeyObjectGetG) ∷
+    optional_implemented_method EcPrivateKey kind.Interface (EcInterfaces EcPrivateKeyGetR) (codes "getR") (Bytes ∷ Short ∷ []) answer.Short Kept (EcKeys EcKeyObjectGetR) ∷
+    optional_implemented_method EcPrivateKey kind.Interface (EcInterfaces EcPrivateKeyGetK) (codes "getK") [] answer.Short Kept (EcKeys EcKeyObjectGetK) ∷
+    optional_implemented_method EcPrivateKey kind.Interface (EcInterfaces EcPrivateKeyCopyDomainParametersFrom) (codes "copyDomainParametersFrom") (Anything ∷ []) answer.Void Kept (EcKeys EcKeyObjectCopyDomainParametersFrom) ∷
+    optional_implemented_method EcPrivateKey kind.Interface (EcInterfaces EcPrivateKeySetS) (codes "setS") (Bytes ∷ Short ∷ Short ∷ []) answer.Void Kept (EcKeys EcPrivateKeyObjectSetS) ∷
+    optional_implemented_method EcPrivateKey kind.Interface (EcInterfaces EcPrivateKeyGetS) (codes "getS") (Bytes ∷ Short ∷ []) answer.Short Kept (EcKeys EcPrivateKeyObjectGetS) ∷
+    []
+
+-- the methods of KeyPair and KeyAgreement
+unfoldable pub key_pairs_rows : List MethodEntry
+key_pairs_rows =
+    optional_method KeyPair kind.Static (KeyPairs KeyPairInit) (codes "<init>") (Byte ∷ Short ∷ []) answer.Void Changed ∷
+    optional_method KeyPair kind.Static (KeyPairs KeyPairInitOfKeys) (codes "<init>OfKeys") (Anything ∷ Anything ∷ []) answer.Void Changed ∷
+    optional_method KeyPair kind.Virtual (KeyPairs KeyPairGenKeyPair) (codes "genKeyPair") [] answer.Void Kept ∷
+    optional_method KeyPair kind.Virtual (KeyPairs KeyPairGetPublic) (codes "getPublic") [] answer.Reference Kept ∷
+    optional_method KeyPair kind.Virtual (KeyPairs KeyPairGetPrivate) (codes "getPrivate") [] answer.Reference Kept ∷
+    optional_method KeyAgreement kind.Static (KeyPairs KeyAgreementGetInstance) (codes "getInstance") (Byte ∷ Boolean ∷ []) answer.Reference Absent ∷
+    optional_method KeyAgreement kind.Virtual (KeyPairs KeyAgreementInit) (codes "init") (Anything ∷ []) answer.Void Changed ∷
+    optional_method KeyAgreement kind.Virtual (KeyPairs KeyAgreementGenerateSecret) (codes "generateSecret") (Bytes ∷ Short ∷ Short ∷ Bytes ∷ Short ∷ []) answer.Short Kept ∷
+    optional_method KeyAgreement kind.Virtual (KeyPairs KeyAgreementGetAlgorithm) (codes "getAlgorithm") [] answer.Byte Kept ∷
+    []
+
 -- every method
 abbrev pub methods : List MethodEntry
-methods = objects_rows ++ (exceptions_rows ++ (utilities_rows ++ (system_rows ++ (aids_rows ++ (pins_rows ++ (applets_rows ++ (apdus_rows ++ (events_rows ++ (engines_rows ++ (keys_rows ++ (key_interfaces_rows ++ (ciphers_rows))))))))))))
+methods = objects_rows ++ (exceptions_rows ++ (utilities_rows ++ (system_rows ++ (aids_rows ++ (pins_rows ++ (applets_rows ++ (apdus_rows ++ (events_rows ++ (engines_rows ++ (keys_rows ++ (key_interfaces_rows ++ (ciphers_rows ++ (rsa_keys_rows ++ (ec_keys_rows ++ (rsa_interfaces_rows ++ (ec_interfaces_rows ++ (key_pairs_rows)))))))))))))))))
 
 -- no class's row
 unfoldable pub no_class : ClassEntry

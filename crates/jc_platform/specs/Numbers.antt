@@ -12,11 +12,15 @@ use Rattle.jc_platform.specs.declared.names.PlatformClass.TheVariants.{ApduExcep
 use Rattle.jc_platform.specs.declared.names.PlatformClass.TheVariants.{CryptoException, MessageDigest, Checksum, RandomData, InitializedMessageDigest}
 use Rattle.jc_platform.specs.declared.names.PlatformClass.TheVariants.{Key, SecretKey, DesKey, AesKey, HmacKey, KeyBuilder, KeyObject, DesKeyObject}
 use Rattle.jc_platform.specs.declared.names.PlatformClass.TheVariants.{AesKeyObject, HmacKeyObject, Signature, Cipher}
+use Rattle.jc_platform.specs.declared.names.PlatformClass.TheVariants.{PrivateKey, PublicKey, RsaPublicKey, RsaPrivateKey, RsaPrivateCrtKey, EcKey, EcPublicKey}
+use Rattle.jc_platform.specs.declared.names.PlatformClass.TheVariants.{EcPrivateKey, KeyPair, KeyAgreement, RsaKeyObject, RsaPublicKeyObject, RsaPrivateKeyObject}
+use Rattle.jc_platform.specs.declared.names.PlatformClass.TheVariants.{RsaPrivateCrtKeyObject, EcKeyObject, EcPublicKeyObject, EcPrivateKeyObject}
 use Rattle.jc_platform.specs.declared.names.MethodKind.{MethodKind}
 use Rattle.jc_platform.specs.declared.names.MethodKind.TheVariants.{Static, Virtual, Interface}
 use Rattle.jc_platform.specs.declared.names.PlatformMethod.{PlatformMethod}
 use Rattle.jc_platform.specs.declared.names.PlatformMethod.TheVariants.{Objects, Exceptions, Utilities, System, Aids, Pins, Applets, Apdus, Events, Engines}
 use Rattle.jc_platform.specs.declared.names.PlatformMethod.TheVariants.{Keys, KeyInterfaces, Ciphers}
+use Rattle.jc_platform.specs.declared.names.PlatformMethod.TheVariants.{RsaKeys, EcKeys, RsaInterfaces, EcInterfaces, KeyPairs}
 use Rattle.jc_platform.specs.declared.names.ObjectsMethod.{ObjectsMethod}
 use Rattle.jc_platform.specs.declared.names.ObjectsMethod.TheVariants.{ObjectInit, ObjectEquals, ThrowableInit, ExceptionInit, RuntimeExceptionInit}
 use Rattle.jc_platform.specs.declared.names.ObjectsMethod.TheVariants.{IndexOutOfBoundsExceptionInit, ArithmeticExceptionInit}
@@ -88,13 +92,58 @@ use Rattle.jc_platform.specs.declared.names.CiphersMethod.TheVariants.{Signature
 use Rattle.jc_platform.specs.declared.names.CiphersMethod.TheVariants.{SignatureUpdate, SignatureSign, SignatureVerify, SignatureGetAlgorithm}
 use Rattle.jc_platform.specs.declared.names.CiphersMethod.TheVariants.{SignatureGetMessageDigestAlgorithm, SignatureGetCipherAlgorithm}
 use Rattle.jc_platform.specs.declared.names.CiphersMethod.TheVariants.{SignatureGetPaddingAlgorithm, SignatureGetLength}
+use Rattle.jc_platform.specs.declared.names.RsaKeysMethod.{RsaKeysMethod}
+use Rattle.jc_platform.specs.declared.names.RsaKeysMethod.TheVariants.{RsaKeyObjectSetModulus, RsaKeyObjectSetExponent, RsaKeyObjectGetModulus}
+use Rattle.jc_platform.specs.declared.names.RsaKeysMethod.TheVariants.{RsaKeyObjectGetExponent, RsaPrivateCrtKeyObjectSetP, RsaPrivateCrtKeyObjectSetQ}
+use Rattle.jc_platform.specs.declared.names.RsaKeysMethod.TheVariants.{RsaPrivateCrtKeyObjectSetDp1, RsaPrivateCrtKeyObjectSetDq1, RsaPrivateCrtKeyObjectSetPq}
+use Rattle.jc_platform.specs.declared.names.RsaKeysMethod.TheVariants.{RsaPrivateCrtKeyObjectGetP, RsaPrivateCrtKeyObjectGetQ, RsaPrivateCrtKeyObjectGetDp1}
+use Rattle.jc_platform.specs.declared.names.RsaKeysMethod.TheVariants.{RsaPrivateCrtKeyObjectGetDq1, RsaPrivateCrtKeyObjectGetPq}
+use Rattle.jc_platform.specs.declared.names.EcKeysMethod.{EcKeysMethod}
+use Rattle.jc_platform.specs.declared.names.EcKeysMethod.TheVariants.{EcKeyObjectSetFieldFp, EcKeyObjectSetFieldF2m, EcKeyObjectSetFieldF2mOfThree}
+use Rattle.jc_platform.specs.declared.names.EcKeysMethod.TheVariants.{EcKeyObjectSetA, EcKeyObjectSetB, EcKeyObjectSetG, EcKeyObjectSetR, EcKeyObjectSetK}
+use Rattle.jc_platform.specs.declared.names.EcKeysMethod.TheVariants.{EcKeyObjectGetField, EcKeyObjectGetA, EcKeyObjectGetB, EcKeyObjectGetG, EcKeyObjectGetR}
+use Rattle.jc_platform.specs.declared.names.EcKeysMethod.TheVariants.{EcKeyObjectGetK, EcKeyObjectCopyDomainParametersFrom, EcPublicKeyObjectSetW}
+use Rattle.jc_platform.specs.declared.names.EcKeysMethod.TheVariants.{EcPublicKeyObjectGetW, EcPrivateKeyObjectSetS, EcPrivateKeyObjectGetS}
+use Rattle.jc_platform.specs.declared.names.RsaInterfacesMethod.{RsaInterfacesMethod}
+use Rattle.jc_platform.specs.declared.names.RsaInterfacesMethod.TheVariants.{PrivateKeyClearKey, PrivateKeyGetSize, PrivateKeyGetType, PrivateKeyIsInitialized}
+use Rattle.jc_platform.specs.declared.names.RsaInterfacesMethod.TheVariants.{PublicKeyClearKey, PublicKeyGetSize, PublicKeyGetType, PublicKeyIsInitialized}
+use Rattle.jc_platform.specs.declared.names.RsaInterfacesMethod.TheVariants.{RsaPublicKeyClearKey, RsaPublicKeyGetSize, RsaPublicKeyGetType}
+use Rattle.jc_platform.specs.declared.names.RsaInterfacesMethod.TheVariants.{RsaPublicKeyIsInitialized, RsaPublicKeySetModulus, RsaPublicKeySetExponent}
+use Rattle.jc_platform.specs.declared.names.RsaInterfacesMethod.TheVariants.{RsaPublicKeyGetModulus, RsaPublicKeyGetExponent, RsaPrivateKeyClearKey}
+use Rattle.jc_platform.specs.declared.names.RsaInterfacesMethod.TheVariants.{RsaPrivateKeyGetSize, RsaPrivateKeyGetType, RsaPrivateKeyIsInitialized}
+use Rattle.jc_platform.specs.declared.names.RsaInterfacesMethod.TheVariants.{RsaPrivateKeySetModulus, RsaPrivateKeySetExponent, RsaPrivateKeyGetModulus}
+use Rattle.jc_platform.specs.declared.names.RsaInterfacesMethod.TheVariants.{RsaPrivateKeyGetExponent, RsaPrivateCrtKeyClearKey, RsaPrivateCrtKeyGetSize}
+use Rattle.jc_platform.specs.declared.names.RsaInterfacesMethod.TheVariants.{RsaPrivateCrtKeyGetType, RsaPrivateCrtKeyIsInitialized, RsaPrivateCrtKeySetP}
+use Rattle.jc_platform.specs.declared.names.RsaInterfacesMethod.TheVariants.{RsaPrivateCrtKeySetQ, RsaPrivateCrtKeySetDp1, RsaPrivateCrtKeySetDq1}
+use Rattle.jc_platform.specs.declared.names.RsaInterfacesMethod.TheVariants.{RsaPrivateCrtKeySetPq, RsaPrivateCrtKeyGetP, RsaPrivateCrtKeyGetQ}
+use Rattle.jc_platform.specs.declared.names.RsaInterfacesMethod.TheVariants.{RsaPrivateCrtKeyGetDp1, RsaPrivateCrtKeyGetDq1, RsaPrivateCrtKeyGetPq}
+use Rattle.jc_platform.specs.declared.names.EcInterfacesMethod.{EcInterfacesMethod}
+use Rattle.jc_platform.specs.declared.names.EcInterfacesMethod.TheVariants.{EcKeySetFieldFp, EcKeySetFieldF2m, EcKeySetFieldF2mOfThree, EcKeySetA, EcKeySetB}
+use Rattle.jc_platform.specs.declared.names.EcInterfacesMethod.TheVariants.{EcKeySetG, EcKeySetR, EcKeySetK, EcKeyGetField, EcKeyGetA, EcKeyGetB, EcKeyGetG}
+use Rattle.jc_platform.specs.declared.names.EcInterfacesMethod.TheVariants.{EcKeyGetR, EcKeyGetK, EcKeyCopyDomainParametersFrom, EcPublicKeyClearKey}
+use Rattle.jc_platform.specs.declared.names.EcInterfacesMethod.TheVariants.{EcPublicKeyGetSize, EcPublicKeyGetType, EcPublicKeyIsInitialized}
+use Rattle.jc_platform.specs.declared.names.EcInterfacesMethod.TheVariants.{EcPublicKeySetFieldFp, EcPublicKeySetFieldF2m, EcPublicKeySetFieldF2mOfThree}
+use Rattle.jc_platform.specs.declared.names.EcInterfacesMethod.TheVariants.{EcPublicKeySetA, EcPublicKeySetB, EcPublicKeySetG, EcPublicKeySetR, EcPublicKeySetK}
+use Rattle.jc_platform.specs.declared.names.EcInterfacesMethod.TheVariants.{EcPublicKeyGetField, EcPublicKeyGetA, EcPublicKeyGetB, EcPublicKeyGetG}
+use Rattle.jc_platform.specs.declared.names.EcInterfacesMethod.TheVariants.{EcPublicKeyGetR, EcPublicKeyGetK, EcPublicKeyCopyDomainParametersFrom}
+use Rattle.jc_platform.specs.declared.names.EcInterfacesMethod.TheVariants.{EcPublicKeySetW, EcPublicKeyGetW, EcPrivateKeyClearKey, EcPrivateKeyGetSize}
+use Rattle.jc_platform.specs.declared.names.EcInterfacesMethod.TheVariants.{EcPrivateKeyGetType, EcPrivateKeyIsInitialized, EcPrivateKeySetFieldFp}
+use Rattle.jc_platform.specs.declared.names.EcInterfacesMethod.TheVariants.{EcPrivateKeySetFieldF2m, EcPrivateKeySetFieldF2mOfThree, EcPrivateKeySetA}
+use Rattle.jc_platform.specs.declared.names.EcInterfacesMethod.TheVariants.{EcPrivateKeySetB, EcPrivateKeySetG, EcPrivateKeySetR, EcPrivateKeySetK}
+use Rattle.jc_platform.specs.declared.names.EcInterfacesMethod.TheVariants.{EcPrivateKeyGetField, EcPrivateKeyGetA, EcPrivateKeyGetB, EcPrivateKeyGetG}
+use Rattle.jc_platform.specs.declared.names.EcInterfacesMethod.TheVariants.{EcPrivateKeyGetR, EcPrivateKeyGetK, EcPrivateKeyCopyDomainParametersFrom}
+use Rattle.jc_platform.specs.declared.names.EcInterfacesMethod.TheVariants.{EcPrivateKeySetS, EcPrivateKeyGetS}
+use Rattle.jc_platform.specs.declared.names.KeyPairsMethod.{KeyPairsMethod}
+use Rattle.jc_platform.specs.declared.names.KeyPairsMethod.TheVariants.{KeyPairInit, KeyPairInitOfKeys, KeyPairGenKeyPair, KeyPairGetPublic, KeyPairGetPrivate}
+use Rattle.jc_platform.specs.declared.names.KeyPairsMethod.TheVariants.{KeyAgreementGetInstance, KeyAgreementInit, KeyAgreementGenerateSecret}
+use Rattle.jc_platform.specs.declared.names.KeyPairsMethod.TheVariants.{KeyAgreementGetAlgorithm}
 
 -- how many packages and classes there are
 abbrev pub package_count : ℕ
 package_count = 5
 
 abbrev pub class_count : ℕ
-class_count = 49
+class_count = 66
 
 -- how many methods each room has
 abbrev pub objects_count : ℕ
@@ -136,6 +185,21 @@ key_interfaces_count = 26
 abbrev pub ciphers_count : ℕ
 ciphers_count = 21
 
+abbrev pub rsa_keys_count : ℕ
+rsa_keys_count = 14
+
+abbrev pub ec_keys_count : ℕ
+ec_keys_count = 19
+
+abbrev pub rsa_interfaces_count : ℕ
+rsa_interfaces_count = 38
+
+abbrev pub ec_interfaces_count : ℕ
+ec_interfaces_count = 57
+
+abbrev pub key_pairs_count : ℕ
+key_pairs_count = 9
+
 -- the places of the first method of each room but the first
 abbrev pub exceptions_first : ℕ
 exceptions_first = objects_count
@@ -173,9 +237,24 @@ key_interfaces_first = keys_first + keys_count
 abbrev pub ciphers_first : ℕ
 ciphers_first = key_interfaces_first + key_interfaces_count
 
+abbrev pub rsa_keys_first : ℕ
+rsa_keys_first = ciphers_first + ciphers_count
+
+abbrev pub ec_keys_first : ℕ
+ec_keys_first = rsa_keys_first + rsa_keys_count
+
+abbrev pub rsa_interfaces_first : ℕ
+rsa_interfaces_first = ec_keys_first + ec_keys_count
+
+abbrev pub ec_interfaces_first : ℕ
+ec_interfaces_first = rsa_interfaces_first + rsa_interfaces_count
+
+abbrev pub key_pairs_first : ℕ
+key_pairs_first = ec_interfaces_first + ec_interfaces_count
+
 -- how many methods there are
 abbrev pub method_count : ℕ
-method_count = ciphers_first + ciphers_count
+method_count = key_pairs_first + key_pairs_count
 
 -- the place of a package
 abbrev pub package_number : PlatformPackage → ℕ
@@ -247,7 +326,24 @@ class_number DesKeyObject = 44
 class_number AesKeyObject = 45
 class_number HmacKeyObject = 46
 class_number Signature = 47
-class_number Cipher = 48
+class_number PrivateKey = 48
+class_number PublicKey = 49
+class_number RsaPublicKey = 50
+class_number RsaPrivateKey = 51
+class_number RsaPrivateCrtKey = 52
+class_number EcKey = 53
+class_number EcPublicKey = 54
+class_number EcPrivateKey = 55
+class_number KeyPair = 56
+class_number KeyAgreement = 57
+class_number RsaKeyObject = 58
+class_number RsaPublicKeyObject = 59
+class_number RsaPrivateKeyObject = 60
+class_number RsaPrivateCrtKeyObject = 61
+class_number EcKeyObject = 62
+class_number EcPublicKeyObject = 63
+class_number EcPrivateKeyObject = 64
+class_number Cipher = 65
 
 -- the two are one
 abbrev pub same_class : PlatformClass → PlatformClass → Bool
@@ -485,6 +581,153 @@ ciphers_number SignatureGetCipherAlgorithm = 18
 ciphers_number SignatureGetPaddingAlgorithm = 19
 ciphers_number SignatureGetLength = 20
 
+abbrev pub rsa_keys_number : RsaKeysMethod → ℕ
+rsa_keys_number RsaKeyObjectSetModulus = 0
+rsa_keys_number RsaKeyObjectSetExponent = 1
+rsa_keys_number RsaKeyObjectGetModulus = 2
+rsa_keys_number RsaKeyObjectGetExponent = 3
+rsa_keys_number RsaPrivateCrtKeyObjectSetP = 4
+rsa_keys_number RsaPrivateCrtKeyObjectSetQ = 5
+rsa_keys_number RsaPrivateCrtKeyObjectSetDp1 = 6
+rsa_keys_number RsaPrivateCrtKeyObjectSetDq1 = 7
+rsa_keys_number RsaPrivateCrtKeyObjectSetPq = 8
+rsa_keys_number RsaPrivateCrtKeyObjectGetP = 9
+rsa_keys_number RsaPrivateCrtKeyObjectGetQ = 10
+rsa_keys_number RsaPrivateCrtKeyObjectGetDp1 = 11
+rsa_keys_number RsaPrivateCrtKeyObjectGetDq1 = 12
+rsa_keys_number RsaPrivateCrtKeyObjectGetPq = 13
+
+abbrev pub ec_keys_number : EcKeysMethod → ℕ
+ec_keys_number EcKeyObjectSetFieldFp = 0
+ec_keys_number EcKeyObjectSetFieldF2m = 1
+ec_keys_number EcKeyObjectSetFieldF2mOfThree = 2
+ec_keys_number EcKeyObjectSetA = 3
+ec_keys_number EcKeyObjectSetB = 4
+ec_keys_number EcKeyObjectSetG = 5
+ec_keys_number EcKeyObjectSetR = 6
+ec_keys_number EcKeyObjectSetK = 7
+ec_keys_number EcKeyObjectGetField = 8
+ec_keys_number EcKeyObjectGetA = 9
+ec_keys_number EcKeyObjectGetB = 10
+ec_keys_number EcKeyObjectGetG = 11
+ec_keys_number EcKeyObjectGetR = 12
+ec_keys_number EcKeyObjectGetK = 13
+ec_keys_number EcKeyObjectCopyDomainParametersFrom = 14
+ec_keys_number EcPublicKeyObjectSetW = 15
+ec_keys_number EcPublicKeyObjectGetW = 16
+ec_keys_number EcPrivateKeyObjectSetS = 17
+ec_keys_number EcPrivateKeyObjectGetS = 18
+
+abbrev pub rsa_interfaces_number : RsaInterfacesMethod → ℕ
+rsa_interfaces_number PrivateKeyClearKey = 0
+rsa_interfaces_number PrivateKeyGetSize = 1
+rsa_interfaces_number PrivateKeyGetType = 2
+rsa_interfaces_number PrivateKeyIsInitialized = 3
+rsa_interfaces_number PublicKeyClearKey = 4
+rsa_interfaces_number PublicKeyGetSize = 5
+rsa_interfaces_number PublicKeyGetType = 6
+rsa_interfaces_number PublicKeyIsInitialized = 7
+rsa_interfaces_number RsaPublicKeyClearKey = 8
+rsa_interfaces_number RsaPublicKeyGetSize = 9
+rsa_interfaces_number RsaPublicKeyGetType = 10
+rsa_interfaces_number RsaPublicKeyIsInitialized = 11
+rsa_interfaces_number RsaPublicKeySetModulus = 12
+rsa_interfaces_number RsaPublicKeySetExponent = 13
+rsa_interfaces_number RsaPublicKeyGetModulus = 14
+rsa_interfaces_number RsaPublicKeyGetExponent = 15
+rsa_interfaces_number RsaPrivateKeyClearKey = 16
+rsa_interfaces_number RsaPrivateKeyGetSize = 17
+rsa_interfaces_number RsaPrivateKeyGetType = 18
+rsa_interfaces_number RsaPrivateKeyIsInitialized = 19
+rsa_interfaces_number RsaPrivateKeySetModulus = 20
+rsa_interfaces_number RsaPrivateKeySetExponent = 21
+rsa_interfaces_number RsaPrivateKeyGetModulus = 22
+rsa_interfaces_number RsaPrivateKeyGetExponent = 23
+rsa_interfaces_number RsaPrivateCrtKeyClearKey = 24
+rsa_interfaces_number RsaPrivateCrtKeyGetSize = 25
+rsa_interfaces_number RsaPrivateCrtKeyGetType = 26
+rsa_interfaces_number RsaPrivateCrtKeyIsInitialized = 27
+rsa_interfaces_number RsaPrivateCrtKeySetP = 28
+rsa_interfaces_number RsaPrivateCrtKeySetQ = 29
+rsa_interfaces_number RsaPrivateCrtKeySetDp1 = 30
+rsa_interfaces_number RsaPrivateCrtKeySetDq1 = 31
+rsa_interfaces_number RsaPrivateCrtKeySetPq = 32
+rsa_interfaces_number RsaPrivateCrtKeyGetP = 33
+rsa_interfaces_number RsaPrivateCrtKeyGetQ = 34
+rsa_interfaces_number RsaPrivateCrtKeyGetDp1 = 35
+rsa_interfaces_number RsaPrivateCrtKeyGetDq1 = 36
+rsa_interfaces_number RsaPrivateCrtKeyGetPq = 37
+
+abbrev pub ec_interfaces_number : EcInterfacesMethod → ℕ
+ec_interfaces_number EcKeySetFieldFp = 0
+ec_interfaces_number EcKeySetFieldF2m = 1
+ec_interfaces_number EcKeySetFieldF2mOfThree = 2
+ec_interfaces_number EcKeySetA = 3
+ec_interfaces_number EcKeySetB = 4
+ec_interfaces_number EcKeySetG = 5
+ec_interfaces_number EcKeySetR = 6
+ec_interfaces_number EcKeySetK = 7
+ec_interfaces_number EcKeyGetField = 8
+ec_interfaces_number EcKeyGetA = 9
+ec_interfaces_number EcKeyGetB = 10
+ec_interfaces_number EcKeyGetG = 11
+ec_interfaces_number EcKeyGetR = 12
+ec_interfaces_number EcKeyGetK = 13
+ec_interfaces_number EcKeyCopyDomainParametersFrom = 14
+ec_interfaces_number EcPublicKeyClearKey = 15
+ec_interfaces_number EcPublicKeyGetSize = 16
+ec_interfaces_number EcPublicKeyGetType = 17
+ec_interfaces_number EcPublicKeyIsInitialized = 18
+ec_interfaces_number EcPublicKeySetFieldFp = 19
+ec_interfaces_number EcPublicKeySetFieldF2m = 20
+ec_interfaces_number EcPublicKeySetFieldF2mOfThree = 21
+ec_interfaces_number EcPublicKeySetA = 22
+ec_interfaces_number EcPublicKeySetB = 23
+ec_interfaces_number EcPublicKeySetG = 24
+ec_interfaces_number EcPublicKeySetR = 25
+ec_interfaces_number EcPublicKeySetK = 26
+ec_interfaces_number EcPublicKeyGetField = 27
+ec_interfaces_number EcPublicKeyGetA = 28
+ec_interfaces_number EcPublicKeyGetB = 29
+ec_interfaces_number EcPublicKeyGetG = 30
+ec_interfaces_number EcPublicKeyGetR = 31
+ec_interfaces_number EcPublicKeyGetK = 32
+ec_interfaces_number EcPublicKeyCopyDomainParametersFrom = 33
+ec_interfaces_number EcPublicKeySetW = 34
+ec_interfaces_number EcPublicKeyGetW = 35
+ec_interfaces_number EcPrivateKeyClearKey = 36
+ec_interfaces_number EcPrivateKeyGetSize = 37
+ec_interfaces_number EcPrivateKeyGetType = 38
+ec_interfaces_number EcPrivateKeyIsInitialized = 39
+ec_interfaces_number EcPrivateKeySetFieldFp = 40
+ec_interfaces_number EcPrivateKeySetFieldF2m = 41
+ec_interfaces_number EcPrivateKeySetFieldF2mOfThree = 42
+ec_interfaces_number EcPrivateKeySetA = 43
+ec_interfaces_number EcPrivateKeySetB = 44
+ec_interfaces_number EcPrivateKeySetG = 45
+ec_interfaces_number EcPrivateKeySetR = 46
+ec_interfaces_number EcPrivateKeySetK = 47
+ec_interfaces_number EcPrivateKeyGetField = 48
+ec_interfaces_number EcPrivateKeyGetA = 49
+ec_interfaces_number EcPrivateKeyGetB = 50
+ec_interfaces_number EcPrivateKeyGetG = 51
+ec_interfaces_number EcPrivateKeyGetR = 52
+ec_interfaces_number EcPrivateKeyGetK = 53
+ec_interfaces_number EcPrivateKeyCopyDomainParametersFrom = 54
+ec_interfaces_number EcPrivateKeySetS = 55
+ec_interfaces_number EcPrivateKeyGetS = 56
+
+abbrev pub key_pairs_number : KeyPairsMethod → ℕ
+key_pairs_number KeyPairInit = 0
+key_pairs_number KeyPairInitOfKeys = 1
+key_pairs_number KeyPairGenKeyPair = 2
+key_pairs_number KeyPairGetPublic = 3
+key_pairs_number KeyPairGetPrivate = 4
+key_pairs_number KeyAgreementGetInstance = 5
+key_pairs_number KeyAgreementInit = 6
+key_pairs_number KeyAgreementGenerateSecret = 7
+key_pairs_number KeyAgreementGetAlgorithm = 8
+
 -- the place of a method
 abbrev pub method_number : PlatformMethod → ℕ
 method_number (Objects m) = objects_number m
@@ -500,6 +743,11 @@ method_number (Engines m) = engines_first + engines_number m
 method_number (Keys m) = keys_first + keys_number m
 method_number (KeyInterfaces m) = key_interfaces_first + key_interfaces_number m
 method_number (Ciphers m) = ciphers_first + ciphers_number m
+method_number (RsaKeys m) = rsa_keys_first + rsa_keys_number m
+method_number (EcKeys m) = ec_keys_first + ec_keys_number m
+method_number (RsaInterfaces m) = rsa_interfaces_first + rsa_interfaces_number m
+method_number (EcInterfaces m) = ec_interfaces_first + ec_interfaces_number m
+method_number (KeyPairs m) = key_pairs_first + key_pairs_number m
 
 -- the two are one
 abbrev pub same_method : PlatformMethod → PlatformMethod → Bool

@@ -52,7 +52,7 @@ unfoldable pub minds_receiver : PlatformMethod → Bool
 minds_receiver m = is_minded (entry_of_method m).receiver
 
 abbrev pub is_constructor_name : List ℕ → Bool
-is_constructor_name name = bytes_eq name (codes "<init>") || bytes_eq name (codes "<init>WithoutReason")
+is_constructor_name name = bytes_eq name (codes "<init>") || bytes_eq name (codes "<init>WithoutReason") || bytes_eq name (codes "<init>OfKeys")
 
 -- a constructor: its name is <init>, or the one of the second that a class has
 unfoldable pub is_constructor : PlatformMethod → Bool

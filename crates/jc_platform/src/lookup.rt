@@ -7,21 +7,24 @@ ghost use Rattle.jc_platform.specs.Distinct.{entry_of_class, entry_of_method};
 ghost use Rattle.jc_platform.specs.Names.{classes, packages};
 ghost use Rattle.jc_platform.specs.Names.{objects_rows, exceptions_rows, utilities_rows, system_rows, aids_rows, pins_rows, applets_rows, apdus_rows, events_rows, engines_rows};
 ghost use Rattle.jc_platform.specs.Names.{keys_rows, key_interfaces_rows, ciphers_rows};
+ghost use Rattle.jc_platform.specs.Names.{rsa_keys_rows, ec_keys_rows, rsa_interfaces_rows, ec_interfaces_rows, key_pairs_rows};
 ghost use Rattle.jc_platform.specs.Rooms.{rows_of};
 ghost use Rattle.jc_platform.specs.Rows.{classes_of, method_named, methods_of};
 ghost use Rattle.jc_platform.specs.Seen.{class_value, method_value, package_value};
 ghost use Rattle.jc_platform.specs.declared.names.PlatformMethod.TheVariants.{Objects, Exceptions, Utilities, System, Aids, Pins, Applets, Apdus, Events, Engines};
 ghost use Rattle.jc_platform.specs.declared.names.PlatformMethod.TheVariants.{Keys, KeyInterfaces, Ciphers};
+ghost use Rattle.jc_platform.specs.declared.names.PlatformMethod.TheVariants.{RsaKeys, EcKeys, RsaInterfaces, EcInterfaces, KeyPairs};
 
 use crate::names::{
-    AidsMethod, ApdusMethod, AppletsMethod, CiphersMethod, EnginesMethod, EventsMethod,
-    ExceptionsMethod, KeyInterfacesMethod, KeysMethod, MethodKind, ObjectsMethod, PinsMethod,
-    PlatformClass, PlatformMethod, PlatformPackage, SystemMethod, UtilitiesMethod,
+    AidsMethod, ApdusMethod, AppletsMethod, CiphersMethod, EcInterfacesMethod, EcKeysMethod,
+    EnginesMethod, EventsMethod, ExceptionsMethod, KeyInterfacesMethod, KeyPairsMethod, KeysMethod,
+    MethodKind, ObjectsMethod, PinsMethod, PlatformClass, PlatformMethod, PlatformPackage,
+    RsaInterfacesMethod, RsaKeysMethod, SystemMethod, UtilitiesMethod,
 };
 use crate::rows::{
-    AIDS, APDUS, APPLETS, CIPHERS, CLASSES, ClassRow, ENGINES, EVENTS, EXCEPTIONS, FIRST_CLASSES,
-    KEY_INTERFACES, KEYS, MethodRow, OBJECTS, PACKAGES, PINS, PackageRow, Room, STRETCHES, SYSTEM,
-    UTILITIES,
+    AIDS, APDUS, APPLETS, CIPHERS, CLASSES, ClassRow, EC_INTERFACES, EC_KEYS, ENGINES, EVENTS,
+    EXCEPTIONS, FIRST_CLASSES, KEY_INTERFACES, KEY_PAIRS, KEYS, MethodRow, OBJECTS, PACKAGES, PINS,
+    PackageRow, RSA_INTERFACES, RSA_KEYS, Room, STRETCHES, SYSTEM, UTILITIES,
 };
 
 /// Every package.
@@ -137,6 +140,41 @@ pub(crate) fn ciphers_rows() -> &'static [MethodRow]
     &CIPHERS
 }
 
+/// The methods of the classes of RSA keys.
+pub(crate) fn rsa_keys_rows() -> &'static [MethodRow]
+    ensures { map method_value result.now ≡ rsa_keys_rows }
+{
+    &RSA_KEYS
+}
+
+/// The methods of the classes of keys on elliptic curves.
+pub(crate) fn ec_keys_rows() -> &'static [MethodRow]
+    ensures { map method_value result.now ≡ ec_keys_rows }
+{
+    &EC_KEYS
+}
+
+/// The methods of the interfaces of public keys, of private keys and of RSA keys.
+pub(crate) fn rsa_interfaces_rows() -> &'static [MethodRow]
+    ensures { map method_value result.now ≡ rsa_interfaces_rows }
+{
+    &RSA_INTERFACES
+}
+
+/// The methods of the interfaces of keys on elliptic curves.
+pub(crate) fn ec_interfaces_rows() -> &'static [MethodRow]
+    ensures { map method_value result.now ≡ ec_interfaces_rows }
+{
+    &EC_INTERFACES
+}
+
+/// The methods of `KeyPair` and `KeyAgreement`.
+pub(crate) fn key_pairs_rows() -> &'static [MethodRow]
+    ensures { map method_value result.now ≡ key_pairs_rows }
+{
+    &KEY_PAIRS
+}
+
 impl Room {
     /// Its methods.
     pub(crate) fn rows(self) -> &'static [MethodRow]
@@ -156,6 +194,11 @@ impl Room {
             Room::Keys => keys_rows(),
             Room::KeyInterfaces => key_interfaces_rows(),
             Room::Ciphers => ciphers_rows(),
+            Room::RsaKeys => rsa_keys_rows(),
+            Room::EcKeys => ec_keys_rows(),
+            Room::RsaInterfaces => rsa_interfaces_rows(),
+            Room::EcInterfaces => ec_interfaces_rows(),
+            Room::KeyPairs => key_pairs_rows(),
         }
     }
 }
@@ -308,6 +351,56 @@ impl CiphersMethod {
     }
 }
 
+impl RsaKeysMethod {
+    // Its row.
+    #[inline(always)]
+    fn row(self) -> &'static MethodRow
+        ensures { method_value result.now ≡ entry_of_method (RsaKeys self) }
+    {
+        &rsa_keys_rows()[self.index()]
+    }
+}
+
+impl EcKeysMethod {
+    // Its row.
+    #[inline(always)]
+    fn row(self) -> &'static MethodRow
+        ensures { method_value result.now ≡ entry_of_method (EcKeys self) }
+    {
+        &ec_keys_rows()[self.index()]
+    }
+}
+
+impl RsaInterfacesMethod {
+    // Its row.
+    #[inline(always)]
+    fn row(self) -> &'static MethodRow
+        ensures { method_value result.now ≡ entry_of_method (RsaInterfaces self) }
+    {
+        &rsa_interfaces_rows()[self.index()]
+    }
+}
+
+impl EcInterfacesMethod {
+    // Its row.
+    #[inline(always)]
+    fn row(self) -> &'static MethodRow
+        ensures { method_value result.now ≡ entry_of_method (EcInterfaces self) }
+    {
+        &ec_interfaces_rows()[self.index()]
+    }
+}
+
+impl KeyPairsMethod {
+    // Its row.
+    #[inline(always)]
+    fn row(self) -> &'static MethodRow
+        ensures { method_value result.now ≡ entry_of_method (KeyPairs self) }
+    {
+        &key_pairs_rows()[self.index()]
+    }
+}
+
 impl PlatformMethod {
     /// Its row.
     #[inline(always)]
@@ -328,6 +421,11 @@ impl PlatformMethod {
             PlatformMethod::Keys(method) => method.row(),
             PlatformMethod::KeyInterfaces(method) => method.row(),
             PlatformMethod::Ciphers(method) => method.row(),
+            PlatformMethod::RsaKeys(method) => method.row(),
+            PlatformMethod::EcKeys(method) => method.row(),
+            PlatformMethod::RsaInterfaces(method) => method.row(),
+            PlatformMethod::EcInterfaces(method) => method.row(),
+            PlatformMethod::KeyPairs(method) => method.row(),
         }
     }
 }

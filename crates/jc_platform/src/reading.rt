@@ -12,9 +12,10 @@ ghost use Rattle.jc_platform.specs.Seen.{class_value, method_value};
 ghost use Rattle.jc_platform.specs.declared.row.Row.{Row};
 
 use crate::lookup::{
-    aids_rows, all_classes, apdus_rows, applets_rows, ciphers_rows, class_named, engines_rows,
-    events_rows, exceptions_rows, key_interfaces_rows, keys_rows, method_named, methods_of,
-    objects_rows, package_with, pins_rows, system_rows, utilities_rows,
+    aids_rows, all_classes, apdus_rows, applets_rows, ciphers_rows, class_named,
+    ec_interfaces_rows, ec_keys_rows, engines_rows, events_rows, exceptions_rows,
+    key_interfaces_rows, key_pairs_rows, keys_rows, method_named, methods_of, objects_rows,
+    package_with, pins_rows, rsa_interfaces_rows, rsa_keys_rows, system_rows, utilities_rows,
 };
 use crate::names::{
     CLASS_COUNT, METHOD_COUNT, MethodKind, PACKAGE_COUNT, PlatformClass, PlatformMethod,
@@ -351,6 +352,11 @@ impl Reading {
             && self.has_needed_of(keys_rows())
             && self.has_needed_of(key_interfaces_rows())
             && self.has_needed_of(ciphers_rows())
+            && self.has_needed_of(rsa_keys_rows())
+            && self.has_needed_of(ec_keys_rows())
+            && self.has_needed_of(rsa_interfaces_rows())
+            && self.has_needed_of(ec_interfaces_rows())
+            && self.has_needed_of(key_pairs_rows())
     }
 
     /// Each of these methods that each table has stands above.

@@ -8,6 +8,7 @@ use Rattle.jc_platform.specs.declared.names.PlatformMethod.{PlatformMethod}
 use Rattle.jc_platform.specs.Distinct.{class_of, kind_of_method}
 use Rattle.jc_platform.specs.Names.{apdus_rows, aids_rows, applets_rows, engines_rows, events_rows, exceptions_rows, methods, objects_rows, pins_rows, system_rows}
 use Rattle.jc_platform.specs.Names.{utilities_rows, keys_rows, key_interfaces_rows, ciphers_rows}
+use Rattle.jc_platform.specs.Names.{rsa_keys_rows, ec_keys_rows, rsa_interfaces_rows, ec_interfaces_rows, key_pairs_rows}
 use Rattle.jc_platform.specs.Numbers.{same_class, same_kind}
 use Rattle.jc_platform.specs.Signatures.{is_constructor, minds_receiver, sets_receiver}
 use Rattle.jc_platform.proofs.Facts.{method_at_place}
@@ -31,7 +32,7 @@ is_minding m = (not (minds_receiver m) || ((not (same_kind (kind_of_method m) St
     && (not (sets_receiver m) || minds_receiver m)
 
 minding_rows : list_all (λ e. is_minding e.method) methods ≡ true
-unfolding minds_receiver sets_receiver is_constructor objects_rows exceptions_rows utilities_rows system_rows aids_rows pins_rows applets_rows apdus_rows events_rows engines_rows keys_rows key_interfaces_rows ciphers_rows
+unfolding minds_receiver sets_receiver is_constructor objects_rows exceptions_rows utilities_rows system_rows aids_rows pins_rows applets_rows apdus_rows events_rows engines_rows keys_rows key_interfaces_rows ciphers_rows rsa_keys_rows ec_keys_rows rsa_interfaces_rows ec_interfaces_rows key_pairs_rows
 minding_rows = refl
 
 minding : (m : PlatformMethod) → minds_receiver m ≡ true →

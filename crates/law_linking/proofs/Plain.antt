@@ -14,6 +14,7 @@ use Rattle.jc_platform.specs.Distinct.{is_needed_class, is_needed_method}
 use Rattle.jc_platform.specs.Names.{ClassEntry, MethodEntry, classes, methods, packages}
 use Rattle.jc_platform.specs.Names.{objects_rows, exceptions_rows, utilities_rows, system_rows, aids_rows, pins_rows, applets_rows, apdus_rows, events_rows, engines_rows}
 use Rattle.jc_platform.specs.Names.{keys_rows, key_interfaces_rows, ciphers_rows}
+use Rattle.jc_platform.specs.Names.{rsa_keys_rows, ec_keys_rows, rsa_interfaces_rows, ec_interfaces_rows, key_pairs_rows}
 use Rattle.jc_platform.specs.Numbers.{class_number, is_needed_package, method_number, package_number, same_class, same_kind, same_method, same_package}
 use Rattle.jc_platform.specs.Rows.{Above, above, allows, class_row, has_class_token, has_method_token, has_needed_packages, has_supertypes, is_package}
 use Rattle.jc_platform.specs.Rows.{kind_of, largest_token, may_be_class, may_be_extended, may_be_method, may_be_package, method_named, method_row}
@@ -48,7 +49,7 @@ unfolding classes
 class_entries = refl
 
 method_entries : list_all (λ e. not e.needed || is_needed_method e.method) methods ≡ true
-unfolding objects_rows exceptions_rows utilities_rows system_rows aids_rows pins_rows applets_rows apdus_rows events_rows engines_rows keys_rows key_interfaces_rows ciphers_rows
+unfolding objects_rows exceptions_rows utilities_rows system_rows aids_rows pins_rows applets_rows apdus_rows events_rows engines_rows keys_rows key_interfaces_rows ciphers_rows rsa_keys_rows ec_keys_rows rsa_interfaces_rows ec_interfaces_rows key_pairs_rows
 method_entries = refl
 
 -- where only that may stand which each table has, another has no token

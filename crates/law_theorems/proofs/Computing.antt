@@ -12,6 +12,7 @@ use Rattle.jc_pin.specs.Updating.{pin_update}
 use Rattle.jc_platform.specs.Hierarchy.{superclass_of, interfaces_of, is_interface, is_instantiable, cells_of, holds_reference, implementation_of}
 use Rattle.jc_platform.specs.Names.{packages, classes, objects_rows, exceptions_rows, utilities_rows, system_rows, aids_rows, pins_rows, applets_rows}
 use Rattle.jc_platform.specs.Names.{apdus_rows, events_rows, engines_rows, keys_rows, key_interfaces_rows, ciphers_rows}
+use Rattle.jc_platform.specs.Names.{rsa_keys_rows, ec_keys_rows, rsa_interfaces_rows, ec_interfaces_rows, key_pairs_rows}
 use Rattle.jc_platform.specs.Platform.{aid_of, package_by_aid, package_by_number, class_by_token, class_by_word, method_by_token}
 use Rattle.jc_platform.specs.Signatures.{parameters_of, answer_of, receiver_of as receiver_of_in_signatures, argument_cells, sets_receiver, minds_receiver}
 use Rattle.jc_platform.specs.Signatures.{is_constructor}
@@ -104,7 +105,7 @@ unfolding package_by_number class_by_token class_by_word method_by_token paramet
 in_names_3 = tt
 
 unfoldable pub in_names_4 : Unit {0}
-unfolding minds_receiver is_constructor keys_rows key_interfaces_rows ciphers_rows
+unfolding minds_receiver is_constructor keys_rows key_interfaces_rows ciphers_rows rsa_keys_rows ec_keys_rows rsa_interfaces_rows ec_interfaces_rows key_pairs_rows
 in_names_4 = tt
 
 unfoldable pub in_heap_1 : Unit {0}

@@ -14,6 +14,7 @@ use Rattle.jc_platform.specs.declared.names.PlatformPackage.TheVariants.{JavaLan
 use Rattle.jc_platform.specs.Hierarchy.{interfaces_of, superclass_of}
 use Rattle.jc_platform.specs.Names.{packages, classes, methods, objects_rows, exceptions_rows, utilities_rows, system_rows, aids_rows, pins_rows}
 use Rattle.jc_platform.specs.Names.{applets_rows, apdus_rows, events_rows, engines_rows, keys_rows, key_interfaces_rows, ciphers_rows}
+use Rattle.jc_platform.specs.Names.{rsa_keys_rows, ec_keys_rows, rsa_interfaces_rows, ec_interfaces_rows, key_pairs_rows}
 use Rattle.jc_platform.specs.Rows.{Above, above, row_of_line}
 use Rattle.jc_platform.specs.Table.{Reads}
 use Rattle.jc_platform.specs.Tokens.{token_of_class, token_of_method, version_of_package}
@@ -91,7 +92,7 @@ methods_told above o rows is told m =
 
 -- all that the reading of the text computes with
 other_names : Unit {0}
-unfolding applets_rows apdus_rows events_rows engines_rows keys_rows key_interfaces_rows ciphers_rows
+unfolding applets_rows apdus_rows events_rows engines_rows keys_rows key_interfaces_rows ciphers_rows rsa_keys_rows ec_keys_rows rsa_interfaces_rows ec_interfaces_rows key_pairs_rows
 other_names = tt
 
 names : Unit {0}

@@ -7,13 +7,13 @@ ghost use Rattle.jc_world.specs.NativeCalls.{after_call};
 ghost use Rattle.jc_api.specs.Arguments.{AreAsked};
 ghost use Rattle.jc_api.specs.Changing.{changes, changes_and_puts, changing_call};
 ghost use Rattle.jc_api_crypto.specs.Checksum.{IsRunning, begins_with, checksum_shorts, checksum_size, next_16, next_32, shorts_after, words_after};
-ghost use Rattle.jc_api_crypto.specs.Shorts.{bytes_of_shorts};
+ghost use Rattle.jc_api_keys.specs.Shorts.{bytes_of_shorts};
 
 use crate::checksum::{ChecksumAlgorithm, RunningChecksum, checksum_shorts};
-use crate::exceptions::ILLEGAL_VALUE;
-use crate::receivers::read;
-use crate::shorts::{put_bytes_of, put_shorts_of};
 use jc_api::{MOST_ELEMENTS, change_state, change_state_and_put};
+use jc_api_keys::exceptions::ILLEGAL_VALUE;
+use jc_api_keys::receivers::read;
+use jc_api_keys::shorts::{put_bytes_of, put_shorts_of};
 use jc_digests::checksums::{update_16, update_32};
 use jc_linker::linked::Linked;
 use jc_memory::{MOST_COMMAND, Memory};

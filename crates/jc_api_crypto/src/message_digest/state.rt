@@ -7,13 +7,13 @@ ghost use Rattle.jc_world.specs.NativeCalls.{after_call};
 ghost use Rattle.jc_api.specs.Arguments.{AreAsked};
 ghost use Rattle.jc_api.specs.Changing.{changes_and_puts, changing_call};
 ghost use Rattle.jc_api_crypto.specs.MessageDigest.{IsRunning, bytes_after, digest_shorts, nothing_came, sets_state};
-ghost use Rattle.jc_api_crypto.specs.Receivers.{bytes_of_state};
-ghost use Rattle.jc_api_crypto.specs.Shorts.{first_shorts, shorts_of};
+ghost use Rattle.jc_api_keys.specs.Receivers.{bytes_of_state};
+ghost use Rattle.jc_api_keys.specs.Shorts.{first_shorts, shorts_of};
 
 use crate::message_digest::{RunningDigest, digest_length, digest_shorts};
-use crate::receivers::{read, read_state};
-use crate::shorts::put_shorts_of;
 use jc_api::{MOST_ELEMENTS, change_state, change_state_and_put};
+use jc_api_keys::receivers::{read, read_state};
+use jc_api_keys::shorts::put_shorts_of;
 use jc_digests::kept::{HashAlgorithm, MOST_HASH, MOST_STATE, put_digest_of, update_state};
 use jc_linker::linked::Linked;
 use jc_memory::{MOST_COMMAND, Memory};

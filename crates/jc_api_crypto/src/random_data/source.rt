@@ -2,8 +2,8 @@
 ghost use Rattle.std.specs.Prelude.{◌≡◌, ◌≤◌, ◌+◌, ◌*◌, ◌%◌, ◌^◌, ◌++◌, length};
 ghost use Rattle.jc_api_crypto.specs.RandomData.{random_block, random_blocks, random_bytes};
 
-use crate::shorts::put;
 use jc_api::MOST_ELEMENTS;
+use jc_api_keys::shorts::put;
 use jc_digests::digest::Digest;
 use jc_digests::sha_256::Sha256;
 use jc_platform::row::RANDOM_SIZE;

@@ -7,14 +7,14 @@ ghost use Rattle.jc_world.specs.NativeCalls.{after_call};
 ghost use Rattle.jc_api.specs.Arguments.{AreAsked};
 ghost use Rattle.jc_api.specs.Changing.{changes, changing_call};
 ghost use Rattle.jc_api_crypto.specs.RandomData.{IsRunning, counter_of, counter_shorts, draws, mixed_of, mixed_shorts, next_number, source_of};
-ghost use Rattle.jc_api_crypto.specs.Shorts.{first_shorts};
+ghost use Rattle.jc_api_keys.specs.Shorts.{first_shorts};
 
-use crate::exceptions::ILLEGAL_VALUE;
 use crate::random_data::RunningRandom;
 use crate::random_data::source::{MIXED_SIZE, Source, put_random};
-use crate::receivers::read;
-use crate::shorts::{put_bytes_of, put_shorts_of};
 use jc_api::{MOST_ELEMENTS, change_state, change_state_and_put};
+use jc_api_keys::exceptions::ILLEGAL_VALUE;
+use jc_api_keys::receivers::read;
+use jc_api_keys::shorts::{put_bytes_of, put_shorts_of};
 use jc_digests::digest::digest_of_pieces;
 use jc_digests::sha_256::Sha256;
 use jc_linker::linked::Linked;

@@ -1,7 +1,7 @@
 package javacard.security;
 
 /** A key as the card has it. An applet names the interfaces of keys, and none of these classes. */
-public abstract class KeyObject implements SecretKey {
+public abstract class KeyObject implements Key {
     KeyObject() {
     }
 

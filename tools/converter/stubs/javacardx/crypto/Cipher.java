@@ -12,8 +12,11 @@ public abstract class Cipher {
     public static final byte ALG_DES_ECB_ISO9797_M1 = 6;
     public static final byte ALG_DES_ECB_ISO9797_M2 = 7;
     public static final byte ALG_DES_ECB_PKCS5 = 8;
+    public static final byte ALG_RSA_PKCS1 = 10;
+    public static final byte ALG_RSA_NOPAD = 12;
     public static final byte ALG_AES_BLOCK_128_CBC_NOPAD = 13;
     public static final byte ALG_AES_BLOCK_128_ECB_NOPAD = 14;
+    public static final byte ALG_RSA_PKCS1_OAEP = 15;
     public static final byte ALG_AES_CBC_ISO9797_M1 = 22;
     public static final byte ALG_AES_CBC_ISO9797_M2 = 23;
     public static final byte ALG_AES_CBC_PKCS5 = 24;
@@ -24,12 +27,17 @@ public abstract class Cipher {
     public static final byte CIPHER_AES_ECB = 2;
     public static final byte CIPHER_DES_CBC = 3;
     public static final byte CIPHER_DES_ECB = 4;
+    public static final byte CIPHER_RSA = 6;
     public static final byte PAD_NULL = 0;
     public static final byte PAD_NOPAD = 1;
     public static final byte PAD_ISO9797_M1 = 2;
     public static final byte PAD_ISO9797_M2 = 3;
     public static final byte PAD_ISO9797_1_M2_ALG3 = 5;
     public static final byte PAD_PKCS5 = 6;
+    public static final byte PAD_PKCS1 = 7;
+    public static final byte PAD_PKCS1_PSS = 8;
+    public static final byte PAD_PKCS1_OAEP = 9;
+    public static final byte PAD_ISO9796 = 10;
     public static final byte MODE_DECRYPT = 1;
     public static final byte MODE_ENCRYPT = 2;
 

@@ -1,0 +1,3 @@
+mod PartPlaces
+pub mod KeyClasses
+pub mod KeyCalls

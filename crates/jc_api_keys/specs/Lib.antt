@@ -1,0 +1,10 @@
+pub mod Shorts
+pub mod Exceptions
+pub mod Receivers
+pub mod KeyTypes
+pub mod KeyParts
+pub mod KeyBuilder
+pub mod KeyObjects
+pub mod Keys
+pub mod RsaKeys
+pub mod EcKeys
