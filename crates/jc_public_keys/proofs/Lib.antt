@@ -3,3 +3,13 @@ pub mod Powers
 pub mod Encodings
 pub mod Messages
 pub mod NonzeroBytes
+pub mod InversesFound
+pub mod SumsFound
+pub mod MultiplesFound
+pub mod CurvesFound
+pub mod SecretsFound
+pub mod EcdsaFound
+pub mod DerSignatures
+pub mod Tries
+pub mod SignaturesFound
+pub mod KeysFound

@@ -1,5 +1,5 @@
 -- Bytes that are made not to be zero.
-use Rattle.std.proofs.Common.{◌≡◌, ◌≢◌, ◌<◌, ◌+◌, ◌%◌, ◌∙◌, ◌∷◌, ◌++◌, [], ℕ, zero, suc, List, length, map, slice_index, take, refl, ap, arith}
+use Rattle.std.proofs.Common.{◌≡◌, ◌<◌, ◌+◌, ◌%◌, ◌∙◌, ◌∷◌, ◌++◌, [], ℕ, zero, suc, List, length, map, slice_index, take, refl, ap, arith}
 use Rattle.std.proofs.lemmas.List.{take_more}
 use Rattle.jc_rsa.specs.EmePkcs1.{AreNonzero}
 

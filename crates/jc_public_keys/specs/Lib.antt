@@ -2,3 +2,11 @@ pub mod Random
 pub mod Rsa
 pub mod RsaCiphers
 pub mod RsaSignatures
+pub mod CurveSums
+pub mod CurveBytes
+pub mod SharedSecrets
+pub mod Ecdsa
+pub mod DerSignatures
+pub mod RandomNumbers
+pub mod EcdsaSignatures
+pub mod CurveKeys

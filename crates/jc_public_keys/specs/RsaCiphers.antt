@@ -1,6 +1,5 @@
 -- Messages as they are encoded to be enciphered by RSA, for a modulus of n bytes (RFC 8017, 7.1 and 7.2).
-use Rattle.std.specs.Str.{bytes_eq}
-use Rattle.std.specs.Prelude.{ℕ, zero, suc, ◌+◌, ◌-◌, ◌*◌, ◌%◌, ◌==◌, ◌&&◌, nat_le, List, [], ◌∷◌, drop, length, map, Option, Some, None, if◌then◌else◌}
+use Rattle.std.specs.Prelude.{ℕ, suc, ◌+◌, ◌-◌, ◌%◌, ◌==◌, ◌&&◌, nat_le, List, [], ◌∷◌, length, map, Option, Some, None, if◌then◌else◌}
 use Rattle.jc_rsa.specs.EmePkcs1.{encryption_block}
 use Rattle.jc_rsa.specs.EmsaPkcs1.{signature_block}
 use Rattle.jc_public_keys.specs.Random.{random_bytes}

@@ -1,4 +1,4 @@
-use Rattle.std.proofs.Common.{◌≡◌, ◌<◌, ◌∙◌, ◌+◌, ◌%◌, ◌++◌, [], ◌∷◌, ℕ, List, length, map, slice_index, refl, sym, subst, ap, arith}
+use Rattle.std.proofs.Common.{◌≡◌, ◌<◌, ◌∙◌, ◌+◌, ◌%◌, ◌++◌, [], ◌∷◌, ℕ, length, map, slice_index, refl, sym, subst, ap, arith}
 use Rattle.std.proofs.lemmas.List.{length-set, drop-set-lt, take_all, take_more_set}
 use Rattle.jc_rsa.specs.EmePkcs1.{AreNonzero}
 use Rattle.jc_rsa.proofs.Xor.{drop_next, same_at}
