@@ -14,8 +14,8 @@ HERE = os.path.dirname(os.path.realpath(__file__))
 STUBS = os.path.join(HERE, "stubs")
 ABSENT = os.path.join(HERE, "absent")  # stubs of classes that no card has
 NEEDED = os.path.join(HERE, "../../examples/platform.table")  # has the names that each table has
-USUAL = os.path.join(HERE, "../../examples/extended.table")  # has the names that the usual card has
-ALLOWED = os.path.join(HERE, "../../examples/all.table")  # has all names that an extended table may have
+ALLOWED = os.path.join(HERE, "../../examples/extended.table")  # has all names that an extended table may have, as the usual card does
+SHOWN = "examples/extended.table"  # as it is named to a user
 EXTENDED = "extended"  # the first line of such a table
 RANDOM = "random"  # the first word of a line of such a table: the bytes of which random data are made
 RANDOM_DIGITS = re.compile("[0-9A-Fa-f]{64}")
@@ -258,17 +258,13 @@ def classes_of(path):
 
 @functools.cache
 def tables_of_classes():
-    """By each class that an extended platform table can have: the first example table that has it."""
-    return {name: shown(path) for path in (ALLOWED, USUAL) for name in classes_of(path).known}
-
-
-def shown(path):
-    return f"examples/{os.path.basename(path)}"
+    """By each class that an extended platform table can have: the example table that has it."""
+    return dict.fromkeys(classes_of(ALLOWED).known, SHOWN)
 
 
 def table_with(owner, key):
-    """The first example table, of those that are extended, that has a method, by its name and its descriptor; None where none has it."""
-    return next((shown(path) for path in (USUAL, ALLOWED) if has_method(classes_of(path), owner, key)), None)
+    """The example table that has a method, by its name and its descriptor; None where none has it."""
+    return SHOWN if has_method(classes_of(ALLOWED), owner, key) else None
 
 
 def has_method(classes, owner, key):

@@ -13,15 +13,14 @@ use Rattle.jc_platform.specs.declared.names.PlatformMethod.{PlatformMethod}
 use Rattle.jc_platform.specs.declared.names.PlatformPackage.{PlatformPackage}
 use Rattle.jc_platform.specs.declared.row.Row.{Row}
 use Rattle.jc_platform.specs.declared.row.Row.TheVariants.{Extended, Random, Package, Class, Method}
-use Rattle.jc_platform.specs.Distinct.{AreDistinct, class_of, entry_of_class, home_of, kind_of_method}
+use Rattle.jc_platform.specs.Distinct.{AreDistinct, class_of, entry_of_class, home_of, entry_of_method, kind_of_method}
 use Rattle.jc_platform.specs.Names.{MethodEntry, classes, methods, no_class, no_method}
-use Rattle.jc_platform.specs.Numbers.{class_number, method_number, same_class, same_kind, same_package}
+use Rattle.jc_platform.specs.Numbers.{class_number, kind_number, method_number, package_number, same_class, same_kind, same_package}
 use Rattle.jc_platform.specs.Rows.{Above, above, class_token_in, has_class_token, has_method_token, has_supertypes, is_package, is_token, largest_token, method_token_in}
-use Rattle.jc_platform.specs.Rows.{parts_at}
 use Rattle.jc_platform.specs.Table.{Reads, Say}
 use Rattle.jc_platform.specs.Tokens.{Tokens}
 use Rattle.jc_platform.proofs.Facts.{at_number, class_at_place, class_places, homes, method_at_place, method_homes, method_places}
-use Rattle.jc_platform.proofs.Fitting.{IsFitting, row_fits}
+use Rattle.jc_platform.proofs.Fitting.{IsFitting, part_fits}
 use Rattle.jc_platform.proofs.Lists.{and_true}
 use Rattle.jc_platform.proofs.Numbers.{class_below, method_below}
 
@@ -71,12 +70,11 @@ method_by_number m n e = sym (numbered_method m) ∙ ap (λ (k : ℕ). (get_or m
 
 class_free : (a : Above) (b : PlatformClass) (s : ℕ) → IsFitting a (Class b s) → (d : PlatformClass) → home_of b ≡ home_of d → a.class_token d ≡ Some s → ⊥
 class_free a b s fit d k token =
-    let e = fit.0 in
-    let here = found_has (λ f. same_package (home_of f.class) f.home) (λ f. bytes_eq f.name fit.2) classes e homes fit.3 in
+    let e = entry_of_class b in
     let no : has_class_token a e.home s ≡ false = not_true (has_class_token a e.home s)
-    (and_true ((e.needed || a.extended) && is_package a.home e.home && has_supertypes a e.class && not (is_some (a.class_token e.class))) (not (has_class_token a e.home s)) fit.4).1 in
+    (and_true ((e.needed || a.extended) && is_package a.home e.home && has_supertypes a e.class && not (is_some (a.class_token e.class))) (not (has_class_token a e.home s)) fit).1 in
     let place : class_number d < length classes = omega (arith, class_below d, class_places) in
-    let home : same_package (home_of d) e.home ≡ true = subst (λ (p : PlatformPackage). same_package p e.home ≡ true) (ap home_of fit.1 ∙ k) here in
+    let home : same_package (home_of d) e.home ≡ true = (Decides-eqb _ _).1 (ap package_number (sym k)) in
     let has : is_token (a.class_token (entry_of_class d).class) s ≡ true =
     ap (λ (c : PlatformClass). is_token (a.class_token c) s) (class_at_place d) ∙ ap (λ (o : Option ℕ). is_token o s) token
     ∙ (Decides-eqb s s).1 refl in
@@ -87,15 +85,12 @@ class_free a b s fit d k token =
 method_free : (a : Above) (b : PlatformMethod) (s : ℕ) → IsFitting a (Method b s) → (d : PlatformMethod) → class_of b ≡ class_of d
     → kind_of_method b ≡ kind_of_method d → a.method_token d ≡ Some s → ⊥
 method_free a b s fit d k l token =
-    let e = fit.0 in
-    let here = found_has (λ f. same_class (class_of f.method) f.class && same_kind (kind_of_method f.method) f.kind)
-    (λ f. same_class f.class fit.2 && same_kind f.kind fit.3 && bytes_eq f.name fit.4) methods e method_homes fit.5 in
-    let there = and_true (same_class (class_of e.method) e.class) (same_kind (kind_of_method e.method) e.kind) here in
+    let e = entry_of_method b in
     let no : has_method_token a e.class e.kind s ≡ false = not_true (has_method_token a e.class e.kind s)
-    (and_true ((e.needed || a.extended) && nat_le s (largest_token e.kind) && not (is_some (a.method_token e.method))) (not (has_method_token a e.class e.kind s)) fit.6).1 in
+    (and_true ((e.needed || a.extended) && nat_le s (largest_token e.kind) && not (is_some (a.method_token e.method))) (not (has_method_token a e.class e.kind s)) fit.0).1 in
     let place : method_number d < length methods = omega (arith, method_below d, method_places) in
-    let class : same_class (class_of d) e.class ≡ true = subst (λ (c : PlatformClass). same_class c e.class ≡ true) (ap class_of fit.1 ∙ k) there.0 in
-    let kind : same_kind (kind_of_method d) e.kind ≡ true = subst (λ (c : MethodKind). same_kind c e.kind ≡ true) (ap kind_of_method fit.1 ∙ l) there.1 in
+    let class : same_class (class_of d) e.class ≡ true = (Decides-eqb _ _).1 (ap class_number (sym k)) in
+    let kind : same_kind (kind_of_method d) e.kind ≡ true = (Decides-eqb _ _).1 (ap kind_number (sym l)) in
     let has : is_token (a.method_token (get_or methods (method_number d) no_method).method) s ≡ true =
     ap (λ (m : PlatformMethod). is_token (a.method_token m) s) (numbered_method d) ∙ ap (λ (o : Option ℕ). is_token o s) token
     ∙ (Decides-eqb s s).1 refl in
@@ -110,18 +105,18 @@ method_free a b s fit d k l token =
 
 -- ---- all rows
 
-distinct_classes : (lines : List (List ℕ)) (rows : List Row) → Say lines rows → (c d : PlatformClass) (t : ℕ) → home_of c ≡ home_of d
+distinct_classes : (text : List ℕ) (lines : List (List ℕ)) (rows : List Row) → Say text lines rows → (c d : PlatformClass) (t : ℕ) → home_of c ≡ home_of d
     → class_token_in rows c ≡ Some t → class_token_in rows d ≡ Some t → c ≡ d
-distinct_classes [] [] said c d t k g h = absurd (let e : None ≡ Some t = g in cc)
-distinct_classes [] (row ∷ rows) said c d t k g h = absurd said
-distinct_classes (line ∷ lines) [] said c d t k g h = absurd said
-distinct_classes (line ∷ lines) (Extended ∷ rows) said c d t k g h = distinct_classes lines rows said.1 c d t k g h
-distinct_classes (line ∷ lines) (Random bytes ∷ rows) said c d t k g h = distinct_classes lines rows said.1 c d t k g h
-distinct_classes (line ∷ lines) (Package p v ∷ rows) said c d t k g h = distinct_classes lines rows said.1 c d t k g h
-distinct_classes (line ∷ lines) (Method m s ∷ rows) said c d t k g h = distinct_classes lines rows said.1 c d t k g h
-distinct_classes (line ∷ lines) (Class b s ∷ rows) said c d t k g h =
-    by_places class_number home_of (class_token_in rows) b s (distinct_classes lines rows said.1)
-    (class_free (above rows) b s (row_fits (above rows) (parts_at 32 line) (Class b s) said.0)) c d t (same_class b c) (same_class b d) k
+distinct_classes text [] [] said c d t k g h = absurd (let e : None ≡ Some t = g in cc)
+distinct_classes text [] (row ∷ rows) said c d t k g h = absurd said
+distinct_classes text (line ∷ lines) [] said c d t k g h = absurd said
+distinct_classes text (line ∷ lines) (Extended ∷ rows) said c d t k g h = distinct_classes text lines rows said.1 c d t k g h
+distinct_classes text (line ∷ lines) (Random bytes ∷ rows) said c d t k g h = distinct_classes text lines rows said.1 c d t k g h
+distinct_classes text (line ∷ lines) (Package p v ∷ rows) said c d t k g h = distinct_classes text lines rows said.1 c d t k g h
+distinct_classes text (line ∷ lines) (Method m s ∷ rows) said c d t k g h = distinct_classes text lines rows said.1 c d t k g h
+distinct_classes text (line ∷ lines) (Class b s ∷ rows) said c d t k g h =
+    by_places class_number home_of (class_token_in rows) b s (distinct_classes text lines rows said.1)
+    (class_free (above rows) b s (part_fits text (above rows) line (Class b s) said.0)) c d t (same_class b c) (same_class b d) k
     (λ e. class_by_number b c ((Decides-eqb (class_number b) (class_number c)).0 e))
     (λ e. class_by_number b d ((Decides-eqb (class_number b) (class_number d)).0 e)) g h
 
@@ -129,18 +124,18 @@ distinct_classes (line ∷ lines) (Class b s ∷ rows) said c d t k g h =
 abbrev place_of : PlatformMethod → PlatformClass × MethodKind
 place_of m = (class_of m, kind_of_method m)
 
-distinct_methods : (lines : List (List ℕ)) (rows : List Row) → Say lines rows → (c d : PlatformMethod) (t : ℕ) → place_of c ≡ place_of d
+distinct_methods : (text : List ℕ) (lines : List (List ℕ)) (rows : List Row) → Say text lines rows → (c d : PlatformMethod) (t : ℕ) → place_of c ≡ place_of d
     → method_token_in rows c ≡ Some t → method_token_in rows d ≡ Some t → c ≡ d
-distinct_methods [] [] said c d t k g h = absurd (let e : None ≡ Some t = g in cc)
-distinct_methods [] (row ∷ rows) said c d t k g h = absurd said
-distinct_methods (line ∷ lines) [] said c d t k g h = absurd said
-distinct_methods (line ∷ lines) (Extended ∷ rows) said c d t k g h = distinct_methods lines rows said.1 c d t k g h
-distinct_methods (line ∷ lines) (Random bytes ∷ rows) said c d t k g h = distinct_methods lines rows said.1 c d t k g h
-distinct_methods (line ∷ lines) (Package p v ∷ rows) said c d t k g h = distinct_methods lines rows said.1 c d t k g h
-distinct_methods (line ∷ lines) (Class m s ∷ rows) said c d t k g h = distinct_methods lines rows said.1 c d t k g h
-distinct_methods (line ∷ lines) (Method b s ∷ rows) said c d t k g h =
-    by_places method_number place_of (method_token_in rows) b s (distinct_methods lines rows said.1)
-    (λ n l. method_free (above rows) b s (row_fits (above rows) (parts_at 32 line) (Method b s) said.0) n (ap (λ (p : PlatformClass × MethodKind). p.0) l)
+distinct_methods text [] [] said c d t k g h = absurd (let e : None ≡ Some t = g in cc)
+distinct_methods text [] (row ∷ rows) said c d t k g h = absurd said
+distinct_methods text (line ∷ lines) [] said c d t k g h = absurd said
+distinct_methods text (line ∷ lines) (Extended ∷ rows) said c d t k g h = distinct_methods text lines rows said.1 c d t k g h
+distinct_methods text (line ∷ lines) (Random bytes ∷ rows) said c d t k g h = distinct_methods text lines rows said.1 c d t k g h
+distinct_methods text (line ∷ lines) (Package p v ∷ rows) said c d t k g h = distinct_methods text lines rows said.1 c d t k g h
+distinct_methods text (line ∷ lines) (Class m s ∷ rows) said c d t k g h = distinct_methods text lines rows said.1 c d t k g h
+distinct_methods text (line ∷ lines) (Method b s ∷ rows) said c d t k g h =
+    by_places method_number place_of (method_token_in rows) b s (distinct_methods text lines rows said.1)
+    (λ n l. method_free (above rows) b s (part_fits text (above rows) line (Method b s) said.0) n (ap (λ (p : PlatformClass × MethodKind). p.0) l)
     (ap (λ (p : PlatformClass × MethodKind). p.1) l)) c d t (method_number b == method_number c) (method_number b == method_number d) k
     (λ e. method_by_number b c ((Decides-eqb (method_number b) (method_number c)).0 e))
     (λ e. method_by_number b d ((Decides-eqb (method_number b) (method_number d)).0 e)) g h
@@ -152,6 +147,6 @@ distinct text t read =
     let lines = read.1.1.0 in
     let those = read.1.2 in
     record {
-      of_classes = λ c d token k e f. distinct_classes lines rows said c d token k (those.class_tokens c ∙ e) (those.class_tokens d ∙ f);
-      of_methods = λ m n token k l e f. distinct_methods lines rows said m n token (λ i. (k i, l i)) (those.method_tokens m ∙ e) (those.method_tokens n ∙ f);
+      of_classes = λ c d token k e f. distinct_classes text lines rows said c d token k (those.class_tokens c ∙ e) (those.class_tokens d ∙ f);
+      of_methods = λ m n token k l e f. distinct_methods text lines rows said m n token (λ i. (k i, l i)) (those.method_tokens m ∙ e) (those.method_tokens n ∙ f);
     }

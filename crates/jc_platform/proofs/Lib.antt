@@ -10,6 +10,7 @@ pub mod Facts
 pub mod EveryRow
 pub mod NamesTold
 pub mod OneAnswer
+pub mod Own
 pub mod Versions
 pub mod PackageClasses
 mod Superclasses

@@ -9,6 +9,7 @@ use Rattle.std.proofs.lemmas.List.{drop-map, get_or-set_other, length-drop, take
 use Rattle.std.proofs.lemmas.Grind.{get_or-set_at}
 use Rattle.std.proofs.lemmas.List.Splits.{slice_split_first, slice_split_none}
 use Rattle.std.proofs.lemmas.List.Sums.{fails_before_first}
+use Rattle.jc_platform.specs.Packed.{entries}
 use Rattle.jc_platform.specs.Rows.{parts_at}
 
 -- the first element that passes, of a list that f shows
@@ -124,3 +125,19 @@ pub all_alike : {X : Type 0} (x : X) (n k : ℕ) → get_or (replicate n x) k x 
 all_alike x zero k = refl
 all_alike x (suc n) zero = refl
 all_alike x (suc n) (suc k) = all_alike x n k
+
+-- fewer than four bytes are no entry
+pub entries_uncut : (bytes : List ℕ) → length bytes < 4 → entries bytes ≡ bytes ∷ []
+entries_uncut [] h = refl
+entries_uncut (a ∷ []) h = refl
+entries_uncut (a ∷ b ∷ []) h = refl
+entries_uncut (a ∷ b ∷ c ∷ []) h = refl
+entries_uncut (a ∷ b ∷ c ∷ d ∷ more) h = absurd (omega (arith, h))
+
+-- the first four are one
+pub entries_cut : (bytes : List ℕ) → 4 ≤ length bytes → entries bytes ≡ take 4 bytes ∷ entries (drop 4 bytes)
+entries_cut [] h = absurd (omega (arith, h))
+entries_cut (a ∷ []) h = absurd (omega (arith, h))
+entries_cut (a ∷ b ∷ []) h = absurd (omega (arith, h))
+entries_cut (a ∷ b ∷ c ∷ []) h = absurd (omega (arith, h))
+entries_cut (a ∷ b ∷ c ∷ d ∷ more) h = refl

@@ -19,10 +19,11 @@ use Rattle.jc_platform.specs.Platform.{TellNames, class_by_token, method_by_toke
 use Rattle.jc_platform.specs.Rows.{Above, above, is_token}
 use Rattle.jc_platform.specs.Table.{AreThoseOf, Reads}
 use Rattle.jc_platform.specs.Tokens.{Tokens, number_in, token_of_class, token_of_method}
-use Rattle.jc_platform.proofs.Distinct.{both, class_by_number, distinct, found_has}
+use Rattle.jc_platform.proofs.Distinct.{both, distinct, found_has}
 use Rattle.jc_platform.proofs.Facts.{at_number, class_at_place, class_places, homes, method_at_place, method_homes, method_places}
 use Rattle.jc_platform.proofs.Lists.{and_true}
 use Rattle.jc_platform.proofs.Numbers.{class_below, method_below}
+use Rattle.jc_platform.proofs.Own.{same_class_is}
 use Rattle.jc_platform.proofs.Superclasses.{interface_tokens, superclass_token}
 use Rattle.jc_platform.proofs.Versions.{class_stands, first_needed, method_stands}
 
@@ -64,9 +65,6 @@ same_kind_is Virtual Interface e = absurd (false≢true e)
 same_kind_is Interface Static e = absurd (false≢true e)
 same_kind_is Interface Virtual e = absurd (false≢true e)
 same_kind_is Interface Interface e = refl
-
-same_class_is : (c d : PlatformClass) → same_class c d ≡ true → c ≡ d
-same_class_is c d e = class_by_number c d ((Decides-eqb (class_number c) (class_number d)).0 e)
 
 -- the number of a package where this one stands first
 abbrev numbered : PlatformPackage → PlatformPackage → ℕ
@@ -153,11 +151,11 @@ names_told text t read =
     let apart : AreDistinct t = distinct text t read in
     let a : Above = above read.1.0 in
     let said = read.1.1 in record {
-      packages = told_package t (first_needed said.0 read.1.0 said.2 t.first read.1.2.first);
+      packages = told_package t (first_needed text said.0 read.1.0 said.2 t.first read.1.2.first);
       classes = told_class t apart;
       methods = told_method t apart;
       needed_classes = needed_class a t read.1.2;
-      superclasses = superclass_token said.0 read.1.0 t said.2 read.1.2;
-      interfaces = interface_tokens said.0 read.1.0 t said.2 read.1.2;
+      superclasses = superclass_token text said.0 read.1.0 t said.2 read.1.2;
+      interfaces = interface_tokens text said.0 read.1.0 t said.2 read.1.2;
       needed_methods = needed_method a t read.1.2;
     }

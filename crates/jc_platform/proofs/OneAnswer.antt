@@ -11,13 +11,14 @@ use Rattle.jc_platform.specs.declared.names.PlatformPackage.{PlatformPackage}
 use Rattle.jc_platform.specs.declared.row.Row.{Row}
 use Rattle.jc_platform.specs.declared.row.Version.{Version}
 use Rattle.jc_platform.specs.Numbers.{class_count, class_number, method_count, method_number, package_count, package_number}
-use Rattle.jc_platform.specs.Rows.{Above, above, row_of_line}
+use Rattle.jc_platform.specs.Packed.{row_in}
+use Rattle.jc_platform.specs.Rows.{Above, above}
 use Rattle.jc_platform.specs.Table.{AreThoseOf, IsBad, IsFirstBad, IsMissing, Reads, Say, Spells, largest_text}
 use Rattle.jc_platform.specs.Tokens.{Tokens}
 use Rattle.jc_platform.proofs.Lines.{reverse-cons}
 use Rattle.jc_platform.proofs.Numbers.{class_at, method_at, package_at}
 
--- ---- lines say one list of rows
+-- ---- the parts of a table say one list of rows
 
 by_order : {G : Type 0} (m n : ℕ) → (m < n → G) → (n < m → G) → (m ≡ n → G) → G
 by_order m n below above same = ⊎_elim below (λ h. ⊎_elim above (λ k. same (omega arith)) (cases_lt n m)) (cases_lt m n)
@@ -32,55 +33,55 @@ same_parts (a ∷ l) (b ∷ m) xs ys n e =
     let tails : a ∷ xs ≡ b ∷ ys = w.1 in
     (cc, cc)
 
-same_rows : (lines : List (List ℕ)) (rs ss : List Row) → Say lines rs → Say lines ss → rs ≡ ss
-same_rows [] [] [] s t = refl
-same_rows [] [] (x ∷ ss) s t = absurd t
-same_rows [] (r ∷ rs) ss s t = absurd s
-same_rows (line ∷ lines) [] ss s t = absurd s
-same_rows (line ∷ lines) (r ∷ rs) [] s t = absurd t
-same_rows (line ∷ lines) (r ∷ rs) (x ∷ ss) s t =
-    let below : rs ≡ ss = same_rows lines rs ss s.1 t.1 in
-    let both : Some r ≡ Some x = sym (subst (λ (rows : List Row). row_of_line (above rows) line ≡ Some r) below s.0) ∙ t.0 in
+same_rows : (text : List ℕ) (lines : List (List ℕ)) (rs ss : List Row) → Say text lines rs → Say text lines ss → rs ≡ ss
+same_rows text [] [] [] s t = refl
+same_rows text [] [] (x ∷ ss) s t = absurd t
+same_rows text [] (r ∷ rs) ss s t = absurd s
+same_rows text (line ∷ lines) [] ss s t = absurd s
+same_rows text (line ∷ lines) (r ∷ rs) [] s t = absurd t
+same_rows text (line ∷ lines) (r ∷ rs) (x ∷ ss) s t =
+    let below : rs ≡ ss = same_rows text lines rs ss s.1 t.1 in
+    let both : Some r ≡ Some x = sym (subst (λ (rows : List Row). row_in text (above rows) line ≡ Some r) below s.0) ∙ t.0 in
     cc
 
--- ---- good lines and bad ones
+-- ---- good parts and bad ones
 
--- a part of a text is a good line: a row there, and a line feed ends it
-abbrev IsGood : Above → List ℕ → List (List ℕ) → Type 0
-IsGood a part more = (row : Row) × (row_of_line a part ≡ Some row) × (next : List ℕ) × (rest : List (List ℕ)) × (more ≡ next ∷ rest)
+-- a part of a table is good: a row there, and another part follows it
+abbrev IsGood : List ℕ → Above → List ℕ → List (List ℕ) → Type 0
+IsGood text a part more = (row : Row) × (row_in text a part ≡ Some row) × (next : List ℕ) × (rest : List (List ℕ)) × (more ≡ next ∷ rest)
 
--- where more lines say rows, the part that follows fewer is a good line
-goes_on : (l m : List (List ℕ)) (rs ss : List Row) (p q : List ℕ) (ps qs : List (List ℕ)) → length l < length m → reverse l ++ p ∷ ps ≡ reverse m ++ q ∷ qs
-    → Say l rs → Say m ss → IsGood (above rs) p ps
-goes_on l [] rs ss p q ps qs h e s t = absurd (omega (arith, h))
-goes_on l (line ∷ m) rs [] p q ps qs h e s t = absurd t
-goes_on l (line ∷ m) rs (row ∷ ss) p q ps qs h e s t =
+-- where more parts say rows, the one that follows fewer is good
+goes_on : (text : List ℕ) (l m : List (List ℕ)) (rs ss : List Row) (p q : List ℕ) (ps qs : List (List ℕ)) → length l < length m → reverse l ++ p ∷ ps ≡ reverse m ++ q ∷ qs
+    → Say text l rs → Say text m ss → IsGood text (above rs) p ps
+goes_on text l [] rs ss p q ps qs h e s t = absurd (omega (arith, h))
+goes_on text l (line ∷ m) rs [] p q ps qs h e s t = absurd t
+goes_on text l (line ∷ m) rs (row ∷ ss) p q ps qs h e s t =
     let cut : reverse l ++ p ∷ ps ≡ reverse m ++ line ∷ q ∷ qs = e ∙ reverse-cons line m (q ∷ qs) in
-    ⊎_elim (λ before. goes_on l m rs ss p line ps (q ∷ qs) before cut s t.1) (here cut) (cases_lt (length l) (length m))
+    ⊎_elim (λ before. goes_on text l m rs ss p line ps (q ∷ qs) before cut s t.1) (here cut) (cases_lt (length l) (length m))
   where
-    here : reverse l ++ p ∷ ps ≡ reverse m ++ line ∷ q ∷ qs → length m ≤ length l → IsGood (above rs) p ps
+    here : reverse l ++ p ∷ ps ≡ reverse m ++ line ∷ q ∷ qs → length m ≤ length l → IsGood text (above rs) p ps
     here cut last =
         let w = same_parts l m (p ∷ ps) (line ∷ q ∷ qs) (omega (arith, h, last)) cut in
         let lines : p ∷ ps ≡ line ∷ q ∷ qs = w.1 in
         let first : line ≡ p = cc in
-        let rows : ss ≡ rs = same_rows l ss rs (subst (λ (x : List (List ℕ)). Say x ss) (sym w.0) t.1) s in
-        let is_row : row_of_line (above rs) line ≡ Some row = subst (λ (x : List Row). row_of_line (above x) line ≡ Some row) rows t.0 in
-        (row, subst (λ (x : List ℕ). row_of_line (above rs) x ≡ Some row) first is_row, q, qs, cc)
+        let rows : ss ≡ rs = same_rows text l ss rs (subst (λ (x : List (List ℕ)). Say text x ss) (sym w.0) t.1) s in
+        let is_row : row_in text (above rs) line ≡ Some row = subst (λ (x : List Row). row_in text (above x) line ≡ Some row) rows t.0 in
+        (row, subst (λ (x : List ℕ). row_in text (above rs) x ≡ Some row) first is_row, q, qs, cc)
 
-not_at_end : (a : Above) (part : List ℕ) → IsGood a part [] → ⊥
-not_at_end a part good = absurd (let e : [] ≡ good.2 ∷ good.3 = good.4 in cc)
+not_at_end : (text : List ℕ) (a : Above) (part : List ℕ) → IsGood text a part [] → ⊥
+not_at_end text a part good = absurd (let e : [] ≡ good.2 ∷ good.3 = good.4 in cc)
 
-not_bad : (a : Above) (part : List ℕ) (more : List (List ℕ)) → IsGood a part more → IsBad a part more → ⊥
-not_bad a part [] good bad = not_at_end a part good
-not_bad a part (next ∷ rest) good bad = absurd (let e : None ≡ Some good.0 = sym bad ∙ good.1 in cc)
+not_bad : (text : List ℕ) (a : Above) (part : List ℕ) (more : List (List ℕ)) → IsGood text a part more → IsBad text a part more → ⊥
+not_bad text a part [] good bad = not_at_end text a part good
+not_bad text a part (next ∷ rest) good bad = absurd (let e : None ≡ Some good.0 = sym bad ∙ good.1 in cc)
 
 spelt_once : (text : List ℕ) (rs ss : List Row) → Spells text rs → Spells text ss → rs ≡ ss
 spelt_once text rs ss s t =
     let e = sym s.1 ∙ t.1 in
     by_order (length s.0) (length t.0)
-    (λ h. absurd (not_at_end (above rs) [] (goes_on s.0 t.0 rs ss [] [] [] [] h e s.2 t.2)))
-    (λ h. absurd (not_at_end (above ss) [] (goes_on t.0 s.0 ss rs [] [] [] [] h (sym e) t.2 s.2)))
-    (λ h. same_rows t.0 rs ss (subst (λ (x : List (List ℕ)). Say x rs) (same_parts s.0 t.0 ([] ∷ []) ([] ∷ []) h e).0 s.2) t.2)
+    (λ h. absurd (not_at_end text (above rs) [] (goes_on text s.0 t.0 rs ss [] [] [] [] h e s.2 t.2)))
+    (λ h. absurd (not_at_end text (above ss) [] (goes_on text t.0 s.0 ss rs [] [] [] [] h (sym e) t.2 s.2)))
+    (λ h. same_rows text t.0 rs ss (subst (λ (x : List (List ℕ)). Say text x rs) (same_parts s.0 t.0 ([] ∷ []) ([] ∷ []) h e).0 s.2) t.2)
 
 not_spelt : (text : List ℕ) (rs : List Row) (n : ℕ) → Spells text rs → IsFirstBad text n → ⊥
 not_spelt text rs n s b =
@@ -88,20 +89,20 @@ not_spelt text rs n s b =
     let more = b.3 in
     let e : reverse s.0 ++ [] ∷ [] ≡ reverse b.0 ++ part ∷ more = sym s.1 ∙ b.4 in
     by_order (length s.0) (length b.0)
-    (λ h. not_at_end (above rs) [] (goes_on s.0 b.0 rs b.1 [] part [] more h e s.2 b.5))
-    (λ h. not_bad (above b.1) part more (goes_on b.0 s.0 b.1 rs part [] more [] h (sym e) b.5 s.2) b.7)
+    (λ h. not_at_end text (above rs) [] (goes_on text s.0 b.0 rs b.1 [] part [] more h e s.2 b.5))
+    (λ h. not_bad text (above b.1) part more (goes_on text b.0 s.0 b.1 rs part [] more [] h (sym e) b.5 s.2) b.7)
     (λ h.
     let ends : [] ∷ [] ≡ part ∷ more = (same_parts s.0 b.0 ([] ∷ []) (part ∷ more) h e).1 in
     let empty : part ≡ [] = cc in
     let last : more ≡ [] = cc in
-    subst (λ (x : List (List ℕ)). IsBad (above b.1) part x) last b.7 empty)
+    subst (λ (x : List (List ℕ)). IsBad text (above b.1) part x) last b.7 empty)
 
 one_first_bad : (text : List ℕ) (m n : ℕ) → IsFirstBad text m → IsFirstBad text n → m ≡ n
 one_first_bad text m n a b =
     let e : reverse a.0 ++ a.2 ∷ a.3 ≡ reverse b.0 ++ b.2 ∷ b.3 = sym a.4 ∙ b.4 in
     by_order (length a.0) (length b.0)
-    (λ h. absurd (not_bad (above a.1) a.2 a.3 (goes_on a.0 b.0 a.1 b.1 a.2 b.2 a.3 b.3 h e a.5 b.5) a.7))
-    (λ h. absurd (not_bad (above b.1) b.2 b.3 (goes_on b.0 a.0 b.1 a.1 b.2 a.2 b.3 a.3 h (sym e) b.5 a.5) b.7))
+    (λ h. absurd (not_bad text (above a.1) a.2 a.3 (goes_on text a.0 b.0 a.1 b.1 a.2 b.2 a.3 b.3 h e a.5 b.5) a.7))
+    (λ h. absurd (not_bad text (above b.1) b.2 b.3 (goes_on text b.0 a.0 b.1 a.1 b.2 a.2 b.3 a.3 h (sym e) b.5 a.5) b.7))
     (λ h. a.6 ∙ ap (λ (k : ℕ). k + 1) h ∙ sym b.6)
 
 -- ---- what is given is not missing

@@ -7,14 +7,15 @@ use Rattle.std.proofs.lemmas.Bool.Decides.{Decides-eqb}
 use Rattle.jc_platform.specs.declared.names.PlatformClass.{PlatformClass}
 use Rattle.jc_platform.specs.declared.row.Row.{Row}
 use Rattle.jc_platform.specs.declared.row.Row.TheVariants.{Extended, Random, Package, Class, Method}
-use Rattle.jc_platform.specs.Distinct.{is_needed_class}
+use Rattle.jc_platform.specs.Distinct.{entry_of_class, is_needed_class}
 use Rattle.jc_platform.specs.Hierarchy.{interfaces_of, superclass_of}
 use Rattle.jc_platform.specs.Numbers.{class_number, same_class}
-use Rattle.jc_platform.specs.Rows.{above, allows, class_token_in, has_class_token, has_superclass, has_supertypes, is_package, parts_at}
+use Rattle.jc_platform.specs.Rows.{above, allows, class_token_in, has_class_token, has_superclass, has_supertypes, is_package}
 use Rattle.jc_platform.specs.Table.{AreThoseOf, Say}
 use Rattle.jc_platform.specs.Tokens.{Tokens, token_of_class}
 use Rattle.jc_platform.proofs.Distinct.{both, class_by_number}
-use Rattle.jc_platform.proofs.Fitting.{IsFitting, row_fits}
+use Rattle.jc_platform.proofs.Facts.{class_at_place}
+use Rattle.jc_platform.proofs.Fitting.{IsFitting, part_fits}
 use Rattle.jc_platform.proofs.Lists.{and_true}
 use Rattle.jc_platform.proofs.Versions.{class_stands}
 
@@ -58,13 +59,13 @@ grown rows b s (d ∷ ds) all =
 fitting : (rows : List Row) (b : PlatformClass) (s : ℕ) → IsFitting (above rows) (Class b s) → list_all (stands rows) (supertypes b) ≡ true
 fitting rows b s fit =
     let a = above rows in
-    let e = fit.0 in
+    let e = entry_of_class b in
     let one = (and_true (allows a e.needed && is_package a.home e.home && has_supertypes a e.class && not (is_some (a.class_token e.class)))
-    (not (has_class_token a e.home s)) fit.4).0 in
+    (not (has_class_token a e.home s)) fit).0 in
     let two = (and_true (allows a e.needed && is_package a.home e.home && has_supertypes a e.class) (not (is_some (a.class_token e.class))) one).0 in
     let own = (and_true (allows a e.needed && is_package a.home e.home) (has_supertypes a e.class) two).1 in
     let each = and_true (has_superclass a (superclass_of e.class)) (list_all (stands rows) (interfaces_of e.class)) own in
-    subst (λ c. list_all (stands rows) (supertypes c) ≡ true) fit.1 (had rows (superclass_of e.class) (interfaces_of e.class) each.0 each.1)
+    subst (λ c. list_all (stands rows) (supertypes c) ≡ true) (class_at_place b) (had rows (superclass_of e.class) (interfaces_of e.class) each.0 each.1)
 
 of_class : (rows : List Row) (b c : PlatformClass) (s : ℕ) (same : Bool) → (same ≡ true → b ≡ c) → list_all (stands rows) (supertypes b) ≡ true
     → (is_some (class_token_in rows c) ≡ true → list_all (stands rows) (supertypes c) ≡ true) → is_some (if same then Some s else class_token_in rows c) ≡ true
@@ -72,29 +73,29 @@ of_class : (rows : List Row) (b c : PlatformClass) (s : ℕ) (same : Bool) → (
 of_class rows b c s true is own later e = subst (λ x. list_all (stands rows) (supertypes x) ≡ true) (is refl) own
 of_class rows b c s false is own later e = later e
 
-supertypes_in_rows : (c : PlatformClass) (lines : List (List ℕ)) (rows : List Row) → Say lines rows → is_some (class_token_in rows c) ≡ true
+supertypes_in_rows : (c : PlatformClass) (text : List ℕ) (lines : List (List ℕ)) (rows : List Row) → Say text lines rows → is_some (class_token_in rows c) ≡ true
     → list_all (stands rows) (supertypes c) ≡ true
-supertypes_in_rows c [] [] said e = absurd (false≢true e)
-supertypes_in_rows c [] (row ∷ rows) said e = absurd said
-supertypes_in_rows c (line ∷ lines) [] said e = absurd said
-supertypes_in_rows c (line ∷ lines) (Extended ∷ rows) said e =
-    kept rows (Extended ∷ rows) (λ d. refl) (supertypes c) (supertypes_in_rows c lines rows said.1 e)
-supertypes_in_rows c (line ∷ lines) (Random bytes ∷ rows) said e =
-    kept rows (Random bytes ∷ rows) (λ d. refl) (supertypes c) (supertypes_in_rows c lines rows said.1 e)
-supertypes_in_rows c (line ∷ lines) (Package p v ∷ rows) said e =
-    kept rows (Package p v ∷ rows) (λ d. refl) (supertypes c) (supertypes_in_rows c lines rows said.1 e)
-supertypes_in_rows c (line ∷ lines) (Method m t ∷ rows) said e =
-    kept rows (Method m t ∷ rows) (λ d. refl) (supertypes c) (supertypes_in_rows c lines rows said.1 e)
-supertypes_in_rows c (line ∷ lines) (Class b s ∷ rows) said e =
+supertypes_in_rows c text [] [] said e = absurd (false≢true e)
+supertypes_in_rows c text [] (row ∷ rows) said e = absurd said
+supertypes_in_rows c text (line ∷ lines) [] said e = absurd said
+supertypes_in_rows c text (line ∷ lines) (Extended ∷ rows) said e =
+    kept rows (Extended ∷ rows) (λ d. refl) (supertypes c) (supertypes_in_rows c text lines rows said.1 e)
+supertypes_in_rows c text (line ∷ lines) (Random bytes ∷ rows) said e =
+    kept rows (Random bytes ∷ rows) (λ d. refl) (supertypes c) (supertypes_in_rows c text lines rows said.1 e)
+supertypes_in_rows c text (line ∷ lines) (Package p v ∷ rows) said e =
+    kept rows (Package p v ∷ rows) (λ d. refl) (supertypes c) (supertypes_in_rows c text lines rows said.1 e)
+supertypes_in_rows c text (line ∷ lines) (Method m t ∷ rows) said e =
+    kept rows (Method m t ∷ rows) (λ d. refl) (supertypes c) (supertypes_in_rows c text lines rows said.1 e)
+supertypes_in_rows c text (line ∷ lines) (Class b s ∷ rows) said e =
     grown rows b s (supertypes c) (of_class rows b c s (same_class b c)
     (λ same. class_by_number b c ((Decides-eqb (class_number b) (class_number c)).0 same))
-    (fitting rows b s (row_fits (above rows) (parts_at 32 line) (Class b s) said.0)) (supertypes_in_rows c lines rows said.1) e)
+    (fitting rows b s (part_fits text (above rows) line (Class b s) said.0)) (supertypes_in_rows c text lines rows said.1) e)
 
 stood : (needed : Bool) (o : Option ℕ) → (needed || is_some o) ≡ true → (needed ≡ true → is_some o ≡ true) → is_some o ≡ true
 stood true o e there = there refl
 stood false o e there = e
 
-module _ (lines : List (List ℕ)) (rows : List Row) (t : Tokens) (said : Say lines rows) (those : AreThoseOf (above rows) t) where
+module _ (text : List ℕ) (lines : List (List ℕ)) (rows : List Row) (t : Tokens) (said : Say text lines rows) (those : AreThoseOf (above rows) t) where
   has_token : (d : PlatformClass) → stands rows d ≡ true → is_some (token_of_class t d) ≡ true
   has_token d up =
       let there = stood (is_needed_class d) (class_token_in rows d) up (λ need. ap is_some (class_stands (above rows) those.needed_classes d need).1) in
@@ -107,7 +108,7 @@ module _ (lines : List (List ℕ)) (rows : List Row) (t : Tokens) (said : Say li
       both (is_some (token_of_class t d)) (list_all (λ x. is_some (token_of_class t x)) ds) (has_token d parts.0) (have_tokens ds parts.1)
 
   stand_there : (c : PlatformClass) → is_some (token_of_class t c) ≡ true → list_all (stands rows) (supertypes c) ≡ true
-  stand_there c token = supertypes_in_rows c lines rows said (ap is_some (those.class_tokens c) ∙ token)
+  stand_there c token = supertypes_in_rows c text lines rows said (ap is_some (those.class_tokens c) ∙ token)
 
   first_of : (d : PlatformClass) (o : Option PlatformClass) (is : List PlatformClass) → o ≡ Some d → list_all (stands rows) (with_superclass o is) ≡ true
       → stands rows d ≡ true

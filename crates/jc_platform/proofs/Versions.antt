@@ -11,11 +11,11 @@ use Rattle.jc_platform.specs.declared.row.Row.{Row}
 use Rattle.jc_platform.specs.declared.row.Row.TheVariants.{Extended, Random, Package, Class, Method}
 use Rattle.jc_platform.specs.Distinct.{entry_of_class, entry_of_method, is_needed_class, is_needed_method}
 use Rattle.jc_platform.specs.Numbers.{is_needed_package}
-use Rattle.jc_platform.specs.Rows.{Above, above, first_package, has_needed_packages, is_extended, may_be_package, parts_at, version_in}
+use Rattle.jc_platform.specs.Rows.{Above, above, first_package, has_needed_packages, is_extended, may_be_package, version_in}
 use Rattle.jc_platform.specs.Table.{Say, has_needed_classes, has_needed_methods}
 use Rattle.jc_platform.proofs.EveryRow.{every_class, every_method}
 use Rattle.jc_platform.proofs.Facts.{class_at_place, method_at_place}
-use Rattle.jc_platform.proofs.Fitting.{row_fits}
+use Rattle.jc_platform.proofs.Fitting.{part_fits}
 use Rattle.jc_platform.proofs.Lists.{and_true}
 
 -- where a package has a version, some package stands first
@@ -45,26 +45,26 @@ first_new None p q new old e = new refl (same_Some p q e)
 first_new (Some r) p q new old e = old e
 
 -- it never stands first
-never_first : (q : PlatformPackage) → is_needed_package q ≡ false → (lines : List (List ℕ)) (rows : List Row) → Say lines rows
+never_first : (q : PlatformPackage) → is_needed_package q ≡ false → (text : List ℕ) (lines : List (List ℕ)) (rows : List Row) → Say text lines rows
     → first_package rows ≡ Some q → ⊥
-never_first q other [] [] said e = absurd (let g : None ≡ Some q = e in cc)
-never_first q other [] (row ∷ rows) said e = said
-never_first q other (line ∷ lines) [] said e = said
-never_first q other (line ∷ lines) (Extended ∷ rows) said e = never_first q other lines rows said.1 e
-never_first q other (line ∷ lines) (Random bytes ∷ rows) said e = never_first q other lines rows said.1 e
-never_first q other (line ∷ lines) (Class c t ∷ rows) said e = never_first q other lines rows said.1 e
-never_first q other (line ∷ lines) (Method m t ∷ rows) said e = never_first q other lines rows said.1 e
-never_first q other (line ∷ lines) (Package p v ∷ rows) said e =
-    let fit : may_be_package (above rows) p ≡ true = row_fits (above rows) (parts_at 32 line) (Package p v) said.0 in
-    first_new (first_package rows) p q (λ none is. stands_below rows p (ap is_needed_package is ∙ other) fit none) (never_first q other lines rows said.1) e
+never_first q other text [] [] said e = absurd (let g : None ≡ Some q = e in cc)
+never_first q other text [] (row ∷ rows) said e = said
+never_first q other text (line ∷ lines) [] said e = said
+never_first q other text (line ∷ lines) (Extended ∷ rows) said e = never_first q other text lines rows said.1 e
+never_first q other text (line ∷ lines) (Random bytes ∷ rows) said e = never_first q other text lines rows said.1 e
+never_first q other text (line ∷ lines) (Class c t ∷ rows) said e = never_first q other text lines rows said.1 e
+never_first q other text (line ∷ lines) (Method m t ∷ rows) said e = never_first q other text lines rows said.1 e
+never_first q other text (line ∷ lines) (Package p v ∷ rows) said e =
+    let fit : may_be_package (above rows) p ≡ true = part_fits text (above rows) line (Package p v) said.0 in
+    first_new (first_package rows) p q (λ none is. stands_below rows p (ap is_needed_package is ∙ other) fit none) (never_first q other text lines rows said.1) e
 
 is_or_is_no : (b : Bool) → (b ≡ false → ⊥) → b ≡ true
 is_or_is_no true never = refl
 is_or_is_no false never = absurd (never refl)
 
 -- a package that each table has stands first
-pub first_needed : (lines : List (List ℕ)) (rows : List Row) → Say lines rows → (p : PlatformPackage) → first_package rows ≡ Some p → is_needed_package p ≡ true
-first_needed lines rows said p first = is_or_is_no (is_needed_package p) (λ other. never_first p other lines rows said first)
+pub first_needed : (text : List ℕ) (lines : List (List ℕ)) (rows : List Row) → Say text lines rows → (p : PlatformPackage) → first_package rows ≡ Some p → is_needed_package p ≡ true
+first_needed text lines rows said p first = is_or_is_no (is_needed_package p) (λ other. never_first p other text lines rows said first)
 
 of_needed : (b : Bool) (o : Option ℕ) → (not b || is_some o) ≡ true → b ≡ true → (k : ℕ) × (o ≡ Some k)
 of_needed true None all e = absurd (false≢true all)

@@ -1,6 +1,7 @@
 pub mod Names
 pub mod Rooms
 pub mod Numbers
+pub mod Packed
 pub mod Reading
 pub mod Rows
 pub mod Seen

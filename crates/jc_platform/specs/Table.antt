@@ -1,4 +1,4 @@
--- The platform table: its text, and what it says.
+-- The platform table: its text or its packed form, and what it says.
 use Rattle.std.specs.Prelude.{ℕ, ◌≡◌, ◌≢◌, ◌+◌, ◌<◌, ◌≤◌, ◌⊎◌, ◌||◌, not, Bool, true, false, is_some, List, [], ◌∷◌, ◌++◌, length, reverse, replicate, unwrap_or, None, Some}
 use Rattle.std.specs.Prelude.{Result, Ok, Err}
 use Rattle.std.specs.List.{list_all}
@@ -10,29 +10,30 @@ use Rattle.jc_platform.specs.declared.fault.TableFault.{TableFault}
 use Rattle.jc_platform.specs.declared.fault.TableFault.TheVariants.{BadTable}
 use Rattle.jc_platform.specs.Names.{MethodEntry, classes, methods}
 use Rattle.jc_platform.specs.Numbers.{class_count, method_count, package_count}
-use Rattle.jc_platform.specs.Rows.{Above, above, has_needed_packages, parts_at, row_of_line}
+use Rattle.jc_platform.specs.Packed.{parts_of, row_in}
+use Rattle.jc_platform.specs.Rows.{Above, above, has_needed_packages}
 use Rattle.jc_platform.specs.Tokens.{Tokens, token_of_class, token_of_method, version_of_package}
 
--- each line is its row below the rows above it; lines and rows from the last one up
-abbrev pub Say : List (List ℕ) → List Row → Type 0
-Say [] [] = Unit {0}
-Say [] (row ∷ rows) = ⊥
-Say (line ∷ lines) [] = ⊥
-Say (line ∷ lines) (row ∷ rows) = (row_of_line (above rows) line ≡ Some row) × Say lines rows
+-- each part of this table is its row below the rows above it; parts and rows from the last one up
+abbrev pub Say : List ℕ → List (List ℕ) → List Row → Type 0
+Say text [] [] = Unit {0}
+Say text [] (row ∷ rows) = ⊥
+Say text (line ∷ lines) [] = ⊥
+Say text (line ∷ lines) (row ∷ rows) = (row_in text (above rows) line ≡ Some row) × Say text lines rows
 
--- the text is lines that are all ended by a line feed, and they say these rows
+-- the table is lines that are all ended by a line feed, or whole entries, and they say these rows
 abbrev pub Spells : List ℕ → List Row → Type 0
-Spells text rows = (lines : List (List ℕ)) × (parts_at 10 text ≡ reverse lines ++ [] ∷ []) × Say lines rows
+Spells text rows = (lines : List (List ℕ)) × (parts_of text ≡ reverse lines ++ [] ∷ []) × Say text lines rows
 
--- a part of a text is a bad line: there it is no row, or no line feed ends it
-abbrev pub IsBad : Above → List ℕ → List (List ℕ) → Type 0
-IsBad a part [] = part ≢ []
-IsBad a part (next ∷ more) = row_of_line a part ≡ None
+-- a part of this table is bad: there it is no row, or no line feed ends it, or it is an entry cut short
+abbrev pub IsBad : List ℕ → Above → List ℕ → List (List ℕ) → Type 0
+IsBad text a part [] = part ≢ []
+IsBad text a part (next ∷ more) = row_in text a part ≡ None
 
--- line n, counted from 1, is the first bad one
+-- line n, or entry n, counted from 1, is the first bad one
 abbrev pub IsFirstBad : List ℕ → ℕ → Type 0
 IsFirstBad text n = (lines : List (List ℕ)) × (rows : List Row) × (part : List ℕ) × (more : List (List ℕ))
-    × (parts_at 10 text ≡ reverse lines ++ part ∷ more) × Say lines rows × (n ≡ length lines + 1) × IsBad (above rows) part more
+    × (parts_of text ≡ reverse lines ++ part ∷ more) × Say text lines rows × (n ≡ length lines + 1) × IsBad text (above rows) part more
 
 -- each class that each table has stands above
 abbrev pub has_needed_classes : Above → Bool
@@ -68,7 +69,7 @@ pub record AreThoseOf (a : Above) (t : Tokens) : Type 0 where
   pub as_many_classes : length t.class_tokens ≡ class_count
   pub as_many_methods : length t.method_tokens ≡ method_count
 
--- the most bytes of a table's text
+-- the most bytes of a table
 abbrev pub largest_text : ℕ
 largest_text = 16384
 

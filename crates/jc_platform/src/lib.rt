@@ -1,6 +1,7 @@
 //! The platform's packages, classes and methods, and the tokens that a table gives them.
 #![tactic(auto)]
 
+mod entries;
 pub mod example;
 pub mod fault;
 pub mod hierarchy;
@@ -10,9 +11,9 @@ pub mod lookup;
 pub mod names;
 pub mod platform;
 pub mod read;
-mod reading;
+pub mod reading;
 pub mod row;
 pub mod rows;
 pub mod signatures;
 pub mod table;
-mod words;
+pub mod words;

@@ -42,7 +42,7 @@ pub fn all_classes() -> &'static [ClassRow]
 }
 
 /// The classes of a package.
-pub(crate) fn classes_of(home: PlatformPackage) -> &'static [ClassRow]
+pub fn classes_of(home: PlatformPackage) -> &'static [ClassRow]
     ensures { map class_value result.now ≡ classes_of home }
 {
     let place = home.index();
@@ -204,7 +204,7 @@ impl Room {
 }
 
 /// The methods of a class.
-pub(crate) fn methods_of(class: PlatformClass) -> &'static [MethodRow]
+pub fn methods_of(class: PlatformClass) -> &'static [MethodRow]
     ensures { map method_value result.now ≡ methods_of class }
 {
     let stretch = STRETCHES[class.index()];

@@ -874,7 +874,7 @@ impl KeyPairsMethod {
 impl PlatformMethod {
     /// Its place among the methods, room after room.
     #[inline(always)]
-    pub(crate) const fn index(self) -> usize
+    pub const fn index(self) -> usize
         ensures place { result ≡ method_number self }
         ensures bound { result < METHOD_COUNT }
     {

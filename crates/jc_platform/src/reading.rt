@@ -6,14 +6,15 @@ ghost use Rattle.std.specs.List.{list_all};
 ghost use Rattle.jc_platform.specs.Rows.{has_class, has_needed_packages, has_superclass, has_supertypes, may_be_package};
 ghost use Rattle.jc_platform.specs.Rows.{allows, bytes_of, extended_row, may_be_random, package_row, random_row, row_of_line};
 ghost use Rattle.jc_platform.specs.Numbers.{package_number};
+ghost use Rattle.jc_platform.specs.Packed.{class_entry, method_entry, package_entry, row_of_entry, row_of_kind};
 ghost use Rattle.jc_platform.specs.Table.{AreThoseOf, IsMissing, has_needed_classes, has_needed_methods, has_needed_of};
 ghost use Rattle.jc_platform.specs.Reading.{above_of};
 ghost use Rattle.jc_platform.specs.Seen.{class_value, method_value};
 ghost use Rattle.jc_platform.specs.declared.row.Row.{Row};
 
 use crate::lookup::{
-    aids_rows, all_classes, apdus_rows, applets_rows, ciphers_rows, class_named,
-    ec_interfaces_rows, ec_keys_rows, engines_rows, events_rows, exceptions_rows,
+    aids_rows, all_classes, all_packages, apdus_rows, applets_rows, ciphers_rows, class_named,
+    classes_of, ec_interfaces_rows, ec_keys_rows, engines_rows, events_rows, exceptions_rows,
     key_interfaces_rows, key_pairs_rows, keys_rows, method_named, methods_of, objects_rows,
     package_with, pins_rows, rsa_interfaces_rows, rsa_keys_rows, system_rows, utilities_rows,
 };
@@ -28,7 +29,7 @@ use crate::words::{is_token, kind, number, random_bytes, split_once};
 
 /// What stands above the next line.
 #[derive(Drop)]
-pub(crate) struct Reading {
+pub struct Reading {
     /// The first line allows names of the second list.
     extended: bool,
     /// The package that the next class stands in.
@@ -46,7 +47,7 @@ pub(crate) struct Reading {
 
 impl Reading {
     /// Before the first line.
-    pub(crate) fn new() -> Self
+    pub fn new() -> Self
         ensures { above_of result ≡ above [] }
     {
         Reading {
@@ -62,7 +63,7 @@ impl Reading {
     }
 
     /// The row that a line gives, if it may stand here.
-    pub(crate) fn row(&self, line: &[u8]) -> Option<Row>
+    pub fn row(&self, line: &[u8]) -> Option<Row>
         ensures { result ≡ row_of_line (above_of self.now) line.now }
     {
         let Some((keyword, rest)) = split_once(line, b' ') else {
@@ -84,6 +85,29 @@ impl Reading {
             return None;
         }
         self.package_row(second, third, fourth)
+    }
+
+    /// The row that an entry of a packed table gives, if it may stand here.
+    pub(crate) fn entry(&self, entry: &[u8]) -> Option<Row>
+        ensures { result ≡ row_of_entry (above_of self.now) entry.now }
+    {
+        match entry {
+            [kind, number, second, third] => self.entry_of_kind(*kind, *number, *second, *third),
+            _ => None,
+        }
+    }
+
+    /// The row of an entry of this kind.
+    fn entry_of_kind(&self, kind: u8, number: u8, second: u8, third: u8) -> Option<Row>
+        ensures { result ≡ row_of_kind (above_of self.now) kind number second third }
+    {
+        match kind {
+            0 => self.extended_entry(number, second, third),
+            1 => self.package_entry(number, second, third),
+            2 if third == 0 => self.class_entry(number, second),
+            3 if third == 0 => self.method_entry(number, second),
+            _ => None,
+        }
     }
 
     /// The version of a package that stands above.
@@ -160,6 +184,50 @@ impl Reading {
         let class = self.class?;
         let entry = method_named(class, kind, name)?;
         if !self.may_be_method(&entry, token) {
+            return None;
+        }
+        Some(Row::Method(entry.method, token))
+    }
+
+    fn extended_entry(&self, number: u8, second: u8, third: u8) -> Option<Row>
+        ensures { result ≡ row_of_kind (above_of self.now) 0 number second third }
+    {
+        if number == 0 && second == 0 && third == 0 && self.may_be_extended() {
+            return Some(Row::Extended);
+        }
+        None
+    }
+
+    /// The package with this number.
+    fn package_entry(&self, number: u8, major: u8, minor: u8) -> Option<Row>
+        ensures { result ≡ package_entry (above_of self.now) number major minor }
+    {
+        let entry = all_packages().get(usize::from(number))?;
+        if !self.may_be_package(entry.package_id) {
+            return None;
+        }
+        Some(Row::Package(entry.package_id, Version { major, minor }))
+    }
+
+    /// The class with this number among those of the package above.
+    fn class_entry(&self, number: u8, token: u8) -> Option<Row>
+        ensures { result ≡ class_entry (above_of self.now) number token }
+    {
+        let home = self.home?;
+        let entry = classes_of(home).get(usize::from(number))?;
+        if !self.may_be_class(entry, token) {
+            return None;
+        }
+        Some(Row::Class(entry.class, token))
+    }
+
+    /// The method with this number among those of the class above.
+    fn method_entry(&self, number: u8, token: u8) -> Option<Row>
+        ensures { result ≡ method_entry (above_of self.now) number token }
+    {
+        let class = self.class?;
+        let entry = methods_of(class).get(usize::from(number))?;
+        if !self.may_be_method(entry, token) {
             return None;
         }
         Some(Row::Method(entry.method, token))
@@ -276,7 +344,7 @@ impl Reading {
     }
 
     /// Takes a row in.
-    pub(crate) fn put(&mut self, row: Row)
+    pub fn put(&mut self, row: Row)
         ensures { (rows : List Row) → above_of self.old ≡ above rows
             → above_of self.new ≡ above (row ∷ rows) }
     {

@@ -14,7 +14,7 @@ pub const RANDOM_SIZE: usize = 32;
 
 /// A line that says where a name of the platform stands.
 #[derive(Clone, Copy)]
-pub(crate) enum Row {
+pub enum Row {
     /// The first line of a table that may have names of the second list.
     Extended,
     /// The bytes that random data are made from.

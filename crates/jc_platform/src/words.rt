@@ -8,7 +8,7 @@ use crate::row::RANDOM_SIZE;
 use hex::FromHex;
 
 /// The bytes before the first separator and those after it.
-pub(crate) fn split_once(bytes: &[u8], separator: u8) -> Option<(&[u8], &[u8])>
+pub fn split_once(bytes: &[u8], separator: u8) -> Option<(&[u8], &[u8])>
     ensures parts { MatchOption result (parts_at separator bytes.now ≡ bytes.now ∷ [])
         (λ r. parts_at separator bytes.now ≡ r.0.now ∷ parts_at separator r.1.now) }
     ensures shorter { IfSome result (λ r. length r.1.now < length bytes.now) }

@@ -32,6 +32,7 @@ pub fn remark_on_table<M: Remarks>(alloc: Global, text: &Vec<u8>, remarks: &mut 
 // Says what is wrong with its first bad line, of this number from 1; or with all of it, where it is 0.
 fn remark_on<M: Remarks>(alloc: Global, text: &[u8], line: u16, remarks: &mut M) {
     let told = match line {
+        _ if text.first() == Some(&0) => remark_on_packed(alloc, text, line),
         0 => remark_on_all(alloc, text),
         _ => remark_on_line(alloc, u32::from(line), cause_of(text, u32::from(line))),
     };
@@ -598,6 +599,20 @@ fn remark_on_line(alloc: Global, line: u32, cause: LineCause) -> Result<Vec<u8>,
         push_number(&mut text, u64::from(cause.other_line))?;
     }
     text.extend_from_slice(b"\n")?;
+    Ok(text)
+}
+
+// Why a packed table is none: its first bad entry has this number, or it is 0.
+fn remark_on_packed(alloc: Global, table: &[u8], entry: u16) -> Result<Vec<u8>, AllocError> {
+    if table.len() > LARGEST_TEXT {
+        return remark_on_all(alloc, table);
+    }
+    if entry == 0 {
+        return Vec::from_slice(alloc, b"jcard: the packed table lacks a name\n");
+    }
+    let mut text = Vec::from_slice(alloc, b"jcard: entry ")?;
+    push_number(&mut text, u64::from(entry))?;
+    text.extend_from_slice(b" of the packed table is none that can stand there\n")?;
     Ok(text)
 }
 

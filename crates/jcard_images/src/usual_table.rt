@@ -1,39 +1,64 @@
 //! The platform table of cards for which none is named.
-ghost use Rattle.std.specs.Prelude.{◌≡◌, ℕ, List, MatchResult, option_map};
+ghost use Rattle.std.specs.Prelude.{◌≡◌, ℕ, List, MatchResult, Some, option_map};
 ghost use Rattle.std.specs.Borrow.{Bor};
+ghost use Rattle.jc_packing.specs.Packing.{IsKept};
 ghost use Rattle.jcard_files.specs.FileDeeds.{FileDeed};
+ghost use Rattle.jcard_files.specs.Readings.{IsUnread};
 ghost use Rattle.jcard_images.specs.UsualTables.{IsNoPlatform, IsPlatform};
 
+use jc_packing::packing::kept;
 use jcard_files::disk::Disk;
 use jcard_files::fault::Fault;
 use jcard_files::reading::text_of;
 use std::alloc::{AllocError, Global};
 
-/// The text of the platform table in the file with this name, up to one byte more than one can have; without a name the usual one.
+/// What an image keeps of the platform table in the file with this name; without a name of the usual one.
 pub fn platform_of<'n, D: Disk>(disk: &mut D, table: Option<&'n str>) -> Result<Vec<u8>, Fault<'n>>
     ensures { (deeds : List FileDeed) × D.does disk.old deeds disk.new × MatchResult result
-        (λ text. IsPlatform (option_map (λ (name : Bor (List ℕ)). name.now) table.entry) text.items
+        (λ kept. IsPlatform (option_map (λ (name : Bor (List ℕ)). name.now) table.entry) kept.items
         deeds)
         (λ fault. IsNoPlatform (option_map (λ (name : Bor (List ℕ)). name.now) table.entry) fault
         deeds) }
 {
     match table {
-        Some(name) => text_of(disk, name),
-        None => usual_text(disk.alloc()),
+        Some(name) => platform_in(disk, name),
+        None => usual_platform(disk.alloc()),
     }
 }
 
-fn usual_text<'n>(alloc: Global) -> Result<Vec<u8>, Fault<'n>>
-    ensures { MatchResult result (λ text. text.items ≡ USUAL_TABLE.now)
+/// What an image keeps of the platform table in the file with this name, of which up to one byte more is read than one can have.
+pub fn platform_in<'n, D: Disk>(disk: &mut D, name: &'n str) -> Result<Vec<u8>, Fault<'n>>
+    ensures { (deeds : List FileDeed) × D.does disk.old deeds disk.new × MatchResult result
+        (λ kept. IsPlatform (Some name.now) kept.items deeds)
+        (λ fault. IsUnread name.now fault deeds) }
+{
+    match text_of(disk, name) {
+        Ok(text) => kept_of(disk.alloc(), text),
+        Err(fault) => Err(fault),
+    }
+}
+
+fn usual_platform<'n>(alloc: Global) -> Result<Vec<u8>, Fault<'n>>
+    ensures { MatchResult result (λ kept. IsKept USUAL_TABLE.now kept.items)
         (λ fault. fault ≡ Fault.NoMemory) }
 {
     match Vec::from_slice(alloc, USUAL_TABLE.as_bytes()) {
-        Ok(text) => Ok(text),
+        Ok(text) => kept_of(alloc, text),
         Err(AllocError) => Err(Fault::NoMemory),
     }
 }
 
-/// The text of `examples/extended.table`, 5,540 bytes: each name that can stand, with a token.
+fn kept_of<'n>(alloc: Global, text: Vec<u8>) -> Result<Vec<u8>, Fault<'n>>
+    ensures { MatchResult result (λ kept. IsKept text.items kept.items)
+        (λ fault. fault ≡ Fault.NoMemory) }
+{
+    match kept(alloc, text) {
+        Ok(kept) => Ok(kept),
+        Err(AllocError) => Err(Fault::NoMemory),
+    }
+}
+
+/// The text of `examples/extended.table`, 8,718 bytes: each name that can stand, with a token.
 pub const USUAL_TABLE: &str = "\
 extended
 package A0000000620001 1 0
@@ -274,6 +299,160 @@ virtual 7 getMessageDigestAlgorithm
 virtual 8 getCipherAlgorithm
 virtual 9 getPaddingAlgorithm
 virtual 10 getLength
+class 16 PrivateKey
+interface 0 clearKey
+interface 1 getSize
+interface 2 getType
+interface 3 isInitialized
+class 17 PublicKey
+interface 0 clearKey
+interface 1 getSize
+interface 2 getType
+interface 3 isInitialized
+class 18 RSAPublicKey
+interface 0 clearKey
+interface 1 getSize
+interface 2 getType
+interface 3 isInitialized
+interface 4 setModulus
+interface 5 setExponent
+interface 6 getModulus
+interface 7 getExponent
+class 19 RSAPrivateKey
+interface 0 clearKey
+interface 1 getSize
+interface 2 getType
+interface 3 isInitialized
+interface 4 setModulus
+interface 5 setExponent
+interface 6 getModulus
+interface 7 getExponent
+class 20 RSAPrivateCrtKey
+interface 0 clearKey
+interface 1 getSize
+interface 2 getType
+interface 3 isInitialized
+interface 4 setP
+interface 5 setQ
+interface 6 setDP1
+interface 7 setDQ1
+interface 8 setPQ
+interface 9 getP
+interface 10 getQ
+interface 11 getDP1
+interface 12 getDQ1
+interface 13 getPQ
+class 21 ECKey
+interface 0 setFieldFP
+interface 1 setFieldF2M
+interface 2 setFieldF2MOfThree
+interface 3 setA
+interface 4 setB
+interface 5 setG
+interface 6 setR
+interface 7 setK
+interface 8 getField
+interface 9 getA
+interface 10 getB
+interface 11 getG
+interface 12 getR
+interface 13 getK
+interface 14 copyDomainParametersFrom
+class 22 ECPublicKey
+interface 0 clearKey
+interface 1 getSize
+interface 2 getType
+interface 3 isInitialized
+interface 4 setFieldFP
+interface 5 setFieldF2M
+interface 6 setFieldF2MOfThree
+interface 7 setA
+interface 8 setB
+interface 9 setG
+interface 10 setR
+interface 11 setK
+interface 12 getField
+interface 13 getA
+interface 14 getB
+interface 15 getG
+interface 16 getR
+interface 17 getK
+interface 18 copyDomainParametersFrom
+interface 19 setW
+interface 20 getW
+class 23 ECPrivateKey
+interface 0 clearKey
+interface 1 getSize
+interface 2 getType
+interface 3 isInitialized
+interface 4 setFieldFP
+interface 5 setFieldF2M
+interface 6 setFieldF2MOfThree
+interface 7 setA
+interface 8 setB
+interface 9 setG
+interface 10 setR
+interface 11 setK
+interface 12 getField
+interface 13 getA
+interface 14 getB
+interface 15 getG
+interface 16 getR
+interface 17 getK
+interface 18 copyDomainParametersFrom
+interface 19 setS
+interface 20 getS
+class 24 KeyPair
+static 0 <init>
+static 1 <init>OfKeys
+virtual 1 genKeyPair
+virtual 2 getPublic
+virtual 3 getPrivate
+class 25 KeyAgreement
+static 0 getInstance
+virtual 1 init
+virtual 2 generateSecret
+virtual 3 getAlgorithm
+class 26 RSAKeyObject
+virtual 7 setModulus
+virtual 8 setExponent
+virtual 9 getModulus
+virtual 10 getExponent
+class 27 RSAPublicKeyObject
+class 28 RSAPrivateKeyObject
+class 29 RSAPrivateCrtKeyObject
+virtual 7 setP
+virtual 8 setQ
+virtual 9 setDP1
+virtual 10 setDQ1
+virtual 11 setPQ
+virtual 12 getP
+virtual 13 getQ
+virtual 14 getDP1
+virtual 15 getDQ1
+virtual 16 getPQ
+class 30 ECKeyObject
+virtual 7 setFieldFP
+virtual 8 setFieldF2M
+virtual 9 setFieldF2MOfThree
+virtual 10 setA
+virtual 11 setB
+virtual 12 setG
+virtual 13 setR
+virtual 14 setK
+virtual 15 getField
+virtual 16 getA
+virtual 17 getB
+virtual 18 getG
+virtual 19 getR
+virtual 20 getK
+virtual 21 copyDomainParametersFrom
+class 31 ECPublicKeyObject
+virtual 22 setW
+virtual 23 getW
+class 32 ECPrivateKeyObject
+virtual 22 setS
+virtual 23 getS
 package A0000000620201 1 0
 class 0 Cipher
 static 0 getInstance

@@ -1,8 +1,8 @@
 //! The lines of files of rows.
-ghost use Rattle.std.specs.Prelude.{◌≡◌, ◌<◌, ◌++◌, ◌∷◌, [], OnOk, List, length, ◌≤◌, IfOk, IfErr, MatchResult};
+ghost use Rattle.std.specs.Prelude.{◌≡◌, ◌<◌, ◌++◌, ◌∷◌, [], OnOk, List, Some, length, ◌≤◌, IfOk, IfErr, MatchResult};
 ghost use Rattle.std.specs.String.{string_bytes};
 ghost use Rattle.jcard_files.specs.FileDeeds.{FileDeed};
-ghost use Rattle.jcard_files.specs.Readings.{IsRead};
+ghost use Rattle.jcard_images.specs.UsualTables.{IsPlatform};
 ghost use Rattle.jcard_tests.specs.Sources.{AreNoted};
 ghost use Rattle.jcard_tests.specs.Tests.{AreIncluded, AreNoFileLines, IsFile, IsFileBehind, IsFileOf, IsFilePlace, IsIncludeFault, IsNoRowsText, IsNoText, IsNotIncluded, IsPlace, IsRowsText, IsTableBeside, table_of};
 ghost use Rattle.jcard_tests.specs.Unrolled.{IsLineOf, IsUnrolled};
@@ -16,11 +16,12 @@ use crate::sources::{Source, note};
 use crate::table_line::TableLine;
 use jcard_files::disk::Disk;
 use jcard_files::fault::{Fault, FileKind};
-use jcard_files::reading::{script_of, text_of};
+use jcard_files::reading::script_of;
+use jcard_images::usual_table::platform_in;
 use jcard_script::script::BOUND;
 use std::alloc::{AllocError, Global};
 
-/// A file of rows: the text of the platform table that it names, and its lines.
+/// A file of rows: what an image keeps of the platform table that it names, and its lines.
 #[derive(Drop)]
 pub(crate) struct RowFile {
     pub(crate) table: Option<Vec<u8>>,
@@ -118,7 +119,7 @@ fn with_table<'n, D: Disk>(
     }
 }
 
-// The text of the platform table that the line of this number in the file with this name names.
+// What an image keeps of the platform table that the line of this number in the file with this name names.
 fn table_beside<'n, D: Disk>(
     disk: &mut D,
     name: &'n str,
@@ -128,14 +129,14 @@ fn table_beside<'n, D: Disk>(
 ) -> Result<Vec<u8>, Fault<'n>>
     ensures { (deeds : List FileDeed) × D.does disk.old deeds disk.new
         × AreNoted sources.old.items sources.new.items deeds × MatchResult result
-        (λ text. IsTableBeside name.now file.now text.items deeds)
+        (λ kept. IsTableBeside name.now file.now kept.items deeds)
         (λ fault. IsNotIncluded name.now fault) }
 {
     let Ok(table) = beside(disk.alloc(), name, file) else {
         return Err(Fault::NoMemory);
     };
     match table_text(disk, table.as_str(), sources) {
-        Ok(text) => Ok(text),
+        Ok(kept) => Ok(kept),
         Err(fault) => Err(include_fault(name, number, fault)),
     }
 }
@@ -259,7 +260,7 @@ fn rows_text<'n, D: Disk>(
     }
 }
 
-// The platform table in the file with this name, which is noted before it is read.
+// What an image keeps of the platform table in the file with this name, which is noted before it is read.
 fn table_text<'n, D: Disk>(
     disk: &mut D,
     name: &'n str,
@@ -267,10 +268,10 @@ fn table_text<'n, D: Disk>(
 ) -> Result<Vec<u8>, Fault<'n>>
     ensures { (deeds : List FileDeed) × D.does disk.old deeds disk.new
         × AreNoted sources.old.items sources.new.items deeds
-        × IfOk result (λ text. IsRead name.now text.items deeds) }
+        × IfOk result (λ kept. IsPlatform (Some name.now) kept.items deeds) }
 {
     match note(disk.alloc(), name, FileKind::Table, sources) {
-        Ok(()) => text_of(disk, name),
+        Ok(()) => platform_in(disk, name),
         Err(AllocError) => Err(Fault::NoMemory),
     }
 }

@@ -1,14 +1,15 @@
 -- The tokens of a platform table that was read are bytes.
-use Rattle.std.proofs.Common.{◌≡◌, ◌<◌, ℕ, Bool, true, false, List, [], ◌∷◌, ◌&&◌, Option, Some, None, length, refl, subst, arith, if◌then◌else◌}
-use Rattle.std.specs.Prelude.{codes, find, nat_lt, unwrap_or}
+use Rattle.std.proofs.Common.{◌≡◌, ◌<◌, ◌==◌, ℕ, Bool, true, false, List, [], ◌∷◌, ◌&&◌, Option, Some, None, length, refl, subst, arith, if◌then◌else◌}
+use Rattle.std.specs.Prelude.{codes, find, nat_lt, slice_get, unwrap_or}
 use Rattle.std.specs.Str.{all_ascii_digits, bytes_eq}
 use Rattle.std.specs.Str.Parse.{digits_value}
 use Rattle.std.proofs.lemmas.Bool.{and_parts, ltb-true}
 use Rattle.jc_platform.specs.declared.names.PlatformClass.{PlatformClass}
 use Rattle.jc_platform.specs.Names.{classes, packages}
 use Rattle.jc_platform.specs.Numbers.{same_class}
-use Rattle.jc_platform.specs.Rows.{Above, above, bytes_of, class_row, class_token_in, kind_of, may_be_class, may_be_extended, may_be_method, may_be_package, may_be_random}
-use Rattle.jc_platform.specs.Rows.{method_named, method_row, number_of, package_row, parts_at, random_row, row_of}
+use Rattle.jc_platform.specs.Packed.{class_entry, is_packed, method_entry, package_entry, row_in, row_of_entry, row_of_kind}
+use Rattle.jc_platform.specs.Rows.{Above, above, bytes_of, class_row, class_token_in, classes_of, kind_of, may_be_class, may_be_extended, may_be_method, may_be_package, may_be_random}
+use Rattle.jc_platform.specs.Rows.{method_named, method_row, methods_of, number_of, package_row, parts_at, random_row, row_of, row_of_line}
 use Rattle.jc_platform.specs.Table.{Say}
 use Rattle.jc_platform.specs.Tokens.{token_of_class}
 use Rattle.law_linking.proofs.Fields.{some_there}
@@ -67,17 +68,50 @@ module _ (c : PlatformClass) where
   row_low a (keyword ∷ x ∷ y ∷ z ∷ []) = one_of_two _ (bytes_eq keyword (codes "package")) (package_row a x y z) None (package_low a x y z) tt
   row_low a (keyword ∷ x ∷ y ∷ z ∷ v ∷ more) = tt
 
-  rows_low : (lines : List (List ℕ)) (rows : _) → Say lines rows → IfThere IsByte (class_token_in rows c)
-  rows_low [] [] say = tt
-  rows_low [] (row ∷ rows) say = absurd say
-  rows_low (line ∷ lines) [] say = absurd say
-  rows_low (line ∷ lines) (row ∷ rows) say = subst (IfThere (KeepsByte (λ l. class_token_in l c))) say.0 (row_low (above rows) (parts_at 32 line)) rows
-      (rows_low lines rows say.1)
+  package_entry_low : (a : Above) (n major minor : ℕ) → IfThere (KeepsByte (λ rows. class_token_in rows c)) (package_entry a n major minor)
+  package_entry_low a n major minor =
+      some_there _ _ (slice_get packages n) (λ e. where_so _ (may_be_package a e.package_id) _ (λ may rest is. is))
+
+  class_entry_low : (a : Above) (n token : ℕ) → IfThere (KeepsByte (λ rows. class_token_in rows c)) (class_entry a n token)
+  class_entry_low a n token =
+      some_there _ _ a.home (λ home. some_there _ _ (slice_get (classes_of home) n)
+      (λ e. where_so _ (nat_lt token 256 && may_be_class a e token) _ (λ may rest is.
+      one_of_two IsByte (same_class e.class c) (Some token) (class_token_in rest c)
+      (ltb-true token 256 (and_parts (nat_lt token 256) (may_be_class a e token) may).0) is)))
+
+  method_entry_low : (a : Above) (n token : ℕ) → IfThere (KeepsByte (λ rows. class_token_in rows c)) (method_entry a n token)
+  method_entry_low a n token =
+      some_there _ _ a.class (λ d. some_there _ _ (slice_get (methods_of d) n) (λ e. where_so _ (may_be_method a e token) _ (λ may rest is. is)))
+
+  kind_low : (a : Above) (kind x y z : ℕ) → IfThere (KeepsByte (λ rows. class_token_in rows c)) (row_of_kind a kind x y z)
+  kind_low a kind x y z =
+      one_of_two _ (kind == 0) _ _ (where_so _ (x == 0 && y == 0 && z == 0 && may_be_extended a) _ (λ may rest is. is))
+      (one_of_two _ (kind == 1) (package_entry a x y z) _ (package_entry_low a x y z)
+      (one_of_two _ (kind == 2) _ _ (one_of_two _ (z == 0) (class_entry a x y) None (class_entry_low a x y) tt)
+      (one_of_two _ (kind == 3) _ None (one_of_two _ (z == 0) (method_entry a x y) None (method_entry_low a x y) tt) tt)))
+
+  entry_low : (a : Above) (entry : List ℕ) → IfThere (KeepsByte (λ rows. class_token_in rows c)) (row_of_entry a entry)
+  entry_low a [] = tt
+  entry_low a (kind ∷ []) = tt
+  entry_low a (kind ∷ x ∷ []) = tt
+  entry_low a (kind ∷ x ∷ y ∷ []) = tt
+  entry_low a (kind ∷ x ∷ y ∷ z ∷ []) = kind_low a kind x y z
+  entry_low a (kind ∷ x ∷ y ∷ z ∷ v ∷ more) = tt
+
+  part_low : (text : List ℕ) (a : Above) (part : List ℕ) → IfThere (KeepsByte (λ rows. class_token_in rows c)) (row_in text a part)
+  part_low text a part = one_of_two _ (is_packed text) (row_of_entry a part) (row_of_line a part) (entry_low a part) (row_low a (parts_at 32 part))
+
+  rows_low : (text : List ℕ) (lines : List (List ℕ)) (rows : _) → Say text lines rows → IfThere IsByte (class_token_in rows c)
+  rows_low text [] [] say = tt
+  rows_low text [] (row ∷ rows) say = absurd say
+  rows_low text (line ∷ lines) [] say = absurd say
+  rows_low text (line ∷ lines) (row ∷ rows) say = subst (IfThere (KeepsByte (λ l. class_token_in l c))) say.0 (part_low text (above rows) line) rows
+      (rows_low text lines rows say.1)
 
 pub have_bytes : HaveBytes
 have_bytes text t reads c =
     let (rows, spells, are) = reads.1 in
-    or_zero (token_of_class t c) (subst (IfThere IsByte) (are.class_tokens c) (rows_low c spells.0 rows spells.2))
+    or_zero (token_of_class t c) (subst (IfThere IsByte) (are.class_tokens c) (rows_low c text spells.0 rows spells.2))
   where
     or_zero : (o : Option ℕ) → IfThere IsByte o → unwrap_or o 0 < 256
     or_zero None low = omega arith

@@ -16,12 +16,13 @@ use Rattle.jc_platform.specs.Names.{objects_rows, exceptions_rows, utilities_row
 use Rattle.jc_platform.specs.Names.{keys_rows, key_interfaces_rows, ciphers_rows}
 use Rattle.jc_platform.specs.Names.{rsa_keys_rows, ec_keys_rows, rsa_interfaces_rows, ec_interfaces_rows, key_pairs_rows}
 use Rattle.jc_platform.specs.Numbers.{class_number, is_needed_package, method_number, package_number, same_class, same_kind, same_method, same_package}
+use Rattle.jc_platform.specs.Packed.{is_packed}
 use Rattle.jc_platform.specs.Rows.{Above, above, allows, class_row, has_class_token, has_method_token, has_needed_packages, has_supertypes, is_package}
 use Rattle.jc_platform.specs.Rows.{kind_of, largest_token, may_be_class, may_be_extended, may_be_method, may_be_package, method_named, method_row}
 use Rattle.jc_platform.specs.Rows.{bytes_of, may_be_random, number_of, package_row, parts_at, random_row, row_of}
 use Rattle.jc_platform.specs.Table.{Say, no_random}
 use Rattle.jc_platform.proofs.Distinct.{class_by_number, found_has, method_by_number}
-use Rattle.jc_platform.proofs.Lines.{reverse-cons}
+use Rattle.jc_platform.proofs.Lines.{are_lines, read_as_line, reverse-cons}
 use Rattle.jc_platform.proofs.Lists.{parts_cut, parts_uncut}
 use Rattle.law_linking.specs.Plain.{ArePlain}
 use Rattle.law_linking.proofs.Bytes.{one_of_two, where_so}
@@ -181,14 +182,15 @@ module _ (a : Above) (plain : a.extended ≡ false) where
   row_keeps (k ∷ x ∷ y ∷ z ∷ []) other = one_of_two _ (bytes_eq k (codes "package")) (package_row a x y z) None (package_keeps x y z) tt
   row_keeps (k ∷ x ∷ y ∷ z ∷ v ∷ more) other = tt
 
-rows_bare : (lines : List (List ℕ)) (rows : _) → Say lines rows → list_all other_line lines ≡ true → IsBare (above rows)
-rows_bare [] [] say plain = (refl, (λ p optional. refl), (λ c optional. refl), (λ m optional. refl), refl)
-rows_bare [] (row ∷ rows) say plain = absurd say
-rows_bare (line ∷ lines) [] say plain = absurd say
-rows_bare (line ∷ lines) (row ∷ rows) say plain =
+rows_bare : (text : List ℕ) → is_packed text ≡ false → (lines : List (List ℕ)) (rows : _) → Say text lines rows → list_all other_line lines ≡ true
+    → IsBare (above rows)
+rows_bare text unpacked [] [] say plain = (refl, (λ p optional. refl), (λ c optional. refl), (λ m optional. refl), refl)
+rows_bare text unpacked [] (row ∷ rows) say plain = absurd say
+rows_bare text unpacked (line ∷ lines) [] say plain = absurd say
+rows_bare text unpacked (line ∷ lines) (row ∷ rows) say plain =
     let parts = and_parts (other_line line) (list_all other_line lines) plain in
-    let rest = rows_bare lines rows say.1 parts.1 in
-    subst (IfThere (KeepsBare above)) say.0 (row_keeps (above rows) rest.0 (parts_at 32 line) (λ word one.
+    let rest = rows_bare text unpacked lines rows say.1 parts.1 in
+    subst (IfThere (KeepsBare above)) (sym (read_as_line text (above rows) line unpacked) ∙ say.0) (row_keeps (above rows) rest.0 (parts_at 32 line) (λ word one.
     subst (λ l. other_line l ≡ true) (one_part 32 line word (position (λ b. b == 32) line) refl one) parts.0)) rows rest
 
 -- what all lines are from the first on, they are from the last up
@@ -200,11 +202,17 @@ all_reversed (line ∷ lines) more all =
     let first = and_parts (other_line line) (list_all other_line more) rest.1 in
     (and_from (other_line line) (list_all other_line lines) first.0 rest.0, first.1)
 
+not_true : (b : Bool) → not b ≡ true → b ≡ false
+not_true true e = absurd (false≢true e)
+not_true false e = refl
+
 pub are_plain : ArePlain
 are_plain text t reads none =
     let (rows, spells, are) = reads.1 in
-    let others = (all_reversed spells.0 ([] ∷ []) (ap (list_all other_line) (sym spells.1) ∙ none)).0 in
-    let bare = rows_bare spells.0 rows spells.2 others in
+    let plain = and_parts (not (is_packed text)) (list_all other_line (parts_at 10 text)) none in
+    let unpacked = not_true (is_packed text) plain.0 in
+    let others = (all_reversed spells.0 ([] ∷ []) (ap (list_all other_line) (sym spells.1 ∙ are_lines text unpacked) ∙ plain.1)).0 in
+    let bare = rows_bare text unpacked spells.0 rows spells.2 others in
     record {
       packages = λ p optional. sym (are.versions p) ∙ bare.1 p optional;
       classes = λ c optional. sym (are.class_tokens c) ∙ bare.2 c optional;

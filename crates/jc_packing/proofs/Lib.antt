@@ -1,0 +1,5 @@
+pub mod Entries
+pub mod Lines
+pub mod Options
+pub mod Packed
+pub mod Places
