@@ -10,6 +10,8 @@ use Rattle.jc_platform.specs.Platform.{class_by_word}
 use Rattle.jc_platform.specs.Tokens.{Tokens}
 use Rattle.jc_platform.specs.declared.names.PlatformClass.{PlatformClass}
 use Rattle.jc_platform.specs.declared.names.PlatformClass.TheVariants.{DesKeyObject, AesKeyObject, HmacKeyObject}
+use Rattle.jc_platform.specs.declared.names.PlatformClass.TheVariants.{RsaPublicKeyObject, RsaPrivateKeyObject, RsaPrivateCrtKeyObject}
+use Rattle.jc_platform.specs.declared.names.PlatformClass.TheVariants.{EcPublicKeyObject, EcPrivateKeyObject}
 use Rattle.jc_records.specs.Places.{standing_at}
 use Rattle.jc_records.specs.Records.{item_at, standing_items}
 use Rattle.jc_records.specs.declared.places.Standing.{Standing}
@@ -29,6 +31,11 @@ abbrev pub is_key_name : PlatformClass → Bool
 is_key_name DesKeyObject = true
 is_key_name AesKeyObject = true
 is_key_name HmacKeyObject = true
+is_key_name RsaPublicKeyObject = true
+is_key_name RsaPrivateKeyObject = true
+is_key_name RsaPrivateCrtKeyObject = true
+is_key_name EcPublicKeyObject = true
+is_key_name EcPrivateKeyObject = true
 is_key_name _ = false
 
 abbrev pub is_key_class : Option PlatformClass → Bool
@@ -48,7 +55,7 @@ array_of_key t (r, APackage ws) = []
 abbrev pub key_arrays : Tokens → List ℕ → List ℕ
 key_arrays t w = flat_map (array_of_key t) (standing_items w)
 
--- the header is that of an array that can hold a key: bytes, of which the first counts those of the key, 128 at most
+-- the header is that of an array that can hold a secret key: bytes, of which the first counts those of the key, 128 at most
 abbrev pub can_hold : Facts → Bool
 can_hold f = is_bytes f.kind && (nat_lt 0 f.length && nat_lt f.length 130)
 
@@ -57,7 +64,7 @@ abbrev pub is_set_by : Option ClearEvent → List ℕ → Bool
 is_set_by None cells = not (slice_index cells 0 == 0)
 is_set_by (Some event) cells = false
 
--- a key by its array: how many bits it has, and whether it is set
+-- a secret key by its array: how many bits it has, and whether it is set
 abbrev pub key_by : Facts → List ℕ → KeyFacts
 key_by f cells = record { size = 8 * (f.length - 1); is_set = is_set_by f.event cells }
 
@@ -66,6 +73,6 @@ key_in w a (Object f) = if can_hold f then Some (key_by f (cells_of (item_at w a
 key_in w a Nothing = None
 key_in w a Unread = None
 
--- the key that the array at an address holds; none where no such array stands there
+-- the secret key that the array at an address holds; none where no such array stands there
 abbrev pub key_at : List ℕ → ℕ → Option KeyFacts
 key_at w a = key_in w a (standing_at w a)

@@ -19,10 +19,10 @@ use std::alloc::{AllocError, Global};
 /// How many cells a key has: the number of its type, and the array that holds it.
 const KEY_CELLS: u16 = 2;
 
-/// The longest array that holds a key: a byte counts the bytes of the key, of which there are 128 at most.
+/// The longest array that holds a secret key: a byte counts the bytes of the key, of which there are 128 at most.
 const LONGEST_ARRAY: u16 = 129;
 
-/// What an array says of the key that it holds.
+/// What an array says of the secret key that it holds.
 #[derive(Clone, Copy)]
 pub struct KeyFacts {
     /// How many bits the key has, or will have.
@@ -47,7 +47,14 @@ fn is_key_class(found: Option<PlatformClass>) -> bool
     matches!(
         found,
         Some(
-            PlatformClass::DesKeyObject | PlatformClass::AesKeyObject | PlatformClass::HmacKeyObject
+            PlatformClass::DesKeyObject
+                | PlatformClass::AesKeyObject
+                | PlatformClass::HmacKeyObject
+                | PlatformClass::RsaPublicKeyObject
+                | PlatformClass::RsaPrivateKeyObject
+                | PlatformClass::RsaPrivateCrtKeyObject
+                | PlatformClass::EcPublicKeyObject
+                | PlatformClass::EcPrivateKeyObject
         )
     )
 }
@@ -117,7 +124,7 @@ fn push_address(found: &mut Vec<u16>, address: u16) -> Result<(), AllocError>
     Ok(())
 }
 
-/// The key that the array at an address holds; none where no such array stands there.
+/// The secret key that the array at an address holds; none where no such array stands there.
 pub fn key_at<S: WordStore>(store: &S, address: u16) -> Option<KeyFacts>
     requires { has_bounds (S.words store.now) ≡ true }
     ensures { result ≡ key_at (S.words store.now) address }

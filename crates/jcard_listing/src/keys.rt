@@ -1,7 +1,7 @@
 //! The lines of keys.
 ghost use Rattle.std.specs.Prelude.{◌≡◌, ◌++◌, codes, length, OnOk};
 ghost use Rattle.jcard_listing.specs.Images.{IsObjectIn, cells_in};
-ghost use Rattle.jcard_listing.specs.Keys.{key_text, set_text, size_text, type_text};
+ghost use Rattle.jcard_listing.specs.Keys.{found_text, is_pair_type, key_text, pair_text, set_text, size_text, type_text};
 
 use crate::image::{Image, PlacedObject};
 use crate::texts::{push_labelled, push_number, push_reference};
@@ -32,9 +32,30 @@ pub(crate) fn push_key<S: WordStore>(
     let array = image.cell(object, 1);
     text.extend_from_slice(b": type ")?;
     push_type(text, number)?;
-    push_size(text, key_at(image.store(), array))?;
+    push_found(text, image, number, array)?;
     text.extend_from_slice(b", key ")?;
     push_reference(text, array)
+}
+
+// Writes KeyBuilder's name of a type of keys of pairs, or its number.
+#[tactic(auto, unfolding(crate::specs::Keys::pair_text))]
+fn push_pair_type(text: &mut Vec<u8>, number: u16) -> Result<(), AllocError>
+    ensures { OnOk result (text.new.items ≡ text.old.items ++ pair_text number) }
+{
+    match number {
+        4 => text.extend_from_slice(b"RSA_PUBLIC"),
+        5 => text.extend_from_slice(b"RSA_PRIVATE"),
+        6 => text.extend_from_slice(b"RSA_CRT_PRIVATE"),
+        11 => text.extend_from_slice(b"EC_FP_PUBLIC"),
+        12 => text.extend_from_slice(b"EC_FP_PRIVATE"),
+        22 => text.extend_from_slice(b"RSA_PRIVATE_TRANSIENT_RESET"),
+        23 => text.extend_from_slice(b"RSA_PRIVATE_TRANSIENT_DESELECT"),
+        24 => text.extend_from_slice(b"RSA_CRT_PRIVATE_TRANSIENT_RESET"),
+        25 => text.extend_from_slice(b"RSA_CRT_PRIVATE_TRANSIENT_DESELECT"),
+        30 => text.extend_from_slice(b"EC_FP_PRIVATE_TRANSIENT_RESET"),
+        31 => text.extend_from_slice(b"EC_FP_PRIVATE_TRANSIENT_DESELECT"),
+        _ => push_number(text, number),
+    }
 }
 
 // Writes KeyBuilder's name of a type of keys, or its number.
@@ -51,8 +72,34 @@ fn push_type(text: &mut Vec<u8>, number: u16) -> Result<(), AllocError>
         19 => text.extend_from_slice(b"HMAC_TRANSIENT_RESET"),
         20 => text.extend_from_slice(b"HMAC_TRANSIENT_DESELECT"),
         21 => text.extend_from_slice(b"HMAC"),
-        _ => push_number(text, number),
+        _ => push_pair_type(text, number),
     }
+}
+
+// Whether the number of a type is that of keys of pairs.
+fn is_pair_type(number: u16) -> bool
+    ensures { result ≡ is_pair_type number }
+{
+    (4 <= number && number <= 6)
+        || (11 <= number && number <= 12)
+        || (22 <= number && number <= 25)
+        || (30 <= number && number <= 31)
+}
+
+// Writes how many bits a key of a type has, and whether it is set; nothing of a key of a pair.
+fn push_found<S: WordStore>(
+    text: &mut Vec<u8>,
+    image: &Image<'_, S>,
+    number: u16,
+    array: u16,
+) -> Result<(), AllocError>
+    ensures { OnOk result (text.new.items ≡ text.old.items
+        ++ found_text image.now.words number array) }
+{
+    if is_pair_type(number) {
+        return Ok(());
+    }
+    push_size(text, key_at(image.store(), array))
 }
 
 // Writes how many bits a key has, and whether it is set.

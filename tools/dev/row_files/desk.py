@@ -8,8 +8,9 @@
                               how scripts come and answers go from now on: `is in memory`, `is steady`, `hesitates`, `is broken`,
                               `is interrupted`, `is idle`, `fails at call N`
 `room N`                      how many bytes of answers there is room for
-`file NAME TEXT`, `table NAME [SIZE]`, `fill NAME COUNT WORD`, `copy NAME OTHER`, `put NAME PLACE WORDS`
-                              a file of a text, of the example of a platform table, of words; a copy; words that are changed
+`file NAME TEXT`, `table NAME [SIZE]`, `table NAME of FILE`, `fill NAME COUNT WORD`, `copy NAME OTHER`, `put NAME PLACE WORDS`
+                              a file of a text, of the example of a platform table, of the table of a file of rows, of words; a copy; words that
+                              are changed
 `memory ..`                   the same in a folder with no other files: `memory script TEXT`, whose file `table` is the example of a platform
                               table; `memory jcard WORDS`; `memory writes NAME`, how many words were written to that image since it was made
 `load IMAGE FILE`             loads the package of a file of rows: `ok` where each answer is 9000, else what `run --why` tells
@@ -232,7 +233,11 @@ class Desk:
         put(name, text_of(rest))
 
     def table(self, name, size):
-        """The example of a platform table, where zeros before the first number make it so long."""
+        """The example of a platform table, where zeros before the first number make it so long; or the lines `table LINE` of a file of rows."""
+        if size.startswith("of "):
+            lines = bytes_of(size.removeprefix("of ")).splitlines(keepends=True)
+            put(name, b"".join(line.removeprefix(b"table ") for line in lines if line.startswith(b"table ")))
+            return
         head, mark, rest = self.example.partition(b" 1 0\n")
         if not mark:
             raise Invalid
