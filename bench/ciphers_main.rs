@@ -1,7 +1,9 @@
 
 fn main() {
     let words: Vec<String> = std::env::args().collect();
-    for byte in loops::timed(&words[1], words[2].parse().unwrap()) {
+    let (name, count) = (words[1].as_str(), words[2].parse().unwrap());
+    let timed = if name.starts_with("p256") || name.starts_with("rsa") { long_loops::timed } else { loops::timed };
+    for byte in timed(name, count) {
         print!("{byte:02x}");
     }
     println!();

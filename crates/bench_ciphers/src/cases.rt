@@ -3,11 +3,11 @@
 ghost use Rattle.std.specs.Prelude.{◌≤◌};
 
 use crate::curves::curve_case;
-use crate::loops::timed;
 use crate::messages::{hmac, mac, mode};
 use crate::numbers::{divided, modular};
 use crate::rsa::{rsa_crt, rsa_key, rsa_power, rsa_prime};
 use crate::words::{bytes, pieces};
+use crate::{long_loops, loops};
 use jc_aes::aes::Aes;
 use jc_des::des::Des;
 use jc_des::triple::TripleDes;
@@ -60,6 +60,14 @@ fn short_case(alloc: Global, kind: &str, first: &str, last: &str) -> Result<Stri
         "crc32" => crc32(alloc, first, last),
         "time" => hex::encode(alloc, timed(first, last.parse::<u32>().unwrap_or(0))),
         _ => Ok(String::new(alloc)),
+    }
+}
+
+// The last eight bytes of a loop.
+fn timed(name: &str, count: u32) -> [u8; 8] {
+    match name {
+        "p256-sign" | "rsa-2048-crt" | "rsa-2048-public" => long_loops::timed(name, count),
+        _ => loops::timed(name, count),
     }
 }
 

@@ -3,6 +3,7 @@
 
 mod cases;
 mod curves;
+mod long_loops;
 mod loops;
 mod messages;
 mod numbers;
