@@ -8,17 +8,26 @@ use Rattle.jc_memory.specs.State.{MemoryState}
 use Rattle.jc_frames.specs.declared.cell.Cell.{Cell}
 use Rattle.jc_world.specs.Arrays.{bytes_in}
 use Rattle.jc_world.specs.Objects.{short_argument, some_or_fault}
+use Rattle.jc_api.specs.Arguments.{counted_of}
 use Rattle.jc_api.specs.Factory.{HasState}
 use Rattle.jc_api.specs.Initializing.{FieldsAnswer, FitsFields}
 use Rattle.jc_api.specs.declared.factory.NewEngine.{NewEngine}
-use Rattle.jc_api.proofs.Reaching.{same_Ok}
+use Rattle.jc_api.proofs.Reaching.{err_not_ok, same_Ok}
 use Rattle.jc_api.proofs.Stretches.{both_ok}
-use Rattle.jc_api_crypto.specs.Cipher.{cipher_get_instance, cipher_get_instance_of_cipher_and_padding, cipher_init, cipher_init_with_vector, cipher_requirements, new_cipher}
-use Rattle.jc_api_crypto.specs.CipherAlgorithms.{algorithm_number, cipher_named, cipher_of_numbers}
-use Rattle.jc_api_crypto.specs.Initialized.{engine_of, initializes, key_init, taken_key, taken_mode, taken_vector, vector_init}
+use Rattle.jc_api_crypto.specs.BlockCiphers.{block_init, block_init_with_vector, cipher_requirements}
+use Rattle.jc_api_crypto.specs.Cipher.{cipher_get_instance, cipher_get_instance_of_cipher_and_padding, cipher_init, cipher_init_with_vector, init_of}
+use Rattle.jc_api_crypto.specs.Cipher.{init_with_vector_of, new_cipher, own_cipher}
+use Rattle.jc_api_crypto.specs.CipherKinds.{kind_named, kind_number, kind_of_numbers, rsa_shorts}
+use Rattle.jc_api_crypto.specs.PairKeys.{pair_parts}
+use Rattle.jc_api_crypto.specs.RsaCiphers.{rsa_init, rsa_init_with_vector, taken_rsa_key}
+use Rattle.jc_api_crypto.specs.Initialized.{initializes, key_init, taken_key, taken_mode, taken_vector, vector_init}
 use Rattle.jc_api_keys.specs.KeyObjects.Contents.{key_elements}
 use Rattle.jc_api_keys.specs.Receivers.{named_or_throw}
 use Rattle.jc_api_keys.specs.Shorts.{first_shorts}
+use Rattle.jc_api_crypto.specs.declared.cipher.algorithms.CipherAlgorithm.{CipherAlgorithm}
+use Rattle.jc_api_crypto.specs.declared.cipher.kinds.CipherKind.{CipherKind}
+use Rattle.jc_api_crypto.specs.declared.cipher.kinds.CipherKind.TheVariants.{Block, Rsa}
+use Rattle.jc_api_crypto.specs.declared.cipher.kinds.RsaPadding.{RsaPadding}
 use Rattle.jc_api_crypto.specs.declared.initialized.KeyedEngine.{KeyedEngine}
 use Rattle.jc_api_crypto.specs.declared.initialized.Requirements.{Requirements}
 
@@ -32,7 +41,7 @@ unfolding cipher_get_instance
 made_cipher args e is =
     let number = both_ok (some_or_fault (short_argument args 0)) _ e is in
     let external = both_ok (some_or_fault (short_argument args 1)) _ e number.2 in
-    let named = both_ok (named_or_throw (cipher_named number.0)) _ e external.2 in
+    let named = both_ok (named_or_throw (kind_named number.0)) _ e external.2 in
     subst (λ (x : NewEngine). HasState x.class) (same_Ok (new_cipher number.0 named.0) e named.2) ciphers_have_state
 
 pub made_cipher_of_two : (args : List Cell) (e : NewEngine) → cipher_get_instance_of_cipher_and_padding args ≡ Ok e → HasState e.class
@@ -41,14 +50,13 @@ made_cipher_of_two args e is =
     let cipher = both_ok (some_or_fault (short_argument args 0)) _ e is in
     let padding = both_ok (some_or_fault (short_argument args 1)) _ e cipher.2 in
     let external = both_ok (some_or_fault (short_argument args 2)) _ e padding.2 in
-    let named = both_ok (named_or_throw (cipher_of_numbers cipher.0 padding.0)) _ e external.2 in
-    let a = named.0 in
-    subst (λ (x : NewEngine). HasState x.class) (same_Ok (new_cipher (algorithm_number a.block a.chaining a.padding) a) e named.2) ciphers_have_state
+    let named = both_ok (named_or_throw (kind_of_numbers cipher.0 padding.0)) _ e external.2 in
+    subst (λ (x : NewEngine). HasState x.class) (same_Ok (new_cipher (kind_number named.0) named.0) e named.2) ciphers_have_state
 
 -- key, mode and vector fit in their cells
-fits : (needs : Requirements) (own : KeyedEngine) (mode : ℤ) (bytes : List ℕ) → FitsFields (initializes class.Cipher needs own mode bytes)
+fits : (shorts : ℕ) (own : KeyedEngine) (mode : ℤ) (bytes : List ℕ) → FitsFields (initializes class.Cipher shorts own mode bytes)
 unfolding cells_of holds_reference classes first_shorts
-fits needs own mode bytes =
+fits shorts own mode bytes =
     record { class = ciphers_have_state; within = omega arith; fields = (refl, (refl, (refl, (refl, (refl, (refl, (refl, (refl, (refl, tt))))))))) }
 
 fits_key : (needs : Requirements) (own : KeyedEngine) (args : List Cell) (p : Packages) (m : MemoryState) (a : FieldsAnswer)
@@ -57,7 +65,7 @@ fits_key needs own args p m a is =
     let key = both_ok (taken_key needs args p m) _ a is in
     let mode = both_ok (taken_mode args) _ a key.2 in
     let set = both_ok (key_elements m key.0) _ a mode.2 in
-    subst FitsFields (same_Ok (initializes class.Cipher needs own mode.0 []) a set.2) (fits needs own mode.0 [])
+    subst FitsFields (same_Ok (initializes class.Cipher needs.state own mode.0 []) a set.2) (fits needs.state own mode.0 [])
 
 fits_vector : (needs : Requirements) (own : KeyedEngine) (args : List Cell) (p : Packages) (m : MemoryState) (a : FieldsAnswer)
     → vector_init class.Cipher needs own args p m ≡ Ok a → FitsFields a
@@ -66,18 +74,53 @@ fits_vector needs own args p m a is =
     let mode = both_ok (taken_mode args) _ a key.2 in
     let e = both_ok (taken_vector needs args p m) _ a mode.2 in
     let set = both_ok (key_elements m key.0) _ a e.2 in
-    subst FitsFields (same_Ok (initializes class.Cipher needs own mode.0 (bytes_in m e.0)) a set.2) (fits needs own mode.0 (bytes_in m e.0))
+    subst FitsFields (same_Ok (initializes class.Cipher needs.state own mode.0 (bytes_in m e.0)) a set.2) (fits needs.state own mode.0 (bytes_in m e.0))
+
+fits_block : (a : CipherAlgorithm) (own : KeyedEngine) (args : List Cell) (p : Packages) (m : MemoryState) (set : FieldsAnswer)
+    → block_init a own args p m ≡ Ok set → FitsFields set
+unfolding block_init
+fits_block a own args p m set is = fits_key (cipher_requirements a) own args p m set is
+
+fits_block_with_vector : (a : CipherAlgorithm) (own : KeyedEngine) (args : List Cell) (p : Packages) (m : MemoryState) (set : FieldsAnswer)
+    → block_init_with_vector a own args p m ≡ Ok set → FitsFields set
+unfolding block_init_with_vector
+fits_block_with_vector a own args p m set is = fits_vector (cipher_requirements a) own args p m set is
+
+fits_rsa : (padding : RsaPadding) (own : KeyedEngine) (args : List Cell) (p : Packages) (m : MemoryState) (set : FieldsAnswer)
+    → rsa_init padding own args p m ≡ Ok set → FitsFields set
+unfolding rsa_init
+fits_rsa padding own args p m set is =
+    let mode = both_ok (taken_mode args) _ set is in
+    let key = both_ok (taken_rsa_key padding mode.0 args p m) _ set mode.2 in
+    let parts = both_ok (pair_parts m (key.0).key) _ set key.2 in
+    subst FitsFields (same_Ok (initializes class.Cipher rsa_shorts own mode.0 []) set parts.2) (fits rsa_shorts own mode.0 [])
+
+-- no vector is taken
+fits_rsa_with_vector : (padding : RsaPadding) (args : List Cell) (p : Packages) (m : MemoryState) (set : FieldsAnswer)
+    → rsa_init_with_vector padding args p m ≡ Ok set → FitsFields set
+unfolding rsa_init_with_vector
+fits_rsa_with_vector padding args p m set is =
+    let mode = both_ok (taken_mode args) _ set is in
+    let key = both_ok (taken_rsa_key padding mode.0 args p m) _ set mode.2 in
+    let e = both_ok (counted_of 3 args p m) _ set key.2 in
+    absurd (err_not_ok e.2)
+
+fits_kind : (kind : CipherKind) (own : KeyedEngine) (args : List Cell) (p : Packages) (m : MemoryState) (set : FieldsAnswer)
+    → init_of kind own args p m ≡ Ok set → FitsFields set
+fits_kind (Block a) own args p m set is = fits_block a own args p m set is
+fits_kind (Rsa padding) own args p m set is = fits_rsa padding own args p m set is
+
+fits_kind_with_vector : (kind : CipherKind) (own : KeyedEngine) (args : List Cell) (p : Packages) (m : MemoryState) (set : FieldsAnswer)
+    → init_with_vector_of kind own args p m ≡ Ok set → FitsFields set
+fits_kind_with_vector (Block a) own args p m set is = fits_block_with_vector a own args p m set is
+fits_kind_with_vector (Rsa padding) own args p m set is = fits_rsa_with_vector padding args p m set is
 
 pub fits_init : (args : List Cell) (p : Packages) (m : MemoryState) (a : FieldsAnswer) → cipher_init args p m ≡ Ok a → FitsFields a
 unfolding cipher_init
 fits_init args p m a is =
-    let own = both_ok (engine_of class.Cipher args p m) _ a is in
-    let named = both_ok (some_or_fault (cipher_named (own.0).number)) _ a own.2 in
-    fits_key (cipher_requirements named.0) own.0 args p m a named.2
+    let own = both_ok (own_cipher args p m) _ a is in fits_kind (own.0).kind (own.0).engine args p m a own.2
 
 pub fits_init_with_vector : (args : List Cell) (p : Packages) (m : MemoryState) (a : FieldsAnswer) → cipher_init_with_vector args p m ≡ Ok a → FitsFields a
 unfolding cipher_init_with_vector
 fits_init_with_vector args p m a is =
-    let own = both_ok (engine_of class.Cipher args p m) _ a is in
-    let named = both_ok (some_or_fault (cipher_named (own.0).number)) _ a own.2 in
-    fits_vector (cipher_requirements named.0) own.0 args p m a named.2
+    let own = both_ok (own_cipher args p m) _ a is in fits_kind_with_vector (own.0).kind (own.0).engine args p m a own.2

@@ -4,10 +4,12 @@ pub mod StatesRead
 pub mod Whole
 pub mod HmacWhole
 mod Counts
+mod FewShorts
 pub mod Classes
 pub mod EngineCalls
 mod Released
 pub mod CipherClasses
 pub mod SignatureClasses
 pub mod CipherCalls
-pub mod NotOfferedCalls
+mod Deciphered
+mod OaepMessages

@@ -1,171 +1,91 @@
 -- Cipher (API specification, javacardx.crypto).
-use Rattle.std.specs.Ordering.{int_eq}
-use Rattle.std.specs.Prelude.{ℕ, ℤ, pos, ◌≡◌, ◌/◌, ◌==◌, ◌||◌, Bool, List, length, replicate, Option, Some, None, Result, Ok, Err, if◌then◌else◌}
+use Rattle.std.specs.Prelude.{ℤ, List, Some, Result, Ok}
 use Rattle.jc_transient.specs.declared.cell.ClearEvent.TheVariants.{Reset}
 use Rattle.jc_frames.specs.declared.cell.Cell.{Cell}
 use Rattle.jc_frames.specs.declared.outcome.FrameExit.{FrameExit}
-use Rattle.jc_frames.specs.declared.outcome.FrameExit.TheVariants.{Throw}
 use Rattle.jc_memory.specs.State.{MemoryState}
-use Rattle.jc_modes.specs.Conversions.{conversion_after, conversion_end, conversion_output}
-use Rattle.jc_modes.specs.Kept.{IsKeyLength, block_size, state_size}
-use Rattle.jc_modes.specs.declared.kept.BlockAlgorithm.{BlockAlgorithm}
-use Rattle.jc_modes.specs.declared.kept.BlockAlgorithm.TheVariants as block
-use Rattle.jc_modes.specs.declared.kept.conversion.Chaining.{Chaining}
-use Rattle.jc_modes.specs.declared.kept.conversion.Chaining.TheVariants.{Cbc, Ecb}
-use Rattle.jc_modes.specs.declared.kept.conversion.Conversion.{Conversion}
-use Rattle.jc_modes.specs.declared.kept.conversion.Direction.{Direction}
-use Rattle.jc_modes.specs.declared.kept.conversion.Direction.TheVariants.{Decrypt, Encrypt}
 use Rattle.jc_platform.specs.declared.names.PlatformClass.TheVariants as class
 use Rattle.jc_linker.specs.Values.{Packages}
 use Rattle.jc_world.specs.Answers.{and_then}
-use Rattle.jc_world.specs.Arrays.{IsInArray, bytes_in}
-use Rattle.jc_world.specs.Instances.{IsInstanceWith}
-use Rattle.jc_world.specs.Objects.{check_or_fault, short_argument, some_or_fault}
-use Rattle.jc_world.specs.declared.arrays.Stretch.{Stretch}
-use Rattle.jc_api.specs.Arguments.{counted_of}
-use Rattle.jc_api.specs.Changing.{EngineAnswer, IsState, changes_and_puts, state_at}
+use Rattle.jc_world.specs.Objects.{short_argument, some_or_fault}
+use Rattle.jc_api.specs.Changing.{EngineAnswer}
 use Rattle.jc_api.specs.Forms.{CallAnswer, tells}
 use Rattle.jc_api.specs.Initializing.{FieldsAnswer}
 use Rattle.jc_api.specs.declared.factory.NewEngine.{NewEngine}
 use Rattle.jc_api.specs.declared.factory.StateKind.TheVariants.{Shorts}
-use Rattle.jc_api_crypto.specs.CipherAlgorithms.{algorithm_number, cipher_named, cipher_number, cipher_of_numbers, padding_number}
-use Rattle.jc_api_keys.specs.Exceptions.{illegal_use, invalid_init}
-use Rattle.jc_api_crypto.specs.Initialized.{engine_of, kept_key, key_init, keyed_cells, vector_at, vector_init}
-use Rattle.jc_api_keys.specs.Receivers.{bytes_of_state, named_or_throw, output_for}
-use Rattle.jc_api_keys.specs.Shorts.{shorts_of}
-use Rattle.jc_api_crypto.specs.declared.cipher.RunningCipher.{RunningCipher}
-use Rattle.jc_api_crypto.specs.declared.cipher.algorithms.CipherAlgorithm.{CipherAlgorithm}
+use Rattle.jc_api_crypto.specs.BlockCiphers.{block_do_final, block_init, block_init_with_vector, block_update}
+use Rattle.jc_api_crypto.specs.CipherKinds.{kind_cipher_number, kind_named, kind_number, kind_of_numbers, kind_padding_number, kind_shorts}
+use Rattle.jc_api_crypto.specs.Initialized.{engine_of}
+use Rattle.jc_api_crypto.specs.RsaCiphers.{rsa_do_final, rsa_init, rsa_init_with_vector, rsa_update}
+use Rattle.jc_api_crypto.specs.declared.cipher.OwnCipher.{OwnCipher}
+use Rattle.jc_api_crypto.specs.declared.cipher.kinds.CipherKind.{CipherKind}
+use Rattle.jc_api_crypto.specs.declared.cipher.kinds.CipherKind.TheVariants.{Block, Rsa}
 use Rattle.jc_api_crypto.specs.declared.initialized.KeyedEngine.{KeyedEngine}
-use Rattle.jc_api_crypto.specs.declared.initialized.Requirements.{Requirements}
-use Rattle.jc_api_keys.specs.declared.key_types.KeyAlgorithm.{KeyAlgorithm}
-use Rattle.jc_api_keys.specs.declared.key_types.KeyAlgorithm.TheVariants as keys
+use Rattle.jc_api_keys.specs.Receivers.{named_or_throw}
 
 -- ---- the objects
 
--- how many shorts a state has
-abbrev pub cipher_shorts : BlockAlgorithm → ℕ
-cipher_shorts a = state_size a / 2
-
--- whose keys a block algorithm takes
-abbrev pub keys_of : BlockAlgorithm → KeyAlgorithm
-keys_of block.Aes = keys.Aes
-keys_of block.Des = keys.Des
-
--- how many bytes these may have
-abbrev pub has_key_length : BlockAlgorithm → ℕ → Bool
-has_key_length block.Aes n = n == 16 || (n == 24 || n == 32)
-has_key_length block.Des n = n == 8 || (n == 16 || n == 24)
-
--- how many bytes a vector has: a block, where blocks are chained
-abbrev pub vector_size : BlockAlgorithm → Chaining → ℕ
-vector_size a Cbc = block_size a
-vector_size a Ecb = 0
-
--- what a cipher requires
-abbrev pub cipher_requirements : CipherAlgorithm → Requirements
-cipher_requirements a = record { keys = keys_of a.block; vector = vector_size a.block a.chaining; state = cipher_shorts a.block }
-
 -- a new object with a cipher of this number, to which nothing came
-abbrev pub new_cipher : ℤ → CipherAlgorithm → NewEngine
-new_cipher number a = record { class = class.Cipher; number = number; elements = Shorts; event = Some Reset; state = cipher_shorts a.block }
+abbrev pub new_cipher : ℤ → CipherKind → NewEngine
+new_cipher number kind = record { class = class.Cipher; number = number; elements = Shorts; event = Some Reset; state = kind_shorts kind }
 
 -- Cipher.getInstance by one number: a new object; whether it is for access from outside does not matter
 unfoldable pub cipher_get_instance : List Cell → Result NewEngine FrameExit
 cipher_get_instance args = and_then (some_or_fault (short_argument args 0)) (λ number. and_then (some_or_fault (short_argument args 1))
-    (λ external. and_then (named_or_throw (cipher_named number)) (λ a. Ok (new_cipher number a))))
+    (λ external. and_then (named_or_throw (kind_named number)) (λ kind. Ok (new_cipher number kind))))
 
 -- Cipher.getInstance by two numbers: the same object as by the one number of that cipher
 unfoldable pub cipher_get_instance_of_cipher_and_padding : List Cell → Result NewEngine FrameExit
 cipher_get_instance_of_cipher_and_padding args = and_then (some_or_fault (short_argument args 0)) (λ cipher. and_then (some_or_fault (short_argument args 1))
-    (λ padding. and_then (some_or_fault (short_argument args 2)) (λ external. and_then (named_or_throw (cipher_of_numbers cipher padding))
-    (λ a. Ok (new_cipher (algorithm_number a.block a.chaining a.padding) a)))))
+    (λ padding. and_then (some_or_fault (short_argument args 2)) (λ external. and_then (named_or_throw (kind_of_numbers cipher padding))
+    (λ kind. Ok (new_cipher (kind_number kind) kind)))))
+
+-- the receiver of a call: what its cells say, and what its number names
+unfoldable pub own_cipher : List Cell → Packages → MemoryState → Result OwnCipher FrameExit
+own_cipher args p m = and_then (engine_of class.Cipher args p m) (λ engine. and_then (some_or_fault (kind_named engine.number))
+    (λ kind. Ok (record { engine = engine; kind = kind })))
 
 -- Cipher.getAlgorithm: its one number
 unfoldable pub cipher_get_algorithm : List Cell → Packages → MemoryState → Result CallAnswer FrameExit
 cipher_get_algorithm args p m = and_then (engine_of class.Cipher args p m) (λ own. Ok (tells own.number))
 
--- Cipher.getCipherAlgorithm: the number of its block algorithm and chaining
+-- Cipher.getCipherAlgorithm: the number of its block algorithm and chaining, or of RSA
 unfoldable pub cipher_get_cipher_algorithm : List Cell → Packages → MemoryState → Result CallAnswer FrameExit
-cipher_get_cipher_algorithm args p m = and_then (engine_of class.Cipher args p m) (λ own. and_then (some_or_fault (cipher_named own.number))
-    (λ a. Ok (tells (cipher_number a.block a.chaining))))
+cipher_get_cipher_algorithm args p m = and_then (own_cipher args p m) (λ own. Ok (tells (kind_cipher_number own.kind)))
 
 -- Cipher.getPaddingAlgorithm: that of its padding
 unfoldable pub cipher_get_padding_algorithm : List Cell → Packages → MemoryState → Result CallAnswer FrameExit
-cipher_get_padding_algorithm args p m = and_then (engine_of class.Cipher args p m) (λ own. and_then (some_or_fault (cipher_named own.number))
-    (λ a. Ok (tells (padding_number a.padding))))
+cipher_get_padding_algorithm args p m = and_then (own_cipher args p m) (λ own. Ok (tells (kind_padding_number own.kind)))
 
--- Cipher.init by a key and a mode, and with a vector: all of it is set, as one change, and nothing came
+-- ---- calls of which each kind of ciphers has its own
+
+abbrev pub init_of : CipherKind → KeyedEngine → List Cell → Packages → MemoryState → Result FieldsAnswer FrameExit
+init_of (Block a) own args p m = block_init a own args p m
+init_of (Rsa padding) own args p m = rsa_init padding own args p m
+
+abbrev pub init_with_vector_of : CipherKind → KeyedEngine → List Cell → Packages → MemoryState → Result FieldsAnswer FrameExit
+init_with_vector_of (Block a) own args p m = block_init_with_vector a own args p m
+init_with_vector_of (Rsa padding) own args p m = rsa_init_with_vector padding args p m
+
+abbrev pub update_of : CipherKind → KeyedEngine → List Cell → Packages → MemoryState → Result EngineAnswer FrameExit
+update_of (Block a) own args p m = block_update a own args p m
+update_of (Rsa padding) own args p m = rsa_update padding own args p m
+
+abbrev pub do_final_of : CipherKind → KeyedEngine → List Cell → Packages → MemoryState → Result EngineAnswer FrameExit
+do_final_of (Block a) own args p m = block_do_final a own args p m
+do_final_of (Rsa padding) own args p m = rsa_do_final padding own args p m
+
+-- Cipher.init by a key and a mode, and with a vector
 unfoldable pub cipher_init : List Cell → Packages → MemoryState → Result FieldsAnswer FrameExit
-cipher_init args p m = and_then (engine_of class.Cipher args p m) (λ own. and_then (some_or_fault (cipher_named own.number))
-    (λ a. key_init class.Cipher (cipher_requirements a) own args p m))
+cipher_init args p m = and_then (own_cipher args p m) (λ own. init_of own.kind own.engine args p m)
 
 unfoldable pub cipher_init_with_vector : List Cell → Packages → MemoryState → Result FieldsAnswer FrameExit
-cipher_init_with_vector args p m = and_then (engine_of class.Cipher args p m) (λ own. and_then (some_or_fault (cipher_named own.number))
-    (λ a. vector_init class.Cipher (cipher_requirements a) own args p m))
-
--- ---- the message
-
--- MODE_DECRYPT, MODE_ENCRYPT; before init it throws
-abbrev pub direction_of : ℤ → Result Direction FrameExit
-direction_of mode = if int_eq mode (pos 1) then Ok Decrypt else if int_eq mode (pos 2) then Ok Encrypt else Err (Throw invalid_init)
-
--- the key that it keeps, of a length of its block algorithm
-abbrev pub key_if_long : BlockAlgorithm → Stretch → Result Stretch FrameExit
-key_if_long a key = and_then (check_or_fault (has_key_length a key.count)) (λ u. Ok key)
-
-abbrev pub cipher_key : CipherAlgorithm → KeyedEngine → Packages → MemoryState → Result Stretch FrameExit
-cipher_key a own p m = and_then (kept_key (cipher_requirements a) own p m) (key_if_long a.block)
-
--- these cells of its state, of its vector and of its key are there
-pub record IsRunning (m : MemoryState) (own : RunningCipher) : Type 0 where
-  pub engine : IsInstanceWith m own.own keyed_cells
-  pub there : IsState m own.state
-  pub all : own.state.count ≡ cipher_shorts own.conversion.algorithm
-  pub key : IsInArray m own.key
-  pub long : IsKeyLength own.conversion.algorithm own.key.count
-
--- the message under a receiver: first the cells of its state, then whether it is initialized, then its key
-abbrev pub conversion_of : CipherAlgorithm → Direction → Conversion
-conversion_of a direction = record { algorithm = a.block; chaining = a.chaining; direction = direction; padding = a.padding }
-
-abbrev pub running_in : KeyedEngine → Packages → MemoryState → CipherAlgorithm → Result RunningCipher FrameExit
-running_in own p m a = and_then (state_at p m own.array 0 (cipher_shorts a.block)) (λ state. and_then (direction_of own.mode) (λ direction.
-    and_then (cipher_key a own p m) (λ key. Ok (record { own = own.own; conversion = conversion_of a direction; key = key; state = state }))))
-
-unfoldable pub running_cipher : List Cell → Packages → MemoryState → Result RunningCipher FrameExit
-running_cipher args p m = and_then (engine_of class.Cipher args p m) (λ own. and_then (some_or_fault (cipher_named own.number)) (running_in own p m))
-
--- the bytes of its vector
-abbrev pub vector_of : MemoryState → RunningCipher → List ℕ
-vector_of m own = vector_at m own.own (block_size own.conversion.algorithm)
-
--- the bytes of the state once these elements follow, those that are written then, and those that are written if the message ends so
-abbrev pub bytes_after : MemoryState → RunningCipher → Stretch → List ℕ
-bytes_after m own e = conversion_after own.conversion (bytes_in m own.key) (vector_of m own) (bytes_of_state m own.state) (bytes_in m e)
-
-abbrev pub output_after : MemoryState → RunningCipher → Stretch → List ℕ
-output_after m own e = conversion_output own.conversion (bytes_in m own.key) (vector_of m own) (bytes_of_state m own.state) (bytes_in m e)
-
-abbrev pub last_output : MemoryState → RunningCipher → Stretch → Option (List ℕ)
-last_output m own e = conversion_end own.conversion (bytes_in m own.key) (vector_of m own) (bytes_of_state m own.state) (bytes_in m e)
-
--- bytes are put into as many elements, as one change, and the state is set; their number is returned
-abbrev pub puts_output : RunningCipher → List ℕ → List ℕ → List Cell → Packages → MemoryState → Result EngineAnswer FrameExit
-puts_output own words bytes args p m = and_then (output_for 4 (length bytes) args p m)
-    (λ to. Ok (changes_and_puts own.state.array 0 words to bytes (Some (pos (length bytes)))))
-
-abbrev pub goes_on : RunningCipher → Stretch → List Cell → Packages → MemoryState → Result EngineAnswer FrameExit
-goes_on own e args p m = puts_output own (shorts_of (bytes_after m own e)) (output_after m own e) args p m
-
--- the last bytes are put, if the message may end so, and nothing came from now on
-abbrev pub ends_with : RunningCipher → List Cell → Packages → MemoryState → Option (List ℕ) → Result EngineAnswer FrameExit
-ends_with own args p m None = Err (Throw illegal_use)
-ends_with own args p m (Some bytes) = puts_output own (replicate (cipher_shorts own.conversion.algorithm) 0) bytes args p m
+cipher_init_with_vector args p m = and_then (own_cipher args p m) (λ own. init_with_vector_of own.kind own.engine args p m)
 
 -- Cipher.update: the bytes follow the message
 unfoldable pub cipher_update : List Cell → Packages → MemoryState → Result EngineAnswer FrameExit
-cipher_update args p m = and_then (running_cipher args p m) (λ own. and_then (counted_of 1 args p m) (λ e. goes_on own e args p m))
+cipher_update args p m = and_then (own_cipher args p m) (λ own. update_of own.kind own.engine args p m)
 
 -- Cipher.doFinal: the message ends with these bytes
 unfoldable pub cipher_do_final : List Cell → Packages → MemoryState → Result EngineAnswer FrameExit
-cipher_do_final args p m = and_then (running_cipher args p m) (λ own. and_then (counted_of 1 args p m) (λ e. ends_with own args p m (last_output m own e)))
+cipher_do_final args p m = and_then (own_cipher args p m) (λ own. do_final_of own.kind own.engine args p m)

@@ -127,20 +127,20 @@ vector_words bytes = first_shorts (bytes ++ replicate (2 * vector_cells - length
 abbrev pub values_given : ℤ → List ℕ → List FieldValue
 values_given mode bytes = Argument 1 ∷ Word (cast_unsigned w16 mode) ∷ map Word (vector_words bytes)
 
--- these are set, as one change, and nothing came
-abbrev pub initializes : PlatformClass → Requirements → KeyedEngine → ℤ → List ℕ → FieldsAnswer
-initializes class needs own mode bytes = sets_fields class key_cell (values_given mode bytes) own.array (replicate needs.state 0)
+-- these are set, as one change, and nothing came: so many shorts of the state are 0
+abbrev pub initializes : PlatformClass → ℕ → KeyedEngine → ℤ → List ℕ → FieldsAnswer
+initializes class shorts own mode bytes = sets_fields class key_cell (values_given mode bytes) own.array (replicate shorts 0)
 
 -- init of an object of a class by a key and a mode: the key is one that the algorithm takes, then the mode one of the two, then the key is set.
 -- The vector is zeros
 abbrev pub key_init : PlatformClass → Requirements → KeyedEngine → List Cell → Packages → MemoryState → Result FieldsAnswer FrameExit
 key_init class needs own args p m = and_then (taken_key needs args p m) (λ key. and_then (taken_mode args) (λ mode.
-    and_then (key_elements m key) (λ set. Ok (initializes class needs own mode []))))
+    and_then (key_elements m key) (λ set. Ok (initializes class needs.state own mode []))))
 
 -- and with a vector, of which the algorithm requires its length
 abbrev pub vector_init : PlatformClass → Requirements → KeyedEngine → List Cell → Packages → MemoryState → Result FieldsAnswer FrameExit
 vector_init class needs own args p m = and_then (taken_key needs args p m) (λ key. and_then (taken_mode args) (λ mode.
-    and_then (taken_vector needs args p m) (λ e. and_then (key_elements m key) (λ set. Ok (initializes class needs own mode (bytes_in m e))))))
+    and_then (taken_vector needs args p m) (λ e. and_then (key_elements m key) (λ set. Ok (initializes class needs.state own mode (bytes_in m e))))))
 
 -- ---- calls after init
 

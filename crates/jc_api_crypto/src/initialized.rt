@@ -13,7 +13,6 @@ ghost use Rattle.jc_api_crypto.specs.Initialized.{engine_of, initializes, is_for
 ghost use Rattle.jc_api_keys.specs.KeyTypes.{key_type_named};
 ghost use Rattle.jc_api_keys.specs.KeyObjects.Contents.{IsKey};
 
-use crate::message_digest::state::MOST_SHORTS;
 use jc_api::{FieldValue, MOST_FIELDS, counted_of, initialize};
 use jc_api_keys::exceptions::ILLEGAL_VALUE;
 use jc_api_keys::key_objects::arguments::{key_argument, key_at};
@@ -46,6 +45,9 @@ pub(crate) const VECTOR_CELLS: usize = 8;
 
 /// How many bytes the longest vector has.
 pub(crate) const MOST_VECTOR: usize = 16;
+
+/// How many shorts the longest state has, that of RSA as a cipher.
+pub(crate) const MOST_SHORTS: usize = 257;
 
 /// What the cells of an object with an algorithm and a key say.
 #[derive(Clone, Copy)]
@@ -190,8 +192,8 @@ fn taken_key<S: WordStore>(
     }
 }
 
-// The mode after it.
-fn taken_mode(args: &[Cell]) -> Result<i16, FrameExit>
+/// The mode after it.
+pub(crate) fn taken_mode(args: &[Cell]) -> Result<i16, FrameExit>
     ensures mode { result ≡ taken_mode args.now }
     ensures plain { plainly result ≡ result }
 {
@@ -259,10 +261,10 @@ fn put_values(mode: i16, words: &[u16], values: &mut [FieldValue])
     }
 }
 
-// Sets key, mode and vector, and then the state to that of nothing.
-fn set_up<S: WordStore>(
+/// Sets key, mode and vector, and then the state, of so many shorts, to that of nothing.
+pub(crate) fn set_up<S: WordStore>(
     class: PlatformClass,
-    needs: Requirements,
+    shorts: u16,
     own: &KeyedEngine,
     mode: i16,
     vector: &[u8],
@@ -272,8 +274,8 @@ fn set_up<S: WordStore>(
 ) -> Result<NativeResult, StepExit>
     requires up { memory.old.heap.down ≡ false }
     requires few { length vector.now ≤ MOST_VECTOR }
-    requires state { needs.state ≤ MOST_SHORTS }
-    ensures { Executes (initializing_call (Ok (initializes class needs own.now mode vector.now)) args.now
+    requires state { shorts ≤ MOST_SHORTS }
+    ensures { Executes (initializing_call (Ok (initializes class shorts own.now mode vector.now)) args.now
         linked.now memory.old) memory.old (after_call result memory.new) }
 {
     let mut words = [0; VECTOR_CELLS];
@@ -281,7 +283,7 @@ fn set_up<S: WordStore>(
     let mut values = [FieldValue::Word(0); MOST_FIELDS];
     put_values(mode, &words, &mut values);
     let zeros = [0; MOST_SHORTS];
-    let state = &zeros[..needs.state as usize];
+    let state = &zeros[..shorts as usize];
     initialize(
         class, KEY_CELL, &values, own.array, state, args, memory, linked,
     )
@@ -304,7 +306,7 @@ pub(crate) fn init<S: WordStore>(
     let key = taken_key(needs, args, memory, linked)?;
     let mode = taken_mode(args)?;
     let _elements = key_elements(&key, memory)?;
-    set_up(class, needs, own, mode, &[], args, memory, linked)
+    set_up(class, needs.state, own, mode, &[], args, memory, linked)
 }
 
 // Sets key, mode and vector, which is elements of an array.
@@ -322,13 +324,13 @@ fn set_up_with<S: WordStore>(
     requires vector { IsInArray memory.old vector }
     requires few { vector.count ≤ MOST_VECTOR }
     requires state { needs.state ≤ MOST_SHORTS }
-    ensures { Executes (initializing_call (Ok (initializes class needs own.now mode (bytes_in memory.old vector))) args.now
+    ensures { Executes (initializing_call (Ok (initializes class needs.state own.now mode (bytes_in memory.old vector))) args.now
         linked.now memory.old) memory.old (after_call result memory.new) }
 {
     let mut buffer = [0; MOST_VECTOR];
     let bytes = &mut buffer[..vector.count as usize];
     read(vector, memory, bytes);
-    set_up(class, needs, own, mode, bytes, args, memory, linked)
+    set_up(class, needs.state, own, mode, bytes, args, memory, linked)
 }
 
 /// The same with a vector.

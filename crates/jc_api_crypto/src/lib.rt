@@ -10,10 +10,9 @@ pub mod initialized;
 pub mod initialized_message_digest;
 pub mod law;
 pub mod message_digest;
-pub mod not_offered;
+mod outputs;
 pub mod random_data;
 pub mod signature;
 
 pub use ciphers::call_cipher;
 pub use engines::call_engine;
-pub use not_offered::call_key_pair;

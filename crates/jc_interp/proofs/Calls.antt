@@ -12,8 +12,8 @@ use Rattle.jc_api.proofs.Due.{IsPlainCall, DueThen, Anything, due_any, due_of}
 use Rattle.jc_api.proofs.Passing.{Turns}
 use Rattle.jc_api_crypto.proofs.CipherCalls.{ciphers_due}
 use Rattle.jc_api_crypto.proofs.EngineCalls.{engines_due}
-use Rattle.jc_api_crypto.proofs.NotOfferedCalls.{key_pairs_due}
 use Rattle.jc_api_keys.proofs.KeyCalls.{ec_keys_due, keys_due, rsa_keys_due}
+use Rattle.jc_api_pairs.proofs.PairCalls.{pairs_due}
 use Rattle.jc_api_framework.proofs.AidCalls.{aids_due}
 use Rattle.jc_api_framework.proofs.ApduCalls.{apdus_due}
 use Rattle.jc_api_framework.proofs.AppletCalls.{IsPlainAppletMethod, applets_due, applets_then}
@@ -54,7 +54,7 @@ module _ (P : Effect → MemoryState → Type 0) (L : MemoryState → ℕ → Ty
   method_called (rooms.EcKeys method) plain pass = ec_keys_due P L args p m refers.made method pass.calls
   method_called (rooms.RsaInterfaces method) plain pass = tt
   method_called (rooms.EcInterfaces method) plain pass = tt
-  method_called (rooms.KeyPairs method) plain pass = key_pairs_due P L args p m method pass.calls
+  method_called (rooms.KeyPairs method) plain pass = pairs_due P L args p m refers.made method pass.calls
 
 -- where it is so of such a method, it is so of each
 module _ (P : Effect → MemoryState → Type 0) (R : Result NativeResult FrameExit → MemoryState → Type 0) (Q : MemoryState → Type 0) (bears : Bears P Q)

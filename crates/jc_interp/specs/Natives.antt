@@ -10,10 +10,10 @@ use Rattle.jc_linker.specs.Values.{Packages}
 use Rattle.jc_world.specs.NativeCalls.{NativeProgram, code_fault}
 use Rattle.jc_api_crypto.specs.Ciphers.{cipher_call}
 use Rattle.jc_api_crypto.specs.Engines.{engine_call}
-use Rattle.jc_api_crypto.specs.NotOffered.{key_pair_call}
 use Rattle.jc_api_keys.specs.EcKeys.{ec_key_call}
 use Rattle.jc_api_keys.specs.Keys.{key_call}
 use Rattle.jc_api_keys.specs.RsaKeys.{rsa_key_call}
+use Rattle.jc_api_pairs.specs.Pairs.{pair_call}
 use Rattle.jc_api_framework.specs.Aid.{aid_call}
 use Rattle.jc_api_framework.specs.Applet.{applet_call}
 use Rattle.jc_api_framework.specs.Apdu.{apdu_call}
@@ -43,4 +43,4 @@ native_call (RsaKeys method) args p m = rsa_key_call method args p m
 native_call (EcKeys method) args p m = ec_key_call method args p m
 native_call (RsaInterfaces method) args p m = code_fault
 native_call (EcInterfaces method) args p m = code_fault
-native_call (KeyPairs method) args p m = key_pair_call method args p m
+native_call (KeyPairs method) args p m = pair_call method args p m

@@ -4,12 +4,13 @@ ghost use Rattle.jc_memory.specs.Programs.{Executes};
 ghost use Rattle.jc_world.specs.NativeCalls.{after_call};
 ghost use Rattle.jc_interp.specs.Natives.{native_call};
 
-use jc_api_crypto::{call_cipher, call_engine, call_key_pair};
+use jc_api_crypto::{call_cipher, call_engine};
 use jc_api_framework::{
     call_aid, call_apdu, call_applet, call_event, call_exception, call_object, call_pin,
     call_system, call_util,
 };
 use jc_api_keys::{call_ec_key, call_key, call_rsa_key};
+use jc_api_pairs::call_pair;
 use jc_frames::{Cell, Outcome};
 use jc_linker::linked::Linked;
 use jc_memory::Memory;
@@ -49,6 +50,6 @@ pub fn call_native<S: WordStore>(
         PlatformMethod::RsaInterfaces(_) | PlatformMethod::EcInterfaces(_) => Err(StepExit::End(
             Outcome::Fault,
         )),
-        PlatformMethod::KeyPairs(method) => call_key_pair(method, args, memory, linked),
+        PlatformMethod::KeyPairs(method) => call_pair(method, args, memory, linked),
     }
 }

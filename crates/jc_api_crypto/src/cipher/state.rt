@@ -1,5 +1,5 @@
 //! What becomes of a message under a cipher.
-ghost use Rattle.std.specs.Prelude.{◌≡◌, ◌≤◌, ◌<◌, ◌*◌, ◌+◌, ◌/◌, false, length, take, pos, IfSome, Some};
+ghost use Rattle.std.specs.Prelude.{◌≡◌, ◌≤◌, ◌<◌, ◌*◌, ◌+◌, ◌/◌, false, length, take, IfSome, Some};
 ghost use Rattle.std.specs.Option.{option_map};
 ghost use Rattle.jc_memory.specs.Programs.{Executes};
 ghost use Rattle.jc_modes.specs.Conversions.{conversion_after, conversion_end, conversion_output};
@@ -7,15 +7,17 @@ ghost use Rattle.jc_modes.specs.Kept.{block_size};
 ghost use Rattle.jc_world.specs.Arrays.{IsInArray, bytes_in};
 ghost use Rattle.jc_world.specs.NativeCalls.{after_call};
 ghost use Rattle.jc_api.specs.Changing.{changing_call};
-ghost use Rattle.jc_api_crypto.specs.Cipher.{IsRunning, bytes_after, cipher_shorts, ends_with, goes_on, last_output, output_after, puts_output, vector_of};
+ghost use Rattle.jc_api_crypto.specs.BlockCiphers.{IsRunning, bytes_after, cipher_shorts, ends_with, goes_on, last_output, output_after, vector_of};
+ghost use Rattle.jc_api_crypto.specs.Outputs.{puts_output};
 ghost use Rattle.jc_api_keys.specs.Receivers.{bytes_of_state};
 ghost use Rattle.jc_api_keys.specs.Shorts.{shorts_of};
 
-use crate::cipher::{RunningCipher, cipher_shorts};
+use crate::cipher::block::{RunningCipher, cipher_shorts};
 use crate::initialized::{MOST_VECTOR, read_vector};
-use jc_api::{MOST_ELEMENTS, change_state_and_put};
+use crate::outputs::put_output;
+use jc_api::MOST_ELEMENTS;
 use jc_api_keys::exceptions::ILLEGAL_USE;
-use jc_api_keys::receivers::{output_for, read, read_state};
+use jc_api_keys::receivers::{read, read_state};
 use jc_api_keys::shorts::put_shorts_of;
 use jc_frames::Cell;
 use jc_linker::linked::Linked;
@@ -116,34 +118,6 @@ fn convert_last<S: WordStore>(
     finish_conversion(&own.conversion, key, vector, state, piece, to)
 }
 
-// What a call that puts this many bytes returns.
-fn count_of(bytes: &[u8]) -> Option<i16>
-    requires { length bytes.now ≤ MOST_ELEMENTS }
-    ensures { result ≡ Some (pos (length bytes.now)) }
-{
-    Some(bytes.len() as i16)
-}
-
-// Puts bytes into as many elements, and sets the state.
-fn put_output<S: WordStore>(
-    own: &RunningCipher,
-    words: &[u16],
-    bytes: &[u8],
-    args: &[Cell],
-    memory: &mut Memory<S>,
-    linked: &Linked,
-) -> Result<NativeResult, StepExit>
-    requires up { memory.old.heap.down ≡ false }
-    requires words { length words.now < 65536 }
-    requires few { length bytes.now < 65536 }
-    ensures { Executes (changing_call (puts_output own.now words.now bytes.now args.now linked.now memory.old)
-        linked.now memory.old) memory.old (after_call result memory.new) }
-{
-    let to = output_for(4, bytes.len() as u16, args, memory, linked)?;
-    let answer = count_of(bytes);
-    change_state_and_put(own.state.array, 0, words, to, bytes, answer, memory, linked)
-}
-
 // Puts bytes into as many elements, and sets the state to that of these bytes.
 fn put_output_and_state<S: WordStore>(
     own: &RunningCipher,
@@ -157,13 +131,13 @@ fn put_output_and_state<S: WordStore>(
     requires state { length state.now ≤ MOST_STATE }
     requires even { length state.now ≡ 2 * (length state.now / 2) }
     requires few { length bytes.now < 65536 }
-    ensures { Executes (changing_call (puts_output own.now (shorts_of state.now) bytes.now args.now linked.now memory.old)
+    ensures { Executes (changing_call (puts_output own.now.state.array (shorts_of state.now) bytes.now args.now linked.now memory.old)
         linked.now memory.old) memory.old (after_call result memory.new) }
 {
     let mut buffer = [0; MOST_SHORTS];
     let words = &mut buffer[..state.len() / 2];
     put_shorts_of(state, words);
-    put_output(own, words, bytes, args, memory, linked)
+    put_output(own.state.array, words, bytes, args, memory, linked)
 }
 
 // A piece of at most this many bytes follows.
@@ -230,7 +204,7 @@ fn put_last<S: WordStore>(
 {
     let zeros = [0; MOST_SHORTS];
     let words = &zeros[..cipher_shorts(own.conversion.algorithm) as usize];
-    put_output(own, words, bytes, args, memory, linked)
+    put_output(own.state.array, words, bytes, args, memory, linked)
 }
 
 // The message ends with a piece of at most this many bytes.

@@ -124,8 +124,13 @@ fn digest_most<const MOST: usize, S: WordStore>(
     put_digest_of(own.algorithm, bytes, to);
 }
 
-// The digest of the message with these elements.
-fn digest<S: WordStore>(own: &RunningDigest, piece: Stretch, memory: &Memory<S>, to: &mut [u8])
+/// The digest of the message with these elements.
+pub(crate) fn digest<S: WordStore>(
+    own: &RunningDigest,
+    piece: Stretch,
+    memory: &Memory<S>,
+    to: &mut [u8],
+)
     requires up { memory.now.heap.down ≡ false }
     requires own { IsRunning memory.now own.now }
     requires piece { IsInArray memory.now piece }

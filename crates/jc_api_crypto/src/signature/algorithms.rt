@@ -205,7 +205,7 @@ pub(crate) fn signature_of_numbers(digest: i16, cipher: i16, padding: i16) -> Op
 }
 
 // The number of a hash function.
-fn hash_number(algorithm: HashAlgorithm) -> i16
+pub(crate) fn hash_number(algorithm: HashAlgorithm) -> i16
     ensures { result ≡ hash_number algorithm }
 {
     match algorithm {

@@ -1,0 +1,249 @@
+//! Signatures of a message's digest under a key of a pair, by what its parts are.
+ghost use Rattle.std.specs.Prelude.{◌≡◌, ◌≤◌, false, length, take, if◌then◌else◌, IfSome, Some, None};
+ghost use Rattle.std.specs.Option.{option_map};
+ghost use Rattle.jc_digests.specs.Kept.{digest_size};
+ghost use Rattle.jc_world.specs.Arrays.{IsInArray};
+ghost use Rattle.jc_public_keys.specs.RsaSignatures.{least_modulus, signature_encoding};
+ghost use Rattle.jc_api_crypto.specs.PairParts.{AreRsaParts};
+ghost use Rattle.jc_api_crypto.specs.PairSigning.{AreParts, HasSize, IsRunningPair, ecdsa_by_parts, is_ecdsa_by_parts, is_rsa_signature, is_signature_of, is_under, key_power, seed_of, signature_of};
+
+use crate::signature::pair::RunningPair;
+use crate::signature::pair::ecdsa::{is_ecdsa, put_ecdsa};
+use crate::signature::pair::parts::{Parts, RsaParts, put_power_by, put_power_by_primes};
+use crate::signature::pair_algorithms::PairSignature;
+use jc_api_keys::receivers::read;
+use jc_digests::kept::HashAlgorithm;
+use jc_linker::linked::Linked;
+use jc_memory::Memory;
+use jc_platform::row::RANDOM_SIZE;
+use jc_public_keys::rsa_signatures::{SignaturePadding, is_encoding, put_encoding};
+use jc_rsa::bytes::MOST_ENCODING;
+use jc_transient::Ref;
+use jc_words::WordStore;
+use jc_world::Stretch;
+
+/// How many bytes the longest signature has.
+pub(crate) const MOST_SIGNATURE: usize = MOST_ENCODING;
+
+/// How many bytes a seed has: those of the platform table, and the reference of a key object.
+pub(crate) const SEED: usize = RANDOM_SIZE + 2;
+
+/// Writes what random bytes under a key object come from.
+pub(crate) fn put_seed(key: Ref, linked: &Linked, to: &mut [u8])
+    requires { length to.old ≡ SEED }
+    ensures { to.new ≡ seed_of linked.now key }
+{
+    let (first, rest) = to.split_at_mut(RANDOM_SIZE);
+    first.copy_from_slice(linked.platform().table().random());
+    rest.copy_from_slice(&key.address().to_be_bytes());
+}
+
+/// Writes the power of a representative under a key, in as many bytes. It returns false where there is none.
+pub(crate) fn put_key_power<S: WordStore>(
+    parts: &Parts,
+    message: &[u8],
+    memory: &Memory<S>,
+    to: &mut [u8],
+) -> bool
+    requires up { memory.now.heap.down ≡ false }
+    requires parts { AreParts memory.now parts.now }
+    requires size { HasSize (length message.now) parts.now }
+    requires message { length message.now ≤ MOST_ENCODING }
+    requires room { length to.old ≡ length message.now }
+    ensures { (if result then Some to.new else None) ≡ key_power memory.now parts.now message.now }
+{
+    match parts {
+        Parts::Rsa(key) => put_power_by(key, message, memory, to),
+        Parts::Primes(key) => put_power_by_primes(key, message, memory, to),
+        Parts::Ec(_) => false,
+    }
+}
+
+// Writes the encoding of a digest, of which random bytes come from the platform table and a key object.
+fn put_rsa_encoding(
+    padding: SignaturePadding,
+    hash: HashAlgorithm,
+    digest: &[u8],
+    key: Ref,
+    linked: &Linked,
+    to: &mut [u8],
+)
+    requires digest { length digest.now ≡ digest_size hash }
+    requires few { length to.old ≤ MOST_ENCODING }
+    requires room { least_modulus padding hash ≤ length to.old }
+    ensures { to.new ≡ signature_encoding padding hash digest.now (seed_of linked.now key) (length to.old) }
+{
+    let mut seed = [0; SEED];
+    put_seed(key, linked, &mut seed);
+    put_encoding(padding, hash, digest, &seed, to);
+}
+
+// Writes the signature of an encoding, and returns how many bytes it has, if there is one.
+fn put_rsa_signature<S: WordStore>(
+    parts: &Parts,
+    encoding: &[u8],
+    memory: &Memory<S>,
+    to: &mut [u8],
+) -> Option<usize>
+    requires up { memory.now.heap.down ≡ false }
+    requires parts { AreParts memory.now parts.now }
+    requires size { HasSize (length encoding.now) parts.now }
+    requires encoding { length encoding.now ≤ MOST_ENCODING }
+    requires room { length to.old ≡ MOST_SIGNATURE }
+    ensures signature { option_map (λ n. take n to.new) result ≡ key_power memory.now parts.now encoding.now }
+    ensures within { IfSome result (λ n. n ≤ MOST_SIGNATURE) }
+{
+    let count = encoding.len();
+    if put_key_power(parts, encoding, memory, &mut to[..count]) {
+        Some(count)
+    } else {
+        None
+    }
+}
+
+// Writes the signature of a digest by ECDSA, and returns how many bytes it has, if there is one.
+fn put_ecdsa_by_parts<S: WordStore>(
+    parts: &Parts,
+    digest: &[u8],
+    key: Ref,
+    memory: &Memory<S>,
+    linked: &Linked,
+    to: &mut [u8],
+) -> Option<usize>
+    requires up { memory.now.heap.down ≡ false }
+    requires parts { AreParts memory.now parts.now }
+    requires digest { length digest.now ≤ MOST_ENCODING }
+    requires room { length to.old ≡ MOST_SIGNATURE }
+    ensures signature { option_map (λ n. take n to.new) result
+        ≡ ecdsa_by_parts memory.now digest.now (seed_of linked.now key) parts.now }
+    ensures within { IfSome result (λ n. n ≤ MOST_SIGNATURE) }
+{
+    match parts {
+        Parts::Ec(own) => {
+            let mut seed = [0; SEED];
+            put_seed(key, linked, &mut seed);
+            put_ecdsa(own, digest, &seed, memory, to)
+        }
+        Parts::Rsa(_) | Parts::Primes(_) => None,
+    }
+}
+
+/// Writes the signature of a digest, and returns how many bytes it has, if there is one.
+pub(crate) fn put_signature<S: WordStore>(
+    own: &RunningPair,
+    digest: &[u8],
+    memory: &Memory<S>,
+    linked: &Linked,
+    to: &mut [u8],
+) -> Option<usize>
+    requires up { memory.now.heap.down ≡ false }
+    requires own { IsRunningPair memory.now own.now }
+    requires digest { length digest.now ≡ digest_size own.now.digest.algorithm }
+    requires room { length to.old ≡ MOST_SIGNATURE }
+    ensures signature { option_map (λ n. take n to.new) result ≡ signature_of linked.now memory.now own.now digest.now }
+    ensures within { IfSome result (λ n. n ≤ MOST_SIGNATURE) }
+{
+    match own.algorithm {
+        PairSignature::Rsa(padding, hash) => {
+            let mut buffer = [0; MOST_ENCODING];
+            let encoding = &mut buffer[..own.size as usize];
+            put_rsa_encoding(padding, hash, digest, own.key, linked, encoding);
+            put_rsa_signature(&own.parts, encoding, memory, to)
+        }
+        PairSignature::Ecdsa(_) => {
+            put_ecdsa_by_parts(&own.parts, digest, own.key, memory, linked, to)
+        }
+    }
+}
+
+// Elements are a signature under an RSA key.
+fn is_under<S: WordStore>(
+    key: &RsaParts,
+    padding: SignaturePadding,
+    hash: HashAlgorithm,
+    digest: &[u8],
+    given: Stretch,
+    memory: &Memory<S>,
+) -> bool
+    requires up { memory.now.heap.down ≡ false }
+    requires key { AreRsaParts memory.now key.now }
+    requires digest { length digest.now ≡ digest_size hash }
+    requires given { IsInArray memory.now given }
+    ensures { result ≡ is_under memory.now padding hash digest.now given key.now }
+{
+    let modulus = key.modulus;
+    if given.count != modulus.count {
+        return false;
+    }
+    let count = given.count as usize;
+    let mut signature_bytes = [0; MOST_ENCODING];
+    let signature = &mut signature_bytes[..count];
+    read(given, memory, signature);
+    let mut buffer = [0; MOST_ENCODING];
+    let encoding = &mut buffer[..count];
+    if put_power_by(key, signature, memory, encoding) {
+        is_encoding(padding, hash, digest, encoding)
+    } else {
+        false
+    }
+}
+
+// Elements are an RSA signature.
+fn is_rsa_signature<S: WordStore>(
+    parts: &Parts,
+    padding: SignaturePadding,
+    hash: HashAlgorithm,
+    digest: &[u8],
+    given: Stretch,
+    memory: &Memory<S>,
+) -> bool
+    requires up { memory.now.heap.down ≡ false }
+    requires parts { AreParts memory.now parts.now }
+    requires digest { length digest.now ≡ digest_size hash }
+    requires given { IsInArray memory.now given }
+    ensures { result ≡ is_rsa_signature memory.now padding hash digest.now given parts.now }
+{
+    match parts {
+        Parts::Rsa(key) => is_under(key, padding, hash, digest, given, memory),
+        Parts::Primes(_) | Parts::Ec(_) => false,
+    }
+}
+
+// Elements are a signature by ECDSA.
+fn is_ecdsa_by_parts<S: WordStore>(
+    parts: &Parts,
+    digest: &[u8],
+    given: Stretch,
+    memory: &Memory<S>,
+) -> bool
+    requires up { memory.now.heap.down ≡ false }
+    requires parts { AreParts memory.now parts.now }
+    requires given { IsInArray memory.now given }
+    ensures { result ≡ is_ecdsa_by_parts memory.now digest.now given parts.now }
+{
+    match parts {
+        Parts::Ec(own) => is_ecdsa(own, digest, given, memory),
+        Parts::Rsa(_) | Parts::Primes(_) => false,
+    }
+}
+
+/// Elements are a signature of a digest.
+pub(crate) fn is_signature<S: WordStore>(
+    own: &RunningPair,
+    digest: &[u8],
+    given: Stretch,
+    memory: &Memory<S>,
+) -> bool
+    requires up { memory.now.heap.down ≡ false }
+    requires own { IsRunningPair memory.now own.now }
+    requires digest { length digest.now ≡ digest_size own.now.digest.algorithm }
+    requires given { IsInArray memory.now given }
+    ensures { result ≡ is_signature_of memory.now own.now digest.now given }
+{
+    match own.algorithm {
+        PairSignature::Rsa(padding, hash) => {
+            is_rsa_signature(&own.parts, padding, hash, digest, given, memory)
+        }
+        PairSignature::Ecdsa(_) => is_ecdsa_by_parts(&own.parts, digest, given, memory),
+    }
+}

@@ -1,0 +1,2 @@
+pub mod KeyAgreementClasses
+pub mod PairCalls

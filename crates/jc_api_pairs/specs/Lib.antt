@@ -1,0 +1,3 @@
+pub mod KeyAgreement
+pub mod KeyPair
+pub mod Pairs

@@ -1,0 +1,8 @@
+//! The calls of `KeyPair` and `KeyAgreement` of `javacard.security` (API specification).
+#![tactic(auto)]
+
+pub mod key_agreement;
+pub mod key_pair;
+pub mod pairs;
+
+pub use pairs::call_pair;
