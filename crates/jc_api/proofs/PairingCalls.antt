@@ -1,7 +1,8 @@
 -- Form 5: what a call does that makes its receiver name two objects is due where such objects may be made, and the receiver may name them. And
 -- form 6: what a call answers that returns a reference which its receiver has.
-use Rattle.std.proofs.Common.{◌≡◌, ◌+◌, ℕ, true, List, None, Result, Ok, refl}
-use Rattle.std.specs.Prelude.{Some}
+use Rattle.std.proofs.Common.{◌≡◌, ◌+◌, ℕ, Bool, true, false, List, Option, Some, None, Result, Ok, Err, refl, subst, if◌then◌else◌}
+use Rattle.std.proofs.lemmas.Bool.{false≢true}
+use Rattle.std.specs.Prelude.{is_none}
 use Rattle.jc_heap.specs.Heap.{facts}
 use Rattle.jc_memory.specs.Cells.{cells_effect, cells_refusal, word_at}
 use Rattle.jc_memory.specs.Making.{creation_refusal}
@@ -13,6 +14,8 @@ use Rattle.jc_platform.specs.declared.names.PlatformClass.{PlatformClass}
 use Rattle.jc_linker.specs.Values.{Packages}
 use Rattle.jc_frames.specs.declared.cell.Cell.{Cell}
 use Rattle.jc_frames.specs.declared.outcome.FrameExit.{FrameExit}
+use Rattle.jc_frames.specs.declared.outcome.FrameExit.TheVariants.{End}
+use Rattle.jc_frames.specs.declared.outcome.Outcome.TheVariants.{Fault}
 use Rattle.jc_world.specs.Answers.{and_then}
 use Rattle.jc_world.specs.Instances.{IsInstanceWith}
 use Rattle.jc_world.specs.NativeCalls.{NativeProgram}
@@ -21,16 +24,17 @@ use Rattle.jc_world.specs.declared.native_result.NativeResult.{NativeResult}
 use Rattle.jc_api.specs.Exits.{plainly}
 use Rattle.jc_api.specs.Factory.{HasState, engine_creation, has_space_for_both, is_in_table, keeps_no_cells, state_array}
 use Rattle.jc_api.specs.Initializing.{instance_called}
-use Rattle.jc_api.specs.Keeping.{keeping_call}
+use Rattle.jc_api.specs.Keeping.{if_persistent, keeping_call, persistent_called}
 use Rattle.jc_api.specs.Pairing.{HasStateIfNew, named_in, named_object, names_both, names_second, pair_cells, pair_words, pairing_call, then_named}
 use Rattle.jc_api.specs.declared.pairing.NamedObject.{NamedObject}
 use Rattle.jc_api.specs.declared.pairing.NamedObject.TheVariants.{Argument, New}
 use Rattle.jc_api.specs.declared.pairing.NewPair.{NewPair}
 use Rattle.jc_api.proofs.Due.{DueThen, IsPlainAnswer, IsPlainCall, called_ok, called_unless, due_then, then_if, then_ok, then_unless}
-use Rattle.jc_api.proofs.Exits.{plain_some}
+use Rattle.jc_api.proofs.Exits.{FaultsOnly, plain_if, plain_some, plain_then}
 use Rattle.jc_api.proofs.InitializingCalls.{called_is, plain_called}
 use Rattle.jc_api.proofs.Plain.{plainly_faults}
-use Rattle.jc_api.proofs.Reaching.{or_found}
+use Rattle.jc_api.proofs.Reaching.{err_not_ok, or_found, same_Ok}
+use Rattle.jc_api.proofs.Stretches.{both_ok}
 
 -- ---- what is to be shown
 
@@ -54,6 +58,32 @@ NamesBoth P args p a first second m =
 -- so it is of a call that makes its receiver name two objects
 abbrev pub PairsSo : (Effect → MemoryState → Type 0) → List Cell → Packages → NewPair → MemoryState → Type 0
 PairsSo P args p a m = NamesSo P (λ first v. NamesSo P (λ second w. NamesBoth P args p a first second w) args p a.second v) args p a.first m
+
+-- ---- persistent receivers
+
+kept_if : (b : Bool) (r own : ℕ) → (if b then Ok r else Err (End Fault)) ≡ Ok own → (b ≡ true) × (r ≡ own)
+kept_if true r own e = (refl, same_Ok r own e)
+kept_if false r own e = absurd (err_not_ok e)
+
+none_is : {A : Type 0} (o : Option A) → is_none o ≡ true → o ≡ None
+none_is None e = refl
+none_is (Some a) e = absurd (false≢true e)
+
+module _ (class : PlatformClass) (cells : ℕ) (args : List Cell) (p : Packages) (m : MemoryState) where
+  pub plain_persistent : FaultsOnly (persistent_called class cells args p m)
+  unfolding persistent_called
+  plain_persistent = plain_then (instance_called class cells args p m) _ (plain_called class cells args p m)
+      (λ own. plain_if (is_none (facts m.heap.now own).event) _ _ tt tt)
+
+  pub persistent_is : (own : ℕ) → persistent_called class cells args p m ≡ Ok own
+      → IsReceiverOf class cells args p m own × ((facts m.heap.now own).event ≡ None)
+  unfolding persistent_called
+  persistent_is own e =
+      let first = both_ok (instance_called class cells args p m) (if_persistent m) own e in
+      let is = called_is class cells args p m first.0 first.1 in
+      let kept = kept_if (is_none (facts m.heap.now first.0).event) first.0 own first.2 in
+      subst (λ r. IsReceiverOf class cells args p m r × ((facts m.heap.now r).event ≡ None)) kept.1
+      (record { called = is.0; there = is.1.0; instance = is.1.1 }, none_is (facts m.heap.now first.0).event kept.0)
 
 -- ---- the calls
 
@@ -118,6 +148,7 @@ module _ (P : Effect → MemoryState → Type 0) (L : MemoryState → ℕ → Ty
 
   -- a call that returns a reference which its receiver has answers plainly, where it is so of this reference
   pub keeping_due : (m : MemoryState) (class : PlatformClass) (i : ℕ)
-      → ((own : ℕ) → IsReceiverOf class (i + 1) args p m own → L m (word_at m own i)) → IsPlainCall P L (keeping_call class i args p m) m
-  keeping_due m class i so = called_ok P L m (instance_called class (i + 1) args p m) _ (plain_called class (i + 1) args p m)
-      (λ own is. so own (received class (i + 1) m own is))
+      → ((own : ℕ) → IsReceiverOf class (i + 1) args p m own → (facts m.heap.now own).event ≡ None → L m (word_at m own i))
+      → IsPlainCall P L (keeping_call class i args p m) m
+  keeping_due m class i so = called_ok P L m (persistent_called class (i + 1) args p m) _ (plain_persistent class (i + 1) args p m)
+      (λ own fine. let is = persistent_is class (i + 1) args p m own fine in so own is.0 is.1)

@@ -18,7 +18,7 @@ pub use arguments::{
 pub use changing::{change_state, change_state_and_put, state_at};
 pub use factory::{NewEngine, StateKind, make_engine};
 pub use initializing::{FieldValue, MOST_FIELDS, initialize};
-pub use keeping::kept_reference;
+pub use keeping::{kept_reference, persistent_called};
 pub use kinds::have_kinds;
 pub use pairing::{NamedObject, NewPair, make_pair};
 pub use short_arrays::two_shorts_of;

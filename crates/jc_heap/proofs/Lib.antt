@@ -43,6 +43,7 @@ pub mod Holding
 pub mod AreaRuns
 pub mod Several
 pub mod RunPlaces
+pub mod TwoRuns
 pub mod ReadBack
 pub mod KeptWords
 pub mod Costs

@@ -36,7 +36,7 @@ before_even ws r i e = ap (λ b. if b then None else Some (byte_in (get_or ws (c
 before_odd : (ws : List ℕ) (r i : ℕ) → (i % 2 ≡ 0 → ⊥) → byte_before ws r i ≡ Some (get_or ws (cell_address r (i / 2)) 0 / 256)
 before_odd ws r i e = ap (λ b. if b then None else Some (byte_in (get_or ws (cell_address r (i / 2)) 0) 0)) (ne_eqb (i % 2) 0 e)
 
-behind_even : (ws : List ℕ) (r i : ℕ) → i % 2 ≡ 0 → byte_behind ws r i ≡ None
+pub behind_even : (ws : List ℕ) (r i : ℕ) → i % 2 ≡ 0 → byte_behind ws r i ≡ None
 behind_even ws r i e = ap (λ b. if b then None else Some (byte_in (get_or ws (cell_address r (i / 2)) 0) 1)) (eq-eqb (i % 2) 0 e)
 
 behind_odd : (ws : List ℕ) (r i : ℕ) → (i % 2 ≡ 0 → ⊥) → byte_behind ws r i ≡ Some (get_or ws (cell_address r (i / 2)) 0 % 256)

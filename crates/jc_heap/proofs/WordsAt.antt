@@ -52,6 +52,20 @@ abbrev pub Each : (Place → Type 0) → List Place → Type 0
 Each P [] = Unit {0}
 Each P (p ∷ ps) = P p × Each P ps
 
+pub each_append : (P : Place → Type 0) (ps qs : List Place) → Each P ps → Each P qs → Each P (ps ++ qs)
+each_append P [] qs first second = second
+each_append P (p ∷ ps) qs first second = (first.0, each_append P ps qs first.1 second)
+
+-- places after cells of an object, of which none stands in the word of one
+pub words_at-after : (h : HeapState) (r i n : ℕ) (qs : List Place) → Each (λ q. (k : ℕ) → share_word h (Cell r k) q ≡ false) qs
+    → words_at h (cells_from r i n ++ qs) ≡ words_at h (cells_from r i n) ++ words_at h qs
+words_at-after h r i zero qs other = refl
+words_at-after h r i (suc zero) [] other = refl
+words_at-after h r i (suc zero) (q ∷ qs) other = ap (λ b. if b then words_at h (q ∷ qs) else place_at h (Cell r i) ∷ words_at h (q ∷ qs)) (other.0 i)
+words_at-after h r i (suc (suc n)) qs other =
+    ap (λ l. if share_word h (Cell r i) (Cell r (i + 1)) then l else place_at h (Cell r i) ∷ l) (words_at-after h r (i + 1) (suc n) qs other)
+    ∙ if-append (share_word h (Cell r i) (Cell r (i + 1))) (place_at h (Cell r i)) (words_at h (cells_from r (i + 1) (suc n))) (words_at h qs)
+
 each_if : (P : ℕ → Type 0) (b : Bool) (a d : ℕ) (l : List ℕ) (k : ℕ) → P a → ((m : ℕ) → m < length l → P (get_or l m d))
     → k < length (if b then l else a ∷ l) → P (get_or (if b then l else a ∷ l) k d)
 each_if P true a d l k here all lt = all k lt

@@ -20,4 +20,5 @@ pub mod Packed
 pub mod Elements
 pub mod RegistryLayout
 pub mod WordRuns
+pub mod ByteRuns
 pub mod Alike

@@ -8,6 +8,7 @@ ghost use Rattle.jc_heap.specs.Elements.{elements_of, byte_or_none, bytes_with, 
 use crate::layout::HEADER;
 use crate::place::Place;
 use jc_commit::WordChanges;
+use jc_transient::Ref;
 use jc_words::layout::{APPLETS, REGISTRY};
 use std::marker::Model;
 
@@ -41,6 +42,14 @@ impl<'a> Elements<'a> {
             Elements::Words(words) => words[k],
         }
     }
+}
+
+/// Bytes for the cells of an object from an index on.
+#[derive(Clone, Copy)]
+pub struct ByteRun<'a> {
+    pub object: Ref,
+    pub start: u16,
+    pub bytes: &'a [u8],
 }
 
 /// How the values of a run stand in words.
@@ -376,7 +385,7 @@ impl<'a> PlaceWords<'a> {
     }
 
     // How many there are.
-    fn length(&self) -> usize
+    pub(crate) fn length(&self) -> usize
         ensures exact { result ≡ length self.now }
         ensures most { result < 2 ^ 63 }
     {
@@ -399,44 +408,26 @@ impl<'a> WordChanges for PlaceWords<'a> {
     }
 }
 
-/// The words of a run of cells, and those of places after them.
+/// The words of a change, and those of another one after them.
 #[derive(Drop)]
-pub(crate) struct RunAndPlaces<'a> {
-    run: CellRun<'a>,
-    places: PlaceWords<'a>,
+pub(crate) struct Both<A: WordChanges, B: WordChanges> {
+    pub(crate) first: A,
+    pub(crate) second: B,
+    ghost few: { length (A.changes first) + length (B.changes second) < 2 ^ 64 },
 }
 
-impl<'a> Model for RunAndPlaces<'a> {
-    ghost use Rattle.std.specs.Prelude.{List, ℕ, ◌++◌, length, ◌≤◌};
-
-    ghost Value = { List (ℕ × ℕ) };
-
-    ghost view = { λ c. c.run ++ c.places };
-
-    ghost invariant = { λ c. length c.run ≤ 65536 };
-}
-
-impl<'a> RunAndPlaces<'a> {
-    pub(crate) fn new(run: CellRun<'a>, places: PlaceWords<'a>) -> Self
-        requires { length run ≤ 65536 }
-        ensures { result ≡ run.entry ++ places.entry }
-    {
-        RunAndPlaces { run, places }
-    }
-}
-
-impl<'a> WordChanges for RunAndPlaces<'a> {
-    ghost changes = { λ words. words };
+impl<A: WordChanges, B: WordChanges> WordChanges for Both<A, B> {
+    ghost changes = { λ both. A.changes both.first ++ B.changes both.second };
 
     fn count(&self) -> usize {
-        self.run.count() + self.places.length()
+        self.first.count() + self.second.count()
     }
 
     fn change(&self, k: usize) -> (u16, u16) {
-        let first = self.run.count();
+        let first = self.first.count();
         if k < first {
-            return self.run.change(k);
+            return self.first.change(k);
         }
-        self.places.change(k - first)
+        self.second.change(k - first)
     }
 }

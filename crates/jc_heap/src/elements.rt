@@ -230,6 +230,22 @@ pub(crate) fn run_for<'a, S: WordStore>(
     CellRun::new(word_at(object, i / 2), values, packing)
 }
 
+// The words of cells of an object, once they hold these bytes.
+pub(crate) fn byte_run_for<'a, S: WordStore>(
+    journal: &Journal<S>,
+    object: Ref,
+    i: u16,
+    bytes: &'a [u8],
+) -> CellRun<'a>
+    requires laid { IsWellFormed journal.now.plain }
+    requires small { length journal.now.plain < 65536 }
+    requires cells { i + length bytes.now ≤ length (cells (heap_of journal.now.plain) object) }
+    ensures words { result ≡ run_for journal.now.plain object i bytes.now }
+    ensures bytes { (k : ℕ) → k < length bytes.now → slice_index bytes.now k < 256 }
+{
+    run_for(journal, object, i, Elements::Bytes(bytes))
+}
+
 /// Writes the words of a run as one change.
 pub(crate) fn change_run<S: WordStore>(
     journal: &mut Journal<S>,

@@ -24,7 +24,7 @@ mod statics;
 mod touch;
 pub mod walk;
 
-pub use changes::Elements;
+pub use changes::{ByteRun, Elements};
 pub use component::Span;
 pub use heap::Heap;
 pub use heap_laws::{

@@ -1,5 +1,5 @@
 //! Words that a change names: cells, the words of static images and of the registry.
-ghost use Rattle.std.specs.Prelude.{ℕ, ◌≡◌, ◌<◌, ◌≤◌, ◌+◌, ◌++◌, false, [], ◌∷◌, length, slice_index};
+ghost use Rattle.std.specs.Prelude.{ℕ, ◌≡◌, ◌≢◌, ◌<◌, ◌≤◌, ◌+◌, ◌^◌, ◌++◌, false, [], ◌∷◌, length, slice_index};
 ghost use Rattle.jc_words.specs.Layout.{registry_length, most_applets};
 ghost use Rattle.jc_heap.specs.Moves.{Write, SetPlaces, WriteNonAtomic, PerformsMoves, PerformsMovesUnless, refusal_of_places, refusal_of_applet, applet_move};
 ghost use Rattle.jc_heap.specs.Completions.{after_change, after_step};
@@ -7,9 +7,10 @@ ghost use Rattle.jc_heap.specs.Object.{IsElement};
 ghost use Rattle.jc_heap.specs.Heap.{cells, facts};
 ghost use Rattle.jc_heap.specs.Elements.{elements_of};
 ghost use Rattle.jc_heap.specs.Places.{HasPlace, MayHold, AreThere, AreApart, ArePlain, place_at, places_of, words_of, cell_changes};
+ghost use Rattle.jc_heap.specs.ByteRuns.{run_changes};
 
-use crate::changes::{Elements, PlaceWords, RunAndPlaces};
-use crate::elements::{cell_word, run_for, word_for};
+use crate::changes::{Both, ByteRun, Elements, PlaceWords};
+use crate::elements::{byte_run_for, cell_word, run_for, word_for};
 use crate::heap::Heap;
 use crate::refusal::ChangeRefusal;
 use crate::registry_layout::{ENTRY_INSTANCE, ENTRY_PACKAGE, entry_start};
@@ -62,10 +63,13 @@ impl<S: WordStore> Heap<S> {
         requires up { self.now.down ≡ false }
         requires there { AreThere self.now.now changes.now }
         requires plain { ArePlain self.now.now (places_of changes.now) }
-        ensures { result ≡ words_of changes.now }
+        ensures exact { result ≡ words_of changes.now }
+        ensures few { length result < 2 ^ 63 }
     {
         let _ = &self.journal; // so that the proof knows what holds of every heap
-        PlaceWords::new(changes)
+        let words = PlaceWords::new(changes);
+        let _ = words.length(); // and how many words there may be
+        words
     }
 
     /// A word of the registry, 0 to 191.
@@ -136,7 +140,47 @@ impl<S: WordStore> Heap<S> {
             (after_change result self.new) (SetPlaces changes ∷ []) tt }
     {
         let run = run_for(&self.journal, object, i, values);
-        let both = RunAndPlaces::new(run, self.words_of_places(places));
+        let both = Both {
+            first: run,
+            second: self.words_of_places(places),
+        };
+        self.journal.write_all(&both)?;
+        Ok(())
+    }
+
+    /// Sets bytes in the cells of one persistent object and in those of another, and after them other places that have
+    /// words of their own, as one change.
+    pub fn set_two_runs(
+        &mut self,
+        first: ByteRun<'_>,
+        second: ByteRun<'_>,
+        places: &[(Place, u16)],
+    ) -> Result<(), ChangeRefusal>
+        requires up { self.old.down ≡ false }
+        requires first_cells { first.start + length first.bytes.now
+            ≤ length (cells self.old.now first.object) }
+        requires second_cells { second.start + length second.bytes.now
+            ≤ length (cells self.old.now second.object) }
+        requires two_objects { first.object ≢ second.object }
+        requires there { AreThere self.old.now places.now }
+        requires plain { ArePlain self.old.now (places_of places.now) }
+        requires apart { AreApart (places_of
+            (run_changes first ++ (run_changes second ++ places.now))) }
+        ensures { let changes = run_changes first.entry
+            ++ (run_changes second.entry ++ places.now) in
+            PerformsMovesUnless (refusal_of_places self.old (places_of changes)) self.old
+            (after_change result self.new) (SetPlaces changes ∷ []) tt }
+    {
+        let run = byte_run_for(&self.journal, first.object, first.start, first.bytes);
+        let next = byte_run_for(&self.journal, second.object, second.start, second.bytes);
+        let after = Both {
+            first: next,
+            second: self.words_of_places(places),
+        };
+        let both = Both {
+            first: run,
+            second: after,
+        };
         self.journal.write_all(&both)?;
         Ok(())
     }

@@ -5,7 +5,7 @@ use crate::memory::Memory;
 use crate::notes::{Shortage, Space};
 use jc_heap::layout::{HEADER, TRANSIENT};
 use jc_heap::{ChangeRefusal, Facts, Kind};
-use jc_transient::ClearEvent;
+use jc_transient::{ClearEvent, Ref};
 use jc_words::WordStore;
 
 // How many words an object of a kind takes, with n cells.
@@ -88,6 +88,16 @@ impl<S: WordStore> Memory<S> {
             asked: u32::try_from(asked).unwrap_or(u32::MAX),
             left: u32::from(self.heap.room()),
         });
+    }
+
+    // How many words n cells of an object stand in, from an index on.
+    pub(crate) fn words_of_cells(&self, object: Ref, i: u16, cells: usize) -> usize
+        requires { self.now.heap.down ≡ false }
+    {
+        match self.header(object) {
+            Some(facts) => words_from(facts, i, cells),
+            None => 0,
+        }
     }
 
     // Notes why changes of this number of words were not made.

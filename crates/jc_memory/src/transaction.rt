@@ -1,10 +1,11 @@
 //! Transactions, and changes of places: for a while, several as one, and for good.
-ghost use Rattle.std.specs.Prelude.{◌≡◌, ◌<◌, ◌≤◌, ◌+◌, ◌++◌, false, true, length};
+ghost use Rattle.std.specs.Prelude.{◌≡◌, ◌≢◌, ◌<◌, ◌≤◌, ◌+◌, ◌++◌, false, true, length};
 ghost use Rattle.jc_words.specs.Layout.{least_capacity, most_capacity};
 ghost use Rattle.jc_heap.specs.declared.object.Kind.TheVariants.{Instance, ByteArray};
 ghost use Rattle.jc_heap.specs.Heap.{IsObject, cells, facts};
 ghost use Rattle.jc_heap.specs.Keeping.{IsLegalValue, AreLegalValues};
 ghost use Rattle.jc_heap.specs.Places.{HasPlace, MayHold, AreThere, AreApart, ArePlain, places_of, cell_changes};
+ghost use Rattle.jc_heap.specs.ByteRuns.{run_changes};
 ghost use Rattle.jc_heap.specs.Moves.{Begin};
 ghost use Rattle.jc_memory.specs.State.{HeapMove, apply_effect};
 ghost use Rattle.jc_memory.specs.Programs.{Executes};
@@ -12,7 +13,7 @@ ghost use Rattle.jc_heap.specs.Completions.{after_change, after_step};
 ghost use Rattle.jc_memory.specs.Changing.{place_write, places_write, nonatomic_write, nonatomic_writes, nonatomic_store, commit, abort};
 
 use crate::memory::Memory;
-use jc_heap::{ChangeRefusal, Elements, Place};
+use jc_heap::{ByteRun, ChangeRefusal, Elements, Place};
 use jc_transient::Ref;
 use jc_words::{StoreDown, WordStore};
 
@@ -104,6 +105,52 @@ impl<S: WordStore> Memory<S> {
     {
         self.heap
             .set_run_and_places(object, i, Elements::Bytes(bytes), places)
+    }
+
+    /// Sets bytes in the cells of one persistent object and in those of another, and places after them that have words of
+    /// their own, as one change: none, where the transaction has no room for all of them.
+    pub fn write_two_runs(
+        &mut self,
+        first: ByteRun<'_>,
+        second: ByteRun<'_>,
+        places: &[(Place, u16)],
+    ) -> Result<(), ChangeRefusal>
+        requires up { self.old.heap.down ≡ false }
+        requires first_cells { first.start + length first.bytes.now
+            ≤ length (cells self.old.heap.now first.object) }
+        requires second_cells { second.start + length second.bytes.now
+            ≤ length (cells self.old.heap.now second.object) }
+        requires two_objects { first.object ≢ second.object }
+        requires there { AreThere self.old.heap.now places.now }
+        requires plain { ArePlain self.old.heap.now (places_of places.now) }
+        requires apart { AreApart (places_of
+            (run_changes first ++ (run_changes second ++ places.now))) }
+        requires references { AreLegalValues self.old.heap.now
+            (run_changes first ++ (run_changes second ++ places.now)) }
+        ensures { Executes (places_write self.old
+            (run_changes first.entry ++ (run_changes second.entry ++ places.now)))
+            self.old (after_change result self.new) }
+    {
+        let (object, start, bytes) = (first.object, first.start, first.bytes);
+        let (next, at, more) = (second.object, second.start, second.bytes);
+        let words = self.words_of_cells(object, start, bytes.len());
+        let others = self.words_of_cells(next, at, more.len());
+        let first = ByteRun {
+            object,
+            start,
+            bytes,
+        };
+        let second = ByteRun {
+            object: next,
+            start: at,
+            bytes: more,
+        };
+        let done = self.heap.set_two_runs(first, second, places);
+        if let Err(refusal) = done {
+            let asked = words.saturating_add(others).saturating_add(places.len());
+            self.note_refused_change(refusal, asked);
+        }
+        done
     }
 
     /// Sets a counter of a persistent instance for good: no abort takes it back, unless an earlier change

@@ -30,11 +30,11 @@ one_inverse n x i j above first second =
 in_order : (c : CurveNumbers) (k : ℕ) → Decides (is_in_order c k) (IsBelowOrder c k)
 in_order c k = Decides-and (nat_lt 0 k) (nat_lt k c.n) (Decides-ltb 0 k) (Decides-ltb k c.n)
 
--- what signs is told
-pub signed_told : (c : CurveNumbers) (d e k r s : ℕ) → 1 < c.p → 1 < c.n → IsBelowOrder c d → IsBelowOrder c k → IsSignature c d e k r s
+-- numbers that sign are the signature found
+pub found_signature : (c : CurveNumbers) (d e k r s : ℕ) → 1 < c.p → 1 < c.n → IsBelowOrder c d → IsBelowOrder c k → IsSignature c d e k r s
     → signed c d e k ≡ Some (record { r = r; s = s })
 unfolding signed
-signed_told c d e k r s field above d_in k_in is =
+found_signature c d e k r s field above d_in k_in is =
     let point : Point = At is.x is.y in
     let both = and_from (is_in_order c d) (is_in_order c k) ((in_order c d).1 d_in) ((in_order c k).1 k_in) in
     let multiple : Option Point = multiple_of c.p c.a k (At c.x c.y) in
@@ -64,7 +64,7 @@ numbers_cases : (o : Option Numbers) → (o ≡ None) ⊎ ((v : Numbers) × (o �
 numbers_cases None = inl refl
 numbers_cases (Some v) = inr (v, refl)
 
--- what is told signs
+-- the signature found signs
 r_signs : (c : CurveNumbers) (d e k x y : ℕ) (v : Numbers) → IsMultiple c.p c.a k (At c.x c.y) (At x y) → with_r c d e k (x % c.n) ≡ Some v
     → IsSignature c d e k v.r v.s
 r_signs c d e k x y v point is = elim (cases_eq (x % c.n) 0) as (λ _. IsSignature c d e k v.r v.s) [
@@ -108,10 +108,10 @@ point_signs : (c : CurveNumbers) (d e k : ℕ) (q : Point) (v : Numbers) → IsM
 point_signs c d e k Infinity v point is = absurd (cc)
 point_signs c d e k (At x y) v point is = r_signs c d e k x y v point is
 
-told_signs : (c : CurveNumbers) (d e k : ℕ) (v : Numbers) → 1 < c.p → signed c d e k ≡ Some v
+found_signs : (c : CurveNumbers) (d e k : ℕ) (v : Numbers) → 1 < c.p → signed c d e k ≡ Some v
     → IsBelowOrder c d × IsBelowOrder c k × IsSignature c d e k v.r v.s
 unfolding signed
-told_signs c d e k v field is =
+found_signs c d e k v field is =
     let multiple : Option Point = multiple_of c.p c.a k (At c.x c.y) in
     elim (cases_Bool (is_in_order c d && is_in_order c k)) as (λ _. IsBelowOrder c d × IsBelowOrder c k × IsSignature c d e k v.r v.s) [
       | inl holds ↦
@@ -131,12 +131,12 @@ told_signs c d e k v field is =
           let none : None ≡ Some v = sym (cond-false (is_in_order c d && is_in_order c k) (with_multiple c d e k multiple) None fails) ∙ is in absurd (cc)
     ]
 
--- where nothing signs, nothing is told
-pub signed_untold : (c : CurveNumbers) (d e k : ℕ) → 1 < c.p
+-- where nothing signs, no signature is found
+pub no_signature_found : (c : CurveNumbers) (d e k : ℕ) → 1 < c.p
     → (IsBelowOrder c d → IsBelowOrder c k → (r s : ℕ) → ¬ (IsSignature c d e k r s)) → signed c d e k ≡ None
-signed_untold c d e k field none = elim (numbers_cases (signed c d e k)) as (λ _. signed c d e k ≡ None) [
+no_signature_found c d e k field none = elim (numbers_cases (signed c d e k)) as (λ _. signed c d e k ≡ None) [
   | inl nothing ↦ nothing
-  | inr some ↦ let is = told_signs c d e k some.0 field some.1 in absurd (none is.0 is.1 (some.0).r (some.0).s is.2)
+  | inr some ↦ let is = found_signs c d e k some.0 field some.1 in absurd (none is.0 is.1 (some.0).r (some.0).s is.2)
 ]
 
 -- ---- verification

@@ -1,10 +1,10 @@
 -- The function that finds an inverse, and differences modulo a number.
-use Rattle.std.proofs.Common.{◌≡◌, ◌<◌, ◌+◌, ◌-◌, ◌*◌, ◌%◌, ◌∙◌, ℕ, zero, suc, Bool, true, false, Some, if◌then◌else◌, refl, ap, subst, inl, inr, arith}
+use Rattle.std.proofs.Common.{◌≡◌, ◌<◌, ◌+◌, ◌-◌, ◌*◌, ◌%◌, ◌∙◌, ℕ, zero, suc, Bool, true, false, Some, if◌then◌else◌, refl, sym, ap, subst, inl, inr, arith}
 use Rattle.std.specs.Prelude.{◌==◌}
 use Rattle.std.proofs.lemmas.Bool.{both_ways, cases_lt, eq-eqb, eqb-true}
 use Rattle.std.proofs.lemmas.Nat.{mul-mod_second}
 use Rattle.std.proofs.lemmas.Option.{none-some, same_Some}
-use Rattle.std.proofs.Math.Nat.{add-mul-mod_self_left, mod-lt}
+use Rattle.std.proofs.Math.Nat.{add-mul-mod_self_left, mod-eq_of_lt, mod-lt}
 use Rattle.jc_numbers.specs.Inverses.{HasInverse, IsInverse}
 use Rattle.jc_public_keys.specs.CurveSums.{difference, inverse_below, inverse_of}
 use Rattle.jc_curves.proofs.Congruences.{equals}
@@ -43,6 +43,37 @@ pub inverse_found : (n x : ℕ) → 1 < n → HasInverse n x → (z : ℕ) × (i
 inverse_found n x above (v, is) =
     let some : 0 < n = omega (arith, above) in
     below_found n x n (v % n) (mod-lt v some) (mul-mod_second x v n ∙ is)
+
+-- what is found is below the bound
+less_if : (n x k y : ℕ) (b : Bool) → (inverse_below n x k ≡ Some y → y < k) → (if b then Some k else inverse_below n x k) ≡ Some y → y < suc k
+less_if n x k y true later e = let same : k ≡ y = same_Some k y e in omega arith
+less_if n x k y false later e = let less : y < k = later e in omega arith
+
+below_less : (n x k y : ℕ) → inverse_below n x k ≡ Some y → y < k
+below_less n x zero y e = absurd (none-some y e)
+below_less n x (suc k) y e = less_if n x k y ((x * k) % n == 1) (below_less n x k y) e
+
+-- a number has one inverse below n
+turned : (x y z : ℕ) → y * (x * z) ≡ z * (x * y)
+turned x y z = grind arith
+
+times_one : (x : ℕ) → x * 1 ≡ x
+times_one x = omega arith
+
+module _ (n x y z : ℕ) (left : IsInverse n x y) (right : IsInverse n x z) where
+  half : (u v : ℕ) → IsInverse n x v → (u * (x * v)) % n ≡ (u * 1) % n
+  half u v is = sym (mul-mod_second u (x * v) n) ∙ ap (λ (k : ℕ). (u * k) % n) is
+
+  pub one_inverse : y < n → z < n → y ≡ z
+  one_inverse y_less z_less =
+      sym (ap (λ (k : ℕ). k % n) (times_one y) ∙ mod-eq_of_lt y_less) ∙ sym (half y z right) ∙ ap (λ (k : ℕ). k % n) (turned x y z) ∙ half z y left
+      ∙ ap (λ (k : ℕ). k % n) (times_one z) ∙ mod-eq_of_lt z_less
+
+-- so that the inverse below n is the one that is found
+pub inverse_is : (n x y : ℕ) → 1 < n → IsInverse n x y → y < n → inverse_of n x ≡ Some y
+inverse_is n x y above is less =
+    let found = inverse_found n x above (y, is) in
+    found.1 ∙ ap Some (one_inverse n x found.0 y (found_is n x found.0 found.1) is (below_less n x n found.0 found.1) less)
 
 -- ---- differences
 

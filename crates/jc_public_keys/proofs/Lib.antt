@@ -13,3 +13,5 @@ pub mod DerSignatures
 pub mod Tries
 pub mod SignaturesFound
 pub mod KeysFound
+pub mod PrimesFound
+pub mod RsaPairsFound

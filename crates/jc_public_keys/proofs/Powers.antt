@@ -57,7 +57,7 @@ power_refused modulus exponent message old new MessageOutOfRange is = no_residue
 
 -- ---- by primes
 
-usable_is : (n : ℕ) → Decides (is_usable n) (IsUsable n)
+pub usable_is : (n : ℕ) → Decides (is_usable n) (IsUsable n)
 usable_is n = Decides-and (n % 2 == 1) (nat_lt 1 n) (Decides-eqb (n % 2) 1) (Decides-ltb 1 n)
 
 join_is : (k : CrtKey) (c n : ℕ) → Decides (may_join (bytes_of_key k) c n) ((IsUsable (number_of_bytes k.p.now) × IsUsable (number_of_bytes k.q.now))

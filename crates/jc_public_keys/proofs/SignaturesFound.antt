@@ -17,7 +17,7 @@ use Rattle.jc_public_keys.specs.Ecdsa.{Numbers, is_verified}
 use Rattle.jc_public_keys.specs.EcdsaSignatures.{encoded, signed_by, verified_at, verified_numbers, verified_on}
 use Rattle.jc_public_keys.proofs.CurvesFound.{point_is, point_read}
 use Rattle.jc_public_keys.proofs.DerSignatures.{der_is, der_told, der_untold}
-use Rattle.jc_public_keys.proofs.EcdsaFound.{in_order_is, signed_told, signed_untold, verified_is}
+use Rattle.jc_public_keys.proofs.EcdsaFound.{in_order_is, found_signature, no_signature_found, verified_is}
 
 -- ---- signing
 
@@ -28,7 +28,7 @@ module _ (c : CurveNumbers) (field : 1 < c.p) (above : 1 < c.n) (d : ℕ) (diges
   unfolding signed_by
   written r s bytes small d_in k_in is encodes =
       ap Some (der_is r s bytes small encodes)
-      ∙ sym (ap (option_map encoded) (signed_told c d (digest_number c.n_bits digest) k r s field above d_in k_in is))
+      ∙ sym (ap (option_map encoded) (found_signature c d (digest_number c.n_bits digest) k r s field above d_in k_in is))
 
   -- and none
   never : (why : SignatureRefusal) → RefusesSignature c d (digest_number c.n_bits digest) k why
@@ -38,7 +38,7 @@ module _ (c : CurveNumbers) (field : 1 < c.p) (above : 1 < c.n) (d : ℕ) (diges
 
   pub unwritten : (why : SignatureRefusal) → RefusesSignature c d (digest_number c.n_bits digest) k why → None ≡ signed_by c d digest k
   unfolding signed_by
-  unwritten why none = sym (ap (option_map encoded) (signed_untold c d (digest_number c.n_bits digest) k field (never why none)))
+  unwritten why none = sym (ap (option_map encoded) (no_signature_found c d (digest_number c.n_bits digest) k field (never why none)))
 
 -- ---- verification
 

@@ -10,3 +10,4 @@ pub mod DerSignatures
 pub mod RandomNumbers
 pub mod EcdsaSignatures
 pub mod CurveKeys
+pub mod RsaKeys

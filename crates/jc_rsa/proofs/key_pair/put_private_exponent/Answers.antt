@@ -2,7 +2,7 @@ use Rattle.std.proofs.Common.{◌≡◌, ◌<◌, ◌∙◌, ◌+◌, ◌-◌, �
 use Rattle.std.proofs.Math.Facts.{Fits-lt-pow}
 use Rattle.jc_numbers.specs.Numbers.{number_of_bytes, value}
 use Rattle.jc_rsa.proofs.ByteNumbers.{less_product_above, less_product_below}
-use Rattle.jc_rsa.proofs.InverseLaws.{inverse_at, told_at}
+use Rattle.jc_rsa.proofs.InverseLaws.{inverse_at, for_same_modulus}
 use Rattle.jc_rsa.proofs.key_pair.put_private_exponent.Goals as goal
 
 pub put_inverse_bytes-requires-clause-modulus : goal.put_inverse_bytes-requires-clause-modulus
@@ -32,6 +32,6 @@ returns c =
     let v : ℕ = value c.multiply.new.to in
     let product : v ≡ (p - 1) * (q - 1) = c.multiply.ensures ∙ (λ j. c.put_less_one.ensures j * c.put_less_one-2.ensures j) in
     record {
-      told = told_at v ((p - 1) * (q - 1)) e c.put_inverse_bytes.result product c.put_inverse_bytes.ensures.told;
+      told = for_same_modulus v ((p - 1) * (q - 1)) e c.put_inverse_bytes.result product c.put_inverse_bytes.ensures.told;
       inverse = λ t. inverse_at v ((p - 1) * (q - 1)) e (number_of_bytes c.put_inverse_bytes.new.to) product (c.put_inverse_bytes.ensures.inverse t);
     }

@@ -12,7 +12,7 @@ write_all-requires-clause-places g c =
     let v = c.args.self.now in
     let n = c.self.inside.size in
     let w = several_are_written j v n c.args.changes.now c.words_of_places-words.result
-    c.self.view_is c.self.invariant c.requires.up c.requires.there c.requires.plain c.requires.apart c.words_of_places-words.ensures in
+    c.self.view_is c.self.invariant c.requires.up c.requires.there c.requires.plain c.requires.apart c.words_of_places-words.ensures.exact in
     w.each
 
 pub write_all-requires-clause-distinct : goal.write_all-requires-clause-distinct
@@ -21,7 +21,7 @@ write_all-requires-clause-distinct g c =
     let v = c.args.self.now in
     let n = c.self.inside.size in
     let w = several_are_written j v n c.args.changes.now c.words_of_places-words.result
-    c.self.view_is c.self.invariant c.requires.up c.requires.there c.requires.plain c.requires.apart c.words_of_places-words.ensures in
+    c.self.view_is c.self.invariant c.requires.up c.requires.there c.requires.plain c.requires.apart c.words_of_places-words.ensures.exact in
     w.distinct
 
 pub invariant_of-self-2 : goal.invariant_of-self-2
@@ -30,7 +30,7 @@ invariant_of-self-2 g c =
     let v = c.args.self.now in
     let n = c.self.inside.size in
     let w = several_are_written j v n c.args.changes.now c.words_of_places-words.result
-    c.self.view_is c.self.invariant c.requires.up c.requires.there c.requires.plain c.requires.apart c.words_of_places-words.ensures in
+    c.self.view_is c.self.invariant c.requires.up c.requires.there c.requires.plain c.requires.apart c.words_of_places-words.ensures.exact in
     written_sound j v n c.words_of_places-words.result _ _ c.self.view_is w c.write_all.new.self (up_is j v n c.self.view_is c.requires.up)
     c.self.invariant c.in_ok-write_all.ensures.ok
 
@@ -46,7 +46,7 @@ returns g c =
     let v = c.args.self.now in
     let n = c.self.inside.size in
     let w = several_are_written j v n c.args.changes.now c.words_of_places-words.result
-    c.self.view_is c.self.invariant c.requires.up c.requires.there c.requires.plain c.requires.apart c.words_of_places-words.ensures in
+    c.self.view_is c.self.invariant c.requires.up c.requires.there c.requires.plain c.requires.apart c.words_of_places-words.ensures.exact in
     written_done j v n c.words_of_places-words.result _ _ c.self.view_is w c.write_all.new.self (SetPlaces c.args.changes.now)
     c.self.invariant.back (λ none. ok_not_err _ _ (c.in_ok-write_all.ensures.full.1 none)) c.in_ok-write_all.ensures.ok refl
 
@@ -56,7 +56,7 @@ returns-in_err-write_all g c =
     let v = c.args.self.now in
     let n = c.self.inside.size in
     let w = several_are_written j v n c.args.changes.now c.words_of_places-words.result
-    c.self.view_is c.self.invariant c.requires.up c.requires.there c.requires.plain c.requires.apart c.words_of_places-words.ensures in
+    c.self.view_is c.self.invariant c.requires.up c.requires.there c.requires.plain c.requires.apart c.words_of_places-words.ensures.exact in
     written_refused j v n c.words_of_places-words.result _ _ c.self.view_is w c.from_residual.result (SetPlaces c.args.changes.now) c.write_all.new.self
     c.in_err-write_all.field-0.0 c.self.invariant.back c.from_residual.ensures.1 c.in_err-write_all.ensures.full c.in_err-write_all.ensures.kept
     c.in_err-write_all.ensures.stopped refl
