@@ -7,13 +7,13 @@ use Rattle.jcard_files.specs.declared.fault.Fault.{Fault}
 use Rattle.jcard_files.specs.declared.fault.Fault.TheVariants.{NoMemory}
 use Rattle.jcard_images.specs.declared.usual_table.TheConstants.{USUAL_TABLE}
 
--- these bytes are what an image keeps of the platform table that is named so, and that was read from its file; without a name of the usual one, and no
--- file was asked for
+-- an image keeps these bytes of its platform table: the text of the file that is named; without a name what is kept of the usual table, for which no
+-- file is read
 abbrev pub IsPlatform : Option (List ℕ) → List ℕ → List FileDeed → Type 0
-IsPlatform (Some table) kept deeds = (text : List ℕ) × IsRead table text deeds × IsKept text kept
+IsPlatform (Some table) kept deeds = IsRead table kept deeds
 IsPlatform None kept deeds = IsKept USUAL_TABLE.now kept × (deeds ≡ [])
 
--- it was not read, or there was no memory for what is kept of it
+-- the file was not read, or there was no memory for what is kept of the usual table
 abbrev pub IsNoPlatform : Option (List ℕ) → Fault → List FileDeed → Type 0
 IsNoPlatform (Some table) fault deeds = IsUnread table fault deeds
 IsNoPlatform None fault deeds = (fault ≡ NoMemory) × (deeds ≡ [])

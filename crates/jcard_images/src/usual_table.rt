@@ -1,9 +1,8 @@
 //! The platform table of cards for which none is named.
-ghost use Rattle.std.specs.Prelude.{◌≡◌, ℕ, List, MatchResult, Some, option_map};
+ghost use Rattle.std.specs.Prelude.{◌≡◌, ℕ, List, MatchResult, option_map};
 ghost use Rattle.std.specs.Borrow.{Bor};
 ghost use Rattle.jc_packing.specs.Packing.{IsKept};
 ghost use Rattle.jcard_files.specs.FileDeeds.{FileDeed};
-ghost use Rattle.jcard_files.specs.Readings.{IsUnread};
 ghost use Rattle.jcard_images.specs.UsualTables.{IsNoPlatform, IsPlatform};
 
 use jc_packing::packing::kept;
@@ -12,7 +11,8 @@ use jcard_files::fault::Fault;
 use jcard_files::reading::text_of;
 use std::alloc::{AllocError, Global};
 
-/// What an image keeps of the platform table in the file with this name; without a name of the usual one.
+/// What an image keeps of its platform table: the text in the file with this name, up to one byte more than one can have; without a name
+/// the usual one, packed.
 pub fn platform_of<'n, D: Disk>(disk: &mut D, table: Option<&'n str>) -> Result<Vec<u8>, Fault<'n>>
     ensures { (deeds : List FileDeed) × D.does disk.old deeds disk.new × MatchResult result
         (λ kept. IsPlatform (option_map (λ (name : Bor (List ℕ)). name.now) table.entry) kept.items
@@ -21,20 +21,8 @@ pub fn platform_of<'n, D: Disk>(disk: &mut D, table: Option<&'n str>) -> Result<
         deeds) }
 {
     match table {
-        Some(name) => platform_in(disk, name),
+        Some(name) => text_of(disk, name),
         None => usual_platform(disk.alloc()),
-    }
-}
-
-/// What an image keeps of the platform table in the file with this name, of which up to one byte more is read than one can have.
-pub fn platform_in<'n, D: Disk>(disk: &mut D, name: &'n str) -> Result<Vec<u8>, Fault<'n>>
-    ensures { (deeds : List FileDeed) × D.does disk.old deeds disk.new × MatchResult result
-        (λ kept. IsPlatform (Some name.now) kept.items deeds)
-        (λ fault. IsUnread name.now fault deeds) }
-{
-    match text_of(disk, name) {
-        Ok(text) => kept_of(disk.alloc(), text),
-        Err(fault) => Err(fault),
     }
 }
 

@@ -48,7 +48,7 @@ unplanned_unwritten a fault deeds (inr (inr h)) = platform_unwritten (table_aske
 -- for the platform table a text was read, or nothing
 pub platform_reading : (table : Option (List ℕ)) (text : List ℕ) (deeds : List FileDeed) → IsPlatform table text deeds → All IsReading deeds
 platform_reading None text deeds h = subst (λ (ds : List FileDeed). All IsReading ds) (sym h.1) no_reading
-platform_reading (Some name) text deeds h = one_reading name (Ok h.1.0) deeds h.1.2
+platform_reading (Some name) text deeds h = one_reading name (Ok h.0) deeds h.2
 
 pub no_platform_reading : (table : Option (List ℕ)) (fault : Fault) (deeds : List FileDeed) → IsNoPlatform table fault deeds → All IsReading deeds
 no_platform_reading None fault deeds h = subst (λ (ds : List FileDeed). All IsReading ds) (sym h.1) no_reading
@@ -68,7 +68,7 @@ platform_named : (names : List (List ℕ)) (table : Option (List ℕ)) (text : L
 platform_named names None text deeds path h at =
     let none : Contains [] path = subst (λ (ds : List FileDeed). Contains (paths_read ds) path) h.1 at in absurd (omega (arith, none.1))
 platform_named names (Some table) text deeds path h at =
-    Contains-append_right names (table ∷ []) path (subst (λ (ds : List FileDeed). Contains (paths_read ds) path) h.1.2 at)
+    Contains-append_right names (table ∷ []) path (subst (λ (ds : List FileDeed). Contains (paths_read ds) path) h.2 at)
 
 pub planned_named : (names : List (List ℕ)) (a : Asked) (p : Plan) (deeds : List FileDeed) (path : List ℕ) → IsPlanned a p deeds
     → Contains (paths_read deeds) path → Contains (files_named names (table_asked a)) path

@@ -36,8 +36,7 @@ use Rattle.jcard_files.specs.Faults.{is_unwritten}
 use Rattle.jcard_files.specs.FileDeeds.{FileDeed, ReadsText}
 use Rattle.jcard_files.specs.Images.{IsNotRead}
 use Rattle.jcard_images.specs.NewImages.{IsNewImageInMemoryOf}
-use Rattle.jcard_files.specs.Readings.{IsUnread, IsScriptRead}
-use Rattle.jcard_images.specs.UsualTables.{IsPlatform}
+use Rattle.jcard_files.specs.Readings.{IsRead, IsUnread, IsScriptRead}
 use Rattle.jcard_tests.specs.Sources.{AreNoted, IsReading, files_named, name_of, names_in, names_of, path_read, paths_of, paths_read}
 use Rattle.jcard_tests.specs.Tests.{AreAnsweredOn, AreCut, AreCutWell, AreFilesRead, EndsOn, IsFile, IsFileBehind, IsFileOf, IsFileRead, IsNewCard, IsCutWell, IsToldOf, IsToldOfLine, IsTornFailure, AreIncluded, AreTested, IsFilePlace, IsPlace, IsPrinted, AreNoFileLines, IsNoRowsText, IsNoText, IsNotIncluded, IsOneUnread, IsRowsText, IsTested, IsUnanswered, IsUntested, operands_named, rows_operand}
 use Rattle.jcard_tests.specs.declared.plan.Plan.{Plan}
@@ -296,13 +295,13 @@ rows_or_fault text_of (Err f) name deeds h = inl h
 
 -- that of a platform table was
 pub table_noted : {V : Type 0} (text_of : V → List ℕ) (r : Result V Fault) (old new : List Source) (name : List ℕ) (deeds : List FileDeed)
-    → paths_of new ≡ paths_of old ++ name ∷ [] → MatchResult r (λ t. IsPlatform (Some name) (text_of t) deeds) (λ f. IsUnread name f deeds)
+    → paths_of new ≡ paths_of old ++ name ∷ [] → MatchResult r (λ t. IsRead name (text_of t) deeds) (λ f. IsUnread name f deeds)
     → AreNoted old new deeds
-table_noted text_of (Ok t) old new name deeds noted h = one_noted old new name (Ok h.1.0) deeds noted h.1.2
+table_noted text_of (Ok t) old new name deeds noted h = one_noted old new name (Ok h.0) deeds noted h.2
 table_noted text_of (Err f) old new name deeds noted h = unread_noted old new name f deeds noted h
 
 pub table_read : {V : Type 0} (text_of : V → List ℕ) (r : Result V Fault) (name : List ℕ) (deeds : List FileDeed)
-    → MatchResult r (λ t. IsPlatform (Some name) (text_of t) deeds) (λ f. IsUnread name f deeds) → IfOk r (λ t. IsPlatform (Some name) (text_of t) deeds)
+    → MatchResult r (λ t. IsRead name (text_of t) deeds) (λ f. IsUnread name f deeds) → IfOk r (λ t. IsRead name (text_of t) deeds)
 table_read text_of (Ok t) name deeds h = h
 table_read text_of (Err f) name deeds h = tt
 

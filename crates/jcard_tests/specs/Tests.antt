@@ -39,9 +39,8 @@ use Rattle.jcard_tests.specs.declared.rows_file.RowFile.{RowFile}
 use Rattle.jcard_tests.specs.declared.table_line.TableLine.{TableLine}
 use Rattle.jcard_files.specs.declared.operand.Operand.{Operand}
 use Rattle.jcard_files.specs.FileDeeds.{FileDeed, ReadsText, fresh_store}
-use Rattle.jcard_files.specs.Readings.{IsScriptRead, IsUnread}
+use Rattle.jcard_files.specs.Readings.{IsRead, IsScriptRead, IsUnread}
 use Rattle.jcard_images.specs.NewImages.{IsNewImageOf}
-use Rattle.jcard_images.specs.UsualTables.{IsPlatform}
 use Rattle.jcard_files.specs.declared.fault.FileKind.TheVariants.{Rows, Table}
 use Rattle.jcard_files.specs.declared.fault.Fault.{Fault}
 use Rattle.jcard_tests.specs.Plans.{IsPlanned, IsUnplanned, table_asked}
@@ -74,11 +73,11 @@ AreIncluded name [] lines deeds = (lines ≡ []) × (deeds ≡ [])
 AreIncluded name (line ∷ own) lines deeds = (here rest : List Numbered) × (first more : List FileDeed) × IsPlace name line here first
     × AreIncluded name own rest more × (lines ≡ here ++ rest) × (deeds ≡ first ++ more)
 
--- these bytes are what an image keeps of a platform table that was read: it is looked for by that name beside the file of the first name
+-- this text of a platform table was read: it is looked for by that name beside the file of the first name
 abbrev pub IsTableBeside : List ℕ → List ℕ → List ℕ → List FileDeed → Type 0
-IsTableBeside name file kept deeds = (path : List ℕ) × IsBeside name file path × IsPlatform (Some path) kept deeds
+IsTableBeside name file text deeds = (path : List ℕ) × IsBeside name file path × IsRead path text deeds
 
--- after the line that names a platform table, the table was read, and then these are the lines, with those of the files that are included
+-- after the line that names a platform table, its text was read, and then these are the lines, with those of the files that are included
 abbrev pub IsFileBehind : List ℕ → TableLine → Option (List ℕ) → List Numbered → List FileDeed → Type 0
 IsFileBehind name line None lines deeds = ⊥
 IsFileBehind name line (Some table) lines deeds = (first more : List FileDeed) × IsTableBeside name line.name.now table first
@@ -201,7 +200,7 @@ AreAnswered p lines t = AreCardsOf p.words lines t.cards.items × IsOutcome p t.
 abbrev pub IsPlanFor : Plan → Option (List ℕ) → Plan → Type 0
 IsPlanFor p table q = (q.table.items ≡ unwrap_or table p.table.items) × (q.words ≡ p.words) × (q.capacity ≡ p.capacity) × (q.budget ≡ p.budget)
 
--- what an image keeps of the platform table that a file names
+-- the text of the platform table that a file names
 abbrev pub table_of : RowFile → Option (List ℕ)
 table_of f = option_map (λ text. text.items) f.table
 

@@ -1,8 +1,8 @@
 //! The lines of files of rows.
-ghost use Rattle.std.specs.Prelude.{◌≡◌, ◌<◌, ◌++◌, ◌∷◌, [], OnOk, List, Some, length, ◌≤◌, IfOk, IfErr, MatchResult};
+ghost use Rattle.std.specs.Prelude.{◌≡◌, ◌<◌, ◌++◌, ◌∷◌, [], OnOk, List, length, ◌≤◌, IfOk, IfErr, MatchResult};
 ghost use Rattle.std.specs.String.{string_bytes};
 ghost use Rattle.jcard_files.specs.FileDeeds.{FileDeed};
-ghost use Rattle.jcard_images.specs.UsualTables.{IsPlatform};
+ghost use Rattle.jcard_files.specs.Readings.{IsRead};
 ghost use Rattle.jcard_tests.specs.Sources.{AreNoted};
 ghost use Rattle.jcard_tests.specs.Tests.{AreIncluded, AreNoFileLines, IsFile, IsFileBehind, IsFileOf, IsFilePlace, IsIncludeFault, IsNoRowsText, IsNoText, IsNotIncluded, IsPlace, IsRowsText, IsTableBeside, table_of};
 ghost use Rattle.jcard_tests.specs.Unrolled.{IsLineOf, IsUnrolled};
@@ -16,12 +16,11 @@ use crate::sources::{Source, note};
 use crate::table_line::TableLine;
 use jcard_files::disk::Disk;
 use jcard_files::fault::{Fault, FileKind};
-use jcard_files::reading::script_of;
-use jcard_images::usual_table::platform_in;
+use jcard_files::reading::{script_of, text_of};
 use jcard_script::script::BOUND;
 use std::alloc::{AllocError, Global};
 
-/// A file of rows: what an image keeps of the platform table that it names, and its lines.
+/// A file of rows: the text of the platform table that it names, and its lines.
 #[derive(Drop)]
 pub(crate) struct RowFile {
     pub(crate) table: Option<Vec<u8>>,
@@ -119,7 +118,7 @@ fn with_table<'n, D: Disk>(
     }
 }
 
-// What an image keeps of the platform table that the line of this number in the file with this name names.
+// The text of the platform table that the line of this number in the file with this name names.
 fn table_beside<'n, D: Disk>(
     disk: &mut D,
     name: &'n str,
@@ -129,14 +128,14 @@ fn table_beside<'n, D: Disk>(
 ) -> Result<Vec<u8>, Fault<'n>>
     ensures { (deeds : List FileDeed) × D.does disk.old deeds disk.new
         × AreNoted sources.old.items sources.new.items deeds × MatchResult result
-        (λ kept. IsTableBeside name.now file.now kept.items deeds)
+        (λ text. IsTableBeside name.now file.now text.items deeds)
         (λ fault. IsNotIncluded name.now fault) }
 {
     let Ok(table) = beside(disk.alloc(), name, file) else {
         return Err(Fault::NoMemory);
     };
     match table_text(disk, table.as_str(), sources) {
-        Ok(kept) => Ok(kept),
+        Ok(text) => Ok(text),
         Err(fault) => Err(include_fault(name, number, fault)),
     }
 }
@@ -260,7 +259,7 @@ fn rows_text<'n, D: Disk>(
     }
 }
 
-// What an image keeps of the platform table in the file with this name, which is noted before it is read.
+// The platform table in the file with this name, which is noted before it is read.
 fn table_text<'n, D: Disk>(
     disk: &mut D,
     name: &'n str,
@@ -268,10 +267,10 @@ fn table_text<'n, D: Disk>(
 ) -> Result<Vec<u8>, Fault<'n>>
     ensures { (deeds : List FileDeed) × D.does disk.old deeds disk.new
         × AreNoted sources.old.items sources.new.items deeds
-        × IfOk result (λ kept. IsPlatform (Some name.now) kept.items deeds) }
+        × IfOk result (λ text. IsRead name.now text.items deeds) }
 {
     match note(disk.alloc(), name, FileKind::Table, sources) {
-        Ok(()) => platform_in(disk, name),
+        Ok(()) => text_of(disk, name),
         Err(AllocError) => Err(Fault::NoMemory),
     }
 }

@@ -89,7 +89,7 @@ class Cards:
 
     def __init__(self, program, example):
         self.program, self.example = program, example
-        self.table, self.made = "", {}
+        self.table, self.made = "", {}  # the lines of a table: none of the example, None of the usual one
         self.piece, self.cuts, self.rows = Piece(), None, 0
         self.on_file = None  # what the file of the image holds
         self.is_counted, self.fuse = False, None
@@ -121,7 +121,7 @@ class Cards:
             self.piece.noted.append(words[0])
             self.piece.is_told = True
         elif name == "table":
-            self.table += words[0] + "\n"
+            self.table = None if words[0] == "usual" else (self.table or "") + words[0] + "\n"
         elif name == "tear":
             self.refuse_tear_alone()
             self.piece.tear = row
@@ -198,9 +198,10 @@ class Cards:
 
     def new(self, count, capacity, fuse=None):
         """Makes an image: its words, what was printed, and how many words were written."""
-        table = self.table.encode("ascii") or self.example
-        put(TABLE, table)
-        words = ["new", IMAGE, "--words", str(count), "--table", TABLE, "--journal", str(capacity)]
+        words = ["new", IMAGE, "--words", str(count), "--journal", str(capacity)]
+        if self.table is not None:
+            put(TABLE, self.table.encode("ascii") or self.example)
+            words += ["--table", TABLE]
         before = bytes(2 * count)
         self.put_image(before)
         ended = self.program.run(words, image=IMAGE, fuse=fuse)

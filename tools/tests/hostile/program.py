@@ -74,9 +74,10 @@ class Program:
             raise Failed(f"{words[0]} ended with status {done.returncode}: {text[-200:]} {said[-200:]}")
         return done.returncode, text
 
-    def new(self, image, words, *options):
-        """Makes an image."""
-        status, text = self.run("new", image, "--words", str(words), "--table", TABLE, *options)
+    def new(self, image, words, *options, table=TABLE):
+        """Makes an image with a platform table, or without one with the usual table."""
+        named = ["--table", table] if table else []
+        status, text = self.run("new", image, "--words", str(words), *named, *options)
         if (status, text) != (0, ""):
             raise Failed(f"new ended with status {status}: {text}")
 

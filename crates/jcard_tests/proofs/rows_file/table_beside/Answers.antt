@@ -1,6 +1,6 @@
-use Rattle.std.proofs.Common.{[], Some, subst}
+use Rattle.std.proofs.Common.{[], subst}
 use Rattle.std.specs.String.{string_bytes}
-use Rattle.jcard_images.specs.UsualTables.{IsPlatform}
+use Rattle.jcard_files.specs.Readings.{IsRead}
 use Rattle.jcard_tests.proofs.RowTests.{nothing_noted}
 use Rattle.jcard_tests.proofs.rows_file.table_beside.Goals as goal
 
@@ -11,7 +11,7 @@ pub returns-in-Ok-table_text : goal.returns-in-Ok-table_text
 returns-in-Ok-table_text g c =
     let read = c.in-Ok-table_text.ensures in
     let path = string_bytes c.in-Ok.table in
-    let text = subst (λ p. IsPlatform (Some p) c.in-Ok-table_text.kept.items read.0) c.as_str.ensures.value read.3 in
+    let text = subst (λ p. IsRead p c.in-Ok-table_text.text.items read.0) c.as_str.ensures.value read.3 in
     (read.0, read.1, read.2, (path, c.in-Ok.ensures, text))
 
 pub returns : goal.returns

@@ -4,12 +4,12 @@ use Rattle.jcard_tests.proofs.rows_file.table_text.Goals as goal
 
 pub returns-in-Ok : goal.returns-in-Ok
 returns-in-Ok g c =
-    let read = c.platform_in.ensures in
+    let read = c.text_of.ensures in
     let name = c.args.name.now in (
       read.0,
       read.1,
-      table_noted (λ t. t.items) c.platform_in.result _ _ name read.0 c.in-Ok.ensures.noted read.2,
-      table_read (λ t. t.items) c.platform_in.result name read.0 read.2,
+      table_noted (λ t. t.items) c.text_of.result _ _ name read.0 c.in-Ok.ensures.noted read.2,
+      table_read (λ t. t.items) c.text_of.result name read.0 read.2,
     )
 
 pub returns-in-Err : goal.returns-in-Err
