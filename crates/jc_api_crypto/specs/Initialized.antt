@@ -127,7 +127,7 @@ vector_words bytes = first_shorts (bytes ++ replicate (2 * vector_cells - length
 abbrev pub values_given : ℤ → List ℕ → List FieldValue
 values_given mode bytes = Argument 1 ∷ Word (cast_unsigned w16 mode) ∷ map Word (vector_words bytes)
 
--- these are set, as one change, and nothing came: so many shorts of the state are 0
+-- these are set, as one change, and nothing came: the n shorts of the state are 0
 abbrev pub initializes : PlatformClass → ℕ → KeyedEngine → ℤ → List ℕ → FieldsAnswer
 initializes class shorts own mode bytes = sets_fields class key_cell (values_given mode bytes) own.array (replicate shorts 0)
 

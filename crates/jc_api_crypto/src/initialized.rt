@@ -261,7 +261,7 @@ fn put_values(mode: i16, words: &[u16], values: &mut [FieldValue])
     }
 }
 
-/// Sets key, mode and vector, and then the state, of so many shorts, to that of nothing.
+/// Sets key, mode and vector, then the state (`shorts` shorts of it), to that of no message.
 pub(crate) fn set_up<S: WordStore>(
     class: PlatformClass,
     shorts: u16,
