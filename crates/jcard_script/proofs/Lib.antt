@@ -10,3 +10,4 @@ pub mod LongCommands
 pub mod Parts
 pub mod Upper
 pub mod Words
+pub mod GoesOn

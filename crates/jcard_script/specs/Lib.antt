@@ -1,3 +1,4 @@
+pub mod Begun
 pub mod CardOrStore
 pub mod Line
 pub mod Reply

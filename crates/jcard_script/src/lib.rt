@@ -1,6 +1,7 @@
 //! Scripts: lines that are carried out on a card, over any reader and writer.
 #![tactic(auto)]
 
+pub mod begun;
 mod card_or_store;
 pub mod expectations;
 pub mod explainer;

@@ -1,5 +1,5 @@
 //! A script that is being carried out.
-ghost use Rattle.std.specs.Prelude.{◌≡◌, ◌+◌, ◌-◌, ◌^◌, ◌<◌, ℕ, List, [], ◌++◌, Bool, length, IfOk, IfErr, OnOk, MatchResult, IsSome, Err, false};
+ghost use Rattle.std.specs.Prelude.{◌≡◌, ◌+◌, ◌-◌, ◌^◌, ◌<◌, ℕ, List, [], ◌++◌, Bool, length, IfOk, IfErr, IfSome, OnOk, MatchResult, IsSome, Err, false};
 ghost use Rattle.std.specs.Bool.{OnTrue};
 ghost use Rattle.std.specs.Io.KnownBytes.{Appends, Consumes};
 ghost use Rattle.std.specs.Str.Lines.{lines};
@@ -11,7 +11,7 @@ ghost use Rattle.jcard_script.specs.Line.{AsksFor, IsCommandOf};
 ghost use Rattle.jcard_script.specs.Reply.{text_for_line};
 ghost use Rattle.jcard_script.specs.Script.{EndsFrom, IsAnswered, IsWholeScript, IsWrittenFor, armed_text, down_text, form_of, is_read_failed};
 ghost use Rattle.jcard_script.specs.Script.{is_write_failed, ended_lines};
-ghost use Rattle.jc_session.specs.Power.{Off, budget_of};
+ghost use Rattle.jc_session.specs.Power.{Off, Up, budget_of};
 ghost use Rattle.jc_session.specs.Requests.{Command, Reset};
 ghost use Rattle.jcard_script.specs.ScriptStates.{ScriptState, IsSessionStore, PowersUp, FailsUp, FailsReset, selected_in, with_fuse};
 ghost use Rattle.jcard_script.specs.Session.{EndsLine, StandsAt, IsUnbroken, IsWrittenOut, LineEnds, LineFails, LinesEnd};
@@ -26,6 +26,7 @@ use crate::script::{BOUND, ScriptFault};
 use crate::static_image::StaticImage;
 use crate::streams::{TextIn, TextOut, WriteFailed};
 use arrayvec::ArrayVec;
+use jc_card::card::Card;
 use jc_card::power_up::PowerFault;
 use jc_card::response::Response;
 use jc_memory::Notes;
@@ -126,6 +127,31 @@ impl<S: WordStore + Drop> Session<S> {
         store
     }
 
+    /// The card; nothing where it is down.
+    pub(crate) fn into_card(self) -> Option<Card<FuseStore<S>>>
+        requires { IsState self.held }
+        ensures { IfSome result (λ card. (state_of_held self.held ≡ Up card)
+            × (card.memory.heap.down ≡ false)) }
+    {
+        let Session {
+            alloc: _,
+            held,
+            line: _,
+            number: _,
+            notes: _,
+            passed_before: _,
+            response: _,
+            command: _,
+            statics: _,
+            cut: _,
+            cut_number: _,
+        } = self;
+        match held {
+            Some(CardOrStore::Card(card)) => Some(card),
+            _ => None,
+        }
+    }
+
     /// Carries out the lines of a script.
     pub(crate) fn run<R: TextIn, W: TextOut, E: Explainer>(
         &mut self,
@@ -165,8 +191,8 @@ impl<S: WordStore + Drop> Session<S> {
         }
     }
 
-    // The next bytes of the script.
-    fn feed<W: TextOut, E: Explainer>(
+    /// The next bytes of the script.
+    pub(crate) fn feed<W: TextOut, E: Explainer>(
         &mut self,
         piece: &[u8],
         writer: &mut W,

@@ -7,3 +7,5 @@ pub mod Powers
 pub mod Fuses
 pub mod EveryLists
 pub mod Uncut
+pub mod SameHeaps
+pub mod KeptCuts

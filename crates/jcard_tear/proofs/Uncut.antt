@@ -93,6 +93,10 @@ log_left budget probe (run.Script x) is = inr (inl is)
 pub memory_logged : (fault : RunFault) → fault ≡ run.NoMemory → IsLogFault fault
 memory_logged fault e = subst IsLogFault (sym e) tt
 
+-- memory was refused for the lines of a probe, or for what is reported
+pub memory_probed : (budget : ℕ) (probe : List ℕ) (fault : TearFault) → fault ≡ NoMemory → IsProbeFault budget probe fault
+memory_probed budget probe fault e = subst (IsProbeFault budget probe) (sym e) tt
+
 -- ---- too many cuts
 
 -- of all cuts up to the most the last is past them

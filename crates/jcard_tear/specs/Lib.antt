@@ -6,3 +6,4 @@ pub mod Faults
 pub mod ScriptLines
 pub mod Names
 pub mod Parts
+pub mod Kept

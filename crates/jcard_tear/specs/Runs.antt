@@ -1,8 +1,9 @@
 -- Scripts that are run on cards in memory.
-use Rattle.std.specs.Prelude.{ℕ, ◌≡◌, Bool, true, false, List, ◌++◌, Option, Ok, Err}
+use Rattle.std.specs.Prelude.{ℕ, ◌≡◌, ◌≢◌, Bool, true, false, List, ◌++◌, Option, Ok, Err, slice_index}
+use Rattle.jc_words.specs.Layout.{first_version, version_address}
 use Rattle.jc_words.specs.Refusals.{no_refusals}
 use Rattle.jc_words.specs.Stores.{FuseStoreValue}
-use Rattle.jc_commit.specs.Image.{plain_of, recovered_of}
+use Rattle.jc_commit.specs.Image.{IsGoodLog, plain_of, recovered_of}
 use Rattle.jc_commit.specs.Migration.{migrated}
 use Rattle.jcard_outcomes.specs.declared.standing.Left.{Left}
 use Rattle.jcard_script.specs.Script.{EndsSelecting, EndsWithin}
@@ -35,9 +36,14 @@ abbrev pub IsSelectedBy : ℕ → List ℕ → List ℕ → Option (List ℕ) �
 IsSelectedBy budget words script selected = (text : List ℕ) × (after : FuseStoreValue)
     × EndsSelecting budget (Ok tt) (store_of words) after true script text selected
 
--- a power up over these words leaves this heap, and after it a card gives the lines of the probe these answers
+-- words that a recovery leaves as they are: the log is good, no entry of it changes a word, and the version is not the first
+abbrev pub IsRecovered : List ℕ → Type 0
+IsRecovered words = IsGoodLog words × (recovered_of words ≡ plain_of words) × (slice_index words version_address ≢ first_version)
+
+-- a power up over these words leaves this heap, which another one leaves as it is, and after it a card gives the lines of the probe these answers
 abbrev pub IsLeft : ℕ → List ℕ → List ℕ → Left → Type 0
 IsLeft budget words probe left = (last : FuseStoreValue) × (plain_of left.words.items ≡ migrated 3 (recovered_of words)) × Runs budget words probe left.answers.items last
+    × IsRecovered left.words.items
 
 -- the whole script was carried out to its end over these words
 abbrev pub IsCarriedThrough : ℕ → List ℕ → List ℕ → Type 0

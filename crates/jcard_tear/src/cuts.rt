@@ -1,10 +1,14 @@
 //! Cutting the power within a command, after each number of its word writes.
-ghost use Rattle.std.specs.Prelude.{◌≡◌, ◌<◌, ◌++◌, ◌∷◌, ℕ, [], length, IfOk, MatchOption, MatchResult};
+ghost use Rattle.std.specs.Prelude.{◌≡◌, ◌<◌, ◌++◌, ◌∷◌, ℕ, List, [], length, IfOk, IfSome, MatchOption, MatchResult};
 ghost use Rattle.jcard_tear.specs.declared.tearing.TearFault.TheVariants.{NoMemory};
 ghost use Rattle.jcard_tear.specs.Faults.{IsUncutFor};
+ghost use Rattle.jcard_tear.specs.Kept.{IsKeptCut, IsKeptFor, IsShort, IsLastCut, IsReportedAt};
+ghost use Rattle.jcard_tear.specs.declared.cuts.Command.{Command as CommandText};
 ghost use Rattle.jcard_tear.specs.Sweeps.{AreCuts, IsCutAt, IsToldAs, IsUncutAt, cut_script, nothing_more};
 ghost use Rattle.jcard_tear.specs.Told.{AreOfImage};
 
+use crate::kept::{AtCommand, KeptCut, kept_for};
+use crate::last_cut::{LastCut, reported_cut};
 use crate::progress::Progress;
 use crate::recoveries::recoveries;
 use crate::runs::run_copy;
@@ -52,6 +56,17 @@ pub struct Command<'a> {
     pub behind: Behind,
 }
 
+/// What all cuts of a command share: the card at it, where that is kept, and what they are compared with and reported by.
+#[derive(Drop)]
+pub(crate) struct Shared<'a> {
+    pub(crate) card: Option<AtCommand>,
+    pub(crate) spared: &'a [u16],
+    pub(crate) lenient: &'a [u16],
+    pub(crate) objects: &'a Option<ImageObjects>,
+    pub(crate) before: &'a Left,
+    pub(crate) after: &'a Left,
+}
+
 /// What each cut of a command left, from the one on that no write passes, up to the number with which it is not cut.
 pub(crate) fn cut_all<P: Progress>(
     alloc: Global,
@@ -71,39 +86,110 @@ pub(crate) fn cut_all<P: Progress>(
         × IsUncutAt words.now command.entry (length cuts.items))
         (λ fault. IsUncutFor words.now command.entry 1 fault) }
 {
+    let shared = Shared {
+        card: kept_for(alloc, words, command),
+        spared,
+        lenient,
+        objects,
+        before,
+        after,
+    };
+    let mut last = None;
     let mut cuts = Vec::new(alloc);
     for number in 0..MOST {
         progress.tell_cut(number);
-        let Some((left, recoveries)) = cut_at(alloc, words, command, number)? else {
+        let Some(cut) = next_cut(alloc, words, command, number, &shared, &mut last)? else {
             return Ok(cuts);
         };
-        let cut = told_cut(
-            alloc, spared, lenient, objects, before, after, &left, recoveries,
-        )?;
         push_cut(&mut cuts, cut)?;
     }
     Err(TearFault::TooManyCuts)
 }
 
+/// What is reported of a cut of the command after this many writes; none where it is not cut. What was reported last may be reported
+/// again.
+pub(crate) fn next_cut(
+    alloc: Global,
+    words: &[u16],
+    command: Command,
+    number: u16,
+    shared: &Shared<'_>,
+    last: &mut Option<LastCut>,
+) -> Result<Option<Cut>, TearFault>
+    requires short { length words.now < 65536 }
+    requires whole { AreOfImage shared.now.objects.now }
+    requires card { IfSome shared.now.card (λ card. IsKeptFor words.now command card) }
+    requires last { IfSome last.old (λ reported. IsLastCut command shared.now reported) }
+    ensures last { IfSome last.new (λ reported. IsLastCut command.entry shared.now reported) }
+    ensures cut { MatchResult result (λ cut. MatchOption cut (IsUncutAt words.now command.entry number)
+        (λ cut. IsReportedAt words.now command.entry shared.now number cut))
+        (λ fault. (step : ℕ) → IsUncutFor words.now command.entry step fault) }
+{
+    match cut_of_card(alloc, number, shared) {
+        Some(KeptCut::Uncut) => Ok(None),
+        Some(KeptCut::Left(found)) => match reported_cut(alloc, command, shared, found, last) {
+            Ok(cut) => Ok(Some(cut)),
+            Err(fault) => Err(fault),
+        },
+        None => cut_anew(alloc, words, command, number, shared),
+    }
+}
+
+// What came of a cut of a copy of the card at the command, if it is kept and can be copied.
+fn cut_of_card(alloc: Global, number: u16, shared: &Shared<'_>) -> Option<KeptCut>
+    ensures cut { IfSome result (λ cut. (words : List ℕ) (c : CommandText)
+        → IfSome shared.now.card (IsKeptFor words c) → IsKeptCut words c number cut) }
+    ensures short { IfSome result IsShort }
+{
+    match &shared.card {
+        Some(card) => card.cut(alloc, number),
+        None => None,
+    }
+}
+
+// What is reported of a cut for which the script is carried out from its first line on; none where the command is not cut.
+fn cut_anew(
+    alloc: Global,
+    words: &[u16],
+    command: Command,
+    number: u16,
+    shared: &Shared<'_>,
+) -> Result<Option<Cut>, TearFault>
+    requires short { length words.now < 65536 }
+    requires whole { AreOfImage shared.now.objects.now }
+    ensures { MatchResult result (λ cut. MatchOption cut (IsUncutAt words.now command.entry number)
+        (λ cut. IsReportedAt words.now command.entry shared.now number cut))
+        (λ fault. (step : ℕ) → IsUncutFor words.now command.entry step fault) }
+{
+    let Some((left, recoveries)) = cut_at(alloc, words, command, number)? else {
+        return Ok(None);
+    };
+    let cut = told_cut(alloc, shared, &left, recoveries)?;
+    Ok(Some(cut))
+}
+
 /// What is reported of a cut that left this, and after which recoveries were like this.
 pub(crate) fn told_cut(
     alloc: Global,
-    spared: &[u16],
-    lenient: &[u16],
-    objects: &Option<ImageObjects>,
-    before: &Left,
-    after: &Left,
+    shared: &Shared<'_>,
     left: &Left,
     recoveries: Recoveries,
 ) -> Result<Cut, AllocError>
-    requires { AreOfImage objects.now }
-    ensures told { IfOk result
-        (λ cut. IsToldAs spared.now lenient.now objects.now before.now after.now left.now cut) }
+    requires { AreOfImage shared.now.objects.now }
+    ensures told { IfOk result (λ cut. IsToldAs shared.now.spared.now shared.now.lenient.now
+        shared.now.objects.now shared.now.before.now shared.now.after.now left.now cut) }
     ensures recoveries { IfOk result (λ cut. cut.recoveries ≡ recoveries) }
 {
-    let answers = told(alloc, objects, left)?;
-    let standing = standing_of(spared, lenient, before, after, &left.words, &left.answers);
-    let lost = lost_of(standing, before, &left.words);
+    let answers = told(alloc, shared.objects, left)?;
+    let standing = standing_of(
+        shared.spared,
+        shared.lenient,
+        shared.before,
+        shared.after,
+        &left.words,
+        &left.answers,
+    );
+    let lost = lost_of(standing, shared.before, &left.words);
     Ok(Cut {
         standing,
         lost,
@@ -124,7 +210,7 @@ pub(crate) fn push_cut(cuts: &mut Vec<Cut>, cut: Cut) -> Result<(), TearFault>
 
 // What is left of a command that is cut after this many writes, and what recoveries were like that were cut after it; none where it
 // is not cut.
-pub(crate) fn cut_at(
+fn cut_at(
     alloc: Global,
     words: &[u16],
     command: Command,

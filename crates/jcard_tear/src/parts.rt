@@ -7,7 +7,8 @@ ghost use Rattle.jcard_tear.specs.ScriptLines.{line_of};
 ghost use Rattle.jcard_tear.specs.Sweeps.{IsUncutAt};
 ghost use Rattle.jcard_tear.specs.Told.{AreOfImage};
 
-use crate::cuts::{Behind, Command, MOST, cut_at, push_cut, told_cut};
+use crate::cuts::{Behind, Command, MOST, Shared, next_cut, push_cut};
+use crate::kept::kept_for;
 use crate::names::sweep_name;
 use crate::probes::probe_for;
 use crate::progress::Progress;
@@ -112,16 +113,22 @@ fn cut_every<P: Progress>(
         (λ fault. IsUncutFor words.now command.entry step fault) }
     ensures below { IfOk result (λ cuts. first + step * length cuts.items < 65536) }
 {
+    let shared = Shared {
+        card: kept_for(alloc, words, command),
+        spared,
+        lenient,
+        objects,
+        before,
+        after,
+    };
+    let mut last = None;
     let mut cuts = Vec::new(alloc);
     let mut number = first;
     for _place in 0..MOST {
         progress.tell_cut(number);
-        let Some((left, recoveries)) = cut_at(alloc, words, command, number)? else {
+        let Some(cut) = next_cut(alloc, words, command, number, &shared, &mut last)? else {
             return Ok(cuts);
         };
-        let cut = told_cut(
-            alloc, spared, lenient, objects, before, after, &left, recoveries,
-        )?;
         push_cut(&mut cuts, cut)?;
         let Some(next) = number.checked_add(step) else {
             return Err(TearFault::TooManyCuts);

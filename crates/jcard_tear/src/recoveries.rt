@@ -155,7 +155,7 @@ fn is_same(a: &Left, b: &Left) -> bool
     a.words == b.words && a.answers == b.answers
 }
 
-fn are_equal(a: &[u16], b: &[u16]) -> bool
+pub(crate) fn are_equal(a: &[u16], b: &[u16]) -> bool
     ensures { IsTrue result → a.now ≡ b.now }
 {
     a == b
@@ -200,7 +200,7 @@ fn entries(words: &[u16]) -> Option<u16>
 
 // Where the journal of these words stands; nothing where it cannot stand there, or where the version is the first.
 #[tactic(auto, unfolding(jc_words::specs::Image::log_of))]
-fn journal_of(words: &[u16]) -> Option<Log>
+pub(crate) fn journal_of(words: &[u16]) -> Option<Log>
     requires { length words.now < 65536 }
     ensures log { IfSome result (λ log. log ≡ log_of words.now) }
     ensures fits { IfSome result (λ log. IsLogAmong (length words.now) log) }

@@ -1,9 +1,9 @@
 //! Running a script on a card in memory, and what a reset finds then.
-ghost use Rattle.std.specs.Prelude.{◌≡◌, ◌<◌, length, vec_len, IfOk, MatchResult};
+ghost use Rattle.std.specs.Prelude.{◌≡◌, ◌<◌, length, vec_len, IfOk, MatchResult, OnOk};
 ghost use Rattle.jcard_tear.specs.declared.runs.RunFault.TheVariants.{NoMemory};
 ghost use Rattle.jcard_tear.specs.Faults.{IsLeftFault, IsLogFault};
-ghost use Rattle.jcard_tear.specs.Runs.{HasRun, IsCarriedThrough, IsLeft, IsRunFault, IsSelectedBy};
-ghost use Rattle.jc_commit.specs.Image.{plain_of, recovered_of};
+ghost use Rattle.jcard_tear.specs.Runs.{HasRun, IsCarriedThrough, IsLeft, IsRecovered, IsRunFault, IsSelectedBy};
+ghost use Rattle.jc_commit.specs.Image.{IsGoodLog, plain_of, recovered_of};
 ghost use Rattle.jc_commit.specs.Migration.{migrated};
 
 use crate::kept_text::KeptText;
@@ -219,14 +219,21 @@ pub(crate) fn left(
     })
 }
 
-// The words that a recovery and a migration of these leave.
-fn recovered(words: Vec<u16>) -> Result<Vec<u16>, RunFault>
+/// The words that a recovery and a migration of these leave.
+pub(crate) fn recovered(words: Vec<u16>) -> Result<Vec<u16>, RunFault>
     requires { vec_len words < 65536 }
-    ensures { MatchResult result (λ found. plain_of found.items
+    ensures heap { MatchResult result (λ found. plain_of found.items
         ≡ migrated 3 (recovered_of words.items)) (λ fault. IsLogFault fault) }
+    ensures recovered { IfOk result (λ found. IsRecovered found.items) }
+    ensures good { OnOk result (IsGoodLog words.items) }
+    ensures short { IfOk result (λ found. vec_len found < 65536) }
 {
     match Journal::open(MemStore::of(words)) {
-        Ok(journal) => Ok(journal.into_store().into_words()),
+        Ok(journal) => {
+            let store = journal.into_store();
+            let _size = store.size();
+            Ok(store.into_words())
+        }
         Err(_) => Err(BAD_LOG),
     }
 }

@@ -1,17 +1,23 @@
 use Rattle.std.proofs.Common.{◌≡◌, ◌∙◌, ◌+◌, ◌*◌, ◌≤◌, ◌∷◌, [], length, length-append, ap, refl, rules, sym, subst, inl, arith}
 use Rattle.jcard_outcomes.specs.declared.standing.Cut.{Cut}
 use Rattle.jcard_tear.specs.Faults.{IsUncutFor}
-use Rattle.jcard_tear.specs.Sweeps.{IsCutAt, IsUncutAt}
+use Rattle.jcard_tear.specs.Sweeps.{IsToldCut, IsUncutAt}
 use Rattle.jcard_tear.proofs.EveryLists.{every_more, every_none, number_more}
 use Rattle.jcard_tear.proofs.Uncut.{every_past, memory_uncut, passed_on, steps_past}
 use Rattle.jcard_tear.proofs.parts.cut_every.Goals as goal
 
 pub loop-place-init : goal.loop-place-init
-loop-place-init g c = record { cuts = rw c.new-cuts.ensures.items (every_none _ _ _ _ _ _ _ _ _); count = rw c.new-cuts.ensures.items (omega arith); fits = omega (arith, c.ranges.first.fits); places = rw c.new-cuts.ensures.items refl }
+loop-place-init g c = record {
+  cuts = rw c.new-cuts.ensures.items (every_none _ _ _ _ _ _ _ _ _);
+  count = rw c.new-cuts.ensures.items (omega arith);
+  fits = omega (arith, c.ranges.first.fits);
+  places = rw c.new-cuts.ensures.items refl;
+  last = tt;
+}
 
 pub returns-in_default-clause-cut : goal.returns-in_default-clause-cut
 returns-in_default-clause-cut g c =
-    let uncut = rw c.in_default.is at c.in_ok-left.ensures in
+    let uncut = rw c.in_default.is at c.in_ok-cut.ensures.cut in
     (c.loop-place.invariant.cuts, subst (λ n. IsUncutAt c.args.words.now c.args.command n) c.loop-place.invariant.count uncut)
 
 pub returns-in_default-clause-below : goal.returns-in_default-clause-below
@@ -20,28 +26,23 @@ returns-in_default-clause-below g c = omega (arith, c.loop-place.invariant.count
 pub loop-place-preserved : goal.loop-place-preserved
 loop-place-preserved g c =
     let cuts = c.loop-place.cuts.items in
-    let cut : Cut = c.in_ok-cut.cut in
-    let left = rw c.in-Some.is at c.in_ok-left.ensures in
-    let here = subst (λ n. IsCutAt c.args.words.now c.args.command n c.in-Some.left c.in-Some.recoveries) c.loop-place.invariant.count left in
-    let told = subst (λ r. IsCutAt c.args.words.now c.args.command (c.args.first + c.args.step * length cuts) c.in-Some.left r)
-    (sym c.in_ok-cut.ensures.recoveries) here in
+    let cut : Cut = c.in-Some.cut in
+    let told = rw c.in-Some.is at c.in_ok-cut.ensures.cut in
+    let here = subst (λ n. IsToldCut c.args.words.now c.args.command c.args.spared.now c.args.lenient.now c.args.objects.now c.args.before.now c.args.after.now n cut) c.loop-place.invariant.count told in
     let next : c.in-Some-checked_add.next ≡ c.loop-place.number + c.args.step = search rules in
     record {
       cuts = rw c.in_ok-push_cut.ensures (every_more c.args.words.now c.args.command c.args.spared.now c.args.lenient.now c.args.objects.now c.args.before.now c.args.after.now c.args.first c.args.step
-          cuts cut c.loop-place.invariant.cuts (c.in-Some.left, told, c.in_ok-cut.ensures.told));
+          cuts cut c.loop-place.invariant.cuts here);
       count = number_more c.args.first c.args.step (length cuts) c.loop-place.number c.in-Some-checked_add.next c.loop-place.invariant.count next
           ∙ ap (λ n. c.args.first + c.args.step * n) (sym (ap length c.in_ok-push_cut.ensures ∙ length-append cuts (cut ∷ [])));
       fits = search rules;
       places = rw c.in_ok-push_cut.ensures (omega (arith, length-append cuts (cut ∷ []), c.loop-place.invariant.places));
+      last = c.next_cut.ensures.last;
     }
 
-pub returns-in_err-left-clause-cut : goal.returns-in_err-left-clause-cut
-returns-in_err-left-clause-cut g c = passed_on _ _ c.from_residual.result c.from_residual.ensures.1
-    (λ fault e. subst (IsUncutFor c.args.words.now c.args.command c.args.step) (sym e) (c.in_err-left.ensures c.args.step))
-
 pub returns-in_err-cut-clause-cut : goal.returns-in_err-cut-clause-cut
-returns-in_err-cut-clause-cut g c = passed_on _ _ c.from_residual-in_err-cut.result c.from_residual-in_err-cut.ensures.1
-    (λ fault e. memory_uncut c.args.words.now c.args.command c.args.step fault e)
+returns-in_err-cut-clause-cut g c = passed_on _ _ c.from_residual.result c.from_residual.ensures.1
+    (λ fault e. subst (IsUncutFor c.args.words.now c.args.command c.args.step) (sym e) (c.in_err-cut.ensures.cut c.args.step))
 
 pub returns-in_err-push_cut-clause-cut : goal.returns-in_err-push_cut-clause-cut
 returns-in_err-push_cut-clause-cut g c = passed_on _ _ c.from_residual-in_err-push_cut.result c.from_residual-in_err-push_cut.ensures.1
@@ -49,8 +50,8 @@ returns-in_err-push_cut-clause-cut g c = passed_on _ _ c.from_residual-in_err-pu
 
 pub returns-in_default-checked_add-clause-cut : goal.returns-in_default-checked_add-clause-cut
 returns-in_default-checked_add-clause-cut g c =
-    let left = rw c.in-Some.is at c.in_ok-left.ensures in
-    (c.loop-place.number, c.in-Some.left, c.in-Some.recoveries, left, inl (search rules))
+    let told = rw c.in-Some.is at c.in_ok-cut.ensures.cut in
+    (c.loop-place.number, told.0, c.in-Some.cut.recoveries, told.1, inl (search rules))
 
 pub returns-clause-cut : goal.returns-clause-cut
 returns-clause-cut g c =

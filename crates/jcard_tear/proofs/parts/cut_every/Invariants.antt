@@ -1,4 +1,6 @@
 use Rattle.std.proofs.Common.{◌≡◌, ◌+◌, ◌*◌, ◌<◌, length}
+use Rattle.std.specs.Prelude.{IfSome}
+use Rattle.jcard_tear.specs.Kept.{IsLastCut}
 use Rattle.jcard_tear.specs.Parts.{AreEvery}
 use Rattle.jcard_tear.proofs.parts.cut_every.Given as goal
 
@@ -8,4 +10,5 @@ invariant-loop-place g l = record {
   count : l.number ≡ l.first + l.step * length l.cuts.items;
   fits : l.number < 65536;
   places : length l.cuts.items ≡ l._place;
+  last : IfSome l.last (λ reported. IsLastCut l.command l.shared reported);
 }

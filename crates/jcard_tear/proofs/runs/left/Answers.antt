@@ -10,14 +10,14 @@ pub returns : goal.returns
 returns c =
     let same = c.deref.ensures.value in
     let probed = c.in_ok-probed.ensures.ran in
-    (probed.0, c.in_ok-found.ensures ∙ ap (λ (w : List ℕ). migrated 3 (recovered_of w)) (c.in_ok-copy.ensures.items ∙ same), probed.1)
+    (probed.0, c.in_ok-found.ensures.heap ∙ ap (λ (w : List ℕ). migrated 3 (recovered_of w)) (c.in_ok-copy.ensures.items ∙ same), probed.1, c.in_ok-found.ensures.recovered)
 
 pub returns-in_err-copy : goal.returns-in_err-copy
 returns-in_err-copy c = passed_on _ _ c.from_residual.result c.from_residual.ensures.1 (λ fault e. memory_left c.args.budget c.args.probe.now fault e)
 
 pub returns-in_err-found : goal.returns-in_err-found
 returns-in_err-found c = passed_on _ _ c.from_residual-in_err-found.result c.from_residual-in_err-found.ensures.1
-    (λ fault e. log_left c.args.budget c.args.probe.now fault (subst IsLogFault (sym e) c.in_err-found.ensures))
+    (λ fault e. log_left c.args.budget c.args.probe.now fault (subst IsLogFault (sym e) c.in_err-found.ensures.heap))
 
 pub returns-in_err-probed : goal.returns-in_err-probed
 returns-in_err-probed c = passed_on _ _ c.from_residual-in_err-probed.result c.from_residual-in_err-probed.ensures.1

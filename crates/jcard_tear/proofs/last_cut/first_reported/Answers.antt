@@ -1,0 +1,21 @@
+use Rattle.std.proofs.Common.{ap, subst, sym}
+use Rattle.jc_commit.specs.Image.{plain_of}
+use Rattle.jcard_tear.specs.Faults.{IsProbeFault}
+use Rattle.jcard_tear.specs.Runs.{IsRecovered}
+use Rattle.jcard_tear.proofs.Uncut.{memory_probed, passed_on}
+use Rattle.jcard_tear.proofs.last_cut.first_reported.Goals as goal
+
+pub returns : goal.returns
+returns c =
+    let left = c.in_ok-left.ensures in (
+      (subst IsRecovered (sym left.0) c.requires.recovered, left.1, c.in_ok-cut.ensures.told, c.in_ok-cut.ensures.recoveries),
+      ap plain_of left.0,
+    )
+
+pub returns-in_err-left : goal.returns-in_err-left
+returns-in_err-left c = passed_on _ _ c.from_residual.result c.from_residual.ensures.1
+    (λ fault e. subst (IsProbeFault c.args.command.behind.instructions c.args.command.probe.now) (sym e) c.in_err-left.ensures)
+
+pub returns-in_err-cut : goal.returns-in_err-cut
+returns-in_err-cut c = passed_on _ _ c.from_residual-in_err-cut.result c.from_residual-in_err-cut.ensures.1
+    (λ fault e. memory_probed c.args.command.behind.instructions c.args.command.probe.now fault e)

@@ -1,0 +1,59 @@
+-- The card at a command, which is kept for all its cuts.
+use Rattle.std.specs.Prelude.{ℕ, ◌≡◌, ◌<◌, true, List, None, vec_len}
+use Rattle.jc_words.specs.Stores.{FuseStoreValue}
+use Rattle.jc_commit.specs.Image.{IsGoodLog, plain_of, recovered_of}
+use Rattle.jcard_script.specs.Begun.{HasBegun, IsCommandLine}
+use Rattle.jcard_outcomes.specs.declared.recoveries.Depth.TheVariants.{Zero}
+use Rattle.jcard_outcomes.specs.declared.recoveries.Recoveries.{Recoveries}
+use Rattle.jcard_outcomes.specs.declared.standing.Cut.{Cut}
+use Rattle.jcard_outcomes.specs.declared.standing.Left.{Left}
+use Rattle.jcard_tear.specs.Runs.{IsRecovered, Runs, store_of}
+use Rattle.jcard_tear.specs.Sweeps.{IsToldAs, IsToldCut, IsUncutAt, cut_script}
+use Rattle.jcard_tear.specs.declared.cuts.Command.{Command}
+use Rattle.jcard_tear.specs.declared.cuts.Shared.{Shared}
+use Rattle.jcard_tear.specs.declared.kept.AtCommand.{AtCommand}
+use Rattle.jcard_tear.specs.declared.kept.KeptCut.{KeptCut}
+use Rattle.jcard_tear.specs.declared.kept.KeptCut.TheVariants.{Uncut, Left as Leaves}
+use Rattle.jcard_tear.specs.declared.last_cut.LastCut.{LastCut}
+
+-- a card over these words has carried out the lines before a command, after whose cuts no recovery is cut, and these are the command's bytes
+abbrev pub IsKeptFor : List ℕ → Command → AtCommand → Type 0
+IsKeptFor words c kept = HasBegun c.behind.instructions (store_of words) c.before.now kept.begun × IsCommandLine kept.command.items c.line.now
+    × (c.behind.depth ≡ Zero)
+
+-- with the power cut after k writes of the command the card is down, and any words may be left of which a recovery makes this heap
+abbrev pub MayLeave : List ℕ → Command → ℕ → List ℕ → Type 0
+MayLeave words c k heap = (left : List ℕ) → IsGoodLog left → recovered_of left ≡ heap → (text : List ℕ) × (after : FuseStoreValue)
+    × Runs c.behind.instructions words (cut_script c k) text after × (after.down ≡ true) × (after.words ≡ left)
+
+-- so a copy of the card was cut after k writes of the command: these words are what a recovery left then, and no recovery is to be cut
+abbrev pub IsKeptCut : List ℕ → Command → ℕ → KeptCut → Type 0
+IsKeptCut words c k Uncut = IsUncutAt words c k
+IsKeptCut words c k (Leaves found) = IsRecovered found.items × MayLeave words c k (plain_of found.items) × (c.behind.depth ≡ Zero)
+
+-- a card powers up over these words, and gives the lines of the probe these answers
+abbrev pub HasAnswered : ℕ → List ℕ → Left → Type 0
+HasAnswered budget probe left = (last : FuseStoreValue) × Runs budget left.words.items probe left.answers.items last
+
+-- no recovery was cut
+abbrev pub none_cut : Recoveries
+none_cut = record { ways = 1; difference = None }
+
+-- what is left after a recovery was asked for, and a cut that left it is reported so
+abbrev pub IsLastCut : Command → Shared → LastCut → Type 0
+IsLastCut c s reported = IsRecovered reported.left.words.items × HasAnswered c.behind.instructions c.probe.now reported.left
+    × IsToldAs s.spared.now s.lenient.now s.objects.now s.before.now s.after.now reported.left reported.cut × (reported.cut.recoveries ≡ none_cut)
+
+-- what a cut left is reported so
+abbrev pub IsReportedAt : List ℕ → Command → Shared → ℕ → Cut → Type 0
+IsReportedAt words c s k cut = IsToldCut words c s.spared.now s.lenient.now s.objects.now s.before.now s.after.now k cut
+
+-- the same heap as was left is reported so
+abbrev pub IsReportedAlike : Command → Shared → List ℕ → Cut → Type 0
+IsReportedAlike c s heap cut = (reported : LastCut) × IsLastCut c s reported × (plain_of reported.left.words.items ≡ heap)
+    × IsToldAs s.spared.now s.lenient.now s.objects.now s.before.now s.after.now reported.left cut × (cut.recoveries ≡ none_cut)
+
+-- fewer words than addresses are left
+abbrev pub IsShort : KeptCut → Type 0
+IsShort Uncut = Unit {0}
+IsShort (Leaves found) = vec_len found < 65536
