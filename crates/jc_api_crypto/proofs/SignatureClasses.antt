@@ -18,8 +18,7 @@ use Rattle.jc_api_crypto.specs.Initialized.{initializes, key_init, taken_key, ta
 use Rattle.jc_api_keys.specs.KeyObjects.Contents.{key_elements}
 use Rattle.jc_api_keys.specs.Receivers.{named_or_throw}
 use Rattle.jc_api_keys.specs.Shorts.{first_shorts}
-use Rattle.jc_api_crypto.specs.MessageDigest.{digest_shorts}
-use Rattle.jc_api_crypto.specs.PairAlgorithms.{hash_of}
+use Rattle.jc_api_crypto.specs.PairAlgorithms.{pair_shorts}
 use Rattle.jc_api_crypto.specs.Signature.{init_of, init_with_vector_of, new_signature, own_signature, signature_get_instance}
 use Rattle.jc_api_crypto.specs.Signature.{signature_get_instance_of_digest_cipher_and_padding, signature_init, signature_init_with_vector, signature_of_one}
 use Rattle.jc_api_crypto.specs.SignatureCodes.{code_init, code_init_with_vector, key_of_length, signature_requirements}
@@ -101,7 +100,7 @@ fits_pair a own args p m set is =
     let mode = both_ok (taken_mode args) _ set is in
     let key = both_ok (taken_pair_key a mode.0 args p m) _ set mode.2 in
     let parts = both_ok (pair_parts m key.0) _ set key.2 in
-    let shorts : ℕ = digest_shorts (hash_of a) in
+    let shorts : ℕ = pair_shorts a in
     subst FitsFields (same_Ok (initializes class.Signature shorts own mode.0 []) set parts.2) (fits shorts own mode.0 [])
 
 -- no vector is taken

@@ -9,12 +9,14 @@ pub mod Outputs
 pub mod CipherAlgorithms
 pub mod BlockCiphers
 pub mod CipherKinds
+pub mod Gathered
 pub mod SignatureAlgorithms
 pub mod SignaturePurposes
 pub mod SignatureCodes
 pub mod PairAlgorithms
 pub mod PairParts
 pub mod CurveParts
+pub mod KeptBytes
 pub mod PairSigning
 pub mod PairKeys
 pub mod RsaOaep

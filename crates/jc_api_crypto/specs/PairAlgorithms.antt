@@ -1,17 +1,29 @@
 -- Signatures under a key of a pair, and their numbers (API specification, javacard.security.Signature).
 use Rattle.std.specs.Ordering.{int_eq}
-use Rattle.std.specs.Prelude.{ℤ, pos, Option, Some, None, if◌then◌else◌}
+use Rattle.std.specs.Prelude.{ℕ, ℤ, pos, ◌+◌, Option, Some, None, if◌then◌else◌}
 use Rattle.jc_digests.specs.declared.kept.HashAlgorithm.{HashAlgorithm}
 use Rattle.jc_digests.specs.declared.kept.HashAlgorithm.TheVariants.{Md5, Sha1, Sha224, Sha256, Sha384, Sha512}
 use Rattle.jc_public_keys.specs.declared.rsa_signatures.SignaturePadding.{SignaturePadding}
 use Rattle.jc_public_keys.specs.declared.rsa_signatures.SignaturePadding.TheVariants.{Pkcs1, Pss}
+use Rattle.jc_api_crypto.specs.CipherKinds.{rsa_shorts}
+use Rattle.jc_api_crypto.specs.MessageDigest.{digest_shorts}
 use Rattle.jc_api_crypto.specs.declared.signature.pair_algorithms.PairSignature.{PairSignature}
-use Rattle.jc_api_crypto.specs.declared.signature.pair_algorithms.PairSignature.TheVariants.{Ecdsa, Rsa}
+use Rattle.jc_api_crypto.specs.declared.signature.pair_algorithms.PairSignature.TheVariants.{Ecdsa, Iso9796, Rsa}
 
 -- its hash function
 abbrev pub hash_of : PairSignature → HashAlgorithm
 hash_of (Rsa p h) = h
 hash_of (Ecdsa h) = h
+hash_of Iso9796 = Sha1
+
+-- how many shorts hold the first bytes of a message, and how many a state has: those of the digest, and then these
+abbrev pub kept_shorts : PairSignature → ℕ
+kept_shorts (Rsa p h) = 0
+kept_shorts (Ecdsa h) = 0
+kept_shorts Iso9796 = rsa_shorts
+
+abbrev pub pair_shorts : PairSignature → ℕ
+pair_shorts a = digest_shorts (hash_of a) + kept_shorts a
 
 -- ---- one number
 
@@ -44,8 +56,9 @@ else_named (Some a) other = Some a
 unfoldable pub pss_or_ecdsa_named : ℤ → Option PairSignature
 pss_or_ecdsa_named v = else_named (pss_named v) (ecdsa_named v)
 
+-- ALG_RSA_SHA_ISO9796, or one of the others
 unfoldable pub pair_named : ℤ → Option PairSignature
-pair_named v = else_named (pkcs1_named v) (pss_or_ecdsa_named v)
+pair_named v = if int_eq v (pos 9) then Some Iso9796 else else_named (pkcs1_named v) (pss_or_ecdsa_named v)
 
 -- ---- three numbers, of a hash function, a cipher and a padding
 
@@ -53,8 +66,9 @@ pair_named v = else_named (pkcs1_named v) (pss_or_ecdsa_named v)
 abbrev pub pair_cipher_number : PairSignature → ℤ
 pair_cipher_number (Rsa p h) = pos 3
 pair_cipher_number (Ecdsa h) = pos 5
+pair_cipher_number Iso9796 = pos 3
 
--- PAD_PKCS1, PAD_PKCS1_PSS, and PAD_NULL
+-- PAD_PKCS1, PAD_PKCS1_PSS, PAD_NULL, and PAD_ISO9796
 abbrev pub encoding_number : SignaturePadding → ℤ
 encoding_number Pkcs1 = pos 7
 encoding_number Pss = pos 8
@@ -62,6 +76,7 @@ encoding_number Pss = pos 8
 abbrev pub pair_padding_number : PairSignature → ℤ
 pair_padding_number (Rsa p h) = encoding_number p
 pair_padding_number (Ecdsa h) = pos 0
+pair_padding_number Iso9796 = pos 10
 
 -- the one number of such a signature with a hash function
 abbrev pub pkcs1_of_number : ℤ → Option ℤ
@@ -79,10 +94,14 @@ ecdsa_of_number digest =
     if int_eq digest (pos 1) then Some (pos 17) else if int_eq digest (pos 4) then Some (pos 33) else if int_eq digest (pos 5) then Some (pos 34)
     else if int_eq digest (pos 6) then Some (pos 38) else if int_eq digest (pos 7) then Some (pos 37) else None
 
+abbrev pub iso_of_number : ℤ → Option ℤ
+iso_of_number digest = if int_eq digest (pos 1) then Some (pos 9) else None
+
 -- that of RSA, with a padding, and of ECDSA, which has none
 unfoldable pub rsa_of_numbers : ℤ → ℤ → Option ℤ
 rsa_of_numbers digest padding =
-    if int_eq padding (pos 7) then pkcs1_of_number digest else if int_eq padding (pos 8) then pss_of_number digest else None
+    if int_eq padding (pos 7) then pkcs1_of_number digest else if int_eq padding (pos 8) then pss_of_number digest
+    else if int_eq padding (pos 10) then iso_of_number digest else None
 
 unfoldable pub ecdsa_of_numbers : ℤ → ℤ → Option ℤ
 ecdsa_of_numbers digest padding = if int_eq padding (pos 0) then ecdsa_of_number digest else None

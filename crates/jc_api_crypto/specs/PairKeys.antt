@@ -15,7 +15,7 @@ use Rattle.jc_api_crypto.specs.declared.signature.pair.keys.SizedKey.{SizedKey}
 use Rattle.jc_api_crypto.specs.declared.signature.pair.parts.Parts.{Parts}
 use Rattle.jc_api_crypto.specs.declared.signature.pair.parts.Parts.TheVariants as parts
 use Rattle.jc_api_crypto.specs.declared.signature.pair_algorithms.PairSignature.{PairSignature}
-use Rattle.jc_api_crypto.specs.declared.signature.pair_algorithms.PairSignature.TheVariants.{Ecdsa, Rsa}
+use Rattle.jc_api_crypto.specs.declared.signature.pair_algorithms.PairSignature.TheVariants.{Ecdsa, Iso9796, Rsa}
 use Rattle.jc_api_keys.specs.Exceptions.{illegal_value}
 use Rattle.jc_api_keys.specs.KeyObjects.Arguments.{key_argument, key_at}
 use Rattle.jc_api_keys.specs.KeyObjects.Parts.{key_part}
@@ -59,11 +59,13 @@ ecdsa_takes mode EcPrivate = int_eq mode (pos 1)
 abbrev pub takes_kind : PairSignature → ℤ → PairKey → Bool
 takes_kind (Rsa padding h) mode kind = rsa_takes mode kind
 takes_kind (Ecdsa h) mode kind = ecdsa_takes mode kind
+takes_kind Iso9796 mode kind = rsa_takes mode kind
 
 -- an RSA key is long enough for an encoding
 abbrev pub takes_size : PairSignature → ℕ → Bool
 takes_size (Rsa padding h) n = nat_le (least_modulus padding h) n
 takes_size (Ecdsa h) n = true
+takes_size Iso9796 n = nat_le 22 n
 
 abbrev pub takes_key : PairSignature → ℤ → SizedKey → Bool
 takes_key a mode key = takes_size a key.size && takes_kind a mode key.kind

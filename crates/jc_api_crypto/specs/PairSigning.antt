@@ -1,4 +1,4 @@
--- Signatures of a message's digest under a key of a pair, by what its parts are.
+-- Signatures of a message, by its digest and first bytes, under a key of a pair, by what its parts are.
 use Rattle.std.specs.Int.{to_be_bytes, w16}
 use Rattle.std.specs.Prelude.{ℕ, ◌≡◌, ◌≤◌, ◌==◌, ◌&&◌, Bool, false, List, ◌++◌, length, Option, Some, None}
 use Rattle.jc_digests.specs.declared.kept.HashAlgorithm.{HashAlgorithm}
@@ -6,10 +6,12 @@ use Rattle.jc_memory.specs.State.{MemoryState}
 use Rattle.jc_linker.specs.Values.{Packages}
 use Rattle.jc_world.specs.Arrays.{bytes_in}
 use Rattle.jc_world.specs.declared.arrays.Stretch.{Stretch}
+use Rattle.jc_api.specs.Changing.{IsState}
+use Rattle.jc_public_keys.specs.RsaRecovery.{is_recovery_encoding, recovery_encoding}
 use Rattle.jc_public_keys.specs.RsaSignatures.{is_signature_encoding, least_modulus, signature_encoding}
 use Rattle.jc_public_keys.specs.declared.rsa_signatures.SignaturePadding.{SignaturePadding}
 use Rattle.jc_api_crypto.specs.MessageDigest.{IsRunning}
-use Rattle.jc_api_crypto.specs.PairAlgorithms.{hash_of}
+use Rattle.jc_api_crypto.specs.PairAlgorithms.{hash_of, kept_shorts}
 use Rattle.jc_api_crypto.specs.CurveParts.{ecdsa_of, is_ecdsa_of}
 use Rattle.jc_api_crypto.specs.PairParts.{AreEcParts, ArePrimes, AreRsaParts, crt_power, power}
 use Rattle.jc_api_crypto.specs.declared.signature.pair.RunningPair.{RunningPair}
@@ -35,11 +37,14 @@ HasSize size (Ec k) = Unit {0}
 abbrev pub IsLongEnough : PairSignature → ℕ → Type 0
 IsLongEnough (signature.Rsa padding h) size = least_modulus padding h ≤ size
 IsLongEnough (signature.Ecdsa h) size = Unit {0}
+IsLongEnough signature.Iso9796 size = 22 ≤ size
 
--- a message under a signature: the cells of its state and the parts of its key are there
+-- a message under a signature: the cells of its state, and of what is kept of it, and the parts of its key are there
 pub record IsRunningPair (m : MemoryState) (own : RunningPair) : Type 0 where
   pub digest : IsRunning m own.digest
   pub hash : own.digest.algorithm ≡ hash_of own.algorithm
+  pub kept : IsState m own.kept
+  pub all_kept : own.kept.count ≡ kept_shorts own.algorithm
   pub parts : AreParts m own.parts
   pub size : HasSize own.size own.parts
   pub long : IsLongEnough own.algorithm own.size
@@ -70,6 +75,19 @@ is_rsa_signature m padding h digest given (Rsa k) = is_under m padding h digest 
 is_rsa_signature m padding h digest given (Primes k) = false
 is_rsa_signature m padding h digest given (Ec k) = false
 
+-- and by ISO/IEC 9796-2: their power is the encoding of the first bytes of a message and its digest
+abbrev pub recovers : List ℕ → List ℕ → Option (List ℕ) → Bool
+recovers first digest None = false
+recovers first digest (Some em) = is_recovery_encoding first digest em
+
+abbrev pub is_iso_under : MemoryState → List ℕ → List ℕ → Stretch → RsaParts → Bool
+is_iso_under m first digest given k = given.count == k.modulus.count && recovers first digest (power m k (bytes_in m given))
+
+abbrev pub is_iso_signature : MemoryState → List ℕ → List ℕ → Stretch → Parts → Bool
+is_iso_signature m first digest given (Rsa k) = is_iso_under m first digest given k
+is_iso_signature m first digest given (Primes k) = false
+is_iso_signature m first digest given (Ec k) = false
+
 -- ---- ECDSA
 
 -- the signature of a digest under a private key; the number that it is made with comes from a seed and the digest
@@ -86,18 +104,20 @@ is_ecdsa_by_parts m digest given (Ec k) = is_ecdsa_of m k digest given
 
 -- ---- all
 
--- the signature of a digest; none where the key makes none
-abbrev pub signature_by : PairSignature → Packages → MemoryState → RunningPair → List ℕ → Option (List ℕ)
-signature_by (signature.Rsa padding h) p m own digest = key_power m own.parts (signature_encoding padding h digest (seed_of p own.key) own.size)
-signature_by (signature.Ecdsa h) p m own digest = ecdsa_by_parts m digest (seed_of p own.key) own.parts
+-- the signature of the first bytes of a message and its digest; none where the key makes none
+abbrev pub signature_by : PairSignature → Packages → MemoryState → RunningPair → List ℕ → List ℕ → Option (List ℕ)
+signature_by (signature.Rsa padding h) p m own first digest = key_power m own.parts (signature_encoding padding h digest (seed_of p own.key) own.size)
+signature_by (signature.Ecdsa h) p m own first digest = ecdsa_by_parts m digest (seed_of p own.key) own.parts
+signature_by signature.Iso9796 p m own first digest = key_power m own.parts (recovery_encoding first digest own.size)
 
-abbrev pub signature_of : Packages → MemoryState → RunningPair → List ℕ → Option (List ℕ)
-signature_of p m own digest = signature_by own.algorithm p m own digest
+abbrev pub signature_of : Packages → MemoryState → RunningPair → List ℕ → List ℕ → Option (List ℕ)
+signature_of p m own first digest = signature_by own.algorithm p m own first digest
 
--- elements are a signature of a digest
-abbrev pub is_signature_by : PairSignature → MemoryState → RunningPair → List ℕ → Stretch → Bool
-is_signature_by (signature.Rsa padding h) m own digest given = is_rsa_signature m padding h digest given own.parts
-is_signature_by (signature.Ecdsa h) m own digest given = is_ecdsa_by_parts m digest given own.parts
+-- elements are a signature of them
+abbrev pub is_signature_by : PairSignature → MemoryState → RunningPair → List ℕ → List ℕ → Stretch → Bool
+is_signature_by (signature.Rsa padding h) m own first digest given = is_rsa_signature m padding h digest given own.parts
+is_signature_by (signature.Ecdsa h) m own first digest given = is_ecdsa_by_parts m digest given own.parts
+is_signature_by signature.Iso9796 m own first digest given = is_iso_signature m first digest given own.parts
 
-abbrev pub is_signature_of : MemoryState → RunningPair → List ℕ → Stretch → Bool
-is_signature_of m own digest given = is_signature_by own.algorithm m own digest given
+abbrev pub is_signature_of : MemoryState → RunningPair → List ℕ → List ℕ → Stretch → Bool
+is_signature_of m own first digest given = is_signature_by own.algorithm m own first digest given

@@ -1,8 +1,7 @@
 -- RSA as a cipher (API specification, javacardx.crypto.Cipher): a message is gathered, and converted as a whole.
 use Rattle.std.specs.Ordering.{int_eq}
 use Rattle.std.specs.Option.{option_and_then}
-use Rattle.std.specs.Int.{to_be_bytes, w16}
-use Rattle.std.specs.Prelude.{ℕ, ℤ, pos, ◌≡◌, ◌≤◌, ◌-◌, ◌+◌, ◌*◌, ◌==◌, nat_le, List, [], ◌++◌, drop, length, min, replicate, slice_index, take, Option, Some, None, Result, Ok, Err, if◌then◌else◌}
+use Rattle.std.specs.Prelude.{ℕ, ℤ, pos, ◌≡◌, ◌≤◌, ◌+◌, ◌==◌, nat_le, List, [], ◌++◌, length, replicate, Option, Some, None, Result, Ok, Err, if◌then◌else◌}
 use Rattle.jc_frames.specs.declared.cell.Cell.{Cell}
 use Rattle.jc_frames.specs.declared.outcome.FrameExit.{FrameExit}
 use Rattle.jc_frames.specs.declared.outcome.FrameExit.TheVariants.{End, Throw}
@@ -17,6 +16,7 @@ use Rattle.jc_api.specs.Arguments.{counted_of}
 use Rattle.jc_api.specs.Changing.{EngineAnswer, IsState, state_at}
 use Rattle.jc_api.specs.Initializing.{FieldsAnswer}
 use Rattle.jc_api_crypto.specs.CipherKinds.{rsa_shorts}
+use Rattle.jc_api_crypto.specs.Gathered.{gathered, state_of}
 use Rattle.jc_api_crypto.specs.Initialized.{initializes, taken_mode}
 use Rattle.jc_api_crypto.specs.Outputs.{puts_output}
 use Rattle.jc_api_crypto.specs.PairKeys.{pair_parts, sized_key}
@@ -34,7 +34,6 @@ use Rattle.jc_api_crypto.specs.declared.signature.pair.keys.SizedKey.{SizedKey}
 use Rattle.jc_api_crypto.specs.declared.signature.purpose.Purpose.TheVariants.{Either}
 use Rattle.jc_api_keys.specs.Exceptions.{illegal_use, illegal_value}
 use Rattle.jc_api_keys.specs.KeyObjects.Arguments.{key_argument, key_at}
-use Rattle.jc_api_keys.specs.Receivers.{bytes_of_state}
 use Rattle.jc_api_keys.specs.Shorts.{shorts_of}
 use Rattle.jc_api_keys.specs.declared.key_objects.contents.Key.{Key}
 use Rattle.jc_api_keys.specs.declared.key_types.PairKey.{PairKey}
@@ -117,23 +116,10 @@ running_rsa padding own p m = and_then (state_at p m own.array 0 rsa_shorts) (λ
       parts = parts;
     })))))
 
--- what came: the bytes of a state say how many bytes that is, at most 512, and then what they are
-abbrev pub count_in : List ℕ → ℕ
-count_in bytes = min (slice_index bytes 0 * 256 + slice_index bytes 1) 512
-
-abbrev pub gathered_in : List ℕ → List ℕ
-gathered_in bytes = take (count_in bytes) (drop 2 bytes)
-
-abbrev pub gathered : MemoryState → RunningRsa → List ℕ
-gathered m own = gathered_in (bytes_of_state m own.state)
-
--- the bytes of a state that says this
-abbrev pub state_of : List ℕ → List ℕ
-state_of all = to_be_bytes w16 (length all) ++ (all ++ replicate (512 - length all) 0)
-
 -- what came, and these elements, if together they are no more than the modulus has
 abbrev pub message_with : MemoryState → RunningRsa → Stretch → Option (List ℕ)
-message_with m own e = if nat_le (length (gathered m own) + e.count) own.size then Some (gathered m own ++ bytes_in m e) else None
+message_with m own e =
+    if nat_le (length (gathered m own.state) + e.count) own.size then Some (gathered m own.state ++ bytes_in m e) else None
 
 -- ---- update
 

@@ -2,8 +2,7 @@
 use Rattle.std.specs.Ordering.{int_eq}
 use Rattle.std.specs.Option.{option_map}
 use Rattle.std.specs.Prelude.{ℕ, ℤ, pos, Option, Some, None, if◌then◌else◌}
-use Rattle.jc_api_crypto.specs.MessageDigest.{digest_shorts}
-use Rattle.jc_api_crypto.specs.PairAlgorithms.{ecdsa_of_numbers, hash_of, pair_cipher_number, pair_named, pair_padding_number, rsa_of_numbers}
+use Rattle.jc_api_crypto.specs.PairAlgorithms.{ecdsa_of_numbers, hash_of, pair_cipher_number, pair_named, pair_padding_number, pair_shorts, rsa_of_numbers}
 use Rattle.jc_api_crypto.specs.SignatureAlgorithms.{digest_number, hash_number, signature_cipher_number, signature_named, signature_of_numbers}
 use Rattle.jc_api_crypto.specs.SignatureAlgorithms.{signature_padding_number}
 use Rattle.jc_api_crypto.specs.SignatureCodes.{signature_shorts}
@@ -38,7 +37,7 @@ abbrev pub kind_padding_number : SignatureKind → ℤ
 kind_padding_number (Code a) = signature_padding_number a
 kind_padding_number (Pair a) = pair_padding_number a
 
--- how many shorts a state has: under a key of a pair it is that of the digest
+-- how many shorts a state has
 abbrev pub kind_shorts : SignatureKind → ℕ
 kind_shorts (Code a) = signature_shorts a
-kind_shorts (Pair a) = digest_shorts (hash_of a)
+kind_shorts (Pair a) = pair_shorts a

@@ -46,8 +46,8 @@ pub(crate) const VECTOR_CELLS: usize = 8;
 /// How many bytes the longest vector has.
 pub(crate) const MOST_VECTOR: usize = 16;
 
-/// How many shorts the longest state has, that of RSA as a cipher.
-pub(crate) const MOST_SHORTS: usize = 257;
+/// How many shorts the longest state has, that of a signature by ISO/IEC 9796-2.
+pub(crate) const MOST_SHORTS: usize = 303;
 
 /// What the cells of an object with an algorithm and a key say.
 #[derive(Clone, Copy)]

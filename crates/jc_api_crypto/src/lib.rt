@@ -6,6 +6,7 @@ pub mod checksum;
 pub mod cipher;
 pub mod ciphers;
 pub mod engines;
+mod gathered;
 pub mod initialized;
 pub mod initialized_message_digest;
 pub mod law;

@@ -2,6 +2,7 @@ pub mod Random
 pub mod Rsa
 pub mod RsaCiphers
 pub mod RsaSignatures
+pub mod RsaRecovery
 pub mod CurveSums
 pub mod CurveBytes
 pub mod SharedSecrets

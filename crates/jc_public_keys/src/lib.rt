@@ -10,5 +10,6 @@ mod random_numbers;
 pub mod rsa;
 pub mod rsa_ciphers;
 pub mod rsa_keys;
+pub mod rsa_recovery;
 pub mod rsa_signatures;
 pub mod shared_secrets;

@@ -54,29 +54,62 @@ pub(crate) fn set_bytes<S: WordStore>(
     change_state(own.state.array, 0, words, None, memory, linked)
 }
 
-// A piece follows, of at most this many bytes.
+// The bytes of the state once elements follow, at most this many.
 #[inline(never)]
-fn update_most<const MOST: usize, S: WordStore>(
+fn next_most<const MOST: usize, S: WordStore>(
     own: &RunningDigest,
     piece: Stretch,
-    memory: &mut Memory<S>,
-    linked: &Linked,
-) -> Result<NativeResult, StepExit>
-    requires up { memory.old.heap.down ≡ false }
-    requires own { IsRunning memory.old own.now }
-    requires piece { IsInArray memory.old piece }
+    memory: &Memory<S>,
+    bytes: &mut [u8],
+)
+    requires up { memory.now.heap.down ≡ false }
+    requires own { IsRunning memory.now own.now }
+    requires piece { IsInArray memory.now piece }
     requires few { piece.count ≤ MOST }
     requires most { MOST ≤ MOST_ELEMENTS }
-    ensures { Executes (changing_call (Ok (sets_state own.now (shorts_of (bytes_after memory.old own.now piece))))
-        linked.now memory.old) memory.old (after_call result memory.new) }
+    requires all { length bytes.old ≡ 2 * digest_shorts own.now.algorithm }
+    ensures { bytes.new ≡ bytes_after memory.now own.now piece }
 {
     let mut buffer = [0; MOST];
     let given = &mut buffer[..piece.count as usize];
     read(piece, memory, given);
-    let mut state = [0; MOST_STATE];
-    let bytes = &mut state[..2 * own.state.count as usize];
     next_bytes(own, given, memory, bytes);
-    set_bytes(own, bytes, memory, linked)
+}
+
+// The bytes of the state once elements follow.
+fn put_next<S: WordStore>(own: &RunningDigest, piece: Stretch, memory: &Memory<S>, bytes: &mut [u8])
+    requires up { memory.now.heap.down ≡ false }
+    requires own { IsRunning memory.now own.now }
+    requires piece { IsInArray memory.now piece }
+    requires few { piece.count ≤ MOST_ELEMENTS }
+    requires all { length bytes.old ≡ 2 * digest_shorts own.now.algorithm }
+    ensures { bytes.new ≡ bytes_after memory.now own.now piece }
+{
+    if piece.count as usize <= MOST_COMMAND {
+        next_most::<MOST_COMMAND, S>(own, piece, memory, bytes);
+    } else {
+        next_most::<MOST_ELEMENTS, S>(own, piece, memory, bytes);
+    }
+}
+
+/// Writes the shorts of the state once elements follow.
+pub(crate) fn put_next_words<S: WordStore>(
+    own: &RunningDigest,
+    piece: Stretch,
+    memory: &Memory<S>,
+    to: &mut [u16],
+)
+    requires up { memory.now.heap.down ≡ false }
+    requires own { IsRunning memory.now own.now }
+    requires piece { IsInArray memory.now piece }
+    requires few { piece.count ≤ MOST_ELEMENTS }
+    requires all { length to.old ≡ digest_shorts own.now.algorithm }
+    ensures { to.new ≡ shorts_of (bytes_after memory.now own.now piece) }
+{
+    let mut state = [0; MOST_STATE];
+    let bytes = &mut state[..2 * to.len()];
+    put_next(own, piece, memory, bytes);
+    put_shorts_of(bytes, to);
 }
 
 /// The elements follow the message.
@@ -93,35 +126,10 @@ pub(crate) fn update<S: WordStore>(
     ensures { Executes (changing_call (Ok (sets_state own.now (shorts_of (bytes_after memory.old own.now piece))))
         linked.now memory.old) memory.old (after_call result memory.new) }
 {
-    if piece.count as usize <= MOST_COMMAND {
-        return update_most::<MOST_COMMAND, S>(own, piece, memory, linked);
-    }
-    update_most::<MOST_ELEMENTS, S>(own, piece, memory, linked)
-}
-
-// The digest of the message with a piece, of at most this many bytes.
-#[inline(never)]
-fn digest_most<const MOST: usize, S: WordStore>(
-    own: &RunningDigest,
-    piece: Stretch,
-    memory: &Memory<S>,
-    to: &mut [u8],
-)
-    requires up { memory.now.heap.down ≡ false }
-    requires own { IsRunning memory.now own.now }
-    requires piece { IsInArray memory.now piece }
-    requires few { piece.count ≤ MOST }
-    requires most { MOST ≤ MOST_ELEMENTS }
-    requires all { length to.old ≡ digest_size own.now.algorithm }
-    ensures { to.new ≡ digest_of_state own.now.algorithm (bytes_after memory.now own.now piece) }
-{
-    let mut buffer = [0; MOST];
-    let given = &mut buffer[..piece.count as usize];
-    read(piece, memory, given);
     let mut state = [0; MOST_STATE];
     let bytes = &mut state[..2 * own.state.count as usize];
-    next_bytes(own, given, memory, bytes);
-    put_digest_of(own.algorithm, bytes, to);
+    put_next(own, piece, memory, bytes);
+    set_bytes(own, bytes, memory, linked)
 }
 
 /// The digest of the message with these elements.
@@ -138,11 +146,10 @@ pub(crate) fn digest<S: WordStore>(
     requires all { length to.old ≡ digest_size own.now.algorithm }
     ensures { to.new ≡ digest_of_state own.now.algorithm (bytes_after memory.now own.now piece) }
 {
-    if piece.count as usize <= MOST_COMMAND {
-        digest_most::<MOST_COMMAND, S>(own, piece, memory, to);
-    } else {
-        digest_most::<MOST_ELEMENTS, S>(own, piece, memory, to);
-    }
+    let mut state = [0; MOST_STATE];
+    let bytes = &mut state[..2 * own.state.count as usize];
+    put_next(own, piece, memory, bytes);
+    put_digest_of(own.algorithm, bytes, to);
 }
 
 // What `doFinal` returns.

@@ -2,8 +2,7 @@
 ghost use Rattle.std.specs.Prelude.{◌≡◌, ◌≤◌};
 ghost use Rattle.jc_api_crypto.specs.SignatureKinds.{kind_cipher_number, kind_digest_number, kind_named, kind_of_numbers, kind_padding_number, kind_shorts};
 
-use crate::message_digest::digest_shorts;
-use crate::message_digest::state::MOST_SHORTS;
+use crate::initialized::MOST_SHORTS;
 use crate::signature::algorithms::{
     SignatureAlgorithm, hash_number, signature_named, signature_of_numbers,
 };
@@ -85,7 +84,7 @@ impl SignatureKind {
     {
         match self {
             SignatureKind::Code(algorithm) => signature_shorts(algorithm),
-            SignatureKind::Pair(algorithm) => digest_shorts(algorithm.hash()),
+            SignatureKind::Pair(algorithm) => algorithm.shorts(),
         }
     }
 }

@@ -1,6 +1,7 @@
 //! Signatures under a key of a pair: the calls of their objects.
 
 pub(crate) mod ecdsa;
+mod kept;
 pub(crate) mod keys;
 pub mod parts;
 pub(crate) mod signing;
@@ -15,14 +16,15 @@ ghost use Rattle.jc_api.specs.Changing.{changing_call};
 ghost use Rattle.jc_api.specs.Exits.{plainly};
 ghost use Rattle.jc_api.specs.Forms.{reading_call};
 ghost use Rattle.jc_api.specs.Initializing.{initializing_call};
-ghost use Rattle.jc_api_crypto.specs.MessageDigest.{nothing_came};
+ghost use Rattle.jc_api_crypto.specs.KeptBytes.{first_bytes};
 ghost use Rattle.jc_api_crypto.specs.PairSigning.{IsRunningPair, is_signature_of, signature_of};
-ghost use Rattle.jc_api_crypto.specs.SignaturePairs.{digest_with, longest_signature, pair_get_length, pair_init, pair_init_with_vector, pair_sign, pair_update, pair_verify, puts_signature, running_pair, signs, tells_if_signed, verifies};
+ghost use Rattle.jc_api_crypto.specs.SignaturePairs.{digest_with, goes_on, longest_signature, pair_get_length, pair_init, pair_init_with_vector, pair_sign, pair_update, pair_verify, puts_signature, running_pair, signs, tells_if_signed, verifies};
 
-use crate::initialized::{KeyedEngine, set_up, taken_mode};
-use crate::message_digest::state::{MOST_SHORTS, digest, update};
+use crate::initialized::{KeyedEngine, MOST_SHORTS, set_up, taken_mode};
+use crate::message_digest::state::{digest, put_next_words};
 use crate::message_digest::{RunningDigest, digest_shorts};
 use crate::outputs::put_output;
+use crate::signature::pair::kept::{put_first_bytes, put_kept_words};
 use crate::signature::pair::keys::{kept_pair_key, pair_parts, taken_pair_key};
 use crate::signature::pair::parts::Parts;
 use crate::signature::pair::signing::{MOST_SIGNATURE, is_signature, put_signature};
@@ -35,6 +37,7 @@ use jc_frames::{Cell, FrameExit};
 use jc_linker::linked::Linked;
 use jc_memory::Memory;
 use jc_platform::names::PlatformClass;
+use jc_rsa::bytes::MOST_ENCODING;
 use jc_transient::Ref;
 use jc_words::WordStore;
 use jc_world::{NativeResult, StepExit, Stretch, short};
@@ -45,6 +48,8 @@ pub struct RunningPair {
     pub algorithm: PairSignature,
     /// The message.
     pub digest: RunningDigest,
+    /// The cells in which its first bytes are kept, where its signature is made of them.
+    pub kept: Stretch,
     /// The key object.
     pub key: Ref,
     /// How many bytes the size of the key has.
@@ -68,10 +73,9 @@ pub(crate) fn init_pair<S: WordStore>(
     let mode = taken_mode(args)?;
     let key = taken_pair_key(algorithm, mode, args, memory, linked)?;
     let _parts = pair_parts(&key, memory)?;
-    let shorts = digest_shorts(algorithm.hash());
     set_up(
         PlatformClass::Signature,
-        shorts,
+        algorithm.shorts(),
         own,
         mode,
         &[],
@@ -114,7 +118,9 @@ fn running_pair<S: WordStore>(
     ensures plain { plainly result ≡ result }
 {
     let hash = algorithm.hash();
-    let state = state_at(own.array, 0, digest_shorts(hash), memory, linked)?;
+    let shorts = digest_shorts(hash);
+    let state = state_at(own.array, 0, shorts, memory, linked)?;
+    let kept = state_at(own.array, shorts, algorithm.kept_shorts(), memory, linked)?;
     initialized_for(purpose, own.mode)?;
     let key = kept_pair_key(algorithm, own, memory, linked)?;
     let parts = pair_parts(&key, memory)?;
@@ -124,6 +130,7 @@ fn running_pair<S: WordStore>(
             algorithm: hash,
             state,
         },
+        kept,
         key: key.key.own,
         size: key.size,
         parts,
@@ -137,7 +144,7 @@ fn longest_signature(algorithm: PairSignature, size: u16) -> u16
     ensures few { result < 2048 }
 {
     match algorithm {
-        PairSignature::Rsa(_, _) => size,
+        PairSignature::Rsa(_, _) | PairSignature::Iso9796 => size,
         PairSignature::Ecdsa(_) => {
             let contents = 2 * (size + 3);
             if contents < 128 {
@@ -165,6 +172,28 @@ pub(crate) fn get_length_of_pair<S: WordStore>(
     Ok(short(longest_signature(algorithm, run.size) as i16))
 }
 
+// Some elements follow the message.
+fn go_on<S: WordStore>(
+    own: &RunningPair,
+    piece: Stretch,
+    memory: &mut Memory<S>,
+    linked: &Linked,
+) -> Result<NativeResult, StepExit>
+    requires up { memory.old.heap.down ≡ false }
+    requires own { IsRunningPair memory.old own.now }
+    requires piece { IsInArray memory.old piece }
+    requires few { piece.count ≤ MOST_ELEMENTS }
+    ensures { Executes (changing_call (Ok (goes_on memory.old own.now piece)) linked.now memory.old)
+        memory.old (after_call result memory.new) }
+{
+    let mut buffer = [0; MOST_SHORTS];
+    let words = &mut buffer[..own.algorithm.shorts() as usize];
+    let (first, rest) = words.split_at_mut(digest_shorts(own.digest.algorithm) as usize);
+    put_kept_words(own, &piece, memory, rest);
+    put_next_words(&own.digest, piece, memory, first);
+    change_state(own.digest.state.array, 0, words, None, memory, linked)
+}
+
 /// `update`: the bytes follow the message.
 #[tactic(auto, unfolding(crate::specs::SignaturePairs::pair_update))]
 pub(crate) fn update_by_pair<S: WordStore>(
@@ -180,7 +209,7 @@ pub(crate) fn update_by_pair<S: WordStore>(
 {
     let run = running_pair(Purpose::Either, algorithm, own, memory, linked)?;
     let piece = counted_of(1, args, memory, linked)?;
-    update(&run.digest, piece, memory, linked)
+    go_on(&run, piece, memory, linked)
 }
 
 // Puts a signature; what came is forgotten.
@@ -197,7 +226,7 @@ fn put_and_forget<S: WordStore>(
         linked.now memory.old) memory.old (after_call result memory.new) }
 {
     let zeros = [0; MOST_SHORTS];
-    let words = &zeros[..digest_shorts(own.digest.algorithm) as usize];
+    let words = &zeros[..own.algorithm.shorts() as usize];
     put_output(
         own.digest.state.array,
         words,
@@ -208,7 +237,7 @@ fn put_and_forget<S: WordStore>(
     )
 }
 
-// The digest of the message with these elements, and its signature, if there is one.
+// Writes the signature of the message with these elements, and returns how many bytes it has, if there is one.
 fn sign_message<S: WordStore>(
     own: &RunningPair,
     piece: Stretch,
@@ -222,13 +251,16 @@ fn sign_message<S: WordStore>(
     requires few { piece.count ≤ MOST_ELEMENTS }
     requires room { length to.old ≡ MOST_SIGNATURE }
     ensures signature { option_map (λ n. take n to.new) result
-        ≡ signature_of linked.now memory.now own.now (digest_with memory.now own.now piece) }
+        ≡ signature_of linked.now memory.now own.now (first_bytes own.now.algorithm memory.now own.now piece)
+        (digest_with memory.now own.now piece) }
     ensures within { IfSome result (λ n. n ≤ MOST_SIGNATURE) }
 {
+    let mut first_buffer = [0; MOST_ENCODING];
+    let count = put_first_bytes(own, &piece, memory, &mut first_buffer);
     let mut buffer = [0; MOST_HASH];
     let bytes = &mut buffer[..own.digest.algorithm.digest_size()];
     digest(&own.digest, piece, memory, bytes);
-    put_signature(own, bytes, memory, linked, to)
+    put_signature(own, &first_buffer[..count], bytes, memory, linked, to)
 }
 
 // The message ends with these elements: its signature is put, and what came is forgotten. ILLEGAL_VALUE where the key makes none.
@@ -283,12 +315,15 @@ fn is_signed<S: WordStore>(
     requires piece { IsInArray memory.now piece }
     requires few { piece.count ≤ MOST_ELEMENTS }
     requires given { IsInArray memory.now given }
-    ensures { result ≡ is_signature_of memory.now own.now (digest_with memory.now own.now piece) given }
+    ensures { result ≡ is_signature_of memory.now own.now (first_bytes own.now.algorithm memory.now own.now piece)
+        (digest_with memory.now own.now piece) given }
 {
+    let mut first_buffer = [0; MOST_ENCODING];
+    let count = put_first_bytes(own, &piece, memory, &mut first_buffer);
     let mut buffer = [0; MOST_HASH];
     let bytes = &mut buffer[..own.digest.algorithm.digest_size()];
     digest(&own.digest, piece, memory, bytes);
-    is_signature(own, bytes, given, memory)
+    is_signature(own, &first_buffer[..count], bytes, given, memory)
 }
 
 // Whether there is a signature is returned, and what came is forgotten.
@@ -303,7 +338,7 @@ fn forget_and_tell<S: WordStore>(
         memory.old (after_call result memory.new) }
 {
     let zeros = [0; MOST_SHORTS];
-    let words = &zeros[..digest_shorts(own.digest.algorithm) as usize];
+    let words = &zeros[..own.algorithm.shorts() as usize];
     change_state(
         own.digest.state.array,
         0,

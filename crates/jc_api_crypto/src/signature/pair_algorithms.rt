@@ -1,7 +1,10 @@
 //! Signatures under a key of a pair, and their numbers.
-ghost use Rattle.std.specs.Prelude.{◌≡◌, Some};
-ghost use Rattle.jc_api_crypto.specs.PairAlgorithms.{ecdsa_named, ecdsa_of_number, ecdsa_of_numbers, encoding_number, hash_of, pair_cipher_number, pair_named, pair_padding_number, pkcs1_named, pkcs1_of_number, pss_named, pss_of_number, pss_or_ecdsa_named, rsa_of_numbers};
+ghost use Rattle.std.specs.Prelude.{◌≡◌, ◌≤◌, Some};
+ghost use Rattle.jc_api_crypto.specs.PairAlgorithms.{ecdsa_named, ecdsa_of_number, ecdsa_of_numbers, encoding_number, hash_of, iso_of_number, kept_shorts, pair_cipher_number, pair_named, pair_padding_number, pair_shorts, pkcs1_named, pkcs1_of_number, pss_named, pss_of_number, pss_or_ecdsa_named, rsa_of_numbers};
 
+use crate::cipher::kinds::RSA_SHORTS;
+use crate::initialized::MOST_SHORTS;
+use crate::message_digest::digest_shorts;
 use jc_digests::kept::HashAlgorithm;
 use jc_public_keys::rsa_signatures::SignaturePadding;
 
@@ -12,6 +15,8 @@ pub enum PairSignature {
     Rsa(SignaturePadding, HashAlgorithm),
     /// ECDSA of a digest by a hash function.
     Ecdsa(HashAlgorithm),
+    /// RSA of the first bytes of a message and its digest by SHA-1 (ISO/IEC 9796-2, scheme 1).
+    Iso9796,
 }
 
 // RSA with EMSA-PKCS1-v1_5, of a number.
@@ -93,6 +98,9 @@ fn pss_or_ecdsa_named(number: i16) -> Option<PairSignature>
 pub(crate) fn pair_named(number: i16) -> Option<PairSignature>
     ensures { result ≡ pair_named number }
 {
+    if number == 9 {
+        return Some(PairSignature::Iso9796);
+    }
     if let Some(algorithm) = pkcs1_named(number) {
         return Some(algorithm);
     }
@@ -160,6 +168,13 @@ fn ecdsa_of_number(digest: i16) -> Option<i16>
     }
 }
 
+// That of RSA by ISO/IEC 9796-2.
+fn iso_of_number(digest: i16) -> Option<i16>
+    ensures { result ≡ iso_of_number digest }
+{
+    if digest == 1 { Some(9) } else { None }
+}
+
 /// The one number of RSA by those of a hash function and a padding.
 #[tactic(auto, unfolding(crate::specs::PairAlgorithms::rsa_of_numbers))]
 pub(crate) fn rsa_of_numbers(digest: i16, padding: i16) -> Option<i16>
@@ -169,6 +184,8 @@ pub(crate) fn rsa_of_numbers(digest: i16, padding: i16) -> Option<i16>
         pkcs1_of_number(digest)
     } else if padding == 8 {
         pss_of_number(digest)
+    } else if padding == 10 {
+        iso_of_number(digest)
     } else {
         None
     }
@@ -204,6 +221,7 @@ impl PairSignature {
         match self {
             PairSignature::Rsa(_, hash) => hash,
             PairSignature::Ecdsa(hash) => hash,
+            PairSignature::Iso9796 => HashAlgorithm::Sha1,
         }
     }
 
@@ -212,7 +230,7 @@ impl PairSignature {
         ensures { result ≡ pair_cipher_number self }
     {
         match self {
-            PairSignature::Rsa(_, _) => 3,
+            PairSignature::Rsa(_, _) | PairSignature::Iso9796 => 3,
             PairSignature::Ecdsa(_) => 5,
         }
     }
@@ -224,6 +242,25 @@ impl PairSignature {
         match self {
             PairSignature::Rsa(padding, _) => encoding_number(padding),
             PairSignature::Ecdsa(_) => 0,
+            PairSignature::Iso9796 => 10,
         }
+    }
+
+    /// How many shorts hold the first bytes of a message.
+    pub(crate) fn kept_shorts(self) -> u16
+        ensures { result ≡ kept_shorts self }
+    {
+        match self {
+            PairSignature::Rsa(_, _) | PairSignature::Ecdsa(_) => 0,
+            PairSignature::Iso9796 => RSA_SHORTS as u16,
+        }
+    }
+
+    /// How many shorts a state has.
+    pub(crate) fn shorts(self) -> u16
+        ensures shorts { result ≡ pair_shorts self }
+        ensures few { result ≤ MOST_SHORTS }
+    {
+        digest_shorts(self.hash()) + self.kept_shorts()
     }
 }

@@ -17,7 +17,7 @@ returns g c =
     let mode = to_z-of_z w16 c.args.mode c.ranges.mode in
     let values : c.put_values.new.values ≡ values_given c.args.mode c.args.vector.now =
     c.put_values.ensures ∙ (λ j. Argument 1 ∷ Word (cast_unsigned w16 (mode j)) ∷ map Word (c.put_vector.ensures j)) in
-    let zeros : take {A = ℕ} n (replicate 257 0) ≡ replicate n 0 = take-replicate n 257 0 c.requires.state in
+    let zeros : take {A = ℕ} n (replicate 303 0) ≡ replicate n 0 = take-replicate n 303 0 c.requires.state in
     subst (λ (a : FieldsAnswer). Executes (initializing_call (Ok a) c.args.args.now c.args.linked.now m) m
     (after_call c.initialize.result c.initialize.new.memory))
     (λ j. sets_fields c.args.class key_cell (values j) c.args.own.now.array (zeros j)) c.initialize.ensures

@@ -5,63 +5,27 @@ ghost use Rattle.jc_memory.specs.Programs.{Executes};
 ghost use Rattle.jc_world.specs.Arrays.{IsInArray, bytes_in};
 ghost use Rattle.jc_world.specs.NativeCalls.{after_call};
 ghost use Rattle.jc_api.specs.Changing.{changing_call};
+ghost use Rattle.jc_api_crypto.specs.Gathered.{state_of};
 ghost use Rattle.jc_api_crypto.specs.Outputs.{puts_output};
 ghost use Rattle.jc_api_crypto.specs.PairSigning.{AreParts, HasSize, key_power, seed_of};
 ghost use Rattle.jc_api_crypto.specs.RsaEncodings.{message_in, private_form, public_form};
-ghost use Rattle.jc_api_crypto.specs.RsaCiphers.{IsRunningRsa, converted, converted_by, ends, gathered, gathered_in, gathers, message_with, state_of};
+ghost use Rattle.jc_api_crypto.specs.RsaCiphers.{IsRunningRsa, converted, converted_by, ends, gathers, message_with};
 ghost use Rattle.jc_api_keys.specs.Shorts.{shorts_of};
 
-use crate::cipher::kinds::{RSA_SHORTS, RSA_STATE};
+use crate::cipher::kinds::RSA_SHORTS;
 use crate::cipher::rsa::encodings::{put_message_in, put_private_form, put_public_form};
 use crate::cipher::rsa::{RunningRsa, Way};
+use crate::gathered::{put_gathered_words, put_piece, read_gathered};
 use crate::outputs::put_output;
 use crate::signature::pair::parts::Parts;
 use crate::signature::pair::signing::{SEED, put_key_power, put_seed};
 use jc_api_keys::exceptions::ILLEGAL_USE;
-use jc_api_keys::receivers::{read, read_state};
-use jc_api_keys::shorts::put_shorts_of;
 use jc_frames::Cell;
 use jc_linker::linked::Linked;
 use jc_memory::Memory;
 use jc_rsa::bytes::MOST_ENCODING;
 use jc_words::WordStore;
 use jc_world::{NativeResult, StepExit, Stretch};
-
-// Writes what came, by the bytes of a state, and returns how many bytes that is.
-fn put_gathered(bytes: &[u8], to: &mut [u8]) -> usize
-    requires bytes { length bytes.now ≡ RSA_STATE }
-    requires room { length to.old ≡ MOST_ENCODING }
-    ensures gathered { take result to.new ≡ gathered_in bytes.now }
-    ensures few { result ≤ MOST_ENCODING }
-{
-    let count = (usize::from(bytes[0]) * 256 + usize::from(bytes[1])).min(MOST_ENCODING);
-    to[..count].copy_from_slice(&bytes[2..2 + count]);
-    count
-}
-
-// Writes what came, and returns how many bytes that is.
-fn read_gathered<S: WordStore>(own: &RunningRsa, memory: &Memory<S>, to: &mut [u8]) -> usize
-    requires up { memory.now.heap.down ≡ false }
-    requires own { IsRunningRsa memory.now own.now }
-    requires room { length to.old ≡ MOST_ENCODING }
-    ensures gathered { take result to.new ≡ gathered memory.now own.now }
-    ensures few { result ≤ MOST_ENCODING }
-{
-    let mut words = [0; RSA_SHORTS];
-    let mut bytes = [0; RSA_STATE];
-    read_state(own.state, memory, &mut words, &mut bytes);
-    put_gathered(&bytes, to)
-}
-
-// Writes elements after as many bytes as stand there.
-fn put_piece<S: WordStore>(count: usize, piece: Stretch, memory: &Memory<S>, to: &mut [u8])
-    requires up { memory.now.heap.down ≡ false }
-    requires piece { IsInArray memory.now piece }
-    requires room { count + piece.count ≤ length to.old }
-    ensures { take (count + piece.count) to.new ≡ take count to.old ++ bytes_in memory.now piece }
-{
-    read(piece, memory, &mut to[count..count + piece.count as usize]);
-}
 
 // Writes what came and some elements, and returns how many bytes that is, if they are no more than the modulus has.
 fn put_message<S: WordStore>(
@@ -77,26 +41,13 @@ fn put_message<S: WordStore>(
     ensures message { option_map (λ n. take n to.new) result ≡ message_with memory.now own.now piece }
     ensures within { IfSome result (λ n. n ≤ MOST_ENCODING) }
 {
-    let count = read_gathered(own, memory, to);
+    let count = read_gathered(own.state, memory, to);
     let end = count + piece.count as usize;
     if end > own.size as usize {
         return None;
     }
     put_piece(count, piece, memory, to);
     Some(end)
-}
-
-// Writes the bytes of a state that says that this came.
-fn put_state(all: &[u8], to: &mut [u8])
-    requires all { length all.now ≤ MOST_ENCODING }
-    requires room { length to.old ≡ RSA_STATE }
-    ensures { to.new ≡ state_of all.now }
-{
-    let (count, bytes) = to.split_at_mut(2);
-    count.copy_from_slice(&(all.len() as u16).to_be_bytes());
-    let (first, rest) = bytes.split_at_mut(all.len());
-    first.copy_from_slice(all);
-    rest.fill(0);
 }
 
 // Sets the state to one that says that this came; nothing is put.
@@ -112,10 +63,8 @@ fn keep<S: WordStore>(
     ensures { Executes (changing_call (puts_output own.now.state.array (shorts_of (state_of all.now)) [] args.now
         linked.now memory.old) linked.now memory.old) memory.old (after_call result memory.new) }
 {
-    let mut bytes = [0; RSA_STATE];
-    put_state(all, &mut bytes);
     let mut words = [0; RSA_SHORTS];
-    put_shorts_of(&bytes, &mut words);
+    put_gathered_words(all, &mut words);
     put_output(own.state.array, &words, &[], args, memory, linked)
 }
 

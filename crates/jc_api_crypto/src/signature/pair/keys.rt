@@ -20,6 +20,9 @@ use jc_memory::Memory;
 use jc_public_keys::rsa_signatures::least_modulus;
 use jc_words::WordStore;
 
+// The fewest bytes of a modulus for an encoding by ISO/IEC 9796-2 of a digest by SHA-1.
+const LEAST_ISO_MODULUS: usize = 22;
+
 /// A key object of a pair.
 #[derive(Clone, Copy)]
 pub struct SizedKey {
@@ -74,6 +77,7 @@ fn takes_size(algorithm: PairSignature, size: u16) -> bool
     match algorithm {
         PairSignature::Rsa(padding, hash) => least_modulus(padding, hash) <= usize::from(size),
         PairSignature::Ecdsa(_) => true,
+        PairSignature::Iso9796 => LEAST_ISO_MODULUS <= usize::from(size),
     }
 }
 
@@ -86,7 +90,7 @@ fn takes_key(algorithm: PairSignature, mode: i16, key: &SizedKey) -> bool
         return false;
     }
     match algorithm {
-        PairSignature::Rsa(_, _) => rsa_takes(mode, key.kind),
+        PairSignature::Rsa(_, _) | PairSignature::Iso9796 => rsa_takes(mode, key.kind),
         PairSignature::Ecdsa(_) => ecdsa_takes(mode, key.kind),
     }
 }

@@ -1,11 +1,11 @@
-//! Signatures of a message's digest under a key of a pair, by what its parts are.
+//! Signatures of a message, by its digest and first bytes, under a key of a pair, by what its parts are.
 ghost use Rattle.std.specs.Prelude.{◌≡◌, ◌≤◌, false, length, take, if◌then◌else◌, IfSome, Some, None};
 ghost use Rattle.std.specs.Option.{option_map};
 ghost use Rattle.jc_digests.specs.Kept.{digest_size};
-ghost use Rattle.jc_world.specs.Arrays.{IsInArray};
+ghost use Rattle.jc_world.specs.Arrays.{IsInArray, bytes_in};
 ghost use Rattle.jc_public_keys.specs.RsaSignatures.{least_modulus, signature_encoding};
-ghost use Rattle.jc_api_crypto.specs.PairParts.{AreRsaParts};
-ghost use Rattle.jc_api_crypto.specs.PairSigning.{AreParts, HasSize, IsRunningPair, ecdsa_by_parts, is_ecdsa_by_parts, is_rsa_signature, is_signature_of, is_under, key_power, seed_of, signature_of};
+ghost use Rattle.jc_api_crypto.specs.PairParts.{AreRsaParts, power};
+ghost use Rattle.jc_api_crypto.specs.PairSigning.{AreParts, HasSize, IsRunningPair, ecdsa_by_parts, is_ecdsa_by_parts, is_iso_signature, is_iso_under, is_rsa_signature, is_signature_of, is_under, key_power, seed_of, signature_of};
 
 use crate::signature::pair::RunningPair;
 use crate::signature::pair::ecdsa::{is_ecdsa, put_ecdsa};
@@ -16,6 +16,7 @@ use jc_digests::kept::HashAlgorithm;
 use jc_linker::linked::Linked;
 use jc_memory::Memory;
 use jc_platform::row::RANDOM_SIZE;
+use jc_public_keys::rsa_recovery::{is_recovery_encoding, put_recovery_encoding};
 use jc_public_keys::rsa_signatures::{SignaturePadding, is_encoding, put_encoding};
 use jc_rsa::bytes::MOST_ENCODING;
 use jc_transient::Ref;
@@ -128,9 +129,10 @@ fn put_ecdsa_by_parts<S: WordStore>(
     }
 }
 
-/// Writes the signature of a digest, and returns how many bytes it has, if there is one.
+/// Writes the signature of the first bytes of a message and its digest, and returns how many bytes it has, if there is one.
 pub(crate) fn put_signature<S: WordStore>(
     own: &RunningPair,
+    first: &[u8],
     digest: &[u8],
     memory: &Memory<S>,
     linked: &Linked,
@@ -140,7 +142,8 @@ pub(crate) fn put_signature<S: WordStore>(
     requires own { IsRunningPair memory.now own.now }
     requires digest { length digest.now ≡ digest_size own.now.digest.algorithm }
     requires room { length to.old ≡ MOST_SIGNATURE }
-    ensures signature { option_map (λ n. take n to.new) result ≡ signature_of linked.now memory.now own.now digest.now }
+    ensures signature { option_map (λ n. take n to.new) result
+        ≡ signature_of linked.now memory.now own.now first.now digest.now }
     ensures within { IfSome result (λ n. n ≤ MOST_SIGNATURE) }
 {
     match own.algorithm {
@@ -153,7 +156,33 @@ pub(crate) fn put_signature<S: WordStore>(
         PairSignature::Ecdsa(_) => {
             put_ecdsa_by_parts(&own.parts, digest, own.key, memory, linked, to)
         }
+        PairSignature::Iso9796 => {
+            let mut buffer = [0; MOST_ENCODING];
+            let encoding = &mut buffer[..own.size as usize];
+            put_recovery_encoding(first, digest, encoding);
+            put_rsa_signature(&own.parts, encoding, memory, to)
+        }
     }
+}
+
+// Writes the power of elements under an RSA key. It returns false where there is none.
+fn put_power_of<S: WordStore>(
+    key: &RsaParts,
+    given: Stretch,
+    memory: &Memory<S>,
+    to: &mut [u8],
+) -> bool
+    requires up { memory.now.heap.down ≡ false }
+    requires key { AreRsaParts memory.now key.now }
+    requires given { IsInArray memory.now given }
+    requires size { given.count ≡ key.now.modulus.count }
+    requires room { length to.old ≡ given.count }
+    ensures { (if result then Some to.new else None) ≡ power memory.now key.now (bytes_in memory.now given) }
+{
+    let mut buffer = [0; MOST_ENCODING];
+    let signature = &mut buffer[..given.count as usize];
+    read(given, memory, signature);
+    put_power_by(key, signature, memory, to)
 }
 
 // Elements are a signature under an RSA key.
@@ -175,13 +204,9 @@ fn is_under<S: WordStore>(
     if given.count != modulus.count {
         return false;
     }
-    let count = given.count as usize;
-    let mut signature_bytes = [0; MOST_ENCODING];
-    let signature = &mut signature_bytes[..count];
-    read(given, memory, signature);
     let mut buffer = [0; MOST_ENCODING];
-    let encoding = &mut buffer[..count];
-    if put_power_by(key, signature, memory, encoding) {
+    let encoding = &mut buffer[..given.count as usize];
+    if put_power_of(key, given, memory, encoding) {
         is_encoding(padding, hash, digest, encoding)
     } else {
         false
@@ -209,6 +234,50 @@ fn is_rsa_signature<S: WordStore>(
     }
 }
 
+// Elements are a signature under an RSA key by ISO/IEC 9796-2.
+fn is_iso_under<S: WordStore>(
+    key: &RsaParts,
+    first: &[u8],
+    digest: &[u8],
+    given: Stretch,
+    memory: &Memory<S>,
+) -> bool
+    requires up { memory.now.heap.down ≡ false }
+    requires key { AreRsaParts memory.now key.now }
+    requires given { IsInArray memory.now given }
+    ensures { result ≡ is_iso_under memory.now first.now digest.now given key.now }
+{
+    if given.count != key.modulus.count {
+        return false;
+    }
+    let mut buffer = [0; MOST_ENCODING];
+    let encoding = &mut buffer[..given.count as usize];
+    if put_power_of(key, given, memory, encoding) {
+        is_recovery_encoding(first, digest, encoding)
+    } else {
+        false
+    }
+}
+
+// Elements are a signature by ISO/IEC 9796-2.
+fn is_iso_signature<S: WordStore>(
+    parts: &Parts,
+    first: &[u8],
+    digest: &[u8],
+    given: Stretch,
+    memory: &Memory<S>,
+) -> bool
+    requires up { memory.now.heap.down ≡ false }
+    requires parts { AreParts memory.now parts.now }
+    requires given { IsInArray memory.now given }
+    ensures { result ≡ is_iso_signature memory.now first.now digest.now given parts.now }
+{
+    match parts {
+        Parts::Rsa(key) => is_iso_under(key, first, digest, given, memory),
+        Parts::Primes(_) | Parts::Ec(_) => false,
+    }
+}
+
 // Elements are a signature by ECDSA.
 fn is_ecdsa_by_parts<S: WordStore>(
     parts: &Parts,
@@ -227,9 +296,10 @@ fn is_ecdsa_by_parts<S: WordStore>(
     }
 }
 
-/// Elements are a signature of a digest.
+/// Elements are a signature of the first bytes of a message and its digest.
 pub(crate) fn is_signature<S: WordStore>(
     own: &RunningPair,
+    first: &[u8],
     digest: &[u8],
     given: Stretch,
     memory: &Memory<S>,
@@ -238,12 +308,13 @@ pub(crate) fn is_signature<S: WordStore>(
     requires own { IsRunningPair memory.now own.now }
     requires digest { length digest.now ≡ digest_size own.now.digest.algorithm }
     requires given { IsInArray memory.now given }
-    ensures { result ≡ is_signature_of memory.now own.now digest.now given }
+    ensures { result ≡ is_signature_of memory.now own.now first.now digest.now given }
 {
     match own.algorithm {
         PairSignature::Rsa(padding, hash) => {
             is_rsa_signature(&own.parts, padding, hash, digest, given, memory)
         }
         PairSignature::Ecdsa(_) => is_ecdsa_by_parts(&own.parts, digest, given, memory),
+        PairSignature::Iso9796 => is_iso_signature(&own.parts, first, digest, given, memory),
     }
 }
