@@ -1,2 +1,5 @@
 pub mod KeyAgreementClasses
+pub mod KeyPairClasses
+pub mod PairPasses
+pub mod PairPlaces
 pub mod PairCalls

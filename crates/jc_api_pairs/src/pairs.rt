@@ -8,12 +8,13 @@ use crate::key_agreement::{
     key_agreement_generate_secret, key_agreement_get_algorithm, key_agreement_get_instance,
     key_agreement_init,
 };
-use crate::key_pair::no_key_pair;
-use jc_api_keys::exceptions::NO_SUCH_ALGORITHM;
+use crate::key_pair::keys::{PRIVATE_CELL, PUBLIC_CELL};
+use crate::key_pair::{key_pair_gen_key_pair, key_pair_init, key_pair_init_of_keys};
+use jc_api::kept_reference;
 use jc_frames::Cell;
 use jc_linker::linked::Linked;
 use jc_memory::Memory;
-use jc_platform::names::KeyPairsMethod;
+use jc_platform::names::{KeyPairsMethod, PlatformClass};
 use jc_words::WordStore;
 use jc_world::{NativeResult, StepExit};
 
@@ -31,12 +32,23 @@ pub fn call_pair<S: WordStore>(
         (after_call result memory.new) }
 {
     match method {
-        KeyPairsMethod::KeyPairInit | KeyPairsMethod::KeyPairInitOfKeys => Err(StepExit::Throw(
-            NO_SUCH_ALGORITHM,
-        )),
-        KeyPairsMethod::KeyPairGenKeyPair => no_key_pair(args, memory, linked),
-        KeyPairsMethod::KeyPairGetPublic => no_key_pair(args, memory, linked),
-        KeyPairsMethod::KeyPairGetPrivate => no_key_pair(args, memory, linked),
+        KeyPairsMethod::KeyPairInit => key_pair_init(args, memory, linked),
+        KeyPairsMethod::KeyPairInitOfKeys => key_pair_init_of_keys(args, memory, linked),
+        KeyPairsMethod::KeyPairGenKeyPair => key_pair_gen_key_pair(args, memory, linked),
+        KeyPairsMethod::KeyPairGetPublic => kept_reference(
+            PlatformClass::KeyPair,
+            PUBLIC_CELL,
+            args,
+            memory,
+            linked,
+        ),
+        KeyPairsMethod::KeyPairGetPrivate => kept_reference(
+            PlatformClass::KeyPair,
+            PRIVATE_CELL,
+            args,
+            memory,
+            linked,
+        ),
         KeyPairsMethod::KeyAgreementGetInstance => key_agreement_get_instance(args, memory, linked),
         KeyPairsMethod::KeyAgreementInit => key_agreement_init(args, memory, linked),
         KeyPairsMethod::KeyAgreementGenerateSecret => key_agreement_generate_secret(

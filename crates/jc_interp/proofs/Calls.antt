@@ -14,6 +14,7 @@ use Rattle.jc_api_crypto.proofs.CipherCalls.{ciphers_due}
 use Rattle.jc_api_crypto.proofs.EngineCalls.{engines_due}
 use Rattle.jc_api_keys.proofs.KeyCalls.{ec_keys_due, keys_due, rsa_keys_due}
 use Rattle.jc_api_pairs.proofs.PairCalls.{pairs_due}
+use Rattle.jc_api_pairs.proofs.PairPasses.{PairPasses}
 use Rattle.jc_api_framework.proofs.AidCalls.{aids_due}
 use Rattle.jc_api_framework.proofs.ApduCalls.{apdus_due}
 use Rattle.jc_api_framework.proofs.AppletCalls.{IsPlainAppletMethod, applets_due, applets_then}
@@ -35,26 +36,27 @@ IsPlainMethod method = Unit {0}
 -- each effect of such a method is due, where those that set cells are, and it answers plainly
 module _ (P : Effect → MemoryState → Type 0) (L : MemoryState → ℕ → Type 0) (Q : MemoryState → Type 0) (turns : Turns P Q) (args : List Cell) (p : Packages)
     (m : MemoryState) (so : Q m) (refers : AnswersSo L m) where
-  pub method_called : (method : PlatformMethod) → IsPlainMethod method → MethodPasses P method args p m → IsPlainCall P L (native_call method args p m) m
+  pub method_called : (method : PlatformMethod) → IsPlainMethod method → MethodPasses P method args p m → PairPasses P L method args p m
+      → IsPlainCall P L (native_call method args p m) m
   unfolding native_call
-  method_called (rooms.Objects method) plain pass = objects_due P L args p m method
-  method_called (rooms.Exceptions method) plain pass = exceptions_due P L Q turns args p m so method pass
-  method_called (rooms.Utilities method) plain pass = util_due P L args p m method pass
-  method_called (rooms.System method) plain pass = systems_due P L Q turns args p m so refers method plain pass
-  method_called (rooms.Aids method) plain pass = aids_due P L args p m method pass
-  method_called (rooms.Pins method) plain pass = pins_due P L Q turns args p m so method pass
-  method_called (rooms.Applets method) plain pass = applets_due P L args p m refers method plain
-  method_called (rooms.Apdus method) plain pass = apdus_due P L Q turns args p m so refers method pass
-  method_called (rooms.Events method) plain pass = events_due P L m method
-  method_called (rooms.Engines method) plain pass = engines_due P L args p m refers.made method pass.calls
-  method_called (rooms.Keys method) plain pass = keys_due P L args p m refers.made method pass.calls
-  method_called (rooms.KeyInterfaces method) plain pass = tt
-  method_called (rooms.Ciphers method) plain pass = ciphers_due P L args p m refers.made method pass.calls
-  method_called (rooms.RsaKeys method) plain pass = rsa_keys_due P L args p m refers.made method pass.calls
-  method_called (rooms.EcKeys method) plain pass = ec_keys_due P L args p m refers.made method pass.calls
-  method_called (rooms.RsaInterfaces method) plain pass = tt
-  method_called (rooms.EcInterfaces method) plain pass = tt
-  method_called (rooms.KeyPairs method) plain pass = pairs_due P L args p m refers.made method pass.calls
+  method_called (rooms.Objects method) plain pass pair = objects_due P L args p m method
+  method_called (rooms.Exceptions method) plain pass pair = exceptions_due P L Q turns args p m so method pass
+  method_called (rooms.Utilities method) plain pass pair = util_due P L args p m method pass
+  method_called (rooms.System method) plain pass pair = systems_due P L Q turns args p m so refers method plain pass
+  method_called (rooms.Aids method) plain pass pair = aids_due P L args p m method pass
+  method_called (rooms.Pins method) plain pass pair = pins_due P L Q turns args p m so method pass
+  method_called (rooms.Applets method) plain pass pair = applets_due P L args p m refers method plain
+  method_called (rooms.Apdus method) plain pass pair = apdus_due P L Q turns args p m so refers method pass
+  method_called (rooms.Events method) plain pass pair = events_due P L m method
+  method_called (rooms.Engines method) plain pass pair = engines_due P L args p m refers.made method pass.calls
+  method_called (rooms.Keys method) plain pass pair = keys_due P L args p m refers.made method pass.calls
+  method_called (rooms.KeyInterfaces method) plain pass pair = tt
+  method_called (rooms.Ciphers method) plain pass pair = ciphers_due P L args p m refers.made method pass.calls
+  method_called (rooms.RsaKeys method) plain pass pair = rsa_keys_due P L args p m refers.made method pass.calls
+  method_called (rooms.EcKeys method) plain pass pair = ec_keys_due P L args p m refers.made method pass.calls
+  method_called (rooms.RsaInterfaces method) plain pass pair = tt
+  method_called (rooms.EcInterfaces method) plain pass pair = tt
+  method_called (rooms.KeyPairs method) plain pass pair = pairs_due P L args p m refers.made method pass.calls pair
 
 -- where it is so of such a method, it is so of each
 module _ (P : Effect → MemoryState → Type 0) (R : Result NativeResult FrameExit → MemoryState → Type 0) (Q : MemoryState → Type 0) (bears : Bears P Q)
@@ -82,8 +84,9 @@ module _ (P : Effect → MemoryState → Type 0) (Q : MemoryState → Type 0) (b
     stays = λ none. tt;
   }
 
-  pub method_due : (method : PlatformMethod) → MethodPasses P method args p m → RegistersSo P (λ a v. Unit {0}) method args p m
+  pub method_due : (method : PlatformMethod) → MethodPasses P method args p m → PairPasses P Anything method args p m
+      → RegistersSo P (λ a v. Unit {0}) method args p m
       → AllDue P (native_call method args p m) m
-  method_due method pass registers = due_of P _ (native_call method args p m) m (method_then P (λ a v. Unit {0}) Q bears args p m so any_end method registers
+  method_due method pass pair registers = due_of P _ (native_call method args p m) m (method_then P (λ a v. Unit {0}) Q bears args p m so any_end method registers
       (λ plain. due_any P (native_call method args p m) m
-      (due_of P _ (native_call method args p m) m (method_called P Anything Q (turns_of P Q bears) args p m so any_so method plain pass))))
+      (due_of P _ (native_call method args p m) m (method_called P Anything Q (turns_of P Q bears) args p m so any_so method plain pass pair))))

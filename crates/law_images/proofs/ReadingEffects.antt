@@ -12,7 +12,7 @@ use Rattle.jc_linker.specs.Values.{Packages}
 use Rattle.jc_platform.specs.Tokens.{Tokens}
 use Rattle.jc_card_load.specs.Reading.{packages_of}
 use Rattle.law_soundness.specs.State.{IsSoundMemory}
-use Rattle.law_soundness.specs.Fit.{AreStatics, FitsChange, FitsMove, FitsPlace, IsFit, OfPin, OfRegistry, OfStatics, OfValue}
+use Rattle.law_soundness.specs.Fit.{FitPlaces, FitsChange, FitsMove, FitsPlace, IsFit, OfPin, OfPlaces, OfRegistry, OfValue}
 use Rattle.law_soundness.proofs.Memories.{choose}
 use Rattle.law_images.specs.Kept.{IsReadAs, KeepsReading}
 use Rattle.law_images.proofs.ReadingHeaps.{ArePlaced, IsPlaced, TellSame, object_tells, place_tells, places_tell, read_same, run_tells, transient_tells}
@@ -25,19 +25,16 @@ place_placed p h (Static r j) v fits = fits.there
 place_placed p h (Registry i) v fits = absurd fits
 place_placed p h AppletCount v fits = absurd fits
 
-statics_placed : (p : Packages) (h : HeapState) (cs : List (Place × ℕ)) → AreStatics p h cs → ArePlaced h cs
-statics_placed p h [] fits = tt
-statics_placed p h ((Static r j, v) ∷ cs) fits = (fits.0.there, statics_placed p h cs fits.1)
-statics_placed p h ((Cell r i, v) ∷ cs) fits = absurd fits
-statics_placed p h ((Registry i, v) ∷ cs) fits = absurd fits
-statics_placed p h ((AppletCount, v) ∷ cs) fits = absurd fits
+places_placed : (p : Packages) (h : HeapState) (cs : List (Place × ℕ)) → FitPlaces p h cs → ArePlaced h cs
+places_placed p h [] fits = tt
+places_placed p h (c ∷ cs) fits = (place_placed p h c.0 c.1 fits.0, places_placed p h cs fits.1)
 
 bytes_placed : (h : HeapState) (bytes : List ℕ) (array i : ℕ) (cs : List (Place × ℕ)) → ArePlaced h cs → ArePlaced h (cell_changes array i bytes ++ cs)
 bytes_placed h [] array i cs placed = placed
 bytes_placed h (b ∷ bytes) array i cs placed = (tt, bytes_placed h bytes array (suc i) cs placed)
 
 change_placed : (p : Packages) (m : MemoryState) (cs : List (Place × ℕ)) → FitsChange p m cs → ArePlaced m.heap.now cs
-change_placed p m cs (OfStatics fits) = statics_placed p m.heap.now cs fits
+change_placed p m cs (OfPlaces fits) = places_placed p m.heap.now cs fits
 change_placed p m cs (OfPin f) = subst (ArePlaced m.heap.now) (sym f.is) (tt, (tt, (tt, (tt, (tt, tt)))))
 change_placed p m cs (OfValue f) = subst (ArePlaced m.heap.now) (sym f.is) (bytes_placed m.heap.now f.bytes _ 0 _ (tt, (tt, tt)))
 change_placed p m cs (OfRegistry f) = subst (ArePlaced m.heap.now) (sym f.is) (tt, (tt, (tt, (tt, tt))))

@@ -14,13 +14,15 @@ use Rattle.jc_heap.specs.Object.{is_object}
 use Rattle.jc_heap.specs.Heap.{IsObject, facts, is_allocated}
 use Rattle.jc_frames.specs.declared.cell.Cell.{Cell}
 use Rattle.jc_memory.specs.declared.registers.PackageNumber.{PackageNumber}
-use Rattle.jc_memory.specs.Making.{creation_move, creation_refusal}
+use Rattle.jc_memory.specs.Making.{creation_move}
 use Rattle.jc_memory.specs.Owners.{owner_number}
 use Rattle.jc_memory.specs.State.{HeapMove, IsNew, MemoryState, SetTransient, apply_effect}
 use Rattle.jc_memory.specs.declared.making.NewObject.{NewObject}
 use Rattle.jc_memory.specs.Changing.{nonatomic_store}
-use Rattle.jc_memory.specs.Reading.{AllDue}
-use Rattle.jc_memory.specs.Cells.{header_at, cells_effect}
+use Rattle.jc_memory.specs.Reading.{AllDue, AllResults}
+use Rattle.jc_memory.specs.Cells.{cells_effect, header_at, word_of}
+use Rattle.jc_heap.specs.Moves.{Write}
+use Rattle.jc_heap.specs.declared.place.Place.TheVariants as place
 use Rattle.jc_linker.specs.Values.{Packages}
 use Rattle.jc_platform.specs.declared.names.PlatformMethod.{PlatformMethod}
 use Rattle.jc_platform.specs.declared.names.PlatformMethod.TheVariants.{Aids}
@@ -28,6 +30,9 @@ use Rattle.jc_platform.specs.declared.names.AidsMethod.TheVariants.{AidInit}
 use Rattle.jc_pin.specs.Pins.{record_of}
 use Rattle.jc_pin.specs.PinInit.{value_array}
 use Rattle.jc_heap.specs.Places.{cell_changes}
+use Rattle.jc_memory.proofs.Room.{facts-places}
+use Rattle.jc_memory.proofs.ProgramLemmas.{each_always, each_more}
+use Rattle.jc_world.specs.Answers.{and_then}
 use Rattle.jc_world.specs.Objects.{reference_argument}
 use Rattle.jc_world.specs.declared.arrays.Stretch.{Stretch}
 use Rattle.jc_world.specs.Arrays.{bytes_in}
@@ -38,16 +43,24 @@ use Rattle.jc_platform.specs.Names.{aids_rows}
 use Rattle.jc_platform.specs.Signatures.{sets_receiver}
 use Rattle.law_isolation.specs.Natives.{NativesSpare, ReachesCalled}
 use Rattle.law_isolation.specs.Reach.{IsOutside}
-use Rattle.law_isolation.specs.Sparing.{LeavesObject}
-use Rattle.jc_api.specs.Factory.{HasState, engine_creation, engine_object, has_space_for_both, is_in_table, state_array}
-use Rattle.jc_api.specs.Initializing.{FieldsAnswer, word_given, words_given}
+use Rattle.law_isolation.specs.Sparing.{AreBeside, LeavesObject}
+use Rattle.jc_api.specs.Factory.{engine_creation, engine_object, number_cell, state_array, state_cell}
+use Rattle.jc_api.specs.Pairing.{named_in, pair_words}
 use Rattle.jc_api.specs.declared.factory.NewEngine.{NewEngine}
+use Rattle.jc_api.specs.declared.pairing.NamedObject.TheVariants.{New}
+use Rattle.jc_api.specs.declared.pairing.NewPair.{NewPair}
+use Rattle.jc_api.specs.Initializing.{FieldsAnswer, word_given, words_given}
 use Rattle.jc_api.proofs.EngineRoom.{with_array}
+use Rattle.jc_api.proofs.Due.{Anything}
+use Rattle.jc_api.proofs.PairingCalls.{NamesBoth, NamesSo}
 use Rattle.jc_api.proofs.Passing.{IsInitializing}
-use Rattle.jc_api.proofs.Standing.{facts_after_run, item_after_object, object_after_transient}
+use Rattle.jc_api.proofs.Standing.{facts_after_run, item_after_object, object-set_cell, object_after_transient}
 use Rattle.jc_api.proofs.Stretches.{IsStretch}
 use Rattle.jc_api_framework.proofs.AppletCalls.Registering.{MayRegister, Registering, entry_of, home_of, with_aid}
 use Rattle.jc_api_framework.proofs.Passing.{Bears, IsPinCall, MethodPasses, RegistersSo, recorded}
+use Rattle.jc_api_pairs.specs.KeyPair.{of_given_keys, of_new_keys}
+use Rattle.jc_api_pairs.specs.KeyPair.Changes.{counts_once, places_in, public_changes}
+use Rattle.jc_api_pairs.proofs.PairPasses.{AreReached, IsOwnPair, PairPasses}
 use Rattle.jc_interp.proofs.Calls.{method_due}
 use Rattle.law_isolation.proofs.Bytes.{store_due}
 use Rattle.law_isolation.proofs.Pins.{beside_append, beside_put, value_inside}
@@ -72,6 +85,37 @@ counts_kept p m aid r = (applets-set_cells (cells_of_aid aid) _ r 0).0 ∙ (appl
 
 pub nine : (aid : List ℕ) → length (cells_of_aid aid) ≡ 9
 nine aid = let l = length-map (range_with_len 0 8) (aid_cell aid) in let n = length-range_with_len 0 8 in omega (arith, l, n)
+
+-- what is there stays there where an object is made
+there_after : (q : ℕ) (m : MemoryState) → IsObject m.heap.now q → (event : Option ClearEvent) (o : NewObject) → is_allocated m.heap.now m.heap.now.top ≡ false
+    → IsObject (apply_effect (HeapMove (creation_move event o)) m).heap.now q
+there_after q m there None o free = ap is_object (item_after_object m.heap.now _ _ q free there) ∙ there
+there_after q m there (Some event) o free = object_after_transient m.heap.now o.kind event o.class (owner_number o.owner) o.length q free there
+
+-- an object with a state spares each that is there
+engine_spares : (p : Packages) (q : ℕ) (m : MemoryState) → IsObject m.heap.now q → (e : NewEngine) → AllDue (LeavesObject q) (engine_creation e p m) m
+engine_spares p q m out e array new =
+    let there : IsObject (with_array e m).heap.now q = there_after q m out e.event (state_array e m)
+    (subst (λ t. is_allocated m.heap.now t ≡ false) new.chosen new.free) in (
+      new_makes q m (state_array e m) array new,
+      λ r other. let apart = new_other (with_array e m) q r there other in
+          (new_makes q (with_array e m) (engine_object e p (with_array e m)) r other, (apart, (apart, tt))),
+    )
+
+-- and it is still there
+engine_leaves : (p : Packages) (q : ℕ) (m : MemoryState) → IsObject m.heap.now q → (e : NewEngine)
+    → AllResults (engine_creation e p m) m (λ answer v. IsObject v.heap.now q)
+engine_leaves p q m out e array new r other =
+    let made = with_array e m in
+    let o = engine_object e p made in
+    let with_instance = apply_effect (HeapMove (creation_move o.event o)) made in
+    let number = word_of (Short e.number) in
+    let with_number = apply_effect (HeapMove (Write (place.Cell r number_cell) number)) with_instance in
+    let there : IsObject made.heap.now q = there_after q m out e.event (state_array e m)
+    (subst (λ t. is_allocated m.heap.now t ≡ false) new.chosen new.free) in
+    let later : IsObject with_instance.heap.now q = there_after q made there o.event o
+    (subst (λ t. is_allocated made.heap.now t ≡ false) other.chosen other.free) in
+    object-set_cell with_number.heap.now r state_cell array q (object-set_cell with_instance.heap.now r number_cell number q later)
 
 module _ (method : PlatformMethod) (args : List Cell) (p : Packages) (m : MemoryState) (q : ℕ) (out : IsOutside p m q) (few : length m.command ≤ buffer_size)
     (reach : sets_receiver method ≡ true → ReachesCalled args p m) where
@@ -134,22 +178,30 @@ module _ (method : PlatformMethod) (args : List Cell) (p : Packages) (m : Memory
       → LeavesObject q (SetTransient s.array s.start (map number_of words)) (apply_effect (cells_effect m e.array e.start bytes) m)
   state_spares q' n e bytes is long r count s words event state kept all = state_spares_after e.array e.start bytes r count s words state all
 
-  -- what is there stays there where an object is made
-  there_after : (event : Option ClearEvent) (o : NewObject) → is_allocated m.heap.now m.heap.now.top ≡ false
-      → IsObject (apply_effect (HeapMove (creation_move event o)) m).heap.now q
-  there_after None o free = ap is_object (item_after_object m.heap.now _ _ q free out.there) ∙ out.there
-  there_after (Some event) o free = object_after_transient m.heap.now o.kind event o.class (owner_number o.owner) o.length q free out.there
+  -- what a call does that makes its receiver name two keys
+  names_spare : (a : NewPair) (first second : ℕ) (v : MemoryState) → sets_receiver method ≡ true → NamesBoth (LeavesObject q) args p a first second v
+  names_spare a first second v sets own is = run_spares q v own 0 (pair_words a.number first second) (other sets own is.called)
+      (let long = is.there.cells in omega (arith, long))
 
-  -- an object with a state
-  engine_spares : (e : NewEngine) → HasState e.class → is_in_table e.class p ≡ true → has_space_for_both e m ≡ true
-      → creation_refusal m (state_array e m) ≡ None → AllDue (LeavesObject q) (engine_creation e p m) m
-  engine_spares e has table space room array new =
-      let there : IsObject (with_array e m).heap.now q = there_after e.event (state_array e m)
-      (subst (λ t. is_allocated m.heap.now t ≡ false) new.chosen new.free) in (
-        new_makes q m (state_array e m) array new,
-        λ r other. let apart = new_other (with_array e m) q r there other in
-            (new_makes q (with_array e m) (engine_object e p (with_array e m)) r other, (apart, (apart, tt))),
-      )
+  -- where the first of two new ones is named, the second may be made, and named beside it
+  abbrev SecondSo : NewEngine → NewEngine → ℕ → MemoryState → Type 0
+  SecondSo public private first v =
+      NamesSo (LeavesObject q) (λ second w. NamesBoth (LeavesObject q) args p (of_new_keys public private) first second w) args p (New private) v
+
+  second_named : sets_receiver method ≡ true → (public private : NewEngine) (first : ℕ) (v : MemoryState) → IsObject v.heap.now q
+      → SecondSo public private first v
+  second_named sets public private first v is has there space room = (
+    engine_spares p q v is private,
+    each_always (λ answer w. (second : ℕ) → and_then answer named_in ≡ Ok second → NamesBoth (LeavesObject q) args p (of_new_keys public private) first second w)
+        (λ answer w second named. names_spare (of_new_keys public private) first second w sets) (engine_creation private p v) v,
+  )
+
+  -- the elements and the number that a call sets which makes new keys of a pair
+  elements_beside : (e : Stretch) (bytes : List ℕ) → AreReached p m e bytes → AreBeside q (places_in e bytes)
+  elements_beside e bytes is = beside_put q e.array e.start bytes (not_outside p m q e.array (facts m.heap.now e.array) out refl is.reach)
+
+  pair_beside : (own : ℕ) → IsOwnPair p m own → AreBeside q (counts_once m own)
+  pair_beside own is = (not_outside p m q own (facts m.heap.now own) out refl is.reach, tt)
 
   registers : (aid : List ℕ) (instance : ℕ) (k : PackageNumber) → MayRegister m aid instance k → (r : ℕ) → IsNew m.heap.now r
       → Registering (LeavesObject q) (λ a v. Unit {0}) p m aid instance k r
@@ -175,7 +227,7 @@ module _ (method : PlatformMethod) (args : List Cell) (p : Packages) (m : Memory
       bytes = bytes_spare;
       behind = state_spares;
       transient = λ o is room. new_makes q m o;
-      engine = engine_spares;
+      engine = λ e has table space room. engine_spares p q m out.there e;
       initial = fields_spare;
     };
     aid = λ init own bytes is long fine. run_spares q m own 0 (cells_of_aid bytes) (other (sets_aid init) own is)
@@ -193,6 +245,28 @@ module _ (method : PlatformMethod) (args : List Cell) (p : Packages) (m : Memory
         (ne, (ne, tt)));
   }
 
+  pair_passes : PairPasses (LeavesObject q) Anything method args p m
+  pair_passes = record {
+    both = λ own public bytes private number are event. inl (beside_append q (places_in public bytes) _ (elements_beside public bytes are.public)
+        (beside_append q (places_in private number) _ (elements_beside private number are.private) (pair_beside own are.pair)));
+    public = λ own public bytes private number are. inl (beside_append q (places_in public bytes) _ (elements_beside public bytes are.public)
+        (pair_beside own are.pair));
+    private = λ own public bytes private number are event kept. (
+      not_outside p m q private.array (facts m.heap.now private.array) out refl (are.private).reach,
+      let size = length-map number number_of in
+          let within = (are.private).within in
+          let header = ap (λ f. f.length) (facts-places m.heap.now (public_changes m own public bytes) private.array) in
+          omega (arith, size, within, header),
+    );
+    given = λ sets first named second named_too. names_spare of_given_keys first second m sets;
+    new = λ sets public private has there space room. (
+      engine_spares p q m out.there public,
+      each_more (λ answer v. IsObject v.heap.now q) (λ answer v. (first : ℕ) → and_then answer named_in ≡ Ok first → SecondSo public private first v)
+          (λ answer v is first named. second_named sets public private first v is) (engine_creation public p m) m (engine_leaves p q m out.there public),
+    );
+    keys = λ i own few is event. tt;
+  }
+
   registers_so : RegistersSo (LeavesObject q) (λ a v. Unit {0}) method args p m
   registers_so = record {
     own = λ is aid instance own there. registers aid instance;
@@ -201,4 +275,4 @@ module _ (method : PlatformMethod) (args : List Cell) (p : Packages) (m : Memory
 
 pub natives_spare : NativesSpare
 natives_spare method args p m q out few reach = method_due (LeavesObject q) (λ m. Unit {0}) (bears q) args p m tt method
-    (passes method args p m q out few reach) (registers_so method args p m q out few reach)
+    (passes method args p m q out few reach) (pair_passes method args p m q out few reach) (registers_so method args p m q out few reach)

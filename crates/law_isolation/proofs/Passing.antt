@@ -1,7 +1,7 @@
 -- What is to be shown of something that is to hold of each effect: that it holds of those that instructions and steps have, after the
 -- checks that precede them.
 use Rattle.std.specs.Prelude.{◌==◌, ◌%◌, ◌/◌, ℤ}
-use Rattle.std.proofs.Common.{◌≡◌, ◌<◌, ◌⊎◌, ◌∷◌, ℕ, false, List, [], length, Some, None, Ok}
+use Rattle.std.proofs.Common.{◌≡◌, ◌<◌, ◌⊎◌, ◌∷◌, ℕ, false, List, [], Some, None, Ok}
 use Rattle.jc_transient.specs.declared.cell.CellValue.{CellValue}
 use Rattle.jc_transient.specs.declared.cell.CellValue.TheVariants.{Short}
 use Rattle.jc_heap.specs.Heap.{facts}

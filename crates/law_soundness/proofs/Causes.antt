@@ -1,8 +1,8 @@
 -- Why code runs for another owner: a step switches for no other reason.
-use Rattle.std.proofs.Common.{◌≡◌, ℕ, ◌+◌, ◌≤◌, ◌⊎◌, Bool, true, false, inl, inr, List, [], ◌∷◌, ◌++◌, length, map, drop, Option, Some, None, Result, Ok, Err, refl, sym, ◌∙◌, ap, subst, arith, if◌then◌else◌}
+use Rattle.std.proofs.Common.{◌≡◌, ℕ, ◌⊎◌, Bool, true, false, inl, inr, List, [], ◌∷◌, ◌++◌, length, map, drop, Option, Some, None, Result, Ok, Err, refl, sym, ◌∙◌, ap, subst, arith, if◌then◌else◌}
 use Rattle.std.proofs.lemmas.List.{append_assoc}
 use Rattle.std.proofs.lemmas.Option.{none-some, same_Some}
-use Rattle.std.specs.Prelude.{◌==◌, ◌&&◌, nat_le, nat_lt, ◌||◌, slice_set}
+use Rattle.std.specs.Prelude.{◌&&◌, nat_le, nat_lt, pos, slice_set}
 use Rattle.jc_transient.specs.declared.cell.CellValue.{CellValue}
 use Rattle.jc_transient.specs.declared.cell.CellValue.TheVariants.{Short}
 use Rattle.jc_transient.specs.declared.cell.ClearEvent.{ClearEvent}
@@ -19,7 +19,7 @@ use Rattle.jc_memory.specs.Owners.{owner_number, owner_of}
 use Rattle.jc_memory.specs.Programs.{Program, Finish, Perform, Choose, Either}
 use Rattle.jc_memory.specs.Reading.{AllDue, AllResults, HasTrace}
 use Rattle.jc_memory.specs.State.{MemoryState, Effect, HeapMove, SetTransient, SetFlag, ClearTransient, SetRegisters, BeginCommand, SendBytes, apply_effect, apply_effects}
-use Rattle.jc_memory.proofs.ProgramLemmas.{each_more}
+use Rattle.jc_memory.proofs.ProgramLemmas.{each_more, each_always}
 use Rattle.jc_platform.specs.declared.names.PlatformMethod.{PlatformMethod}
 use Rattle.jc_linker.specs.declared.target.Method.{Method}
 use Rattle.jc_linker.specs.declared.target.Method.TheVariants.{Native}
@@ -40,12 +40,19 @@ use Rattle.jc_frames.specs.declared.outcome.FrameExit.TheVariants as stop
 use Rattle.jc_frames.specs.declared.outcome.Outcome.TheVariants.{Fault}
 use Rattle.jc_frames.specs.Calls.{arguments_on, call_or_fault, caller_without_dead, counted_cells, frames_in_callee}
 use Rattle.jc_frames.specs.Frames.{Caller, Frame, Frames, Next, GoesOn, Throws, Ends, in_frame, push, with_stack}
+use Rattle.jc_world.specs.Answers.{and_then}
 use Rattle.jc_world.specs.Contexts.{firewall_decision, installed_package}
 use Rattle.jc_world.specs.declared.native_result.NativeResult.{NativeResult}
 use Rattle.jc_world.specs.declared.native_result.NativeResult.TheVariants.{ReturnVoid, ReturnValue, CallServer, Aborted}
 use Rattle.jc_api_framework.specs.Aid.Cells.{cells_of_aid}
-use Rattle.jc_api.specs.Factory.{state_array}
+use Rattle.jc_api.specs.Factory.{engine_creation, state_array}
 use Rattle.jc_api.specs.Initializing.{words_given}
+use Rattle.jc_api.specs.Pairing.{named_in, pair_words}
+use Rattle.jc_api.specs.declared.factory.NewEngine.{NewEngine}
+use Rattle.jc_api.specs.declared.pairing.NamedObject.TheVariants as named
+use Rattle.jc_api.proofs.PairingCalls.{NamesBoth, NamesSo}
+use Rattle.jc_api_pairs.specs.KeyPair.{of_new_keys}
+use Rattle.jc_api_pairs.proofs.PairPasses.{PairPasses}
 use Rattle.jc_api.proofs.Due.{Anything, DueThen, due_of, results_of}
 use Rattle.jc_api.proofs.Reaching.{err_not_ok, same_Ok}
 use Rattle.jc_api_framework.proofs.AppletCalls.Registering.{MayRegister, Registering, home_of}
@@ -85,6 +92,14 @@ in_method = record {
   aborts = λ m on. tt;
   sends = λ bytes m. tt;
 }
+
+runs_in : (v : MemoryState) (event : Option ClearEvent) (r i : ℕ) (words : List ℕ) → IsInMethod (cells_effect_in event r i words) v
+runs_in v None r i words = tt
+runs_in v (Some event) r i words = tt
+
+makes_in : (v : MemoryState) (event : Option ClearEvent) (o : NewObject) → IsInMethod (HeapMove (creation_move event o)) v
+makes_in v None o = tt
+makes_in v (Some event) o = tt
 
 module _ (m : MemoryState) where
   set_in : (event : Option ClearEvent) (r i : ℕ) (v : CellValue) → IsInMethod (cell_effect_in event r i v) m
@@ -157,8 +172,32 @@ module _ (m : MemoryState) where
           follows = tt;
         }
 
+    pairs_in : (method : PlatformMethod) (args : List Cell) → PairPasses IsInMethod Anything method args p m
+    pairs_in method args = record {
+      both = λ own public bytes private number are event. tt;
+      public = λ own public bytes private number are. tt;
+      private = λ own public bytes private number are event kept. tt;
+      given = λ sets first named second named_too own is. run_in (facts m.heap.now own).event own 0 (pair_words (pos 0) first second);
+      new = λ sets public private. names_in {K = λ first v.
+          NamesSo IsInMethod (λ second w. NamesBoth IsInMethod args p (of_new_keys public private) first second w) args p (named.New private) v}
+          m public (λ first v. second_in public private first v);
+      keys = λ i own few is event. tt;
+    }
+      where
+        names_in : {K : ℕ → MemoryState → Type 0} (n : MemoryState) (e : NewEngine) → ((r : ℕ) (v : MemoryState) → K r v)
+            → NamesSo IsInMethod K args p (named.New e) n
+        names_in {K = K} n e so has there space room = (
+          (λ array new. (makes_in n e.event (state_array e n), λ r other. (tt, (tt, (tt, tt))))),
+          each_always (λ answer v. (r : ℕ) → and_then answer named_in ≡ Ok r → K r v) (λ answer v r name. so r v) (engine_creation e p n) n,
+        )
+
+        second_in : (public private : NewEngine) (first : ℕ) (v : MemoryState)
+            → NamesSo IsInMethod (λ second w. NamesBoth IsInMethod args p (of_new_keys public private) first second w) args p (named.New private) v
+        second_in public private first v = names_in {K = λ second w. NamesBoth IsInMethod args p (of_new_keys public private) first second w} v private (λ second w own is.
+            runs_in w (facts w.heap.now own).event own 0 (pair_words (pos 0) first second))
+
     native_in : (method : PlatformMethod) (args : List Cell) → AllDue IsInMethod (native_call method args p m) m
-    native_in method args = method_due IsInMethod (λ m. Unit {0}) in_method args p m tt method (methods_in method args) (registered_in method args)
+    native_in method args = method_due IsInMethod (λ m. Unit {0}) in_method args p m tt method (methods_in method args) (pairs_in method args) (registered_in method args)
 
 -- ---- programs
 

@@ -28,9 +28,9 @@ use Rattle.jc_linker.specs.Values.{Packages}
 use Rattle.jc_pin.specs.PinInit.{first_record}
 use Rattle.jc_card_checks.specs.Objects.{is_bytes, is_instance, is_persistent_instance}
 use Rattle.law_soundness.specs.State.{IsFitObject, IsSoundMemory, IsSoundUpTo, is_applet, is_open, is_owner_up_to, last_own, most_owner}
-use Rattle.law_soundness.specs.Fit.{AreStatics, FitsChange, FitsMove, FitsNew, FitsPlace, FitsRun, IsFit, IsPinObject, KeepsSound, OfPin, OfRegistry, OfStatics}
+use Rattle.law_soundness.specs.Fit.{FitsChange, FitsMove, FitsNew, FitsPlace, FitsRun, IsFit, IsPinObject, KeepsSound, OfPin, OfPlaces, OfRegistry}
 use Rattle.law_soundness.specs.Fit.{OfValue, RegistersApplet, SetsAid, SetsUpPin, UpdatesPin}
-use Rattle.law_soundness.proofs.Frames.{Frames, bytes_held, cell_frames, object_frames, places_frames, places_headers, run_frames, run_headers, same_object, statics_held}
+use Rattle.law_soundness.proofs.Frames.{Frames, bytes_held, cell_frames, object_frames, places_frames, places_headers, places_held, run_frames, run_headers, same_object}
 use Rattle.law_soundness.proofs.Frames.{transient_frames}
 use Rattle.law_soundness.proofs.Transients.{cleared_carried, fill_carried, flags_carried, names_object, object_carried, same_carried, transient_carried}
 use Rattle.law_soundness.proofs.Frames.{word_frames}
@@ -41,7 +41,8 @@ use Rattle.law_soundness.proofs.Memories.{known_now, low_now, most_opened, turne
 use Rattle.law_soundness.proofs.Objects.{object_added, transient_added}
 use Rattle.law_soundness.proofs.Pins.{PinAt, array_bytes, counter_kept, first_kept, pin_at, pin_still, update_kept}
 use Rattle.law_soundness.proofs.Registry.{IsEntry, entered, facts_still, item_still}
-use Rattle.law_soundness.proofs.Statics.{static_kept, words_kept}
+use Rattle.law_soundness.proofs.Places.{places_kept, places_suit}
+use Rattle.law_soundness.proofs.Statics.{static_kept}
 use Rattle.law_soundness.proofs.Values.{aid_run_kept, fields_kept, none_of, of_all, run_kept, value_kept}
 
 -- ---- what the moves need to keep the heap whole
@@ -51,13 +52,6 @@ no_array f kept e = false≢true (sym (ap is_instance e) ∙ (and_parts (is_inst
 
 pub event_none : (f : Facts) → is_persistent_instance f ≡ true → f.event ≡ None
 event_none f kept = none_of f.event (and_parts (is_instance f.kind) _ kept).1
-
-statics_suit : (p : Packages) (h : HeapState) (cs : List (Place × ℕ)) → AreStatics p h cs → AreLegalValues h cs
-statics_suit p h [] fits = tt
-statics_suit p h ((Static r j, v) ∷ cs) fits = (tt, statics_suit p h cs fits.1)
-statics_suit p h ((Cell r i, v) ∷ cs) fits = absurd fits
-statics_suit p h ((Registry i, v) ∷ cs) fits = absurd fits
-statics_suit p h ((AppletCount, v) ∷ cs) fits = absurd fits
 
 bytes_suit : (h : HeapState) (bytes : List ℕ) (array i : ℕ) (cs : List (Place × ℕ)) → ((bytes ≡ [] → ⊥) → is_bytes (facts h array).kind ≡ true)
     → AreLegalValues h cs → AreLegalValues h (cell_changes array i bytes ++ cs)
@@ -275,12 +269,12 @@ module _ (p : Packages) (m : MemoryState) (s : IsSoundMemory p m) where
   -- ---- moves
 
   changes_kept : (changes : List (Place × ℕ)) → FitsChange p m changes → IsSoundMemory p (apply_effect (HeapMove (SetPlaces changes)) m)
-  changes_kept changes (OfStatics fits) =
-      kept_changed p m s (set_places m.heap.now changes) _ 0 (places_frames changes m.heap.now (statics_held p m.heap.now changes fits))
+  changes_kept changes (OfPlaces fits) =
+      kept_changed p m s (set_places m.heap.now changes) _ 0 (places_frames changes m.heap.now (places_held p m.heap.now changes fits))
       (places_headers changes m.heap.now)
-      (keeps (SetPlaces changes) m.heap (statics_suit p m.heap.now changes fits) s.whole)
+      (keeps (SetPlaces changes) m.heap (places_suit p m.heap.now changes fits) s.whole)
       (λ most sound. of_all most (last_own m) p m.heap.now (set_places m.heap.now changes)
-      (words_kept (last_own m) most (last_own m) p m.heap.now changes fits) sound)
+      (places_kept (last_own m) most (last_own m) p m.heap.now changes fits) sound)
   changes_kept changes (OfPin f) = pin_set changes f
   changes_kept changes (OfValue f) = value_set changes f
   changes_kept changes (OfRegistry f) = subst (λ cs. IsSoundMemory p (apply_effect (HeapMove (SetPlaces cs)) m)) (sym f.is) (applet_kept p m s changes f)

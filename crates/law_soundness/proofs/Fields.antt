@@ -18,7 +18,7 @@ use Rattle.law_isolation.proofs.Instructions.{fields_due}
 use Rattle.law_isolation.proofs.Passing.{FieldsPass}
 use Rattle.law_isolation.proofs.Reached.{IsCell, Names}
 use Rattle.law_linking.specs.Classes.{KnowsClasses}
-use Rattle.law_soundness.specs.Fit.{FitsCell, FitsValue, IsFit, OfStatics}
+use Rattle.law_soundness.specs.Fit.{FitsCell, FitsValue, IsFit, OfPlaces}
 use Rattle.law_soundness.specs.State.{IsSoundMemory}
 use Rattle.law_soundness.specs.Groups.{FieldsFit}
 use Rattle.law_soundness.proofs.RunObjects.{instance_no_array, kept_fits, one_fits, set_in}
@@ -65,7 +65,7 @@ module _ (p : Packages) (m : MemoryState) (known : KnowsClasses p) (sound : IsSo
         (λ array. absurd (instance_no_array (facts m.heap.now r).kind (ap is_instance cell.kind) array)));
     word = λ of_type number index field cells v k w x taken kept named there whole. word_set p m sound field w there of_type v.0 k x
         (static_is p of_type field number index named) (has_type of_type cells v taken) kept whole;
-    halves = λ of_type number index field w behind x y named there odd next. OfStatics
+    halves = λ of_type number index field w behind x y named there odd next. OfPlaces
         (halves_set p m sound field w there of_type behind x y (static_is p of_type field number index named) odd next);
   }
 

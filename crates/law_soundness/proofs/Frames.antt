@@ -13,7 +13,7 @@ use Rattle.jc_heap.proofs.Laws.{header_only-set_cell, facts-set_cell, heap_item_
 use Rattle.jc_heap.proofs.RecordWords.{header_only-set_word}
 use Rattle.jc_heap.proofs.Keeping.{object-header_only}
 use Rattle.jc_linker.specs.Values.{Packages}
-use Rattle.law_soundness.specs.Fit.{AreStatics}
+use Rattle.law_soundness.specs.Fit.{FitPlaces}
 
 -- what differs in cells and words alone is an object in both
 pub same_object : (a b : Item) → header_only a ≡ header_only b → is_object a ≡ is_object b
@@ -113,12 +113,12 @@ places_frames ((Static r j, v) ∷ cs) h held = also h (set_word h r j v) (set_p
 places_frames ((Registry i, v) ∷ cs) h held = absurd held
 places_frames ((AppletCount, v) ∷ cs) h held = absurd held
 
-pub statics_held : (p : Packages) (h : HeapState) (cs : List (Place × ℕ)) → AreStatics p h cs → AreHeld cs
-statics_held p h [] fits = tt
-statics_held p h ((Static r j, v) ∷ cs) fits = statics_held p h cs fits.1
-statics_held p h ((Cell r i, v) ∷ cs) fits = absurd fits
-statics_held p h ((Registry i, v) ∷ cs) fits = absurd fits
-statics_held p h ((AppletCount, v) ∷ cs) fits = absurd fits
+pub places_held : (p : Packages) (h : HeapState) (cs : List (Place × ℕ)) → FitPlaces p h cs → AreHeld cs
+places_held p h [] fits = tt
+places_held p h ((Cell r i, v) ∷ cs) fits = places_held p h cs fits.1
+places_held p h ((Static r j, v) ∷ cs) fits = places_held p h cs fits.1
+places_held p h ((Registry i, v) ∷ cs) fits = absurd fits.0
+places_held p h ((AppletCount, v) ∷ cs) fits = absurd fits.0
 
 pub bytes_held : (bytes : List ℕ) (array i : ℕ) (cs : List (Place × ℕ)) → AreHeld cs → AreHeld (cell_changes array i bytes ++ cs)
 bytes_held [] array i cs held = held

@@ -41,7 +41,7 @@ module _ (h : HeapState) (args : List Cell) (living : AreLivingCells h args) whe
   cell_lives (Reference r) lives = refers r lives
   cell_lives (ReturnAddress a) lives = refl
 
-  argument_lives : (i : ℕ) → is_reference h (unwrap_or (reference_argument args i) 0) ≡ true
+  pub argument_lives : (i : ℕ) → is_reference h (unwrap_or (reference_argument args i) 0) ≡ true
   argument_lives i = elim (slice_get_cases args i).1 [
     | inl found ↦ subst (λ o. is_reference h (unwrap_or (option_and_then as_reference o) 0) ≡ true) (sym found.2)
         (cell_lives found.0 (subst (IsLivingCell h) found.3 (living i found.0 found.1)))

@@ -3,6 +3,7 @@ pub mod Kept
 pub mod Cells
 pub mod Values
 pub mod Statics
+pub mod Places
 pub mod Objects
 pub mod Pins
 pub mod Registry
@@ -30,6 +31,7 @@ pub mod RunPins
 pub mod RunCells
 pub mod RunRegistry
 pub mod Applets
+pub mod Pairing
 pub mod Natives
 pub mod Owners
 pub mod Leaves

@@ -23,7 +23,7 @@ use Rattle.jc_interp_objects.specs.declared.static_images.ImageWord.{ImageWord}
 use Rattle.jc_interp_objects.specs.declared.field_names.FieldOfImage.{FieldOfImage}
 use Rattle.jc_interp_objects.specs.StaticImages.{package_record_or_none, image_word, next_word, place_of, record_at, word_behind, word_in}
 use Rattle.jc_interp_objects.specs.FieldNames.{has_field, static_named, static_of}
-use Rattle.law_soundness.specs.Fit.{AreStatics, FitsStatic}
+use Rattle.law_soundness.specs.Fit.{FitPlaces, FitsStatic}
 use Rattle.law_soundness.specs.State.{IsSoundMemory}
 use Rattle.law_isolation.proofs.Passing.{IsWordOf}
 use Rattle.law_soundness.proofs.RunValues.{HasType, keepable_is}
@@ -139,7 +139,7 @@ module _ (p : Packages) (m : MemoryState) (sound : IsSoundMemory p m) where
     number_fits x le = past field.package_number (field.offset / 2) w word le x
 
     numbers_fit : (behind : ImageWord) (x y : ℕ) → next_word m.heap.now w ≡ Some behind → (statics_at p field.package_number).1 ≤ field.offset / 2
-        → AreStatics p m.heap.now ((place_of w, x) ∷ (place_of behind, y) ∷ [])
+        → FitPlaces p m.heap.now ((place_of w, x) ∷ (place_of behind, y) ∷ [])
     numbers_fit behind x y next le = (
       number_fits x le,
       (
@@ -159,7 +159,7 @@ module _ (p : Packages) (m : MemoryState) (sound : IsSoundMemory p m) where
         (λ lt. subst (λ n. is_reference m.heap.now n ≡ true) (sym same) (keepable_is p m value v of kept))
 
     pub halves_set : (of_type : ValueType) (behind : ImageWord) (x y : ℕ) → HasStatic p of_type field → (field.offset % 2 == 0) ≡ false
-        → next_word m.heap.now w ≡ Some behind → AreStatics p m.heap.now ((place_of w, x) ∷ (place_of behind, y) ∷ [])
+        → next_word m.heap.now w ≡ Some behind → FitPlaces p m.heap.now ((place_of w, x) ∷ (place_of behind, y) ∷ [])
     halves_set types.Byte behind x y has odd next = numbers_fit behind x y next (is_past _ has)
     halves_set types.Short behind x y has odd next = numbers_fit behind x y next (is_past _ has)
     halves_set types.Reference behind x y has odd next = absurd (both_ways (field.offset % 2 == 0) odd (and_parts (field.offset % 2 == 0) _ has).0)

@@ -18,11 +18,11 @@ use Rattle.law_soundness.specs.Environment.{HasEnvironment}
 use Rattle.jc_pin.specs.Pins.{record_of as pin_of}
 use Rattle.jc_pin.specs.PinInit.{first_record}
 use Rattle.jc_pin.specs.Updating.{changes_of_update}
-use Rattle.law_soundness.specs.Fit.{FitsChange, FitsMove, FitsPlace, FitsTurn, IsFit, OfPin, OfRegistry, OfStatics, OfValue}
+use Rattle.law_soundness.specs.Fit.{FitsChange, FitsMove, FitsPlace, FitsTurn, IsFit, OfPin, OfPlaces, OfRegistry, OfValue}
 use Rattle.law_soundness.specs.State.{IsSoundMemory, is_home, is_open, is_owner_up_to, most_owner}
 use Rattle.law_soundness.proofs.Effects.{keeps_sound}
 use Rattle.law_soundness.proofs.Environment.{keeps_environment}
-use Rattle.law_soundness.proofs.Frames.{bytes_held, cell_frames, object_frames, places_frames, run_frames, statics_held, transient_frames, word_frames}
+use Rattle.law_soundness.proofs.Frames.{bytes_held, cell_frames, object_frames, places_frames, run_frames, places_held, transient_frames, word_frames}
 use Rattle.law_soundness.proofs.Kept.{owner_more}
 use Rattle.law_soundness.proofs.Memories.{choose, turned_kept}
 use Rattle.law_soundness.specs.Commands.{IsServed, OpensInstallation, ServingKeeps}
@@ -110,8 +110,8 @@ module _ (p : Packages) (m : MemoryState) (s : IsSoundMemory p m) where
 
   changes_more : (changes : List (Place × ℕ)) → FitsChange p m changes → durable.counts.1
       ≤ (apply_effect (HeapMove (SetPlaces changes)) m).heap.durable.counts.1
-  changes_more changes (OfStatics fits) = left_more (set_places m.heap.now changes)
-      (places_frames changes m.heap.now (statics_held p m.heap.now changes fits)).counts
+  changes_more changes (OfPlaces fits) = left_more (set_places m.heap.now changes)
+      (places_frames changes m.heap.now (places_held p m.heap.now changes fits)).counts
   changes_more changes (OfPin f) = subst (λ cs. durable.counts.1 ≤ (apply_effect (HeapMove (SetPlaces cs)) m).heap.durable.counts.1) (sym f.is)
       (left_more (set_places m.heap.now (first_record f.pin f.limit f.maximum f.value))
       (places_frames (first_record f.pin f.limit f.maximum f.value) m.heap.now tt).counts)

@@ -4,13 +4,10 @@ use Rattle.std.proofs.Common.{Option, Some, None, IfSome, if◌then◌else◌}
 use Rattle.std.proofs.lemmas.List.{length-set, get_or-set_same, get_or-set_other}
 use Rattle.std.proofs.lemmas.Bool.{cases_Bool, cases_eq, eq-eqb, ne_eqb}
 use Rattle.std.proofs.lemmas.Option.{none-some, same_Some}
-use Rattle.jc_heap.specs.declared.place.Place.{Place}
-use Rattle.jc_heap.specs.declared.place.Place.TheVariants.{Cell, Static, Registry, AppletCount}
 use Rattle.jc_heap.specs.Cut.{records_from}
 use Rattle.jc_heap.specs.Object.{AnObject, APackage, Item, cells_of, facts_of, is_object}
 use Rattle.jc_heap.specs.Components.{part_sizes, record_of, words_for, words_of}
 use Rattle.jc_heap.specs.Heap.{HeapState, IsObject, heap_item_at, is_allocated}
-use Rattle.jc_heap.specs.Places.{set_places}
 use Rattle.jc_heap.specs.Statics.{IsStatic, image_from, set_word, statics_of, with_word}
 use Rattle.jc_heap.proofs.Laws.{heap_item_at-absent}
 use Rattle.jc_heap.proofs.RecordWords.{header_only-set_word, of_item-set_word, same_words}
@@ -20,7 +17,7 @@ use Rattle.jc_linker.specs.Lookups.{statics_at}
 use Rattle.jc_linker.specs.Values.{Packages}
 use Rattle.jc_card_checks.specs.Objects.{is_reference}
 use Rattle.jc_card_checks.specs.Sound.{HoldsStatics, entry_word, package_record_at}
-use Rattle.law_soundness.specs.Fit.{AreStatics, FitsStatic}
+use Rattle.law_soundness.specs.Fit.{FitsStatic}
 use Rattle.law_soundness.proofs.Kept.{Carries, IsSoundBut, object_kept, reference_kept, sound_kept, statics_kept}
 use Rattle.law_isolation.proofs.Standing.{applets-set_word}
 
@@ -146,7 +143,7 @@ module _ (h : HeapState) (r j v : ℕ) (static : IsStatic (record_of h r) j) whe
     | inr ne ↦ ap statics_of (record-other h r j v q ne) ∙ e
   ]
 
-  word_carries : Carries h g
+  pub word_carries : Carries h g
   word_carries = record {
     there = λ q o. of_item-set_word is_object object-with_word h r j v q ∙ o;
     same = λ q o. of_item-set_word facts_of facts-with_word h r j v q;
@@ -154,7 +151,7 @@ module _ (h : HeapState) (r j v : ℕ) (static : IsStatic (record_of h r) j) whe
   }
 
   -- what fits another word of an image still does
-  static_stays : (p : Packages) (q i w : ℕ) → FitsStatic p h q i w → FitsStatic p g q i w
+  pub static_stays : (p : Packages) (q i w : ℕ) → FitsStatic p h q i w → FitsStatic p g q i w
   static_stays p q i w fits = record {
     there = record {
       begin = fits.there.begin;
@@ -211,24 +208,6 @@ module _ (h : HeapState) (r j v : ℕ) (static : IsStatic (record_of h r) j) whe
         (images_held s.statics k (subst (λ l. k < length l) (packages-set_word h r j v) lt)))
         s
 
--- several
-all_stay : (p : Packages) (h : HeapState) (r j v : ℕ) → IsStatic (record_of h r) j → (cs : List (Place × ℕ)) → AreStatics p h cs
-    → AreStatics p (set_word h r j v) cs
-all_stay p h r j v static [] fits = tt
-all_stay p h r j v static ((Static q i, w) ∷ cs) fits = (static_stays h r j v static p q i w fits.0, all_stay p h r j v static cs fits.1)
-all_stay p h r j v static ((Cell q i, w) ∷ cs) fits = absurd fits
-all_stay p h r j v static ((Registry i, w) ∷ cs) fits = absurd fits
-all_stay p h r j v static ((AppletCount, w) ∷ cs) fits = absurd fits
-
 pub static_kept : (x most own : ℕ) (p : Packages) (h : HeapState) (r j v : ℕ) → FitsStatic p h r j v → IsSoundBut x most p h own
     → IsSoundBut x most p (set_word h r j v) own
 static_kept x most own p h r j v fits s = word_kept h r j v fits.there x most own p fits s
-
-pub words_kept : (x most own : ℕ) (p : Packages) (h : HeapState) (cs : List (Place × ℕ)) → AreStatics p h cs → IsSoundBut x most p h own
-    → IsSoundBut x most p (set_places h cs) own
-words_kept x most own p h [] fits s = s
-words_kept x most own p h ((Static r j, v) ∷ cs) fits s =
-    words_kept x most own p (set_word h r j v) cs (all_stay p h r j v fits.0.there cs fits.1) (static_kept x most own p h r j v fits.0 s)
-words_kept x most own p h ((Cell q i, w) ∷ cs) fits s = absurd fits
-words_kept x most own p h ((Registry i, w) ∷ cs) fits s = absurd fits
-words_kept x most own p h ((AppletCount, w) ∷ cs) fits s = absurd fits

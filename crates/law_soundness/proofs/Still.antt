@@ -37,7 +37,7 @@ Lives m = IsReference m.heap.now
 pub still_turns : Turns IsStill (λ m. Unit {0})
 still_turns = record { keeps = λ e m still so. tt; turns = λ g m so active installation selected. (installation, active); sends = λ bytes m. (tt, refl) }
 
-cells_elsewhere : (bytes : List ℕ) (array i : ℕ) (cs : List (Place × ℕ)) → AreElsewhere cs → AreElsewhere (cell_changes array i bytes ++ cs)
+pub cells_elsewhere : (bytes : List ℕ) (array i : ℕ) (cs : List (Place × ℕ)) → AreElsewhere cs → AreElsewhere (cell_changes array i bytes ++ cs)
 cells_elsewhere [] array i cs rest = rest
 cells_elsewhere (b ∷ bytes) array i cs rest = (tt, cells_elsewhere bytes array (suc i) cs rest)
 
@@ -46,11 +46,11 @@ module _ (m : MemoryState) where
   set_still None r i v = (tt, refl)
   set_still (Some event) r i v = (tt, refl)
 
-  run_still : (event : Option ClearEvent) (r i : ℕ) (words : List ℕ) → IsStill (cells_effect_in event r i words) m
+  pub run_still : (event : Option ClearEvent) (r i : ℕ) (words : List ℕ) → IsStill (cells_effect_in event r i words) m
   run_still None r i words = (tt, refl)
   run_still (Some event) r i words = (tt, refl)
 
-  made_still : (event : Option ClearEvent) (o : NewObject) → IsStill (HeapMove (creation_move event o)) m
+  pub made_still : (event : Option ClearEvent) (o : NewObject) → IsStill (HeapMove (creation_move event o)) m
   made_still None o = (tt, refl)
   made_still (Some event) o = (tt, refl)
 

@@ -1,8 +1,8 @@
 -- Values that are set in cells of arrays, of instances and of AID objects.
 use Rattle.std.proofs.Common.{◌≡◌, ℕ, suc, ◌+◌, ◌*◌, ◌<◌, ◌≤◌, ◌==◌, true, false, List, [], ◌∷◌, length, get_or, refl, sym, ◌∙◌, ap, subst, arith, Option}
-use Rattle.std.proofs.Common.{Some, None, inl, inr}
-use Rattle.std.specs.Prelude.{◌||◌, is_none, slice_index}
-use Rattle.std.proofs.lemmas.Bool.{and_parts, false≢true, eqb-true, or_cases, or_right}
+use Rattle.std.proofs.Common.{Some, None}
+use Rattle.std.specs.Prelude.{is_none, slice_index}
+use Rattle.std.proofs.lemmas.Bool.{and_parts, false≢true, eqb-true}
 use Rattle.jc_transient.specs.declared.cell.ClearEvent.{ClearEvent}
 use Rattle.jc_platform.specs.declared.names.PlatformClass.TheVariants.{Aid, OwnerPin}
 use Rattle.jc_platform.specs.Distinct.{class_word}
@@ -12,16 +12,15 @@ use Rattle.jc_heap.specs.Heap.{HeapState, facts, set_cell, set_cells}
 use Rattle.jc_heap.proofs.Laws.{facts-set_cell}
 use Rattle.jc_linker.specs.Classes.{is_below, reference_cell}
 use Rattle.jc_linker.specs.Values.{Packages}
-use Rattle.jc_card_checks.specs.Objects.{is_bytes, is_instance, is_persistent_instance, is_object_address, is_reference}
+use Rattle.jc_card_checks.specs.Objects.{is_bytes, is_instance, is_persistent_instance, is_object_address}
 use Rattle.jc_linker.specs.Classes.{is_a}
 use Rattle.jc_card_checks.specs.Sound.{IsRegistered, entry_word}
 use Rattle.law_soundness.specs.State.{IsSoundUpTo}
 use Rattle.law_soundness.specs.Fit.{FitsCell}
-use Rattle.law_soundness.proofs.Kept.{IsSoundBut, but_one, with_one}
-use Rattle.law_soundness.proofs.Cells.{CellFits, cell_kept}
+use Rattle.law_soundness.proofs.Kept.{Carries, IsSoundBut, but_one, reference_kept, with_one}
+use Rattle.law_soundness.proofs.Cells.{CellFits, cell_carries, cell_kept}
 use Rattle.law_isolation.proofs.Standing.{SameApplets, applets-set_cell}
 use Rattle.jc_world.proofs.Below.{below_itself}
-use Rattle.jc_api.proofs.Standing.{object-set_cell}
 
 -- the object of a registered AID
 pub kept_aid : (p : Packages) (h : HeapState) (a r : ℕ) → IsRegistered p h a → entry_word h a 0 ≡ r
@@ -37,22 +36,13 @@ kept_aid p h a r old is =
           ∙ below_itself p (class_word p.platform Aid)),
     )
 
--- a value that fits a cell of an object goes on fitting it where another is set
-fits_later : (p : Packages) (h : HeapState) (r i v j w : ℕ) → FitsCell p h r j w → FitsCell p (set_cell h r i v) r j w
-fits_later p h r i v j w fits = record {
-  reference = λ holds. refers (fits.reference (sym (ap (λ f. reference_cell p f.class j) same) ∙ holds));
+-- a value that fits a cell goes on fitting it where every object stays, with the same header
+pub fits_later : (p : Packages) (h g : HeapState) → Carries h g → (r i v : ℕ) → facts g r ≡ facts h r → FitsCell p h r i v → FitsCell p g r i v
+fits_later p h g carries r i v same fits = record {
+  reference = λ holds. reference_kept p h g carries v (fits.reference (sym (ap (λ f. reference_cell p f.class i) same) ∙ holds));
   aid = λ is. fits.aid (sym (ap (λ f. is_a p f.class Aid) same) ∙ is);
   pin = λ is. fits.pin (sym (ap (λ f. is_a p f.class OwnerPin) same) ∙ is);
 }
-  where
-    same : facts (set_cell h r i v) r ≡ facts h r
-    same = facts-set_cell h r i v r
-
-    refers : is_reference h w ≡ true → is_reference (set_cell h r i v) w ≡ true
-    refers is = elim (or_cases (w == 0) (is_object_address h w) is) [
-      | inl null ↦ ap (λ b. b || is_object_address (set_cell h r i v) w) null
-      | inr there ↦ or_right (w == 0) (is_object_address (set_cell h r i v) w) (object-set_cell h r i v w there)
-    ]
 
 module _ (x most own : ℕ) (p : Packages) where
   -- one value
@@ -80,8 +70,8 @@ module _ (x most own : ℕ) (p : Packages) where
   pub fields_kept : (vs : List ℕ) (h : HeapState) (r i : ℕ) → ((k : ℕ) → k < length vs → FitsCell p h r (i + k) (slice_index vs k)) → IsSoundBut x most p h own
       → IsSoundBut x most p (set_cells h r i vs) own
   fields_kept [] h r i fits s = s
-  fields_kept (v ∷ vs) h r i fits s = fields_kept vs (set_cell h r i v) r (suc i) (λ k lt. fits_later p h r i v (suc i + k) (slice_index vs k)
-      (subst (λ j. FitsCell p h r j (slice_index vs k)) (omega arith) (fits (suc k) (omega (arith, lt)))))
+  fields_kept (v ∷ vs) h r i fits s = fields_kept vs (set_cell h r i v) r (suc i) (λ k lt. fits_later p h (set_cell h r i v) (cell_carries h r i v) r (suc i + k)
+      (slice_index vs k) (facts-set_cell h r i v r) (subst (λ j. FitsCell p h r j (slice_index vs k)) (omega arith) (fits (suc k) (omega (arith, lt)))))
       (value_kept h r i v (λ kept. subst (λ j. FitsCell p h r j v) (omega arith) (fits 0 (omega arith))) s)
 
   -- the words of an AID, in an AID object that is no applet's

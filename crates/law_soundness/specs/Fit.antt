@@ -63,11 +63,10 @@ FitsPlace p h (Static r j) v = FitsStatic p h r j v
 FitsPlace p h (Registry i) v = ⊥
 FitsPlace p h AppletCount v = ⊥
 
--- words of static images, of which each gets a value that fits
-abbrev pub AreStatics : Packages → HeapState → List (Place × ℕ) → Type 0
-AreStatics p h [] = Unit {0}
-AreStatics p h ((Static r j, v) ∷ more) = FitsStatic p h r j v × AreStatics p h more
-AreStatics p h (other ∷ more) = ⊥
+-- places of which each gets a value that fits
+abbrev pub FitPlaces : Packages → HeapState → List (Place × ℕ) → Type 0
+FitPlaces p h [] = Unit {0}
+FitPlaces p h (c ∷ cs) = FitsPlace p h c.0 c.1 × FitPlaces p h cs
 
 -- a persistent instance of OwnerPIN, or of a class below it, after the runtime environment's own objects
 pub record IsPinObject (p : Packages) (m : MemoryState) (r : ℕ) : Type 0 where
@@ -125,7 +124,7 @@ pub record RegistersApplet (p : Packages) (m : MemoryState) (changes : List (Pla
 
 -- several places that are set as one change
 pub data FitsChange (p : Packages) (m : MemoryState) (changes : List (Place × ℕ)) : Type 0 where
-  OfStatics : AreStatics p m.heap.now changes → FitsChange p m changes
+  OfPlaces : FitPlaces p m.heap.now changes → FitsChange p m changes
   OfPin : SetsUpPin p m changes → FitsChange p m changes
   OfValue : UpdatesPin p m changes → FitsChange p m changes
   OfRegistry : RegistersApplet p m changes → FitsChange p m changes

@@ -27,7 +27,7 @@ use Rattle.jc_platform.specs.declared.names.PlatformClass.TheVariants.{OwnerPin}
 use Rattle.jc_card_checks.specs.Objects.{is_byte_array, is_bytes, is_instance, is_object_address, is_persistent_instance}
 use Rattle.jc_linker.specs.Classes.{is_a}
 use Rattle.law_soundness.specs.Commands.{IsServed}
-use Rattle.law_soundness.specs.Fit.{AreCellsOf, AreStatics, FitsChange, FitsPlace, FitsRun, IsPinObject, OfPin, OfRegistry, OfStatics, OfValue, RegistersApplet, SetsUpPin, UpdatesPin}
+use Rattle.law_soundness.specs.Fit.{AreCellsOf, FitPlaces, FitsChange, FitsPlace, FitsRun, IsPinObject, OfPin, OfPlaces, OfRegistry, OfValue, RegistersApplet, SetsUpPin, UpdatesPin}
 use Rattle.law_soundness.specs.State.{IsSoundMemory}
 use Rattle.law_soundness.proofs.Effects.{event_none}
 use Rattle.law_soundness.proofs.Values.{none_of as none_is}
@@ -249,13 +249,6 @@ module _ (p : Packages) (m : MemoryState) (s : IsSoundMemory p m) (apart : Stand
         changes_away q (suc i) values (λ some. (all.0, omega (arith, end))) (λ some. other (omega arith)),
       )
 
-  statics_away : (changes : List (Place × ℕ)) → AreStatics p h changes → NonePlaced h w (places_of changes)
-  statics_away [] fits = tt
-  statics_away ((Static q j, v) ∷ more) fits = (static_away q j fits.0.there, statics_away more fits.1)
-  statics_away ((Cell q j, v) ∷ more) fits = absurd fits
-  statics_away ((Registry j, v) ∷ more) fits = absurd fits
-  statics_away ((AppletCount, v) ∷ more) fits = absurd fits
-
   registered_away : (changes : List (Place × ℕ)) → RegistersApplet p m changes → NonePlaced h w (places_of changes)
   registered_away changes f =
       let few = f.few in
@@ -332,12 +325,6 @@ module _ (p : Packages) (m : MemoryState) (s : IsSoundMemory p m) (apart : Stand
         ))))
   ]
 
-  changed : (changes : List (Place × ℕ)) → FitsChange p m changes → Decides (HeapMove (SetPlaces changes))
-  changed changes (OfStatics fits) = inr (none_placed h w (places_of changes) (statics_away changes fits))
-  changed changes (OfPin f) = started changes f
-  changed changes (OfValue f) = updated changes f
-  changed changes (OfRegistry f) = inr (none_placed h w (places_of changes) (registered_away changes f))
-
   place_away : (place : Place) (v : ℕ) → FitsPlace p h place v → place_at h place ≡ w → ⊥
   place_away (Cell q i) v fits is = cell_away q i fits.0 (λ same two.
       let kept = subst (λ x. is_persistent_instance (facts h x) ≡ true) (sym same) pin.kept in
@@ -346,6 +333,16 @@ module _ (p : Packages) (m : MemoryState) (s : IsSoundMemory p m) (apart : Stand
   place_away (Static q j) v fits is = static_away q j fits.there is
   place_away (Registry j) v fits is = absurd fits
   place_away AppletCount v fits is = absurd fits
+
+  places_away : (changes : List (Place × ℕ)) → FitPlaces p h changes → NonePlaced h w (places_of changes)
+  places_away [] fits = tt
+  places_away (c ∷ cs) fits = (place_away c.0 c.1 fits.0, places_away cs fits.1)
+
+  changed : (changes : List (Place × ℕ)) → FitsChange p m changes → Decides (HeapMove (SetPlaces changes))
+  changed changes (OfPlaces fits) = inr (none_placed h w (places_of changes) (places_away changes fits))
+  changed changes (OfPin f) = started changes f
+  changed changes (OfValue f) = updated changes f
+  changed changes (OfRegistry f) = inr (none_placed h w (places_of changes) (registered_away changes f))
 
   cells_away : (q i : ℕ) (words : List ℕ) → FitsRun p m q i words → AreCellsOf h q (i + length words) → IsNone w (words_at h (cells_from q i (length words)))
   cells_away q i words fits of = none_placed h w (cells_from q i (length words)) (run_away q (length words) i of (λ k lt same two.

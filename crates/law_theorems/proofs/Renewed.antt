@@ -29,7 +29,7 @@ use Rattle.jc_card_checks.specs.Objects.{is_bytes, is_instance, is_object_addres
 use Rattle.jc_linker.specs.Classes.{is_a}
 use Rattle.law_isolation.proofs.OnHeap.{StandsBeside, count_set, not_top, place_set, registry_set, transient_added}
 use Rattle.law_soundness.specs.Commands.{IsServed}
-use Rattle.law_soundness.specs.Fit.{AreStatics, FitsChange, FitsPlace, FitsRun, IsPinObject, OfPin, OfRegistry, OfStatics, OfValue}
+use Rattle.law_soundness.specs.Fit.{FitPlaces, FitsChange, FitsPlace, FitsRun, IsPinObject, OfPin, OfPlaces, OfRegistry, OfValue}
 use Rattle.law_soundness.specs.State.{IsSoundMemory}
 use Rattle.law_soundness.proofs.Effects.{event_none}
 use Rattle.law_images.specs.Cards.{IsOwnCard}
@@ -128,13 +128,6 @@ module _ (q n : ℕ) (f : Facts) where
 other_object : (q r i : ℕ) → (r ≡ q → ⊥) → IsBeside q (Cell r i)
 other_object q r i other e = other (ap object_of e)
 
-statics_beside : (p : Packages) (h : HeapState) (q : ℕ) (cs : List (Place × ℕ)) → AreStatics p h cs → AreBeside q cs
-statics_beside p h q [] fits = tt
-statics_beside p h q ((Static r j, v) ∷ more) fits = (no_cell q (Static r j) (λ x. x), statics_beside p h q more fits.1)
-statics_beside p h q ((Cell r j, v) ∷ more) fits = absurd fits
-statics_beside p h q ((Registry j, v) ∷ more) fits = absurd fits
-statics_beside p h q ((AppletCount, v) ∷ more) fits = absurd fits
-
 beside_append : (q : ℕ) (cs ds : List (Place × ℕ)) → AreBeside q cs → AreBeside q ds → AreBeside q (cs ++ ds)
 beside_append q [] ds first second = second
 beside_append q (c ∷ cs) ds first second = (first.0, beside_append q cs ds first.1 second)
@@ -159,6 +152,10 @@ module _ (p : Packages) (m : MemoryState) (s : IsSoundMemory p m) (q : ℕ) (pin
   place_beside (Registry j) v fits = absurd fits
   place_beside AppletCount v fits = absurd fits
 
+  places_beside : (cs : List (Place × ℕ)) → FitPlaces p m.heap.now cs → AreBeside q cs
+  places_beside [] fits = tt
+  places_beside (c ∷ cs) fits = (place_beside c.0 c.1 fits.0, places_beside cs fits.1)
+
   run_beside : (r i : ℕ) (vs : List ℕ) → FitsRun p m r i vs → (k : ℕ) → k < length vs → IsBeside q (Cell r (i + k))
   run_beside r i vs fits k lt = λ e.
       let same : r ≡ q = ap object_of e in
@@ -175,7 +172,7 @@ module _ (p : Packages) (m : MemoryState) (s : IsSoundMemory p m) (q : ℕ) (pin
       (and_parts (is_instance (facts m.heap.now q).kind) _ pin.kept).0
 
   changes_beside : (cs : List (Place × ℕ)) → FitsChange p m cs → SetsAnew q (HeapMove (SetPlaces cs)) m ⊎ AreBeside q cs
-  changes_beside cs (OfStatics fits) = inr (statics_beside p m.heap.now q cs fits)
+  changes_beside cs (OfPlaces fits) = inr (places_beside cs fits)
   changes_beside cs (OfPin f) = elim (cases_eq f.pin q) [
     | inl same ↦ inl (inr (record {
       limit = f.limit;

@@ -33,8 +33,8 @@ pub struct PrivateParts {
     pub secret: Stretch,
 }
 
-// It is so, or a code fault.
-fn check(holds: bool) -> Result<(), FrameExit>
+/// It is so, or a code fault.
+pub(crate) fn check(holds: bool) -> Result<(), FrameExit>
     ensures checked { result ≡ check_or_fault holds }
     ensures plain { plainly result ≡ result }
 {
@@ -45,8 +45,8 @@ fn check(holds: bool) -> Result<(), FrameExit>
     }
 }
 
-// It is the number of a type of private keys on a curve.
-fn is_ec_private(number: i16) -> bool
+/// It is the number of a type of private keys on a curve.
+pub(crate) fn is_ec_private(number: i16) -> bool
     ensures { result ≡ is_ec_private (pair_key_named number) }
 {
     match pair_key_named(number) {

@@ -22,8 +22,8 @@ use sha1::Sha1;
 /// How many bytes a number of a curve has at most.
 pub(crate) const MOST_NUMBER: usize = 66;
 
-// How many bytes a point has at most.
-const MOST_POINT: usize = 2 * MOST_NUMBER + 1;
+/// How many bytes a point has at most.
+pub(crate) const MOST_POINT: usize = 2 * MOST_NUMBER + 1;
 
 /// The parts of a key have no more bytes than the numbers of a curve, and its base point and a public key with this many bytes as many as they
 /// must have.
