@@ -12,7 +12,7 @@ _jcard() {
             new) words="--words --table --journal --help" ;;
             run) words="--why --trace --lines --map --cover --instructions --expect --help" ;;
             dump) words="--objects --all --secrets --against --help" ;;
-            try) words="--words --table --instructions --help" ;;
+            try) words="--words --table --journal --instructions --help" ;;
             tear) words="--probe --line --each --recovery --part --join --objects --instructions --help" ;;
             test) words="--junit --table --words --journal --instructions --help" ;;
             --reader) words="--port --atr --log --help" ;;

@@ -36,12 +36,12 @@ taken_by TryCommand rows = try_of rows
 -- what it asks for, with this operand, these words, this table and no other option
 abbrev request_by : OptionCommand → Text → Text → Text → CommandLineRequest
 request_by NewCommand operand words table = ToMake operand words (codes "256") (Some table)
-request_by TryCommand operand words table = ToTry operand words (Some table) None
+request_by TryCommand operand words table = ToTry operand words (codes "256") (Some table) None
 
 -- with this operand and no option
 abbrev alone_by : OptionCommand → Text → CommandLineRequest
 alone_by NewCommand operand = ToMake operand (codes "8192") (codes "256") None
-alone_by TryCommand operand = ToTry operand (codes "8192") None None
+alone_by TryCommand operand = ToTry operand (codes "8192") (codes "256") None None
 
 -- the command, as the build leaves it
 abbrev shape_of : OptionCommand → Shape
@@ -165,7 +165,7 @@ words_last NewCommand operand words table = refl
 words_last TryCommand operand words table = refl
 
 table_alone : (script table : Text)
-    → after TryCommand (given (operand_read TryCommand script) (codes "table") table) [] ≡ Some (ToTry script (codes "8192") (Some table) None)
+    → after TryCommand (given (operand_read TryCommand script) (codes "table") table) [] ≡ Some (ToTry script (codes "8192") (codes "256") (Some table) None)
 unfolding request_after clap_on_literals
 table_alone script table = refl
 

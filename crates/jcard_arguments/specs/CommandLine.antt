@@ -63,9 +63,9 @@ pub data CommandLineRequest : Type 0 where
   ToListObjects : Text → Bool → Bool → Option Text → CommandLineRequest
   -- the two images are compared, in all objects or those of packages, with the bytes of keys or without them, with what a map names
   ToCompare : Text → Text → Bool → Bool → Option Text → CommandLineRequest
-  -- the script is carried out on a new card in memory of N words, with the platform table with this name or the usual one, and at most
-  -- this many instructions a command
-  ToTry : Text → Text → Option Text → Option ℕ → CommandLineRequest
+  -- the script is carried out on a new card in memory of N words, whose journal can have C entries, with the platform table with this name or
+  -- the usual one, and at most this many instructions a command
+  ToTry : Text → Text → Text → Option Text → Option ℕ → CommandLineRequest
   -- commands of the script of the second name are cut, over the words of the image of the first
   ToTear : Text → Text → TearAsked → CommandLineRequest
   -- the parts of a sweep in these files are joined
@@ -122,9 +122,10 @@ dump_by (Some image) true None all secrets map = Some (ToListObjects image all s
 dump_by (Some image) false (Some other) all secrets map = Some (ToCompare image other all secrets map)
 dump_by image objects against all secrets map = None
 
-abbrev pub try_by : Option Text → Option Text → Option Text → Option (Option ℕ) → Option CommandLineRequest
-try_by (Some script) words table (Some instructions) = Some (ToTry script (unwrap_or words (codes "8192")) table instructions)
-try_by script words table instructions = None
+abbrev pub try_by : Option Text → Option Text → Option Text → Option Text → Option (Option ℕ) → Option CommandLineRequest
+try_by (Some script) words journal table (Some instructions) =
+    Some (ToTry script (unwrap_or words (codes "8192")) (unwrap_or journal (codes "256")) table instructions)
+try_by script words journal table instructions = None
 
 -- how many recoveries are cut: none where nothing is said, else a number from 1 to 3
 abbrev pub depth_of : Option Text → Option Depth
@@ -211,7 +212,7 @@ dump_of rows = dump_by (first_of (codes "image") rows) (is_given (first_of (code
     (is_given (first_of (codes "all") rows)) (is_given (first_of (codes "secrets") rows)) (first_of (codes "map") rows)
 
 abbrev pub try_of : List Row → Option CommandLineRequest
-try_of rows = try_by (first_of (codes "script") rows) (first_of (codes "words") rows) (first_of (codes "table") rows)
+try_of rows = try_by (first_of (codes "script") rows) (first_of (codes "words") rows) (first_of (codes "journal") rows) (first_of (codes "table") rows)
     (budget_given (first_of (codes "instructions") rows))
 
 abbrev pub tear_of : List Row → Option CommandLineRequest
@@ -305,7 +306,7 @@ request_by (Run image script options) = ToRun image.now script.now (run_asked_by
 request_by (Dump image) = ToList image.now
 request_by (DumpObjects image all secrets map) = ToListObjects image.now all secrets (text_of map)
 request_by (Compare image other all secrets map) = ToCompare image.now other.now all secrets (text_of map)
-request_by (Try script words table instructions) = ToTry script.now words.now (text_of table) instructions
+request_by (Try script words journal table instructions) = ToTry script.now words.now journal.now (text_of table) instructions
 request_by (Tear image script options) = ToTear image.now script.now (tear_asked_by options)
 request_by (Join files) = ToJoin (texts_of files.items)
 request_by (Test files options) = ToTest (texts_of files.items) (test_asked_by options)

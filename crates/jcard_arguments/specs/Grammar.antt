@@ -67,10 +67,10 @@ abbrev pub dump_grammar : App
 dump_grammar = with_rules (new_app (codes "dump")) (operand (codes "image") ∷ flag (codes "objects") ∷ value_option (codes "against")
     ∷ flag (codes "all") ∷ flag (codes "secrets") ∷ value_option (codes "map") ∷ [])
 
--- `try SCRIPT [--words N] [--table FILE] [--instructions N]`
+-- `try SCRIPT [--words N] [--table FILE] [--journal C] [--instructions N]`
 abbrev pub try_grammar : App
 try_grammar = with_rules (new_app (codes "try")) (operand (codes "script") ∷ value_option (codes "words") ∷ value_option (codes "table")
-    ∷ value_option (codes "instructions") ∷ [])
+    ∷ value_option (codes "journal") ∷ value_option (codes "instructions") ∷ [])
 
 -- `tear IMAGE SCRIPT [--probe FILE] [--line N | --each] [--recovery D] [--part I/N] [--objects] [--why] [--map FILE] [--instructions N]`, `tear --join FILE..`
 abbrev pub tear_grammar : App

@@ -69,10 +69,10 @@ TakesNews = (name image words table journal : Text) → IsNoFlag image → IsNoF
 -- with `--words N`, in either order of the options, on one of N words
 abbrev pub TakesTries : Type 0
 TakesTries = (name script words table : Text) → IsNoFlag script → IsNoFlag words → IsNoFlag table
-    → (request_of_words (name ∷ codes "try" ∷ script ∷ []) ≡ Some (ToTry script (codes "8192") None None))
-    × (request_of_words (name ∷ codes "try" ∷ script ∷ codes "--table" ∷ table ∷ []) ≡ Some (ToTry script (codes "8192") (Some table) None))
-    × (request_of_words (name ∷ codes "try" ∷ script ∷ codes "--table" ∷ table ∷ codes "--words" ∷ words ∷ []) ≡ Some (ToTry script words (Some table) None))
-    × (request_of_words (name ∷ codes "try" ∷ script ∷ codes "--words" ∷ words ∷ codes "--table" ∷ table ∷ []) ≡ Some (ToTry script words (Some table) None))
+    → (request_of_words (name ∷ codes "try" ∷ script ∷ []) ≡ Some (ToTry script (codes "8192") (codes "256") None None))
+    × (request_of_words (name ∷ codes "try" ∷ script ∷ codes "--table" ∷ table ∷ []) ≡ Some (ToTry script (codes "8192") (codes "256") (Some table) None))
+    × (request_of_words (name ∷ codes "try" ∷ script ∷ codes "--table" ∷ table ∷ codes "--words" ∷ words ∷ []) ≡ Some (ToTry script words (codes "256") (Some table) None))
+    × (request_of_words (name ∷ codes "try" ∷ script ∷ codes "--words" ∷ words ∷ codes "--table" ∷ table ∷ []) ≡ Some (ToTry script words (codes "256") (Some table) None))
 
 -- `NAME tear IMAGE SCRIPT` asks to cut the last command of exactly this script over this image; with `--probe FILE`, `--line N` or both,
 -- in this order, with this probe, and the command in this line; with `--each`, after a probe or without one, each command; with

@@ -153,6 +153,7 @@ fn try_action<'a>(values: &ArgMatches<'a>) -> Result<Action<'a>, NoAction>
         return Err(NoAction::Misused(NO_OPERAND));
     };
     let words = value_of(values, "words").unwrap_or("8192");
+    let journal = value_of(values, "journal").unwrap_or("256");
     let table = value_of(values, "table");
     let Some(instructions) = budget_given(value_of(values, "instructions")) else {
         return Err(NoAction::Misused(BAD_INSTRUCTIONS));
@@ -160,6 +161,7 @@ fn try_action<'a>(values: &ArgMatches<'a>) -> Result<Action<'a>, NoAction>
     Ok(Action::Try {
         script,
         words,
+        journal,
         table,
         instructions,
     })

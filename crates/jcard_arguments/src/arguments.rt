@@ -53,6 +53,7 @@ pub enum Action<'a> {
     Try {
         script: &'a str,
         words: &'a str,
+        journal: &'a str,
         table: Option<&'a str>,
         instructions: Option<u32>,
     },

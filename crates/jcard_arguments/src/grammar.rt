@@ -236,7 +236,7 @@ const DUMP: Usage<'static> = Usage {
 const TRY: Usage<'static> = Usage {
     name: "try",
     about: "Carries out a script on a new card in memory",
-    entries: &[SCRIPT, WORDS, TABLE, INSTRUCTIONS],
+    entries: &[SCRIPT, WORDS, TABLE, JOURNAL, INSTRUCTIONS],
 };
 
 const TEAR: Usage<'static> = Usage {

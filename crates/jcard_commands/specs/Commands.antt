@@ -63,7 +63,7 @@ IsDone (ToRun image script asked) ended text deeds = IsRunWith image script aske
 IsDone (ToList image) ended text deeds = IsDump image ended text deeds
 IsDone (ToListObjects image all secrets map) ended text deeds = IsToldBy map (IsObjectsDump image (record { all = all; secrets = secrets })) ended text deeds
 IsDone (ToCompare image other all secrets map) ended text deeds = IsToldBy map (IsComparison image other (record { all = all; secrets = secrets })) ended text deeds
-IsDone (ToTry script words table instructions) ended text deeds = IsTrial (budget_of instructions) script words table ended text deeds
+IsDone (ToTry script words journal table instructions) ended text deeds = IsTrial (budget_of instructions) script words journal table ended text deeds
 IsDone (ToTear image script asked) ended text deeds = IsToldBy asked.map (IsTearWith image script asked) ended text deeds
 IsDone (ToJoin []) ended text deeds = IsRefused BadCommandLine ended text deeds
 IsDone (ToJoin (file ∷ files)) ended text deeds = IsJoining (file ∷ files) ended text deeds

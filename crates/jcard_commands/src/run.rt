@@ -14,7 +14,7 @@ ghost use Rattle.jcard_files.specs.declared.fault.Fault.{Fault};
 use crate::listed::{Listed, list};
 use crate::script_run::run_with;
 use crate::told::Listener;
-use crate::trial::try_script;
+use crate::trial::{TrialRequest, try_script};
 use jc_card::card::USUAL_BUDGET;
 use jcard_arguments::arguments::{Action, NoAction, parse};
 use jcard_arguments::joined_words::joined;
@@ -186,11 +186,18 @@ fn act<'n, D: Disk, W: TextOut, P: Progress + Listener + Remarks + Timer>(
         Action::Try {
             script,
             words,
+            journal,
             table,
             instructions,
         } => {
-            let budget = instructions.unwrap_or(USUAL_BUDGET);
-            try_script(disk, script, words, table, budget, out, progress)
+            let asked = TrialRequest {
+                script,
+                words,
+                journal,
+                table,
+                budget: instructions.unwrap_or(USUAL_BUDGET),
+            };
+            try_script(disk, asked, out, progress)
         }
         Action::Tear {
             image,

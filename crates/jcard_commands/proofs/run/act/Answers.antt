@@ -34,8 +34,8 @@ returns-in-Compare-clause-done g c =
 pub returns-in-Try-clause-done : goal.returns-in-Try-clause-done
 returns-in-Try-clause-done g c =
     let done = c.try_script.ensures.done in
-    let trial = subst (λ (n : ℕ). IsTrial n c.in-Try.script.now c.in-Try.words.now (text_of c.in-Try.table) c.try_script.result done.0 done.1)
-    c.unwrap_or-budget.ensures done.3 in
+    let trial = subst (λ (n : ℕ). IsTrial n c.in-Try.script.now c.in-Try.words.now c.in-Try.journal.now (text_of c.in-Try.table) c.try_script.result done.0 done.1)
+    c.unwrap_or.ensures done.3 in
     (done.0, done.1, done.2, rw c.in-Try.is trial, done.4)
 
 pub returns-in-Tear-clause-done : goal.returns-in-Tear-clause-done
