@@ -13,6 +13,11 @@ use clap::ArgMatches;
 use jcard_outcomes::recoveries::Depth;
 use std::alloc::Global;
 
+// The words of a card, and the entries of its journal, where none are given.
+const USUAL_WORDS: &str = "8192";
+
+const USUAL_JOURNAL: &str = "256";
+
 const NO_OPERAND: &str = "an operand is missing";
 
 const BAD_INSTRUCTIONS: &str = "--instructions takes a number from 1 to 4294967295";
@@ -42,8 +47,8 @@ fn new_action<'a>(values: &ArgMatches<'a>) -> Result<Action<'a>, NoAction>
     let Some(image) = value_of(values, "image") else {
         return Err(NoAction::Misused(NO_OPERAND));
     };
-    let words = value_of(values, "words").unwrap_or("8192");
-    let journal = value_of(values, "journal").unwrap_or("256");
+    let words = value_of(values, "words").unwrap_or(USUAL_WORDS);
+    let journal = value_of(values, "journal").unwrap_or(USUAL_JOURNAL);
     let table = value_of(values, "table");
     Ok(Action::New {
         image,
@@ -152,8 +157,8 @@ fn try_action<'a>(values: &ArgMatches<'a>) -> Result<Action<'a>, NoAction>
     let Some(script) = value_of(values, "script") else {
         return Err(NoAction::Misused(NO_OPERAND));
     };
-    let words = value_of(values, "words").unwrap_or("8192");
-    let journal = value_of(values, "journal").unwrap_or("256");
+    let words = value_of(values, "words").unwrap_or(USUAL_WORDS);
+    let journal = value_of(values, "journal").unwrap_or(USUAL_JOURNAL);
     let table = value_of(values, "table");
     let Some(instructions) = budget_given(value_of(values, "instructions")) else {
         return Err(NoAction::Misused(BAD_INSTRUCTIONS));
