@@ -12,6 +12,7 @@ use Rattle.jc_memory.specs.State.{MemoryState, HeapMove}
 use Rattle.jc_memory.specs.Programs.{Program, Finish, Perform, Choose, Completes, Executes, bind, unless_refused}
 use Rattle.jc_memory.proofs.ProgramLemmas.{bind_did, bind_cut}
 use Rattle.jc_cap.specs.declared.texts.LoadedComponents.{LoadedComponents}
+use Rattle.jc_interp.specs.declared.attacks.Budget.{Budget}
 use Rattle.jc_card_load.specs.PendingPackages.{PendingPackageValue, linked_components}
 use Rattle.jc_card_load.specs.RecordContents.{arrays_of, image_of, parts_of, statics_of}
 use Rattle.jc_card_load.specs.declared.load_refusal.LoadRefusal.{LoadRefusal}
@@ -66,7 +67,7 @@ ends_outside p q s new load kept (Ok ended) rests made up = (ended_rests p s new
 ends_outside p q s new load kept (Err down) rests cut up = absurd (true≢false (sym cut.down ∙ up))
 
 -- the response to the end of a load
-pub ends_so : (budget : ℕ) (d : Program LoadResult) (s new : MemoryState) (r : Result CommandResult StoreDown) (q : Packages) (kept : Option OpenLoad)
+pub ends_so : (budget : Budget) (d : Program LoadResult) (s new : MemoryState) (r : Result CommandResult StoreDown) (q : Packages) (kept : Option OpenLoad)
     (said : Result (List ℕ) StoreDown) → said ≡ response_of_end r → Executes d s (after_end r q kept new) →
     Executes (bind d s (λ left v. Finish (answer_of_left budget left))) s (after_exchange said (record { memory = new; packages = q; load = kept; budget = budget }))
 ends_so budget d s new r q kept said is made =

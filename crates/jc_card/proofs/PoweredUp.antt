@@ -23,6 +23,7 @@ use Rattle.jc_platform.specs.Table.{Reads}
 use Rattle.jc_platform.proofs.OneAnswer.{one_table}
 use Rattle.jc_memory.specs.State.{MemoryState}
 use Rattle.jc_card.specs.CardState.{CardState}
+use Rattle.jc_interp.specs.Attacks.{undisturbed}
 use Rattle.jc_card.specs.Dispatching.{usual_budget}
 use Rattle.jc_card.specs.Fixed.{BeginsWithFixed, last_fixed}
 use Rattle.jc_card.specs.Made.{IsMade}
@@ -159,7 +160,8 @@ none_fit t h p linked misfit has =
 
 -- the card of packages that a heap fits
 pub fits_linked : {E : Type 0} (r : Result CardState E) (m : MemoryState) (p : Packages) (t : Tokens) (h : HeapState) (own : ℕ)
-    → IfOk r (λ card. card ≡ record { memory = m; packages = p; load = None; budget = usual_budget }) → OnOk r (IsSound p m.heap.now own) → m.heap.now ≡ h → own ≡ last_fixed t h
+    → IfOk r (λ card. card ≡ record { memory = m; packages = p; load = None; budget = undisturbed usual_budget }) → OnOk r (IsSound p m.heap.now own)
+    → m.heap.now ≡ h → own ≡ last_fixed t h
     → packages_of t h ≡ Some p → IfOk r (λ card. (packages_of t h ≡ Some card.packages) × IsSound card.packages h (last_fixed t h))
 fits_linked (Err e) m p t h own is sound same at linked = tt
 fits_linked (Ok card) m p t h own is sound same at linked =

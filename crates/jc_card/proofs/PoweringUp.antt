@@ -16,6 +16,7 @@ use Rattle.jc_heap.specs.Stored.{heap_of_store_at_rest}
 use Rattle.jc_heap.proofs.RawWords.{recovered-head}
 use Rattle.jc_image.specs.Opening.{HoldsImage}
 use Rattle.jc_platform.specs.Tokens.{Tokens}
+use Rattle.jc_interp.specs.Attacks.{undisturbed}
 use Rattle.jc_card.specs.CardState.{CardState}
 use Rattle.jc_card.specs.PowerUp.{HasHead, HasTable, HasHeap, IsFoundAfter, IsFoundFirst, PowerUpRefuses, RecoveredWordsFail, RefusalLeaves, fault_of}
 use Rattle.jc_card.specs.PoweringUp.{FaultLeaves, IsLeftRecovered, IsPoweredOver, PowerUpFails, PowersUpOver}
@@ -178,7 +179,7 @@ module _ {S : Type 0} (words : S → List ℕ) (down : S → Bool) (passed : S �
 
     is_powered : (budget : ℕ) (card : CardState) → (t : Tokens) × HasTable (recovered_of (words back)) t × HasHeap t (recovered_of (words back))
         → card.memory.heap ≡ heap_of_store_at_rest (words back) (passed back) (refusals back)
-        → IsAtReset (heap_of (recovered_of (words back))) card → card.budget ≡ budget
+        → IsAtReset (heap_of (recovered_of (words back))) card → card.budget ≡ undisturbed budget
         → IsPoweredOver (words old) (down old) (passed old) (refusals old) budget card
     is_powered budget card found heap reset has =
         let w = words old in
@@ -207,7 +208,7 @@ module _ {S : Type 0} (words : S → List ℕ) (down : S → Bool) (passed : S �
     pub powers_up : (budget : ℕ) (r : Result CardState (PowerFault × S))
         → OnOk r ((t : Tokens) × HasTable (recovered_of (words back)) t × HasHeap t (recovered_of (words back)))
         → IfOk r (λ card. card.memory.heap ≡ heap_of_store_at_rest (words back) (passed back) (refusals back))
-        → IfOk r (λ card. card.budget ≡ budget)
+        → IfOk r (λ card. card.budget ≡ undisturbed budget)
         → IfOk r (λ card. IsAtReset (heap_of (recovered_of (words back))) card)
         → IfErr r (λ e. RecoveredWordsFail e.0 (recovered_of (words back)))
         → IfErr r (λ e. e.1 ≡ back)

@@ -7,21 +7,23 @@ use Rattle.jc_memory.specs.State.{MemoryState}
 use Rattle.jc_memory.specs.Power.{VolatileState}
 use Rattle.jc_registry.specs.Aids.{aid_at}
 use Rattle.jc_registry.specs.Registry.{aid_of_applet}
+use Rattle.jc_interp.specs.declared.attacks.Budget.{Budget}
 use Rattle.jc_card_load.specs.declared.load.OpenLoad.{OpenLoad}
 
--- what running code changes; the packages, linked; the load that is open, if one is; and how many instructions a command may carry out
+-- what running code changes; the packages, linked; the load that is open, if one is; and how many instructions a command may carry out, with the
+-- attack that may come among them
 pub record CardState : Type 0 where
   pub memory : MemoryState
   pub packages : Packages
   pub load : Option OpenLoad
-  pub budget : ℕ
+  pub budget : Budget
 
 -- all but the heap
 pub record RestState : Type 0 where
   pub volatile : VolatileState
   pub packages : Packages
   pub load : Option OpenLoad
-  pub budget : ℕ
+  pub budget : Budget
 
 -- between two commands no transaction is open, unless the store has refused a write
 abbrev pub IsReady : HeapView → Type 0

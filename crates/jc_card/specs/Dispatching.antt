@@ -8,6 +8,7 @@ use Rattle.jc_memory.specs.State.{MemoryState, BeginCommand}
 use Rattle.jc_memory.specs.Programs.{Program, Finish, bind}
 use Rattle.jc_linker.specs.Values.{Packages}
 use Rattle.jc_registry.specs.Registry.{applet_with_aid}
+use Rattle.jc_interp.specs.declared.attacks.Budget.{Budget}
 use Rattle.jc_dispatch.specs.declared.applet_result.AppletResult.{AppletResult}
 use Rattle.jc_dispatch.specs.declared.applet_result.AppletResult.TheVariants.{Done, Reason, Unknown, NotSelected, NotRegistered, Malformed, NoApplet}
 use Rattle.jc_dispatch.specs.declared.applet_result.AppletResult.TheVariants.{RegistryFull}
@@ -49,17 +50,17 @@ status_of_ending NoApplet = no_applet
 status_of_ending RegistryFull = full
 
 -- the selected applet answers; where none is selected, that is the answer
-abbrev pub to_selected : ℕ → Option AppletNumber → ℕ → Packages → MemoryState → Program AppletResult
+abbrev pub to_selected : Budget → Option AppletNumber → ℕ → Packages → MemoryState → Program AppletResult
 to_selected budget None expected p m = Finish NotSelected
 to_selected budget (Some a) expected p m = process_command budget p a false expected m
 
 -- the applet with an AID is selected, or the command goes to the one that is
-abbrev pub to_named : ℕ → Option AppletNumber → ℕ → Packages → MemoryState → Program AppletResult
+abbrev pub to_named : Budget → Option AppletNumber → ℕ → Packages → MemoryState → Program AppletResult
 to_named budget None expected p m = to_selected budget m.registers.selected expected p m
 to_named budget (Some a) expected p m = applet_selection budget p a expected m
 
 -- SELECT (00 A4 04 00) of the manager or of an applet; another command goes to the selected applet
-unfoldable pub route : ℕ → Apdu → ℕ → Packages → MemoryState → Program AppletResult
+unfoldable pub route : Budget → Apdu → ℕ → Packages → MemoryState → Program AppletResult
 route budget c expected p m =
     if is_select c then (if bytes_eq c.content manager_aid then manager_selection budget p m else to_named budget
     (applet_with_aid m c.content) expected p m)

@@ -5,6 +5,7 @@ use Rattle.jc_linker.specs.Values.{Packages}
 use Rattle.jc_linker.specs.declared.fault.LinkFault.{LinkFault}
 use Rattle.jc_linker.specs.declared.fault.LinkFault.TheVariants as link
 use Rattle.jc_memory.specs.Programs.{Program, Finish, Either, bind}
+use Rattle.jc_interp.specs.declared.attacks.Budget.{Budget}
 use Rattle.jc_words.specs.declared.store.StoreDown.{StoreDown}
 use Rattle.jc_card_load.specs.declared.load.OpenLoad.{OpenLoad}
 use Rattle.jc_card_load.specs.declared.load_refusal.LoadRefusal.{LoadRefusal}
@@ -19,7 +20,7 @@ pub record LoadResponse : Type 0 where
   pub response : List ℕ
   pub packages : Packages
   pub load : Option OpenLoad
-  pub budget : ℕ
+  pub budget : Budget
 
 -- the number of a fault of linking
 abbrev pub link_number : LinkFault → ℕ
@@ -76,7 +77,7 @@ abbrev pub end_component : CardState → Program LoadResponse
 end_component card = on_load card component_end card.load
 
 -- the load ends
-abbrev pub answer_of_left : ℕ → LoadResult → LoadResponse
+abbrev pub answer_of_left : Budget → LoadResult → LoadResponse
 answer_of_left budget left = record { response = response_to left.ended; packages = left.packages; load = left.load; budget = budget }
 
 -- Command 80 BA end load: the package is linked and added, or refused

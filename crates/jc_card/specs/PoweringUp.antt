@@ -7,20 +7,21 @@ use Rattle.jc_commit.specs.Opening.{IsStoppedOpening}
 use Rattle.jc_commit.specs.State.{recovered_journal}
 use Rattle.jc_heap.specs.Heap.{heap_of, heap_view}
 use Rattle.jc_card.specs.CardState.{CardState}
+use Rattle.jc_interp.specs.Attacks.{undisturbed}
 use Rattle.jc_card.specs.Made.{IsMade}
 use Rattle.jc_card.specs.PowerUp.{IsRecovered, PowerUpRefuses}
 use Rattle.jc_card.specs.Reset.{IsAtReset}
 use Rattle.jc_card.specs.declared.power_up.PowerFault.{PowerFault}
 use Rattle.jc_card.specs.declared.power_up.PowerFault.TheVariants.{BadMagic, BadVersion, BadSize, BadLog, BadTable, BadPackage, NoMemory, StoreDown}
 
--- a store that is up, and whose words the product makes, becomes this card, with a budget of n: its heap is what the recovery and
--- the migration leave, and all else is as after a reset
+-- a store that is up, and whose words the product makes, becomes this card, with a budget of n and no attack: its heap is what the recovery
+-- and the migration leave, and all else is as after a reset
 pub record IsPoweredOver (words : List ℕ) (down : Bool) (passed : ℕ) (refusals : Refusals) (n : ℕ) (card : CardState) : Type 0 where
   pub made : IsMade words
   pub was_up : down ≡ false
   pub heap : card.memory.heap ≡ heap_view (recovered_journal words passed refusals) (limit_of words)
   pub reset : IsAtReset (heap_of (recovered_of words)) card
-  pub budget : card.budget ≡ n
+  pub budget : card.budget ≡ undisturbed n
 
 -- the store was up, and holds what its recovery and its migration leave: their writes have passed, and none was refused
 pub record IsLeftRecovered {S : Type 0} (words : S → List ℕ) (down : S → Bool) (passed : S → ℕ) (refusals : S → Refusals) (old new : S) : Type 0 where

@@ -15,6 +15,7 @@ use jc_dispatch::applet_result::AppletResult;
 use jc_dispatch::create::create;
 use jc_dispatch::process::process;
 use jc_dispatch::select::{select, select_manager};
+use jc_interp::attacks::Budget;
 use jc_linker::linked::Linked;
 use jc_memory::Memory;
 use jc_registry::applet_with_aid;
@@ -71,7 +72,7 @@ fn status_of(ending: AppletResult) -> StatusWord
 
 // The selected applet answers the command.
 fn to_selected<S: WordStore>(
-    budget: u32,
+    budget: Budget,
     expected: u16,
     memory: &mut Memory<S>,
     linked: &Linked,
@@ -91,7 +92,7 @@ fn to_selected<S: WordStore>(
 // SELECT (00 A4 04 00) of the manager or of an applet; another command goes to the selected applet.
 #[tactic(auto, unfolding(crate::specs::Dispatching::route))]
 fn route<S: WordStore>(
-    budget: u32,
+    budget: Budget,
     command: Command<'_>,
     expected: u16,
     memory: &mut Memory<S>,

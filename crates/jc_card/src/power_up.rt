@@ -16,6 +16,7 @@ ghost use Rattle.jc_memory.specs.Marks.{AreNone, AreObjects, mark_count};
 ghost use Rattle.jc_memory.specs.Owners.{at_reset};
 ghost use Rattle.jc_card_load.specs.Reading.{packages_of};
 ghost use Rattle.jc_card_checks.specs.Sound.{IsSound};
+ghost use Rattle.jc_interp.specs.Attacks.{undisturbed};
 ghost use Rattle.jc_card.specs.Dispatching.{usual_budget};
 ghost use Rattle.jc_card.specs.Fixed.{fixed_facts, fixed_of, last_fixed};
 ghost use Rattle.jc_environment.specs.Objects.{fixed_objects};
@@ -33,6 +34,7 @@ use jc_commit::OpenRefusal;
 use jc_environment::fixed_objects;
 use jc_heap::Heap;
 use jc_image::OpenImage;
+use jc_interp::attacks::Budget;
 use jc_linker::linked::Linked;
 use jc_memory::{MOST_FIXED, Marks, Memory, unset_flags};
 use jc_platform::read::{LARGEST_TEXT, read_table};
@@ -106,7 +108,7 @@ fn start<S: WordStore>(alloc: Global, store: S, budget: u32) -> Result<Card<S>, 
         × HasHeap t (recovered_of (S.words store))) }
     ensures heap { IfOk result (λ card. card.memory.heap
         ≡ heap_of_store_at_rest (S.words store) (S.passed store) (S.refusals store)) }
-    ensures budget { IfOk result (λ card. card.budget ≡ budget) }
+    ensures budget { IfOk result (λ card. card.budget ≡ undisturbed budget) }
     ensures reset { IfOk result (λ card. IsAtReset (heap_of (recovered_of (S.words store))) card) }
     ensures cause { IfErr result (λ e. RecoveredWordsFail e.0 (recovered_of (S.words store))) }
     ensures same { IfErr result (λ e. e.1 ≡ store) }
@@ -246,7 +248,7 @@ fn sound_card<S: WordStore + Drop>(
     requires linked { length linked.loaded ≡ length memory.heap.now.packages }
     requires own { (own ≡ 0 → ⊥) → IsObject memory.heap.now own }
     ensures card { IfOk result (λ card. card
-        ≡ record { memory = memory; packages = linked; load = None; budget = usual_budget }) }
+        ≡ record { memory = memory; packages = linked; load = None; budget = undisturbed usual_budget }) }
     ensures sound { OnOk result (IsSound linked memory.heap.now own) }
     ensures cause { IfErr result (λ fault. (fault ≡ PowerFault.BadPackage)
         × (IsSound linked memory.heap.now own → ⊥)) }
@@ -259,7 +261,7 @@ fn sound_card<S: WordStore + Drop>(
         memory,
         linked,
         load: None,
-        budget: USUAL_BUDGET,
+        budget: Budget::undisturbed(USUAL_BUDGET),
     })
 }
 
@@ -301,7 +303,7 @@ fn card_over<S: WordStore>(
         } }
     ensures packages { result.packages ≡ linked }
     ensures load { result.load ≡ None }
-    ensures budget { result.budget ≡ budget }
+    ensures budget { result.budget ≡ undisturbed budget }
 {
     let heap = Heap::resume(store);
     Card {
@@ -309,7 +311,7 @@ fn card_over<S: WordStore>(
         memory: Memory::new(heap, ram, fixed, marks),
         linked,
         load: None,
-        budget,
+        budget: Budget::undisturbed(budget),
     }
 }
 

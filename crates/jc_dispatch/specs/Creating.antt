@@ -7,6 +7,7 @@ use Rattle.jc_memory.specs.State.{MemoryState}
 use Rattle.jc_memory.specs.Programs.{Program, Finish}
 use Rattle.jc_linker.specs.Lookups.{applet_entry, entry_with_aid}
 use Rattle.jc_linker.specs.Values.{Packages}
+use Rattle.jc_interp.specs.declared.attacks.Budget.{Budget}
 use Rattle.jc_dispatch.specs.declared.applet_result.AppletResult.{AppletResult}
 use Rattle.jc_dispatch.specs.declared.applet_result.AppletResult.TheVariants.{Malformed, NoApplet, RegistryFull}
 use Rattle.jc_dispatch.specs.Installing.{applet_installation}
@@ -55,21 +56,21 @@ unfoldable pub applet_named : Packages → List ℕ → Option (ℕ × ℕ)
 applet_named p aid = option_and_then (λ q. option_map (λ entry. (q, entry)) (entry_with_aid p q aid)) (first_with_entry p aid 1 (length p.loaded))
 
 -- its install runs
-abbrev pub creation_by_entry : ℕ → Packages → ℕ × ℕ → Option ℕ → List ℕ → MemoryState → Program AppletResult
+abbrev pub creation_by_entry : Budget → Packages → ℕ × ℕ → Option ℕ → List ℕ → MemoryState → Program AppletResult
 creation_by_entry budget p e None parameters m = Finish NoApplet
 creation_by_entry budget p e (Some offset) parameters m = applet_installation budget p (record { 0 = e.0 }) e.1 offset parameters m
 
 -- where the registry has a place for it
-abbrev pub creation_in_registry : ℕ → Packages → Option (ℕ × ℕ) → List ℕ → MemoryState → Program AppletResult
+abbrev pub creation_in_registry : Budget → Packages → Option (ℕ × ℕ) → List ℕ → MemoryState → Program AppletResult
 creation_in_registry budget p None parameters m = Finish NoApplet
 creation_in_registry budget p (Some e) parameters m =
     if nat_lt m.heap.now.counts.1 most_applets then creation_by_entry budget p e (option_map (λ a. a.install_offset) (applet_entry p e.0 e.1)) parameters m else
     Finish RegistryFull
 
-abbrev pub creation_by_data : ℕ → Packages → Option (List ℕ × List ℕ) → MemoryState → Program AppletResult
+abbrev pub creation_by_data : Budget → Packages → Option (List ℕ × List ℕ) → MemoryState → Program AppletResult
 creation_by_data budget p None m = Finish Malformed
 creation_by_data budget p (Some c) m = creation_in_registry budget p (applet_named p c.0) c.1 m
 
 -- malformed data first, then an AID that no package has, then a registry without a place
-unfoldable pub applet_creation : ℕ → Packages → List ℕ → MemoryState → Program AppletResult
+unfoldable pub applet_creation : Budget → Packages → List ℕ → MemoryState → Program AppletResult
 applet_creation budget p bytes m = creation_by_data budget p (creation_of bytes) m

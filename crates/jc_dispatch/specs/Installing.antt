@@ -16,6 +16,7 @@ use Rattle.jc_memory.specs.declared.registers.Registers.{Registers}
 use Rattle.jc_memory.specs.State.{MemoryState, HeapMove, SetRegisters, ClearTransient}
 use Rattle.jc_memory.specs.Programs.{Program, Finish, bind}
 use Rattle.jc_linker.specs.Values.{Packages}
+use Rattle.jc_interp.specs.declared.attacks.Budget.{Budget}
 use Rattle.jc_dispatch.specs.declared.applet_result.AppletResult.{AppletResult}
 use Rattle.jc_dispatch.specs.declared.applet_result.AppletResult.TheVariants.{Done, NotRegistered}
 use Rattle.jc_dispatch.specs.Buffer.{apdu_buffer, buffer_fill}
@@ -40,7 +41,7 @@ installation_end p m Idle end = result_of_run p m end
 
 -- an applet is installed: in a transaction, with its parameters in the buffer from its first byte on, its install runs as
 -- the next applet. What is still open then ends, and what is cleared at a deselection is
-unfoldable pub applet_installation : ℕ → Packages → PackageNumber → ℕ → ℕ → List ℕ → MemoryState → Program AppletResult
+unfoldable pub applet_installation : Budget → Packages → PackageNumber → ℕ → ℕ → List ℕ → MemoryState → Program AppletResult
 applet_installation budget p q entry offset parameters m =
     then_with (HeapMove Begin) m (λ v.
     then_with (SetRegisters (with_installation (Open q entry) v.registers)) v (λ w.

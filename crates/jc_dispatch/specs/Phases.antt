@@ -25,6 +25,7 @@ use Rattle.jc_platform.specs.declared.names.AppletsMethod.TheVariants.{AppletSel
 use Rattle.jc_platform.specs.Tokens.{method_token}
 use Rattle.jc_registry.specs.Registry.{instance_of_applet}
 use Rattle.jc_interp_calls.specs.Entering.{first_frames_of}
+use Rattle.jc_interp.specs.declared.attacks.Budget.{Budget}
 use Rattle.jc_interp.specs.Running.{run_methods}
 
 -- an effect, and then what the memory then asks for
@@ -41,12 +42,12 @@ registers_idle g = record g { active = Runtime; previous = Runtime }
 
 -- a method runs for an owner: what is left of the command's instructions, and how the method ended. Where it can't
 -- begin that is a code fault
-abbrev pub method_run_from : ℕ → Packages → Option Frames → Owner → MemoryState → Program (ℕ × Outcome)
-method_run_from budget p None owner m = Finish (budget, Fault)
+abbrev pub method_run_from : Budget → Packages → Option Frames → Owner → MemoryState → Program (ℕ × Outcome)
+method_run_from budget p None owner m = Finish (budget.left, Fault)
 method_run_from budget p (Some s) owner m = then_with (SetRegisters (registers_for owner m.registers)) m (λ v.
     bind (run_methods budget p s v) v (λ end w. then_with (SetRegisters (registers_idle w.registers)) w (λ x. Finish end)))
 
-unfoldable pub method_run : ℕ → Packages → ℕ → ℕ → List Cell → Owner → MemoryState → Program (ℕ × Outcome)
+unfoldable pub method_run : Budget → Packages → ℕ → ℕ → List Cell → Owner → MemoryState → Program (ℕ × Outcome)
 method_run budget p number offset arguments owner m = method_run_from budget p (first_frames_of p number offset arguments (owner_number owner)) owner m
 
 -- the method that an applet's class has under a name of the platform's class Applet
@@ -61,13 +62,13 @@ default_of (Applets AppletSelect) = Short (pos 1)
 default_of (Applets AppletDeselect) = Void
 default_of other = Fault
 
-abbrev pub run_method : ℕ → Packages → Option Method → List Cell → Owner → MemoryState → Program (ℕ × Outcome)
-run_method budget p None arguments owner m = Finish (budget, Fault)
-run_method budget p (Some (Native name)) arguments owner m = Finish (budget, default_of name)
+abbrev pub run_method : Budget → Packages → Option Method → List Cell → Owner → MemoryState → Program (ℕ × Outcome)
+run_method budget p None arguments owner m = Finish (budget.left, Fault)
+run_method budget p (Some (Native name)) arguments owner m = Finish (budget.left, default_of name)
 run_method budget p (Some (Code number offset)) arguments owner m = method_run budget p number offset arguments owner m
 
 -- a method of an applet is called by its name
-unfoldable pub applet_method_call : ℕ → Packages → PlatformMethod → ℕ → List Cell → Owner → MemoryState → Program (ℕ × Outcome)
+unfoldable pub applet_method_call : Budget → Packages → PlatformMethod → ℕ → List Cell → Owner → MemoryState → Program (ℕ × Outcome)
 applet_method_call budget p name applet arguments owner m = run_method budget p (method_named p m applet name) arguments owner m
 
 -- a transaction that is still open is taken back, and references to what was made in it become null

@@ -6,6 +6,7 @@ ghost use Rattle.jc_dispatch.specs.AdHocCode.{ad_hoc_run};
 
 use crate::closing::close;
 use jc_frames::Outcome;
+use jc_interp::attacks::Budget;
 use jc_interp::run;
 use jc_linker::linked::Linked;
 use jc_memory::{Memory, Phase};
@@ -15,7 +16,7 @@ use jc_words::{StoreDown, WordStore};
 /// open: how it ended.
 #[tactic(auto, unfolding(crate::specs::AdHocCode::ad_hoc_run), using(jc_memory::proofs::ProgramLemmas::in_two_steps))]
 pub fn run_command_code<S: WordStore>(
-    budget: u32,
+    budget: Budget,
     max_stack: u8,
     locals: u8,
     code: &[u8],

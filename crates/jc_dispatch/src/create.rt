@@ -9,6 +9,7 @@ ghost use Rattle.jc_dispatch.specs.Slices.{slice_pair_bytes, slice_bytes};
 
 use crate::applet_result::AppletResult;
 use crate::install::install;
+use jc_interp::attacks::Budget;
 use jc_linker::linked::Linked;
 use jc_memory::{Memory, PackageNumber};
 use jc_words::layout::MOST_APPLETS;
@@ -109,7 +110,7 @@ fn applet_named(aid: &[u8], linked: &Linked) -> Option<(u8, u8)>
 /// instance's AID, the control information and the applet's data. Each stands after its length.
 #[tactic(auto, unfolding(crate::specs::Creating::applet_creation))]
 pub fn create<S: WordStore>(
-    budget: u32,
+    budget: Budget,
     bytes: &[u8],
     memory: &mut Memory<S>,
     linked: &Linked,

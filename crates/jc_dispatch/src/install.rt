@@ -10,6 +10,7 @@ use crate::buffer::{apdu_buffer, fill};
 use crate::closing::close;
 use crate::phase::run_for;
 use jc_frames::{Cell, Outcome};
+use jc_interp::attacks::Budget;
 use jc_linker::linked::Linked;
 use jc_memory::{
     ApduPhase, ApduState, AppletNumber, Depth, Installation, Memory, Owner, PackageNumber, Phase,
@@ -67,7 +68,7 @@ fn installed_by<S: WordStore>(
 /// place of its `install` method. The parameters lie in the buffer from its first byte on.
 #[tactic(auto, unfolding(crate::specs::Installing::applet_installation), using(jc_memory::proofs::ProgramLemmas::in_two_steps))]
 pub fn install<S: WordStore>(
-    budget: u32,
+    budget: Budget,
     home: PackageNumber,
     entry: u8,
     offset: u16,

@@ -6,6 +6,7 @@ ghost use Rattle.jc_dispatch.specs.Phases.{applet_method_call, default_of, insta
 
 use jc_cap_linkage::pool::VirtualToken;
 use jc_frames::{Cell, Frames, Outcome};
+use jc_interp::attacks::Budget;
 use jc_interp::begin;
 use jc_interp::run::run_methods;
 use jc_linker::linked::Linked;
@@ -42,7 +43,7 @@ fn registers_idle(registers: Registers) -> Registers
 /// method ended.
 #[tactic(auto, unfolding(crate::specs::Phases::method_run), using(jc_memory::proofs::ProgramLemmas::in_two_steps))]
 pub(crate) fn run_for<S: WordStore>(
-    budget: u32,
+    budget: Budget,
     package_number: u8,
     offset: u16,
     arguments: &[Cell],
@@ -64,7 +65,7 @@ pub(crate) fn run_for<S: WordStore>(
         &mut frames,
     );
     let Ok(()) = begun else {
-        return Ok((budget, Outcome::Fault));
+        return Ok((budget.left, Outcome::Fault));
     };
     let registers = memory.registers();
     memory.set_registers(registers_for(owner, registers));
@@ -126,7 +127,7 @@ fn default_of(name: PlatformMethod) -> Outcome
 /// Calls a method of an applet by its name.
 #[tactic(auto, unfolding(crate::specs::Phases::applet_method_call))]
 pub(crate) fn call_applet_method<S: WordStore>(
-    budget: u32,
+    budget: Budget,
     name: PlatformMethod,
     applet: Ref,
     arguments: &[Cell],
@@ -140,8 +141,8 @@ pub(crate) fn call_applet_method<S: WordStore>(
 {
     note_phase(name, memory.notes());
     match method_named(name, applet, memory, linked) {
-        None => Ok((budget, Outcome::Fault)),
-        Some(Method::Native(native)) => Ok((budget, default_of(native))),
+        None => Ok((budget.left, Outcome::Fault)),
+        Some(Method::Native(native)) => Ok((budget.left, default_of(native))),
         Some(
             Method::Code {
                 package_number,

@@ -10,6 +10,7 @@ use crate::closing::close;
 use crate::phase::{call_applet_method, instance_of};
 use arrayvec::ArrayVec;
 use jc_frames::Cell;
+use jc_interp::attacks::Budget;
 use jc_linker::linked::Linked;
 use jc_memory::{ApduPhase, ApduState, AppletNumber, Memory, Owner, Registers};
 use jc_platform::names::{AppletsMethod, PlatformMethod};
@@ -43,7 +44,7 @@ fn header_of(bytes: &[u8]) -> ArrayVec<u8, 5>
 /// that selected it.
 #[tactic(auto, unfolding(crate::specs::Selecting::process_command), using(jc_memory::proofs::ProgramLemmas::in_two_steps))]
 pub fn process<S: WordStore>(
-    budget: u32,
+    budget: Budget,
     applet: AppletNumber,
     selecting: bool,
     expected: u16,

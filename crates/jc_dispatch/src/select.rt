@@ -9,6 +9,7 @@ use crate::closing::close;
 use crate::phase::{call_applet_method, instance_of};
 use crate::process::process;
 use jc_frames::Cell;
+use jc_interp::attacks::Budget;
 use jc_linker::linked::Linked;
 use jc_memory::{AppletNumber, Memory, Owner, Registers};
 use jc_platform::names::{AppletsMethod, PlatformMethod};
@@ -37,7 +38,7 @@ fn with_next(next: Option<AppletNumber>, registers: Registers) -> Registers
 // command's instructions.
 #[tactic(auto, unfolding(crate::specs::Selecting::applet_left), using(jc_memory::proofs::ProgramLemmas::in_two_steps))]
 fn leave_applet<S: WordStore>(
-    budget: u32,
+    budget: Budget,
     applet: Option<AppletNumber>,
     memory: &mut Memory<S>,
     linked: &Linked,
@@ -50,7 +51,7 @@ fn leave_applet<S: WordStore>(
 {
     let Some(applet) = applet else {
         memory.clear(ClearEvent::Deselect);
-        return Ok(budget);
+        return Ok(budget.left);
     };
     let instance = instance_of(applet, memory);
     let arguments = [Cell::Reference(instance)];
@@ -66,7 +67,7 @@ fn leave_applet<S: WordStore>(
 // instructions.
 #[tactic(auto, unfolding(crate::specs::Selecting::deselection))]
 fn leave<S: WordStore>(
-    budget: u32,
+    budget: Budget,
     next: Option<AppletNumber>,
     memory: &mut Memory<S>,
     linked: &Linked,
@@ -86,7 +87,7 @@ fn leave<S: WordStore>(
 /// `select` runs, and where it accepts, it answers the command.
 #[tactic(auto, unfolding(crate::specs::Selecting::applet_selection), using(jc_memory::proofs::ProgramLemmas::in_two_steps))]
 pub fn select<S: WordStore>(
-    budget: u32,
+    budget: Budget,
     applet: AppletNumber,
     expected: u16,
     memory: &mut Memory<S>,
@@ -108,12 +109,20 @@ pub fn select<S: WordStore>(
     let arguments = [Cell::Reference(instance)];
     let name = PlatformMethod::Applets(AppletsMethod::AppletSelect);
     let owner = Owner::Applet(applet);
+    let budget = budget.with_left(rest);
     let (rest, outcome) = call_applet_method(
-        rest, name, instance, &arguments, owner, memory, linked,
+        budget, name, instance, &arguments, owner, memory, linked,
     )?;
     close(memory)?;
     if is_select_accepted(outcome) {
-        return process(rest, applet, true, expected, memory, linked);
+        return process(
+            budget.with_left(rest),
+            applet,
+            true,
+            expected,
+            memory,
+            linked,
+        );
     }
     let registers = memory.registers();
     memory.set_registers(Registers {
@@ -126,7 +135,7 @@ pub fn select<S: WordStore>(
 /// Selects the manager: the selected applet is left, and none is selected.
 #[tactic(auto, unfolding(crate::specs::Selecting::manager_selection), using(jc_memory::proofs::ProgramLemmas::in_two_steps))]
 pub fn select_manager<S: WordStore>(
-    budget: u32,
+    budget: Budget,
     memory: &mut Memory<S>,
     linked: &Linked,
 ) -> Result<AppletResult, StoreDown>

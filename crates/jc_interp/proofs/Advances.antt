@@ -1,37 +1,64 @@
--- Turns: steps that need nothing but frames.
-use Rattle.std.proofs.Common.{◌≡◌, ℕ, suc, ◌+◌, ◌-◌, ◌<◌, List, Some, None, refl, ◌∙◌, ap, arith}
+-- Turns: steps that need nothing but frames, before which no attack comes.
+use Rattle.std.proofs.Common.{◌≡◌, ℕ, suc, ◌+◌, ◌-◌, ◌<◌, ◌≤◌, List, Option, Some, None, refl, ◌∙◌, ap, arith}
+use Rattle.std.proofs.lemmas.Bool.{ne_eqb}
 use Rattle.jc_memory.specs.State.{MemoryState}
 use Rattle.jc_linker.specs.Values.{Packages}
-use Rattle.jc_frames.specs.Frames.{Frames}
+use Rattle.jc_frames.specs.Frames.{Frames, GoesOn}
 use Rattle.jc_world.specs.Instructions.{continue_with}
+use Rattle.jc_interp.specs.declared.attacks.Attack.{Attack}
 use Rattle.jc_interp.specs.declared.frames_only.PausedStep.{PausedStep}
+use Rattle.jc_interp.specs.Attacks.{IsAway, attacked}
 use Rattle.jc_interp.specs.Stepping.{code_of, instruction_step, machine_step}
 use Rattle.jc_interp.specs.Running.{run_of}
 use Rattle.jc_interp.specs.PausedSteps.{run_behind, run_rest, paused_rest}
 
-module _ (lent code : List ℕ) (p : Packages) (s t : Frames) (m : MemoryState) (own : code ≡ code_of lent p s.current.origin.package_number) (n : ℕ) where
-  one_goes : continue_with t ≡ instruction_step code p s m → run_of (suc n) lent p s m ≡ run_of n lent p t m
+-- what is away from some steps is away from fewer of them
+pub away_less : (attack : Option Attack) (most least more less : ℕ) → more ≤ most → least ≤ less → IsAway attack most least → IsAway attack more less
+away_less None most least more less high low away = tt
+away_less (Some a) most least more less high low away = λ below above. away (omega (arith, low, below)) (omega (arith, high, above))
+
+pub away_fewer : (attack : Option Attack) (budget left later : ℕ) → left ≤ budget → IsAway attack (budget + later) later
+    → IsAway attack (left + later) later
+away_fewer attack budget left later few away = away_less attack (budget + later) later (left + later) later (omega (arith, few)) (omega arith) away
+
+-- then the step finds the frames as they are
+away_goes : (attack : Option Attack) (n : ℕ) (lent : List ℕ) (p : Packages) (s : Frames) → IsAway attack (suc n) n
+    → attacked attack (suc n) lent p s ≡ GoesOn s
+away_goes None n lent p s away = refl
+away_goes (Some a) n lent p s away =
+    rw (ne_eqb a.left (suc n) (λ e. away (omega (arith, e)) (omega (arith, e)))) refl
+
+module _ (attack : Option Attack) (lent code : List ℕ) (p : Packages) (s t : Frames) (m : MemoryState)
+    (own : code ≡ code_of lent p s.current.origin.package_number) (n : ℕ) (away : IsAway attack (suc n) n) where
+  one_goes : continue_with t ≡ instruction_step code p s m → run_of attack (suc n) lent p s m ≡ run_of attack n lent p t m
   unfolding run_of machine_step
-  one_goes e = rw (← own, ← e) refl
+  one_goes e = rw (away_goes attack n lent p s away, ← own, ← e) refl
 
   one_pauses : (pause : PausedStep) → pause.place ≡ s.current.place → paused_rest pause.why pause.place p t m ≡ instruction_step code p s m
-      → run_of (suc n) lent p s m ≡ run_rest (n, pause) lent p t m
+      → run_of attack (suc n) lent p s m ≡ run_rest attack (n, pause) lent p t m
   unfolding run_of machine_step
-  one_pauses pause at e = rw (← own, ← e, ← at) refl
+  one_pauses pause at e = rw (away_goes attack n lent p s away, ← own, ← e, ← at) refl
 
 one_left : (limit turn more : ℕ) → turn < limit → limit - turn + more ≡ suc (limit - (turn + 1) + more)
 one_left limit turn more lt = omega (arith, lt)
 
 -- a turn after this many, of a run of this many steps more
-module _ (lent code : List ℕ) (p : Packages) (s t : Frames) (m : MemoryState) (own : code ≡ code_of lent p s.current.origin.package_number)
-    (limit turn more : ℕ) (lt : turn < limit) where
-  pub goes_on : continue_with t ≡ instruction_step code p s m → run_of (limit - turn + more) lent p s m ≡ run_of (limit - (turn + 1) + more) lent p t m
-  goes_on e = ap (λ n. run_of n lent p s m) (one_left limit turn more lt) ∙ one_goes lent code p s t m own (limit - (turn + 1) + more) e
+module _ (attack : Option Attack) (lent code : List ℕ) (p : Packages) (s t : Frames) (m : MemoryState)
+    (own : code ≡ code_of lent p s.current.origin.package_number) (limit turn more : ℕ) (lt : turn < limit)
+    (away : IsAway attack (limit + more) more) where
+  away_here : IsAway attack (suc (limit - (turn + 1) + more)) (limit - (turn + 1) + more)
+  away_here = away_less attack (limit + more) more (suc (limit - (turn + 1) + more)) (limit - (turn + 1) + more) (omega (arith, lt)) (omega arith) away
+
+  pub goes_on : continue_with t ≡ instruction_step code p s m
+      → run_of attack (limit - turn + more) lent p s m ≡ run_of attack (limit - (turn + 1) + more) lent p t m
+  goes_on e = ap (λ n. run_of attack n lent p s m) (one_left limit turn more lt)
+      ∙ one_goes attack lent code p s t m own (limit - (turn + 1) + more) away_here e
 
   pub pauses : (pause : PausedStep) → pause.place ≡ s.current.place → paused_rest pause.why pause.place p t m ≡ instruction_step code p s m
-      → run_of (limit - turn + more) lent p s m ≡ run_behind (Some (limit - (turn + 1), pause)) more lent p t m
-  pauses pause at e = ap (λ n. run_of n lent p s m) (one_left limit turn more lt) ∙ one_pauses lent code p s t m own (limit - (turn + 1) + more) pause at e
+      → run_of attack (limit - turn + more) lent p s m ≡ run_behind (Some (limit - (turn + 1), pause)) attack more lent p t m
+  pauses pause at e = ap (λ n. run_of attack n lent p s m) (one_left limit turn more lt)
+      ∙ one_pauses attack lent code p s t m own (limit - (turn + 1) + more) away_here pause at e
 
-pub used_up : (n more : ℕ) (lent : List ℕ) (p : Packages) (s : Frames) (m : MemoryState) → n ≡ 0
-    → run_of (n + more) lent p s m ≡ run_behind None more lent p s m
-used_up n more lent p s m e = ap (λ (k : ℕ). run_of k lent p s m) (omega (arith, e))
+pub used_up : (attack : Option Attack) (n more : ℕ) (lent : List ℕ) (p : Packages) (s : Frames) (m : MemoryState) → n ≡ 0
+    → run_of attack (n + more) lent p s m ≡ run_behind None attack more lent p s m
+used_up attack n more lent p s m e = ap (λ (k : ℕ). run_of attack k lent p s m) (omega (arith, e))

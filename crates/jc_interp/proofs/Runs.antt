@@ -9,46 +9,48 @@ use Rattle.jc_frames.specs.declared.outcome.Exception.{Exception}
 use Rattle.jc_frames.specs.declared.outcome.Outcome.{Outcome}
 use Rattle.jc_frames.specs.declared.outcome.Outcome.TheVariants.{Fault}
 use Rattle.jc_frames.specs.Frames.{Frames, GoesOn, Throws, Ends}
+use Rattle.jc_interp.specs.declared.attacks.Attack.{Attack}
 use Rattle.jc_interp.specs.declared.frames_only.PausedStep.{PausedStep}
 use Rattle.jc_interp.specs.Running.{or_end, run_of, Continues, IsPartOfRun}
 use Rattle.jc_interp.specs.PausedSteps.{step_rest, run_rest}
 
 -- a run that this many steps are left of after a pause
-module _ (n left : ℕ) (pause : PausedStep) (lent : List ℕ) (p : Packages) (s at : Frames) (m new : MemoryState)
-    (paused : run_of n lent p s m ≡ run_rest (left, pause) lent p at m) where
-  behind : (after : Completion MemoryState (ℕ × Outcome)) → Executes (run_rest (left, pause) lent p at m) m after
-      → Executes (run_of n lent p s m) m after
+module _ (attack : Option Attack) (n left : ℕ) (pause : PausedStep) (lent : List ℕ) (p : Packages) (s at : Frames) (m new : MemoryState)
+    (paused : run_of attack n lent p s m ≡ run_rest attack (left, pause) lent p at m) where
+  behind : (after : Completion MemoryState (ℕ × Outcome)) → Executes (run_rest attack (left, pause) lent p at m) m after
+      → Executes (run_of attack n lent p s m) m after
   behind after made = subst (λ d. Executes d m after) (sym paused) made
 
   pub run_more : (t : Frames) (after : Completion MemoryState (ℕ × Outcome)) → Completes (step_rest pause p at m) m (GoesOn t) new
-      → Executes (run_of left lent p t new) new after → Executes (run_of n lent p s m) m after
-  run_more t after did rest = behind after (bind_made (λ next v. or_end left next (λ t. run_of left lent p t v)) (step_rest pause p at m) m new
+      → Executes (run_of attack left lent p t new) new after → Executes (run_of attack n lent p s m) m after
+  run_more t after did rest = behind after (bind_made (λ next v. or_end left next (λ t. run_of attack left lent p t v)) (step_rest pause p at m) m new
       (GoesOn t) after did rest)
 
-  pub run_ended : (o : Outcome) → Completes (step_rest pause p at m) m (Ends o) new → Executes (run_of n lent p s m) m (Completed (left, o) new)
-  run_ended o did = behind (Completed (left, o) new) (bind_made (λ next v. or_end left next (λ t. run_of left lent p t v)) (step_rest pause p at m) m new
-      (Ends o) (Completed (left, o) new) did (refl, refl))
+  pub run_ended : (o : Outcome) → Completes (step_rest pause p at m) m (Ends o) new → Executes (run_of attack n lent p s m) m (Completed (left, o) new)
+  run_ended o did = behind (Completed (left, o) new) (bind_made (λ next v. or_end left next (λ t. run_of attack left lent p t v)) (step_rest pause p at m)
+      m new (Ends o) (Completed (left, o) new) did (refl, refl))
 
   pub run_thrown : (e : Exception) (t : Frames) → Completes (step_rest pause p at m) m (Throws e t) new
-      → Executes (run_of n lent p s m) m (Completed (left, Fault) new)
-  run_thrown e t did = behind (Completed (left, Fault) new) (bind_made (λ next v. or_end left next (λ t. run_of left lent p t v)) (step_rest pause p at m) m new
-      (Throws e t) (Completed (left, Fault) new) did (refl, refl))
+      → Executes (run_of attack n lent p s m) m (Completed (left, Fault) new)
+  run_thrown e t did = behind (Completed (left, Fault) new) (bind_made (λ next v. or_end left next (λ t. run_of attack left lent p t v))
+      (step_rest pause p at m) m new (Throws e t) (Completed (left, Fault) new) did (refl, refl))
 
-  pub run_cut : IsTornIn (step_rest pause p at m) m new → Executes (run_of n lent p s m) m (Torn new)
-  run_cut cut = behind (Torn new) (bind_cut (λ next v. or_end left next (λ t. run_of left lent p t v)) (step_rest pause p at m) m new cut)
+  pub run_cut : IsTornIn (step_rest pause p at m) m new → Executes (run_of attack n lent p s m) m (Torn new)
+  run_cut cut = behind (Torn new) (bind_cut (λ next v. or_end left next (λ t. run_of attack left lent p t v)) (step_rest pause p at m) m new cut)
 
--- one more step, which the store refused
-one_of : (limit turn : ℕ) → turn < limit → 1 + (limit - (turn + 1)) ≡ limit - turn
-one_of limit turn lt = omega (arith, lt)
+-- one more step, after which the run ended, goes on, or was cut
+one_of : (limit turn later : ℕ) → turn < limit → 1 + (limit - (turn + 1) + later) ≡ limit - turn + later
+one_of limit turn later lt = omega (arith, lt)
 
-pub one_cut : (limit turn : ℕ) → turn < limit → (lent : List ℕ) (p : Packages) (first s : Frames) (start m new : MemoryState)
-    → Continues limit lent p first start (limit - turn) s m → IsTornIn (run_of (1 + (limit - (turn + 1))) lent p s m) m new
-    → IsTornIn (run_of limit lent p first start) start new
-one_cut limit turn lt lent p first s start m new so_far cut =
-    so_far (Torn new) (subst (λ (k : ℕ). IsTornIn (run_of k lent p s m) m new) (one_of limit turn lt) cut)
+module _ (attack : Option Attack) (limit turn later : ℕ) (lt : turn < limit) (lent : List ℕ) (p : Packages) (first s : Frames) (start m : MemoryState)
+    (so_far : Continues attack (limit + later) lent p first start (limit - turn + later) s m) where
+  pub one_more : (after : Completion MemoryState (ℕ × Outcome)) → Executes (run_of attack (1 + (limit - (turn + 1) + later)) lent p s m) m after
+      → Executes (run_of attack (limit + later) lent p first start) start after
+  one_more after made = so_far after (subst (λ (k : ℕ). Executes (run_of attack k lent p s m) m after) (one_of limit turn later lt) made)
 
 -- what has not ended with its steps ends by a code fault
-pub not_ended : {E : Type 0} (r : Result (Option (ℕ × Outcome)) E) (limit : ℕ) (lent : List ℕ) (p : Packages) (first s : Frames)
-    (start m : MemoryState) → r ≡ Ok None → IsPartOfRun r limit 0 lent p first start s m → Completes (run_of limit lent p first start) start (0, Fault) m
+pub not_ended : {E : Type 0} (r : Result (Option (ℕ × Outcome)) E) (attack : Option Attack) (limit : ℕ) (lent : List ℕ) (p : Packages) (first s : Frames)
+    (start m : MemoryState) → r ≡ Ok None → IsPartOfRun r attack limit 0 lent p first start s m
+    → Completes (run_of attack limit lent p first start) start (0, Fault) m
 unfolding run_of
-not_ended r limit lent p first s start m e part = let none = rw e at part in none.1 (Completed (0, Fault) m) (refl, refl)
+not_ended r attack limit lent p first s start m e part = let none = rw e at part in none.1 (Completed (0, Fault) m) (refl, refl)

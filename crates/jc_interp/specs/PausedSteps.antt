@@ -12,6 +12,7 @@ use Rattle.jc_interp_objects.specs.FieldOps.{field_instruction}
 use Rattle.jc_interp_objects.specs.ArrayOps.{array_instruction}
 use Rattle.jc_interp_calls.specs.MethodReturn.{method_return}
 use Rattle.jc_world.specs.Instructions.{continue_with, exit_of}
+use Rattle.jc_interp.specs.declared.attacks.Attack.{Attack}
 use Rattle.jc_interp.specs.declared.frames_only.PausedStep.{PausedStep}
 use Rattle.jc_interp.specs.declared.frames_only.FramesExit.{FramesExit}
 use Rattle.jc_interp.specs.declared.frames_only.FramesExit.TheVariants.{Exit, Needs}
@@ -48,10 +49,10 @@ abbrev pub step_rest : PausedStep → Packages → Frames → MemoryState → Pr
 step_rest pause p s m = bind (paused_rest pause.why pause.place p s m) m (λ next v. throw_from pause.place p next v)
 
 -- what is left of a run of which this many steps are left after a pause
-abbrev pub run_rest : ℕ × PausedStep → List ℕ → Packages → Frames → MemoryState → Program (ℕ × Outcome)
-run_rest r lent p s m = bind (step_rest r.1 p s m) m (λ next v. or_end r.0 next (λ t. run_of r.0 lent p t v))
+abbrev pub run_rest : Option Attack → ℕ × PausedStep → List ℕ → Packages → Frames → MemoryState → Program (ℕ × Outcome)
+run_rest attack r lent p s m = bind (step_rest r.1 p s m) m (λ next v. or_end r.0 next (λ t. run_of attack r.0 lent p t v))
 
 -- the same of a run of this many steps more, all of which are left where there was no pause
-abbrev pub run_behind : Option (ℕ × PausedStep) → ℕ → List ℕ → Packages → Frames → MemoryState → Program (ℕ × Outcome)
-run_behind None more lent p s m = run_of more lent p s m
-run_behind (Some r) more lent p s m = run_rest (r.0 + more, r.1) lent p s m
+abbrev pub run_behind : Option (ℕ × PausedStep) → Option Attack → ℕ → List ℕ → Packages → Frames → MemoryState → Program (ℕ × Outcome)
+run_behind None attack more lent p s m = run_of attack more lent p s m
+run_behind (Some r) attack more lent p s m = run_rest attack (r.0 + more, r.1) lent p s m

@@ -1,4 +1,4 @@
--- Runs: this many steps at most.
+-- Runs: this many steps at most, among which an attack may come.
 use Rattle.std.specs.Prelude.{ℕ, zero, suc, ◌≡◌, List, [], Option, Some, None, Result, Ok, Err}
 use Rattle.jc_memory.specs.State.{MemoryState}
 use Rattle.jc_heap.specs.Completions.{Completion, Completed, Torn}
@@ -9,7 +9,9 @@ use Rattle.jc_frames.specs.declared.outcome.Outcome.{Outcome}
 use Rattle.jc_frames.specs.declared.outcome.Outcome.TheVariants.{Fault}
 use Rattle.jc_frames.specs.Frames.{Frames, Next, GoesOn, Throws, Ends}
 use Rattle.jc_frames.specs.Calls.{first_frame}
-use Rattle.jc_interp.specs.Stepping.{machine_step}
+use Rattle.jc_interp.specs.declared.attacks.Attack.{Attack}
+use Rattle.jc_interp.specs.declared.attacks.Budget.{Budget}
+use Rattle.jc_interp.specs.Attacks.{attacked_step}
 
 -- on from a step after which this many are left, or the end (a step throws nothing that it does not catch)
 abbrev pub or_end : ℕ → Next Frames → (Frames → Program (ℕ × Outcome)) → Program (ℕ × Outcome)
@@ -17,26 +19,28 @@ or_end left (GoesOn s) more = more s
 or_end left (Throws e s) more = Finish (left, Fault)
 or_end left (Ends o) more = Finish (left, o)
 
--- what a run of at most this many steps may do: how many are left, and how it ended. One that has not ended then is a code fault
-unfoldable pub run_of : ℕ → List ℕ → Packages → Frames → MemoryState → Program (ℕ × Outcome)
-run_of zero lent p s m = Finish (0, Fault)
-run_of (suc n) lent p s m = bind (machine_step lent p s m) m (λ next v. or_end n next (λ t. run_of n lent p t v))
+-- what a run of at most this many steps may do, where an attack may come: how many are left, and how it ended. One that has not ended then
+-- is a code fault
+unfoldable pub run_of : Option Attack → ℕ → List ℕ → Packages → Frames → MemoryState → Program (ℕ × Outcome)
+run_of attack zero lent p s m = Finish (0, Fault)
+run_of attack (suc n) lent p s m = bind (attacked_step attack (suc n) lent p s m) m (λ next v. or_end n next (λ t. run_of attack n lent p t v))
 
 -- what ends so from here, with this many steps left, ends so from the beginning
-abbrev pub Continues : ℕ → List ℕ → Packages → Frames → MemoryState → ℕ → Frames → MemoryState → Type 0
-Continues limit lent p first start left s m = (after : Completion MemoryState (ℕ × Outcome)) → Executes (run_of left lent p s m) m after
-    → Executes (run_of limit lent p first start) start after
+abbrev pub Continues : Option Attack → ℕ → List ℕ → Packages → Frames → MemoryState → ℕ → Frames → MemoryState → Type 0
+Continues attack limit lent p first start left s m = (after : Completion MemoryState (ℕ × Outcome)) → Executes (run_of attack left lent p s m) m after
+    → Executes (run_of attack limit lent p first start) start after
 
 -- a run of which all steps but this many were taken: it ended; or it has not, and goes on with these; or the store refused a write
-abbrev pub IsPartOfRun : {E : Type 0} → Result (Option (ℕ × Outcome)) E → ℕ → ℕ → List ℕ → Packages → Frames → MemoryState → Frames → MemoryState
-    → Type 0
-IsPartOfRun (Ok (Some end)) limit later lent p first start s m = Executes (run_of limit lent p first start) start (Completed end m)
-IsPartOfRun (Ok None) limit later lent p first start s m = (m.heap.down ≡ start.heap.down) × Continues limit lent p first start later s m
-IsPartOfRun (Err down) limit later lent p first start s m = Executes (run_of limit lent p first start) start (Torn m)
+abbrev pub IsPartOfRun : {E : Type 0} → Result (Option (ℕ × Outcome)) E → Option Attack → ℕ → ℕ → List ℕ → Packages → Frames → MemoryState → Frames
+    → MemoryState → Type 0
+IsPartOfRun (Ok (Some end)) attack limit later lent p first start s m = Executes (run_of attack limit lent p first start) start (Completed end m)
+IsPartOfRun (Ok None) attack limit later lent p first start s m =
+    (m.heap.down ≡ start.heap.down) × Continues attack limit lent p first start later s m
+IsPartOfRun (Err down) attack limit later lent p first start s m = Executes (run_of attack limit lent p first start) start (Torn m)
 
 -- a run of methods of packages
-abbrev pub run_methods : ℕ → Packages → Frames → MemoryState → Program (ℕ × Outcome)
-run_methods n p s m = run_of n [] p s m
+abbrev pub run_methods : Budget → Packages → Frames → MemoryState → Program (ℕ × Outcome)
+run_methods budget p s m = run_of budget.attack budget.left [] p s m
 
 -- code that belongs to no package, and runs for the runtime environment
 abbrev pub no_package : Origin
@@ -47,5 +51,5 @@ abbrev pub bare_frames : ℕ → ℕ → Frames
 bare_frames limit locals = record { current = first_frame [] locals limit 0 no_package; callers = [] }
 
 -- a run of code that was lent, with a stack of this many cells and this many locals
-abbrev pub run_ad_hoc : ℕ → ℕ → List ℕ → ℕ → Packages → MemoryState → Program (ℕ × Outcome)
-run_ad_hoc limit locals lent n p m = run_of n lent p (bare_frames limit locals) m
+abbrev pub run_ad_hoc : ℕ → ℕ → List ℕ → Budget → Packages → MemoryState → Program (ℕ × Outcome)
+run_ad_hoc limit locals lent budget p m = run_of budget.attack budget.left lent p (bare_frames limit locals) m

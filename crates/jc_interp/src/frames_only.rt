@@ -1,9 +1,11 @@
 //! Turns: instructions that need nothing but the frames are carried out one after the other, up to one that
 //! needs more.
-ghost use Rattle.std.specs.Prelude.{◌≡◌, ◌<◌, ◌+◌, ◌^◌, ℕ, List, length, IfErr, IfSome, OnOk};
+ghost use Rattle.std.specs.Prelude.{◌≡◌, ◌<◌, ◌+◌, ◌^◌, ℕ, List, Option, length, IfErr, IfSome, OnOk};
 ghost use Rattle.jc_opcodes.specs.Table.{HasListedOperands};
 ghost use Rattle.jc_linker.specs.Values.{Packages};
 ghost use Rattle.jc_memory.specs.State.{MemoryState};
+ghost use Rattle.jc_interp.specs.declared.attacks.Attack.{Attack};
+ghost use Rattle.jc_interp.specs.Attacks.{IsAway};
 ghost use Rattle.jc_interp.specs.Stepping.{code_of, instruction_at, instruction_step, is_plain};
 ghost use Rattle.jc_interp.specs.Running.{run_of};
 ghost use Rattle.jc_interp.specs.PausedSteps.{after_part, after_frames_step, run_behind};
@@ -136,8 +138,8 @@ fn step_in_frames<C>(code: &[u8], frames: &mut Frames) -> Result<(), PausedStep>
     }
 }
 
-/// Carries out instructions that need nothing but frames, as many at most: `None` once they are used up, else
-/// how many are left and where something else is to be done. `C` says whose copy it is: each is called at one place alone, and
+/// Carries out instructions that need nothing but frames, as many at most: `None` once they are used up, else how many are left and where
+/// something else is to be done. No attack comes among them. `C` says whose copy it is: each is called at one place alone, and
 /// stands in line there.
 pub(crate) fn run_in_frames<C>(
     code: &[u8],
@@ -145,9 +147,11 @@ pub(crate) fn run_in_frames<C>(
     frames: &mut Frames,
 ) -> Option<(u32, PausedStep)>
     requires short { length code.now < 2 ^ 16 }
-    ensures same { (more : ℕ) (lent : List ℕ) (p : Packages) (m : MemoryState)
+    ensures same { (attack : Option Attack) (more : ℕ) (lent : List ℕ) (p : Packages)
+        (m : MemoryState) → IsAway attack (budget + more) more
         → code.now ≡ code_of lent p frames.old.current.origin.package_number
-        → run_of (budget + more) lent p frames.old m ≡ run_behind result more lent p frames.new m }
+        → run_of attack (budget + more) lent p frames.old m
+        ≡ run_behind result attack more lent p frames.new m }
     ensures fewer { IfSome result (λ r. r.0 < budget) }
 {
     for turns in 0..budget {

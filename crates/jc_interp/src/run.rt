@@ -1,13 +1,16 @@
-//! Runs: this many steps at most.
-ghost use Rattle.std.specs.Prelude.{◌≡◌, ◌<◌, ◌+◌, ◌^◌, false, length};
+//! Runs: this many steps at most, among which an attack may come.
+ghost use Rattle.std.specs.Prelude.{◌≡◌, ◌<◌, ◌≤◌, ◌+◌, ◌^◌, Option, Some, false, length};
 ghost use Rattle.jc_memory.specs.Programs.{Executes};
 ghost use Rattle.jc_heap.specs.Completions.{after_step};
+ghost use Rattle.jc_interp.specs.declared.attacks.Attack.{Attack};
+ghost use Rattle.jc_interp.specs.Attacks.{IsAway};
 ghost use Rattle.jc_interp.specs.Running.{IsPartOfRun, run_methods, run_of, run_ad_hoc};
 
+use crate::attacks::{Attack, Budget, strike};
 use crate::explain::{note_budget, note_cut, note_end, note_step};
 use crate::frames_only::run_in_frames;
 use crate::step::{code_of, finish};
-use jc_frames::{Frames, Origin, Outcome};
+use jc_frames::{CodeFault, Frames, Origin, Outcome};
 use jc_linker::linked::Linked;
 use jc_memory::Memory;
 use jc_transient::RUNTIME_ENVIRONMENT;
@@ -15,7 +18,7 @@ use jc_words::{StoreDown, WordStore};
 use jc_world::StepExit;
 
 // Carries out this many instructions of a run, after which this many more may follow: how many are left of all, and how the
-// run ended; `None` where it has not ended.
+// run ended; `None` where it has not ended. No attack comes among them.
 #[inline(never)]
 fn run_part<S: WordStore>(
     lent: &[u8],
@@ -28,8 +31,9 @@ fn run_part<S: WordStore>(
     requires up { memory.old.heap.down ≡ false }
     requires short { length lent.now < 2 ^ 16 }
     requires counted { budget + later < 2 ^ 32 }
-    ensures { IsPartOfRun result (budget + later) later lent.now linked.now frames.old memory.old
-        frames.new memory.new }
+    ensures { (attack : Option Attack) → IsAway attack (budget + later) later
+        → IsPartOfRun result attack (budget + later) later lent.now linked.now frames.old
+        memory.old frames.new memory.new }
 {
     let mut left = budget;
     let mut number = frames.origin().package_number;
@@ -59,26 +63,28 @@ fn run_part<S: WordStore>(
     Ok(None)
 }
 
-// Carries out a run of this many instructions, each of which is noted before it is carried out; `None` where it has not ended
-// then.
+// The same, where each instruction is noted before it is carried out.
 #[cold]
 #[inline(never)]
 fn run_noted<S: WordStore>(
     lent: &[u8],
     budget: u32,
+    later: u32,
     frames: &mut Frames,
     memory: &mut Memory<S>,
     linked: &Linked,
 ) -> Result<Option<(u32, Outcome)>, StoreDown>
     requires up { memory.old.heap.down ≡ false }
     requires short { length lent.now < 2 ^ 16 }
-    ensures { IsPartOfRun result budget 0 lent.now linked.now frames.old memory.old frames.new
-        memory.new }
+    requires counted { budget + later < 2 ^ 32 }
+    ensures { (attack : Option Attack) → IsAway attack (budget + later) later
+        → IsPartOfRun result attack (budget + later) later lent.now linked.now frames.old
+        memory.old frames.new memory.new }
 {
     for turns in 0..budget {
         note_step(frames, memory.notes());
-        let later = budget - (turns + 1);
-        match run_part(lent, 1, later, frames, memory, linked) {
+        let after = budget - (turns + 1) + later;
+        match run_part(lent, 1, after, frames, memory, linked) {
             Ok(None) => {}
             Ok(Some(end)) => return Ok(Some(end)),
             Err(StoreDown) => return Err(StoreDown),
@@ -87,43 +93,123 @@ fn run_noted<S: WordStore>(
     Ok(None)
 }
 
-// Carries out a run of this many instructions, each noted before where somebody asks for it; `None` where it has not ended then.
+// The same, where each instruction is noted before where somebody asks for it.
 #[inline(always)]
 fn run_whole<S: WordStore>(
     lent: &[u8],
     budget: u32,
+    later: u32,
     frames: &mut Frames,
     memory: &mut Memory<S>,
     linked: &Linked,
 ) -> Result<Option<(u32, Outcome)>, StoreDown>
     requires up { memory.old.heap.down ≡ false }
     requires short { length lent.now < 2 ^ 16 }
-    ensures { IsPartOfRun result budget 0 lent.now linked.now frames.old memory.old frames.new
-        memory.new }
+    requires counted { budget + later < 2 ^ 32 }
+    ensures { (attack : Option Attack) → IsAway attack (budget + later) later
+        → IsPartOfRun result attack (budget + later) later lent.now linked.now frames.old
+        memory.old frames.new memory.new }
 {
     if memory.notes().keep_steps() {
-        return run_noted(lent, budget, frames, memory, linked);
+        return run_noted(lent, budget, later, frames, memory, linked);
     }
-    run_part(lent, budget, 0, frames, memory, linked)
+    run_part(lent, budget, later, frames, memory, linked)
 }
 
-/// Carries out at most this many instructions: how many are left, and how the run ended. One that has not
-/// ended then is a code fault. Code of no package, in frames with the package number 0, is the one that is
+// Carries out what is left of a run before whose next instruction the attack comes: the fault, and the run from there on; `None` where
+// it has not ended then.
+fn run_struck<S: WordStore>(
+    lent: &[u8],
+    attack: Attack,
+    frames: &mut Frames,
+    memory: &mut Memory<S>,
+    linked: &Linked,
+) -> Result<Option<(u32, Outcome)>, StoreDown>
+    requires up { memory.old.heap.down ≡ false }
+    requires short { length lent.now < 2 ^ 16 }
+    requires comes { 0 < attack.left }
+    ensures { IsPartOfRun result (Some attack) attack.left 0 lent.now linked.now frames.old
+        memory.old frames.new memory.new }
+{
+    let place = frames.place();
+    let code = code_of(lent, frames.origin().package_number, linked);
+    match strike(attack.model, code, frames) {
+        Ok(()) => run_whole(lent, attack.left, 0, frames, memory, linked),
+        Err(CodeFault) => {
+            let left = attack.left - 1;
+            if memory.notes().are_kept() {
+                note_end(&Outcome::Fault, left, code, place, frames, memory, linked);
+            }
+            Ok(Some((left, Outcome::Fault)))
+        }
+    }
+}
+
+// Carries out a run of this many instructions, among which an attack comes; `None` where it has not ended then.
+#[cold]
+#[inline(never)]
+fn run_attacked<S: WordStore>(
+    lent: &[u8],
+    budget: u32,
+    attack: Attack,
+    frames: &mut Frames,
+    memory: &mut Memory<S>,
+    linked: &Linked,
+) -> Result<Option<(u32, Outcome)>, StoreDown>
+    requires up { memory.old.heap.down ≡ false }
+    requires short { length lent.now < 2 ^ 16 }
+    requires comes { 0 < attack.left }
+    requires within { attack.left ≤ budget }
+    ensures { IsPartOfRun result (Some attack) budget 0 lent.now linked.now frames.old memory.old
+        frames.new memory.new }
+{
+    let before = budget - attack.left;
+    match run_whole(lent, before, attack.left, frames, memory, linked)? {
+        Some(end) => Ok(Some(end)),
+        None => run_struck(lent, attack, frames, memory, linked),
+    }
+}
+
+// Carries out a run within a budget; `None` where it has not ended then.
+#[inline(always)]
+fn run_budget<S: WordStore>(
+    lent: &[u8],
+    budget: Budget,
+    frames: &mut Frames,
+    memory: &mut Memory<S>,
+    linked: &Linked,
+) -> Result<Option<(u32, Outcome)>, StoreDown>
+    requires up { memory.old.heap.down ≡ false }
+    requires short { length lent.now < 2 ^ 16 }
+    ensures { IsPartOfRun result budget.attack budget.left 0 lent.now linked.now frames.old
+        memory.old frames.new memory.new }
+{
+    if let Some(attack) = budget.attack
+        && 0 < attack.left
+        && attack.left <= budget.left
+    {
+        return run_attacked(lent, budget.left, attack, frames, memory, linked);
+    }
+    run_whole(lent, budget.left, 0, frames, memory, linked)
+}
+
+/// Carries out at most this many instructions, with the fault of an attack before one of them, if one is planned: how many are left, and how
+/// the run ended. One that has not ended then is a code fault. Code of no package, in frames with the package number 0, is the one that is
 /// lent: it has no fields, arrays, objects and methods.
 pub fn run_of<S: WordStore>(
     lent: &[u8],
-    budget: u32,
+    budget: Budget,
     frames: &mut Frames,
     memory: &mut Memory<S>,
     linked: &Linked,
 ) -> Result<(u32, Outcome), StoreDown>
     requires up { memory.old.heap.down ≡ false }
     requires short { length lent.now < 2 ^ 16 }
-    ensures { Executes (run_of budget lent.now linked.now frames.old memory.old) memory.old
-        (after_step result memory.new) }
+    ensures { Executes (run_of budget.attack budget.left lent.now linked.now frames.old memory.old)
+        memory.old (after_step result memory.new) }
 {
     memory.notes().forget();
-    match run_whole(lent, budget, frames, memory, linked)? {
+    match run_budget(lent, budget, frames, memory, linked)? {
         Some(end) => Ok(end),
         None => {
             note_budget(frames, memory);
@@ -134,7 +220,7 @@ pub fn run_of<S: WordStore>(
 
 /// The same for methods of packages.
 pub fn run_methods<S: WordStore>(
-    budget: u32,
+    budget: Budget,
     frames: &mut Frames,
     memory: &mut Memory<S>,
     linked: &Linked,
@@ -152,7 +238,7 @@ pub fn run_ad_hoc<S: WordStore>(
     max_stack: u8,
     locals: u8,
     code: &[u8],
-    budget: u32,
+    budget: Budget,
     memory: &mut Memory<S>,
     linked: &Linked,
 ) -> Result<(u32, Outcome), StoreDown>

@@ -20,6 +20,8 @@ use Rattle.jc_frames.specs.declared.cell.Cell.{Cell}
 use Rattle.jc_frames.specs.declared.outcome.Outcome.{Outcome}
 use Rattle.jc_frames.specs.Frames.{Frames, Next, GoesOn, Throws, Ends}
 use Rattle.jc_api_framework.specs.Aid.Cells.{cells_of_aid}
+use Rattle.jc_interp.specs.declared.attacks.Attack.{Attack}
+use Rattle.jc_interp.specs.Attacks.{attacked, attacked_step, step_from}
 use Rattle.jc_interp.specs.Running.{or_end, run_of}
 use Rattle.jc_interp.specs.Stepping.{machine_step}
 use Rattle.jc_api_framework.proofs.AppletCalls.Registering.{Registering}
@@ -155,8 +157,18 @@ goes_orderly left (GoesOn s) more m due = due s
 goes_orderly left (Throws e s) more m due = tt
 goes_orderly left (Ends o) more m due = tt
 
-pub run_orderly : (budget : ℕ) (lent : List ℕ) (p : Packages) (s : Frames) (m : MemoryState) → AllDue KeepsTransactionOrder (run_of budget lent p s m) m
+-- a step from the frames that a fault left
+from_orderly : (next : Next Frames) (lent : List ℕ) (p : Packages) (m : MemoryState) → AllDue KeepsTransactionOrder (step_from next lent p m) m
+from_orderly (GoesOn s) lent p m = step_orderly lent p s m
+from_orderly (Throws e s) lent p m = tt
+from_orderly (Ends o) lent p m = tt
+
+pub run_orderly : (attack : Option Attack) (budget : ℕ) (lent : List ℕ) (p : Packages) (s : Frames) (m : MemoryState)
+    → AllDue KeepsTransactionOrder (run_of attack budget lent p s m) m
 unfolding run_of
-run_orderly zero lent p s m = tt
-run_orderly (suc n) lent p s m = due_bind KeepsTransactionOrder (λ next v. or_end n next (λ t. run_of n lent p t v)) (machine_step lent p s m) m
-    (step_orderly lent p s m) (each_always _ (λ next v. goes_orderly n next (λ t. run_of n lent p t v) v (λ t. run_orderly n lent p t v)) (machine_step lent p s m) m)
+run_orderly attack zero lent p s m = tt
+run_orderly attack (suc n) lent p s m =
+    let step = attacked_step attack (suc n) lent p s m in
+    due_bind KeepsTransactionOrder (λ next v. or_end n next (λ t. run_of attack n lent p t v)) step m
+    (from_orderly (attacked attack (suc n) lent p s) lent p m)
+    (each_always _ (λ next v. goes_orderly n next (λ t. run_of attack n lent p t v) v (λ t. run_orderly attack n lent p t v)) step m)

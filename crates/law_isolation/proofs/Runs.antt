@@ -30,8 +30,8 @@ module _ (p : Packages) (statics : NamesStatics p) (lent : List ℕ) (start : Me
 
   ran_stands : (k : ℕ) (s : Frames) (m : MemoryState) (t : Frames) (n : MemoryState) → RunStepsWithin k lent p s m t n → Stands q o start m → Stands q o start n
   ran_stands zero s m t n ran st = subst (Stands q o start) (sym ran.1) st
-  ran_stands (suc k) s m t n ran st = ran_stands k ran.1 (apply_effects ran.0 m) t n ran.5
-      (stands_after q o start m ran.0 (step_taken s m ran.0 (GoesOn ran.1) st ran.4 ran.2) ran.3 st)
+  ran_stands (suc k) s m t n ran st = ran_stands k ran.2 (apply_effects ran.0 m) t n ran.7
+      (stands_after q o start m ran.0 (step_taken ran.1 m ran.0 (GoesOn ran.2) st ran.6 ran.4) ran.5 st)
 
 pub isolated : AreIsolated
 isolated = record {

@@ -28,6 +28,7 @@ use Rattle.jc_platform.specs.declared.names.AppletsMethod.TheVariants.{AppletDes
 use Rattle.jc_interp.specs.Running.{bare_frames, no_package, run_ad_hoc}
 use Rattle.jc_memory.specs.Reading.{AllDue, AllResults}
 use Rattle.jc_memory.proofs.ProgramLemmas.{each_did, each_more}
+use Rattle.jc_interp.specs.declared.attacks.Budget.{Budget}
 use Rattle.jc_dispatch.specs.declared.applet_result.AppletResult.{AppletResult}
 use Rattle.jc_dispatch.specs.declared.applet_result.AppletResult.TheVariants.{RegistryFull}
 use Rattle.jc_dispatch.specs.Buffer.{apdu_buffer, apdu_object, buffer_fill}
@@ -159,10 +160,11 @@ module _ (runs : RunsAreSound) (p : Packages) (known : AreKnown p) where
   closed_behind m x b = good_more p _ _ (close x) x (closed_good p x b.stands.sound b.stands.environment)
       (λ u y c. record { behind = goes_on m x y b c.behind; shut = c.closed })
 
-  applet_left_good : (budget : ℕ) (one : Option AppletNumber) (m n : MemoryState) → IsShut m n → ((a : AppletNumber) → one ≡ Some a → is_applet m.heap.durable a ≡ true)
+  applet_left_good : (budget : Budget) (one : Option AppletNumber) (m n : MemoryState) → IsShut m n → ((a : AppletNumber) → one ≡ Some a
+      → is_applet m.heap.durable a ≡ true)
       → Good p (applet_left budget p one n) n (λ rest k. IsShut m k)
   unfolding applet_left
-  applet_left_good budget None m n x there = good_then p _ (ClearTransient Deselect) (Finish budget) n tt tt (good_gives p _ budget _ (cleared m n x))
+  applet_left_good budget None m n x there = good_then p _ (ClearTransient Deselect) (Finish budget.left) n tt tt (good_gives p _ budget.left _ (cleared m n x))
   applet_left_good budget (Some a) m n x there =
       good_bind p _ _ (applet_method_call budget p (Applets AppletDeselect) (instance_of n a.0) (Reference (instance_of n a.0) ∷ []) (Applet a) n) n
       (good_more p _ _ (applet_method_call budget p (Applets AppletDeselect) (instance_of n a.0) (Reference (instance_of n a.0) ∷ []) (Applet a) n) n
@@ -171,7 +173,7 @@ module _ (runs : RunsAreSound) (p : Packages) (known : AreKnown p) where
       (λ end v ran. good_bind p _ _ (close v) v (good_more p _ _ (close v) v (closed_behind m v (goes_on m n v x.behind ran.behind)) (λ u w shut.
       good_then p _ (ClearTransient Deselect) (Finish end.0) w tt tt (good_gives p _ end.0 _ (cleared m w shut))))))
 
-  left_good : (budget : ℕ) (next : Option AppletNumber) (m : MemoryState) → IsReady p m → Good p (deselection budget p next m) m (λ rest n. IsShut m n)
+  left_good : (budget : Budget) (next : Option AppletNumber) (m : MemoryState) → IsReady p m → Good p (deselection budget p next m) m (λ rest n. IsShut m n)
   unfolding deselection
   left_good budget next m r =
       let fits = same_fits p m r.sound (with_next next m.registers) refl refl refl in
@@ -181,7 +183,7 @@ module _ (runs : RunsAreSound) (p : Packages) (known : AreKnown p) where
       (applet_left_good budget m.registers.selected m v (record { behind = goes_on m m v (begins m r) first; shut = r.closed }) r.sound.selected)
 
   -- an applet answers, after a ready memory
-  processed_behind : (budget : ℕ) (a : AppletNumber) (selecting : Bool) (expected : ℕ) (m n : MemoryState) → Behind m n → is_applet m.heap.durable a ≡ true
+  processed_behind : (budget : Budget) (a : AppletNumber) (selecting : Bool) (expected : ℕ) (m n : MemoryState) → Behind m n → is_applet m.heap.durable a ≡ true
       → Good p (process_command budget p a selecting expected n) n (λ e k. IsReady p k)
   unfolding process_command
   processed_behind budget a selecting expected m n b there =
@@ -214,7 +216,7 @@ module _ (runs : RunsAreSound) (p : Packages) (known : AreKnown p) where
   none_there : (n : MemoryState) (a : AppletNumber) → ◌≡◌ {A = Option AppletNumber} None (Some a) → is_applet n.heap.durable a ≡ true
   none_there n a e = absurd (none-some a e)
 
-  accepted_behind : (accepts : Bool) (budget : ℕ) (a : AppletNumber) (expected : ℕ) (m n : MemoryState) → IsShut m n → is_applet m.heap.durable a ≡ true
+  accepted_behind : (accepts : Bool) (budget : Budget) (a : AppletNumber) (expected : ℕ) (m n : MemoryState) → IsShut m n → is_applet m.heap.durable a ≡ true
       → Good p (after_select accepts budget p a expected n) n (λ e k. IsReady p k)
   accepted_behind true budget a expected m n x there = processed_behind budget a true expected m n x.behind there
   accepted_behind false budget a expected m n x there =
@@ -223,7 +225,7 @@ module _ (runs : RunsAreSound) (p : Packages) (known : AreKnown p) where
       (ready m _ (goes_on m n _ x.behind (behind_one p n (SetRegisters (with_selected None n.registers)) fits x.behind.stands.sound
       x.behind.stands.environment)) x.shut))
 
-  selected_good : (budget : ℕ) (a : AppletNumber) (expected : ℕ) (m : MemoryState) → IsReady p m → is_applet m.heap.durable a ≡ true
+  selected_good : (budget : Budget) (a : AppletNumber) (expected : ℕ) (m : MemoryState) → IsReady p m → is_applet m.heap.durable a ≡ true
       → Good p (applet_selection budget p a expected m) m (λ e k. IsReady p k)
   unfolding applet_selection
   selected_good budget a expected m r there =
@@ -235,14 +237,16 @@ module _ (runs : RunsAreSound) (p : Packages) (known : AreKnown p) where
       let second = goes_on m v w gone.behind (behind_one p v (SetRegisters (with_selected (Some a) v.registers)) fits gone.behind.stands.sound
       gone.behind.stands.environment) in
       good_then p _ (SetRegisters (with_selected (Some a) v.registers)) _ v (inl fits) tt
-      (good_bind p _ _ (applet_method_call rest p (Applets AppletSelect) (instance_of w a.0) (Reference (instance_of w a.0) ∷ []) (Applet a) w) w
-      (good_more p _ _ (applet_method_call rest p (Applets AppletSelect) (instance_of w a.0) (Reference (instance_of w a.0) ∷ []) (Applet a) w) w
-      (called_good runs p known rest (Applets AppletSelect) (instance_of w a.0) (Reference (instance_of w a.0) ∷ []) (Applet a) w
+      (good_bind p _ _ (applet_method_call (record budget { left = rest }) p (Applets AppletSelect) (instance_of w a.0) (Reference (instance_of w a.0) ∷ [])
+      (Applet a) w) w
+      (good_more p _ _ (applet_method_call (record budget { left = rest }) p (Applets AppletSelect) (instance_of w a.0) (Reference (instance_of w a.0) ∷ [])
+      (Applet a) w) w
+      (called_good runs p known (record budget { left = rest }) (Applets AppletSelect) (instance_of w a.0) (Reference (instance_of w a.0) ∷ []) (Applet a) w
       (own_living w a second.stands.sound) (runs_behind m w a second there))
       (λ end x ran. good_bind p _ _ (close x) x (good_more p _ _ (close x) x (closed_behind m x (goes_on m w x second ran.behind))
-      (λ u y shut. accepted_behind (is_select_accepted end.1) end.0 a expected m y shut there)))))))
+      (λ u y shut. accepted_behind (is_select_accepted end.1) (record budget { left = end.0 }) a expected m y shut there)))))))
 
-  managed_good : (budget : ℕ) (m : MemoryState) → IsReady p m → Good p (manager_selection budget p m) m (λ e k. IsReady p k)
+  managed_good : (budget : Budget) (m : MemoryState) → IsReady p m → Good p (manager_selection budget p m) m (λ e k. IsReady p k)
   unfolding manager_selection
   managed_good budget m r =
       good_bind p _ _ (deselection budget p None m) m (good_more p _ _ (deselection budget p None m) m
@@ -312,7 +316,8 @@ module _ (runs : RunsAreSound) (p : Packages) (known : AreKnown p) where
       opens = λ one. absurd (false≢true one);
     }
 
-    installed_good : (budget offset : ℕ) (parameters : List ℕ) → length parameters ≤ buffer_size → Good p (applet_installation budget p q entry offset parameters m) m (λ e k. IsReady p k)
+    installed_good : (budget : Budget) (offset : ℕ) (parameters : List ℕ) → length parameters ≤ buffer_size
+        → Good p (applet_installation budget p q entry offset parameters m) m (λ e k. IsReady p k)
     unfolding applet_installation
     installed_good budget offset parameters few =
         good_then p _ (HeapMove Begin) _ m r.closed r.closed (good_then p _ (SetRegisters opened) _ v (inr opens) tt
@@ -338,13 +343,13 @@ module _ (runs : RunsAreSound) (p : Packages) (known : AreKnown p) where
 
   -- ---- the applet that is named
 
-  installing_good : (budget : ℕ) (e : ℕ × ℕ) (offset : Option ℕ) (parameters : List ℕ) (m : MemoryState) → IsReady p m
+  installing_good : (budget : Budget) (e : ℕ × ℕ) (offset : Option ℕ) (parameters : List ℕ) (m : MemoryState) → IsReady p m
       → is_home m.heap.now (Open (record { 0 = e.0 }) e.1) ≡ true → length parameters ≤ buffer_size
       → Good p (creation_by_entry budget p e offset parameters m) m (λ end k. IsReady p k)
   installing_good budget e None parameters m r home few = good_gives p _ _ m r
   installing_good budget e (Some offset) parameters m r home few = installed_good (record { 0 = e.0 }) e.1 m r home budget offset parameters few
 
-  created_by_good : (budget : ℕ) (e : Option (ℕ × ℕ)) (parameters : List ℕ) (m : MemoryState) → IsReady p m
+  created_by_good : (budget : Budget) (e : Option (ℕ × ℕ)) (parameters : List ℕ) (m : MemoryState) → IsReady p m
       → ((x : ℕ × ℕ) → e ≡ Some x → (1 ≤ x.0) × (x.0 ≤ length p.loaded)) → length parameters ≤ buffer_size
       → Good p (creation_in_registry budget p e parameters m) m (λ end k. IsReady p k)
   created_by_good budget None parameters m r within few = good_gives p _ _ m r
@@ -369,18 +374,18 @@ module _ (runs : RunsAreSound) (p : Packages) (known : AreKnown p) where
       let same : q ≡ x.0 = mapped_first q (entry_with_aid p q aid) x named in
       (let a = range.0 in omega (arith, a, same), let b = range.1 in omega (arith, b, same)))
 
-  created_of_good : (budget : ℕ) (c : Option (List ℕ × List ℕ)) (m : MemoryState) → IsReady p m
+  created_of_good : (budget : Budget) (c : Option (List ℕ × List ℕ)) (m : MemoryState) → IsReady p m
       → ((d : List ℕ × List ℕ) → c ≡ Some d → length d.1 ≤ buffer_size) → Good p (creation_by_data budget p c m) m (λ end k. IsReady p k)
   created_of_good budget None m r few = good_gives p _ _ m r
   created_of_good budget (Some c) m r few = created_by_good budget (applet_named p c.0) c.1 m r (named_within c.0) (few c refl)
 
-  created_good : (budget : ℕ) (bytes : List ℕ) (m : MemoryState) → IsReady p m → Good p (applet_creation budget p bytes m) m (λ end k. IsReady p k)
+  created_good : (budget : Budget) (bytes : List ℕ) (m : MemoryState) → IsReady p m → Good p (applet_creation budget p bytes m) m (λ end k. IsReady p k)
   unfolding applet_creation
   created_good budget bytes m r = created_of_good budget (creation_of bytes) m r (parameters_fit bytes)
 
   -- ---- code that was lent
 
-  lent_good : (budget limit locals : ℕ) (code : List ℕ) (m : MemoryState) → IsReady p m
+  lent_good : (budget : Budget) (limit locals : ℕ) (code : List ℕ) (m : MemoryState) → IsReady p m
       → Good p (ad_hoc_run budget limit locals code p m) m (λ o k. IsReady p k)
   unfolding ad_hoc_run
   lent_good budget limit locals code m r =
@@ -392,7 +397,8 @@ module _ (runs : RunsAreSound) (p : Packages) (known : AreKnown p) where
         code = λ home zero. absurd (true≢false home);
         living = record { current = first_living m.heap.now [] locals limit 0 no_package (none_living m.heap.now); callers = tt };
       } in
-      let fits : AllDue (IsFit p) (run_ad_hoc limit locals code budget p m) m = runs budget code p (bare_frames limit locals) m known machine in
+      let fits : AllDue (IsFit p) (run_ad_hoc limit locals code budget p m) m = runs budget.attack budget.left code p
+      (bare_frames limit locals) m known machine in
       let each : AllResults (run_ad_hoc limit locals code budget p m) m (λ end v. Good p (bind (close v) v (λ u w. Finish end.1)) v (λ o k. IsReady p k)) =
       each_more (λ end v. StandsBehind p m v) _ (λ end v b. good_bind p _ _ (close v) v
       (good_more p _ _ (close v) v (closed_behind m v (goes_on m m v (begins m r) b))
@@ -401,7 +407,7 @@ module _ (runs : RunsAreSound) (p : Packages) (known : AreKnown p) where
       good_bind p _ _ (run_ad_hoc limit locals code budget p m) m (record {
         due = all_served p (run_ad_hoc limit locals code budget p m) m fits;
         each = each;
-        runs = dispatched_run p _ budget code (bare_frames limit locals) m
+        runs = dispatched_run p _ budget.attack budget.left code (bare_frames limit locals) m
             (record { first = refl; living = machine.living.current; steady = machine.steady; owner = machine.code })
             (λ end n did. each_did _ (run_ad_hoc limit locals code budget p m) m n end each did);
       })

@@ -1,5 +1,5 @@
 -- What is dispatched: put together, and taken apart into what the runtime environment does and steps of code.
-use Rattle.std.proofs.Common.{◌≡◌, ℕ, zero, suc, ◌⊎◌, inl, inr, List, [], ◌∷◌, ◌++◌, refl, sym, ◌∙◌, ap, subst}
+use Rattle.std.proofs.Common.{◌≡◌, ℕ, zero, suc, ◌+◌, ◌⊎◌, inl, inr, List, [], ◌∷◌, ◌++◌, Option, refl, sym, ◌∙◌, ap, subst, arith}
 use Rattle.std.proofs.lemmas.List.{append_assoc}
 use Rattle.jc_memory.specs.Programs.{Program, Finish, Perform, Choose, Either, Completes, bind}
 use Rattle.jc_memory.specs.Reading.{HasTrace, HasTracePrefix}
@@ -9,8 +9,9 @@ use Rattle.jc_linker.specs.Values.{Packages}
 use Rattle.jc_frames.specs.declared.outcome.Outcome.{Outcome}
 use Rattle.jc_frames.specs.Frames.{Frames, Next, GoesOn, Throws}
 use Rattle.jc_frames.specs.Frames as frames
+use Rattle.jc_interp.specs.declared.attacks.Attack.{Attack}
+use Rattle.jc_interp.specs.Attacks.{attacked_step}
 use Rattle.jc_interp.specs.Running.{or_end, run_of}
-use Rattle.jc_interp.specs.Stepping.{machine_step}
 use Rattle.law_isolation.specs.Runs.{RunSteps}
 use Rattle.law_soundness.specs.References.{MayBegin}
 use Rattle.law_soundness.specs.Dispatched.{IsByEnvironment, IsDispatched, Stops, Does, Chooses, OneOf, Runs, IsOfRun, DispatchedAreRuns}
@@ -40,9 +41,9 @@ module _ (p : Packages) where
   dispatched_then R N last each _ _ (Chooses choose m so) = Chooses (λ r. bind (choose r) m last) m (λ r new. dispatched_then R N last each (choose r) m (so r new))
   dispatched_then R N last each _ _ (OneOf x y m first second) =
       OneOf (bind x m last) (bind y m last) m (dispatched_then R N last each x m first) (dispatched_then R N last each y m second)
-  dispatched_then R N last each _ _ (Runs budget lent s more d m begins is so) =
-      Runs budget lent s (λ end n. bind (more end n) n last) (bind d m last) m begins
-      (ap (λ x. bind x m last) is ∙ bind_assoc more last (run_of budget lent p s m) m)
+  dispatched_then R N last each _ _ (Runs attack budget lent s more d m begins is so) =
+      Runs attack budget lent s (λ end n. bind (more end n) n last) (bind d m last) m begins
+      (ap (λ x. bind x m last) is ∙ bind_assoc more last (run_of attack budget lent p s m) m)
       (λ end n did. dispatched_then R N last each (more end n) n (so end n did))
 
   pub dispatched_more : {A : Type 0} (R N : A → MemoryState → Type 0) → ((a : A) (n : MemoryState) → R a n → N a n) → (d : Program A) (m : MemoryState)
@@ -51,14 +52,15 @@ module _ (p : Packages) where
   dispatched_more R N more _ _ (Does e rest m due so) = Does e rest m due (dispatched_more R N more rest (apply_effect e m) so)
   dispatched_more R N more _ _ (Chooses choose m so) = Chooses choose m (λ r new. dispatched_more R N more (choose r) m (so r new))
   dispatched_more R N more _ _ (OneOf x y m first second) = OneOf x y m (dispatched_more R N more x m first) (dispatched_more R N more y m second)
-  dispatched_more R N more _ _ (Runs budget lent s rest d m begins is so) =
-      Runs budget lent s rest d m begins is (λ end n did. dispatched_more R N more (rest end n) n (so end n did))
+  dispatched_more R N more _ _ (Runs attack budget lent s rest d m begins is so) =
+      Runs attack budget lent s rest d m begins is (λ end n did. dispatched_more R N more (rest end n) n (so end n did))
 
   -- code alone
-  pub dispatched_run : (N : ℕ × Outcome → MemoryState → Type 0) (budget : ℕ) (lent : List ℕ) (s : Frames) (m : MemoryState) → MayBegin s m
-      → ((end : ℕ × Outcome) (n : MemoryState) → Completes (run_of budget lent p s m) m end n → N end n) → IsDispatched p N (run_of budget lent p s m) m
-  dispatched_run N budget lent s m begins each =
-      Runs budget lent s (λ end n. Finish end) (run_of budget lent p s m) m begins (bind_end (run_of budget lent p s m) m)
+  pub dispatched_run : (N : ℕ × Outcome → MemoryState → Type 0) (attack : Option Attack) (budget : ℕ) (lent : List ℕ) (s : Frames) (m : MemoryState)
+      → MayBegin s m → ((end : ℕ × Outcome) (n : MemoryState) → Completes (run_of attack budget lent p s m) m end n → N end n)
+      → IsDispatched p N (run_of attack budget lent p s m) m
+  dispatched_run N attack budget lent s m begins each =
+      Runs attack budget lent s (λ end n. Finish end) (run_of attack budget lent p s m) m begins (bind_end (run_of attack budget lent p s m) m)
       (λ end n did. Stops end n (each end n did))
 
   -- ---- taken apart
@@ -131,17 +133,19 @@ module _ (p : Packages) where
   -- ---- a run
 
   -- this many steps were taken, and the next effect is of one more
-  record IsInStep (lent : List ℕ) (s : Frames) (m : MemoryState) (es : List Effect) (e : Effect) : Type 0 where
+  record IsInStep (attack : Option Attack) (limit : ℕ) (lent : List ℕ) (s : Frames) (m : MemoryState) (es : List Effect) (e : Effect) : Type 0 where
     ran : List Effect
     during : List Effect
     are : es ≡ ran ++ during
     taken : ℕ
+    left : ℕ
+    all : taken + left ≡ limit
     last : Frames
-    steps : RunSteps taken lent p s m last (apply_effects ran m)
-    within : HasTracePrefix (machine_step lent p last (apply_effects ran m)) (apply_effects ran m) (during ++ (e ∷ []))
+    steps : RunSteps attack taken limit lent p s m last (apply_effects ran m)
+    within : HasTracePrefix (attacked_step attack left lent p last (apply_effects ran m)) (apply_effects ran m) (during ++ (e ∷ []))
 
   -- nothing is done after the end
-  nothing_more : {A : Type 0} (a : A) (m : MemoryState) (es : List Effect) (e : Effect) → HasTracePrefix (Finish a) m (es ++ (e ∷ [])) → ⊥
+  pub nothing_more : {A : Type 0} (a : A) (m : MemoryState) (es : List Effect) (e : Effect) → HasTracePrefix (Finish a) m (es ++ (e ∷ [])) → ⊥
   nothing_more a m [] e b = b
   nothing_more a m (f ∷ es) e b = b
 
@@ -149,10 +153,12 @@ module _ (p : Packages) where
   behind_two [] fs m = refl
   behind_two (e ∷ es) fs m = behind_two es fs (apply_effect e m)
 
-  module _ (n : ℕ) (lent : List ℕ) (s : Frames) (m : MemoryState) (es : List Effect) (e : Effect)
-      (each : (t : Frames) (v : MemoryState) (gs : List Effect) → HasTracePrefix (run_of n lent p t v) v (gs ++ (e ∷ [])) → IsInStep lent t v gs e) where
-    further : (first second : List Effect) (next : Next Frames) → es ≡ first ++ second → HasTrace (machine_step lent p s m) m first next
-        → HasTracePrefix (or_end n next (λ t. run_of n lent p t (apply_effects first m))) (apply_effects first m) (second ++ (e ∷ [])) → IsInStep lent s m es e
+  module _ (attack : Option Attack) (n : ℕ) (lent : List ℕ) (s : Frames) (m : MemoryState) (es : List Effect) (e : Effect)
+      (each : (t : Frames) (v : MemoryState) (gs : List Effect) → HasTracePrefix (run_of attack n lent p t v) v (gs ++ (e ∷ []))
+      → IsInStep attack n lent t v gs e) where
+    further : (first second : List Effect) (next : Next Frames) → es ≡ first ++ second → HasTrace (attacked_step attack (suc n) lent p s m) m first next
+        → HasTracePrefix (or_end n next (λ t. run_of attack n lent p t (apply_effects first m))) (apply_effects first m) (second ++ (e ∷ []))
+        → IsInStep attack (suc n) lent s m es e
     further first second (GoesOn t) are trace begins =
         let h = each t (apply_effects first m) second begins in
         let same : apply_effects (first ++ h.ran) m ≡ apply_effects h.ran (apply_effects first m) = behind_two first h.ran m in record {
@@ -160,24 +166,36 @@ module _ (p : Packages) where
           during = h.during;
           are = are ∙ ap (λ (l : List Effect). first ++ l) h.are ∙ sym (append_assoc first h.ran h.during);
           taken = suc h.taken;
+          left = h.left;
+          all = omega (arith, h.all);
           last = h.last;
-          steps = (first, t, trace, subst (RunSteps h.taken lent p t (apply_effects first m) h.last) (sym same) h.steps);
-          within = subst (λ v. HasTracePrefix (machine_step lent p h.last v) v (h.during ++ (e ∷ []))) (sym same) h.within;
+          steps = (first, t, trace, subst (RunSteps attack h.taken n lent p t (apply_effects first m) h.last) (sym same) h.steps);
+          within = subst (λ v. HasTracePrefix (attacked_step attack h.left lent p h.last v) v (h.during ++ (e ∷ []))) (sym same) h.within;
         }
     further first second (Throws x t) are trace begins = absurd (nothing_more _ (apply_effects first m) second e begins)
     further first second (frames.Ends o) are trace begins = absurd (nothing_more _ (apply_effects first m) second e begins)
 
-    more_steps : HasTracePrefix (machine_step lent p s m) m (es ++ (e ∷ [])) ⊎ HasDone (machine_step lent p s m) m
-        (λ next v. or_end n next (λ t. run_of n lent p t v)) es e → IsInStep lent s m es e
-    more_steps (inl within) = record { ran = []; during = es; are = refl; taken = 0; last = s; steps = (refl, refl); within = within }
+    more_steps : HasTracePrefix (attacked_step attack (suc n) lent p s m) m (es ++ (e ∷ [])) ⊎ HasDone (attacked_step attack (suc n) lent p s m) m
+        (λ next v. or_end n next (λ t. run_of attack n lent p t v)) es e → IsInStep attack (suc n) lent s m es e
+    more_steps (inl within) = record {
+      ran = [];
+      during = es;
+      are = refl;
+      taken = 0;
+      left = suc n;
+      all = omega arith;
+      last = s;
+      steps = (refl, refl);
+      within = within;
+    }
     more_steps (inr h) = further h.first h.second h.answer h.are h.trace h.begins
 
-  run_apart : (budget : ℕ) (lent : List ℕ) (s : Frames) (m : MemoryState) (es : List Effect) (e : Effect)
-      → HasTracePrefix (run_of budget lent p s m) m (es ++ (e ∷ [])) → IsInStep lent s m es e
+  run_apart : (attack : Option Attack) (budget : ℕ) (lent : List ℕ) (s : Frames) (m : MemoryState) (es : List Effect) (e : Effect)
+      → HasTracePrefix (run_of attack budget lent p s m) m (es ++ (e ∷ [])) → IsInStep attack budget lent s m es e
   unfolding run_of
-  run_apart zero lent s m es e b = absurd (nothing_more _ m es e b)
-  run_apart (suc n) lent s m es e b = more_steps n lent s m es e (λ t v gs begins. run_apart n lent t v gs e begins)
-      (split _ (machine_step lent p s m) m es e b)
+  run_apart attack zero lent s m es e b = absurd (nothing_more _ m es e b)
+  run_apart attack (suc n) lent s m es e b = more_steps attack n lent s m es e (λ t v gs begins. run_apart attack n lent t v gs e begins)
+      (split _ (attacked_step attack (suc n) lent p s m) m es e b)
 
   -- ---- all of it
 
@@ -195,7 +213,9 @@ module _ (p : Packages) where
     lent = r.lent;
     first = r.first;
     begins = r.begins;
+    attack = r.attack;
     taken = r.taken;
+    left = r.left;
     last = r.last;
     steps = r.steps;
     within = r.within;
@@ -206,8 +226,9 @@ module _ (p : Packages) where
   behind [] m es e so = so
   behind (f ∷ front) m es e so = later f m (front ++ es) e (behind front (apply_effect f m) es e so)
 
-  of_run : (lent : List ℕ) (s : Frames) (m : MemoryState) (es : List Effect) (e : Effect) → MayBegin s m → IsInStep lent s m es e → IsOfRun p m es e
-  of_run lent s m es e begins h = record {
+  of_run : (attack : Option Attack) (limit : ℕ) (lent : List ℕ) (s : Frames) (m : MemoryState) (es : List Effect) (e : Effect) → MayBegin s m
+      → IsInStep attack limit lent s m es e → IsOfRun p m es e
+  of_run attack limit lent s m es e begins h = record {
     before = [];
     ran = h.ran;
     during = h.during;
@@ -215,20 +236,24 @@ module _ (p : Packages) where
     lent = lent;
     first = s;
     begins = begins;
+    attack = attack;
     taken = h.taken;
+    left = h.left;
     last = h.last;
-    steps = h.steps;
+    steps = subst (λ n. RunSteps attack h.taken n lent p s m h.last (apply_effects h.ran m)) (sym h.all) h.steps;
     within = h.within;
   }
 
   -- a run, and what comes after it
-  within_run : {A : Type 0} (budget : ℕ) (lent : List ℕ) (s : Frames) (more : ℕ × Outcome → MemoryState → Program A) (m : MemoryState) (es : List Effect)
-      (e : Effect) → MayBegin s m → ((end : ℕ × Outcome) (n : MemoryState) → Completes (run_of budget lent p s m) m end n → (gs : List Effect)
+  within_run : {A : Type 0} (attack : Option Attack) (budget : ℕ) (lent : List ℕ) (s : Frames) (more : ℕ × Outcome → MemoryState → Program A)
+      (m : MemoryState) (es : List Effect)
+      (e : Effect) → MayBegin s m → ((end : ℕ × Outcome) (n : MemoryState) → Completes (run_of attack budget lent p s m) m end n → (gs : List Effect)
       → HasTracePrefix (more end n) n (gs ++ (e ∷ [])) → IsOne n gs e)
-      → HasTracePrefix (run_of budget lent p s m) m (es ++ (e ∷ [])) ⊎ HasDone (run_of budget lent p s m) m more es e → IsOne m es e
-  within_run budget lent s more m es e begins each (inl within) = inr (of_run lent s m es e begins (run_apart budget lent s m es e within))
-  within_run budget lent s more m es e begins each (inr h) = subst (λ l. IsOne m l e) (sym h.are) (behind h.first m h.second e
-      (each h.answer (apply_effects h.first m) (taken_did (run_of budget lent p s m) m h.first h.answer h.trace) h.second h.begins))
+      → HasTracePrefix (run_of attack budget lent p s m) m (es ++ (e ∷ [])) ⊎ HasDone (run_of attack budget lent p s m) m more es e → IsOne m es e
+  within_run attack budget lent s more m es e begins each (inl within) =
+      inr (of_run attack budget lent s m es e begins (run_apart attack budget lent s m es e within))
+  within_run attack budget lent s more m es e begins each (inr h) = subst (λ l. IsOne m l e) (sym h.are) (behind h.first m h.second e
+      (each h.answer (apply_effects h.first m) (taken_did (run_of attack budget lent p s m) m h.first h.answer h.trace) h.second h.begins))
 
   apart : {A : Type 0} (R : A → MemoryState → Type 0) (d : Program A) (m : MemoryState) (es : List Effect) (e : Effect) → IsDispatched p R d m
       → HasTracePrefix d m (es ++ (e ∷ [])) → IsOne m es e
@@ -242,9 +267,9 @@ module _ (p : Packages) where
   apart R _ _ [] e (OneOf x y m first second) (inr b) = apart R y m [] e second b
   apart R _ _ (g ∷ es) e (OneOf x y m first second) (inl b) = apart R x m (g ∷ es) e first b
   apart R _ _ (g ∷ es) e (OneOf x y m first second) (inr b) = apart R y m (g ∷ es) e second b
-  apart R _ _ es e (Runs budget lent s more d m begins is so) b = within_run budget lent s more m es e begins
+  apart R _ _ es e (Runs attack budget lent s more d m begins is so) b = within_run attack budget lent s more m es e begins
       (λ end n did gs within. apart R (more end n) n gs e (so end n did) within)
-      (split more (run_of budget lent p s m) m es e (subst (λ x. HasTracePrefix x m (es ++ (e ∷ []))) is b))
+      (split more (run_of attack budget lent p s m) m es e (subst (λ x. HasTracePrefix x m (es ++ (e ∷ []))) is b))
 
 pub dispatched_apart : {A : Type 0} → DispatchedAreRuns A
 dispatched_apart p d m es e so b = apart p _ d m es e so b

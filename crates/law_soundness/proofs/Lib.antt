@@ -16,6 +16,7 @@ pub mod Losses
 pub mod Environment
 pub mod RunValues
 pub mod RunObjects
+pub mod Faults
 pub mod Fields
 pub mod RunStatics
 pub mod Arrays

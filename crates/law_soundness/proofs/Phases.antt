@@ -29,6 +29,7 @@ use Rattle.jc_linker.specs.Values.{Packages}
 use Rattle.jc_platform.specs.declared.names.PlatformMethod.{PlatformMethod}
 use Rattle.jc_interp_calls.specs.Entering.{first_frames_of, first_frames_with, first_frames}
 use Rattle.jc_interp.specs.Running.{run_methods}
+use Rattle.jc_interp.specs.declared.attacks.Budget.{Budget}
 use Rattle.jc_dispatch.specs.Buffer.{apdu_buffer, buffer_fill, buffer_fill_in, is_buffer, is_of_bytes, padded_bytes}
 use Rattle.jc_dispatch.specs.Phases.{then_with, applet_method_call, close, abort_if_open, method_named, registers_idle, method_run, method_run_from, run_method}
 use Rattle.jc_dispatch.specs.Phases.{registers_for, registers_released}
@@ -123,14 +124,15 @@ module _ (runs : RunsAreSound) (p : Packages) (known : AreKnown p) where
     opens = λ opened. opened;
   }
 
-  from_good : (budget : ℕ) (start : Option Frames) (owner : Owner) (m : MemoryState) → ((s : Frames) → start ≡ Some s → Begins m.heap.now s) → MayRun p m owner
+  from_good : (budget : Budget) (start : Option Frames) (owner : Owner) (m : MemoryState) → ((s : Frames) → start ≡ Some s → Begins m.heap.now s)
+      → MayRun p m owner
       → Good p (method_run_from budget p start owner m) m (λ end n. HasRun p m n)
   from_good budget None owner m begins may = good_gives p _ _ m (ran_itself p m owner may)
   from_good budget (Some s) owner m begins may = good_then p _ (SetRegisters (registers_for owner m.registers)) _ m (inl (turn_on m owner may)) tt
       (good_bind p _ _ (run_methods budget p s v) v (record {
         due = all_served p (run_methods budget p s v) v fits;
         each = each_end;
-        runs = dispatched_run p _ budget [] s v
+        runs = dispatched_run p _ budget.attack budget.left [] s v
             (record { first = (begins s refl).0; living = (begins s refl).1; steady = machine.steady; owner = machine.code })
             (λ end n did. each_did _ (run_methods budget p s v) v n end each_end did);
       }))
@@ -152,7 +154,7 @@ module _ (runs : RunsAreSound) (p : Packages) (known : AreKnown p) where
       }
 
       fits : AllDue (IsFit p) (run_methods budget p s v) v
-      fits = runs budget [] p s v known machine
+      fits = runs budget.attack budget.left [] p s v known machine
 
       each_end : AllResults (run_methods budget p s v) v
           (λ end w. Good p (Perform (SetRegisters (registers_idle w.registers)) (Finish end)) w (λ last n. HasRun p m n))
@@ -162,19 +164,22 @@ module _ (runs : RunsAreSound) (p : Packages) (known : AreKnown p) where
             active = inl refl;
           }))) (run_methods budget p s v) v (behind_each p (run_methods budget p s v) m v fits first)
 
-  pub run_for_good : (budget number offset : ℕ) (arguments : List Cell) (owner : Owner) (m : MemoryState) → AreLivingCells m.heap.now arguments → MayRun p m owner
+  pub run_for_good : (budget : Budget) (number offset : ℕ) (arguments : List Cell) (owner : Owner) (m : MemoryState) → AreLivingCells m.heap.now arguments
+      → MayRun p m owner
       → Good p (method_run budget p number offset arguments owner m) m (λ end n. HasRun p m n)
   unfolding method_run
   run_for_good budget number offset arguments owner m all may = from_good budget (first_frames_of p number offset arguments (owner_number owner)) owner m
       (λ s is. begins_bare m.heap.now p number offset arguments (owner_number owner) s all is) may
 
-  method_good : (budget : ℕ) (method : Option Method) (arguments : List Cell) (owner : Owner) (m : MemoryState) → AreLivingCells m.heap.now arguments → MayRun p m owner
+  method_good : (budget : Budget) (method : Option Method) (arguments : List Cell) (owner : Owner) (m : MemoryState) → AreLivingCells m.heap.now arguments
+      → MayRun p m owner
       → Good p (run_method budget p method arguments owner m) m (λ end n. HasRun p m n)
   method_good budget None arguments owner m all may = good_gives p _ _ m (ran_itself p m owner may)
   method_good budget (Some (Native name)) arguments owner m all may = good_gives p _ _ m (ran_itself p m owner may)
   method_good budget (Some (Code number offset)) arguments owner m all may = run_for_good budget number offset arguments owner m all may
 
-  pub called_good : (budget : ℕ) (name : PlatformMethod) (applet : ℕ) (arguments : List Cell) (owner : Owner) (m : MemoryState) → AreLivingCells m.heap.now arguments → MayRun p m owner
+  pub called_good : (budget : Budget) (name : PlatformMethod) (applet : ℕ) (arguments : List Cell) (owner : Owner) (m : MemoryState)
+      → AreLivingCells m.heap.now arguments → MayRun p m owner
       → Good p (applet_method_call budget p name applet arguments owner m) m (λ end n. HasRun p m n)
   unfolding applet_method_call
   called_good budget name applet arguments owner m all may = method_good budget (method_named p m applet name) arguments owner m all may

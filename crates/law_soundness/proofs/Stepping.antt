@@ -1,5 +1,5 @@
 -- Steps and runs.
-use Rattle.std.proofs.Common.{◌≡◌, ℕ, zero, suc, true, false, List, refl}
+use Rattle.std.proofs.Common.{◌≡◌, ℕ, zero, suc, true, false, List, Option, refl}
 use Rattle.std.specs.Prelude.{not, ◌==◌, ◌||◌}
 use Rattle.jc_memory.specs.Programs.{Program}
 use Rattle.jc_memory.specs.Reading.{AllDue}
@@ -12,6 +12,8 @@ use Rattle.jc_frames.specs.declared.outcome.Outcome.{Outcome}
 use Rattle.jc_frames.specs.Frames.{Frames, Next, GoesOn, Throws, Ends}
 use Rattle.jc_interp_objects.specs.ArrayOps.{array_instruction}
 use Rattle.jc_interp_objects.specs.FieldOps.{field_instruction}
+use Rattle.jc_interp.specs.declared.attacks.Attack.{Attack}
+use Rattle.jc_interp.specs.Attacks.{attacked, attacked_step, step_from}
 use Rattle.jc_interp.specs.Running.{or_end, run_of}
 use Rattle.jc_interp.specs.Stepping.{at_place, instruction_at, is_plain, machine_step}
 use Rattle.jc_api.proofs.Due.{DueThen, due_of, results_of}
@@ -23,8 +25,9 @@ use Rattle.law_soundness.specs.Living.{IsLivingCell}
 use Rattle.law_soundness.specs.Machines.{IsSoundMachine}
 use Rattle.law_soundness.specs.Steps.{calls}
 use Rattle.law_soundness.specs.Soundness.{AreKnown, IsSoundNext, RunsAreSound, StepsAreSound}
+use Rattle.law_soundness.proofs.Faults.{placed, sound_before}
 use Rattle.law_soundness.proofs.Loads.{living_reads}
-use Rattle.law_soundness.proofs.Machines.{Given, framed, machine_of, stayed, under_of}
+use Rattle.law_soundness.proofs.Machines.{Given, framed, stayed}
 use Rattle.law_soundness.proofs.SteppedCalls.{IsOther, code_selected, native_selected}
 use Rattle.law_soundness.proofs.SteppedLeaves.{leaves_sound}
 use Rattle.law_soundness.proofs.Still.{IsStill, Lives, still_arrays, still_fields, still_instances}
@@ -72,20 +75,27 @@ module _ (g : Given) (p : Packages) (known : AreKnown p) where
 
   -- ---- steps
 
-  -- the next instruction is at another place
-  placed : (s : Frames) (m : MemoryState) (place : ℕ) → IsSoundMachine p s m → IsSoundMachine p (at_place s place) m
-  placed s m place machine = machine_of p (at_place s place) m (under_of p s m machine) machine.code
-      (record { locals = machine.living.current.locals; stack = machine.living.current.stack })
-
   step_sound : (lent : List ℕ) (s : Frames) (m : MemoryState) → IsSoundMachine p s m → DueThen (IsFit p) (IsSoundNext p) (machine_step lent p s m) m
   step_sound lent s m machine = walked_step (IsFit p) (IsSoundMachine p) IsLivingCell (IsSoundNext p) IsOther lent p s m (record {
     leaves = leaves_sound g p known.methods;
-    known = λ place. placed s m place machine;
+    known = λ place. placed p s m place machine;
     caught = λ e t v next. next;
-    alone = λ i code place next. alone_sound (at_place s next) m (placed s m next machine) i code place;
-    enters = λ c number offset is home. code_selected g p known is.0 c (at_place s is.1) m (placed s m is.1 machine) home is.3 number offset;
-    calls = λ c method args is home. native_selected g p known is.0 c (at_place s is.1) m (placed s m is.1 machine) home is.3 method args;
+    alone = λ i code place next. alone_sound (at_place s next) m (placed p s m next machine) i code place;
+    enters = λ c number offset is home. code_selected g p known is.0 c (at_place s is.1) m (placed p s m is.1 machine) home is.3 number offset;
+    calls = λ c method args is home. native_selected g p known is.0 c (at_place s is.1) m (placed p s m is.1 machine) home is.3 method args;
   })
+
+  -- ---- steps after a fault
+
+  struck_sound : (next : Next Frames) (lent : List ℕ) (m : MemoryState) → IsSoundNext p next m → DueThen (IsFit p) (IsSoundNext p) (step_from next lent p m) m
+  struck_sound (GoesOn s) lent m machine = step_sound lent s m machine
+  struck_sound (Throws e s) lent m machine = tt
+  struck_sound (Ends o) lent m living = living
+
+  pub attacked_sound : (attack : Option Attack) (left : ℕ) (lent : List ℕ) (s : Frames) (m : MemoryState) → IsSoundMachine p s m
+      → DueThen (IsFit p) (IsSoundNext p) (attacked_step attack left lent p s m) m
+  attacked_sound attack left lent s m machine =
+      struck_sound (attacked attack left lent p s) lent m (sound_before p s m machine attack left lent)
 
   -- ---- runs
 
@@ -96,20 +106,23 @@ module _ (g : Given) (p : Packages) (known : AreKnown p) where
   goes_sound left more (Throws e s) m each machine = tt
   goes_sound left more (Ends o) m each machine = tt
 
-  run_sound : (budget : ℕ) (lent : List ℕ) (s : Frames) (m : MemoryState) → IsSoundMachine p s m
-      → DueThen (IsFit p) (λ end v. Unit {0}) (run_of budget lent p s m) m
+  run_sound : (attack : Option Attack) (budget : ℕ) (lent : List ℕ) (s : Frames) (m : MemoryState) → IsSoundMachine p s m
+      → DueThen (IsFit p) (λ end v. Unit {0}) (run_of attack budget lent p s m) m
   unfolding run_of
-  run_sound zero lent s m machine = tt
-  run_sound (suc n) lent s m machine = walked_bind (IsFit p) (IsSoundNext p) (λ end v. Unit {0}) (λ next v. or_end n next (λ t. run_of n lent p t v))
-      (machine_step lent p s m) m (step_sound lent s m machine)
-      (λ next v is. goes_sound n (λ t. run_of n lent p t v) next v (λ t. run_sound n lent t v) is)
+  run_sound attack zero lent s m machine = tt
+  run_sound attack (suc n) lent s m machine = walked_bind (IsFit p) (IsSoundNext p) (λ end v. Unit {0})
+      (λ next v. or_end n next (λ t. run_of attack n lent p t v)) (attacked_step attack (suc n) lent p s m) m
+      (attacked_sound attack (suc n) lent s m machine)
+      (λ next v is. goes_sound n (λ t. run_of attack n lent p t v) next v (λ t. run_sound attack n lent t v) is)
 
 pub steps_sound : Given → StepsAreSound
 steps_sound g = record {
-  fit = λ lent p s m known machine. due_of (IsFit p) (IsSoundNext p) (machine_step lent p s m) m (step_sound g p known lent s m machine);
-  next = λ lent p s m known machine. results_of (IsFit p) (IsSoundNext p) (machine_step lent p s m) m (step_sound g p known lent s m machine);
+  fit = λ attack left lent p s m known machine. due_of (IsFit p) (IsSoundNext p) (attacked_step attack left lent p s m) m
+      (attacked_sound g p known attack left lent s m machine);
+  next = λ attack left lent p s m known machine. results_of (IsFit p) (IsSoundNext p) (attacked_step attack left lent p s m) m
+      (attacked_sound g p known attack left lent s m machine);
 }
 
 pub runs_sound : Given → RunsAreSound
-runs_sound g budget lent p s m known machine =
-    due_of (IsFit p) (λ end v. Unit {0}) (run_of budget lent p s m) m (run_sound g p known budget lent s m machine)
+runs_sound g attack budget lent p s m known machine =
+    due_of (IsFit p) (λ end v. Unit {0}) (run_of attack budget lent p s m) m (run_sound g p known attack budget lent s m machine)

@@ -6,6 +6,7 @@ use Rattle.jc_memory.specs.State.{MemoryState, Effect, SetRegisters, apply_effec
 use Rattle.jc_memory.specs.Programs.{Program}
 use Rattle.jc_memory.specs.Reading.{AllDue, AllResults}
 use Rattle.jc_linker.specs.Values.{Packages}
+use Rattle.jc_interp.specs.declared.attacks.Budget.{Budget}
 use Rattle.jc_dispatch.specs.Creating.{applet_creation}
 use Rattle.jc_dispatch.specs.AdHocCode.{ad_hoc_run}
 use Rattle.jc_dispatch.specs.Selecting.{manager_selection, process_command, applet_selection}
@@ -43,13 +44,15 @@ pub record LeavesReady {A : Type 0} (p : Packages) (d : Program A) (m : MemorySt
 
 -- so it is with each: an applet that is registered answers or is selected, the manager is selected, an applet is installed, lent code runs
 pub record CommandsAreSound : Type 0 where
-  pub answering : (budget : ℕ) (p : Packages) (a : AppletNumber) (selecting : Bool) (expected : ℕ) (m : MemoryState) → AreKnown p → IsReady p m
+  pub answering : (budget : Budget) (p : Packages) (a : AppletNumber) (selecting : Bool) (expected : ℕ) (m : MemoryState) → AreKnown p → IsReady p m
       → is_applet m.heap.durable a ≡ true → LeavesReady p (process_command budget p a selecting expected m) m
-  pub selecting : (budget : ℕ) (p : Packages) (a : AppletNumber) (expected : ℕ) (m : MemoryState) → AreKnown p → IsReady p m → is_applet m.heap.durable a ≡ true
+  pub selecting : (budget : Budget) (p : Packages) (a : AppletNumber) (expected : ℕ) (m : MemoryState) → AreKnown p → IsReady p m
+      → is_applet m.heap.durable a ≡ true
       → LeavesReady p (applet_selection budget p a expected m) m
-  pub managing : (budget : ℕ) (p : Packages) (m : MemoryState) → AreKnown p → IsReady p m → LeavesReady p (manager_selection budget p m) m
-  pub making : (budget : ℕ) (p : Packages) (bytes : List ℕ) (m : MemoryState) → AreKnown p → IsReady p m → LeavesReady p (applet_creation budget p bytes m) m
-  pub running : (budget limit locals : ℕ) (code : List ℕ) (p : Packages) (m : MemoryState) → AreKnown p → IsReady p m
+  pub managing : (budget : Budget) (p : Packages) (m : MemoryState) → AreKnown p → IsReady p m → LeavesReady p (manager_selection budget p m) m
+  pub making : (budget : Budget) (p : Packages) (bytes : List ℕ) (m : MemoryState) → AreKnown p → IsReady p m
+      → LeavesReady p (applet_creation budget p bytes m) m
+  pub running : (budget : Budget) (limit locals : ℕ) (code : List ℕ) (p : Packages) (m : MemoryState) → AreKnown p → IsReady p m
       → LeavesReady p (ad_hoc_run budget limit locals code p m) m
 
 -- such an effect leaves a memory sound, and the environment's objects its own

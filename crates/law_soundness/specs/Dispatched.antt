@@ -1,5 +1,5 @@
 -- What a command is made of: what the runtime environment does, and runs of code.
-use Rattle.std.specs.Prelude.{ℕ, ◌≡◌, ◌⊎◌, true, false, List, [], ◌∷◌, ◌++◌}
+use Rattle.std.specs.Prelude.{ℕ, ◌≡◌, ◌+◌, ◌⊎◌, true, false, List, [], ◌∷◌, ◌++◌, Option}
 use Rattle.jc_heap.specs.Moves.{AddPackage, Begin, Abort}
 use Rattle.jc_memory.specs.Programs.{Program, Finish, Perform, Choose, Either, Completes, bind}
 use Rattle.jc_memory.specs.Reading.{HasTracePrefix}
@@ -7,8 +7,9 @@ use Rattle.jc_memory.specs.State.{MemoryState, Effect, HeapMove, SetTransient, S
 use Rattle.jc_linker.specs.Values.{Packages}
 use Rattle.jc_frames.specs.declared.outcome.Outcome.{Outcome}
 use Rattle.jc_frames.specs.Frames.{Frames}
+use Rattle.jc_interp.specs.declared.attacks.Attack.{Attack}
+use Rattle.jc_interp.specs.Attacks.{attacked_step}
 use Rattle.jc_interp.specs.Running.{run_of}
-use Rattle.jc_interp.specs.Stepping.{machine_step}
 use Rattle.jc_dispatch.specs.Buffer.{apdu_buffer}
 use Rattle.law_isolation.specs.Runs.{RunSteps}
 use Rattle.law_soundness.specs.References.{MayBegin}
@@ -32,12 +33,13 @@ pub data IsDispatched (p : Packages) {A : Type 0} (R : A → MemoryState → Typ
       → IsDispatched p R (Perform e rest) m
   Chooses : (choose : ℕ → Program A) (m : MemoryState) → ((r : ℕ) → IsNew m.heap.now r → IsDispatched p R (choose r) m) → IsDispatched p R (Choose choose) m
   OneOf : (x y : Program A) (m : MemoryState) → IsDispatched p R x m → IsDispatched p R y m → IsDispatched p R (Either x y) m
-  Runs : (budget : ℕ) (lent : List ℕ) (s : Frames) (more : ℕ × Outcome → MemoryState → Program A) (d : Program A) (m : MemoryState) → MayBegin s m
-      → d ≡ bind (run_of budget lent p s m) m more
-      → ((end : ℕ × Outcome) (n : MemoryState) → Completes (run_of budget lent p s m) m end n → IsDispatched p R (more end n) n) → IsDispatched p R d m
+  Runs : (attack : Option Attack) (budget : ℕ) (lent : List ℕ) (s : Frames) (more : ℕ × Outcome → MemoryState → Program A) (d : Program A) (m : MemoryState)
+      → MayBegin s m → d ≡ bind (run_of attack budget lent p s m) m more
+      → ((end : ℕ × Outcome) (n : MemoryState) → Completes (run_of attack budget lent p s m) m end n → IsDispatched p R (more end n) n)
+      → IsDispatched p R d m
 
 -- after these effects of what is done, the next one is of a step of code: a run began after the first of them, with frames from where
--- a method may begin, took this many steps, and is within the next one
+-- a method may begin, took this many steps, and is within the next one. An attack may come before one of them
 pub record IsOfRun (p : Packages) (m : MemoryState) (es : List Effect) (e : Effect) : Type 0 where
   pub before : List Effect
   pub ran : List Effect
@@ -46,11 +48,13 @@ pub record IsOfRun (p : Packages) (m : MemoryState) (es : List Effect) (e : Effe
   pub lent : List ℕ
   pub first : Frames
   pub begins : MayBegin first (apply_effects before m)
+  pub attack : Option Attack
   pub taken : ℕ
+  pub left : ℕ
   pub last : Frames
-  pub steps : RunSteps taken lent p first (apply_effects before m) last (apply_effects ran (apply_effects before m))
-  pub within : HasTracePrefix (machine_step lent p last (apply_effects ran (apply_effects before m))) (apply_effects ran (apply_effects before m))
-      (during ++ (e ∷ []))
+  pub steps : RunSteps attack taken (taken + left) lent p first (apply_effects before m) last (apply_effects ran (apply_effects before m))
+  pub within : HasTracePrefix (attacked_step attack left lent p last (apply_effects ran (apply_effects before m)))
+      (apply_effects ran (apply_effects before m)) (during ++ (e ∷ []))
 
 -- of all that is dispatched so, each effect is the runtime environment's, or one of code
 abbrev pub DispatchedAreRuns : Type 0 → Type 0

@@ -1,5 +1,5 @@
 -- References that a memory keeps, that code begins with, and that it ends with.
-use Rattle.std.specs.Prelude.{ℕ, ◌≡◌, ◌<◌, ◌+◌, ◌==◌, true, false, List, [], length, slice_index}
+use Rattle.std.specs.Prelude.{ℕ, ◌≡◌, ◌<◌, ◌+◌, ◌==◌, true, false, List, [], length, slice_index, Option}
 use Rattle.jc_heap.specs.declared.object.Kind.TheVariants.{ReferenceArray}
 use Rattle.jc_heap.specs.Heap.{IsObject, cells, facts}
 use Rattle.jc_heap.specs.Whole.{IsReference}
@@ -12,7 +12,8 @@ use Rattle.jc_memory.specs.State.{MemoryState, Effect, apply_effects}
 use Rattle.jc_linker.specs.Classes.{reference_cell}
 use Rattle.jc_linker.specs.Lookups.{statics_at}
 use Rattle.jc_linker.specs.Values.{Packages}
-use Rattle.jc_interp.specs.Stepping.{machine_step}
+use Rattle.jc_interp.specs.declared.attacks.Attack.{Attack}
+use Rattle.jc_interp.specs.Attacks.{attacked_step}
 use Rattle.jc_card_checks.specs.Objects.{is_persistent_instance}
 use Rattle.jc_card_checks.specs.Sound.{HoldsStatics, package_record_at}
 use Rattle.jc_dispatch.specs.Buffer.{apdu_buffer, apdu_object}
@@ -41,6 +42,8 @@ pub record MayBegin (s : Frames) (m : MemoryState) : Type 0 where
   pub steady : IsSteady m
   pub owner : s.current.origin.package_number == 0 ≡ false → owner_number m.registers.active ≡ 0 → ⊥
 
--- where the next step ends the run, the value that it returns, or the exception that nothing caught, is such a reference
+-- where the next step ends the run, also one after a fault, the value that it returns, or the exception that nothing caught, is such a
+-- reference
 abbrev pub EndsLiving : List ℕ → Packages → Frames → MemoryState → Type 0
-EndsLiving lent p s m = (es : List Effect) (o : Outcome) → HasTrace (machine_step lent p s m) m es (Ends o) → IsLivingOutcome (apply_effects es m).heap.now o
+EndsLiving lent p s m = (attack : Option Attack) (left : ℕ) (es : List Effect) (o : Outcome) → HasTrace (attacked_step attack left lent p s m) m es (Ends o)
+    → IsLivingOutcome (apply_effects es m).heap.now o

@@ -1,10 +1,12 @@
--- Steps and runs leave a machine sound.
-use Rattle.std.specs.Prelude.{ℕ, List}
+-- Faults, steps and runs leave a machine sound.
+use Rattle.std.specs.Prelude.{ℕ, List, Option}
 use Rattle.jc_frames.specs.Frames.{Frames, Next, GoesOn, Throws, Ends}
 use Rattle.jc_memory.specs.State.{MemoryState}
 use Rattle.jc_memory.specs.Reading.{AllDue, AllResults}
 use Rattle.jc_linker.specs.Values.{Packages}
-use Rattle.jc_interp.specs.Stepping.{machine_step}
+use Rattle.jc_interp.specs.declared.attacks.Attack.{Attack}
+use Rattle.jc_interp.specs.declared.attacks.FaultModel.{FaultModel}
+use Rattle.jc_interp.specs.Attacks.{attacked_step, faulted}
 use Rattle.jc_interp.specs.Running.{run_of}
 use Rattle.law_linking.specs.Classes.{HasAids, KnowsClasses}
 use Rattle.law_soundness.specs.Fit.{IsFit}
@@ -26,13 +28,19 @@ IsSoundNext p (GoesOn s) m = IsSoundMachine p s m
 IsSoundNext p (Throws e s) m = IsSoundMachine p s m
 IsSoundNext p (Ends o) m = IsLivingOutcome m.heap.now o
 
--- each effect of a step of a sound machine fits, and what follows is one
+-- whatever code it finds, a fault of each kind leaves a sound machine sound, or ends by a code fault
+abbrev pub FaultsAreSound : Type 0
+FaultsAreSound = (model : FaultModel) (code : List ℕ) (p : Packages) (s : Frames) (m : MemoryState) → IsSoundMachine p s m
+    → IsSoundNext p (faulted model code s) m
+
+-- each effect of a step of a sound machine fits, and what follows is one, also where an attack comes before it
 pub record StepsAreSound : Type 0 where
-  pub fit : (lent : List ℕ) (p : Packages) (s : Frames) (m : MemoryState) → AreKnown p → IsSoundMachine p s m → AllDue (IsFit p) (machine_step lent p s m) m
-  pub next : (lent : List ℕ) (p : Packages) (s : Frames) (m : MemoryState) → AreKnown p → IsSoundMachine p s m
-      → AllResults (machine_step lent p s m) m (IsSoundNext p)
+  pub fit : (attack : Option Attack) (left : ℕ) (lent : List ℕ) (p : Packages) (s : Frames) (m : MemoryState) → AreKnown p → IsSoundMachine p s m
+      → AllDue (IsFit p) (attacked_step attack left lent p s m) m
+  pub next : (attack : Option Attack) (left : ℕ) (lent : List ℕ) (p : Packages) (s : Frames) (m : MemoryState) → AreKnown p → IsSoundMachine p s m
+      → AllResults (attacked_step attack left lent p s m) m (IsSoundNext p)
 
 -- each effect of a run fits
 abbrev pub RunsAreSound : Type 0
-RunsAreSound = (budget : ℕ) (lent : List ℕ) (p : Packages) (s : Frames) (m : MemoryState) → AreKnown p → IsSoundMachine p s m
-    → AllDue (IsFit p) (run_of budget lent p s m) m
+RunsAreSound = (attack : Option Attack) (budget : ℕ) (lent : List ℕ) (p : Packages) (s : Frames) (m : MemoryState) → AreKnown p → IsSoundMachine p s m
+    → AllDue (IsFit p) (run_of attack budget lent p s m) m

@@ -11,9 +11,10 @@ pub use machine_laws::{
     effects_of_field_instructions_fit_packages, effects_of_instructions_fit_packages,
     effects_of_object_instructions_fit_packages, effects_of_platform_methods_fit_packages,
     effects_of_returns_and_exceptions_fit_packages, effects_of_runs_fit_packages,
-    effects_of_server_calls_fit_packages, local_effects_keep_machines_between_instructions,
-    platform_methods_end_between_instructions, steps_keep_machines_sound,
-    steps_switch_contexts_for_causes, what_is_dispatched_is_the_environments_or_of_a_run,
+    effects_of_server_calls_fit_packages, faulted_states_are_sound,
+    local_effects_keep_machines_between_instructions, platform_methods_end_between_instructions,
+    steps_keep_machines_sound, steps_switch_contexts_for_causes,
+    what_is_dispatched_is_the_environments_or_of_a_run,
 };
 pub use memory_laws::{
     fit_effects_keep_memories_sound, fit_effects_keep_the_environments_objects,

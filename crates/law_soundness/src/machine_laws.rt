@@ -5,7 +5,7 @@ ghost use Rattle.law_soundness.specs.Commands.{CommandsAreSound, ServingKeeps};
 ghost use Rattle.law_soundness.specs.Dispatched.{DispatchedAreRuns};
 ghost use Rattle.law_soundness.specs.Groups.{ArraysFit, FieldsFit, ObjectsFit};
 ghost use Rattle.law_soundness.specs.Natives.{NativesFit};
-ghost use Rattle.law_soundness.specs.Soundness.{RunsAreSound, StepsAreSound};
+ghost use Rattle.law_soundness.specs.Soundness.{FaultsAreSound, RunsAreSound, StepsAreSound};
 ghost use Rattle.law_soundness.specs.Switching.{SwitchesHaveCauses};
 ghost use Rattle.law_soundness.specs.Steps.{AsksFit, CallsFit, InstructionsFit, LeavesFit};
 
@@ -64,13 +64,18 @@ pub fn platform_methods_end_between_instructions()
     ensures { NativesLeave }
 {}
 
+/// A fault between two instructions, of each kind and in whatever code, leaves a sound machine sound, or ends by a code fault.
+pub fn faulted_states_are_sound()
+    ensures { FaultsAreSound }
+{}
+
 /// Whatever a step of a sound machine does fits the packages that are linked, and leaves a sound machine: so no local
-/// and no stack ever has a reference that names nothing, and no run returns one or ends by throwing one.
+/// and no stack ever has a reference that names nothing, and no run returns one or ends by throwing one. So it is of a step after a fault.
 pub fn steps_keep_machines_sound()
     ensures { StepsAreSound }
 {}
 
-/// Whatever a run of a sound machine does fits the packages that are linked.
+/// Whatever a run of a sound machine does fits the packages that are linked, also where an attack comes in it.
 pub fn effects_of_runs_fit_packages()
     ensures { RunsAreSound }
 {}

@@ -1,14 +1,17 @@
--- The run from the beginning is the run from here with as many steps less; the method is the same.
-use Rattle.std.proofs.Common.{◌≡◌, ℕ, ◌+◌, ◌-◌, List}
+-- Where no attack comes, the run from the beginning is the run from here with as many steps less; the method is the same.
+use Rattle.std.proofs.Common.{◌≡◌, ℕ, ◌+◌, ◌-◌, List, Option}
 use Rattle.jc_linker.specs.Values.{Packages}
 use Rattle.jc_memory.specs.State.{MemoryState}
+use Rattle.jc_interp.specs.declared.attacks.Attack.{Attack}
+use Rattle.jc_interp.specs.Attacks.{IsAway}
 use Rattle.jc_interp.specs.Stepping.{code_of}
 use Rattle.jc_interp.specs.Running.{run_of}
 use Rattle.jc_interp.proofs.frames_only.run_in_frames.Given as goal
 
 abbrev pub invariant-loop-turns : goal.invariant-loop-turns
 invariant-loop-turns g l = record {
-  same : (more : ℕ) (lent : List ℕ) (p : Packages) (m : MemoryState) → l.code ≡ code_of lent p l.fn.frames.current.origin.package_number
-      → run_of (l.budget + more) lent p l.fn.frames m ≡ run_of (l.budget - l.turns + more) lent p l.frames m;
+  same : (attack : Option Attack) (more : ℕ) (lent : List ℕ) (p : Packages) (m : MemoryState) → IsAway attack (l.budget + more) more
+      → l.code ≡ code_of lent p l.fn.frames.current.origin.package_number
+      → run_of attack (l.budget + more) lent p l.fn.frames m ≡ run_of attack (l.budget - l.turns + more) lent p l.frames m;
   origin : l.frames.current.origin ≡ l.fn.frames.current.origin;
 }

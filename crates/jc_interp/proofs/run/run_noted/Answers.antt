@@ -1,6 +1,28 @@
-use Rattle.jc_interp.proofs.Runs.{one_cut}
+use Rattle.std.proofs.Common.{◌+◌, ◌-◌, Option, None, ◌∙◌, arith}
+use Rattle.jc_heap.specs.Completions.{Torn}
+use Rattle.jc_interp.specs.declared.attacks.Attack.{Attack}
+use Rattle.jc_interp.specs.Attacks.{IsAway}
+use Rattle.jc_interp.proofs.Advances.{away_less}
+use Rattle.jc_interp.proofs.Runs.{one_more}
 use Rattle.jc_interp.proofs.run.run_noted.Goals as goal
 
 pub returns-in-Err : goal.returns-in-Err
-returns-in-Err g c = one_cut c.args.budget c.loop-turns.turns c.loop-turns-test.true c.args.lent.now c.args.linked.now c.args.frames.now
-    c.loop-turns.frames c.args.memory.now c.loop-turns.memory c.run_part.new.memory c.loop-turns.invariant.continues c.in-Err.ensures
+returns-in-Err g c = λ attack away. one_more attack c.args.budget c.loop-turns.turns c.args.later c.loop-turns-test.true c.args.lent.now c.args.linked.now
+    c.args.frames.now c.loop-turns.frames c.args.memory.now c.loop-turns.memory (c.loop-turns.invariant.continues attack away)
+    (Torn c.run_part.new.memory) (rw c.in-Err.is at (c.run_part.ensures attack (away_less attack (c.args.budget + c.args.later) c.args.later
+    (1 + (c.args.budget - (c.loop-turns.turns + 1) + c.args.later)) (c.args.budget - (c.loop-turns.turns + 1) + c.args.later)
+    (omega (arith, c.loop-turns-test.true)) (omega arith) away)))
+
+pub loop-turns-preserved : goal.loop-turns-preserved
+loop-turns-preserved g c =
+    let limit = c.args.budget + c.args.later in
+    let rest = c.args.budget - (c.loop-turns.turns + 1) + c.args.later in
+    let part = λ (attack : Option Attack) (away : IsAway attack limit c.args.later).
+    rw (c.in-Ok-None.is, c.in-Ok-None.field-0-is) at (c.run_part.ensures attack (away_less attack limit c.args.later (1 + rest) rest
+    (omega (arith, c.loop-turns-test.true)) (omega arith) away)) in
+    record {
+      continues = λ attack away after made. one_more attack c.args.budget c.loop-turns.turns c.args.later c.loop-turns-test.true c.args.lent.now
+          c.args.linked.now c.args.frames.now c.loop-turns.frames c.args.memory.now c.loop-turns.memory (c.loop-turns.invariant.continues attack away)
+          after ((part attack away).1 after made);
+      up = (part None tt).0 ∙ c.loop-turns.invariant.up;
+    }

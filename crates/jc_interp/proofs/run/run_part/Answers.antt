@@ -5,6 +5,7 @@ use Rattle.jc_frames.specs.declared.outcome.Outcome.TheVariants.{Fault}
 use Rattle.jc_frames.specs.Frames.{GoesOn, Ends}
 use Rattle.jc_interp.specs.Stepping.{code_of}
 use Rattle.jc_interp.specs.PausedSteps.{step_rest}
+use Rattle.jc_interp.proofs.Advances.{away_fewer}
 use Rattle.jc_interp.proofs.Runs.{run_cut, run_ended, run_thrown, run_more}
 use Rattle.jc_interp.proofs.run.run_part.Goals as goal
 
@@ -19,36 +20,44 @@ note_end-requires g c =
 pub returns-in-Err-End : goal.returns-in-Err-End
 returns-in-Err-End g c =
     let e = rw c.in-Err-End.field-0-is at c.in-Err-End.ensures in
-    c.loop-rest.invariant.continues (Completed (c.in-Some.rest + c.args.later, c.in-Err-End.outcome) c.finish.new.memory)
-    (run_ended (c.loop-rest.left + c.args.later) (c.in-Some.rest + c.args.later) c.in-Some.pause c.args.lent.now c.args.linked.now
+    λ attack away. c.loop-rest.invariant.continues attack away (Completed (c.in-Some.rest + c.args.later, c.in-Err-End.outcome) c.finish.new.memory)
+    (run_ended attack (c.loop-rest.left + c.args.later) (c.in-Some.rest + c.args.later) c.in-Some.pause c.args.lent.now c.args.linked.now
     c.loop-rest.frames c.run_in_frames.new.frames c.loop-rest.memory c.finish.new.memory
-    (c.in-Some.ensures.same c.args.later c.args.lent.now c.args.linked.now c.loop-rest.memory (c.loop-rest.invariant.own
+    (c.in-Some.ensures.same attack c.args.later c.args.lent.now c.args.linked.now c.loop-rest.memory
+    (away_fewer attack c.args.budget c.loop-rest.left c.args.later c.loop-rest.invariant.few away)
+    (c.loop-rest.invariant.own
     ∙ ap (code_of c.args.lent.now c.args.linked.now) c.loop-rest.invariant.here)) c.in-Err-End.outcome e)
 
 pub returns-in-Err-Throw : goal.returns-in-Err-Throw
 returns-in-Err-Throw g c =
     let e = rw c.in-Err-Throw.field-0-is at c.in-Err-Throw.ensures in
-    c.loop-rest.invariant.continues (Completed (c.in-Some.rest + c.args.later, Fault) c.finish.new.memory)
-    (run_thrown (c.loop-rest.left + c.args.later) (c.in-Some.rest + c.args.later) c.in-Some.pause c.args.lent.now c.args.linked.now
+    λ attack away. c.loop-rest.invariant.continues attack away (Completed (c.in-Some.rest + c.args.later, Fault) c.finish.new.memory)
+    (run_thrown attack (c.loop-rest.left + c.args.later) (c.in-Some.rest + c.args.later) c.in-Some.pause c.args.lent.now c.args.linked.now
     c.loop-rest.frames c.run_in_frames.new.frames c.loop-rest.memory c.finish.new.memory
-    (c.in-Some.ensures.same c.args.later c.args.lent.now c.args.linked.now c.loop-rest.memory (c.loop-rest.invariant.own
+    (c.in-Some.ensures.same attack c.args.later c.args.lent.now c.args.linked.now c.loop-rest.memory
+    (away_fewer attack c.args.budget c.loop-rest.left c.args.later c.loop-rest.invariant.few away)
+    (c.loop-rest.invariant.own
     ∙ ap (code_of c.args.lent.now c.args.linked.now) c.loop-rest.invariant.here)) _ _ e)
 
 pub returns-in-Err-Down : goal.returns-in-Err-Down
 returns-in-Err-Down g c =
     let e = rw c.in-Err-Down.field-0-is at c.in-Err-Down.ensures in
-    c.loop-rest.invariant.continues (Torn c.finish.new.memory)
-    (run_cut (c.loop-rest.left + c.args.later) (c.in-Some.rest + c.args.later) c.in-Some.pause c.args.lent.now c.args.linked.now
+    λ attack away. c.loop-rest.invariant.continues attack away (Torn c.finish.new.memory)
+    (run_cut attack (c.loop-rest.left + c.args.later) (c.in-Some.rest + c.args.later) c.in-Some.pause c.args.lent.now c.args.linked.now
     c.loop-rest.frames c.run_in_frames.new.frames c.loop-rest.memory c.finish.new.memory
-    (c.in-Some.ensures.same c.args.later c.args.lent.now c.args.linked.now c.loop-rest.memory (c.loop-rest.invariant.own
+    (c.in-Some.ensures.same attack c.args.later c.args.lent.now c.args.linked.now c.loop-rest.memory
+    (away_fewer attack c.args.budget c.loop-rest.left c.args.later c.loop-rest.invariant.few away)
+    (c.loop-rest.invariant.own
     ∙ ap (code_of c.args.lent.now c.args.linked.now) c.loop-rest.invariant.here)) e)
 
 pub loop-rest-preserved-then-origin-number : goal.loop-rest-preserved-then-origin-number
 loop-rest-preserved-then-origin-number g c = record {
-  continues = λ after rest. c.loop-rest.invariant.continues after
-      (run_more (c.loop-rest.left + c.args.later) (c.in-Some.rest + c.args.later) c.in-Some.pause c.args.lent.now c.args.linked.now
+  continues = λ attack away after rest. c.loop-rest.invariant.continues attack away after
+      (run_more attack (c.loop-rest.left + c.args.later) (c.in-Some.rest + c.args.later) c.in-Some.pause c.args.lent.now c.args.linked.now
       c.loop-rest.frames c.run_in_frames.new.frames c.loop-rest.memory c.finish.new.memory
-      (c.in-Some.ensures.same c.args.later c.args.lent.now c.args.linked.now c.loop-rest.memory (c.loop-rest.invariant.own
+      (c.in-Some.ensures.same attack c.args.later c.args.lent.now c.args.linked.now c.loop-rest.memory
+      (away_fewer attack c.args.budget c.loop-rest.left c.args.later c.loop-rest.invariant.few away)
+      (c.loop-rest.invariant.own
       ∙ ap (code_of c.args.lent.now c.args.linked.now) c.loop-rest.invariant.here)) c.finish.new.frames after c.in-Ok.ensures rest);
   up = down_did (step_rest c.in-Some.pause c.args.linked.now c.run_in_frames.new.frames c.loop-rest.memory) c.loop-rest.memory c.finish.new.memory
       (GoesOn c.finish.new.frames) c.in-Ok.ensures ∙ c.loop-rest.invariant.up;
@@ -60,10 +69,12 @@ loop-rest-preserved-then-origin-number g c = record {
 
 pub loop-rest-preserved : goal.loop-rest-preserved
 loop-rest-preserved g c = record {
-  continues = λ after rest. c.loop-rest.invariant.continues after
-      (run_more (c.loop-rest.left + c.args.later) (c.in-Some.rest + c.args.later) c.in-Some.pause c.args.lent.now c.args.linked.now
+  continues = λ attack away after rest. c.loop-rest.invariant.continues attack away after
+      (run_more attack (c.loop-rest.left + c.args.later) (c.in-Some.rest + c.args.later) c.in-Some.pause c.args.lent.now c.args.linked.now
       c.loop-rest.frames c.run_in_frames.new.frames c.loop-rest.memory c.finish.new.memory
-      (c.in-Some.ensures.same c.args.later c.args.lent.now c.args.linked.now c.loop-rest.memory (c.loop-rest.invariant.own
+      (c.in-Some.ensures.same attack c.args.later c.args.lent.now c.args.linked.now c.loop-rest.memory
+      (away_fewer attack c.args.budget c.loop-rest.left c.args.later c.loop-rest.invariant.few away)
+      (c.loop-rest.invariant.own
       ∙ ap (code_of c.args.lent.now c.args.linked.now) c.loop-rest.invariant.here)) c.finish.new.frames after c.in-Ok.ensures rest);
   up = down_did (step_rest c.in-Some.pause c.args.linked.now c.run_in_frames.new.frames c.loop-rest.memory) c.loop-rest.memory c.finish.new.memory
       (GoesOn c.finish.new.frames) c.in-Ok.ensures ∙ c.loop-rest.invariant.up;

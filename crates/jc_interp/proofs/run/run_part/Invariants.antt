@@ -1,11 +1,14 @@
-use Rattle.std.proofs.Common.{◌≡◌, ◌<◌, ◌≤◌, ◌+◌, ◌^◌, length, false}
+use Rattle.std.proofs.Common.{◌≡◌, ◌<◌, ◌≤◌, ◌+◌, ◌^◌, length, false, Option}
+use Rattle.jc_interp.specs.declared.attacks.Attack.{Attack}
+use Rattle.jc_interp.specs.Attacks.{IsAway}
 use Rattle.jc_interp.specs.Stepping.{code_of}
 use Rattle.jc_interp.specs.Running.{Continues}
 use Rattle.jc_interp.proofs.run.run_part.Given as goal
 
 abbrev pub invariant-loop-rest : goal.invariant-loop-rest
 invariant-loop-rest g l = record {
-  continues : Continues (l.budget + l.later) l.lent l.linked l.fn.frames l.fn.memory (l.left + l.later) l.frames l.memory;
+  continues : (attack : Option Attack) → IsAway attack (l.budget + l.later) l.later
+      → Continues attack (l.budget + l.later) l.lent l.linked l.fn.frames l.fn.memory (l.left + l.later) l.frames l.memory;
   up : l.memory.heap.down ≡ false;
   own : l.code ≡ code_of l.lent l.linked l.number;
   here : l.number ≡ l.frames.current.origin.package_number;
