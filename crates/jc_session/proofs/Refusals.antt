@@ -1,5 +1,5 @@
 -- Counts of refused writes over sessions.
-use Rattle.std.proofs.Common.{◌≡◌, ℕ, ◌+◌, ◌<◌, ◌≤◌, List, [], ◌∷◌, refl, ap, ◌∙◌, false, arith}
+use Rattle.std.proofs.Common.{◌≡◌, ℕ, ◌+◌, ◌<◌, ◌≤◌, List, [], ◌∷◌, Option, refl, ap, ◌∙◌, false, arith}
 use Rattle.jc_words.specs.Count.{saturating_count}
 use Rattle.jc_words.specs.Refusals.{Refusals, refused_once}
 use Rattle.jc_words.proofs.Refusals.{count-refused_once}
@@ -9,8 +9,9 @@ use Rattle.jc_memory.proofs.ProgramLemmas.{refusals_did}
 use Rattle.jc_card.specs.Answers.{exchange}
 use Rattle.jc_card.specs.CardState.{CardState}
 use Rattle.jc_card.specs.Dispatching.{with_response}
-use Rattle.jc_session.specs.Requests.{Request, Command, Reset, ArmFuse, Reply, Response, Ready, Down}
-use Rattle.jc_session.specs.Power.{PowerState, Up, Off, KeptState, armed, budget_of, durable_state}
+use Rattle.jc_session.specs.Requests.{Request, Command, Reset, ArmFuse, PlanFault, Reply, Response, Ready, Down}
+use Rattle.jc_session.specs.Power.{PowerState, Up, Off, KeptState, armed, budget_of, durable_state, planned}
+use Rattle.jc_session.specs.declared.planned_fault.PlannedFault.{PlannedFault}
 use Rattle.jc_session.specs.Starting.{IsPoweredUp}
 use Rattle.jc_session.specs.Serving.{AnswersCommand, AnswersReset, Serves, SessionRun}
 
@@ -60,11 +61,18 @@ armed_count : (k : ℕ) (s : PowerState) → (durable_state (armed k s)).refusal
 armed_count k (Up card) = refl
 armed_count k (Off b kept) = refl
 
+-- nor does planning a fault, which leaves the store as it is
+pub planned_durable : (fault : Option PlannedFault) (s : PowerState) → durable_state (planned fault s) ≡ durable_state s
+planned_durable fault (Up card) = refl
+planned_durable fault (Off b kept) = refl
+
 pub served_grows : (s : PowerState) (request : Request) (reply : Reply) (next : PowerState) → Serves s request reply next
     → (durable_state s).refusals.count ≤ (durable_state next).refusals.count
 served_grows s (Command bytes) reply next h = command_grows s bytes reply next h
 served_grows s Reset reply next h = reset_grows s reply next h
 served_grows s (ArmFuse k) reply next h = is_same _ _ (ap (λ p. (durable_state p).refusals.count) h.1 ∙ armed_count k s)
+served_grows s (PlanFault fault) reply next h =
+    is_same _ _ (ap (λ p. (durable_state p).refusals.count) h.1 ∙ ap (λ (k : KeptState). k.refusals.count) (planned_durable fault s))
 
 pub run_grows : (s : PowerState) (requests : List Request) (replies : List Reply) (last : PowerState) → SessionRun s requests replies last
     → (durable_state s).refusals.count ≤ (durable_state last).refusals.count

@@ -7,6 +7,7 @@ use Rattle.jc_memory.specs.Programs.{Finish, Perform, Completes}
 use Rattle.jc_memory.proofs.ProgramLemmas.{did_bind}
 use Rattle.jc_linker.specs.Values.{Packages}
 use Rattle.jc_registry.specs.Registry.{applet_with_aid}
+use Rattle.jc_interp.specs.declared.attacks.Budget.{Budget}
 use Rattle.jc_dispatch.specs.declared.applet_result.AppletResult.{AppletResult}
 use Rattle.jc_dispatch.specs.declared.applet_result.AppletResult.TheVariants.{Done}
 use Rattle.jc_dispatch.specs.Selecting.{deselection, manager_selection, with_selected}
@@ -28,7 +29,7 @@ or_first : (a b : Bool) → a ≡ true → (a || b) ≡ true
 or_first true b e = refl
 or_first false b e = absurd (cc)
 
-managed_none : (budget : ℕ) (p : Packages) (m new : MemoryState) (ending : AppletResult) → Completes (manager_selection budget p m) m ending new
+managed_none : (budget : Budget) (p : Packages) (m new : MemoryState) (ending : AppletResult) → Completes (manager_selection budget p m) m ending new
     → new.registers.selected ≡ None
 unfolding manager_selection
 managed_none budget p m new ending did =
@@ -36,7 +37,7 @@ managed_none budget p m new ending did =
     (deselection budget p None m) m new ending did in
     ap (λ (s : MemoryState). s.registers.selected) last.3.1
 
-routed_none : (budget : ℕ) (c : Apdu) (n : ℕ) (p : Packages) (m new : MemoryState) (ending : AppletResult) → is_select c ≡ true → c.content ≡ manager_aid
+routed_none : (budget : Budget) (c : Apdu) (n : ℕ) (p : Packages) (m new : MemoryState) (ending : AppletResult) → is_select c ≡ true → c.content ≡ manager_aid
     → Completes (route budget c n p m) m ending new → new.registers.selected ≡ None
 unfolding route
 routed_none budget c n p m new ending select content did =

@@ -6,6 +6,7 @@ use Rattle.jc_commit.specs.Migration.{migrated, StillOpens}
 use Rattle.jc_commit.specs.State.{recovered_journal}
 use Rattle.jc_heap.specs.Heap.{HeapView, heap_at_rest, heap_of, heap_view}
 use Rattle.jc_heap.proofs.Migrated.{migrated_alike}
+use Rattle.jc_interp.specs.Attacks.{undisturbed}
 use Rattle.jc_card.specs.CardState.{CardState}
 use Rattle.jc_card.specs.Made.{IsCardHeap, IsMade}
 use Rattle.jc_card.specs.PowerUp.{PowerUpRefuses, RefusalLeaves}
@@ -29,7 +30,7 @@ opened_heap w passed refusals n =
 -- the card is up
 pub starts_up : (budget : ℕ) (before : StoreState) (passed : ℕ) (card : CardState) → IsMade before.words
     → card.memory.heap ≡ heap_view (recovered_journal before.words passed before.refusals) (limit_of before.words)
-    → IsAtReset (heap_of (recovered_of before.words)) card → card.budget ≡ budget → Starts budget before (Up card)
+    → IsAtReset (heap_of (recovered_of before.words)) card → card.budget ≡ undisturbed budget → Starts budget before (Up card)
 starts_up budget before passed card made heap reset has =
     let opened = heap ∙ opened_heap before.words passed before.refusals (limit_of before.words) in (
       made,
@@ -65,7 +66,7 @@ starts_off budget before after cause still down refusals =
 -- the same of the store that a power up was over, whose words and refusals are those of the one before
 pub card_starts : (budget : ℕ) (before : StoreState) (w : List ℕ) (passed : ℕ) (refusals : Refusals) (card held : CardState) → w ≡ before.words → refusals ≡ before.refusals
     → held ≡ card → IsMade w → card.memory.heap ≡ heap_view (recovered_journal w passed refusals) (limit_of w) → IsAtReset (heap_of (recovered_of w)) card
-    → card.budget ≡ budget → Starts budget before (Up held)
+    → card.budget ≡ undisturbed budget → Starts budget before (Up held)
 card_starts budget before w passed refusals card held words same is made heap reset has = subst (λ (c : CardState). Starts budget before (Up c)) (sym is)
     (starts_up budget before passed card (subst IsMade words made)
     (heap ∙ (λ i. heap_view (recovered_journal (words i) passed (same i)) (limit_of (words i))))

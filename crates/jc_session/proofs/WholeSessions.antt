@@ -3,8 +3,8 @@ use Rattle.std.proofs.Common.{◌≡◌, ℕ, ◌+◌, ◌<◌, ◌≤◌, List,
 use Rattle.jc_words.specs.Count.{saturating_count}
 use Rattle.jc_words.specs.Refusals.{Refusals, refused_once}
 use Rattle.jc_card.specs.CardState.{CardState}
-use Rattle.jc_session.specs.Requests.{Request, Command, Reset, ArmFuse, Reply, Response, Ready, Down}
-use Rattle.jc_session.specs.Power.{PowerState, Up, Off, KeptState, StoreState, IsStoreOf, armed_card, budget_of, durable_state, durable_state_in_store}
+use Rattle.jc_session.specs.Requests.{Request, Command, Reset, ArmFuse, PlanFault, Reply, Response, Ready, Down}
+use Rattle.jc_session.specs.Power.{PowerState, Up, Off, KeptState, StoreState, IsStoreOf, armed_card, budget_of, durable_state, durable_state_in_store, planned_card}
 use Rattle.jc_session.specs.Starting.{Starts, IsPoweredUp}
 use Rattle.jc_session.specs.Serving.{Serves, SessionRun}
 use Rattle.jc_session.specs.WholeCopies.{ServesWhole, RunsWhole}
@@ -25,6 +25,7 @@ served_whole card Reset Ready (Up next) h small same = (next, refl, h)
 served_whole card Reset Down (Off b k) h small same =
     absurd (no_rise k.passed card.memory.heap.refusals k.refusals small (ap (λ (x : KeptState). x.refusals) h.0) same)
 served_whole card (ArmFuse k) reply next h small same = (armed_card k card, h.1, (h.0, refl))
+served_whole card (PlanFault fault) reply next h small same = (planned_card fault card, h.1, (h.0, refl))
 served_whole card request reply next h small same = absurd h
 
 run_whole : (requests : List Request) (replies : List Reply) (card : CardState) (last : PowerState) → SessionRun (Up card) requests replies last
@@ -85,6 +86,7 @@ told_by_reply (Off b k) (Command bytes) Down (Off d l) h = tt
 told_by_reply s Reset Ready (Up card) h = powered_refusals (durable_state s) (budget_of s) card h
 told_by_reply s Reset Down (Off b k) h = tt
 told_by_reply s (ArmFuse k) reply next h = subst (λ r. IsToldByReply (ArmFuse k) r s next) (sym h.0) (refl, h.1)
+told_by_reply s (PlanFault fault) reply next h = subst (λ r. IsToldByReply (PlanFault fault) r s next) (sym h.0) (refl, h.1)
 told_by_reply s request reply next h = absurd h
 
 told_down : (s : PowerState) (request : Request) (next : PowerState) → Serves s request Down next → IsToldOfRefusal request s next
@@ -93,6 +95,7 @@ told_down (Off b k) (Command bytes) (Off d l) h = λ i. Off (h.1 i) (h.0 i)
 told_down (Up card) Reset (Off b k) h = ap (λ (x : KeptState). x.refusals) h.0
 told_down (Off d l) Reset (Off b k) h = ap (λ (x : KeptState). x.refusals) h.0
 told_down s (ArmFuse k) next h = cc h.0
+told_down s (PlanFault fault) next h = cc h.0
 told_down s request next h = absurd h
 
 pub down_tells : DownTellsRefusals

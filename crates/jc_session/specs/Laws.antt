@@ -2,11 +2,12 @@
 use Rattle.std.specs.Prelude.{ℕ, ◌≡◌, true, false, List, Some, None}
 use Rattle.jc_words.specs.Refusals.{Refusals, refused_once}
 use Rattle.jc_transient.specs.State.{IsCleared}
+use Rattle.jc_interp.specs.Attacks.{undisturbed}
 use Rattle.jc_card.specs.Apdu.{Apdu, apdu_of}
 use Rattle.jc_card.specs.CardState.{CardState}
 use Rattle.jc_card.specs.Dispatching.{is_select, manager_aid}
-use Rattle.jc_session.specs.Requests.{Request, Command, Reset, ArmFuse, Reply, Response, Ready, Down, Armed}
-use Rattle.jc_session.specs.Power.{PowerState, Up, Off, StoreState, IsStoreOf, armed, durable_state}
+use Rattle.jc_session.specs.Requests.{Request, Command, Reset, ArmFuse, PlanFault, Reply, Response, Ready, Down, Armed, Planned}
+use Rattle.jc_session.specs.Power.{PowerState, Up, Off, StoreState, IsStoreOf, armed, durable_state, planned}
 use Rattle.jc_session.specs.Serving.{AnswersCommand, Serves}
 use Rattle.jc_session.specs.Sessions.{IsSession}
 use Rattle.jc_session.specs.WholeCopies.{IsWholeSession, RefusesNone}
@@ -18,14 +19,14 @@ AreWholeSessions = (budget : ℕ) (before after : StoreState) (requests : List R
     → IsWholeSession budget before requests replies after
 
 -- nothing is left of what died with the power: the present heap is the durable one, no transaction is open, the transient
--- contents are blank, nothing is selected, and no load is open; and the budget stays
+-- contents are blank, nothing is selected, no load is open and no attack is planned; and the budget stays
 pub record BeginsAnew (card next : CardState) : Type 0 where
   pub heap : next.memory.heap.now ≡ card.memory.heap.durable
   pub closed : next.memory.heap.begun ≡ false
   pub blank : IsCleared next.memory.ram
   pub unselected : next.memory.registers.selected ≡ None
   pub unloaded : next.load ≡ None
-  pub budget : next.budget ≡ card.budget
+  pub budget : next.budget ≡ undisturbed card.budget.left
 
 abbrev pub ResetsBeginAnew : Type 0
 ResetsBeginAnew = (card next : CardState) → Serves (Up card) Reset Ready (Up next) → BeginsAnew card next
@@ -40,6 +41,7 @@ abbrev pub refusals_before : Request → PowerState → Refusals
 refusals_before (ArmFuse k) s = (durable_state (armed k s)).refusals
 refusals_before (Command bytes) s = (durable_state s).refusals
 refusals_before Reset s = (durable_state s).refusals
+refusals_before (PlanFault fault) s = (durable_state s).refusals
 
 -- with the reply down the card is off; with any other to a command or a reset it is up, and the store has refused no further write
 abbrev pub IsToldByReply : Request → Reply → PowerState → PowerState → Type 0
@@ -50,6 +52,7 @@ IsToldByReply request (Response r) s (Off budget k) = ⊥
 IsToldByReply request Ready s (Up card) = (durable_state (Up card)).refusals ≡ refusals_before request s
 IsToldByReply request Ready s (Off budget k) = ⊥
 IsToldByReply request (Armed k) s next = (request ≡ ArmFuse k) × (next ≡ armed k s)
+IsToldByReply request (Planned fault) s next = (request ≡ PlanFault fault) × (next ≡ planned fault s)
 
 -- and down is answered where the store has refused one more, or the card was off and is asked by a command
 abbrev pub IsToldOfRefusal : Request → PowerState → PowerState → Type 0
@@ -57,6 +60,7 @@ IsToldOfRefusal (Command bytes) (Off budget k) next = next ≡ Off budget k
 IsToldOfRefusal (Command bytes) (Up card) next = (durable_state next).refusals ≡ refused_once false (durable_state next).passed (durable_state (Up card)).refusals
 IsToldOfRefusal Reset s next = (durable_state next).refusals ≡ refused_once false (durable_state next).passed (durable_state s).refusals
 IsToldOfRefusal (ArmFuse k) s next = ⊥
+IsToldOfRefusal (PlanFault fault) s next = ⊥
 
 pub record TellsRefusals (s : PowerState) (request : Request) (reply : Reply) (next : PowerState) : Type 0 where
   pub told : IsToldByReply request reply s next

@@ -1,3 +1,4 @@
+pub mod PlannedFaults
 pub mod Requests
 pub mod Power
 pub mod Starting

@@ -1,6 +1,7 @@
 -- A card with its power, and what is left of it without.
-use Rattle.std.specs.Prelude.{ℕ, ◌≡◌, ◌==◌, ◌&&◌, nat_le, nat_lt, Bool, true, false, List, length, slice_index}
+use Rattle.std.specs.Prelude.{ℕ, ◌≡◌, ◌==◌, ◌&&◌, nat_le, nat_lt, Bool, true, false, List, length, slice_index, Option}
 use Rattle.std.specs.List.{list_all}
+use Rattle.std.specs.Option.{option_map}
 use Rattle.jc_words.specs.Layout.{top_address}
 use Rattle.jc_words.specs.Count.{saturating_count}
 use Rattle.jc_words.specs.Refusals.{Refusals, refused_once, with_fuse_at}
@@ -8,6 +9,8 @@ use Rattle.jc_commit.specs.Image.{IsGoodLog, limit_of, recovered_of}
 use Rattle.jc_heap.specs.Heap.{HeapState, HeapView, heap_of}
 use Rattle.jc_heap.specs.Image.{base, image, missing_words_of_image, package_addresses}
 use Rattle.jc_card.specs.CardState.{CardState}
+use Rattle.jc_session.specs.PlannedFaults.{attack_of}
+use Rattle.jc_session.specs.declared.planned_fault.PlannedFault.{PlannedFault}
 
 -- what is left of a card without power: the heap that a recovery gives, and whether its words are laid; of its store, whether it is
 -- down, how many writes have passed, those that it has refused, and where the heap ends in it
@@ -39,7 +42,7 @@ durable_state (Off budget k) = k
 
 -- the budget that a card has, or has when it is up again
 abbrev pub budget_of : {V : Type 0} → PowerOver V → ℕ
-budget_of (Up card) = card.budget
+budget_of (Up card) = card.budget.left
 budget_of (Off budget kept) = budget
 
 -- this many writes have passed, and one more was refused
@@ -62,6 +65,15 @@ armed_card k card = record card {
 abbrev pub armed : ℕ → PowerState → PowerState
 armed k (Up card) = Up (armed_card k card)
 armed k (Off budget kept) = Off budget (record kept { refusals = with_fuse_at (saturating_count kept.passed k) kept.refusals })
+
+-- this fault comes in each command from now on, or none, and nothing else changes
+abbrev pub planned_card : Option PlannedFault → CardState → CardState
+planned_card fault card = record card { budget = record card.budget { attack = option_map (attack_of card.budget.left) fault } }
+
+-- the same of a card that is up; one that is off has no commands, and after its reset no fault
+abbrev pub planned : {V : Type 0} → Option PlannedFault → PowerOver V → PowerOver V
+planned fault (Up card) = Up (planned_card fault card)
+planned fault (Off budget kept) = Off budget kept
 
 -- the words of a store, whether it is down, how many writes have passed, and those that it has refused
 pub record StoreState : Type 0 where

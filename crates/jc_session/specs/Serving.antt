@@ -5,8 +5,8 @@ use Rattle.jc_heap.specs.Heap.{HeapState, HeapView}
 use Rattle.jc_memory.specs.Programs.{Completes, TearLeaves}
 use Rattle.jc_card.specs.Answers.{exchange}
 use Rattle.jc_card.specs.Dispatching.{with_response}
-use Rattle.jc_session.specs.Requests.{Request, Command, Reset, ArmFuse, Reply, Response, Ready, Down, Armed}
-use Rattle.jc_session.specs.Power.{KeptState, PowerOver, PowerState, Up, Off, armed, budget_of, durable_state, with_refusal}
+use Rattle.jc_session.specs.Requests.{Request, Command, Reset, ArmFuse, PlanFault, Reply, Response, Ready, Down, Armed, Planned}
+use Rattle.jc_session.specs.Power.{KeptState, PowerOver, PowerState, Up, Off, armed, budget_of, durable_state, planned, with_refusal}
 use Rattle.jc_session.specs.Starting.{IsPoweredUp}
 
 -- how a session keeps the store of a card that is off, by such a value: what a loss of power keeps of a heap, where the durable heap is
@@ -22,17 +22,19 @@ abbrev pub AnswersCommandOver : {V : Type 0} → StoreKind V → PowerOver V →
 AnswersCommandOver kind (Up card) bytes (Response r) (Up next) = Completes (exchange bytes card) card.memory (with_response next r) next.memory
 -- a write was refused within it: the heap is the one that a loss leaves when this many writes have passed
 AnswersCommandOver kind (Up card) bytes Down (Off b kept) =
-    (b ≡ card.budget) × kind.IsLeft (TearLeaves (exchange bytes card) card.memory) card.memory.heap kept
+    (b ≡ card.budget.left) × kind.IsLeft (TearLeaves (exchange bytes card) card.memory) card.memory.heap kept
 -- without power nothing is done
 AnswersCommandOver kind (Off b kept) bytes Down (Off d next) = (next ≡ kept) × (d ≡ b)
 AnswersCommandOver kind (Up card) bytes (Response r) (Off b kept) = ⊥
 AnswersCommandOver kind (Up card) bytes Ready next = ⊥
 AnswersCommandOver kind (Up card) bytes Down (Up next) = ⊥
 AnswersCommandOver kind (Up card) bytes (Armed k) next = ⊥
+AnswersCommandOver kind (Up card) bytes (Planned fault) next = ⊥
 AnswersCommandOver kind (Off b kept) bytes (Response r) next = ⊥
 AnswersCommandOver kind (Off b kept) bytes Ready next = ⊥
 AnswersCommandOver kind (Off b kept) bytes Down (Up next) = ⊥
 AnswersCommandOver kind (Off b kept) bytes (Armed n) next = ⊥
+AnswersCommandOver kind (Off b kept) bytes (Planned fault) next = ⊥
 
 -- a reset may be answered so, and lead there, whether the card was up or off
 abbrev pub AnswersResetOver : {V : Type 0} → StoreKind V → PowerOver V → Reply → PowerOver V → Type 0
@@ -42,12 +44,14 @@ AnswersResetOver kind s Ready (Off b kept) = ⊥
 AnswersResetOver kind s Down (Up card) = ⊥
 AnswersResetOver kind s (Response r) next = ⊥
 AnswersResetOver kind s (Armed n) next = ⊥
+AnswersResetOver kind s (Planned fault) next = ⊥
 
 -- a request may be answered so, and lead there
 abbrev pub ServesOver : {V : Type 0} → StoreKind V → PowerOver V → Request → Reply → PowerOver V → Type 0
 ServesOver kind s (Command bytes) reply next = AnswersCommandOver kind s bytes reply next
 ServesOver kind s Reset reply next = AnswersResetOver kind s reply next
 ServesOver kind s (ArmFuse k) reply next = (reply ≡ Armed k) × (next ≡ kind.armed k s)
+ServesOver kind s (PlanFault fault) reply next = (reply ≡ Planned fault) × (next ≡ planned fault s)
 
 -- these requests may be answered so, one after another, from one state to the other
 abbrev pub RunOver : {V : Type 0} → StoreKind V → PowerOver V → List Request → List Reply → PowerOver V → Type 0

@@ -2,6 +2,7 @@
 use Rattle.std.specs.Prelude.{ℕ, ◌≡◌, false}
 use Rattle.jc_commit.specs.Image.{limit_of}
 use Rattle.jc_heap.specs.Heap.{heap_at_rest}
+use Rattle.jc_interp.specs.Attacks.{undisturbed}
 use Rattle.jc_card.specs.CardState.{CardState}
 use Rattle.jc_card.specs.Made.{IsCardHeap, IsMade}
 use Rattle.jc_card.specs.PowerUp.{PowerUpRefuses, RefusalLeaves}
@@ -10,12 +11,12 @@ use Rattle.jc_card.specs.declared.power_up.PowerFault.{PowerFault}
 use Rattle.jc_card.specs.declared.power_up.PowerFault.TheVariants.{StoreDown}
 use Rattle.jc_session.specs.Power.{PowerState, Up, Off, KeptState, StoreState, IsStoreOf, budget_of, durable_state, durable_state_in_store, with_power, with_refusal}
 
--- the card of what was left, with a budget of n: its heap is the durable one, at rest, and all else is as after a reset
+-- the card of what was left, with a budget of n and no attack: its heap is the durable one, at rest, and all else is as after a reset
 pub record IsPoweredUp (k : KeptState) (n : ℕ) (card : CardState) : Type 0 where
   pub made : IsCardHeap k.durable.head.1 k.durable
   pub heap : card.memory.heap ≡ heap_at_rest k.durable card.memory.heap.passed k.refusals k.size
   pub reset : IsAtReset k.durable card
-  pub budget : card.budget ≡ n
+  pub budget : card.budget ≡ undisturbed n
 
 -- a power up over a store, with this budget, ends so: the card is up, over words that the product makes; or a write was refused
 abbrev pub Starts : ℕ → StoreState → PowerState → Type 0

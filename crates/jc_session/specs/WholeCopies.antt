@@ -4,22 +4,25 @@ use Rattle.jc_memory.specs.Programs.{Completes}
 use Rattle.jc_card.specs.Answers.{exchange}
 use Rattle.jc_card.specs.CardState.{CardState}
 use Rattle.jc_card.specs.Dispatching.{with_response}
-use Rattle.jc_session.specs.Requests.{Request, Command, Reset, ArmFuse, Reply, Response, Ready, Down, Armed}
-use Rattle.jc_session.specs.Power.{Up, StoreState, IsStoreOf, armed_card, durable_rest, durable_state_in_store}
+use Rattle.jc_session.specs.Requests.{Request, Command, Reset, ArmFuse, PlanFault, Reply, Response, Ready, Down, Armed, Planned}
+use Rattle.jc_session.specs.Power.{Up, StoreState, IsStoreOf, armed_card, durable_rest, durable_state_in_store, planned_card}
 use Rattle.jc_session.specs.Starting.{IsPoweredUp}
 
 -- such a card answers a request so, and is then so: a command by all of what it may do to the copies, a reset by making the
--- durable copy the present one; arming the fuse leaves the copies as they are
+-- durable copy the present one; arming the fuse and planning a fault leave the copies as they are
 abbrev pub ServesWhole : CardState → Request → Reply → CardState → Type 0
 ServesWhole card (Command bytes) (Response r) next = Completes (exchange bytes card) card.memory (with_response next r) next.memory
-ServesWhole card Reset Ready next = IsPoweredUp (durable_rest card.memory.heap) card.budget next
+ServesWhole card Reset Ready next = IsPoweredUp (durable_rest card.memory.heap) card.budget.left next
 ServesWhole card (ArmFuse k) reply next = (reply ≡ Armed k) × (next ≡ armed_card k card)
+ServesWhole card (PlanFault fault) reply next = (reply ≡ Planned fault) × (next ≡ planned_card fault card)
 ServesWhole card (Command bytes) Ready next = ⊥
 ServesWhole card (Command bytes) Down next = ⊥
 ServesWhole card (Command bytes) (Armed k) next = ⊥
+ServesWhole card (Command bytes) (Planned fault) next = ⊥
 ServesWhole card Reset (Response r) next = ⊥
 ServesWhole card Reset Down next = ⊥
 ServesWhole card Reset (Armed k) next = ⊥
+ServesWhole card Reset (Planned fault) next = ⊥
 
 -- these requests, one after another
 abbrev pub RunsWhole : CardState → List Request → List Reply → CardState → Type 0

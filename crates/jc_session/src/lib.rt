@@ -2,6 +2,7 @@
 #![tactic(auto)]
 
 pub mod event;
+pub mod planned_fault;
 pub mod session;
 mod session_laws;
 pub mod state;

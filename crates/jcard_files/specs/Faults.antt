@@ -10,7 +10,8 @@ use Rattle.jcard_files.specs.declared.fault.FileKind.TheVariants as kind
 use Rattle.jcard_files.specs.declared.fault.Fault.{Fault}
 use Rattle.jcard_files.specs.declared.fault.Fault.TheVariants.{BadCommandLine, NoMemory, BadWords, BadTable, ImageTooSmall, CannotRead, CannotOpenToWrite}
 use Rattle.jcard_files.specs.declared.fault.Fault.TheVariants.{CannotWrite, NotReplaced, ImageInUse, BadImage, BadCommand, ScriptTooLong, WriteFailed}
-use Rattle.jcard_files.specs.declared.fault.Fault.TheVariants.{Down, NoCommand, TooManyCuts, NotAllOrNothing, CannotInclude, RowsFailed, OtherAnswer, NothingExpected}
+use Rattle.jcard_files.specs.declared.fault.Fault.TheVariants.{Down, NoCommand, TooManyCuts, NotAllOrNothing, TooManyInstructions, FaultAccepted}
+use Rattle.jcard_files.specs.declared.fault.Fault.TheVariants.{CannotInclude, RowsFailed, OtherAnswer, NothingExpected}
 use Rattle.jcard_files.specs.declared.fault.Fault.TheVariants.{BadCut, BadJournal, BadProbeCommand, ProbeTooLong, BadPart, CutMissing, CutTwice, OtherPart, OtherSweep, ShareMissing, ShareTwice, BadShare}
 
 -- the exit status
@@ -37,6 +38,8 @@ status_of (Err Down) = 1
 status_of (Err NoCommand) = 1
 status_of (Err TooManyCuts) = 1
 status_of (Err NotAllOrNothing) = 3
+status_of (Err TooManyInstructions) = 1
+status_of (Err FaultAccepted) = 3
 status_of (Err (CannotInclude path number)) = 1
 status_of (Err RowsFailed) = 4
 status_of (Err (OtherAnswer line)) = 4
@@ -92,7 +95,8 @@ ending_of kind.Rows = codes " is a row file\n"
 ending_of kind.Map = codes " is a map\n"
 ending_of kind.Table = codes " is a platform table\n"
 
--- the line that states a fault; none states a failed write, and a cut that was not all or nothing, or a row that failed, is reported by the report
+-- the line that states a fault; none states a failed write, and a cut that was not all or nothing, a fault that was accepted, or a row that failed,
+-- is reported by the report
 abbrev pub line_of : Fault → List ℕ
 line_of BadCommandLine = codes "jcard: bad command line\n"
 line_of NoMemory = codes "jcard: no memory\n"
@@ -115,6 +119,8 @@ line_of Down = codes "jcard: the card is down at the command\n"
 line_of NoCommand = codes "jcard: no command to cut\n"
 line_of TooManyCuts = codes "jcard: more than 65535 cuts\n"
 line_of NotAllOrNothing = []
+line_of TooManyInstructions = codes "jcard: more than 1000000 instructions\n"
+line_of FaultAccepted = []
 line_of (CannotInclude path number) = unincluded_text path.now number
 line_of RowsFailed = []
 line_of (OtherAnswer line) = codes "jcard: line " ++ decimal line ++ codes ": another answer than expected\n"

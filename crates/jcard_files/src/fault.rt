@@ -85,6 +85,10 @@ pub enum Fault<'a> {
     TooManyCuts,
     /// A cut left neither what was before the command nor what comes after it.
     NotAllOrNothing,
+    /// The command that is to be attacked carries out more instructions than are counted.
+    TooManyInstructions,
+    /// With a fault at one of its instructions a command gets an answer that it may not get.
+    FaultAccepted,
     /// The file that the line of this number in this file of rows includes cannot be read.
     CannotInclude(&'a str, usize),
     /// A row is not answered as it says.
@@ -114,7 +118,7 @@ pub enum Fault<'a> {
 }
 
 /// Writes the last line, if there is a fault that has one, and answers the exit status: 0, 2 for
-/// a bad command line, 3 where a cut left something else, 4 where a row failed or an answer is another one than expected, 1 for every other fault.
+/// a bad command line, 3 where a cut left something else or a fault was accepted, 4 where a row failed or an answer is another one than expected, 1 for every other fault.
 pub fn tell<W: TextOut>(ended: Result<(), Fault>, out: &mut W) -> u8
     ensures status { result ≡ status_of ended.entry }
     ensures line { (text : List ℕ) × (failed : Bool)
@@ -128,7 +132,7 @@ pub fn tell<W: TextOut>(ended: Result<(), Fault>, out: &mut W) -> u8
     let _ = write_line(fault, out);
     match fault {
         Fault::BadCommandLine => 2,
-        Fault::NotAllOrNothing => 3,
+        Fault::NotAllOrNothing | Fault::FaultAccepted => 3,
         Fault::RowsFailed | Fault::OtherAnswer(_) | Fault::NothingExpected => 4,
         _ => 1,
     }
@@ -185,6 +189,7 @@ fn write_line<W: TextOut>(fault: Fault, out: &mut W) -> Result<(), WriteFailed>
         Fault::Down => write_all(out, b"jcard: the card is down at the command\n"),
         Fault::NoCommand => write_all(out, b"jcard: no command to cut\n"),
         Fault::TooManyCuts => write_all(out, b"jcard: more than 65535 cuts\n"),
+        Fault::TooManyInstructions => write_all(out, b"jcard: more than 1000000 instructions\n"),
         Fault::CannotInclude(path, number) => write_unincluded(path, number, out),
         Fault::OtherAnswer(n) => write_parts(
             out,
@@ -207,7 +212,8 @@ fn write_line<W: TextOut>(fault: Fault, out: &mut W) -> Result<(), WriteFailed>
             path.as_bytes(),
             b" is of another sweep\n",
         ),
-        Fault::WriteFailed | Fault::NotAllOrNothing | Fault::RowsFailed => Ok(()),
+        Fault::WriteFailed | Fault::NotAllOrNothing | Fault::FaultAccepted | Fault::RowsFailed =>
+            Ok(()),
     }
 }
 

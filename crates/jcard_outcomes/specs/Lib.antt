@@ -2,6 +2,7 @@ pub mod Heaps
 pub mod Standings
 pub mod Recoveries
 pub mod Reports
+pub mod Models
 pub mod Orders
 pub mod Parts
 pub mod Joins

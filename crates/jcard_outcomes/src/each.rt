@@ -102,8 +102,8 @@ fn push_line_rows(
     Ok(())
 }
 
-// A command in a line and its answer.
-fn line_head(
+/// A command in a line and its answer, before what is reported of it.
+pub fn line_head(
     alloc: Global,
     number: usize,
     command: &[u8],
@@ -143,7 +143,8 @@ fn push_line_recoveries(
     push_recoveries(text, depth, cuts)
 }
 
-fn push_down_line(text: &mut Vec<u8>, number: usize, command: &[u8]) -> Result<(), AllocError>
+/// Writes that the card is down at a command in a line.
+pub fn push_down_line(text: &mut Vec<u8>, number: usize, command: &[u8]) -> Result<(), AllocError>
     ensures { OnOk result (text.new.items ≡ text.old.items
         ++ (line_command_text number command.now
         ++ codes ": the card is down at the command\n")) }

@@ -8,6 +8,7 @@ pub mod heaps;
 pub mod join;
 pub mod join_fault;
 mod line;
+pub mod models;
 mod order;
 pub mod part;
 pub mod recoveries;

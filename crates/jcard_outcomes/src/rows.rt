@@ -44,7 +44,7 @@ fn push_rows_from(
 }
 
 /// Whether two texts are the same.
-pub(crate) fn is_same(outcome: &[u8], next: &[u8]) -> bool
+pub fn is_same(outcome: &[u8], next: &[u8]) -> bool
     ensures { result ≡ bytes_eq outcome.now next.now }
 {
     outcome == next
@@ -119,7 +119,7 @@ fn push_numbers(text: &mut Vec<u8>, first: usize, last: usize) -> Result<(), All
 }
 
 /// Writes a number in decimal digits.
-pub(crate) fn push_number(text: &mut Vec<u8>, number: usize) -> Result<(), AllocError>
+pub fn push_number(text: &mut Vec<u8>, number: usize) -> Result<(), AllocError>
     ensures { OnOk result (text.new.items ≡ text.old.items ++ decimal number) }
 {
     let mut digits = Buffer::new();
@@ -127,7 +127,7 @@ pub(crate) fn push_number(text: &mut Vec<u8>, number: usize) -> Result<(), Alloc
 }
 
 /// Writes answers in one line, each with a space after it.
-pub(crate) fn push_in_line(text: &mut Vec<u8>, answers: &[u8]) -> Result<(), AllocError>
+pub fn push_in_line(text: &mut Vec<u8>, answers: &[u8]) -> Result<(), AllocError>
     ensures { OnOk result (text.new.items ≡ text.old.items ++ in_line answers.now) }
 {
     for byte in answers {
@@ -137,7 +137,7 @@ pub(crate) fn push_in_line(text: &mut Vec<u8>, answers: &[u8]) -> Result<(), All
 }
 
 /// Writes how a standing is reported.
-pub(crate) fn push_standing(text: &mut Vec<u8>, standing: Standing) -> Result<(), AllocError>
+pub fn push_standing(text: &mut Vec<u8>, standing: Standing) -> Result<(), AllocError>
     ensures { OnOk result (text.new.items ≡ text.old.items ++ standing_text standing) }
 {
     match standing {

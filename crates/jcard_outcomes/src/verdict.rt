@@ -136,7 +136,7 @@ fn push_cuts(text: &mut Vec<u8>, total: usize) -> Result<(), AllocError>
 }
 
 /// Writes one of two texts after a text.
-pub(crate) fn push_either(
+pub fn push_either(
     text: &mut Vec<u8>,
     is_first: bool,
     first: &[u8],

@@ -56,7 +56,8 @@ no_word (c ∷ line) h some =
     let digit = first_digit c line h in
     let r : (c == 114) ≡ false = ne_eqb c 114 (not_digit c 114 digit refl) in
     let s : (115 == c) ≡ false = ne_eqb 115 c (λ e. not_digit c 115 digit refl (sym e)) in
-    rw (r, s) refl
+    let g : (103 == c) ≡ false = ne_eqb 103 c (λ e. not_digit c 103 digit refl (sym e)) in
+    rw (r, s, g) refl
 
 -- such a line is the command that it spells
 pub spelt : (line bytes : List ℕ) → decode_of line ≡ Ok bytes → 0 < length line → length line ≤ 524

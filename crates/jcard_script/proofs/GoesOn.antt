@@ -64,7 +64,7 @@ left_by (Ok done) card next command response store did holds = λ words good sam
     (Response response, Up next, did, store_alike next.memory.heap store words holds good same)
 left_by (Err e) card next command response store did holds = λ words good same.
     let left : FuseStoreValue = record store { words = words } in
-    (Down, Off card.budget left, (refl, (next.memory.heap, did, store_alike next.memory.heap store words holds good same)), refl)
+    (Down, Off card.budget.left left, (refl, (next.memory.heap, did, store_alike next.memory.heap store words holds good same)), refl)
 
 -- ---- two lines more
 

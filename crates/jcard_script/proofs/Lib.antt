@@ -11,3 +11,4 @@ pub mod Parts
 pub mod Upper
 pub mod Words
 pub mod GoesOn
+pub mod InstructionNumbers

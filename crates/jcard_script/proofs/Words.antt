@@ -1,16 +1,19 @@
 -- What a line that is a word asks for.
-use Rattle.std.proofs.Common.{◌≡◌, ℕ, ◌+◌, ◌-◌, ◌*◌, ◌≤◌, nat_le, Bool, true, false, ◌&&◌, if◌then◌else◌, List, [], ◌∷◌, ◌++◌, length, take, drop, Some, None}
+use Rattle.std.proofs.Common.{◌≡◌, ℕ, ◌+◌, ◌-◌, ◌*◌, ◌≤◌, nat_le, nat_lt, ◌==◌, Bool, true, false, ◌&&◌, if◌then◌else◌, List, [], ◌∷◌, ◌++◌, length, take, drop, Option, Some, None, ◌<◌, length-drop, length-take}
 use Rattle.std.proofs.Common.{refl, sym, ◌∙◌, ap, arith}
 use Rattle.std.specs.Prelude.{codes, nat_eq}
 use Rattle.std.specs.Char.{is_ascii_digit, digit_value}
 use Rattle.std.specs.Str.{bytes_eq, all_ascii_digits}
 use Rattle.std.specs.Str.Parse.{digits_value}
 use Rattle.std.specs.List.{starts_with}
+use Rattle.std.proofs.lemmas.Bool.{ne_eqb}
 use Rattle.std.proofs.lemmas.Bool.Decides.{nat_tests}
 use Rattle.std.proofs.lemmas.Grind.{common_steps}
 use Rattle.std.proofs.lemmas.Int.Digits.{digits_value_push}
-use Rattle.jc_session.specs.Requests.{Command, Reset, ArmFuse}
-use Rattle.jcard_script.specs.Script.{Form, Asks, Bad, form_of, plain_form_of, is_number}
+use Rattle.std.proofs.lemmas.List.{take_all}
+use Rattle.jc_interp.specs.declared.attacks.FaultModel.{FaultModel}
+use Rattle.jc_session.specs.Requests.{Command, Reset, ArmFuse, PlanFault}
+use Rattle.jcard_script.specs.Script.{Form, Asks, Bad, fault_form_of, form_of, fuse_form_of, glitch_form_of, is_instruction_number, is_number, model_named, plain_form_of}
 use Rattle.jcard_script.specs.Word.{number_so_far, next_number}
 
 -- ---- the number
@@ -56,18 +59,112 @@ number_push ds b =
 
 -- ---- one more byte
 
-pub drop_long : (line : List ℕ) (b : ℕ) → 6 ≤ length (take 6 line) + 1 → drop 5 (line ++ b ∷ []) ≡ drop 5 line ++ b ∷ []
+pub drop_long : (line : List ℕ) (b : ℕ) → 6 ≤ length (take 23 line) + 1 → drop 5 (line ++ b ∷ []) ≡ drop 5 line ++ b ∷ []
 drop_long line b h = grind (arith, common_steps)
 
 -- ---- a command is no word
 
-plain_left : (a b n : Bool) (k : ℕ) (f : Form) (bytes : List ℕ) → (if a then Asks Reset else (if b then (if n then Asks (ArmFuse k) else Bad) else f)) ≡ Asks (Command bytes)
-    → f ≡ Asks (Command bytes)
-plain_left true b n k f bytes h = cc h
-plain_left false true true k f bytes h = cc h
-plain_left false true false k f bytes h = cc h
-plain_left false false n k f bytes h = h
+fault_left : (n : Bool) (k : ℕ) (model : FaultModel) (bytes : List ℕ)
+    → (if n then Asks (PlanFault (Some (record { instruction = k; model = model }))) else Bad) ≡ Asks (Command bytes) → ⊥
+fault_left true k model bytes h = cc h
+fault_left false k model bytes h = cc h
+
+glitch_left : (none : Bool) (model : Option FaultModel) (digits bytes : List ℕ)
+    → (if none then Asks (PlanFault None) else fault_form_of model digits) ≡ Asks (Command bytes) → ⊥
+glitch_left true model digits bytes h = cc h
+glitch_left false None digits bytes h = cc h
+glitch_left false (Some model) digits bytes h = fault_left (is_instruction_number digits) (digits_value 10 digits) model bytes h
+
+no_glitch : (text bytes : List ℕ) → glitch_form_of text ≡ Asks (Command bytes) → ⊥
+no_glitch text bytes h = glitch_left (bytes_eq text (codes "none")) (model_named (drop (length text - 5) text)) (take (length text - 5) text) bytes h
+
+plain_left : (a b n g : Bool) (k : ℕ) (q f : Form) (bytes : List ℕ) → (q ≡ Asks (Command bytes) → ⊥)
+    → (if a then Asks Reset else (if b then (if n then Asks (ArmFuse k) else Bad) else (if g then q else f))) ≡ Asks (Command bytes) → f ≡ Asks (Command bytes)
+plain_left true b n g k q f bytes none h = cc h
+plain_left false true true g k q f bytes none h = cc h
+plain_left false true false g k q f bytes none h = cc h
+plain_left false false n true k q f bytes none h = absurd (none h)
+plain_left false false n false k q f bytes none h = h
 
 pub form_command : (line bytes : List ℕ) → form_of line ≡ Asks (Command bytes) → plain_form_of line ≡ Asks (Command bytes)
 form_command line bytes h = plain_left (bytes_eq line (codes "reset")) (starts_with nat_eq line (codes "stop ")) (is_number (drop 5 line))
-    (digits_value 10 (drop 5 line)) (plain_form_of line) bytes h
+    (starts_with nat_eq line (codes "glitch ")) (digits_value 10 (drop 5 line)) (glitch_form_of (drop 7 line)) (plain_form_of line) bytes
+    (no_glitch (drop 7 line) bytes) h
+
+-- ---- a line of more bytes than a word has
+
+not_none : (text : List ℕ) → 16 ≤ length text → bytes_eq text (codes "none") ≡ false
+not_none text h = grind (arith, common_steps)
+
+no_fault : (model : Option FaultModel) (digits : List ℕ) → 10 < length digits → fault_form_of model digits ≡ Bad
+no_fault None digits h = refl
+no_fault (Some model) digits h = rw (too_long digits h) refl
+  where
+    too_long : (ds : List ℕ) → 10 < length ds → is_instruction_number ds ≡ false
+    too_long ds n = grind (arith, nat_tests)
+
+long_glitch : (text : List ℕ) → 16 ≤ length text → glitch_form_of text ≡ Bad
+long_glitch text h =
+    rw (not_none text h) (no_fault (model_named (drop (length text - 5) text)) (take (length text - 5) text) (omega (arith, h, length-take (length text - 5) text)))
+
+both_long : (one other : List ℕ) → 16 ≤ length one → 16 ≤ length other → glitch_form_of one ≡ glitch_form_of other
+both_long one other long longer = long_glitch one long ∙ sym (long_glitch other longer)
+
+kept_alike : (line kept : List ℕ) (t : Bool) → nat_le (length line) 23 ≡ t → kept ≡ take 23 line → glitch_form_of (drop 7 kept) ≡ glitch_form_of (drop 7 line)
+kept_alike line kept true e is =
+    let few : length line ≤ 23 = grind (arith, nat_tests) in ap (λ (l : List ℕ). glitch_form_of (drop 7 l)) (is ∙ take_all 23 line few)
+kept_alike line kept false e is =
+    let more : 23 < length line = grind (arith, nat_tests) in
+    let len = ap (λ (l : List ℕ). length l) is ∙ length-take 23 line in
+    both_long (drop 7 kept) (drop 7 line) (omega (arith, length-drop 7 kept, len, more)) (omega (arith, length-drop 7 line, more))
+
+-- what a line asks for after `glitch ` is told by its first 23 bytes
+pub glitch_kept : (line kept : List ℕ) → kept ≡ take 23 line → glitch_form_of (drop 7 kept) ≡ glitch_form_of (drop 7 line)
+glitch_kept line kept is = kept_alike line kept (nat_le (length line) 23) refl is
+
+-- ---- a line that begins as a word does
+
+first_of_both : (t u : Bool) → (t && u) ≡ true → t ≡ true
+first_of_both true u h = refl
+first_of_both false u h = h
+
+-- one that begins so asks for what stands after `glitch `
+pub glitch_first : (line : List ℕ) → starts_with nat_eq (take 23 line) (codes "glitch ") ≡ true → form_of line ≡ glitch_form_of (drop 7 line)
+glitch_first (a ∷ b ∷ c ∷ d ∷ e ∷ f ∷ g ∷ rest) h =
+    let first : (103 == a) ≡ true = first_of_both (103 == a) ((108 == b) && ((105 == c) && ((116 == d) && ((99 == e) && ((104 == f) && ((32 == g) && true)))))) h in
+    let is : a ≡ 103 = grind (arith, nat_tests) in
+    let r : (a == 114) ≡ false = ne_eqb a 114 (λ q. omega (arith, is, q)) in
+    let s : (115 == a) ≡ false = ne_eqb 115 a (λ q. omega (arith, is, q)) in
+    rw (r, s, h) refl
+glitch_first [] h = absurd (grind (arith, nat_tests))
+glitch_first (a ∷ []) h = absurd (grind (arith, nat_tests))
+glitch_first (a ∷ b ∷ []) h = absurd (grind (arith, nat_tests))
+glitch_first (a ∷ b ∷ c ∷ []) h = absurd (grind (arith, nat_tests))
+glitch_first (a ∷ b ∷ c ∷ d ∷ []) h = absurd (grind (arith, nat_tests))
+glitch_first (a ∷ b ∷ c ∷ d ∷ e ∷ []) h = absurd (grind (arith, nat_tests))
+glitch_first (a ∷ b ∷ c ∷ d ∷ e ∷ f ∷ []) h = absurd (grind (arith, nat_tests))
+
+-- and one that begins so for what stands after `stop `
+pub stop_first : (line : List ℕ) → starts_with nat_eq (take 23 line) (codes "stop ") ≡ true → form_of line ≡ fuse_form_of (drop 5 line)
+stop_first (a ∷ b ∷ c ∷ d ∷ e ∷ rest) h =
+    let first : (115 == a) ≡ true = first_of_both (115 == a) ((116 == b) && ((111 == c) && ((112 == d) && ((32 == e) && true)))) h in
+    let is : a ≡ 115 = grind (arith, nat_tests) in
+    let r : (a == 114) ≡ false = ne_eqb a 114 (λ q. omega (arith, is, q)) in
+    rw (r, h) refl
+stop_first [] h = absurd (grind (arith, nat_tests))
+stop_first (a ∷ []) h = absurd (grind (arith, nat_tests))
+stop_first (a ∷ b ∷ []) h = absurd (grind (arith, nat_tests))
+stop_first (a ∷ b ∷ c ∷ []) h = absurd (grind (arith, nat_tests))
+stop_first (a ∷ b ∷ c ∷ d ∷ []) h = absurd (grind (arith, nat_tests))
+
+none_number : (s t : Bool) → t ≡ false → (s && t) ≡ false
+none_number true t e = e
+none_number false t e = refl
+
+-- which is bad where no number stands there
+pub none_bad : (digits : List ℕ) → number_so_far digits ≡ None → fuse_form_of digits ≡ Bad
+none_bad digits h = by_test (all_ascii_digits digits && nat_le (digits_value 10 digits) 65535) refl
+  where
+    by_test : (t : Bool) → (all_ascii_digits digits && nat_le (digits_value 10 digits) 65535) ≡ t → fuse_form_of digits ≡ Bad
+    by_test true e = let some : Some (digits_value 10 digits) ≡ None = sym (ap (λ b. if b then Some (digits_value 10 digits) else None) e) ∙ h in absurd cc
+    by_test false e = ap (λ b. if b then Asks (ArmFuse (digits_value 10 digits)) else Bad) (none_number (nat_lt 0 (length digits)) _ e)

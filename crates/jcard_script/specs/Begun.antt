@@ -1,14 +1,15 @@
 -- A card that has carried out the first lines of a script, from which copies of it go on.
-use Rattle.std.specs.Prelude.{ℕ, ◌≡◌, true, List, [], ◌∷◌, ◌++◌, Ok}
+use Rattle.std.specs.Prelude.{ℕ, ◌≡◌, true, List, [], ◌∷◌, ◌++◌, Option, None, Ok}
 use Rattle.std.specs.Str.Lines.{strip_carriage_return}
 use Rattle.jc_words.specs.Stores.{FuseStoreValue}
 use Rattle.jc_commit.specs.Image.{IsGoodLog, recovered_of}
 use Rattle.jc_card.specs.CardState.{CardState}
-use Rattle.jc_session.specs.Power.{Up}
-use Rattle.jc_session.specs.Requests.{ArmFuse, Reply}
+use Rattle.jc_session.specs.Power.{Up, planned_card}
+use Rattle.jc_session.specs.Requests.{ArmFuse, PlanFault, Reply, Response}
+use Rattle.jc_session.specs.declared.planned_fault.PlannedFault.{PlannedFault}
 use Rattle.jc_session.specs.Serving.{AnswersCommandOver}
 use Rattle.jcard_script.specs.Line.{IsCommandOf}
-use Rattle.jcard_script.specs.Script.{AreCarriedOut, Asks, EndsWithin, ended_lines, form_of}
+use Rattle.jcard_script.specs.Script.{AreCarriedOut, Asks, EndsFrom, EndsWithin, ended_lines, form_of}
 use Rattle.jcard_script.specs.ScriptStates.{PowersUp, ScriptState, IsSessionStore, fuse_kind}
 use Rattle.jcard_script.specs.Session.{IsUnbroken, unfinished_line}
 
@@ -45,3 +46,20 @@ EndsLeaving budget before script store = (text : List ℕ) × EndsWithin budget 
 abbrev pub LeavesCut : CardState → List ℕ → List ℕ → FuseStoreValue → Type 0
 LeavesCut card stop command store = (budget : ℕ) (before : FuseStoreValue) (script line : List ℕ) → HasBegun budget before script card
     → IsCommandLine command line → ForEachAlike (EndsLeaving budget before (script ++ (stop ++ 10 ∷ []) ++ line)) store
+
+-- a line `glitch ..` that plans this fault, or none, without its line feed
+abbrev pub IsGlitchLine : Option PlannedFault → List ℕ → Type 0
+IsGlitchLine fault line = IsUnbroken line × (form_of (strip_carriage_return line) ≡ Asks (PlanFault fault))
+
+-- a card in which this fault comes, or none, answers a command so; then no fault comes any more, and it is this card
+abbrev pub AnswersWith : Option PlannedFault → CardState → List ℕ → List ℕ → CardState → Type 0
+AnswersWith fault card command response next = (end : CardState)
+    × AnswersCommandOver fuse_kind (Up (planned_card fault card)) command (Response response) (Up end) × (next ≡ planned_card None end)
+
+-- with a line `glitch ..`, a command and `glitch none` a card answers the command so, and is then this one
+abbrev pub AnswersGlitched : CardState → List ℕ → List ℕ → List ℕ → CardState → Type 0
+AnswersGlitched card glitch command response next = (fault : Option PlannedFault) × IsGlitchLine fault glitch × AnswersWith fault card command response next
+
+-- a card carries out the lines of this script to its end, and this text is written for them
+abbrev pub AnswersLines : CardState → List ℕ → List ℕ → Type 0
+AnswersLines card script text = (last : ScriptState) × EndsFrom (Ok tt) true script (Up card) last text

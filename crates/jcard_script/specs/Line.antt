@@ -2,12 +2,12 @@
 use Rattle.std.specs.Prelude.{ℕ, ◌≡◌, ◌==◌, ◌-◌, ◌%◌, Bool, true, false, List, [], ◌∷◌, length, take, slice_index}
 use Rattle.std.specs.List.{list_all}
 use Rattle.hex.specs.Hex.{is_hex_digit}
-use Rattle.jc_session.specs.Requests.{Command, Reset as Resets, ArmFuse as ArmsFuse}
+use Rattle.jc_session.specs.Requests.{Command, Reset as Resets, ArmFuse as ArmsFuse, PlanFault as PlansFault}
 use Rattle.jcard_script.specs.Script.{Form, Skipped, Asks, Bad, form_of, plain_form_of, without_spaces}
 use Rattle.jcard_script.specs.declared.line.Kind.{Kind}
 use Rattle.jcard_script.specs.declared.line.Kind.TheVariants.{Empty, Comment, Digits, Nonsense}
 use Rattle.jcard_script.specs.declared.line.LineRequest.{LineRequest}
-use Rattle.jcard_script.specs.declared.line.LineRequest.TheVariants.{Nothing, Exchange, Reset, ArmFuse, Refused}
+use Rattle.jcard_script.specs.declared.line.LineRequest.TheVariants.{Nothing, Exchange, Reset, ArmFuse, PlanFault, Refused}
 
 -- the line is neither empty nor a comment
 abbrev pub IsPlain : List ℕ → Type 0
@@ -40,6 +40,7 @@ IsAsked Nothing form = form ≡ Skipped
 IsAsked (Exchange command) form = IsCommandOf command.items form
 IsAsked Reset form = form ≡ Asks Resets
 IsAsked (ArmFuse k) form = form ≡ Asks (ArmsFuse k)
+IsAsked (PlanFault fault) form = form ≡ Asks (PlansFault fault)
 IsAsked Refused form = form ≡ Bad
 
 -- what a line asks for

@@ -3,7 +3,7 @@ use Rattle.std.specs.Prelude.{ℕ, ◌+◌, ◌==◌, ◌||◌, Bool, not, if◌
 use Rattle.std.specs.List.{starts_with}
 use Rattle.hex.specs.Hex.{is_hex_digit}
 use Rattle.jcard_script.specs.declared.refused_line.LineFault.{LineFault}
-use Rattle.jcard_script.specs.declared.refused_line.LineFault.TheVariants.{NoDigit, CommentBehind, OddDigits, NoNumber}
+use Rattle.jcard_script.specs.declared.refused_line.LineFault.TheVariants.{NoDigit, CommentBehind, OddDigits, NoNumber, NoFault}
 
 -- a hexadecimal digit or a space
 abbrev pub is_of_command : ℕ → Bool
@@ -16,4 +16,5 @@ fault_at line (Some i) = if slice_index line i == 35 then CommentBehind (i + 1) 
 
 -- why a line has no form, where it has none
 abbrev pub fault_of : List ℕ → LineFault
-fault_of line = if starts_with nat_eq line (codes "stop ") then NoNumber else fault_at line (position (λ b. not (is_of_command b)) line)
+fault_of line = if starts_with nat_eq line (codes "stop ") then NoNumber
+    else (if starts_with nat_eq line (codes "glitch ") then NoFault else fault_at line (position (λ b. not (is_of_command b)) line))

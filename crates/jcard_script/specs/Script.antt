@@ -1,6 +1,6 @@
 -- Scripts: their lines, what the lines ask for, and what is written for them.
 use Rattle.std.specs.Prelude.{ℕ, ◌+◌, ◌≡◌, ◌≤◌, ◌<◌, ◌==◌, Bool, true, false, not, if◌then◌else◌, IsTrue, List, [], ◌∷◌, ◌++◌, length, take, drop, filter}
-use Rattle.std.specs.Prelude.{nat_le, nat_lt, nat_eq, ◌&&◌, ◌⊎◌, codes, decimal, Option, None, Result, Ok, Err}
+use Rattle.std.specs.Prelude.{nat_le, nat_lt, nat_eq, ◌&&◌, ◌⊎◌, codes, decimal, ◌-◌, Option, Some, None, Result, Ok, Err}
 use Rattle.std.specs.Io.KnownBytes.{IsAtEnd}
 use Rattle.std.specs.List.{slice_split, starts_with}
 use Rattle.std.specs.Str.{bytes_eq, all_ascii_digits}
@@ -11,7 +11,10 @@ use Rattle.hex.specs.declared.error.FromHexError.{FromHexError}
 use Rattle.jc_words.specs.Stores.{FuseStoreValue}
 use Rattle.jc_card.specs.Dispatching.{usual_budget}
 use Rattle.jc_card.specs.declared.power_up.PowerFault.{PowerFault as Fault}
-use Rattle.jc_session.specs.Requests.{Request, Command, Reset, ArmFuse, Reply, Response, Ready, Down, Armed}
+use Rattle.jc_interp.specs.declared.attacks.FaultModel.{FaultModel}
+use Rattle.jc_interp.specs.declared.attacks.FaultModel.TheVariants.{Skip, Turn, Zero}
+use Rattle.jc_session.specs.declared.planned_fault.PlannedFault.{PlannedFault}
+use Rattle.jc_session.specs.Requests.{Request, Command, Reset, ArmFuse, PlanFault, Reply, Response, Ready, Down, Armed, Planned}
 use Rattle.jc_session.specs.Serving.{ServesOver}
 use Rattle.jcard_script.specs.ScriptStates.{ScriptState, IsSessionStore, PowersUp, FailsUp, FailsReset, fuse_kind, selected_in}
 use Rattle.jcard_script.specs.Texts.{IsCutOf}
@@ -72,10 +75,30 @@ is_number digits = nat_lt 0 (length digits) && (all_ascii_digits digits && nat_l
 abbrev pub fuse_form_of : List ℕ → Form
 fuse_form_of digits = if is_number digits then Asks (ArmFuse (digits_value 10 digits)) else Bad
 
--- what a line asks for: "reset" and "stop " with a number are words, any other line is plain
+-- one to ten decimal digits, of a number up to 4294967295
+abbrev pub is_instruction_number : List ℕ → Bool
+is_instruction_number digits = nat_lt 0 (length digits) && (nat_le (length digits) 10 && (all_ascii_digits digits && nat_le (digits_value 10 digits) 4294967295))
+
+-- what a fault does, by the word for it and the space before that
+abbrev pub model_named : List ℕ → Option FaultModel
+model_named text = if bytes_eq text (codes " skip") then Some Skip else (if bytes_eq text (codes " turn") then Some Turn
+    else (if bytes_eq text (codes " zero") then Some Zero else None))
+
+-- a fault of this model at the instruction with this number
+abbrev pub fault_form_of : Option FaultModel → List ℕ → Form
+fault_form_of None digits = Bad
+fault_form_of (Some model) digits = if is_instruction_number digits then Asks (PlanFault (Some (record { instruction = digits_value 10 digits; model = model })))
+    else Bad
+
+-- Script line glitch K MODEL: K, in decimal digits, and one of three words, which have a space and four letters; or glitch none
+abbrev pub glitch_form_of : List ℕ → Form
+glitch_form_of text = if bytes_eq text (codes "none") then Asks (PlanFault None)
+    else fault_form_of (model_named (drop (length text - 5) text)) (take (length text - 5) text)
+
+-- what a line asks for: "reset", and what begins with "stop " or "glitch ", are words, any other line is plain
 abbrev pub form_of : List ℕ → Form
 form_of line = if bytes_eq line (codes "reset") then Asks Reset else (if starts_with nat_eq line (codes "stop ") then fuse_form_of
-    (drop 5 line) else plain_form_of line)
+    (drop 5 line) else (if starts_with nat_eq line (codes "glitch ") then glitch_form_of (drop 7 line) else plain_form_of line))
 
 -- ---- what is written
 
@@ -93,12 +116,24 @@ down_text = codes "down\n"
 abbrev pub armed_text : ℕ → List ℕ
 armed_text k = codes "armed " ++ decimal k ++ codes "\n"
 
+-- the word for what a fault does, which ends a line
+abbrev pub model_end : FaultModel → List ℕ
+model_end Skip = codes " skip\n"
+model_end Turn = codes " turn\n"
+model_end Zero = codes " zero\n"
+
+-- the number without leading zeros, and the word
+abbrev pub planned_text : Option PlannedFault → List ℕ
+planned_text None = codes "planned none\n"
+planned_text (Some fault) = codes "planned " ++ decimal fault.instruction ++ model_end fault.model
+
 -- the line of a reply
 abbrev pub text_of_reply : Reply → List ℕ
 text_of_reply (Response response) = text_of response
 text_of_reply Ready = ready_text
 text_of_reply Down = down_text
 text_of_reply (Armed k) = armed_text k
+text_of_reply (Planned fault) = planned_text fault
 
 -- what is written for a request: the line of its reply; and how the session stands before and after it
 abbrev pub IsAnswered : Request → ScriptState → ScriptState → List ℕ → Type 0

@@ -1,19 +1,26 @@
 //! A card that has carried out the first lines of a script, from which copies of it go on.
-ghost use Rattle.std.specs.Prelude.{◌≡◌, [], false, None, IfSome, IsTrue};
+ghost use Rattle.std.specs.Prelude.{◌≡◌, ℕ, List, [], false, None, IfSome, IsTrue};
+ghost use Rattle.std.specs.Bool.{OnTrue};
 ghost use Rattle.jc_commit.specs.Image.{IsGoodLog};
-ghost use Rattle.jcard_script.specs.Begun.{AnswersLeaving, ForEachAlike, HasBegun, IsCommandLine, IsStopLine, LeavesCut};
+ghost use Rattle.jcard_script.specs.Begun.{AnswersGlitched, AnswersLeaving, AnswersLines, AnswersWith, ForEachAlike, HasBegun, IsCommandLine, IsGlitchLine, IsStopLine, LeavesCut};
+ghost use Rattle.std.specs.Io.KnownBytes.{Appends, Consumes};
+ghost use Rattle.jc_session.specs.Power.{Up};
+ghost use Rattle.jcard_script.specs.Script.{IsWholeScript};
+ghost use Rattle.jcard_script.specs.ScriptStates.{IsSessionStore};
 ghost use Rattle.jcard_script.specs.Session.{IsUnbroken, unfinished_line};
 
+use crate::card_or_store::plan_in;
 use crate::explainer::Unasked;
 use crate::line::{Line, LineRequest};
 use crate::script::BOUND;
 use crate::session::Session;
-use crate::streams::{TextOut, WriteFailed};
+use crate::streams::{TextIn, TextOut, WriteFailed};
 use arrayvec::ArrayVec;
 use jc_card::card::Card;
 use jc_card::response::Response;
 use jc_memory::Notes;
-use jc_words::{CopyStore, FuseStore, WordStore};
+use jc_session::planned_fault::PlannedFault;
+use jc_words::{CopyStore, FuseStore, StoreDown, WordStore};
 use memchr::memchr;
 use std::alloc::Global;
 use std::marker::Model;
@@ -76,6 +83,77 @@ impl<S: CopyStore> BegunScript<S> {
     }
 }
 
+impl<S: CopyStore + Drop> BegunScript<S> {
+    /// Carries out, on a copy of the card, a line `glitch ..`, which is given without its line feed, then a command, of which 262 bytes at most are
+    /// given, and then `glitch none`: the copy, and its response to the command. Nothing where memory for the copy is refused, the line is another, the
+    /// store refuses a write, or the command opens a load.
+    pub fn after(
+        &self,
+        glitch: &[u8],
+        command: &[u8],
+        response: &mut Response,
+    ) -> Option<BegunScript<S>>
+        ensures { IfSome result (λ next. AnswersGlitched self.now glitch.now command.now response.new next) }
+    {
+        let fault = planned_by(glitch)?;
+        let Ok(copy) = self.card.copy() else {
+            return None;
+        };
+        let card = glitched(copy, fault, command, response)?;
+        if card.has_open_load() {
+            return None;
+        }
+        Some(BegunScript { card })
+    }
+
+    /// The store of a copy of the card, without power. Nothing where memory for the copy is refused.
+    pub fn copied_store(&self) -> Option<FuseStore<S>>
+        ensures { IfSome result (λ store. IsSessionStore (Up self.now) store) }
+    {
+        match self.card.copy() {
+            Ok(copy) => Some(copy.into_store()),
+            Err(_) => None,
+        }
+    }
+}
+
+impl<S: WordStore + Drop> BegunScript<S> {
+    /// Carries out the lines of a script on the card, and writes their answers: whether it came to its end.
+    pub fn answers<R: TextIn, W: TextOut>(
+        self,
+        alloc: Global,
+        reader: &mut R,
+        writer: &mut W,
+    ) -> bool
+        ensures { OnTrue result ((script text : List ℕ)
+            × Consumes (R.remaining reader.old) (R.remaining reader.new) script
+            × Appends (W.contents writer.old) (W.contents writer.new) text
+            × IsWholeScript (R.remaining reader.new) script × AnswersLines self script text) }
+    {
+        has_answered(alloc, self.card, reader, writer)
+    }
+}
+
+// The same of a card that is up.
+fn has_answered<S: WordStore + Drop, R: TextIn, W: TextOut>(
+    alloc: Global,
+    card: Card<FuseStore<S>>,
+    reader: &mut R,
+    writer: &mut W,
+) -> bool
+    requires { card.memory.heap.down ≡ false }
+    ensures { OnTrue result ((script text : List ℕ)
+        × Consumes (R.remaining reader.old) (R.remaining reader.new) script
+        × Appends (W.contents writer.old) (W.contents writer.new) text
+        × IsWholeScript (R.remaining reader.new) script × AnswersLines card script text) }
+{
+    let mut session = Session::of_card(alloc, card);
+    match session.run(reader, writer, &mut Unasked) {
+        Ok(()) => true,
+        Err(_fault) => false,
+    }
+}
+
 // The same of a card that is up, with no open load.
 fn cut_copy<S: CopyStore>(
     card: &Card<FuseStore<S>>,
@@ -106,6 +184,27 @@ fn store_after<S: WordStore>(mut card: Card<FuseStore<S>>, command: &[u8]) -> Fu
     card.into_store()
 }
 
+// A card that has carried out a command in which this fault came, or none; from then on none comes. Nothing where the store refuses a write.
+fn glitched<S: WordStore + Drop>(
+    mut card: Card<FuseStore<S>>,
+    fault: Option<PlannedFault>,
+    command: &[u8],
+    response: &mut Response,
+) -> Option<Card<FuseStore<S>>>
+    requires { card.memory.heap.down ≡ false }
+    ensures up { IfSome result (λ next. next.memory.heap.down ≡ false) }
+    ensures answers { IfSome result (λ next. AnswersWith fault card command.now response.new next) }
+{
+    plan_in(&mut card, fault);
+    match card.exchange(command, response) {
+        Ok(()) => {
+            plan_in(&mut card, None);
+            Some(card)
+        }
+        Err(StoreDown) => None,
+    }
+}
+
 /// The command that a line is, with its line feed: its bytes, of which 262 at most are kept. Nothing where it is none, or no line feed ends
 /// it.
 pub fn command_of_line(line: &[u8]) -> Option<ArrayVec<u8, 262>>
@@ -130,6 +229,19 @@ fn stop_number(line: &[u8]) -> Option<u16>
     }
     match Line::empty().ended_by(line) {
         LineRequest::ArmFuse(k) => Some(k),
+        _ => None,
+    }
+}
+
+// The fault that a line `glitch ..` plans, or that it plans none.
+fn planned_by(line: &[u8]) -> Option<Option<PlannedFault>>
+    ensures { IfSome result (λ fault. IsGlitchLine fault line.now) }
+{
+    if !is_unbroken(line) {
+        return None;
+    }
+    match Line::empty().ended_by(line) {
+        LineRequest::PlanFault(fault) => Some(fault),
         _ => None,
     }
 }

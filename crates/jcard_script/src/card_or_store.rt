@@ -2,7 +2,7 @@
 ghost use Rattle.std.specs.Prelude.{◌≡◌, ℕ, List, false, OnOk, IfErr};
 ghost use Rattle.std.specs.Bool.{OnTrue};
 ghost use Rattle.jc_words.specs.Stores.{FuseStoreValue};
-ghost use Rattle.jc_session.specs.Power.{Off, budget_of};
+ghost use Rattle.jc_session.specs.Power.{Off, budget_of, planned, planned_card};
 ghost use Rattle.jc_session.specs.Requests.{Down, Response as Responds};
 ghost use Rattle.jc_session.specs.SessionStates.{answer_of_power_up};
 ghost use Rattle.jc_session.specs.Serving.{AnswersCommandOver};
@@ -19,6 +19,7 @@ use jc_card::power_up::PowerFault;
 use jc_card::response::Response;
 use jc_memory::{Note, Notes};
 use jc_registry::Aid;
+use jc_session::planned_fault::PlannedFault;
 use jc_words::{FuseStore, StoreDown, WordStore};
 use jcard_why::cuts::told_of_cut;
 use jcard_why::explanation::{Asked, told};
@@ -172,6 +173,18 @@ impl<S: WordStore> CardOrStore<S> {
         }
     }
 
+    /// From now on this fault comes in each command of a card that is up, or none.
+    pub(crate) fn plan(&mut self, fault: Option<PlannedFault>)
+        requires up { IsUp self.old }
+        ensures up { IsUp self.new }
+        ensures planned { state_of_card self.new ≡ planned fault (state_of_card self.old) }
+    {
+        match self {
+            CardOrStore::Card(card) => plan_in(card, fault),
+            CardOrStore::Store(_, _) => {}
+        }
+    }
+
     /// Carries a command out: whether the card's response was written. It was not where there is no card, or where its store
     /// refuses a write, which then is all that is left of it.
     pub(crate) fn exchange(&mut self, command: &[u8], response: &mut Response) -> bool
@@ -201,6 +214,19 @@ impl<S: WordStore> CardOrStore<S> {
         match self {
             CardOrStore::Card(_) => Reply::Ready,
             CardOrStore::Store(_, _) => Reply::Down,
+        }
+    }
+}
+
+/// From now on this fault comes in each command of a card, or none.
+pub(crate) fn plan_in<S: WordStore>(card: &mut Card<S>, fault: Option<PlannedFault>)
+    ensures { card.new ≡ planned_card fault card.old }
+{
+    match fault {
+        None => card.plan(None),
+        Some(fault) => {
+            let attack = fault.attack(card.budget());
+            card.plan(Some(attack));
         }
     }
 }

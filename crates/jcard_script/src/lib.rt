@@ -5,6 +5,7 @@ pub mod begun;
 mod card_or_store;
 pub mod expectations;
 pub mod explainer;
+mod glitch;
 mod line;
 mod line_text;
 pub mod mem_text;

@@ -10,6 +10,7 @@ ghost use Rattle.jcard_script.specs.Word.{IsWordOf};
 use crate::line_text::LineText;
 use crate::word::Word;
 use arrayvec::ArrayVec;
+use jc_session::planned_fault::PlannedFault;
 
 /// The most digits of a line that are kept: two more than the longest command has.
 const DIGITS: usize = 524;
@@ -41,6 +42,8 @@ pub(crate) enum LineRequest {
     Reset,
     /// To let this many writes pass.
     ArmFuse(u16),
+    /// That this fault comes in each command from now on, or none.
+    PlanFault(Option<PlannedFault>),
     /// It has no form.
     Refused,
 }

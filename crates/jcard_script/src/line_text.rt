@@ -51,6 +51,9 @@ impl LineText {
         if self.beginning().starts_with(b"stop ") {
             return LineFault::NoNumber;
         }
+        if self.beginning().starts_with(b"glitch ") {
+            return LineFault::NoFault;
+        }
         let Some((column, byte)) = self.stranger else {
             return LineFault::OddDigits;
         };

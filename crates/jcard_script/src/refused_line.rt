@@ -19,6 +19,8 @@ pub enum LineFault {
     OddDigits,
     /// After `stop` stands no number from 0 to 65535.
     NoNumber,
+    /// After `glitch` stands no fault.
+    NoFault,
 }
 
 /// Why a line has no form; nothing, where it has one.
@@ -34,6 +36,7 @@ pub fn refusal_of(line: &[u8]) -> Option<LineFault>
         LineRequest::Exchange(_command) => None,
         LineRequest::Reset => None,
         LineRequest::ArmFuse(_count) => None,
+        LineRequest::PlanFault(_fault) => None,
     }
 }
 
@@ -43,6 +46,9 @@ pub fn fault_of(line: &[u8]) -> LineFault
 {
     if line.starts_with(b"stop ") {
         return LineFault::NoNumber;
+    }
+    if line.starts_with(b"glitch ") {
+        return LineFault::NoFault;
     }
     fault_at(line, first_other(line))
 }
@@ -104,6 +110,9 @@ pub fn told_fault(text: &mut Vec<u8>, fault: LineFault) -> Result<(), AllocError
         }
         LineFault::OddDigits => text.extend_from_slice(b": an odd number of digits\n"),
         LineFault::NoNumber => text.extend_from_slice(b": stop takes a number from 0 to 65535\n"),
+        LineFault::NoFault => text.extend_from_slice(
+            b": glitch takes a number from 0 to 4294967295 and skip, turn or zero; or none\n",
+        ),
     }
 }
 

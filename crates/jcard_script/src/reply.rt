@@ -1,15 +1,17 @@
 //! What is written for a line.
-ghost use Rattle.std.specs.Prelude.{◌≡◌, ◌*◌, length, is_err, MatchResult};
+ghost use Rattle.std.specs.Prelude.{◌≡◌, ◌*◌, Some, length, is_err, MatchResult};
 ghost use Rattle.std.specs.Io.KnownBytes.{Appends};
 ghost use Rattle.hex.specs.Hex.{encode_upper};
 ghost use Rattle.jc_words.specs.Count.{failures_after};
 ghost use Rattle.jcard_script.specs.Texts.{AppendsCut};
-ghost use Rattle.jcard_script.specs.Script.{text_of, armed_text};
+ghost use Rattle.jcard_script.specs.Script.{text_of, armed_text, planned_text};
 ghost use Rattle.jcard_script.specs.Reply.{text_for_line};
 
+use crate::glitch::model_end;
 use crate::streams::{TextOut, WriteFailed, write_all, write_parts};
 use itoa::Buffer;
 use jc_card::response::Response;
+use jc_session::planned_fault::PlannedFault;
 
 /// What is to be written for a line.
 #[derive(Clone, Copy, Drop)]
@@ -24,6 +26,8 @@ pub(crate) enum Reply {
     Down,
     /// The fuse lets this many writes pass.
     Armed(u16),
+    /// This fault comes in each command from now on, or none.
+    Planned(Option<PlannedFault>),
 }
 
 /// The status word of a response.
@@ -53,7 +57,22 @@ pub(crate) fn reply_text<'a>(
         Reply::Ready => b"ready",
         Reply::Down => b"down",
         Reply::Armed(k) => armed_bytes(k, room),
+        Reply::Planned(None) => b"planned none",
+        Reply::Planned(Some(fault)) => planned_bytes(fault, room),
     }
+}
+
+// `planned`, a number and a model.
+fn planned_bytes(fault: PlannedFault, room: &mut [u8; 516]) -> &[u8] {
+    let mut digits = Buffer::new();
+    let number = digits.format(fault.instruction).as_bytes();
+    let model = model_end(fault.model);
+    let count = number.len().min(10);
+    let end = model.len().min(6).saturating_sub(1);
+    room[..8].copy_from_slice(b"planned ");
+    room[8..8 + count].copy_from_slice(&number[..count]);
+    room[8 + count..8 + count + end].copy_from_slice(&model[..end]);
+    &room[..8 + count + end]
 }
 
 // `armed` and a number.
@@ -85,6 +104,8 @@ pub(crate) fn write_reply<W: TextOut>(
         Reply::Ready => write_all(writer, b"ready\n"),
         Reply::Down => write_all(writer, b"down\n"),
         Reply::Armed(k) => write_armed(k, writer),
+        Reply::Planned(None) => write_all(writer, b"planned none\n"),
+        Reply::Planned(Some(fault)) => write_planned(fault, writer),
     }
 }
 
@@ -96,6 +117,17 @@ fn write_armed<W: TextOut>(k: u16, writer: &mut W) -> Result<(), WriteFailed>
 {
     let mut digits = Buffer::new();
     write_parts(writer, b"armed ", digits.format(k).as_bytes(), b"\n")
+}
+
+fn write_planned<W: TextOut>(fault: PlannedFault, writer: &mut W) -> Result<(), WriteFailed>
+    ensures text { MatchResult result
+        (λ _. Appends (W.contents writer.old) (W.contents writer.new) (planned_text (Some fault)))
+        (λ _. AppendsCut (W.contents writer.old) (W.contents writer.new) (planned_text (Some fault))) }
+    ensures count { W.failures writer.new ≡ failures_after (W.failures writer.old) (is_err result) }
+{
+    let mut digits = Buffer::new();
+    let number = digits.format(fault.instruction).as_bytes();
+    write_parts(writer, b"planned ", number, model_end(fault.model))
 }
 
 // Writes a response in hexadecimal, and a line feed.

@@ -9,9 +9,9 @@ ghost use Rattle.jc_words.specs.Refusals.{IsWithinFuse};
 ghost use Rattle.jcard_script.specs.CardOrStore.{IsState, state_of_held};
 ghost use Rattle.jcard_script.specs.Line.{AsksFor, IsCommandOf};
 ghost use Rattle.jcard_script.specs.Reply.{text_for_line};
-ghost use Rattle.jcard_script.specs.Script.{EndsFrom, IsAnswered, IsWholeScript, IsWrittenFor, armed_text, down_text, form_of, is_read_failed};
+ghost use Rattle.jcard_script.specs.Script.{EndsFrom, IsAnswered, IsWholeScript, IsWrittenFor, armed_text, down_text, form_of, is_read_failed, planned_text};
 ghost use Rattle.jcard_script.specs.Script.{is_write_failed, ended_lines};
-ghost use Rattle.jc_session.specs.Power.{Off, Up, budget_of};
+ghost use Rattle.jc_session.specs.Power.{Off, Up, budget_of, planned};
 ghost use Rattle.jc_session.specs.Requests.{Command, Reset};
 ghost use Rattle.jcard_script.specs.ScriptStates.{ScriptState, IsSessionStore, PowersUp, FailsUp, FailsReset, selected_in, with_fuse};
 ghost use Rattle.jcard_script.specs.Session.{EndsLine, StandsAt, IsUnbroken, IsWrittenOut, LineEnds, LineFails, LinesEnd};
@@ -31,6 +31,7 @@ use jc_card::power_up::PowerFault;
 use jc_card::response::Response;
 use jc_memory::Notes;
 use jc_registry::Aid;
+use jc_session::planned_fault::PlannedFault;
 use jc_words::{FuseStore, WordStore};
 use memchr::memchr;
 use std::alloc::Global;
@@ -90,6 +91,28 @@ impl<S: WordStore + Drop> Session<S> {
             cut_number: 0,
         };
         (session, started)
+    }
+
+    /// Before the first line of a script for a card that is up.
+    pub(crate) fn of_card(alloc: Global, card: Card<FuseStore<S>>) -> Session<S>
+        requires { card.memory.heap.down ≡ false }
+        ensures held { IsState result.held }
+        ensures card { state_of_held result.held ≡ Up card }
+        ensures stands { StandsAt result (state_of_held result.held) [] [] }
+    {
+        Session {
+            alloc,
+            held: Some(CardOrStore::Card(card)),
+            line: Line::empty(),
+            number: 0,
+            notes: Notes::nowhere(),
+            passed_before: 0,
+            response: Response::empty(),
+            command: ArrayVec::new(),
+            statics: Vec::new(alloc),
+            cut: None,
+            cut_number: 0,
+        }
     }
 
     /// The AID of the applet that is selected; nothing where none is, or the card is down.
@@ -455,6 +478,7 @@ impl<S: WordStore + Drop> Session<S> {
                 Err(fault) => Err(ScriptFault::PowerFault(fault)),
             },
             LineRequest::ArmFuse(k) => Ok(self.arm_fuse(k)),
+            LineRequest::PlanFault(fault) => Ok(self.plan_fault(fault)),
         }
     }
 
@@ -551,6 +575,20 @@ impl<S: WordStore + Drop> Session<S> {
         let held = self.held.take().unwrap();
         self.held = Some(held.with_fuse(u64::from(k)));
         Reply::Armed(k)
+    }
+
+    // Script lines `glitch K MODEL` and `glitch none`: this fault comes in each command up to a reset, or none.
+    fn plan_fault(&mut self, fault: Option<PlannedFault>) -> Reply
+        requires held { IsState self.old.held }
+        ensures held { IsState self.new.held }
+        ensures number { self.new.number ≡ self.old.number }
+        ensures planned { text_for_line result self.new.response ≡ planned_text fault }
+        ensures standing { state_of_held self.new.held ≡ planned fault (state_of_held self.old.held) }
+    {
+        if let Some(held) = &mut self.held {
+            held.plan(fault);
+        }
+        Reply::Planned(fault)
     }
 }
 

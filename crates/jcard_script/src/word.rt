@@ -1,20 +1,24 @@
-//! The words that a line may be: `reset`, and `arm_fuse` with a number.
+//! The words that a line may be: `reset`, `stop` with a number, and `glitch` with a fault.
 ghost use Rattle.std.specs.Prelude.{◌≡◌, ◌++◌, ◌∷◌, ℕ, List, [], MatchOption};
 ghost use Rattle.jcard_script.specs.Script.{form_of, plain_form_of};
 ghost use Rattle.jcard_script.specs.Line.{AsksFor};
 ghost use Rattle.jcard_script.specs.Word.{IsWordOf, next_number};
 
+use crate::glitch::glitch_asked;
 use crate::line::LineRequest;
 use arrayvec::ArrayVec;
 
-/// How many bytes of a line are kept for its words: one more than stand before the number.
-const HEAD: usize = 6;
+/// How many bytes a line `stop K` has at least.
+const STOP: usize = 6;
+
+/// How many bytes stand before the fault in a line `glitch`.
+const GLITCH: usize = 7;
 
 /// What is kept of a line for its words.
 #[derive(Drop)]
 pub(crate) struct Word {
-    // The first six bytes.
-    head: ArrayVec<u8, 6>,
+    // The first 23 bytes, one more than a word has.
+    head: ArrayVec<u8, 23>,
     // The number that the bytes after the first five are, while they are a decimal one.
     number: Option<u16>,
 }
@@ -42,7 +46,7 @@ impl Word {
     {
         let count = self.head.len();
         let _ = self.head.try_push(byte);
-        if count + 1 < HEAD {
+        if count + 1 < STOP {
             return;
         }
         self.number = with_digit(self.number, byte);
@@ -57,10 +61,13 @@ impl Word {
         if head == b"reset".as_slice() {
             return Some(LineRequest::Reset);
         }
+        if head.starts_with(b"glitch ") {
+            return Some(glitch_asked(&head[GLITCH..]));
+        }
         if !head.starts_with(b"stop ") {
             return None;
         }
-        if head.len() < HEAD {
+        if head.len() < STOP {
             return Some(LineRequest::Refused);
         }
         match self.number {

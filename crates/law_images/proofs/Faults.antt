@@ -1,5 +1,5 @@
 -- Power ups of sessions over stores that commands left.
-use Rattle.std.proofs.Common.{◌≡◌, ℕ, zero, suc, List, [], ◌∷◌, take, true, refl, sym, ◌∙◌, ap, subst, inl, inr}
+use Rattle.std.proofs.Common.{◌≡◌, ℕ, zero, suc, List, [], ◌∷◌, take, true, Option, refl, sym, ◌∙◌, ap, subst, inl, inr}
 use Rattle.std.specs.Prelude.{◌⊎◌}
 use Rattle.jc_commit.specs.Image.{recovered_of}
 use Rattle.jc_platform.specs.Tokens.{Tokens}
@@ -8,8 +8,9 @@ use Rattle.jc_card.specs.PowerUp.{PowerUpRefuses}
 use Rattle.jc_card.specs.declared.power_up.PowerFault.{PowerFault as Fault}
 use Rattle.jc_card.specs.declared.power_up.PowerFault.TheVariants.{NoMemory, StoreDown}
 use Rattle.jc_card.proofs.PoweredUp.{refused_made}
-use Rattle.jc_session.specs.Requests.{Request, Command, Reset, ArmFuse, Reply, Response, Ready, Down}
-use Rattle.jc_session.specs.Power.{KeptState, PowerState, Up, Off, StoreState, IsStoreOf, armed, budget_of, durable_state, durable_state_in_store, with_power}
+use Rattle.jc_session.specs.Requests.{Request, Command, Reset, ArmFuse, PlanFault, Reply, Response, Ready, Down}
+use Rattle.jc_session.specs.Power.{KeptState, PowerState, Up, Off, StoreState, IsStoreOf, armed, budget_of, durable_state, durable_state_in_store, planned, with_power}
+use Rattle.jc_session.specs.declared.planned_fault.PlannedFault.{PlannedFault}
 use Rattle.jc_session.specs.Serving.{AnswersCommand, AnswersReset, Serves, SessionRun}
 use Rattle.jc_session.specs.Starting.{FailsToReset, FailsToStart, Starts}
 use Rattle.jc_session.specs.Sessions.{IsSession, FailsAtReset}
@@ -41,10 +42,15 @@ armed_laid : (k : ℕ) (s : PowerState) → IsLaidIn s → IsLaidIn (armed k s)
 armed_laid k (Up card) laid = refl
 armed_laid k (Off b kept) laid = laid
 
+planned_laid : (fault : Option PlannedFault) (s : PowerState) → IsLaidIn s → IsLaidIn (planned fault s)
+planned_laid fault (Up card) laid = refl
+planned_laid fault (Off b kept) laid = laid
+
 request_laid : (s : PowerState) (request : Request) (reply : Reply) (next : PowerState) → IsLaidIn s → Serves s request reply next → IsLaidIn next
 request_laid s (Command bytes) reply next laid served = command_laid s bytes reply next laid served
 request_laid s Reset reply next laid served = reset_laid s reply next laid served
 request_laid s (ArmFuse k) reply next laid served = subst IsLaidIn (sym served.1) (armed_laid k s laid)
+request_laid s (PlanFault fault) reply next laid served = subst IsLaidIn (sym served.1) (planned_laid fault s laid)
 
 session_laid : (s : PowerState) (requests : List Request) (replies : List Reply) (last : PowerState) → IsLaidIn s → SessionRun s requests replies last
     → IsLaidIn last

@@ -1,5 +1,5 @@
 -- Lines of a script as requests of a session.
-use Rattle.std.proofs.Common.{◌≡◌, ◌≢◌, ◌<◌, inl, inr, ℕ, List, [], ◌∷◌, ◌++◌, length, Some, refl, sym, ◌∙◌, ap, subst, arith}
+use Rattle.std.proofs.Common.{◌≡◌, ◌≢◌, ◌<◌, inl, inr, ℕ, List, [], ◌∷◌, ◌++◌, length, Option, Some, refl, sym, ◌∙◌, ap, subst, arith}
 use Rattle.std.specs.Prelude.{false, slice_index, Result, Ok, Err}
 use Rattle.std.proofs.lemmas.List.{append_assoc, append-nil, get_or_at, get_or_default, length-append, take_at}
 use Rattle.std.proofs.lemmas.List.Concat.{flat_map-append}
@@ -13,8 +13,9 @@ use Rattle.jc_heap.specs.Heap.{HeapView, heap_at_rest}
 use Rattle.jc_memory.specs.Programs.{TearLeaves}
 use Rattle.jc_card.specs.Answers.{exchange}
 use Rattle.jc_card.specs.Dispatching.{with_response}
-use Rattle.jc_session.specs.Requests.{Request, Command, Reset, ArmFuse, Reply, Response, Ready, Down}
-use Rattle.jc_session.specs.Power.{PowerState, Up, Off, StoreState, IsStoreOf, armed, budget_of, durable_state, durable_rest, durable_state_in_store, with_refusal}
+use Rattle.jc_session.specs.Requests.{Request, Command, Reset, ArmFuse, PlanFault, Reply, Response, Ready, Down}
+use Rattle.jc_session.specs.Power.{PowerState, Up, Off, StoreState, IsStoreOf, armed, budget_of, durable_state, durable_rest, durable_state_in_store, planned, with_refusal}
+use Rattle.jc_session.specs.declared.planned_fault.PlannedFault.{PlannedFault}
 use Rattle.jc_session.specs.Serving.{AnswersCommand, AnswersCommandOver, IsReset, Serves, ServesOver, SessionRun}
 use Rattle.jc_session.specs.declared.session.SessionFault.{SessionFault}
 use Rattle.jc_session.specs.declared.session.SessionFault.TheVariants.{PowerFault as NotPoweredUp}
@@ -113,6 +114,15 @@ good_armed : (k : ℕ) (s : ScriptState) → IsGood s → IsGood (with_fuse k s)
 good_armed k (Up card) rest = refl
 good_armed k (Off budget store) good = good
 
+-- planning a fault leaves the heap of a card and the store as they are
+same_planned : (fault : Option PlannedFault) (s : ScriptState) → power_in (planned fault s) ≡ planned fault (power_in s)
+same_planned fault (Up card) = refl
+same_planned fault (Off budget store) = refl
+
+good_planned : (fault : Option PlannedFault) (s : ScriptState) → IsGood s → IsGood (planned fault s)
+good_planned fault (Up card) rest = rest
+good_planned fault (Off budget store) good = good
+
 -- a command is answered as in a session
 command_so : (s : ScriptState) (bytes : List ℕ) (reply : Reply) (t : ScriptState) → IsGood s → AnswersCommandOver fuse_kind s bytes reply t
     → AnswersCommand (power_in s) bytes reply (power_in t) × IsGood t
@@ -135,6 +145,7 @@ served_so Reset Ready s (Up card) good h = reset_so s (Up card) good h
 served_so Reset Down s (Off b store) good h = reset_so s (Off b store) good h
 served_so Reset reply s t good none = absurd none
 served_so (ArmFuse k) reply s t good h = ((h.0, ap power_in h.1 ∙ same_armed k s good), subst IsGood (sym h.1) (good_armed k s good))
+served_so (PlanFault fault) reply s t good h = ((h.0, ap power_in h.1 ∙ same_planned fault s), subst IsGood (sym h.1) (good_planned fault s good))
 
 -- a line, from one standing to the other
 one_line : (form : Form) (s u : ScriptState) (first : List ℕ) → IsGood s → IsWrittenFor form s u first
@@ -246,6 +257,7 @@ form_bytes Skipped are = tt
 form_bytes (Asks (Command bytes)) are = (are bytes refl, tt)
 form_bytes (Asks Reset) are = (tt, tt)
 form_bytes (Asks (ArmFuse k)) are = (tt, tt)
+form_bytes (Asks (PlanFault fault)) are = (tt, tt)
 form_bytes Bad are = tt
 
 bytes_then : (requests more : List Request) → AreOfBytes requests → AreOfBytes more → AreOfBytes (requests ++ more)

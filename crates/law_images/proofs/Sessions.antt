@@ -16,6 +16,7 @@ use Rattle.jc_memory.specs.Programs.{Program, Completes, TearLeaves}
 use Rattle.jc_linker.specs.Values.{Packages}
 use Rattle.jc_platform.specs.Table.{Reads}
 use Rattle.jc_platform.specs.Tokens.{Tokens}
+use Rattle.jc_interp.specs.declared.attacks.Budget.{Budget}
 use Rattle.jc_card_load.specs.Reading.{packages_of}
 use Rattle.jc_card_load.specs.Loading.{empty_load, component_begin, component_end as ended_component}
 use Rattle.jc_card.specs.Answers.{respond_with, manager_command, exchange, exchange_of_apdu, is_dispatched, manager_response, run_code}
@@ -27,8 +28,9 @@ use Rattle.jc_card.specs.Fixed.{fixed_of, last_fixed}
 use Rattle.jc_card.proofs.Objects.{last_numbered}
 use Rattle.jc_card.specs.Loads.{LoadResponse, begin_component, end_component, append_component, begin_load}
 use Rattle.jc_card.specs.StatusWord.{cla_not_supported, ins_not_supported, status_bytes, wrong_length}
-use Rattle.jc_session.specs.Requests.{Request, Command, Reset, ArmFuse, Reply, Response, Ready, Down}
-use Rattle.jc_session.specs.Power.{KeptState, PowerState, Up, Off, armed, armed_card, budget_of, durable_state}
+use Rattle.jc_session.specs.Requests.{Request, Command, Reset, ArmFuse, PlanFault, Reply, Response, Ready, Down}
+use Rattle.jc_session.specs.Power.{KeptState, PowerState, Up, Off, armed, armed_card, budget_of, durable_state, planned}
+use Rattle.jc_session.specs.declared.planned_fault.PlannedFault.{PlannedFault}
 use Rattle.jc_session.specs.Serving.{AnswersCommand, AnswersReset, Serves, SessionRun}
 use Rattle.jc_session.specs.Starting.{IsPoweredUp}
 use Rattle.law_linking.proofs.Aids.{have_aids}
@@ -164,7 +166,7 @@ kept_own t (Up card) own = record {
 kept_own t (Off b k) own = own
 
 module _ (n : ℕ) (t : Tokens) (p : Packages) (h : HeapState) (own : IsOwnHeap h.head.1 t p h) (linked : AreLinkedWell p) (layout : IsLaidOut h)
-    (passed budget : ℕ) (refusals : Refusals) (m : MemoryState) (clear : IsCleared m.ram) (none : m.command ≡ []) where
+    (passed : ℕ) (budget : Budget) (refusals : Refusals) (m : MemoryState) (clear : IsCleared m.ram) (none : m.command ≡ []) where
   abbrev reset_memory : MemoryState
   reset_memory = record m { heap = heap_at_rest h passed refusals n; fixed = fixed_of t h; registers = at_reset }
 
@@ -283,6 +285,19 @@ armed_own t k (Up card) own = record {
 }
 armed_own t k (Off b kept) own = record { packages = own.packages; linked = own.linked; heap = own.heap; layout = own.layout }
 
+-- ---- planning a fault
+
+planned_own : (t : Tokens) (fault : Option PlannedFault) (s : PowerState) → IsOwnPower t s → IsOwnPower t (planned fault s)
+planned_own t fault (Up card) own = record {
+  linked = own.linked;
+  ready = own.ready;
+  reading = own.reading;
+  beginning = own.beginning;
+  layout = own.layout;
+  load = own.load;
+}
+planned_own t fault (Off b kept) own = own
+
 -- ---- sessions
 
 command_answered : (t : Tokens) (s : PowerState) (bytes : List ℕ) (reply : Reply) (next : PowerState) → AreBytes bytes → IsOwnPower t s
@@ -296,6 +311,7 @@ request_own : OneTable → (t : Tokens) (s : PowerState) (request : Request) (re
 request_own g t s (Command bytes) reply next are own served = command_answered t s bytes reply next are own served
 request_own g t s Reset reply next are own served = reset_answered g t s reply next own served
 request_own g t s (ArmFuse k) reply next are own served = subst (IsOwnPower t) (sym served.1) (armed_own t k s own)
+request_own g t s (PlanFault fault) reply next are own served = subst (IsOwnPower t) (sym served.1) (planned_own t fault s own)
 
 session_own : OneTable → (t : Tokens) (s : PowerState) (requests : List Request) (replies : List Reply) (last : PowerState) → AreOfBytes requests
     → IsOwnPower t s → SessionRun s requests replies last → IsOwnPower t last

@@ -22,6 +22,7 @@ use Rattle.jc_platform.specs.declared.names.AppletsMethod.TheVariants.{AppletSel
 use Rattle.jc_linker.specs.Lookups.{applet_entry}
 use Rattle.jc_linker.specs.Values.{Packages}
 use Rattle.jc_registry.specs.Registry.{applet_with_aid}
+use Rattle.jc_interp.specs.declared.attacks.Budget.{Budget}
 use Rattle.jc_dispatch.specs.Buffer.{apdu_buffer, apdu_object, buffer_fill}
 use Rattle.jc_dispatch.specs.Creating.{applet_named, applet_creation, creation_in_registry, creation_by_data, creation_of, creation_by_entry}
 use Rattle.jc_dispatch.specs.AppletResults.{is_select_accepted}
@@ -85,7 +86,7 @@ closed_shut m = closing_shut m.heap.begun m refl
 
 -- ---- applets
 
-applet_left_shut : (budget : ℕ) (p : Packages) (one : Option AppletNumber) (m : MemoryState) → m.heap.begun ≡ false
+applet_left_shut : (budget : Budget) (p : Packages) (one : Option AppletNumber) (m : MemoryState) → m.heap.begun ≡ false
     → EndsShut (applet_left budget p one m) m
 unfolding applet_left
 applet_left_shut budget p None m shut = stays_shut shut
@@ -93,14 +94,14 @@ applet_left_shut budget p (Some a) m shut =
     then_shut _ (λ end v. still_shut _ (λ u w none. stays_shut none) (close v) v (closed_shut v))
     (applet_method_call budget p (Applets AppletDeselect) (instance_of m a.0) (Reference (instance_of m a.0) ∷ []) (Applet a) m) m
 
-left_shut : (budget : ℕ) (p : Packages) (next : Option AppletNumber) (m : MemoryState) → m.heap.begun ≡ false
+left_shut : (budget : Budget) (p : Packages) (next : Option AppletNumber) (m : MemoryState) → m.heap.begun ≡ false
     → EndsShut (deselection budget p next m) m
 unfolding deselection
 left_shut budget p next m shut =
     let v = apply_effect (SetRegisters (with_next next m.registers)) m in
     behind _ _ m (applet_left_shut budget p m.registers.selected v shut)
 
-processed_shut : (budget : ℕ) (p : Packages) (a : AppletNumber) (selecting : Bool) (expected : ℕ) (m : MemoryState)
+processed_shut : (budget : Budget) (p : Packages) (a : AppletNumber) (selecting : Bool) (expected : ℕ) (m : MemoryState)
     → EndsShut (process_command budget p a selecting expected m) m
 unfolding process_command
 processed_shut budget p a selecting expected m =
@@ -110,26 +111,27 @@ processed_shut budget p a selecting expected m =
     (applet_method_call budget p (Applets AppletProcess) (instance_of w a.0) (Reference (instance_of w a.0) ∷ Reference (apdu_object w) ∷ []) (Applet a) w) w)
     (buffer_fill v (header_of v.command)) v)
 
-accepted_shut : (accepts : Bool) (budget : ℕ) (p : Packages) (a : AppletNumber) (expected : ℕ) (m : MemoryState) → m.heap.begun ≡ false
+accepted_shut : (accepts : Bool) (budget : Budget) (p : Packages) (a : AppletNumber) (expected : ℕ) (m : MemoryState) → m.heap.begun ≡ false
     → EndsShut (after_select accepts budget p a expected m) m
 accepted_shut true budget p a expected m shut = processed_shut budget p a true expected m
 accepted_shut false budget p a expected m shut = stays_shut shut
 
-selected_shut : (budget : ℕ) (p : Packages) (a : AppletNumber) (expected : ℕ) (m : MemoryState) → EndsShut (applet_selection budget p a expected m) m
+selected_shut : (budget : Budget) (p : Packages) (a : AppletNumber) (expected : ℕ) (m : MemoryState) → EndsShut (applet_selection budget p a expected m) m
 unfolding applet_selection
 selected_shut budget p a expected m =
     then_shut _ (λ rest v.
     let w = apply_effect (SetRegisters (with_selected (Some a) v.registers)) v in
-    behind _ _ v (then_shut _ (λ end x. still_shut _ (λ u y none. accepted_shut (is_select_accepted end.1) end.0 p a expected y none) (close x) x
+    behind _ _ v (then_shut _ (λ end x. still_shut _ (λ u y none. accepted_shut (is_select_accepted end.1)
+    (record budget { left = end.0 }) p a expected y none) (close x) x
     (closed_shut x))
-    (applet_method_call rest p (Applets AppletSelect) (instance_of w a.0) (Reference (instance_of w a.0) ∷ []) (Applet a) w) w))
+    (applet_method_call (record budget { left = rest }) p (Applets AppletSelect) (instance_of w a.0) (Reference (instance_of w a.0) ∷ []) (Applet a) w) w))
     (deselection budget p (Some a) m) m
 
-managed_shut : (budget : ℕ) (p : Packages) (m : MemoryState) → m.heap.begun ≡ false → EndsShut (manager_selection budget p m) m
+managed_shut : (budget : Budget) (p : Packages) (m : MemoryState) → m.heap.begun ≡ false → EndsShut (manager_selection budget p m) m
 unfolding manager_selection
 managed_shut budget p m shut = still_shut _ (λ rest v none. stays_shut none) _ m (left_shut budget p None m shut)
 
-installed_shut : (budget : ℕ) (p : Packages) (q : PackageNumber) (entry offset : ℕ) (parameters : List ℕ) (m : MemoryState)
+installed_shut : (budget : Budget) (p : Packages) (q : PackageNumber) (entry offset : ℕ) (parameters : List ℕ) (m : MemoryState)
     → EndsShut (applet_installation budget p q entry offset parameters m) m
 unfolding applet_installation
 installed_shut budget p q entry offset parameters m =
@@ -140,38 +142,40 @@ installed_shut budget p q entry offset parameters m =
     (method_run budget p q.0 offset (Reference (apdu_buffer x) ∷ Short (pos 0) ∷ Short (pos (length parameters)) ∷ []) (Applet (next_applet m)) x) x)
     (buffer_fill w parameters) w))
 
-installing_shut : (budget : ℕ) (p : Packages) (e : ℕ × ℕ) (offset : Option ℕ) (parameters : List ℕ) (m : MemoryState) → m.heap.begun ≡ false
+installing_shut : (budget : Budget) (p : Packages) (e : ℕ × ℕ) (offset : Option ℕ) (parameters : List ℕ) (m : MemoryState) → m.heap.begun ≡ false
     → EndsShut (creation_by_entry budget p e offset parameters m) m
 installing_shut budget p e None parameters m shut = stays_shut shut
 installing_shut budget p e (Some offset) parameters m shut = installed_shut budget p (record { 0 = e.0 }) e.1 offset parameters m
 
-created_by_shut : (budget : ℕ) (p : Packages) (e : Option (ℕ × ℕ)) (parameters : List ℕ) (m : MemoryState) → m.heap.begun ≡ false
+created_by_shut : (budget : Budget) (p : Packages) (e : Option (ℕ × ℕ)) (parameters : List ℕ) (m : MemoryState) → m.heap.begun ≡ false
     → EndsShut (creation_in_registry budget p e parameters m) m
 created_by_shut budget p None parameters m shut = stays_shut shut
 created_by_shut budget p (Some e) parameters m shut =
     shut_if (nat_lt m.heap.now.counts.1 most_applets) _ _ m (installing_shut budget p e
     (option_map (λ a. a.install_offset) (applet_entry p e.0 e.1)) parameters m shut) (stays_shut shut)
 
-created_of_shut : (budget : ℕ) (p : Packages) (c : Option (List ℕ × List ℕ)) (m : MemoryState) → m.heap.begun ≡ false
+created_of_shut : (budget : Budget) (p : Packages) (c : Option (List ℕ × List ℕ)) (m : MemoryState) → m.heap.begun ≡ false
     → EndsShut (creation_by_data budget p c m) m
 created_of_shut budget p None m shut = stays_shut shut
 created_of_shut budget p (Some c) m shut = created_by_shut budget p (applet_named p c.0) c.1 m shut
 
-created_shut : (budget : ℕ) (p : Packages) (bytes : List ℕ) (m : MemoryState) → m.heap.begun ≡ false → EndsShut (applet_creation budget p bytes m) m
+created_shut : (budget : Budget) (p : Packages) (bytes : List ℕ) (m : MemoryState) → m.heap.begun ≡ false → EndsShut (applet_creation budget p bytes m) m
 unfolding applet_creation
 created_shut budget p bytes m shut = created_of_shut budget p (creation_of bytes) m shut
 
 -- ---- commands of applets
 
-to_selected_shut : (budget : ℕ) (a : Option AppletNumber) (expected : ℕ) (p : Packages) (m : MemoryState) → m.heap.begun ≡ false → EndsShut (to_selected budget a expected p m) m
+to_selected_shut : (budget : Budget) (a : Option AppletNumber) (expected : ℕ) (p : Packages) (m : MemoryState) → m.heap.begun ≡ false
+    → EndsShut (to_selected budget a expected p m) m
 to_selected_shut budget None expected p m shut = stays_shut shut
 to_selected_shut budget (Some a) expected p m shut = processed_shut budget p a false expected m
 
-to_named_shut : (budget : ℕ) (a : Option AppletNumber) (expected : ℕ) (p : Packages) (m : MemoryState) → m.heap.begun ≡ false → EndsShut (to_named budget a expected p m) m
+to_named_shut : (budget : Budget) (a : Option AppletNumber) (expected : ℕ) (p : Packages) (m : MemoryState) → m.heap.begun ≡ false
+    → EndsShut (to_named budget a expected p m) m
 to_named_shut budget None expected p m shut = to_selected_shut budget m.registers.selected expected p m shut
 to_named_shut budget (Some a) expected p m shut = selected_shut budget p a expected m
 
-routed_shut : (budget : ℕ) (c : Apdu) (expected : ℕ) (p : Packages) (m : MemoryState) → m.heap.begun ≡ false → EndsShut (route budget c expected p m) m
+routed_shut : (budget : Budget) (c : Apdu) (expected : ℕ) (p : Packages) (m : MemoryState) → m.heap.begun ≡ false → EndsShut (route budget c expected p m) m
 unfolding route
 routed_shut budget c expected p m shut =
     shut_if (is_select c) _ _ m (shut_if (bytes_eq c.content manager_aid) _ _ m (managed_shut budget p m shut)

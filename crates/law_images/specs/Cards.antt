@@ -6,7 +6,7 @@ use Rattle.jc_linker.specs.Values.{LinkerComponents}
 use Rattle.jc_card.specs.CardState.{CardState}
 use Rattle.law_linking.specs.Given.{AreRead}
 use Rattle.law_images.specs.GrowthRecords.{HaveAppletComponents}
-use Rattle.jc_session.specs.Requests.{Request, Command, Reset, ArmFuse, Reply}
+use Rattle.jc_session.specs.Requests.{Request, Command, Reset, ArmFuse, PlanFault, Reply}
 use Rattle.jc_session.specs.Power.{PowerState, Up, Off, KeptState}
 use Rattle.jc_session.specs.Serving.{Serves, SessionRun}
 use Rattle.law_images.specs.Kept.{IsReadAs}
@@ -50,6 +50,7 @@ abbrev pub IsOfBytes : Request → Type 0
 IsOfBytes (Command bytes) = AreBytes bytes
 IsOfBytes Reset = Unit {0}
 IsOfBytes (ArmFuse k) = Unit {0}
+IsOfBytes (PlanFault fault) = Unit {0}
 
 abbrev pub AreOfBytes : List Request → Type 0
 AreOfBytes [] = Unit {0}

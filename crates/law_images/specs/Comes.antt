@@ -6,7 +6,7 @@ use Rattle.jc_memory.specs.Reading.{HasTracePrefix}
 use Rattle.jc_platform.specs.Tokens.{Tokens}
 use Rattle.jc_card.specs.Answers.{exchange}
 use Rattle.jc_card.specs.CardState.{CardState}
-use Rattle.jc_session.specs.Requests.{Request, Reply, Response, Ready, Down, Armed}
+use Rattle.jc_session.specs.Requests.{Request, Reply, Response, Ready, Down, Armed, Planned}
 use Rattle.jc_session.specs.Power.{PowerState, Up, Off, KeptState, StoreState}
 use Rattle.jc_session.specs.Serving.{SessionRun}
 use Rattle.jc_session.specs.Sessions.{IsSession}
@@ -45,10 +45,11 @@ AddNone [] = Unit {0}
 AddNone (HeapMove (AddPackage components arrays image) ∷ es) = ⊥
 AddNone (e ∷ es) = AddNone es
 
--- it is down, or answers that the fuse is armed
+-- it is down, or answers that the fuse is armed or that a fault is planned
 abbrev pub IsDown : Reply → Type 0
 IsDown Down = Unit {0}
 IsDown (Armed k) = Unit {0}
+IsDown (Planned fault) = Unit {0}
 IsDown (Response response) = ⊥
 IsDown Ready = ⊥
 

@@ -6,7 +6,7 @@ use Rattle.jc_memory.specs.State.{Effect, HeapMove, apply_effect, moves_of}
 use Rattle.jc_memory.specs.Reading.{HasTracePrefix}
 use Rattle.jc_card.specs.Answers.{exchange}
 use Rattle.jc_card.specs.CardState.{CardState}
-use Rattle.jc_session.specs.Requests.{Request, Command, Reset, ArmFuse}
+use Rattle.jc_session.specs.Requests.{Request, Command, Reset, ArmFuse, PlanFault}
 use Rattle.law_images.specs.Comes.{memory_at}
 use Rattle.law_images.specs.Tries.{IsAsFound}
 
@@ -29,3 +29,4 @@ abbrev pub IsLeftBy : CardState → Request → HeapState → Type 0
 IsLeftBy card (Command bytes) left = (es : List Effect) × HasTracePrefix (exchange bytes card) card.memory es × IsLeft card es left
 IsLeftBy card Reset left = left ≡ card.memory.heap.now
 IsLeftBy card (ArmFuse k) left = left ≡ card.memory.heap.now
+IsLeftBy card (PlanFault fault) left = left ≡ card.memory.heap.now

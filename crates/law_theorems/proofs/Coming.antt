@@ -3,7 +3,7 @@ use Rattle.std.proofs.Common.{List, [], ◌∷◌, sym, subst}
 use Rattle.jc_platform.specs.Tokens.{Tokens}
 use Rattle.jc_platform.proofs.OneAnswer.{one_table}
 use Rattle.jc_card.specs.Dispatching.{with_response}
-use Rattle.jc_session.specs.Requests.{Request, Command, Reset, ArmFuse, Reply, Response, Ready, Down}
+use Rattle.jc_session.specs.Requests.{Request, Command, Reset, ArmFuse, PlanFault, Reply, Response, Ready, Down}
 use Rattle.jc_session.specs.Power.{PowerState, Up, Off, budget_of, durable_state, durable_state_in_store}
 use Rattle.jc_session.specs.Serving.{Serves, SessionRun}
 use Rattle.jc_session.specs.Starting.{Starts}
@@ -53,6 +53,8 @@ request_rests s Reset Ready (Up card) rest h = rests_so (durable_state s) (budge
 request_rests s Reset Down (Off b k) rest h = tt
 request_rests (Up card) (ArmFuse k) reply next rest h = subst Rests (sym h.1) (armed_rests k card rest)
 request_rests (Off b kept) (ArmFuse k) reply next rest h = subst Rests (sym h.1) tt
+request_rests (Up card) (PlanFault fault) reply next rest h = subst Rests (sym h.1) rest
+request_rests (Off b kept) (PlanFault fault) reply next rest h = subst Rests (sym h.1) tt
 request_rests s request reply next rest h = absurd h
 
 run_rests : (requests : List Request) (replies : List Reply) (s last : PowerState) → Rests s → SessionRun s requests replies last → Rests last

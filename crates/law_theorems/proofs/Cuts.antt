@@ -83,7 +83,7 @@ cuts_leave = record {
       let p = lost_by (exchange bytes card) card.memory off.passed off.durable answers.1.0 in
       let x : IsExactCut (moves_of (p.0 ∷ p.1)) card.memory.heap off.passed off.durable =
       exact (moves_of (p.0 ∷ p.1)) card.memory.heap off.passed off.durable small p.3 in
-      let rest = resets requests replies card.budget off next down run in
+      let rest = resets requests replies card.budget.left off next down run in
       let now : next.memory.heap.now ≡ off.durable = ap (λ (v : HeapView). v.now) rest.2.heap ∙ rest.1 in (
         x.0,
         x.1,

@@ -1,16 +1,18 @@
 -- What a command is made of.
-use Rattle.std.proofs.Common.{◌≡◌, ℕ, ◌⊎◌, true, false, inl, inr, List, [], ◌∷◌, ◌++◌, refl, ◌∙◌, ap, subst}
+use Rattle.std.proofs.Common.{◌≡◌, ℕ, ◌+◌, ◌⊎◌, true, false, inl, inr, List, [], ◌∷◌, ◌++◌, refl, ◌∙◌, ap, subst}
 use Rattle.std.proofs.lemmas.Bool.{both_ways}
 use Rattle.std.proofs.lemmas.List.{append_assoc}
 use Rattle.jc_heap.specs.Heap.{HeapView}
 use Rattle.jc_heap.specs.Moves.{Move, AddPackage, Begin, Commit, Abort}
-use Rattle.jc_frames.specs.Frames.{Frames}
+use Rattle.jc_frames.specs.Frames.{Frames, Next, GoesOn, Throws}
+use Rattle.jc_frames.specs.Frames as frames
 use Rattle.jc_memory.specs.Programs.{Program, Finish, Perform, Choose, Either}
 use Rattle.jc_memory.specs.Reading.{AllDue, AllEffectsDue, HasTracePrefix}
 use Rattle.jc_memory.specs.State.{MemoryState, Effect, HeapMove, apply_effect, apply_effects}
 use Rattle.jc_memory.proofs.ProgramLemmas.{due_before}
 use Rattle.jc_linker.specs.Values.{Packages}
 use Rattle.jc_platform.specs.Tokens.{Tokens}
+use Rattle.jc_interp.specs.Attacks.{attacked, step_from}
 use Rattle.jc_interp.specs.Stepping.{machine_step}
 use Rattle.jc_card.specs.Answers.{exchange, run_code}
 use Rattle.jc_card.specs.CardState.{CardState}
@@ -23,7 +25,7 @@ use Rattle.law_soundness.specs.Dispatched.{IsByEnvironment, IsDispatched, Stops,
 use Rattle.law_soundness.specs.Switching.{IsOfStep}
 use Rattle.law_soundness.proofs.Causes.{causes}
 use Rattle.law_soundness.proofs.CommandLaws.{commands_are_sound}
-use Rattle.law_soundness.proofs.Dispatched.{dispatched_apart, dispatched_more}
+use Rattle.law_soundness.proofs.Dispatched.{dispatched_apart, dispatched_more, nothing_more}
 use Rattle.law_images.specs.Cards.{IsOwnCard}
 use Rattle.law_images.specs.Comes.{AddNone, ComesWithin, memory_at}
 use Rattle.law_images.specs.Loaded.{AreBytes}
@@ -101,6 +103,13 @@ step_none lent p s m (HeapMove (AddPackage components arrays image)) n of_step a
 step_none lent p s m (HeapMove move) n of_step adds = adds
 step_none lent p s m e n of_step adds = adds
 
+-- after a fault, what is done is of a step from the frames that it left
+stepped : (lent : List ℕ) (p : Packages) (next : Next Frames) (m : MemoryState) (es : List Effect) (e : Effect)
+    → HasTracePrefix (step_from next lent p m) m (es ++ (e ∷ [])) → (s : Frames) × HasTracePrefix (machine_step lent p s m) m (es ++ (e ∷ []))
+stepped lent p (GoesOn s) m es e begins = (s, begins)
+stepped lent p (Throws x s) m es e begins = absurd (nothing_more p _ m es e begins)
+stepped lent p (frames.Ends o) m es e begins = absurd (nothing_more p _ m es e begins)
+
 module _ (t : Tokens) (card : CardState) (bytes : List ℕ) (es : List Effect) (e : Effect) (comes : ComesWithin t card bytes (es ++ (e ∷ [])))
     (r : IsOfRun card.packages card.memory es e) where
   abbrev start : MemoryState
@@ -129,9 +138,10 @@ module _ (t : Tokens) (card : CardState) (bytes : List ℕ) (es : List Effect) (
   none_before (inr adds) =
       let last = due_after AddsPackage r.during (e ∷ []) now
       (due_here AddsPackage (due_begun AddsPackage (exchange bytes card) card.memory (es ++ (e ∷ [])) adds comes.begins)).1 in
-      let step = due_after (IsOfStep r.lent card.packages r.last now) r.during (e ∷ []) now (due_begun (IsOfStep r.lent card.packages r.last now)
-      (machine_step r.lent card.packages r.last now) now (r.during ++ (e ∷ [])) (causes.each r.lent card.packages r.last now) r.within) in
-      absurd (step_none r.lent card.packages r.last now e (apply_effects r.during now) step.0 last.0)
+      let found = stepped r.lent card.packages (attacked r.attack r.left r.lent card.packages r.last) now r.during e r.within in
+      let step = due_after (IsOfStep r.lent card.packages found.0 now) r.during (e ∷ []) now (due_begun (IsOfStep r.lent card.packages found.0 now)
+      (machine_step r.lent card.packages found.0 now) now (r.during ++ (e ∷ [])) (causes.each r.lent card.packages found.0 now) found.1) in
+      absurd (step_none r.lent card.packages found.0 now e (apply_effects r.during now) step.0 last.0)
 
   is_run : RunsFrom t card bytes r.before r.taken r.lent r.first r.last now
   is_run = record {
@@ -143,6 +153,8 @@ module _ (t : Tokens) (card : CardState) (bytes : List ℕ) (es : List Effect) (
     };
     same = none_before (commands_fine t card (comes_own t (Up card) comes.comes) bytes comes.are);
     begins = r.begins;
+    attack = r.attack;
+    left = r.taken + r.left;
     steps = r.steps;
   }
 

@@ -473,7 +473,7 @@ module _ (card : CardState) (way : Way LoadResponse) (is_card : card_after comma
   aborts = within (before_abort acts ++ (HeapMove Abort ∷ [])) (drop 22 way.0)
       (in_parts card way.0 (holds 4 refl) (counter_is (place_counted (effect way.0 9)) acts.own (holds 5 refl)))
 
-  down : AnswersCommand (Up card) select_first Down (Off card.budget off)
+  down : AnswersCommand (Up card) select_first Down (Off card.budget.left off)
   down = (
     refl,
     (loses (exchange select_first card) card.memory (before_abort acts) Abort passed aborts.begins cut_in_abort, refl, refl, refl, refl),
@@ -482,25 +482,25 @@ module _ (card : CardState) (way : Way LoadResponse) (is_card : card_after comma
   left_own : IsOwnKept table off
   left_own =
       let stays : StaysOwn = stays_own one_table in
-      stays.request table (Up card) (Command select_first) Down (Off card.budget off) (of_bytes select_first select_below)
+      stays.request table (Up card) (Command select_first) Down (Off card.budget.left off) (of_bytes select_first select_below)
       (comes_own table (Up card) comes) down
 
   abbrev again_off : KeptState
   again_off = with_refusal passed off
 
   abbrev last_card : CardState
-  last_card = restarted card.budget table left_own.packages off.durable passed off.size again_off.refusals
+  last_card = restarted card.budget.left table left_own.packages off.durable passed off.size again_off.refusals
 
   lost : SessionRun (Up card) (Command select_first ∷ (Reset ∷ Reset ∷ [])) (Down ∷ (Down ∷ Ready ∷ [])) (Up last_card)
   lost = (
-    Off card.budget off,
+    Off card.budget.left off,
     down,
     (
-      Off card.budget again_off,
+      Off card.budget.left again_off,
       (refl, refl),
       (
         Up last_card,
-        powered off.durable.head.1 table left_own.packages off.durable left_own.heap card.budget passed off.size again_off.refusals true true passed,
+        powered off.durable.head.1 table left_own.packages off.durable left_own.heap card.budget.left passed off.size again_off.refusals true true passed,
         refl,
       ),
     ),
@@ -569,7 +569,9 @@ module _ (card : CardState) (way : Way LoadResponse) (is_card : card_after comma
     outside = outside;
     steps = (
       HeapMove (Write acts.place acts.value) ∷ [],
+      step.0,
       step.1,
+      (None, 0, refl),
       step.2.1,
       (tt, tt),
       step.2.0,

@@ -5,10 +5,10 @@ use Rattle.std.proofs.lemmas.Bool.{eqb-true, false≢true}
 use Rattle.std.proofs.lemmas.Option.{none-some, same_Some}
 use Rattle.jc_words.specs.Count.{saturating_count}
 use Rattle.jc_words.specs.Refusals.{Refusals, is_at, refused_once, with_fuse_at}
-use Rattle.jc_session.specs.Requests.{Request, Command, Reset, ArmFuse, Reply, Response, Ready, Down}
+use Rattle.jc_session.specs.Requests.{Request, Command, Reset, ArmFuse, PlanFault, Reply, Response, Ready, Down}
 use Rattle.jc_session.specs.Power.{PowerState, Up, Off, KeptState, armed, budget_of, durable_state}
 use Rattle.jc_session.specs.Serving.{AnswersCommand, AnswersReset, Serves, SessionRun}
-use Rattle.jc_session.proofs.Refusals.{done_refusals, one_more, powered_refusals}
+use Rattle.jc_session.proofs.Refusals.{done_refusals, one_more, planned_durable, powered_refusals}
 use Rattle.law_theorems.specs.DownRuns.{ArmNone, ArmsNone}
 use Rattle.law_theorems.specs.Fuse.{FusesCut, IsCutAt, refusals_of}
 
@@ -77,6 +77,8 @@ served_refuses : (s : PowerState) (request : Request) (reply : Reply) (next : Po
 served_refuses s (Command bytes) reply next none h = command_refuses s bytes reply next h
 served_refuses s Reset reply next none h = reset_refuses s reply next h
 served_refuses s (ArmFuse k) reply next none h = absurd none
+served_refuses s (PlanFault fault) reply next none h =
+    inl (ap refusals_of h.1 ∙ ap (λ (k : KeptState). k.refusals) (planned_durable fault s))
 
 served_faults : (s next : PowerState) (reply : Reply) → IsRefusing s next reply → (refusals_of s).faults ≤ (refusals_of next).faults
 served_faults s next reply (inl same) = let e = ap (λ (r : Refusals). r.faults) same in omega (arith, e)

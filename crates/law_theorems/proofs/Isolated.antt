@@ -92,13 +92,16 @@ steps_within : (k : ℕ) (lent : List ℕ) (p : Packages) (s u : Frames) (m n : 
 steps_within zero lent p s u m n steps = steps
 steps_within (suc k) lent p s u m n steps =
     let es = steps.0 in
-    let t = steps.1 in (
+    let v = steps.1 in
+    let t = steps.2 in (
       es,
+      v,
       t,
-      steps.2,
-      are_quiet lent p s m es m (step_does lent p s m es (GoesOn t) steps.2) steps.3,
+      steps.3,
       steps.4,
-      steps_within k lent p t u (apply_effects es m) n steps.5,
+      are_quiet lent p v m es m (step_does lent p v m es (GoesOn t) steps.4) steps.5,
+      steps.6,
+      steps_within k lent p t u (apply_effects es m) n steps.7,
     )
 
 runs_outside : (t : Tokens) (card : CardState) (bytes : List ℕ) (es : List Effect) (q k : ℕ) (lent : List ℕ) (s u : Frames) (n : MemoryState)

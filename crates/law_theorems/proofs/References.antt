@@ -1,5 +1,5 @@
 -- No reference names what is not there.
-use Rattle.std.proofs.Common.{◌≡◌, ℕ, zero, suc, Bool, true, false, inl, inr, List, Err, refl, sym, subst, arith, if◌then◌else◌}
+use Rattle.std.proofs.Common.{◌≡◌, ℕ, zero, suc, Bool, true, false, inl, inr, List, Option, Err, refl, sym, subst, arith, if◌then◌else◌}
 use Rattle.std.proofs.lemmas.Bool.{eqb-false, false≢true}
 use Rattle.std.specs.Prelude.{◌==◌, Some, None}
 use Rattle.jc_heap.specs.declared.object.Facts.{Facts}
@@ -16,7 +16,8 @@ use Rattle.jc_memory.proofs.ProgramLemmas.{each_did, taken_did}
 use Rattle.jc_linker.specs.Values.{Packages}
 use Rattle.jc_platform.specs.Tokens.{Tokens}
 use Rattle.jc_world.specs.Objects.{object_at, some_or_fault}
-use Rattle.jc_interp.specs.Stepping.{machine_step}
+use Rattle.jc_interp.specs.declared.attacks.Attack.{Attack}
+use Rattle.jc_interp.specs.Attacks.{attacked_step}
 use Rattle.jc_card.specs.CardState.{CardState}
 use Rattle.jc_session.specs.Power.{Up}
 use Rattle.law_isolation.specs.Runs.{RunSteps}
@@ -57,17 +58,22 @@ handed p m sound environment = record {
 -- ---- steps
 
 module _ (p : Packages) (known : AreKnown p) (lent : List ℕ) where
-  step_leads : (s : Frames) (m : MemoryState) → IsSoundMachine p s m → (es : List Effect) (next : Next Frames) → HasTrace (machine_step lent p s m) m es next
-      → IsSoundNext p next (apply_effects es m)
-  step_leads s m machine es next trace = each_did (IsSoundNext p) (machine_step lent p s m) m (apply_effects es m) next
-      ((steps_sound given).next lent p s m known machine) (taken_did (machine_step lent p s m) m es next trace)
+  step_leads : (attack : Option Attack) (left : ℕ) (s : Frames) (m : MemoryState) → IsSoundMachine p s m → (es : List Effect) (next : Next Frames)
+      → HasTrace (attacked_step attack left lent p s m) m es next → IsSoundNext p next (apply_effects es m)
+  step_leads attack left s m machine es next trace =
+      let step = attacked_step attack left lent p s m in
+      each_did (IsSoundNext p) step m (apply_effects es m) next ((steps_sound given).next attack left lent p s m known machine)
+      (taken_did step m es next trace)
 
-  steps_lead : (k : ℕ) (s u : Frames) (m n : MemoryState) → IsSoundMachine p s m → RunSteps k lent p s m u n → IsSoundMachine p u n
-  steps_lead zero s u m n machine steps = subst (λ v. IsSoundMachine p u v) (sym steps.1) (subst (λ f. IsSoundMachine p f m) (sym steps.0) machine)
-  steps_lead (suc k) s u m n machine steps =
+  steps_lead : (attack : Option Attack) (k left : ℕ) (s u : Frames) (m n : MemoryState) → IsSoundMachine p s m → RunSteps attack k left lent p s m u n
+      → IsSoundMachine p u n
+  steps_lead attack zero left s u m n machine steps =
+      subst (λ v. IsSoundMachine p u v) (sym steps.1) (subst (λ f. IsSoundMachine p f m) (sym steps.0) machine)
+  steps_lead attack (suc k) zero s u m n machine steps = absurd steps
+  steps_lead attack (suc k) (suc left) s u m n machine steps =
       let es = steps.0 in
       let t = steps.1 in
-      steps_lead k t u (apply_effects es m) n (step_leads s m machine es (GoesOn t) steps.2) steps.3
+      steps_lead attack k left t u (apply_effects es m) n (step_leads attack (suc left) s m machine es (GoesOn t) steps.2) steps.3
 
 -- ---- at a moment of a command
 
@@ -91,7 +97,7 @@ module _ (t : Tokens) (card : CardState) (bytes : List ℕ) (es : List Effect) (
 led : (t : Tokens) (card : CardState) (bytes : List ℕ) (es : List Effect) (k : ℕ) (lent : List ℕ) (s u : Frames) (n : MemoryState)
     → RunsFrom t card bytes es k lent s u n → IsSoundMachine card.packages u n
 led t card bytes es k lent s u n runs =
-    steps_lead card.packages (known_at t card bytes es runs.comes runs.same) lent k s u (memory_at card es) n
+    steps_lead card.packages (known_at t card bytes es runs.comes runs.same) lent runs.attack k runs.left s u (memory_at card es) n
     (begun t card bytes es runs.comes runs.same s runs.begins) runs.steps
 
 ran : (t : Tokens) (card : CardState) (bytes : List ℕ) (es : List Effect) (k : ℕ) (lent : List ℕ) (s u : Frames) (n : MemoryState)
@@ -100,7 +106,8 @@ ran t card bytes es k lent s u n runs =
     let last = led t card bytes es k lent s u n runs in (
       last.living,
       named card.packages n last.sound,
-      λ during o trace. step_leads card.packages (known_at t card bytes es runs.comes runs.same) lent u n last during (Ends o) trace,
+      λ attack left during o trace.
+          step_leads card.packages (known_at t card bytes es runs.comes runs.same) lent attack left u n last during (Ends o) trace,
     )
 
 -- ---- an object that a reference names is found

@@ -12,6 +12,7 @@ use Rattle.jc_memory.specs.Cells.{word_of, word_in}
 use Rattle.jc_memory.specs.Owners.{at_reset}
 use Rattle.jc_linker.specs.Values.{Packages}
 use Rattle.jc_platform.specs.Tokens.{Tokens}
+use Rattle.jc_interp.specs.Attacks.{undisturbed}
 use Rattle.jc_card_checks.specs.Sound.{IsSound}
 use Rattle.jc_card.specs.CardState.{CardState}
 use Rattle.jc_card.specs.Fixed.{fixed_of, last_fixed}
@@ -65,7 +66,7 @@ restarted budget t p h passed size refusals = record {
   };
   packages = p;
   load = None;
-  budget = budget;
+  budget = undisturbed budget;
 }
 
 module _ (n : ℕ) (t : Tokens) (p : Packages) (h : HeapState) (fits : IsOwnHeap n t p h) where

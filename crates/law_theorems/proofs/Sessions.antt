@@ -1,5 +1,5 @@
 -- Sessions without refused writes, the answer down, and stores that sessions leave.
-use Rattle.std.proofs.Common.{◌≡◌, ℕ, ◌+◌, ◌<◌, false, List, refl, sym, subst, ap, arith}
+use Rattle.std.proofs.Common.{◌≡◌, ℕ, ◌+◌, ◌<◌, false, List, refl, sym, ◌∙◌, subst, ap, arith}
 use Rattle.std.specs.Prelude.{Ok, Err, Result}
 use Rattle.jc_words.specs.Count.{saturating_count}
 use Rattle.jc_words.specs.Refusals.{Refusals, refused_once}
@@ -8,12 +8,12 @@ use Rattle.jc_platform.proofs.OneAnswer.{one_table}
 use Rattle.jc_card.proofs.PoweredUp.{refused_made}
 use Rattle.jc_session.specs.declared.session.SessionFault.{SessionFault}
 use Rattle.jc_session.specs.declared.session.SessionFault.TheVariants.{NoMemory, PowerFault}
-use Rattle.jc_session.specs.Requests.{Request, Command, Reset, ArmFuse, Reply, Response, Ready, Down, Armed}
+use Rattle.jc_session.specs.Requests.{Request, Command, Reset, ArmFuse, PlanFault, Reply, Response, Ready, Down, Armed, Planned}
 use Rattle.jc_session.specs.Laws.{IsToldByReply, IsToldOfRefusal, refusals_before}
-use Rattle.jc_session.specs.Power.{PowerState, Up, Off, StoreState, durable_state}
+use Rattle.jc_session.specs.Power.{PowerState, Up, Off, KeptState, StoreState, durable_state}
 use Rattle.jc_session.specs.Serving.{Serves}
 use Rattle.jc_session.specs.Sessions.{SessionEnds}
-use Rattle.jc_session.proofs.Refusals.{count_raised, done_refusals, one_more, powered_refusals}
+use Rattle.jc_session.proofs.Refusals.{count_raised, done_refusals, one_more, planned_durable, powered_refusals}
 use Rattle.jc_session.proofs.WholeSessions.{are_whole, down_tells}
 use Rattle.jcard_script.specs.declared.script.ScriptFault.TheVariants.{PowerFault as NotPoweredUp}
 use Rattle.law_images.specs.Cards.{AreOfBytes}
@@ -43,11 +43,12 @@ so_down (Up card) (Command bytes) (Response r) (Up next) small h is =
 so_down (Up card) (Command bytes) Down (Off b k) small h is = refl
 so_down (Off b k) (Command bytes) Down (Off d l) small h is = refl
 so_down (Up card) Reset Ready (Up next) small h is =
-    absurd (no_rise next.memory.heap.passed card.memory.heap.refusals next.memory.heap.refusals small (powered_refusals (durable_state (Up card)) card.budget next h) is)
+    absurd (no_rise next.memory.heap.passed card.memory.heap.refusals next.memory.heap.refusals small (powered_refusals (durable_state (Up card)) card.budget.left next h) is)
 so_down (Off b k) Reset Ready (Up next) small h is =
     absurd (no_rise next.memory.heap.passed k.refusals next.memory.heap.refusals small (powered_refusals k b next h) is)
 so_down s Reset Down (Off b k) small h is = refl
 so_down s (ArmFuse k) reply next small h is = absurd is
+so_down s (PlanFault fault) reply next small h is = absurd is
 so_down s request reply next small h is = absurd h
 
 unless_down : (s : PowerState) (request : Request) (reply : Reply) (next : PowerState) → IsToldByReply request reply s next → (reply ≡ Down → ⊥)
@@ -59,6 +60,9 @@ unless_down s request Ready (Off b k) told other = absurd told
 unless_down s request Down next told other = absurd (other refl)
 unless_down s request (Armed k) next told other =
     subst (λ r. (durable_state next).refusals ≡ refusals_before r s) (sym told.0) (ap (λ p. (durable_state p).refusals) told.1)
+unless_down s request (Planned fault) next told other =
+    subst (λ r. (durable_state next).refusals ≡ refusals_before r s) (sym told.0)
+    (ap (λ p. (durable_state p).refusals) told.1 ∙ ap (λ (k : KeptState). k.refusals) (planned_durable fault s))
 
 pub tells : DownTells
 tells s request reply next h small =

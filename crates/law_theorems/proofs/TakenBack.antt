@@ -11,7 +11,7 @@ use Rattle.jc_dispatch.specs.Phases.{close, abort_if_open, then_with, registers_
 use Rattle.jc_card.specs.Answers.{exchange}
 use Rattle.jc_card.specs.CardState.{CardState}
 use Rattle.jc_card.specs.Dispatching.{with_response}
-use Rattle.jc_session.specs.Requests.{Request, Command, Reset, ArmFuse, Reply, Response, Ready, Down, Armed}
+use Rattle.jc_session.specs.Requests.{Request, Command, Reset, ArmFuse, PlanFault, Reply, Response, Ready, Down, Armed, Planned}
 use Rattle.jc_session.specs.Power.{PowerState, Up, Off, KeptState, armed, durable_state}
 use Rattle.jc_session.specs.Serving.{AnswersReset, Serves, SessionRun}
 use Rattle.jc_session.specs.Starting.{IsPoweredUp}
@@ -37,13 +37,16 @@ down_off : (b : ℕ) (k : KeptState) (request : Request) (reply : Reply) (next :
 down_off b k (Command bytes) Down (Off d l) down h = (l, ap (λ n. Off n l) h.1, ap (λ (x : KeptState). x.durable) h.0)
 down_off b k Reset Down (Off d l) down h = (l, ap (λ n. Off n l) h.1, ap (λ (x : KeptState). x.durable) h.0)
 down_off b k (ArmFuse n) reply next down h = (durable_state (armed n (Off b k)), h.1, refl)
+down_off b k (PlanFault fault) reply next down h = (k, h.1, refl)
 down_off b k (Command bytes) (Response r) next down h = absurd down
 down_off b k (Command bytes) Ready next down h = absurd down
 down_off b k (Command bytes) (Armed n) next down h = absurd h
+down_off b k (Command bytes) (Planned fault) next down h = absurd h
 down_off b k (Command bytes) Down (Up card) down h = absurd h
 down_off b k Reset (Response r) next down h = absurd down
 down_off b k Reset Ready next down h = absurd down
 down_off b k Reset (Armed n) next down h = absurd h
+down_off b k Reset (Planned fault) next down h = absurd h
 down_off b k Reset Down (Up card) down h = absurd h
 
 no_more : (replies : List Reply) (s last : PowerState) → SessionRun s [] (replies ++ (Ready ∷ [])) last → ⊥
@@ -111,7 +114,7 @@ module _ (t : Tokens) (card : CardState) (comes : ComesTo t (Up card)) where
   open_left es left stands (inr was) = was.1
 
 first_left : (t : Tokens) (card : CardState) (request : Request) (mid : PowerState) → ComesTo t (Up card) → IsOfBytes request → Serves (Up card) request Down mid
-    → (k : KeptState) × (mid ≡ Off card.budget k) × IsLeftBy card request k.durable
+    → (k : KeptState) × (mid ≡ Off card.budget.left k) × IsLeftBy card request k.durable
 first_left t card (Command bytes) (Off b k) comes are h =
     let p = lost_at (exchange bytes card) card.memory k.passed k.durable h.1.0 in
     (k, ap (λ n. Off n k) h.0, (p.0, p.1, left_of t card comes bytes p.0 k.durable are p.1 p.2))
@@ -119,6 +122,7 @@ first_left t card Reset (Off b k) comes are h = (k, ap (λ n. Off n k) h.1, ap (
 first_left t card (Command bytes) (Up next) comes are h = absurd h
 first_left t card Reset (Up next) comes are h = absurd h
 first_left t card (ArmFuse n) mid comes are h = cc h.0
+first_left t card (PlanFault fault) mid comes are h = cc h.0
 
 closed_by : (b : Bool) (m new : MemoryState) → b ≡ true
     → Completes (abort_if_open b (λ v. then_with (SetRegisters (registers_released v.registers)) v (λ w. Finish (tt {0}))) m) m tt new
@@ -134,10 +138,10 @@ pub taken_back : IsTakenBack
 taken_back = record {
   lost = λ t card next request requests replies comes are down run.
       let first = first_left t card request run.0 comes are run.1 in
-      let rest = resets requests replies card.budget first.0 next down
+      let rest = resets requests replies card.budget.left first.0 next down
       (subst (λ s. SessionRun s (requests ++ (Reset ∷ [])) (replies ++ (Ready ∷ [])) (Up next)) first.1 run.2) in
       let now : next.memory.heap.now ≡ (first.0).durable = ap (λ (v : HeapView). v.now) rest.2.heap ∙ rest.1 in
-      (subst (IsLeftBy card request) (sym now) first.2, rests_so rest.0 card.budget next rest.2);
+      (subst (IsLeftBy card request) (sym now) first.2, rests_so rest.0 card.budget.left next rest.2);
   aborted = λ t card bytes es within.
       let begins = front (exchange bytes card) card.memory es (HeapMove Abort ∷ []) within.begins in
       let due = due_after KeepsTransactionOrder es (HeapMove Abort ∷ []) card.memory

@@ -16,7 +16,7 @@ use Rattle.jc_platform.specs.Tokens.{Tokens}
 use Rattle.jc_card.specs.Answers.{exchange}
 use Rattle.jc_card.specs.CardState.{CardState}
 use Rattle.jc_card.specs.Dispatching.{with_response}
-use Rattle.jc_session.specs.Requests.{Request, Command, ArmFuse, Reply, Response, Ready, Down, Armed}
+use Rattle.jc_session.specs.Requests.{Request, Command, ArmFuse, Reply, Response, Ready, Down, Armed, Planned}
 use Rattle.jc_session.specs.Power.{PowerState, Up, Off, KeptState, armed, durable_state}
 use Rattle.jc_session.specs.Serving.{AnswersCommand, SessionRun}
 use Rattle.jc_session.specs.Starting.{Starts}
@@ -93,6 +93,7 @@ module _ (t : Tokens) (bytes : List ℕ) (k : ℕ) where
     answered Down (Up next) answers down small = absurd answers
     answered Ready next answers down small = absurd answers
     answered (Armed n) next answers down small = absurd answers
+    answered (Planned fault) next answers down small = absurd answers
 
   -- ---- an armed state, and the command after it
   abbrev IsTold : PowerState → Type 0

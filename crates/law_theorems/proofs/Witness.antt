@@ -1,5 +1,5 @@
 -- A new image, its first reset, a cut one, a command, and code that begins within it.
-use Rattle.std.proofs.Common.{ℕ, ◌<◌, ◌≤◌, Bool, true, false, List, [], ◌∷◌, length, refl, sym, ◌∙◌, ap, subst, arith, Some}
+use Rattle.std.proofs.Common.{ℕ, ◌<◌, ◌≤◌, Bool, true, false, List, [], ◌∷◌, length, refl, sym, ◌∙◌, ap, subst, arith, None, Some}
 use Rattle.std.specs.Prelude.{Ok}
 use Rattle.std.proofs.lemmas.Bool.{false≢true, true≢false}
 use Rattle.std.proofs.lemmas.List.Elements.{All-from_recursion}
@@ -123,6 +123,8 @@ witnesses budget n capacity text t enough reads =
         comes = record { comes = comes_up budget n capacity text t enough reads; are = are_bytes; begins = tt };
         same = tt;
         begins = begins budget n capacity text t enough reads;
+        attack = None;
+        left = 0;
         steps = (refl, refl);
       };
       step = (refl, refl);

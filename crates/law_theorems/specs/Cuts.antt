@@ -44,10 +44,10 @@ pub record LeaveTheChangesBeforeThem : Type 0 where
   -- the power is cut within a command, and within each of any number of resets; meanwhile commands are answered down, and the fuse may be
   -- armed. Then a reset completes
   pub cut : (card next : CardState) (bytes : List ℕ) (off : KeptState) (requests : List Request) (replies : List Reply) → AreDown replies
-      → AnswersCommand (Up card) bytes Down (Off card.budget off) → SessionRun (Off card.budget off) (requests ++ (Reset ∷ [])) (replies ++ (Ready ∷ [])) (Up next)
+      → AnswersCommand (Up card) bytes Down (Off card.budget.left off) → SessionRun (Off card.budget.left off) (requests ++ (Reset ∷ [])) (replies ++ (Ready ∷ [])) (Up next)
       → off.passed < 18446744073709551615 → (k : ℕ) × (off.passed ≡ card.memory.heap.passed + k) × IsHeapCutAt card bytes k next.memory.heap.now
   -- where a fuse was set K writes ahead, and the store below refused nothing by itself, k is K
-  pub stopped : (card : CardState) (bytes : List ℕ) (off : KeptState) (ahead : ℕ) → AnswersCommand (Up card) bytes Down (Off card.budget off)
+  pub stopped : (card : CardState) (bytes : List ℕ) (off : KeptState) (ahead : ℕ) → AnswersCommand (Up card) bytes Down (Off card.budget.left off)
       → card.memory.heap.refusals.fuse ≡ Some (card.memory.heap.passed + ahead) → card.memory.heap.refusals.faults < 18446744073709551615
       → off.refusals.faults ≡ card.memory.heap.refusals.faults → off.passed ≡ card.memory.heap.passed + ahead
 

@@ -1,6 +1,6 @@
 -- Sessions that arm no fuse, and that are answered down once.
 use Rattle.std.specs.Prelude.{◌≡◌, List, [], ◌∷◌, ◌++◌}
-use Rattle.jc_session.specs.Requests.{Request, Command, Reset, ArmFuse, Reply, Down}
+use Rattle.jc_session.specs.Requests.{Request, Command, Reset, ArmFuse, PlanFault, Reply, Down}
 use Rattle.jc_session.specs.Power.{PowerState}
 use Rattle.jc_session.specs.Serving.{Serves, SessionRun}
 
@@ -9,6 +9,7 @@ abbrev pub ArmsNone : Request → Type 0
 ArmsNone (Command bytes) = Unit {0}
 ArmsNone Reset = Unit {0}
 ArmsNone (ArmFuse k) = ⊥
+ArmsNone (PlanFault fault) = Unit {0}
 
 -- none of these requests does
 abbrev pub ArmNone : List Request → Type 0

@@ -84,7 +84,7 @@ pub record MeetPremises (t : Tokens) (a : Acts) : Type 0 where
   -- abort, a reset is cut, and one completes
   pub off : KeptState
   pub few : off.passed < 18446744073709551615
-  pub down : AnswersCommand (Up a.card) a.bytes Down (Off a.card.budget off)
+  pub down : AnswersCommand (Up a.card) a.bytes Down (Off a.card.budget.left off)
   pub reset : CardState
   pub lost : SessionRun (Up a.card) (Command a.bytes ∷ (Reset ∷ Reset ∷ [])) (Down ∷ (Down ∷ Ready ∷ [])) (Up reset)
   -- of `committed` there: it is cut in the update, after the commit

@@ -9,6 +9,7 @@ use Rattle.jc_platform.specs.Tokens.{Tokens}
 use Rattle.jc_interp.specs.Stepping.{machine_step}
 use Rattle.jc_card.specs.CardState.{CardState}
 use Rattle.law_isolation.specs.Reach.{IsOutside, KeepsCells}
+use Rattle.law_isolation.specs.Runs.{MayBecome}
 use Rattle.law_isolation.specs.Steps.{Stays}
 use Rattle.law_soundness.specs.Switching.{Cause, SwitchesHaveCauses}
 use Rattle.law_images.specs.Comes.{AddNone, ComesWithin, memory_at}
@@ -20,12 +21,13 @@ StaysApart lent p s m (HeapMove Abort) n = ⊥
 StaysApart lent p s m (SetRegisters g) n = Cause lent p s m g n → g.active ≡ n.registers.active
 StaysApart lent p s m e n = Unit {0}
 
--- this many steps in a row, none of which calls a method in another context, lead from frames and a memory to others
+-- this many steps in a row, none of which calls a method in another context, lead from frames and a memory to others; before each a fault
+-- may come
 abbrev pub StepsApart : ℕ → List ℕ → Packages → Frames → MemoryState → Frames → MemoryState → Type 0
 StepsApart zero lent p s m u n = (u ≡ s) × (n ≡ m)
 StepsApart (suc k) lent p s m u n =
-    (es : List Effect) × (t : Frames) × HasTrace (machine_step lent p s m) m es (GoesOn t) × AllEffectsDue (StaysApart lent p s m) es m × Stays lent p s m
-    × StepsApart k lent p t (apply_effects es m) u n
+    (es : List Effect) × (v : Frames) × (t : Frames) × MayBecome lent p s v × HasTrace (machine_step lent p v m) m es (GoesOn t)
+    × AllEffectsDue (StaysApart lent p v m) es m × Stays lent p v m × StepsApart k lent p t (apply_effects es m) u n
 
 -- After these effects of a command of a session an object is outside the reach of the code that runs, and this many steps in a row, from
 -- whatever frames to others, are so. The load whose end adds a package runs no code

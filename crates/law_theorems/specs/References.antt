@@ -1,5 +1,5 @@
 -- No reference names what is not there.
-use Rattle.std.specs.Prelude.{ℕ, ◌≡◌, List, Err}
+use Rattle.std.specs.Prelude.{ℕ, ◌≡◌, List, Option, Err}
 use Rattle.jc_heap.specs.Whole.{IsReference}
 use Rattle.jc_frames.specs.declared.outcome.FrameExit.TheVariants.{End}
 use Rattle.jc_frames.specs.declared.outcome.Outcome.TheVariants.{Fault}
@@ -7,6 +7,7 @@ use Rattle.jc_frames.specs.Frames.{Frames}
 use Rattle.jc_memory.specs.State.{MemoryState, Effect}
 use Rattle.jc_platform.specs.Tokens.{Tokens}
 use Rattle.jc_world.specs.Objects.{object_at}
+use Rattle.jc_interp.specs.declared.attacks.Attack.{Attack}
 use Rattle.jc_card.specs.CardState.{CardState}
 use Rattle.law_isolation.specs.Runs.{RunSteps}
 use Rattle.law_soundness.specs.Living.{AreLivingFrames}
@@ -14,12 +15,15 @@ use Rattle.law_soundness.specs.References.{EndsLiving, HandsObjects, MayBegin, N
 use Rattle.law_soundness.specs.State.{TransientCells}
 use Rattle.law_images.specs.Comes.{AddNone, ComesWithin, memory_at}
 
--- this many steps of code, from where a method may begin, lead, after these effects of a command of a session, to these frames and this memory
+-- this many steps of code, from where a method may begin, lead, after these effects of a command of a session, to these frames and this memory;
+-- an attack may come before one of them
 pub record RunsFrom (t : Tokens) (card : CardState) (bytes : List ℕ) (es : List Effect) (k : ℕ) (lent : List ℕ) (s u : Frames) (n : MemoryState) : Type 0 where
   pub comes : ComesWithin t card bytes es
   pub same : AddNone es
   pub begins : MayBegin s (memory_at card es)
-  pub steps : RunSteps k lent card.packages s (memory_at card es) u n
+  pub attack : Option Attack
+  pub left : ℕ
+  pub steps : RunSteps attack k left lent card.packages s (memory_at card es) u n
 
 pub record ReferencesNameObjects : Type 0 where
   -- at each moment of each command, and so after an abort, of each transient cell, and each element of a transient array of references is

@@ -29,3 +29,8 @@ pub returns-in-ArmFuse : goal.returns-in-ArmFuse
 returns-in-ArmFuse c =
     let asked = c.last.ensures c.args.line.now (c.push_all.ensures [] c.empty-read.ensures) in
     not_bad c.last.result _ (form_of c.args.line.now) c.in-ArmFuse.is tt asked
+
+pub returns-in-PlanFault : goal.returns-in-PlanFault
+returns-in-PlanFault c =
+    let asked = c.last.ensures c.args.line.now (c.push_all.ensures [] c.empty-read.ensures) in
+    not_bad c.last.result _ (form_of c.args.line.now) c.in-PlanFault.is tt asked
