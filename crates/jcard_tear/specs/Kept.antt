@@ -35,6 +35,10 @@ IsKeptCut words c k (Leaves found) = IsRecovered found.items × MayLeave words c
 abbrev pub HasAnswered : ℕ → List ℕ → Left → Type 0
 HasAnswered budget probe left = (last : FuseStoreValue) × Runs budget left.words.items probe left.answers.items last
 
+-- a recovery leaves these words as they are, and it is known what a card answers that powers up over them
+abbrev pub IsKnown : Command → Left → Type 0
+IsKnown c left = IsRecovered left.words.items × HasAnswered c.behind.instructions c.probe.now left
+
 -- no recovery was cut
 abbrev pub none_cut : Recoveries
 none_cut = record { ways = 1; difference = None }

@@ -1,8 +1,8 @@
 //! Cutting the power within a command, after each number of its word writes.
-ghost use Rattle.std.specs.Prelude.{◌≡◌, ◌<◌, ◌++◌, ◌∷◌, ℕ, List, [], length, IfOk, IfSome, MatchOption, MatchResult};
+ghost use Rattle.std.specs.Prelude.{◌≡◌, ◌<◌, ◌++◌, ◌∷◌, ℕ, true, List, [], length, IfOk, IfSome, MatchOption, MatchResult};
 ghost use Rattle.jcard_tear.specs.declared.tearing.TearFault.TheVariants.{NoMemory};
 ghost use Rattle.jcard_tear.specs.Faults.{IsUncutFor};
-ghost use Rattle.jcard_tear.specs.Kept.{IsKeptCut, IsKeptFor, IsShort, IsLastCut, IsReportedAt};
+ghost use Rattle.jcard_tear.specs.Kept.{IsKeptCut, IsKeptFor, IsKnown, IsShort, IsLastCut, IsReportedAt};
 ghost use Rattle.jcard_tear.specs.declared.cuts.Command.{Command as CommandText};
 ghost use Rattle.jcard_tear.specs.Sweeps.{AreCuts, IsCutAt, IsToldAs, IsUncutAt, cut_script, nothing_more};
 ghost use Rattle.jcard_tear.specs.Told.{AreOfImage};
@@ -64,6 +64,8 @@ pub(crate) struct Shared<'a> {
     pub(crate) lenient: &'a [u16],
     pub(crate) objects: &'a Option<ImageObjects>,
     pub(crate) before: &'a Left,
+    /// Whether it is known of a card that powers up over the words of before that it gives the answers of before.
+    pub(crate) is_known: bool,
     pub(crate) after: &'a Left,
 }
 
@@ -76,11 +78,13 @@ pub(crate) fn cut_all<P: Progress>(
     lenient: &[u16],
     objects: &Option<ImageObjects>,
     before: &Left,
+    is_known: bool,
     after: &Left,
     progress: &mut P,
 ) -> Result<Vec<Cut>, TearFault>
     requires short { length words.now < 65536 }
     requires whole { AreOfImage objects.now }
+    requires known { is_known ≡ true → IsKnown command before.now }
     ensures { MatchResult result
         (λ cuts. AreCuts words.now command.entry spared.now lenient.now objects.now before.now after.now 0 cuts.items
         × IsUncutAt words.now command.entry (length cuts.items))
@@ -92,6 +96,7 @@ pub(crate) fn cut_all<P: Progress>(
         lenient,
         objects,
         before,
+        is_known,
         after,
     };
     let mut last = None;
@@ -119,6 +124,7 @@ pub(crate) fn next_cut(
     requires short { length words.now < 65536 }
     requires whole { AreOfImage shared.now.objects.now }
     requires card { IfSome shared.now.card (λ card. IsKeptFor words.now command card) }
+    requires known { shared.now.is_known ≡ true → IsKnown command shared.now.before.now }
     requires last { IfSome last.old (λ reported. IsLastCut command shared.now reported) }
     ensures last { IfSome last.new (λ reported. IsLastCut command.entry shared.now reported) }
     ensures cut { MatchResult result (λ cut. MatchOption cut (IsUncutAt words.now command.entry number)

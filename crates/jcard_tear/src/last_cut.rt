@@ -1,8 +1,8 @@
 //! What is reported of a cut, and again of the cuts after it that leave the same heap.
-ghost use Rattle.std.specs.Prelude.{◌≡◌, ◌<◌, vec_len, IfOk, IfSome, MatchResult};
+ghost use Rattle.std.specs.Prelude.{◌≡◌, ◌<◌, true, length, vec_len, IsTrue, IfOk, IfSome, MatchResult};
 ghost use Rattle.jc_commit.specs.Image.{plain_of};
 ghost use Rattle.jcard_tear.specs.Faults.{IsProbeFault};
-ghost use Rattle.jcard_tear.specs.Kept.{HasAnswered, IsLastCut, IsReportedAlike};
+ghost use Rattle.jcard_tear.specs.Kept.{HasAnswered, IsKnown, IsLastCut, IsReportedAlike};
 ghost use Rattle.jcard_tear.specs.Runs.{IsRecovered};
 ghost use Rattle.jcard_tear.specs.Told.{AreOfImage};
 
@@ -32,6 +32,7 @@ pub(crate) fn reported_cut(
     requires whole { AreOfImage shared.now.objects.now }
     requires short { vec_len found < 65536 }
     requires recovered { IsRecovered found.items }
+    requires known { shared.now.is_known ≡ true → IsKnown command shared.now.before.now }
     requires last { IfSome last.old (λ reported. IsLastCut command shared.now reported) }
     ensures last { IfSome last.new (λ reported. IsLastCut command.entry shared.now reported) }
     ensures cut { MatchResult result (λ cut. IsReportedAlike command.entry shared.now (plain_of found.items) cut)
@@ -54,6 +55,7 @@ fn next_reported(
     requires whole { AreOfImage shared.now.objects.now }
     requires short { vec_len found < 65536 }
     requires recovered { IsRecovered found.items }
+    requires known { shared.now.is_known ≡ true → IsKnown command shared.now.before.now }
     requires last { IfSome last (λ reported. IsLastCut command shared.now reported) }
     ensures { MatchResult result (λ reported. IsLastCut command.entry shared.now reported
         × (plain_of reported.left.words.items ≡ plain_of found.items))
@@ -67,7 +69,7 @@ fn next_reported(
     first_reported(alloc, command, shared, found)
 }
 
-// What is left, and what is reported of it, where the probe has to be asked.
+// What is left, and what is reported of it, where that is not as of the cut before.
 fn first_reported(
     alloc: Global,
     command: Command,
@@ -77,17 +79,58 @@ fn first_reported(
     requires whole { AreOfImage shared.now.objects.now }
     requires short { vec_len found < 65536 }
     requires recovered { IsRecovered found.items }
+    requires known { shared.now.is_known ≡ true → IsKnown command shared.now.before.now }
     ensures { MatchResult result (λ reported. IsLastCut command.entry shared.now reported
         × (plain_of reported.left.words.items ≡ plain_of found.items))
         (λ fault. IsProbeFault command.entry.behind.instructions command.entry.probe.now fault) }
 {
-    let left = answered(alloc, found, command.probe, command.behind.instructions)?;
+    let left = first_left(alloc, command, shared, found)?;
     let none_cut = Recoveries {
         ways: 1,
         difference: None,
     };
     let cut = told_cut(alloc, shared, &left, none_cut)?;
     Ok(LastCut { left, cut })
+}
+
+// What is left: what was before the command, if it is the same heap and its answers are known; else the probe is asked.
+fn first_left(
+    alloc: Global,
+    command: Command,
+    shared: &Shared<'_>,
+    found: Vec<u16>,
+) -> Result<Left, TearFault>
+    requires short { vec_len found < 65536 }
+    requires recovered { IsRecovered found.items }
+    requires known { shared.now.is_known ≡ true → IsKnown command shared.now.before.now }
+    ensures { MatchResult result (λ left. IsKnown command.entry left
+        × (plain_of left.words.items ≡ plain_of found.items))
+        (λ fault. IsProbeFault command.entry.behind.instructions command.entry.probe.now fault) }
+{
+    if is_as_before(shared, &found) {
+        let left = copy_of_left(alloc, shared.before)?;
+        return Ok(left);
+    }
+    answered(alloc, found, command.probe, command.behind.instructions)
+}
+
+// Whether these words are the same heap as before the command, whose answers are known.
+fn is_as_before(shared: &Shared<'_>, found: &[u16]) -> bool
+    requires { length found.now < 65536 }
+    ensures known { IsTrue result → shared.now.is_known ≡ true }
+    ensures alike { IsTrue result → plain_of shared.now.before.now.words.items ≡ plain_of found.now }
+{
+    shared.is_known && are_alike(&shared.before.words, found)
+}
+
+// A copy of what was left.
+fn copy_of_left(alloc: Global, left: &Left) -> Result<Left, AllocError>
+    ensures words { IfOk result (λ copy. copy.words.items ≡ left.now.words.items) }
+    ensures answers { IfOk result (λ copy. copy.answers.items ≡ left.now.answers.items) }
+{
+    let words = Vec::from_slice(alloc, &left.words)?;
+    let answers = Vec::from_slice(alloc, &left.answers)?;
+    Ok(Left { words, answers })
 }
 
 // What a card that powers up over these words answers to the lines of a probe.

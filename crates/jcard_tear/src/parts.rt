@@ -1,7 +1,8 @@
 //! A part of the cuts of a command, so that several runs share a large sweep.
-ghost use Rattle.std.specs.Prelude.{◌<◌, ◌+◌, ◌*◌, ℕ, List, length, option_map, IfOk, MatchResult};
+ghost use Rattle.std.specs.Prelude.{◌≡◌, ◌<◌, ◌+◌, ◌*◌, ℕ, List, true, length, option_map, IfOk, MatchResult};
 ghost use Rattle.std.specs.Borrow.{Bor};
 ghost use Rattle.jcard_tear.specs.Faults.{IsLineUncut, IsUncutFor};
+ghost use Rattle.jcard_tear.specs.Kept.{IsKnown};
 ghost use Rattle.jcard_tear.specs.Parts.{AreEvery, IsLinePart, IsPartSwept};
 ghost use Rattle.jcard_tear.specs.ScriptLines.{line_of};
 ghost use Rattle.jcard_tear.specs.Sweeps.{IsUncutAt};
@@ -67,13 +68,14 @@ pub fn tear_part<P: Progress>(
     ensures below { IfOk result (λ part. part.first + part.step * length part.sweep.cuts.items < 65536) }
 {
     let (answer, after, by_calls) = done(alloc, words, command, progress)?;
-    let before = begun(alloc, words, command)?;
+    let (before, is_known) = begun(alloc, words, command)?;
     progress.tell_image(&before.words);
     let spared = tries_in(alloc, &after)?;
     let lenient = joined(alloc, &spared, &by_calls)?;
     let objects = objects_asked(alloc, command.behind.objects, &before)?;
     let cuts = cut_every(
-        alloc, words, command, &spared, &lenient, &objects, &before, &after, first, step, progress,
+        alloc, words, command, &spared, &lenient, &objects, &before, is_known, &after, first, step,
+        progress,
     )?;
     let after = left_told(alloc, &objects, after)?;
     let name = sweep_name(alloc, words, command, step)?;
@@ -100,6 +102,7 @@ fn cut_every<P: Progress>(
     lenient: &[u16],
     objects: &Option<ImageObjects>,
     before: &Left,
+    is_known: bool,
     after: &Left,
     first: u16,
     step: u16,
@@ -107,6 +110,7 @@ fn cut_every<P: Progress>(
 ) -> Result<Vec<Cut>, TearFault>
     requires short { length words.now < 65536 }
     requires whole { AreOfImage objects.now }
+    requires known { is_known ≡ true → IsKnown command before.now }
     ensures cut { MatchResult result
         (λ cuts. AreEvery words.now command.entry spared.now lenient.now objects.now before.now after.now first step cuts.items
         × IsUncutAt words.now command.entry (first + step * length cuts.items))
@@ -119,6 +123,7 @@ fn cut_every<P: Progress>(
         lenient,
         objects,
         before,
+        is_known,
         after,
     };
     let mut last = None;

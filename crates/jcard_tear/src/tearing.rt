@@ -1,6 +1,7 @@
 //! A command that is cut after each number of its writes, beside what was before it and what it leaves.
-ghost use Rattle.std.specs.Prelude.{◌≡◌, ◌<◌, ◌++◌, ℕ, length, vec_len, IfOk, MatchResult};
+ghost use Rattle.std.specs.Prelude.{◌≡◌, ◌<◌, ◌++◌, ℕ, length, vec_len, IfOk, IsTrue, MatchResult};
 ghost use Rattle.jcard_tear.specs.declared.tearing.TearFault.TheVariants.{NoMemory};
+ghost use Rattle.jcard_tear.specs.Kept.{IsKnown};
 ghost use Rattle.jcard_tear.specs.Sweeps.{IsBegun, IsDone, IsLastLine, IsSwept};
 ghost use Rattle.jcard_tear.specs.Runs.{IsLeft};
 ghost use Rattle.jcard_tear.specs.Faults.{IsImageFault, IsProbeFault, IsUncutFor, told_probe_fault, told_run_fault};
@@ -8,6 +9,7 @@ ghost use Rattle.jc_objects.specs.Pins.{AreTriesIn};
 
 use crate::cuts::{Command, cut_all};
 use crate::progress::Progress;
+use crate::recoveries::are_equal;
 use crate::runs::{RunFault, left, run_copy, run_told};
 use crate::told::{left_told, objects_asked};
 use jc_card::power_up::PowerFault;
@@ -52,13 +54,13 @@ pub fn tear<P: Progress>(
         (λ fault. IsUncutFor words.now command.entry 1 fault) }
 {
     let (answer, after, by_calls) = done(alloc, words, command, progress)?;
-    let before = begun(alloc, words, command)?;
+    let (before, is_known) = begun(alloc, words, command)?;
     progress.tell_image(&before.words);
     let spared = tries_in(alloc, &after)?;
     let lenient = joined(alloc, &spared, &by_calls)?;
     let objects = objects_asked(alloc, command.behind.objects, &before)?;
     let cuts = cut_all(
-        alloc, words, command, &spared, &lenient, &objects, &before, &after, progress,
+        alloc, words, command, &spared, &lenient, &objects, &before, is_known, &after, progress,
     )?;
     let after = left_told(alloc, &objects, after)?;
     Ok(Sweep {
@@ -109,14 +111,23 @@ pub(crate) fn done<P: Progress>(
     Ok((answer, left, watched.by_calls))
 }
 
-// What is left by the lines before a command.
-pub(crate) fn begun(alloc: Global, words: &[u16], command: Command) -> Result<Left, TearFault>
+// What is left by the lines before a command; and whether a reset then finds the words as they were left, so that the answers are known of a
+// card that powers up over them.
+pub(crate) fn begun(
+    alloc: Global,
+    words: &[u16],
+    command: Command,
+) -> Result<(Left, bool), TearFault>
     requires { length words.now < 65536 }
-    ensures { MatchResult result (λ left. IsBegun words.now command.entry left)
+    ensures { MatchResult result (λ r. IsBegun words.now command.entry r.0
+        × (IsTrue r.1 → IsKnown command.entry r.0))
         (λ fault. (step : ℕ) → IsUncutFor words.now command.entry step fault) }
 {
     let ran = run_copy(alloc, words, command.before, command.behind.instructions)?;
-    left_by_probe(alloc, ran.words, command.probe, command.behind.instructions)
+    let found = Vec::from_slice(alloc, &ran.words)?;
+    let left = left_by_probe(alloc, ran.words, command.probe, command.behind.instructions)?;
+    let is_known = are_equal(&found, &left.words);
+    Ok((left, is_known))
 }
 
 // What a reset finds and the probe is answered; what is wrong then is wrong with the probe.

@@ -1,15 +1,13 @@
-use Rattle.std.proofs.Common.{ap, subst, sym}
-use Rattle.jc_commit.specs.Image.{plain_of}
+use Rattle.std.proofs.Common.{subst, sym}
 use Rattle.jcard_tear.specs.Faults.{IsProbeFault}
-use Rattle.jcard_tear.specs.Runs.{IsRecovered}
 use Rattle.jcard_tear.proofs.Uncut.{memory_probed, passed_on}
 use Rattle.jcard_tear.proofs.last_cut.first_reported.Goals as goal
 
 pub returns : goal.returns
 returns c =
     let left = c.in_ok-left.ensures in (
-      (subst IsRecovered (sym left.0) c.requires.recovered, left.1, c.in_ok-cut.ensures.told, c.in_ok-cut.ensures.recoveries),
-      ap plain_of left.0,
+      (left.0.0, left.0.1, c.in_ok-cut.ensures.told, c.in_ok-cut.ensures.recoveries),
+      left.1,
     )
 
 pub returns-in_err-left : goal.returns-in_err-left

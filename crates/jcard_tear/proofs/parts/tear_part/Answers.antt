@@ -9,7 +9,7 @@ returns-clause-swept g c = record {
   first_is = c.from.ensures;
   step_is = c.from-2.ensures;
   name = c.in_ok-name.ensures;
-  begun = c.in_ok-before.ensures;
+  begun = c.in_ok-before.ensures.0;
   cuts = (
     c.in_ok-spared.spared.items,
     c.in_ok-answer.by_calls.items,

@@ -6,7 +6,7 @@ use Rattle.jcard_tear.proofs.tearing.tear.Goals as goal
 
 pub returns : goal.returns
 returns g c = record {
-  begun = c.in_ok-before.ensures;
+  begun = c.in_ok-before.ensures.0;
   cuts = (
     c.in_ok-spared.spared.items,
     c.in_ok-answer.by_calls.items,
