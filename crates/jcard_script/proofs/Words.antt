@@ -118,7 +118,7 @@ kept_alike line kept false e is =
     let len = ap (λ (l : List ℕ). length l) is ∙ length-take 23 line in
     both_long (drop 7 kept) (drop 7 line) (omega (arith, length-drop 7 kept, len, more)) (omega (arith, length-drop 7 line, more))
 
--- what a line asks for after `glitch ` is told by its first 23 bytes
+-- what a line asks for after `glitch ` depends on its first 23 bytes alone
 pub glitch_kept : (line kept : List ℕ) → kept ≡ take 23 line → glitch_form_of (drop 7 kept) ≡ glitch_form_of (drop 7 line)
 glitch_kept line kept is = kept_alike line kept (nat_le (length line) 23) refl is
 
