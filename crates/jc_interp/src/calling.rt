@@ -129,9 +129,10 @@ fn invoke_other<S: WordStore>(
     invoke_selected(chosen, place, frames, memory, linked)
 }
 
-/// A call by the instruction at a place. Virtual and static calls take paths of their own.
+/// A call by the instruction at a place, out of line as well, so that the loop of all instructions stays small enough to stand in one function.
+/// Virtual and static calls take paths of their own.
 #[tactic(auto, unfolding(crate::specs::Calling::invoke_instruction, jc_interp_calls::specs::Invoke::method_selection))]
-#[inline(always)]
+#[inline(never)]
 pub(crate) fn invoke_instruction<S: WordStore>(
     invoke: InvokeOp,
     place: u16,

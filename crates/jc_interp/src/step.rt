@@ -33,7 +33,8 @@ pub(crate) fn code_of<'a>(lent: &'a [u8], package_number: u8, linked: &'a Linked
     }
 }
 
-// Makes, throws or tests an object.
+// Makes, throws or tests an object. Out of line, so that the other instructions stand in line in the loop that carries them out.
+#[inline(never)]
 fn object_instruction<S: WordStore>(
     operation: ObjectOp,
     place: u16,
