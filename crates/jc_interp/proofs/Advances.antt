@@ -12,10 +12,13 @@ use Rattle.jc_interp.specs.Stepping.{code_of, instruction_step, machine_step}
 use Rattle.jc_interp.specs.Running.{run_of}
 use Rattle.jc_interp.specs.PausedSteps.{run_behind, run_rest, paused_rest}
 
+-- where no attack is planned, none comes
+pub none_away : (most least : ℕ) → IsAway None most least
+none_away most least = λ left below above lent p s. refl
+
 -- what is away from some steps is away from fewer of them
 pub away_less : (attack : Option Attack) (most least more less : ℕ) → more ≤ most → least ≤ less → IsAway attack most least → IsAway attack more less
-away_less None most least more less high low away = tt
-away_less (Some a) most least more less high low away = λ below above. away (omega (arith, low, below)) (omega (arith, high, above))
+away_less attack most least more less high low away = λ left below above. away left (omega (arith, low, below)) (omega (arith, high, above))
 
 pub away_fewer : (attack : Option Attack) (budget left later : ℕ) → left ≤ budget → IsAway attack (budget + later) later
     → IsAway attack (left + later) later
@@ -24,9 +27,7 @@ away_fewer attack budget left later few away = away_less attack (budget + later)
 -- then the step finds the frames as they are
 away_goes : (attack : Option Attack) (n : ℕ) (lent : List ℕ) (p : Packages) (s : Frames) → IsAway attack (suc n) n
     → attacked attack (suc n) lent p s ≡ GoesOn s
-away_goes None n lent p s away = refl
-away_goes (Some a) n lent p s away =
-    rw (ne_eqb a.left (suc n) (λ e. away (omega (arith, e)) (omega (arith, e)))) refl
+away_goes attack n lent p s away = away (suc n) (omega arith) (omega arith) lent p s
 
 module _ (attack : Option Attack) (lent code : List ℕ) (p : Packages) (s t : Frames) (m : MemoryState)
     (own : code ≡ code_of lent p s.current.origin.package_number) (n : ℕ) (away : IsAway attack (suc n) n) where

@@ -1,5 +1,5 @@
 -- Runs, pause by pause.
-use Rattle.std.proofs.Common.{◌≡◌, ℕ, ◌+◌, ◌-◌, ◌<◌, List, Option, None, Result, Ok, refl, sym, subst, arith}
+use Rattle.std.proofs.Common.{◌≡◌, ℕ, ◌+◌, ◌-◌, ◌<◌, List, Option, Some, None, Result, Ok, Err, refl, sym, ◌∙◌, subst, arith}
 use Rattle.jc_memory.specs.State.{MemoryState}
 use Rattle.jc_memory.specs.Programs.{Completes, IsTornIn, Executes}
 use Rattle.jc_heap.specs.Completions.{Completion, Completed, Torn}
@@ -43,14 +43,31 @@ one_of : (limit turn later : ℕ) → turn < limit → 1 + (limit - (turn + 1) +
 one_of limit turn later lt = omega (arith, lt)
 
 module _ (attack : Option Attack) (limit turn later : ℕ) (lt : turn < limit) (lent : List ℕ) (p : Packages) (first s : Frames) (start m : MemoryState)
-    (so_far : Continues attack (limit + later) lent p first start (limit - turn + later) s m) where
+    (so_far : Continues attack (limit + later) lent p first start attack (limit - turn + later) s m) where
   pub one_more : (after : Completion MemoryState (ℕ × Outcome)) → Executes (run_of attack (1 + (limit - (turn + 1) + later)) lent p s m) m after
       → Executes (run_of attack (limit + later) lent p first start) start after
   one_more after made = so_far after (subst (λ (k : ℕ). Executes (run_of attack k lent p s m) m after) (one_of limit turn later lt) made)
 
 -- what has not ended with its steps ends by a code fault
-pub not_ended : {E : Type 0} (r : Result (Option (ℕ × Outcome)) E) (attack : Option Attack) (limit : ℕ) (lent : List ℕ) (p : Packages) (first s : Frames)
-    (start m : MemoryState) → r ≡ Ok None → IsPartOfRun r attack limit 0 lent p first start s m
+pub not_ended : {E : Type 0} (r : Result (Option (ℕ × Outcome)) E) (attack : Option Attack) (limit : ℕ) (rest : Option Attack) (lent : List ℕ)
+    (p : Packages) (first s : Frames) (start m : MemoryState) → r ≡ Ok None → IsPartOfRun r attack limit rest 0 lent p first start s m
     → Completes (run_of attack limit lent p first start) start (0, Fault) m
 unfolding run_of
-not_ended r attack limit lent p first s start m e part = let none = rw e at part in none.1 (Completed (0, Fault) m) (refl, refl)
+not_ended r attack limit rest lent p first s start m e part = let none = rw e at part in none.1 (Completed (0, Fault) m) (refl, refl)
+
+-- no steps more are none
+pub none_more : {E : Type 0} (r : Result (Option (ℕ × Outcome)) E) (attack : Option Attack) (limit : ℕ) (rest : Option Attack) (lent : List ℕ)
+    (p : Packages) (first s : Frames) (start m : MemoryState) → IsPartOfRun r attack (limit + 0) rest 0 lent p first start s m
+    → IsPartOfRun r attack limit rest 0 lent p first start s m
+none_more r attack limit rest lent p first s start m part =
+    let same : limit + 0 ≡ limit = omega arith in
+    subst (λ n. IsPartOfRun r attack n rest 0 lent p first start s m) same part
+
+-- what was done after a part of a run was done in the run
+module _ (attack : Option Attack) (limit : ℕ) (planned : Option Attack) (n : ℕ) (lent : List ℕ) (p : Packages) (first s : Frames) (start m : MemoryState)
+    (so_far : Continues attack limit lent p first start planned n s m) (down : m.heap.down ≡ start.heap.down) where
+  pub part_after : {E : Type 0} (r : Result (Option (ℕ × Outcome)) E) (rest : Option Attack) (later : ℕ) (u : Frames) (v : MemoryState)
+      → IsPartOfRun r planned n rest later lent p s m u v → IsPartOfRun r attack limit rest later lent p first start u v
+  part_after (Ok (Some end)) rest later u v part = so_far (Completed end v) part
+  part_after (Ok None) rest later u v part = (part.0 ∙ down, λ after made. so_far after (part.1 after made))
+  part_after (Err e) rest later u v part = so_far (Torn v) part

@@ -1,6 +1,6 @@
--- Attacks: a fault that comes before an instruction of a command, and what it leaves of the frames.
+-- Attacks: a fault that comes before an instruction of a command, another that may come after it, and what they leave of the frames.
 use Rattle.std.specs.Option.{option_map}
-use Rattle.std.specs.Prelude.{ℕ, ◌≡◌, ◌<◌, ◌≤◌, ◌==◌, not, pos, List, [], ◌∷◌, Option, Some, None, if◌then◌else◌}
+use Rattle.std.specs.Prelude.{ℕ, ◌≡◌, ◌<◌, ◌≤◌, ◌==◌, ◌+◌, ◌-◌, not, pos, Bool, List, [], ◌∷◌, Option, Some, None, if◌then◌else◌}
 use Rattle.jc_memory.specs.State.{MemoryState}
 use Rattle.jc_memory.specs.Programs.{Program, Finish}
 use Rattle.jc_linker.specs.Values.{Packages}
@@ -21,6 +21,7 @@ use Rattle.jc_interp.specs.declared.attacks.Attack.{Attack}
 use Rattle.jc_interp.specs.declared.attacks.Budget.{Budget}
 use Rattle.jc_interp.specs.declared.attacks.FaultModel.{FaultModel}
 use Rattle.jc_interp.specs.declared.attacks.FaultModel.TheVariants.{Skip, Turn, Zero}
+use Rattle.jc_interp.specs.declared.attacks.LaterFault.{LaterFault}
 use Rattle.jc_interp.specs.Stepping.{at_place, code_of, machine_step}
 
 -- this many instructions, and no attack
@@ -94,7 +95,7 @@ zeroed_top (cell ∷ rest) = zero_like cell ∷ rest
 abbrev pub zeroed : Frames → Frames
 zeroed s = with_stack s (zeroed_top s.current.stack)
 
--- ---- a fault, and the step after it
+-- ---- faults, and the step after them
 
 -- the frames after a fault: it changes nothing but the frame that runs
 unfoldable pub faulted : FaultModel → List ℕ → Frames → Next Frames
@@ -102,11 +103,26 @@ faulted Skip code s = skipped code s
 faulted Turn code s = turned code s
 faulted Zero code s = GoesOn (zeroed s)
 
--- the frames before a step, as this many of the command's instructions are left: after the fault, if it comes now
+-- the frames after a fault, if it comes now
+abbrev pub faulted_if : Bool → FaultModel → List ℕ → Packages → Frames → Next Frames
+faulted_if comes model lent p s = if comes then faulted model (code_of lent p s.current.origin.package_number) s else GoesOn s
+
+-- the frames after the later fault, if it comes now: this many of the command's instructions were left as the first one came, and this many are left
+abbrev pub faulted_later : Option LaterFault → ℕ → ℕ → List ℕ → Packages → Frames → Next Frames
+faulted_later None first left lent p s = GoesOn s
+faulted_later (Some fault) first left lent p s = faulted_if (left + fault.after == first) fault.model lent p s
+
+-- on from the frames that a fault left, if they go on
+abbrev pub then_later : Next Frames → Option LaterFault → ℕ → ℕ → List ℕ → Packages → Next Frames
+then_later (GoesOn s) later first left lent p = faulted_later later first left lent p s
+then_later (Throws e s) later first left lent p = Throws e s
+then_later (Ends o) later first left lent p = Ends o
+
+-- the frames before a step, as this many of the command's instructions are left: after each fault that comes now, the first one before the later one
 abbrev pub attacked : Option Attack → ℕ → List ℕ → Packages → Frames → Next Frames
 attacked None left lent p s = GoesOn s
 attacked (Some attack) left lent p s =
-    if attack.left == left then faulted attack.model (code_of lent p s.current.origin.package_number) s else GoesOn s
+    then_later (faulted_if (attack.left == left) attack.model lent p s) attack.later attack.left left lent p
 
 -- a step from the frames that a fault left
 abbrev pub step_from : Next Frames → List ℕ → Packages → MemoryState → Program (Next Frames)
@@ -114,11 +130,20 @@ step_from (GoesOn s) lent p m = machine_step lent p s m
 step_from (Throws e s) lent p m = Finish (Ends Fault)
 step_from (Ends o) lent p m = Finish (Ends o)
 
--- one step, as this many of the command's instructions are left, after the fault if it comes now
+-- one step, as this many of the command's instructions are left, after each fault that comes now
 abbrev pub attacked_step : Option Attack → ℕ → List ℕ → Packages → Frames → MemoryState → Program (Next Frames)
 attacked_step attack left lent p s m = step_from (attacked attack left lent p s) lent p m
 
--- no attack comes while at most the first number of instructions are left, and more than the second
+-- no fault comes while at most the first number of instructions are left, and more than the second: each step finds the frames as they are
 abbrev pub IsAway : Option Attack → ℕ → ℕ → Type 0
-IsAway None most least = Unit {0}
-IsAway (Some attack) most least = least < attack.left → attack.left ≤ most → ⊥
+IsAway attack most least = (left : ℕ) → least < left → left ≤ most → (lent : List ℕ) (p : Packages) (s : Frames) → attacked attack left lent p s ≡ GoesOn s
+
+-- ---- what is left of an attack
+
+-- a fault as this many instructions are left, and none later
+abbrev pub one_fault : ℕ → FaultModel → Attack
+one_fault left model = record { left = left; model = model; later = None }
+
+-- the later fault of an attack alone, if it has one
+abbrev pub later_attack : Attack → Option Attack
+later_attack attack = option_map (λ fault. one_fault (attack.left - fault.after) fault.model) attack.later

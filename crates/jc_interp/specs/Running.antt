@@ -25,18 +25,19 @@ unfoldable pub run_of : Option Attack → ℕ → List ℕ → Packages → Fram
 run_of attack zero lent p s m = Finish (0, Fault)
 run_of attack (suc n) lent p s m = bind (attacked_step attack (suc n) lent p s m) m (λ next v. or_end n next (λ t. run_of attack n lent p t v))
 
--- what ends so from here, with this many steps left, ends so from the beginning
-abbrev pub Continues : Option Attack → ℕ → List ℕ → Packages → Frames → MemoryState → ℕ → Frames → MemoryState → Type 0
-Continues attack limit lent p first start left s m = (after : Completion MemoryState (ℕ × Outcome)) → Executes (run_of attack left lent p s m) m after
+-- what ends so from here, with this attack and this many steps left, ends so from the beginning
+abbrev pub Continues : Option Attack → ℕ → List ℕ → Packages → Frames → MemoryState → Option Attack → ℕ → Frames → MemoryState → Type 0
+Continues attack limit lent p first start rest left s m = (after : Completion MemoryState (ℕ × Outcome)) → Executes (run_of rest left lent p s m) m after
     → Executes (run_of attack limit lent p first start) start after
 
--- a run of which all steps but this many were taken: it ended; or it has not, and goes on with these; or the store refused a write
-abbrev pub IsPartOfRun : {E : Type 0} → Result (Option (ℕ × Outcome)) E → Option Attack → ℕ → ℕ → List ℕ → Packages → Frames → MemoryState → Frames
-    → MemoryState → Type 0
-IsPartOfRun (Ok (Some end)) attack limit later lent p first start s m = Executes (run_of attack limit lent p first start) start (Completed end m)
-IsPartOfRun (Ok None) attack limit later lent p first start s m =
-    (m.heap.down ≡ start.heap.down) × Continues attack limit lent p first start later s m
-IsPartOfRun (Err down) attack limit later lent p first start s m = Executes (run_of attack limit lent p first start) start (Torn m)
+-- a run of which all steps but this many were taken: it ended; or it has not, and goes on with these and with this attack; or the store refused
+-- a write
+abbrev pub IsPartOfRun : {E : Type 0} → Result (Option (ℕ × Outcome)) E → Option Attack → ℕ → Option Attack → ℕ → List ℕ → Packages → Frames
+    → MemoryState → Frames → MemoryState → Type 0
+IsPartOfRun (Ok (Some end)) attack limit rest later lent p first start s m = Executes (run_of attack limit lent p first start) start (Completed end m)
+IsPartOfRun (Ok None) attack limit rest later lent p first start s m =
+    (m.heap.down ≡ start.heap.down) × Continues attack limit lent p first start rest later s m
+IsPartOfRun (Err down) attack limit rest later lent p first start s m = Executes (run_of attack limit lent p first start) start (Torn m)
 
 -- a run of methods of packages
 abbrev pub run_methods : Budget → Packages → Frames → MemoryState → Program (ℕ × Outcome)

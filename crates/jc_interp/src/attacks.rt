@@ -1,7 +1,7 @@
-//! Attacks: a fault that comes before an instruction of a command.
+//! Attacks: a fault that comes before an instruction of a command, and another that may come after it.
 ghost use Rattle.std.specs.Prelude.{◌≡◌, ◌<◌, ◌^◌, length};
 ghost use Rattle.jc_frames.specs.Frames.{unless_fault};
-ghost use Rattle.jc_interp.specs.Attacks.{faulted, opposite, opposite_comparison, skipped, turned, undisturbed, zero_like, zeroed};
+ghost use Rattle.jc_interp.specs.Attacks.{faulted, later_attack, opposite, opposite_comparison, skipped, turned, undisturbed, zero_like, zeroed};
 
 use jc_frames::branch_ops::branch_instruction;
 use jc_frames::{Cell, CodeFault, Frames};
@@ -20,11 +20,35 @@ pub enum FaultModel {
     Zero,
 }
 
-/// A fault that comes as this many of a command's instructions are left.
+/// Another fault of a command, which comes once this many instructions were carried out after its first one.
+#[derive(Clone, Copy)]
+pub struct LaterFault {
+    pub after: u32,
+    pub model: FaultModel,
+}
+
+/// A fault that comes as this many of a command's instructions are left, and one that may come later.
 #[derive(Clone, Copy)]
 pub struct Attack {
     pub left: u32,
     pub model: FaultModel,
+    pub later: Option<LaterFault>,
+}
+
+impl Attack {
+    /// The later fault alone, if there is one.
+    pub(crate) const fn later_attack(self) -> Option<Self>
+        ensures { result ≡ later_attack self }
+    {
+        match self.later {
+            None => None,
+            Some(fault) => Some(Attack {
+                left: self.left.saturating_sub(fault.after),
+                model: fault.model,
+                later: None,
+            }),
+        }
+    }
 }
 
 /// How many instructions a command may still carry out, and the attack that may come among them.

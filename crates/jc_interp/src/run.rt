@@ -1,9 +1,9 @@
 //! Runs: this many steps at most, among which an attack may come.
-ghost use Rattle.std.specs.Prelude.{◌≡◌, ◌<◌, ◌≤◌, ◌+◌, ◌^◌, Option, Some, false, length};
+ghost use Rattle.std.specs.Prelude.{◌≡◌, ◌<◌, ◌≤◌, ◌+◌, ◌^◌, Option, Some, None, false, length};
 ghost use Rattle.jc_memory.specs.Programs.{Executes};
 ghost use Rattle.jc_heap.specs.Completions.{after_step};
 ghost use Rattle.jc_interp.specs.declared.attacks.Attack.{Attack};
-ghost use Rattle.jc_interp.specs.Attacks.{IsAway};
+ghost use Rattle.jc_interp.specs.Attacks.{IsAway, later_attack};
 ghost use Rattle.jc_interp.specs.Running.{IsPartOfRun, run_methods, run_of, run_ad_hoc};
 
 use crate::attacks::{Attack, Budget, strike};
@@ -32,7 +32,7 @@ fn run_part<S: WordStore>(
     requires short { length lent.now < 2 ^ 16 }
     requires counted { budget + later < 2 ^ 32 }
     ensures { (attack : Option Attack) → IsAway attack (budget + later) later
-        → IsPartOfRun result attack (budget + later) later lent.now linked.now frames.old
+        → IsPartOfRun result attack (budget + later) attack later lent.now linked.now frames.old
         memory.old frames.new memory.new }
 {
     let mut left = budget;
@@ -78,7 +78,7 @@ fn run_noted<S: WordStore>(
     requires short { length lent.now < 2 ^ 16 }
     requires counted { budget + later < 2 ^ 32 }
     ensures { (attack : Option Attack) → IsAway attack (budget + later) later
-        → IsPartOfRun result attack (budget + later) later lent.now linked.now frames.old
+        → IsPartOfRun result attack (budget + later) attack later lent.now linked.now frames.old
         memory.old frames.new memory.new }
 {
     for turns in 0..budget {
@@ -107,7 +107,7 @@ fn run_whole<S: WordStore>(
     requires short { length lent.now < 2 ^ 16 }
     requires counted { budget + later < 2 ^ 32 }
     ensures { (attack : Option Attack) → IsAway attack (budget + later) later
-        → IsPartOfRun result attack (budget + later) later lent.now linked.now frames.old
+        → IsPartOfRun result attack (budget + later) attack later lent.now linked.now frames.old
         memory.old frames.new memory.new }
 {
     if memory.notes().keep_steps() {
@@ -116,39 +116,9 @@ fn run_whole<S: WordStore>(
     run_part(lent, budget, later, frames, memory, linked)
 }
 
-// Carries out what is left of a run before whose next instruction the attack comes: the fault, and the run from there on; `None` where
-// it has not ended then.
-fn run_struck<S: WordStore>(
-    lent: &[u8],
-    attack: Attack,
-    frames: &mut Frames,
-    memory: &mut Memory<S>,
-    linked: &Linked,
-) -> Result<Option<(u32, Outcome)>, StoreDown>
-    requires up { memory.old.heap.down ≡ false }
-    requires short { length lent.now < 2 ^ 16 }
-    requires comes { 0 < attack.left }
-    ensures { IsPartOfRun result (Some attack) attack.left 0 lent.now linked.now frames.old
-        memory.old frames.new memory.new }
-{
-    let place = frames.place();
-    let code = code_of(lent, frames.origin().package_number, linked);
-    match strike(attack.model, code, frames) {
-        Ok(()) => run_whole(lent, attack.left, 0, frames, memory, linked),
-        Err(CodeFault) => {
-            let left = attack.left - 1;
-            if memory.notes().are_kept() {
-                note_end(&Outcome::Fault, left, code, place, frames, memory, linked);
-            }
-            Ok(Some((left, Outcome::Fault)))
-        }
-    }
-}
-
-// Carries out a run of this many instructions, among which an attack comes; `None` where it has not ended then.
-#[cold]
-#[inline(never)]
-fn run_attacked<S: WordStore>(
+// Carries out a run of this many instructions up to the first fault of an attack, and the fault: how many are left and how the run
+// ended; `None` where it has not ended, and goes on with the later fault alone.
+fn run_to_fault<S: WordStore>(
     lent: &[u8],
     budget: u32,
     attack: Attack,
@@ -160,14 +130,54 @@ fn run_attacked<S: WordStore>(
     requires short { length lent.now < 2 ^ 16 }
     requires comes { 0 < attack.left }
     requires within { attack.left ≤ budget }
-    ensures { IsPartOfRun result (Some attack) budget 0 lent.now linked.now frames.old memory.old
-        frames.new memory.new }
+    ensures { IsPartOfRun result (Some attack) budget (later_attack attack) attack.left lent.now
+        linked.now frames.old memory.old frames.new memory.new }
 {
     let before = budget - attack.left;
-    match run_whole(lent, before, attack.left, frames, memory, linked)? {
-        Some(end) => Ok(Some(end)),
-        None => run_struck(lent, attack, frames, memory, linked),
+    if let Some(end) = run_whole(lent, before, attack.left, frames, memory, linked)? {
+        return Ok(Some(end));
     }
+    let place = frames.place();
+    let code = code_of(lent, frames.origin().package_number, linked);
+    match strike(attack.model, code, frames) {
+        Ok(()) => Ok(None),
+        Err(CodeFault) => {
+            let left = attack.left - 1;
+            if memory.notes().are_kept() {
+                note_end(&Outcome::Fault, left, code, place, frames, memory, linked);
+            }
+            Ok(Some((left, Outcome::Fault)))
+        }
+    }
+}
+
+// Carries out a run within a budget, from each fault of its attack to the next; `None` where it has not ended then.
+#[cold]
+#[inline(never)]
+fn run_attacked<S: WordStore>(
+    lent: &[u8],
+    budget: Budget,
+    frames: &mut Frames,
+    memory: &mut Memory<S>,
+    linked: &Linked,
+) -> Result<Option<(u32, Outcome)>, StoreDown>
+    requires up { memory.old.heap.down ≡ false }
+    requires short { length lent.now < 2 ^ 16 }
+    ensures { IsPartOfRun result budget.attack budget.left None 0 lent.now linked.now frames.old
+        memory.old frames.new memory.new }
+{
+    let mut left = budget.left;
+    let mut faults = budget.attack;
+    while let Some(attack) = faults {
+        if 0 < attack.left && attack.left <= left {
+            if let Some(end) = run_to_fault(lent, left, attack, frames, memory, linked)? {
+                return Ok(Some(end));
+            }
+            left = attack.left;
+        }
+        faults = attack.later_attack();
+    }
+    run_whole(lent, left, 0, frames, memory, linked)
 }
 
 // Carries out a run within a budget; `None` where it has not ended then.
@@ -181,19 +191,16 @@ fn run_budget<S: WordStore>(
 ) -> Result<Option<(u32, Outcome)>, StoreDown>
     requires up { memory.old.heap.down ≡ false }
     requires short { length lent.now < 2 ^ 16 }
-    ensures { IsPartOfRun result budget.attack budget.left 0 lent.now linked.now frames.old
+    ensures { IsPartOfRun result budget.attack budget.left None 0 lent.now linked.now frames.old
         memory.old frames.new memory.new }
 {
-    if let Some(attack) = budget.attack
-        && 0 < attack.left
-        && attack.left <= budget.left
-    {
-        return run_attacked(lent, budget.left, attack, frames, memory, linked);
+    match budget.attack {
+        None => run_whole(lent, budget.left, 0, frames, memory, linked),
+        Some(_) => run_attacked(lent, budget, frames, memory, linked),
     }
-    run_whole(lent, budget.left, 0, frames, memory, linked)
 }
 
-/// Carries out at most this many instructions, with the fault of an attack before one of them, if one is planned: how many are left, and how
+/// Carries out at most this many instructions, with each fault of an attack before one of them, if one is planned: how many are left, and how
 /// the run ended. One that has not ended then is a code fault. Code of no package, in frames with the package number 0, is the one that is
 /// lent: it has no fields, arrays, objects and methods.
 pub fn run_of<S: WordStore>(

@@ -1,19 +1,23 @@
 -- What a line that is a word asks for.
-use Rattle.std.proofs.Common.{◌≡◌, ℕ, ◌+◌, ◌-◌, ◌*◌, ◌≤◌, nat_le, nat_lt, ◌==◌, Bool, true, false, ◌&&◌, if◌then◌else◌, List, [], ◌∷◌, ◌++◌, length, take, drop, Option, Some, None, ◌<◌, length-drop, length-take}
+use Rattle.std.proofs.Common.{◌≡◌, ℕ, ◌+◌, ◌-◌, ◌*◌, ◌≤◌, nat_le, nat_lt, ◌==◌, Bool, true, false, ◌&&◌, if◌then◌else◌, List, [], ◌∷◌, ◌++◌, length, take, drop, Option, Some, None, ◌⊎◌, inl, inr, ◌<◌, length-drop, length-take}
 use Rattle.std.proofs.Common.{refl, sym, ◌∙◌, ap, arith}
 use Rattle.std.specs.Prelude.{codes, nat_eq}
 use Rattle.std.specs.Char.{is_ascii_digit, digit_value}
 use Rattle.std.specs.Str.{bytes_eq, all_ascii_digits}
 use Rattle.std.specs.Str.Parse.{digits_value}
 use Rattle.std.specs.List.{starts_with}
-use Rattle.std.proofs.lemmas.Bool.{ne_eqb}
+use Rattle.std.specs.Option.{option_map}
+use Rattle.std.proofs.lemmas.Bool.{cases_lt, ne_eqb}
 use Rattle.std.proofs.lemmas.Bool.Decides.{nat_tests}
 use Rattle.std.proofs.lemmas.Grind.{common_steps}
 use Rattle.std.proofs.lemmas.Int.Digits.{digits_value_push}
 use Rattle.std.proofs.lemmas.List.{take_all}
 use Rattle.jc_interp.specs.declared.attacks.FaultModel.{FaultModel}
 use Rattle.jc_session.specs.Requests.{Command, Reset, ArmFuse, PlanFault}
-use Rattle.jcard_script.specs.Script.{Form, Asks, Bad, fault_form_of, form_of, fuse_form_of, glitch_form_of, is_instruction_number, is_number, model_named, plain_form_of}
+use Rattle.jc_session.specs.declared.planned_fault.PlannedFault.{PlannedFault}
+use Rattle.jc_session.specs.declared.planned_fault.SecondFault.{SecondFault}
+use Rattle.jcard_script.specs.Script.{Form, Asks, Bad, both_named, counted, fault_named, faults_named, first_length, form_of, fuse_form_of, glitch_form_of, is_instruction_number, is_number}
+use Rattle.jcard_script.specs.Script.{model_named, numbered, plain_form_of, plan_form_of, second_named}
 use Rattle.jcard_script.specs.Word.{number_so_far, next_number}
 
 -- ---- the number
@@ -59,24 +63,19 @@ number_push ds b =
 
 -- ---- one more byte
 
-pub drop_long : (line : List ℕ) (b : ℕ) → 6 ≤ length (take 23 line) + 1 → drop 5 (line ++ b ∷ []) ≡ drop 5 line ++ b ∷ []
+pub drop_long : (line : List ℕ) (b : ℕ) → 6 ≤ length (take 39 line) + 1 → drop 5 (line ++ b ∷ []) ≡ drop 5 line ++ b ∷ []
 drop_long line b h = grind (arith, common_steps)
 
 -- ---- a command is no word
 
-fault_left : (n : Bool) (k : ℕ) (model : FaultModel) (bytes : List ℕ)
-    → (if n then Asks (PlanFault (Some (record { instruction = k; model = model }))) else Bad) ≡ Asks (Command bytes) → ⊥
-fault_left true k model bytes h = cc h
-fault_left false k model bytes h = cc h
-
-glitch_left : (none : Bool) (model : Option FaultModel) (digits bytes : List ℕ)
-    → (if none then Asks (PlanFault None) else fault_form_of model digits) ≡ Asks (Command bytes) → ⊥
-glitch_left true model digits bytes h = cc h
-glitch_left false None digits bytes h = cc h
-glitch_left false (Some model) digits bytes h = fault_left (is_instruction_number digits) (digits_value 10 digits) model bytes h
+glitch_left : (none : Bool) (fault : Option PlannedFault) (bytes : List ℕ)
+    → (if none then Asks (PlanFault None) else plan_form_of fault) ≡ Asks (Command bytes) → ⊥
+glitch_left true fault bytes h = cc h
+glitch_left false None bytes h = cc h
+glitch_left false (Some fault) bytes h = cc h
 
 no_glitch : (text bytes : List ℕ) → glitch_form_of text ≡ Asks (Command bytes) → ⊥
-no_glitch text bytes h = glitch_left (bytes_eq text (codes "none")) (model_named (drop (length text - 5) text)) (take (length text - 5) text) bytes h
+no_glitch text bytes h = glitch_left (bytes_eq text (codes "none")) (faults_named text) bytes h
 
 plain_left : (a b n g : Bool) (k : ℕ) (q f : Form) (bytes : List ℕ) → (q ≡ Asks (Command bytes) → ⊥)
     → (if a then Asks Reset else (if b then (if n then Asks (ArmFuse k) else Bad) else (if g then q else f))) ≡ Asks (Command bytes) → f ≡ Asks (Command bytes)
@@ -93,34 +92,61 @@ form_command line bytes h = plain_left (bytes_eq line (codes "reset")) (starts_w
 
 -- ---- a line of more bytes than a word has
 
-not_none : (text : List ℕ) → 16 ≤ length text → bytes_eq text (codes "none") ≡ false
+not_none : (text : List ℕ) → 32 ≤ length text → bytes_eq text (codes "none") ≡ false
 not_none text h = grind (arith, common_steps)
 
-no_fault : (model : Option FaultModel) (digits : List ℕ) → 10 < length digits → fault_form_of model digits ≡ Bad
-no_fault None digits h = refl
-no_fault (Some model) digits h = rw (too_long digits h) refl
+no_number : (model : Option FaultModel) (digits : List ℕ) → 10 < length digits → numbered model digits ≡ None
+no_number None digits h = refl
+no_number (Some model) digits h = rw (too_long digits h) refl
   where
     too_long : (ds : List ℕ) → 10 < length ds → is_instruction_number ds ≡ false
     too_long ds n = grind (arith, nat_tests)
 
-long_glitch : (text : List ℕ) → 16 ≤ length text → glitch_form_of text ≡ Bad
-long_glitch text h =
-    rw (not_none text h) (no_fault (model_named (drop (length text - 5) text)) (take (length text - 5) text) (omega (arith, h, length-take (length text - 5) text)))
+long_fault : (text : List ℕ) → 16 ≤ length text → fault_named text ≡ None
+long_fault text h = no_number (model_named (drop (length text - 5) text)) (take (length text - 5) text)
+    (omega (arith, h, length-take (length text - 5) text))
 
-both_long : (one other : List ℕ) → 16 ≤ length one → 16 ≤ length other → glitch_form_of one ≡ glitch_form_of other
+long_second : (text : List ℕ) → 17 ≤ length text → second_named text ≡ None
+long_second [] h = absurd (omega (arith, h))
+long_second (byte ∷ rest) h = rw (long_fault rest (omega (arith, h))) (either (byte == 32))
+  where
+    either : (t : Bool) → (if t then option_map Some (counted None) else None) ≡ None
+    either true = refl
+    either false = refl
+
+none_second : (first : Option (ℕ × FaultModel)) (second : Option (Option SecondFault)) → second ≡ None → both_named first second ≡ None
+none_second None second e = refl
+none_second (Some first) second e = rw e refl
+
+long_faults : (text : List ℕ) → 32 ≤ length text → faults_named text ≡ None
+unfolding faults_named
+long_faults text h = by_length (cases_lt (length (take n text)) 16)
+  where
+    n : ℕ
+    n = first_length text
+
+    by_length : (length (take n text) < 16) ⊎ (16 ≤ length (take n text)) → faults_named text ≡ None
+    by_length (inl few) = none_second (fault_named (take n text)) (second_named (drop n text))
+        (long_second (drop n text) (omega (arith, few, h, length-take n text, length-drop n text)))
+    by_length (inr many) = rw (long_fault (take n text) many) refl
+
+long_glitch : (text : List ℕ) → 32 ≤ length text → glitch_form_of text ≡ Bad
+long_glitch text h = rw (not_none text h, long_faults text h) refl
+
+both_long : (one other : List ℕ) → 32 ≤ length one → 32 ≤ length other → glitch_form_of one ≡ glitch_form_of other
 both_long one other long longer = long_glitch one long ∙ sym (long_glitch other longer)
 
-kept_alike : (line kept : List ℕ) (t : Bool) → nat_le (length line) 23 ≡ t → kept ≡ take 23 line → glitch_form_of (drop 7 kept) ≡ glitch_form_of (drop 7 line)
+kept_alike : (line kept : List ℕ) (t : Bool) → nat_le (length line) 39 ≡ t → kept ≡ take 39 line → glitch_form_of (drop 7 kept) ≡ glitch_form_of (drop 7 line)
 kept_alike line kept true e is =
-    let few : length line ≤ 23 = grind (arith, nat_tests) in ap (λ (l : List ℕ). glitch_form_of (drop 7 l)) (is ∙ take_all 23 line few)
+    let few : length line ≤ 39 = grind (arith, nat_tests) in ap (λ (l : List ℕ). glitch_form_of (drop 7 l)) (is ∙ take_all 39 line few)
 kept_alike line kept false e is =
-    let more : 23 < length line = grind (arith, nat_tests) in
-    let len = ap (λ (l : List ℕ). length l) is ∙ length-take 23 line in
+    let more : 39 < length line = grind (arith, nat_tests) in
+    let len = ap (λ (l : List ℕ). length l) is ∙ length-take 39 line in
     both_long (drop 7 kept) (drop 7 line) (omega (arith, length-drop 7 kept, len, more)) (omega (arith, length-drop 7 line, more))
 
--- what a line asks for after `glitch ` depends on its first 23 bytes alone
-pub glitch_kept : (line kept : List ℕ) → kept ≡ take 23 line → glitch_form_of (drop 7 kept) ≡ glitch_form_of (drop 7 line)
-glitch_kept line kept is = kept_alike line kept (nat_le (length line) 23) refl is
+-- what a line asks for after `glitch ` depends on its first 39 bytes alone
+pub glitch_kept : (line kept : List ℕ) → kept ≡ take 39 line → glitch_form_of (drop 7 kept) ≡ glitch_form_of (drop 7 line)
+glitch_kept line kept is = kept_alike line kept (nat_le (length line) 39) refl is
 
 -- ---- a line that begins as a word does
 
@@ -129,7 +155,7 @@ first_of_both true u h = refl
 first_of_both false u h = h
 
 -- one that begins so asks for what stands after `glitch `
-pub glitch_first : (line : List ℕ) → starts_with nat_eq (take 23 line) (codes "glitch ") ≡ true → form_of line ≡ glitch_form_of (drop 7 line)
+pub glitch_first : (line : List ℕ) → starts_with nat_eq (take 39 line) (codes "glitch ") ≡ true → form_of line ≡ glitch_form_of (drop 7 line)
 glitch_first (a ∷ b ∷ c ∷ d ∷ e ∷ f ∷ g ∷ rest) h =
     let first : (103 == a) ≡ true = first_of_both (103 == a) ((108 == b) && ((105 == c) && ((116 == d) && ((99 == e) && ((104 == f) && ((32 == g) && true)))))) h in
     let is : a ≡ 103 = grind (arith, nat_tests) in
@@ -145,7 +171,7 @@ glitch_first (a ∷ b ∷ c ∷ d ∷ e ∷ []) h = absurd (grind (arith, nat_te
 glitch_first (a ∷ b ∷ c ∷ d ∷ e ∷ f ∷ []) h = absurd (grind (arith, nat_tests))
 
 -- and one that begins so for what stands after `stop `
-pub stop_first : (line : List ℕ) → starts_with nat_eq (take 23 line) (codes "stop ") ≡ true → form_of line ≡ fuse_form_of (drop 5 line)
+pub stop_first : (line : List ℕ) → starts_with nat_eq (take 39 line) (codes "stop ") ≡ true → form_of line ≡ fuse_form_of (drop 5 line)
 stop_first (a ∷ b ∷ c ∷ d ∷ e ∷ rest) h =
     let first : (115 == a) ≡ true = first_of_both (115 == a) ((116 == b) && ((111 == c) && ((112 == d) && ((32 == e) && true)))) h in
     let is : a ≡ 115 = grind (arith, nat_tests) in

@@ -60,6 +60,6 @@ AnswersWith fault card command response next = (end : CardState)
 abbrev pub AnswersGlitched : CardState → List ℕ → List ℕ → List ℕ → CardState → Type 0
 AnswersGlitched card glitch command response next = (fault : Option PlannedFault) × IsGlitchLine fault glitch × AnswersWith fault card command response next
 
--- a card carries out the lines of this script to its end, and this text is written for them
-abbrev pub AnswersLines : CardState → List ℕ → List ℕ → Type 0
-AnswersLines card script text = (last : ScriptState) × EndsFrom (Ok tt) true script (Up card) last text
+-- a card carries out the lines of this script to its end, this text is written for them, and this store is left
+abbrev pub AnswersLines : CardState → List ℕ → List ℕ → FuseStoreValue → Type 0
+AnswersLines card script text store = (last : ScriptState) × EndsFrom (Ok tt) true script (Up card) last text × IsSessionStore last store

@@ -1,8 +1,9 @@
 -- Scripts: their lines, what the lines ask for, and what is written for them.
 use Rattle.std.specs.Prelude.{ℕ, ◌+◌, ◌≡◌, ◌≤◌, ◌<◌, ◌==◌, Bool, true, false, not, if◌then◌else◌, IsTrue, List, [], ◌∷◌, ◌++◌, length, take, drop, filter}
-use Rattle.std.specs.Prelude.{nat_le, nat_lt, nat_eq, ◌&&◌, ◌⊎◌, codes, decimal, ◌-◌, Option, Some, None, Result, Ok, Err}
+use Rattle.std.specs.Prelude.{nat_le, nat_lt, nat_eq, ◌&&◌, ◌⊎◌, codes, decimal, min, position, unwrap_or, ◌-◌, Option, Some, None, Result, Ok, Err}
 use Rattle.std.specs.Io.KnownBytes.{IsAtEnd}
 use Rattle.std.specs.List.{slice_split, starts_with}
+use Rattle.std.specs.Option.{option_map}
 use Rattle.std.specs.Str.{bytes_eq, all_ascii_digits}
 use Rattle.std.specs.Str.Parse.{digits_value}
 use Rattle.std.specs.Str.Lines.{lines, strip_carriage_return}
@@ -14,6 +15,7 @@ use Rattle.jc_card.specs.declared.power_up.PowerFault.{PowerFault as Fault}
 use Rattle.jc_interp.specs.declared.attacks.FaultModel.{FaultModel}
 use Rattle.jc_interp.specs.declared.attacks.FaultModel.TheVariants.{Skip, Turn, Zero}
 use Rattle.jc_session.specs.declared.planned_fault.PlannedFault.{PlannedFault}
+use Rattle.jc_session.specs.declared.planned_fault.SecondFault.{SecondFault}
 use Rattle.jc_session.specs.Requests.{Request, Command, Reset, ArmFuse, PlanFault, Reply, Response, Ready, Down, Armed, Planned}
 use Rattle.jc_session.specs.Serving.{ServesOver}
 use Rattle.jcard_script.specs.ScriptStates.{ScriptState, IsSessionStore, PowersUp, FailsUp, FailsReset, fuse_kind, selected_in}
@@ -84,16 +86,51 @@ abbrev pub model_named : List ℕ → Option FaultModel
 model_named text = if bytes_eq text (codes " skip") then Some Skip else (if bytes_eq text (codes " turn") then Some Turn
     else (if bytes_eq text (codes " zero") then Some Zero else None))
 
--- a fault of this model at the instruction with this number
-abbrev pub fault_form_of : Option FaultModel → List ℕ → Form
-fault_form_of None digits = Bad
-fault_form_of (Some model) digits = if is_instruction_number digits then Asks (PlanFault (Some (record { instruction = digits_value 10 digits; model = model })))
-    else Bad
+-- the number that these digits spell, and a model
+abbrev pub numbered : Option FaultModel → List ℕ → Option (ℕ × FaultModel)
+numbered None digits = None
+numbered (Some model) digits = if is_instruction_number digits then Some (digits_value 10 digits, model) else None
 
--- Script line glitch K MODEL: K, in decimal digits, and one of three words, which have a space and four letters; or glitch none
+-- K MODEL: K, in decimal digits, and one of three words, which have a space and four letters
+abbrev pub fault_named : List ℕ → Option (ℕ × FaultModel)
+fault_named text = numbered (model_named (drop (length text - 5) text)) (take (length text - 5) text)
+
+-- a second fault comes at the first instruction after the first fault, or later
+abbrev pub counted : Option (ℕ × FaultModel) → Option SecondFault
+counted None = None
+counted (Some fault) = if fault.0 == 0 then None else Some (record { number = fault.0; model = fault.1 })
+
+-- the second fault that a space and N MODEL plan, or that no text plans none
+abbrev pub second_named : List ℕ → Option (Option SecondFault)
+second_named [] = Some None
+second_named (byte ∷ rest) = if byte == 32 then option_map Some (counted (fault_named rest)) else None
+
+-- where the first space stands
+abbrev pub first_space : List ℕ → Option ℕ
+first_space text = position (λ byte. byte == 32) text
+
+-- how many bytes K MODEL has at the front of a text: up to the first space, and five, as far as there are as many
+abbrev pub first_length : List ℕ → ℕ
+first_length text = min (unwrap_or (first_space text) (length text) + 5) (length text)
+
+-- both faults, where both are named
+abbrev pub both_named : Option (ℕ × FaultModel) → Option (Option SecondFault) → Option PlannedFault
+both_named None second = None
+both_named (Some first) None = None
+both_named (Some first) (Some second) = Some (record { instruction = first.0; model = first.1; second = second })
+
+-- K MODEL, or K MODEL N MODEL
+unfoldable pub faults_named : List ℕ → Option PlannedFault
+faults_named text = both_named (fault_named (take (first_length text) text)) (second_named (drop (first_length text) text))
+
+-- a fault is planned, if one is named
+abbrev pub plan_form_of : Option PlannedFault → Form
+plan_form_of None = Bad
+plan_form_of (Some fault) = Asks (PlanFault (Some fault))
+
+-- Script lines glitch K MODEL, glitch K MODEL N MODEL and glitch none
 abbrev pub glitch_form_of : List ℕ → Form
-glitch_form_of text = if bytes_eq text (codes "none") then Asks (PlanFault None)
-    else fault_form_of (model_named (drop (length text - 5) text)) (take (length text - 5) text)
+glitch_form_of text = if bytes_eq text (codes "none") then Asks (PlanFault None) else plan_form_of (faults_named text)
 
 -- what a line asks for: "reset", and what begins with "stop " or "glitch ", are words, any other line is plain
 abbrev pub form_of : List ℕ → Form
@@ -116,16 +153,24 @@ down_text = codes "down\n"
 abbrev pub armed_text : ℕ → List ℕ
 armed_text k = codes "armed " ++ decimal k ++ codes "\n"
 
--- the word for what a fault does, which ends a line
-abbrev pub model_end : FaultModel → List ℕ
-model_end Skip = codes " skip\n"
-model_end Turn = codes " turn\n"
-model_end Zero = codes " zero\n"
+-- the word for what a fault does, and the space before it
+abbrev pub model_word : FaultModel → List ℕ
+model_word Skip = codes " skip"
+model_word Turn = codes " turn"
+model_word Zero = codes " zero"
 
--- the number without leading zeros, and the word
+-- a space, the number without leading zeros, and the word; nothing where there is no second fault
+abbrev pub second_text : Option SecondFault → List ℕ
+second_text None = []
+second_text (Some second) = codes " " ++ decimal second.number ++ model_word second.model
+
+-- what a line glitch says of the faults that it plans
+abbrev pub faults_text : PlannedFault → List ℕ
+faults_text fault = decimal fault.instruction ++ model_word fault.model ++ second_text fault.second
+
 abbrev pub planned_text : Option PlannedFault → List ℕ
 planned_text None = codes "planned none\n"
-planned_text (Some fault) = codes "planned " ++ decimal fault.instruction ++ model_end fault.model
+planned_text (Some fault) = codes "planned " ++ faults_text fault ++ codes "\n"
 
 -- the line of a reply
 abbrev pub text_of_reply : Reply → List ℕ

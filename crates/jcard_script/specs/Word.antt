@@ -14,6 +14,6 @@ abbrev pub next_number : Option ℕ → ℕ → Option ℕ
 next_number None b = None
 next_number (Some n) b = if is_ascii_digit b && nat_le (10 * n + (b - 48)) 65535 then Some (10 * n + (b - 48)) else None
 
--- the first 23 bytes of a line, one more than a word has, and the number that those after the first five are
+-- the first 39 bytes of a line, one more than a word has, and the number that those after the first five are
 abbrev pub IsWordOf : Word → List ℕ → Type 0
-IsWordOf word line = (word.head.items ≡ take 23 line) × (word.number ≡ number_so_far (drop 5 line))
+IsWordOf word line = (word.head.items ≡ take 39 line) × (word.number ≡ number_so_far (drop 5 line))

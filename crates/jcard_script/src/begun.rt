@@ -1,6 +1,5 @@
 //! A card that has carried out the first lines of a script, from which copies of it go on.
 ghost use Rattle.std.specs.Prelude.{◌≡◌, ℕ, List, [], false, None, IfSome, IsTrue};
-ghost use Rattle.std.specs.Bool.{OnTrue};
 ghost use Rattle.jc_commit.specs.Image.{IsGoodLog};
 ghost use Rattle.jcard_script.specs.Begun.{AnswersGlitched, AnswersLeaving, AnswersLines, AnswersWith, ForEachAlike, HasBegun, IsCommandLine, IsGlitchLine, IsStopLine, LeavesCut};
 ghost use Rattle.std.specs.Io.KnownBytes.{Appends, Consumes};
@@ -118,39 +117,47 @@ impl<S: CopyStore + Drop> BegunScript<S> {
 }
 
 impl<S: WordStore + Drop> BegunScript<S> {
-    /// Carries out the lines of a script on the card, and writes their answers: whether it came to its end.
+    /// The store of the card, without power.
+    pub fn into_store(self) -> FuseStore<S>
+        ensures { IsSessionStore (Up self) result }
+    {
+        self.card.into_store()
+    }
+
+    /// Carries out the lines of a script on the card, and writes their answers: the store that they leave. Nothing where it does not come to
+    /// its end.
     pub fn answers<R: TextIn, W: TextOut>(
         self,
         alloc: Global,
         reader: &mut R,
         writer: &mut W,
-    ) -> bool
-        ensures { OnTrue result ((script text : List ℕ)
+    ) -> Option<FuseStore<S>>
+        ensures { IfSome result (λ store. (script text : List ℕ)
             × Consumes (R.remaining reader.old) (R.remaining reader.new) script
             × Appends (W.contents writer.old) (W.contents writer.new) text
-            × IsWholeScript (R.remaining reader.new) script × AnswersLines self script text) }
+            × IsWholeScript (R.remaining reader.new) script × AnswersLines self script text store) }
     {
-        has_answered(alloc, self.card, reader, writer)
+        answered(alloc, self.card, reader, writer)
     }
 }
 
 // The same of a card that is up.
-fn has_answered<S: WordStore + Drop, R: TextIn, W: TextOut>(
+fn answered<S: WordStore + Drop, R: TextIn, W: TextOut>(
     alloc: Global,
     card: Card<FuseStore<S>>,
     reader: &mut R,
     writer: &mut W,
-) -> bool
+) -> Option<FuseStore<S>>
     requires { card.memory.heap.down ≡ false }
-    ensures { OnTrue result ((script text : List ℕ)
+    ensures { IfSome result (λ store. (script text : List ℕ)
         × Consumes (R.remaining reader.old) (R.remaining reader.new) script
         × Appends (W.contents writer.old) (W.contents writer.new) text
-        × IsWholeScript (R.remaining reader.new) script × AnswersLines card script text) }
+        × IsWholeScript (R.remaining reader.new) script × AnswersLines card script text store) }
 {
     let mut session = Session::of_card(alloc, card);
     match session.run(reader, writer, &mut Unasked) {
-        Ok(()) => true,
-        Err(_fault) => false,
+        Ok(()) => Some(session.into_store()),
+        Err(_fault) => None,
     }
 }
 

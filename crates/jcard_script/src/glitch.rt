@@ -1,13 +1,13 @@
-//! Lines `glitch K MODEL` and `glitch none`.
-ghost use Rattle.std.specs.Prelude.{◌≡◌, MatchOption, false, true};
+//! Lines `glitch K MODEL`, `glitch K MODEL N MODEL` and `glitch none`.
+ghost use Rattle.std.specs.Prelude.{◌≡◌, ◌<◌, IfSome, MatchOption, false, length, true};
 ghost use Rattle.std.specs.Str.{all_ascii_digits};
 ghost use Rattle.std.specs.Str.Parse.{digits_value};
 ghost use Rattle.jcard_script.specs.Line.{IsAsked};
-ghost use Rattle.jcard_script.specs.Script.{glitch_form_of, is_instruction_number, model_end, model_named};
+ghost use Rattle.jcard_script.specs.Script.{fault_named, faults_named, first_length, first_space, glitch_form_of, is_instruction_number, model_named, model_word, second_named};
 
 use crate::line::LineRequest;
 use jc_interp::attacks::FaultModel;
-use jc_session::planned_fault::PlannedFault;
+use jc_session::planned_fault::{PlannedFault, SecondFault};
 
 /// How many bytes the word for a model has, with the space before it.
 const MODEL: usize = 5;
@@ -22,14 +22,68 @@ pub(crate) fn glitch_asked(text: &[u8]) -> LineRequest
     if text == b"none".as_slice() {
         return LineRequest::PlanFault(None);
     }
-    let split = text.len().saturating_sub(MODEL);
-    let Some(model) = model_named(&text[split..]) else {
-        return LineRequest::Refused;
-    };
-    match instruction_number(&text[..split]) {
-        Some(instruction) => LineRequest::PlanFault(Some(PlannedFault { instruction, model })),
+    match faults_named(text) {
+        Some(fault) => LineRequest::PlanFault(Some(fault)),
         None => LineRequest::Refused,
     }
+}
+
+// What `K MODEL`, or `K MODEL N MODEL`, plans.
+#[tactic(auto, unfolding(crate::specs::Script::faults_named))]
+fn faults_named(text: &[u8]) -> Option<PlannedFault>
+    ensures { result ≡ faults_named text.now }
+{
+    let end = first_length(text);
+    let (instruction, model) = fault_named(&text[..end])?;
+    let second = second_named(&text[end..])?;
+    Some(PlannedFault {
+        instruction,
+        model,
+        second,
+    })
+}
+
+// How many bytes `K MODEL` has at the front of a text, as far as there are as many.
+fn first_length(text: &[u8]) -> usize
+    ensures { result ≡ first_length text.now }
+{
+    let digits = first_space(text).unwrap_or(text.len());
+    (digits + MODEL).min(text.len())
+}
+
+// The place of the first space.
+fn first_space(text: &[u8]) -> Option<usize>
+    ensures place { result ≡ first_space text.now }
+    ensures within { IfSome result (λ i. i < length text.now) }
+{
+    text.iter().position(|byte| *byte == b' ')
+}
+
+// The fault that `K MODEL` is.
+fn fault_named(text: &[u8]) -> Option<(u32, FaultModel)>
+    ensures { result ≡ fault_named text.now }
+{
+    let split = text.len().saturating_sub(MODEL);
+    let model = model_named(&text[split..])?;
+    let number = instruction_number(&text[..split])?;
+    Some((number, model))
+}
+
+// The second fault that ` N MODEL` is, or that no text plans none.
+fn second_named(text: &[u8]) -> Option<Option<SecondFault>>
+    ensures { result ≡ second_named text.now }
+{
+    let Some((space, rest)) = text.split_first() else {
+        return Some(None);
+    };
+    if *space != b' ' {
+        return None;
+    }
+    let (number, model) = fault_named(rest)?;
+    if number == 0 {
+        return None;
+    }
+    Some(Some(SecondFault { number, model }))
 }
 
 // What a fault does, by the word for it and the space before that.
@@ -48,14 +102,14 @@ fn model_named(text: &[u8]) -> Option<FaultModel>
     None
 }
 
-/// The word for what a fault does, which ends a line.
-pub(crate) const fn model_end(model: FaultModel) -> &'static [u8]
-    ensures { result.now ≡ model_end model }
+/// The word for what a fault does, and the space before it.
+pub(crate) const fn model_word(model: FaultModel) -> &'static [u8]
+    ensures { result.now ≡ model_word model }
 {
     match model {
-        FaultModel::Skip => b" skip\n",
-        FaultModel::Turn => b" turn\n",
-        FaultModel::Zero => b" zero\n",
+        FaultModel::Skip => b" skip",
+        FaultModel::Turn => b" turn",
+        FaultModel::Zero => b" zero",
     }
 }
 

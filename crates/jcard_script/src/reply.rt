@@ -1,17 +1,18 @@
 //! What is written for a line.
-ghost use Rattle.std.specs.Prelude.{◌≡◌, ◌*◌, Some, length, is_err, MatchResult};
+ghost use Rattle.std.specs.Prelude.{◌≡◌, ◌≤◌, ◌*◌, Some, length, is_err, MatchResult};
 ghost use Rattle.std.specs.Io.KnownBytes.{Appends};
 ghost use Rattle.hex.specs.Hex.{encode_upper};
 ghost use Rattle.jc_words.specs.Count.{failures_after};
 ghost use Rattle.jcard_script.specs.Texts.{AppendsCut};
-ghost use Rattle.jcard_script.specs.Script.{text_of, armed_text, planned_text};
+ghost use Rattle.jcard_script.specs.Script.{text_of, armed_text, faults_text, planned_text, second_text};
 ghost use Rattle.jcard_script.specs.Reply.{text_for_line};
 
-use crate::glitch::model_end;
+use crate::glitch::model_word;
 use crate::streams::{TextOut, WriteFailed, write_all, write_parts};
 use itoa::Buffer;
 use jc_card::response::Response;
-use jc_session::planned_fault::PlannedFault;
+use jc_interp::attacks::FaultModel;
+use jc_session::planned_fault::{PlannedFault, SecondFault};
 
 /// What is to be written for a line.
 #[derive(Clone, Copy, Drop)]
@@ -62,17 +63,35 @@ pub(crate) fn reply_text<'a>(
     }
 }
 
-// `planned`, a number and a model.
+// `planned`, and a number and a model of each fault.
 fn planned_bytes(fault: PlannedFault, room: &mut [u8; 516]) -> &[u8] {
+    let mut end = put(room, 0, b"planned ");
+    end = put_fault(room, end, fault.instruction, fault.model);
+    if let Some(second) = fault.second {
+        end = put(room, end, b" ");
+        end = put_fault(room, end, second.number, second.model);
+    }
+    &room[..end]
+}
+
+// Puts a number and a model into the room from a place on: the place after them.
+fn put_fault(room: &mut [u8; 516], at: usize, number: u32, model: FaultModel) -> usize
+    requires { at ≤ 516 }
+    ensures { result ≤ 516 }
+{
     let mut digits = Buffer::new();
-    let number = digits.format(fault.instruction).as_bytes();
-    let model = model_end(fault.model);
-    let count = number.len().min(10);
-    let end = model.len().min(6).saturating_sub(1);
-    room[..8].copy_from_slice(b"planned ");
-    room[8..8 + count].copy_from_slice(&number[..count]);
-    room[8 + count..8 + count + end].copy_from_slice(&model[..end]);
-    &room[..8 + count + end]
+    let end = put(room, at, digits.format(number).as_bytes());
+    put(room, end, model_word(model))
+}
+
+// Puts as much of a text into the room as fits there from a place on: the place after it.
+fn put(room: &mut [u8; 516], at: usize, text: &[u8]) -> usize
+    requires { at ≤ 516 }
+    ensures { result ≤ 516 }
+{
+    let count = text.len().min(MOST_TEXT - at);
+    room[at..at + count].copy_from_slice(&text[..count]);
+    at + count
 }
 
 // `armed` and a number.
@@ -125,9 +144,37 @@ fn write_planned<W: TextOut>(fault: PlannedFault, writer: &mut W) -> Result<(), 
         (λ _. AppendsCut (W.contents writer.old) (W.contents writer.new) (planned_text (Some fault))) }
     ensures count { W.failures writer.new ≡ failures_after (W.failures writer.old) (is_err result) }
 {
+    write_all(writer, b"planned ")?;
+    write_faults(fault, writer)?;
+    write_all(writer, b"\n")
+}
+
+// Writes what a line `glitch` says of faults.
+fn write_faults<W: TextOut>(fault: PlannedFault, writer: &mut W) -> Result<(), WriteFailed>
+    ensures text { MatchResult result
+        (λ _. Appends (W.contents writer.old) (W.contents writer.new) (faults_text fault))
+        (λ _. AppendsCut (W.contents writer.old) (W.contents writer.new) (faults_text fault)) }
+    ensures count { W.failures writer.new ≡ failures_after (W.failures writer.old) (is_err result) }
+{
     let mut digits = Buffer::new();
-    let number = digits.format(fault.instruction).as_bytes();
-    write_parts(writer, b"planned ", number, model_end(fault.model))
+    write_all(writer, digits.format(fault.instruction).as_bytes())?;
+    write_all(writer, model_word(fault.model))?;
+    write_second(fault.second, writer)
+}
+
+// Writes the same of a second fault, if there is one.
+fn write_second<W: TextOut>(second: Option<SecondFault>, writer: &mut W) -> Result<(), WriteFailed>
+    ensures text { MatchResult result
+        (λ _. Appends (W.contents writer.old) (W.contents writer.new) (second_text second))
+        (λ _. AppendsCut (W.contents writer.old) (W.contents writer.new) (second_text second)) }
+    ensures count { W.failures writer.new ≡ failures_after (W.failures writer.old) (is_err result) }
+{
+    let Some(second) = second else {
+        return write_all(writer, b"");
+    };
+    let mut digits = Buffer::new();
+    let number = digits.format(second.number).as_bytes();
+    write_parts(writer, b" ", number, model_word(second.model))
 }
 
 // Writes a response in hexadecimal, and a line feed.

@@ -1,4 +1,4 @@
-//! The words that a line may be: `reset`, `stop` with a number, and `glitch` with a fault.
+//! The words that a line may be: `reset`, `stop` with a number, and `glitch` with faults.
 ghost use Rattle.std.specs.Prelude.{◌≡◌, ◌++◌, ◌∷◌, ℕ, List, [], MatchOption};
 ghost use Rattle.jcard_script.specs.Script.{form_of, plain_form_of};
 ghost use Rattle.jcard_script.specs.Line.{AsksFor};
@@ -17,8 +17,8 @@ const GLITCH: usize = 7;
 /// What is kept of a line for its words.
 #[derive(Drop)]
 pub(crate) struct Word {
-    // The first 23 bytes, one more than a word has.
-    head: ArrayVec<u8, 23>,
+    // The first 39 bytes, one more than a word has.
+    head: ArrayVec<u8, 39>,
     // The number that the bytes after the first five are, while they are a decimal one.
     number: Option<u16>,
 }

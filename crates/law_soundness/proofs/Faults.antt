@@ -1,6 +1,5 @@
 -- Faults leave a machine sound: they change places and cells of the frame that runs, and put 0 or null in.
-use Rattle.std.proofs.Common.{ℕ, inl, Bool, true, false, List, [], ◌∷◌, Option, Some, None, refl}
-use Rattle.std.specs.Prelude.{◌==◌, if◌then◌else◌}
+use Rattle.std.proofs.Common.{ℕ, inl, List, [], ◌∷◌, Option, Some, None, refl}
 use Rattle.jc_heap.specs.Heap.{HeapState}
 use Rattle.jc_heap.specs.Whole.{IsReference}
 use Rattle.jc_memory.specs.State.{MemoryState}
@@ -12,12 +11,13 @@ use Rattle.jc_opcodes.specs.declared.instr.Instr.TheVariants as instr
 use Rattle.jc_opcodes.specs.Table.{decode}
 use Rattle.jc_frames.specs.declared.cell.Cell.{Cell}
 use Rattle.jc_frames.specs.declared.cell.Cell.TheVariants.{Short, Reference, ReturnAddress}
-use Rattle.jc_frames.specs.Frames.{Frames, GoesOn}
+use Rattle.jc_frames.specs.Frames.{Frames}
 use Rattle.jc_interp.specs.declared.attacks.Attack.{Attack}
 use Rattle.jc_interp.specs.declared.attacks.FaultModel.{FaultModel}
 use Rattle.jc_interp.specs.declared.attacks.FaultModel.TheVariants.{Skip, Turn, Zero}
 use Rattle.jc_interp.specs.Attacks.{attacked, faulted, opposite, skipped_instruction, turned_branch, turned_instruction, zero_like, zeroed_top}
-use Rattle.jc_interp.specs.Stepping.{at_place, code_of}
+use Rattle.jc_interp.specs.Stepping.{at_place}
+use Rattle.jc_interp.proofs.Kept.{attacked_kept}
 use Rattle.law_isolation.proofs.Taking.{cell_taken}
 use Rattle.law_soundness.specs.Living.{AreLivingCells, IsLivingCell}
 use Rattle.law_soundness.specs.Machines.{IsSoundMachine}
@@ -61,19 +61,19 @@ module _ (p : Packages) (s : Frames) (m : MemoryState) (machine : IsSoundMachine
   turned_at None code = tt
   turned_at (Some i) code = turned_sound i.0 i.1 code
 
-  fault_sound : (model : FaultModel) (code : List ℕ) → IsSoundNext p (faulted model code s) m
+  pub fault_sound : (model : FaultModel) (code : List ℕ) → IsSoundNext p (faulted model code s) m
   unfolding faulted
   fault_sound Skip code = skipped_sound (decode code s.current.place)
   fault_sound Turn code = turned_at (decode code s.current.place) code
   fault_sound Zero code = stacked p s m (zeroed_top s.current.stack) (zeroed_living m.heap.now s.current.stack machine.living.current.stack) machine
 
-  pub sound_before : (attack : Option Attack) (left : ℕ) (lent : List ℕ) → IsSoundNext p (attacked attack left lent p s) m
-  sound_before None left lent = machine
-  sound_before (Some attack) left lent = if_now (attack.left == left)
-    where
-      if_now : (b : Bool) → IsSoundNext p (if b then faulted attack.model (code_of lent p s.current.origin.package_number) s else GoesOn s) m
-      if_now true = fault_sound attack.model (code_of lent p s.current.origin.package_number)
-      if_now false = machine
+pub sound_before : (p : Packages) (s : Frames) (m : MemoryState) → IsSoundMachine p s m → (attack : Option Attack) (left : ℕ) (lent : List ℕ)
+    → IsSoundNext p (attacked attack left lent p s) m
+sound_before p s m machine attack left lent = attacked_kept (λ next. IsSoundNext p next m) lent p (λ t sound model code. fault_sound p t m sound model code)
+    attack left s machine
 
 pub faults_sound : FaultsAreSound
-faults_sound model code p s m machine = fault_sound p s m machine model code
+faults_sound = record {
+  one = λ model code p s m machine. fault_sound p s m machine model code;
+  all = λ attack left lent p s m machine. sound_before p s m machine attack left lent;
+}

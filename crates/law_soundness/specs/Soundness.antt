@@ -6,7 +6,7 @@ use Rattle.jc_memory.specs.Reading.{AllDue, AllResults}
 use Rattle.jc_linker.specs.Values.{Packages}
 use Rattle.jc_interp.specs.declared.attacks.Attack.{Attack}
 use Rattle.jc_interp.specs.declared.attacks.FaultModel.{FaultModel}
-use Rattle.jc_interp.specs.Attacks.{attacked_step, faulted}
+use Rattle.jc_interp.specs.Attacks.{attacked, attacked_step, faulted}
 use Rattle.jc_interp.specs.Running.{run_of}
 use Rattle.law_linking.specs.Classes.{HasAids, KnowsClasses}
 use Rattle.law_soundness.specs.Fit.{IsFit}
@@ -28,10 +28,13 @@ IsSoundNext p (GoesOn s) m = IsSoundMachine p s m
 IsSoundNext p (Throws e s) m = IsSoundMachine p s m
 IsSoundNext p (Ends o) m = IsLivingOutcome m.heap.now o
 
--- whatever code it finds, a fault of each kind leaves a sound machine sound, or ends by a code fault
-abbrev pub FaultsAreSound : Type 0
-FaultsAreSound = (model : FaultModel) (code : List ℕ) (p : Packages) (s : Frames) (m : MemoryState) → IsSoundMachine p s m
-    → IsSoundNext p (faulted model code s) m
+-- a sound machine is sound after faults, or they end the run by a code fault: after one of each kind, whatever code it finds, and after all that come
+-- before a step, as this many of the command's instructions are left
+pub record FaultsAreSound : Type 0 where
+  pub one : (model : FaultModel) (code : List ℕ) (p : Packages) (s : Frames) (m : MemoryState) → IsSoundMachine p s m
+      → IsSoundNext p (faulted model code s) m
+  pub all : (attack : Option Attack) (left : ℕ) (lent : List ℕ) (p : Packages) (s : Frames) (m : MemoryState) → IsSoundMachine p s m
+      → IsSoundNext p (attacked attack left lent p s) m
 
 -- each effect of a step of a sound machine fits, and what follows is one, also where an attack comes before it
 pub record StepsAreSound : Type 0 where

@@ -64,7 +64,8 @@ pub fn platform_methods_end_between_instructions()
     ensures { NativesLeave }
 {}
 
-/// A fault between two instructions, of each kind and in whatever code, leaves a sound machine sound, or ends by a code fault.
+/// A fault between two instructions, of each kind and in whatever code, leaves a sound machine sound, or ends by a code fault; and so do all faults
+/// of a command that come there.
 pub fn faulted_states_are_sound()
     ensures { FaultsAreSound }
 {}

@@ -8,6 +8,7 @@ use Rattle.jc_interp.proofs.run.run_noted.Given as goal
 abbrev pub invariant-loop-turns : goal.invariant-loop-turns
 invariant-loop-turns g l = record {
   continues : (attack : Option Attack) → IsAway attack (l.budget + l.later) l.later
-      → Continues attack (l.budget + l.later) l.lent l.linked l.fn.frames l.fn.memory (l.budget - l.turns + l.later) l.frames l.memory;
+      → Continues attack (l.budget + l.later) l.lent l.linked l.fn.frames l.fn.memory attack (l.budget - l.turns + l.later) l.frames
+      l.memory;
   up : l.memory.heap.down ≡ l.fn.memory.heap.down;
 }

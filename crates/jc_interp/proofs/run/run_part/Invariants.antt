@@ -8,7 +8,7 @@ use Rattle.jc_interp.proofs.run.run_part.Given as goal
 abbrev pub invariant-loop-rest : goal.invariant-loop-rest
 invariant-loop-rest g l = record {
   continues : (attack : Option Attack) → IsAway attack (l.budget + l.later) l.later
-      → Continues attack (l.budget + l.later) l.lent l.linked l.fn.frames l.fn.memory (l.left + l.later) l.frames l.memory;
+      → Continues attack (l.budget + l.later) l.lent l.linked l.fn.frames l.fn.memory attack (l.left + l.later) l.frames l.memory;
   up : l.memory.heap.down ≡ false;
   own : l.code ≡ code_of l.lent l.linked l.number;
   here : l.number ≡ l.frames.current.origin.package_number;

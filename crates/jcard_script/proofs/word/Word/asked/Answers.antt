@@ -9,7 +9,7 @@ use Rattle.jcard_script.proofs.word.Word.asked.Goals as goal
 
 pub returns-then-starts_with : goal.returns-then-starts_with
 returns-then-starts_with c = λ line w.
-    let head : c.as_slice-head.result.now ≡ take 23 line = c.as_slice-head.ensures.value ∙ w.0 in
+    let head : c.as_slice-head.result.now ≡ take 39 line = c.as_slice-head.ensures.value ∙ w.0 in
     let starts = subst (λ (h : List ℕ). starts_with nat_eq h (codes "glitch ") ≡ true) head (sym c.starts_with.ensures.value ∙ c.if-starts_with.true) in
     let told : List ℕ = c.as_slice-head.result.now in
     let whole : take (length told - 7) (drop 7 told) ≡ drop 7 told = take_all (length told - 7) (drop 7 told) (omega (arith, length-drop 7 told)) in
@@ -18,6 +18,6 @@ returns-then-starts_with c = λ line w.
 
 pub returns-in-None : goal.returns-in-None
 returns-in-None c = λ line w.
-    let head : c.as_slice-head.result.now ≡ take 23 line = c.as_slice-head.ensures.value ∙ w.0 in
+    let head : c.as_slice-head.result.now ≡ take 39 line = c.as_slice-head.ensures.value ∙ w.0 in
     let starts = subst (λ (h : List ℕ). starts_with nat_eq h (codes "stop ") ≡ true) head (sym c.starts_with-2.ensures.value ∙ c.if-not-starts_with.false) in
     stop_first line starts ∙ none_bad (drop 5 line) (sym w.1 ∙ c.in-None.is)

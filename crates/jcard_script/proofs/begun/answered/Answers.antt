@@ -4,7 +4,7 @@ use Rattle.std.specs.Str.Lines.{lines}
 use Rattle.jcard_script.specs.CardOrStore.{state_of_held}
 use Rattle.jcard_script.specs.Script.{AreCarriedOut}
 use Rattle.jcard_script.specs.ScriptStates.{ScriptState}
-use Rattle.jcard_script.proofs.begun.has_answered.Goals as goal
+use Rattle.jcard_script.proofs.begun.answered.Goals as goal
 
 whole_at_end : (b : Bool) (P : Type 0) → IsTrue b → OnTrue b P → P
 whole_at_end true P is p = p
@@ -19,4 +19,4 @@ returns-in-Ok g c =
     let ended = rw c.in-Ok.is at ran.6 in
     let last : ScriptState = state_of_held c.run.new.self.held in
     let carried = subst (λ (s : ScriptState). AreCarriedOut (lines ran.0) s last ran.1) c.of_card-session.ensures.card ended.1 in
-    (ran.0, ran.1, ran.3, ran.4, whole_at_end ran.2 _ ended.0 ran.5, (last, (is_true, carried)))
+    (ran.0, ran.1, ran.3, ran.4, whole_at_end ran.2 _ ended.0 ran.5, (last, (is_true, carried), c.into_store.ensures.store))
