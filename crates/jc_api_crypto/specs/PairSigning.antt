@@ -1,6 +1,6 @@
 -- Signatures of a message, by its digest and first bytes, under a key of a pair, by what its parts are.
 use Rattle.std.specs.Int.{to_be_bytes, w16}
-use Rattle.std.specs.Prelude.{ℕ, ◌≡◌, ◌≤◌, ◌==◌, ◌&&◌, Bool, false, List, ◌++◌, length, Option, Some, None}
+use Rattle.std.specs.Prelude.{ℕ, ◌≡◌, ◌≤◌, ◌==◌, Bool, false, List, ◌++◌, length, Option, Some, None, if◌then◌else◌}
 use Rattle.jc_digests.specs.declared.kept.HashAlgorithm.{HashAlgorithm}
 use Rattle.jc_memory.specs.State.{MemoryState}
 use Rattle.jc_linker.specs.Values.{Packages}
@@ -62,31 +62,30 @@ key_power m (Rsa k) em = power m k em
 key_power m (Primes k) em = crt_power m k em (length em)
 key_power m (Ec k) em = None
 
--- elements are a signature under a public key: they have as many bytes as the modulus, and their power encodes the digest
+-- the power of elements under a public key whose modulus has as many bytes
+abbrev pub power_under : MemoryState → Stretch → RsaParts → Option (List ℕ)
+power_under m given k = if given.count == k.modulus.count then power m k (bytes_in m given) else None
+
+abbrev pub power_by_parts : MemoryState → Stretch → Parts → Option (List ℕ)
+power_by_parts m given (Rsa k) = power_under m given k
+power_by_parts m given (Primes k) = None
+power_by_parts m given (Ec k) = None
+
+-- elements are a signature under a public key: their power encodes the digest
 abbrev pub encodes : SignaturePadding → HashAlgorithm → List ℕ → Option (List ℕ) → Bool
 encodes padding h digest None = false
 encodes padding h digest (Some em) = is_signature_encoding padding h digest em
 
-abbrev pub is_under : MemoryState → SignaturePadding → HashAlgorithm → List ℕ → Stretch → RsaParts → Bool
-is_under m padding h digest given k = given.count == k.modulus.count && encodes padding h digest (power m k (bytes_in m given))
-
 abbrev pub is_rsa_signature : MemoryState → SignaturePadding → HashAlgorithm → List ℕ → Stretch → Parts → Bool
-is_rsa_signature m padding h digest given (Rsa k) = is_under m padding h digest given k
-is_rsa_signature m padding h digest given (Primes k) = false
-is_rsa_signature m padding h digest given (Ec k) = false
+is_rsa_signature m padding h digest given parts = encodes padding h digest (power_by_parts m given parts)
 
 -- and by ISO/IEC 9796-2: their power is the encoding of the first bytes of a message and its digest
 abbrev pub recovers : List ℕ → List ℕ → Option (List ℕ) → Bool
 recovers first digest None = false
 recovers first digest (Some em) = is_recovery_encoding first digest em
 
-abbrev pub is_iso_under : MemoryState → List ℕ → List ℕ → Stretch → RsaParts → Bool
-is_iso_under m first digest given k = given.count == k.modulus.count && recovers first digest (power m k (bytes_in m given))
-
 abbrev pub is_iso_signature : MemoryState → List ℕ → List ℕ → Stretch → Parts → Bool
-is_iso_signature m first digest given (Rsa k) = is_iso_under m first digest given k
-is_iso_signature m first digest given (Primes k) = false
-is_iso_signature m first digest given (Ec k) = false
+is_iso_signature m first digest given parts = recovers first digest (power_by_parts m given parts)
 
 -- ---- ECDSA
 

@@ -3,3 +3,4 @@ pub mod KeyPairClasses
 pub mod PairPasses
 pub mod PairPlaces
 pub mod PairCalls
+pub mod PairForms

@@ -1,3 +1,4 @@
+pub mod CurveParts
 pub mod KeyAgreement
 pub mod KeyPair
 pub mod Pairs

@@ -17,9 +17,10 @@ ghost use Rattle.jc_api_pairs.specs.KeyAgreement.{agreement_cells, agreement_of,
 ghost use Rattle.jc_api_pairs.specs.KeyAgreement.Keys.{ArePartsThere};
 ghost use Rattle.jc_api_pairs.specs.KeyAgreement.Secrets.{puts_shared};
 
+use crate::curve_parts::MOST_NUMBER;
 use crate::key_agreement::algorithms::{Secret, agreement_named};
 use crate::key_agreement::keys::{PrivateParts, factor_of, kept_key, key_given, private_parts};
-use crate::key_agreement::secrets::{MOST_NUMBER, are_short, put_of, put_shared_x};
+use crate::key_agreement::secrets::{are_short, put_of, put_shared_x};
 use jc_api::{FieldValue, NewEngine, StateKind, counted_of, initialize, make_engine};
 use jc_api_keys::exceptions::{ILLEGAL_VALUE, NO_SUCH_ALGORITHM};
 use jc_frames::{Cell, FrameExit, Outcome};
@@ -188,7 +189,7 @@ fn put_shared<S: WordStore>(
     if !are_short(parts, public.count) {
         return Err(StepExit::Throw(ILLEGAL_VALUE));
     }
-    let size = parts.field.count as usize;
+    let size = parts.curve.field.count as usize;
     let mut buffer = [0; MOST_NUMBER];
     let done = put_shared_x(parts, factor, public, memory, &mut buffer[..size]);
     if !done {

@@ -1,6 +1,5 @@
 -- Steps and runs keep the order of transactions.
 use Rattle.std.proofs.Common.{◌≡◌, ℕ, zero, suc, true, false, List, refl, sym, subst, arith, inl, inr, Option, Some, None, Ok}
-use Rattle.std.specs.Prelude.{pos}
 use Rattle.jc_transient.specs.declared.cell.CellValue.{CellValue}
 use Rattle.jc_transient.specs.declared.cell.CellValue.TheVariants.{Short}
 use Rattle.jc_transient.specs.declared.cell.ClearEvent.{ClearEvent}
@@ -29,12 +28,11 @@ use Rattle.jc_api_framework.proofs.Passing.{Bears, MethodPasses, RegistersSo}
 use Rattle.jc_world.specs.Answers.{and_then}
 use Rattle.jc_api.specs.Factory.{engine_creation, state_array}
 use Rattle.jc_api.specs.Pairing.{named_in, pair_words}
-use Rattle.jc_api.specs.declared.factory.NewEngine.{NewEngine}
-use Rattle.jc_api.specs.declared.pairing.NamedObject.TheVariants.{New}
+use Rattle.jc_api.specs.declared.pairing.NamedObject.{NamedObject}
+use Rattle.jc_api.specs.declared.pairing.NamedObject.TheVariants.{Argument, New}
 use Rattle.jc_api.proofs.Due.{Anything}
-use Rattle.jc_api.proofs.PairingCalls.{NamesBoth, NamesSo}
-use Rattle.jc_api_pairs.specs.KeyPair.{of_new_keys}
-use Rattle.jc_api_pairs.proofs.PairPasses.{PairPasses}
+use Rattle.jc_api.proofs.PairingCalls.{NamesSo}
+use Rattle.jc_api_pairs.proofs.PairForms.{FormsPass, of_forms}
 use Rattle.jc_interp.proofs.Calls.{method_due}
 use Rattle.law_isolation.proofs.Bytes.{store_due}
 use Rattle.law_isolation.proofs.Passing.{ArraysPass, FieldsPass}
@@ -104,30 +102,23 @@ module _ (p : Packages) (m : MemoryState) where
     updates = λ pin is bytes owned short. tt;
   }
 
-  pair_passes : (method : PlatformMethod) (args : List Cell) → PairPasses KeepsTransactionOrder Anything method args p m
-  pair_passes method args = record {
-    both = λ own public bytes private number are event. tt;
-    public = λ own public bytes private number are. tt;
-    private = λ own public bytes private number are event kept. tt;
-    given = λ sets first named second named_too own is. cells_orderly m (facts m.heap.now own).event own 0 (pair_words (pos 0) first second);
-    new = λ sets public private. names_orderly {K = λ first v.
-        NamesSo KeepsTransactionOrder (λ second w. NamesBoth KeepsTransactionOrder args p (of_new_keys public private) first second w) args p (New private) v}
-        m public (λ first v. second_orderly public private first v);
-    keys = λ i own few is event. tt;
-  }
-    where
-      -- so it is of a new object, where it is so of whatever follows
-      names_orderly : {K : ℕ → MemoryState → Type 0} (n : MemoryState) (e : NewEngine) → ((r : ℕ) (v : MemoryState) → K r v)
-          → NamesSo KeepsTransactionOrder K args p (New e) n
-      names_orderly {K = K} n e so has there space room = (
-        (λ array new. (made_orderly n e.event (state_array e n), λ r other. (tt, (tt, (tt, tt))))),
-        each_always (λ answer v. (r : ℕ) → and_then answer named_in ≡ Ok r → K r v) (λ answer v r named. so r v) (engine_creation e p n) n,
-      )
+  -- so it is of an object that is to be named, where it is so of whatever follows
+  named_orderly : (args : List Cell) (K : ℕ → MemoryState → Type 0) (object : NamedObject) (n : MemoryState) → ((r : ℕ) (v : MemoryState) → K r v)
+      → NamesSo KeepsTransactionOrder K args p object n
+  named_orderly args K (Argument i) n so = λ r is. so r n
+  named_orderly args K (New e) n so = λ has there space room. (
+    (λ array new. (made_orderly n e.event (state_array e n), λ r other. (tt, (tt, (tt, tt))))),
+    each_always (λ answer v. (r : ℕ) → and_then answer named_in ≡ Ok r → K r v) (λ answer v r named. so r v) (engine_creation e p n) n,
+  )
 
-      second_orderly : (public private : NewEngine) (first : ℕ) (v : MemoryState)
-          → NamesSo KeepsTransactionOrder (λ second w. NamesBoth KeepsTransactionOrder args p (of_new_keys public private) first second w) args p (New private) v
-      second_orderly public private first v = names_orderly {K = λ second w. NamesBoth KeepsTransactionOrder args p (of_new_keys public private) first second w} v private
-          (λ second w own is. cells_orderly w (facts w.heap.now own).event own 0 (pair_words (pos 0) first second))
+  forms_pass : (method : PlatformMethod) (args : List Cell) → FormsPass KeepsTransactionOrder Anything method args p m
+  forms_pass method args = record {
+    places = λ cs are. tt;
+    after = λ cs are e bytes is event kept. tt;
+    names = λ sets a pairs zero. named_orderly args _ a.first m (λ first v. named_orderly args _ a.second v (λ second w own is.
+        cells_orderly w (facts w.heap.now own).event own 0 (pair_words a.number first second)));
+    named = λ class pairs i own few is event. tt;
+  }
 
   registers : (method : PlatformMethod) (args : List Cell) → RegistersSo KeepsTransactionOrder (λ a v. Unit {0}) method args p m
   registers method args = record {
@@ -147,7 +138,7 @@ step_orderly lent p s m = step_due KeepsTransactionOrder lent p s m (record {
   turns = λ g n. tt;
   reasons = λ r v n own some. tt;
   calls = λ c method args called is are. method_due KeepsTransactionOrder (λ m. Unit {0}) bears args p m tt method (method_passes p m method args)
-      (pair_passes p m method args)
+      (of_forms p m KeepsTransactionOrder Anything method args (forms_pass p m method args))
       (registers p m method args);
 })
 

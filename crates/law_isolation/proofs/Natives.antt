@@ -1,5 +1,5 @@
 -- Methods of the platform spare what is outside reach.
-use Rattle.std.proofs.Common.{◌≡◌, ℕ, ◌<◌, ◌≤◌, true, false, inl, inr, List, length, map, Option, Some, None, Ok, refl, sym, ◌∙◌, ap, subst, arith}
+use Rattle.std.proofs.Common.{◌≡◌, ℕ, ◌<◌, ◌≤◌, true, false, inl, inr, List, [], ◌∷◌, length, map, Option, Some, None, Ok, refl, sym, ◌∙◌, ap, subst, arith}
 use Rattle.std.proofs.lemmas.List.{length-map}
 use Rattle.std.proofs.lemmas.List.FromFn.{length-range_with_len}
 use Rattle.std.specs.List.{range_with_len}
@@ -22,6 +22,7 @@ use Rattle.jc_memory.specs.Changing.{nonatomic_store}
 use Rattle.jc_memory.specs.Reading.{AllDue, AllResults}
 use Rattle.jc_memory.specs.Cells.{cells_effect, header_at, word_of}
 use Rattle.jc_heap.specs.Moves.{Write}
+use Rattle.jc_heap.specs.declared.place.Place.{Place}
 use Rattle.jc_heap.specs.declared.place.Place.TheVariants as place
 use Rattle.jc_linker.specs.Values.{Packages}
 use Rattle.jc_platform.specs.declared.names.PlatformMethod.{PlatformMethod}
@@ -43,11 +44,12 @@ use Rattle.jc_platform.specs.Names.{aids_rows}
 use Rattle.jc_platform.specs.Signatures.{sets_receiver}
 use Rattle.law_isolation.specs.Natives.{NativesSpare, ReachesCalled}
 use Rattle.law_isolation.specs.Reach.{IsOutside}
-use Rattle.law_isolation.specs.Sparing.{AreBeside, LeavesObject}
+use Rattle.law_isolation.specs.Sparing.{AreBeside, IsBeside, LeavesObject}
 use Rattle.jc_api.specs.Factory.{engine_creation, engine_object, number_cell, state_array, state_cell}
 use Rattle.jc_api.specs.Pairing.{named_in, pair_words}
 use Rattle.jc_api.specs.declared.factory.NewEngine.{NewEngine}
-use Rattle.jc_api.specs.declared.pairing.NamedObject.TheVariants.{New}
+use Rattle.jc_api.specs.declared.pairing.NamedObject.{NamedObject}
+use Rattle.jc_api.specs.declared.pairing.NamedObject.TheVariants.{Argument, New}
 use Rattle.jc_api.specs.declared.pairing.NewPair.{NewPair}
 use Rattle.jc_api.specs.Initializing.{FieldsAnswer, word_given, words_given}
 use Rattle.jc_api.proofs.EngineRoom.{with_array}
@@ -58,9 +60,7 @@ use Rattle.jc_api.proofs.Standing.{facts_after_run, item_after_object, object-se
 use Rattle.jc_api.proofs.Stretches.{IsStretch}
 use Rattle.jc_api_framework.proofs.AppletCalls.Registering.{MayRegister, Registering, entry_of, home_of, with_aid}
 use Rattle.jc_api_framework.proofs.Passing.{Bears, IsPinCall, MethodPasses, RegistersSo, recorded}
-use Rattle.jc_api_pairs.specs.KeyPair.{of_given_keys, of_new_keys}
-use Rattle.jc_api_pairs.specs.KeyPair.Changes.{counts_once, places_in, public_changes}
-use Rattle.jc_api_pairs.proofs.PairPasses.{AreReached, IsOwnPair, PairPasses}
+use Rattle.jc_api_pairs.proofs.PairForms.{AreOfPairs, FormsPass, IsOfPair, of_forms}
 use Rattle.jc_interp.proofs.Calls.{method_due}
 use Rattle.law_isolation.proofs.Bytes.{store_due}
 use Rattle.law_isolation.proofs.Pins.{beside_append, beside_put, value_inside}
@@ -183,25 +183,27 @@ module _ (method : PlatformMethod) (args : List Cell) (p : Packages) (m : Memory
   names_spare a first second v sets own is = run_spares q v own 0 (pair_words a.number first second) (other sets own is.called)
       (let long = is.there.cells in omega (arith, long))
 
-  -- where the first of two new ones is named, the second may be made, and named beside it
-  abbrev SecondSo : NewEngine → NewEngine → ℕ → MemoryState → Type 0
-  SecondSo public private first v =
-      NamesSo (LeavesObject q) (λ second w. NamesBoth (LeavesObject q) args p (of_new_keys public private) first second w) args p (New private) v
-
-  second_named : sets_receiver method ≡ true → (public private : NewEngine) (first : ℕ) (v : MemoryState) → IsObject v.heap.now q
-      → SecondSo public private first v
-  second_named sets public private first v is has there space room = (
-    engine_spares p q v is private,
-    each_always (λ answer w. (second : ℕ) → and_then answer named_in ≡ Ok second → NamesBoth (LeavesObject q) args p (of_new_keys public private) first second w)
-        (λ answer w second named. names_spare (of_new_keys public private) first second w sets) (engine_creation private p v) v,
+  -- an object that is to be named may be made, and then whatever follows is so
+  object_spares : (K : ℕ → MemoryState → Type 0) (object : NamedObject) (v : MemoryState) → IsObject v.heap.now q
+      → ((r : ℕ) (w : MemoryState) → IsObject w.heap.now q → K r w) → NamesSo (LeavesObject q) K args p object v
+  object_spares K (Argument i) v there so = λ r is. so r v there
+  object_spares K (New e) v there so = λ has in_table space room. (
+    engine_spares p q v there e,
+    each_more (λ answer w. IsObject w.heap.now q) (λ answer w. (r : ℕ) → and_then answer named_in ≡ Ok r → K r w) (λ answer w is r named. so r w is)
+        (engine_creation e p v) v (engine_leaves p q v there e),
   )
 
-  -- the elements and the number that a call sets which makes new keys of a pair
-  elements_beside : (e : Stretch) (bytes : List ℕ) → AreReached p m e bytes → AreBeside q (places_in e bytes)
-  elements_beside e bytes is = beside_put q e.array e.start bytes (not_outside p m q e.array (facts m.heap.now e.array) out refl is.reach)
+  -- the places that a call sets which changes a pair
+  place_beside : (c : Place × ℕ) → IsOfPair p m c.0 → IsBeside q c.0
+  place_beside (place.Cell r i, v) (inl is) = not_outside p m q r (facts m.heap.now r) out refl is.reach
+  place_beside (place.Cell r i, v) (inr is) = not_outside p m q r (facts m.heap.now r) out refl is.reach
+  place_beside (place.Static r i, v) is = absurd is
+  place_beside (place.Registry i, v) is = absurd is
+  place_beside (place.AppletCount, v) is = absurd is
 
-  pair_beside : (own : ℕ) → IsOwnPair p m own → AreBeside q (counts_once m own)
-  pair_beside own is = (not_outside p m q own (facts m.heap.now own) out refl is.reach, tt)
+  places_beside : (cs : List (Place × ℕ)) → AreOfPairs p m cs → AreBeside q cs
+  places_beside [] are = tt
+  places_beside (c ∷ cs) are = (place_beside c are.0, places_beside cs are.1)
 
   registers : (aid : List ℕ) (instance : ℕ) (k : PackageNumber) → MayRegister m aid instance k → (r : ℕ) → IsNew m.heap.now r
       → Registering (LeavesObject q) (λ a v. Unit {0}) p m aid instance k r
@@ -245,26 +247,19 @@ module _ (method : PlatformMethod) (args : List Cell) (p : Packages) (m : Memory
         (ne, (ne, tt)));
   }
 
-  pair_passes : PairPasses (LeavesObject q) Anything method args p m
-  pair_passes = record {
-    both = λ own public bytes private number are event. inl (beside_append q (places_in public bytes) _ (elements_beside public bytes are.public)
-        (beside_append q (places_in private number) _ (elements_beside private number are.private) (pair_beside own are.pair)));
-    public = λ own public bytes private number are. inl (beside_append q (places_in public bytes) _ (elements_beside public bytes are.public)
-        (pair_beside own are.pair));
-    private = λ own public bytes private number are event kept. (
-      not_outside p m q private.array (facts m.heap.now private.array) out refl (are.private).reach,
-      let size = length-map number number_of in
-          let within = (are.private).within in
-          let header = ap (λ f. f.length) (facts-places m.heap.now (public_changes m own public bytes) private.array) in
+  forms_pass : FormsPass (LeavesObject q) Anything method args p m
+  forms_pass = record {
+    places = λ cs are. inl (places_beside cs are);
+    after = λ cs are e bytes is event kept. (
+      not_outside p m q e.array (facts m.heap.now e.array) out refl is.reach,
+      let size = length-map bytes number_of in
+          let within = is.within in
+          let header = ap (λ f. f.length) (facts-places m.heap.now cs e.array) in
           omega (arith, size, within, header),
     );
-    given = λ sets first named second named_too. names_spare of_given_keys first second m sets;
-    new = λ sets public private has there space room. (
-      engine_spares p q m out.there public,
-      each_more (λ answer v. IsObject v.heap.now q) (λ answer v. (first : ℕ) → and_then answer named_in ≡ Ok first → SecondSo public private first v)
-          (λ answer v is first named. second_named sets public private first v is) (engine_creation public p m) m (engine_leaves p q m out.there public),
-    );
-    keys = λ i own few is event. tt;
+    names = λ sets a pairs zero. object_spares _ a.first m out.there (λ first v there. object_spares _ a.second v there (λ second w is.
+        names_spare a first second w sets));
+    named = λ class pairs i own few is event. tt;
   }
 
   registers_so : RegistersSo (LeavesObject q) (λ a v. Unit {0}) method args p m
@@ -275,4 +270,4 @@ module _ (method : PlatformMethod) (args : List Cell) (p : Packages) (m : Memory
 
 pub natives_spare : NativesSpare
 natives_spare method args p m q out few reach = method_due (LeavesObject q) (λ m. Unit {0}) (bears q) args p m tt method
-    (passes method args p m q out few reach) (pair_passes method args p m q out few reach) (registers_so method args p m q out few reach)
+    (passes method args p m q out few reach) (of_forms p m (LeavesObject q) Anything method args (forms_pass method args p m q out few reach)) (registers_so method args p m q out few reach)

@@ -49,10 +49,10 @@ use Rattle.jc_api.specs.Factory.{engine_creation, state_array}
 use Rattle.jc_api.specs.Initializing.{words_given}
 use Rattle.jc_api.specs.Pairing.{named_in, pair_words}
 use Rattle.jc_api.specs.declared.factory.NewEngine.{NewEngine}
+use Rattle.jc_api.specs.declared.pairing.NamedObject.{NamedObject}
 use Rattle.jc_api.specs.declared.pairing.NamedObject.TheVariants as named
-use Rattle.jc_api.proofs.PairingCalls.{NamesBoth, NamesSo}
-use Rattle.jc_api_pairs.specs.KeyPair.{of_new_keys}
-use Rattle.jc_api_pairs.proofs.PairPasses.{PairPasses}
+use Rattle.jc_api.proofs.PairingCalls.{NamesSo}
+use Rattle.jc_api_pairs.proofs.PairForms.{FormsPass, of_forms}
 use Rattle.jc_api.proofs.Due.{Anything, DueThen, due_of, results_of}
 use Rattle.jc_api.proofs.Reaching.{err_not_ok, same_Ok}
 use Rattle.jc_api_framework.proofs.AppletCalls.Registering.{MayRegister, Registering, home_of}
@@ -172,32 +172,26 @@ module _ (m : MemoryState) where
           follows = tt;
         }
 
-    pairs_in : (method : PlatformMethod) (args : List Cell) → PairPasses IsInMethod Anything method args p m
-    pairs_in method args = record {
-      both = λ own public bytes private number are event. tt;
-      public = λ own public bytes private number are. tt;
-      private = λ own public bytes private number are event kept. tt;
-      given = λ sets first named second named_too own is. run_in (facts m.heap.now own).event own 0 (pair_words (pos 0) first second);
-      new = λ sets public private. names_in {K = λ first v.
-          NamesSo IsInMethod (λ second w. NamesBoth IsInMethod args p (of_new_keys public private) first second w) args p (named.New private) v}
-          m public (λ first v. second_in public private first v);
-      keys = λ i own few is event. tt;
-    }
-      where
-        names_in : {K : ℕ → MemoryState → Type 0} (n : MemoryState) (e : NewEngine) → ((r : ℕ) (v : MemoryState) → K r v)
-            → NamesSo IsInMethod K args p (named.New e) n
-        names_in {K = K} n e so has there space room = (
-          (λ array new. (makes_in n e.event (state_array e n), λ r other. (tt, (tt, (tt, tt))))),
-          each_always (λ answer v. (r : ℕ) → and_then answer named_in ≡ Ok r → K r v) (λ answer v r name. so r v) (engine_creation e p n) n,
-        )
+    named_in_method : (args : List Cell) (K : ℕ → MemoryState → Type 0) (object : NamedObject) (n : MemoryState) → ((r : ℕ) (v : MemoryState) → K r v)
+        → NamesSo IsInMethod K args p object n
+    named_in_method args K (named.Argument i) n so = λ r is. so r n
+    named_in_method args K (named.New e) n so = λ has there space room. (
+      (λ array new. (makes_in n e.event (state_array e n), λ r other. (tt, (tt, (tt, tt))))),
+      each_always (λ answer v. (r : ℕ) → and_then answer named_in ≡ Ok r → K r v) (λ answer v r name. so r v) (engine_creation e p n) n,
+    )
 
-        second_in : (public private : NewEngine) (first : ℕ) (v : MemoryState)
-            → NamesSo IsInMethod (λ second w. NamesBoth IsInMethod args p (of_new_keys public private) first second w) args p (named.New private) v
-        second_in public private first v = names_in {K = λ second w. NamesBoth IsInMethod args p (of_new_keys public private) first second w} v private (λ second w own is.
-            runs_in w (facts w.heap.now own).event own 0 (pair_words (pos 0) first second))
+    forms_in : (method : PlatformMethod) (args : List Cell) → FormsPass IsInMethod Anything method args p m
+    forms_in method args = record {
+      places = λ cs are. tt;
+      after = λ cs are e bytes is event kept. tt;
+      names = λ sets a pairs zero. named_in_method args _ a.first m (λ first v. named_in_method args _ a.second v (λ second w own is.
+          runs_in w (facts w.heap.now own).event own 0 (pair_words a.number first second)));
+      named = λ class pairs i own few is event. tt;
+    }
 
     native_in : (method : PlatformMethod) (args : List Cell) → AllDue IsInMethod (native_call method args p m) m
-    native_in method args = method_due IsInMethod (λ m. Unit {0}) in_method args p m tt method (methods_in method args) (pairs_in method args) (registered_in method args)
+    native_in method args = method_due IsInMethod (λ m. Unit {0}) in_method args p m tt method (methods_in method args)
+        (of_forms p m IsInMethod Anything method args (forms_in method args)) (registered_in method args)
 
 -- ---- programs
 

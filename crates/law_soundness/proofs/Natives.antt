@@ -37,6 +37,7 @@ use Rattle.jc_api.proofs.Due.{DueThen, due_of, due_then, results_of}
 use Rattle.jc_api.proofs.Standing.{facts_after_run, object-set_cell}
 use Rattle.jc_api.proofs.Stretches.{HoldsNumbers, IsStretch, length_bytes}
 use Rattle.jc_api_framework.proofs.Passing.{AnswersSo, IsPinCall, MethodPasses, RegistersSo, turns_of}
+use Rattle.jc_api_pairs.proofs.PairForms.{of_forms}
 use Rattle.jc_interp.proofs.Calls.{IsPlainMethod, method_called, method_then}
 use Rattle.law_isolation.proofs.Bytes.{store_due}
 use Rattle.law_isolation.proofs.Natives.{nine}
@@ -56,7 +57,7 @@ use Rattle.law_soundness.proofs.RunPins.{after_count, after_flag, pin_object, st
 use Rattle.law_soundness.proofs.Small.{reason_fits, transient_fits}
 use Rattle.law_soundness.proofs.Transients.{numbers_fit}
 use Rattle.law_soundness.proofs.Turning.{bears}
-use Rattle.law_soundness.proofs.Pairing.{pairs_fit, pairs_still}
+use Rattle.law_soundness.proofs.Pairing.{forms_fit, forms_still}
 use Rattle.law_soundness.proofs.Receivers.{aid_minds}
 use Rattle.law_soundness.specs.Calls.{IsCallResult, NativesLeave}
 use Rattle.law_soundness.specs.Environment.{HasEnvironment}
@@ -185,10 +186,10 @@ module _ (method : PlatformMethod) (args : List Cell) (p : Packages) (m : Memory
     plainly : IsPlainMethod method → DueThen (IsFit p) (IsCallResult m) call m
     plainly plain =
         let due = due_of (IsFit p) _ call m (method_called (IsFit p) Lives (IsSoundMemory p) (turns_of (IsFit p) (IsSoundMemory p) (bears p)) args p m sound refers
-        method plain passes (pairs_fit p known refers.made m sound steady args living method)) in
+        method plain passes (of_forms p m (IsFit p) Lives method args (forms_fit p known refers.made m sound steady args living method))) in
         due_then (IsFit p) (IsCallResult m) call m due (still_left keeps_sound calm_stays p m sound steady call
         (method_called IsStill Lives (λ v. Unit {0}) still_turns args p m tt refers method plain (still_passes m method args p)
-        (pairs_still p known m sound args method)) due)
+        (of_forms p m IsStill Lives method args (forms_still p known m sound args method))) due)
 
     -- each effect of a call fits, and leaves what it finds steady
     natively : DueThen (IsFit p) (IsCallResult m) call m

@@ -1,7 +1,8 @@
--- Pairs of keys: what their constructors and the call that makes new keys set fits, and their keys are there.
-use Rattle.std.proofs.Common.{◌≡◌, ◌∙◌, ℕ, zero, suc, ◌+◌, ◌<◌, ◌≤◌, true, inl, inr, List, [], ◌∷◌, ◌++◌, length, Some, None, Ok, refl, sym, ap, subst, arith}
+-- Pairs: what calls set that name two objects, or change them, fits; and what a pair names is there.
+use Rattle.std.proofs.Common.{◌≡◌, ◌∙◌, ℕ, zero, suc, ◌+◌, ◌<◌, ◌≤◌, true, inl, inr, List, [], ◌∷◌, length, map, Some, None, Ok, refl, sym, ap, subst, arith}
 use Rattle.std.proofs.lemmas.Bool.{and_from, and_parts, both_ways, true≢false, or_right}
-use Rattle.std.specs.Prelude.{◌==◌, ◌||◌, false, is_none, pos, slice_index, unwrap_or}
+use Rattle.std.specs.Prelude.{◌==◌, ◌||◌, is_none, pos, slice_index, unwrap_or}
+use Rattle.jc_transient.specs.Cells.{number_of}
 use Rattle.jc_transient.specs.declared.cell.CellValue.TheVariants.{Short}
 use Rattle.jc_heap.specs.Heap.{HeapState, cells, facts}
 use Rattle.jc_heap.specs.Moves.{SetPlaces, Write}
@@ -10,44 +11,40 @@ use Rattle.jc_heap.specs.declared.object.Kind.{Kind}
 use Rattle.jc_heap.specs.declared.object.Kind.TheVariants.{ByteArray, ReferenceArray}
 use Rattle.jc_heap.specs.declared.place.Place.{Place}
 use Rattle.jc_heap.specs.declared.place.Place.TheVariants as place
-use Rattle.jc_heap.specs.Places.{cell_changes}
 use Rattle.jc_heap.specs.Whole.{IsReference}
 use Rattle.jc_frames.specs.declared.cell.Cell.{Cell}
 use Rattle.jc_memory.specs.Cells.{cells_effect, word_at, word_in, word_of}
 use Rattle.jc_memory.specs.Making.{creation_move}
 use Rattle.jc_memory.specs.Programs.{Choose, Either, Finish, Perform, Program}
 use Rattle.jc_memory.specs.Reading.{AllDue, AllResults}
-use Rattle.jc_memory.specs.State.{HeapMove, MemoryState, apply_effect}
+use Rattle.jc_memory.specs.State.{HeapMove, MemoryState, SetTransient, apply_effect}
 use Rattle.jc_memory.proofs.Room.{facts-places}
 use Rattle.jc_linker.specs.Classes.{is_a, reference_cell}
 use Rattle.jc_linker.specs.Values.{Packages}
-use Rattle.jc_platform.specs.Distinct.{class_word}
 use Rattle.jc_platform.specs.Hierarchy.{cells_of, holds_reference}
-use Rattle.jc_platform.specs.Names.{classes}
-use Rattle.jc_platform.specs.declared.names.PlatformClass.TheVariants.{KeyPair}
+use Rattle.jc_platform.specs.declared.names.PlatformClass.{PlatformClass}
 use Rattle.jc_platform.specs.declared.names.PlatformMethod.{PlatformMethod}
 use Rattle.jc_card_checks.specs.Objects.{is_instance, is_object_address, is_persistent_instance, is_reference}
 use Rattle.jc_world.specs.Answers.{and_then}
-use Rattle.jc_world.specs.Objects.{is_instance_of}
+use Rattle.jc_world.specs.Objects.{reference_argument}
 use Rattle.jc_world.specs.Objects as called
 use Rattle.jc_world.specs.declared.arrays.Stretch.{Stretch}
 use Rattle.jc_api.specs.Factory.{engine_creation, engine_object, number_cell, state_array, state_cell}
 use Rattle.jc_api.specs.Pairing.{named_in, pair_words}
 use Rattle.jc_api.specs.declared.factory.NewEngine.{NewEngine}
-use Rattle.jc_api.specs.declared.pairing.NamedObject.TheVariants.{New}
+use Rattle.jc_api.specs.declared.pairing.NamedObject.{NamedObject}
+use Rattle.jc_api.specs.declared.pairing.NamedObject.TheVariants.{Argument, New}
 use Rattle.jc_api.specs.declared.pairing.NewPair.{NewPair}
 use Rattle.jc_api.proofs.EngineRoom.{with_array}
 use Rattle.jc_api.proofs.PairingCalls.{IsReceiverOf, NamesBoth, NamesSo, PairsSo}
 use Rattle.jc_api.proofs.Passing.{RefersToNew}
 use Rattle.jc_api.proofs.Reaching.{same_Ok}
-use Rattle.jc_api_pairs.specs.KeyPair.{of_given_keys, of_new_keys}
-use Rattle.jc_api_pairs.specs.KeyPair.Changes.{both_changes, counts_once, places_in, public_changes}
-use Rattle.jc_api_pairs.specs.KeyPair.Keys.{times_cell}
-use Rattle.jc_api_pairs.proofs.KeyPairClasses.{pairs_have_state}
-use Rattle.jc_api_pairs.proofs.PairPasses.{AreKeys, AreReached, IsOwnPair, PairPasses}
+use Rattle.jc_api_pairs.proofs.PairForms.{AreOfPairs, FormsPass, IsOfPair, IsPairClass, IsPairNumber, IsReachedByte}
+use Rattle.jc_api_pairs.proofs.PairPasses.{AreReached}
 use Rattle.law_linking.specs.Classes.{KnowsClasses}
 use Rattle.law_soundness.specs.Fit.{FitPlaces, FitsPlace, IsFit, OfPlaces}
 use Rattle.law_soundness.specs.Living.{AreLivingCells}
+use Rattle.law_soundness.specs.LocalEffects.{AreElsewhere}
 use Rattle.law_soundness.specs.State.{IsSoundMemory, IsSteady}
 use Rattle.law_soundness.proofs.Effects.{keeps_sound}
 use Rattle.law_soundness.proofs.Engines.{engine_fits}
@@ -56,32 +53,8 @@ use Rattle.law_soundness.proofs.LocalEffects.{calm_stays}
 use Rattle.law_soundness.proofs.NativeArrays.{run_in}
 use Rattle.law_soundness.proofs.RunObjects.{instance_no_array, kept_behind, kept_fits}
 use Rattle.law_soundness.proofs.Stateful.{cell_is, no_aid, no_pin}
-use Rattle.law_soundness.proofs.Still.{IsStill, Lives, cells_elsewhere, made_still, run_still}
+use Rattle.law_soundness.proofs.Still.{IsStill, Lives, made_still, run_still}
 use Rattle.law_soundness.proofs.Transients.{names_object, numbers_fit}
-
--- ---- the cells of a pair
-
-three_cells : (k : ℕ) → k < 3 → 0 + k < cells_of KeyPair
-unfolding cells_of classes
-three_cells k lt = omega (arith, lt)
-
-key_cell : (i : ℕ) → i ≤ 1 → suc i < cells_of KeyPair
-unfolding cells_of classes
-key_cell i few = omega (arith, few)
-
-key_refers : (i : ℕ) → i ≤ 1 → holds_reference KeyPair (suc i) ≡ true
-unfolding holds_reference classes
-key_refers zero few = refl
-key_refers (suc zero) few = refl
-key_refers (suc (suc i)) few = absurd (omega (arith, few))
-
-number_there : 0 < cells_of KeyPair
-unfolding cells_of classes
-number_there = omega arith
-
-number_refers : holds_reference KeyPair 0 ≡ false
-unfolding holds_reference classes
-number_refers = refl
 
 -- ---- kinds
 
@@ -97,39 +70,45 @@ named_so : (h : HeapState) (r : ℕ) → IsReference h r → is_reference h r �
 named_so h r (inl null) = ap (λ n. n == 0 || is_object_address h n) null
 named_so h r (inr there) = or_right (r == 0) (is_object_address h r) there
 
--- of the words of a pair those in cells that hold references are such
-words_refer : (h : HeapState) (first second : ℕ) → is_reference h first ≡ true → is_reference h second ≡ true → (k : ℕ) → k < 3
-    → holds_reference KeyPair (0 + k) ≡ true → is_reference h (slice_index (pair_words (pos 0) first second) k) ≡ true
-unfolding holds_reference classes
-words_refer h first second one two zero lt holds = absurd (true≢false (sym holds))
-words_refer h first second one two (suc zero) lt holds = one
-words_refer h first second one two (suc (suc zero)) lt holds = two
-words_refer h first second one two (suc (suc (suc k))) lt holds = absurd (omega (arith, lt))
+-- an argument that is a reference is one of the heap
+argument_named : (h : HeapState) (args : List Cell) → AreLivingCells h args → (i r : ℕ) → reference_argument args i ≡ Some r → IsReference h r
+argument_named h args living i r is = names_object h r (subst (λ o. is_reference h (unwrap_or o 0) ≡ true) is (argument_lives h args living i))
+
+module _ (class : PlatformClass) (pairs : IsPairClass class) where
+  cell_there : (k : ℕ) → k < 3 → k < cells_of class
+  cell_there k lt = let three : 3 ≤ cells_of class = pairs.cells in omega (arith, lt, three)
+
+  -- of the words of a pair those in cells that hold references are such
+  words_refer : (h : HeapState) (first second : ℕ) → is_reference h first ≡ true → is_reference h second ≡ true → (k : ℕ) → k < 3
+      → holds_reference class (0 + k) ≡ true → is_reference h (slice_index (pair_words (pos 0) first second) k) ≡ true
+  words_refer h first second one two zero lt holds = absurd (true≢false (sym holds ∙ pairs.number))
+  words_refer h first second one two (suc zero) lt holds = one
+  words_refer h first second one two (suc (suc zero)) lt holds = two
+  words_refer h first second one two (suc (suc (suc k))) lt holds = absurd (omega (arith, lt))
 
 module _ (p : Packages) (known : KnowsClasses p) where
   -- what the cells of a pair are set to fits
-  words_fit : (m : MemoryState) → IsSoundMemory p m → (args : List Cell) (a : NewPair) → a.class ≡ KeyPair → a.number ≡ pos 0 → (first second : ℕ)
+  words_fit : (m : MemoryState) → IsSoundMemory p m → (args : List Cell) (a : NewPair) → IsPairClass a.class → a.number ≡ pos 0 → (first second : ℕ)
       → is_reference m.heap.now first ≡ true → is_reference m.heap.now second ≡ true → NamesBoth (IsFit p) args p a first second m
-  words_fit m sound args a class number first second one two own is =
+  words_fit m sound args a pairs number first second one two own is =
       subst (λ n. IsFit p (cells_effect m own 0 (pair_words n first second)) m) (sym number)
       (run_in p m own 0 (pair_words (pos 0) first second) (facts m.heap.now own).event refl
       (let long = is.there.cells in omega (arith, long)) (
         λ stays.
             let instances = kept_fits p m sound own is.there.there stays in
-            let of : is_a p (facts m.heap.now own).class KeyPair ≡ true =
-            (and_parts (called.is_instance (facts m.heap.now own).kind) _ (subst (λ c. is_instance_of p (facts m.heap.now own) (class_word p.platform c) ≡ true) class is.instance)).1 in
+            let of : is_a p (facts m.heap.now own).class a.class ≡ true = (and_parts (called.is_instance (facts m.heap.now own).kind) _ is.instance).1 in
             inr (record {
               fits = λ k lt. record {
-                reference = λ holds. words_refer m.heap.now first second one two k lt
-                    (sym (cell_is p known (facts m.heap.now own).class KeyPair pairs_have_state instances of (0 + k) (three_cells k lt)) ∙ holds);
-                aid = λ isnt. absurd (no_aid p known (facts m.heap.now own).class KeyPair pairs_have_state instances of isnt);
-                pin = λ isnt. absurd (no_pin p known (facts m.heap.now own).class KeyPair pairs_have_state instances of isnt);
+                reference = λ holds. words_refer a.class pairs m.heap.now first second one two k lt
+                    (sym (cell_is p known (facts m.heap.now own).class a.class pairs.state instances of (0 + k) (cell_there a.class pairs (0 + k) (omega (arith, lt)))) ∙ holds);
+                aid = λ isnt. absurd (no_aid p known (facts m.heap.now own).class a.class pairs.state instances of isnt);
+                pin = λ isnt. absurd (no_pin p known (facts m.heap.now own).class a.class pairs.state instances of isnt);
               };
             }),
         λ array. absurd (instance_no_array (facts m.heap.now own).kind (ap is_instance is.there.instance) array),
       ))
 
-  -- ---- new keys
+  -- ---- new objects
 
   -- what is done without a change of registry or transaction leaves a sound memory steady, and references as they are
   settles : (h : HeapState) {A : Type 0} (d : Program A) (m : MemoryState) → ((r : ℕ) → IsReference h r → IsReference m.heap.now r) → IsSoundMemory p m
@@ -158,148 +137,131 @@ module _ (p : Packages) (known : KnowsClasses p) where
       let named = refers.stays r state_cell array with_number r (refers.stays r number_cell (word_of (Short e.number)) with_instance r (refers.new o made r other)) in
       subst (IsReference (apply_effect (HeapMove (Write (place.Cell r state_cell) array)) with_number).heap.now) (same_Ok r q is) named
 
-  second_fits : RefersToNew Lives → (args : List Cell) (public private : NewEngine) (first : ℕ) (v : MemoryState) → IsSoundMemory p v → IsSteady v
-      → IsReference v.heap.now first
-      → NamesSo (IsFit p) (λ second w. NamesBoth (IsFit p) args p (of_new_keys public private) first second w) args p (New private) v
-  second_fits refers args public private first v sound steady is has there space room = (
-    engine_fits p v known sound steady private has there room,
-    λ array new r other second named.
-        let left = settles v.heap.now (engine_creation private p v) v (λ x so. so) sound steady (engine_fits p v known sound steady private has there room)
-        (engine_still v private) array new r other in
-        words_fit _ left.0 args (of_new_keys public private) refl refl first second (named_so _ first (left.2 first is))
-        (named_so _ second (engine_named refers v private array new r other second named)),
+  -- an object that is to be named may be made, and then whatever follows is so
+  object_fits : RefersToNew Lives → (args : List Cell) (K : ℕ → MemoryState → Type 0) (object : NamedObject) (m : MemoryState)
+      → ((i r : ℕ) → reference_argument args i ≡ Some r → IsReference m.heap.now r) → IsSoundMemory p m → IsSteady m
+      → ((r : ℕ) (v : MemoryState) → IsSoundMemory p v → IsSteady v → ((q : ℕ) → IsReference m.heap.now q → IsReference v.heap.now q)
+      → IsReference v.heap.now r → K r v) → NamesSo (IsFit p) K args p object m
+  object_fits refers args K (Argument i) m living sound steady so = λ r is. so r m sound steady (λ q there. there) (living i r is)
+  object_fits refers args K (New e) m living sound steady so = λ has there space room. (
+    engine_fits p m known sound steady e has there room,
+    λ array new r other name is.
+        let left = settles m.heap.now (engine_creation e p m) m (λ q stands. stands) sound steady (engine_fits p m known sound steady e has there room)
+        (engine_still m e) array new r other in
+        so name _ left.0 left.1 left.2 (engine_named refers m e array new r other name is),
   )
 
-  new_fits : RefersToNew Lives → (m : MemoryState) → IsSoundMemory p m → IsSteady m → (args : List Cell) (public private : NewEngine)
-      → PairsSo (IsFit p) args p (of_new_keys public private) m
-  new_fits refers m sound steady args public private has there space room = (
-    engine_fits p m known sound steady public has there room,
-    λ array new r other first named.
-        let left = settles m.heap.now (engine_creation public p m) m (λ x so. so) sound steady (engine_fits p m known sound steady public has there room)
-        (engine_still m public) array new r other in
-        second_fits refers args public private first _ left.0 left.1 (engine_named refers m public array new r other first named),
-  )
+  names_fit : RefersToNew Lives → (m : MemoryState) → IsSoundMemory p m → IsSteady m → (args : List Cell) → AreLivingCells m.heap.now args → (a : NewPair)
+      → IsPairClass a.class → a.number ≡ pos 0 → PairsSo (IsFit p) args p a m
+  names_fit refers m sound steady args living a pairs number =
+      object_fits refers args _ a.first m (argument_named m.heap.now args living) sound steady (λ first v fine calm kept one.
+      object_fits refers args _ a.second v (λ i r is. kept r (argument_named m.heap.now args living i r is)) fine calm (λ second w good still stays two.
+      words_fit w good args a pairs number first second (named_so w.heap.now first (stays first one)) (named_so w.heap.now second two)))
 
-  -- ---- given keys
+  -- ---- what a pair names
 
-  given_fits : (m : MemoryState) → IsSoundMemory p m → (args : List Cell) → AreLivingCells m.heap.now args → PairsSo (IsFit p) args p of_given_keys m
-  given_fits m sound args living first named second named_too = words_fit m sound args of_given_keys refl refl first second
-      (subst (λ o. is_reference m.heap.now (unwrap_or o 0) ≡ true) named (argument_lives m.heap.now args living 1))
-      (subst (λ o. is_reference m.heap.now (unwrap_or o 0) ≡ true) named_too (argument_lives m.heap.now args living 2))
-
-  -- ---- the keys of a pair
-
-  pub keys_live : (args : List Cell) (m : MemoryState) → IsSoundMemory p m → (i own : ℕ) → i ≤ 1 → IsReceiverOf KeyPair (suc i + 1) args p m own
-      → (facts m.heap.now own).event ≡ None → Lives m (word_at m own (suc i))
-  keys_live args m sound i own few is event =
+  pub named_live : (class : PlatformClass) → IsPairClass class → (args : List Cell) (m : MemoryState) → IsSoundMemory p m → (i own : ℕ) → i ≤ 1
+      → IsReceiverOf class (suc i + 1) args p m own → (facts m.heap.now own).event ≡ None → Lives m (word_at m own (suc i))
+  named_live class pairs args m sound i own few is event =
       let h = m.heap.now in
       let instance : is_instance (facts h own).kind ≡ true = ap is_instance (is.there).instance in
       let stays : is_persistent_instance (facts h own) ≡ true = and_from (is_instance (facts h own).kind) _ instance (ap is_none event) in
       let fit = sound.now.objects own (kept_behind p m sound own (is.there).there stays) (is.there).there in
       let instances = kept_fits p m sound own (is.there).there stays in
-      let of : is_a p (facts h own).class KeyPair ≡ true = (and_parts (called.is_instance (facts h own).kind) _ is.instance).1 in
+      let of : is_a p (facts h own).class class ≡ true = (and_parts (called.is_instance (facts h own).kind) _ is.instance).1 in
       let long : length (cells h own) ≡ (facts h own).length = fit.cells event in
       let within : suc i < length (cells h own) = let all = (is.there).cells in omega (arith, all, long) in
       let word : word_at m own (suc i) ≡ slice_index (cells h own) (suc i) = ap (λ e. word_in e m own (suc i)) event in
       names_object h (word_at m own (suc i)) (ap (λ n. is_reference h n) word ∙ (fit.values stays).references (suc i) within
-      (cell_is p known (facts h own).class KeyPair pairs_have_state instances of (suc i) (key_cell i few) ∙ key_refers i few))
+      (cell_is p known (facts h own).class class pairs.state instances of (suc i) (cell_there class pairs (suc i) (omega (arith, few)))
+      ∙ pairs.named i few))
 
-  -- ---- the data of two keys, and the number of a pair
-
-  abbrev after_public : MemoryState → ℕ → Stretch → List ℕ → MemoryState
-  after_public m own public bytes = apply_effect (HeapMove (SetPlaces (public_changes m own public bytes))) m
+  -- ---- the places of a pair and of what it names
 
   -- elements of a persistent array of bytes may be set
-  element_fits : (m : MemoryState) (e : Stretch) (bytes : List ℕ) → AreReached p m e bytes → (facts m.heap.now e.array).event ≡ None → (i v : ℕ)
-      → i < e.start + length bytes → FitsPlace p m.heap.now (place.Cell e.array i) v
-  element_fits m e bytes is event i v lt =
+  byte_fits : (m : MemoryState) (r i v : ℕ) → IsReachedByte p m r i → FitsPlace p m.heap.now (place.Cell r i) v
+  byte_fits m r i v is =
       let within = is.within in (
-        (event, omega (arith, lt, within)),
+        (is.event, omega (arith, within)),
         (
-          (λ stays. absurd (array_no_instance (facts m.heap.now e.array).kind is.kind (and_parts (is_instance (facts m.heap.now e.array).kind) _ stays).0)),
-          (λ references. absurd (array_of_bytes (facts m.heap.now e.array).kind is.kind references)),
+          (λ stays. absurd (array_no_instance (facts m.heap.now r).kind is.kind (and_parts (is_instance (facts m.heap.now r).kind) _ stays).0)),
+          (λ references. absurd (array_of_bytes (facts m.heap.now r).kind is.kind references)),
         ),
       )
 
   -- and the number of a pair
-  count_fits : (m : MemoryState) → IsSoundMemory p m → (own : ℕ) → IsOwnPair p m own → (v : ℕ) → FitsPlace p m.heap.now (place.Cell own times_cell) v
-  count_fits m sound own is v =
-      let instance : is_instance (facts m.heap.now own).kind ≡ true = ap is_instance (is.there).instance in
-      let stays : is_persistent_instance (facts m.heap.now own) ≡ true = and_from (is_instance (facts m.heap.now own).kind) _ instance (ap is_none is.event) in
-      let instances = kept_fits p m sound own (is.there).there stays in
-      let of : is_a p (facts m.heap.now own).class KeyPair ≡ true = (and_parts (called.is_instance (facts m.heap.now own).kind) _ is.instance).1 in
-      let three = (is.there).cells in (
+  number_fits : (m : MemoryState) → IsSoundMemory p m → (r i v : ℕ) → IsPairNumber p m r i → FitsPlace p m.heap.now (place.Cell r i) v
+  number_fits m sound r i v is =
+      let instance : is_instance (facts m.heap.now r).kind ≡ true = ap is_instance (is.there).instance in
+      let stays : is_persistent_instance (facts m.heap.now r) ≡ true = and_from (is_instance (facts m.heap.now r).kind) _ instance (ap is_none is.event) in
+      let instances = kept_fits p m sound r (is.there).there stays in
+      let of : is_a p (facts m.heap.now r).class is.class ≡ true = (and_parts (called.is_instance (facts m.heap.now r).kind) _ is.instance).1 in
+      let state = (is.pairs).state in
+      let three = (is.there).cells in
+      subst (λ k. FitsPlace p m.heap.now (place.Cell r k) v) (sym is.first) (
         (is.event, omega (arith, three)),
         (
           (λ kept. record {
-            reference = λ holds. absurd (both_ways (reference_cell p (facts m.heap.now own).class 0) (cell_is p known (facts m.heap.now own).class KeyPair
-                pairs_have_state instances of 0 number_there ∙ number_refers) holds);
-            aid = λ isnt. absurd (no_aid p known (facts m.heap.now own).class KeyPair pairs_have_state instances of isnt);
-            pin = λ isnt. absurd (no_pin p known (facts m.heap.now own).class KeyPair pairs_have_state instances of isnt);
+            reference = λ holds. absurd (both_ways (reference_cell p (facts m.heap.now r).class 0) (cell_is p known (facts m.heap.now r).class is.class
+                state instances of 0 (cell_there is.class is.pairs 0 (omega arith)) ∙ (is.pairs).number) holds);
+            aid = λ isnt. absurd (no_aid p known (facts m.heap.now r).class is.class state instances of isnt);
+            pin = λ isnt. absurd (no_pin p known (facts m.heap.now r).class is.class state instances of isnt);
           }),
-          (λ array. absurd (instance_no_array (facts m.heap.now own).kind instance array)),
+          (λ array. absurd (instance_no_array (facts m.heap.now r).kind instance array)),
         ),
       )
 
-  -- so may all of them, and what comes after them
-  all_fit : (m : MemoryState) (e : Stretch) (bytes : List ℕ) → AreReached p m e bytes → (facts m.heap.now e.array).event ≡ None → (rest : List (Place × ℕ))
-      → FitPlaces p m.heap.now rest → (i : ℕ) (vs : List ℕ) → i + length vs ≤ e.start + length bytes
-      → FitPlaces p m.heap.now (cell_changes e.array i vs ++ rest)
-  all_fit m e bytes is event rest fit i [] within = fit
-  all_fit m e bytes is event rest fit i (v ∷ vs) within =
-      (element_fits m e bytes is event i v (omega (arith, within)), all_fit m e bytes is event rest fit (suc i) vs (omega (arith, within)))
+  place_fits : (m : MemoryState) → IsSoundMemory p m → (c : Place × ℕ) → IsOfPair p m c.0 → FitsPlace p m.heap.now c.0 c.1
+  place_fits m sound (place.Cell r i, v) (inl is) = byte_fits m r i v is
+  place_fits m sound (place.Cell r i, v) (inr is) = number_fits m sound r i v is
+  place_fits m sound (place.Static r j, v) is = absurd is
+  place_fits m sound (place.Registry i, v) is = absurd is
+  place_fits m sound (place.AppletCount, v) is = absurd is
 
-  elements_and : (m : MemoryState) (e : Stretch) (bytes : List ℕ) → AreReached p m e bytes → (facts m.heap.now e.array).event ≡ None
-      → (rest : List (Place × ℕ)) → FitPlaces p m.heap.now rest → FitPlaces p m.heap.now (places_in e bytes ++ rest)
-  elements_and m e bytes is event rest fit = all_fit m e bytes is event rest fit e.start bytes (omega arith)
+  places_fit : (m : MemoryState) → IsSoundMemory p m → (cs : List (Place × ℕ)) → AreOfPairs p m cs → FitPlaces p m.heap.now cs
+  places_fit m sound [] are = tt
+  places_fit m sound (c ∷ cs) are = (place_fits m sound c are.0, places_fit m sound cs are.1)
 
-  both_fit : (m : MemoryState) → IsSoundMemory p m → (own : ℕ) (public : Stretch) (bytes : List ℕ) (private : Stretch) (number : List ℕ)
-      → AreKeys p m own public bytes private number → (facts m.heap.now private.array).event ≡ None
-      → IsFit p (HeapMove (SetPlaces (both_changes m own public bytes private number))) m
-  both_fit m sound own public bytes private number are event = OfPlaces (elements_and m public bytes are.public are.event _
-      (elements_and m private number are.private event (counts_once m own) (count_fits m sound own are.pair _, tt)))
-
-  public_fits : (m : MemoryState) → IsSoundMemory p m → (own : ℕ) (public : Stretch) (bytes : List ℕ) (private : Stretch) (number : List ℕ)
-      → AreKeys p m own public bytes private number → IsFit p (HeapMove (SetPlaces (public_changes m own public bytes))) m
-  public_fits m sound own public bytes private number are = OfPlaces (elements_and m public bytes are.public are.event (counts_once m own)
-      (count_fits m sound own are.pair _, tt))
+  -- elements of a transient array after them
+  after_fits : (m : MemoryState) (cs : List (Place × ℕ)) (e : Stretch) (bytes : List ℕ) → AreReached p m e bytes
+      → IsFit p (SetTransient e.array e.start (map number_of bytes)) (apply_effect (HeapMove (SetPlaces cs)) m)
+  after_fits m cs e bytes is =
+      let after = apply_effect (HeapMove (SetPlaces cs)) m in
+      let header : facts after.heap.now e.array ≡ facts m.heap.now e.array = facts-places m.heap.now cs e.array in
+      let within = is.within in
+      let long = ap (λ (f : Facts). f.length) header in
+      numbers_fit after e.array e.start bytes (omega (arith, within, long))
+      (λ references. array_of_bytes (facts m.heap.now e.array).kind is.kind (ap (λ (f : Facts). f.kind) (sym header) ∙ references))
 
   -- ---- all calls
 
-  pub pairs_fit : RefersToNew Lives → (m : MemoryState) → IsSoundMemory p m → IsSteady m → (args : List Cell) → AreLivingCells m.heap.now args
-      → (method : PlatformMethod) → PairPasses (IsFit p) Lives method args p m
-  pairs_fit refers m sound steady args living method = record {
-    both = λ own public bytes private number are event. both_fit m sound own public bytes private number are event;
-    public = λ own public bytes private number are. public_fits m sound own public bytes private number are;
-    private = λ own public bytes private number are event kept.
-        let header : facts (after_public m own public bytes).heap.now private.array ≡ facts m.heap.now private.array =
-        facts-places m.heap.now (public_changes m own public bytes) private.array in
-        let within = (are.private).within in
-        let long = ap (λ (f : Facts). f.length) header in
-        numbers_fit (after_public m own public bytes) private.array private.start number (omega (arith, within, long))
-        (λ references. array_of_bytes (facts m.heap.now private.array).kind (are.private).kind (ap (λ (f : Facts). f.kind) (sym header) ∙ references));
-    given = λ sets. given_fits m sound args living;
-    new = λ sets public private. new_fits refers m sound steady args public private;
-    keys = keys_live args m sound;
+  pub forms_fit : RefersToNew Lives → (m : MemoryState) → IsSoundMemory p m → IsSteady m → (args : List Cell) → AreLivingCells m.heap.now args
+      → (method : PlatformMethod) → FormsPass (IsFit p) Lives method args p m
+  forms_fit refers m sound steady args living method = record {
+    places = λ cs are. OfPlaces (places_fit m sound cs are);
+    after = λ cs are e bytes is event kept. after_fits m cs e bytes is;
+    names = λ sets a pairs number. names_fit refers m sound steady args living a pairs number;
+    named = λ class pairs i own few is event. named_live class pairs args m sound i own few is event;
   }
 
   -- and they are still
-  pub pairs_still : (m : MemoryState) → IsSoundMemory p m → (args : List Cell) (method : PlatformMethod) → PairPasses IsStill Lives method args p m
-  pairs_still m sound args method = record {
-    both = λ own public bytes private number are event. (
-      cells_elsewhere bytes public.array public.start _
-          (cells_elsewhere number private.array private.start _ (tt, tt)),
-      refl,
-    );
-    public = λ own public bytes private number are. (cells_elsewhere bytes public.array public.start _ (tt, tt), refl);
-    private = λ own public bytes private number are event kept. (tt, refl);
-    given = λ sets first named second named_too own is. run_still m (facts m.heap.now own).event own 0 (pair_words (pos 0) first second);
-    new = λ sets public private has there space room. (
-      engine_still m public,
-      λ array new r other first named has_too there_too space_too room_too. (
-        engine_still _ private,
-        λ array_too new_too s other_too second named_too own is. run_still _ (facts _ own).event own 0 (pair_words (pos 0) first second),
-      ),
-    );
-    keys = keys_live args m sound;
+  place_elsewhere : (m : MemoryState) (cs : List (Place × ℕ)) → AreOfPairs p m cs → AreElsewhere cs
+  place_elsewhere m [] are = tt
+  place_elsewhere m ((place.Cell r i, v) ∷ cs) are = (tt, place_elsewhere m cs are.1)
+  place_elsewhere m ((place.Static r j, v) ∷ cs) are = absurd are.0
+  place_elsewhere m ((place.Registry i, v) ∷ cs) are = absurd are.0
+  place_elsewhere m ((place.AppletCount, v) ∷ cs) are = absurd are.0
+
+  object_still : (args : List Cell) (K : ℕ → MemoryState → Type 0) (object : NamedObject) (m : MemoryState) → ((r : ℕ) (v : MemoryState) → K r v)
+      → NamesSo IsStill K args p object m
+  object_still args K (Argument i) m so = λ r is. so r m
+  object_still args K (New e) m so = λ has there space room. (engine_still m e, λ array new r other name is. so name _)
+
+  pub forms_still : (m : MemoryState) → IsSoundMemory p m → (args : List Cell) (method : PlatformMethod) → FormsPass IsStill Lives method args p m
+  forms_still m sound args method = record {
+    places = λ cs are. (place_elsewhere m cs are, refl);
+    after = λ cs are e bytes is event kept. (tt, refl);
+    names = λ sets a pairs number. object_still args _ a.first m (λ first v. object_still args _ a.second v (λ second w own is.
+        run_still w (facts w.heap.now own).event own 0 (pair_words a.number first second)));
+    named = λ class pairs i own few is event. named_live class pairs args m sound i own few is event;
   }

@@ -18,6 +18,7 @@ use Rattle.jc_api_keys.specs.declared.key_objects.contents.Key.{Key}
 use Rattle.jc_api_keys.specs.declared.key_parts.KeyPart.TheVariants as part
 use Rattle.jc_api_keys.specs.declared.key_types.PairKey.{PairKey}
 use Rattle.jc_api_keys.specs.declared.key_types.PairKey.TheVariants.{RsaPublic, RsaPrivate, RsaCrtPrivate, EcPublic, EcPrivate}
+use Rattle.jc_api_pairs.specs.CurveParts.{AreCurveParts, curve_parts_of}
 use Rattle.jc_api_pairs.specs.declared.key_agreement.Agreement.{Agreement}
 use Rattle.jc_api_pairs.specs.declared.key_agreement.algorithms.AgreementAlgorithm.{AgreementAlgorithm}
 use Rattle.jc_api_pairs.specs.declared.key_agreement.keys.PrivateParts.{PrivateParts}
@@ -33,17 +34,12 @@ is_ec_private (Some EcPrivate) = true
 
 -- the parts of such a key, or what is thrown for the first that is not set
 abbrev pub private_parts : MemoryState → Key → Result PrivateParts FrameExit
-private_parts m key = and_then (key_part m key part.Field) (λ field. and_then (key_part m key part.A) (λ a. and_then (key_part m key part.B) (λ b.
-    and_then (key_part m key part.G) (λ generator. and_then (key_part m key part.R) (λ order. and_then (key_part m key part.S) (λ secret.
-    Ok (record { field = field; a = a; b = b; generator = generator; order = order; secret = secret })))))))
+private_parts m key = and_then (curve_parts_of m key) (λ curve. and_then (key_part m key part.S) (λ secret.
+    Ok (record { curve = curve; secret = secret })))
 
 -- they are there
 pub record ArePartsThere (m : MemoryState) (parts : PrivateParts) : Type 0 where
-  pub field : IsInArray m parts.field
-  pub a : IsInArray m parts.a
-  pub b : IsInArray m parts.b
-  pub generator : IsInArray m parts.generator
-  pub order : IsInArray m parts.order
+  pub curve : AreCurveParts m parts.curve
   pub secret : IsInArray m parts.secret
 
 -- by what the multiple is taken besides the private key: the cofactor, two bytes, or 1

@@ -10,37 +10,21 @@ use Rattle.jc_world.specs.Answers.{and_then}
 use Rattle.jc_world.specs.Arrays.{bytes_in}
 use Rattle.jc_world.specs.declared.arrays.Stretch.{Stretch}
 use Rattle.jc_api.specs.Forms.{CallAnswer, puts}
-use Rattle.jc_public_keys.specs.CurveBytes.{CurveBytes}
 use Rattle.jc_public_keys.specs.SharedSecrets.{secret_x}
 use Rattle.jc_api_keys.specs.Exceptions.{illegal_value}
 use Rattle.jc_api_keys.specs.Receivers.{output_of}
+use Rattle.jc_api_pairs.specs.CurveParts.{are_curve_parts_short, curve_of_parts, most_number}
 use Rattle.jc_api_pairs.specs.declared.key_agreement.algorithms.Secret.{Secret}
 use Rattle.jc_api_pairs.specs.declared.key_agreement.algorithms.Secret.TheVariants.{Hashed, Plain}
 use Rattle.jc_api_pairs.specs.declared.key_agreement.keys.PrivateParts.{PrivateParts}
 
--- how many bytes a number of a curve has at most
-abbrev pub most_number : ℕ
-most_number = 66
-
--- the parts of a key have no more, and its base point and a public key with this many bytes are as long as uncompressed points
+-- the parts of a key have no more bytes than the numbers of a curve, and a public key with this many bytes is as long as an uncompressed point
 abbrev pub are_short : PrivateParts → ℕ → Bool
-are_short parts public = nat_le parts.field.count most_number && (nat_le parts.a.count most_number && (nat_le parts.b.count most_number
-    && (nat_le parts.order.count most_number && (nat_le parts.secret.count most_number
-    && (parts.generator.count == 2 * parts.field.count + 1 && public == 2 * parts.field.count + 1)))))
-
--- the curve of a key
-abbrev pub curve_in : MemoryState → PrivateParts → CurveBytes
-curve_in m parts = record {
-  field = bytes_in m parts.field;
-  a = bytes_in m parts.a;
-  b = bytes_in m parts.b;
-  generator = bytes_in m parts.generator;
-  order = bytes_in m parts.order;
-}
+are_short parts public = are_curve_parts_short parts.curve && (nat_le parts.secret.count most_number && public == 2 * (parts.curve).field.count + 1)
 
 -- the x that both sides share (SEC 1, 3.3)
 abbrev pub shared_x : MemoryState → PrivateParts → ℕ → Stretch → Option (List ℕ)
-shared_x m parts factor public = secret_x (curve_in m parts) (bytes_in m parts.secret) factor (bytes_in m public)
+shared_x m parts factor public = secret_x (curve_of_parts m parts.curve) (bytes_in m parts.secret) factor (bytes_in m public)
 
 -- what is made of it
 abbrev pub secret_of : Secret → List ℕ → List ℕ

@@ -8,6 +8,7 @@ ghost use Rattle.jc_api_keys.specs.KeyObjects.Parts.{number_at};
 ghost use Rattle.jc_api_keys.specs.KeyTypes.{pair_key_named};
 ghost use Rattle.jc_api_pairs.specs.KeyAgreement.Keys.{ArePartsThere, factor_if, factor_of, is_ec_private, key_given, kept_key, private_parts};
 
+use crate::curve_parts::{CurveParts, curve_parts_of};
 use crate::key_agreement::Agreement;
 use crate::key_agreement::algorithms::AgreementAlgorithm;
 use jc_api_keys::exceptions::{ILLEGAL_VALUE, INVALID_INIT};
@@ -25,11 +26,7 @@ use jc_world::Stretch;
 /// The elements that are the parts of a private key on a curve.
 #[derive(Clone, Copy)]
 pub struct PrivateParts {
-    pub field: Stretch,
-    pub a: Stretch,
-    pub b: Stretch,
-    pub generator: Stretch,
-    pub order: Stretch,
+    pub curve: CurveParts,
     pub secret: Stretch,
 }
 
@@ -66,20 +63,9 @@ pub(crate) fn private_parts<S: WordStore>(
     ensures there { IfOk result (ArePartsThere memory.now) }
     ensures plain { plainly result ≡ result }
 {
-    let field = key_part(key, KeyPart::Field, memory)?;
-    let a = key_part(key, KeyPart::A, memory)?;
-    let b = key_part(key, KeyPart::B, memory)?;
-    let generator = key_part(key, KeyPart::G, memory)?;
-    let order = key_part(key, KeyPart::R, memory)?;
+    let curve = curve_parts_of(key, memory)?;
     let secret = key_part(key, KeyPart::S, memory)?;
-    Ok(PrivateParts {
-        field,
-        a,
-        b,
-        generator,
-        order,
-        secret,
-    })
+    Ok(PrivateParts { curve, secret })
 }
 
 // The number that two elements are, the first one high.

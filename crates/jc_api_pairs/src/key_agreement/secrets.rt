@@ -7,10 +7,12 @@ ghost use Rattle.jc_api.specs.Forms.{reading_call};
 ghost use Rattle.jc_api_pairs.specs.KeyAgreement.Keys.{ArePartsThere};
 ghost use Rattle.jc_api_pairs.specs.KeyAgreement.Secrets.{are_short, puts_of, puts_secret, shared_x};
 
+use crate::curve_parts::{
+    MOST_NUMBER, MOST_POINT, are_curve_parts_short, parameters_of, read_curve_parts,
+};
 use crate::key_agreement::algorithms::Secret;
 use crate::key_agreement::keys::PrivateParts;
 use jc_api_keys::receivers::{output_of, read};
-use jc_curves::curves::Parameters;
 use jc_frames::Cell;
 use jc_linker::linked::Linked;
 use jc_memory::Memory;
@@ -19,25 +21,13 @@ use jc_words::WordStore;
 use jc_world::{NativeResult, StepExit, Stretch, put, short};
 use sha1::Sha1;
 
-/// How many bytes a number of a curve has at most.
-pub(crate) const MOST_NUMBER: usize = 66;
-
-/// How many bytes a point has at most.
-pub(crate) const MOST_POINT: usize = 2 * MOST_NUMBER + 1;
-
-/// The parts of a key have no more bytes than the numbers of a curve, and its base point and a public key with this many bytes as many as they
-/// must have.
+/// The parts of a key have no more bytes than the numbers of a curve, and a public key with this many bytes is as long as an uncompressed point.
 pub(crate) fn are_short(parts: &PrivateParts, public: u16) -> bool
     ensures { result ≡ are_short parts.now public }
 {
-    let most = MOST_NUMBER as u16;
-    parts.field.count <= most
-        && parts.a.count <= most
-        && parts.b.count <= most
-        && parts.order.count <= most
-        && parts.secret.count <= most
-        && parts.generator.count == 2 * parts.field.count + 1
-        && public == 2 * parts.field.count + 1
+    are_curve_parts_short(&parts.curve)
+        && parts.secret.count <= MOST_NUMBER as u16
+        && public == 2 * parts.curve.field.count + 1
 }
 
 /// Writes the x that they share. It returns false where there is none.
@@ -52,38 +42,17 @@ pub(crate) fn put_shared_x<S: WordStore>(
     requires there { ArePartsThere memory.now parts.now }
     requires public { IsInArray memory.now public }
     requires short { are_short parts.now public.count ≡ true }
-    requires room { length to.old ≡ parts.now.field.count }
+    requires room { length to.old ≡ parts.now.curve.field.count }
     ensures { (if result then Some to.new else None) ≡ shared_x memory.now parts.now factor public }
 {
-    let mut field = [0; MOST_NUMBER];
-    let field = &mut field[..parts.field.count as usize];
-    read(parts.field, memory, field);
-    let mut a = [0; MOST_NUMBER];
-    let a = &mut a[..parts.a.count as usize];
-    read(parts.a, memory, a);
-    let mut b = [0; MOST_NUMBER];
-    let b = &mut b[..parts.b.count as usize];
-    read(parts.b, memory, b);
-    let mut generator = [0; MOST_POINT];
-    let generator = &mut generator[..parts.generator.count as usize];
-    read(parts.generator, memory, generator);
-    let mut order = [0; MOST_NUMBER];
-    let order = &mut order[..parts.order.count as usize];
-    read(parts.order, memory, order);
+    let bytes = read_curve_parts(&parts.curve, memory);
+    let parameters = parameters_of(&parts.curve, &bytes, u32::from(factor));
     let mut secret = [0; MOST_NUMBER];
     let secret = &mut secret[..parts.secret.count as usize];
     read(parts.secret, memory, secret);
     let mut point = [0; MOST_POINT];
     let point = &mut point[..public.count as usize];
     read(public, memory, point);
-    let parameters = Parameters {
-        field,
-        a,
-        b,
-        generator,
-        order,
-        cofactor: u32::from(factor),
-    };
     put_x(&parameters, secret, point, to)
 }
 

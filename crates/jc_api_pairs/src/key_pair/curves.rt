@@ -1,77 +1,33 @@
 //! New keys on the curve of a public key.
 ghost use Rattle.std.specs.Option.{option_map};
-ghost use Rattle.std.specs.Prelude.{◌≡◌, ◌≤◌, ◌++◌, ◌+◌, false, true, length, IfOk, Ok, Some, None, if◌then◌else◌};
+ghost use Rattle.std.specs.Prelude.{◌≡◌, ◌≤◌, ◌++◌, ◌+◌, false, true, length, Ok, Some, None, if◌then◌else◌};
 ghost use Rattle.jc_memory.specs.Programs.{Executes};
 ghost use Rattle.jc_world.specs.Arrays.{IsInArray, bytes_in};
 ghost use Rattle.jc_world.specs.NativeCalls.{after_call};
-ghost use Rattle.jc_api.specs.Exits.{plainly};
 ghost use Rattle.jc_api_keys.specs.KeyObjects.Contents.{IsKey};
 ghost use Rattle.jc_public_keys.specs.CurveKeys.{CurveKeyPair, key_pair_of};
+ghost use Rattle.jc_api_pairs.specs.CurveParts.{AreCurveParts, are_curve_parts_short, curve_of_parts};
 ghost use Rattle.jc_api_pairs.specs.KeyPair.Changes.{generating_call};
-ghost use Rattle.jc_api_pairs.specs.KeyPair.Curves.{AreCurveParts, are_curve_parts_short, change_with, curve_change, curve_of_parts, curve_parts_of, keys_with};
+ghost use Rattle.jc_api_pairs.specs.KeyPair.Curves.{change_with, curve_change, keys_with};
 ghost use Rattle.jc_api_pairs.specs.KeyPair.Keys.{IsPair};
 ghost use Rattle.jc_api_pairs.specs.KeyPair.NewKeys.{part_bytes, sets_keys_of};
 
-use crate::key_agreement::secrets::{MOST_NUMBER, MOST_POINT};
+use crate::curve_parts::{
+    CurveParts, MOST_NUMBER, MOST_POINT, are_curve_parts_short, curve_parts_of, parameters_of,
+    read_curve_parts,
+};
 use crate::key_pair::keys::KeysOfPair;
 use crate::key_pair::new_keys::{SEED, change_keys, put_part, put_seed};
 use jc_api_keys::ec_keys::curve_size;
 use jc_api_keys::exceptions::ILLEGAL_VALUE;
-use jc_api_keys::key_objects::contents::Key;
-use jc_api_keys::key_objects::parts::key_part;
 use jc_api_keys::key_parts::{KeyPart, MOST_DATA, place_of};
 use jc_api_keys::receivers::read;
-use jc_curves::curves::Parameters;
-use jc_frames::{Cell, FrameExit, Outcome};
+use jc_frames::{Cell, Outcome};
 use jc_linker::linked::Linked;
 use jc_memory::Memory;
 use jc_public_keys::curve_keys::put_key_pair;
 use jc_words::WordStore;
 use jc_world::{NativeResult, StepExit, Stretch};
-
-/// The elements that are the domain parameters of a key, but for the cofactor.
-#[derive(Clone, Copy)]
-pub struct CurveParts {
-    pub field: Stretch,
-    pub a: Stretch,
-    pub b: Stretch,
-    pub generator: Stretch,
-    pub order: Stretch,
-}
-
-// The domain parameters of a key. One that is not set throws UNINITIALIZED_KEY.
-fn curve_parts_of<S: WordStore>(key: &Key, memory: &Memory<S>) -> Result<CurveParts, FrameExit>
-    requires up { memory.now.heap.down ≡ false }
-    requires key { IsKey memory.now key.now }
-    ensures parts { result ≡ curve_parts_of memory.now key.now }
-    ensures there { IfOk result (AreCurveParts memory.now) }
-    ensures plain { plainly result ≡ result }
-{
-    let field = key_part(key, KeyPart::Field, memory)?;
-    let a = key_part(key, KeyPart::A, memory)?;
-    let b = key_part(key, KeyPart::B, memory)?;
-    let generator = key_part(key, KeyPart::G, memory)?;
-    let order = key_part(key, KeyPart::R, memory)?;
-    Ok(CurveParts {
-        field,
-        a,
-        b,
-        generator,
-        order,
-    })
-}
-
-// They have no more bytes than the numbers of a curve, and the base point is as long as an uncompressed one.
-fn are_curve_parts_short(parts: &CurveParts) -> bool
-    ensures { result ≡ are_curve_parts_short parts.now }
-{
-    let most = MOST_NUMBER as u16;
-    parts.field.count <= most
-        && parts.a.count <= most
-        && parts.b.count <= most
-        && parts.order.count <= most
-        && parts.generator.count == 2 * parts.field.count + 1
-}
 
 // Writes the private number and the point of a new pair. It returns false where there is none.
 fn put_pair<S: WordStore>(
@@ -89,29 +45,8 @@ fn put_pair<S: WordStore>(
     ensures { (if result then Some (record { private = number.new; public = point.new }) else None)
         ≡ key_pair_of (curve_of_parts memory.now parts.now) seed.now }
 {
-    let mut field = [0; MOST_NUMBER];
-    let field = &mut field[..parts.field.count as usize];
-    read(parts.field, memory, field);
-    let mut a = [0; MOST_NUMBER];
-    let a = &mut a[..parts.a.count as usize];
-    read(parts.a, memory, a);
-    let mut b = [0; MOST_NUMBER];
-    let b = &mut b[..parts.b.count as usize];
-    read(parts.b, memory, b);
-    let mut generator = [0; MOST_POINT];
-    let generator = &mut generator[..parts.generator.count as usize];
-    read(parts.generator, memory, generator);
-    let mut order = [0; MOST_NUMBER];
-    let order = &mut order[..parts.order.count as usize];
-    read(parts.order, memory, order);
-    let parameters = Parameters {
-        field,
-        a,
-        b,
-        generator,
-        order,
-        cofactor: 1,
-    };
+    let bytes = read_curve_parts(parts, memory);
+    let parameters = parameters_of(parts, &bytes, 1);
     put_key_pair(&parameters, seed, number, point)
 }
 

@@ -5,7 +5,7 @@ ghost use Rattle.jc_digests.specs.Kept.{digest_size};
 ghost use Rattle.jc_world.specs.Arrays.{IsInArray, bytes_in};
 ghost use Rattle.jc_public_keys.specs.RsaSignatures.{least_modulus, signature_encoding};
 ghost use Rattle.jc_api_crypto.specs.PairParts.{AreRsaParts, power};
-ghost use Rattle.jc_api_crypto.specs.PairSigning.{AreParts, HasSize, IsRunningPair, ecdsa_by_parts, is_ecdsa_by_parts, is_iso_signature, is_iso_under, is_rsa_signature, is_signature_of, is_under, key_power, seed_of, signature_of};
+ghost use Rattle.jc_api_crypto.specs.PairSigning.{AreParts, HasSize, IsRunningPair, ecdsa_by_parts, is_ecdsa_by_parts, is_iso_signature, is_rsa_signature, is_signature_of, key_power, power_by_parts, power_under, seed_of, signature_of};
 
 use crate::signature::pair::RunningPair;
 use crate::signature::pair::ecdsa::{is_ecdsa, put_ecdsa};
@@ -185,31 +185,48 @@ fn put_power_of<S: WordStore>(
     put_power_by(key, signature, memory, to)
 }
 
-// Elements are a signature under an RSA key.
-fn is_under<S: WordStore>(
+// Writes the power of elements under an RSA key, and returns how many bytes it has. There is none where the modulus has another length.
+fn put_power_under<S: WordStore>(
     key: &RsaParts,
-    padding: SignaturePadding,
-    hash: HashAlgorithm,
-    digest: &[u8],
     given: Stretch,
     memory: &Memory<S>,
-) -> bool
+    to: &mut [u8],
+) -> Option<usize>
     requires up { memory.now.heap.down ≡ false }
     requires key { AreRsaParts memory.now key.now }
-    requires digest { length digest.now ≡ digest_size hash }
     requires given { IsInArray memory.now given }
-    ensures { result ≡ is_under memory.now padding hash digest.now given key.now }
+    requires room { length to.old ≡ MOST_ENCODING }
+    ensures power { option_map (λ n. take n to.new) result ≡ power_under memory.now given key.now }
+    ensures within { IfSome result (λ n. n ≤ MOST_ENCODING) }
 {
-    let modulus = key.modulus;
-    if given.count != modulus.count {
-        return false;
+    if given.count != key.modulus.count {
+        return None;
     }
-    let mut buffer = [0; MOST_ENCODING];
-    let encoding = &mut buffer[..given.count as usize];
-    if put_power_of(key, given, memory, encoding) {
-        is_encoding(padding, hash, digest, encoding)
+    let count = given.count as usize;
+    if put_power_of(key, given, memory, &mut to[..count]) {
+        Some(count)
     } else {
-        false
+        None
+    }
+}
+
+// The same under a key of any algorithm, of which only those of RSA have powers.
+fn put_power_by_parts<S: WordStore>(
+    parts: &Parts,
+    given: Stretch,
+    memory: &Memory<S>,
+    to: &mut [u8],
+) -> Option<usize>
+    requires up { memory.now.heap.down ≡ false }
+    requires parts { AreParts memory.now parts.now }
+    requires given { IsInArray memory.now given }
+    requires room { length to.old ≡ MOST_ENCODING }
+    ensures power { option_map (λ n. take n to.new) result ≡ power_by_parts memory.now given parts.now }
+    ensures within { IfSome result (λ n. n ≤ MOST_ENCODING) }
+{
+    match parts {
+        Parts::Rsa(key) => put_power_under(key, given, memory, to),
+        Parts::Primes(_) | Parts::Ec(_) => None,
     }
 }
 
@@ -228,34 +245,10 @@ fn is_rsa_signature<S: WordStore>(
     requires given { IsInArray memory.now given }
     ensures { result ≡ is_rsa_signature memory.now padding hash digest.now given parts.now }
 {
-    match parts {
-        Parts::Rsa(key) => is_under(key, padding, hash, digest, given, memory),
-        Parts::Primes(_) | Parts::Ec(_) => false,
-    }
-}
-
-// Elements are a signature under an RSA key by ISO/IEC 9796-2.
-fn is_iso_under<S: WordStore>(
-    key: &RsaParts,
-    first: &[u8],
-    digest: &[u8],
-    given: Stretch,
-    memory: &Memory<S>,
-) -> bool
-    requires up { memory.now.heap.down ≡ false }
-    requires key { AreRsaParts memory.now key.now }
-    requires given { IsInArray memory.now given }
-    ensures { result ≡ is_iso_under memory.now first.now digest.now given key.now }
-{
-    if given.count != key.modulus.count {
-        return false;
-    }
-    let mut buffer = [0; MOST_ENCODING];
-    let encoding = &mut buffer[..given.count as usize];
-    if put_power_of(key, given, memory, encoding) {
-        is_recovery_encoding(first, digest, encoding)
-    } else {
-        false
+    let mut encoding = [0; MOST_ENCODING];
+    match put_power_by_parts(parts, given, memory, &mut encoding) {
+        Some(n) => is_encoding(padding, hash, digest, &encoding[..n]),
+        None => false,
     }
 }
 
@@ -272,9 +265,10 @@ fn is_iso_signature<S: WordStore>(
     requires given { IsInArray memory.now given }
     ensures { result ≡ is_iso_signature memory.now first.now digest.now given parts.now }
 {
-    match parts {
-        Parts::Rsa(key) => is_iso_under(key, first, digest, given, memory),
-        Parts::Primes(_) | Parts::Ec(_) => false,
+    let mut encoding = [0; MOST_ENCODING];
+    match put_power_by_parts(parts, given, memory, &mut encoding) {
+        Some(n) => is_recovery_encoding(first, digest, &encoding[..n]),
+        None => false,
     }
 }
 
