@@ -1,5 +1,5 @@
 //! Cutting the power within a command, after each number of its word writes.
-ghost use Rattle.std.specs.Prelude.{◌≡◌, ◌<◌, ◌++◌, ◌∷◌, ℕ, true, List, [], length, IfOk, IfSome, MatchOption, MatchResult};
+ghost use Rattle.std.specs.Prelude.{◌≡◌, ◌<◌, ◌++◌, ◌∷◌, ℕ, true, List, [], None, length, IfOk, IfSome, MatchOption, MatchResult};
 ghost use Rattle.jcard_tear.specs.declared.tearing.TearFault.TheVariants.{NoMemory};
 ghost use Rattle.jcard_tear.specs.Faults.{IsUncutFor};
 ghost use Rattle.jcard_tear.specs.Kept.{IsKeptCut, IsKeptFor, IsKnown, IsShort, IsLastCut, IsReportedAt};
@@ -101,12 +101,40 @@ pub(crate) fn cut_all<P: Progress>(
     };
     let mut last = None;
     let mut cuts = Vec::new(alloc);
+    push_cuts(
+        alloc, words, command, &shared, &mut last, &mut cuts, progress,
+    )?;
+    Ok(cuts)
+}
+
+// Adds what each cut of the command left. What is let go at the end is the caller's, so that this has nothing to let go.
+fn push_cuts<P: Progress>(
+    alloc: Global,
+    words: &[u16],
+    command: Command,
+    shared: &Shared<'_>,
+    last: &mut Option<LastCut>,
+    cuts: &mut Vec<Cut>,
+    progress: &mut P,
+) -> Result<(), TearFault>
+    requires short { length words.now < 65536 }
+    requires whole { AreOfImage shared.now.objects.now }
+    requires card { IfSome shared.now.card (λ card. IsKeptFor words.now command card) }
+    requires known { shared.now.is_known ≡ true → IsKnown command shared.now.before.now }
+    requires first { last.old ≡ None }
+    requires none { cuts.old.items ≡ [] }
+    ensures { MatchResult result
+        (λ _. AreCuts words.now command.entry shared.now.spared.now shared.now.lenient.now shared.now.objects.now
+        shared.now.before.now shared.now.after.now 0 cuts.new.items
+        × IsUncutAt words.now command.entry (length cuts.new.items))
+        (λ fault. IsUncutFor words.now command.entry 1 fault) }
+{
     for number in 0..MOST {
         progress.tell_cut(number);
-        let Some(cut) = next_cut(alloc, words, command, number, &shared, &mut last)? else {
-            return Ok(cuts);
+        let Some(cut) = next_cut(alloc, words, command, number, shared, last)? else {
+            return Ok(());
         };
-        push_cut(&mut cuts, cut)?;
+        push_cut(cuts, cut)?;
     }
     Err(TearFault::TooManyCuts)
 }

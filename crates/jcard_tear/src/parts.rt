@@ -1,8 +1,8 @@
 //! A part of the cuts of a command, so that several runs share a large sweep.
-ghost use Rattle.std.specs.Prelude.{◌≡◌, ◌<◌, ◌+◌, ◌*◌, ℕ, List, true, length, option_map, IfOk, MatchResult};
+ghost use Rattle.std.specs.Prelude.{◌≡◌, ◌<◌, ◌+◌, ◌*◌, ℕ, List, [], None, true, length, option_map, IfOk, IfSome, MatchResult};
 ghost use Rattle.std.specs.Borrow.{Bor};
 ghost use Rattle.jcard_tear.specs.Faults.{IsLineUncut, IsUncutFor};
-ghost use Rattle.jcard_tear.specs.Kept.{IsKnown};
+ghost use Rattle.jcard_tear.specs.Kept.{IsKeptFor, IsKnown};
 ghost use Rattle.jcard_tear.specs.Parts.{AreEvery, IsLinePart, IsPartSwept};
 ghost use Rattle.jcard_tear.specs.ScriptLines.{line_of};
 ghost use Rattle.jcard_tear.specs.Sweeps.{IsUncutAt};
@@ -10,6 +10,7 @@ ghost use Rattle.jcard_tear.specs.Told.{AreOfImage};
 
 use crate::cuts::{Behind, Command, MOST, Shared, next_cut, push_cut};
 use crate::kept::kept_for;
+use crate::last_cut::LastCut;
 use crate::names::sweep_name;
 use crate::probes::probe_for;
 use crate::progress::Progress;
@@ -128,13 +129,44 @@ fn cut_every<P: Progress>(
     };
     let mut last = None;
     let mut cuts = Vec::new(alloc);
+    push_every(
+        alloc, words, command, &shared, first, step, &mut last, &mut cuts, progress,
+    )?;
+    Ok(cuts)
+}
+
+// Adds what these cuts left. What is let go at the end is the caller's, so that this has nothing to let go.
+fn push_every<P: Progress>(
+    alloc: Global,
+    words: &[u16],
+    command: Command,
+    shared: &Shared<'_>,
+    first: u16,
+    step: u16,
+    last: &mut Option<LastCut>,
+    cuts: &mut Vec<Cut>,
+    progress: &mut P,
+) -> Result<(), TearFault>
+    requires short { length words.now < 65536 }
+    requires whole { AreOfImage shared.now.objects.now }
+    requires card { IfSome shared.now.card (λ card. IsKeptFor words.now command card) }
+    requires known { shared.now.is_known ≡ true → IsKnown command shared.now.before.now }
+    requires first { last.old ≡ None }
+    requires none { cuts.old.items ≡ [] }
+    ensures cut { MatchResult result
+        (λ _. AreEvery words.now command.entry shared.now.spared.now shared.now.lenient.now shared.now.objects.now
+        shared.now.before.now shared.now.after.now first step cuts.new.items
+        × IsUncutAt words.now command.entry (first + step * length cuts.new.items))
+        (λ fault. IsUncutFor words.now command.entry step fault) }
+    ensures below { IfOk result (λ _. first + step * length cuts.new.items < 65536) }
+{
     let mut number = first;
     for _place in 0..MOST {
         progress.tell_cut(number);
-        let Some(cut) = next_cut(alloc, words, command, number, &shared, &mut last)? else {
-            return Ok(cuts);
+        let Some(cut) = next_cut(alloc, words, command, number, shared, last)? else {
+            return Ok(());
         };
-        push_cut(&mut cuts, cut)?;
+        push_cut(cuts, cut)?;
         let Some(next) = number.checked_add(step) else {
             return Err(TearFault::TooManyCuts);
         };

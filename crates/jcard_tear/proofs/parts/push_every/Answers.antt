@@ -4,15 +4,15 @@ use Rattle.jcard_tear.specs.Faults.{IsUncutFor}
 use Rattle.jcard_tear.specs.Sweeps.{IsToldCut, IsUncutAt}
 use Rattle.jcard_tear.proofs.EveryLists.{every_more, every_none, number_more}
 use Rattle.jcard_tear.proofs.Uncut.{every_past, memory_uncut, passed_on, steps_past}
-use Rattle.jcard_tear.proofs.parts.cut_every.Goals as goal
+use Rattle.jcard_tear.proofs.parts.push_every.Goals as goal
 
 pub loop-place-init : goal.loop-place-init
 loop-place-init g c = record {
-  cuts = rw c.new-cuts.ensures.items (every_none _ _ _ _ _ _ _ _ _);
-  count = rw c.new-cuts.ensures.items (omega arith);
+  cuts = rw c.requires.none (every_none _ _ _ _ _ _ _ _ _);
+  count = rw c.requires.none (omega arith);
   fits = omega (arith, c.ranges.first.fits);
-  places = rw c.new-cuts.ensures.items refl;
-  last = tt;
+  places = rw c.requires.none refl;
+  last = rw c.requires.first tt;
 }
 
 pub returns-in_default-clause-cut : goal.returns-in_default-clause-cut
@@ -28,10 +28,10 @@ loop-place-preserved g c =
     let cuts = c.loop-place.cuts.items in
     let cut : Cut = c.in-Some.cut in
     let told = rw c.in-Some.is at c.in_ok-cut.ensures.cut in
-    let here = subst (λ n. IsToldCut c.args.words.now c.args.command c.args.spared.now c.args.lenient.now c.args.objects.now c.args.before.now c.args.after.now n cut) c.loop-place.invariant.count told in
+    let here = subst (λ n. IsToldCut c.args.words.now c.args.command c.args.shared.now.spared.now c.args.shared.now.lenient.now c.args.shared.now.objects.now c.args.shared.now.before.now c.args.shared.now.after.now n cut) c.loop-place.invariant.count told in
     let next : c.in-Some-checked_add.next ≡ c.loop-place.number + c.args.step = search rules in
     record {
-      cuts = rw c.in_ok-push_cut.ensures (every_more c.args.words.now c.args.command c.args.spared.now c.args.lenient.now c.args.objects.now c.args.before.now c.args.after.now c.args.first c.args.step
+      cuts = rw c.in_ok-push_cut.ensures (every_more c.args.words.now c.args.command c.args.shared.now.spared.now c.args.shared.now.lenient.now c.args.shared.now.objects.now c.args.shared.now.before.now c.args.shared.now.after.now c.args.first c.args.step
           cuts cut c.loop-place.invariant.cuts here);
       count = number_more c.args.first c.args.step (length cuts) c.loop-place.number c.in-Some-checked_add.next c.loop-place.invariant.count next
           ∙ ap (λ n. c.args.first + c.args.step * n) (sym (ap length c.in_ok-push_cut.ensures ∙ length-append cuts (cut ∷ [])));
@@ -57,5 +57,5 @@ pub returns-clause-cut : goal.returns-clause-cut
 returns-clause-cut g c =
     let cuts = c.loop-place.cuts.items in
     let many : 65535 ≤ length cuts = omega (arith, c.loop-place.invariant.places, c.loop-place-test.false) in
-    every_past c.args.words.now c.args.command c.args.spared.now c.args.lenient.now c.args.objects.now c.args.before.now c.args.after.now c.args.first c.args.step cuts
+    every_past c.args.words.now c.args.command c.args.shared.now.spared.now c.args.shared.now.lenient.now c.args.shared.now.objects.now c.args.shared.now.before.now c.args.shared.now.after.now c.args.first c.args.step cuts
     c.loop-place.invariant.cuts (omega (arith, many)) (steps_past c.args.first c.args.step (length cuts) many)
