@@ -2,11 +2,11 @@
 _jcard() {
     local word=${COMP_WORDS[COMP_CWORD]} before=${COMP_WORDS[COMP_CWORD - 1]} words=""
     case $before in
-    --words | --journal | --line | --lines | --recovery | --part | --instructions) return ;;
+    --words | --journal | --line | --lines | --recovery | --part | --instructions | --model | --accept | --twice) return ;;
     --table | --probe | --junit | --map | --cover | --against) ;;
     *)
         if [ "$COMP_CWORD" -eq 1 ]; then
-            words="new run dump try tear test --help --version --program --reader"
+            words="new run dump try tear attack test --help --version --program --reader"
         elif [[ $word == -* ]]; then
             case ${COMP_WORDS[1]} in
             new) words="--words --table --journal --help" ;;
@@ -14,6 +14,7 @@ _jcard() {
             dump) words="--objects --all --secrets --against --help" ;;
             try) words="--words --table --journal --instructions --help" ;;
             tear) words="--probe --line --each --recovery --part --join --objects --instructions --help" ;;
+            attack) words="--model --accept --twice --probe --line --each --part --join --map --instructions --help" ;;
             test) words="--junit --table --words --journal --instructions --help" ;;
             --reader) words="--port --atr --log --help" ;;
             esac

@@ -1,3 +1,4 @@
+pub mod AttackLines
 pub mod CommandLine
 pub mod CommandWalk
 pub mod Digits

@@ -9,14 +9,17 @@ use Rattle.clap.specs.declared.error.kind.ErrorKind.{ErrorKind}
 use Rattle.clap.specs.declared.error.kind.ErrorKind.TheVariants.{DisplayHelp, OutOfMemory}
 use Rattle.jcard_outcomes.specs.declared.recoveries.Depth.{Depth}
 use Rattle.jcard_outcomes.specs.declared.recoveries.Depth.TheVariants.{Zero, One, Two, Three}
+use Rattle.jcard_outcomes.specs.declared.models.Models.{Models}
+use Rattle.jcard_arguments.specs.Attacks.{accepted_given, models_given, within_given}
 use Rattle.jcard_arguments.specs.Grammar.{program_grammar}
 use Rattle.jcard_arguments.specs.Numbers.{budget_given, lines_given}
 use Rattle.jcard_arguments.specs.declared.options.Lines.{Lines}
+use Rattle.jcard_arguments.specs.declared.options.AttackOptions.{AttackOptions}
 use Rattle.jcard_arguments.specs.declared.options.RunOptions.{RunOptions}
 use Rattle.jcard_arguments.specs.declared.options.TearOptions.{TearOptions}
 use Rattle.jcard_arguments.specs.declared.options.TestOptions.{TestOptions}
 use Rattle.jcard_arguments.specs.declared.arguments.Action.{Action}
-use Rattle.jcard_arguments.specs.declared.arguments.Action.TheVariants.{New, Run, Dump, DumpObjects, Compare, Try, Tear, Join, Test}
+use Rattle.jcard_arguments.specs.declared.arguments.Action.TheVariants.{New, Run, Dump, DumpObjects, Compare, Try, Tear, Attack, Join, Test}
 use Rattle.jcard_arguments.specs.declared.arguments.NoAction.{NoAction}
 use Rattle.jcard_arguments.specs.declared.arguments.NoAction.TheVariants.{Help, Refused, Misused, NoMemory}
 
@@ -40,6 +43,19 @@ pub record TearAsked : Type 0 where
   pub probe : Option Text
   pub line : Option Text
   pub depth : Depth
+  pub part : Option Text
+  pub instructions : Option ℕ
+
+-- which command of a script is attacked, by which faults, the end of an answer that none may get, within how many instructions after a fault a second
+-- one comes, if it is not 0, and what is asked after each
+pub record AttackAsked : Type 0 where
+  pub each : Bool
+  pub models : Models
+  pub accepted : Text
+  pub within : ℕ
+  pub map : Option Text
+  pub probe : Option Text
+  pub line : Option Text
   pub part : Option Text
   pub instructions : Option ℕ
 
@@ -68,6 +84,8 @@ pub data CommandLineRequest : Type 0 where
   ToTry : Text → Text → Text → Option Text → Option ℕ → CommandLineRequest
   -- commands of the script of the second name are cut, over the words of the image of the first
   ToTear : Text → Text → TearAsked → CommandLineRequest
+  -- a command of the script of the second name is attacked, over the words of the image of the first
+  ToAttack : Text → Text → AttackAsked → CommandLineRequest
   -- the parts of a sweep in these files are joined
   ToJoin : List Text → CommandLineRequest
   -- the rows of these files are answered by new cards in memory
@@ -189,6 +207,49 @@ abbrev pub tear_by : Option (Text × Text) → Option TearAsked → Option Comma
 tear_by (Some two) (Some asked) = Some (ToTear two.0 two.1 asked)
 tear_by two asked = None
 
+abbrev pub attack_with : Bool → Option Models → Option Text → Option ℕ → Option Text → Option Text → Option Text → Option Text → Option (Option ℕ)
+    → Option AttackAsked
+attack_with each (Some models) (Some accepted) (Some within) map probe line part (Some instructions) = Some (record {
+  each = each;
+  models = models;
+  accepted = accepted;
+  within = within;
+  map = map;
+  probe = probe;
+  line = line;
+  part = part;
+  instructions = instructions;
+})
+attack_with each models accepted within map probe line part instructions = None
+
+-- a line and each command together are nothing, nor is a part of one command
+abbrev pub is_no_attack : Bool → Option Text → Option Text → Bool
+is_no_attack each line part = (is_some line && each) || (is_some part && not each)
+
+abbrev pub attack_asked : List Row → Option AttackAsked
+attack_asked rows = if is_no_attack (is_given (first_of (codes "each") rows)) (first_of (codes "line") rows) (first_of (codes "part") rows) then None
+    else attack_with (is_given (first_of (codes "each") rows)) (models_given (first_of (codes "model") rows)) (accepted_given (first_of (codes "accept") rows))
+    (within_given (first_of (codes "twice") rows)) (first_of (codes "map") rows) (first_of (codes "probe") rows) (first_of (codes "line") rows)
+    (first_of (codes "part") rows) (budget_given (first_of (codes "instructions") rows))
+
+-- which faults a sweep is to try, or what is to be reported of them, is given
+abbrev pub chooses_faults : List Row → Bool
+chooses_faults rows = is_some (first_of (codes "model") rows) || is_some (first_of (codes "accept") rows) || is_some (first_of (codes "twice") rows)
+    || is_some (first_of (codes "map") rows)
+
+-- and which commands it is to attack, and with which probe
+abbrev pub chooses_attacked : List Row → Bool
+chooses_attacked rows = is_some (first_of (codes "probe") rows) || is_some (first_of (codes "line") rows) || is_given (first_of (codes "each") rows)
+    || is_some (first_of (codes "part") rows) || is_some (first_of (codes "instructions") rows)
+
+-- no option of an attack is given
+abbrev pub is_bare_attack : List Row → Bool
+is_bare_attack rows = not (chooses_faults rows || chooses_attacked rows)
+
+abbrev pub attack_by : Option (Text × Text) → Option AttackAsked → Option CommandLineRequest
+attack_by (Some two) (Some asked) = Some (ToAttack two.0 two.1 asked)
+attack_by two asked = None
+
 abbrev pub test_by : Option (List Text) → Option Text → Option Text → Option Text → Option Text → Option (Option ℕ) → Option CommandLineRequest
 test_by (Some files) junit table words journal (Some instructions) = Some (ToTest files (record {
   junit = junit;
@@ -219,6 +280,10 @@ abbrev pub tear_of : List Row → Option CommandLineRequest
 tear_of rows = if is_given (first_of (codes "join") rows) then join_by (is_bare rows) (all_of (codes "file") rows)
     else tear_by (two_of (all_of (codes "file") rows)) (tear_asked rows)
 
+abbrev pub attack_of : List Row → Option CommandLineRequest
+attack_of rows = if is_given (first_of (codes "join") rows) then join_by (is_bare_attack rows) (all_of (codes "file") rows)
+    else attack_by (two_of (all_of (codes "file") rows)) (attack_asked rows)
+
 abbrev pub test_of : List Row → Option CommandLineRequest
 test_of rows = test_by (all_of (codes "file") rows) (first_of (codes "junit") rows) (first_of (codes "table") rows) (first_of (codes "words") rows)
     (first_of (codes "journal") rows) (budget_given (first_of (codes "instructions") rows))
@@ -231,7 +296,8 @@ request_of named =
     else (if bytes_eq named.0 (codes "dump") then dump_of named.1
     else (if bytes_eq named.0 (codes "try") then try_of named.1
     else (if bytes_eq named.0 (codes "tear") then tear_of named.1
-    else (if bytes_eq named.0 (codes "test") then test_of named.1 else None)))))
+    else (if bytes_eq named.0 (codes "attack") then attack_of named.1
+    else (if bytes_eq named.0 (codes "test") then test_of named.1 else None))))))
 
 -- ---- what the words are taken for
 
@@ -290,6 +356,19 @@ tear_asked_by o = record {
   instructions = o.instructions;
 }
 
+abbrev pub attack_asked_by : AttackOptions → AttackAsked
+attack_asked_by o = record {
+  each = o.each;
+  models = o.models;
+  accepted = o.accepted.now;
+  within = o.within;
+  map = text_of o.map;
+  probe = text_of o.probe;
+  line = text_of o.line;
+  part = text_of o.part;
+  instructions = o.instructions;
+}
+
 abbrev pub test_asked_by : TestOptions → TestAsked
 test_asked_by o = record {
   junit = text_of o.junit;
@@ -308,6 +387,7 @@ request_by (DumpObjects image all secrets map) = ToListObjects image.now all sec
 request_by (Compare image other all secrets map) = ToCompare image.now other.now all secrets (text_of map)
 request_by (Try script words journal table instructions) = ToTry script.now words.now journal.now (text_of table) instructions
 request_by (Tear image script options) = ToTear image.now script.now (tear_asked_by options)
+request_by (Attack image script options) = ToAttack image.now script.now (attack_asked_by options)
 request_by (Join files) = ToJoin (texts_of files.items)
 request_by (Test files options) = ToTest (texts_of files.items) (test_asked_by options)
 

@@ -78,6 +78,13 @@ tear_grammar = with_rules (new_app (codes "tear")) (operands (codes "file") ∷ 
     ∷ flag (codes "why") ∷ value_option (codes "map") ∷ value_option (codes "probe") ∷ value_option (codes "line") ∷ value_option (codes "recovery") ∷ value_option (codes "part")
     ∷ value_option (codes "instructions") ∷ [])
 
+-- `attack IMAGE SCRIPT [--model MODELS] [--accept END] [--twice W] [--map FILE] [--probe FILE] [--line N | --each] [--part I/N] [--instructions N]`,
+-- `attack --join FILE..`
+abbrev pub attack_grammar : App
+attack_grammar = with_rules (new_app (codes "attack")) (operands (codes "file") ∷ flag (codes "join") ∷ value_option (codes "model")
+    ∷ value_option (codes "accept") ∷ value_option (codes "twice") ∷ value_option (codes "map") ∷ value_option (codes "probe") ∷ value_option (codes "line")
+    ∷ flag (codes "each") ∷ value_option (codes "part") ∷ value_option (codes "instructions") ∷ [])
+
 -- `test FILE.. [--junit FILE] [--table FILE] [--words N] [--journal C] [--instructions N]`
 abbrev pub test_grammar : App
 test_grammar = with_rules (new_app (codes "test")) (operands (codes "file") ∷ value_option (codes "junit") ∷ value_option (codes "table")
@@ -89,5 +96,5 @@ program_alone = on_top (λ s. record s { disable_help_subcommand = true }) (new_
 
 -- the program's name and one of its commands
 abbrev pub program_grammar : App
-program_grammar = with_subcommand (with_subcommand (with_subcommand (with_subcommand (with_subcommand (with_subcommand program_alone
-    new_grammar.top) run_grammar.top) dump_grammar.top) try_grammar.top) tear_grammar.top) test_grammar.top
+program_grammar = with_subcommand (with_subcommand (with_subcommand (with_subcommand (with_subcommand (with_subcommand (with_subcommand program_alone
+    new_grammar.top) run_grammar.top) dump_grammar.top) try_grammar.top) tear_grammar.top) attack_grammar.top) test_grammar.top

@@ -1,3 +1,4 @@
+pub mod Attacks
 pub mod CommandLine
 pub mod Grammar
 pub mod JoinedWords

@@ -1,10 +1,12 @@
 -- Plain command lines, and what they ask for: the options of a command after its operands.
-use Rattle.std.specs.Prelude.{All, ◌≡◌, false, true, List, [], ◌∷◌, ◌++◌, codes, slice_get, Some, None}
+use Rattle.std.specs.Prelude.{ℕ, All, ◌≡◌, false, true, List, [], ◌∷◌, ◌++◌, codes, slice_get, Some, None}
 use Rattle.clap.specs.Words.{Text}
 use Rattle.jcard_outcomes.specs.declared.recoveries.Depth.{Depth}
 use Rattle.jcard_outcomes.specs.declared.recoveries.Depth.TheVariants.{Zero}
-use Rattle.jcard_arguments.specs.CommandLine.{RunAsked, TearAsked, TestAsked, depth_of, request_of_words}
-use Rattle.jcard_arguments.specs.CommandLine.{ToJoin, ToList, ToListObjects, ToMake, ToRun, ToTear, ToTest, ToTry}
+use Rattle.jcard_outcomes.specs.Models.{all_models}
+use Rattle.jcard_arguments.specs.Attacks.{within_of}
+use Rattle.jcard_arguments.specs.CommandLine.{AttackAsked, RunAsked, TearAsked, TestAsked, depth_of, request_of_words}
+use Rattle.jcard_arguments.specs.CommandLine.{ToAttack, ToJoin, ToList, ToListObjects, ToMake, ToRun, ToTear, ToTest, ToTry}
 
 -- the word is no flag: it does not begin with a hyphen (45)
 abbrev pub IsNoFlag : Text → Type 0
@@ -17,6 +19,20 @@ plain_run = record { why = false; trace = false; expect = false; lines = None; m
 -- the last command is cut, and no recovery
 abbrev pub plain_tear : TearAsked
 plain_tear = record { each = false; objects = false; why = false; map = None; probe = None; line = None; depth = Zero; part = None; instructions = None }
+
+-- all faults of the last command are tried, none of which may get 9000
+abbrev pub plain_attack : AttackAsked
+plain_attack = record {
+  each = false;
+  models = all_models;
+  accepted = codes "9000";
+  within = 0;
+  map = None;
+  probe = None;
+  line = None;
+  part = None;
+  instructions = None;
+}
 
 -- cards of the usual size, and no report
 abbrev pub plain_test : TestAsked
@@ -101,6 +117,21 @@ TakesJoins = (name file : Text) (files : List Text) → IsNoFlag file → All Is
     → (request_of_words (name ∷ codes "tear" ∷ codes "--join" ∷ file ∷ files) ≡ Some (ToJoin (file ∷ files)))
     × (request_of_words (name ∷ codes "tear" ∷ file ∷ (files ++ codes "--join" ∷ [])) ≡ Some (ToJoin (file ∷ files)))
 
+-- `NAME attack IMAGE SCRIPT` asks to attack the last command of exactly this script over this image; with `--twice W`, where W is a number from 1 to 64,
+-- by two faults too, the second within W instructions after the first; with `--each --part I/N`, each command of this part of them
+abbrev pub TakesAttacks : Type 0
+TakesAttacks = (name image script value : Text) → IsNoFlag image → IsNoFlag script → IsNoFlag value
+    → (request_of_words (name ∷ codes "attack" ∷ image ∷ script ∷ []) ≡ Some (ToAttack image script plain_attack))
+    × ((within : ℕ) → within_of value ≡ Some within
+    → request_of_words (name ∷ codes "attack" ∷ image ∷ script ∷ codes "--twice" ∷ value ∷ []) ≡ Some (ToAttack image script (record plain_attack { within = within })))
+    × (request_of_words (name ∷ codes "attack" ∷ image ∷ script ∷ codes "--each" ∷ codes "--part" ∷ value ∷ [])
+    ≡ Some (ToAttack image script (record plain_attack { each = true; part = Some value })))
+
+-- `NAME attack --join FILE..` asks to join exactly these files, in this order
+abbrev pub TakesAttackJoins : Type 0
+TakesAttackJoins = (name file : Text) (files : List Text) → IsNoFlag file → All IsNoFlag files
+    → request_of_words (name ∷ codes "attack" ∷ codes "--join" ∷ file ∷ files) ≡ Some (ToJoin (file ∷ files))
+
 -- `NAME test FILE..` asks to answer the rows of exactly these files, in this order; with `--junit REPORT` after them, with a report of
 -- this name
 abbrev pub TakesTests : Type 0
@@ -110,4 +141,4 @@ TakesTests = (name file junit : Text) (files : List Text) → IsNoFlag file → 
 
 -- the plain lines of every command
 abbrev pub TakesPlainLines : Type 0
-TakesPlainLines = TakesRuns × TakesDumps × TakesNews × TakesTries × TakesTears × TakesJoins × TakesTests
+TakesPlainLines = TakesRuns × TakesDumps × TakesNews × TakesTries × TakesTears × TakesJoins × TakesAttacks × TakesAttackJoins × TakesTests

@@ -3,11 +3,13 @@ ghost use Rattle.std.specs.Prelude.{◌≡◌, ℕ, List, codes, IfErr, IfOk, No
 ghost use Rattle.std.specs.Borrow.{Bor};
 ghost use Rattle.clap.specs.Words.{all_of, found_of, rows_of};
 ghost use Rattle.jcard_arguments.specs.CommandLine.{IsReadAs, chooses_cuts, depth_of, dump_of, is_bare, join_by, new_of, request_of, run_asked, run_asked_by, run_of, shows_more};
+ghost use Rattle.jcard_arguments.specs.CommandLine.{attack_asked, attack_asked_by, attack_of, chooses_attacked, chooses_faults, is_bare_attack};
 ghost use Rattle.jcard_arguments.specs.CommandLine.{tear_asked, tear_asked_by, tear_of, test_of, text_of, texts_of, try_of, two_of};
 
 use crate::arguments::{Action, NoAction};
+use crate::attacks::{accepted_given, models_given, within_given};
 use crate::numbers::{budget_given, lines_given};
-use crate::options::{RunOptions, TearOptions, TestOptions};
+use crate::options::{AttackOptions, RunOptions, TearOptions, TestOptions};
 use crate::values::{is_given, value_of, values_of};
 use clap::ArgMatches;
 use jcard_outcomes::recoveries::Depth;
@@ -36,6 +38,7 @@ pub(crate) fn action_of<'a>(
         "dump" => dump_action(values),
         "try" => try_action(values),
         "tear" => tear_action(alloc, values),
+        "attack" => attack_action(alloc, values),
         "test" => test_action(alloc, values),
         _ => Err(NoAction::Misused("no such command")),
     }
@@ -176,7 +179,7 @@ fn tear_action<'a>(alloc: Global, values: &ArgMatches<'a>) -> Result<Action<'a>,
     ensures { IsReadAs (tear_of (rows_of (found_of values.now))) result }
 {
     if is_given(values, "join") {
-        return join_action(alloc, values);
+        return join_action(alloc, values, is_bare(values));
     }
     let Some((image, script)) = two_of(values_of(values, "file")) else {
         return Err(NoAction::Misused("tear takes an image and a script"));
@@ -203,11 +206,14 @@ fn two_of<'a>(texts: Option<&[&'a str]>) -> Option<(&'a str, &'a str)>
 }
 
 // What is done with the files to join, beside which no other option stands.
-fn join_action<'a>(alloc: Global, values: &ArgMatches<'a>) -> Result<Action<'a>, NoAction>
-    ensures { IsReadAs (join_by (is_bare (rows_of (found_of values.now)))
-        (all_of (codes "file") (rows_of (found_of values.now)))) result }
+fn join_action<'a>(
+    alloc: Global,
+    values: &ArgMatches<'a>,
+    is_bare: bool,
+) -> Result<Action<'a>, NoAction>
+    ensures { IsReadAs (join_by is_bare (all_of (codes "file") (rows_of (found_of values.now)))) result }
 {
-    if !is_bare(values) {
+    if !is_bare {
         return Err(NoAction::Misused("--join goes with no other option"));
     }
     let Some(files) = values_of(values, "file") else {
@@ -299,6 +305,95 @@ fn depth_of(text: Option<&str>) -> Option<Depth>
         },
         None => Some(Depth::Zero),
     }
+}
+
+// Whether it is given which faults a sweep tries, or what is reported of them.
+fn chooses_faults(values: &ArgMatches<'_>) -> bool
+    ensures { result ≡ chooses_faults (rows_of (found_of values.now)) }
+{
+    value_of(values, "model").is_some()
+        || value_of(values, "accept").is_some()
+        || value_of(values, "twice").is_some()
+        || value_of(values, "map").is_some()
+}
+
+// Whether it is given which commands a sweep attacks, or its probe.
+fn chooses_attacked(values: &ArgMatches<'_>) -> bool
+    ensures { result ≡ chooses_attacked (rows_of (found_of values.now)) }
+{
+    value_of(values, "probe").is_some()
+        || value_of(values, "line").is_some()
+        || is_given(values, "each")
+        || value_of(values, "part").is_some()
+        || value_of(values, "instructions").is_some()
+}
+
+// Whether no option of an attack is given.
+fn is_bare_attack(values: &ArgMatches<'_>) -> bool
+    ensures { result ≡ is_bare_attack (rows_of (found_of values.now)) }
+{
+    !(chooses_faults(values) || chooses_attacked(values))
+}
+
+fn attack_action<'a>(alloc: Global, values: &ArgMatches<'a>) -> Result<Action<'a>, NoAction>
+    ensures { IsReadAs (attack_of (rows_of (found_of values.now))) result }
+{
+    if is_given(values, "join") {
+        return join_action(alloc, values, is_bare_attack(values));
+    }
+    let Some((image, script)) = two_of(values_of(values, "file")) else {
+        return Err(NoAction::Misused("attack takes an image and a script"));
+    };
+    match attack_options(values) {
+        Ok(options) => Ok(Action::Attack {
+            image,
+            script,
+            options,
+        }),
+        Err(why) => Err(NoAction::Misused(why)),
+    }
+}
+
+// Which command is attacked, by which faults, and what is asked after each.
+fn attack_options<'a>(values: &ArgMatches<'a>) -> Result<AttackOptions<'a>, &'static str>
+    ensures ok { IfOk result (λ options. attack_asked (rows_of (found_of values.now))
+        ≡ Some (attack_asked_by options)) }
+    ensures none { IfErr result (λ _. attack_asked (rows_of (found_of values.now)) ≡ None) }
+{
+    let each = is_given(values, "each");
+    let map = value_of(values, "map");
+    let probe = value_of(values, "probe");
+    let line = value_of(values, "line");
+    let share = value_of(values, "part");
+    if line.is_some() && each {
+        return Err("--line does not go with --each");
+    }
+    if share.is_some() && !each {
+        return Err("--part goes with --each");
+    }
+    let Some(models) = models_given(value_of(values, "model")) else {
+        return Err("--model takes skip, turn and zero, parted by commas");
+    };
+    let Some(accepted) = accepted_given(value_of(values, "accept")) else {
+        return Err("--accept takes four hexadecimal digits in upper case, or more, an even number");
+    };
+    let Some(within) = within_given(value_of(values, "twice")) else {
+        return Err("--twice takes a number from 1 to 64");
+    };
+    let Some(instructions) = budget_given(value_of(values, "instructions")) else {
+        return Err(BAD_INSTRUCTIONS);
+    };
+    Ok(AttackOptions {
+        each,
+        models,
+        accepted,
+        within,
+        map,
+        probe,
+        line,
+        part: share,
+        instructions,
+    })
 }
 
 fn test_action<'a>(alloc: Global, values: &ArgMatches<'a>) -> Result<Action<'a>, NoAction>

@@ -8,7 +8,7 @@ ghost use Rattle.jcard_arguments.specs.PlainLines.{TakesPlainLines};
 
 use crate::actions::action_of;
 use crate::grammar::program;
-use crate::options::{RunOptions, TearOptions, TestOptions};
+use crate::options::{AttackOptions, RunOptions, TearOptions, TestOptions};
 use clap::error::ErrorKind;
 use clap::{ArgMatches, Error};
 use std::alloc::{AllocError, Global};
@@ -62,6 +62,12 @@ pub enum Action<'a> {
         image: &'a str,
         script: &'a str,
         options: TearOptions<'a>,
+    },
+    /// A command of the script is attacked, over copies of the words of the image.
+    Attack {
+        image: &'a str,
+        script: &'a str,
+        options: AttackOptions<'a>,
     },
     /// What the parts of a sweep have printed is joined.
     Join {

@@ -196,6 +196,48 @@ const JUNIT: Entry<'static> = Entry {
     help: "Writes a report for build servers to this file",
 };
 
+const MODEL: Entry<'static> = Entry {
+    kind: Kind::Value,
+    name: "model",
+    help: "Faults to try: skip, turn and zero, parted by commas [default: all]",
+};
+
+const ACCEPT: Entry<'static> = Entry {
+    kind: Kind::Value,
+    name: "accept",
+    help: "End of an answer that no fault may get, as 9000 or 01029000 [default: 9000]",
+};
+
+const TWICE: Entry<'static> = Entry {
+    kind: Kind::Value,
+    name: "twice",
+    help: "Tries a second fault too, within this many instructions after the first, 1 to 64",
+};
+
+const ASKED: Entry<'static> = Entry {
+    kind: Kind::Value,
+    name: "probe",
+    help: "Script that is answered after each fault, on the same card",
+};
+
+const ALL_ATTACKED: Entry<'static> = Entry {
+    kind: Kind::Flag,
+    name: "each",
+    help: "Attacks each command of the script",
+};
+
+const ATTACKED: Entry<'static> = Entry {
+    kind: Kind::Value,
+    name: "line",
+    help: "Attacks the command in this line of the script",
+};
+
+const SHARE: Entry<'static> = Entry {
+    kind: Kind::Value,
+    name: "part",
+    help: "With --each: attacks this part of the commands, as 1/4",
+};
+
 /// A command: its name, what it does, and its entries.
 #[derive(Clone, Copy, Drop)]
 pub(crate) struct Usage<'a> {
@@ -257,6 +299,24 @@ const TEAR: Usage<'static> = Usage {
     ],
 };
 
+const ATTACK: Usage<'static> = Usage {
+    name: "attack",
+    about: "Tries a fault at each instruction of a script's last command, and says what comes of it",
+    entries: &[
+        PARTS,
+        JOIN,
+        MODEL,
+        ACCEPT,
+        TWICE,
+        MAP,
+        ASKED,
+        ATTACKED,
+        ALL_ATTACKED,
+        SHARE,
+        INSTRUCTIONS,
+    ],
+};
+
 const TEST: Usage<'static> = Usage {
     name: "test",
     about: "Says which rows of files hold, on new cards in memory",
@@ -267,7 +327,7 @@ const TEST: Usage<'static> = Usage {
 pub(crate) fn program<'a>(alloc: Global) -> Result<Command<'a>, AllocError>
     ensures { IfOk result (λ c. app_of c ≡ program_grammar) }
 {
-    program_with(alloc, &[NEW, RUN, DUMP, TRY, TEAR, TEST])
+    program_with(alloc, &[NEW, RUN, DUMP, TRY, TEAR, ATTACK, TEST])
 }
 
 // The program with these commands.

@@ -3,6 +3,7 @@
 
 mod actions;
 pub mod arguments;
+mod attacks;
 mod grammar;
 pub mod joined_words;
 mod numbers;

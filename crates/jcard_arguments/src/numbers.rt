@@ -6,9 +6,9 @@ ghost use Rattle.jcard_arguments.specs.declared.options.Lines.TheVariants.{First
 
 use crate::options::Lines;
 
-// The number that decimal digits spell, if it is below 2^32.
+/// The number that decimal digits spell, if it is below 2^32.
 #[tactic(auto, using(crate::proofs::Digits::number_empty, crate::proofs::Digits::number_plus))]
-fn number_of(text: &str) -> Option<u32>
+pub(crate) fn number_of(text: &str) -> Option<u32>
     ensures { result ≡ number_of text.now }
 {
     let bytes = text.as_bytes();

@@ -1,5 +1,6 @@
 //! The options of the commands that have many.
 
+use jcard_outcomes::models::Models;
 use jcard_outcomes::recoveries::Depth;
 
 /// Which instructions of a command are traced.
@@ -50,6 +51,29 @@ pub struct TearOptions<'a> {
     /// How many recoveries are cut, one after the other.
     pub depth: Depth,
     /// The part of the cuts, as 1/4; else all.
+    pub part: Option<&'a str>,
+    /// At most this number of instructions of each command is carried out.
+    pub instructions: Option<u32>,
+}
+
+/// Which command of a script is attacked, by which faults, and what is asked after each.
+#[derive(Clone, Copy, Drop)]
+pub struct AttackOptions<'a> {
+    /// Each command, and not one alone.
+    pub each: bool,
+    /// The models of faults that are tried.
+    pub models: Models,
+    /// The end of an answer that no fault may get, hexadecimal digits in upper case: a status word, or data before it too.
+    pub accepted: &'a str,
+    /// Within how many instructions after a fault a second one is tried too; 0 where none is.
+    pub within: u32,
+    /// The file with the map whose names are used.
+    pub map: Option<&'a str>,
+    /// The file with the lines that are answered after each fault.
+    pub probe: Option<&'a str>,
+    /// The line of the command, a decimal number; else the last command.
+    pub line: Option<&'a str>,
+    /// The part of the commands, as 1/4; else all.
     pub part: Option<&'a str>,
     /// At most this number of instructions of each command is carried out.
     pub instructions: Option<u32>,

@@ -2,7 +2,7 @@
 use Rattle.std.specs.Prelude.{ℕ, ◌≡◌, ◌⊎◌, List, [], ◌∷◌, ◌++◌, codes, Result, Ok, Err, Option, Some}
 use Rattle.std.specs.Option.{unwrap_or}
 use Rattle.jcard_arguments.specs.CommandLine.{AskForHelp, AskForNothing, CommandLineRequest, RunAsked, TestAsked, request_of_words, text_of}
-use Rattle.jcard_arguments.specs.CommandLine.{ToCompare, ToJoin, ToList, ToListObjects, ToMake, ToRun, ToTear, ToTest, ToTry}
+use Rattle.jcard_arguments.specs.CommandLine.{ToAttack, ToCompare, ToJoin, ToList, ToListObjects, ToMake, ToRun, ToTear, ToTest, ToTry}
 use Rattle.jcard_arguments.specs.declared.arguments.NoAction.{NoAction}
 use Rattle.jcard_arguments.specs.declared.arguments.NoAction.TheVariants.{Help, Refused, Misused, NoMemory as NoRoom}
 use Rattle.jcard_images.specs.Dumps.{IsDump}
@@ -16,6 +16,7 @@ use Rattle.jcard_tests.specs.Tests.{IsTest}
 use Rattle.jcard_tests.specs.declared.asked.Asked.{Asked}
 use Rattle.jcard_files.specs.declared.fault.Fault.{Fault}
 use Rattle.jcard_files.specs.declared.fault.Fault.TheVariants.{BadCommandLine, NoMemory, CannotRead, WriteFailed}
+use Rattle.jcard_commands.specs.Attacked.{IsAttackWith}
 use Rattle.jcard_commands.specs.Listed.{IsTearWith, IsToldBy}
 use Rattle.jcard_commands.specs.Runs.{IsRun}
 use Rattle.jcard_commands.specs.RunOptions.{AreNamesRead, AreNamesUnread, AreOperands, IsCompared, IsCoverBegun, IsCovered}
@@ -65,6 +66,7 @@ IsDone (ToListObjects image all secrets map) ended text deeds = IsToldBy map (Is
 IsDone (ToCompare image other all secrets map) ended text deeds = IsToldBy map (IsComparison image other (record { all = all; secrets = secrets })) ended text deeds
 IsDone (ToTry script words journal table instructions) ended text deeds = IsTrial (budget_of instructions) script words journal table ended text deeds
 IsDone (ToTear image script asked) ended text deeds = IsToldBy asked.map (IsTearWith image script asked) ended text deeds
+IsDone (ToAttack image script asked) ended text deeds = IsAttackWith image script asked ended text deeds
 IsDone (ToJoin []) ended text deeds = IsRefused BadCommandLine ended text deeds
 IsDone (ToJoin (file ∷ files)) ended text deeds = IsJoining (file ∷ files) ended text deeds
 IsDone (ToTest files asked) ended text deeds = IsTestWith files asked ended text deeds

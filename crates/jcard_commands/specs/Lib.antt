@@ -1,3 +1,4 @@
+pub mod Attacked
 pub mod Commands
 pub mod Listed
 pub mod RunOptions

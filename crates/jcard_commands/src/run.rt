@@ -11,6 +11,7 @@ ghost use Rattle.jcard_arguments.specs.CommandLine.{ToJoin, test_asked_by, texts
 ghost use Rattle.jcard_commands.specs.Commands.{IsAnswered, IsDone, IsHelped, IsPerformed, IsTestWith};
 ghost use Rattle.jcard_files.specs.declared.fault.Fault.{Fault};
 
+use crate::attacked::attack_with;
 use crate::listed::{Listed, list};
 use crate::script_run::run_with;
 use crate::told::Listener;
@@ -211,6 +212,11 @@ fn act<'n, D: Disk, W: TextOut, P: Progress + Listener + Remarks + Timer>(
             };
             list(disk, listed, options.map, out, progress)
         }
+        Action::Attack {
+            image,
+            script,
+            options,
+        } => attack_with(disk, image, script, options, out, progress),
         Action::Join { files } => join(disk, &files, out),
         Action::Test { files, options } => test(disk, &files, options, out, progress),
     }

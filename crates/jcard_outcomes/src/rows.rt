@@ -99,7 +99,7 @@ fn push_row(text: &mut Vec<u8>, first: usize, last: usize, outcome: &[u8]) -> Re
 }
 
 /// Writes what a row says after its numbers.
-pub(crate) fn push_ended(text: &mut Vec<u8>, outcome: &[u8]) -> Result<(), AllocError>
+pub fn push_ended(text: &mut Vec<u8>, outcome: &[u8]) -> Result<(), AllocError>
     ensures { OnOk result (text.new.items ≡ text.old.items ++ ended outcome.now) }
 {
     text.extend_from_slice(b": ")?;
@@ -107,7 +107,8 @@ pub(crate) fn push_ended(text: &mut Vec<u8>, outcome: &[u8]) -> Result<(), Alloc
     text.extend_from_slice(b"\n")
 }
 
-fn push_numbers(text: &mut Vec<u8>, first: usize, last: usize) -> Result<(), AllocError>
+/// Writes a number, or the first and the last of several.
+pub fn push_numbers(text: &mut Vec<u8>, first: usize, last: usize) -> Result<(), AllocError>
     ensures { OnOk result (text.new.items ≡ text.old.items ++ numbers_text first last) }
 {
     push_number(text, first)?;

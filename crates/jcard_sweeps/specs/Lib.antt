@@ -1,3 +1,4 @@
+pub mod Attackings
 pub mod Cuttings
 pub mod Joinings
 pub mod SweepsAsked

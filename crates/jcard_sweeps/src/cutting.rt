@@ -171,8 +171,11 @@ fn cut_each_in<P: Progress>(
     })
 }
 
-// The commands in a part: as many as in each other one, but for the last ones, which have fewer, or none.
-fn commands_in<'s, 'a>(commands: &'s [ScriptLine<'a>], share: Share) -> &'s [ScriptLine<'a>]
+/// The commands in a part: as many as in each other one, but for the last ones, which have fewer, or none.
+pub(crate) fn commands_in<'s, 'a>(
+    commands: &'s [ScriptLine<'a>],
+    share: Share,
+) -> &'s [ScriptLine<'a>]
     requires { share.first < share.step }
     ensures { result.now ≡ commands_in share commands.now }
 {

@@ -1,6 +1,7 @@
-//! Cutting commands of a script over an image, and joining what parts report of that.
+//! Cutting and attacking commands of a script over an image, and joining what parts report of cuts.
 #![tactic(auto)]
 
+pub mod attacking;
 mod cutting;
 pub mod joining;
 mod remarking;

@@ -55,8 +55,8 @@ fn share_named<'n>(part: Option<&str>) -> Result<Option<Share>, Fault<'n>>
     }
 }
 
-// The number of the line that is meant, if one is named.
-fn number_of(line: Option<&str>) -> Option<usize>
+/// The number of the line that is meant, if one is named.
+pub(crate) fn number_of(line: Option<&str>) -> Option<usize>
     ensures { IsMeantBy (text_of line.entry) result }
 {
     match line {

@@ -24,9 +24,9 @@ pub(crate) fn tear_fault<'n>(names: Names<'n>, cause: TearFault) -> Fault<'n>
     }
 }
 
-// What it means that a script was not carried out in memory, where a text is read and written as long as there is memory.
+/// What it means that a script was not carried out in memory, where a text is read and written as long as there is memory.
 #[tactic(auto, using(crate::proofs::Tears::unpowered_unwritten))]
-fn tear_script_fault<'n>(names: Names<'n>, fault: ScriptFault) -> Fault<'n>
+pub(crate) fn tear_script_fault<'n>(names: Names<'n>, fault: ScriptFault) -> Fault<'n>
     ensures told { IsFaultInMemory names.entry.image.now fault result }
     ensures unwritten { is_unwritten (Err result) ≡ false }
 {
@@ -38,8 +38,8 @@ fn tear_script_fault<'n>(names: Names<'n>, fault: ScriptFault) -> Fault<'n>
     }
 }
 
-// What it means that the lines of a probe were not.
-fn tear_probe_fault<'n>(names: Names<'n>, fault: ScriptFault) -> Fault<'n>
+/// What it means that the lines of a probe were not.
+pub(crate) fn tear_probe_fault<'n>(names: Names<'n>, fault: ScriptFault) -> Fault<'n>
     ensures told { IsProbeFaultInMemory names.entry.image.now fault result }
     ensures unwritten { is_unwritten (Err result) ≡ false }
 {

@@ -68,8 +68,8 @@ pub fn tear_image<'n, D: Disk, W: TextOut, P: Progress + Remarks>(
     tear(disk, subject, asked, out, progress)
 }
 
-// The words of the image with this name, which is opened to read it alone.
-fn words_of<'n, D: Disk>(disk: &mut D, image: &'n str) -> Result<Vec<u16>, Fault<'n>>
+/// The words of the image with this name, which is opened to read it alone.
+pub(crate) fn words_of<'n, D: Disk>(disk: &mut D, image: &'n str) -> Result<Vec<u16>, Fault<'n>>
     ensures read { (deeds : List FileDeed) × D.does disk.old deeds disk.new × MatchResult result
         (λ words. IsImageRead image.now words.items deeds) (λ fault. IsImageUnread image.now fault deeds) }
     ensures short { IfOk result (λ words. length words.items < 65536) }
@@ -84,8 +84,8 @@ fn words_of<'n, D: Disk>(disk: &mut D, image: &'n str) -> Result<Vec<u16>, Fault
     }
 }
 
-// Carries the whole script out, so that a line that has no form is refused wherever it stands.
-fn carry_through<'n, M: Remarks>(
+/// Carries the whole script out, so that a line that has no form is refused wherever it stands.
+pub(crate) fn carry_through<'n, M: Remarks>(
     alloc: Global,
     subject: Subject<'n, '_>,
     budget: u32,
@@ -133,8 +133,11 @@ fn tear<'n, D: Disk, W: TextOut, P: Progress + Remarks>(
     }
 }
 
-// The lines of the probe with this name, if there is one.
-fn probe_of<'n, D: Disk>(disk: &mut D, probe: Option<&'n str>) -> Result<Option<Vec<u8>>, Fault<'n>>
+/// The lines of the probe with this name, if there is one.
+pub(crate) fn probe_of<'n, D: Disk>(
+    disk: &mut D,
+    probe: Option<&'n str>,
+) -> Result<Option<Vec<u8>>, Fault<'n>>
     ensures read { (deeds : List FileDeed) × D.does disk.old deeds disk.new × MatchResult result
         (λ given. IsProbeRead (text_of probe.entry) (option_map (λ text. text.items) given) deeds)
         (λ fault. IsProbeUnread (text_of probe.entry) fault deeds) }
@@ -147,8 +150,8 @@ fn probe_of<'n, D: Disk>(disk: &mut D, probe: Option<&'n str>) -> Result<Option<
     Ok(Some(text))
 }
 
-// The lines of a probe, lent.
-fn lent(probe: &Option<Vec<u8>>) -> Option<&[u8]>
+/// The lines of a probe, lent.
+pub(crate) fn lent(probe: &Option<Vec<u8>>) -> Option<&[u8]>
     ensures { text_of result ≡ option_map (λ text. text.items) probe.now }
 {
     match probe {

@@ -115,8 +115,8 @@ fn line_outcome<P: Progress>(
     }
 }
 
-// The text of a command: its line without spaces, and without the bytes that end it.
-fn command_text(alloc: Global, line: &[u8]) -> Result<Vec<u8>, AllocError>
+/// The text of a command: its line without spaces, and without the bytes that end it.
+pub fn command_text(alloc: Global, line: &[u8]) -> Result<Vec<u8>, AllocError>
     ensures { IfOk result (λ text. text.items ≡ command_text line.now) }
 {
     let mut text = Vec::new(alloc);

@@ -23,10 +23,10 @@ pub(crate) const BAD_LOG: RunFault = RunFault::Script(ScriptFault::PowerFault(Po
 
 /// What a script left: the words, whether the card is down, and what was printed.
 #[derive(Drop)]
-pub(crate) struct Ran {
-    pub(crate) words: Vec<u16>,
-    pub(crate) is_down: bool,
-    pub(crate) text: Vec<u8>,
+pub struct Ran {
+    pub words: Vec<u16>,
+    pub is_down: bool,
+    pub text: Vec<u8>,
 }
 
 /// Why a script was not carried out to its end.
@@ -82,12 +82,7 @@ pub(crate) fn run(
 }
 
 /// Carries out a script on the card of a copy of these words.
-pub(crate) fn run_copy(
-    alloc: Global,
-    words: &[u16],
-    script: &[u8],
-    budget: u32,
-) -> Result<Ran, RunFault>
+pub fn run_copy(alloc: Global, words: &[u16], script: &[u8], budget: u32) -> Result<Ran, RunFault>
     requires { length words.now < 65536 }
     ensures ran { MatchResult result (λ ran. HasRun budget words.now script.now ran)
         (λ fault. IsRunFault budget words.now script.now fault) }
@@ -220,7 +215,7 @@ pub(crate) fn left(
 }
 
 /// The words that a recovery and a migration of these leave.
-pub(crate) fn recovered(words: Vec<u16>) -> Result<Vec<u16>, RunFault>
+pub fn recovered(words: Vec<u16>) -> Result<Vec<u16>, RunFault>
     requires { vec_len words < 65536 }
     ensures heap { MatchResult result (λ found. plain_of found.items
         ≡ migrated 3 (recovered_of words.items)) (λ fault. IsLogFault fault) }
@@ -239,13 +234,14 @@ pub(crate) fn recovered(words: Vec<u16>) -> Result<Vec<u16>, RunFault>
 }
 
 /// The words of a store in memory, which itself refuses no write.
-pub(crate) fn words_of(store: FuseStore<MemStore>) -> Vec<u16>
+pub fn words_of(store: FuseStore<MemStore>) -> Vec<u16>
     ensures words { result.items ≡ store.words }
     ensures short { vec_len result < 65536 }
     ensures refuses_none { store.refusals.faults ≡ 0 }
 {
     let _size = store.size();
-    store.into_store().into_words()
+    let below = store.into_store();
+    below.into_words()
 }
 
 // The words of a store whose writes may be watched.

@@ -170,8 +170,8 @@ pub(crate) fn tries_in(alloc: Global, left: &Left) -> Result<Vec<u16>, TearFault
     }
 }
 
-// The last line of a text, without its line feed.
-fn last_line(text: &[u8]) -> &[u8]
+/// The last line of a text, without its line feed.
+pub fn last_line(text: &[u8]) -> &[u8]
     ensures { IsLastLine text.now result.now }
 {
     let end = text.len().saturating_sub(1);

@@ -1,6 +1,8 @@
 use Rattle.std.proofs.Common.{◌∙◌, List, ℕ, ap, subst, sym}
 use Rattle.std.proofs.lemmas.Result.{MatchResult-weaker}
 use Rattle.jc_commit.specs.Image.{plain_of}
+use Rattle.jcard_outcomes.specs.declared.standing.Left.{Left}
+use Rattle.jcard_tear.specs.Faults.{IsProbeFault}
 use Rattle.jcard_tear.specs.Runs.{IsRecovered, Runs}
 use Rattle.jcard_tear.proofs.Uncut.{memory_probed, passed_on}
 use Rattle.jcard_tear.proofs.last_cut.first_left.Goals as goal

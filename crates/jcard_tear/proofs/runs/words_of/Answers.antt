@@ -3,4 +3,4 @@ use Rattle.jc_words.specs.Stores.{StoreValue}
 use Rattle.jcard_tear.proofs.runs.words_of.Goals as goal
 
 pub returns-clause-refuses_none : goal.returns-clause-refuses_none
-returns-clause-refuses_none c = sym (ap (λ (v : StoreValue). v.refused) c.into_store.ensures)
+returns-clause-refuses_none c = sym (ap (λ (v : StoreValue). v.refused) c.into_store-below.ensures)

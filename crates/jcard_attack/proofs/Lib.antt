@@ -1,0 +1,12 @@
+pub mod Begins
+pub mod EachStruck
+pub mod Joins
+pub mod KeptFaults
+pub mod KindLists
+pub mod LastLines
+pub mod Places
+pub mod RowSteps
+pub mod Strikes
+pub mod StruckLists
+pub mod Unswept
+pub mod Verdicts

@@ -1,0 +1,307 @@
+//! `jcard attack`: a fault at each instruction of a command of a script.
+ghost use Rattle.std.specs.Prelude.{◌≡◌, ◌<◌, ◌++◌, Err, false, length, IfOk, MatchResult, IfErr, OnOk};
+ghost use Rattle.jcard_files.specs.Faults.{is_unwritten};
+ghost use Rattle.jcard_sweeps.specs.Attackings.{AreToldEach, AreToldIn, AreUntoldEach, AreUntoldIn, IsAttack, IsAttackFault, IsAttackTold, IsAttacked, IsStruck, IsToldBy, IsUnstruck, IsUntoldBy, attack_asked_by, attack_name, faults_text, models_text, sweep_of};
+ghost use Rattle.jcard_sweeps.specs.SweepsAsked.{sweep_asked_by};
+ghost use Rattle.jcard_sweeps.specs.Targets.{IsAmong};
+ghost use Rattle.jcard_sweeps.specs.Texts.{text_of};
+ghost use Rattle.jcard_sweeps.specs.Writings.{Does, Writes};
+
+use crate::cutting::{Subject, commands_in};
+use crate::remarking::remark_on_probe;
+use crate::targets::{Target, target_of};
+use crate::tear_faults::{tear_probe_fault, tear_script_fault};
+use crate::tearing::{Asked, carry_through, lent, probe_of, words_of};
+use jcard_attack::aftermaths::{AttackFault, Attacked};
+use jcard_attack::each::{attack_each, attacked_in, is_any_line_accepted, verdicts};
+use jcard_attack::outcomes::AttackSweep;
+use jcard_attack::report::{is_any_accepted, report};
+use jcard_attack::sweeping::{Sought, attack};
+use jcard_files::disk::Disk;
+use jcard_files::fault::Fault;
+use jcard_files::reading::script_of;
+use jcard_files::remarks::Remarks;
+use jcard_files::script_fault::Names;
+use jcard_outcomes::command_shares::share_lines;
+use jcard_outcomes::models::Models;
+use jcard_outcomes::part::Share;
+use jcard_outcomes::rows::push_number;
+use jcard_script::streams::{TextOut, write_all};
+use jcard_tear::cuts::Behind;
+use jcard_tear::names::commands_name;
+use jcard_tear::script_lines::commands;
+use jcard_tear::tearing::TearFault;
+use std::alloc::{AllocError, Global};
+
+/// What is attacked of an image: the names of a script and perhaps of a probe, the command in the line of a number, the last one, or each,
+/// perhaps those in a part of them, which faults are tried and which answer none may get, and the most instructions of a command.
+#[derive(Clone, Copy, Drop)]
+pub struct AskedAttack<'n, 'a> {
+    pub script: &'n str,
+    pub probe: Option<&'n str>,
+    pub line: Option<&'n str>,
+    pub each: bool,
+    pub part: Option<&'n str>,
+    pub sought: Sought<'a>,
+    pub instructions: u32,
+}
+
+/// What is reported of faults, and whether one was accepted.
+#[derive(Drop)]
+pub(crate) struct ToldAttack {
+    pub(crate) text: Vec<u8>,
+    pub(crate) is_accepted: bool,
+}
+
+/// `jcard attack`: carries a command out with a fault at each of its instructions, each time on a card of a copy of the image's words, and says
+/// what came of it. The whole script is carried out before, and refused as `jcard run` refuses it. The image is read, and never written.
+pub fn attack_image<'n, D: Disk, W: TextOut, M: Remarks>(
+    disk: &mut D,
+    image: &'n str,
+    asked: AskedAttack<'n, '_>,
+    out: &mut W,
+    remarks: &mut M,
+) -> Result<(), Fault<'n>>
+    ensures { Does D.does W.contents W.failures disk.old disk.new out.old out.new result
+        (IsAttack image.now (attack_asked_by asked.entry)) }
+{
+    let words = words_of(disk, image)?;
+    let script = script_of(disk, asked.script)?;
+    let Ok(commands) = commands(disk.alloc(), &script) else {
+        return Err(Fault::NoMemory);
+    };
+    let subject = Subject {
+        names: Names {
+            image,
+            script: asked.script,
+        },
+        words: &words,
+        script: &script,
+        commands: &commands,
+    };
+    carry_through(disk.alloc(), subject, asked.instructions, remarks)?;
+    attack_subject(disk, subject, asked, out, remarks)
+}
+
+// Attacks what is asked for of a script that was carried out, with the lines of the probe after each fault, and writes the report.
+fn attack_subject<'n, D: Disk, W: TextOut, M: Remarks>(
+    disk: &mut D,
+    subject: Subject<'n, '_>,
+    asked: AskedAttack<'n, '_>,
+    out: &mut W,
+    remarks: &mut M,
+) -> Result<(), Fault<'n>>
+    requires { length subject.words.now < 65536 }
+    ensures { Does D.does W.contents W.failures disk.old disk.new out.old out.new result
+        (IsAttacked subject.entry (attack_asked_by asked.entry)) }
+{
+    let target = target_of(subject.commands, sweep_of(asked))?;
+    let probe = probe_of(disk, asked.probe)?;
+    let asked_after = lent(&probe).unwrap_or(b"");
+    match told_by(disk.alloc(), subject, target, asked_after, asked) {
+        Ok(told) => write_attack(&told, out),
+        Err(cause) => {
+            remark_on(disk.alloc(), lent(&probe), cause, remarks);
+            Err(attack_fault(subject.names, cause))
+        }
+    }
+}
+
+// The same as it is asked of a sweep of cuts.
+fn sweep_of<'n>(asked: AskedAttack<'n, '_>) -> Asked<'n>
+    ensures { sweep_asked_by result ≡ sweep_of (attack_asked_by asked.entry) }
+{
+    Asked {
+        script: asked.script,
+        probe: asked.probe,
+        line: asked.line,
+        each: asked.each,
+        behind: Behind::nothing_more(asked.instructions),
+        part: asked.part,
+    }
+}
+
+// Says why lines of the probe were not carried out, if they were not.
+fn remark_on<M: Remarks>(alloc: Global, probe: Option<&[u8]>, cause: AttackFault, remarks: &mut M) {
+    if let AttackFault::Probe(fault) = cause {
+        remark_on_probe(alloc, probe, TearFault::Probe(fault), remarks);
+    }
+}
+
+// What is reported of the faults of this, after each of which these lines of a probe come. One command is attacked whole: parts have commands.
+fn told_by(
+    alloc: Global,
+    subject: Subject<'_, '_>,
+    target: Target,
+    probe: &[u8],
+    asked: AskedAttack<'_, '_>,
+) -> Result<ToldAttack, AttackFault>
+    requires short { length subject.words.now < 65536 }
+    requires among { IsAmong target }
+    ensures { MatchResult result
+        (IsToldBy subject.entry target.entry probe.now (attack_asked_by asked.entry))
+        (IsUntoldBy subject.entry target.entry probe.now (attack_asked_by asked.entry)) }
+{
+    match target {
+        Target::Command(line) | Target::CommandPart(line, _) => {
+            let attacked = attacked_in(line, probe, asked.instructions);
+            told_attack(alloc, subject.words, attacked, asked.sought)
+        }
+        Target::Each => told_each(alloc, subject, probe, asked),
+        Target::EachPart(share) => told_in(alloc, subject, share, probe, asked),
+    }
+}
+
+// What is reported of the faults of each command.
+fn told_each(
+    alloc: Global,
+    subject: Subject<'_, '_>,
+    probe: &[u8],
+    asked: AskedAttack<'_, '_>,
+) -> Result<ToldAttack, AttackFault>
+    requires { length subject.words.now < 65536 }
+    ensures { MatchResult result
+        (AreToldEach subject.entry probe.now (attack_asked_by asked.entry))
+        (AreUntoldEach subject.entry probe.now (attack_asked_by asked.entry)) }
+{
+    let Subject {
+        words,
+        commands,
+        ..
+    } = subject;
+    let attacks = attack_each(
+        alloc,
+        words,
+        commands,
+        probe,
+        asked.instructions,
+        asked.sought,
+    )?;
+    let text = verdicts(alloc, &attacks)?;
+    Ok(ToldAttack {
+        text,
+        is_accepted: is_any_line_accepted(&attacks),
+    })
+}
+
+// What is reported of the faults of each command in this part of them, which ends as if none was accepted.
+fn told_in(
+    alloc: Global,
+    subject: Subject<'_, '_>,
+    share: Share,
+    probe: &[u8],
+    asked: AskedAttack<'_, '_>,
+) -> Result<ToldAttack, AttackFault>
+    requires short { length subject.words.now < 65536 }
+    requires among { share.first < share.step }
+    ensures { MatchResult result
+        (AreToldIn subject.entry share probe.now (attack_asked_by asked.entry))
+        (AreUntoldIn subject.entry share probe.now (attack_asked_by asked.entry)) }
+{
+    let name = attack_name(alloc, subject, probe, asked, share.step)?;
+    let attacks = attack_each(
+        alloc,
+        subject.words,
+        commands_in(subject.commands, share),
+        probe,
+        asked.instructions,
+        asked.sought,
+    )?;
+    let verdicts = verdicts(alloc, &attacks)?;
+    let is_whole = !is_any_line_accepted(&attacks);
+    let text = share_lines(alloc, &name, share, is_whole, &verdicts)?;
+    Ok(ToldAttack {
+        text,
+        is_accepted: false,
+    })
+}
+
+// The name of the sweep in this many parts, as of a sweep of cuts whose script says first which faults are tried.
+fn attack_name(
+    alloc: Global,
+    subject: Subject<'_, '_>,
+    probe: &[u8],
+    asked: AskedAttack<'_, '_>,
+    parts: u16,
+) -> Result<Vec<u8>, AllocError>
+    requires { length subject.words.now < 65536 }
+    ensures { IfOk result (λ name. name.items
+        ≡ attack_name subject.entry probe.now (attack_asked_by asked.entry) parts) }
+{
+    let mut script = Vec::new(alloc);
+    push_faults(&mut script, asked.sought)?;
+    script.extend_from_slice(subject.script)?;
+    commands_name(
+        alloc,
+        subject.words,
+        &script,
+        Some(probe),
+        Behind::nothing_more(asked.instructions),
+        parts,
+    )
+}
+
+// Writes which faults are tried, and which answer none may get.
+fn push_faults(text: &mut Vec<u8>, sought: Sought) -> Result<(), AllocError>
+    ensures { OnOk result (text.new.items ≡ text.old.items ++ faults_text sought.entry) }
+{
+    text.extend_from_slice(b"attack ")?;
+    push_models(text, sought.models)?;
+    text.extend_from_slice(sought.accepted)?;
+    text.extend_from_slice(b" ")?;
+    push_number(text, sought.within as usize)?;
+    text.extend_from_slice(b"\n")
+}
+
+// Writes the models that are tried.
+fn push_models(text: &mut Vec<u8>, models: Models) -> Result<(), AllocError>
+    ensures { OnOk result (text.new.items ≡ text.old.items ++ models_text models) }
+{
+    text.extend_from_slice(if models.skip { b"skip " } else { b"" })?;
+    text.extend_from_slice(if models.turn { b"turn " } else { b"" })?;
+    text.extend_from_slice(if models.zero { b"zero " } else { b"" })
+}
+
+// What is reported of the faults of a command.
+fn told_attack(
+    alloc: Global,
+    words: &[u16],
+    attacked: Attacked,
+    sought: Sought,
+) -> Result<ToldAttack, AttackFault>
+    requires { length words.now < 65536 }
+    ensures { MatchResult result (IsStruck words.now attacked.entry sought.entry)
+        (IsUnstruck words.now attacked.entry) }
+{
+    let sweep: AttackSweep = attack(alloc, words, attacked, sought)?;
+    let text = report(alloc, &sweep)?;
+    Ok(ToldAttack {
+        text,
+        is_accepted: is_any_accepted(&sweep.strikes),
+    })
+}
+
+// Writes a report, and ends as it says.
+fn write_attack<'n, W: TextOut>(told: &ToldAttack, out: &mut W) -> Result<(), Fault<'n>>
+    ensures { Writes W.contents W.failures out.old out.new result (IsAttackTold told.now) }
+{
+    match write_all(out, &told.text) {
+        Ok(()) if told.is_accepted => Err(Fault::FaultAccepted),
+        Ok(()) => Ok(()),
+        Err(_) => Err(Fault::WriteFailed),
+    }
+}
+
+// What it means that a command was not attacked.
+fn attack_fault<'n>(names: Names<'n>, cause: AttackFault) -> Fault<'n>
+    ensures told { IsAttackFault names.entry.image.now cause result }
+    ensures unwritten { is_unwritten (Err result) ≡ false }
+{
+    match cause {
+        AttackFault::NoMemory => Fault::NoMemory,
+        AttackFault::Script(fault) => tear_script_fault(names, fault),
+        AttackFault::Probe(fault) => tear_probe_fault(names, fault),
+        AttackFault::Down => Fault::Down,
+        AttackFault::TooManyInstructions => Fault::TooManyInstructions,
+    }
+}
