@@ -1,25 +1,25 @@
 -- The cards that lines make, a line after the other.
-use Rattle.std.specs.Prelude.{MatchBool, ◌&&◌, not}
-use Rattle.std.proofs.Common.{◌≡◌, ℕ, ◌+◌, ◌-◌, ◌<◌, ◌≤◌, Bool, true, false, take, List, [], ◌∷◌, ◌++◌, Some, None, length, get_or, drop, refl, sym, subst, inl, inr, append_assoc}
+use Rattle.std.proofs.Common.{◌≡◌, ℕ, ◌+◌, ◌-◌, ◌<◌, ◌≤◌, true, false, Option, codes, List, [], ◌∷◌, ◌++◌, Some, None, length, get_or, drop, refl, sym, subst, inl, inr, append_assoc}
+use Rattle.std.specs.Prelude.{MatchOption, is_some}
 use Rattle.std.specs.String.{string_bytes}
 use Rattle.std.proofs.lemmas.Bool.{false≢true}
 use Rattle.std.proofs.lemmas.List.{drop_all}
-use Rattle.jcard_tests.specs.Cards.{AddsRow, AreCards, IsNewCard, IsRowOfLine, ends_with_tear, is_tear, torn}
+use Rattle.jcard_tests.specs.Cards.{AddsRow, AreCards, IsNewCard, IsRowOfLine, IsSweep}
 use Rattle.jcard_tests.specs.declared.card_rows.CardRows.{CardRows}
 use Rattle.jcard_tests.specs.declared.numbered.Numbered.{Numbered}
 use Rattle.jcard_tests.specs.declared.row.Row.{Row}
 use Rattle.jcard_tests.proofs.Items.{drop_at}
 
-by_tests : (b t : Bool) (P Q : Type 0) → b ≡ false → t ≡ true → P → MatchBool (not b && t) P Q
-by_tests false true P Q e f p = p
-by_tests false false P Q e f p = absurd (false≢true f)
-by_tests true t P Q e f p = absurd (false≢true (sym e))
+-- a line says nothing of a sweep
+pub no_sweep : (command : List ℕ) → (command ≡ codes "tear all-or-nothing" → ⊥) → ((rest : List ℕ) → command ≡ codes "attack none-accepted" ++ rest → ⊥)
+    → (probe : Option (List ℕ)) → IsSweep command probe → ⊥
+no_sweep command tear attack None h = tear h
+no_sweep command tear attack (Some probe) h = attack probe h
 
--- a row after one that says so is torn
-pub torn_behind : (rows : List Row) (r : Row) (all : List Row) → is_tear r ≡ false → ends_with_tear rows ≡ true
-    → all ≡ take (length rows - 1) rows ++ torn r ∷ [] → AddsRow rows r all
-torn_behind rows r all other said is = by_tests (is_tear r) (ends_with_tear rows) (all ≡ take (length rows - 1) rows ++ torn r ∷ []) (all ≡ rows ++ r ∷ [])
-    other said is
+-- what was not found
+pub was_not : {A : Type 0} (P : Type 0) (Q : A → Type 0) (r : Option A) → MatchOption r P Q → is_some r ≡ false → P
+was_not P Q None h e = h
+was_not P Q (Some x) h e = absurd (false≢true (sym e))
 
 -- the card after the last line
 pub card_last : (lines : List Numbered) (i words : ℕ) (rows : List Row) (card : CardRows) → length lines ≤ i → card.words ≡ words

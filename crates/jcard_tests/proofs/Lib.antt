@@ -7,6 +7,7 @@ pub mod Numbering
 pub mod Paths
 pub mod Planned
 pub mod Reports
+pub mod RowSweeps
 pub mod RowTests
 pub mod Said
 pub mod Sparing

@@ -2,10 +2,6 @@
 use Rattle.std.proofs.Common.{true, false, ⊎_elim, Result, Ok, Err, ◌≡◌, ◌∙◌, ℕ, zero, suc, ◌+◌, ◌<◌, ◌≤◌, List, [], ◌∷◌, ◌++◌, length, get_or, take, drop, map, min, Option, Some, None, IfSome, refl, ap, sym, subst, inl, inr, append-nil, append_assoc, arith}
 use Rattle.std.specs.Prelude.{All, Any, IfOk, IfErr, IsSomeAnd, MatchResult, OnOk, option_map, slice_index_or}
 use Rattle.std.specs.declared.alloc.AllocError.{AllocError}
-use Rattle.jcard_outcomes.specs.Reports.{broken_by_calls, broken_told, first_broken}
-use Rattle.jcard_outcomes.specs.declared.report.Sweep.{Sweep}
-use Rattle.jcard_tear.specs.ScriptLines.{Line as TornLine}
-use Rattle.jcard_tear.specs.Sweeps.{IsLineSwept, nothing_more}
 use Rattle.std.specs.Borrow.{Bor}
 use Rattle.std.proofs.lemmas.List.{drop_all, get_or_default, length-map, length-take, map-append, take_all, take_more}
 use Rattle.std.proofs.lemmas.Grind.{flat_map-append}
@@ -38,7 +34,7 @@ use Rattle.jcard_files.specs.Images.{IsNotRead}
 use Rattle.jcard_images.specs.NewImages.{IsNewImageInMemoryOf}
 use Rattle.jcard_files.specs.Readings.{IsRead, IsUnread, IsScriptRead}
 use Rattle.jcard_tests.specs.Sources.{AreNoted, IsReading, files_named, name_of, names_in, names_of, path_read, paths_of, paths_read}
-use Rattle.jcard_tests.specs.Tests.{AreAnsweredOn, AreCut, AreCutWell, AreFilesRead, EndsOn, IsFile, IsFileBehind, IsFileOf, IsFileRead, IsNewCard, IsCutWell, IsToldOf, IsToldOfLine, IsTornFailure, AreIncluded, AreTested, IsFilePlace, IsPlace, IsPrinted, AreNoFileLines, IsNoRowsText, IsNoText, IsNotIncluded, IsOneUnread, IsRowsText, IsTested, IsUnanswered, IsUntested, operands_named, rows_operand}
+use Rattle.jcard_tests.specs.Tests.{AreAnsweredOn, AreSwept, AreSweptWell, AreFilesRead, EndsOn, IsFile, IsFileBehind, IsFileOf, IsFileRead, IsNewCard, IsSweptWell, IsToldOf, IsSweptFailure, AreIncluded, AreTested, IsFilePlace, IsPlace, IsPrinted, AreNoFileLines, IsNoRowsText, IsNoText, IsNotIncluded, IsOneUnread, IsRowsText, IsTested, IsUnanswered, IsUntested, operands_named, rows_operand}
 use Rattle.jcard_tests.specs.declared.plan.Plan.{Plan}
 use Rattle.jcard_files.specs.declared.fault.Fault.{Fault}
 use Rattle.jcard_files.specs.declared.fault.Fault.TheVariants.{ImageTooSmall, NoMemory, WriteFailed}
@@ -175,50 +171,32 @@ module _ (p : Plan) (cards : List CardRows) (i : ℕ) (card : CardRows) (h : i <
   unfolding AreAnsweredOn
   answered_not failure is first = subst (λ (cs : List CardRows). AreAnsweredOn p cs passed outcome) (sym (drop_at cards i card h e)) (inr (failure, is, first))
 
--- a card whose rows are all answered ends as its torn rows do
+-- a card whose rows are all answered ends as its swept rows do
 pub ended_by : (p : Plan) (card : CardRows) (passed : ℕ) (r : Result (Option Failure) Fault)
     → (text : List ℕ) × IsPrinted p card.words (script_text card.rows.items) text × AllAnswered card.rows.items text
-    → MatchResult r (λ failure. AreCut p card.words card.rows.items passed failure) (λ f. IsUnanswered p f)
+    → MatchResult r (λ failure. AreSwept p card.words card.rows.items passed failure) (λ f. IsUnanswered p f)
     → MatchResult r (λ failure. EndsOn p card passed failure) (λ f. IsUnanswered p f)
 ended_by p card passed (Ok None) e h = (e.0, e.1, (e.2, h))
 ended_by p card passed (Ok (Some f)) e h = (e.0, e.1, inr (e.2, h))
 ended_by p card passed (Err fault) e h = h
 
--- what is reported of the cuts of a line
-told_by : (budget : ℕ) (w : List ℕ) (l : TornLine) (sweep : Sweep) (found : Option (List ℕ)) (first : Option ℕ) → IsLineSwept w None (nothing_more budget) l sweep
-    → first_broken 0 sweep.cuts.items ≡ first → found ≡ option_map (broken_told (broken_by_calls sweep.cuts.items)) first → IsToldOfLine budget w l found
-told_by budget w l sweep found None swept e is = subst (IsToldOfLine budget w l) (sym is) (sweep, swept, e)
-told_by budget w l sweep found (Some k) swept e is = subst (IsToldOfLine budget w l) (sym is) (inl (sweep, swept, (k, e, refl)))
+-- the first row that was swept badly is the failure
+pub swept_first : (p : Plan) (words : ℕ) (rows : List Row) (passed place : ℕ) (q : Row) (told : List ℕ) (r : Result (Option Failure) Fault)
+    → AreSweptWell p words rows place → place < length rows → q ≡ slice_index_or rows place q → IsToldOf p words (take place rows) q (Some told)
+    → MatchResult r (λ failure. IsSomeAnd failure (λ f. IsSweptFailure q (min (passed + place) 18446744073709551615) told f)) (λ f. f ≡ NoMemory)
+    → MatchResult r (λ failure. AreSwept p words rows passed failure) (λ f. IsUnanswered p f)
+swept_first p words rows passed place q told (Ok (Some f)) well below at is h = (place, q, told, well, below, at, is.0, is.1, h)
+swept_first p words rows passed place q told (Ok None) well below at is h = absurd h
+swept_first p words rows passed place q told (Err fault) well below at is h = subst (λ f. IsUnanswered p f) (sym h) tt
 
-pub told_all : {V : Type 0} (items : V → List ℕ) (budget : ℕ) (w : List ℕ) (l : TornLine) (sweep : Sweep) (r : Result (Option V) AllocError) → IsLineSwept w None (nothing_more budget) l sweep
-    → IfOk r (λ found. option_map items found ≡ option_map (broken_told (broken_by_calls sweep.cuts.items)) (first_broken 0 sweep.cuts.items))
-    → IfOk r (λ found. IsToldOfLine budget w l (option_map items found))
-told_all items budget w l sweep (Ok found) swept is = told_by budget w l sweep (option_map items found) (first_broken 0 sweep.cuts.items) swept refl is
-told_all items budget w l sweep (Err e) swept is = tt
-
--- the same words and the same line
-pub told_on : {V : Type 0} (items : V → List ℕ) (budget : ℕ) (w x : List ℕ) (l m : TornLine) (r : Result (Option V) AllocError) → w ≡ x → l ≡ m
-    → IfOk r (λ found. IsToldOfLine budget w l (option_map items found)) → IfOk r (λ found. IsToldOfLine budget x m (option_map items found))
-told_on items budget w x l m r same line p = subst (λ (u : List ℕ). IfOk r (λ found. IsToldOfLine budget u m (option_map items found))) same
-    (subst (λ (k : TornLine). IfOk r (λ found. IsToldOfLine budget w k (option_map items found))) line p)
-
--- the first row that was cut badly is the failure
-pub torn_first : (p : Plan) (words : ℕ) (rows : List Row) (passed place : ℕ) (q : Row) (told : List ℕ) (r : Result (Option Failure) Fault)
-    → AreCutWell p words rows place → place < length rows → q ≡ slice_index_or rows place q → IsToldOf p words (take place rows) q (Some told)
-    → MatchResult r (λ failure. IsSomeAnd failure (λ f. IsTornFailure q (min (passed + place) 18446744073709551615) told f)) (λ f. f ≡ NoMemory)
-    → MatchResult r (λ failure. AreCut p words rows passed failure) (λ f. IsUnanswered p f)
-torn_first p words rows passed place q told (Ok (Some f)) well below at is h = (place, q, told, well, below, at, is.0, is.1, h)
-torn_first p words rows passed place q told (Ok None) well below at is h = absurd h
-torn_first p words rows passed place q told (Err fault) well below at is h = subst (λ f. IsUnanswered p f) (sym h) tt
-
--- one more row was looked at: it is not torn, or was cut well
-pub cut_more : (p : Plan) (words : ℕ) (rows : List Row) (n : ℕ) (r : Row) → r ≡ slice_index_or rows n r → n < length rows → AreCutWell p words rows n
-    → (r.torn ≡ true → IsCutWell p words (take n rows) r) → AreCutWell p words rows (n + 1)
-cut_more p words rows n r at here before this k q below is torn = ⊎_elim
-    (λ (less : k < n). before k q less is torn)
+-- one more row was looked at: it is not swept, or was swept well
+pub swept_more : (p : Plan) (words : ℕ) (rows : List Row) (n : ℕ) (r : Row) → r ≡ slice_index_or rows n r → n < length rows → AreSweptWell p words rows n
+    → (r.swept ≡ true → IsSweptWell p words (take n rows) r) → AreSweptWell p words rows (n + 1)
+swept_more p words rows n r at here before this k q below is swept = ⊎_elim
+    (λ (less : k < n). before k q less is swept)
     (λ (past : n ≤ k). let same : n ≡ k = omega arith in
     let one : r ≡ q = at ∙ get_or_default rows n r q here ∙ ap (λ i. slice_index_or rows i q) same ∙ sym is in
-    subst (λ (i : ℕ). IsCutWell p words (take i rows) q) same (subst (λ (x : Row). IsCutWell p words (take n rows) x) one (this (ap (λ (x : Row). x.torn) one ∙ torn))))
+    subst (λ (i : ℕ). IsSweptWell p words (take i rows) q) same (subst (λ (x : Row). IsSweptWell p words (take n rows) x) one (this (ap (λ (x : Row). x.swept) one ∙ swept))))
     (cases_lt k n)
 
 -- a new card in memory

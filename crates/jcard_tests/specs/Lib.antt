@@ -12,5 +12,6 @@ pub mod Reports
 pub mod Rows
 pub mod Seconds
 pub mod Sources
+pub mod Sweeps
 pub mod Tests
 pub mod Unrolled

@@ -18,11 +18,8 @@ use Rattle.jcard_tests.specs.Lines.{Says}
 use Rattle.jcard_tests.specs.Outcomes.{AllAnswered, IsFirstFailure}
 use Rattle.jcard_tests.specs.Reports.{report_text}
 use Rattle.jcard_tests.specs.Sources.{AreSpared, IsReading, name_of, paths_read}
-use Rattle.jcard_outcomes.specs.Reports.{broken_by_calls, broken_told, first_broken}
-use Rattle.jcard_outcomes.specs.declared.report.Sweep.{Sweep}
-use Rattle.jcard_tear.specs.ScriptLines.{Line}
-use Rattle.jcard_tear.specs.Sweeps.{IsLineSwept, nothing_more}
-use Rattle.jcard_tests.specs.Rows.{line_text, script_text}
+use Rattle.jcard_tests.specs.Rows.{script_text}
+use Rattle.jcard_tests.specs.Sweeps.{IsToldOfSweep}
 use Rattle.jcard_tests.specs.NamedTables.{IsNamed, IsUnnamed}
 use Rattle.jcard_tests.specs.Unrolled.{AreLinesOf, IsBeside, IsLineOf, IsUnrolled}
 use Rattle.jcard_tests.specs.declared.card_rows.CardRows.{CardRows}
@@ -110,64 +107,53 @@ abbrev pub IsPrinted : Plan → ℕ → List ℕ → List ℕ → Type 0
 IsPrinted p words script text = (w read rest : List ℕ) × (carried : Result Unit ScriptFault) × (at_end : Bool) × (after : FuseStoreValue)
     × IsNewCard p words w × (script ≡ read ++ rest) × EndsWithin p.budget carried (fresh_store w) after at_end read text × (lacked_memory carried ≡ false)
 
--- ---- rows that are torn
+-- ---- rows that are swept
 
--- a cut of a sweep left neither what was before nor what comes after, and that is reported
-abbrev pub IsBrokenTold : Sweep → List ℕ → Type 0
-IsBrokenTold sweep told = (k : ℕ) × (first_broken 0 sweep.cuts.items ≡ Some k) × (told ≡ broken_told (broken_by_calls sweep.cuts.items) k)
+-- over a new card of this many words each cut of the row after these left what was before or what comes after, or no fault of it was accepted
+abbrev pub IsSweptWell : Plan → ℕ → List Row → Row → Type 0
+IsSweptWell p words before r = (w : List ℕ) × IsNewCard p words w × IsToldOfSweep p.budget w before r None
 
--- what is reported of a line that is cut after each number of its writes, over these words, with the SELECT of what is selected before it as
--- the probe and at most this many instructions a command: nothing where each cut left what was before or what comes after; else the first that
--- did not, or that it could not be cut
-abbrev pub IsToldOfLine : ℕ → List ℕ → Line → Option (List ℕ) → Type 0
-IsToldOfLine budget w l None = (sweep : Sweep) × IsLineSwept w None (nothing_more budget) l sweep × (first_broken 0 sweep.cuts.items ≡ None)
-IsToldOfLine budget w l (Some told) = ((sweep : Sweep) × IsLineSwept w None (nothing_more budget) l sweep × IsBrokenTold sweep told) ⊎ (told ≡ codes "not cut")
+-- one did not, or was, and that is reported; or it could not be swept
+abbrev pub IsSweptBadly : Plan → ℕ → List Row → Row → List ℕ → Type 0
+IsSweptBadly p words before r told = (w : List ℕ) × IsNewCard p words w × IsToldOfSweep p.budget w before r (Some told)
 
--- the same of the row after these
-abbrev pub IsToldOfCuts : ℕ → List ℕ → List Row → Row → Option (List ℕ) → Type 0
-IsToldOfCuts budget w before r told = IsToldOfLine budget w (record { number = r.number; before = script_text before; text = line_text r }) told
-
--- over a new card of this many words each cut of the row after these left what was before or what comes after
-abbrev pub IsCutWell : Plan → ℕ → List Row → Row → Type 0
-IsCutWell p words before r = (w : List ℕ) × IsNewCard p words w × IsToldOfCuts p.budget w before r None
-
--- one did not, and that is reported; or it could not be cut
-abbrev pub IsCutBadly : Plan → ℕ → List Row → Row → List ℕ → Type 0
-IsCutBadly p words before r told = (w : List ℕ) × IsNewCard p words w × IsToldOfCuts p.budget w before r (Some told)
-
--- a row that is not torn is not cut; of one that is, this is reported of its cuts
+-- of a row that is swept this is reported; of any other nothing
 abbrev pub IsToldOf : Plan → ℕ → List Row → Row → Option (List ℕ) → Type 0
-IsToldOf p words before r None = r.torn ≡ true → IsCutWell p words before r
-IsToldOf p words before r (Some told) = (r.torn ≡ true) × IsCutBadly p words before r told
+IsToldOf p words before r None = r.swept ≡ true → IsSweptWell p words before r
+IsToldOf p words before r (Some told) = (r.swept ≡ true) × IsSweptBadly p words before r told
 
--- of these rows the torn ones among the first n were cut well
-abbrev pub AreCutWell : Plan → ℕ → List Row → ℕ → Type 0
-AreCutWell p words rows n = (k : ℕ) (r : Row) → k < n → r ≡ slice_index_or rows k r → r.torn ≡ true → IsCutWell p words (take k rows) r
+-- those of these rows among the first n that are swept were well
+abbrev pub AreSweptWell : Plan → ℕ → List Row → ℕ → Type 0
+AreSweptWell p words rows n = (k : ℕ) (r : Row) → k < n → r ≡ slice_index_or rows k r → r.swept ≡ true → IsSweptWell p words (take k rows) r
 
--- a row was cut badly, after this many that hold, and this was reported
-pub record IsTornFailure (r : Row) (passed : ℕ) (told : List ℕ) (f : Failure) : Type 0 where
+-- what a sweep is to show: that no fault is accepted, or that each cut is all or nothing
+abbrev pub wanted_of : Row → List ℕ
+wanted_of r = if r.attacked then codes "none accepted" else codes "all or nothing"
+
+-- a row was swept badly, after this many that hold, and this was reported
+pub record IsSweptFailure (r : Row) (passed : ℕ) (told : List ℕ) (f : Failure) : Type 0 where
   pub behind : f.passed ≡ passed
   pub number : f.number ≡ r.number
   pub command : string_bytes f.command ≡ string_bytes r.command
-  pub wanted : string_bytes f.wanted ≡ codes "all or nothing"
+  pub wanted : string_bytes f.wanted ≡ wanted_of r
   pub told_so : f.told.items ≡ told
 
--- this failure is of the first of these rows that is torn and was cut badly, after this many more that hold; as far as 64 bits count
-abbrev pub IsFirstTorn : Plan → ℕ → List Row → ℕ → Failure → Type 0
-IsFirstTorn p words rows passed f = (k : ℕ) × (r : Row) × (told : List ℕ) × AreCutWell p words rows k × (k < length rows) × (r ≡ slice_index_or rows k r)
-    × (r.torn ≡ true) × IsCutBadly p words (take k rows) r told × IsTornFailure r (min (passed + k) 18446744073709551615) told f
+-- this failure is of the first of these rows that was swept badly, after this many more that hold; as far as 64 bits count
+abbrev pub IsFirstSwept : Plan → ℕ → List Row → ℕ → Failure → Type 0
+IsFirstSwept p words rows passed f = (k : ℕ) × (r : Row) × (told : List ℕ) × AreSweptWell p words rows k × (k < length rows) × (r ≡ slice_index_or rows k r)
+    × (r.swept ≡ true) × IsSweptBadly p words (take k rows) r told × IsSweptFailure r (min (passed + k) 18446744073709551615) told f
 
--- the torn rows were cut well, or this failure is of the first that was not
-abbrev pub AreCut : Plan → ℕ → List Row → ℕ → Option Failure → Type 0
-AreCut p words rows passed None = AreCutWell p words rows (length rows)
-AreCut p words rows passed (Some f) = IsFirstTorn p words rows passed f
+-- the rows were swept well, or this failure is of the first that was not
+abbrev pub AreSwept : Plan → ℕ → List Row → ℕ → Option Failure → Type 0
+AreSwept p words rows passed None = AreSweptWell p words rows (length rows)
+AreSwept p words rows passed (Some f) = IsFirstSwept p words rows passed f
 
--- what came of the rows of a card that printed this text: all are answered as they say, and those that are torn were cut well; or this is
--- the first that is not answered so, or else the first that was cut badly
+-- what came of the rows of a card that printed this text: all are answered as they say, and were swept well; or this is the first that is not
+-- answered so, or else the first that was swept badly
 abbrev pub IsCardEnd : Plan → CardRows → List ℕ → ℕ → Option Failure → Type 0
-IsCardEnd p card text passed None = AllAnswered card.rows.items text × AreCutWell p card.words card.rows.items (length card.rows.items)
+IsCardEnd p card text passed None = AllAnswered card.rows.items text × AreSweptWell p card.words card.rows.items (length card.rows.items)
 IsCardEnd p card text passed (Some f) = IsFirstFailure card.rows.items text passed f
-    ⊎ (AllAnswered card.rows.items text × IsFirstTorn p card.words card.rows.items passed f)
+    ⊎ (AllAnswered card.rows.items text × IsFirstSwept p card.words card.rows.items passed f)
 
 -- so it came of the rows of a new card
 abbrev pub EndsOn : Plan → CardRows → ℕ → Option Failure → Type 0

@@ -5,16 +5,16 @@ ghost use Rattle.jcard_script.specs.Script.{EndsWithin};
 ghost use Rattle.jcard_script.specs.declared.script.ScriptFault.{ScriptFault};
 ghost use Rattle.jcard_tests.specs.Outcomes.{IsCompared};
 ghost use Rattle.jcard_tests.specs.Rows.{script_text};
-ghost use Rattle.jcard_tear.specs.ScriptLines.{line_of};
 ghost use Rattle.jcard_files.specs.FileDeeds.{fresh_store};
 ghost use Rattle.jcard_images.specs.NewImages.{IsNewImageOf};
-ghost use Rattle.jcard_tests.specs.Tests.{AreAnsweredOn, AreCut, EndsOn, IsOutcome, IsPrinted, IsToldOf, IsToldOfCuts, IsToldOfLine, IsTornFailure, IsUnanswered, lacked_memory, with_a_row};
+ghost use Rattle.jcard_tests.specs.Tests.{AreAnsweredOn, AreSwept, EndsOn, IsOutcome, IsPrinted, IsSweptFailure, IsToldOf, IsUnanswered, lacked_memory, wanted_of, with_a_row};
 
 use crate::card_rows::CardRows;
 use crate::failing::first_failure;
 use crate::outcome::{Failure, Outcome};
 use crate::plan::Plan;
-use crate::row::{Row, line, script};
+use crate::row::{Row, script};
+use crate::sweeping::told_of_sweep;
 use crate::timed_text::{Printed, TimedText};
 use crate::timer::Timer;
 use jc_platform::fault::TableFault;
@@ -22,20 +22,14 @@ use jc_platform::read::read_table;
 use jc_words::{FuseStore, MemStore, WordStore};
 use jcard_files::fault::Fault;
 use jcard_images::memory_image::new_image_of;
-use jcard_outcomes::verdict::broken;
 use jcard_script::card::power_up::PowerFault;
 use jcard_script::explainer::Unasked;
 use jcard_script::mem_text::MemText;
 use jcard_script::script::{ScriptFault, run_script_explained};
-use jcard_tear::cuts::Behind;
-use jcard_tear::each::tear_line;
-use jcard_tear::progress::Nobody;
-use jcard_tear::script_lines::ScriptLine;
-use jcard_tear::tearing::TearFault;
 use std::alloc::{AllocError, Global};
 
 /// What comes of the rows of these cards, each of which is new, is as planned, and is given its rows: the first row that is not answered
-/// as it says, or, where all are, the first that is torn and whose cuts are not all or nothing; or how many hold. Without a row that is a
+/// as it says, or, where all are, the first whose sweep is not well; or how many hold. Without a row that is a
 /// failure. The time that each took is added to those.
 pub(crate) fn outcome_of<'n, T: Timer>(
     alloc: Global,
@@ -104,7 +98,7 @@ fn first_failure_on<'n, T: Timer>(
 {
     match failure_on(alloc, plan, card, passed, timer, times) {
         Ok(Some(failure)) => Ok(Some(failure)),
-        Ok(None) => torn_failure_on(alloc, plan, card.words, &card.rows, passed),
+        Ok(None) => swept_failure_on(alloc, plan, card.words, &card.rows, passed),
         Err(fault) => Err(fault),
     }
 }
@@ -216,8 +210,8 @@ fn lacked_memory(ended: Result<(), ScriptFault>) -> bool
     }
 }
 
-// The first of these rows, on a card of this many words, that is torn and whose cuts are not all or nothing, after this many rows that hold.
-fn torn_failure_on<'n>(
+// The first of these rows, on a card of this many words, whose sweep is not well, after this many rows that hold.
+fn swept_failure_on<'n>(
     alloc: Global,
     plan: &Plan,
     words: u16,
@@ -225,11 +219,11 @@ fn torn_failure_on<'n>(
     passed: usize,
 ) -> Result<Option<Failure>, Fault<'n>>
     requires { 4096 ≤ words }
-    ensures { MatchResult result (λ failure. AreCut plan.now words rows.now passed failure)
+    ensures { MatchResult result (λ failure. AreSwept plan.now words rows.now passed failure)
         (λ fault. IsUnanswered plan.now fault) }
 {
     for (place, row) in rows.iter().enumerate() {
-        match told_of_cuts(alloc, plan, words, &rows[..place], row) {
+        match told_of(alloc, plan, words, &rows[..place], row) {
             Ok(Some(told)) => return failure_of(alloc, row, passed.saturating_add(place), told),
             Ok(None) => (),
             Err(fault) => return Err(fault),
@@ -244,35 +238,46 @@ fn failure_of<'n>(
     passed: usize,
     told: Vec<u8>,
 ) -> Result<Option<Failure>, Fault<'n>>
-    ensures { MatchResult result (λ failure. IsSomeAnd failure (λ f. IsTornFailure row.now passed
+    ensures { MatchResult result (λ failure. IsSomeAnd failure (λ f. IsSweptFailure row.now passed
         told.items f)) (λ fault. fault ≡ Fault.NoMemory) }
 {
-    match torn_failure(alloc, row, passed, told) {
+    match swept_failure(alloc, row, passed, told) {
         Ok(failure) => Ok(Some(failure)),
         Err(AllocError) => Err(Fault::NoMemory),
     }
 }
 
-// The failure of a torn row after this many that hold, of whose cuts this is reported.
-fn torn_failure(
+// The failure of a swept row after this many that hold, of whose sweep this is reported.
+fn swept_failure(
     alloc: Global,
     row: &Row,
     passed: usize,
     told: Vec<u8>,
 ) -> Result<Failure, AllocError>
-    ensures { IfOk result (λ failure. IsTornFailure row.now passed told.items failure) }
+    ensures { IfOk result (λ failure. IsSweptFailure row.now passed told.items failure) }
 {
     Ok(Failure {
         passed,
         number: row.number,
         command: String::from_str(alloc, row.command.as_str())?,
-        wanted: String::from_str(alloc, "all or nothing")?,
+        wanted: String::from_str(alloc, wanted_of(row))?,
         told,
     })
 }
 
-// What is reported of the cuts of the row after these, if it is torn and they are not all or nothing.
-fn told_of_cuts<'n>(
+// What a sweep of a row is to show.
+fn wanted_of(row: &Row) -> &'static str
+    ensures { result.now ≡ wanted_of row.now }
+{
+    if row.attacked {
+        "none accepted"
+    } else {
+        "all or nothing"
+    }
+}
+
+// What is reported of the sweep of the row after these, if it is swept and that is not well.
+fn told_of<'n>(
     alloc: Global,
     plan: &Plan,
     words: u16,
@@ -283,55 +288,14 @@ fn told_of_cuts<'n>(
     ensures { MatchResult result (λ found. IsToldOf plan.now words before.now row.now
         (option_map (λ told. told.items) found)) (λ fault. IsUnanswered plan.now fault) }
 {
-    if !row.torn {
+    if !row.swept {
         return Ok(None);
     }
     match new_card(alloc, plan, words) {
-        Ok(store) => match told_of_cuts_on(alloc, &store, before, row, plan.budget) {
+        Ok(store) => match told_of_sweep(alloc, &store, before, row, plan.budget) {
             Ok(found) => Ok(found),
             Err(AllocError) => Err(Fault::NoMemory),
         },
         Err(fault) => Err(fault),
-    }
-}
-
-// What is reported of its cuts on cards of copies of this store.
-fn told_of_cuts_on(
-    alloc: Global,
-    store: &MemStore,
-    before: &[Row],
-    row: &Row,
-    budget: u32,
-) -> Result<Option<Vec<u8>>, AllocError>
-    ensures { IfOk result (λ found. IsToldOfCuts budget store.now.words before.now row.now
-        (option_map (λ told. told.items) found)) }
-{
-    let _ = store.size(); // so that the proof knows that there are fewer than 65,536 words
-    let script = script(alloc, before)?;
-    let line = line(alloc, row)?;
-    let command = ScriptLine {
-        number: row.number,
-        before: &script,
-        line: &line,
-    };
-    told_of_line(alloc, store.words(), command, budget)
-}
-
-// What is reported of the cuts of a line over these words.
-fn told_of_line(
-    alloc: Global,
-    words: &[u16],
-    command: ScriptLine,
-    budget: u32,
-) -> Result<Option<Vec<u8>>, AllocError>
-    requires { length words.now < 65536 }
-    ensures { IfOk result (λ found. IsToldOfLine budget words.now (line_of command.entry)
-        (option_map (λ told. told.items) found)) }
-{
-    let behind = Behind::nothing_more(budget);
-    match tear_line(alloc, words, command, None, behind, &mut Nobody) {
-        Ok(sweep) => broken(alloc, &sweep.cuts),
-        Err(TearFault::NoMemory) => Err(AllocError),
-        Err(_) => Ok(Some(Vec::from_slice(alloc, b"not cut")?)),
     }
 }

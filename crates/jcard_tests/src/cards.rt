@@ -1,7 +1,7 @@
 //! New cards, and the rows that each is given.
-ghost use Rattle.std.specs.Prelude.{◌≡◌, ◌≤◌, ℕ, List, codes, IfOk, OnOk, MatchOption, option_map, unwrap_or};
+ghost use Rattle.std.specs.Prelude.{◌≡◌, ◌≤◌, ℕ, List, Option, codes, IfOk, OnOk, MatchOption, option_map, unwrap_or};
 ghost use Rattle.std.specs.Borrow.{Bor};
-ghost use Rattle.jcard_tests.specs.Cards.{AddsRow, AreCardsOf, IsNewCard, IsRow, IsRowOfLine, ends_with_tear, is_tear, torn};
+ghost use Rattle.jcard_tests.specs.Cards.{AddsRow, AreCardsOf, IsNewCard, IsRow, IsRowOfLine, IsSweep, IsSwept, IsSweptBehind, IsUnswept, said_sweep, sweep_of};
 
 use crate::card_rows::CardRows;
 use crate::line::{Line, read_line};
@@ -13,7 +13,8 @@ use std::alloc::{AllocError, Global};
 const LEAST: u16 = 4096;
 
 /// The cards that lines make by `card WORDS`, after one of this many words with which they begin, and the rows of each; 9000 is wanted where a
-/// row says nothing. The row after a line `tear all-or-nothing` is torn. A directive that is left is a row too, which no card answers.
+/// row says nothing. The row after a line `tear all-or-nothing` or `attack none-accepted` is swept. A directive that
+/// is left is a row too, which no card answers.
 pub fn cards_of(alloc: Global, first: u16, lines: &[Numbered]) -> Result<Vec<CardRows>, AllocError>
     requires { 4096 ≤ first }
     ensures { IfOk result (λ cards. AreCardsOf first lines.now cards.items) }
@@ -31,51 +32,92 @@ pub fn cards_of(alloc: Global, first: u16, lines: &[Numbered]) -> Result<Vec<Car
                 words = size;
                 rows = Vec::new(alloc);
             }
-            None => push_row(&mut rows, row)?,
+            None => push_row(alloc, &mut rows, row)?,
         }
     }
     cards.push(CardRows { words, rows })?;
     Ok(cards)
 }
 
-// Adds a row, which is torn where the one before it says so, and stands in its place.
-fn push_row(rows: &mut Vec<Row>, row: Row) -> Result<(), AllocError>
+// How a row is swept: its power is cut, or it is attacked with this line of a probe.
+#[derive(Drop)]
+struct Sweep {
+    attacked: bool,
+    probe: Vec<u8>,
+}
+
+// What a line says of that.
+#[derive(Clone, Copy, Drop)]
+struct SaidSweep<'a> {
+    attacked: bool,
+    probe: &'a str,
+}
+
+// Adds a row, which is swept where the one before it says so, and stands in its place.
+fn push_row(alloc: Global, rows: &mut Vec<Row>, row: Row) -> Result<(), AllocError>
     ensures { OnOk result (AddsRow rows.old.items row rows.new.items) }
 {
-    if is_tear(&row) || !ends_with_tear(rows) {
+    let Some(sweep) = sweep_before(alloc, rows, row.command.as_str())? else {
         rows.push(row)?;
         return Ok(());
-    }
+    };
     let _directive = rows.pop();
-    rows.push(torn(row))?;
+    rows.push(swept(row, sweep))?;
     Ok(())
 }
 
-// The last row says that the one after it is torn.
-fn ends_with_tear(rows: &[Row]) -> bool
-    ensures { result ≡ ends_with_tear rows.now }
+// How the last row says that one with this command, which says no such thing itself, is swept.
+fn sweep_before(alloc: Global, rows: &[Row], command: &str) -> Result<Option<Sweep>, AllocError>
+    ensures { IfOk result (λ asked. MatchOption asked (IsUnswept rows.now command.now)
+        (λ sweep. IsSweptBehind rows.now command.now (sweep_of sweep))) }
 {
-    match rows.last() {
-        Some(row) => is_tear(row),
-        None => false,
+    if sweep_in(command).is_some() {
+        return Ok(None);
     }
+    let Some(last) = rows.last() else {
+        return Ok(None);
+    };
+    let Some(said) = sweep_in(last.command.as_str()) else {
+        return Ok(None);
+    };
+    let probe = Vec::from_slice(alloc, said.probe.as_bytes())?;
+    Ok(Some(Sweep {
+        attacked: said.attacked,
+        probe,
+    }))
 }
 
-fn is_tear(row: &Row) -> bool
-    ensures { result ≡ is_tear row.now }
+// What a line says of how the row after it is swept.
+fn sweep_in(command: &str) -> Option<SaidSweep<'_>>
+    ensures { MatchOption result ((probe : Option (List ℕ)) → IsSweep command.now probe → ⊥)
+        (λ said. IsSweep command.now (said_sweep said)) }
 {
-    row.command.as_str() == "tear all-or-nothing"
+    if command == "tear all-or-nothing" {
+        return Some(SaidSweep {
+            attacked: false,
+            probe: "",
+        });
+    }
+    let Some(probe) = command.strip_prefix("attack none-accepted") else {
+        return None;
+    };
+    Some(SaidSweep {
+        attacked: true,
+        probe,
+    })
 }
 
-// The row, torn.
-fn torn(row: Row) -> Row
-    ensures { result ≡ torn row }
+// The row, swept.
+fn swept(row: Row, sweep: Sweep) -> Row
+    ensures { IsSwept row (sweep_of sweep) result }
 {
     Row {
         number: row.number,
         command: row.command,
         wanted: row.wanted,
-        torn: true,
+        swept: true,
+        attacked: sweep.attacked,
+        probe: sweep.probe,
     }
 }
 
@@ -114,7 +156,9 @@ fn new_row(alloc: Global, number: usize, command: &str, wanted: &str) -> Result<
         number,
         command: String::from_str(alloc, command)?,
         wanted: String::from_str(alloc, wanted)?,
-        torn: false,
+        swept: false,
+        attacked: false,
+        probe: Vec::new(alloc),
     })
 }
 

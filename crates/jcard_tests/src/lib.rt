@@ -27,6 +27,7 @@ mod rows_file;
 mod seconds;
 mod sources;
 pub mod sparing_law;
+mod sweeping;
 pub mod table_line;
 pub mod testing;
 mod timed_text;

@@ -4,14 +4,16 @@ ghost use Rattle.jcard_tests.specs.Rows.{line_text, script_text};
 
 use std::alloc::{AllocError, Global};
 
-/// A row: the number of its line in its file, a line of a script, the answer that is wanted, and whether the power is cut within the
-/// line too, after each of its writes.
+/// A row: the number of its line in its file, a line of a script, the answer that is wanted, and whether it is swept: the power is cut after
+/// each of its writes, or it is attacked by a fault at each of its instructions, after each of which the line of the probe comes.
 #[derive(Drop)]
 pub struct Row {
     pub number: usize,
     pub command: String,
     pub wanted: String,
-    pub torn: bool,
+    pub swept: bool,
+    pub attacked: bool,
+    pub probe: Vec<u8>,
 }
 
 /// The script of the lines of rows, each with a line feed.

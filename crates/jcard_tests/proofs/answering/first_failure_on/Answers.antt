@@ -8,5 +8,5 @@ returns-in-Ok-Some g c =
     (e.0, e.1, inl e.2)
 
 pub returns-in-Ok-None : goal.returns-in-Ok-None
-returns-in-Ok-None g c = ended_by c.args.plan.now c.args.card.now c.args.passed c.torn_failure_on.result (rw c.in-Ok-None.field-0-is at c.in-Ok-None.ensures)
-    (rw c.deref.ensures.value at c.torn_failure_on.ensures)
+returns-in-Ok-None g c = ended_by c.args.plan.now c.args.card.now c.args.passed c.swept_failure_on.result (rw c.in-Ok-None.field-0-is at c.in-Ok-None.ensures)
+    (rw c.deref.ensures.value at c.swept_failure_on.ensures)

@@ -1,13 +1,29 @@
-use Rattle.std.proofs.Common.{◌≡◌, ◌∙◌, ◌-◌, ◌++◌, ◌∷◌, [], length, take, ap, sym, arith, vec_len}
-use Rattle.jcard_tests.specs.Cards.{ends_with_tear}
-use Rattle.jcard_tests.proofs.CardSteps.{torn_behind}
+use Rattle.std.proofs.Common.{◌≡◌, ◌∙◌, ◌-◌, ◌++◌, ◌∷◌, [], length, take, ap, inl, inr, arith, subst, vec_len}
+use Rattle.std.specs.String.{string_bytes}
+use Rattle.jcard_tests.specs.Cards.{IsSweptBehind, IsUnswept, sweep_of}
 use Rattle.jcard_tests.proofs.cards.push_row.Goals as goal
+
+pub returns-in_default : goal.returns-in_default
+returns-in_default c =
+    let unswept = rw c.in_default.is at c.in_ok-sweep.ensures in
+    inr (
+      subst (λ rows. IsUnswept rows (string_bytes c.args.row.command)) c.deref.ensures.value
+          (subst (λ command. IsUnswept c.deref.result.now command) c.as_str.ensures.value unswept),
+      c.in_ok-push.ensures.items,
+    )
 
 pub returns : goal.returns
 returns c =
     let rows = c.args.rows.now.items in
+    let sweep = sweep_of c.in-Some.sweep in
     let last : vec_len c.args.rows.now - 1 ≡ length rows - 1 = omega (arith, c.args.rows.now.ok.0) in
-    torn_behind rows c.args.row _ (sym c.is_tear.ensures ∙ c.if-is_tear.false)
-    (ap ends_with_tear (sym c.deref.ensures.value) ∙ (sym c.ends_with_tear.ensures ∙ c.if-not-ends_with_tear.false))
-    (c.in_ok-push-2.ensures.items ∙ (ap (λ l. l ++ c.torn.result ∷ []) (c.pop-directive.ensures.rest ∙ ap (λ n. take n rows) last)
-    ∙ ap (λ x. take (length rows - 1) rows ++ x ∷ []) c.torn.ensures))
+    let behind = subst (λ rs. IsSweptBehind rs (string_bytes c.args.row.command) sweep) c.deref.ensures.value
+    (subst (λ command. IsSweptBehind c.deref.result.now command sweep) c.as_str.ensures.value (rw c.in-Some.is at c.in_ok-sweep.ensures)) in
+    inl (
+      sweep,
+      c.swept.result,
+      behind,
+      c.swept.ensures,
+      c.in_ok-push-2.ensures.items ∙ ap (λ l. l ++ c.swept.result ∷ [])
+          (c.pop-directive.ensures.rest ∙ ap (λ n. take n rows) last),
+    )

@@ -2,8 +2,8 @@ use Rattle.std.proofs.Common.{None, subst}
 use Rattle.jcard_tear.specs.ScriptLines.{line_of}
 use Rattle.jcard_tear.specs.Sweeps.{IsLineSwept}
 use Rattle.jcard_tear.specs.declared.cuts.Behind.{Behind}
-use Rattle.jcard_tests.proofs.RowTests.{told_all}
-use Rattle.jcard_tests.proofs.answering.told_of_line.Goals as goal
+use Rattle.jcard_tests.proofs.RowSweeps.{told_all}
+use Rattle.jcard_tests.proofs.sweeping.told_of_line.Goals as goal
 
 pub returns-in-Ok : goal.returns-in-Ok
 returns-in-Ok c =
