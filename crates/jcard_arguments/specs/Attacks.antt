@@ -8,13 +8,13 @@ use Rattle.jcard_outcomes.specs.Models.{all_models, no_models}
 use Rattle.jcard_outcomes.specs.declared.models.Models.{Models}
 use Rattle.jcard_arguments.specs.Numbers.{number_of}
 
--- these models and the one of this name
+-- these models and the named one
 abbrev pub with_model : Models → List ℕ → Option Models
 with_model models name = if bytes_eq name (codes "skip") then Some (record models { skip = true })
     else (if bytes_eq name (codes "turn") then Some (record models { turn = true })
     else (if bytes_eq name (codes "zero") then Some (record models { zero = true }) else None))
 
--- these models, if there are any, and the one of this name
+-- these models, if there are any, and the named one
 abbrev pub with_next : Option Models → List ℕ → Option Models
 with_next None name = None
 with_next (Some models) name = with_model models name

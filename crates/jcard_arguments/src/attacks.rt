@@ -39,7 +39,7 @@ fn models_of(text: &[u8]) -> Option<Models>
     None
 }
 
-// These models, if there are any, and the one of this name.
+// These models, if there are any, and the named one.
 fn with_next(models: Option<Models>, name: &[u8]) -> Option<Models>
     ensures { result ≡ with_next models name.now }
 {
@@ -49,7 +49,7 @@ fn with_next(models: Option<Models>, name: &[u8]) -> Option<Models>
     }
 }
 
-// These models and the one of this name.
+// These models and the named one.
 fn with_model(models: Models, name: &[u8]) -> Option<Models>
     ensures { result ≡ with_model models name.now }
 {
