@@ -1,12 +1,12 @@
 //! Calls: methods of the platform are carried out at once, those in bytecode get a frame.
-ghost use Rattle.std.specs.Prelude.{◌≡◌, false};
+ghost use Rattle.std.specs.Prelude.{◌≡◌, false, IfSome};
 ghost use Rattle.jc_memory.specs.Programs.{Executes};
 ghost use Rattle.jc_world.specs.Instructions.{after_instruction};
-ghost use Rattle.jc_interp_calls.specs.Invoke.{header_of};
+ghost use Rattle.jc_interp_calls.specs.Invoke.{header_of, method_selection, with_header};
 ghost use Rattle.jc_interp.specs.Calling.{after_native_return, invoke_instruction, invoke_selected, native_invoke};
 
 use crate::natives::call_native;
-use jc_frames::{CallKind, Frames, Outcome};
+use jc_frames::{CallKind, FrameExit, Frames, Outcome};
 use jc_interp_calls::enter::{CallSite, Callee, enter};
 use jc_interp_calls::invoke::{
     SelectedCall, select_method, select_static_method, select_virtual_method,
@@ -129,10 +129,32 @@ fn invoke_other<S: WordStore>(
     invoke_selected(chosen, place, frames, memory, linked)
 }
 
-/// A call by the instruction at a place, out of line as well, so that the loop of all instructions stays small enough to stand in one function.
-/// Virtual and static calls take paths of their own.
-#[tactic(auto, unfolding(crate::specs::Calling::invoke_instruction, jc_interp_calls::specs::Invoke::method_selection))]
-#[inline(never)]
+// Which method a virtual or a static call runs; nothing of other calls.
+#[tactic(auto, unfolding(jc_interp_calls::specs::Invoke::method_selection))]
+#[inline(always)]
+fn select_in_line<S: WordStore>(
+    invoke: InvokeOp,
+    frames: &Frames,
+    memory: &Memory<S>,
+    linked: &Linked,
+) -> Option<Result<SelectedCall, FrameExit>>
+    requires up { memory.now.heap.down ≡ false }
+    ensures { IfSome result (λ chosen. chosen ≡ with_header linked.now
+        (method_selection invoke linked.now frames.now memory.now)) }
+{
+    match invoke {
+        InvokeOp::Virtual(index) => Some(select_virtual_method::<S, S>(
+            index, frames, memory, linked,
+        )),
+        InvokeOp::Static(index) => Some(select_static_method(index, frames, linked)),
+        _ => None,
+    }
+}
+
+/// A call by the instruction at a place. Virtual and static calls stay in line, with one copy of what comes after the choice of their
+/// method: the loop of all instructions has to stay small enough to stand in one function.
+#[tactic(auto, unfolding(crate::specs::Calling::invoke_instruction))]
+#[inline(always)]
 pub(crate) fn invoke_instruction<S: WordStore>(
     invoke: InvokeOp,
     place: u16,
@@ -144,13 +166,8 @@ pub(crate) fn invoke_instruction<S: WordStore>(
     ensures { Executes (invoke_instruction invoke place linked.now frames.old memory.old) memory.old
         (after_instruction result frames.new memory.new) }
 {
-    if let InvokeOp::Virtual(index) = invoke {
-        let chosen = select_virtual_method::<S, S>(index, frames, memory, linked)?;
-        return invoke_selected(chosen, place, frames, memory, linked);
+    match select_in_line(invoke, frames, memory, linked) {
+        Some(chosen) => invoke_selected(chosen?, place, frames, memory, linked),
+        None => invoke_other(invoke, place, frames, memory, linked),
     }
-    if let InvokeOp::Static(index) = invoke {
-        let chosen = select_static_method(index, frames, linked)?;
-        return invoke_selected(chosen, place, frames, memory, linked);
-    }
-    invoke_other(invoke, place, frames, memory, linked)
 }

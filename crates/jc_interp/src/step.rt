@@ -33,8 +33,7 @@ pub(crate) fn code_of<'a>(lent: &'a [u8], package_number: u8, linked: &'a Linked
     }
 }
 
-// Makes, throws or tests an object. Out of line, so that the other instructions stand in line in the loop that carries them out.
-#[inline(never)]
+// Makes, throws or tests an object.
 fn object_instruction<S: WordStore>(
     operation: ObjectOp,
     place: u16,
