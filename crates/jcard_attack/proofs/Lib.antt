@@ -4,9 +4,12 @@ pub mod Joins
 pub mod KeptFaults
 pub mod KindLists
 pub mod LastLines
-pub mod Places
+pub mod PartEnds
+pub mod PartReads
+pub mod PartWholes
 pub mod RowSteps
 pub mod Strikes
 pub mod StruckLists
 pub mod Unswept
+pub mod VerdictSteps
 pub mod Verdicts

@@ -1,51 +1,36 @@
 -- Lists of faults that were tried.
-use Rattle.std.proofs.Common.{◌≡◌, ◌∙◌, ℕ, ◌+◌, ◌<◌, List, [], ◌∷◌, ◌++◌, length, get_or, take, ap, append_assoc, append-nil, arith, refl, subst, sym}
+use Rattle.std.proofs.Common.{◌≡◌, ℕ, ◌+◌, ◌<◌, List, [], ◌∷◌, ◌++◌, length, get_or, take, Option, subst, sym}
 use Rattle.std.proofs.lemmas.List.{take_more}
+use Rattle.jc_objects.specs.declared.image_objects.ImageObjects.{ImageObjects}
 use Rattle.jc_session.specs.declared.planned_fault.PlannedFault.{PlannedFault}
 use Rattle.jcard_outcomes.specs.declared.standing.Left.{Left}
-use Rattle.jcard_attack.specs.Models.{fault_at}
-use Rattle.jcard_attack.specs.Sweeps.{AreStruckBy, AreStruckFrom, IsStruck}
+use Rattle.jcard_attack.specs.Sweeps.{AreStruckBy, IsStruck}
 use Rattle.jcard_attack.specs.declared.aftermaths.Attacked.{Attacked}
 use Rattle.jcard_attack.specs.declared.outcomes.Aftermath.{Aftermath}
 use Rattle.jcard_attack.specs.declared.outcomes.Struck.{Struck}
 
-module _ (words : List ℕ) (c : Attacked) (accepted : List ℕ) (before : Left) (undisturbed : Aftermath) where
+module _ (words : List ℕ) (c : Attacked) (accepted : List ℕ) (objects : Option ImageObjects) (before : Left) (undisturbed : Aftermath) where
   -- none yet
-  pub struck_none : (kind : PlannedFault) (first : ℕ) → AreStruckFrom words c accepted before undisturbed kind first 0 []
-  unfolding AreStruckFrom
-  struck_none kind first = refl
+  pub struck_none : AreStruckBy words c accepted objects before undisturbed [] []
+  unfolding AreStruckBy
+  struck_none = tt
 
   -- one fault more
-  pub struck_more : (kind : PlannedFault) (first count : ℕ) (xs : List Struck) (s : Struck) → AreStruckFrom words c accepted before undisturbed kind first count xs
-      → s.fault ≡ fault_at kind (first + count) → IsStruck words c accepted before undisturbed s
-      → AreStruckFrom words c accepted before undisturbed kind first (count + 1) (xs ++ s ∷ [])
-  unfolding AreStruckFrom
-  struck_more kind first count [] s none at is =
-      let here : first + count ≡ first = omega (arith, none) in
-      (0, ap (λ n. n + 1) none, at ∙ ap (fault_at kind) here, is, refl)
-  struck_more kind first count (x ∷ xs) s are at is =
-      let here : first + count ≡ first + 1 + are.0 = omega (arith, are.1) in
-      (are.0 + 1, ap (λ n. n + 1) are.1, are.2, are.3, struck_more kind (first + 1) are.0 xs s are.4 (at ∙ ap (fault_at kind) here) is)
-
-  pub kinds_none : (count : ℕ) → AreStruckBy words c accepted before undisturbed [] count []
+  struck_more : (faults : List PlannedFault) (xs : List Struck) (fault : PlannedFault) (s : Struck) → AreStruckBy words c accepted objects before undisturbed faults xs
+      → s.fault ≡ fault → IsStruck words c accepted objects before undisturbed s
+      → AreStruckBy words c accepted objects before undisturbed (faults ++ fault ∷ []) (xs ++ s ∷ [])
   unfolding AreStruckBy
-  kinds_none count = refl
+  struck_more [] [] fault s are at is = ((at, is), tt)
+  struck_more [] (x ∷ xs) fault s are at is = absurd are
+  struck_more (f ∷ faults) [] fault s are at is = absurd are
+  struck_more (f ∷ faults) (x ∷ xs) fault s are at is = (are.0, struck_more faults xs fault s are.1 at is)
 
-  -- the faults of one kind more
-  pub kinds_more : (kinds : List PlannedFault) (kind : PlannedFault) (count : ℕ) (xs these : List Struck)
-      → AreStruckBy words c accepted before undisturbed kinds count xs → AreStruckFrom words c accepted before undisturbed kind 0 count these
-      → AreStruckBy words c accepted before undisturbed (kinds ++ kind ∷ []) count (xs ++ these)
-  unfolding AreStruckBy
-  kinds_more [] kind count xs these none are = (these, [], ap (λ l. l ++ these) none ∙ sym (append-nil these), are, refl)
-  kinds_more (k ∷ kinds) kind count xs these before are =
-      (before.0, before.1 ++ these, ap (λ l. l ++ these) before.2 ∙ append_assoc before.0 before.1 these, before.3, kinds_more kinds kind count before.1 these before.4 are)
-
-  -- the same of the next kind in a list
-  pub kinds_next : (kinds : List PlannedFault) (i : ℕ) (d : PlannedFault) (count : ℕ) (xs these next : List Struck) → i < length kinds
-      → AreStruckBy words c accepted before undisturbed (take i kinds) count xs
-      → AreStruckFrom words c accepted before undisturbed (get_or kinds i d) 0 count these → next ≡ xs ++ these
-      → AreStruckBy words c accepted before undisturbed (take (i + 1) kinds) count next
-  kinds_next kinds i d count xs these next below are more is =
-      subst (λ (l : List Struck). AreStruckBy words c accepted before undisturbed (take (i + 1) kinds) count l) (sym is)
-      (subst (λ (ks : List PlannedFault). AreStruckBy words c accepted before undisturbed ks count (xs ++ these)) (sym (take_more kinds i d below))
-      (kinds_more (take i kinds) (get_or kinds i d) count xs these are more))
+  -- the next fault in a list
+  pub struck_next : (faults : List PlannedFault) (i : ℕ) (d : PlannedFault) (xs next : List Struck) (s : Struck) → i < length faults
+      → AreStruckBy words c accepted objects before undisturbed (take i faults) xs → s.fault ≡ get_or faults i d
+      → IsStruck words c accepted objects before undisturbed s → next ≡ xs ++ s ∷ []
+      → AreStruckBy words c accepted objects before undisturbed (take (i + 1) faults) next
+  struck_next faults i d xs next s below are at is e =
+      subst (λ (l : List Struck). AreStruckBy words c accepted objects before undisturbed (take (i + 1) faults) l) (sym e)
+      (subst (λ (fs : List PlannedFault). AreStruckBy words c accepted objects before undisturbed fs (xs ++ s ∷ [])) (sym (take_more faults i d below))
+      (struck_more (take i faults) xs (get_or faults i d) s are at is))

@@ -1,5 +1,5 @@
 -- What a command comes to with a fault at one of its instructions, or without one.
-use Rattle.std.specs.Prelude.{ℕ, ◌≡◌, ◌⊎◌, ◌+◌, ◌-◌, ◌==◌, if◌then◌else◌, List, ◌++◌, codes, drop, length, slice_index, Option, Some, None}
+use Rattle.std.specs.Prelude.{ℕ, ◌≡◌, ◌⊎◌, ◌+◌, ◌-◌, ◌==◌, if◌then◌else◌, List, ◌++◌, codes, drop, filter, length, min, slice_index, Option, Some, None}
 use Rattle.jc_words.specs.Stores.{FuseStoreValue}
 use Rattle.jc_commit.specs.Image.{plain_of, recovered_of}
 use Rattle.jc_commit.specs.Migration.{migrated}
@@ -60,6 +60,10 @@ abbrev pub told_run_fault : RunFault → AttackFault
 told_run_fault run.NoMemory = NoMemory
 told_run_fault (run.Script fault) = Script fault
 
+-- how many line feeds a text has, up to the most that is counted
+abbrev pub lines_counted : List ℕ → ℕ
+lines_counted text = min (length (filter (λ b. b == 10) text)) 4294967295
+
 -- a fault of a script in its line of the probe, before which this many lines stand
 abbrev pub in_probe : ℕ → ScriptFault → ScriptFault
 in_probe lines (BadLine n) = BadLine (n - lines)
@@ -69,12 +73,12 @@ in_probe lines other = other
 abbrev pub IsScriptFor : Attacked → List ℕ → Type 0
 IsScriptFor c script = (script ≡ c.before.now) ⊎ ((fault : Option PlannedFault) × (script ≡ attacked_script c fault))
 
--- why such a script, or the probe after it, was not carried out to its end
+-- why such a script, or the probe after it, was not carried out to its end; a line of the probe that has no form is counted from the probe's first
 abbrev pub IsUnfinished : List ℕ → Attacked → AttackFault → Type 0
 IsUnfinished words c NoMemory = Unit {0}
 IsUnfinished words c (Script fault) = ((script : List ℕ) × IsScriptFor c script × IsRunFault c.instructions words script (run.Script fault))
     ⊎ (fault ≡ PowerFault BadLog)
-IsUnfinished words c (Probe fault) = (script : List ℕ) × (lines : ℕ) × (cause : ScriptFault) × IsScriptFor c script
-    × IsRunFault c.instructions words (probed_script c script) (run.Script cause) × (fault ≡ in_probe lines cause)
+IsUnfinished words c (Probe fault) = (script : List ℕ) × (cause : ScriptFault) × IsScriptFor c script
+    × IsRunFault c.instructions words (probed_script c script) (run.Script cause) × (fault ≡ in_probe (lines_counted (script ++ codes "glitch none\n")) cause)
 IsUnfinished words c Down = ⊥
 IsUnfinished words c TooManyInstructions = ⊥

@@ -1,24 +1,23 @@
 -- The commands of a script, each with a fault at each of its instructions.
-use Rattle.std.specs.Prelude.{ℕ, ◌≡◌, ◌⊎◌, Bool, false, List, [], ◌∷◌, ◌++◌, codes, None, Some, slice_get}
+use Rattle.std.specs.Prelude.{ℕ, ◌≡◌, ◌⊎◌, Bool, true, false, List, [], ◌∷◌, ◌++◌, codes, None, Some, slice_get}
 use Rattle.std.specs.List.{flat_map, list_any}
 use Rattle.jcard_outcomes.specs.Reports.{line_answer_text, line_command_text}
 use Rattle.jcard_tear.specs.ScriptLines.{Line, command_text}
-use Rattle.jcard_attack.specs.Aftermaths.{IsAftermath}
-use Rattle.jcard_attack.specs.Reports.{any_accepted, verdict_text}
-use Rattle.jcard_attack.specs.Sweeps.{IsSwept, IsUnswept}
+use Rattle.jcard_attack.specs.Reports.{any_accepted, told_rows, verdict_text}
+use Rattle.jcard_attack.specs.Sweeps.{IsDownAt, IsSwept, IsUnswept}
 use Rattle.jcard_attack.specs.declared.aftermaths.AttackFault.{AttackFault}
 use Rattle.jcard_attack.specs.declared.aftermaths.AttackFault.TheVariants.{NoMemory}
 use Rattle.jcard_attack.specs.declared.aftermaths.Attacked.{Attacked}
 use Rattle.jcard_attack.specs.declared.each.LineAttack.{LineAttack}
 use Rattle.jcard_attack.specs.declared.each.LineOutcome.{LineOutcome}
 use Rattle.jcard_attack.specs.declared.each.LineOutcome.TheVariants.{Struck, Down}
-use Rattle.jcard_attack.specs.declared.outcomes.Aftermath.{Aftermath}
+use Rattle.jcard_attack.specs.declared.outcomes.AttackSweep.{AttackSweep}
 use Rattle.jcard_attack.specs.declared.sweeping.Sought.{Sought}
 
 -- faults of the command were tried, or the card is down at it without a fault
 abbrev pub IsOutcome : List ℕ → Attacked → Sought → LineOutcome → Type 0
-IsOutcome words c sought (Struck sweep) = IsSwept words c sought sweep
-IsOutcome words c sought Down = (a : Aftermath) × IsAftermath words c None a × (a.answer.items ≡ codes "down")
+IsOutcome words c sought (Struck sweep) = IsSwept words c sought None sweep
+IsOutcome words c sought Down = IsDownAt words c
 
 -- of the command in the line with this number this is reported
 abbrev pub IsLineStruck : List ℕ → ℕ → Attacked → Sought → LineAttack → Type 0
@@ -44,17 +43,23 @@ abbrev pub IsOneUnswept : List ℕ → List ℕ → ℕ → List Line → Attack
 IsOneUnswept words probe instructions lines fault = (fault ≡ NoMemory) ⊎ ((k : ℕ) × (l : Line) × (c : Attacked) × (slice_get lines k ≡ Some l)
     × IsAttackedIn probe instructions l c × IsLineUnswept words c fault)
 
--- what is reported of a command in a line
-abbrev pub outcome_line : ℕ → List ℕ → LineOutcome → List ℕ
-outcome_line number command (Struck sweep) = line_answer_text number command sweep.undisturbed.answer.items ++ verdict_text sweep.strikes.items
-outcome_line number command Down = line_command_text number command ++ codes ": the card is down at the command\n"
+-- the rows of a command, where they are asked for
+abbrev pub line_rows_text : Bool → AttackSweep → List ℕ
+line_rows_text true sweep = told_rows sweep
+line_rows_text false sweep = []
 
-unfoldable pub line_text : LineAttack → List ℕ
-line_text found = outcome_line found.number found.command.items found.outcome
+-- what is reported of a command in a line: its rows, where they are asked for, its answer, and the verdict
+abbrev pub outcome_line : Bool → ℕ → List ℕ → LineOutcome → List ℕ
+outcome_line rows number command (Struck sweep) = line_rows_text rows sweep
+    ++ (line_answer_text number command sweep.undisturbed.answer.items ++ verdict_text sweep.strikes.items)
+outcome_line rows number command Down = line_command_text number command ++ codes ": the card is down at the command\n"
+
+unfoldable pub line_text : Bool → LineAttack → List ℕ
+line_text rows found = outcome_line rows found.number found.command.items found.outcome
 
 -- the verdicts of all commands
-abbrev pub verdicts_text : List LineAttack → List ℕ
-verdicts_text attacks = flat_map line_text attacks
+abbrev pub verdicts_text : Bool → List LineAttack → List ℕ
+verdicts_text rows attacks = flat_map (line_text rows) attacks
 
 -- a fault was accepted in it
 abbrev pub is_accepted_in : LineOutcome → Bool

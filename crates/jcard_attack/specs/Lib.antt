@@ -3,5 +3,8 @@ pub mod Each
 pub mod Judgements
 pub mod Kept
 pub mod Models
+pub mod Objects
+pub mod PartLines
 pub mod Reports
+pub mod Shares
 pub mod Sweeps

@@ -10,6 +10,15 @@ use Rattle.jcard_outcomes.specs.declared.models.Models.{Models}
 abbrev pub fault_at : PlannedFault → ℕ → PlannedFault
 fault_at kind k = record kind { instruction = k }
 
+-- the faults of a kind at the first n instructions
+unfoldable pub faults_within : PlannedFault → ℕ → List PlannedFault
+faults_within kind zero = []
+faults_within kind (suc n) = faults_within kind n ++ fault_at kind n ∷ []
+
+-- those of each of these kinds in turn
+abbrev pub faults_tried : List PlannedFault → ℕ → List PlannedFault
+faults_tried kinds n = flat_map (λ kind. faults_within kind n) kinds
+
 -- this model is among them
 abbrev pub has_model : Models → FaultModel → Bool
 has_model models Skip = models.skip

@@ -1,16 +1,19 @@
 -- The text that says what faults came to.
-use Rattle.std.specs.Prelude.{ℕ, ◌≡◌, ◌+◌, ◌-◌, ◌==◌, ◌&&◌, Bool, true, false, List, [], ◌∷◌, ◌++◌, map, codes, decimal, drop, is_some, length, take, Option, Some, None, if◌then◌else◌}
+use Rattle.std.specs.Prelude.{ℕ, ◌+◌, ◌==◌, ◌&&◌, Bool, true, false, List, [], ◌∷◌, ◌++◌, map, codes, decimal, is_some, length, Option, Some, None, option_map, if◌then◌else◌}
+use Rattle.std.specs.List.{slice_index_or}
 use Rattle.std.specs.Str.{bytes_eq}
 use Rattle.jc_interp.specs.declared.attacks.FaultModel.{FaultModel}
 use Rattle.jc_interp.specs.declared.attacks.FaultModel.TheVariants.{Skip, Turn, Zero}
 use Rattle.jc_session.specs.declared.planned_fault.PlannedFault.{PlannedFault}
 use Rattle.jc_session.specs.declared.planned_fault.SecondFault.{SecondFault}
-use Rattle.jcard_outcomes.specs.Reports.{ended, in_line, numbers_text, standing_text}
+use Rattle.jcard_outcomes.specs.Reports.{ended, in_line, standing_text}
 use Rattle.jcard_attack.specs.declared.outcomes.AttackSweep.{AttackSweep}
 use Rattle.jcard_attack.specs.declared.outcomes.Outcome.{Outcome}
 use Rattle.jcard_attack.specs.declared.outcomes.Outcome.TheVariants.{Undisturbed, Silent, Accepted, Other, BrokenOff, Refused, Cut}
 use Rattle.jcard_attack.specs.declared.outcomes.Struck.{Struck}
 use Rattle.jcard_attack.specs.declared.rows.Row.{Row}
+use Rattle.jcard_attack.specs.declared.told_faults.FaultTexts.{FaultTexts}
+use Rattle.jcard_attack.specs.declared.told_faults.ToldFault.{ToldFault}
 
 -- ---- rows
 
@@ -43,81 +46,96 @@ model_name Skip = codes "skip"
 model_name Turn = codes "turn"
 model_name Zero = codes "zero"
 
--- the same model
-abbrev pub is_same_model : FaultModel → FaultModel → Bool
-is_same_model Skip Skip = true
-is_same_model Turn Turn = true
-is_same_model Zero Zero = true
-is_same_model one other = false
-
--- the same second fault, or none
-abbrev pub is_same_second : Option SecondFault → Option SecondFault → Bool
-is_same_second None None = true
-is_same_second (Some one) (Some other) = (one.number == other.number) && is_same_model one.model other.model
-is_same_second one other = false
-
--- the same kind of fault
-abbrev pub is_same_kind : PlannedFault → PlannedFault → Bool
-is_same_kind one other = is_same_model one.model other.model && is_same_second one.second other.second
-
 -- the instructions of faults that came to this are reported
 abbrev pub is_told_in_full : Outcome → Bool
 is_told_in_full Accepted = true
 is_told_in_full Silent = true
 is_told_in_full _ = false
 
--- the line of the instruction with this number
-abbrev pub place_text : ℕ → List ℕ → List ℕ
-place_text number place = codes "  " ++ decimal number ++ codes " " ++ place ++ codes "\n"
-
--- the lines of these instructions, the first of which has this number
-unfoldable pub places_from : ℕ → List (List ℕ) → List ℕ
-places_from number [] = []
-places_from number (place ∷ more) = place_text number place ++ places_from (number + 1) more
-
--- the lines of those from the first to the last
-abbrev pub places_text : ℕ → ℕ → List (List ℕ) → List ℕ
-places_text first last instructions = places_from first (take (last + 1 - first) (drop first instructions))
-
 -- the second fault of a kind, where it has one
 abbrev pub second_end : Option SecondFault → List ℕ
 second_end None = []
 second_end (Some second) = codes ", then " ++ model_name second.model ++ codes " " ++ decimal second.number ++ codes " later"
 
--- which faults a row is about, from the first to the last, which are of one kind, and what they came to
-abbrev pub row_head : PlannedFault → ℕ → List ℕ → List ℕ
-row_head first last told = model_name first.model ++ codes " " ++ numbers_text first.instruction last ++ second_end first.second ++ ended told
+-- a fault in words: its model, the number of its instruction, the second fault, what came of it, and what is reported of the instruction
+pub record FaultTold : Type 0 where
+  pub model : List ℕ
+  pub number : List ℕ
+  pub second : List ℕ
+  pub told : List ℕ
+  pub place : List ℕ
 
--- their row, and the lines of their instructions, where they are reported
-unfoldable pub row_told : List (List ℕ) → PlannedFault → ℕ → Outcome → List ℕ → List ℕ
-row_told instructions first last outcome told = row_head first last told
-    ++ (if is_told_in_full outcome then places_text first.instruction last instructions else [])
+-- what is reported of the instruction of a fault, among what is reported of all of them, where the fault is one that somebody should look at
+abbrev pub place_of : List (List ℕ) → Struck → List ℕ
+place_of instructions s = if is_told_in_full s.outcome then slice_index_or instructions s.fault.instruction [] else []
 
-abbrev pub row_text : List (List ℕ) → Row → List ℕ
-row_text instructions row = row_told instructions row.first row.last row.outcome row.told.items
+-- a fault of a command of whose instructions this is reported, in words
+abbrev pub fault_told : List (List ℕ) → Struck → FaultTold
+fault_told instructions s = record {
+  model = model_name s.fault.model;
+  number = decimal s.fault.instruction;
+  second = second_end s.fault.second;
+  told = outcome_text s;
+  place = place_of instructions s;
+}
+
+-- those words
+abbrev pub told_in : FaultTexts → FaultTold
+told_in t = record { model = t.model.now; number = t.number.items; second = t.second.items; told = t.told.items; place = t.place.now }
+
+abbrev pub told_by : ToldFault → FaultTold
+told_by t = record { model = t.model.now; number = t.number.now; second = t.second.now; told = t.told.now; place = t.place.now }
+
+-- the line of the instruction with this number, if anything is reported of it
+abbrev pub place_text : List ℕ → List ℕ → List ℕ
+place_text number [] = []
+place_text number (x ∷ xs) = codes "  " ++ number ++ codes " " ++ (x ∷ xs) ++ codes "\n"
+
+-- a row: faults of one kind that came to the same, the numbers of the first and the last of them, and the lines of their instructions
+pub record FaultRow : Type 0 where
+  pub model : List ℕ
+  pub first : List ℕ
+  pub last : List ℕ
+  pub second : List ℕ
+  pub told : List ℕ
+  pub places : List ℕ
+
+abbrev pub row_by : Row → FaultRow
+row_by r = record { model = r.model.items; first = r.first.items; last = r.last.items; second = r.second.items; told = r.told.items; places = r.places.items }
 
 -- the row of one fault
-pub record IsRowOf (s : Struck) (row : Row) : Type 0 where
-  pub first_is : row.first ≡ s.fault
-  pub last_is : row.last ≡ s.fault.instruction
-  pub outcome_is : row.outcome ≡ s.outcome
-  pub told_is : row.told.items ≡ outcome_text s
+abbrev pub new_row : FaultTold → FaultRow
+new_row f = record { model = f.model; first = f.number; last = f.number; second = f.second; told = f.told; places = place_text f.number f.place }
 
--- a fault came to the same as one of its kind, of which this is reported
-abbrev pub is_alike : PlannedFault → List ℕ → Struck → Bool
-is_alike first told s = is_same_kind first s.fault && bytes_eq told (outcome_text s)
+-- a row with one fault more
+abbrev pub longer_row : FaultRow → FaultTold → FaultRow
+longer_row r f = record r { last = f.number; places = r.places ++ place_text f.number f.place }
 
--- the rows from the one on that these faults have begun, from the first to the last, whose first came to this
-unfoldable pub rows_from : List (List ℕ) → PlannedFault → ℕ → Outcome → List ℕ → List Struck → List ℕ
-rows_from instructions first last outcome told [] = row_told instructions first last outcome told
-rows_from instructions first last outcome told (s ∷ more) =
-    if is_alike first told s then rows_from instructions first s.fault.instruction outcome told more
-    else row_told instructions first last outcome told ++ rows_from instructions s.fault s.fault.instruction s.outcome (outcome_text s) more
+-- a fault is of the kind of those in a row, and came to the same
+abbrev pub is_alike : FaultRow → FaultTold → Bool
+is_alike r f = bytes_eq r.model f.model && (bytes_eq r.second f.second && bytes_eq r.told f.told)
+
+-- the number of a row's fault, or of its first and its last one
+abbrev pub row_numbers : List ℕ → List ℕ → List ℕ
+row_numbers first last = if bytes_eq first last then first else first ++ codes ".." ++ last
+
+-- which faults a row is about, what they came to, and the lines of their instructions
+abbrev pub row_text : FaultRow → List ℕ
+row_text r = r.model ++ codes " " ++ row_numbers r.first r.last ++ r.second ++ ended r.told ++ r.places
+
+abbrev pub open_text : Option FaultRow → List ℕ
+open_text None = []
+open_text (Some row) = row_text row
+
+-- the rows from the open one on, if there is one, which these faults may belong to
+unfoldable pub rows_after : Option FaultRow → List FaultTold → List ℕ
+rows_after row [] = open_text row
+rows_after None (f ∷ more) = rows_after (Some (new_row f)) more
+rows_after (Some row) (f ∷ more) = if is_alike row f then rows_after (Some (longer_row row f)) more else row_text row ++ rows_after (Some (new_row f)) more
 
 -- the rows of all faults; those of one kind that follow one another and came to the same have one row
-abbrev pub rows_text : List (List ℕ) → List Struck → List ℕ
-rows_text instructions [] = []
-rows_text instructions (s ∷ more) = rows_from instructions s.fault s.fault.instruction s.outcome (outcome_text s) more
+abbrev pub rows_text : List FaultTold → List ℕ
+rows_text faults = rows_after None faults
 
 -- the row of the command without a fault: its answer, and those of the probe
 abbrev pub undisturbed_text : List ℕ → List ℕ → List ℕ
@@ -153,25 +171,36 @@ fault_name fault = model_name fault.model ++ codes " " ++ decimal fault.instruct
 abbrev pub faults_text : ℕ → List ℕ
 faults_text count = decimal count ++ (if count == 1 then codes " fault" else codes " faults")
 
+-- how many of these faults were accepted, and the first of them by its name, if one was
+abbrev pub accepted_line : ℕ → ℕ → Option (List ℕ) → List ℕ
+accepted_line all count None = codes "none accepted: " ++ faults_text all
+accepted_line all count (Some name) = codes "ACCEPTED: " ++ decimal count ++ codes " of " ++ (faults_text all ++ codes ", first " ++ name)
+
+-- how many changed something in silence, and the first of them by its name, if one did
+abbrev pub silence_line : ℕ → Option (List ℕ) → List ℕ
+silence_line count None = []
+silence_line count (Some name) = codes ", " ++ decimal count ++ codes " changed in silence, first " ++ name
+
 -- whether one was accepted, and the first
 abbrev pub accepted_text : Option PlannedFault → List Struck → List ℕ
-accepted_text None strikes = codes "none accepted: " ++ faults_text (length strikes)
-accepted_text (Some fault) strikes = codes "ACCEPTED: " ++ decimal (count_of Accepted strikes) ++ codes " of " ++ (faults_text (length strikes)
-    ++ codes ", first " ++ fault_name fault)
-
--- what is said of the first that changed something in silence
-abbrev pub silent_end : PlannedFault → List ℕ
-silent_end fault = codes " changed in silence, first " ++ fault_name fault
+accepted_text first strikes = accepted_line (length strikes) (count_of Accepted strikes) (option_map fault_name first)
 
 -- whether one changed in silence, and the first
 abbrev pub silence_text : Option PlannedFault → List Struck → List ℕ
-silence_text None strikes = []
-silence_text (Some fault) strikes = codes ", " ++ decimal (count_of Silent strikes) ++ silent_end fault
+silence_text first strikes = silence_line (count_of Silent strikes) (option_map fault_name first)
 
 abbrev pub verdict_text : List Struck → List ℕ
 verdict_text strikes = accepted_text (first_of Accepted strikes) strikes ++ silence_text (first_of Silent strikes) strikes ++ codes "\n"
 
--- all that is reported of the faults of a command
+-- what is reported of each instruction of a command
+abbrev pub instruction_lines : AttackSweep → List (List ℕ)
+instruction_lines s = map (λ line. line.items) s.instructions.items
+
+-- the rows of the faults of a command, and that of the command without one
+abbrev pub told_rows : AttackSweep → List ℕ
+told_rows s = rows_text (map (fault_told (instruction_lines s)) s.strikes.items)
+    ++ undisturbed_text s.undisturbed.answer.items s.undisturbed.left.answers.items
+
+-- all that is reported of them
 abbrev pub report_text : AttackSweep → List ℕ
-report_text s = rows_text (map (λ line. line.items) s.instructions.items) s.strikes.items
-    ++ undisturbed_text s.undisturbed.answer.items s.undisturbed.left.answers.items ++ verdict_text s.strikes.items
+report_text s = told_rows s ++ verdict_text s.strikes.items

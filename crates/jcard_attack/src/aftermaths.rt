@@ -1,6 +1,6 @@
 //! What a command comes to with a fault, or without one, by a script.
 ghost use Rattle.std.specs.Prelude.{◌≡◌, ◌++◌, ◌<◌, decimal, drop, length, IfOk, MatchResult, OnOk};
-ghost use Rattle.jcard_attack.specs.Aftermaths.{IsAftermath, IsBegun, IsProbed, IsScriptFor, IsUnfinished, attacked_script, ended_line, glitch_line, in_probe, probed_script, told_run_fault};
+ghost use Rattle.jcard_attack.specs.Aftermaths.{IsAftermath, IsBegun, IsProbed, IsScriptFor, IsUnfinished, attacked_script, ended_line, glitch_line, in_probe, lines_counted, probed_script, told_run_fault};
 ghost use Rattle.jcard_attack.specs.declared.aftermaths.AttackFault.TheVariants.{NoMemory};
 ghost use Rattle.jcard_script.specs.Script.{model_word, second_text};
 
@@ -111,7 +111,9 @@ fn text_from(text: &[u8], start: usize) -> &[u8]
 const PLANNED_NONE: usize = 13;
 
 // How many line feeds a text has; the most that is counted where it has more.
-fn line_count(text: &[u8]) -> u32 {
+fn line_count(text: &[u8]) -> u32
+    ensures { result ≡ lines_counted text.now }
+{
     let mut count = 0u32;
     for byte in text {
         if *byte == b'\n' {

@@ -1,6 +1,6 @@
 //! The commands of a script, each with a fault at each of its instructions.
 ghost use Rattle.std.specs.Prelude.{◌≡◌, ◌<◌, ◌++◌, ◌∷◌, [], length, map, MatchResult, IfOk, OnOk};
-ghost use Rattle.jcard_attack.specs.Each.{AreStruck, IsLineStruck, IsLineUnswept, IsOneUnswept, any_line_accepted, is_accepted_in, line_text, verdicts_text};
+ghost use Rattle.jcard_attack.specs.Each.{AreStruck, IsLineStruck, IsLineUnswept, IsOneUnswept, any_line_accepted, is_accepted_in, line_rows_text, line_text, verdicts_text};
 ghost use Rattle.jcard_attack.specs.Reports.{verdict_text};
 ghost use Rattle.jcard_attack.specs.declared.aftermaths.AttackFault.TheVariants.{NoMemory};
 ghost use Rattle.jcard_outcomes.specs.Reports.{line_answer_text};
@@ -8,6 +8,7 @@ ghost use Rattle.jcard_tear.specs.ScriptLines.{line_of};
 
 use crate::aftermaths::{AttackFault, Attacked};
 use crate::outcomes::AttackSweep;
+use crate::report::push_told;
 use crate::sweeping::{Sought, attack};
 use crate::verdict::{is_any_accepted, push_verdict};
 use jcard_outcomes::each::{line_head, push_down_line};
@@ -82,7 +83,7 @@ fn line_attack(
     ensures { MatchResult result (λ found. IsLineStruck words.now number attacked.entry sought.entry found)
         (λ fault. IsLineUnswept words.now attacked.entry fault) }
 {
-    let outcome = match attack(alloc, words, attacked, sought) {
+    let outcome = match attack(alloc, words, attacked, sought, None) {
         Ok(sweep) => LineOutcome::Struck(sweep),
         Err(AttackFault::Down) => LineOutcome::Down,
         Err(fault) => return Err(fault),
@@ -105,25 +106,30 @@ fn push_attack(attacks: &mut Vec<LineAttack>, found: LineAttack) -> Result<(), A
     }
 }
 
-/// The text of the verdicts, a line for each command.
-pub fn verdicts(alloc: Global, attacks: &[LineAttack]) -> Result<Vec<u8>, AllocError>
-    ensures { IfOk result (λ text. text.items ≡ verdicts_text attacks.now) }
+/// The text of the verdicts, a line for each command, or the rows of each before its verdict.
+pub fn verdicts(alloc: Global, attacks: &[LineAttack], rows: bool) -> Result<Vec<u8>, AllocError>
+    ensures { IfOk result (λ text. text.items ≡ verdicts_text rows attacks.now) }
 {
     let mut text = Vec::new(alloc);
     for found in attacks {
-        push_line(alloc, &mut text, found)?;
+        push_line(alloc, &mut text, found, rows)?;
     }
     Ok(text)
 }
 
 // Writes the verdict over a command.
 #[tactic(auto, unfolding(crate::specs::Each::line_text))]
-fn push_line(alloc: Global, text: &mut Vec<u8>, found: &LineAttack) -> Result<(), AllocError>
-    ensures { OnOk result (text.new.items ≡ text.old.items ++ line_text found.now) }
+fn push_line(
+    alloc: Global,
+    text: &mut Vec<u8>,
+    found: &LineAttack,
+    rows: bool,
+) -> Result<(), AllocError>
+    ensures { OnOk result (text.new.items ≡ text.old.items ++ line_text rows found.now) }
 {
     match &found.outcome {
         LineOutcome::Struck(sweep) => {
-            push_struck_line(alloc, text, found.number, &found.command, sweep)
+            push_struck_line(alloc, text, found.number, &found.command, sweep, rows)
         }
         LineOutcome::Down => push_down_line(text, found.number, &found.command),
     }
@@ -136,14 +142,31 @@ fn push_struck_line(
     number: usize,
     command: &[u8],
     sweep: &AttackSweep,
+    rows: bool,
 ) -> Result<(), AllocError>
-    ensures { OnOk result (text.new.items ≡ text.old.items
+    ensures { OnOk result (text.new.items ≡ text.old.items ++ (line_rows_text rows sweep.now
         ++ (line_answer_text number command.now sweep.now.undisturbed.answer.items
-        ++ verdict_text sweep.now.strikes.items)) }
+        ++ verdict_text sweep.now.strikes.items))) }
 {
+    push_line_rows(alloc, text, sweep, rows)?;
     let head = line_head(alloc, number, command, &sweep.undisturbed.answer)?;
     text.extend_from_slice(&head)?;
-    push_verdict(text, &sweep.strikes)
+    push_verdict(alloc, text, &sweep.strikes)
+}
+
+// Writes the rows of a command, where they are asked for.
+fn push_line_rows(
+    alloc: Global,
+    text: &mut Vec<u8>,
+    sweep: &AttackSweep,
+    rows: bool,
+) -> Result<(), AllocError>
+    ensures { OnOk result (text.new.items ≡ text.old.items ++ line_rows_text rows sweep.now) }
+{
+    if rows {
+        return push_told(alloc, text, sweep);
+    }
+    Ok(())
 }
 
 /// Whether a fault was accepted in one of these commands.

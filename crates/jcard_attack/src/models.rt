@@ -1,7 +1,7 @@
 //! The kinds of faults that a sweep tries.
 ghost use Rattle.std.specs.List.{flat_map};
 ghost use Rattle.std.specs.Prelude.{◌≡◌, ◌++◌, if◌then◌else◌, ◌∷◌, [], map, IfOk, OnOk};
-ghost use Rattle.jcard_attack.specs.Models.{first_fault, has_model, kinds_tried, models_tried, pairs_within, second_at, seconds_within};
+ghost use Rattle.jcard_attack.specs.Models.{fault_at, faults_tried, faults_within, first_fault, has_model, kinds_tried, models_tried, pairs_within, second_at, seconds_within};
 
 use jc_interp::attacks::FaultModel;
 use jc_session::planned_fault::{PlannedFault, SecondFault};
@@ -22,6 +22,45 @@ pub(crate) fn kinds_tried(
     push_singles(&mut kinds, &tried)?;
     push_pairs(&mut kinds, &tried, within)?;
     Ok(kinds)
+}
+
+/// The faults that are tried: those of each of these kinds in turn, at the first instructions, which are this many.
+pub(crate) fn faults_tried(
+    alloc: Global,
+    kinds: &[PlannedFault],
+    count: u32,
+) -> Result<Vec<PlannedFault>, AllocError>
+    ensures { IfOk result (λ faults. faults.items ≡ faults_tried kinds.now count) }
+{
+    let mut faults = Vec::new(alloc);
+    for kind in kinds {
+        push_faults(&mut faults, *kind, count)?;
+    }
+    Ok(faults)
+}
+
+// Adds the faults of a kind at the first instructions, which are this many.
+fn push_faults(
+    faults: &mut Vec<PlannedFault>,
+    kind: PlannedFault,
+    count: u32,
+) -> Result<(), AllocError>
+    ensures { OnOk result (faults.new.items ≡ faults.old.items ++ faults_within kind count) }
+{
+    for instruction in 0..count {
+        faults.push(fault_at(kind, instruction))?;
+    }
+    Ok(())
+}
+
+// The fault of the same kind at this instruction.
+const fn fault_at(kind: PlannedFault, instruction: u32) -> PlannedFault
+    ensures { result ≡ fault_at kind instruction }
+{
+    PlannedFault {
+        instruction,
+        ..kind
+    }
 }
 
 // The models that are tried, in their order.

@@ -38,12 +38,13 @@ pub struct Struck {
     pub answer: Vec<u8>,
     /// How the heap and the answers of the probe compare with those before the command and with those that it leaves without a fault.
     pub standing: Standing,
-    /// The answers of the probe.
+    /// The answers of the probe, and after them which cells of objects changed since before the command, where that is asked for.
     pub answers: Vec<u8>,
 }
 
-/// A command with a fault at each of its instructions: what was before it, what it came to without a fault, what is reported of each of its
-/// instructions then, and what each fault came to, those of one model after the other.
+/// A command with a fault at each of its instructions, or with those of these faults that are in a part: what was before it, what it came to without
+/// a fault, with the cells that changed where they are asked for, what is reported of each of its instructions then, and what each fault came to,
+/// those of one kind after the other.
 #[derive(Drop)]
 pub struct AttackSweep {
     pub before: Left,

@@ -1,23 +1,23 @@
 //! The rows: what faults came to, one row for those of one kind that follow one another and came to the same.
-ghost use Rattle.std.specs.Prelude.{◌≡◌, ◌++◌, ◌&&◌, ◌+◌, ◌<◌, ◌^◌, length, IfOk, OnOk, map};
+ghost use Rattle.std.specs.Prelude.{◌≡◌, ◌++◌, ◌∷◌, ◌&&◌, List, IfOk, OnOk, Some, map, option_map};
 ghost use Rattle.std.specs.Str.{bytes_eq};
-ghost use Rattle.jcard_attack.specs.Reports.{IsRowOf, is_same_kind, is_same_model, is_same_second, is_told_in_full, is_undisturbed, kind_text, model_name, outcome_text, place_text, places_from, places_text, row_head, row_text, rows_from, rows_text, second_end};
+ghost use Rattle.jcard_attack.specs.Reports.{FaultTold, fault_told, is_alike, longer_row, new_row, open_text, place_text, row_by, row_numbers, row_text, rows_after, rows_text, told_by};
 
-use crate::outcomes::{Outcome, Struck};
-use jc_interp::attacks::FaultModel;
-use jc_session::planned_fault::{PlannedFault, SecondFault};
-use jcard_outcomes::rows::{
-    is_same, push_ended, push_in_line, push_number, push_numbers, push_standing,
-};
+use crate::outcomes::Struck;
+use crate::told_faults::{ToldFault, lent, texts_of};
+use jcard_outcomes::rows::{is_same, push_ended};
 use std::alloc::{AllocError, Global};
 
-/// A row that is not ended yet: its faults are of one kind, from the first to the one at the last instruction.
+/// A row that is not ended yet: its faults are of one kind and came to the same, from the first to the last, and these are the lines of their
+/// instructions, where they are reported.
 #[derive(Drop)]
-struct Row {
-    first: PlannedFault,
-    last: u32,
-    outcome: Outcome,
+pub(crate) struct Row {
+    model: Vec<u8>,
+    first: Vec<u8>,
+    last: Vec<u8>,
+    second: Vec<u8>,
     told: Vec<u8>,
+    places: Vec<u8>,
 }
 
 /// Writes the rows of all faults of a command of whose instructions this is reported.
@@ -28,222 +28,134 @@ pub(crate) fn push_rows(
     instructions: &[Vec<u8>],
 ) -> Result<(), AllocError>
     ensures { OnOk result (text.new.items ≡ text.old.items
-        ++ rows_text (map (λ line. line.items) instructions.now) strikes.now) }
+        ++ rows_text (map (fault_told (map (λ line. line.items) instructions.now)) strikes.now)) }
 {
-    let Some((struck, more)) = strikes.split_first() else {
-        return Ok(());
-    };
-    let row = row_of(alloc, struck)?;
-    push_rows_from(alloc, text, row, more, instructions)
+    let mut row = None;
+    for struck in strikes {
+        let texts = texts_of(alloc, struck, instructions)?;
+        let next = with_fault(alloc, text, row, lent(&texts))?;
+        row = Some(next);
+    }
+    push_open(text, &row)
 }
 
-// Writes the rows from this one on, which these faults may belong to.
-fn push_rows_from(
+/// Writes the rows of these faults.
+pub(crate) fn push_told_rows(
     alloc: Global,
     text: &mut Vec<u8>,
-    mut row: Row,
-    more: &[Struck],
-    instructions: &[Vec<u8>],
+    faults: &[ToldFault],
 ) -> Result<(), AllocError>
-    ensures { OnOk result (text.new.items ≡ text.old.items
-        ++ rows_from (map (λ line. line.items) instructions.now) row.first row.last row.outcome row.told.items more.now) }
+    ensures { OnOk result (text.new.items ≡ text.old.items ++ rows_text (map told_by faults.now)) }
 {
-    for struck in more {
-        let next = row_of(alloc, struck)?;
-        if is_of(&row, &next) {
-            row.last = next.last;
-        } else {
-            push_row(text, &row, instructions)?;
-            row = next;
-        }
+    let mut row = None;
+    for fault in faults {
+        let next = with_fault(alloc, text, row, *fault)?;
+        row = Some(next);
     }
-    push_row(text, &row, instructions)
+    push_open(text, &row)
+}
+
+// The open row after a fault: the one before it, or a new one, before which that is written.
+fn with_fault(
+    alloc: Global,
+    text: &mut Vec<u8>,
+    row: Option<Row>,
+    fault: ToldFault,
+) -> Result<Row, AllocError>
+    ensures { IfOk result (λ next. (more : List FaultTold)
+        → text.new.items ++ rows_after (Some (row_by next)) more
+        ≡ text.old.items ++ rows_after (option_map row_by row) (told_by fault.entry ∷ more)) }
+{
+    let Some(row) = row else {
+        return new_row(alloc, fault);
+    };
+    if is_alike(&row, fault) {
+        return longer_row(row, fault);
+    }
+    push_row(text, &row)?;
+    new_row(alloc, fault)
 }
 
 // The row of one fault.
-fn row_of(alloc: Global, struck: &Struck) -> Result<Row, AllocError>
-    ensures { IfOk result (λ row. IsRowOf struck.now row) }
+fn new_row(alloc: Global, fault: ToldFault) -> Result<Row, AllocError>
+    ensures { IfOk result (λ row. row_by row ≡ new_row (told_by fault.entry)) }
 {
-    let told = outcome_text(alloc, struck)?;
+    let mut places = Vec::new(alloc);
+    push_place(&mut places, fault.number, fault.place)?;
     Ok(Row {
-        first: struck.fault,
-        last: struck.fault.instruction,
-        outcome: struck.outcome,
-        told,
+        model: Vec::from_slice(alloc, fault.model)?,
+        first: Vec::from_slice(alloc, fault.number)?,
+        last: Vec::from_slice(alloc, fault.number)?,
+        second: Vec::from_slice(alloc, fault.second)?,
+        told: Vec::from_slice(alloc, fault.told)?,
+        places,
     })
 }
 
-// Whether the fault of the second row belongs to the first one.
-fn is_of(row: &Row, next: &Row) -> bool
-    ensures { result ≡ (is_same_kind row.now.first next.now.first && bytes_eq row.now.told.items next.now.told.items) }
+// The row with a fault more.
+fn longer_row(row: Row, fault: ToldFault) -> Result<Row, AllocError>
+    ensures { IfOk result (λ next. row_by next ≡ longer_row (row_by row) (told_by fault.entry)) }
 {
-    is_same_kind(row.first, next.first) && is_same(&row.told, &next.told)
+    let mut row = row;
+    row.last.clear();
+    row.last.extend_from_slice(fault.number)?;
+    push_place(&mut row.places, fault.number, fault.place)?;
+    Ok(row)
 }
 
-// What a row says of what a fault came to.
-#[tactic(auto, unfolding(crate::specs::Reports::outcome_text))]
-fn outcome_text(alloc: Global, struck: &Struck) -> Result<Vec<u8>, AllocError>
-    ensures { IfOk result (λ text. text.items ≡ outcome_text struck.now) }
+// Whether a fault belongs to a row.
+fn is_alike(row: &Row, fault: ToldFault) -> bool
+    ensures { result ≡ is_alike (row_by row.now) (told_by fault.entry) }
 {
-    let mut text = Vec::from_slice(alloc, kind_text(struck.outcome))?;
-    if is_undisturbed(struck.outcome) {
-        return Ok(text);
-    }
-    text.extend_from_slice(b", answer ")?;
-    text.extend_from_slice(&struck.answer)?;
-    text.extend_from_slice(b": ")?;
-    push_in_line(&mut text, &struck.answers)?;
-    push_standing(&mut text, struck.standing)?;
-    Ok(text)
+    is_same(&row.model, fault.model)
+        && is_same(&row.second, fault.second)
+        && is_same(&row.told, fault.told)
 }
 
-fn is_undisturbed(outcome: Outcome) -> bool
-    ensures { result ≡ is_undisturbed outcome }
-{
-    matches!(outcome, Outcome::Undisturbed)
-}
-
-// Whether two faults are of one kind.
-fn is_same_kind(one: PlannedFault, other: PlannedFault) -> bool
-    ensures { result ≡ is_same_kind one other }
-{
-    is_same_model(one.model, other.model) && is_same_second(one.second, other.second)
-}
-
-// Whether two second faults are the same, or there is none.
-fn is_same_second(one: Option<SecondFault>, other: Option<SecondFault>) -> bool
-    ensures { result ≡ is_same_second one other }
-{
-    match (one, other) {
-        (None, None) => true,
-        (Some(one), Some(other)) => {
-            one.number == other.number && is_same_model(one.model, other.model)
-        }
-        _ => false,
-    }
-}
-
-// Whether two models are the same.
-fn is_same_model(one: FaultModel, other: FaultModel) -> bool
-    ensures { result ≡ is_same_model one other }
-{
-    match one {
-        FaultModel::Skip => matches!(other, FaultModel::Skip),
-        FaultModel::Turn => matches!(other, FaultModel::Turn),
-        FaultModel::Zero => matches!(other, FaultModel::Zero),
-    }
-}
-
-fn kind_text(outcome: Outcome) -> &'static [u8]
-    ensures { result.now ≡ kind_text outcome }
-{
-    match outcome {
-        Outcome::Undisturbed => b"as without a fault",
-        Outcome::Silent => b"CHANGED IN SILENCE",
-        Outcome::Accepted => b"ACCEPTED",
-        Outcome::Other => b"another answer",
-        Outcome::BrokenOff => b"broken off",
-        Outcome::Refused => b"refused",
-        Outcome::Cut => b"cut",
-    }
-}
-
-/// The name of a model.
-pub(crate) const fn model_name(model: FaultModel) -> &'static [u8]
-    ensures { result.now ≡ model_name model }
-{
-    match model {
-        FaultModel::Skip => b"skip",
-        FaultModel::Turn => b"turn",
-        FaultModel::Zero => b"zero",
-    }
-}
-
-// Writes a row; after one of faults that somebody should look at, a line for the instruction of each.
-#[tactic(auto, unfolding(crate::specs::Reports::row_told))]
-fn push_row(text: &mut Vec<u8>, row: &Row, instructions: &[Vec<u8>]) -> Result<(), AllocError>
+// Writes the open row, if there is one.
+fn push_open(text: &mut Vec<u8>, row: &Option<Row>) -> Result<(), AllocError>
     ensures { OnOk result (text.new.items ≡ text.old.items
-        ++ row_text (map (λ line. line.items) instructions.now) row.now) }
+        ++ open_text (option_map row_by row.now)) }
 {
-    push_row_head(text, row)?;
-    if is_told_in_full(row.outcome) {
-        return push_places(text, row.first.instruction, row.last, instructions);
+    match row {
+        Some(row) => push_row(text, row),
+        None => Ok(()),
     }
-    Ok(())
 }
 
-// Writes which faults a row is about, and what they came to.
-fn push_row_head(text: &mut Vec<u8>, row: &Row) -> Result<(), AllocError>
-    ensures { OnOk result (text.new.items ≡ text.old.items
-        ++ row_head row.now.first row.now.last row.now.told.items) }
+// Writes a row, and the lines of its instructions.
+fn push_row(text: &mut Vec<u8>, row: &Row) -> Result<(), AllocError>
+    ensures { OnOk result (text.new.items ≡ text.old.items ++ row_text (row_by row.now)) }
 {
-    text.extend_from_slice(model_name(row.first.model))?;
+    text.extend_from_slice(&row.model)?;
     text.extend_from_slice(b" ")?;
-    push_numbers(text, row.first.instruction as usize, row.last as usize)?;
-    push_second_end(text, row.first.second)?;
-    push_ended(text, &row.told)
+    push_numbers(text, &row.first, &row.last)?;
+    text.extend_from_slice(&row.second)?;
+    push_ended(text, &row.told)?;
+    text.extend_from_slice(&row.places)
 }
 
-/// Writes the second fault of a kind, where it has one.
-pub(crate) fn push_second_end(
-    text: &mut Vec<u8>,
-    second: Option<SecondFault>,
-) -> Result<(), AllocError>
-    ensures { OnOk result (text.new.items ≡ text.old.items ++ second_end second) }
+// Writes the number of a row's fault, or of its first and its last one.
+fn push_numbers(text: &mut Vec<u8>, first: &[u8], last: &[u8]) -> Result<(), AllocError>
+    ensures { OnOk result (text.new.items ≡ text.old.items ++ row_numbers first.now last.now) }
 {
-    let Some(second) = second else {
-        return Ok(());
-    };
-    text.extend_from_slice(b", then ")?;
-    text.extend_from_slice(model_name(second.model))?;
-    text.extend_from_slice(b" ")?;
-    push_number(text, second.number as usize)?;
-    text.extend_from_slice(b" later")
-}
-
-// Whether the instructions of faults that came to this are reported.
-const fn is_told_in_full(outcome: Outcome) -> bool
-    ensures { result ≡ is_told_in_full outcome }
-{
-    matches!(outcome, Outcome::Accepted | Outcome::Silent)
-}
-
-// Writes a line for each instruction from the first to the last.
-fn push_places(
-    text: &mut Vec<u8>,
-    first: u32,
-    last: u32,
-    instructions: &[Vec<u8>],
-) -> Result<(), AllocError>
-    ensures { OnOk result (text.new.items ≡ text.old.items
-        ++ places_text first last (map (λ line. line.items) instructions.now)) }
-{
-    let start = first as usize;
-    let end = (last as usize + 1).min(instructions.len());
-    if end <= start {
+    text.extend_from_slice(first)?;
+    if is_same(first, last) {
         return Ok(());
     }
-    push_places_from(text, start, &instructions[start..end])
+    text.extend_from_slice(b"..")?;
+    text.extend_from_slice(last)
 }
 
-// Writes a line for each of these instructions, the first of which has this number.
-fn push_places_from(text: &mut Vec<u8>, first: usize, places: &[Vec<u8>]) -> Result<(), AllocError>
-    requires { first + length places.now < 2 ^ 64 }
-    ensures { OnOk result (text.new.items ≡ text.old.items
-        ++ places_from first (map (λ line. line.items) places.now)) }
+// Writes the line of the instruction with this number, if anything is reported of it.
+fn push_place(text: &mut Vec<u8>, number: &[u8], place: &[u8]) -> Result<(), AllocError>
+    ensures { OnOk result (text.new.items ≡ text.old.items ++ place_text number.now place.now) }
 {
-    for (number, place) in places.iter().enumerate() {
-        push_place(text, first + number, place)?;
+    if place.is_empty() {
+        return Ok(());
     }
-    Ok(())
-}
-
-// Writes the line of the instruction with this number.
-fn push_place(text: &mut Vec<u8>, number: usize, place: &[u8]) -> Result<(), AllocError>
-    ensures { OnOk result (text.new.items ≡ text.old.items ++ place_text number place.now) }
-{
     text.extend_from_slice(b"  ")?;
-    push_number(text, number)?;
+    text.extend_from_slice(number)?;
     text.extend_from_slice(b" ")?;
     text.extend_from_slice(place)?;
     text.extend_from_slice(b"\n")

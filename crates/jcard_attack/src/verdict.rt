@@ -1,10 +1,11 @@
 //! The verdict over all faults of a command.
-ghost use Rattle.std.specs.Prelude.{◌≡◌, ◌++◌, ◌==◌, IfOk, OnOk, Some, option_map};
-ghost use Rattle.jcard_attack.specs.Reports.{accepted_text, any_accepted, count_of, fault_name, faults_text, first_of, is_outcome, silence_text, silent_end, verdict_text};
+ghost use Rattle.std.specs.Prelude.{◌≡◌, ◌++◌, ◌==◌, ℕ, List, IfOk, OnOk, Some, option_map};
+ghost use Rattle.std.specs.Borrow.{Bor};
+ghost use Rattle.jcard_attack.specs.Reports.{accepted_line, accepted_text, any_accepted, count_of, fault_name, faults_text, first_of, is_outcome, silence_line, verdict_text};
 ghost use Rattle.jcard_attack.specs.declared.outcomes.Outcome.TheVariants.{Accepted};
 
 use crate::outcomes::{Outcome, Struck};
-use crate::rows::{model_name, push_second_end};
+use crate::told_faults::{model_name, second_text};
 use jc_session::planned_fault::PlannedFault;
 use jcard_outcomes::rows::push_number;
 use jcard_outcomes::verdict::push_either;
@@ -22,66 +23,89 @@ pub fn accepted(alloc: Global, strikes: &[Struck]) -> Result<Option<Vec<u8>>, Al
     ensures { IfOk result (λ told. option_map (λ text. text.items) told
         ≡ option_map (λ fault. accepted_text (Some fault) strikes.now) (first_of Accepted strikes.now)) }
 {
-    let first = first_of(Outcome::Accepted, strikes);
-    if first.is_none() {
+    let Some(fault) = first_of(Outcome::Accepted, strikes) else {
         return Ok(None);
-    }
+    };
+    let name = fault_name(alloc, fault)?;
     let mut text = Vec::new(alloc);
-    push_accepted(&mut text, strikes, first)?;
+    push_accepted(
+        &mut text,
+        strikes.len(),
+        count_of(Outcome::Accepted, strikes),
+        Some(&name),
+    )?;
     Ok(Some(text))
 }
 
 /// Writes the verdict over these faults.
-pub(crate) fn push_verdict(text: &mut Vec<u8>, strikes: &[Struck]) -> Result<(), AllocError>
+pub(crate) fn push_verdict(
+    alloc: Global,
+    text: &mut Vec<u8>,
+    strikes: &[Struck],
+) -> Result<(), AllocError>
     ensures { OnOk result (text.new.items ≡ text.old.items ++ verdict_text strikes.now) }
 {
-    push_accepted(text, strikes, first_of(Outcome::Accepted, strikes))?;
-    push_silence(text, strikes, first_of(Outcome::Silent, strikes))?;
+    let accepted = name_of(alloc, first_of(Outcome::Accepted, strikes))?;
+    let silent = name_of(alloc, first_of(Outcome::Silent, strikes))?;
+    push_accepted(
+        text,
+        strikes.len(),
+        count_of(Outcome::Accepted, strikes),
+        lent(&accepted),
+    )?;
+    push_silence(text, count_of(Outcome::Silent, strikes), lent(&silent))?;
     text.extend_from_slice(b"\n")
 }
 
-// Writes whether one was accepted, of which this is the first.
-fn push_accepted(
-    text: &mut Vec<u8>,
-    strikes: &[Struck],
-    first: Option<PlannedFault>,
-) -> Result<(), AllocError>
-    ensures { OnOk result (text.new.items ≡ text.old.items ++ accepted_text first strikes.now) }
+/// A text, lent.
+pub(crate) fn lent(text: &Option<Vec<u8>>) -> Option<&[u8]>
+    ensures { option_map (λ (lent : Bor (List ℕ)). lent.now) result
+        ≡ option_map (λ text. text.items) text.now }
 {
-    let Some(fault) = first else {
-        text.extend_from_slice(b"none accepted: ")?;
-        return push_faults(text, strikes.len());
-    };
-    text.extend_from_slice(b"ACCEPTED: ")?;
-    push_number(text, count_of(Outcome::Accepted, strikes))?;
-    text.extend_from_slice(b" of ")?;
-    push_faults(text, strikes.len())?;
-    text.extend_from_slice(b", first ")?;
-    push_fault(text, fault)
+    match text {
+        Some(text) => Some(text.as_slice()),
+        None => None,
+    }
 }
 
-// Writes how many changed something in silence, of which this is the first; nothing where none did.
-fn push_silence(
+/// Writes how many of this many faults were accepted, the first of which has this name, if one was.
+pub(crate) fn push_accepted(
     text: &mut Vec<u8>,
-    strikes: &[Struck],
-    first: Option<PlannedFault>,
+    all: usize,
+    count: usize,
+    first: Option<&[u8]>,
 ) -> Result<(), AllocError>
-    ensures { OnOk result (text.new.items ≡ text.old.items ++ silence_text first strikes.now) }
+    ensures { OnOk result (text.new.items ≡ text.old.items
+        ++ accepted_line all count (option_map (λ (name : Bor (List ℕ)). name.now) first.entry)) }
 {
-    let Some(fault) = first else {
+    let Some(name) = first else {
+        text.extend_from_slice(b"none accepted: ")?;
+        return push_faults(text, all);
+    };
+    text.extend_from_slice(b"ACCEPTED: ")?;
+    push_number(text, count)?;
+    text.extend_from_slice(b" of ")?;
+    push_faults(text, all)?;
+    text.extend_from_slice(b", first ")?;
+    text.extend_from_slice(name)
+}
+
+/// Writes how many changed something in silence, the first of which has this name; nothing where none did.
+pub(crate) fn push_silence(
+    text: &mut Vec<u8>,
+    count: usize,
+    first: Option<&[u8]>,
+) -> Result<(), AllocError>
+    ensures { OnOk result (text.new.items ≡ text.old.items
+        ++ silence_line count (option_map (λ (name : Bor (List ℕ)). name.now) first.entry)) }
+{
+    let Some(name) = first else {
         return Ok(());
     };
     text.extend_from_slice(b", ")?;
-    push_number(text, count_of(Outcome::Silent, strikes))?;
-    push_silent_end(text, fault)
-}
-
-// Writes what is said of the first that changed something in silence.
-fn push_silent_end(text: &mut Vec<u8>, fault: PlannedFault) -> Result<(), AllocError>
-    ensures { OnOk result (text.new.items ≡ text.old.items ++ silent_end fault) }
-{
+    push_number(text, count)?;
     text.extend_from_slice(b" changed in silence, first ")?;
-    push_fault(text, fault)
+    text.extend_from_slice(name)
 }
 
 // Writes this many faults.
@@ -92,14 +116,26 @@ fn push_faults(text: &mut Vec<u8>, count: usize) -> Result<(), AllocError>
     push_either(text, count == 1, b" fault", b" faults")
 }
 
-// A fault by its model and its instruction, and the second one, where there is one.
-fn push_fault(text: &mut Vec<u8>, fault: PlannedFault) -> Result<(), AllocError>
-    ensures { OnOk result (text.new.items ≡ text.old.items ++ fault_name fault) }
+// The name of a fault, if there is one.
+fn name_of(alloc: Global, fault: Option<PlannedFault>) -> Result<Option<Vec<u8>>, AllocError>
+    ensures { IfOk result (λ name. option_map (λ text. text.items) name ≡ option_map fault_name fault) }
 {
-    text.extend_from_slice(model_name(fault.model))?;
-    text.extend_from_slice(b" ")?;
-    push_number(text, fault.instruction as usize)?;
-    push_second_end(text, fault.second)
+    match fault {
+        Some(fault) => Ok(Some(fault_name(alloc, fault)?)),
+        None => Ok(None),
+    }
+}
+
+// A fault by its model and its instruction, and the second one, where there is one.
+fn fault_name(alloc: Global, fault: PlannedFault) -> Result<Vec<u8>, AllocError>
+    ensures { IfOk result (λ name. name.items ≡ fault_name fault) }
+{
+    let mut name = Vec::from_slice(alloc, model_name(fault.model))?;
+    name.extend_from_slice(b" ")?;
+    push_number(&mut name, fault.instruction as usize)?;
+    let second = second_text(alloc, fault.second)?;
+    name.extend_from_slice(&second)?;
+    Ok(name)
 }
 
 // Whether an outcome is the one of the two that a verdict counts.

@@ -4,6 +4,12 @@ use Rattle.std.specs.Borrow.{Bor}
 use Rattle.std.specs.Prelude.{if◌then◌else◌, is_err, is_ok}
 use Rattle.std.proofs.lemmas.Bool.{true≢false}
 use Rattle.std.proofs.lemmas.List.{map-append, take-append-drop, take_more}
+use Rattle.jcard_attack.specs.PartLines.{IsJoined, IsUnjoined, shares_text}
+use Rattle.jcard_attack.specs.PartLines as attack_lines
+use Rattle.jcard_attack.specs.Reports.{any_accepted}
+use Rattle.jcard_attack.specs.Reports as attacks
+use Rattle.jcard_attack.specs.declared.joining.JoinedAttack.{JoinedAttack}
+use Rattle.jcard_attack.specs.declared.outcomes.AttackSweep.{AttackSweep}
 use Rattle.jcard_outcomes.specs.Joins.{AreBodiesOf, AreJoined, IsJoinFault, IsTellable}
 use Rattle.jcard_outcomes.specs.Reports.{are_whole, report_text}
 use Rattle.jcard_outcomes.specs.SweepKinds.{kind_of}
@@ -18,8 +24,9 @@ use Rattle.jcard_outcomes.specs.declared.sweep_head.HeadFault.TheVariants as hea
 use Rattle.jcard_outcomes.proofs.PartHeads.{bodies_of_parts, name_of_parts, parts_of_one}
 use Rattle.jcard_script.specs.Texts.{IsCutOf}
 use Rattle.jcard_files.specs.FileDeeds.{FileDeed}
-use Rattle.jcard_sweeps.specs.Joinings.{AreBodiesJoinedTo, AreFirstRead, AreJoinedBy, AreRead, AreUnread, IsJoinTold, IsJoinedTo, IsJoining, IsOtherTold, IsReported, told_join_fault}
+use Rattle.jcard_sweeps.specs.Joinings.{AreBodiesJoinedTo, AreFirstRead, AreJoinedAs, AreJoinedBy, AreLinesJoinedTo, AreNamedJoined, AreRead, AreUnread, IsJoinTold, IsJoinedTo, IsJoining, IsOtherTold, IsReported, told_join_fault, told_share_fault}
 use Rattle.jcard_files.specs.Readings.{IsScriptRead}
+use Rattle.jcard_sweeps.specs.Writings.{IsAttackTold}
 use Rattle.jcard_files.specs.declared.fault.Fault.{Fault}
 use Rattle.jcard_files.specs.declared.fault.Fault.TheVariants.{NoMemory, NotAllOrNothing, WriteFailed}
 
@@ -68,14 +75,38 @@ unjoined depth texts cause fault e why none = record {
   whole = λ s tellable h. inr (ap Err (e ∙ ap told_join_fault (none s tellable h)), refl);
 }
 
+struck_reported : (s : AttackSweep) (j : JoinedAttack) (ended : Result (Unit {0}) Fault) (text : List ℕ) → j.text.items ≡ attacks.report_text s
+    → j.is_accepted ≡ any_accepted s.strikes.items → IsAttackTold j.text.items j.is_accepted ended text
+    → IsAttackTold (attacks.report_text s) (any_accepted s.strikes.items) ended text
+struck_reported s j ended text e f told = subst (λ b. IsAttackTold (attacks.report_text s) b ended text) f (subst (λ t. IsAttackTold t j.is_accepted ended text) e told)
+
+-- the report of faults was reported
+pub lines_told : (n : ℕ) (lines : List ℕ) (j : JoinedAttack) (ended : Result (Unit {0}) Fault) (text : List ℕ) → IsJoined n lines j
+    → ((s : AttackSweep) → attack_lines.IsTellable s → lines ≡ shares_text s n n → (j.text.items ≡ attacks.report_text s) × (j.is_accepted ≡ any_accepted s.strikes.items))
+    → IsAttackTold j.text.items j.is_accepted ended text → AreLinesJoinedTo n lines ended text
+lines_told n lines j ended text joined whole told = record {
+  joined = inl (j, joined, told);
+  whole = λ s tellable e. let of = whole s tellable e in inl (struck_reported s j ended text of.0 of.1 told);
+}
+
+-- the lines were not joined
+pub lines_untold : (n : ℕ) (lines : List ℕ) (cause : JoinFault) (fault : Fault) → fault ≡ told_share_fault cause → IsUnjoined n lines cause
+    → ((s : AttackSweep) → attack_lines.IsTellable s → lines ≡ shares_text s n n → cause ≡ joining.NoMemory) → AreLinesJoinedTo n lines (Err fault) []
+lines_untold n lines cause fault e why none = record {
+  joined = inr (cause, why, ap Err e, refl);
+  whole = λ s tellable h. inr (ap Err (e ∙ ap told_share_fault (none s tellable h)), refl);
+}
+
 -- the bodies were joined
 pub heads_joined : (names texts bodies : List (List ℕ)) (name : List ℕ) (ended : Result (Unit {0}) Fault) (text : List ℕ) → 0 < length texts → AreBehindHeads name texts bodies
-    → AreJoinedBy (kind_of name) bodies ended text → IsJoinedTo names texts ended text
+    → AreNamedJoined name bodies ended text → IsJoinedTo names texts ended text
 heads_joined names texts bodies name ended text some behind told = record {
   joined = inl (name, bodies, behind, told);
-  whole = λ depth s own plain kind tellable parts.
+  whole = λ depth s own plain cuts kind tellable parts.
       let same : own ≡ name = name_of_parts s own name texts bodies some plain parts behind in
-      let deep = subst (λ k. AreJoinedBy k bodies ended text) (ap kind_of (sym same) ∙ kind) told in
+      let named = subst (λ n. AreNamedJoined n bodies ended text) (sym same) told in
+      let by_kind = subst (λ b. AreJoinedAs b (kind_of own) bodies ended text) cuts named in
+      let deep = subst (λ k. AreJoinedBy k bodies ended text) kind by_kind in
       deep.whole s tellable (bodies_of_parts s own name texts bodies plain parts behind);
 }
 
@@ -84,7 +115,7 @@ pub others_told : (names texts : List (List ℕ)) (cause : HeadFault) (fault : F
     → IsJoinedTo names texts (Err fault) []
 others_told names texts cause fault some others told = record {
   joined = inr (cause, fault, others, told, refl, refl);
-  whole = λ depth s own plain kind tellable parts. inr (ap Err (refused cause fault (parts_of_one s own texts cause some plain parts others) told), refl);
+  whole = λ depth s own plain cuts kind tellable parts. inr (ap Err (refused cause fault (parts_of_one s own texts cause some plain parts others) told), refl);
 }
   where
     refused : (cause : HeadFault) (fault : Fault) → cause ≡ heading.NoMemory → IsOtherTold names cause fault → fault ≡ NoMemory

@@ -1,8 +1,10 @@
 -- `jcard attack`: what is read, what is done with it, and what is reported.
-use Rattle.std.specs.Prelude.{ℕ, ◌≡◌, ◌++◌, Bool, true, false, not, if◌then◌else◌, List, [], codes, decimal, map, Option, Some, None, Ok, Err}
+use Rattle.std.specs.Prelude.{ℕ, ◌≡◌, ◌++◌, Bool, false, not, if◌then◌else◌, List, [], codes, decimal, map, take, Option, Some, None}
 use Rattle.std.specs.Option.{unwrap_or}
 use Rattle.jcard_attack.specs.Each.{AreStruck, IsAttackedIn, IsOneUnswept, any_line_accepted, verdicts_text}
+use Rattle.jcard_attack.specs.PartLines.{part_text}
 use Rattle.jcard_attack.specs.Reports.{any_accepted, report_text}
+use Rattle.jcard_attack.specs.Shares.{share_in}
 use Rattle.jcard_attack.specs.Sweeps.{IsSwept, IsUnswept}
 use Rattle.jcard_attack.specs.declared.aftermaths.AttackFault.{AttackFault}
 use Rattle.jcard_attack.specs.declared.aftermaths.AttackFault.TheVariants as attack
@@ -13,22 +15,22 @@ use Rattle.jcard_attack.specs.declared.sweeping.Sought.{Sought}
 use Rattle.jcard_files.specs.Readings.{IsScriptRead, IsUnread}
 use Rattle.jcard_files.specs.FileDeeds.{FileDeed}
 use Rattle.jcard_files.specs.declared.fault.Fault.{Fault}
-use Rattle.jcard_files.specs.declared.fault.Fault.TheVariants.{Down, FaultAccepted, NoMemory, TooManyInstructions, WriteFailed}
+use Rattle.jcard_files.specs.declared.fault.Fault.TheVariants.{Down, NoMemory, TooManyInstructions}
 use Rattle.jcard_outcomes.specs.CommandShares.{share_text}
 use Rattle.jcard_outcomes.specs.Parts.{head_text}
 use Rattle.jcard_outcomes.specs.declared.models.Models.{Models}
 use Rattle.jcard_outcomes.specs.declared.part.Share.{Share}
-use Rattle.jcard_script.specs.Texts.{IsCutOf}
+use Rattle.jcard_outcomes.specs.declared.recoveries.Depth.TheVariants.{Zero}
 use Rattle.jcard_tear.specs.Names.{commands_name}
-use Rattle.jcard_tear.specs.Sweeps.{nothing_more}
-use Rattle.jcard_tear.specs.ScriptLines.{line_of}
-use Rattle.jcard_sweeps.specs.Cuttings.{commands_in}
+use Rattle.jcard_tear.specs.ScriptLines.{Line, line_of}
+use Rattle.jcard_tear.specs.declared.cuts.Behind.{Behind}
+use Rattle.jcard_sweeps.specs.Joinings.{faults_mark}
 use Rattle.jcard_sweeps.specs.SweepsAsked.{SweepAsked}
 use Rattle.jcard_sweeps.specs.Targets.{IsNoTarget, IsTarget}
 use Rattle.jcard_sweeps.specs.TearFaults.{IsFaultInMemory, IsProbeFaultInMemory}
 use Rattle.jcard_sweeps.specs.Tears.{IsCarried, IsImageRead, IsImageUnread, IsProbeRead, IsProbeUnread, IsSubject, IsUncarried}
 use Rattle.jcard_sweeps.specs.Texts.{text_of}
-use Rattle.jcard_sweeps.specs.Writings.{FindsThen, ReadsThen, Says, Tells, WithNoFile}
+use Rattle.jcard_sweeps.specs.Writings.{FindsThen, IsAttackTold, ReadsThen, Tells, WithNoFile}
 use Rattle.jcard_sweeps.specs.declared.attacking.AskedAttack.{AskedAttack}
 use Rattle.jcard_sweeps.specs.declared.attacking.ToldAttack.{ToldAttack}
 use Rattle.jcard_sweeps.specs.declared.cutting.Subject.{Subject}
@@ -58,6 +60,10 @@ attack_asked_by a = record {
   instructions = a.instructions;
 }
 
+-- what comes after each fault, as it is asked of cuts
+abbrev pub behind_of : AttackAsked → Behind
+behind_of a = record { depth = Zero; objects = a.sought.objects; instructions = a.instructions }
+
 -- the same as it is asked of a sweep of cuts
 abbrev pub sweep_of : AttackAsked → SweepAsked
 sweep_of a = record {
@@ -65,7 +71,7 @@ sweep_of a = record {
   probe = a.probe;
   line = a.line;
   each = a.each;
-  behind = nothing_more a.instructions;
+  behind = behind_of a;
   part = a.part;
 }
 
@@ -78,14 +84,17 @@ models_text models = (if models.skip then codes "skip " else codes "") ++ ((if m
 abbrev pub faults_text : Sought → List ℕ
 faults_text sought = codes "attack " ++ (models_text sought.models ++ (sought.accepted.now ++ (codes " " ++ (decimal sought.within ++ codes "\n"))))
 
--- the name of the sweep of each command in this many parts: as of a sweep of cuts whose script says first which faults are tried
-abbrev pub attack_name : Subject → List ℕ → AttackAsked → ℕ → List ℕ
-attack_name subject probe asked parts = commands_name subject.words.now (faults_text asked.sought ++ subject.script.now) (Some probe)
-    (nothing_more asked.instructions) parts
+-- the name of a sweep over this script in this many parts: as of a sweep of cuts whose script says first which faults are tried
+abbrev pub attack_name : Subject → List ℕ → List ℕ → AttackAsked → ℕ → List ℕ
+attack_name subject script probe asked parts = commands_name subject.words.now (faults_text asked.sought ++ script) (Some probe) (behind_of asked) parts
+
+-- the name of the sweep of the command in a line: the checksum of the sweep over the script up to it, and that parts have its faults
+abbrev pub faults_name : Subject → Line → List ℕ → AttackAsked → ℕ → List ℕ
+faults_name subject l probe asked parts = take 40 (attack_name subject (l.before ++ l.text) probe asked parts) ++ faults_mark
 
 -- what faults of a command came to is reported, and whether one was accepted
 abbrev pub IsStruck : List ℕ → Attacked → Sought → ToldAttack → Type 0
-IsStruck words c sought told = (s : AttackSweep) × IsSwept words c sought s × (told.text.items ≡ report_text s)
+IsStruck words c sought told = (s : AttackSweep) × IsSwept words c sought None s × (told.text.items ≡ report_text s)
     × (told.is_accepted ≡ any_accepted s.strikes.items)
 
 -- why they were not tried; memory may be refused for what is reported too
@@ -96,21 +105,27 @@ IsUnstruck words c cause = IsUnswept words c cause
 abbrev pub AreToldEach : Subject → List ℕ → AttackAsked → ToldAttack → Type 0
 AreToldEach subject probe asked told = (attacks : List LineAttack)
     × AreStruck subject.words.now probe asked.instructions asked.sought (map line_of subject.commands.now) attacks
-    × (told.text.items ≡ verdicts_text attacks) × (told.is_accepted ≡ any_line_accepted attacks)
+    × (told.text.items ≡ verdicts_text asked.sought.objects attacks) × (told.is_accepted ≡ any_line_accepted attacks)
 
 -- of the commands in a part, which says whether one was accepted, and does not end by that
 abbrev pub AreToldIn : Subject → Share → List ℕ → AttackAsked → ToldAttack → Type 0
 AreToldIn subject share probe asked told = (attacks : List LineAttack)
-    × AreStruck subject.words.now probe asked.instructions asked.sought (map line_of (commands_in share subject.commands.now)) attacks
-    × (told.text.items ≡ head_text (attack_name subject probe asked share.step)
-    ++ share_text share.first share.step (not (any_line_accepted attacks)) (verdicts_text attacks)) × (told.is_accepted ≡ false)
+    × AreStruck subject.words.now probe asked.instructions asked.sought (map line_of (share_in share subject.commands.now)) attacks
+    × (told.text.items ≡ head_text (attack_name subject subject.script.now probe asked share.step)
+    ++ share_text share.first share.step (not (any_line_accepted attacks)) (verdicts_text asked.sought.objects attacks)) × (told.is_accepted ≡ false)
 
--- of what is attacked: one command is attacked whole, as parts have commands
+-- of the faults of a command in a part of them, which says whether one was accepted, and does not end by that
+abbrev pub IsToldPart : Subject → Line → Share → List ℕ → AttackAsked → ToldAttack → Type 0
+IsToldPart subject l share probe asked told = (c : Attacked) × (s : AttackSweep) × IsAttackedIn probe asked.instructions l c
+    × IsSwept subject.words.now c asked.sought (Some share) s
+    × (told.text.items ≡ head_text (faults_name subject l probe asked share.step)
+    ++ share_text share.first share.step (not (any_accepted s.strikes.items)) (part_text s)) × (told.is_accepted ≡ false)
+
+-- of what is attacked
 abbrev pub IsToldBy : Subject → Target → List ℕ → AttackAsked → ToldAttack → Type 0
 IsToldBy subject (Command line) probe asked told = (c : Attacked) × IsAttackedIn probe asked.instructions (line_of line) c
     × IsStruck subject.words.now c asked.sought told
-IsToldBy subject (CommandPart line share) probe asked told = (c : Attacked) × IsAttackedIn probe asked.instructions (line_of line) c
-    × IsStruck subject.words.now c asked.sought told
+IsToldBy subject (CommandPart line share) probe asked told = IsToldPart subject (line_of line) share probe asked told
 IsToldBy subject Each probe asked told = AreToldEach subject probe asked told
 IsToldBy subject (EachPart share) probe asked told = AreToldIn subject share probe asked told
 
@@ -120,7 +135,7 @@ AreUntoldEach subject probe asked cause = IsOneUnswept subject.words.now probe a
 
 abbrev pub AreUntoldIn : Subject → Share → List ℕ → AttackAsked → AttackFault → Type 0
 AreUntoldIn subject share probe asked cause = IsOneUnswept subject.words.now probe asked.instructions
-    (map line_of (commands_in share subject.commands.now)) cause
+    (map line_of (share_in share subject.commands.now)) cause
 
 abbrev pub IsUntoldBy : Subject → Target → List ℕ → AttackAsked → AttackFault → Type 0
 IsUntoldBy subject (Command line) probe asked cause = (c : Attacked) × IsAttackedIn probe asked.instructions (line_of line) c
@@ -143,20 +158,13 @@ abbrev pub IsUntoldTold : Subject → Target → List ℕ → AttackAsked → Fa
 IsUntoldTold subject target probe asked fault = (cause : AttackFault) × IsUntoldBy subject target probe asked cause
     × IsAttackFault subject.names.image.now cause fault
 
--- a report was written, and so it ended: no fault was accepted, or one was; or a write failed within it
-abbrev pub IsAttackTold : ToldAttack → Says
-IsAttackTold told (Ok done) text = (text ≡ told.text.items) × (told.is_accepted ≡ false)
-IsAttackTold told (Err FaultAccepted) text = (text ≡ told.text.items) × (told.is_accepted ≡ true)
-IsAttackTold told (Err WriteFailed) text = IsCutOf told.text.items text
-IsAttackTold told (Err other) text = ⊥
-
 -- what is meant of the commands was found, the probe was read, its faults were tried, and the report was written
 abbrev pub IsAttacked : Subject → AttackAsked → Tells
 IsAttacked subject asked =
     FindsThen (IsTarget (sweep_of asked) subject.commands.now) (IsNoTarget (sweep_of asked) subject.commands.now) (λ target.
     ReadsThen (IsProbeRead asked.probe) (IsProbeUnread asked.probe) (λ probe.
     FindsThen (IsToldBy subject target (unwrap_or probe []) asked) (IsUntoldTold subject target (unwrap_or probe []) asked) (λ told.
-    WithNoFile (IsAttackTold told))))
+    WithNoFile (IsAttackTold told.text.items told.is_accepted))))
 
 -- the words of the image and the script were read, the whole script was carried out over these words, and the command that is meant was attacked,
 -- on cards in memory alone

@@ -1,5 +1,5 @@
 -- What commands of a script leave that are cut, and how it is reported.
-use Rattle.std.specs.Prelude.{ℕ, ◌≡◌, ◌+◌, ◌*◌, ◌/◌, ◌%◌, ◌==◌, ◌↔◌, if◌then◌else◌, Bool, IsTrue, true, All, drop, length, take, map, List, ◌++◌}
+use Rattle.std.specs.Prelude.{ℕ, ◌≡◌, ◌↔◌, Bool, IsTrue, true, All, map, List, ◌++◌}
 use Rattle.jcard_outcomes.specs.Reports.{are_whole, is_whole_outcome, report_text, verdicts_text}
 use Rattle.jcard_outcomes.specs.Parts.{head_text, part_text}
 use Rattle.jcard_outcomes.specs.CommandShares.{share_text}
@@ -7,26 +7,18 @@ use Rattle.jcard_outcomes.specs.declared.each.LineSweep.{LineSweep}
 use Rattle.jcard_outcomes.specs.declared.part.Part.{Part}
 use Rattle.jcard_outcomes.specs.declared.part.Share.{Share}
 use Rattle.jcard_outcomes.specs.declared.report.Sweep.{Sweep}
+use Rattle.jcard_attack.specs.Shares.{share_in}
 use Rattle.jcard_tear.specs.Faults.{IsLineUncut, IsOneUncut}
 use Rattle.jcard_tear.specs.Names.{commands_name}
 use Rattle.jcard_tear.specs.Parts.{IsLinePart}
 use Rattle.jcard_tear.specs.ScriptLines.{line_of}
 use Rattle.jcard_tear.specs.Sweeps.{AreSwept, IsLineSwept}
-use Rattle.jcard_tear.specs.declared.script_lines.ScriptLine.{ScriptLine}
 use Rattle.jcard_tear.specs.declared.tearing.TearFault.{TearFault}
 use Rattle.jcard_sweeps.specs.Texts.{text_of}
 use Rattle.jcard_sweeps.specs.declared.cutting.Cutting.{Cutting}
 use Rattle.jcard_sweeps.specs.declared.cutting.Told.{Told}
 use Rattle.jcard_sweeps.specs.declared.targets.Target.{Target}
 use Rattle.jcard_sweeps.specs.declared.targets.Target.TheVariants.{Command, CommandPart, Each, EachPart}
-
--- of n commands, each of as many parts has this many, but for the last ones
-abbrev pub share_size : ℕ → ℕ → ℕ
-share_size n parts = if n % parts == 0 then n / parts else n / parts + 1
-
--- the commands in a part of them
-abbrev pub commands_in : Share → List ScriptLine → List ScriptLine
-commands_in share all = take (share_size (length all) share.step) (drop (share.first * share_size (length all) share.step) all)
 
 -- the report is this, and ends so
 abbrev pub IsToldAs : List ℕ → Bool → Told → Type 0
@@ -48,7 +40,7 @@ IsCut c Each told = (sweeps : List LineSweep) × (whole : Bool)
     × AreSwept c.subject.words.now (text_of c.probe) c.behind (map line_of c.subject.commands.now) sweeps
     × AreAllWhole sweeps whole × IsToldAs (verdicts_text c.behind.objects sweeps) whole told
 IsCut c (EachPart share) told = (sweeps : List LineSweep) × (whole : Bool)
-    × AreSwept c.subject.words.now (text_of c.probe) c.behind (map line_of (commands_in share c.subject.commands.now)) sweeps
+    × AreSwept c.subject.words.now (text_of c.probe) c.behind (map line_of (share_in share c.subject.commands.now)) sweeps
     × AreAllWhole sweeps whole
     × IsToldAs (head_text (commands_name c.subject.words.now c.subject.script.now (text_of c.probe) c.behind share.step)
     ++ share_text share.first share.step whole (verdicts_text c.behind.objects sweeps)) true told
@@ -58,4 +50,4 @@ abbrev pub IsUncut : Cutting → Target → TearFault → Type 0
 IsUncut c (Command l) cause = IsLineUncut c.subject.words.now (text_of c.probe) c.behind (line_of l) 1 cause
 IsUncut c (CommandPart l share) cause = IsLineUncut c.subject.words.now (text_of c.probe) c.behind (line_of l) share.step cause
 IsUncut c Each cause = IsOneUncut c.subject.words.now (text_of c.probe) c.behind (map line_of c.subject.commands.now) cause
-IsUncut c (EachPart share) cause = IsOneUncut c.subject.words.now (text_of c.probe) c.behind (map line_of (commands_in share c.subject.commands.now)) cause
+IsUncut c (EachPart share) cause = IsOneUncut c.subject.words.now (text_of c.probe) c.behind (map line_of (share_in share c.subject.commands.now)) cause

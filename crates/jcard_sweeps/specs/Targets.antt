@@ -46,7 +46,8 @@ abbrev pub IsNoTarget : SweepAsked → List ScriptLine → Fault → Type 0
 IsNoTarget asked all fault = ((fault ≡ NoCommand) × IsMeant asked.line all None)
     ⊎ ((fault ≡ BadPart) × ((line : ScriptLine) × IsMeant asked.line all (Some line)) × IsNoShare asked.part)
 
--- a part of the commands is the first or one up to the last
+-- a part is the first or one up to the last
 abbrev pub IsAmong : Target → Type 0
+IsAmong (CommandPart line share) = share.first < share.step
 IsAmong (EachPart share) = share.first < share.step
 IsAmong other = Unit {0}

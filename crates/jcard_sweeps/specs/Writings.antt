@@ -6,7 +6,7 @@ use Rattle.jcard_script.specs.Texts.{IsCutOf}
 use Rattle.jcard_files.specs.Faults.{is_unwritten}
 use Rattle.jcard_files.specs.FileDeeds.{FileDeed}
 use Rattle.jcard_files.specs.declared.fault.Fault.{Fault}
-use Rattle.jcard_files.specs.declared.fault.Fault.TheVariants.{NotAllOrNothing, WriteFailed}
+use Rattle.jcard_files.specs.declared.fault.Fault.TheVariants.{FaultAccepted, NotAllOrNothing, WriteFailed}
 
 -- what is said of an end and of the text that was written
 abbrev pub Says : Type 1
@@ -51,3 +51,10 @@ IsTold report whole (Ok done) text = (text ≡ report) × (whole ≡ true)
 IsTold report whole (Err NotAllOrNothing) text = (text ≡ report) × (whole ≡ false)
 IsTold report whole (Err WriteFailed) text = IsCutOf report text
 IsTold report whole (Err other) text = ⊥
+
+-- the same of faults: none was accepted, or one was; or a write failed within it
+abbrev pub IsAttackTold : List ℕ → Bool → Says
+IsAttackTold report accepted (Ok done) text = (text ≡ report) × (accepted ≡ false)
+IsAttackTold report accepted (Err FaultAccepted) text = (text ≡ report) × (accepted ≡ true)
+IsAttackTold report accepted (Err WriteFailed) text = IsCutOf report text
+IsAttackTold report accepted (Err other) text = ⊥

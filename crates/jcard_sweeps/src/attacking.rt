@@ -1,21 +1,27 @@
 //! `jcard attack`: a fault at each instruction of a command of a script.
-ghost use Rattle.std.specs.Prelude.{◌≡◌, ◌<◌, ◌++◌, Err, false, length, IfOk, MatchResult, IfErr, OnOk};
+ghost use Rattle.std.specs.Prelude.{◌≡◌, ◌<◌, ◌++◌, Err, false, length, IfOk, MatchResult, OnOk};
 ghost use Rattle.jcard_files.specs.Faults.{is_unwritten};
-ghost use Rattle.jcard_sweeps.specs.Attackings.{AreToldEach, AreToldIn, AreUntoldEach, AreUntoldIn, IsAttack, IsAttackFault, IsAttackTold, IsAttacked, IsStruck, IsToldBy, IsUnstruck, IsUntoldBy, attack_asked_by, attack_name, faults_text, models_text, sweep_of};
+ghost use Rattle.jcard_tear.specs.ScriptLines.{line_of};
+ghost use Rattle.jcard_sweeps.specs.Attackings.{AreToldEach, AreToldIn, AreUntoldEach, AreUntoldIn, IsAttack, IsAttackFault, IsAttacked, IsStruck, IsToldBy, IsToldPart, IsUnstruck, IsUntoldBy};
+ghost use Rattle.jcard_sweeps.specs.Attackings.{attack_asked_by, attack_name, behind_of, faults_name, faults_text, models_text, sweep_of};
 ghost use Rattle.jcard_sweeps.specs.SweepsAsked.{sweep_asked_by};
 ghost use Rattle.jcard_sweeps.specs.Targets.{IsAmong};
-ghost use Rattle.jcard_sweeps.specs.Texts.{text_of};
-ghost use Rattle.jcard_sweeps.specs.Writings.{Does, Writes};
+ghost use Rattle.jcard_sweeps.specs.Writings.{Does};
 
-use crate::cutting::{Subject, commands_in};
+use crate::cutting::Subject;
 use crate::remarking::remark_on_probe;
 use crate::targets::{Target, target_of};
 use crate::tear_faults::{tear_probe_fault, tear_script_fault};
 use crate::tearing::{Asked, carry_through, lent, probe_of, words_of};
+use crate::writing::write_attack;
 use jcard_attack::aftermaths::{AttackFault, Attacked};
-use jcard_attack::each::{attack_each, attacked_in, is_any_line_accepted, verdicts};
+use jcard_attack::each::{
+    LineAttack, LineOutcome, attack_each, attacked_in, is_any_line_accepted, verdicts,
+};
 use jcard_attack::outcomes::AttackSweep;
+use jcard_attack::parts::part_lines;
 use jcard_attack::report::{is_any_accepted, report};
+use jcard_attack::shares::share_in;
 use jcard_attack::sweeping::{Sought, attack};
 use jcard_files::disk::Disk;
 use jcard_files::fault::Fault;
@@ -25,16 +31,22 @@ use jcard_files::script_fault::Names;
 use jcard_outcomes::command_shares::share_lines;
 use jcard_outcomes::models::Models;
 use jcard_outcomes::part::Share;
+use jcard_outcomes::recoveries::Depth;
 use jcard_outcomes::rows::push_number;
-use jcard_script::streams::{TextOut, write_all};
+use jcard_script::streams::TextOut;
 use jcard_tear::cuts::Behind;
 use jcard_tear::names::commands_name;
-use jcard_tear::script_lines::commands;
+use jcard_tear::progress::Progress;
+use jcard_tear::script_lines::{ScriptLine, commands};
 use jcard_tear::tearing::TearFault;
 use std::alloc::{AllocError, Global};
 
+// How many digits the checksum has with which a name begins.
+const CHECKSUM_DIGITS: usize = 40;
+
 /// What is attacked of an image: the names of a script and perhaps of a probe, the command in the line of a number, the last one, or each,
-/// perhaps those in a part of them, which faults are tried and which answer none may get, and the most instructions of a command.
+/// perhaps a part of the faults of one, or of the commands, which faults are tried and which answer none may get, and the most instructions of a
+/// command.
 #[derive(Clone, Copy, Drop)]
 pub struct AskedAttack<'n, 'a> {
     pub script: &'n str,
@@ -54,13 +66,14 @@ pub(crate) struct ToldAttack {
 }
 
 /// `jcard attack`: carries a command out with a fault at each of its instructions, each time on a card of a copy of the image's words, and says
-/// what came of it. The whole script is carried out before, and refused as `jcard run` refuses it. The image is read, and never written.
-pub fn attack_image<'n, D: Disk, W: TextOut, M: Remarks>(
+/// what came of it. The whole script is carried out before, and refused as `jcard run` refuses it. The image is read, and never written. A part of
+/// one command has some of its faults, a part of each command some of the commands.
+pub fn attack_image<'n, D: Disk, W: TextOut, P: Progress + Remarks>(
     disk: &mut D,
     image: &'n str,
     asked: AskedAttack<'n, '_>,
     out: &mut W,
-    remarks: &mut M,
+    progress: &mut P,
 ) -> Result<(), Fault<'n>>
     ensures { Does D.does W.contents W.failures disk.old disk.new out.old out.new result
         (IsAttack image.now (attack_asked_by asked.entry)) }
@@ -79,17 +92,17 @@ pub fn attack_image<'n, D: Disk, W: TextOut, M: Remarks>(
         script: &script,
         commands: &commands,
     };
-    carry_through(disk.alloc(), subject, asked.instructions, remarks)?;
-    attack_subject(disk, subject, asked, out, remarks)
+    carry_through(disk.alloc(), subject, asked.instructions, progress)?;
+    attack_subject(disk, subject, asked, out, progress)
 }
 
 // Attacks what is asked for of a script that was carried out, with the lines of the probe after each fault, and writes the report.
-fn attack_subject<'n, D: Disk, W: TextOut, M: Remarks>(
+fn attack_subject<'n, D: Disk, W: TextOut, P: Progress + Remarks>(
     disk: &mut D,
     subject: Subject<'n, '_>,
     asked: AskedAttack<'n, '_>,
     out: &mut W,
-    remarks: &mut M,
+    progress: &mut P,
 ) -> Result<(), Fault<'n>>
     requires { length subject.words.now < 65536 }
     ensures { Does D.does W.contents W.failures disk.old disk.new out.old out.new result
@@ -98,10 +111,10 @@ fn attack_subject<'n, D: Disk, W: TextOut, M: Remarks>(
     let target = target_of(subject.commands, sweep_of(asked))?;
     let probe = probe_of(disk, asked.probe)?;
     let asked_after = lent(&probe).unwrap_or(b"");
-    match told_by(disk.alloc(), subject, target, asked_after, asked) {
-        Ok(told) => write_attack(&told, out),
+    match told_by(disk.alloc(), subject, target, asked_after, asked, progress) {
+        Ok(told) => write_attack(&told.text, told.is_accepted, out),
         Err(cause) => {
-            remark_on(disk.alloc(), lent(&probe), cause, remarks);
+            remark_on(disk.alloc(), lent(&probe), cause, progress);
             Err(attack_fault(subject.names, cause))
         }
     }
@@ -116,8 +129,19 @@ fn sweep_of<'n>(asked: AskedAttack<'n, '_>) -> Asked<'n>
         probe: asked.probe,
         line: asked.line,
         each: asked.each,
-        behind: Behind::nothing_more(asked.instructions),
+        behind: behind_of(asked),
         part: asked.part,
+    }
+}
+
+// What comes after each fault, as it is asked of cuts.
+fn behind_of(asked: AskedAttack<'_, '_>) -> Behind
+    ensures { result ≡ behind_of (attack_asked_by asked.entry) }
+{
+    Behind {
+        depth: Depth::Zero,
+        objects: asked.sought.objects,
+        instructions: asked.instructions,
     }
 }
 
@@ -128,13 +152,14 @@ fn remark_on<M: Remarks>(alloc: Global, probe: Option<&[u8]>, cause: AttackFault
     }
 }
 
-// What is reported of the faults of this, after each of which these lines of a probe come. One command is attacked whole: parts have commands.
-fn told_by(
+// What is reported of the faults of this, after each of which these lines of a probe come.
+fn told_by<P: Progress>(
     alloc: Global,
     subject: Subject<'_, '_>,
     target: Target,
     probe: &[u8],
     asked: AskedAttack<'_, '_>,
+    progress: &mut P,
 ) -> Result<ToldAttack, AttackFault>
     requires short { length subject.words.now < 65536 }
     requires among { IsAmong target }
@@ -143,21 +168,25 @@ fn told_by(
         (IsUntoldBy subject.entry target.entry probe.now (attack_asked_by asked.entry)) }
 {
     match target {
-        Target::Command(line) | Target::CommandPart(line, _) => {
+        Target::Command(line) => {
             let attacked = attacked_in(line, probe, asked.instructions);
-            told_attack(alloc, subject.words, attacked, asked.sought)
+            told_attack(alloc, subject.words, attacked, asked.sought, progress)
         }
-        Target::Each => told_each(alloc, subject, probe, asked),
-        Target::EachPart(share) => told_in(alloc, subject, share, probe, asked),
+        Target::CommandPart(line, share) => {
+            told_part(alloc, subject, line, share, probe, asked, progress)
+        }
+        Target::Each => told_each(alloc, subject, probe, asked, progress),
+        Target::EachPart(share) => told_in(alloc, subject, share, probe, asked, progress),
     }
 }
 
 // What is reported of the faults of each command.
-fn told_each(
+fn told_each<P: Progress>(
     alloc: Global,
     subject: Subject<'_, '_>,
     probe: &[u8],
     asked: AskedAttack<'_, '_>,
+    progress: &mut P,
 ) -> Result<ToldAttack, AttackFault>
     requires { length subject.words.now < 65536 }
     ensures { MatchResult result
@@ -177,7 +206,8 @@ fn told_each(
         asked.instructions,
         asked.sought,
     )?;
-    let text = verdicts(alloc, &attacks)?;
+    tell_images(&attacks, progress);
+    let text = verdicts(alloc, &attacks, asked.sought.objects)?;
     Ok(ToldAttack {
         text,
         is_accepted: is_any_line_accepted(&attacks),
@@ -185,12 +215,13 @@ fn told_each(
 }
 
 // What is reported of the faults of each command in this part of them, which ends as if none was accepted.
-fn told_in(
+fn told_in<P: Progress>(
     alloc: Global,
     subject: Subject<'_, '_>,
     share: Share,
     probe: &[u8],
     asked: AskedAttack<'_, '_>,
+    progress: &mut P,
 ) -> Result<ToldAttack, AttackFault>
     requires short { length subject.words.now < 65536 }
     requires among { share.first < share.step }
@@ -198,16 +229,17 @@ fn told_in(
         (AreToldIn subject.entry share probe.now (attack_asked_by asked.entry))
         (AreUntoldIn subject.entry share probe.now (attack_asked_by asked.entry)) }
 {
-    let name = attack_name(alloc, subject, probe, asked, share.step)?;
+    let name = attack_name(alloc, subject, subject.script, probe, asked, share.step)?;
     let attacks = attack_each(
         alloc,
         subject.words,
-        commands_in(subject.commands, share),
+        share_in(subject.commands, share),
         probe,
         asked.instructions,
         asked.sought,
     )?;
-    let verdicts = verdicts(alloc, &attacks)?;
+    tell_images(&attacks, progress);
+    let verdicts = verdicts(alloc, &attacks, asked.sought.objects)?;
     let is_whole = !is_any_line_accepted(&attacks);
     let text = share_lines(alloc, &name, share, is_whole, &verdicts)?;
     Ok(ToldAttack {
@@ -216,27 +248,88 @@ fn told_in(
     })
 }
 
-// The name of the sweep in this many parts, as of a sweep of cuts whose script says first which faults are tried.
-fn attack_name(
+// Gives the words of the image before each of these commands, one after the other.
+fn tell_images<P: Progress>(attacks: &[LineAttack], progress: &mut P) {
+    for found in attacks {
+        if let LineOutcome::Struck(sweep) = &found.outcome {
+            progress.tell_image(&sweep.before.words);
+        }
+    }
+}
+
+// What is reported of the faults of a command in this part of them, which ends as if none was accepted.
+fn told_part<P: Progress>(
     alloc: Global,
     subject: Subject<'_, '_>,
+    line: ScriptLine,
+    share: Share,
+    probe: &[u8],
+    asked: AskedAttack<'_, '_>,
+    progress: &mut P,
+) -> Result<ToldAttack, AttackFault>
+    requires short { length subject.words.now < 65536 }
+    requires among { share.first < share.step }
+    ensures { MatchResult result
+        (IsToldPart subject.entry (line_of line.entry) share probe.now (attack_asked_by asked.entry))
+        (IsUntoldBy subject.entry (Target.CommandPart line.entry share) probe.now (attack_asked_by asked.entry)) }
+{
+    let attacked = attacked_in(line, probe, asked.instructions);
+    let name = faults_name(alloc, subject, line, probe, asked, share.step)?;
+    let sweep = attack(alloc, subject.words, attacked, asked.sought, Some(share))?;
+    progress.tell_image(&sweep.before.words);
+    let lines = part_lines(alloc, &sweep)?;
+    let is_whole = !is_any_accepted(&sweep.strikes);
+    let text = share_lines(alloc, &name, share, is_whole, &lines)?;
+    Ok(ToldAttack {
+        text,
+        is_accepted: false,
+    })
+}
+
+// The name of the sweep of the command in a line in this many parts: the checksum of the sweep over the script up to it, and that parts have its
+// faults.
+fn faults_name(
+    alloc: Global,
+    subject: Subject<'_, '_>,
+    line: ScriptLine,
     probe: &[u8],
     asked: AskedAttack<'_, '_>,
     parts: u16,
 ) -> Result<Vec<u8>, AllocError>
     requires { length subject.words.now < 65536 }
     ensures { IfOk result (λ name. name.items
-        ≡ attack_name subject.entry probe.now (attack_asked_by asked.entry) parts) }
+        ≡ faults_name subject.entry (line_of line.entry) probe.now (attack_asked_by asked.entry) parts) }
 {
-    let mut script = Vec::new(alloc);
-    push_faults(&mut script, asked.sought)?;
-    script.extend_from_slice(subject.script)?;
+    let mut script = Vec::from_slice(alloc, line.before)?;
+    script.extend_from_slice(line.line)?;
+    let mut name = attack_name(alloc, subject, &script, probe, asked, parts)?;
+    name.truncate(CHECKSUM_DIGITS);
+    name.extend_from_slice(b" faults")?;
+    Ok(name)
+}
+
+// The name of a sweep over this script in this many parts, as of a sweep of cuts whose script says first which faults are tried.
+fn attack_name(
+    alloc: Global,
+    subject: Subject<'_, '_>,
+    script: &[u8],
+    probe: &[u8],
+    asked: AskedAttack<'_, '_>,
+    parts: u16,
+) -> Result<Vec<u8>, AllocError>
+    requires { length subject.words.now < 65536 }
+    ensures { IfOk result (λ name. name.items
+        ≡ attack_name subject.entry script.now probe.now (attack_asked_by asked.entry) parts) }
+{
+    let mut swept = Vec::new(alloc);
+    push_faults(&mut swept, asked.sought)?;
+    swept.extend_from_slice(script)?;
     commands_name(
         alloc,
         subject.words,
-        &script,
+        &swept,
         Some(probe),
-        Behind::nothing_more(asked.instructions),
+        behind_of(asked),
         parts,
     )
 }
@@ -263,33 +356,24 @@ fn push_models(text: &mut Vec<u8>, models: Models) -> Result<(), AllocError>
 }
 
 // What is reported of the faults of a command.
-fn told_attack(
+fn told_attack<P: Progress>(
     alloc: Global,
     words: &[u16],
     attacked: Attacked,
     sought: Sought,
+    progress: &mut P,
 ) -> Result<ToldAttack, AttackFault>
     requires { length words.now < 65536 }
     ensures { MatchResult result (IsStruck words.now attacked.entry sought.entry)
         (IsUnstruck words.now attacked.entry) }
 {
-    let sweep: AttackSweep = attack(alloc, words, attacked, sought)?;
+    let sweep: AttackSweep = attack(alloc, words, attacked, sought, None)?;
+    progress.tell_image(&sweep.before.words);
     let text = report(alloc, &sweep)?;
     Ok(ToldAttack {
         text,
         is_accepted: is_any_accepted(&sweep.strikes),
     })
-}
-
-// Writes a report, and ends as it says.
-fn write_attack<'n, W: TextOut>(told: &ToldAttack, out: &mut W) -> Result<(), Fault<'n>>
-    ensures { Writes W.contents W.failures out.old out.new result (IsAttackTold told.now) }
-{
-    match write_all(out, &told.text) {
-        Ok(()) if told.is_accepted => Err(Fault::FaultAccepted),
-        Ok(()) => Ok(()),
-        Err(_) => Err(Fault::WriteFailed),
-    }
 }
 
 // What it means that a command was not attacked.

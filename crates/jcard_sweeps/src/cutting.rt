@@ -1,9 +1,10 @@
 //! Cutting commands of a script over the words of an image, and what is reported of that.
 ghost use Rattle.std.specs.Prelude.{◌≡◌, ◌<◌, length, IfOk, MatchResult};
-ghost use Rattle.jcard_sweeps.specs.Cuttings.{IsCut, IsUncut, commands_in, share_size};
+ghost use Rattle.jcard_sweeps.specs.Cuttings.{IsCut, IsUncut};
 ghost use Rattle.jcard_sweeps.specs.Targets.{IsAmong};
 
 use crate::targets::Target;
+use jcard_attack::shares::share_in;
 use jcard_files::script_fault::Names;
 use jcard_outcomes::command_shares::share_lines;
 use jcard_outcomes::each::{are_all_or_nothing, verdicts};
@@ -160,7 +161,7 @@ fn cut_each_in<P: Progress>(
     } = cutting;
     let words = subject.words;
     let name = commands_name(alloc, words, subject.script, probe, behind, share.step)?;
-    let commands = commands_in(subject.commands, share);
+    let commands = share_in(subject.commands, share);
     let sweeps = tear_each(alloc, words, commands, probe, behind, progress)?;
     let verdicts = verdicts(alloc, &sweeps, behind.objects)?;
     let is_whole = are_all_or_nothing(&sweeps);
@@ -169,35 +170,4 @@ fn cut_each_in<P: Progress>(
         text,
         is_whole: true,
     })
-}
-
-/// The commands in a part: as many as in each other one, but for the last ones, which have fewer, or none.
-pub(crate) fn commands_in<'s, 'a>(
-    commands: &'s [ScriptLine<'a>],
-    share: Share,
-) -> &'s [ScriptLine<'a>]
-    requires { share.first < share.step }
-    ensures { result.now ≡ commands_in share commands.now }
-{
-    let size = share_size(commands.len(), usize::from(share.step));
-    let start = usize::from(share.first).saturating_mul(size);
-    if start >= commands.len() {
-        return &commands[..0];
-    }
-    let rest = &commands[start..];
-    if rest.len() < size {
-        return rest;
-    }
-    &rest[..size]
-}
-
-// How many of this many commands each part has.
-fn share_size(commands: usize, parts: usize) -> usize
-    requires { 0 < parts }
-    ensures { result ≡ share_size commands parts }
-{
-    if commands % parts == 0 {
-        return commands / parts;
-    }
-    commands / parts + 1
 }

@@ -1,13 +1,16 @@
-//! `jcard tear --join`: joining the texts of all parts of a sweep, which have cuts of one command, or commands of a script.
+//! `jcard tear --join` and `jcard attack --join`: joining the texts of all parts of a sweep, which have cuts or faults of one command, or commands of
+//! a script.
 ghost use Rattle.std.specs.Prelude.{◌≡◌, ◌⊎◌, ◌<◌, List, Err, MatchResult, IfErr, map, false, length};
 ghost use Rattle.jcard_files.specs.Faults.{is_unwritten};
 ghost use Rattle.jcard_files.specs.FileDeeds.{FileDeed};
 ghost use Rattle.jcard_outcomes.specs.SweepHeads.{AreOfOthers};
-ghost use Rattle.jcard_sweeps.specs.Joinings.{AreBodiesJoinedTo, AreFirstRead, AreRead, AreJoinedBy, AreSharesJoinedTo, AreUnread, IsJoinedTo, IsJoining, IsOtherTold, told_join_fault, told_share_fault};
+ghost use Rattle.jcard_sweeps.specs.Joinings.{AreBodiesJoinedTo, AreFaultsJoinedTo, AreFirstRead, AreRead, AreJoinedBy, AreLinesJoinedTo, AreNamedJoined, AreSharesJoinedTo, AreUnread};
+ghost use Rattle.jcard_sweeps.specs.Joinings.{IsJoinedTo, IsJoining, IsOtherTold, is_of_faults, told_join_fault, told_share_fault};
 ghost use Rattle.jcard_sweeps.specs.Texts.{texts_of};
 ghost use Rattle.jcard_sweeps.specs.Writings.{Does, Writes};
 
-use crate::writing::write_report;
+use crate::writing::{write_attack, write_report};
+use jcard_attack::joining::join_lines;
 use jcard_files::disk::Disk;
 use jcard_files::fault::Fault;
 use jcard_files::reading::script_of;
@@ -15,10 +18,14 @@ use jcard_outcomes::command_shares::join_shares;
 use jcard_outcomes::join::join;
 use jcard_outcomes::join_fault::JoinFault;
 use jcard_outcomes::recoveries::Depth;
+use jcard_outcomes::rows::is_same;
 use jcard_outcomes::sweep_head::{HeadFault, bodies_of};
 use jcard_outcomes::sweep_kind::{SweepKind, kind_of};
 use jcard_script::streams::TextOut;
 use std::alloc::Global;
+
+// How many digits the checksum has with which a name begins.
+const CHECKSUM_DIGITS: usize = 40;
 
 /// Joins the texts in the files with these names, which state the parts of a sweep, in any order, to what one run reports of it.
 pub fn join_files<'n, D: Disk, W: TextOut>(
@@ -65,9 +72,36 @@ fn join_texts<'n, W: TextOut>(
         (IsJoinedTo (texts_of files.now) (map (λ t. t.items) texts.now)) }
 {
     match bodies_of(alloc, texts) {
-        Ok(bodies) => join_bodies(alloc, kind_of(bodies.name), &bodies.texts, out),
+        Ok(bodies) => join_named(alloc, bodies.name, &bodies.texts, out),
         Err(cause) => Err(head_fault(files, texts, cause)),
     }
+}
+
+// Joins these texts, which have no heads, of the parts of the sweep with this name, and writes the report.
+fn join_named<'n, W: TextOut>(
+    alloc: Global,
+    name: &[u8],
+    texts: &[&[u8]],
+    out: &mut W,
+) -> Result<(), Fault<'n>>
+    requires { 0 < length texts.now }
+    ensures { Writes W.contents W.failures out.old out.new result
+        (AreNamedJoined name.now (texts_of texts.now)) }
+{
+    if is_of_faults(name) {
+        return join_faults(alloc, texts, out);
+    }
+    join_bodies(alloc, kind_of(name), texts, out)
+}
+
+// Whether the parts of the sweep with this name have faults of one command.
+fn is_of_faults(name: &[u8]) -> bool
+    ensures { result ≡ is_of_faults name.now }
+{
+    if name.len() < CHECKSUM_DIGITS {
+        return false;
+    }
+    is_same(&name[CHECKSUM_DIGITS..], b" faults")
 }
 
 // What it means that the texts of these files are not of one sweep.
@@ -129,6 +163,35 @@ fn join_cuts<'n, W: TextOut>(
     match join(alloc, depth, texts) {
         Ok(joined) => write_report(&joined.text, joined.is_all_or_nothing, out),
         Err(cause) => Err(join_fault(cause)),
+    }
+}
+
+// Joins the texts of parts that have faults of one command.
+fn join_faults<'n, W: TextOut>(alloc: Global, texts: &[&[u8]], out: &mut W) -> Result<(), Fault<'n>>
+    requires { 0 < length texts.now }
+    ensures { Writes W.contents W.failures out.old out.new result
+        (AreFaultsJoinedTo (texts_of texts.now)) }
+{
+    match join_shares(alloc, texts) {
+        Ok(joined) => report_lines(alloc, &joined.text, texts.len(), out),
+        Err(cause) => Err(share_fault(cause)),
+    }
+}
+
+// Joins the lines of this many parts, one after the other.
+fn report_lines<'n, W: TextOut>(
+    alloc: Global,
+    lines: &[u8],
+    parts: usize,
+    out: &mut W,
+) -> Result<(), Fault<'n>>
+    requires { 0 < parts }
+    ensures { Writes W.contents W.failures out.old out.new result
+        (AreLinesJoinedTo parts lines.now) }
+{
+    match join_lines(alloc, lines, parts) {
+        Ok(joined) => write_attack(&joined.text, joined.is_accepted, out),
+        Err(cause) => Err(share_fault(cause)),
     }
 }
 

@@ -1,5 +1,5 @@
 //! Writing reports.
-ghost use Rattle.jcard_sweeps.specs.Writings.{IsTold, Writes};
+ghost use Rattle.jcard_sweeps.specs.Writings.{IsAttackTold, IsTold, Writes};
 
 use jcard_files::fault::Fault;
 use jcard_script::streams::{TextOut, write_all};
@@ -15,6 +15,21 @@ pub(crate) fn write_report<'n, W: TextOut>(
     match write_all(out, report) {
         Ok(()) if is_whole => Ok(()),
         Ok(()) => Err(Fault::NotAllOrNothing),
+        Err(_) => Err(Fault::WriteFailed),
+    }
+}
+
+/// Writes a report of faults, and ends as it says: whether one was accepted.
+pub(crate) fn write_attack<'n, W: TextOut>(
+    report: &[u8],
+    is_accepted: bool,
+    out: &mut W,
+) -> Result<(), Fault<'n>>
+    ensures { Writes W.contents W.failures out.old out.new result (IsAttackTold report.now is_accepted) }
+{
+    match write_all(out, report) {
+        Ok(()) if is_accepted => Err(Fault::FaultAccepted),
+        Ok(()) => Ok(()),
         Err(_) => Err(Fault::WriteFailed),
     }
 }

@@ -15,5 +15,5 @@ mod recoveries;
 pub mod runs;
 pub mod script_lines;
 pub mod tearing;
-mod told;
+pub mod told;
 mod watched;

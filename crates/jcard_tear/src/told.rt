@@ -11,7 +11,7 @@ use jcard_outcomes::standing::Left;
 use std::alloc::{AllocError, Global};
 
 /// The objects that stood before a command, where it is asked which of their cells changed.
-pub(crate) fn objects_asked(
+pub fn objects_asked(
     alloc: Global,
     asked: bool,
     before: &Left,
@@ -31,7 +31,7 @@ pub(crate) fn objects_asked(
 }
 
 /// The answers that are left and, where these objects stood before, after them what changed.
-pub(crate) fn told(
+pub fn told(
     alloc: Global,
     objects: &Option<ImageObjects>,
     left: &Left,
@@ -59,7 +59,7 @@ fn told_with_changes(
 }
 
 /// What is left, with what changed after its answers.
-pub(crate) fn left_told(
+pub fn left_told(
     alloc: Global,
     objects: &Option<ImageObjects>,
     left: Left,

@@ -1,8 +1,8 @@
-use Rattle.std.proofs.Common.{rules, ◌≡◌, ◌∙◌, ◌++◌, ◌+◌, ◌≤◌, List, ℕ, min, drop, length, ap, arith, subst, sym}
+use Rattle.std.proofs.Common.{rules, ◌≡◌, ◌∙◌, ◌++◌, ◌+◌, ◌≤◌, List, ℕ, codes, min, drop, length, ap, arith, subst, sym}
 use Rattle.std.proofs.lemmas.List.{drop_min}
 use Rattle.jcard_tear.specs.Runs.{IsRunFault, Runs}
 use Rattle.jcard_tear.specs.declared.runs.RunFault.TheVariants.{Script}
-use Rattle.jcard_attack.specs.Aftermaths.{in_probe}
+use Rattle.jcard_attack.specs.Aftermaths.{in_probe, lines_counted}
 use Rattle.jcard_attack.proofs.Unswept.{probe_unfinished}
 use Rattle.jcard_attack.proofs.aftermaths.probed.Goals as goal
 
@@ -26,6 +26,8 @@ pub returns : goal.returns
 returns c =
     let script = c.deref-2.ensures.value ∙ c.in_ok-extend_from_slice-2.ensures.items ∙ ap (λ l. l ++ c.args.attacked.probe.now) c.in_ok-extend_from_slice.ensures.items in
     let is = rw c.in-Err-Script.field-0-is at c.in-Err-Script.ensures.ran in
-    probe_unfinished c.args.words.now c.args.attacked c.args.script.items c.line_count-lines.result c.in-Err-Script.fault c.in_probe.result c.requires.script
+    let counted : c.line_count-lines.result ≡ lines_counted (c.args.script.items ++ codes "glitch none\n") =
+    c.line_count-lines.ensures ∙ ap lines_counted (c.deref.ensures.value ∙ c.in_ok-extend_from_slice.ensures.items) in
+    probe_unfinished c.args.words.now c.args.attacked c.args.script.items c.in-Err-Script.fault c.in_probe.result c.requires.script
     (subst (λ s. IsRunFault c.args.attacked.instructions c.args.words.now s (Script c.in-Err-Script.fault)) script is)
-    (c.in_probe.ensures ∙ ap (in_probe c.line_count-lines.result) c.in-Err-Script.fault-is)
+    (c.in_probe.ensures ∙ ap (in_probe c.line_count-lines.result) c.in-Err-Script.fault-is ∙ ap (λ n. in_probe n c.in-Err-Script.fault) counted)

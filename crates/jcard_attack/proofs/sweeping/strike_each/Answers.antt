@@ -1,30 +1,28 @@
-use Rattle.std.proofs.Common.{◌≡◌, ◌∙◌, ◌+◌, ◌++◌, ◌∷◌, [], ap, append_assoc, arith, append-nil, inl, subst, sym}
+use Rattle.std.proofs.Common.{◌≡◌, ◌∙◌, subst, sym}
+use Rattle.std.specs.Prelude.{None}
+use Rattle.jc_interp.specs.declared.attacks.FaultModel.TheVariants.{Skip}
+use Rattle.jc_session.specs.declared.planned_fault.PlannedFault.{PlannedFault}
 use Rattle.jcard_tear.proofs.Uncut.{passed_on}
-use Rattle.jcard_attack.specs.Models.{fault_at}
-use Rattle.jcard_attack.specs.Sweeps.{IsUnswept}
-use Rattle.jcard_attack.proofs.StruckLists.{struck_more, struck_none}
-use Rattle.jcard_attack.proofs.Unswept.{memory_unswept}
+use Rattle.jcard_attack.specs.Aftermaths.{IsUnfinished}
+use Rattle.jcard_attack.proofs.StruckLists.{struck_next, struck_none}
+use Rattle.jcard_attack.proofs.Unswept.{memory_unfinished}
 use Rattle.jcard_attack.proofs.sweeping.strike_each.Goals as goal
 
-pub loop-instruction-init : goal.loop-instruction-init
-loop-instruction-init c = ([], sym (append-nil c.args.strikes.now.items), struck_none _ _ _ _ _ _ _)
+pub loop-fault-init : goal.loop-fault-init
+loop-fault-init c = rw c.new-strikes.ensures.items (struck_none _ _ _ _ _ _)
 
-pub loop-instruction-preserved : goal.loop-instruction-preserved
-loop-instruction-preserved c =
+pub loop-fault-preserved : goal.loop-fault-preserved
+loop-fault-preserved c =
+    let none : PlannedFault = record { instruction = 0; model = Skip; second = None } in
     let shared = c.args.shared.now in
-    let so = c.loop-instruction.invariant in
-    let struck = c.in_ok-struck.struck in
-    let here : c.loop-instruction.instruction ≡ 0 + c.loop-instruction.instruction = omega arith in (
-      so.0 ++ struck ∷ [],
-      c.in_ok-push_struck.ensures ∙ ap (λ l. l ++ struck ∷ []) so.1 ∙ append_assoc c.args.strikes.now.items so.0 (struck ∷ []),
-      struck_more c.args.words.now c.args.attacked shared.accepted.now shared.before.now shared.undisturbed.now c.args.kind 0 c.loop-instruction.instruction
-          so.0 struck so.2 (c.in_ok-struck.ensures.0 ∙ ap (fault_at c.args.kind) here) c.in_ok-struck.ensures.1,
-    )
+    struck_next c.args.words.now c.args.attacked shared.accepted.now shared.objects.now shared.before.now shared.undisturbed.now c.args.faults.now
+    c.loop-fault.fault-index none c.loop-fault.strikes.items c.push_struck.new.strikes.items c.in_ok-struck.struck c.loop-fault-test.true c.loop-fault.invariant
+    c.in_ok-struck.ensures.0 c.in_ok-struck.ensures.1 c.in_ok-push_struck.ensures
 
 pub returns-in_err-struck : goal.returns-in_err-struck
 returns-in_err-struck c = passed_on _ _ c.from_residual.result c.from_residual.ensures.1
-    (λ fault e. subst (IsUnswept c.args.words.now c.args.attacked) (sym e) (inl c.in_err-struck.ensures))
+    (λ fault e. subst (IsUnfinished c.args.words.now c.args.attacked) (sym e) c.in_err-struck.ensures)
 
 pub returns-in_err-push_struck : goal.returns-in_err-push_struck
 returns-in_err-push_struck c = passed_on _ _ c.from_residual-in_err-push_struck.result c.from_residual-in_err-push_struck.ensures.1
-    (λ fault e. memory_unswept c.args.words.now c.args.attacked fault (e ∙ c.in_err-push_struck.ensures))
+    (λ fault e. memory_unfinished c.args.words.now c.args.attacked fault (e ∙ c.in_err-push_struck.ensures))

@@ -4,6 +4,7 @@ use Rattle.jcard_script.proofs.Known.{appends_same}
 use Rattle.jcard_sweeps.specs.SweepsAsked.{sweep_asked_by}
 use Rattle.jcard_sweeps.specs.Attackings.{IsToldBy, IsUntoldBy, attack_asked_by}
 use Rattle.jcard_sweeps.specs.Targets.{IsNoTarget, IsTarget}
+use Rattle.jcard_sweeps.specs.Writings.{IsAttackTold}
 use Rattle.jcard_sweeps.proofs.Attackings.{asked_after}
 use Rattle.jcard_sweeps.proofs.NamedParts.{among}
 use Rattle.jcard_sweeps.proofs.Writings.{unfailed}
@@ -40,13 +41,14 @@ returns-in-Ok g c =
     let target = c.in_ok-target.target in
     let found = subst (λ a. IsTarget a c.args.subject.commands.now target) c.sweep_of.ensures c.in_ok-target.ensures.found in
     let written = c.write_attack.ensures.0 in
+    let report = subst (λ t. IsAttackTold t c.in-Ok.told.is_accepted c.write_attack.result written.0) c.deref.ensures.value written.2 in
     let lines = asked_after c.lent.result _ c.unwrap_or-asked_after.result _ c.lent.ensures c.unwrap_or-asked_after.ensures refl in
     let told = subst (λ probe. IsToldBy c.args.subject target probe (attack_asked_by c.args.asked) c.in-Ok.told) lines c.in-Ok.ensures in (
       (
         written.0,
         read.0 ++ [],
         written.1,
-        inr (target, found, inr (_, read.0, [], read.2, refl, inr (c.in-Ok.told, told, (written.2, refl)))),
+        inr (target, found, inr (_, read.0, [], read.2, refl, inr (c.in-Ok.told, told, (report, refl)))),
         g.met.D.Disk.then _ _ _ read.0 [] read.1 (g.met.D.Disk.none _),
       ),
       c.write_attack.ensures.1,

@@ -3,4 +3,4 @@ use Rattle.jcard_attack.specs.Reports.{any_accepted}
 use Rattle.jcard_sweeps.proofs.attacking.told_attack.Goals as goal
 
 pub returns : goal.returns
-returns c = (c.in_ok-sweep.sweep, c.in_ok-sweep.ensures, c.in_ok-text.ensures, c.is_any_accepted.ensures ∙ ap any_accepted c.deref.ensures.value)
+returns g c = (c.in_ok-sweep.sweep, c.in_ok-sweep.ensures, c.in_ok-text.ensures, c.is_any_accepted.ensures ∙ ap any_accepted c.deref-2.ensures.value)

@@ -6,8 +6,8 @@ use Rattle.jcard_sweeps.proofs.Joinings.{heads_joined, others_told}
 use Rattle.jcard_sweeps.proofs.Writings.{unfailed}
 use Rattle.jcard_sweeps.proofs.joining.join_texts.Goals as goal
 
-pub join_bodies-requires : goal.join_bodies-requires
-join_bodies-requires g c =
+pub join_named-requires : goal.join_named-requires
+join_named-requires g c =
     let behind = c.in-Ok.ensures in
     rw c.deref.ensures.value (omega (
       arith,
@@ -19,16 +19,16 @@ join_bodies-requires g c =
 
 pub returns-in-Ok : goal.returns-in-Ok
 returns-in-Ok g c =
-    let told = c.join_bodies.ensures.0 in
+    let told = c.join_named.ensures.0 in
     let behind = c.in-Ok.ensures in (
       (
         told.0,
         told.1,
         heads_joined (map (λ (f : Bor (List ℕ)). f.now) c.args.files.now) (map (λ t. t.items) c.args.texts.now)
-            (map (λ (t : Bor (List ℕ)). t.now) c.in-Ok.bodies.texts.items) c.in-Ok.bodies.name.now c.join_bodies.result told.0
-            (omega (arith, length-map c.args.texts.now (λ t. t.items), c.requires.some)) behind (rw (c.deref.ensures.value, c.kind_of.ensures) at told.2),
+            (map (λ (t : Bor (List ℕ)). t.now) c.in-Ok.bodies.texts.items) c.in-Ok.bodies.name.now c.join_named.result told.0
+            (omega (arith, length-map c.args.texts.now (λ t. t.items), c.requires.some)) behind (rw c.deref.ensures.value at told.2),
       ),
-      c.join_bodies.ensures.1,
+      c.join_named.ensures.1,
     )
 
 pub returns-in-Err : goal.returns-in-Err
