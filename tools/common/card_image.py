@@ -5,7 +5,8 @@ WORDS, VERSION, COUNT, TOP, CAPACITY, JOURNAL = 2, 1, 3, 5, 11, 12
 JOURNAL_OF_OLD, CAPACITY_OF_OLD = 16, 256
 PACKAGES, APPLETS, TABLE = 528, 560, 752
 TABLE_BYTES = 10
-RESET_AREA, DESELECT_AREA, AREA = 8, 9, 2048
+RESET_AREA, DESELECT_AREA, CELLS, BUFFER = 8, 9, 13, 14
+USUAL_CELLS, USUAL_BUFFER, MOST_IN_AREA = 2048, 261, 65535
 HEADER = 4  # words of an object before its cells
 TWO_IN_A_WORD = (6, 7)
 
@@ -33,6 +34,11 @@ class Image:
         self.top = self.words[TOP]
         self.heap = TABLE + (self.words[TABLE_BYTES] + 1) // 2
         self.end = self.journal if self.journal > JOURNAL_OF_OLD else len(self.words)
+
+    def areas(self):
+        """How many cells the area has that a reset clears, and the one that a deselection clears."""
+        cells, buffer = self.words[CELLS] or USUAL_CELLS, self.words[BUFFER] or USUAL_BUFFER
+        return min(cells + max(buffer - USUAL_BUFFER, 0), MOST_IN_AREA), cells
 
     def highest_mark(self):
         """How many entries of the journal were ever written: those that a transaction took have an address, which is not 0."""

@@ -1,5 +1,5 @@
 """The picture of an image, or of two beside each other: whose the words are, and what differs."""
-from .card_image import AREA, DESELECT_AREA, HEADER, PACKAGES, RESET_AREA, TABLE, TWO_IN_A_WORD
+from .card_image import DESELECT_AREA, HEADER, PACKAGES, RESET_AREA, TABLE, TWO_IN_A_WORD
 from .holding import Holders
 from .pages import Heads, Raw, code, escaped, figures, meter, page, table
 
@@ -170,7 +170,8 @@ class ImagePage:
     def levels(self, memory):
         """How full the transient areas are, and how full the journal ever was."""
         words = memory.image.words
-        levels = (("transient cells that a reset clears", words[RESET_AREA], AREA), ("transient cells that a deselection clears", words[DESELECT_AREA], AREA),
+        reset, deselect = memory.image.areas()
+        levels = (("transient cells that a reset clears", words[RESET_AREA], reset), ("transient cells that a deselection clears", words[DESELECT_AREA], deselect),
                   ("the journal's highest mark, in entries", memory.image.highest_mark(), memory.image.capacity))
         return table("How full the rest is", LEVELS, [(what, taken, whole, meter(taken, whole)) for what, taken, whole in levels])
 

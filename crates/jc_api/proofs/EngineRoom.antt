@@ -6,10 +6,9 @@ use Rattle.std.proofs.lemmas.Option.{none-some}
 use Rattle.std.specs.Prelude.{◌&&◌, ◌==◌, nat_le, nat_lt}
 use Rattle.jc_commit.specs.Keeping.{has_room_for as journal_room, unlogged_addresses}
 use Rattle.jc_commit.proofs.WhatIsKept.{keeps_old_values}
-use Rattle.jc_transient.specs.State.{area_size}
 use Rattle.jc_transient.specs.declared.cell.ClearEvent.{ClearEvent}
 use Rattle.jc_transient.specs.declared.cell.ClearEvent.TheVariants.{Deselect, Reset}
-use Rattle.jc_heap.specs.Heap.{HeapState, HeapView, add_transient, area_end, area_end_address, cell_address, end_address, goes_back, has_room_for}
+use Rattle.jc_heap.specs.Heap.{HeapState, HeapView, add_transient, area_end, area_end_address, area_limit, cell_address, end_address, goes_back, has_room_for}
 use Rattle.jc_heap.specs.Heap.{heap_after_change, keeping, limit, unlogged_places}
 use Rattle.jc_heap.specs.Moves.{refusal_of_places}
 use Rattle.jc_heap.specs.Object.{object_size, transient_size}
@@ -138,7 +137,7 @@ module _ (o : NewObject) (m : MemoryState) where
       (had_room (nat_lt (limit m.heap) (m.heap.now.top + object_size o.kind o.length)) _ fine) none
   room_after (Some event) fine none = left_after m.heap (with_object (Some event)).heap.now (area_end_address event ∷ []) transient_size transient_size
       (top_behind (Some event))
-      (had_room (nat_lt (limit m.heap) (m.heap.now.top + transient_size)) _ (had_cells (nat_lt area_size (area_end m.heap.now event + o.length)) _ fine)) none
+      (had_room (nat_lt (limit m.heap) (m.heap.now.top + transient_size)) _ (had_cells (nat_lt (area_limit m.heap.now event) (area_end m.heap.now event + o.length)) _ fine)) none
 
 module _ (e : NewEngine) (m : MemoryState) where
   abbrev pub with_array : MemoryState

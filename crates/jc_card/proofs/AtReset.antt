@@ -1,7 +1,7 @@
 -- A card that was powered up is as after a reset.
 use Rattle.std.proofs.Common.{◌≡◌, ◌∙◌, ◌+◌, ℕ, List, [], Ok, Err, Some, None, sym, ap, subst}
 use Rattle.std.specs.Prelude.{Result, IfOk}
-use Rattle.jc_heap.specs.Heap.{HeapState, HeapView, facts, heap_of}
+use Rattle.jc_heap.specs.Heap.{HeapState, HeapView, area_sizes, facts, heap_of}
 use Rattle.jc_heap.specs.Image.{IsWellFormed, table_text}
 use Rattle.jc_heap.proofs.RawWords.{text_is}
 use Rattle.jc_transient.specs.State.{IsCleared, RamState}
@@ -20,13 +20,14 @@ zero_blank : (s : MemoryState) → IsCleared s.ram → ReadsAsZero s
 zero_blank s blank r i event e = ap (λ o. word_in o s r i) e ∙ ap word_of (blank.cells event ((facts s.heap.now r).place + i))
 
 pub is_at_reset : {E : Type 0} (w : List ℕ) (t u : Tokens) (heap : HeapView) (ram : RamState) (r : Result CardState E) → u ≡ t → heap.now ≡ heap_of w
-    → IsWellFormed w → Reads (table_text w) (Ok t) → IsCleared ram →
+    → IsWellFormed w → Reads (table_text w) (Ok t) → IsCleared ram → ram.sizes ≡ area_sizes heap.now →
     IfOk r (λ card. packages_of u heap.now ≡ Some card.packages) →
     IfOk r (λ card. card.memory ≡ record { heap = heap; ram = ram; fixed = fixed_of u heap.now; registers = at_reset; command = []; sent = [] }) →
     IfOk r (λ card. card.load ≡ None) → IfOk r (λ card. IsAtReset (heap_of w) card)
-is_at_reset w t u heap ram (Err e) same now laid reads blank linked memory load = tt
-is_at_reset w t u heap ram (Ok card) same now laid reads blank linked memory load = record {
+is_at_reset w t u heap ram (Err e) same now laid reads blank fits linked memory load = tt
+is_at_reset w t u heap ram (Ok card) same now laid reads blank fits linked memory load = record {
   ram = subst IsCleared (sym (ap (λ (m : MemoryState). m.ram) memory)) blank;
+  sizes = ap (λ (m : MemoryState). m.ram.sizes) memory ∙ fits ∙ ap area_sizes now;
   cells = zero_blank card.memory (subst IsCleared (sym (ap (λ (m : MemoryState). m.ram) memory)) blank);
   registers = ap (λ (m : MemoryState). m.registers) memory;
   command = ap (λ (m : MemoryState). m.command) memory;
@@ -49,6 +50,7 @@ reset_over h heap ram p fixed lent card reset same linked known memory packages 
     let blank : IsCleared card.memory.ram = subst IsCleared (sym (ap (λ (m : MemoryState). m.ram) memory ∙ same)) reset.ram in
     record {
       ram = blank;
+      sizes = ap (λ (m : MemoryState). m.ram.sizes) memory ∙ ap (λ (r : RamState). r.sizes) same ∙ reset.sizes;
       cells = zero_blank card.memory blank;
       registers = ap (λ (m : MemoryState). m.registers) memory;
       command = ap (λ (m : MemoryState). m.command) memory;

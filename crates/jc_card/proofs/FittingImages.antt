@@ -9,6 +9,7 @@ use Rattle.jc_heap.specs.Object.{AnObject, Item, new_transient}
 use Rattle.jc_heap.specs.Table.{has_entry}
 use Rattle.jc_heap.specs.Heap.{HeapState, IsObject, add_object, add_transient, area_end, first_above, heap_item_at, is_allocated, next_object}
 use Rattle.jc_heap.proofs.Laws.{object_named}
+use Rattle.jc_image.specs.declared.laying.ImageRoom.{ImageRoom}
 use Rattle.jc_image.specs.Laying.{unsealed_heap, sealed_heap}
 use Rattle.jc_platform.specs.Tokens.{Tokens}
 use Rattle.jc_card_load.specs.Reading.{packages_of, with_records}
@@ -86,10 +87,10 @@ last_all t h (o ∷ os) k e some b none below x above object =
     let zeroth : object_number (with_objects t h (o ∷ os)) 0 ≡ 0 = number_zero (with_objects t h (o ∷ os)) in
     last_made t h 0 k o os (omega (arith, e)) b (subst (λ r. first_above h.items r ≡ None) (sym zeroth) none) (omega (arith, zeroth, below)) x above object
 
-pub alone : (n capacity : ℕ) (text : List ℕ) (t : Tokens) (x : ℕ) → last_fixed t (new_card_heap n capacity text t) < x → IsObject (new_card_heap n capacity text t) x → ⊥
-alone n capacity text t x above object =
-    let h : HeapState = with_objects t (unsealed_heap n capacity text) (fixed_objects t) in
-    last_all t (unsealed_heap n capacity text) (fixed_objects t) (fixed_count t) refl (omega (arith, least_count t)) (record { absent = λ q le. refl; none = λ q le. refl }) refl (omega arith)
+pub alone : (n : ℕ) (room : ImageRoom) (text : List ℕ) (t : Tokens) (x : ℕ) → last_fixed t (new_card_heap n room text t) < x → IsObject (new_card_heap n room text t) x → ⊥
+alone n room text t x above object =
+    let h : HeapState = with_objects t (unsealed_heap n room text) (fixed_objects t) in
+    last_all t (unsealed_heap n room text) (fixed_objects t) (fixed_count t) refl (omega (arith, least_count t)) (record { absent = λ q le. refl; none = λ q le. refl }) refl (omega arith)
     x (omega (arith, number_sealed h (fixed_count t), above)) (object_sealed h x object)
 
 pub packages_add : (t : Tokens) (h : HeapState) (os : List FixedObject) → (with_objects t h os).packages ≡ h.packages
@@ -107,14 +108,14 @@ pub no_packages : (t : Tokens) (h : HeapState) → h.packages ≡ [] → package
 unfolding packages_of
 no_packages t h none = ap (λ ps. with_records (record { platform = t; loaded = [] }) (map (record_of h) ps)) none
 
-pub fits-new_card_heap : (n capacity : ℕ) (text : List ℕ) (t : Tokens) → HasPackages t (new_card_heap n capacity text t)
-fits-new_card_heap n capacity text t =
-    let none : (new_card_heap n capacity text t).packages ≡ [] = packages_add t (unsealed_heap n capacity text) (fixed_objects t) in
-    let counts : (new_card_heap n capacity text t).counts ≡ (0, 0) = counts_add t (unsealed_heap n capacity text) (fixed_objects t) in (
+pub fits-new_card_heap : (n : ℕ) (room : ImageRoom) (text : List ℕ) (t : Tokens) → HasPackages t (new_card_heap n room text t)
+fits-new_card_heap n room text t =
+    let none : (new_card_heap n room text t).packages ≡ [] = packages_add t (unsealed_heap n room text) (fixed_objects t) in
+    let counts : (new_card_heap n room text t).counts ≡ (0, 0) = counts_add t (unsealed_heap n room text) (fixed_objects t) in (
       record { platform = t; loaded = [] },
-      no_packages t (new_card_heap n capacity text t) none,
+      no_packages t (new_card_heap n room text t) none,
       record {
-        objects = λ r above object. absurd (alone n capacity text t r above object);
+        objects = λ r above object. absurd (alone n room text t r above object);
         statics = λ k below. absurd (omega (arith, ap length none));
         applets = λ a below. absurd (omega (arith, ap (λ c. c.1) counts));
         distinct = λ b below. absurd (omega (arith, ap (λ c. c.1) counts));

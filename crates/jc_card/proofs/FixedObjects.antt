@@ -6,7 +6,7 @@ use Rattle.std.proofs.lemmas.Bool.{lt-ltb, le-ltb, eq-eqb, ne_eqb, true≢false}
 use Rattle.std.proofs.lemmas.List.{append-nil, append_assoc}
 use Rattle.std.proofs.lemmas.Option.{none-some}
 use Rattle.jc_words.specs.Layout.{magic}
-use Rattle.jc_transient.specs.State.{area_size}
+use Rattle.jc_transient.specs.State.{AreSizes, ram_sizes, usual_cells}
 use Rattle.jc_transient.specs.declared.cell.ClearEvent.{ClearEvent}
 use Rattle.jc_transient.specs.declared.cell.ClearEvent.TheVariants.{Reset, Deselect}
 use Rattle.jc_heap.specs.declared.object.Kind.{Kind}
@@ -17,11 +17,12 @@ use Rattle.jc_heap.specs.Moves.{Move, AreTornMoves, PerformsMovesUnless, refusal
 use Rattle.jc_heap.specs.declared.refusal.HeapRefusal.{HeapRefusal}
 use Rattle.jc_heap.specs.declared.refusal.HeapRefusal.TheVariants as refusal
 use Rattle.jc_heap.specs.Object.{Item, AnObject, APackage, is_object, facts_of, new_transient, transient_size}
-use Rattle.jc_heap.specs.Heap.{HeapState, HeapView, add_transient, add_object, area_end, first_above, next_object, heap_item_at, facts, is_allocated}
+use Rattle.jc_heap.specs.Heap.{HeapState, HeapView, add_transient, add_object, area_end, area_limit, first_above, next_object, heap_item_at, facts, is_allocated}
 use Rattle.jc_heap.specs.Heap.{area_end_address, end_address, keeping, limit}
 use Rattle.jc_heap.specs.Whole.{IsConsistent, IsFilledArea}
 use Rattle.jc_heap.proofs.Calls.{has_some_cells, object_fits}
 use Rattle.jc_heap.proofs.Keeping.{empty_whole, transient_whole}
+use Rattle.jc_image.specs.declared.laying.ImageRoom.{ImageRoom}
 use Rattle.jc_image.specs.Laying.{unsealed_heap, sealed_heap}
 use Rattle.jc_image.specs.Beginning.{HeadersFollow, HeapBeginsWith}
 use Rattle.jc_heap.specs.declared.object.Facts.{Facts}
@@ -45,6 +46,10 @@ pub end-add : (h : HeapState) (kind : Kind) (class owner n : ℕ) → area_end (
 unfolding add_transient add_object
 end-add h kind class owner n = refl
 
+pub limit-add : (h : HeapState) (kind : Kind) (class owner n : ℕ) → area_limit (add_transient h kind Reset class owner n) Reset ≡ area_limit h Reset
+unfolding add_transient add_object
+limit-add h kind class owner n = refl
+
 -- outside a transaction the durable heap is the new one
 pub durable-changed : (v : HeapView) (kind : Kind) (class owner n : ℕ) → v.begun ≡ false → v.durable ≡ v.now →
     (if v.begun then v.durable else add_transient v.now kind Reset class owner n).head ≡ v.durable.head
@@ -53,7 +58,7 @@ durable-changed v kind class owner n out settled =
     ∙ ap (λ h. h.head) (sym settled)
 
 -- outside a transaction there is room, so that the store alone refuses
-pub transient_allowed : (v : HeapView) (n : ℕ) → v.begun ≡ false → v.now.top + transient_size ≤ limit v → area_end v.now Reset + n ≤ area_size
+pub transient_allowed : (v : HeapView) (n : ℕ) → v.begun ≡ false → v.now.top + transient_size ≤ limit v → area_end v.now Reset + n ≤ area_limit v.now Reset
     → 2 ≤ v.durable.capacity → refusal_of_transient v Reset n ≡ None
 transient_allowed v n out space area two =
     let places : List ℕ = end_address ∷ area_end_address Reset ∷ [] in
@@ -195,10 +200,10 @@ is_allocated-top : (h : HeapState) → IsBelow h → is_allocated h h.top ≡ fa
 unfolding is_allocated
 is_allocated-top h b = b.absent h.top (omega arith)
 
-all_whole : (t : Tokens) (h : HeapState) (os : List FixedObject) → IsBelow h → area_end h Reset + cells_of_all os ≤ area_size → IsConsistent h
+all_whole : (t : Tokens) (h : HeapState) (os : List FixedObject) → IsBelow h → area_end h Reset + cells_of_all os ≤ area_limit h Reset → IsConsistent h
     → IsConsistent (with_objects t h os)
 all_whole t h [] b room w = w
-all_whole t h (o ∷ os) b room w = all_whole t (with_one t h o) os (below-one t h o b) (omega (arith, end-add h o.kind (class_number_of t o.class) 0 o.cells))
+all_whole t h (o ∷ os) b room w = all_whole t (with_one t h o) os (below-one t h o b) (omega (arith, end-add h o.kind (class_number_of t o.class) 0 o.cells, limit-add h o.kind (class_number_of t o.class) 0 o.cells))
     (transient_whole h o.kind Reset (class_number_of t o.class) 0 o.cells (is_allocated-top h b) (λ lacks. omega arith) w)
 
 filled-sealed_heap : (h : HeapState) (event : ClearEvent) → IsFilledArea h event → IsFilledArea (sealed_heap h) event
@@ -214,13 +219,25 @@ whole-sealed_heap h w = record {
   records = w.records;
   distinct = w.distinct;
   references = w.references;
+  sizes = w.sizes;
   areas = λ event. filled-sealed_heap h event (w.areas event);
 }
 
-pub whole-new_card_heap : (n capacity : ℕ) (text : List ℕ) (t : Tokens) → IsConsistent (new_card_heap n capacity text t)
-whole-new_card_heap n capacity text t = whole-sealed_heap (with_objects t (unsealed_heap n capacity text) (fixed_objects t))
-    (all_whole t (unsealed_heap n capacity text) (fixed_objects t) (record { absent = λ q le. refl; none = λ q le. refl }) (omega (arith, most_cells t))
-    (empty_whole (unsealed_heap n capacity text) refl refl refl refl))
+-- its first area has as many cells as are usual, or more
+least_limit : (cells buffer : ℕ) → AreSizes cells buffer → usual_cells ≤ (ram_sizes cells buffer).reset
+unfolding ram_sizes
+least_limit cells buffer sizes = let least = sizes.cells_least in omega (arith, least)
+
+pub room_limit : (n : ℕ) (room : ImageRoom) (text : List ℕ) → AreSizes room.cells room.buffer
+    → usual_cells ≤ area_limit (unsealed_heap n room text) Reset
+room_limit n room text sizes = least_limit room.cells room.buffer sizes
+
+pub whole-new_card_heap : (n : ℕ) (room : ImageRoom) (text : List ℕ) (t : Tokens) → AreSizes room.cells room.buffer
+    → IsConsistent (new_card_heap n room text t)
+whole-new_card_heap n room text t sizes = whole-sealed_heap (with_objects t (unsealed_heap n room text) (fixed_objects t))
+    (all_whole t (unsealed_heap n room text) (fixed_objects t) (record { absent = λ q le. refl; none = λ q le. refl })
+    (omega (arith, most_cells t, room_limit n room text sizes))
+    (empty_whole (unsealed_heap n room text) refl refl refl refl sizes))
 
 pub head-all : (t : Tokens) (h : HeapState) (os : List FixedObject) → (with_objects t h os).head ≡ h.head
 head-all t h [] = refl
@@ -246,13 +263,13 @@ sealed_heap-follow : (h : HeapState) (r : ℕ) (fs : List Facts) → HeadersFoll
 sealed_heap-follow h r [] f = tt
 sealed_heap-follow h r (d ∷ fs) f = (f.0, next_sealed h r ∙ f.1, facts_sealed h f.0 ∙ f.2, sealed_heap-follow h f.0 fs f.3)
 
-pub begins-new_card_heap : (n capacity : ℕ) (text : List ℕ) (t : Tokens) → BeginsWithFixed t (new_card_heap n capacity text t)
+pub begins-new_card_heap : (n : ℕ) (room : ImageRoom) (text : List ℕ) (t : Tokens) → BeginsWithFixed t (new_card_heap n room text t)
 unfolding HeapBeginsWith
-begins-new_card_heap n capacity text t = sealed_heap-follow (with_objects t (unsealed_heap n capacity text) (fixed_objects t)) 0 (fixed_facts t 0 (fixed_objects t))
-    (follow-made t (unsealed_heap n capacity text) 0 (fixed_objects t) (record { absent = λ q le. refl; none = λ q le. refl }) refl (omega arith))
+begins-new_card_heap n room text t = sealed_heap-follow (with_objects t (unsealed_heap n room text) (fixed_objects t)) 0 (fixed_facts t 0 (fixed_objects t))
+    (follow-made t (unsealed_heap n room text) 0 (fixed_objects t) (record { absent = λ q le. refl; none = λ q le. refl }) refl (omega arith))
 
-pub head-new_card_heap : (n capacity : ℕ) (text : List ℕ) (t : Tokens) → (new_card_heap n capacity text t).head ≡ (magic, n)
-head-new_card_heap n capacity text t = ap (λ (h : ℕ × ℕ). (magic, h.1)) (head-all t (unsealed_heap n capacity text) (fixed_objects t))
+pub head-new_card_heap : (n : ℕ) (room : ImageRoom) (text : List ℕ) (t : Tokens) → (new_card_heap n room text t).head ≡ (magic, n)
+head-new_card_heap n room text t = ap (λ (h : ℕ × ℕ). (magic, h.1)) (head-all t (unsealed_heap n room text) (fixed_objects t))
 
-pub text-new_card_heap : (n capacity : ℕ) (text : List ℕ) (t : Tokens) → (new_card_heap n capacity text t).text ≡ text
-text-new_card_heap n capacity text t = text-all t (unsealed_heap n capacity text) (fixed_objects t)
+pub text-new_card_heap : (n : ℕ) (room : ImageRoom) (text : List ℕ) (t : Tokens) → (new_card_heap n room text t).text ≡ text
+text-new_card_heap n room text t = text-all t (unsealed_heap n room text) (fixed_objects t)

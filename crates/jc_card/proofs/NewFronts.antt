@@ -1,10 +1,13 @@
 -- The first words of a new image.
-use Rattle.std.proofs.Common.{◌≡◌, ◌∙◌, ℕ, ◌+◌, ◌*◌, List, [], ◌∷◌, length, slice_index, ap, refl, arith}
+use Rattle.std.proofs.Common.{◌≡◌, ◌∙◌, ℕ, ◌+◌, ◌*◌, List, [], ◌∷◌, length, slice_index, ap, subst, refl, arith}
 use Rattle.jc_words.specs.Layout.{version}
 use Rattle.jc_words.specs.Image.{journal_start}
+use Rattle.jc_transient.specs.State.{AreSizes}
 use Rattle.jc_transient.specs.declared.cell.ClearEvent.TheVariants.{Reset}
 use Rattle.jc_heap.specs.declared.object.Kind.{Kind}
 use Rattle.jc_heap.specs.Heap.{HeapState, add_object, add_transient}
+use Rattle.jc_heap.specs.Whole.{IsConsistent}
+use Rattle.jc_image.specs.declared.laying.ImageRoom.{ImageRoom}
 use Rattle.jc_image.specs.Laying.{first_free, first_words_of, unsealed_heap}
 use Rattle.jc_platform.specs.Tokens.{Tokens}
 use Rattle.jc_environment.specs.declared.objects.FixedObject.{FixedObject}
@@ -23,9 +26,9 @@ module _ (h : HeapState) (kind : Kind) (class owner n : ℕ) where
   unfolding add_transient add_object
   other_end-add = refl
 
-  unread-add : (add_transient h kind Reset class owner n).unread ≡ h.unread
+  lasting-add : (add_transient h kind Reset class owner n).lasting ≡ h.lasting
   unfolding add_transient add_object
-  unread-add = refl
+  lasting-add = refl
 
 -- what the objects of the runtime environment leave
 counts-all : (t : Tokens) (h : HeapState) (os : List FixedObject) → (with_objects t h os).counts ≡ h.counts
@@ -38,10 +41,10 @@ other_end-all t h [] = refl
 other_end-all t h (o ∷ os) = other_end-all t (add_transient h o.kind Reset (class_number_of t o.class) 0 o.cells) os
     ∙ other_end-add h o.kind (class_number_of t o.class) 0 o.cells
 
-unread-all : (t : Tokens) (h : HeapState) (os : List FixedObject) → (with_objects t h os).unread ≡ h.unread
-unread-all t h [] = refl
-unread-all t h (o ∷ os) = unread-all t (add_transient h o.kind Reset (class_number_of t o.class) 0 o.cells) os
-    ∙ unread-add h o.kind (class_number_of t o.class) 0 o.cells
+pub lasting-all : (t : Tokens) (h : HeapState) (os : List FixedObject) → (with_objects t h os).lasting ≡ h.lasting
+lasting-all t h [] = refl
+lasting-all t h (o ∷ os) = lasting-all t (add_transient h o.kind Reset (class_number_of t o.class) 0 o.cells) os
+    ∙ lasting-add h o.kind (class_number_of t o.class) 0 o.cells
 
 capacity-add : (h : HeapState) (kind : Kind) (class owner n : ℕ) → (add_transient h kind Reset class owner n).capacity ≡ h.capacity
 unfolding add_transient add_object
@@ -67,16 +70,22 @@ end-all t h (o ∷ os) =
     let one = end-add h o.kind (class_number_of t o.class) 0 o.cells in
     omega (arith, more, one)
 
-pub front-new : (n capacity : ℕ) (text : List ℕ) (t : Tokens) → first_words_of (new_card_heap n capacity text t) ≡ new_front n capacity (length text) t
-front-new n capacity text t =
-    let h : HeapState = unsealed_heap n capacity text in
-    let head = head-new_card_heap n capacity text t in
+pub front-new : (n : ℕ) (room : ImageRoom) (text : List ℕ) (t : Tokens) → first_words_of (new_card_heap n room text t) ≡ new_front n room (length text) t
+front-new n room text t =
+    let h : HeapState = unsealed_heap n room text in
+    let head = head-new_card_heap n room text t in
     let counts = counts-all t h (fixed_objects t) in
-    let unread = unread-all t h (fixed_objects t) in
+    let lasting = lasting-all t h (fixed_objects t) in
     let top : (with_objects t h (fixed_objects t)).top ≡ first_free (length text) + fixed_size t = omega (arith, top-all t h (fixed_objects t)) in
     let first_end : (with_objects t h (fixed_objects t)).area_ends.0 ≡ cells_of_all (fixed_objects t) = omega (arith, end-all t h (fixed_objects t)) in
     let second_end = other_end-all t h (fixed_objects t) in
-    let long = ap (λ (l : List ℕ). length l) (text-new_card_heap n capacity text t) in
+    let long = ap (λ (l : List ℕ). length l) (text-new_card_heap n room text t) in
     let capacities = capacity-all t h (fixed_objects t) in
-    λ i. (head i).0 ∷ version ∷ (head i).1 ∷ 0 ∷ slice_index (unread i) 0 ∷ top i ∷ (counts i).0 ∷ (counts i).1 ∷ first_end i ∷ second_end i
-    ∷ long i ∷ capacities i ∷ journal_start ((head i).1) (capacities i) ∷ slice_index (unread i) 1 ∷ slice_index (unread i) 2 ∷ slice_index (unread i) 3 ∷ []
+    λ i. (head i).0 ∷ version ∷ (head i).1 ∷ 0 ∷ slice_index (lasting i) 0 ∷ top i ∷ (counts i).0 ∷ (counts i).1 ∷ first_end i ∷ second_end i
+    ∷ long i ∷ capacities i ∷ journal_start ((head i).1) (capacities i) ∷ slice_index (lasting i) 1 ∷ slice_index (lasting i) 2 ∷ slice_index (lasting i) 3 ∷ []
+
+-- so the sizes that a new image says are those of its room
+pub sizes-new_card_heap : (n : ℕ) (room : ImageRoom) (text : List ℕ) (t : Tokens) → IsConsistent (new_card_heap n room text t)
+    → AreSizes room.cells room.buffer
+sizes-new_card_heap n room text t whole = subst (λ (l : List ℕ). AreSizes (slice_index l 1) (slice_index l 2))
+    (lasting-all t (unsealed_heap n room text) (fixed_objects t)) whole.sizes

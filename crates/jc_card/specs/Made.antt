@@ -6,6 +6,7 @@ use Rattle.jc_commit.specs.Image.{IsGoodLog, recovered_of}
 use Rattle.jc_heap.specs.Image.{IsWellFormed}
 use Rattle.jc_heap.specs.Heap.{HeapState, heap_of}
 use Rattle.jc_heap.specs.Whole.{IsConsistent}
+use Rattle.jc_image.specs.declared.laying.ImageRoom.{ImageRoom}
 use Rattle.jc_image.specs.Laying.{first_free, unsealed_heap, sealed_heap}
 use Rattle.jc_platform.specs.Tokens.{Tokens}
 use Rattle.jc_platform.specs.Table.{Reads}
@@ -30,11 +31,11 @@ pub record IsMade (w : List ℕ) : Type 0 where
   pub laid : IsWellFormed (recovered_of w)
   pub heap : IsCardHeap (length w) (heap_of (recovered_of w))
 
--- the heap of a new image of n words, whose journal can have this many entries
-abbrev pub new_card_heap : ℕ → ℕ → List ℕ → Tokens → HeapState
-new_card_heap n capacity text t = sealed_heap (with_objects t (unsealed_heap n capacity text) (fixed_objects t))
+-- the heap of a new image of n words, that is to have this room
+abbrev pub new_card_heap : ℕ → ImageRoom → List ℕ → Tokens → HeapState
+new_card_heap n room text t = sealed_heap (with_objects t (unsealed_heap n room text) (fixed_objects t))
 
--- the first sixteen words of a new image of n words, whose journal can have this many entries, whose table text has this many bytes, and whose table this is
-abbrev pub new_front : ℕ → ℕ → ℕ → Tokens → List ℕ
-new_front n capacity long t = magic ∷ version ∷ n ∷ 0 ∷ 0 ∷ (first_free long + fixed_size t) ∷ 0 ∷ 0 ∷ cells_of_all (fixed_objects t) ∷ 0 ∷ long
-    ∷ capacity ∷ journal_start n capacity ∷ 0 ∷ 0 ∷ 0 ∷ []
+-- the first sixteen words of a new image of n words, that is to have this room, whose table text has this many bytes, and whose table this is
+abbrev pub new_front : ℕ → ImageRoom → ℕ → Tokens → List ℕ
+new_front n room long t = magic ∷ version ∷ n ∷ 0 ∷ 0 ∷ (first_free long + fixed_size t) ∷ 0 ∷ 0 ∷ cells_of_all (fixed_objects t) ∷ 0 ∷ long
+    ∷ room.capacity ∷ journal_start n room.capacity ∷ room.cells ∷ room.buffer ∷ 0 ∷ []

@@ -2,7 +2,7 @@
 use Rattle.std.specs.Prelude.{ℕ, ◌≡◌, [], Ok, Some, None}
 use Rattle.jc_transient.specs.declared.cell.ClearEvent.{ClearEvent}
 use Rattle.jc_transient.specs.State.{IsCleared}
-use Rattle.jc_heap.specs.Heap.{HeapState, facts}
+use Rattle.jc_heap.specs.Heap.{HeapState, area_sizes, facts}
 use Rattle.jc_platform.specs.Tokens.{Tokens}
 use Rattle.jc_platform.specs.Table.{Reads}
 use Rattle.jc_card_load.specs.Reading.{packages_of}
@@ -16,10 +16,11 @@ use Rattle.jc_card.specs.Fixed.{fixed_of}
 abbrev pub ReadsAsZero : MemoryState → Type 0
 ReadsAsZero s = (r i : ℕ) (event : ClearEvent) → (facts s.heap.now r).event ≡ Some event → word_at s r i ≡ 0
 
--- a card after a reset over this heap: blank transient contents, nothing selected, no command begun and none answered, the
+-- a card after a reset over this heap: blank transient contents of the sizes that its words say, nothing selected, no command begun and none answered, the
 -- packages of the heap's records linked by the heap's own table, the objects of the runtime environment that it names, no open load
 pub record IsAtReset (h : HeapState) (card : CardState) : Type 0 where
   pub ram : IsCleared card.memory.ram
+  pub sizes : card.memory.ram.sizes ≡ area_sizes h
   pub cells : ReadsAsZero card.memory
   pub registers : card.memory.registers ≡ at_reset
   pub command : card.memory.command ≡ []

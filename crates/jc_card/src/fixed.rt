@@ -1,10 +1,10 @@
 //! The objects that the runtime environment owns from an image's making on: made, and found again.
 ghost use Rattle.std.specs.Prelude.{◌≡◌, ◌≤◌, ◌<◌, ◌+◌, ◌*◌, false, true, OnOk, OnErr, is_ok, if◌then◌else◌, length, [], ◌∷◌, ◌++◌};
 ghost use Rattle.jc_words.specs.Refusals.{refused_once};
-ghost use Rattle.jc_transient.specs.State.{area_size};
+ghost use Rattle.jc_transient.specs.State.{usual_cells};
 ghost use Rattle.jc_transient.specs.declared.cell.ClearEvent.TheVariants.{Reset};
 ghost use Rattle.jc_heap.specs.Object.{transient_size};
-ghost use Rattle.jc_heap.specs.Heap.{IsObject, area_end, limit};
+ghost use Rattle.jc_heap.specs.Heap.{IsObject, area_end, area_limit, limit};
 ghost use Rattle.jc_environment.specs.Objects.{cells_of_all, fixed_objects, fixed_size};
 ghost use Rattle.jc_card.specs.Fixed.{class_number_of, facts_of_fixed, fixed_facts, next_or_null, numbered, object_number, with_objects};
 
@@ -84,6 +84,7 @@ pub(crate) fn make_fixed<S: WordStore>(heap: &mut Heap<S>, table: &Table) -> Res
     requires settled { heap.old.durable ≡ heap.old.now }
     requires space { heap.old.now.top + fixed_size table.now ≤ limit heap.old }
     requires area { area_end heap.old.now Reset ≡ 0 }
+    requires room { usual_cells ≤ area_limit heap.old.now Reset }
     ensures made { OnOk result (heap.new.now ≡ with_objects table.now heap.old.now
         (fixed_objects table.now)) }
     ensures size { heap.new.size ≡ heap.old.size }
@@ -109,7 +110,8 @@ fn make_all<S: WordStore>(
     requires outside { heap.old.begun ≡ false }
     requires settled { heap.old.durable ≡ heap.old.now }
     requires space { heap.old.now.top + transient_size * length objects.now ≤ limit heap.old }
-    requires area { area_end heap.old.now Reset + cells_of_all objects.now ≤ area_size }
+    requires area { area_end heap.old.now Reset + cells_of_all objects.now
+        ≤ area_limit heap.old.now Reset }
     ensures made { OnOk result (heap.new.now ≡ with_objects table.now heap.old.now objects.now) }
     ensures size { heap.new.size ≡ heap.old.size }
     ensures up { OnOk result (heap.new.down ≡ false) }
@@ -137,7 +139,8 @@ fn make<S: WordStore>(
     requires outside { heap.old.begun ≡ false }
     requires settled { heap.old.durable ≡ heap.old.now }
     requires space { heap.old.now.top + transient_size ≤ limit heap.old }
-    requires area { area_end heap.old.now Reset + object.now.cells ≤ area_size }
+    requires area { area_end heap.old.now Reset + object.now.cells
+        ≤ area_limit heap.old.now Reset }
     ensures made { OnOk result (heap.new.now ≡ with_objects table.now heap.old.now
         (object.now ∷ [])) }
     ensures up { OnOk result (heap.new.down ≡ false) }
@@ -147,6 +150,7 @@ fn make<S: WordStore>(
     ensures top { OnOk result (heap.new.now.top ≡ heap.old.now.top + transient_size) }
     ensures end { OnOk result (area_end heap.new.now Reset ≡ area_end heap.old.now Reset
         + object.now.cells) }
+    ensures area { OnOk result (area_limit heap.new.now Reset ≡ area_limit heap.old.now Reset) }
     ensures stopped { OnErr result (heap.new.down ≡ true) }
     ensures refusals { heap.new.refusals ≡ (if is_ok result then heap.old.refusals else
         refused_once heap.old.down heap.new.passed heap.old.refusals) }

@@ -8,7 +8,7 @@ ghost use Rattle.jc_transient.specs.State.{IsCleared};
 ghost use Rattle.jc_platform.specs.Table.{Reads};
 ghost use Rattle.jc_platform.specs.Tokens.{Tokens};
 ghost use Rattle.jc_heap.specs.Whole.{IsConsistent};
-ghost use Rattle.jc_heap.specs.Heap.{IsObject, heap_of};
+ghost use Rattle.jc_heap.specs.Heap.{IsObject, area_sizes, heap_of};
 ghost use Rattle.jc_heap.specs.Stored.{IsAtRest, heap_of_store_at_rest};
 ghost use Rattle.jc_commit.specs.Image.{IsGoodLog, count_of, recovered_of};
 ghost use Rattle.jc_transient.specs.State.{HasSizes};
@@ -155,11 +155,11 @@ fn lent_card<S: WordStore + Drop>(
         Ok(table) => table,
         Err(fault) => return Err(fault),
     };
-    let Ok(ram) = Ram::new(alloc) else {
-        return Err(PowerFault::NoMemory);
-    };
     match whole_heap(image, &table, marks) {
         Ok(heap) => {
+            let Ok(ram) = Ram::new(alloc, heap.area_sizes()) else {
+                return Err(PowerFault::NoMemory);
+            };
             let Ok(copy) = Vec::from_slice(alloc, marks) else {
                 return Err(PowerFault::NoMemory);
             };
@@ -208,6 +208,7 @@ fn link_packages<S: WordStore + Drop>(
     requires whole { IsConsistent heap.now }
     requires words { (w : List ℕ) × (heap.now ≡ heap_of w) }
     requires sizes { HasSizes ram }
+    requires fits { ram.sizes ≡ area_sizes heap.now }
     ensures packages { IfOk result (λ card. (packages_of table.now heap.now ≡ Some card.packages)
         × IsSound card.packages heap.now (last_fixed table.now heap.now)) }
     ensures memory { IfOk result (λ card. card.memory
@@ -292,6 +293,7 @@ fn card_over<S: WordStore>(
     requires marked { AreObjects marks (heap_of_store_at_rest (S.words store) (S.passed store)
         (S.refusals store)) }
     requires sizes { HasSizes ram }
+    requires fits { ram.sizes ≡ area_sizes (heap_of (recovered_of (S.words store))) }
     ensures memory { result.memory
         ≡ record {
           heap = heap_of_store_at_rest (S.words store) (S.passed store) (S.refusals store);

@@ -2,7 +2,7 @@
 use Rattle.std.proofs.Common.{◌≡◌, ℕ, ◌+◌, ◌≤◌, ◌&&◌, not, Bool, true, false, List, [], ◌∷◌, ◌++◌, length, arith, refl, lit≤, if◌then◌else◌}
 use Rattle.std.specs.Prelude.{is_some}
 use Rattle.std.proofs.lemmas.List.{length-append}
-use Rattle.jc_transient.specs.State.{area_size}
+use Rattle.jc_transient.specs.State.{usual_cells}
 use Rattle.jc_platform.specs.Hierarchy.{cells_of}
 use Rattle.jc_platform.specs.Names.{ClassEntry, classes}
 use Rattle.jc_platform.specs.Tokens.{Tokens, token_of_class}
@@ -74,7 +74,7 @@ most_count t =
     let own = length-own t classes in omega (arith, all, own, first_count, few_further)
 
 -- their cells have room in an area
-pub most_cells : (t : Tokens) → cells_of_all (fixed_objects t) ≤ area_size
+pub most_cells : (t : Tokens) → cells_of_all (fixed_objects t) ≤ usual_cells
 unfolding fixed_objects
 most_cells t =
     let all = cells-append first_objects (own_instances t classes) in

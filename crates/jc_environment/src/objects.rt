@@ -1,7 +1,7 @@
 //! The list of the runtime environment's own objects: those that each image has, and after them one instance for each further
 //! exception whose class the table has.
 ghost use Rattle.std.specs.Prelude.{◌≡◌, ◌≤◌, ◌+◌, ◌++◌, length, map};
-ghost use Rattle.jc_transient.specs.State.{area_size};
+ghost use Rattle.jc_transient.specs.State.{usual_cells};
 ghost use Rattle.jc_environment.specs.Objects.{cells_of_all, first_objects, fixed_objects, is_first, is_further, is_of, own_instance, own_instances, own_place, place_among};
 ghost use Rattle.jc_platform.specs.Names.{classes};
 ghost use Rattle.jc_platform.specs.Seen.{class_value};
@@ -152,7 +152,7 @@ fn listed(table: &Table) -> ArrayVec<FixedObject, MOST_OBJECTS>
 pub fn fixed_objects(table: &Table) -> ArrayVec<FixedObject, MOST_OBJECTS>
     ensures all { result.items ≡ fixed_objects table.now }
     ensures few { length result.items ≤ 32 }
-    ensures cells { cells_of_all result.items ≤ area_size }
+    ensures cells { cells_of_all result.items ≤ usual_cells }
 {
     listed(table)
 }

@@ -11,8 +11,8 @@ use Rattle.jc_heap.specs.Image.{image, base, package_addresses, is_package, size
 use Rattle.jc_heap.specs.Heap.{HeapState, head_of, read_image, heap_of, add_object}
 use Rattle.jc_heap.proofs.Records.{records_from-append, missing_words-append, take-set_comm}
 use Rattle.jc_heap.proofs.Images.{sizes_tell, head-same, text-same}
-use Rattle.jc_heap.proofs.Images.{unread-same, capacity-same, reach-both}
-use Rattle.jc_heap.specs.Image.{unread_words, capacity_in}
+use Rattle.jc_heap.proofs.Images.{lasting-same, capacity-same, reach-both}
+use Rattle.jc_heap.specs.Image.{lasting_words, capacity_in}
 use Rattle.jc_words.specs.Layout.{version_address}
 
 -- one thing more, after the others
@@ -116,7 +116,7 @@ module _ (img rec : List ℕ) (long : text_start ≤ length img) where
         (range-grown text_start ((get_or img text_length_address 0 + 1) / 2) (lit< tt) (omega (arith, based))) in
         let first_count : get_or grown packages_address 0 ≡ get_or img packages_address 0 = word-grown packages_address (lit< tt) (λ e. omega arith) in
         let second_count : get_or grown applets_address 0 ≡ get_or img applets_address 0 = word-grown applets_address (lit< tt) (λ e. omega arith) in
-        let unread : unread_words grown ≡ unread_words img = unread-same img grown (word-grown 4 (lit< tt) (λ e. omega arith))
+        let lasting : lasting_words grown ≡ lasting_words img = lasting-same img grown (word-grown 4 (lit< tt) (λ e. omega arith))
         (λ a above below. word-grown a (omega arith) (λ e. omega arith)) in
         let capacity : capacity_in grown ≡ capacity_in img = capacity-same img grown
         (reach-both img grown (omega (arith, based)) (omega (arith, based, top_is))) (word-grown version_address (lit< tt) (λ e. omega arith))
@@ -131,7 +131,7 @@ module _ (img rec : List ℕ) (long : text_start ≤ length img) where
           area_ends = (first_end k, second_end k);
           top = top_is k;
           capacity = capacity k;
-          unread = unread k;
+          lasting = lasting k;
         }
 
 -- words whose top moves over a record that stands there

@@ -10,8 +10,8 @@ use Rattle.jc_heap.specs.Image.{image, base, package_addresses, is_package, size
 use Rattle.jc_heap.specs.Heap.{HeapState, head_of, read_image, heap_of, area_end, with_area_end, area_end_address, SameShape, heap_item_at, is_allocated}
 use Rattle.jc_heap.proofs.Images.{image-set, head-same, text-same}
 use Rattle.jc_heap.proofs.Records.{take-set_comm}
-use Rattle.jc_heap.proofs.Images.{unread-same, capacity-same}
-use Rattle.jc_heap.specs.Image.{unread_words, capacity_in}
+use Rattle.jc_heap.proofs.Images.{lasting-same, capacity-same}
+use Rattle.jc_heap.specs.Image.{lasting_words, capacity_in}
 use Rattle.std.specs.Prelude.{nat_lt}
 use Rattle.jc_words.specs.Layout.{version_address, magic_address, size_address, journal_address}
 
@@ -79,8 +79,8 @@ module _ (img : List ℕ) (a v : ℕ) (aside : IsAside a) where
 own-end : (img : List ℕ) (a v : ℕ) → text_start ≤ length img → IsAside a → get_or (set img a v) a 0 ≡ v
 own-end img a v wide aside = get_or-set_same img a v 0 (omega (arith, aside.before, wide))
 
-unread-end : (img : List ℕ) (a v : ℕ) → packages_address < a → a < text_length_address → unread_words (set img a v) ≡ unread_words img
-unread-end img a v low high = unread-same img (set img a v) (get_or-set_other img a 4 v 0 (λ e. omega (arith, low, e)))
+lasting-end : (img : List ℕ) (a v : ℕ) → packages_address < a → a < text_length_address → lasting_words (set img a v) ≡ lasting_words img
+lasting-end img a v low high = lasting-same img (set img a v) (get_or-set_other img a 4 v 0 (λ e. omega (arith, low, e)))
     (λ k above below. get_or-set_other img a k v 0 (λ e. omega (arith, above, high, e)))
 
 capacity-end : (img : List ℕ) (a v : ℕ) → packages_address < a → a < text_length_address → capacity_in (set img a v) ≡ capacity_in img
@@ -107,7 +107,7 @@ read-end img Reset v wide = λ k. record {
   );
   top = length-set img reset_end_address v k;
   capacity = capacity-end img reset_end_address v (lit< tt) (lit< tt) k;
-  unread = unread-end img reset_end_address v (lit< tt) (lit< tt) k;
+  lasting = lasting-end img reset_end_address v (lit< tt) (lit< tt) k;
 }
 read-end img Deselect v wide = λ k. record {
   head = head-end img deselect_end_address v (between (lit< tt) (lit< tt)) (λ e. omega (arith, e)) (λ e. omega (arith, e)) k;
@@ -125,7 +125,7 @@ read-end img Deselect v wide = λ k. record {
   );
   top = length-set img deselect_end_address v k;
   capacity = capacity-end img deselect_end_address v (lit< tt) (lit< tt) k;
-  unread = unread-end img deselect_end_address v (lit< tt) (lit< tt) k;
+  lasting = lasting-end img deselect_end_address v (lit< tt) (lit< tt) k;
 }
 
 -- an image with another number of applets
@@ -148,7 +148,7 @@ read-applets img v wide = λ k. record {
   );
   top = length-set img applets_address v k;
   capacity = capacity-end img applets_address v (lit< tt) (lit< tt) k;
-  unread = unread-end img applets_address v (lit< tt) (lit< tt) k;
+  lasting = lasting-end img applets_address v (lit< tt) (lit< tt) k;
 }
 
 -- one of these words set leaves the words laid
@@ -179,7 +179,7 @@ pub record IsJournals (a : ℕ) : Type 0 where
   pub not_applets : applets_address ≡ a → ⊥
   pub not_reset : reset_end_address ≡ a → ⊥
   pub not_deselect : deselect_end_address ≡ a → ⊥
-  pub not_unread : (k : ℕ) → (k ≡ 4) ⊎ (13 ≤ k) → k ≡ a → ⊥
+  pub not_lasting : (k : ℕ) → (k ≡ 4) ⊎ (13 ≤ k) → k ≡ a → ⊥
 
 pub heap-journals : (ws : List ℕ) (a v : ℕ) → IsJournals a → capacity_in (image (set ws a v)) ≡ capacity_in (image ws)
     → heap_of (set ws a v) ≡ heap_of ws
@@ -200,8 +200,8 @@ heap-journals ws a v its capacity =
       area_ends = (other reset_end_address its.not_reset k, other deselect_end_address its.not_deselect k);
       top = length-set (image ws) a v k;
       capacity = kept k;
-      unread = other 4 (its.not_unread 4 (inl refl)) k ∷ other 13 (its.not_unread 13 (inr (lit≤ tt))) k ∷ other 14 (its.not_unread 14 (inr (lit≤ tt))) k
-          ∷ other 15 (its.not_unread 15 (inr (lit≤ tt))) k ∷ [];
+      lasting = other 4 (its.not_lasting 4 (inl refl)) k ∷ other 13 (its.not_lasting 13 (inr (lit≤ tt))) k ∷ other 14 (its.not_lasting 14 (inr (lit≤ tt))) k
+          ∷ other 15 (its.not_lasting 15 (inr (lit≤ tt))) k ∷ [];
     })
 
 place_low : (event : ClearEvent) → packages_address < area_end_address event
@@ -232,5 +232,5 @@ IsWellFormed-end ws event v laid = laid-front ws (area_end_address event) v (pla
 
 pub shape-end : (d h : HeapState) (event : ClearEvent) (v : ℕ) → SameShape d h → SameShape d (with_area_end h event v)
 unfolding heap_item_at is_allocated
-shape-end d h Reset v s = record { items = s.items; names = s.names }
-shape-end d h Deselect v s = record { items = s.items; names = s.names }
+shape-end d h Reset v s = record { items = s.items; names = s.names; lasting = s.lasting }
+shape-end d h Deselect v s = record { items = s.items; names = s.names; lasting = s.lasting }

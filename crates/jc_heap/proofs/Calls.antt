@@ -6,12 +6,11 @@ use Rattle.std.proofs.lemmas.Bool.{lt-ltb, le-ltb, true≢false}
 use Rattle.jc_words.specs.Layout.{top_address}
 use Rattle.jc_commit.specs.Keeping.{has_room_for as journal_room, writes_for as journal_writes}
 use Rattle.jc_commit.specs.State.{State, keeping as journal_keeping, IsTornWrite as JournalStopped}
-use Rattle.jc_transient.specs.State.{area_size}
 use Rattle.jc_transient.specs.declared.cell.ClearEvent.{ClearEvent}
 use Rattle.jc_heap.specs.declared.refusal.HeapRefusal.{HeapRefusal}
 use Rattle.jc_heap.specs.declared.refusal.HeapRefusal.TheVariants.{CommitFull, HeapFull, NoTransientSpace}
 use Rattle.jc_heap.specs.Object.{Object, AnObject, facts_of, is_object, transient_size}
-use Rattle.jc_heap.specs.Heap.{HeapState, HeapView, IsObject, heap_item_at, facts, heap_view, has_room_for, writes_for, area_end, area_end_address, end_address}
+use Rattle.jc_heap.specs.Heap.{HeapState, HeapView, IsObject, heap_item_at, facts, heap_view, has_room_for, writes_for, area_end, area_limit, area_end_address, end_address}
 use Rattle.jc_heap.specs.Heap.{IsTornChange, LacksSpace, LacksCells}
 use Rattle.jc_heap.specs.Moves.{Move, PerformsMovesUnless, AreTornMoves, apply_move, writes_of, refusal_at, refusal_of_space, refusal_of_transient}
 use Rattle.jc_heap.specs.Completions.{Completed, Torn, Done, Refused, after_change}
@@ -70,14 +69,14 @@ has_some_space v size places fits =
 
 pub has_no_cells : (v : HeapView) (event : ClearEvent) (n : ℕ) → LacksCells v.now event n → refusal_of_transient v event n ≡ Some NoTransientSpace
 has_no_cells v event n lacks = ap (λ b. if b then Some NoTransientSpace else refusal_of_space v transient_size (end_address ∷ area_end_address event ∷ []))
-    (lt-ltb area_size (area_end v.now event + n) lacks)
+    (lt-ltb (area_limit v.now event) (area_end v.now event + n) lacks)
 
 pub has_some_cells : (v : HeapView) (event : ClearEvent) (n : ℕ) → (LacksCells v.now event n → ⊥)
     → refusal_of_transient v event n ≡ refusal_of_space v transient_size (end_address ∷ area_end_address event ∷ [])
 has_some_cells v event n fits =
-    let le : area_end v.now event + n ≤ area_size = omega (arith, fits) in
+    let le : area_end v.now event + n ≤ area_limit v.now event = omega (arith, fits) in
     ap (λ b. if b then Some NoTransientSpace else refusal_of_space v transient_size (end_address ∷ area_end_address event ∷ []))
-    (le-ltb area_size (area_end v.now event + n) le)
+    (le-ltb (area_limit v.now event) (area_end v.now event + n) le)
 
 -- the journal's room for a new object's change
 pub end_room : (j : State) (v : HeapView) (n : ℕ) → IsWellFormed j.recovered → heap_view j n ≡ v → has_room_for v (end_address ∷ [])

@@ -41,7 +41,7 @@ pub heap_of-live_words : (ws us : List ℕ) → live_words us ≡ live_words ws 
 heap_of-live_words ws us e = ap read_image e
 
 pub shape-same : (h : HeapState) → SameShape h h
-shape-same h = record { items = λ q le. refl; names = λ q le. refl }
+shape-same h = record { items = λ q le. refl; names = λ q le. refl; lasting = refl }
 
 -- the recovered words after a change, by whether a transaction is open
 record RecoveredAfter (b : Bool) (old new plain : List ℕ) : Type 0 where

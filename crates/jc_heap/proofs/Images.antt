@@ -14,7 +14,7 @@ use Rattle.jc_heap.specs.Object.{Object, Item, AnObject, APackage, object_of, ce
 use Rattle.jc_heap.specs.Object.{is_object, is_packed, is_packed_header}
 use Rattle.jc_heap.specs.Packed.{byte_in, with_byte, bytes_of_packed}
 use Rattle.jc_heap.specs.Image.{image, base, package_addresses, is_package, sizes, item, item_entry, records, missing_words_of_image, table_text}
-use Rattle.jc_heap.specs.Image.{IsWellFormed, unread_words, capacity_in}
+use Rattle.jc_heap.specs.Image.{IsWellFormed, lasting_words, capacity_in}
 use Rattle.std.specs.Prelude.{nat_lt}
 use Rattle.jc_words.specs.Layout.{version_address, capacity_address, journal_address, front_length, front_capacity}
 use Rattle.jc_commit.proofs.Words.{log-same}
@@ -212,9 +212,9 @@ text-same a b long words = ap (λ n. bytes_of_packed n (take ((n + 1) / 2) (drop
     ∙ ap (bytes_of_packed (get_or a text_length_address 0)) words
 
 -- the words of the front that nothing reads are the same
-pub unread-same : (a b : List ℕ) → get_or b 4 0 ≡ get_or a 4 0
-    → ((k : ℕ) → text_length_address < k → k < front_length → get_or b k 0 ≡ get_or a k 0) → unread_words b ≡ unread_words a
-unread-same a b first rest = λ i. first i ∷ rest 13 (lit< tt) (lit< tt) i
+pub lasting-same : (a b : List ℕ) → get_or b 4 0 ≡ get_or a 4 0
+    → ((k : ℕ) → text_length_address < k → k < front_length → get_or b k 0 ≡ get_or a k 0) → lasting_words b ≡ lasting_words a
+lasting-same a b first rest = λ i. first i ∷ rest 13 (lit< tt) (lit< tt) i
     ∷ rest 14 (lit< tt) (lit< tt) i ∷ rest 15 (lit< tt) (lit< tt) i ∷ []
 
 -- the journal can keep as many old values where the words that describe it are the same
@@ -312,8 +312,8 @@ module _ (img : List ℕ) (r j v : ℕ) (four : 4 ≤ j) (h : j < length (entry_
       get_or_front img (r + j) packages_address v (omega (arith, registry)) in
       let second_count : get_or (set img (r + j) v) applets_address 0 ≡ get_or img applets_address 0 =
       get_or_front img (r + j) applets_address v (omega (arith, registry)) in
-      let unread : unread_words (set img (r + j) v) ≡ unread_words img =
-      unread-same img (set img (r + j) v) (get_or_front img (r + j) 4 v (omega (arith, registry)))
+      let lasting : lasting_words (set img (r + j) v) ≡ lasting_words img =
+      lasting-same img (set img (r + j) v) (get_or_front img (r + j) 4 v (omega (arith, registry)))
       (λ a low high. get_or_front img (r + j) a v (omega (arith, registry))) in
       let capacity : capacity_in (set img (r + j) v) ≡ capacity_in img =
       capacity-same img (set img (r + j) v) (ap (nat_lt journal_address) (length-set img (r + j) v)) (get_or_front img (r + j) version_address v (omega (arith, registry)))
@@ -328,7 +328,7 @@ module _ (img : List ℕ) (r j v : ℕ) (four : 4 ≤ j) (h : j < length (entry_
         area_ends = (first_end k, second_end k);
         top = top k;
         capacity = capacity k;
-        unread = unread k;
+        lasting = lasting k;
       }
 
 -- what has cells is an object

@@ -6,14 +6,14 @@ use Rattle.std.proofs.lemmas.Bool.{cases_eq, cases_Bool, eq-eqb, ne_eqb, false�
 use Rattle.jc_words.specs.Layout.{most_packages, most_applets}
 use Rattle.jc_transient.specs.declared.cell.ClearEvent.{ClearEvent}
 use Rattle.jc_transient.specs.declared.cell.ClearEvent.TheVariants.{Reset, Deselect}
-use Rattle.jc_transient.specs.State.{area_size}
+use Rattle.jc_transient.specs.State.{AreSizes}
 use Rattle.jc_heap.specs.declared.object.Kind.{Kind}
 use Rattle.jc_heap.specs.declared.object.Kind.TheVariants.{ReferenceArray}
 use Rattle.jc_heap.specs.Table.{entry_or, with_entry}
 use Rattle.jc_heap.specs.Object.{Object, Item, AnObject, APackage, facts_of, cells_of, is_object, with_cell, header_only, new_transient, transient_size}
 use Rattle.jc_heap.specs.Object.{event_number}
-use Rattle.jc_heap.specs.Heap.{HeapState, heap_item_at, is_allocated, cells, facts, area_end, with_area_end, set_cell, set_cells, add_object, add_transient}
-use Rattle.jc_heap.specs.Heap.{LacksCells}
+use Rattle.jc_heap.specs.Heap.{HeapState, heap_item_at, is_allocated, cells, facts, area_end, area_limit, with_area_end, set_cell, set_cells, add_object, add_transient}
+use Rattle.jc_heap.specs.Heap.{LacksCells, buffer_word, cells_word}
 use Rattle.jc_heap.specs.Components.{words_of, record_of}
 use Rattle.jc_heap.specs.Whole.{lies_in, cells_in, FitsAt, IsFilledArea, IsReference, HoldsReferences, AreAllocated, AreRecords, AreDistinct, IsConsistent}
 use Rattle.jc_heap.proofs.Laws.{heap_item_at-add_object, heap_item_at-add_other, is_allocated-add_other, is_allocated-set_cell, heap_item_at-set_cell}
@@ -30,6 +30,7 @@ pub record IsReferring (h : HeapState) : Type 0 where
   pub records : AreRecords h h.packages
   pub distinct : AreDistinct h.packages
   pub references : (r : ℕ) → HoldsReferences h (heap_item_at h r)
+  pub sizes : AreSizes (cells_word h) (buffer_word h)
 
 referring_of : (h : HeapState) → IsConsistent h → IsReferring h
 referring_of h w = record {
@@ -39,6 +40,7 @@ referring_of h w = record {
   records = w.records;
   distinct = w.distinct;
   references = w.references;
+  sizes = w.sizes;
 }
 
 whole_of : (h : HeapState) → IsReferring h → ((event : ClearEvent) → IsFilledArea h event) → IsConsistent h
@@ -49,6 +51,7 @@ whole_of h w areas = record {
   records = w.records;
   distinct = w.distinct;
   references = w.references;
+  sizes = w.sizes;
   areas = areas;
 }
 
@@ -58,11 +61,12 @@ unfolding heap_item_at
 no_references h e r kind i lt = let none : i < 0 = subst (λ l. i < length (cells_of (entry_or (APackage []) l r))) e lt in absurd (omega arith)
 
 empty_filled : (h : HeapState) → h.items ≡ [] → h.area_ends ≡ (0, 0) → (event : ClearEvent) → IsFilledArea h event
-empty_filled h e ends Reset = filled_of h Reset (subst (λ l. Run Reset 0 l (h.area_ends.0)) (sym e) (ap (λ p. p.0) ends, omega arith))
-empty_filled h e ends Deselect = filled_of h Deselect (subst (λ l. Run Deselect 0 l (h.area_ends.1)) (sym e) (ap (λ p. p.1) ends, omega arith))
+empty_filled h e ends Reset = filled_of h Reset (subst (λ l. Run Reset (area_limit h Reset) 0 l (h.area_ends.0)) (sym e) (ap (λ p. p.0) ends, omega arith))
+empty_filled h e ends Deselect = filled_of h Deselect (subst (λ l. Run Deselect (area_limit h Deselect) 0 l (h.area_ends.1)) (sym e) (ap (λ p. p.1) ends, omega arith))
 
-pub empty_whole : (h : HeapState) → h.items ≡ [] → h.counts ≡ (0, 0) → h.packages ≡ [] → h.area_ends ≡ (0, 0) → IsConsistent h
-empty_whole h e counts packages ends =
+pub empty_whole : (h : HeapState) → h.items ≡ [] → h.counts ≡ (0, 0) → h.packages ≡ [] → h.area_ends ≡ (0, 0)
+    → AreSizes (cells_word h) (buffer_word h) → IsConsistent h
+empty_whole h e counts packages ends sizes =
     let none : length h.packages ≡ 0 = ap length packages in
     record {
       few_packages = omega (arith, ap (λ p. p.0) counts);
@@ -71,14 +75,15 @@ empty_whole h e counts packages ends =
       records = λ k lt. absurd (omega arith);
       distinct = λ j k jk lt same. omega arith;
       references = no_references h e;
+      sizes = sizes;
       areas = empty_filled h e ends;
     }
 
 -- another item after the others
-pub run_push : (event : ClearEvent) (place : ℕ) (es : List (ℕ × Item)) (end r : ℕ) (t : Item) → Run event place es end → FitsAt event end t
-    → Run event place (es ++ (r, t) ∷ []) (end + cells_in event t)
-run_push event place [] end r t run fits = (subst (λ p. FitsAt event p t) run.0 fits, (ap (λ p. p + cells_in event t) run.0, omega (arith, fits.ends, run.0)))
-run_push event place (e ∷ es) end r t run fits = (run.0, run_push event (place + cells_in event e.1) es end r t run.1 fits)
+pub run_push : (event : ClearEvent) (size place : ℕ) (es : List (ℕ × Item)) (end r : ℕ) (t : Item) → Run event size place es end → FitsAt event size end t
+    → Run event size place (es ++ (r, t) ∷ []) (end + cells_in event t)
+run_push event size place [] end r t run fits = (subst (λ p. FitsAt event size p t) run.0 fits, (ap (λ p. p + cells_in event t) run.0, omega (arith, fits.ends, run.0)))
+run_push event size place (e ∷ es) end r t run fits = (run.0, run_push event size (place + cells_in event e.1) es end r t run.1 fits)
 
 -- another object, at an address where nothing stands
 module _ (h : HeapState) (o : Object) (n : ℕ) (free : is_allocated h h.top ≡ false) where
@@ -117,6 +122,7 @@ module _ (h : HeapState) (o : Object) (n : ℕ) (free : is_allocated h h.top ≡
     records = records-add w.met w.records;
     distinct = w.distinct;
     references = references-add own w.references;
+    sizes = w.sizes;
   }
 
 -- a persistent one, whose cells are references where they have to be
@@ -125,13 +131,13 @@ filled-add : (h : HeapState) (o : Object) (n : ℕ) (event : ClearEvent) → lie
 unfolding add_object
 filled-add h o n event out f =
     let none : cells_in event (AnObject o) ≡ 0 = ap (λ b. if b then o.facts.length else 0) out in
-    let run : Run event 0 h.items (area_end h event) = run_of h event f in
-    let fits : FitsAt event (area_end h event) (AnObject o) = record {
+    let run : Run event (area_limit h event) 0 h.items (area_end h event) = run_of h event f in
+    let fits : FitsAt event (area_limit h event) (area_end h event) (AnObject o) = record {
       begins = λ there. absurd (false≢true (sym out ∙ there));
       ends = omega (arith, none, f.fits);
     } in
-    filled_of (add_object h o n) event (subst (Run event 0 (h.items ++ (h.top, AnObject o) ∷ [])) (area_same h o n event none)
-    (run_push event 0 h.items (area_end h event) h.top (AnObject o) run fits))
+    filled_of (add_object h o n) event (subst (Run event (area_limit h event) 0 (h.items ++ (h.top, AnObject o) ∷ [])) (area_same h o n event none)
+    (run_push event (area_limit h event) 0 h.items (area_end h event) h.top (AnObject o) run fits))
   where
     area_same : (h : HeapState) (o : Object) (n : ℕ) (event : ClearEvent) → cells_in event (AnObject o) ≡ 0
         → area_end h event + cells_in event (AnObject o) ≡ area_end (record h { items = h.items ++ (h.top, AnObject o) ∷ []; top = h.top + n }) event
@@ -162,6 +168,7 @@ referring-end h Reset end w = record {
   records = w.records;
   distinct = w.distinct;
   references = w.references;
+  sizes = w.sizes;
 }
 referring-end h Deselect end w = record {
   few_packages = w.few_packages;
@@ -170,28 +177,29 @@ referring-end h Deselect end w = record {
   records = w.records;
   distinct = w.distinct;
   references = w.references;
+  sizes = w.sizes;
 }
 
 -- its cells are the first free ones of its event's area
 run-own : (h : HeapState) (event : ClearEvent) (o : Object) → lies_in event (AnObject o) ≡ true → o.facts.place ≡ area_end h event
-    → area_end h event + o.facts.length ≤ area_size → IsFilledArea h event →
-    Run event 0 (h.items ++ (h.top, AnObject o) ∷ []) (area_end h event + o.facts.length)
+    → area_end h event + o.facts.length ≤ area_limit h event → IsFilledArea h event →
+    Run event (area_limit h event) 0 (h.items ++ (h.top, AnObject o) ∷ []) (area_end h event + o.facts.length)
 run-own h event o lies place room f =
     let cells : cells_in event (AnObject o) ≡ o.facts.length = ap (λ b. if b then o.facts.length else 0) lies in
-    subst (λ n. Run event 0 (h.items ++ (h.top, AnObject o) ∷ []) (area_end h event + n)) cells
-    (run_push event 0 h.items (area_end h event) h.top (AnObject o) (run_of h event f) (record { begins = λ _. place; ends = omega (arith, cells, room) }))
+    subst (λ n. Run event (area_limit h event) 0 (h.items ++ (h.top, AnObject o) ∷ []) (area_end h event + n)) cells
+    (run_push event (area_limit h event) 0 h.items (area_end h event) h.top (AnObject o) (run_of h event f) (record { begins = λ _. place; ends = omega (arith, cells, room) }))
 
 -- the other area stays as it is
 run-other : (h : HeapState) (event : ClearEvent) (o : Object) → lies_in event (AnObject o) ≡ false → IsFilledArea h event
-    → Run event 0 (h.items ++ (h.top, AnObject o) ∷ []) (area_end h event)
+    → Run event (area_limit h event) 0 (h.items ++ (h.top, AnObject o) ∷ []) (area_end h event)
 run-other h event o out f =
     let none : cells_in event (AnObject o) ≡ 0 = ap (λ b. if b then o.facts.length else 0) out in
     let same : area_end h event + cells_in event (AnObject o) ≡ area_end h event = omega (arith, none) in
-    subst (Run event 0 (h.items ++ (h.top, AnObject o) ∷ [])) same
-    (run_push event 0 h.items (area_end h event) h.top (AnObject o) (run_of h event f)
+    subst (Run event (area_limit h event) 0 (h.items ++ (h.top, AnObject o) ∷ [])) same
+    (run_push event (area_limit h event) 0 h.items (area_end h event) h.top (AnObject o) (run_of h event f)
     (record { begins = λ there. absurd (false≢true (sym out ∙ there)); ends = omega (arith, none, f.fits) }))
 
-filled-transient : (h : HeapState) (kind : Kind) (event : ClearEvent) (class owner long : ℕ) → area_end h event + long ≤ area_size
+filled-transient : (h : HeapState) (kind : Kind) (event : ClearEvent) (class owner long : ℕ) → area_end h event + long ≤ area_limit h event
     → ((e : ClearEvent) → IsFilledArea h e) → (e : ClearEvent) → IsFilledArea (add_transient h kind event class owner long) e
 unfolding add_transient add_object
 filled-transient h kind Reset class owner long room f Reset =
@@ -211,7 +219,7 @@ pub transient_whole : (h : HeapState) (kind : Kind) (event : ClearEvent) (class 
     → IsConsistent h → IsConsistent (add_transient h kind event class owner long)
 unfolding add_transient
 transient_whole h kind event class owner long none room w =
-    let fits : area_end h event + long ≤ area_size = omega (arith, room) in
+    let fits : area_end h event + long ≤ area_limit h event = omega (arith, room) in
     whole_of (add_transient h kind event class owner long)
     (referring-end (add_object h (new_transient kind event class owner long (area_end h event)) transient_size) event (area_end h event + long)
     (referring-add h (new_transient kind event class owner long (area_end h event)) transient_size none (λ k i lt. absurd (omega arith)) (referring_of h w)))
@@ -226,8 +234,8 @@ pub object-header_only : (t : Item) → is_object (header_only t) ≡ is_object 
 object-header_only (AnObject o) = refl
 object-header_only (APackage ws) = refl
 
-fits-same : (event : ClearEvent) (place : ℕ) (t u : Item) → facts_of u ≡ facts_of t → FitsAt event place t → FitsAt event place u
-fits-same event place t u e f =
+fits-same : (event : ClearEvent) (size place : ℕ) (t u : Item) → facts_of u ≡ facts_of t → FitsAt event size place t → FitsAt event size place u
+fits-same event size place t u e f =
     let lies : lies_in event u ≡ lies_in event t = ap (λ x. lies_in event (AnObject (record { facts = x; cells = [] }))) e in
     record {
       begins = λ there. ap (λ x. x.place) e ∙ f.begins (sym lies ∙ there);
@@ -237,27 +245,27 @@ fits-same event place t u e f =
     cells-same : (event : ClearEvent) (t u : Item) → facts_of u ≡ facts_of t → cells_in event u ≡ cells_in event t
     cells-same event t u e = ap (λ x. cells_in event (AnObject (record { facts = x; cells = [] }))) e
 
-pub run_put : (event : ClearEvent) (place : ℕ) (es : List (ℕ × Item)) (end r : ℕ) (t : Item) → facts_of t ≡ facts_of (entry_or (APackage []) es r)
-    → Run event place es end → Run event place (with_entry es r t) end
-run_put event place [] end r t e run = run
-run_put event place (q ∷ es) end r t e run = elim (cases_eq q.0 r) [
+pub run_put : (event : ClearEvent) (size place : ℕ) (es : List (ℕ × Item)) (end r : ℕ) (t : Item) → facts_of t ≡ facts_of (entry_or (APackage []) es r)
+    → Run event size place es end → Run event size place (with_entry es r t) end
+run_put event size place [] end r t e run = run
+run_put event size place (q ∷ es) end r t e run = elim (cases_eq q.0 r) [
   | inl is ↦
       let same : facts_of t ≡ facts_of q.1 = e ∙ ap (λ b. facts_of (if b then q.1 else entry_or (APackage []) es r)) (eq-eqb q.0 r is) in
       rw (eq-eqb q.0 r is) (
-        fits-same event place q.1 t same run.0,
-        subst (λ n. Run event (place + n) es end) (sym (ap (λ x. cells_in event (AnObject (record { facts = x; cells = [] }))) same)) run.1,
+        fits-same event size place q.1 t same run.0,
+        subst (λ n. Run event size (place + n) es end) (sym (ap (λ x. cells_in event (AnObject (record { facts = x; cells = [] }))) same)) run.1,
       )
   | inr n ↦
       let rest : facts_of t ≡ facts_of (entry_or (APackage []) es r) = e ∙ ap (λ b. facts_of (if b then q.1 else entry_or (APackage []) es r))
       (ne_eqb q.0 r n) in
-      rw (ne_eqb q.0 r n) (run.0, run_put event (place + cells_in event q.1) es end r t rest run.1)
+      rw (ne_eqb q.0 r n) (run.0, run_put event size (place + cells_in event q.1) es end r t rest run.1)
 ]
 
 filled-set : (h : HeapState) (r i v : ℕ) (event : ClearEvent) → IsFilledArea h event → IsFilledArea (set_cell h r i v) event
 unfolding set_cell heap_item_at
-filled-set h r i v Reset f = filled_of (set_cell h r i v) Reset (run_put Reset 0 h.items (h.area_ends.0) r (with_cell (entry_or (APackage []) h.items r) i v)
+filled-set h r i v Reset f = filled_of (set_cell h r i v) Reset (run_put Reset (area_limit h Reset) 0 h.items (h.area_ends.0) r (with_cell (entry_or (APackage []) h.items r) i v)
     (facts-with_cell (entry_or (APackage []) h.items r) i v) (run_of h Reset f))
-filled-set h r i v Deselect f = filled_of (set_cell h r i v) Deselect (run_put Deselect 0 h.items (h.area_ends.1) r
+filled-set h r i v Deselect f = filled_of (set_cell h r i v) Deselect (run_put Deselect (area_limit h Deselect) 0 h.items (h.area_ends.1) r
     (with_cell (entry_or (APackage []) h.items r) i v) (facts-with_cell (entry_or (APackage []) h.items r) i v) (run_of h Deselect f))
 
 module _ (h : HeapState) (r i v : ℕ) where
@@ -304,6 +312,7 @@ module _ (h : HeapState) (r i v : ℕ) where
           (header_only-set_cell h r i v (get_or h.packages k 0)))) (w.records k lt);
       distinct = w.distinct;
       references = references-set there w.references;
+      sizes = w.sizes;
       areas = λ event. filled-set h r i v event (w.areas event);
     }
 

@@ -214,7 +214,7 @@ empty_end h items r above = ap (λ l. has_entry l r) items
 
 pub keeps_whole : KeepsConsistent
 keeps_whole = record {
-  empty = λ h items counts packages ends some. record { whole = empty_whole h items counts packages ends; end = empty_end h items; some = some };
+  empty = λ h items counts packages ends sizes some. record { whole = empty_whole h items counts packages ends sizes; end = empty_end h items; some = some };
   moves = keep_all;
   loss = keep_lost;
 }

@@ -11,7 +11,7 @@ use Rattle.jc_heap.specs.declared.object.Kind.{Kind}
 use Rattle.jc_heap.specs.declared.object.Kind.TheVariants.{Instance, ReferenceArray}
 use Rattle.jc_heap.specs.Table.{entry_or, has_entry}
 use Rattle.jc_heap.specs.Object.{Item, AnObject, APackage, facts_of, cells_of, is_object}
-use Rattle.jc_heap.specs.Heap.{HeapState, heap_item_at, is_allocated, facts, area_end, add_object, HasEnd}
+use Rattle.jc_heap.specs.Heap.{HeapState, heap_item_at, is_allocated, facts, area_end, area_limit, add_object, HasEnd}
 use Rattle.jc_heap.specs.Packages.{AreArrays, is_array_init, array_object, array_size, components_words, image_words, record_size, package_record}
 use Rattle.jc_heap.specs.Packages.{package_owner, push_package, add_arrays, add_package}
 use Rattle.jc_heap.specs.Statics.{with_word, set_word}
@@ -102,13 +102,13 @@ module _ (h : HeapState) (words : List ℕ) (free : is_allocated h h.top ≡ fal
   no_cells Reset = refl
   no_cells Deselect = refl
 
-  fits-push : (event : ClearEvent) (place : ℕ) → place ≤ 2048 → FitsAt event place (APackage words)
-  fits-push Reset place le = record { begins = λ there. absurd (false≢true there); ends = omega (arith, le) }
-  fits-push Deselect place le = record { begins = λ there. absurd (false≢true there); ends = omega (arith, le) }
+  fits-push : (event : ClearEvent) (size place : ℕ) → place ≤ size → FitsAt event size place (APackage words)
+  fits-push Reset size place le = record { begins = λ there. absurd (false≢true there); ends = omega (arith, le) }
+  fits-push Deselect size place le = record { begins = λ there. absurd (false≢true there); ends = omega (arith, le) }
 
-  run-pushed : (event : ClearEvent) → IsFilledArea h event → Run event 0 (h.items ++ (h.top, APackage words) ∷ []) (area_end h event)
-  run-pushed event f = subst (Run event 0 (h.items ++ (h.top, APackage words) ∷ [])) (omega (arith, no_cells event))
-      (run_push event 0 h.items (area_end h event) h.top (APackage words) (run_of h event f) (fits-push event (area_end h event) f.fits))
+  run-pushed : (event : ClearEvent) → IsFilledArea h event → Run event (area_limit h event) 0 (h.items ++ (h.top, APackage words) ∷ []) (area_end h event)
+  run-pushed event f = subst (Run event (area_limit h event) 0 (h.items ++ (h.top, APackage words) ∷ [])) (omega (arith, no_cells event))
+      (run_push event (area_limit h event) 0 h.items (area_end h event) h.top (APackage words) (run_of h event f) (fits-push event (area_limit h event) (area_end h event) f.fits))
 
   filled-push : (event : ClearEvent) → IsFilledArea h event → IsFilledArea (push_package h words) event
   unfolding push_package
@@ -124,6 +124,7 @@ module _ (h : HeapState) (words : List ℕ) (free : is_allocated h h.top ≡ fal
     records = records-push two w.met w.records;
     distinct = distinct-push w.met w.distinct;
     references = references-push w.references;
+    sizes = w.sizes;
     areas = λ event. filled-push event (w.areas event);
   }
 
@@ -193,9 +194,9 @@ module _ (h : HeapState) (r j v : ℕ) where
 
   filled-word : (event : ClearEvent) → IsFilledArea h event → IsFilledArea (set_word h r j v) event
   unfolding set_word heap_item_at
-  filled-word Reset f = filled_of (set_word h r j v) Reset (run_put Reset 0 h.items (h.area_ends.0) r (with_word (entry_or (APackage []) h.items r) j v)
+  filled-word Reset f = filled_of (set_word h r j v) Reset (run_put Reset (area_limit h Reset) 0 h.items (h.area_ends.0) r (with_word (entry_or (APackage []) h.items r) j v)
       (facts-with_word (entry_or (APackage []) h.items r) j v) (run_of h Reset f))
-  filled-word Deselect f = filled_of (set_word h r j v) Deselect (run_put Deselect 0 h.items (h.area_ends.1) r
+  filled-word Deselect f = filled_of (set_word h r j v) Deselect (run_put Deselect (area_limit h Deselect) 0 h.items (h.area_ends.1) r
       (with_word (entry_or (APackage []) h.items r) j v) (facts-with_word (entry_or (APackage []) h.items r) j v) (run_of h Deselect f))
 
   pub word_whole : IsConsistent h → IsConsistent (set_word h r j v)
@@ -208,6 +209,7 @@ module _ (h : HeapState) (r j v : ℕ) where
         (header_only-set_word h r j v (get_or h.packages k 0)))) (w.records k lt);
     distinct = w.distinct;
     references = references-word w.references;
+    sizes = w.sizes;
     areas = λ event. filled-word event (w.areas event);
   }
 
@@ -225,6 +227,7 @@ registry_whole h words w = record {
   records = w.records;
   distinct = w.distinct;
   references = w.references;
+  sizes = w.sizes;
   areas = λ event. filled-registry h words event (w.areas event);
 }
 
@@ -242,5 +245,6 @@ count_whole h n few w = record {
   records = w.records;
   distinct = w.distinct;
   references = w.references;
+  sizes = w.sizes;
   areas = λ event. filled-count h n event (w.areas event);
 }

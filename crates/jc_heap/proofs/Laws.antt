@@ -114,23 +114,35 @@ pub is_allocated-add_other : (h : HeapState) (o : Object) (n q : ℕ) → (h.top
 unfolding is_allocated add_object
 is_allocated-add_other h o n q ne = has-push h.items h.top q (AnObject o) ne
 
+-- so do the words that no change touches
+lasting-set_cell : (h : HeapState) (r i v : ℕ) → (set_cell h r i v).lasting ≡ h.lasting
+unfolding set_cell
+lasting-set_cell h r i v = refl
+
+lasting-add_object : (h : HeapState) (o : Object) (n : ℕ) → (add_object h o n).lasting ≡ h.lasting
+unfolding add_object
+lasting-add_object h o n = refl
+
 -- shapes stay
 pub shape-set : (d h : HeapState) (r i v : ℕ) → SameShape d h → SameShape d (set_cell h r i v)
 shape-set d h r i v s = record {
   items = λ q le. header_only-set_cell h r i v q ∙ s.items q le;
   names = λ q le. is_allocated-set_cell h r i v q ∙ s.names q le;
+  lasting = lasting-set_cell h r i v ∙ s.lasting;
 }
 
 pub shape-set_both : (d h : HeapState) (r i v : ℕ) → SameShape d h → SameShape (set_cell d r i v) (set_cell h r i v)
 shape-set_both d h r i v s = record {
   items = λ q le. header_only-set_cell h r i v q ∙ s.items q (subst (λ n. q < n) (top-set_cell d r i v) le) ∙ sym (header_only-set_cell d r i v q);
   names = λ q le. is_allocated-set_cell h r i v q ∙ s.names q (subst (λ n. q < n) (top-set_cell d r i v) le) ∙ sym (is_allocated-set_cell d r i v q);
+  lasting = lasting-set_cell h r i v ∙ s.lasting ∙ sym (lasting-set_cell d r i v);
 }
 
 pub shape-add : (d h : HeapState) (o : Object) (n : ℕ) → d.top ≤ h.top → SameShape d h → SameShape d (add_object h o n)
 shape-add d h o n le s = record {
   items = λ q lt. ap header_only (heap_item_at-add_other h o n q (λ e. omega arith)) ∙ s.items q lt;
   names = λ q lt. is_allocated-add_other h o n q (λ e. omega arith) ∙ s.names q lt;
+  lasting = lasting-add_object h o n ∙ s.lasting;
 }
 
 -- what an abort leaves of the names

@@ -5,6 +5,7 @@ pub mod Images
 pub mod Added
 pub mod Packages
 pub mod Laws
+pub mod AreaSizes
 pub mod Walks
 pub mod FreshRuns
 pub mod JournalViews

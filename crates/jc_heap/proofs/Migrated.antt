@@ -29,7 +29,7 @@ its_version = record {
   not_applets = λ e. omega (arith, e);
   not_reset = λ e. omega (arith, e);
   not_deselect = λ e. omega (arith, e);
-  not_unread = λ k h e. ⊎_elim (λ four. omega (arith, four, e)) (λ far. omega (arith, far, e)) h;
+  not_lasting = λ k h e. ⊎_elim (λ four. omega (arith, four, e)) (λ far. omega (arith, far, e)) h;
 }
 
 its_capacity : IsJournals capacity_address
@@ -45,7 +45,7 @@ its_capacity = record {
   not_applets = λ e. omega (arith, e);
   not_reset = λ e. omega (arith, e);
   not_deselect = λ e. omega (arith, e);
-  not_unread = λ k h e. ⊎_elim (λ four. omega (arith, four, e)) (λ far. omega (arith, far, e)) h;
+  not_lasting = λ k h e. ⊎_elim (λ four. omega (arith, four, e)) (λ far. omega (arith, far, e)) h;
 }
 
 its_journal : IsJournals journal_address
@@ -61,7 +61,7 @@ its_journal = record {
   not_applets = λ e. omega (arith, e);
   not_reset = λ e. omega (arith, e);
   not_deselect = λ e. omega (arith, e);
-  not_unread = λ k h e. ⊎_elim (λ four. omega (arith, four, e)) (λ far. omega (arith, far, e)) h;
+  not_lasting = λ k h e. ⊎_elim (λ four. omega (arith, four, e)) (λ far. omega (arith, far, e)) h;
 }
 
 -- the capacity stays in the image, also where that does not reach it

@@ -27,6 +27,7 @@ unfolding push_package heap_item_at is_allocated
 shape-push d h words le s = record {
   items = λ q lt. ap header_only (at_or-push_other (APackage []) h.items h.top q (APackage words) (λ e. omega arith)) ∙ s.items q lt;
   names = λ q lt. has-push h.items h.top q (APackage words) (λ e. omega arith) ∙ s.names q lt;
+  lasting = s.lasting;
 }
 
 shape-arrays : (d h : HeapState) (owner : ℕ) (xs : List (Kind × List ℕ)) → d.top ≤ h.top → SameShape d h → SameShape d (add_arrays h owner xs)

@@ -11,8 +11,8 @@ use Rattle.jc_heap.specs.Object.{AnObject, APackage, object_of, payload}
 use Rattle.jc_heap.specs.Image.{table_text, base, package_addresses, is_package, sizes, item, item_entry, records, missing_words_of_image}
 use Rattle.jc_heap.specs.Heap.{head_of, read_image}
 use Rattle.jc_heap.proofs.Images.{head-same, head-set, text-same}
-use Rattle.jc_heap.proofs.Images.{unread-same, capacity-same}
-use Rattle.jc_heap.specs.Image.{unread_words, capacity_in}
+use Rattle.jc_heap.proofs.Images.{lasting-same, capacity-same}
+use Rattle.jc_heap.specs.Image.{lasting_words, capacity_in}
 use Rattle.std.specs.Prelude.{nat_lt}
 use Rattle.jc_words.specs.Layout.{version_address, journal_address}
 use Rattle.jc_heap.proofs.Records.{take-set_comm, records_from-same_sizes, missing_words-same_sizes}
@@ -116,7 +116,7 @@ module _ (img : List ℕ) (wide : text_start ≤ length img) (few : get_or img p
       let text : table_text named ≡ table_text img = text-same img named (word-named text_length_address (lit< tt) (λ e. omega arith))
       (ap (take ((get_or img text_length_address 0 + 1) / 2)) (tail-named text_start (lit≤ tt))) in
       let second_count : get_or named applets_address 0 ≡ get_or img applets_address 0 = word-named applets_address (lit< tt) (λ e. omega arith) in
-      let unread : unread_words named ≡ unread_words img = unread-same img named (word-named 4 (lit< tt) (λ e. omega arith))
+      let lasting : lasting_words named ≡ lasting_words img = lasting-same img named (word-named 4 (lit< tt) (λ e. omega arith))
       (λ a above below. word-named a (omega arith) (λ e. omega arith)) in
       let capacity : capacity_in named ≡ capacity_in img = capacity-same img named (ap (nat_lt journal_address) length-named) (word-named version_address (lit< tt) (λ e. omega arith))
       (λ a above below. word-named a (omega arith) (λ e. omega arith)) in
@@ -130,7 +130,7 @@ module _ (img : List ℕ) (wide : text_start ≤ length img) (few : get_or img p
         area_ends = (first_end k, second_end k);
         top = length-named k;
         capacity = capacity k;
-        unread = unread k;
+        lasting = lasting k;
       }
 
 pub read-applet : (img : List ℕ) (a v : ℕ) → text_start ≤ length img → a < registry_length
@@ -163,7 +163,7 @@ read-applet img a v wide h =
     (word text_length_address (lit< tt)) (ap (take ((get_or img text_length_address 0 + 1) / 2))
     (drop-set-lt text_start img (registry_start + a) v (omega arith))) in
     let first_count : get_or (set img (registry_start + a) v) packages_address 0 ≡ get_or img packages_address 0 = word packages_address (lit< tt) in
-    let unread : unread_words (set img (registry_start + a) v) ≡ unread_words img = unread-same img (set img (registry_start + a) v)
+    let lasting : lasting_words (set img (registry_start + a) v) ≡ lasting_words img = lasting-same img (set img (registry_start + a) v)
     (word 4 (lit< tt)) (λ k above below. word k (omega arith)) in
     let capacity : capacity_in (set img (registry_start + a) v) ≡ capacity_in img = capacity-same img (set img (registry_start + a) v)
     (ap (nat_lt journal_address) (length-set img (registry_start + a) v)) (word version_address (lit< tt)) (λ k above below. word k (omega arith)) in
@@ -178,5 +178,5 @@ read-applet img a v wide h =
       area_ends = (first_end k, second_end k);
       top = top k;
       capacity = capacity k;
-      unread = unread k;
+      lasting = lasting k;
     }

@@ -260,15 +260,15 @@ pub place_shape : (d h : HeapState) (p : Place) (x : ℕ) → SameShape d h → 
 unfolding heap_item_at is_allocated
 place_shape d h (Cell r i) x s = shape-set d h r i x s
 place_shape d h (Static r j) x s = shape-set_word d h r j x s
-place_shape d h (Registry a) x s = record { items = s.items; names = s.names }
-place_shape d h AppletCount x s = record { items = s.items; names = s.names }
+place_shape d h (Registry a) x s = record { items = s.items; names = s.names; lasting = s.lasting }
+place_shape d h AppletCount x s = record { items = s.items; names = s.names; lasting = s.lasting }
 
 pub place_shape_both : (d h : HeapState) (p : Place) (x : ℕ) → SameShape d h → SameShape (set_place d p x) (set_place h p x)
 unfolding heap_item_at is_allocated
 place_shape_both d h (Cell r i) x s = shape-set_both d h r i x s
 place_shape_both d h (Static r j) x s = shape-set_word_both d h r j x s
-place_shape_both d h (Registry a) x s = record { items = s.items; names = s.names }
-place_shape_both d h AppletCount x s = record { items = s.items; names = s.names }
+place_shape_both d h (Registry a) x s = record { items = s.items; names = s.names; lasting = s.lasting }
+place_shape_both d h AppletCount x s = record { items = s.items; names = s.names; lasting = s.lasting }
 
 -- a place's word lies among the words, and it may be read and logged
 pub record PlaceSpot (n a : ℕ) : Type 0 where

@@ -99,16 +99,22 @@ header_only-with_word (APackage ws) j v = ap (λ n. APackage (replicate n 0)) (l
 pub header_only-set_word : (h : HeapState) (r j v q : ℕ) → header_only (heap_item_at (set_word h r j v) q) ≡ header_only (heap_item_at h q)
 header_only-set_word = of_item-set_word header_only header_only-with_word
 
+lasting-set_word : (h : HeapState) (r j v : ℕ) → (set_word h r j v).lasting ≡ h.lasting
+unfolding set_word
+lasting-set_word h r j v = refl
+
 pub shape-set_word : (d h : HeapState) (r j v : ℕ) → SameShape d h → SameShape d (set_word h r j v)
 shape-set_word d h r j v s = record {
   items = λ q lt. header_only-set_word h r j v q ∙ s.items q lt;
   names = λ q lt. is_allocated-set_word h r j v q ∙ s.names q lt;
+  lasting = lasting-set_word h r j v ∙ s.lasting;
 }
 
 pub shape-set_word_both : (d h : HeapState) (r j v : ℕ) → SameShape d h → SameShape (set_word d r j v) (set_word h r j v)
 shape-set_word_both d h r j v s = record {
   items = λ q lt. header_only-set_word h r j v q ∙ s.items q (subst (λ n. q < n) (top_after-set_word d r j v) lt) ∙ sym (header_only-set_word d r j v q);
   names = λ q lt. is_allocated-set_word h r j v q ∙ s.names q (subst (λ n. q < n) (top_after-set_word d r j v) lt) ∙ sym (is_allocated-set_word d r j v q);
+  lasting = lasting-set_word h r j v ∙ s.lasting ∙ sym (lasting-set_word d r j v);
 }
 
 -- the same length

@@ -11,12 +11,13 @@ use Rattle.jc_commit.specs.Keeping as journal
 use Rattle.jc_heap.specs.declared.object.Facts.{Facts}
 use Rattle.jc_transient.specs.declared.cell.ClearEvent.{ClearEvent}
 use Rattle.jc_transient.specs.declared.cell.ClearEvent.TheVariants.{Reset, Deselect}
-use Rattle.jc_transient.specs.State.{area_size}
+use Rattle.jc_transient.specs.declared.sizes.RamSizes.{RamSizes}
+use Rattle.jc_transient.specs.State.{ram_sizes, size_in}
 use Rattle.jc_heap.specs.declared.object.Kind.{Kind}
 use Rattle.jc_heap.specs.Object.{Object, header_size, new_transient, transient_size, Item, AnObject, APackage, cells_of, with_cell, header_only, facts_of}
 use Rattle.jc_heap.specs.Object.{is_object}
 use Rattle.jc_heap.specs.Table.{entry_or, has_entry, with_entry}
-use Rattle.jc_heap.specs.Image.{image, package_addresses, item_entry, records, table_text, unread_words, capacity_in, IsWellFormed}
+use Rattle.jc_heap.specs.Image.{image, package_addresses, item_entry, records, table_text, lasting_words, capacity_in, IsWellFormed}
 
 -- the magic word and the number of words, as words hold them
 abbrev pub head_of : List ℕ → ℕ × ℕ
@@ -25,7 +26,7 @@ head_of words = (slice_index words magic_address, slice_index words size_address
 -- the magic word and the number of words; the table text; what stands at each address, in order; the
 -- numbers of packages and of applets; the addresses of the packages, by their numbers; the registry's
 -- words; the ends of the two transient areas; the first free word; how many old values the journal can keep;
--- the words of the front that nothing reads
+-- the words of the front that no change touches
 pub record HeapState : Type 0 where
   pub head : ℕ × ℕ
   pub text : List ℕ
@@ -36,7 +37,7 @@ pub record HeapState : Type 0 where
   pub area_ends : ℕ × ℕ
   pub top : ℕ
   pub capacity : ℕ
-  pub unread : List ℕ
+  pub lasting : List ℕ
 
 unfoldable pub read_image : List ℕ → HeapState
 read_image image = record {
@@ -49,7 +50,7 @@ read_image image = record {
   area_ends = (slice_index image reset_end_address, slice_index image deselect_end_address);
   top = length image;
   capacity = capacity_in image;
-  unread = unread_words image;
+  lasting = lasting_words image;
 }
 
 -- the heap that words stand for: words at or above the top don't matter
@@ -95,6 +96,21 @@ abbrev pub with_area_end : HeapState → ClearEvent → ℕ → HeapState
 with_area_end h Reset end = record h { area_ends = (end, h.area_ends.1) }
 with_area_end h Deselect end = record h { area_ends = (h.area_ends.0, end) }
 
+-- the words that say how many cells the objects of each event can have, and how many the APDU buffer has
+abbrev pub cells_word : HeapState → ℕ
+cells_word h = slice_index h.lasting 1
+
+abbrev pub buffer_word : HeapState → ℕ
+buffer_word h = slice_index h.lasting 2
+
+-- how many cells the two areas have
+abbrev pub area_sizes : HeapState → RamSizes
+area_sizes h = ram_sizes (cells_word h) (buffer_word h)
+
+-- how many cells an event's area has
+abbrev pub area_limit : HeapState → ClearEvent → ℕ
+area_limit h event = size_in (area_sizes h) event
+
 -- the address of the word with an area's end
 abbrev pub area_end_address : ClearEvent → ℕ
 area_end_address Reset = reset_end_address
@@ -124,10 +140,11 @@ first_above (e ∷ es) r = if nat_lt r e.0 && is_object e.1 then Some e.0 else f
 unfoldable pub next_object : HeapState → ℕ → Option ℕ
 next_object h r = first_above h.items r
 
--- below the old heap's top the same things stand in the new one, with the same headers
+-- below the old heap's top the same things stand in the new one, with the same headers, and the words that no change touches are the same
 pub record SameShape (old new : HeapState) : Type 0 where
   pub items : (r : ℕ) → r < old.top → header_only (heap_item_at new r) ≡ header_only (heap_item_at old r)
   pub names : (r : ℕ) → r < old.top → is_allocated new r ≡ is_allocated old r
+  pub lasting : new.lasting ≡ old.lasting
 
 -- of what stood, what stands below the top is left, and nothing else
 abbrev pub KeepsBelowTop : HeapState → HeapState → Type 0
@@ -239,7 +256,7 @@ pub record IsTornChange (writes : ℕ) (old new : HeapView) : Type 0 where
 
 -- an event's area has no space for n cells
 abbrev pub LacksCells : HeapState → ClearEvent → ℕ → Type 0
-LacksCells h event n = area_size < area_end h event + n
+LacksCells h event n = area_limit h event < area_end h event + n
 
 -- where the heap ends: no object reaches beyond
 abbrev pub limit : HeapView → ℕ

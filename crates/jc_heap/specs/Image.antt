@@ -52,9 +52,16 @@ table_text words = bytes_of_packed (slice_index words text_length_address) (text
 abbrev pub text_byte : List ℕ → ℕ → ℕ
 text_byte words i = if i % 2 == 0 then slice_index words (text_start + i / 2) / 256 else slice_index words (text_start + i / 2) % 256
 
--- the words of the front that nothing reads: one after the count of entries, and the last three
-abbrev pub unread_words : List ℕ → List ℕ
-unread_words words = map (slice_index words) (4 ∷ 13 ∷ 14 ∷ 15 ∷ [])
+-- the words that say how many cells the objects of each event can have, and how many the APDU buffer has: 0 says as many as are usual
+abbrev pub cells_address : ℕ
+cells_address = 13
+
+abbrev pub buffer_address : ℕ
+buffer_address = 14
+
+-- the words of the front that no change of the heap touches: one that nothing reads, those two, and the last, which nothing reads either
+abbrev pub lasting_words : List ℕ → List ℕ
+lasting_words words = map (slice_index words) (4 ∷ cells_address ∷ buffer_address ∷ 15 ∷ [])
 
 -- how many old values the journal can keep, as an image says it that reaches up to the words that describe it
 abbrev pub capacity_in : List ℕ → ℕ

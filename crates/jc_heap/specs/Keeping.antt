@@ -4,7 +4,8 @@ use Rattle.jc_words.specs.Layout.{most_packages, most_applets}
 use Rattle.jc_heap.specs.declared.object.Kind.TheVariants.{ReferenceArray}
 use Rattle.jc_heap.specs.declared.place.Place.{Place}
 use Rattle.jc_heap.specs.declared.place.Place.TheVariants.{Cell, Static, Registry, AppletCount}
-use Rattle.jc_heap.specs.Heap.{HeapState, HeapView, SameShape, facts, HasEnd, LacksCells}
+use Rattle.jc_transient.specs.State.{AreSizes}
+use Rattle.jc_heap.specs.Heap.{HeapState, HeapView, SameShape, buffer_word, cells_word, facts, HasEnd, LacksCells}
 use Rattle.jc_heap.specs.Packages.{AreArrays}
 use Rattle.jc_heap.specs.Moves.{Move, Write, SetPlaces, WriteNonAtomic, SetCells, AddObject, AddTransient, AddPackage, Begin, Commit, Abort, apply_move}
 use Rattle.jc_heap.specs.Moves.{apply_moves, TornMovesLeave}
@@ -55,9 +56,10 @@ pub record AreConsistent (v : HeapView) : Type 0 where
   pub shape : SameShape v.durable v.now
   pub order : v.durable.top ≤ v.now.top
 
--- a heap in which nothing stands is whole; moves that have what they need leave both heaps whole, and so does a
+-- a heap in which nothing stands, and whose areas have sizes that they may have, is whole; moves that have what they need leave both heaps whole, and so does a
 -- loss of power within them
 pub record KeepsConsistent : Type 0 where
-  pub empty : (h : HeapState) → h.items ≡ [] → h.counts ≡ (0, 0) → h.packages ≡ [] → h.area_ends ≡ (0, 0) → 0 < h.top → IsConsistentHeap h
+  pub empty : (h : HeapState) → h.items ≡ [] → h.counts ≡ (0, 0) → h.packages ≡ [] → h.area_ends ≡ (0, 0)
+      → AreSizes (cells_word h) (buffer_word h) → 0 < h.top → IsConsistentHeap h
   pub moves : (ms : List Move) (v : HeapView) → MovesAreLegal ms v → AreConsistent v → AreConsistent (apply_moves ms v)
   pub loss : (ms : List Move) (v : HeapView) (passed : ℕ) (d : HeapState) → MovesAreLegal ms v → AreConsistent v → TornMovesLeave ms v passed d → IsConsistentHeap d

@@ -1,12 +1,11 @@
 -- Moves of a heap as data: what a power loss within some of them leaves.
 use Rattle.std.specs.Prelude.{ℕ, ◌+◌, ◌≤◌, ◌==◌, ◌≡◌, ◌⊎◌, if◌then◌else◌, true, List, [], ◌∷◌, Option, Some, None, nat_lt, length}
-use Rattle.jc_transient.specs.State.{area_size}
 use Rattle.jc_words.specs.Refusals.{refused_once}
 use Rattle.jc_commit.specs.State.{undo_writes, IsShort}
 use Rattle.jc_transient.specs.declared.cell.ClearEvent.{ClearEvent}
 use Rattle.jc_heap.specs.declared.object.Kind.{Kind}
 use Rattle.jc_heap.specs.Object.{Object, new_object, object_size, transient_size}
-use Rattle.jc_heap.specs.Heap.{HeapState, HeapView, limit, set_cells, add_object, add_transient, area_end_address, area_end, goes_back, has_room_for, writes_for}
+use Rattle.jc_heap.specs.Heap.{HeapState, HeapView, limit, set_cells, add_object, add_transient, area_end_address, area_end, area_limit, goes_back, has_room_for, writes_for}
 use Rattle.jc_heap.specs.Heap.{heap_after_change, heap_after_begin, heap_after_commit, heap_after_abort, end_address}
 use Rattle.jc_heap.specs.declared.place.Place.{Place}
 use Rattle.jc_heap.specs.declared.place.AppletEntry.{AppletEntry}
@@ -131,7 +130,7 @@ refusal_of_object v kind long = refusal_of_space v (object_size kind long) (end_
 
 -- why a new transient object with n cells is: first its area has no space
 abbrev pub refusal_of_transient : HeapView → ClearEvent → ℕ → Option HeapRefusal
-refusal_of_transient v event long = if nat_lt area_size (area_end v.now event + long) then Some NoTransientSpace else refusal_of_space v transient_size
+refusal_of_transient v event long = if nat_lt (area_limit v.now event) (area_end v.now event + long) then Some NoTransientSpace else refusal_of_space v transient_size
     (end_address ∷ area_end_address event ∷ [])
 
 -- why a new package is

@@ -2,10 +2,10 @@
 use Rattle.std.specs.Prelude.{ℕ, ◌+◌, ◌≡◌, ◌≤◌, ◌<◌, ◌==◌, ◌⊎◌, Bool, true, List, [], ◌∷◌, ◌++◌, length, slice_index, if◌then◌else◌, Some}
 use Rattle.jc_words.specs.Layout.{most_packages, most_applets}
 use Rattle.jc_transient.specs.declared.cell.ClearEvent.{ClearEvent}
-use Rattle.jc_transient.specs.State.{area_size}
+use Rattle.jc_transient.specs.State.{AreSizes}
 use Rattle.jc_heap.specs.declared.object.Kind.TheVariants.{ReferenceArray}
 use Rattle.jc_heap.specs.Object.{Item, facts_of, cells_of, event_number}
-use Rattle.jc_heap.specs.Heap.{HeapState, area_end, heap_item_at, facts, is_allocated, IsObject}
+use Rattle.jc_heap.specs.Heap.{HeapState, area_end, area_limit, buffer_word, cells_word, heap_item_at, facts, is_allocated, IsObject}
 use Rattle.jc_heap.specs.Components.{record_of}
 
 -- the item is an object whose cells lie in the area of this event
@@ -21,10 +21,10 @@ abbrev pub all_cells_in : ClearEvent → List (ℕ × Item) → ℕ
 all_cells_in event [] = 0
 all_cells_in event (e ∷ es) = cells_in event e.1 + all_cells_in event es
 
--- an item's cells in an event's area, where it has any, begin at this place and end within the area
-pub record FitsAt (event : ClearEvent) (place : ℕ) (t : Item) : Type 0 where
+-- an item's cells in an event's area, where it has any, begin at this place and end within as many cells as the area has
+pub record FitsAt (event : ClearEvent) (size place : ℕ) (t : Item) : Type 0 where
   pub begins : lies_in event t ≡ true → (facts_of t).place ≡ place
-  pub ends : place + cells_in event t ≤ area_size
+  pub ends : place + cells_in event t ≤ size
 
 -- the objects of an event have the cells of its area: each begins where those before it end, the area ends where
 -- they all end, and they have no more cells than there are
@@ -32,7 +32,7 @@ pub record IsFilledArea (h : HeapState) (event : ClearEvent) : Type 0 where
   pub places : (before after : List (ℕ × Item)) (r : ℕ) (t : Item) → h.items ≡ before ++ (r, t) ∷ after → lies_in event t ≡ true
       → (facts_of t).place ≡ all_cells_in event before
   pub end : area_end h event ≡ all_cells_in event h.items
-  pub fits : area_end h event ≤ area_size
+  pub fits : area_end h event ≤ area_limit h event
 
 -- null or an object
 abbrev pub IsReference : HeapState → ℕ → Type 0
@@ -55,8 +55,8 @@ abbrev pub AreDistinct : List ℕ → Type 0
 AreDistinct addresses = (j k : ℕ) → j < k → k < length addresses → slice_index addresses j ≡ slice_index addresses k → ⊥
 
 -- what a heap's words say of one another: there are places for the packages and the applets, the packages'
--- addresses are those of their records, which have their words, references are references, and the transient objects have
--- their cells
+-- addresses are those of their records, which have their words, references are references, the areas have sizes that they may have, and the
+-- transient objects have their cells
 pub record IsConsistent (h : HeapState) : Type 0 where
   pub few_packages : h.counts.0 ≤ most_packages
   pub few_applets : h.counts.1 ≤ most_applets
@@ -64,6 +64,7 @@ pub record IsConsistent (h : HeapState) : Type 0 where
   pub records : AreRecords h h.packages
   pub distinct : AreDistinct h.packages
   pub references : (r : ℕ) → HoldsReferences h (heap_item_at h r)
+  pub sizes : AreSizes (cells_word h) (buffer_word h)
   pub areas : (event : ClearEvent) → IsFilledArea h event
 
 -- in a whole heap a transient object's cells lie below the end of its event's area, and no two objects share one

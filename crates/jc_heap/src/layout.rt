@@ -17,6 +17,12 @@ pub const LENGTH: u16 = 3;
 /// The first word of the header of a persistent array of references.
 pub const REFERENCES: u16 = 5;
 
+/// The word with the number of cells that the objects of each event can have; 0 says as many as are usual.
+pub const CELLS_WORD: u16 = 13;
+
+/// The word with the number of cells of the APDU buffer; 0 says as many as are usual.
+pub const BUFFER_WORD: u16 = 14;
+
 /// The word with the end of an event's area.
 pub fn area_word(event: ClearEvent) -> u16
     ensures { result ≡ area_end_address event }

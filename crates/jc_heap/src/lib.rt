@@ -20,6 +20,7 @@ mod record;
 mod refusal;
 mod registered;
 pub mod registry_layout;
+pub mod sizes;
 mod statics;
 mod touch;
 pub mod walk;

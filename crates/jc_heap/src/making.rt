@@ -1,9 +1,8 @@
 //! New objects.
 ghost use Rattle.std.specs.Prelude.{nat_le, ◌≡◌, [], ◌∷◌, false, IfOk, Some, ◌+◌, ◌-◌};
 ghost use Rattle.jc_words.specs.Refusals.{IsWithinFuse};
-ghost use Rattle.jc_transient.specs.State.{area_size};
 ghost use Rattle.jc_heap.specs.Object.{AnObject, new_object, object_size, new_transient, header_word};
-ghost use Rattle.jc_heap.specs.Heap.{is_allocated, heap_item_at, area_end, limit};
+ghost use Rattle.jc_heap.specs.Heap.{is_allocated, heap_item_at, area_end, area_limit, limit};
 ghost use Rattle.jc_heap.specs.Moves.{AddTransient, PerformsMovesUnless, new_move, refusal_of_object, refusal_of_transient};
 ghost use Rattle.jc_heap.specs.Completions.{after_making};
 
@@ -12,7 +11,7 @@ use crate::heap::Heap;
 use crate::layout::{HEADER, area_word};
 use crate::object::{Kind, words_of_cells};
 use crate::refusal::HeapRefusal;
-use jc_transient::{AREA_CELLS, ClassWord, ClearEvent, OwnerWord, Ref};
+use jc_transient::{ClassWord, ClearEvent, OwnerWord, Ref};
 use jc_words::WordStore;
 use jc_words::layout::TOP;
 
@@ -33,12 +32,13 @@ impl<S: WordStore> Heap<S> {
         self.journal.passed_writes()
     }
 
-    /// How many cells of an event's area new objects can still take, of 2048.
+    /// How many cells of an event's area new objects can still take.
     pub fn free_cells(&self, event: ClearEvent) -> u16
         requires { self.now.down ≡ false }
-        ensures { result ≡ area_size - area_end self.now.now event }
+        ensures { result ≡ area_limit self.now.now event - area_end self.now.now event }
     {
-        AREA_CELLS.saturating_sub(self.journal.read(area_word(event)))
+        let end = self.journal.read(area_word(event));
+        self.area_limit(event).saturating_sub(end)
     }
 
     /// Whether there is space for a new persistent object of a kind, with n cells.
@@ -107,7 +107,7 @@ impl<S: WordStore> Heap<S> {
         let end_word = area_word(event);
         let place = self.journal.read(end_word);
         let area_end = u32::from(place) + u32::from(length);
-        if area_end > u32::from(AREA_CELLS) {
+        if area_end > u32::from(self.area_limit(event)) {
             return Err(HeapRefusal::NoTransientSpace);
         }
         let top = self.journal.read(TOP);

@@ -3,7 +3,6 @@ use Rattle.std.proofs.Common.{◌≡◌, ◌≤◌, ℕ, ◌+◌, ◌/◌, ◌%�
 use Rattle.std.proofs.Common.{arith, if◌then◌else◌, Some, lit<}
 use Rattle.std.proofs.lemmas.Bool.{cases_eq, cases_Bool, eq-eqb, ne_eqb, false≢true, le-ltb, cases_lt, eqb-true, or_cases}
 use Rattle.jc_words.specs.Layout.{top_address}
-use Rattle.jc_transient.specs.State.{area_size}
 use Rattle.jc_transient.specs.declared.cell.ClearEvent.{ClearEvent}
 use Rattle.jc_transient.specs.declared.cell.ClearEvent.TheVariants.{Reset, Deselect}
 use Rattle.jc_heap.proofs.Images.{no_event}
@@ -49,8 +48,8 @@ module _ (ws : List ℕ) (at : ℕ) (event : ClearEvent) (fits : get_or ws top_a
   package_cells there = ap (λ b. if b then (facts_of (item_from ws at)).length else 0) (package_lies there)
 
   -- a package has no cells in an area
-  pub package_fits : (place : ℕ) → place ≤ area_size → is_package (package_addresses (image ws)) at ≡ true → FitsAt event place (item_from ws at)
-  package_fits place room there = record {
+  pub package_fits : (size place : ℕ) → place ≤ size → is_package (package_addresses (image ws)) at ≡ true → FitsAt event size place (item_from ws at)
+  package_fits size place room there = record {
     begins = λ lies. absurd (false≢true (sym (package_lies there) ∙ lies));
     ends = omega (arith, room, package_cells there);
   }

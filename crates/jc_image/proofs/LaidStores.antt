@@ -20,6 +20,7 @@ use Rattle.jc_commit.proofs.TornWrites.{ended}
 use Rattle.jc_commit.proofs.Views.{touched_none}
 use Rattle.jc_heap.specs.Image.{IsWellFormed}
 use Rattle.jc_heap.specs.Heap.{heap_of, heap_view}
+use Rattle.jc_image.specs.declared.laying.ImageRoom.{ImageRoom}
 use Rattle.jc_image.specs.Laying.{IsOfBytes, first_free, new_image_words, written_image_prefix, unsealed_heap, unsealed_view, IsPartlyWritten}
 use Rattle.jc_image.proofs.LaidImages.{length-laid, front-word, current-laid, good-laid, limit-laid, heap_of-laid, IsLaid-laid, count-laid}
 
@@ -37,47 +38,47 @@ stopped_none w n none current =
     ap (λ ws. with_words w (take n ws)) writes ∙ ended n w
 
 -- some words laid: none, or the first one
-pub unmarked : (capacity : ℕ) (text old new : List ℕ) → IsPartlyWritten capacity text old new → (new ≡ old) ⊎ (get_or new 0 0 ≡ 0)
-unmarked capacity text old new (zero, le, e) = inl e
-unmarked capacity text old new (suc k, le, e) =
-    let some : 0 < length (take (suc k) (new_image_words (length old) capacity text)) = omega
-    (arith, length-take-le (suc k) (new_image_words (length old) capacity text) (omega (arith, le, length-laid (length old) capacity text))) in
+pub unmarked : (room : ImageRoom) (text old new : List ℕ) → IsPartlyWritten room text old new → (new ≡ old) ⊎ (get_or new 0 0 ≡ 0)
+unmarked room text old new (zero, le, e) = inl e
+unmarked room text old new (suc k, le, e) =
+    let some : 0 < length (take (suc k) (new_image_words (length old) room text)) = omega
+    (arith, length-take-le (suc k) (new_image_words (length old) room text) (omega (arith, le, length-laid (length old) room text))) in
     inr
     (ap (λ l. get_or l 0 0) e
-    ∙ get_or_append_left (take (suc k) (new_image_words (length old) capacity text)) (drop (suc k) old) 0 0 some
-    ∙ get_or-take (suc k) (new_image_words (length old) capacity text) 0 0 (omega arith)
-    ∙ front-word (length old) capacity text 0 (lit< tt))
+    ∙ get_or_append_left (take (suc k) (new_image_words (length old) room text)) (drop (suc k) old) 0 0 some
+    ∙ get_or-take (suc k) (new_image_words (length old) room text) 0 0 (omega arith)
+    ∙ front-word (length old) room text 0 (lit< tt))
 
-module _ (capacity : ℕ) (text old w : List ℕ) (bytes : IsOfBytes text) (enough : least_size ≤ length old) (may : IsCapacity capacity)
-    (fits : first_free (length text) ≤ heap_end (length old) capacity)
-    (is : w ≡ written_image_prefix (first_free (length text)) (length old) capacity text old) where
+module _ (room : ImageRoom) (text old w : List ℕ) (bytes : IsOfBytes text) (enough : least_size ≤ length old) (may : IsCapacity room.capacity)
+    (fits : first_free (length text) ≤ heap_end (length old) room.capacity)
+    (is : w ≡ written_image_prefix (first_free (length text)) (length old) room text old) where
   abbrev rest : List ℕ
   rest = drop (first_free (length text)) old
 
-  is_all : w ≡ new_image_words (length old) capacity text ++ rest
-  is_all = is ∙ ap (λ l. l ++ rest) (take_all (first_free (length text)) (new_image_words (length old) capacity text) (omega (arith, length-laid (length old) capacity text)))
+  is_all : w ≡ new_image_words (length old) room text ++ rest
+  is_all = is ∙ ap (λ l. l ++ rest) (take_all (first_free (length text)) (new_image_words (length old) room text) (omega (arith, length-laid (length old) room text)))
 
-  long_all : length (new_image_words (length old) capacity text ++ rest) ≡ length old
+  long_all : length (new_image_words (length old) room text ++ rest) ≡ length old
   long_all = omega (
     arith,
-    length-append (new_image_words (length old) capacity text) rest,
-    length-laid (length old) capacity text,
+    length-append (new_image_words (length old) room text) rest,
+    length-laid (length old) room text,
     length-drop (first_free (length text)) old,
     fits,
-    heap_end_within (length old) capacity,
+    heap_end_within (length old) room.capacity,
   )
 
   pub length_all : length w ≡ length old
   length_all = ap length is_all ∙ long_all
 
   count_all : count_of w ≡ 0
-  count_all = ap (λ l. get_or l 3 0) is_all ∙ count-laid (length old) capacity text bytes rest long_all enough may fits
+  count_all = ap (λ l. get_or l 3 0) is_all ∙ count-laid (length old) room text bytes rest long_all enough may fits
 
   current_all : get_or w version_address 0 ≡ version
-  current_all = ap (λ l. get_or l version_address 0) is_all ∙ current-laid (length old) capacity text bytes rest long_all enough may fits
+  current_all = ap (λ l. get_or l version_address 0) is_all ∙ current-laid (length old) room text bytes rest long_all enough may fits
 
   pub good_all : IsGoodLog w
-  good_all = subst IsGoodLog (sym is_all) (good-laid (length old) capacity text bytes rest long_all enough may fits)
+  good_all = subst IsGoodLog (sym is_all) (good-laid (length old) room text bytes rest long_all enough may fits)
 
   recovered_all : recovered_of w ≡ plain_of w
   recovered_all = recovered_plain w count_all
@@ -91,24 +92,24 @@ module _ (capacity : ℕ) (text old w : List ℕ) (bytes : IsOfBytes text) (enou
 
   pub laid_all : IsWellFormed (recovered_of w)
   laid_all = subst IsWellFormed (sym recovered_all) (subst (λ l. IsWellFormed (plain_of l)) (sym is_all)
-      (IsLaid-laid (length old) capacity text bytes rest long_all enough may fits))
+      (IsLaid-laid (length old) room text bytes rest long_all enough may fits))
 
-  pub limit_all : limit_of w ≡ heap_end (length old) capacity
-  limit_all = ap limit_of is_all ∙ limit-laid (length old) capacity text bytes rest long_all enough may fits
+  pub limit_all : limit_of w ≡ heap_end (length old) room.capacity
+  limit_all = ap limit_of is_all ∙ limit-laid (length old) room text bytes rest long_all enough may fits
 
-  heap_all : heap_of (recovered_of w) ≡ unsealed_heap (length old) capacity text
-  heap_all = ap heap_of recovered_all ∙ ap (λ l. heap_of (plain_of l)) is_all ∙ heap_of-laid (length old) capacity text bytes rest long_all enough may fits
+  heap_all : heap_of (recovered_of w) ≡ unsealed_heap (length old) room text
+  heap_all = ap heap_of recovered_all ∙ ap (λ l. heap_of (plain_of l)) is_all ∙ heap_of-laid (length old) room text bytes rest long_all enough may fits
 
-  pub view_all : (p : ℕ) (r : Refusals) → heap_view (recovered_journal w p r) (heap_end (length old) capacity) ≡ unsealed_view (length old) capacity text p r
+  pub view_all : (p : ℕ) (r : Refusals) → heap_view (recovered_journal w p r) (heap_end (length old) room.capacity) ≡ unsealed_view (length old) room text p r
   view_all p r =
       let none : touched_of w ≡ [] = touched_none w count_all in
       let still : migration w ≡ [] = ap (λ (v : ℕ). if v == first_version then (capacity_address, front_capacity) ∷ (journal_address, log_start)
       ∷ (version_address, version) ∷ [] else []) current_all in
       let passed : saturating_count p ((if length (touched_of w) == 0 then 0 else length (touched_of w) + 1) + length (migration w)) ≡ p =
       (λ i. saturating_count p ((if length (none i) == 0 then 0 else length (none i) + 1) + length (still i))) ∙ (omega arith) in
-      let heap : heap_of (migrated 3 (recovered_of w)) ≡ unsealed_heap (length old) capacity text = ap heap_of moved_all ∙ heap_all in
-      λ i. record { now = heap i; durable = heap i; begun = false; touched = []; down = false; passed = passed i; refusals = r; size = heap_end (length old) capacity }
+      let heap : heap_of (migrated 3 (recovered_of w)) ≡ unsealed_heap (length old) room text = ap heap_of moved_all ∙ heap_all in
+      λ i. record { now = heap i; durable = heap i; begun = false; touched = []; down = false; passed = passed i; refusals = r; size = heap_end (length old) room.capacity }
 
   -- what an opening leaves of these words is these words
-  pub part_after : (new : List ℕ) (n : ℕ) → new ≡ with_words w (take n (opening_writes w)) → IsPartlyWritten capacity text old new
+  pub part_after : (new : List ℕ) (n : ℕ) → new ≡ with_words w (take n (opening_writes w)) → IsPartlyWritten room text old new
   part_after new n e = (first_free (length text), omega arith, e ∙ stopped_none w n count_all current_all ∙ is)

@@ -14,7 +14,7 @@ use Rattle.jc_heap.specs.Stored.{HoldsHeap}
 use Rattle.jc_image.specs.Laying.{sealed_heap, sealed_view, heap_after_refused_seal}
 use Rattle.jc_heap.proofs.Holding.{IsStoreOf, holds}
 use Rattle.jc_heap.proofs.Images.{text-same}
-use Rattle.jc_heap.proofs.Images.{unread-same, capacity-same}
+use Rattle.jc_heap.proofs.Images.{lasting-same, capacity-same}
 use Rattle.jc_words.specs.Layout.{version_address, journal_address}
 use Rattle.std.specs.Prelude.{nat_lt}
 use Rattle.jc_heap.proofs.Records.{take-set_comm}
@@ -66,7 +66,7 @@ read-magic img v h = λ k. record {
   area_ends = (word img v reset_end_address (lit< tt) k, word img v deselect_end_address (lit< tt) k);
   top = length-set img 0 v k;
   capacity = capacity-same img (set img 0 v) (ap (nat_lt journal_address) (length-set img 0 v)) (word img v version_address (lit< tt)) (λ a above below. word img v a (omega arith)) k;
-  unread = unread-same img (set img 0 v) (word img v 4 (lit< tt)) (λ a above below. word img v a (omega arith)) k;
+  lasting = lasting-same img (set img 0 v) (word img v 4 (lit< tt)) (λ a above below. word img v a (omega arith)) k;
 }
 
 image-magic : (ws : List ℕ) (v : ℕ) → image (set ws 0 v) ≡ set (image ws) 0 v

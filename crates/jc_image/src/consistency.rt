@@ -10,6 +10,7 @@ use crate::marks::{mark_records, no_marks};
 use crate::package_table::table_agrees;
 use crate::references::are_references;
 use jc_commit::Journal;
+use jc_heap::sizes::has_sizes;
 use jc_words::WordStore;
 use jc_words::layout::{APPLETS, MOST_APPLETS, MOST_PACKAGES, PACKAGES};
 
@@ -41,6 +42,9 @@ pub(crate) fn is_consistent<S: WordStore>(journal: &Journal<S>, marks: &mut [boo
         return false;
     }
     if !counts_fit(journal) {
+        return false;
+    }
+    if !has_sizes(journal) {
         return false;
     }
     table_agrees(journal, marks) && are_references(journal, marks, &named)

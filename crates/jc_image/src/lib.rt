@@ -13,6 +13,6 @@ mod package_table;
 mod references;
 mod steps;
 
-pub use laying::{first_free, lay, seal};
+pub use laying::{ImageRoom, first_free, lay, seal};
 pub use listing::{AppletName, PackageName, applet_at, package_at};
 pub use opening::OpenImage;

@@ -1,11 +1,10 @@
 //! The addresses at which the records of a heap begin, and what their cells name.
 ghost use Rattle.std.specs.Prelude.{ℕ, ◌≡◌, ◌<◌, ◌≤◌, ◌+◌, ◌↔◌, IsTrue, IsFalse, IfSome, IfNone, false, length, slice_index, slice_index_or};
 ghost use Rattle.jc_words.specs.Layout.{top_address};
-ghost use Rattle.jc_transient.specs.State.{area_size};
 ghost use Rattle.jc_transient.specs.declared.cell.ClearEvent.{ClearEvent};
 ghost use Rattle.jc_transient.specs.declared.cell.ClearEvent.TheVariants.{Reset, Deselect};
 ghost use Rattle.jc_heap.specs.Image.{IsWellFormed};
-ghost use Rattle.jc_heap.specs.Heap.{heap_of, heap_item_at, is_allocated};
+ghost use Rattle.jc_heap.specs.Heap.{heap_of, heap_item_at, is_allocated, area_limit, area_sizes};
 ghost use Rattle.jc_heap.specs.Whole.{FitsAt, HoldsReferences, IsFilledArea, cells_in};
 ghost use Rattle.jc_image.specs.Steps.{HasBounds, HasRecord, item_from, AreReferences};
 
@@ -13,8 +12,9 @@ use crate::areas::{Places, ends_at, places_behind};
 use crate::references::mark_named;
 use crate::steps::{end_of_record, first_record};
 use jc_commit::Journal;
+use jc_heap::sizes::sizes_in;
 use jc_heap::walk::begins_package;
-use jc_transient::ClearEvent;
+use jc_transient::{ClearEvent, RamSizes};
 use jc_words::WordStore;
 use jc_words::layout::TOP;
 
@@ -31,23 +31,27 @@ pub(crate) fn no_marks() -> [bool; ALL]
     marks
 }
 
-// Marks what the record at an address names. The places after its cells; none, where these are not at the given places,
-// or what it names lies nowhere below the top.
+// Marks what the record at an address names. The places after its cells; none, where these are not at the given places
+// of areas of these sizes, or what it names lies nowhere below the top.
 fn visit<S: WordStore>(
     journal: &Journal<S>,
     named: &mut [bool; ALL],
     at: u16,
     top: u16,
     places: Places,
+    sizes: RamSizes,
 ) -> Option<Places>
     requires bounds { HasBounds journal.now.plain }
     requires small { length journal.now.plain < 65536 }
     requires here { HasRecord journal.now.plain at }
     requires is_top { top ≡ slice_index journal.now.plain top_address }
-    requires room { (places.reset ≤ area_size) × (places.deselect ≤ area_size) }
+    requires sizes { sizes ≡ area_sizes (heap_of journal.now.plain) }
+    requires room { (places.reset ≤ sizes.reset) × (places.deselect ≤ sizes.deselect) }
     ensures long { length named.new ≡ 65536 }
-    ensures fits { IfSome result (λ _. FitsAt Reset places.reset (item_from journal.now.plain at)
-        × FitsAt Deselect places.deselect (item_from journal.now.plain at)) }
+    ensures fits { IfSome result (λ _. FitsAt Reset (area_limit (heap_of journal.now.plain) Reset)
+        places.reset (item_from journal.now.plain at)
+        × FitsAt Deselect (area_limit (heap_of journal.now.plain) Deselect)
+        places.deselect (item_from journal.now.plain at)) }
     ensures next { IfSome result (λ next. (next.reset ≡ places.reset
         + cells_in Reset (item_from journal.now.plain at)) × (next.deselect ≡ places.deselect
         + cells_in Deselect (item_from journal.now.plain at))) }
@@ -56,14 +60,16 @@ fn visit<S: WordStore>(
     ensures held { IfSome result (λ _. AreReferences (heap_of journal.now.plain) named.new
         ↔ (AreReferences (heap_of journal.now.plain) named.old
         × HoldsReferences (heap_of journal.now.plain) (item_from journal.now.plain at))) }
-    ensures none { IfNone result (FitsAt Reset places.reset (item_from journal.now.plain at)
-        → FitsAt Deselect places.deselect (item_from journal.now.plain at)
+    ensures none { IfNone result (FitsAt Reset (area_limit (heap_of journal.now.plain) Reset)
+        places.reset (item_from journal.now.plain at)
+        → FitsAt Deselect (area_limit (heap_of journal.now.plain) Deselect)
+        places.deselect (item_from journal.now.plain at)
         → HoldsReferences (heap_of journal.now.plain) (item_from journal.now.plain at) → ⊥) }
 {
     if begins_package(journal, at) {
         return Some(places);
     }
-    let next = places_behind(journal, at, places)?;
+    let next = places_behind(journal, at, places, sizes)?;
     if !mark_named(journal, named, at, top) {
         return None;
     }
@@ -100,6 +106,7 @@ pub(crate) fn mark_records<S: WordStore>(
         (heap_item_at (heap_of journal.now.plain) r)) → ⊥ }
 {
     let top = journal.read(TOP);
+    let sizes = sizes_in(journal);
     let mut at = first_record(journal);
     let mut places = Places {
         reset: 0,
@@ -109,7 +116,7 @@ pub(crate) fn mark_records<S: WordStore>(
         let Some(end) = end_of_record(journal, at, top) else {
             return false;
         };
-        let Some(next) = visit(journal, named, at, top, places) else {
+        let Some(next) = visit(journal, named, at, top, places, sizes) else {
             return false;
         };
         marks[usize::from(at)] = true;

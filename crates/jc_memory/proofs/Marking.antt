@@ -1,14 +1,16 @@
 -- Marks stay true: every change of a heap but an abort keeps its objects.
 use Rattle.std.proofs.Common.{◌≡◌, ℕ, ◌+◌, ◌<◌, ◌≤◌, Bool, true, false, List, [], ◌∷◌, sym, ◌∙◌, ap, subst, arith, Option, None, Result, inl, inr, set}
-use Rattle.std.specs.Prelude.{◌⊎◌}
+use Rattle.std.specs.Prelude.{◌⊎◌, slice_index}
 use Rattle.std.proofs.lemmas.Bool.{true≢false, cases_lt, cases_eq}
 use Rattle.std.proofs.lemmas.List.{get_or-set_other}
 use Rattle.jc_transient.specs.declared.cell.ClearEvent.{ClearEvent}
+use Rattle.jc_transient.specs.declared.sizes.RamSizes.{RamSizes}
+use Rattle.jc_transient.specs.State.{ram_sizes}
 use Rattle.jc_heap.specs.declared.refusal.ChangeRefusal.{ChangeRefusal}
 use Rattle.jc_heap.specs.declared.refusal.HeapRefusal.{HeapRefusal}
 use Rattle.jc_heap.specs.declared.object.Kind.{Kind}
 use Rattle.jc_heap.specs.Object.{is_object, new_transient, transient_size}
-use Rattle.jc_heap.specs.Heap.{HeapState, HeapView, SameShape, HasEnd, IsObject, heap_after_abort, heap_item_at, area_end, add_object, add_transient}
+use Rattle.jc_heap.specs.Heap.{HeapState, HeapView, SameShape, HasEnd, IsObject, heap_after_abort, heap_item_at, area_end, area_sizes, add_object, add_transient}
 use Rattle.jc_heap.specs.Moves.{Move, Write, SetPlaces, WriteNonAtomic, SetCells, AddObject, AddTransient, AddPackage, Begin, Commit, Abort, apply_move}
 use Rattle.jc_heap.specs.Moves.{PerformsMovesUnless, PerformsMoves}
 use Rattle.jc_heap.specs.Completions.{after_making, after_change, after_step}
@@ -55,32 +57,40 @@ stays old new r shape end there = elim (cases_lt r old.top) [
   | inr above ↦ absurd (true≢false (sym there ∙ ap is_object (heap_item_at-absent old r (end r above))))
 ]
 
--- a whole heap with an object at each of these addresses
-abbrev pub Known : List Bool → HeapView → Type 0
-Known marks v = AreConsistent v × ((r : ℕ) → is_marked marks r ≡ true → IsObject v.now r)
+-- a whole heap with an object at each of these addresses, whose words say these sizes
+abbrev pub Known : List Bool → RamSizes → HeapView → Type 0
+Known marks sizes v = AreConsistent v × ((r : ℕ) → is_marked marks r ≡ true → IsObject v.now r) × (sizes ≡ area_sizes v.now)
 
-abbrev pub KnownWhileUp : List Bool → HeapView → Type 0
-KnownWhileUp marks v = (v.down ≡ false → AreConsistent v) × AreObjects marks v
+abbrev pub KnownWhileUp : List Bool → RamSizes → HeapView → Type 0
+KnownWhileUp marks sizes v = (v.down ≡ false → AreConsistent v) × AreObjects marks v × (v.down ≡ false → sizes ≡ area_sizes v.now)
 
-known : (marks : List Bool) (m : Move) (v : HeapView) → MoveIsLegal v m → IsForth m → Known marks v → Known marks (apply_move m v)
-known marks m v suits f k = (keeps m v suits k.0, λ r marked. stays v.now (apply_move m v).now r (forth m v f) k.0.now.end (k.1 r marked))
+-- heaps of one shape have areas of one size
+pub same_sizes : (old new : HeapState) → SameShape old new → area_sizes old ≡ area_sizes new
+same_sizes old new shape = ap (λ (l : List ℕ). ram_sizes (slice_index l 1) (slice_index l 2)) (sym shape.lasting)
 
-pub known_making : {A : Type 0} (marks : List Bool) (reason : Option HeapRefusal) (old new : HeapView) (result : Result A HeapRefusal) (m : Move) (a : A) →
-    PerformsMovesUnless reason old (after_making result new) (m ∷ []) a → (reason ≡ None → MoveIsLegal old m) → IsForth m → Known marks old
-    → KnownWhileUp marks new
-known_making marks reason old new result m a made suits f k =
-    let all = made_by (Known marks) reason old new result m a made (λ none. known marks m old (suits none) f k) k in (λ up. (all up).0, λ up. (all up).1)
+known : (marks : List Bool) (sizes : RamSizes) (m : Move) (v : HeapView) → MoveIsLegal v m → IsForth m → Known marks sizes v → Known marks sizes (apply_move m v)
+known marks sizes m v suits f k = (
+  keeps m v suits k.0,
+  λ r marked. stays v.now (apply_move m v).now r (forth m v f) k.0.now.end (k.1 r marked),
+  k.2 ∙ same_sizes v.now (apply_move m v).now (forth m v f),
+)
 
-pub known_change : {A : Type 0} (marks : List Bool) (reason : Option HeapRefusal) (old new : HeapView) (result : Result A ChangeRefusal) (m : Move) (a : A) →
-    PerformsMovesUnless reason old (after_change result new) (m ∷ []) a → (reason ≡ None → MoveIsLegal old m) → IsForth m → Known marks old
-    → KnownWhileUp marks new
-known_change marks reason old new result m a made suits f k =
-    let all = changed_by (Known marks) reason old new result m a made (λ none. known marks m old (suits none) f k) k in (λ up. (all up).0, λ up. (all up).1)
+pub known_making : {A : Type 0} (marks : List Bool) (sizes : RamSizes) (reason : Option HeapRefusal) (old new : HeapView) (result : Result A HeapRefusal) (m : Move) (a : A) →
+    PerformsMovesUnless reason old (after_making result new) (m ∷ []) a → (reason ≡ None → MoveIsLegal old m) → IsForth m → Known marks sizes old
+    → KnownWhileUp marks sizes new
+known_making marks sizes reason old new result m a made suits f k =
+    let all = made_by (Known marks sizes) reason old new result m a made (λ none. known marks sizes m old (suits none) f k) k in (λ up. (all up).0, λ up. (all up).1, λ up. (all up).2)
 
-pub known_step : {A E : Type 0} (marks : List Bool) (old new : HeapView) (result : Result A E) (m : Move) (a : A) →
-    PerformsMoves old (after_step result new) (m ∷ []) a → MoveIsLegal old m → IsForth m → Known marks old → KnownWhileUp marks new
-known_step marks old new result m a made suits f k =
-    let all = stepped_by (Known marks) old new result m a made (known marks m old suits f k) k in (λ up. (all up).0, λ up. (all up).1)
+pub known_change : {A : Type 0} (marks : List Bool) (sizes : RamSizes) (reason : Option HeapRefusal) (old new : HeapView) (result : Result A ChangeRefusal) (m : Move) (a : A) →
+    PerformsMovesUnless reason old (after_change result new) (m ∷ []) a → (reason ≡ None → MoveIsLegal old m) → IsForth m → Known marks sizes old
+    → KnownWhileUp marks sizes new
+known_change marks sizes reason old new result m a made suits f k =
+    let all = changed_by (Known marks sizes) reason old new result m a made (λ none. known marks sizes m old (suits none) f k) k in (λ up. (all up).0, λ up. (all up).1, λ up. (all up).2)
+
+pub known_step : {A E : Type 0} (marks : List Bool) (sizes : RamSizes) (old new : HeapView) (result : Result A E) (m : Move) (a : A) →
+    PerformsMoves old (after_step result new) (m ∷ []) a → MoveIsLegal old m → IsForth m → Known marks sizes old → KnownWhileUp marks sizes new
+known_step marks sizes old new result m a made suits f k =
+    let all = stepped_by (Known marks sizes) old new result m a made (known marks sizes m old suits f k) k in (λ up. (all up).0, λ up. (all up).1, λ up. (all up).2)
 
 -- one mark more
 pub one_more : (marks : List Bool) (v : HeapView) (r : ℕ) → AreObjects marks v → (v.down ≡ false → IsObject v.now r) → AreObjects (set marks r true) v

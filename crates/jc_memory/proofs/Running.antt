@@ -49,7 +49,7 @@ two_parts d place zeros bytes fits =
     ∙ ap (with_cells d place) (ap (λ l. front ++ l) (zeros_are zeros) ∙ sym (map-append number_of bytes (replicate zeros 0)))
 
 -- bytes and zeros after them
-pub fill_two : (event : ClearEvent) (ram mid new : RamState) (place zeros : ℕ) (bytes : List ℕ) → HasSizes ram → place + length bytes ≤ area_size →
+pub fill_two : (event : ClearEvent) (ram mid new : RamState) (place zeros : ℕ) (bytes : List ℕ) → HasSizes ram → place + length bytes ≤ area_size ram event →
     mid ≡ with_area ram event (with_cells (area ram event) place (map number_of bytes)) →
     new ≡ with_area mid event (with_cells (area mid event) (place + length bytes) (replicate zeros (Short (pos 0)))) →
     new ≡ with_area ram event (with_cells (area ram event) place (map number_of (bytes ++ replicate zeros 0)))
@@ -62,7 +62,7 @@ fill_two Deselect ram mid new place zeros bytes sizes fits mid_is new_is =
 
 -- the same for the first cells of a transient object
 pub filled_from : (event : ClearEvent) (s : MemoryState) (mid new : RamState) (r place zeros : ℕ) (bytes : List ℕ) → HasSizes s.ram
-    → (facts s.heap.now r).event ≡ Some event → place ≡ (facts s.heap.now r).place → place + length bytes ≤ area_size →
+    → (facts s.heap.now r).event ≡ Some event → place ≡ (facts s.heap.now r).place → place + length bytes ≤ area_size s.ram event →
     mid ≡ with_area s.ram event (with_cells (area s.ram event) place (map number_of bytes)) →
     new ≡ with_area mid event (with_cells (area mid event) (place + length bytes) (replicate zeros (Short (pos 0)))) →
     new ≡ ram_after_set s.ram (facts s.heap.now r).event ((facts s.heap.now r).place + 0) (map number_of (bytes ++ replicate zeros 0))

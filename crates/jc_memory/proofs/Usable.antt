@@ -7,7 +7,9 @@ use Rattle.std.proofs.lemmas.Grind.{common_steps}
 use Rattle.std.specs.Prelude.{replicate, nat_lt}
 use Rattle.jc_words.specs.Layout.{most_applets}
 use Rattle.jc_transient.specs.declared.cell.ClearEvent.{ClearEvent}
-use Rattle.jc_transient.specs.State.{area_size}
+use Rattle.jc_transient.specs.declared.cell.ClearEvent.TheVariants.{Reset, Deselect}
+use Rattle.jc_transient.specs.declared.sizes.RamSizes.{RamSizes}
+use Rattle.jc_transient.specs.State.{AreSizes, RamState, area_size, ram_sizes, size_in}
 use Rattle.jc_heap.specs.declared.object.Kind.{Kind}
 use Rattle.jc_heap.specs.declared.object.Kind.TheVariants.{Instance, ByteArray, ReferenceArray}
 use Rattle.jc_heap.specs.declared.object.Facts.{Facts}
@@ -18,7 +20,7 @@ use Rattle.jc_heap.specs.declared.refusal.ChangeRefusal.TheVariants as change
 use Rattle.jc_heap.specs.declared.refusal.HeapRefusal.{HeapRefusal}
 use Rattle.jc_heap.specs.declared.refusal.HeapRefusal.TheVariants as making
 use Rattle.jc_heap.specs.Object.{facts_of}
-use Rattle.jc_heap.specs.Heap.{HeapState, HeapView, SameShape, HasEnd, heap_item_at, cells, facts, area_end}
+use Rattle.jc_heap.specs.Heap.{HeapState, HeapView, SameShape, HasEnd, heap_item_at, cells, facts, area_end, area_limit, area_sizes, buffer_word, cells_word}
 use Rattle.jc_heap.specs.Whole.{IsConsistent}
 use Rattle.jc_heap.specs.Moves.{Move, WriteNonAtomic, AddTransient, PerformsMoves, PerformsMovesUnless, apply_move, new_move, refusal_of_transient, applet_move}
 use Rattle.jc_heap.specs.Completions.{Completion, Completed, Torn, Attempt, Done, Refused, after_making, after_change, after_step}
@@ -35,7 +37,7 @@ at_rest v whole end some settled =
     record {
       now = now;
       durable = subst IsConsistentHeap (sym settled) now;
-      shape = subst (λ d. SameShape d v.now) (sym settled) (record { items = λ r below. refl; names = λ r below. refl });
+      shape = subst (λ d. SameShape d v.now) (sym settled) (record { items = λ r below. refl; names = λ r below. refl; lasting = refl });
       order = omega (arith, ap (λ h. h.top) settled);
     }
 
@@ -104,7 +106,8 @@ either_size false rest e = refl
 pub transient_suits : (v : HeapView) (kind : Kind) (event : ClearEvent) (class owner long : ℕ) → refusal_of_transient v event long ≡ None
     → MoveIsLegal v (AddTransient kind event class owner long)
 transient_suits v kind event class owner long none lacks =
-    let le = ltb-false area_size (area_end v.now event + long) (either_size (nat_lt area_size (area_end v.now event + long)) _ none) in omega (arith, le, lacks)
+    let le = ltb-false (area_limit v.now event) (area_end v.now event + long)
+    (either_size (nat_lt (area_limit v.now event) (area_end v.now event + long)) _ none) in omega (arith, le, lacks)
 
 no_array : (k : Kind) → k ≡ Instance → k ≡ ReferenceArray → ⊥
 no_array k i r = cc
@@ -133,15 +136,36 @@ byte_suits v r i x whole is = number_suits v r i x whole (no_references (facts v
 pub applet_suits : (v : HeapView) (entry : AppletEntry) → v.now.counts.1 < most_applets → MoveIsLegal v (applet_move v.now entry)
 applet_suits v entry few = (tt, (tt, (tt, (omega (arith, few), tt))))
 
+-- the places of an area are words
+limit_small : (cells buffer : ℕ) → AreSizes cells buffer → (event : ClearEvent) → size_in (ram_sizes cells buffer) event < 65536
+unfolding ram_sizes
+limit_small cells buffer is Reset = omega arith
+limit_small cells buffer is Deselect = let few = is.cells_most in omega (arith, few)
+
 -- what a header says of the cells
-pub header_of : (s : MemoryState) (r : ℕ) (f : Facts) → AreConsistent s.heap → f ≡ facts s.heap.now r
+pub header_of : (s : MemoryState) (r : ℕ) (f : Facts) → AreConsistent s.heap → s.ram.sizes ≡ area_sizes s.heap.now → f ≡ facts s.heap.now r
     → (f.event ≡ None → length (cells s.heap.now r) ≡ f.length) → IsHeaderOf s r f
-header_of s r f whole is persistent = record {
+header_of s r f whole sizes is persistent = record {
   is = is;
   persistent = persistent;
-  transient = λ event e. subst (λ g. g.place + g.length ≤ area_size) (sym is) (within event (ap (λ g. g.event) (sym is) ∙ e));
+  transient = λ event e. subst (λ g. g.place + g.length ≤ area_size s.ram event) (sym is) (within event (ap (λ g. g.event) (sym is) ∙ e));
+  small = λ event e. subst (λ g. g.place + g.length < 65536) (sym is)
+      (let fits = within event (ap (λ g. g.event) (sym is) ∙ e) in let few = small_area event in omega (arith, fits, few));
 }
   where
-    within : (event : ClearEvent) → (facts s.heap.now r).event ≡ Some event → (facts s.heap.now r).place + (facts s.heap.now r).length ≤ area_size
+    small_area : (event : ClearEvent) → area_size s.ram event < 65536
+    small_area event = subst (λ (z : RamSizes). size_in z event < 65536) (sym sizes)
+        (limit_small (cells_word s.heap.now) (buffer_word s.heap.now) whole.now.whole.sizes event)
+
+    within : (event : ClearEvent) → (facts s.heap.now r).event ≡ Some event → (facts s.heap.now r).place + (facts s.heap.now r).length ≤ area_size s.ram event
     within event is =
-        let below = (owns_cells s.heap.now whole.now.whole).below r event is in let fits = (whole.now.whole.areas event).fits in omega (arith, below, fits)
+        let below = (owns_cells s.heap.now whole.now.whole).below r event is in let fits = (whole.now.whole.areas event).fits in
+        let same : area_size s.ram event ≡ area_limit s.heap.now event = ap (λ (z : RamSizes). size_in z event) sizes in omega (arith, below, fits, same)
+
+-- so cells of a transient object lie within its area, whatever names the contents
+pub within_area : (s : MemoryState) (ram : RamState) (r i n : ℕ) (f : Facts) (event : ClearEvent) → ram ≡ s.ram → IsHeaderOf s r f → f.event ≡ Some event
+    → i + n ≤ (facts s.heap.now r).length → f.place + i + n ≤ area_size ram event
+within_area s ram r i n f event same header kept fits =
+    let within = header.transient event kept in
+    let long = ap (λ (g : Facts). g.length) header.is in
+    let size = ap (λ (a : RamState). area_size a event) same in omega (arith, within, long, size, fits)

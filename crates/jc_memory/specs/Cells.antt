@@ -101,8 +101,9 @@ pub record MayHaveAll (s : MemoryState) (r : ℕ) (words : List ℕ) : Type 0 wh
 abbrev pub header_at : MemoryState → ℕ → Option Facts
 header_at s r = if is_object (heap_item_at s.heap.now r) then Some (facts s.heap.now r) else None
 
--- what the header of an object says of its cells: a persistent one has as many, a transient one's lie within its area
+-- what the header of an object says of its cells: a persistent one has as many, a transient one's lie within its area, whose places are words
 pub record IsHeaderOf (s : MemoryState) (r : ℕ) (f : Facts) : Type 0 where
   pub is : f ≡ facts s.heap.now r
   pub persistent : f.event ≡ None → length (cells s.heap.now r) ≡ f.length
-  pub transient : (event : ClearEvent) → f.event ≡ Some event → f.place + f.length ≤ area_size
+  pub transient : (event : ClearEvent) → f.event ≡ Some event → f.place + f.length ≤ area_size s.ram event
+  pub small : (event : ClearEvent) → f.event ≡ Some event → f.place + f.length < 65536

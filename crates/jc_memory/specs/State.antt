@@ -7,7 +7,7 @@ use Rattle.jc_transient.specs.Cells.{default_value, without_dead}
 use Rattle.jc_transient.specs.State.{RamState, HasSizes, area, with_area, with_cells}
 use Rattle.jc_heap.specs.declared.object.Kind.{Kind}
 use Rattle.jc_heap.specs.declared.object.Kind.TheVariants.{ReferenceArray}
-use Rattle.jc_heap.specs.Heap.{HeapState, HeapView, area_end, facts, is_allocated}
+use Rattle.jc_heap.specs.Heap.{HeapState, HeapView, area_end, area_sizes, facts, is_allocated}
 use Rattle.jc_heap.specs.Keeping.{AreConsistent}
 use Rattle.jc_heap.specs.Moves.{Move, AddObject, AddTransient, Abort, apply_move}
 use Rattle.jc_memory.specs.declared.registers.Registers.{Registers}
@@ -89,8 +89,9 @@ pub record IsNew (h : HeapState) (r : ℕ) : Type 0 where
   pub some : r ≡ 0 → ⊥
   pub chosen : r ≡ h.top
 
--- what the parts of each memory meet: while its store is up the heap is whole, now and after a loss of power;
--- the contents have their sizes
+-- what the parts of each memory meet: while its store is up the heap is whole, now and after a loss of power, and the contents have the
+-- sizes that its words say; the lists of the contents have their sizes
 pub record IsConsistentMemory (v : HeapView) (contents : RamState) : Type 0 where
   pub heap : v.down ≡ false → AreConsistent v
   pub ram : HasSizes contents
+  pub sizes : v.down ≡ false → contents.sizes ≡ area_sizes v.now

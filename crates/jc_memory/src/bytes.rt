@@ -1,5 +1,5 @@
 //! Runs of cells.
-ghost use Rattle.std.specs.Prelude.{◌≡◌, ◌+◌, ◌≤◌, ◌%◌, false, length, map};
+ghost use Rattle.std.specs.Prelude.{◌≡◌, ◌+◌, ◌≤◌, ◌<◌, ◌%◌, false, length, map};
 ghost use Rattle.std.specs.List.{range_with_len};
 ghost use Rattle.jc_transient.specs.State.{area_size, cell_at};
 ghost use Rattle.jc_heap.specs.Heap.{IsObject, facts};
@@ -17,7 +17,8 @@ use jc_words::WordStore;
 // The low bytes of an area's cells from a place on.
 #[inline(always)]
 fn area_bytes(ram: &Ram, event: ClearEvent, place: u16, out: &mut [u8])
-    requires { place + length out.old ≤ area_size }
+    requires within { place + length out.old ≤ area_size ram.now event }
+    requires small { place + length out.old < 65536 }
     ensures { out.new ≡ map (λ k. word_of (cell_at ram.now event k) % 256)
         (range_with_len place (length out.old)) }
 {
@@ -29,7 +30,8 @@ fn area_bytes(ram: &Ram, event: ClearEvent, place: u16, out: &mut [u8])
 // The words of an area's cells from a place on.
 #[inline(always)]
 fn area_words(ram: &Ram, event: ClearEvent, place: u16, out: &mut [u16])
-    requires { place + length out.old ≤ area_size }
+    requires within { place + length out.old ≤ area_size ram.now event }
+    requires small { place + length out.old < 65536 }
     ensures { out.new ≡ map (λ k. word_of (cell_at ram.now event k))
         (range_with_len place (length out.old)) }
 {

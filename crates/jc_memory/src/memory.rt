@@ -1,6 +1,6 @@
 //! A memory: its parts, and what headers say.
 ghost use Rattle.std.specs.Prelude.{◌≡◌, ◌<◌, [], false, IfSome, slice_index};
-ghost use Rattle.jc_heap.specs.Heap.{IsObject};
+ghost use Rattle.jc_heap.specs.Heap.{IsObject, area_sizes};
 ghost use Rattle.jc_heap.specs.Whole.{IsConsistent};
 ghost use Rattle.jc_transient.specs.State.{HasSizes};
 ghost use Rattle.jc_memory.specs.Owners.{at_reset};
@@ -61,13 +61,14 @@ impl<S: WordStore> Model for Memory<S> {
 }
 
 impl<S: WordStore> Memory<S> {
-    /// A memory over a whole heap at rest, as a reset leaves it; with the addresses of the objects with which the heap
-    /// begins, in their order, and with marks where objects stand.
+    /// A memory over a whole heap at rest, as a reset leaves it; with transient contents of the sizes that the heap's words say, with the
+    /// addresses of the objects with which the heap begins, in their order, and with marks where objects stand.
     pub fn new(heap: Heap<S>, ram: Ram, fixed: ArrayVec<u16, MOST_FIXED>, marks: Marks) -> Memory<S>
         requires up { heap.down ≡ false }
         requires rests { heap.begun ≡ false }
         requires whole { IsConsistent heap.now }
         requires sizes { HasSizes ram }
+        requires fits { ram.sizes ≡ area_sizes heap.now }
         requires marked { AreObjects marks heap }
         ensures { result ≡ record {
           heap = heap;

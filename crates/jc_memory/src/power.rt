@@ -1,7 +1,7 @@
 //! The store of a memory, and what of a memory is not kept in it.
 ghost use Rattle.std.specs.Prelude.{◌≡◌, false};
 ghost use Rattle.jc_commit.specs.Image.{recovered_of};
-ghost use Rattle.jc_heap.specs.Heap.{heap_of};
+ghost use Rattle.jc_heap.specs.Heap.{area_sizes, heap_of};
 ghost use Rattle.jc_heap.specs.Stored.{HoldsHeap, IsAtRest, heap_of_store_at_rest};
 ghost use Rattle.jc_heap.specs.Whole.{IsConsistent};
 ghost use Rattle.jc_memory.specs.Power.{resumed_memory, volatile_of};
@@ -51,6 +51,7 @@ impl<S: WordStore> Memory<S> {
         ensures store { HoldsHeap (S.words result.0) (S.down result.0) (S.passed result.0)
             (S.refusals result.0) self.heap }
         ensures whole { self.heap.down ≡ false → IsConsistent self.heap.durable }
+        ensures fits { self.heap.down ≡ false → self.ram.sizes ≡ area_sizes self.heap.durable }
         ensures volatile { result.1 ≡ volatile_of self }
     {
         let Memory {
@@ -80,6 +81,7 @@ impl<S: WordStore> Memory<S> {
     pub fn resume(store: S, volatile: Volatile) -> Memory<S>
         requires rests { IsAtRest (S.words store) (S.down store) }
         requires whole { IsConsistent (heap_of (recovered_of (S.words store))) }
+        requires fits { volatile.ram.sizes ≡ area_sizes (heap_of (recovered_of (S.words store))) }
         ensures { result ≡ resumed_memory (heap_of_store_at_rest (S.words store) (S.passed store)
             (S.refusals store)) volatile }
     {

@@ -8,8 +8,10 @@ mod cell;
 mod header_words;
 mod ram;
 mod reference;
+mod sizes;
 
 pub use cell::{CellValue, ClearEvent};
 pub use header_words::{ClassWord, NO_CLASS, OwnerWord, RUNTIME_ENVIRONMENT};
-pub use ram::{AREA_CELLS, BUFFER_CELLS, BUFFER_PLACE, Ram};
+pub use ram::Ram;
 pub use reference::Ref;
+pub use sizes::{BUFFER_CELLS, MOST_BUFFER, MOST_CELLS, RamSizes, USUAL_CELLS, are_sizes};

@@ -1,24 +1,15 @@
 //! The contents of memory.
 ghost use Rattle.std.specs.Prelude.{◌≡◌, ◌<◌, ◌≤◌, ◌+◌, Bool, ℕ, List, false, length, map, replicate, take, drop, ◌++◌, pos, IfOk, vec_len, slice_index_or};
 ghost use Rattle.std.specs.Prelude.{slice_set};
-ghost use Rattle.jc_transient.specs.Cells.{default_value, without_dead, number_of, low_byte};
-ghost use Rattle.jc_transient.specs.State.{area_size, flag_count, buffer_size, buffer_place, HasSizes, IsCleared, area, with_area, cell_at, flag_of};
-ghost use Rattle.jc_transient.specs.State.{with_cells, with_buffer_bytes};
+ghost use Rattle.jc_transient.specs.Cells.{default_value, without_dead, number_of};
+ghost use Rattle.jc_transient.specs.State.{area_size, HasSizes, IsCleared, area, with_area, cell_at, flag_of, with_cells};
 
 use crate::area::Area;
 use crate::cell::{CellValue, ClearEvent};
 use crate::reference::Ref;
+use crate::sizes::RamSizes;
 use std::alloc::{AllocError, Global};
 use std::marker::Model;
-
-/// How many cells each of the two areas has.
-pub const AREA_CELLS: u16 = 2048;
-
-/// The place of the first cell of the APDU buffer, in the area that is cleared at a reset.
-pub const BUFFER_PLACE: u16 = 8;
-
-/// How many cells the APDU buffer has, one for each byte.
-pub const BUFFER_CELLS: u16 = 261;
 
 const FLAGS: usize = 65536;
 
@@ -26,6 +17,7 @@ const FLAGS: usize = 65536;
 /// one of which the APDU buffer lies, and a flag for each object.
 #[derive(Drop)]
 pub struct Ram {
+    sizes: RamSizes,
     reset_cells: Area,
     deselect_cells: Area,
     flags: Vec<bool>,
@@ -37,12 +29,14 @@ impl Model for Ram {
     ghost Value = { RamState };
 
     ghost view = { λ r. record {
+      sizes = r.sizes;
       reset_cells = r.reset_cells;
       deselect_cells = r.deselect_cells;
       flags = r.flags.items;
     } };
 
     ghost invariant = { λ r. HasSizes (record {
+      sizes = r.sizes;
       reset_cells = r.reset_cells;
       deselect_cells = r.deselect_cells;
       flags = r.flags.items;
@@ -50,13 +44,15 @@ impl Model for Ram {
 }
 
 impl Ram {
-    /// Memory in which each cell is zero and each flag is false. Nothing else here takes memory.
-    pub fn new(alloc: Global) -> Result<Ram, AllocError>
-        ensures { IfOk result IsCleared }
+    /// Memory of these sizes, in which each cell is zero and each flag is false. Nothing else here takes memory.
+    pub fn new(alloc: Global, sizes: RamSizes) -> Result<Ram, AllocError>
+        ensures cleared { IfOk result IsCleared }
+        ensures sizes { IfOk result (λ ram. ram.sizes ≡ sizes) }
     {
         Ok(Ram {
-            reset_cells: Area::new(alloc, AREA_CELLS as usize)?,
-            deselect_cells: Area::new(alloc, AREA_CELLS as usize)?,
+            sizes,
+            reset_cells: Area::new(alloc, sizes.reset as usize)?,
+            deselect_cells: Area::new(alloc, sizes.deselect as usize)?,
             flags: false_flags(alloc, FLAGS)?,
         })
     }
@@ -69,6 +65,7 @@ impl Ram {
         let deselect_cells = self.deselect_cells.copy(alloc)?;
         let flags = Vec::from_slice(alloc, &self.flags)?;
         Ok(Ram {
+            sizes: self.sizes,
             reset_cells,
             deselect_cells,
             flags,
@@ -78,7 +75,7 @@ impl Ram {
     /// The cell at a place of an event's area.
     #[inline(always)]
     pub fn get(&self, event: ClearEvent, place: u16) -> CellValue
-        requires { place < area_size }
+        requires { place < area_size self.now event }
         ensures { result ≡ cell_at self.now event place }
     {
         match event {
@@ -90,10 +87,11 @@ impl Ram {
     /// Sets the cell at a place of an event's area.
     #[inline(always)]
     pub fn set(&mut self, event: ClearEvent, place: u16, value: CellValue)
-        requires { place < area_size }
+        requires { place < area_size self.old event }
         ensures done { self.new ≡ with_area self.old event
             (slice_set (area self.old event) place value) }
         ensures sizes { HasSizes self.new }
+        ensures same { self.new.sizes ≡ self.old.sizes }
     {
         match event {
             ClearEvent::Reset => self.reset_cells.set(place as usize, value),
@@ -103,10 +101,11 @@ impl Ram {
 
     /// Sets `count` cells from a place on, as the maker of a new object does.
     pub fn fill(&mut self, event: ClearEvent, place: u16, count: u16, value: CellValue)
-        requires { place + count ≤ area_size }
+        requires { place + count ≤ area_size self.old event }
         ensures done { self.new ≡ with_area self.old event
             (with_cells (area self.old event) place (replicate count value)) }
         ensures sizes { HasSizes self.new }
+        ensures same { self.new.sizes ≡ self.old.sizes }
     {
         let (place, count) = (place as usize, count as usize);
         match event {
@@ -117,10 +116,11 @@ impl Ram {
 
     /// Puts bytes, each as a number, into the cells from a place on.
     pub fn put_bytes(&mut self, event: ClearEvent, place: u16, bytes: &[u8])
-        requires { place + length bytes.now ≤ area_size }
+        requires { place + length bytes.now ≤ area_size self.old event }
         ensures done { self.new ≡ with_area self.old event
             (with_cells (area self.old event) place (map number_of bytes.now)) }
         ensures sizes { HasSizes self.new }
+        ensures same { self.new.sizes ≡ self.old.sizes }
     {
         match event {
             ClearEvent::Reset => self.reset_cells.put_bytes(place as usize, bytes),
@@ -130,10 +130,11 @@ impl Ram {
 
     /// Puts words into the cells of an event, from a place on.
     pub fn put_words(&mut self, event: ClearEvent, place: u16, words: &[u16])
-        requires { place + length words.now ≤ area_size }
+        requires { place + length words.now ≤ area_size self.old event }
         ensures done { self.new ≡ with_area self.old event
             (with_cells (area self.old event) place (map number_of words.now)) }
         ensures sizes { HasSizes self.new }
+        ensures same { self.new.sizes ≡ self.old.sizes }
     {
         match event {
             ClearEvent::Reset => self.reset_cells.put_words(place as usize, words),
@@ -154,6 +155,7 @@ impl Ram {
             { flags = slice_set self.old.flags object value } }
         ensures set { flag_of self.new object ≡ value }
         ensures sizes { HasSizes self.new }
+        ensures same { self.new.sizes ≡ self.old.sizes }
     {
         let address = object.address() as usize;
         self.flags[address] = value;
@@ -164,6 +166,7 @@ impl Ram {
         ensures done { self.new ≡ with_area self.old event
             (map default_value (area self.old event)) }
         ensures sizes { HasSizes self.new }
+        ensures same { self.new.sizes ≡ self.old.sizes }
     {
         match event {
             ClearEvent::Reset => self.reset_cells.clear(),
@@ -178,26 +181,10 @@ impl Ram {
           deselect_cells = map (without_dead top) self.old.deselect_cells;
         } }
         ensures sizes { HasSizes self.new }
+        ensures same { self.new.sizes ≡ self.old.sizes }
     {
         self.reset_cells.null_dead(top);
         self.deselect_cells.null_dead(top);
-    }
-
-    /// A byte of the APDU buffer.
-    pub fn buffer_byte(&self, index: u16) -> u8
-        requires { index < buffer_size }
-        ensures { result ≡ low_byte (cell_at self.now ClearEvent.Reset (buffer_place + index)) }
-    {
-        self.get(ClearEvent::Reset, BUFFER_PLACE + index).low_byte()
-    }
-
-    /// Puts bytes into the APDU buffer, from an index on.
-    pub fn put_in_buffer(&mut self, index: u16, bytes: &[u8])
-        requires { index + length bytes.now ≤ buffer_size }
-        ensures done { self.new ≡ with_buffer_bytes self.old index bytes.now }
-        ensures sizes { HasSizes self.new }
-    {
-        self.put_bytes(ClearEvent::Reset, BUFFER_PLACE + index, bytes);
     }
 }
 

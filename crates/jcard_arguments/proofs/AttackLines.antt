@@ -114,13 +114,35 @@ abbrev by_within : Text → Text → Option ℕ → Option CommandLineRequest
 by_within image script within = option_map (λ n. ToAttack image script (record plain_attack { within = n })) within
 
 struck_twice : (image script : Text) (within : Option ℕ)
-    → attack_by (Some (image, script)) (attack_with false (Some all_models) (Some (codes "9000")) within None None None None (Some None)) ≡ by_within image script within
+    → attack_by (Some (image, script)) (attack_with false (Some all_models) (Some (codes "9000")) within false None None None None (Some None)) ≡ by_within image script within
 struck_twice image script None = refl
 struck_twice image script (Some within) = refl
 
 twice_last : (image script value : Text) → after (given (operands_read image script) (codes "twice") value) [] ≡ by_within image script (within_of value)
 unfolding request_after clap_on_literals
 twice_last image script value = struck_twice image script (within_of value)
+
+-- with objects
+with_objects : Walk → Walk
+with_objects w = walked shape.rules [] w (codes "--objects")
+
+objects_first : (image script : Text) → Goes (at_options image script) (codes "--objects") (with_objects (at_options image script))
+unfolding clap_on_literals with_objects
+objects_first image script = record { fault = refl; walk = refl }
+
+objects_last : (image script : Text) → after (with_objects (at_options image script)) [] ≡ Some (ToAttack image script (record plain_attack { objects = true }))
+unfolding request_after clap_on_literals with_objects
+objects_last image script = refl
+
+-- a part of the faults
+part_first : (image script : Text) → Goes (at_options image script) (codes "--part") (named (operands_read image script) (codes "part"))
+unfolding clap_on_literals
+part_first image script = record { fault = refl; walk = refl }
+
+part_alone : (image script part : Text) → after (given (operands_read image script) (codes "part") part) []
+    ≡ Some (ToAttack image script (record plain_attack { part = Some part }))
+unfolding request_after clap_on_literals
+part_alone image script part = refl
 
 -- a part of each command
 with_each : Walk → Walk
@@ -168,6 +190,11 @@ attacks name image script value hi hs hv = (
       ∙ (step (at_twice (operands_read image script) value hv) []
       ∙ (twice_last image script value
       ∙ ap (by_within image script) is))),
+  at_operands name image script (codes "--objects" ∷ []) hi hs ∙ (step (objects_first image script) [] ∙ objects_last image script),
+  at_operands name image script (codes "--part" ∷ value ∷ []) hi hs
+      ∙ (step (part_first image script) (value ∷ [])
+      ∙ (step (at_part (operands_read image script) value hv) []
+      ∙ part_alone image script value)),
   at_operands name image script (codes "--each" ∷ codes "--part" ∷ value ∷ []) hi hs
       ∙ (step (each_first image script) (codes "--part" ∷ value ∷ [])
       ∙ (step (part_second image script) (value ∷ [])

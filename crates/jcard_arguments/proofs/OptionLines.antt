@@ -1,4 +1,4 @@
--- Plain lines of the commands `new` and `try`, which take one operand and the options `--words` and `--table`, `new` also `--journal`.
+-- Plain lines of the commands `new` and `try`, which take one operand and the options `--words`, `--table` and `--transient`, `new` also `--journal`.
 use Rattle.std.proofs.Common.{◌≡◌, ◌∙◌, ap, false, List, [], ◌∷◌, Option, Some, None, refl, codes}
 use Rattle.std.specs.Prelude.{fold}
 use Rattle.clap.specs.Words.{App, Row, Text}
@@ -11,7 +11,7 @@ use Rattle.jcard_arguments.proofs.CommandWalk.{after_next, as_ended, causes_of, 
 use Rattle.jcard_arguments.specs.CommandLine.{CommandLineRequest, ToMake, ToTry, new_of, request_of_words, try_of}
 use Rattle.jcard_arguments.specs.Grammar.{new_grammar, program_grammar, try_grammar}
 use Rattle.jcard_arguments.specs.PlainLines.{IsNoFlag, JournalTableWords, JournalWordsTable, NewOrder, TableJournalWords, TableWordsJournal, TakesNews}
-use Rattle.jcard_arguments.specs.PlainLines.{TakesTries, WordsJournalTable, WordsTableJournal, in_order}
+use Rattle.jcard_arguments.specs.PlainLines.{TakesTries, WordsJournalTable, WordsTableJournal, in_order, plain_size}
 
 data OptionCommand : Type 0 where
   NewCommand : OptionCommand
@@ -35,13 +35,13 @@ taken_by TryCommand rows = try_of rows
 
 -- what it asks for, with this operand, these words, this table and no other option
 abbrev request_by : OptionCommand → Text → Text → Text → CommandLineRequest
-request_by NewCommand operand words table = ToMake operand words (codes "256") (Some table)
-request_by TryCommand operand words table = ToTry operand words (codes "256") (Some table) None
+request_by NewCommand operand words table = ToMake operand (record plain_size { words = words }) (Some table)
+request_by TryCommand operand words table = ToTry operand (record plain_size { words = words }) (Some table) None
 
 -- with this operand and no option
 abbrev alone_by : OptionCommand → Text → CommandLineRequest
-alone_by NewCommand operand = ToMake operand (codes "8192") (codes "256") None
-alone_by TryCommand operand = ToTry operand (codes "8192") (codes "256") None None
+alone_by NewCommand operand = ToMake operand plain_size None
+alone_by TryCommand operand = ToTry operand plain_size None None
 
 -- the command, as the build leaves it
 abbrev shape_of : OptionCommand → Shape
@@ -165,7 +165,7 @@ words_last NewCommand operand words table = refl
 words_last TryCommand operand words table = refl
 
 table_alone : (script table : Text)
-    → after TryCommand (given (operand_read TryCommand script) (codes "table") table) [] ≡ Some (ToTry script (codes "8192") (codes "256") (Some table) None)
+    → after TryCommand (given (operand_read TryCommand script) (codes "table") table) [] ≡ Some (ToTry script plain_size (Some table) None)
 unfolding request_after clap_on_literals
 table_alone script table = refl
 
@@ -296,7 +296,7 @@ at_value Journal rows (x ∷ xs) h = record { fault = simp (no_hyphen x xs h); w
 -- the last word
 order_last : (o : NewOrder) (image words table journal : Text) → after NewCommand
     (given (second_read o image (value_of words table journal (first o)) (value_of words table journal (second o))) (id_of (third o))
-    (value_of words table journal (third o))) [] ≡ Some (ToMake image words journal (Some table))
+    (value_of words table journal (third o))) [] ≡ Some (ToMake image (record plain_size { words = words; journal = journal }) (Some table))
 unfolding request_after clap_on_literals
 order_last WordsTableJournal image words table journal = refl
 order_last WordsJournalTable image words table journal = refl
@@ -322,7 +322,7 @@ no_flags Table words table journal hw ht hj = ht
 no_flags Journal words table journal hw ht hj = hj
 
 in_any_order : (name image words table journal : Text) → IsNoFlag image → IsNoFlag words → IsNoFlag table → IsNoFlag journal → (o : NewOrder)
-    → request_of_words (name ∷ codes "new" ∷ image ∷ in_order o words table journal) ≡ Some (ToMake image words journal (Some table))
+    → request_of_words (name ∷ codes "new" ∷ image ∷ in_order o words table journal) ≡ Some (ToMake image (record plain_size { words = words; journal = journal }) (Some table))
 in_any_order name image words table journal hi hw ht hj o =
     let value = value_of words table journal in
     let first_value = value (first o) in
@@ -341,16 +341,53 @@ in_any_order name image words table journal hi hw ht hj o =
     ∙ (step (at_value (third o) (second_read o image first_value second_value) third_value (is_value (third o))) []
     ∙ order_last o image words table journal))))))))
 
+-- ---- `--transient`
+
+-- what it asks for, with this operand, these cells and no other option
+abbrev cells_by : OptionCommand → Text → Text → CommandLineRequest
+cells_by NewCommand operand cells = ToMake operand (record plain_size { cells = Some cells }) None
+cells_by TryCommand operand cells = ToTry operand (record plain_size { cells = Some cells }) None None
+
+cells_name : (c : OptionCommand) (operand : Text)
+    → Goes c (given [] (operand_of c) operand) (codes "--transient") (named (operand_read c operand) (codes "transient"))
+unfolding clap_on_literals
+cells_name NewCommand operand = record { fault = refl; walk = refl }
+cells_name TryCommand operand = record { fault = refl; walk = refl }
+
+at_cells : (c : OptionCommand) (rows : List Row) (value : Text) → IsNoFlag value
+    → Goes c (named rows (codes "transient")) value (given rows (codes "transient") value)
+unfolding clap_on_literals
+at_cells NewCommand rows [] h = record { fault = refl; walk = refl }
+at_cells NewCommand rows (x ∷ xs) h = record { fault = simp (no_hyphen x xs h); walk = simp (no_hyphen x xs h) }
+at_cells TryCommand rows [] h = record { fault = refl; walk = refl }
+at_cells TryCommand rows (x ∷ xs) h = record { fault = simp (no_hyphen x xs h); walk = simp (no_hyphen x xs h) }
+
+cells_last : (c : OptionCommand) (operand cells : Text)
+    → after c (given (operand_read c operand) (codes "transient") cells) [] ≡ Some (cells_by c operand cells)
+unfolding request_after clap_on_literals
+cells_last NewCommand operand cells = refl
+cells_last TryCommand operand cells = refl
+
+with_cells : (c : OptionCommand) (name operand cells : Text) → IsNoFlag operand → IsNoFlag cells
+    → request_of_words (name ∷ name_of c ∷ operand ∷ codes "--transient" ∷ cells ∷ []) ≡ Some (cells_by c operand cells)
+with_cells c name operand cells ho hc =
+    opened c name (operand ∷ codes "--transient" ∷ cells ∷ [])
+    ∙ (step (at_operand c operand ho) (codes "--transient" ∷ cells ∷ [])
+    ∙ (step (cells_name c operand) (cells ∷ [])
+    ∙ (step (at_cells c (operand_read c operand) cells hc) []
+    ∙ cells_last c operand cells)))
+
 pub news : TakesNews
-news name image words table journal hi hw ht hj = (
+news name image words table journal cells hi hw ht hj hc = (
   no_option NewCommand name image hi,
   words_before_table NewCommand name image words table hi hw ht,
   table_before_words NewCommand name image words table hi hw ht,
   in_any_order name image words table journal hi hw ht hj,
+  with_cells NewCommand name image cells hi hc,
 )
 
 pub tries : TakesTries
-tries name script words table hs hw ht = (
+tries name script words table cells hs hw ht hc = (
   no_option TryCommand name script hs,
   opened TryCommand name (script ∷ codes "--table" ∷ table ∷ [])
       ∙ (step (at_operand TryCommand script hs) (codes "--table" ∷ table ∷ [])
@@ -359,4 +396,5 @@ tries name script words table hs hw ht = (
       ∙ table_alone script table))),
   table_before_words TryCommand name script words table hs hw ht,
   words_before_table TryCommand name script words table hs hw ht,
+  with_cells TryCommand name script cells hs hc,
 )

@@ -16,6 +16,7 @@ use Rattle.jcard_arguments.specs.Numbers.{budget_given, lines_given}
 use Rattle.jcard_arguments.specs.declared.options.Lines.{Lines}
 use Rattle.jcard_arguments.specs.declared.options.AttackOptions.{AttackOptions}
 use Rattle.jcard_arguments.specs.declared.options.RunOptions.{RunOptions}
+use Rattle.jcard_arguments.specs.declared.options.SizeOptions.{SizeOptions}
 use Rattle.jcard_arguments.specs.declared.options.TearOptions.{TearOptions}
 use Rattle.jcard_arguments.specs.declared.options.TestOptions.{TestOptions}
 use Rattle.jcard_arguments.specs.declared.arguments.Action.{Action}
@@ -47,30 +48,36 @@ pub record TearAsked : Type 0 where
   pub instructions : Option ℕ
 
 -- which command of a script is attacked, by which faults, the end of an answer that none may get, within how many instructions after a fault a second
--- one comes, if it is not 0, and what is asked after each
+-- one comes, if it is not 0, whether objects are reported, and what is asked after each
 pub record AttackAsked : Type 0 where
   pub each : Bool
   pub models : Models
   pub accepted : Text
   pub within : ℕ
+  pub objects : Bool
   pub map : Option Text
   pub probe : Option Text
   pub line : Option Text
   pub part : Option Text
   pub instructions : Option ℕ
 
+-- how large a new card is: its words, the entries of its journal, and the cells for the transient objects of each event, or as many as are usual
+pub record SizeAsked : Type 0 where
+  pub words : Text
+  pub journal : Text
+  pub cells : Option Text
+
 -- the cards that answer rows, and the report
 pub record TestAsked : Type 0 where
   pub junit : Option Text
   pub table : Option Text
-  pub words : Option Text
-  pub journal : Option Text
+  pub size : SizeAsked
   pub instructions : Option ℕ
 
 -- what a command line asks for
 pub data CommandLineRequest : Type 0 where
-  -- an image with this name is made, of N words, with a journal of C entries and the platform table with this name or the usual one
-  ToMake : Text → Text → Text → Option Text → CommandLineRequest
+  -- an image with this name is made, of this size, with the platform table with the last name or the usual one
+  ToMake : Text → SizeAsked → Option Text → CommandLineRequest
   -- the script of the second name is carried out, on the card of the image of the first
   ToRun : Text → Text → RunAsked → CommandLineRequest
   -- what the image with this name holds is listed
@@ -79,9 +86,9 @@ pub data CommandLineRequest : Type 0 where
   ToListObjects : Text → Bool → Bool → Option Text → CommandLineRequest
   -- the two images are compared, in all objects or those of packages, with the bytes of keys or without them, with what a map names
   ToCompare : Text → Text → Bool → Bool → Option Text → CommandLineRequest
-  -- the script is carried out on a new card in memory of N words, whose journal can have C entries, with the platform table with this name or
-  -- the usual one, and at most this many instructions a command
-  ToTry : Text → Text → Text → Option Text → Option ℕ → CommandLineRequest
+  -- the script is carried out on a new card in memory of this size, with the platform table with the last name or the usual one, and at most this
+  -- many instructions a command
+  ToTry : Text → SizeAsked → Option Text → Option ℕ → CommandLineRequest
   -- commands of the script of the second name are cut, over the words of the image of the first
   ToTear : Text → Text → TearAsked → CommandLineRequest
   -- a command of the script of the second name is attacked, over the words of the image of the first
@@ -98,9 +105,9 @@ abbrev pub is_given : Option Text → Bool
 is_given (Some value) = bytes_eq value (codes "true")
 is_given None = false
 
-abbrev pub new_by : Option Text → Option Text → Option Text → Option Text → Option CommandLineRequest
-new_by (Some image) words journal table = Some (ToMake image (unwrap_or words (codes "8192")) (unwrap_or journal (codes "256")) table)
-new_by None words journal table = None
+abbrev pub new_by : Option Text → SizeAsked → Option Text → Option CommandLineRequest
+new_by (Some image) size table = Some (ToMake image size table)
+new_by None size table = None
 
 -- `--map` goes with `--why`, `--trace` or `--break`, `--lines` with `--trace`, `--break` with `--map`
 abbrev pub are_together : Bool → Bool → Option Text → Option Text → Option Text → Bool
@@ -140,10 +147,9 @@ dump_by (Some image) true None all secrets map = Some (ToListObjects image all s
 dump_by (Some image) false (Some other) all secrets map = Some (ToCompare image other all secrets map)
 dump_by image objects against all secrets map = None
 
-abbrev pub try_by : Option Text → Option Text → Option Text → Option Text → Option (Option ℕ) → Option CommandLineRequest
-try_by (Some script) words journal table (Some instructions) =
-    Some (ToTry script (unwrap_or words (codes "8192")) (unwrap_or journal (codes "256")) table instructions)
-try_by script words journal table instructions = None
+abbrev pub try_by : Option Text → SizeAsked → Option Text → Option (Option ℕ) → Option CommandLineRequest
+try_by (Some script) size table (Some instructions) = Some (ToTry script size table instructions)
+try_by script size table instructions = None
 
 -- how many recoveries are cut: none where nothing is said, else a number from 1 to 3
 abbrev pub depth_of : Option Text → Option Depth
@@ -207,35 +213,36 @@ abbrev pub tear_by : Option (Text × Text) → Option TearAsked → Option Comma
 tear_by (Some two) (Some asked) = Some (ToTear two.0 two.1 asked)
 tear_by two asked = None
 
-abbrev pub attack_with : Bool → Option Models → Option Text → Option ℕ → Option Text → Option Text → Option Text → Option Text → Option (Option ℕ)
+abbrev pub attack_with : Bool → Option Models → Option Text → Option ℕ → Bool → Option Text → Option Text → Option Text → Option Text → Option (Option ℕ)
     → Option AttackAsked
-attack_with each (Some models) (Some accepted) (Some within) map probe line part (Some instructions) = Some (record {
+attack_with each (Some models) (Some accepted) (Some within) objects map probe line part (Some instructions) = Some (record {
   each = each;
   models = models;
   accepted = accepted;
   within = within;
+  objects = objects;
   map = map;
   probe = probe;
   line = line;
   part = part;
   instructions = instructions;
 })
-attack_with each models accepted within map probe line part instructions = None
+attack_with each models accepted within objects map probe line part instructions = None
 
--- a line and each command together are nothing, nor is a part of one command
-abbrev pub is_no_attack : Bool → Option Text → Option Text → Bool
-is_no_attack each line part = (is_some line && each) || (is_some part && not each)
+-- a line and each command together are nothing
+abbrev pub is_no_attack : Bool → Option Text → Bool
+is_no_attack each line = is_some line && each
 
 abbrev pub attack_asked : List Row → Option AttackAsked
-attack_asked rows = if is_no_attack (is_given (first_of (codes "each") rows)) (first_of (codes "line") rows) (first_of (codes "part") rows) then None
+attack_asked rows = if is_no_attack (is_given (first_of (codes "each") rows)) (first_of (codes "line") rows) then None
     else attack_with (is_given (first_of (codes "each") rows)) (models_given (first_of (codes "model") rows)) (accepted_given (first_of (codes "accept") rows))
-    (within_given (first_of (codes "twice") rows)) (first_of (codes "map") rows) (first_of (codes "probe") rows) (first_of (codes "line") rows)
-    (first_of (codes "part") rows) (budget_given (first_of (codes "instructions") rows))
+    (within_given (first_of (codes "twice") rows)) (is_given (first_of (codes "objects") rows)) (first_of (codes "map") rows) (first_of (codes "probe") rows)
+    (first_of (codes "line") rows) (first_of (codes "part") rows) (budget_given (first_of (codes "instructions") rows))
 
 -- which faults a sweep is to try, or what is to be reported of them, is given
 abbrev pub chooses_faults : List Row → Bool
 chooses_faults rows = is_some (first_of (codes "model") rows) || is_some (first_of (codes "accept") rows) || is_some (first_of (codes "twice") rows)
-    || is_some (first_of (codes "map") rows)
+    || is_given (first_of (codes "objects") rows) || is_some (first_of (codes "map") rows)
 
 -- and which commands it is to attack, and with which probe
 abbrev pub chooses_attacked : List Row → Bool
@@ -250,20 +257,26 @@ abbrev pub attack_by : Option (Text × Text) → Option AttackAsked → Option C
 attack_by (Some two) (Some asked) = Some (ToAttack two.0 two.1 asked)
 attack_by two asked = None
 
-abbrev pub test_by : Option (List Text) → Option Text → Option Text → Option Text → Option Text → Option (Option ℕ) → Option CommandLineRequest
-test_by (Some files) junit table words journal (Some instructions) = Some (ToTest files (record {
+abbrev pub test_by : Option (List Text) → Option Text → Option Text → SizeAsked → Option (Option ℕ) → Option CommandLineRequest
+test_by (Some files) junit table size (Some instructions) = Some (ToTest files (record {
   junit = junit;
   table = table;
-  words = words;
-  journal = journal;
+  size = size;
   instructions = instructions;
 }))
-test_by files junit table words journal instructions = None
+test_by files junit table size instructions = None
 
 -- ---- the same, with these values of all operands and options
 
+abbrev pub size_asked : List Row → SizeAsked
+size_asked rows = record {
+  words = unwrap_or (first_of (codes "words") rows) (codes "8192");
+  journal = unwrap_or (first_of (codes "journal") rows) (codes "256");
+  cells = first_of (codes "transient") rows;
+}
+
 abbrev pub new_of : List Row → Option CommandLineRequest
-new_of rows = new_by (first_of (codes "image") rows) (first_of (codes "words") rows) (first_of (codes "journal") rows) (first_of (codes "table") rows)
+new_of rows = new_by (first_of (codes "image") rows) (size_asked rows) (first_of (codes "table") rows)
 
 abbrev pub run_of : List Row → Option CommandLineRequest
 run_of rows = run_by (first_of (codes "image") rows) (first_of (codes "script") rows) (run_asked rows)
@@ -273,8 +286,7 @@ dump_of rows = dump_by (first_of (codes "image") rows) (is_given (first_of (code
     (is_given (first_of (codes "all") rows)) (is_given (first_of (codes "secrets") rows)) (first_of (codes "map") rows)
 
 abbrev pub try_of : List Row → Option CommandLineRequest
-try_of rows = try_by (first_of (codes "script") rows) (first_of (codes "words") rows) (first_of (codes "journal") rows) (first_of (codes "table") rows)
-    (budget_given (first_of (codes "instructions") rows))
+try_of rows = try_by (first_of (codes "script") rows) (size_asked rows) (first_of (codes "table") rows) (budget_given (first_of (codes "instructions") rows))
 
 abbrev pub tear_of : List Row → Option CommandLineRequest
 tear_of rows = if is_given (first_of (codes "join") rows) then join_by (is_bare rows) (all_of (codes "file") rows)
@@ -285,8 +297,8 @@ attack_of rows = if is_given (first_of (codes "join") rows) then join_by (is_bar
     else attack_by (two_of (all_of (codes "file") rows)) (attack_asked rows)
 
 abbrev pub test_of : List Row → Option CommandLineRequest
-test_of rows = test_by (all_of (codes "file") rows) (first_of (codes "junit") rows) (first_of (codes "table") rows) (first_of (codes "words") rows)
-    (first_of (codes "journal") rows) (budget_given (first_of (codes "instructions") rows))
+test_of rows = test_by (all_of (codes "file") rows) (first_of (codes "junit") rows) (first_of (codes "table") rows) (size_asked rows)
+    (budget_given (first_of (codes "instructions") rows))
 
 -- what the command with this name asks for, with these values of its operands
 abbrev pub request_of : Text × List Row → Option CommandLineRequest
@@ -362,6 +374,7 @@ attack_asked_by o = record {
   models = o.models;
   accepted = o.accepted.now;
   within = o.within;
+  objects = o.objects;
   map = text_of o.map;
   probe = text_of o.probe;
   line = text_of o.line;
@@ -369,23 +382,25 @@ attack_asked_by o = record {
   instructions = o.instructions;
 }
 
+abbrev pub size_asked_by : SizeOptions → SizeAsked
+size_asked_by o = record { words = o.words.now; journal = o.journal.now; cells = text_of o.cells }
+
 abbrev pub test_asked_by : TestOptions → TestAsked
 test_asked_by o = record {
   junit = text_of o.junit;
   table = text_of o.table;
-  words = text_of o.words;
-  journal = text_of o.journal;
+  size = size_asked_by o.size;
   instructions = o.instructions;
 }
 
 -- what the action does
 abbrev pub request_by : Action → CommandLineRequest
-request_by (New image words journal table) = ToMake image.now words.now journal.now (text_of table)
+request_by (New image size table) = ToMake image.now (size_asked_by size) (text_of table)
 request_by (Run image script options) = ToRun image.now script.now (run_asked_by options)
 request_by (Dump image) = ToList image.now
 request_by (DumpObjects image all secrets map) = ToListObjects image.now all secrets (text_of map)
 request_by (Compare image other all secrets map) = ToCompare image.now other.now all secrets (text_of map)
-request_by (Try script words journal table instructions) = ToTry script.now words.now journal.now (text_of table) instructions
+request_by (Try script size table instructions) = ToTry script.now (size_asked_by size) (text_of table) instructions
 request_by (Tear image script options) = ToTear image.now script.now (tear_asked_by options)
 request_by (Attack image script options) = ToAttack image.now script.now (attack_asked_by options)
 request_by (Join files) = ToJoin (texts_of files.items)

@@ -5,7 +5,7 @@ use Rattle.jcard_outcomes.specs.declared.recoveries.Depth.{Depth}
 use Rattle.jcard_outcomes.specs.declared.recoveries.Depth.TheVariants.{Zero}
 use Rattle.jcard_outcomes.specs.Models.{all_models}
 use Rattle.jcard_arguments.specs.Attacks.{within_of}
-use Rattle.jcard_arguments.specs.CommandLine.{AttackAsked, RunAsked, TearAsked, TestAsked, depth_of, request_of_words}
+use Rattle.jcard_arguments.specs.CommandLine.{AttackAsked, RunAsked, SizeAsked, TearAsked, TestAsked, depth_of, request_of_words}
 use Rattle.jcard_arguments.specs.CommandLine.{ToAttack, ToJoin, ToList, ToListObjects, ToMake, ToRun, ToTear, ToTest, ToTry}
 
 -- the word is no flag: it does not begin with a hyphen (45)
@@ -27,6 +27,7 @@ plain_attack = record {
   models = all_models;
   accepted = codes "9000";
   within = 0;
+  objects = false;
   map = None;
   probe = None;
   line = None;
@@ -34,9 +35,13 @@ plain_attack = record {
   instructions = None;
 }
 
+-- a card of the usual size
+abbrev pub plain_size : SizeAsked
+plain_size = record { words = codes "8192"; journal = codes "256"; cells = None }
+
 -- cards of the usual size, and no report
 abbrev pub plain_test : TestAsked
-plain_test = record { junit = None; table = None; words = None; journal = None; instructions = None }
+plain_test = record { junit = None; table = None; size = plain_size; instructions = None }
 
 -- `NAME run IMAGE SCRIPT` asks to run, with exactly these words
 abbrev pub TakesRuns : Type 0
@@ -71,24 +76,28 @@ in_order JournalWordsTable words table journal = codes "--journal" ∷ journal �
 in_order JournalTableWords words table journal = codes "--journal" ∷ journal ∷ codes "--table" ∷ table ∷ codes "--words" ∷ words ∷ []
 
 -- `NAME new IMAGE` asks to make exactly this image, of 8192 words, with a journal of 256 entries and the usual table; with `--words N` and
--- `--table FILE`, of N words and with this table; with `--journal C`, with a journal of C entries; in any order of the options
+-- `--table FILE`, of N words and with this table; with `--journal C`, with a journal of C entries; in any order of the options;
+-- with `--transient T`, with T cells for the transient objects of each event
 abbrev pub TakesNews : Type 0
-TakesNews = (name image words table journal : Text) → IsNoFlag image → IsNoFlag words → IsNoFlag table → IsNoFlag journal
-    → (request_of_words (name ∷ codes "new" ∷ image ∷ []) ≡ Some (ToMake image (codes "8192") (codes "256") None))
+TakesNews = (name image words table journal cells : Text) → IsNoFlag image → IsNoFlag words → IsNoFlag table → IsNoFlag journal → IsNoFlag cells
+    → (request_of_words (name ∷ codes "new" ∷ image ∷ []) ≡ Some (ToMake image plain_size None))
     × (request_of_words (name ∷ codes "new" ∷ image ∷ codes "--words" ∷ words ∷ codes "--table" ∷ table ∷ [])
-    ≡ Some (ToMake image words (codes "256") (Some table)))
+    ≡ Some (ToMake image (record plain_size { words = words }) (Some table)))
     × (request_of_words (name ∷ codes "new" ∷ image ∷ codes "--table" ∷ table ∷ codes "--words" ∷ words ∷ [])
-    ≡ Some (ToMake image words (codes "256") (Some table)))
-    × ((order : NewOrder) → request_of_words (name ∷ codes "new" ∷ image ∷ in_order order words table journal) ≡ Some (ToMake image words journal (Some table)))
+    ≡ Some (ToMake image (record plain_size { words = words }) (Some table)))
+    × ((order : NewOrder) → request_of_words (name ∷ codes "new" ∷ image ∷ in_order order words table journal) ≡ Some (ToMake image (record plain_size { words = words; journal = journal }) (Some table)))
+    × (request_of_words (name ∷ codes "new" ∷ image ∷ codes "--transient" ∷ cells ∷ []) ≡ Some (ToMake image (record plain_size { cells = Some cells }) None))
 
 -- `NAME try SCRIPT` asks to try exactly this script on a card of 8192 words with the usual table; with `--table FILE`, with this table;
--- with `--words N`, in either order of the options, on one of N words
+-- with `--words N`, in either order of the options, on one of N words; with `--transient T`, on one with T cells for the transient objects of each
+-- event
 abbrev pub TakesTries : Type 0
-TakesTries = (name script words table : Text) → IsNoFlag script → IsNoFlag words → IsNoFlag table
-    → (request_of_words (name ∷ codes "try" ∷ script ∷ []) ≡ Some (ToTry script (codes "8192") (codes "256") None None))
-    × (request_of_words (name ∷ codes "try" ∷ script ∷ codes "--table" ∷ table ∷ []) ≡ Some (ToTry script (codes "8192") (codes "256") (Some table) None))
-    × (request_of_words (name ∷ codes "try" ∷ script ∷ codes "--table" ∷ table ∷ codes "--words" ∷ words ∷ []) ≡ Some (ToTry script words (codes "256") (Some table) None))
-    × (request_of_words (name ∷ codes "try" ∷ script ∷ codes "--words" ∷ words ∷ codes "--table" ∷ table ∷ []) ≡ Some (ToTry script words (codes "256") (Some table) None))
+TakesTries = (name script words table cells : Text) → IsNoFlag script → IsNoFlag words → IsNoFlag table → IsNoFlag cells
+    → (request_of_words (name ∷ codes "try" ∷ script ∷ []) ≡ Some (ToTry script plain_size None None))
+    × (request_of_words (name ∷ codes "try" ∷ script ∷ codes "--table" ∷ table ∷ []) ≡ Some (ToTry script plain_size (Some table) None))
+    × (request_of_words (name ∷ codes "try" ∷ script ∷ codes "--table" ∷ table ∷ codes "--words" ∷ words ∷ []) ≡ Some (ToTry script (record plain_size { words = words }) (Some table) None))
+    × (request_of_words (name ∷ codes "try" ∷ script ∷ codes "--words" ∷ words ∷ codes "--table" ∷ table ∷ []) ≡ Some (ToTry script (record plain_size { words = words }) (Some table) None))
+    × (request_of_words (name ∷ codes "try" ∷ script ∷ codes "--transient" ∷ cells ∷ []) ≡ Some (ToTry script (record plain_size { cells = Some cells }) None None))
 
 -- `NAME tear IMAGE SCRIPT` asks to cut the last command of exactly this script over this image; with `--probe FILE`, `--line N` or both,
 -- in this order, with this probe, and the command in this line; with `--each`, after a probe or without one, each command; with
@@ -118,12 +127,15 @@ TakesJoins = (name file : Text) (files : List Text) → IsNoFlag file → All Is
     × (request_of_words (name ∷ codes "tear" ∷ file ∷ (files ++ codes "--join" ∷ [])) ≡ Some (ToJoin (file ∷ files)))
 
 -- `NAME attack IMAGE SCRIPT` asks to attack the last command of exactly this script over this image; with `--twice W`, where W is a number from 1 to 64,
--- by two faults too, the second within W instructions after the first; with `--each --part I/N`, each command of this part of them
+-- by two faults too, the second within W instructions after the first; with `--objects`, and report cells that changed; with `--part I/N`, by this part of
+-- the faults; with `--each --part I/N`, each command of this part of them
 abbrev pub TakesAttacks : Type 0
 TakesAttacks = (name image script value : Text) → IsNoFlag image → IsNoFlag script → IsNoFlag value
     → (request_of_words (name ∷ codes "attack" ∷ image ∷ script ∷ []) ≡ Some (ToAttack image script plain_attack))
     × ((within : ℕ) → within_of value ≡ Some within
     → request_of_words (name ∷ codes "attack" ∷ image ∷ script ∷ codes "--twice" ∷ value ∷ []) ≡ Some (ToAttack image script (record plain_attack { within = within })))
+    × (request_of_words (name ∷ codes "attack" ∷ image ∷ script ∷ codes "--objects" ∷ []) ≡ Some (ToAttack image script (record plain_attack { objects = true })))
+    × (request_of_words (name ∷ codes "attack" ∷ image ∷ script ∷ codes "--part" ∷ value ∷ []) ≡ Some (ToAttack image script (record plain_attack { part = Some value })))
     × (request_of_words (name ∷ codes "attack" ∷ image ∷ script ∷ codes "--each" ∷ codes "--part" ∷ value ∷ [])
     ≡ Some (ToAttack image script (record plain_attack { each = true; part = Some value })))
 

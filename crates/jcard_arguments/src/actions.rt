@@ -2,14 +2,14 @@
 ghost use Rattle.std.specs.Prelude.{◌≡◌, ℕ, List, codes, IfErr, IfOk, None, Some, option_map};
 ghost use Rattle.std.specs.Borrow.{Bor};
 ghost use Rattle.clap.specs.Words.{all_of, found_of, rows_of};
-ghost use Rattle.jcard_arguments.specs.CommandLine.{IsReadAs, chooses_cuts, depth_of, dump_of, is_bare, join_by, new_of, request_of, run_asked, run_asked_by, run_of, shows_more};
+ghost use Rattle.jcard_arguments.specs.CommandLine.{IsReadAs, chooses_cuts, depth_of, dump_of, is_bare, join_by, new_of, request_of, run_asked, run_asked_by, run_of, shows_more, size_asked, size_asked_by};
 ghost use Rattle.jcard_arguments.specs.CommandLine.{attack_asked, attack_asked_by, attack_of, chooses_attacked, chooses_faults, is_bare_attack};
 ghost use Rattle.jcard_arguments.specs.CommandLine.{tear_asked, tear_asked_by, tear_of, test_of, text_of, texts_of, try_of, two_of};
 
 use crate::arguments::{Action, NoAction};
 use crate::attacks::{accepted_given, models_given, within_given};
 use crate::numbers::{budget_given, lines_given};
-use crate::options::{AttackOptions, RunOptions, TearOptions, TestOptions};
+use crate::options::{AttackOptions, RunOptions, SizeOptions, TearOptions, TestOptions};
 use crate::values::{is_given, value_of, values_of};
 use clap::ArgMatches;
 use jcard_outcomes::recoveries::Depth;
@@ -50,15 +50,20 @@ fn new_action<'a>(values: &ArgMatches<'a>) -> Result<Action<'a>, NoAction>
     let Some(image) = value_of(values, "image") else {
         return Err(NoAction::Misused(NO_OPERAND));
     };
-    let words = value_of(values, "words").unwrap_or(USUAL_WORDS);
-    let journal = value_of(values, "journal").unwrap_or(USUAL_JOURNAL);
+    let size = size_options(values);
     let table = value_of(values, "table");
-    Ok(Action::New {
-        image,
-        words,
-        journal,
-        table,
-    })
+    Ok(Action::New { image, size, table })
+}
+
+// How large the card is that is asked for.
+fn size_options<'a>(values: &ArgMatches<'a>) -> SizeOptions<'a>
+    ensures { size_asked_by result ≡ size_asked (rows_of (found_of values.now)) }
+{
+    SizeOptions {
+        words: value_of(values, "words").unwrap_or(USUAL_WORDS),
+        journal: value_of(values, "journal").unwrap_or(USUAL_JOURNAL),
+        cells: value_of(values, "transient"),
+    }
 }
 
 fn run_action<'a>(values: &ArgMatches<'a>) -> Result<Action<'a>, NoAction>
@@ -160,16 +165,14 @@ fn try_action<'a>(values: &ArgMatches<'a>) -> Result<Action<'a>, NoAction>
     let Some(script) = value_of(values, "script") else {
         return Err(NoAction::Misused(NO_OPERAND));
     };
-    let words = value_of(values, "words").unwrap_or(USUAL_WORDS);
-    let journal = value_of(values, "journal").unwrap_or(USUAL_JOURNAL);
+    let size = size_options(values);
     let table = value_of(values, "table");
     let Some(instructions) = budget_given(value_of(values, "instructions")) else {
         return Err(NoAction::Misused(BAD_INSTRUCTIONS));
     };
     Ok(Action::Try {
         script,
-        words,
-        journal,
+        size,
         table,
         instructions,
     })
@@ -314,6 +317,7 @@ fn chooses_faults(values: &ArgMatches<'_>) -> bool
     value_of(values, "model").is_some()
         || value_of(values, "accept").is_some()
         || value_of(values, "twice").is_some()
+        || is_given(values, "objects")
         || value_of(values, "map").is_some()
 }
 
@@ -361,15 +365,13 @@ fn attack_options<'a>(values: &ArgMatches<'a>) -> Result<AttackOptions<'a>, &'st
     ensures none { IfErr result (λ _. attack_asked (rows_of (found_of values.now)) ≡ None) }
 {
     let each = is_given(values, "each");
+    let objects = is_given(values, "objects");
     let map = value_of(values, "map");
     let probe = value_of(values, "probe");
     let line = value_of(values, "line");
     let share = value_of(values, "part");
     if line.is_some() && each {
         return Err("--line does not go with --each");
-    }
-    if share.is_some() && !each {
-        return Err("--part goes with --each");
     }
     let Some(models) = models_given(value_of(values, "model")) else {
         return Err("--model takes skip, turn and zero, parted by commas");
@@ -388,6 +390,7 @@ fn attack_options<'a>(values: &ArgMatches<'a>) -> Result<AttackOptions<'a>, &'st
         models,
         accepted,
         within,
+        objects,
         map,
         probe,
         line,
@@ -404,16 +407,14 @@ fn test_action<'a>(alloc: Global, values: &ArgMatches<'a>) -> Result<Action<'a>,
     };
     let junit = value_of(values, "junit");
     let table = value_of(values, "table");
-    let words = value_of(values, "words");
-    let journal = value_of(values, "journal");
+    let size = size_options(values);
     let Some(instructions) = budget_given(value_of(values, "instructions")) else {
         return Err(NoAction::Misused(BAD_INSTRUCTIONS));
     };
     let options = TestOptions {
         junit,
         table,
-        words,
-        journal,
+        size,
         instructions,
     };
     match Vec::from_slice(alloc, files) {

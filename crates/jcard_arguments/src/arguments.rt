@@ -8,7 +8,7 @@ ghost use Rattle.jcard_arguments.specs.PlainLines.{TakesPlainLines};
 
 use crate::actions::action_of;
 use crate::grammar::program;
-use crate::options::{AttackOptions, RunOptions, TearOptions, TestOptions};
+use crate::options::{AttackOptions, RunOptions, SizeOptions, TearOptions, TestOptions};
 use clap::error::ErrorKind;
 use clap::{ArgMatches, Error};
 use std::alloc::{AllocError, Global};
@@ -16,11 +16,10 @@ use std::alloc::{AllocError, Global};
 /// What the words ask for. Numbers that stand as text are decimal.
 #[derive(Drop)]
 pub enum Action<'a> {
-    /// The image of a card is made, with a number of words, entries of its journal, and a platform table, or the usual one.
+    /// The image of a card of this size is made, with a platform table, or the usual one.
     New {
         image: &'a str,
-        words: &'a str,
-        journal: &'a str,
+        size: SizeOptions<'a>,
         table: Option<&'a str>,
     },
     /// The script is carried out, on the card of the image.
@@ -52,8 +51,7 @@ pub enum Action<'a> {
     /// The script is carried out, on a new card in memory; a command has at most this number of instructions, or the usual one.
     Try {
         script: &'a str,
-        words: &'a str,
-        journal: &'a str,
+        size: SizeOptions<'a>,
         table: Option<&'a str>,
         instructions: Option<u32>,
     },

@@ -58,6 +58,12 @@ const JOURNAL: Entry<'static> = Entry {
     help: "Entries of the journal, 16 to 1024: the most words that a transaction changes [default: 256]",
 };
 
+const TRANSIENT: Entry<'static> = Entry {
+    kind: Kind::Value,
+    name: "transient",
+    help: "Cells for the transient objects of each event, 2048 to 16384 [default: 2048]",
+};
+
 const INSTRUCTIONS: Entry<'static> = Entry {
     kind: Kind::Value,
     name: "instructions",
@@ -235,7 +241,7 @@ const ATTACKED: Entry<'static> = Entry {
 const SHARE: Entry<'static> = Entry {
     kind: Kind::Value,
     name: "part",
-    help: "With --each: attacks this part of the commands, as 1/4",
+    help: "Tries this part of the faults, as 1/4, or with --each attacks this part of the commands",
 };
 
 /// A command: its name, what it does, and its entries.
@@ -249,7 +255,7 @@ pub(crate) struct Usage<'a> {
 const NEW: Usage<'static> = Usage {
     name: "new",
     about: "Makes the image of a new card, in place of any file of that name",
-    entries: &[IMAGE, WORDS, TABLE, JOURNAL],
+    entries: &[IMAGE, WORDS, TABLE, JOURNAL, TRANSIENT],
 };
 
 const RUN: Usage<'static> = Usage {
@@ -278,7 +284,7 @@ const DUMP: Usage<'static> = Usage {
 const TRY: Usage<'static> = Usage {
     name: "try",
     about: "Carries out a script on a new card in memory",
-    entries: &[SCRIPT, WORDS, TABLE, JOURNAL, INSTRUCTIONS],
+    entries: &[SCRIPT, WORDS, TABLE, JOURNAL, TRANSIENT, INSTRUCTIONS],
 };
 
 const TEAR: Usage<'static> = Usage {
@@ -308,6 +314,7 @@ const ATTACK: Usage<'static> = Usage {
         MODEL,
         ACCEPT,
         TWICE,
+        CELLS,
         MAP,
         ASKED,
         ATTACKED,
@@ -320,7 +327,7 @@ const ATTACK: Usage<'static> = Usage {
 const TEST: Usage<'static> = Usage {
     name: "test",
     about: "Says which rows of files hold, on new cards in memory",
-    entries: &[ROWS, JUNIT, TABLE, WORDS, JOURNAL, INSTRUCTIONS],
+    entries: &[ROWS, JUNIT, TABLE, WORDS, JOURNAL, TRANSIENT, INSTRUCTIONS],
 };
 
 /// The program's commands.

@@ -67,16 +67,29 @@ pub struct AttackOptions<'a> {
     pub accepted: &'a str,
     /// Within how many instructions after a fault a second one is tried too; 0 where none is.
     pub within: u32,
+    /// The cells that changed are listed.
+    pub objects: bool,
     /// The file with the map whose names are used.
     pub map: Option<&'a str>,
     /// The file with the lines that are answered after each fault.
     pub probe: Option<&'a str>,
     /// The line of the command, a decimal number; else the last command.
     pub line: Option<&'a str>,
-    /// The part of the commands, as 1/4; else all.
+    /// The part of the faults, or with each command of the commands, as 1/4; else all.
     pub part: Option<&'a str>,
     /// At most this number of instructions of each command is carried out.
     pub instructions: Option<u32>,
+}
+
+/// How large a new card is.
+#[derive(Clone, Copy, Drop)]
+pub struct SizeOptions<'a> {
+    /// The words of its image, a decimal number.
+    pub words: &'a str,
+    /// The entries of its journal, a decimal number.
+    pub journal: &'a str,
+    /// The cells for the transient objects of each event, a decimal number, or as many as are usual.
+    pub cells: Option<&'a str>,
 }
 
 /// The cards that answer rows, and the report.
@@ -86,10 +99,8 @@ pub struct TestOptions<'a> {
     pub junit: Option<&'a str>,
     /// The file with the platform table.
     pub table: Option<&'a str>,
-    /// The words of a card, a decimal number.
-    pub words: Option<&'a str>,
-    /// The entries of its journal, a decimal number.
-    pub journal: Option<&'a str>,
+    /// How large the first card of a file is.
+    pub size: SizeOptions<'a>,
     /// At most this number of instructions of each command is carried out.
     pub instructions: Option<u32>,
 }

@@ -1,7 +1,7 @@
 -- What the program does for the words of its command line.
 use Rattle.std.specs.Prelude.{ℕ, ◌≡◌, ◌⊎◌, List, [], ◌∷◌, ◌++◌, codes, Result, Ok, Err, Option, Some}
 use Rattle.std.specs.Option.{unwrap_or}
-use Rattle.jcard_arguments.specs.CommandLine.{AskForHelp, AskForNothing, CommandLineRequest, RunAsked, TestAsked, request_of_words, text_of}
+use Rattle.jcard_arguments.specs.CommandLine.{AskForHelp, AskForNothing, CommandLineRequest, RunAsked, SizeAsked, TestAsked, request_of_words, text_of}
 use Rattle.jcard_arguments.specs.CommandLine.{ToAttack, ToCompare, ToJoin, ToList, ToListObjects, ToMake, ToRun, ToTear, ToTest, ToTry}
 use Rattle.jcard_arguments.specs.declared.arguments.NoAction.{NoAction}
 use Rattle.jcard_arguments.specs.declared.arguments.NoAction.TheVariants.{Help, Refused, Misused, NoMemory as NoRoom}
@@ -10,14 +10,14 @@ use Rattle.jcard_files.specs.FileDeeds.{FileDeed}
 use Rattle.jcard_sweeps.specs.Joinings.{IsJoining}
 use Rattle.jc_card.specs.Dispatching.{usual_budget}
 use Rattle.jcard_images.specs.NewImages.{IsNew}
+use Rattle.jcard_images.specs.declared.image_size.ImageSize.{ImageSize}
 use Rattle.jcard_listing.specs.Comparisons.{IsComparison}
 use Rattle.jcard_listing.specs.Told.{IsObjectsDump}
 use Rattle.jcard_tests.specs.Tests.{IsTest}
 use Rattle.jcard_tests.specs.declared.asked.Asked.{Asked}
 use Rattle.jcard_files.specs.declared.fault.Fault.{Fault}
 use Rattle.jcard_files.specs.declared.fault.Fault.TheVariants.{BadCommandLine, NoMemory, CannotRead, WriteFailed}
-use Rattle.jcard_commands.specs.Attacked.{IsAttackWith}
-use Rattle.jcard_commands.specs.Listed.{IsTearWith, IsToldBy}
+use Rattle.jcard_commands.specs.Listed.{IsAttackWith, IsTearWith, IsToldBy}
 use Rattle.jcard_commands.specs.Runs.{IsRun}
 use Rattle.jcard_commands.specs.RunOptions.{AreNamesRead, AreNamesUnread, AreOperands, IsCompared, IsCoverBegun, IsCovered}
 use Rattle.jcard_files.specs.declared.operand.Operand.{Operand}
@@ -44,9 +44,13 @@ IsRunWith image script asked ended text deeds =
     × AreOperands image script asked.map operands × IsCoverBegun operands asked.cover begun begins
     × IsRunAfter image script asked operands begun ended text more × (deeds ≡ reads ++ (begins ++ more)))
 
+-- the size that these texts say
+abbrev pub size_by : ImageSize → SizeAsked
+size_by size = record { words = size.words.now; journal = size.journal.now; cells = text_of size.cells }
+
 -- the cards and the report that a test is asked for
 abbrev pub IsAskedAs : TestAsked → Asked → Type 0
-IsAskedAs asked a = (text_of a.junit ≡ asked.junit) × (text_of a.table ≡ asked.table) × (text_of a.words ≡ asked.words) × (text_of a.journal ≡ asked.journal)
+IsAskedAs asked a = (text_of a.junit ≡ asked.junit) × (text_of a.table ≡ asked.table) × (size_by a.size ≡ asked.size)
     × (a.budget ≡ budget_of asked.instructions)
 
 -- the rows of files were answered by such cards
@@ -59,14 +63,15 @@ IsRefused fault ended text deeds = (ended ≡ Err fault) × (text ≡ []) × (de
 
 -- what is asked for was done to this end, this text was written, and this was done with files; no files are not joined
 abbrev pub IsDone : CommandLineRequest → Result Unit Fault → List ℕ → List FileDeed → Type 0
-IsDone (ToMake image words journal table) ended text deeds = IsNew image words journal table ended deeds × (text ≡ [])
+IsDone (ToMake image size table) ended text deeds = IsNew image size.words size.journal size.cells table ended deeds × (text ≡ [])
 IsDone (ToRun image script asked) ended text deeds = IsRunWith image script asked ended text deeds
 IsDone (ToList image) ended text deeds = IsDump image ended text deeds
 IsDone (ToListObjects image all secrets map) ended text deeds = IsToldBy map (IsObjectsDump image (record { all = all; secrets = secrets })) ended text deeds
 IsDone (ToCompare image other all secrets map) ended text deeds = IsToldBy map (IsComparison image other (record { all = all; secrets = secrets })) ended text deeds
-IsDone (ToTry script words journal table instructions) ended text deeds = IsTrial (budget_of instructions) script words journal table ended text deeds
+IsDone (ToTry script size table instructions) ended text deeds =
+    IsTrial (budget_of instructions) script size.words size.journal size.cells table ended text deeds
 IsDone (ToTear image script asked) ended text deeds = IsToldBy asked.map (IsTearWith image script asked) ended text deeds
-IsDone (ToAttack image script asked) ended text deeds = IsAttackWith image script asked ended text deeds
+IsDone (ToAttack image script asked) ended text deeds = IsToldBy asked.map (IsAttackWith image script asked) ended text deeds
 IsDone (ToJoin []) ended text deeds = IsRefused BadCommandLine ended text deeds
 IsDone (ToJoin (file ∷ files)) ended text deeds = IsJoining (file ∷ files) ended text deeds
 IsDone (ToTest files asked) ended text deeds = IsTestWith files asked ended text deeds

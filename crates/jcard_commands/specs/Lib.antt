@@ -1,4 +1,3 @@
-pub mod Attacked
 pub mod Commands
 pub mod Listed
 pub mod RunOptions

@@ -1,8 +1,8 @@
--- Listings and sweeps, with the names of a map in them where one is given.
+-- Listings and sweeps, of cuts or of faults, with the names of a map in them where one is given.
 use Rattle.std.specs.Prelude.{ℕ, ◌≡◌, ◌⊎◌, List, [], ◌++◌, Result, Err, Option, Some, None}
 use Rattle.std.specs.Option.{unwrap_or}
 use Rattle.jc_card.specs.Dispatching.{usual_budget}
-use Rattle.jcard_arguments.specs.CommandLine.{TearAsked, tear_asked_by}
+use Rattle.jcard_arguments.specs.CommandLine.{AttackAsked, TearAsked, attack_asked_by, tear_asked_by}
 use Rattle.jcard_files.specs.declared.fault.Fault.{Fault}
 use Rattle.jcard_files.specs.declared.fault.Fault.TheVariants.{NoMemory, WriteFailed}
 use Rattle.jcard_files.specs.FileDeeds.{FileDeed}
@@ -10,12 +10,13 @@ use Rattle.jcard_files.specs.Readings.{IsScriptRead, IsUnread}
 use Rattle.jcard_listing.specs.Comparisons.{IsComparison}
 use Rattle.jcard_listing.specs.Told.{IsObjectsDump}
 use Rattle.jcard_script.specs.Texts.{IsCutOf}
+use Rattle.jcard_sweeps.specs.Attackings as sweeps
 use Rattle.jcard_sweeps.specs.SweepsAsked.{SweepAsked}
 use Rattle.jcard_sweeps.specs.Tears.{IsTear}
 use Rattle.jcard_sweeps.specs.Writings.{Tells}
 use Rattle.jcard_why.specs.Named.{HasNames}
 use Rattle.jcard_commands.specs.declared.listed.Listed.{Listed}
-use Rattle.jcard_commands.specs.declared.listed.Listed.TheVariants.{Objects, Compared, Torn}
+use Rattle.jcard_commands.specs.declared.listed.Listed.TheVariants.{Objects, Compared, Torn, Attacked}
 
 -- what words ask of a sweep over the script with this name
 abbrev pub sweep_asked : List ℕ → TearAsked → SweepAsked
@@ -32,11 +33,29 @@ sweep_asked script asked = record {
 abbrev pub IsTearWith : List ℕ → List ℕ → TearAsked → Tells
 IsTearWith image script asked = IsTear image (sweep_asked script asked)
 
+-- what words ask of an attack on the script with this name; the names of a map change nothing else
+pub record IsAskedOf (script : List ℕ) (words : AttackAsked) (asked : sweeps.AttackAsked) : Type 0 where
+  pub script_is : asked.script ≡ script
+  pub probe : asked.probe ≡ words.probe
+  pub line : asked.line ≡ words.line
+  pub each : asked.each ≡ words.each
+  pub part : asked.part ≡ words.part
+  pub models : asked.sought.models ≡ words.models
+  pub within : asked.sought.within ≡ words.within
+  pub accepted : asked.sought.accepted.now ≡ words.accepted
+  pub objects : asked.sought.objects ≡ words.objects
+  pub instructions : asked.instructions ≡ unwrap_or words.instructions usual_budget
+
+-- an attack over the words of an image
+abbrev pub IsAttackWith : List ℕ → List ℕ → AttackAsked → Tells
+IsAttackWith image script words ended text deeds = (asked : sweeps.AttackAsked) × IsAskedOf script words asked × sweeps.IsAttack image asked ended text deeds
+
 -- this was listed, without names
 abbrev pub IsListed : Listed → Tells
 IsListed (Objects image shown) = IsObjectsDump image.now shown
 IsListed (Compared image other shown) = IsComparison image.now other.now shown
 IsListed (Torn image script options) = IsTearWith image.now script.now (tear_asked_by options)
+IsListed (Attacked image script options) = IsAttackWith image.now script.now (attack_asked_by options)
 
 -- the end of what was written into memory, where a write fails as memory is refused
 abbrev pub in_memory : Result Unit Fault → Result Unit Fault

@@ -1,7 +1,6 @@
 //! What the program does for the words of a command line.
 #![tactic(auto)]
 
-mod attacked;
 mod listed;
 pub mod program;
 mod progress_line;

@@ -1,16 +1,18 @@
-//! Listings and sweeps, with the names of a map in them where one is given.
+//! Listings and sweeps, of cuts or of faults, with the names of a map in them where one is given.
 ghost use Rattle.std.specs.Prelude.{◌≡◌, Some, false};
-ghost use Rattle.jcard_arguments.specs.CommandLine.{tear_asked_by, text_of};
+ghost use Rattle.jcard_arguments.specs.CommandLine.{attack_asked_by as words_ask_by, tear_asked_by, text_of};
 ghost use Rattle.jcard_files.specs.Faults.{is_unwritten};
+ghost use Rattle.jcard_sweeps.specs.Attackings.{attack_asked_by};
 ghost use Rattle.jcard_sweeps.specs.SweepsAsked.{sweep_asked_by};
 ghost use Rattle.jcard_sweeps.specs.Writings.{Does, Writes};
-ghost use Rattle.jcard_commands.specs.Listed.{IsListed, IsNamed, IsToldBy, IsWritten, in_memory, sweep_asked};
+ghost use Rattle.jcard_commands.specs.Listed.{IsAskedOf, IsListed, IsNamed, IsToldBy, IsWritten, in_memory, sweep_asked};
 
 use crate::script_run::remark_on;
 use crate::told::Listener;
 use crate::write_lines::WriteLines;
 use jc_card::card::USUAL_BUDGET;
-use jcard_arguments::options::TearOptions;
+use jcard_arguments::options::{AttackOptions, TearOptions};
+use jcard_attack::sweeping::Sought;
 use jcard_files::disk::Disk;
 use jcard_files::fault::Fault;
 use jcard_files::reading::script_of;
@@ -19,6 +21,7 @@ use jcard_listing::comparison::compare_images;
 use jcard_listing::dump::dump_objects;
 use jcard_listing::shown::Shown;
 use jcard_script::streams::{TextOut, write_all};
+use jcard_sweeps::attacking::{AskedAttack, attack_image};
 use jcard_sweeps::tearing::{Asked, tear_image};
 use jcard_tear::cuts::Behind;
 use jcard_tear::kept_text::KeptText;
@@ -45,6 +48,12 @@ pub(crate) enum Listed<'n> {
         image: &'n str,
         script: &'n str,
         options: TearOptions<'n>,
+    },
+    /// What faults of commands of a script make of them.
+    Attacked {
+        image: &'n str,
+        script: &'n str,
+        options: AttackOptions<'n>,
     },
 }
 
@@ -87,7 +96,8 @@ fn list_named<'n, D: Disk, W: TextOut, P: Progress + Listener + Remarks>(
     write_named(disk.alloc(), &names, &words, &kept.into_bytes(), told, out)
 }
 
-// Lists it without names in the text. The names are for what is reported of word writes; of a sweep the words of the image are given back.
+// Lists it without names in the text. The names are for what is reported of word writes and of instructions; of a sweep the words of the image are given
+// back.
 fn list_plainly<'n, D: Disk, W: TextOut, P: Progress + Listener + Remarks>(
     disk: &mut D,
     listed: Listed<'n>,
@@ -114,6 +124,47 @@ fn list_plainly<'n, D: Disk, W: TextOut, P: Progress + Listener + Remarks>(
             let mut lines = WriteLines::new(disk.alloc(), progress, options.why, names, words);
             tear_image(disk, image, asked_by(script, options), out, &mut lines)
         }
+        Listed::Attacked {
+            image,
+            script,
+            options,
+        } => {
+            let mut lines = WriteLines::new(disk.alloc(), progress, false, names, words);
+            attack_image(
+                disk,
+                image,
+                attack_by(script, options, names),
+                out,
+                &mut lines,
+            )
+        }
+    }
+}
+
+// What these options ask of an attack on the script with this name, with the names of a map in what is reported of instructions.
+fn attack_by<'n, 'a>(
+    script: &'n str,
+    options: AttackOptions<'n>,
+    names: &'a [u8],
+) -> AskedAttack<'n, 'a>
+where
+    'n: 'a,
+    ensures { IsAskedOf script.entry.now (words_ask_by options.entry) (attack_asked_by result) }
+{
+    AskedAttack {
+        script,
+        probe: options.probe,
+        line: options.line,
+        each: options.each,
+        part: options.part,
+        sought: Sought {
+            models: options.models,
+            within: options.within,
+            accepted: options.accepted.as_bytes(),
+            objects: options.objects,
+            names,
+        },
+        instructions: options.instructions.unwrap_or(USUAL_BUDGET),
     }
 }
 

@@ -3,15 +3,14 @@ ghost use Rattle.std.specs.Prelude.{◌≡◌, ◌++◌, ℕ, List, Bool, Result
 ghost use Rattle.std.specs.String.{string_bytes};
 ghost use Rattle.std.specs.Io.KnownBytes.{Appends};
 ghost use Rattle.jc_words.specs.Count.{failures_after};
-ghost use Rattle.jcard_arguments.specs.CommandLine.{request_by};
+ghost use Rattle.jcard_arguments.specs.CommandLine.{request_by, size_asked_by};
 ghost use Rattle.jcard_arguments.specs.JoinedWords.{joined};
 ghost use Rattle.jcard_files.specs.FileDeeds.{FileDeed};
 ghost use Rattle.jcard_files.specs.Faults.{status_of, failures_of, is_unwritten, IsLastLine};
 ghost use Rattle.jcard_arguments.specs.CommandLine.{ToJoin, test_asked_by, texts_of};
-ghost use Rattle.jcard_commands.specs.Commands.{IsAnswered, IsDone, IsHelped, IsPerformed, IsTestWith};
+ghost use Rattle.jcard_commands.specs.Commands.{IsAnswered, IsDone, IsHelped, IsPerformed, IsTestWith, size_by};
 ghost use Rattle.jcard_files.specs.declared.fault.Fault.{Fault};
 
-use crate::attacked::attack_with;
 use crate::listed::{Listed, list};
 use crate::script_run::run_with;
 use crate::told::Listener;
@@ -19,11 +18,12 @@ use crate::trial::{TrialRequest, try_script};
 use jc_card::card::USUAL_BUDGET;
 use jcard_arguments::arguments::{Action, NoAction, parse};
 use jcard_arguments::joined_words::joined;
-use jcard_arguments::options::TestOptions;
+use jcard_arguments::options::{SizeOptions, TestOptions};
 use jcard_files::disk::Disk;
 use jcard_files::fault::{Fault, tell};
 use jcard_files::remarks::Remarks;
 use jcard_images::dump::dump_image;
+use jcard_images::image_size::ImageSize;
 use jcard_images::new_image::make_image;
 use jcard_listing::shown::Shown;
 use jcard_script::streams::{TextOut, write_all};
@@ -148,12 +148,9 @@ fn act<'n, D: Disk, W: TextOut, P: Progress + Listener + Remarks + Timer>(
         (is_unwritten result) }
 {
     match action {
-        Action::New {
-            image,
-            words,
-            journal,
-            table,
-        } => make_image(disk, image, words, journal, table, progress),
+        Action::New { image, size, table } => {
+            make_image(disk, image, image_size(size), table, progress)
+        }
         Action::Run {
             image,
             script,
@@ -186,15 +183,13 @@ fn act<'n, D: Disk, W: TextOut, P: Progress + Listener + Remarks + Timer>(
         }
         Action::Try {
             script,
-            words,
-            journal,
+            size,
             table,
             instructions,
         } => {
             let asked = TrialRequest {
                 script,
-                words,
-                journal,
+                size: image_size(size),
                 table,
                 budget: instructions.unwrap_or(USUAL_BUDGET),
             };
@@ -216,9 +211,27 @@ fn act<'n, D: Disk, W: TextOut, P: Progress + Listener + Remarks + Timer>(
             image,
             script,
             options,
-        } => attack_with(disk, image, script, options, out, progress),
+        } => {
+            let listed = Listed::Attacked {
+                image,
+                script,
+                options,
+            };
+            list(disk, listed, options.map, out, progress)
+        }
         Action::Join { files } => join(disk, &files, out),
         Action::Test { files, options } => test(disk, &files, options, out, progress),
+    }
+}
+
+// How large a new card is, as the options ask.
+fn image_size<'n>(size: SizeOptions<'n>) -> ImageSize<'n>
+    ensures { size_by result ≡ size_asked_by size.entry }
+{
+    ImageSize {
+        words: size.words,
+        journal: size.journal,
+        cells: size.cells,
     }
 }
 
@@ -259,8 +272,7 @@ fn test<'n, D: Disk, W: TextOut, T: Timer + Remarks>(
     let asked = TestRequest {
         junit: options.junit,
         table: options.table,
-        words: options.words,
-        journal: options.journal,
+        size: image_size(options.size),
         budget,
     };
     test_files(disk, files, asked, out, timer)

@@ -1,10 +1,8 @@
 //! Trying a script on a new card in memory.
-ghost use Rattle.std.specs.Prelude.{◌≡◌, ◌≤◌, ◌∷◌, [], ℕ, List, Option, Result};
+ghost use Rattle.std.specs.Prelude.{◌≡◌, ◌∷◌, [], ℕ, List, Option, Result};
 ghost use Rattle.jcard_arguments.specs.CommandLine.{text_of};
 ghost use Rattle.std.specs.Io.KnownBytes.{Appends};
 ghost use Rattle.jc_words.specs.Count.{failures_after};
-ghost use Rattle.jc_words.specs.Image.{IsCapacity};
-ghost use Rattle.jc_words.specs.Layout.{least_size};
 ghost use Rattle.jcard_commands.specs.Trials.{IsTrial, IsTriedOn};
 ghost use Rattle.jcard_files.specs.Faults.{is_unwritten};
 ghost use Rattle.jcard_files.specs.declared.fault.Fault.{Fault};
@@ -20,30 +18,28 @@ use jcard_files::disk::Disk;
 use jcard_files::fault::Fault;
 use jcard_files::remarks::Remarks;
 use jcard_files::script_fault::Names;
-use jcard_images::memory_image::new_image_of;
-use jcard_images::new_image::{journal_capacity, word_count};
+use jcard_images::extent::Extent;
+use jcard_images::image_size::{ImageSize, extent_of};
+use jcard_images::memory_image::new_image;
 use jcard_images::table_remarks::remark_on_table;
 use jcard_images::usual_table::platform_of;
 use jcard_script::std_text::StdText;
 use jcard_script::streams::TextOut;
 
-/// What is tried: the script in the file with this name, on a new card of this many words, whose journal can have this many
-/// entries, decimal numbers, with the platform table in the file with this name, or the usual one. A command carries out at most
-/// `budget` instructions.
+/// What is tried: the script in the file with this name, on a new card of this size, with the platform table in the file with this
+/// name, or the usual one. A command carries out at most `budget` instructions.
 #[derive(Clone, Copy, Drop)]
 pub struct TrialRequest<'n> {
     pub script: &'n str,
-    pub words: &'n str,
-    pub journal: &'n str,
+    pub size: ImageSize<'n>,
     pub table: Option<&'n str>,
     pub budget: u32,
 }
 
-// How many words a new card has, how many entries its journal can have, and its platform table.
+// How large a new card is, and its platform table.
 #[derive(Clone, Copy, Drop)]
 struct NewCard<'t> {
-    count: u16,
-    capacity: u16,
+    extent: Extent,
     table: &'t [u8],
 }
 
@@ -56,28 +52,20 @@ pub fn try_script<'n, D: Disk, W: TextOut, M: Remarks>(
 ) -> Result<(), Fault<'n>>
     ensures done { (text : List ℕ) × (deeds : List FileDeed)
         × Appends (W.contents out.old) (W.contents out.new) text
-        × IsTrial asked.entry.budget asked.entry.script.now asked.entry.words.now asked.entry.journal.now
+        × IsTrial asked.entry.budget asked.entry.script.now asked.entry.size.words.now
+        asked.entry.size.journal.now (text_of asked.entry.size.cells)
         (text_of asked.entry.table) result text deeds
         × D.does disk.old deeds disk.new }
     ensures writes { W.failures out.new ≡ failures_after (W.failures out.old)
         (is_unwritten result) }
 {
-    let Some(count) = word_count(asked.words) else {
-        return Err(Fault::BadWords);
-    };
-    let Some(capacity) = journal_capacity(asked.journal) else {
-        return Err(Fault::BadJournal);
-    };
-    let text = match platform_of(disk, asked.table) {
-        Ok(text) => text,
-        Err(fault) => return Err(fault),
-    };
+    let extent = extent_of(asked.size)?;
+    let text = platform_of(disk, asked.table)?;
     remark_on_table(disk.alloc(), &text, remarks);
     match read_table(&text) {
         Ok(_) => {
             let card = NewCard {
-                count,
-                capacity,
+                extent,
                 table: &text,
             };
             try_on(disk, asked, card, out, remarks)
@@ -94,25 +82,17 @@ fn try_on<'n, D: Disk, W: TextOut, M: Remarks>(
     out: &mut W,
     remarks: &mut M,
 ) -> Result<(), Fault<'n>>
-    requires enough { least_size ≤ card.count }
-    requires journal { IsCapacity card.capacity }
     requires table { IsTable card.table.now }
     ensures done { (text : List ℕ) × (opened : Result (Option (List ℕ)) Fault)
         × Appends (W.contents out.old) (W.contents out.new) text
-        × IsTriedOn asked.entry.budget asked.entry.script.now card.entry.count card.entry.capacity
-        card.entry.table.now result text opened
+        × IsTriedOn asked.entry.budget asked.entry.script.now card.entry.extent.count
+        card.entry.extent.room card.entry.table.now result text opened
         × D.does disk.old (ReadsText asked.entry.script.now opened ∷ []) disk.new }
     ensures writes { W.failures out.new ≡ failures_after (W.failures out.old)
         (is_unwritten result) }
 {
-    let file = match disk.open_text(asked.script) {
-        Ok(file) => file,
-        Err(fault) => return Err(fault),
-    };
-    let store = match new_image_of(disk.alloc(), card.count, card.capacity, card.table) {
-        Ok(store) => store,
-        Err(fault) => return Err(fault),
-    };
+    let file = disk.open_text(asked.script)?;
+    let store = new_image(disk.alloc(), card.extent, card.table)?;
     // A store in memory refuses no write, so no line states the name of its image.
     let names = Names {
         image: "memory",

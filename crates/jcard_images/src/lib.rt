@@ -2,6 +2,8 @@
 #![tactic(auto)]
 
 pub mod dump;
+pub mod extent;
+pub mod image_size;
 mod listing;
 pub mod memory_image;
 pub mod new_image;

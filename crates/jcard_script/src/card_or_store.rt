@@ -154,22 +154,15 @@ impl<S: WordStore> CardOrStore<S> {
         }
     }
 
-    /// With the store's fuse armed: `k` further writes pass, and the next is refused.
-    pub(crate) fn with_fuse(self, k: u64) -> CardOrStore<S>
-        requires up { IsUp self }
-        ensures up { IsUp result }
-        ensures armed { state_of_card result ≡ with_fuse k (state_of_card self) }
+    /// Arms the store's fuse: `k` further writes pass, and the next is refused.
+    pub(crate) fn arm(&mut self, k: u64)
+        requires up { IsUp self.old }
+        ensures up { IsUp self.new }
+        ensures armed { state_of_card self.new ≡ with_fuse k (state_of_card self.old) }
     {
         match self {
-            CardOrStore::Card(card) => {
-                let (mut store, rest) = card.into_parts();
-                store.arm(k);
-                CardOrStore::Card(Card::of_parts(store, rest))
-            }
-            CardOrStore::Store(mut store, budget) => {
-                store.arm(k);
-                CardOrStore::Store(store, budget)
-            }
+            CardOrStore::Card(card) => card.arm(k),
+            CardOrStore::Store(store, _) => store.arm(k),
         }
     }
 

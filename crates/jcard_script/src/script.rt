@@ -50,8 +50,8 @@ pub enum ScriptFault {
 /// A line ends at a line feed, which the last may lack; a carriage return before a line feed
 /// belongs to neither line. A line that is empty or begins with '#' is skipped. `reset` brings the
 /// power back and powers up; `stop` with a number from 0 to 65,535 arms the fuse; `glitch` with the number of an instruction and `skip`, `turn` or
-/// `zero` plans a fault for each command up to a reset, `glitch none` none. Any other line is
-/// a command in hexadecimal, in either case, with spaces anywhere, and its response is written in
+/// `zero`, once or twice, plans a fault or two for each command up to a reset (of two, the second is counted from the first), `glitch none` none.
+/// Any other line is a command in hexadecimal, in either case, with spaces anywhere, and its response is written in
 /// upper case, with a line feed. Where the store refuses a write, the session is down until a
 /// reset, and a command is answered `down`.
 pub fn run_script<S: WordStore + Drop, R: TextIn, W: TextOut>(

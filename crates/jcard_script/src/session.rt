@@ -572,8 +572,9 @@ impl<S: WordStore + Drop> Session<S> {
         ensures armed { text_for_line result self.new.response ≡ armed_text k }
         ensures standing { state_of_held self.new.held ≡ with_fuse k (state_of_held self.old.held) }
     {
-        let held = self.held.take().unwrap();
-        self.held = Some(held.with_fuse(u64::from(k)));
+        if let Some(held) = &mut self.held {
+            held.arm(u64::from(k));
+        }
         Reply::Armed(k)
     }
 

@@ -7,11 +7,13 @@ use Rattle.jcard_tests.specs.declared.card_rows.CardRows.{CardRows}
 use Rattle.jcard_tests.specs.declared.numbered.Numbered.{Numbered}
 use Rattle.jcard_tests.specs.declared.outcome.Tested.{Tested}
 use Rattle.jcard_files.specs.declared.fault.Fault.{Fault}
+use Rattle.jcard_files.specs.declared.fault.Fault.TheVariants.{BadJournal, BadTransient, BadWords}
 use Rattle.jcard_tests.specs.Sources.{IsReading, files_named, paths_read}
 use Rattle.jcard_tests.specs.Tests.{AreAnswered, IsOutcome, IsPlanFor, IsTested, IsUnanswered, IsUntested, table_of}
 use Rattle.jcard_tests.specs.declared.rows_file.NamedFile.{NamedFile}
 use Rattle.jcard_files.specs.Faults.{is_unwritten}
 use Rattle.jcard_files.specs.FileDeeds.{FileDeed}
+use Rattle.jcard_images.specs.Extents.{IsNoExtent}
 use Rattle.jcard_images.specs.UsualTables.{IsNoPlatform, IsPlatform}
 use Rattle.jcard_tests.specs.Plans.{IsPlanned, IsUnplanned, table_asked}
 use Rattle.jcard_tests.specs.declared.asked.Asked.{Asked}
@@ -26,12 +28,12 @@ tested_as (Ok t) p q f plan h = (h.0, q, plan, h.1)
 tested_as (Err fault) p q f plan h = h
 
 -- the cards that lines make
-pub answered_cards : (r : Result Tested Fault) (p : Plan) (name : List ℕ) (lines : List Numbered) (cards : List CardRows) → AreCardsOf p.words lines cards
+pub answered_cards : (r : Result Tested Fault) (p : Plan) (name : List ℕ) (lines : List Numbered) (cards : List CardRows) → AreCardsOf p.extent.count lines cards
     → MatchResult r (λ t. (t.name.now ≡ name) × (t.cards.items ≡ cards) × IsOutcome p cards t.outcome) (λ f. IsUnanswered p f)
     → MatchResult r (λ t. (t.name.now ≡ name) × AreAnswered p lines t) (λ f. IsUntested f)
 answered_cards (Ok t) p name lines cards made h = (
   h.0,
-  (subst (λ (cs : List CardRows). AreCardsOf p.words lines cs) (sym h.1) made, subst (λ (cs : List CardRows). IsOutcome p cs t.outcome) (sym h.1) h.2),
+  (subst (λ (cs : List CardRows). AreCardsOf p.extent.count lines cs) (sym h.1) made, subst (λ (cs : List CardRows). IsOutcome p cs t.outcome) (sym h.1) h.2),
 )
 answered_cards (Err f) p name lines cards made h = (p, h)
 
@@ -40,10 +42,15 @@ platform_unwritten : (table : Option (List ℕ)) (fault : Fault) (deeds : List F
 platform_unwritten None fault deeds h = ap (λ (f : Fault). is_unwritten (Err f)) h.0
 platform_unwritten (Some name) fault deeds h = unread_unwritten name fault deeds h
 
+no_extent_unwritten : (words journal : List ℕ) (cells : Option (List ℕ)) (fault : Fault) → IsNoExtent words journal cells fault → is_unwritten (Err fault) ≡ false
+no_extent_unwritten words journal cells BadWords h = refl
+no_extent_unwritten words journal cells BadJournal h = refl
+no_extent_unwritten words journal cells BadTransient h = refl
+no_extent_unwritten words journal cells other h = absurd h
+
 pub unplanned_unwritten : (a : Asked) (fault : Fault) (deeds : List FileDeed) → IsUnplanned a fault deeds → is_unwritten (Err fault) ≡ false
-unplanned_unwritten a fault deeds (inl h) = ap (λ (f : Fault). is_unwritten (Err f)) h.0
-unplanned_unwritten a fault deeds (inr (inl h)) = ap (λ (f : Fault). is_unwritten (Err f)) h.0
-unplanned_unwritten a fault deeds (inr (inr h)) = platform_unwritten (table_asked a) fault deeds h
+unplanned_unwritten a fault deeds (inl h) = no_extent_unwritten _ _ _ fault h.0
+unplanned_unwritten a fault deeds (inr h) = platform_unwritten (table_asked a) fault deeds h
 
 -- for the platform table a text was read, or nothing
 pub platform_reading : (table : Option (List ℕ)) (text : List ℕ) (deeds : List FileDeed) → IsPlatform table text deeds → All IsReading deeds
@@ -55,12 +62,11 @@ no_platform_reading None fault deeds h = subst (λ (ds : List FileDeed). All IsR
 no_platform_reading (Some name) fault deeds h = unread_reading name fault deeds h
 
 pub planned_reading : (a : Asked) (p : Plan) (deeds : List FileDeed) → IsPlanned a p deeds → All IsReading deeds
-planned_reading a p deeds h = platform_reading (table_asked a) p.table.items deeds h.3
+planned_reading a p deeds h = platform_reading (table_asked a) p.table.items deeds h.2
 
 pub unplanned_reading : (a : Asked) (fault : Fault) (deeds : List FileDeed) → IsUnplanned a fault deeds → All IsReading deeds
-unplanned_reading a fault deeds (inl h) = subst (λ (ds : List FileDeed). All IsReading ds) (sym h.2) no_reading
-unplanned_reading a fault deeds (inr (inl h)) = subst (λ (ds : List FileDeed). All IsReading ds) (sym h.2) no_reading
-unplanned_reading a fault deeds (inr (inr h)) = no_platform_reading (table_asked a) fault deeds h
+unplanned_reading a fault deeds (inl h) = subst (λ (ds : List FileDeed). All IsReading ds) (sym h.1) no_reading
+unplanned_reading a fault deeds (inr h) = no_platform_reading (table_asked a) fault deeds h
 
 -- that text is the one that is named
 platform_named : (names : List (List ℕ)) (table : Option (List ℕ)) (text : List ℕ) (deeds : List FileDeed) (path : List ℕ) → IsPlatform table text deeds
@@ -72,10 +78,4 @@ platform_named names (Some table) text deeds path h at =
 
 pub planned_named : (names : List (List ℕ)) (a : Asked) (p : Plan) (deeds : List FileDeed) (path : List ℕ) → IsPlanned a p deeds
     → Contains (paths_read deeds) path → Contains (files_named names (table_asked a)) path
-planned_named names a p deeds path h at = platform_named names (table_asked a) p.table.items deeds path h.3 at
-
--- a number that a text spells
-pub number_told : (r : Option ℕ) (Tells Good : ℕ → Type 0) → IfSome r (λ n. Tells n) → (r ≡ None → (n : ℕ) → Tells n → ⊥) → ((n : ℕ) → Tells n → Good n)
-    → MatchOption r ((n : ℕ) → Tells n → ⊥) (λ n. Tells n × Good n)
-number_told None Tells Good some none good = none refl
-number_told (Some n) Tells Good some none good = (some, good n some)
+planned_named names a p deeds path h at = platform_named names (table_asked a) p.table.items deeds path h.2 at

@@ -31,7 +31,7 @@ use Rattle.jc_words.specs.Stores.{MemStoreValue}
 use Rattle.jcard_files.specs.Faults.{is_unwritten}
 use Rattle.jcard_files.specs.FileDeeds.{FileDeed, ReadsText}
 use Rattle.jcard_files.specs.Images.{IsNotRead}
-use Rattle.jcard_images.specs.NewImages.{IsNewImageInMemoryOf}
+use Rattle.jcard_images.specs.NewImages.{IsNewImageInMemory}
 use Rattle.jcard_files.specs.Readings.{IsRead, IsUnread, IsScriptRead}
 use Rattle.jcard_tests.specs.Sources.{AreNoted, IsReading, files_named, name_of, names_in, names_of, path_read, paths_of, paths_read}
 use Rattle.jcard_tests.specs.Tests.{AreAnsweredOn, AreSwept, AreSweptWell, AreFilesRead, EndsOn, IsFile, IsFileBehind, IsFileOf, IsFileRead, IsNewCard, IsSweptWell, IsToldOf, IsSweptFailure, AreIncluded, AreTested, IsFilePlace, IsPlace, IsPrinted, AreNoFileLines, IsNoRowsText, IsNoText, IsNotIncluded, IsOneUnread, IsRowsText, IsTested, IsUnanswered, IsUntested, operands_named, rows_operand}
@@ -200,7 +200,7 @@ swept_more p words rows n r at here before this k q below is swept = ⊎_elim
     (cases_lt k n)
 
 -- a new card in memory
-pub new_card_of : (p : Plan) (words : ℕ) (made : Result MemStoreValue Fault) → IsNewImageInMemoryOf words p.capacity p.table.items made
+pub new_card_of : (p : Plan) (words : ℕ) (made : Result MemStoreValue Fault) → IsNewImageInMemory words p.extent.room p.table.items made
     → MatchResult made (λ store. IsNewCard p words store.words × (store.passed ≡ 0)) (λ fault. IsUnanswered p fault)
 new_card_of p words (Ok store) new = new
 new_card_of p words (Err NoMemory) new = tt

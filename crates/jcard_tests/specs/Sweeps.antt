@@ -37,7 +37,7 @@ IsUsual sought = (sought.models ≡ all_models) × (sought.within ≡ 0) × (sou
 
 -- a line was attacked so over these words, with the line of this probe after each fault
 abbrev pub IsStruckLine : ℕ → List ℕ → Line → List ℕ → AttackSweep → Type 0
-IsStruckLine budget w l probe s = (c : Attacked) × (sought : Sought) × IsAttackedIn (probe ++ codes "\n") budget l c × IsUsual sought × IsSwept w c sought s
+IsStruckLine budget w l probe s = (c : Attacked) × (sought : Sought) × IsAttackedIn (probe ++ codes "\n") budget l c × IsUsual sought × IsSwept w c sought None s
 
 -- what is reported of a line that is attacked so: nothing where no fault was accepted; else how many were, or that it could not be attacked
 abbrev pub IsToldOfFaults : ℕ → List ℕ → Line → List ℕ → Option (List ℕ) → Type 0

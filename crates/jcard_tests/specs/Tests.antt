@@ -100,7 +100,7 @@ lacked_memory other = false
 
 -- these are this many words of a new card as planned
 abbrev pub IsNewCard : Plan → ℕ → List ℕ → Type 0
-IsNewCard p words w = IsNewImageOf words p.capacity p.table.items w
+IsNewCard p words w = IsNewImageOf words p.extent.room p.table.items w
 
 -- on a new card of this many words a script was carried out, up to its end or to a line that ended it, and printed this text
 abbrev pub IsPrinted : Plan → ℕ → List ℕ → List ℕ → Type 0
@@ -180,11 +180,11 @@ IsOutcome p cards outcome = (all : Outcome) × AreAnsweredOn p cards 0 all × (o
 
 -- the rows of these lines were answered so
 abbrev pub AreAnswered : Plan → List Numbered → Tested → Type 0
-AreAnswered p lines t = AreCardsOf p.words lines t.cards.items × IsOutcome p t.cards.items t.outcome
+AreAnswered p lines t = AreCardsOf p.extent.count lines t.cards.items × IsOutcome p t.cards.items t.outcome
 
 -- the cards of a file are as planned, but for the platform table that it names
 abbrev pub IsPlanFor : Plan → Option (List ℕ) → Plan → Type 0
-IsPlanFor p table q = (q.table.items ≡ unwrap_or table p.table.items) × (q.words ≡ p.words) × (q.capacity ≡ p.capacity) × (q.budget ≡ p.budget)
+IsPlanFor p table q = (q.table.items ≡ unwrap_or table p.table.items) × (q.extent ≡ p.extent) × (q.budget ≡ p.budget)
 
 -- the text of the platform table that a file names
 abbrev pub table_of : RowFile → Option (List ℕ)

@@ -21,7 +21,8 @@ use jc_platform::fault::TableFault;
 use jc_platform::read::read_table;
 use jc_words::{FuseStore, MemStore, WordStore};
 use jcard_files::fault::Fault;
-use jcard_images::memory_image::new_image_of;
+use jcard_images::extent::Extent;
+use jcard_images::memory_image::new_image;
 use jcard_script::card::power_up::PowerFault;
 use jcard_script::explainer::Unasked;
 use jcard_script::mem_text::MemText;
@@ -156,12 +157,18 @@ fn answers<'n, T: Timer>(
 // The store of a new card of this many words.
 fn new_card<'n>(alloc: Global, plan: &Plan, words: u16) -> Result<MemStore, Fault<'n>>
     requires { 4096 ≤ words }
-    ensures { MatchResult result (λ store. IsNewImageOf words plan.now.capacity
+    ensures { MatchResult result (λ store. IsNewImageOf words plan.now.extent.room
         plan.now.table.items store.words × (store.passed ≡ 0))
         (λ fault. IsUnanswered plan.now fault) }
 {
     match read_table(&plan.table) {
-        Ok(_) => new_image_of(alloc, words, plan.capacity, &plan.table),
+        Ok(_) => {
+            let extent = Extent {
+                count: words,
+                room: plan.extent.room,
+            };
+            new_image(alloc, extent, &plan.table)
+        }
         Err(TableFault::BadTable(line)) => Err(Fault::BadTable(line)),
     }
 }

@@ -92,7 +92,7 @@ fn told_of_faults(
 {
     let probe = ended(alloc, probe)?;
     let attacked = attacked_in(command, &probe, budget);
-    match attack(alloc, words, attacked, usual_faults()) {
+    match attack(alloc, words, attacked, usual_faults(), None) {
         Ok(sweep) => accepted(alloc, &sweep.strikes),
         Err(AttackFault::NoMemory) => Err(AllocError),
         Err(_) => Ok(Some(Vec::from_slice(alloc, b"not attacked")?)),
@@ -107,6 +107,7 @@ fn usual_faults<'a>() -> Sought<'a>
         models: Models::all(),
         within: 0,
         accepted: b"9000",
+        objects: false,
         names: b"",
     }
 }

@@ -223,8 +223,7 @@ fn plan_for(alloc: Global, plan: &Plan, file: &RowFile) -> Result<Plan, AllocErr
 {
     Ok(Plan {
         table: Vec::from_slice(alloc, table_for(plan, file))?,
-        words: plan.words,
-        capacity: plan.capacity,
+        extent: plan.extent,
         budget: plan.budget,
     })
 }
@@ -270,7 +269,7 @@ fn tested_lines<'n, T: Timer>(
     ensures { MatchResult result (λ tested. (tested.name.now ≡ name.now)
         × AreAnswered plan.now lines.now tested) (λ fault. IsUntested fault) }
 {
-    match cards_of(alloc, plan.words, lines) {
+    match cards_of(alloc, plan.extent.count, lines) {
         Ok(cards) => tested_cards(alloc, name, cards, plan, timer),
         Err(AllocError) => Err(Fault::NoMemory),
     }

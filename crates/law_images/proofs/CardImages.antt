@@ -4,9 +4,11 @@ use Rattle.std.specs.Prelude.{Ok}
 use Rattle.std.proofs.lemmas.Option.{none-some}
 use Rattle.jc_words.specs.Refusals.{Refusals}
 use Rattle.jc_commit.specs.Image.{recovered_of}
+use Rattle.jc_heap.specs.Whole.{IsConsistent}
 use Rattle.jc_heap.specs.Heap.{HeapState, heap_of}
 use Rattle.jc_heap.specs.Stored.{HoldsHeap}
 use Rattle.jc_heap.proofs.RawWords.{head_is, recovered-head}
+use Rattle.jc_image.specs.declared.laying.ImageRoom.{ImageRoom}
 use Rattle.jc_image.specs.Laying.{unsealed_heap}
 use Rattle.jc_linker.specs.Values.{Packages}
 use Rattle.law_linking.proofs.Bytes.{have_bytes}
@@ -19,6 +21,7 @@ use Rattle.jc_card.specs.Fixed.{last_fixed}
 use Rattle.jc_card.specs.Made.{IsCardHeap, IsMade, new_card_heap}
 use Rattle.jc_card.proofs.FittingImages.{counts_add, packages_add}
 use Rattle.jc_card_checks.specs.Sound.{IsSound}
+use Rattle.jc_card.proofs.NewFronts.{sizes-new_card_heap}
 use Rattle.jc_session.specs.Power.{KeptState, Up, durable_rest}
 use Rattle.law_soundness.specs.State.{IsFitObject}
 use Rattle.law_images.specs.Loads.{IsLaidOut}
@@ -62,17 +65,18 @@ kept_made t words k own keeps = record {
 }
 
 -- a new image has no packages
-pub new_layout : (n capacity : ℕ) (text : List ℕ) (t : Tokens) → IsLaidOut (new_card_heap n capacity text t)
-new_layout n capacity text t = record {
-  counted = ap (λ c. c.0) (counts_add t (unsealed_heap n capacity text) (fixed_objects t)) ∙ ap length (sym (packages_add t (unsealed_heap n capacity text) (fixed_objects t)));
-  apart = new_apart n capacity text t;
+pub new_layout : (n : ℕ) (room : ImageRoom) (text : List ℕ) (t : Tokens) → IsLaidOut (new_card_heap n room text t)
+new_layout n room text t = record {
+  counted = ap (λ c. c.0) (counts_add t (unsealed_heap n room text) (fixed_objects t)) ∙ ap length (sym (packages_add t (unsealed_heap n room text) (fixed_objects t)));
+  apart = new_apart n room text t;
 }
 
-new_kept : (t : Tokens) (capacity : ℕ) (text words : List ℕ) (k : KeptState) → IsMade words → Reads text (Ok t)
-    → heap_of (recovered_of words) ≡ new_card_heap (length words) capacity text t → Keeps words k → IsOwnKept t k
-new_kept t capacity text words k made reads is keeps =
-    let same : new_card_heap (length words) capacity text t ≡ k.durable = sym is ∙ keeps.durable in
-    let fits = new_images (length words) capacity text t made.heap.enough reads in
+new_kept : (t : Tokens) (room : ImageRoom) (text words : List ℕ) (k : KeptState) → IsMade words → Reads text (Ok t)
+    → heap_of (recovered_of words) ≡ new_card_heap (length words) room text t → Keeps words k → IsOwnKept t k
+new_kept t room text words k made reads is keeps =
+    let same : new_card_heap (length words) room text t ≡ k.durable = sym is ∙ keeps.durable in
+    let sizes = sizes-new_card_heap (length words) room text t (subst IsConsistent is made.heap.whole) in
+    let fits = new_images (length words) room text t made.heap.enough sizes reads in
     record {
       packages = record { platform = t; loaded = [] };
       linked = record {
@@ -82,7 +86,7 @@ new_kept t capacity text words k made reads is keeps =
       };
       heap = own_at (length words) t (record { platform = t; loaded = [] }) k.durable
           (subst (IsOwnHeap (length words) t (record { platform = t; loaded = [] })) same fits);
-      layout = subst IsLaidOut same (new_layout (length words) capacity text t);
+      layout = subst IsLaidOut same (new_layout (length words) room text t);
     }
 
 card_made : (t : Tokens) (words : List ℕ) (down : Bool) (passed : ℕ) (refusals : Refusals) (card : CardState) → IsOwnCard t card

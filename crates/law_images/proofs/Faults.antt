@@ -127,9 +127,9 @@ fault_is budget g t before after requests fault are own (inr stops) =
 
 pub end_well : OneTable → SessionsEndWell
 end_well g = record {
-  new = λ t capacity text store made reads is.
+  new = λ t room text store made reads is.
       let keeps : Keeps store.words (durable_state_in_store store) = record { good = made.log; laid = made.laid; durable = refl; size = refl } in
-      record { keeps = keeps; own = images_made.new t capacity text store.words (durable_state_in_store store) made reads is keeps };
+      record { keeps = keeps; own = images_made.new t room text store.words (durable_state_in_store store) made reads is keeps };
   made = made_of;
   done = λ budget t before after requests replies are own ends.
       let last = last_own budget g t before own requests replies ends.0 are ends.1 in store_own t ends.0 after last.0 last.1 ends.2;

@@ -34,8 +34,12 @@ module _ (h : HeapState) (ram : RamState) (words : List ℕ) (free : is_allocate
     | inr other ↦ inl (ap facts_of (item_beside h words r other))
   ]
 
+  same_words : g.lasting ≡ h.lasting
+  unfolding push_package
+  same_words = refl
+
   record_carried : TransientCells h ram → TransientCells g ram
-  record_carried t = more_carried h g ram stays headers t
+  record_carried t = more_carried h g ram same_words stays headers t
 
 pub package_carried : (h : HeapState) (ram : RamState) (cs : List (ℕ × List ℕ)) (xs : List (Kind × List ℕ)) (rest : List ℕ) → HasEnd h → TransientCells h ram
     → TransientCells (add_package h cs xs rest) ram

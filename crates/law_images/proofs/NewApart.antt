@@ -3,6 +3,7 @@ use Rattle.std.proofs.Common.{ℕ, List, [], ◌∷◌, refl, sym, arith}
 use Rattle.std.proofs.lemmas.Bool.{true≢false}
 use Rattle.jc_transient.specs.declared.cell.ClearEvent.TheVariants.{Reset}
 use Rattle.jc_heap.specs.Heap.{HeapState, heap_item_at, is_allocated}
+use Rattle.jc_image.specs.declared.laying.ImageRoom.{ImageRoom}
 use Rattle.jc_image.specs.Laying.{unsealed_heap}
 use Rattle.jc_platform.specs.Tokens.{Tokens}
 use Rattle.jc_environment.specs.Objects.{fixed_objects}
@@ -18,14 +19,14 @@ objects_apart t h [] b s = s
 objects_apart t h (o ∷ os) b s =
     objects_apart t (with_one t h o) os (below-one t h o b) (transient_apart h o.kind Reset (class_number_of t o.class) 0 o.cells (λ r high. b.absent r high) s)
 
-pub new_apart : (n capacity : ℕ) (text : List ℕ) (t : Tokens) → StandApart (new_card_heap n capacity text t)
+pub new_apart : (n : ℕ) (room : ImageRoom) (text : List ℕ) (t : Tokens) → StandApart (new_card_heap n room text t)
 unfolding heap_item_at is_allocated
-new_apart n capacity text t =
-    let bare : StandApart (unsealed_heap n capacity text) = record {
+new_apart n room text t =
+    let bare : StandApart (unsealed_heap n room text) = record {
       start = omega arith;
       first = λ r there. absurd (true≢false (sym there));
       below = λ r there. absurd (true≢false (sym there));
       apart = λ r q there behind lt. absurd (true≢false (sym there));
     } in
-    let s = objects_apart t (unsealed_heap n capacity text) (fixed_objects t) (record { absent = λ q le. refl; none = λ q le. refl }) bare in
+    let s = objects_apart t (unsealed_heap n room text) (fixed_objects t) (record { absent = λ q le. refl; none = λ q le. refl }) bare in
     record { start = s.start; first = s.first; below = s.below; apart = s.apart }

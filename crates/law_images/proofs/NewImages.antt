@@ -8,11 +8,13 @@ use Rattle.std.proofs.lemmas.Bool.{and_from, cases_lt, false≢true}
 use Rattle.std.proofs.lemmas.List.{length-replicate}
 use Rattle.jc_words.specs.Layout.{least_size, registry_length}
 use Rattle.jc_transient.specs.declared.cell.ClearEvent.TheVariants.{Reset}
+use Rattle.jc_transient.specs.State.{AreSizes}
 use Rattle.jc_heap.specs.declared.object.Kind.{Kind}
 use Rattle.jc_heap.specs.Object.{AnObject, APackage, Item, facts_of, is_object, new_transient}
 use Rattle.jc_heap.specs.Table.{entry_or}
 use Rattle.jc_heap.specs.Heap.{HeapState, IsObject, add_object, add_transient, area_end, heap_item_at, is_allocated, next_object}
 use Rattle.jc_heap.specs.Keeping.{IsConsistentHeap}
+use Rattle.jc_image.specs.declared.laying.ImageRoom.{ImageRoom}
 use Rattle.jc_image.specs.Laying.{unsealed_heap}
 use Rattle.jc_platform.specs.declared.names.PlatformClass.{PlatformClass}
 use Rattle.jc_platform.specs.Hierarchy.{is_interface}
@@ -196,67 +198,67 @@ begin_there h t begins k low =
     subst (IsObject h) (sym at) (follow_there h t 0 (fixed_objects t) 0 k (1 + k)
     (subst (λ q. HeadersFollow h q (fixed_facts t 0 (fixed_objects t))) (sym (zeroth h)) begins) lt (omega arith))
 
-module _ (n capacity : ℕ) (text : List ℕ) (t : Tokens) where
+module _ (n : ℕ) (room : ImageRoom) (text : List ℕ) (t : Tokens) where
   abbrev made : HeapState
-  made = with_objects t (unsealed_heap n capacity text) (fixed_objects t)
+  made = with_objects t (unsealed_heap n room text) (fixed_objects t)
 
-  below : IsBelow (new_card_heap n capacity text t)
+  below : IsBelow (new_card_heap n room text t)
   below =
-      let b : IsBelow made = below_all t (unsealed_heap n capacity text) (fixed_objects t) (record { absent = λ q le. refl; none = λ q le. refl }) in
+      let b : IsBelow made = below_all t (unsealed_heap n room text) (fixed_objects t) (record { absent = λ q le. refl; none = λ q le. refl }) in
       record { absent = b.absent; none = b.none }
 
-  some : 0 < (new_card_heap n capacity text t).top
-  some = let more = top_all t (unsealed_heap n capacity text) (fixed_objects t) in omega (arith, more)
+  some : 0 < (new_card_heap n room text t).top
+  some = let more = top_all t (unsealed_heap n room text) (fixed_objects t) in omega (arith, more)
 
-  stands_whole : IsConsistentHeap (new_card_heap n capacity text t)
+  stands_whole : AreSizes room.cells room.buffer → IsConsistentHeap (new_card_heap n room text t)
   unfolding is_allocated
-  stands_whole = record { whole = whole-new_card_heap n capacity text t; end = λ r high. below.absent r high; some = some }
+  stands_whole sizes = record { whole = whole-new_card_heap n room text t sizes; end = λ r high. below.absent r high; some = some }
 
-  fixed_items : (r : ℕ) → IsFixed t (heap_item_at (new_card_heap n capacity text t) r)
+  fixed_items : (r : ℕ) → IsFixed t (heap_item_at (new_card_heap n room text t) r)
   unfolding heap_item_at
-  fixed_items r = all_fixed t (unsealed_heap n capacity text) (fixed_objects t) (fixed_fit t) (λ q. absent_fixed t) r
+  fixed_items r = all_fixed t (unsealed_heap n room text) (fixed_objects t) (fixed_fit t) (λ q. absent_fixed t) r
 
-  no_package : (new_card_heap n capacity text t).packages ≡ []
-  no_package = packages_add t (unsealed_heap n capacity text) (fixed_objects t)
+  no_package : (new_card_heap n room text t).packages ≡ []
+  no_package = packages_add t (unsealed_heap n room text) (fixed_objects t)
 
-  no_applet : (new_card_heap n capacity text t).counts ≡ (0, 0)
-  no_applet = counts_add t (unsealed_heap n capacity text) (fixed_objects t)
+  no_applet : (new_card_heap n room text t).counts ≡ (0, 0)
+  no_applet = counts_add t (unsealed_heap n room text) (fixed_objects t)
 
-  nothing_above : IsSoundUpTo (new_card_heap n capacity text t).counts.1 (alone_with t) (new_card_heap n capacity text t) (last_fixed t (new_card_heap n capacity text t))
+  nothing_above : IsSoundUpTo (new_card_heap n room text t).counts.1 (alone_with t) (new_card_heap n room text t) (last_fixed t (new_card_heap n room text t))
   nothing_above = record {
-    objects = λ r above object. absurd (alone n capacity text t r above object);
+    objects = λ r above object. absurd (alone n room text t r above object);
     statics = λ k low. absurd (omega (arith, low, ap length no_package));
     applets = λ a low. absurd (omega (arith, low, ap (λ c. c.1) no_applet));
     distinct = λ b low. absurd (omega (arith, low, ap (λ c. c.1) no_applet));
     aids = λ a low. absurd (omega (arith, low, ap (λ c. c.1) no_applet));
   }
 
-  environments : AreEnvironmentObjects (alone_with t) (new_card_heap n capacity text t) (fixed_of t (new_card_heap n capacity text t))
+  environments : AreEnvironmentObjects (alone_with t) (new_card_heap n room text t) (fixed_of t (new_card_heap n room text t))
   environments = record {
-    long = omega (arith, least_count t, length-map-range_with_len (object_number (new_card_heap n capacity text t)) 1 (fixed_count t));
-    there = begin_there (new_card_heap n capacity text t) t (begins-new_card_heap n capacity text t);
+    long = omega (arith, least_count t, length-map-range_with_len (object_number (new_card_heap n room text t)) 1 (fixed_count t));
+    there = begin_there (new_card_heap n room text t) t (begins-new_card_heap n room text t);
     first = λ r low. (fixed_items r).owner;
     classes = λ r there instance zero. (fixed_items r).class there instance;
   }
 
-  begins : least_size ≤ n → Reads text (Ok t) → HasBeginning n t (new_card_heap n capacity text t)
+  begins : least_size ≤ n → Reads text (Ok t) → HasBeginning n t (new_card_heap n room text t)
   begins enough reads = record {
-    head = head-new_card_heap n capacity text t;
+    head = head-new_card_heap n room text t;
     enough = enough;
-    table = subst (λ l. Reads l (Ok t)) (sym (text-new_card_heap n capacity text t)) reads;
-    begins = begins-new_card_heap n capacity text t;
+    table = subst (λ l. Reads l (Ok t)) (sym (text-new_card_heap n room text t)) reads;
+    begins = begins-new_card_heap n room text t;
   }
 
-  last_below : (k : ℕ) → 17 ≤ k → object_number (new_card_heap n capacity text t) k < (new_card_heap n capacity text t).top
+  last_below : (k : ℕ) → 17 ≤ k → object_number (new_card_heap n room text t) k < (new_card_heap n room text t).top
   last_below zero some_there = absurd (omega (arith, some_there))
-  last_below (suc k) some_there = number_below (new_card_heap n capacity text t) k below some
+  last_below (suc k) some_there = number_below (new_card_heap n room text t) k below some
 
-  own_heap : least_size ≤ n → Reads text (Ok t) → IsOwnHeap n t (alone_with t) (new_card_heap n capacity text t)
-  own_heap enough reads = record {
+  own_heap : least_size ≤ n → AreSizes room.cells room.buffer → Reads text (Ok t) → IsOwnHeap n t (alone_with t) (new_card_heap n room text t)
+  own_heap enough sizes reads = record {
     beginning = begins enough reads;
-    packages = no_packages t (new_card_heap n capacity text t) no_package;
-    stands = stands_whole;
-    registry = ap length (applets_all t (unsealed_heap n capacity text) (fixed_objects t)) ∙ length-replicate {A = ℕ} registry_length 0;
+    packages = no_packages t (new_card_heap n room text t) no_package;
+    stands = stands_whole sizes;
+    registry = ap length (applets_all t (unsealed_heap n room text) (fixed_objects t)) ∙ length-replicate {A = ℕ} registry_length 0;
     loaded = ap length no_package;
     fits = nothing_above;
     environment = environments;
@@ -265,4 +267,4 @@ module _ (n capacity : ℕ) (text : List ℕ) (t : Tokens) where
   }
 
 pub new_images : NewImagesFit
-new_images = λ n capacity text t enough reads. own_heap n capacity text t enough reads
+new_images = λ n room text t enough sizes reads. own_heap n room text t enough sizes reads

@@ -7,7 +7,7 @@ use Rattle.std.proofs.lemmas.List.Elements.{All-drop, All-nil, All-take}
 use Rattle.std.proofs.lemmas.Option.{none-some, same_Some}
 use Rattle.jc_words.specs.Refusals.{Refusals}
 use Rattle.jc_transient.specs.State.{IsCleared, buffer_size}
-use Rattle.jc_heap.specs.Heap.{HeapState, heap_at_rest}
+use Rattle.jc_heap.specs.Heap.{HeapState, area_sizes, heap_at_rest}
 use Rattle.jc_heap.specs.Keeping.{AreConsistent}
 use Rattle.jc_heap.proofs.Changing.{shape-same}
 use Rattle.jc_memory.specs.Owners.{at_reset}
@@ -166,7 +166,8 @@ kept_own t (Up card) own = record {
 kept_own t (Off b k) own = own
 
 module _ (n : ℕ) (t : Tokens) (p : Packages) (h : HeapState) (own : IsOwnHeap h.head.1 t p h) (linked : AreLinkedWell p) (layout : IsLaidOut h)
-    (passed : ℕ) (budget : Budget) (refusals : Refusals) (m : MemoryState) (clear : IsCleared m.ram) (none : m.command ≡ []) where
+    (passed : ℕ) (budget : Budget) (refusals : Refusals) (m : MemoryState) (clear : IsCleared m.ram) (fits : m.ram.sizes ≡ area_sizes h)
+    (none : m.command ≡ []) where
   abbrev reset_memory : MemoryState
   reset_memory = record m { heap = heap_at_rest h passed refusals n; fixed = fixed_of t h; registers = at_reset }
 
@@ -193,7 +194,7 @@ module _ (n : ℕ) (t : Tokens) (p : Packages) (h : HeapState) (own : IsOwnHeap 
     home = refl;
     selected = λ a e. absurd (none-some a e);
     command = let long = ap length none in omega (arith, long);
-    transients = blank_lives h m.ram clear;
+    transients = blank_lives h m.ram clear fits;
   }
 
   reset_own : IsOwnCard t (record { memory = reset_memory; packages = p; load = None; budget = budget })
@@ -213,7 +214,7 @@ powered_own g t k budget card own up =
     let known : card.memory.fixed ≡ fixed_of t k.durable = subst (λ u. card.memory.fixed ≡ fixed_of u k.durable) table up.reset.packages.3 in
     let same : card.packages ≡ own.packages = same_Some card.packages own.packages (sym read ∙ own.heap.packages) in
     let reset = reset_own k.size t own.packages k.durable own.heap own.linked own.layout card.memory.heap.passed card.budget k.refusals card.memory
-    up.reset.ram up.reset.command in
+    up.reset.ram up.reset.sizes up.reset.command in
     let path : card ≡ record {
       memory = record card.memory {
         heap = heap_at_rest k.durable card.memory.heap.passed k.refusals k.size;

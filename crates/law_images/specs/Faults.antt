@@ -2,6 +2,7 @@
 use Rattle.std.specs.Prelude.{ℕ, ◌≡◌, List, length, Ok, Err}
 use Rattle.jc_commit.specs.Image.{recovered_of}
 use Rattle.jc_heap.specs.Heap.{heap_of}
+use Rattle.jc_image.specs.declared.laying.ImageRoom.{ImageRoom}
 use Rattle.jc_platform.specs.Table.{Reads}
 use Rattle.jc_platform.specs.Tokens.{Tokens}
 use Rattle.jc_card.specs.Made.{IsMade, new_card_heap}
@@ -22,8 +23,8 @@ pub record IsOwnStore (t : Tokens) (store : StoreState) : Type 0 where
 -- Such is the store of a new image. A session over such a store leaves such a one, which powers up again, also where it ended by a
 -- fault; and neither its first power up nor a reset in it finds a fault but want of memory
 pub record SessionsEndWell : Type 0 where
-  pub new : (t : Tokens) (capacity : ℕ) (text : List ℕ) (store : StoreState) → IsMade store.words → Reads text (Ok t)
-      → heap_of (recovered_of store.words) ≡ new_card_heap (length store.words) capacity text t → IsOwnStore t store
+  pub new : (t : Tokens) (room : ImageRoom) (text : List ℕ) (store : StoreState) → IsMade store.words → Reads text (Ok t)
+      → heap_of (recovered_of store.words) ≡ new_card_heap (length store.words) room text t → IsOwnStore t store
   pub made : (t : Tokens) (store : StoreState) → IsOwnStore t store → IsMade store.words
   pub done : (budget : ℕ) (t : Tokens) (before after : StoreState) (requests : List Request) (replies : List Reply) → AreOfBytes requests → IsOwnStore t before
       → SessionEnds budget (Ok replies) before requests after → IsOwnStore t after

@@ -1,6 +1,8 @@
 -- New images, and what effects leave of a heap's beginning.
 use Rattle.std.specs.Prelude.{ℕ, ◌≡◌, ◌≤◌, List, [], Ok}
 use Rattle.jc_words.specs.Layout.{least_size}
+use Rattle.jc_transient.specs.State.{AreSizes}
+use Rattle.jc_image.specs.declared.laying.ImageRoom.{ImageRoom}
 use Rattle.jc_memory.specs.State.{MemoryState, Effect, apply_effect}
 use Rattle.jc_platform.specs.Tokens.{Tokens}
 use Rattle.jc_platform.specs.Table.{Reads}
@@ -10,8 +12,8 @@ use Rattle.law_images.specs.Heaps.{HasBeginning, IsOwnHeap}
 
 -- the heap of a new image fits its packages, of which there are none
 abbrev pub NewImagesFit : Type 0
-NewImagesFit = (n capacity : ℕ) (text : List ℕ) (t : Tokens) → least_size ≤ n → Reads text (Ok t)
-    → IsOwnHeap n t (record { platform = t; loaded = [] }) (new_card_heap n capacity text t)
+NewImagesFit = (n : ℕ) (room : ImageRoom) (text : List ℕ) (t : Tokens) → least_size ≤ n → AreSizes room.cells room.buffer → Reads text (Ok t)
+    → IsOwnHeap n t (record { platform = t; loaded = [] }) (new_card_heap n room text t)
 
 -- a memory's heap, and the one that a loss of power leaves, have their beginning, and the same objects of the runtime environment, which are
 -- those that the memory knows

@@ -3,8 +3,9 @@ use Rattle.std.proofs.Common.{◌≡◌, ℕ, ◌+◌, ◌%◌, ◌≤◌, ◌�
 use Rattle.std.proofs.lemmas.Bool.{true≢false}
 use Rattle.std.specs.Prelude.{slice_index}
 use Rattle.jc_transient.specs.declared.cell.ClearEvent.{ClearEvent}
+use Rattle.jc_transient.specs.declared.sizes.RamSizes.{RamSizes}
 use Rattle.jc_transient.specs.declared.cell.ClearEvent.TheVariants.{Reset, Deselect}
-use Rattle.jc_transient.specs.State.{RamState, HasSizes, area, area_size}
+use Rattle.jc_transient.specs.State.{RamState, HasSizes, area, area_size, size_in}
 use Rattle.jc_heap.specs.Object.{Object, Item, AnObject, APackage, is_object, facts_of}
 use Rattle.jc_heap.specs.Heap.{IsObject, heap_item_at, facts, area_end}
 use Rattle.jc_heap.proofs.OwnCells.{owns_cells}
@@ -26,7 +27,7 @@ is_an_object : (t : Item) → is_object t ≡ true → (o : Object) × (t ≡ An
 is_an_object (AnObject o) e = (o, refl)
 is_an_object (APackage ws) e = absurd (true≢false (sym e))
 
-pub area_long : (ram : RamState) (event : ClearEvent) → HasSizes ram → length (area ram event) ≡ area_size
+pub area_long : (ram : RamState) (event : ClearEvent) → HasSizes ram → length (area ram event) ≡ area_size ram event
 area_long ram Reset sizes = sizes.reset_cells
 area_long ram Deselect sizes = sizes.deselect_cells
 
@@ -53,7 +54,8 @@ stands_first m q o set is =
             (own.below q event (event_of event e)) in
             let fits = (set.whole.areas event).fits in
             let size = area_long m.ram event set.sizes in
-            omega (arith, below, fits, size);
+            let same = ap (λ (z : RamSizes). size_in z event) set.fits in
+            omega (arith, below, fits, size, same);
       };
       flag = refl;
       active = refl;

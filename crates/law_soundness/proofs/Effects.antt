@@ -98,7 +98,7 @@ module _ (p : Packages) (m : MemoryState) (s : IsSoundMemory p m) (r i v : ℕ) 
 
   durable_frames : Frames m.heap.durable left
   durable_frames = choose (Frames m.heap.durable) touched m.heap.durable set_durable
-      (λ on. record { packages = refl; counts = refl; registry = refl; top = omega arith; headers = λ q low. refl; objects = λ q low. refl })
+      (λ on. record { packages = refl; counts = refl; registry = refl; lasting = refl; top = omega arith; headers = λ q low. refl; objects = λ q low. refl })
       (λ off. cell_frames m.heap.durable r i v)
 
   set_kept : IsSoundMemory p (apply_effect (HeapMove (WriteNonAtomic (Cell r i) v)) m)
@@ -127,7 +127,7 @@ module _ (p : Packages) (m : MemoryState) (s : IsSoundMemory p m) (r i v : ℕ) 
         home = home_same m.heap.now (set_cell m.heap.now r i v) m.registers.installation f.packages ∙ s.home;
         selected = λ a e. applet_same m.heap.durable left a d.counts ∙ s.selected a e;
         command = s.command;
-        transients = same_carried m.heap.now (set_cell m.heap.now r i v) m.ram (header_only-set_cell m.heap.now r i v) s.transients;
+        transients = same_carried m.heap.now (set_cell m.heap.now r i v) m.ram f.lasting (header_only-set_cell m.heap.now r i v) s.transients;
       }
 
 -- a try is counted, or all are given back
@@ -205,7 +205,7 @@ module _ (p : Packages) (m : MemoryState) (s : IsSoundMemory p m) (changes : Lis
     home = s.home;
     selected = λ a e. ap (λ h. is_applet h a) left_is ∙ s.selected a e;
     command = s.command;
-    transients = same_carried m.heap.now registered m.ram (λ q. ap header_only (item_still p m.heap.now (last_own m) f.entry new_entry q)) s.transients;
+    transients = same_carried m.heap.now registered m.ram refl (λ q. ap header_only (item_still p m.heap.now (last_own m) f.entry new_entry q)) s.transients;
   }
 
 -- ---- PINs

@@ -23,12 +23,13 @@ same_object a b e = sym (object-header_only a) ∙ ap is_object e ∙ object-hea
 abbrev pub SameHeaders : HeapState → HeapState → Type 0
 SameHeaders h g = (r : ℕ) → header_only (heap_item_at g r) ≡ header_only (heap_item_at h r)
 
--- the same packages and the same numbers of them and of applets, as many words of the registry, the same headers of the same objects, and no
--- less space taken
+-- the same packages and the same numbers of them and of applets, as many words of the registry, the same headers of the same objects, no
+-- less space taken, and the same words that no change touches
 pub record Frames (h g : HeapState) : Type 0 where
   pub packages : g.packages ≡ h.packages
   pub counts : g.counts ≡ h.counts
   pub registry : length g.applets ≡ length h.applets
+  pub lasting : g.lasting ≡ h.lasting
   pub top : h.top ≤ g.top
   pub headers : (r : ℕ) → r < h.top → facts g r ≡ facts h r
   pub objects : (r : ℕ) → r < h.top → is_object (heap_item_at g r) ≡ is_object (heap_item_at h r)
@@ -38,6 +39,7 @@ also h g k first second = record {
   packages = second.packages ∙ first.packages;
   counts = second.counts ∙ first.counts;
   registry = second.registry ∙ first.registry;
+  lasting = second.lasting ∙ first.lasting;
   top = let a = first.top in let b = second.top in omega (arith, a, b);
   headers = λ r low. second.headers r (let a = first.top in omega (arith, a, low)) ∙ first.headers r low;
   objects = λ r low. second.objects r (let a = first.top in omega (arith, a, low)) ∙ first.objects r low;
@@ -49,6 +51,7 @@ cell_frames h r i v = record {
   packages = refl;
   counts = refl;
   registry = refl;
+  lasting = refl;
   top = omega arith;
   headers = λ q low. facts-set_cell h r i v q;
   objects = λ q low. same_object (heap_item_at (set_cell h r i v) q) (heap_item_at h q) (header_only-set_cell h r i v q);
@@ -60,6 +63,7 @@ word_frames h r j v = record {
   packages = refl;
   counts = refl;
   registry = refl;
+  lasting = refl;
   top = omega arith;
   headers = λ q low. same_facts (heap_item_at (set_word h r j v) q) (heap_item_at h q) (header_only-set_word h r j v q);
   objects =
@@ -67,7 +71,7 @@ word_frames h r j v = record {
 }
 
 pub run_frames : (vs : List ℕ) (h : HeapState) (r i : ℕ) → Frames h (set_cells h r i vs)
-run_frames [] h r i = record { packages = refl; counts = refl; registry = refl; top = omega arith; headers = λ q low. refl; objects = λ q low. refl }
+run_frames [] h r i = record { packages = refl; counts = refl; registry = refl; lasting = refl; top = omega arith; headers = λ q low. refl; objects = λ q low. refl }
 run_frames (v ∷ vs) h r i = also h (set_cell h r i v) (set_cells (set_cell h r i v) r (suc i) vs) (cell_frames h r i v)
     (run_frames vs (set_cell h r i v) r (suc i))
 
@@ -77,6 +81,7 @@ object_frames h o n = record {
   packages = refl;
   counts = refl;
   registry = refl;
+  lasting = refl;
   top = omega arith;
   headers = λ q low. ap facts_of (heap_item_at-add_other h o n q (λ e. omega (arith, e, low)));
   objects =
@@ -85,8 +90,8 @@ object_frames h o n = record {
 
 end_frames : (h : HeapState) (event : ClearEvent) (n : ℕ) → Frames h (with_area_end h event n)
 unfolding heap_item_at
-end_frames h Reset n = record { packages = refl; counts = refl; registry = refl; top = omega arith; headers = λ q low. refl; objects = λ q low. refl }
-end_frames h Deselect n = record { packages = refl; counts = refl; registry = refl; top = omega arith; headers = λ q low. refl; objects = λ q low. refl }
+end_frames h Reset n = record { packages = refl; counts = refl; registry = refl; lasting = refl; top = omega arith; headers = λ q low. refl; objects = λ q low. refl }
+end_frames h Deselect n = record { packages = refl; counts = refl; registry = refl; lasting = refl; top = omega arith; headers = λ q low. refl; objects = λ q low. refl }
 
 pub transient_frames : (h : HeapState) (kind : Kind) (event : ClearEvent) (class owner long : ℕ) → Frames h (add_transient h kind event class owner long)
 unfolding add_transient
@@ -105,7 +110,7 @@ AreHeld ((Registry i, v) ∷ cs) = ⊥
 AreHeld ((AppletCount, v) ∷ cs) = ⊥
 
 pub places_frames : (cs : List (Place × ℕ)) (h : HeapState) → AreHeld cs → Frames h (set_places h cs)
-places_frames [] h held = record { packages = refl; counts = refl; registry = refl; top = omega arith; headers = λ q low. refl; objects = λ q low. refl }
+places_frames [] h held = record { packages = refl; counts = refl; registry = refl; lasting = refl; top = omega arith; headers = λ q low. refl; objects = λ q low. refl }
 places_frames ((Cell r i, v) ∷ cs) h held = also h (set_cell h r i v) (set_places (set_cell h r i v) cs) (cell_frames h r i v)
     (places_frames cs (set_cell h r i v) held)
 places_frames ((Static r j, v) ∷ cs) h held = also h (set_word h r j v) (set_places (set_word h r j v) cs) (word_frames h r j v)

@@ -134,7 +134,7 @@ module _ (p : Packages) (m : MemoryState) (s : IsSoundMemory p m) where
   pub kept_changed : (h : HeapState) (places : List ℕ) (fresh : ℕ) → Frames now h → SameHeaders now h → AreConsistent (heap_after_change m.heap h places fresh)
       → ((most : ℕ) → IsSoundUpTo most p now own → IsSoundUpTo most p h own) → IsSoundMemory p (record m { heap = heap_after_change m.heap h places fresh })
   kept_changed h places fresh f headers w keep = change_kept h places fresh f w (keep (most_owner m) s.now) (λ off. keep now.counts.1 (low_now off)) m.ram
-      (same_carried now h m.ram headers s.transients)
+      (same_carried now h m.ram f.lasting headers s.transients)
 
   -- a new object's owner
   new_most : most_new m ≤ most_owner m

@@ -4,12 +4,11 @@ use Rattle.std.proofs.lemmas.Bool.{and_parts, both_ways, false_from_ne_true, ltb
 use Rattle.std.proofs.lemmas.Option.{none-some}
 use Rattle.std.specs.Prelude.{nat_lt}
 use Rattle.jc_transient.specs.declared.cell.ClearEvent.{ClearEvent}
-use Rattle.jc_transient.specs.State.{area_size}
 use Rattle.jc_heap.specs.declared.object.Kind.{Kind}
 use Rattle.jc_heap.specs.declared.object.Kind.TheVariants.{Instance, BooleanArray, ByteArray, ShortArray, ReferenceArray}
 use Rattle.jc_heap.specs.declared.refusal.HeapRefusal.{HeapRefusal}
 use Rattle.jc_heap.specs.declared.refusal.HeapRefusal.TheVariants.{NoTransientSpace}
-use Rattle.jc_heap.specs.Heap.{LacksCells, area_end, facts}
+use Rattle.jc_heap.specs.Heap.{LacksCells, area_end, area_limit, facts}
 use Rattle.jc_memory.specs.declared.making.NewObject.{NewObject}
 use Rattle.jc_memory.specs.Owners.{owner_number}
 use Rattle.jc_memory.specs.State.{MemoryState}
@@ -49,13 +48,13 @@ module _ (p : Packages) (m : MemoryState) (known : KnowsClasses p) (sound : IsSo
 -- transient arrays
 module _ (p : Packages) (m : MemoryState) (known : KnowsClasses p) (sound : IsSoundMemory p m) (steady : IsSteady m) where
   -- a cell that there is no space for is refused
-  space_in : (event : ClearEvent) (long : ℕ) (b : Bool) → nat_lt area_size (area_end m.heap.now event + long) ≡ b → (other : Option HeapRefusal)
+  space_in : (event : ClearEvent) (long : ℕ) (b : Bool) → nat_lt (area_limit m.heap.now event) (area_end m.heap.now event + long) ≡ b → (other : Option HeapRefusal)
       → (if b then Some NoTransientSpace else other) ≡ None → LacksCells m.heap.now event long → ⊥
   space_in event long true lacks other e more = absurd (none-some NoTransientSpace (sym e))
-  space_in event long false lacks other e more = let le = ltb-false area_size (area_end m.heap.now event + long) lacks in omega (arith, le, more)
+  space_in event long false lacks other e more = let le = ltb-false (area_limit m.heap.now event) (area_end m.heap.now event + long) lacks in omega (arith, le, more)
 
   has_space : (o : NewObject) (event : ClearEvent) → o.event ≡ Some event → creation_refusal m o ≡ None → LacksCells m.heap.now event o.length → ⊥
-  has_space o event is room = space_in event o.length (nat_lt area_size (area_end m.heap.now event + o.length)) refl _
+  has_space o event is room = space_in event o.length (nat_lt (area_limit m.heap.now event) (area_end m.heap.now event + o.length)) refl _
       (subst (λ e. creation_refusal_in e m o ≡ None) is room)
 
   fits_for : (kind : Kind) (n : ℕ) → (kind ≡ Instance → ⊥) → fits_class p kind (class_for kind p) n ≡ true

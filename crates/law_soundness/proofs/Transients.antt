@@ -10,14 +10,15 @@ use Rattle.std.specs.Prelude.{◌==◌, nat_lt, pos, replicate, set}
 use Rattle.jc_transient.specs.declared.cell.CellValue.{CellValue}
 use Rattle.jc_transient.specs.declared.cell.CellValue.TheVariants.{Short, Reference}
 use Rattle.jc_transient.specs.declared.cell.ClearEvent.{ClearEvent}
+use Rattle.jc_transient.specs.declared.sizes.RamSizes.{RamSizes}
 use Rattle.jc_transient.specs.declared.cell.ClearEvent.TheVariants.{Reset, Deselect}
 use Rattle.jc_transient.specs.Cells.{default_value, number_of, without_dead}
-use Rattle.jc_transient.specs.State.{RamState, HasSizes, IsCleared, area, area_size, cell_at, with_area, with_cells}
+use Rattle.jc_transient.specs.State.{RamState, HasSizes, IsCleared, area, area_size, cell_at, ram_sizes, size_in, with_area, with_cells}
 use Rattle.jc_heap.specs.declared.object.Facts.{Facts}
 use Rattle.jc_heap.specs.declared.object.Kind.{Kind}
 use Rattle.jc_heap.specs.declared.object.Kind.TheVariants.{ReferenceArray}
 use Rattle.jc_heap.specs.Object.{Object, facts_of, header_only, is_object, new_transient}
-use Rattle.jc_heap.specs.Heap.{HeapState, HeapView, IsObject, LacksCells, add_object, add_transient, area_end, facts, heap_item_at, is_allocated, with_area_end}
+use Rattle.jc_heap.specs.Heap.{HeapState, HeapView, IsObject, LacksCells, add_object, add_transient, area_end, area_limit, area_sizes, facts, heap_item_at, is_allocated, with_area_end}
 use Rattle.jc_heap.specs.Keeping.{AreConsistent, IsConsistentHeap}
 use Rattle.jc_heap.specs.Whole.{IsConsistent, IsReference}
 use Rattle.jc_heap.proofs.Laws.{heap_item_at-absent, heap_item_at-add_object, heap_item_at-add_other, object_named, same_facts}
@@ -61,28 +62,35 @@ put_cell P xs vs a k le old new =
           ]
     ]
 
-with_sized : (ram : RamState) (event : ClearEvent) (cells : List CellValue) → HasSizes ram → length cells ≡ area_size → HasSizes (with_area ram event cells)
+with_sized : (ram : RamState) (event : ClearEvent) (cells : List CellValue) → HasSizes ram → length cells ≡ area_size ram event
+    → HasSizes (with_area ram event cells)
 with_sized ram Reset cells sizes long = record { reset_cells = long; deselect_cells = sizes.deselect_cells; flags = sizes.flags }
 with_sized ram Deselect cells sizes long = record { reset_cells = sizes.reset_cells; deselect_cells = long; flags = sizes.flags }
 
-module _ (ram : RamState) (sizes : HasSizes ram) (at : ℕ) (vs : List CellValue) (fits : at + length vs ≤ area_size) where
-  abbrev put : ClearEvent → RamState
-  put event = with_area ram event (with_cells (area ram event) at vs)
+-- values put into an event's area from a place on
+abbrev put : RamState → ℕ → List CellValue → ClearEvent → RamState
+put ram at vs event = with_area ram event (with_cells (area ram event) at vs)
 
-  put_sized : (event : ClearEvent) → HasSizes (put event)
-  put_sized event =
-      let size = area_long ram event sizes in
-      with_sized ram event _ sizes (put_long (area ram event) vs at (omega (arith, size, fits)) ∙ size)
+-- the sizes stay
+put_same : (ram : RamState) (event : ClearEvent) (cells : List CellValue) → (with_area ram event cells).sizes ≡ ram.sizes
+put_same ram Reset cells = refl
+put_same ram Deselect cells = refl
 
-  -- so it is in both areas
-  put_at : (P : CellValue → Type 0) (event e : ClearEvent) (k : ℕ) → ((e ≡ event → (k < at) ⊎ (at + length vs ≤ k)) → P (cell_at ram e k))
-      → (e ≡ event → at ≤ k → k - at < length vs → P (get_or vs (k - at) blank)) → P (cell_at (put event) e k)
-  put_at P Reset Reset k old new = put_cell P ram.reset_cells vs at k (let size = sizes.reset_cells in omega (arith, size, fits)) (λ apart. old (λ is. apart))
-      (new refl)
-  put_at P Deselect Deselect k old new = put_cell P ram.deselect_cells vs at k (let size = sizes.deselect_cells in omega (arith, size, fits))
-      (λ apart. old (λ is. apart)) (new refl)
-  put_at P Reset Deselect k old new = old (λ is. absurd cc)
-  put_at P Deselect Reset k old new = old (λ is. absurd cc)
+put_sized : (ram : RamState) → HasSizes ram → (at : ℕ) (vs : List CellValue) (event : ClearEvent) → at + length vs ≤ area_size ram event → HasSizes (put ram at vs event)
+put_sized ram sizes at vs event fits =
+    let size = area_long ram event sizes in
+    with_sized ram event _ sizes (put_long (area ram event) vs at (omega (arith, size, fits)) ∙ size)
+
+-- so it is in both areas
+put_at : (ram : RamState) → HasSizes ram → (at : ℕ) (vs : List CellValue) (P : CellValue → Type 0) (event e : ClearEvent) (k : ℕ)
+    → at + length vs ≤ area_size ram event → ((e ≡ event → (k < at) ⊎ (at + length vs ≤ k)) → P (cell_at ram e k))
+    → (e ≡ event → at ≤ k → k - at < length vs → P (get_or vs (k - at) blank)) → P (cell_at (put ram at vs event) e k)
+put_at ram sizes at vs P Reset Reset k fits old new = put_cell P ram.reset_cells vs at k (let size = sizes.reset_cells in omega (arith, size, fits))
+    (λ apart. old (λ is. apart)) (new refl)
+put_at ram sizes at vs P Deselect Deselect k fits old new = put_cell P ram.deselect_cells vs at k (let size = sizes.deselect_cells in omega (arith, size, fits))
+    (λ apart. old (λ is. apart)) (new refl)
+put_at ram sizes at vs P Reset Deselect k fits old new = old (λ is. absurd cc)
+put_at ram sizes at vs P Deselect Reset k fits old new = old (λ is. absurd cc)
 
 -- what is recognised as a reference is one
 pub names_object : (h : HeapState) (v : ℕ) → is_reference h v ≡ true → IsReference h v
@@ -111,6 +119,8 @@ no_elements h ram f none = λ event i array kept lt. absurd (none-some event (sy
 -- each cell became another one, and what lived lives; each object has the header that it had, or living elements
 pub record AreCarried (h g : HeapState) (ram new : RamState) (change : ClearEvent → CellValue → CellValue) : Type 0 where
   pub sizes : HasSizes new
+  pub contents : new.sizes ≡ ram.sizes
+  pub words : g.lasting ≡ h.lasting
   pub cells : (event : ClearEvent) (place : ℕ) → cell_at new event place ≡ change event (cell_at ram event place)
   pub values : (event : ClearEvent) (v : CellValue) → IsLivingValue h v → IsLivingValue g (change event v)
   pub elements : (event : ClearEvent) (v : CellValue) → IsLivingElement h v → IsLivingElement g (change event v)
@@ -120,6 +130,7 @@ pub carried : (h g : HeapState) (ram new : RamState) (change : ClearEvent → Ce
     → TransientCells g new
 carried h g ram new change c t = record {
   sizes = c.sizes;
+  fits = c.contents ∙ t.fits ∙ ap (λ (l : List ℕ). ram_sizes (get_or l 1 0) (get_or l 2 0)) (sym c.words);
   values = λ event place. subst (IsLivingValue g) (sym (c.cells event place)) (c.values event (cell_at ram event place) (t.values event place));
   elements = λ r. elim (c.headers r) [
     | inl same ↦ subst (HasLivingElements g new) (sym same) (λ event i array kept lt. subst (IsLivingElement g)
@@ -129,10 +140,12 @@ carried h g ram new change c t = record {
 }
 
 -- with the same cells, over a heap with more objects
-pub more_carried : (h g : HeapState) (ram : RamState) → ((r : ℕ) → IsObject h r → IsObject g r)
+pub more_carried : (h g : HeapState) (ram : RamState) → g.lasting ≡ h.lasting → ((r : ℕ) → IsObject h r → IsObject g r)
     → ((r : ℕ) → (facts g r ≡ facts h r) ⊎ ((facts g r).event ≡ None)) → TransientCells h ram → TransientCells g ram
-more_carried h g ram more headers t = carried h g ram ram (λ event v. v) (record {
+more_carried h g ram words more headers t = carried h g ram ram (λ event v. v) (record {
   sizes = t.sizes;
+  contents = refl;
+  words = words;
   cells = λ event place. refl;
   values = λ event v. value_more h g more v;
   elements = λ event v. element_more h g more v;
@@ -143,9 +156,9 @@ more_carried h g ram more headers t = carried h g ram ram (λ event v. v) (recor
 }) t
 
 -- where each header is as it was
-pub same_carried : (h g : HeapState) (ram : RamState) → ((r : ℕ) → header_only (heap_item_at g r) ≡ header_only (heap_item_at h r)) → TransientCells h ram
+pub same_carried : (h g : HeapState) (ram : RamState) → g.lasting ≡ h.lasting → ((r : ℕ) → header_only (heap_item_at g r) ≡ header_only (heap_item_at h r)) → TransientCells h ram
     → TransientCells g ram
-same_carried h g ram same t = more_carried h g ram (λ r there. same_object (heap_item_at g r) (heap_item_at h r) (same r) ∙ there)
+same_carried h g ram words same t = more_carried h g ram words (λ r there. same_object (heap_item_at g r) (heap_item_at h r) (same r) ∙ there)
     (λ r. inl (same_facts (heap_item_at g r) (heap_item_at h r) (same r))) t
 
 -- ---- flags, clearing, an abort, and what a reset leaves
@@ -161,6 +174,8 @@ pub flags_carried : (h : HeapState) (ram : RamState) (flags : List Bool) → len
     → TransientCells h (record ram { flags = flags })
 flags_carried h ram flags same t = carried h h ram (record ram { flags = flags }) (λ event v. v) (record {
   sizes = flags_sized ram flags same t.sizes;
+  contents = refl;
+  words = refl;
   cells = flagged_cells ram flags;
   values = λ event v lives. lives;
   elements = λ event v lives. lives;
@@ -205,6 +220,8 @@ module _ (h : HeapState) (ram : RamState) (t : TransientCells h ram) where
   pub cleared_carried : (event : ClearEvent) → TransientCells h (with_area ram event (map default_value (area ram event)))
   cleared_carried event = carried h h ram _ (cleared_by event) (record {
     sizes = with_sized ram event _ t.sizes (length-map (area ram event) default_value ∙ area_long ram event t.sizes);
+    contents = put_same ram event (map default_value (area ram event));
+    words = refl;
     cells = cleared_cells event;
     values = cleared_values event;
     elements = cleared_elements event;
@@ -212,9 +229,10 @@ module _ (h : HeapState) (ram : RamState) (t : TransientCells h ram) where
   }) t
 
 -- a heap over which all cells are zero
-pub blank_lives : (h : HeapState) (ram : RamState) → IsCleared ram → TransientCells h ram
-blank_lives h ram clear = record {
+pub blank_lives : (h : HeapState) (ram : RamState) → IsCleared ram → ram.sizes ≡ area_sizes h → TransientCells h ram
+blank_lives h ram clear fits = record {
   sizes = clear.sizes;
+  fits = fits;
   values = λ event place. subst (IsLivingValue h) (sym (clear.cells event place)) tt;
   elements = λ r event i array kept lt. subst (IsLivingElement h) (sym (clear.cells event ((facts h r).place + i))) refl;
 }
@@ -251,6 +269,8 @@ module _ (v : HeapView) (whole : AreConsistent v) (ram : RamState) (t : Transien
       deselect_cells = length-map ram.deselect_cells (without_dead top) ∙ t.sizes.deselect_cells;
       flags = t.sizes.flags;
     };
+    contents = refl;
+    words = sym whole.shape.lasting;
     cells = dead_at;
     values = left_value;
     elements = left_element;
@@ -270,18 +290,19 @@ module _ (m : MemoryState) (whole : IsConsistent m.heap.now) (t : TransientCells
   begin = (facts now r).place + i
 
   module _ (event : ClearEvent) (is : (facts now r).event ≡ Some event) where
-    inside : begin + length values ≤ area_size
+    inside : begin + length values ≤ area_size m.ram event
     inside =
         let below = (owns_cells now whole).below r event is in
         let end = (whole.areas event).fits in
         let within = fits.within in
-        omega (arith, below, end, within)
+        let same = ap (λ (z : RamSizes). size_in z event) t.fits in
+        omega (arith, below, end, within, same)
 
     abbrev filled : RamState
     filled = with_area m.ram event (with_cells (area m.ram event) begin values)
 
     filled_value : (e : ClearEvent) (k : ℕ) → IsLivingValue now (cell_at filled e k)
-    filled_value e k = put_at m.ram t.sizes begin values inside (IsLivingValue now) event e k (λ other. t.values e k) (λ same from lt. fits.living (k - begin) lt)
+    filled_value e k = put_at m.ram t.sizes begin values (IsLivingValue now) event e k inside (λ other. t.values e k) (λ same from lt. fits.living (k - begin) lt)
 
     -- the cells of another object are none of those that are set
     elsewhere : (q : ℕ) (e : ClearEvent) (j : ℕ) → (r ≡ q → ⊥) → (facts now q).event ≡ Some e → j < (facts now q).length → e ≡ event
@@ -294,7 +315,7 @@ module _ (m : MemoryState) (whole : IsConsistent m.heap.now) (t : TransientCells
         ]
 
     filled_element : (q : ℕ) → HasLivingElements now filled (facts now q)
-    filled_element q e j array kept lt = put_at m.ram t.sizes begin values inside (IsLivingElement now) event e ((facts now q).place + j)
+    filled_element q e j array kept lt = put_at m.ram t.sizes begin values (IsLivingElement now) event e ((facts now q).place + j) inside
         (λ other. t.elements q e j array kept lt)
         (λ same from within. elim (cases_eq r q) [
           | inl is ↦ fits.elements (ap (λ o. (facts now o).kind) is ∙ array) ((facts now q).place + j - begin) within
@@ -302,7 +323,7 @@ module _ (m : MemoryState) (whole : IsConsistent m.heap.now) (t : TransientCells
         ])
 
     filled_carried : TransientCells now filled
-    filled_carried = record { sizes = put_sized m.ram t.sizes begin values inside event; values = filled_value; elements = filled_element }
+    filled_carried = record { sizes = put_sized m.ram t.sizes begin values event inside; fits = put_same m.ram event _ ∙ t.fits; values = filled_value; elements = filled_element }
 
   pub fill_carried : TransientCells now (ram_after_set m.ram (facts now r).event begin values)
   fill_carried = by_event (facts now r).event refl
@@ -321,9 +342,15 @@ module _ (h : HeapState) (ram : RamState) (o : Object) (n : ℕ) (free : is_allo
   stays q there = ap is_object (heap_item_at-add_other h o n q (λ same. true≢false (sym (object_named h q there) ∙ ap (is_allocated h) (sym same) ∙ free))) ∙ there
 
   -- one that has living elements, or none
+  same_words : g.lasting ≡ h.lasting
+  unfolding add_object
+  same_words = refl
+
   pub added : HasLivingElements g ram o.facts → TransientCells h ram → TransientCells g ram
   added lives t = carried h g ram ram (λ event v. v) (record {
     sizes = t.sizes;
+    contents = refl;
+    words = same_words;
     cells = λ event place. refl;
     values = λ event v. value_more h g stays v;
     elements = λ event v. element_more h g stays v;
@@ -340,8 +367,8 @@ module _ (h : HeapState) (ram : RamState) (o : Object) (n : ℕ) (free : is_allo
 -- the ends of the areas are none of an object's
 ended_carried : (h : HeapState) (ram : RamState) (event : ClearEvent) (end : ℕ) → TransientCells h ram → TransientCells (with_area_end h event end) ram
 unfolding heap_item_at
-ended_carried h ram Reset end t = same_carried h (with_area_end h Reset end) ram (λ r. refl) t
-ended_carried h ram Deselect end t = same_carried h (with_area_end h Deselect end) ram (λ r. refl) t
+ended_carried h ram Reset end t = same_carried h (with_area_end h Reset end) ram refl (λ r. refl) t
+ended_carried h ram Deselect end t = same_carried h (with_area_end h Deselect end) ram refl (λ r. refl) t
 
 zero_lives : (h : HeapState) (kind : Kind) → IsLivingValue h (zero_of kind)
 zero_lives h ReferenceArray = inl refl
@@ -358,12 +385,13 @@ module _ (h : HeapState) (stands : IsConsistentHeap h) (ram : RamState) (t : Tra
   abbrev end : ℕ
   end = area_end h event
 
-  room : end + length values ≤ area_size
+  room : end + length values ≤ area_size ram event
   room =
       let size = length-replicate long (zero_of kind) in
-      elim (cases_lt area_size (end + long)) [
+      let same = ap (λ (z : RamSizes). size_in z event) t.fits in
+      elim (cases_lt (area_limit h event) (end + long)) [
         | inl lacks ↦ absurd (space lacks)
-        | inr le ↦ omega (arith, size, le)
+        | inr le ↦ omega (arith, size, le, same)
       ]
 
   abbrev zeroed : RamState
@@ -374,10 +402,11 @@ module _ (h : HeapState) (stands : IsConsistentHeap h) (ram : RamState) (t : Tra
 
   zeroed_carried : TransientCells h zeroed
   zeroed_carried = record {
-    sizes = put_sized ram t.sizes end values room event;
-    values = λ e k. put_at ram t.sizes end values room (IsLivingValue h) event e k (λ other. t.values e k)
+    sizes = put_sized ram t.sizes end values event room;
+    fits = put_same ram event _ ∙ t.fits;
+    values = λ e k. put_at ram t.sizes end values (IsLivingValue h) event e k room (λ other. t.values e k)
         (λ same from lt. each_zero (IsLivingValue h) (k - end) lt (zero_lives h kind));
-    elements = λ q e j array kept lt. put_at ram t.sizes end values room (IsLivingElement h) event e ((facts h q).place + j)
+    elements = λ q e j array kept lt. put_at ram t.sizes end values (IsLivingElement h) event e ((facts h q).place + j) room
         (λ other. t.elements q e j array kept lt)
         (λ same from within. let below = (owns_cells h stands.whole).below q event (kept ∙ ap Some same) in absurd (omega (arith, below, from, lt)));
   }
@@ -387,7 +416,7 @@ module _ (h : HeapState) (stands : IsConsistentHeap h) (ram : RamState) (t : Tra
 
   -- its own cells are null
   new_elements : (k : HeapState) → HasLivingElements k zeroed o.facts
-  new_elements k e j array kept lt = put_at ram t.sizes end values room (IsLivingElement k) event e (end + j)
+  new_elements k e j array kept lt = put_at ram t.sizes end values (IsLivingElement k) event e (end + j) room
       (λ other. let size = length-replicate long (zero_of kind) in elim (other (sym (same_Some event e kept))) [
         | inl before ↦ absurd (omega (arith, before))
         | inr behind ↦ absurd (omega (arith, behind, lt, size))

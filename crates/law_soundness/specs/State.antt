@@ -8,7 +8,7 @@ use Rattle.jc_transient.specs.State.{HasSizes, IsCleared, RamState, buffer_size,
 use Rattle.jc_environment.specs.Objects.{last_of}
 use Rattle.jc_heap.specs.declared.object.Facts.{Facts}
 use Rattle.jc_heap.specs.declared.object.Kind.TheVariants.{ReferenceArray}
-use Rattle.jc_heap.specs.Heap.{HeapState, IsObject, cells, facts}
+use Rattle.jc_heap.specs.Heap.{HeapState, IsObject, area_sizes, cells, facts}
 use Rattle.jc_heap.specs.Keeping.{AreConsistent}
 use Rattle.jc_heap.specs.Whole.{IsReference}
 use Rattle.jc_memory.specs.declared.registers.AppletNumber.{AppletNumber}
@@ -95,9 +95,10 @@ abbrev pub HasLivingElements : HeapState → RamState → Facts → Type 0
 HasLivingElements h ram f = (event : ClearEvent) (i : ℕ) → f.kind ≡ ReferenceArray → f.event ≡ Some event → i < f.length
     → IsLivingElement h (cell_at ram event (f.place + i))
 
--- transient contents, which have their sizes, keep no reference to what is gone, neither in any cell nor in an array of references
+-- transient contents, which have the sizes that the heap's words say, keep no reference to what is gone, neither in any cell nor in an array of references
 pub record TransientCells (h : HeapState) (ram : RamState) : Type 0 where
   pub sizes : HasSizes ram
+  pub fits : ram.sizes ≡ area_sizes h
   pub values : (event : ClearEvent) (place : ℕ) → IsLivingValue h (cell_at ram event place)
   pub elements : (r : ℕ) → HasLivingElements h ram (facts h r)
 
@@ -129,8 +130,8 @@ pub record IsSteady (m : MemoryState) : Type 0 where
   pub begun : is_open m.registers.installation ≡ true → m.heap.begun ≡ true
 
 -- A loss of power leaves of a sound memory a heap that powers up again: what is asked of one then is so of it. And the memory of the
--- card that is powered up over it, after a reset, is sound again
+-- card that is powered up over it, after a reset, with transient contents of the sizes that its words say, is sound again
 pub record OutlastsLosses : Type 0 where
   pub left : (p : Packages) (m : MemoryState) → IsSoundMemory p m → IsSound p m.heap.durable (last_own m)
   pub again : (p : Packages) (m n : MemoryState) → IsSoundMemory p m → n.heap.now ≡ m.heap.durable → n.heap.durable ≡ m.heap.durable → n.fixed ≡ m.fixed
-      → n.registers ≡ at_reset → n.command ≡ [] → IsCleared n.ram → IsSoundMemory p n
+      → n.registers ≡ at_reset → n.command ≡ [] → IsCleared n.ram → n.ram.sizes ≡ area_sizes n.heap.now → IsSoundMemory p n

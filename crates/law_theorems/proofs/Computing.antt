@@ -1,6 +1,7 @@
 -- All that the session computes with.
 use Rattle.hex.specs.Hex.{encode_with}
 use Rattle.jc_commit.specs.Keeping.{goes_back, unlogged_addresses, writes_for, has_room_for}
+use Rattle.jc_transient.specs.State.{ram_sizes}
 use Rattle.jc_heap.specs.Heap.{heap_item_at, is_allocated, set_cell, add_object, add_transient, next_object, cell_address, end_address}
 use Rattle.jc_heap.specs.Packages.{record_size, package_record, push_package, addresses_of_package}
 use Rattle.jc_registry.specs.Aids.{aid_of_cells}
@@ -117,7 +118,7 @@ unfolding end_address record_size package_record push_package addresses_of_packa
 in_heap_2 = tt
 
 unfoldable pub in_memory : Unit {0}
-unfolding aid_of_cells applet_entry_in_registry applet_with_aid pin_check pin_init is_pin pin_update
+unfolding ram_sizes aid_of_cells applet_entry_in_registry applet_with_aid pin_check pin_init is_pin pin_update
 in_memory = tt
 
 unfoldable pub in_linking_1 : Unit {0}

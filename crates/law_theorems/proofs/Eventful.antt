@@ -8,6 +8,7 @@ use Rattle.std.proofs.lemmas.List.{append_assoc}
 use Rattle.std.proofs.lemmas.List.Elements.{All-cons, All-nil}
 use Rattle.jc_words.specs.Image.{heap_end}
 use Rattle.jc_words.specs.Refusals.{no_refusals, refused_once}
+use Rattle.jc_transient.specs.State.{AreSizes}
 use Rattle.jc_heap.specs.declared.place.Place.{Place}
 use Rattle.jc_heap.specs.declared.place.Place.TheVariants.{Cell}
 use Rattle.jc_heap.specs.Heap.{facts, goes_back, heap_item_at}
@@ -63,7 +64,7 @@ use Rattle.law_theorems.proofs.Dispatching.{commands_run_code}
 use Rattle.law_theorems.proofs.Computing.{computing}
 use Rattle.law_theorems.proofs.Prefixes.{behind_both, front}
 use Rattle.law_theorems.proofs.Restarting.{powered, restarted}
-use Rattle.law_theorems.proofs.Scenario.{changes_set, commands, effect, new_card, new_heap, no_packages, part, pin_of, place_counted, place_set}
+use Rattle.law_theorems.proofs.Scenario.{changes_set, commands, effect, new_card, new_heap, no_packages, part, pin_of, place_counted, place_set, usual_room}
 use Rattle.law_theorems.proofs.Scenario.{select_first, tries_set, value_set}
 use Rattle.law_theorems.proofs.TableRead.{reads}
 use Rattle.law_theorems.proofs.TableText.{table, table_text}
@@ -104,8 +105,11 @@ commands_below = refl
 select_below : are_below select_first ≡ true
 select_below = refl
 
+usual_sizes : AreSizes 0 0
+usual_sizes = record { cells_least = omega arith; cells_most = omega arith; buffer_least = omega arith; buffer_most = omega arith }
+
 new_fits : IsOwnHeap 8192 table no_packages new_heap
-new_fits = fits usual_budget 8192 256 table_text table (omega arith) reads
+new_fits = fits usual_budget 8192 usual_room table_text table (omega arith) usual_sizes reads
 
 -- ---- an address that is none of some
 
@@ -417,10 +421,10 @@ module _ (card : CardState) (way : Way LoadResponse) (is_card : card_after comma
   comes =
       let ran = answers commands new_card card is_card in record {
         budget = usual_budget;
-        first = new_kept 8192 256 table_text table;
+        first = new_kept 8192 usual_room table_text table;
         requests = Reset ∷ map Command commands;
         replies = Ready ∷ ran.0;
-        own = own usual_budget 8192 256 table_text table (omega arith) reads;
+        own = own usual_budget 8192 usual_room table_text table (omega arith) usual_sizes reads;
         bytes = (tt, all_of_bytes commands commands_below);
         run = (Up new_card, powered 8192 table no_packages new_heap new_fits usual_budget 0 (heap_end 8192 256) no_refusals true false 0, ran.1);
       }

@@ -40,6 +40,7 @@ set_of p m sound = record {
   whole = sound.whole.now.whole;
   applets = sound.registry;
   sizes = sound.transients.sizes;
+  fits = sound.transients.fits;
   command = sound.command;
 }
 

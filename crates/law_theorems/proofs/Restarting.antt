@@ -5,9 +5,10 @@ use Rattle.std.proofs.lemmas.List.{length-replicate}
 use Rattle.jc_words.specs.Refusals.{Refusals}
 use Rattle.jc_transient.specs.declared.cell.CellValue.TheVariants.{Short}
 use Rattle.jc_transient.specs.declared.cell.ClearEvent.{ClearEvent}
+use Rattle.jc_transient.specs.declared.sizes.RamSizes.{RamSizes}
 use Rattle.jc_transient.specs.declared.cell.ClearEvent.TheVariants.{Reset, Deselect}
-use Rattle.jc_transient.specs.State.{RamState, IsCleared, area_size, cell_at, flag_count}
-use Rattle.jc_heap.specs.Heap.{HeapState, heap_at_rest, facts}
+use Rattle.jc_transient.specs.State.{RamState, IsCleared, cell_at, flag_count}
+use Rattle.jc_heap.specs.Heap.{HeapState, area_sizes, heap_at_rest, facts}
 use Rattle.jc_memory.specs.Cells.{word_of, word_in}
 use Rattle.jc_memory.specs.Owners.{at_reset}
 use Rattle.jc_linker.specs.Values.{Packages}
@@ -29,25 +30,27 @@ same_there x zero k = refl
 same_there x (suc n) zero = refl
 same_there x (suc n) (suc k) = same_there x n k
 
-abbrev pub blank : RamState
-blank = record {
-  reset_cells = replicate area_size (Short (pos 0));
-  deselect_cells = replicate area_size (Short (pos 0));
+-- those of these sizes
+abbrev pub blank : RamSizes → RamState
+blank sizes = record {
+  sizes = sizes;
+  reset_cells = replicate sizes.reset (Short (pos 0));
+  deselect_cells = replicate sizes.deselect (Short (pos 0));
   flags = replicate flag_count false;
 }
 
-blank_cell : (event : ClearEvent) (place : ℕ) → cell_at blank event place ≡ Short (pos 0)
-blank_cell Reset place = same_there (Short (pos 0)) area_size place
-blank_cell Deselect place = same_there (Short (pos 0)) area_size place
+blank_cell : (sizes : RamSizes) (event : ClearEvent) (place : ℕ) → cell_at (blank sizes) event place ≡ Short (pos 0)
+blank_cell sizes Reset place = same_there (Short (pos 0)) sizes.reset place
+blank_cell sizes Deselect place = same_there (Short (pos 0)) sizes.deselect place
 
-is_blank : IsCleared blank
-is_blank = record {
+is_blank : (sizes : RamSizes) → IsCleared (blank sizes)
+is_blank sizes = record {
   sizes = record {
-    reset_cells = length-replicate area_size (Short (pos 0));
-    deselect_cells = length-replicate area_size (Short (pos 0));
+    reset_cells = length-replicate sizes.reset (Short (pos 0));
+    deselect_cells = length-replicate sizes.deselect (Short (pos 0));
     flags = length-replicate flag_count false;
   };
-  cells = blank_cell;
+  cells = blank_cell sizes;
   flags = λ r. same_there false flag_count r;
 }
 
@@ -58,7 +61,7 @@ abbrev pub restarted : ℕ → Tokens → Packages → HeapState → ℕ → ℕ
 restarted budget t p h passed size refusals = record {
   memory = record {
     heap = heap_at_rest h passed refusals size;
-    ram = blank;
+    ram = blank (area_sizes h);
     fixed = fixed_of t h;
     registers = at_reset;
     command = [];
@@ -91,7 +94,7 @@ module _ (n : ℕ) (t : Tokens) (p : Packages) (h : HeapState) (fits : IsOwnHeap
   module _ (budget passed size : ℕ) (refusals : Refusals) where
     as_zero : ReadsAsZero (restarted budget t p h passed size refusals).memory
     as_zero r i event e = ap (λ x. word_in x (restarted budget t p h passed size refusals).memory r i) e
-        ∙ ap word_of (blank_cell event ((facts h r).place + i))
+        ∙ ap word_of (blank_cell (area_sizes h) event ((facts h r).place + i))
 
     pub powered : (laid down : Bool) (before : ℕ) → IsPoweredUp (record {
       durable = h;
@@ -105,7 +108,8 @@ module _ (n : ℕ) (t : Tokens) (p : Packages) (h : HeapState) (fits : IsOwnHeap
       made = subst (λ m. IsCardHeap m h) (sym (ap (λ (x : ℕ × ℕ). x.1) fits.beginning.head)) card_heap;
       heap = refl;
       reset = record {
-        ram = is_blank;
+        ram = is_blank (area_sizes h);
+        sizes = refl;
         cells = as_zero;
         registers = refl;
         command = refl;

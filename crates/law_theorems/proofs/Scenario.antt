@@ -10,6 +10,7 @@ use Rattle.jc_heap.specs.Moves.{Begin, SetPlaces, Write, WriteNonAtomic}
 use Rattle.jc_memory.specs.State.{Effect, HeapMove}
 use Rattle.jc_linker.specs.Values.{Packages}
 use Rattle.jc_dispatch.specs.Phases.{instance_of}
+use Rattle.jc_image.specs.declared.laying.ImageRoom.{ImageRoom}
 use Rattle.jc_card.specs.CardState.{CardState}
 use Rattle.jc_card.specs.Dispatching.{usual_budget}
 use Rattle.jc_card.specs.Made.{new_card_heap}
@@ -79,8 +80,12 @@ select_first = bytes_written (codes "00A4040006F00000000101")
 abbrev pub no_packages : Packages
 no_packages = record { platform = table; loaded = [] }
 
+-- with a journal of 256 entries, and as many transient cells as are usual
+abbrev pub usual_room : ImageRoom
+usual_room = record { capacity = 256; cells = 0; buffer = 0 }
+
 abbrev pub new_heap : HeapState
-new_heap = new_card_heap 8192 256 table_text table
+new_heap = new_card_heap 8192 usual_room table_text table
 
 -- a new card
 abbrev pub new_card : CardState

@@ -8,8 +8,11 @@ use Rattle.jc_words.specs.Layout.{least_size}
 use Rattle.jc_words.specs.Image.{heap_end}
 use Rattle.jc_words.specs.Refusals.{Refusals, no_refusals, refused_once}
 use Rattle.jc_commit.specs.Image.{limit_of, recovered_of}
+use Rattle.jc_heap.specs.Whole.{IsConsistent}
 use Rattle.jc_heap.specs.Heap.{HeapState}
 use Rattle.jc_linker.specs.Values.{Packages}
+use Rattle.jc_transient.specs.State.{AreSizes}
+use Rattle.jc_image.specs.declared.laying.ImageRoom.{ImageRoom}
 use Rattle.jc_platform.specs.Table.{Reads}
 use Rattle.jc_platform.specs.Tokens.{Tokens}
 use Rattle.jc_platform.proofs.NamesTold.{names_told}
@@ -20,6 +23,7 @@ use Rattle.jc_card.specs.Answers.{manager_command, exchange}
 use Rattle.jc_card.specs.CardState.{CardState}
 use Rattle.jc_card.specs.Dispatching.{dispatch}
 use Rattle.jc_card.specs.Made.{new_card_heap}
+use Rattle.jc_card.proofs.NewFronts.{sizes-new_card_heap}
 use Rattle.jc_session.specs.Requests.{Reset, Ready}
 use Rattle.jc_session.specs.Power.{KeptState, Up, Off, StoreState, durable_state, is_well_formed, with_refusal}
 use Rattle.jc_session.specs.Starting.{IsPoweredUp}
@@ -37,17 +41,17 @@ use Rattle.law_images.proofs.NewImages.{new_images}
 use Rattle.law_theorems.proofs.Restarting.{powered, restarted}
 use Rattle.law_theorems.specs.Witness.{HaveWitnesses, NewStoresServe, begin_load_bytes, new_blown, new_kept, select_bytes}
 
-module _ (budget n capacity : ℕ) (text : List ℕ) (t : Tokens) (enough : least_size ≤ n) (reads : Reads text (Ok t)) where
+module _ (budget n : ℕ) (room : ImageRoom) (text : List ℕ) (t : Tokens) (enough : least_size ≤ n) (sizes : AreSizes room.cells room.buffer) (reads : Reads text (Ok t)) where
   abbrev heap : HeapState
-  heap = new_card_heap n capacity text t
+  heap = new_card_heap n room text t
 
   abbrev none : Packages
   none = record { platform = t; loaded = [] }
 
   pub fits : IsOwnHeap n t none heap
-  fits = new_images n capacity text t enough reads
+  fits = new_images n room text t enough sizes reads
 
-  pub own : IsOwnKept t (new_kept n capacity text t)
+  pub own : IsOwnKept t (new_kept n room text t)
   own = record {
     packages = none;
     linked = record {
@@ -56,27 +60,27 @@ module _ (budget n capacity : ℕ) (text : List ℕ) (t : Tokens) (enough : leas
       applets = λ i c e. absurd (none-some c e);
     };
     heap = own_at n t none heap fits;
-    layout = new_layout n capacity text t;
+    layout = new_layout n room text t;
   }
 
   abbrev card : ℕ → ℕ → Refusals → CardState
   card passed size refusals = restarted budget t none heap passed size refusals
 
   abbrev first : CardState
-  first = card 0 (heap_end n capacity) no_refusals
+  first = card 0 (heap_end n room.capacity) no_refusals
 
-  comes_off : ComesTo t (Off budget (new_kept n capacity text t))
-  comes_off = record { budget = budget; first = new_kept n capacity text t; requests = []; replies = []; own = own; bytes = tt; run = refl }
+  comes_off : ComesTo t (Off budget (new_kept n room text t))
+  comes_off = record { budget = budget; first = new_kept n room text t; requests = []; replies = []; own = own; bytes = tt; run = refl }
 
   comes_up : ComesTo t (Up first)
   comes_up = record {
     budget = budget;
-    first = new_kept n capacity text t;
+    first = new_kept n room text t;
     requests = Reset ∷ [];
     replies = Ready ∷ [];
     own = own;
     bytes = (tt, tt);
-    run = (Up first, powered n t none heap fits budget 0 (heap_end n capacity) no_refusals true false 0, refl);
+    run = (Up first, powered n t none heap fits budget 0 (heap_end n room.capacity) no_refusals true false 0, refl);
   }
 
   begins : MayBegin (bare_frames 0 0) first.memory
@@ -95,40 +99,40 @@ selects = All-from_recursion (λ b. b < 256) select_bytes (omega arith, (omega a
 
 pub witnesses : HaveWitnesses
 unfolding exchange dispatch manager_command refused_once machine_step instruction_step
-witnesses budget n capacity text t enough reads =
-    let size = heap_end n capacity in
+witnesses budget n room text t enough sizes reads =
+    let size = heap_end n room.capacity in
     let refused = refused_once false 0 no_refusals in
-    let other = card budget n capacity text t enough reads 0 size refused in record {
-      off = comes_off budget n capacity text t enough reads;
-      card = first budget n capacity text t enough reads;
-      up = comes_up budget n capacity text t enough reads;
+    let other = card budget n room text t enough sizes reads 0 size refused in record {
+      off = comes_off budget n room text t enough sizes reads;
+      card = first budget n room text t enough sizes reads;
+      up = comes_up budget n room text t enough sizes reads;
       down = (refl, refl);
       few = let least : 0 < 18446744073709551615 = omega arith in least;
       other = other;
       lost = (
-        Off budget (with_refusal 0 (durable_state (Up (first budget n capacity text t enough reads)))),
+        Off budget (with_refusal 0 (durable_state (Up (first budget n room text t enough sizes reads)))),
         (refl, refl),
         (
           Up other,
-          powered n t (none budget n capacity text t enough reads) (heap budget n capacity text t enough reads)
-              (fits budget n capacity text t enough reads) budget 0 size refused true true 0,
+          powered n t (none budget n room text t enough sizes reads) (heap budget n room text t enough sizes reads)
+              (fits budget n room text t enough sizes reads) budget 0 size refused true true 0,
           refl,
         ),
       );
-      next = record (first budget n capacity text t enough reads) { load = Some empty_load };
+      next = record (first budget n room text t enough sizes reads) { load = Some empty_load };
       bytes = are_bytes;
       ended = (refl, refl);
-      effect = record { comes = comes_up budget n capacity text t enough reads; are = selects; begins = (refl, tt) };
+      effect = record { comes = comes_up budget n room text t enough sizes reads; are = selects; begins = (refl, tt) };
       begins = record {
-        comes = record { comes = comes_up budget n capacity text t enough reads; are = are_bytes; begins = tt };
+        comes = record { comes = comes_up budget n room text t enough sizes reads; are = are_bytes; begins = tt };
         same = tt;
-        begins = begins budget n capacity text t enough reads;
+        begins = begins budget n room text t enough sizes reads;
         attack = None;
         left = 0;
         steps = (refl, refl);
       };
       step = (refl, refl);
-      cut = (new_blown budget n capacity text t, (refl, refl), refl);
+      cut = (new_blown budget n room text t, (refl, refl), refl);
       none = (tt, tt);
       spared = refl;
       within = λ count is. absurd (none-some count is);
@@ -139,14 +143,15 @@ abbrev left_in : StoreState → HeapState → Bool → KeptState
 left_in store h laid = record { durable = h; laid = laid; down = false; passed = store.passed; refusals = store.refusals; size = limit_of store.words }
 
 pub new_stores_serve : NewStoresServe
-new_stores_serve budget t capacity text store made reads is =
+new_stores_serve budget t room text store made reads is =
     let n = length store.words in
     let size = limit_of store.words in
     let enough = made.heap.enough in
+    let sizes = sizes-new_card_heap n room text t (subst IsConsistent is made.heap.whole) in
     let laid = is_well_formed (recovered_of store.words) in
-    let first = card budget n capacity text t enough reads store.passed size store.refusals in
-    let up = powered n t (none budget n capacity text t enough reads) (heap budget n capacity text t enough reads)
-    (fits budget n capacity text t enough reads) budget store.passed size store.refusals in
+    let first = card budget n room text t enough sizes reads store.passed size store.refusals in
+    let up = powered n t (none budget n room text t enough sizes reads) (heap budget n room text t enough sizes reads)
+    (fits budget n room text t enough sizes reads) budget store.passed size store.refusals in
     let starts = subst (λ h. IsPoweredUp (record {
       durable = h;
       laid = laid;
@@ -159,6 +164,6 @@ new_stores_serve budget t capacity text store made reads is =
       (Up first, (made, starts), (Up first, up true false store.passed, refl)),
       record {
         good = made.log;
-        kept = ap (λ h. left_in store h laid) is ∙ ap (left_in store (new_card_heap n capacity text t)) (if_laid (recovered_of store.words) made.laid);
+        kept = ap (λ h. left_in store h laid) is ∙ ap (left_in store (new_card_heap n room text t)) (if_laid (recovered_of store.words) made.laid);
       },
     )

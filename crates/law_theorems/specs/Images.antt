@@ -3,6 +3,7 @@ use Rattle.std.specs.Prelude.{ℕ, ◌≡◌, ◌⊎◌, Bool, List, length, Res
 use Rattle.jc_words.specs.Stores.{FuseStoreValue}
 use Rattle.jc_commit.specs.Image.{recovered_of}
 use Rattle.jc_heap.specs.Heap.{heap_of}
+use Rattle.jc_image.specs.declared.laying.ImageRoom.{ImageRoom}
 use Rattle.jc_platform.specs.Table.{Reads}
 use Rattle.jc_platform.specs.Tokens.{Tokens}
 use Rattle.jc_card.specs.Made.{IsMade, new_card_heap}
@@ -24,8 +25,8 @@ use Rattle.law_images.specs.Scripts.{state_of}
 -- from the store of a new image sessions may go on, and each session, however it ends, leaves such a store; neither its first power up nor a
 -- reset in it finds a fault but want of memory, and no power up over such a store does, but that a write was refused
 pub record PowerUpAgain : Type 0 where
-  pub new : (t : Tokens) (capacity : ℕ) (text : List ℕ) (store : StoreState) → IsMade store.words → Reads text (Ok t)
-      → heap_of (recovered_of store.words) ≡ new_card_heap (length store.words) capacity text t → IsOwnStore t store
+  pub new : (t : Tokens) (room : ImageRoom) (text : List ℕ) (store : StoreState) → IsMade store.words → Reads text (Ok t)
+      → heap_of (recovered_of store.words) ≡ new_card_heap (length store.words) room text t → IsOwnStore t store
   pub ends : (budget : ℕ) (t : Tokens) (before after : StoreState) (requests : List Request) (result : Result (List Reply) SessionFault) → AreOfBytes requests
       → IsOwnStore t before → SessionEnds budget result before requests after → IsOwnStore t after
   pub fault : (budget : ℕ) (t : Tokens) (before after : StoreState) (requests : List Request) (fault : Fault) → AreOfBytes requests → IsOwnStore t before

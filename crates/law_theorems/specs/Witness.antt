@@ -7,8 +7,10 @@ use Rattle.jc_commit.specs.Image.{recovered_of}
 use Rattle.jc_heap.specs.Heap.{heap_of}
 use Rattle.jc_frames.specs.declared.outcome.Outcome.TheVariants.{Fault}
 use Rattle.jc_frames.specs.Frames.{Ends}
+use Rattle.jc_transient.specs.State.{AreSizes}
 use Rattle.jc_memory.specs.Reading.{HasTrace}
 use Rattle.jc_memory.specs.State.{BeginCommand}
+use Rattle.jc_image.specs.declared.laying.ImageRoom.{ImageRoom}
 use Rattle.jc_platform.specs.Table.{Reads}
 use Rattle.jc_platform.specs.Tokens.{Tokens}
 use Rattle.jc_interp.specs.Running.{bare_frames}
@@ -26,16 +28,16 @@ use Rattle.law_theorems.specs.Fuse.{refusals_of}
 use Rattle.law_theorems.specs.References.{RunsFrom}
 
 -- what is kept of a new image
-abbrev pub new_kept : ℕ → ℕ → List ℕ → Tokens → KeptState
-new_kept n capacity text t = record { durable = new_card_heap n capacity text t; laid = true; down = false; passed = 0; refusals = no_refusals; size = heap_end n capacity }
+abbrev pub new_kept : ℕ → ImageRoom → List ℕ → Tokens → KeptState
+new_kept n room text t = record { durable = new_card_heap n room text t; laid = true; down = false; passed = 0; refusals = no_refusals; size = heap_end n room.capacity }
 
 -- it with its fuse armed, so that no write passes
-abbrev pub new_armed : ℕ → ℕ → ℕ → List ℕ → Tokens → PowerState
-new_armed budget n capacity text t = armed 0 (Off budget (new_kept n capacity text t))
+abbrev pub new_armed : ℕ → ℕ → ImageRoom → List ℕ → Tokens → PowerState
+new_armed budget n room text t = armed 0 (Off budget (new_kept n room text t))
 
 -- a reset of it that the fuse cuts
-abbrev pub new_blown : ℕ → ℕ → ℕ → List ℕ → Tokens → PowerState
-new_blown budget n capacity text t = Off budget (with_refusal 0 (durable_state (new_armed budget n capacity text t)))
+abbrev pub new_blown : ℕ → ℕ → ImageRoom → List ℕ → Tokens → PowerState
+new_blown budget n room text t = Off budget (with_refusal 0 (durable_state (new_armed budget n room text t)))
 
 -- a command that begins a load
 abbrev pub begin_load_bytes : List ℕ
@@ -46,8 +48,8 @@ abbrev pub select_bytes : List ℕ
 select_bytes = 0 ∷ 0xA4 ∷ 4 ∷ 0 ∷ 1 ∷ 1 ∷ []
 
 -- With any budget and any table that reads sessions come to a new image without power, and to the card after its first reset
-pub record HaveWitness (budget n capacity : ℕ) (text : List ℕ) (t : Tokens) : Type 0 where
-  pub off : ComesTo t (Off budget (new_kept n capacity text t))
+pub record HaveWitness (budget n : ℕ) (room : ImageRoom) (text : List ℕ) (t : Tokens) : Type 0 where
+  pub off : ComesTo t (Off budget (new_kept n room text t))
   pub card : CardState
   pub up : ComesTo t (Up card)
   -- of `down_tells_of_refused_writes`: a reset is cut
@@ -66,17 +68,18 @@ pub record HaveWitness (budget n capacity : ℕ) (text : List ℕ) (t : Tokens) 
   pub begins : RunsFrom t card begin_load_bytes [] 0 [] (bare_frames 0 0) (bare_frames 0 0) card.memory
   pub step : HasTrace (machine_step [] card.packages (bare_frames 0 0) card.memory) card.memory [] (Ends Fault)
   -- of `fuses_cut_where_they_were_set`: a reset is cut after `stop 0`
-  pub cut : SessionRun (new_armed budget n capacity text t) (Reset ∷ []) (Down ∷ []) (new_blown budget n capacity text t)
+  pub cut : SessionRun (new_armed budget n room text t) (Reset ∷ []) (Down ∷ []) (new_blown budget n room text t)
   pub none : ArmNone (Reset ∷ [])
-  pub spared : (refusals_of (new_blown budget n capacity text t)).faults ≡ 0
-  pub within : IsWithinFuse (durable_state (new_blown budget n capacity text t)).passed (refusals_of (new_blown budget n capacity text t)).fuse
+  pub spared : (refusals_of (new_blown budget n room text t)).faults ≡ 0
+  pub within : IsWithinFuse (durable_state (new_blown budget n room text t)).passed (refusals_of (new_blown budget n room text t)).fuse
 
 abbrev pub HaveWitnesses : Type 0
-HaveWitnesses = (budget n capacity : ℕ) (text : List ℕ) (t : Tokens) → least_size ≤ n → Reads text (Ok t) → HaveWitness budget n capacity text t
+HaveWitnesses = (budget n : ℕ) (room : ImageRoom) (text : List ℕ) (t : Tokens) → least_size ≤ n → AreSizes room.cells room.buffer → Reads text (Ok t)
+    → HaveWitness budget n room text t
 
 -- of `sessions_without_refused_writes_are_of_whole_copies` and `images_power_up_again`: over each store of a new image a session ends well, and
 -- refuses no write
 abbrev pub NewStoresServe : Type 0
-NewStoresServe = (budget : ℕ) (t : Tokens) (capacity : ℕ) (text : List ℕ) (store : StoreState) → IsMade store.words → Reads text (Ok t)
-    → heap_of (recovered_of store.words) ≡ new_card_heap (length store.words) capacity text t
+NewStoresServe = (budget : ℕ) (t : Tokens) (room : ImageRoom) (text : List ℕ) (store : StoreState) → IsMade store.words → Reads text (Ok t)
+    → heap_of (recovered_of store.words) ≡ new_card_heap (length store.words) room text t
     → SessionEnds budget (Ok (Ready ∷ [])) store (Reset ∷ []) (record store { down = false })

@@ -1,4 +1,5 @@
 //! Sessions with enough memory and without. No program serves one, so that no row can ask it.
+use jc_image::ImageRoom;
 use jc_platform::example::EXAMPLE;
 use jc_session::card::formatting::format;
 use jc_session::card::power_up::PowerFault;
@@ -14,7 +15,11 @@ fn new_store(alloc: Global) -> Result<MemStore, Fail> {
     let (store, made) = format(
         MemStore::new(alloc, 4096)?,
         EXAMPLE.as_bytes(),
-        USUAL_CAPACITY,
+        ImageRoom {
+            capacity: USUAL_CAPACITY,
+            cells: 0,
+            buffer: 0,
+        },
     );
     made?;
     Ok(store)

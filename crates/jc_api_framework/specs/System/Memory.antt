@@ -1,8 +1,7 @@
 -- JCSystem.getAvailableMemory (API specification).
 use Rattle.std.specs.Ordering.{int_eq}
 use Rattle.std.specs.Prelude.{ℕ, ℤ, pos, ◌*◌, ◌-◌, ◌/◌, ◌%◌, min, if◌then◌else◌, List, [], ◌∷◌, Result, Ok}
-use Rattle.jc_transient.specs.State.{area_size}
-use Rattle.jc_heap.specs.Heap.{area_end, limit}
+use Rattle.jc_heap.specs.Heap.{area_end, area_limit, limit}
 use Rattle.jc_frames.specs.declared.cell.Cell.{Cell}
 use Rattle.jc_frames.specs.declared.outcome.FrameExit.{FrameExit}
 use Rattle.jc_memory.specs.State.{MemoryState}
@@ -20,7 +19,7 @@ use Rattle.jc_api_framework.specs.System.Transient.{event_named}
 -- cell of the area that an event clears
 abbrev pub available_bytes : MemoryState → ℤ → Result ℕ FrameExit
 available_bytes m type = if int_eq type (pos 0) then Ok (2 * (limit m.heap - m.heap.now.top)) else and_then (event_named type)
-    (λ event. Ok (area_size - area_end m.heap.now event))
+    (λ event. Ok (area_limit m.heap.now event - area_end m.heap.now event))
 
 -- JCSystem.getAvailableMemory(byte): that many, at most 32767
 unfoldable pub jc_system_get_available_memory : List Cell → MemoryState → NativeProgram

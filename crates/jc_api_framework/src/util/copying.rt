@@ -10,12 +10,12 @@ ghost use Rattle.jc_api_framework.specs.Util.{end_of};
 use crate::util::storing::store;
 use jc_api::MOST_ELEMENTS;
 use jc_memory::{MOST_COMMAND, Memory};
-use jc_transient::AREA_CELLS;
+use jc_transient::USUAL_CELLS;
 use jc_words::WordStore;
 use jc_world::{NativeResult, StepExit, Stretch};
 
-// How many elements a transient array has at most.
-const MOST_TRANSIENT: usize = AREA_CELLS as usize;
+// How many elements a transient array usually has at most.
+const USUAL_TRANSIENT: usize = USUAL_CELLS as usize;
 
 // Copies at most this many bytes.
 #[inline(never)]
@@ -60,8 +60,8 @@ pub(crate) fn copy<S: WordStore>(
     if count <= MOST_COMMAND {
         return copy_most::<MOST_COMMAND, S>(memory, from, to, lasting);
     }
-    if count <= MOST_TRANSIENT {
-        return copy_most::<MOST_TRANSIENT, S>(memory, from, to, lasting);
+    if count <= USUAL_TRANSIENT {
+        return copy_most::<USUAL_TRANSIENT, S>(memory, from, to, lasting);
     }
     copy_most::<MOST_ELEMENTS, S>(memory, from, to, lasting)
 }

@@ -1,8 +1,8 @@
 use Rattle.std.proofs.Common.{◌∙◌, ap, arith}
 use Rattle.jc_transient.specs.declared.cell.ClearEvent.TheVariants.{Reset}
-use Rattle.jc_heap.specs.Heap.{area_end}
+use Rattle.jc_heap.specs.Heap.{area_end, area_limit}
 use Rattle.jc_heap.specs.Moves.{AddTransient, refusal_of_transient}
-use Rattle.jc_card.proofs.FixedObjects.{top-add, end-add, durable-changed, transient_allowed, only_torn, torn_head}
+use Rattle.jc_card.proofs.FixedObjects.{top-add, end-add, limit-add, durable-changed, transient_allowed, only_torn, torn_head}
 use Rattle.jc_card.proofs.fixed.make.Goals as goal
 
 pub returns-in-Ok-clause-head : goal.returns-in-Ok-clause-head
@@ -17,6 +17,11 @@ returns-in-Ok-clause-top g c =
 pub returns-in-Ok-clause-end : goal.returns-in-Ok-clause-end
 returns-in-Ok-clause-end g c =
     ap (λ v. area_end (v.now) Reset) c.in-Ok.ensures.moves.2 ∙ end-add c.args.heap.now.now c.args.object.now.kind c.class_number-class.result 0
+    c.args.object.now.cells
+
+pub returns-in-Ok-clause-area : goal.returns-in-Ok-clause-area
+returns-in-Ok-clause-area g c =
+    ap (λ v. area_limit (v.now) Reset) c.in-Ok.ensures.moves.2 ∙ limit-add c.args.heap.now.now c.args.object.now.kind c.class_number-class.result 0
     c.args.object.now.cells
 
 pub returns-in-Err-clause-stopped : goal.returns-in-Err-clause-stopped

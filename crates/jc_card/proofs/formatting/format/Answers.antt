@@ -9,6 +9,7 @@ returns-in-Err-BadTable g c = (
   (
     omega (arith, c.size-size.ensures, c.if-size-lt-LEAST_SIZE.false),
     c.is_capacity.ensures.0 c.if-not-is_capacity.false,
+    c.are_sizes.ensures.0 c.if-not-are_sizes.false,
     line_refused (λ f. (values_d enum 0 (0, tt {0}) f).0) (λ k. refl) c.in-Err-BadTable.field-0 c.args.text.now c.in-Err-BadTable.ensures,
   ),
   refl,
@@ -21,8 +22,9 @@ returns-in-Ok-make_image g c =
       record {
         enough = search rules;
         entries = c.is_capacity.ensures.0 c.if-not-is_capacity.false;
+        sizes = c.are_sizes.ensures.0 c.if-not-are_sizes.false;
         reads = c.in-Ok.ensures;
-        room = search rules;
+        space = search rules;
       },
       record {
         made = made.made;
@@ -42,8 +44,9 @@ returns-in-Err g c =
         record {
           enough = search rules;
           entries = c.is_capacity.ensures.0 c.if-not-is_capacity.false;
+          sizes = c.are_sizes.ensures.0 c.if-not-are_sizes.false;
           reads = c.in-Ok.ensures;
-          room = search rules;
+          space = search rules;
         },
       ),
       record {

@@ -1,4 +1,4 @@
-use Rattle.std.proofs.Common.{◌≡◌, ℕ, length, take, ap, ◌∙◌}
+use Rattle.std.proofs.Common.{◌≡◌, ◌≤◌, ℕ, length, take, ap, subst, sym, ◌∙◌}
 use Rattle.jc_words.specs.Layout.{front_length}
 use Rattle.jc_heap.specs.Stored.{HoldsHeap}
 use Rattle.jc_image.specs.Laying.{first_words_of, sealed_heap, sealed_view}
@@ -6,10 +6,17 @@ use Rattle.jc_environment.specs.Objects.{fixed_objects}
 use Rattle.jc_card.specs.Fixed.{with_objects}
 use Rattle.jc_card.specs.Made.{new_front}
 use Rattle.jc_card.proofs.MadeImages.{long_of, made_if, mapped_if}
-use Rattle.jc_card.proofs.FixedObjects.{head-all}
-use Rattle.jc_heap.specs.Heap.{HeapState}
+use Rattle.jc_card.proofs.FixedObjects.{head-all, room_limit}
+use Rattle.jc_heap.specs.Heap.{HeapState, area_limit}
+use Rattle.jc_transient.specs.State.{usual_cells}
+use Rattle.jc_transient.specs.declared.cell.ClearEvent.TheVariants.{Reset}
 use Rattle.jc_card.proofs.NewFronts.{front-new}
 use Rattle.jc_card.proofs.formatting.make_image.Goals as goal
+
+pub make_fixed-requires-clause-room : goal.make_fixed-requires-clause-room
+make_fixed-requires-clause-room g c =
+    subst (λ (h : HeapState). usual_cells ≤ area_limit h Reset) (sym (ap (λ v. v.now) c.in_ok-heap.ensures.done))
+    (room_limit (length (g.S.WordStore.words c.args.store)) c.args.room c.args.text.now c.requires.sizes)
 
 pub returns-clause-size : goal.returns-clause-size
 returns-clause-size g c =
@@ -28,12 +35,12 @@ returns-clause-front g c =
     let t = c.args.table.now in
     let heap = ap sealed_heap c.in-Ok.ensures.made ∙ ap (λ v. sealed_heap (with_objects t (v.now) (fixed_objects t))) c.in_ok-heap.ensures.done in
     mapped_if c.seal.result (λ s. take front_length (S.words s) ≡ first_words_of (sealed_heap c.make_fixed.new.heap.now))
-    (λ s. take front_length (S.words s) ≡ new_front n c.args.capacity (length text) t) (λ s h. h ∙ (ap (λ h. first_words_of h) heap ∙ front-new n c.args.capacity text t)) c.seal.ensures.front
+    (λ s. take front_length (S.words s) ≡ new_front n c.args.room (length text) t) (λ s h. h ∙ (ap (λ h. first_words_of h) heap ∙ front-new n c.args.room text t)) c.seal.ensures.front
 
 pub returns-clause-made : goal.returns-clause-made
 returns-clause-made g c =
     let S = g.S.WordStore in
     made_if S.words S.down S.passed S.refusals c.seal.result (sealed_view c.make_fixed.new.heap)
-    (length (S.words c.args.store)) c.args.capacity c.args.text.now c.args.table.now c.seal.ensures.sealed
+    (length (S.words c.args.store)) c.args.room c.args.text.now c.args.table.now c.seal.ensures.sealed
     (ap sealed_heap c.in-Ok.ensures.made ∙ ap (λ v. sealed_heap (with_objects c.args.table.now (v.now) (fixed_objects c.args.table.now))) c.in_ok-heap.ensures.done)
-    c.requires.enough c.requires.reads
+    c.requires.enough c.requires.sizes c.requires.reads

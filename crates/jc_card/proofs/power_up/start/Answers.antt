@@ -1,7 +1,8 @@
 use Rattle.std.proofs.Common.{◌≡◌, ◌∙◌, ◌++◌, true, ap, subst, sym, length, take, drop}
 use Rattle.std.proofs.Math.Seq.{take-append_seam}
 use Rattle.jc_commit.specs.Image.{recovered_of}
-use Rattle.jc_heap.specs.Heap.{IsObject, heap_of, heap_view}
+use Rattle.jc_transient.specs.State.{RamState}
+use Rattle.jc_heap.specs.Heap.{IsObject, area_sizes, heap_of, heap_view}
 use Rattle.jc_heap.specs.Stored.{heap_of_store_at_rest}
 use Rattle.jc_memory.specs.Marks.{is_marked}
 use Rattle.jc_card.specs.Reset.{IsAtReset}
@@ -17,6 +18,11 @@ card_over-requires-clause-marked g c = λ up r is.
     (c.in-Ok.ensures.long ∙ sym c.in-Ok-lent_card.ensures.long) ∙ take-append_seam set (drop (length set) c.in-Ok.marks.items)) in
     let there : IsObject card.memory.heap.now r = c.in-Ok-lent_card.ensures.marked (ap (λ v. v.down) view) r (subst (λ l. is_marked l r ≡ true) back is) in
     subst (λ h. IsObject h r) (ap (λ v. v.now) view ∙ ap (λ w. heap_of (recovered_of w)) c.of.ensures.words) there
+
+pub card_over-requires-clause-fits : goal.card_over-requires-clause-fits
+card_over-requires-clause-fits g c =
+    ap (λ (r : RamState). r.sizes) c.parts_of-linked.ensures.ram ∙ c.in-Ok-lent_card.ensures.reset.sizes
+    ∙ ap area_sizes (ap (λ j. heap_of (j.plain)) c.resume-image.ensures ∙ ap (λ v. heap_of (recovered_of v)) c.of.ensures.words)
 
 pub returns-in-Ok-lent_card-clause-reset : goal.returns-in-Ok-lent_card-clause-reset
 returns-in-Ok-lent_card-clause-reset g c =

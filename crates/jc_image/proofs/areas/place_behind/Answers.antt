@@ -41,12 +41,12 @@ returns-then-begin-place-clause-none g c = λ f.
     let lies : lies_in c.args.event (item_from c.args.journal.now.plain c.args.at) ≡ true = (sym c.is_in_area.ensures ∙ c.if-not-is_in_area.false) in
     c.if-begin-place.true (c.read-begin.ensures ∙ sym (lies_place c.args.journal.now.plain c.args.at c.args.event c.requires.bounds.fits c.requires.here c.requires.small lies) ∙ f.begins lies)
 
-pub returns-then-length-place-clause-none : goal.returns-then-length-place-clause-none
-returns-then-length-place-clause-none g c = λ f.
+pub returns-then-length-size-clause-none : goal.returns-then-length-size-clause-none
+returns-then-length-size-clause-none g c = λ f.
     let cells : cells_in c.args.event (item_from c.args.journal.now.plain c.args.at) ≡ get_or c.args.journal.now.plain (c.args.at + 3) 0 =
     lies_cells c.args.journal.now.plain c.args.at c.args.event c.requires.bounds.fits c.requires.here c.requires.small
     (sym c.is_in_area.ensures ∙ c.if-not-is_in_area.false) in
-    omega (arith, cells, c.read-length.ensures, f.ends)
+    omega (arith, cells, c.read-length.ensures, c.requires.size, f.ends)
 
 pub returns-clause-fits : goal.returns-clause-fits
 returns-clause-fits g c =
@@ -56,7 +56,7 @@ returns-clause-fits g c =
     record {
       begins = λ lies. lies_place c.args.journal.now.plain c.args.at c.args.event c.requires.bounds.fits c.requires.here c.requires.small lies
           ∙ sym c.read-begin.ensures ∙ c.if-begin-place.false;
-      ends = omega (arith, cells, c.read-length.ensures);
+      ends = omega (arith, cells, c.read-length.ensures, c.requires.size);
     }
 
 pub returns-clause-next : goal.returns-clause-next

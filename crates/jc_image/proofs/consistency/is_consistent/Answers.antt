@@ -18,6 +18,12 @@ returns-then-not-counts_fit-clause-exact g c = (
       (sym c.if-not-counts_fit.true ∙ c.counts_fit.ensures.1 (w.1.few_packages, w.1.few_applets))),
 )
 
+pub returns-then-not-has_sizes-clause-exact : goal.returns-then-not-has_sizes-clause-exact
+returns-then-not-has_sizes-clause-exact g c = (
+  (λ t. absurd (false≢true t)),
+  λ w. absurd (false≢true (sym c.if-not-has_sizes.true ∙ c.has_sizes.ensures.1 w.1.sizes)),
+)
+
 pub returns-then-table_agrees-clause-exact : goal.returns-then-table_agrees-clause-exact
 returns-then-table_agrees-clause-exact g c =
     let few : ((heap_of c.args.journal.now.plain).counts.0 ≤ most_packages) × ((heap_of c.args.journal.now.plain).counts.1 ≤ most_applets) =
@@ -34,6 +40,7 @@ returns-then-table_agrees-clause-exact g c =
           records = table.1;
           distinct = table.2;
           references = (c.mark_records.ensures.held c.if-not-mark_records.false).0 (c.are_references.ensures.0 t);
+          sizes = c.has_sizes.ensures.0 c.if-not-has_sizes.false;
           areas = c.mark_records.ensures.filled c.if-not-mark_records.false;
         },
       )),

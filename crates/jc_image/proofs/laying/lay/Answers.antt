@@ -13,18 +13,18 @@ use Rattle.jc_image.proofs.OpenImages.{long_recovered}
 use Rattle.jc_image.proofs.laying.lay.Goals as goal
 
 pub returns-in_default-clause-unmarked : goal.returns-in_default-clause-unmarked
-returns-in_default-clause-unmarked g c = unmarked c.args.capacity c.args.text.now (g.S.WordStore.words c.args.store)
+returns-in_default-clause-unmarked g c = unmarked c.args.room c.args.text.now (g.S.WordStore.words c.args.store)
     (g.S.WordStore.words c.write_image.new.store) c.write_image.ensures.part
 
 pub write_image-requires-clause-fits : goal.write_image-requires-clause-fits
-write_image-requires-clause-fits g c = omega (arith, c.requires.fits, heap_end_within (length (g.S.WordStore.words c.args.store)) c.args.capacity)
+write_image-requires-clause-fits g c = omega (arith, c.requires.fits, heap_end_within (length (g.S.WordStore.words c.args.store)) c.args.room.capacity)
 
 pub of_journal-requires-clause-laid : goal.of_journal-requires-clause-laid
 of_journal-requires-clause-laid g c =
     let laid : IsWellFormed (recovered_of (g.S.WordStore.words c.write_image.new.store)) =
-    laid_all c.args.capacity c.args.text.now (g.S.WordStore.words c.args.store) (g.S.WordStore.words c.write_image.new.store) c.in-Ok.ensures.bytes
+    laid_all c.args.room c.args.text.now (g.S.WordStore.words c.args.store) (g.S.WordStore.words c.write_image.new.store) c.in-Ok.ensures.bytes
     c.requires.enough c.requires.capacity c.requires.fits c.in-Ok.ensures.done in
-    let moved = moved_all c.args.capacity c.args.text.now (g.S.WordStore.words c.args.store) (g.S.WordStore.words c.write_image.new.store) c.in-Ok.ensures.bytes
+    let moved = moved_all c.args.room c.args.text.now (g.S.WordStore.words c.args.store) (g.S.WordStore.words c.write_image.new.store) c.in-Ok.ensures.bytes
     c.requires.enough c.requires.capacity c.requires.fits c.in-Ok.ensures.done in
     subst (λ (j : State). IsWellFormed j.plain) (sym c.in-Ok-open.ensures.recovered) (subst IsWellFormed (sym moved) laid)
 
@@ -33,20 +33,20 @@ returns-in-Ok-open-clause-done g c =
     let w = g.S.WordStore.words c.write_image.new.store in
     let old = g.S.WordStore.words c.args.store in
     let r = g.S.WordStore.refusals c.write_image.new.store in
-    let limit : c.limit-size.result ≡ heap_end (length old) c.args.capacity = c.limit-size.ensures ∙ ap (λ (j : State). length j.plain) c.in-Ok-open.ensures.recovered ∙ long_recovered w
-    ∙ limit_all c.args.capacity c.args.text.now old w c.in-Ok.ensures.bytes c.requires.enough c.requires.capacity c.requires.fits c.in-Ok.ensures.done in
+    let limit : c.limit-size.result ≡ heap_end (length old) c.args.room.capacity = c.limit-size.ensures ∙ ap (λ (j : State). length j.plain) c.in-Ok-open.ensures.recovered ∙ long_recovered w
+    ∙ limit_all c.args.room c.args.text.now old w c.in-Ok.ensures.bytes c.requires.enough c.requires.capacity c.requires.fits c.in-Ok.ensures.done in
     c.of_journal.ensures
     ∙ ap (λ (j : State). heap_view j c.limit-size.result) c.in-Ok-open.ensures.recovered
     ∙ ap (heap_view (recovered_journal w (g.S.WordStore.passed c.write_image.new.store) r)) limit
-    ∙ view_all c.args.capacity c.args.text.now old w c.in-Ok.ensures.bytes c.requires.enough c.requires.capacity c.requires.fits c.in-Ok.ensures.done
+    ∙ view_all c.args.room c.args.text.now old w c.in-Ok.ensures.bytes c.requires.enough c.requires.capacity c.requires.fits c.in-Ok.ensures.done
     (g.S.WordStore.passed c.write_image.new.store) r
-    ∙ ap (λ p. unsealed_view (length old) c.args.capacity c.args.text.now p r) c.in-Ok.ensures.passed
-    ∙ ap (unsealed_view (length old) c.args.capacity c.args.text.now (saturating_count (g.S.WordStore.passed c.args.store) (first_free (length c.args.text.now))))
+    ∙ ap (λ p. unsealed_view (length old) c.args.room c.args.text.now p r) c.in-Ok.ensures.passed
+    ∙ ap (unsealed_view (length old) c.args.room c.args.text.now (saturating_count (g.S.WordStore.passed c.args.store) (first_free (length c.args.text.now))))
     c.in-Ok.ensures.refusals
 
 pub returns-in-Err-clause-down : goal.returns-in-Err-clause-down
 returns-in-Err-clause-down g c =
-    let good : IsGoodLog (g.S.WordStore.words c.write_image.new.store) = good_all c.args.capacity c.args.text.now (g.S.WordStore.words c.args.store)
+    let good : IsGoodLog (g.S.WordStore.words c.write_image.new.store) = good_all c.args.room c.args.text.now (g.S.WordStore.words c.args.store)
     (g.S.WordStore.words c.write_image.new.store) c.in-Ok.ensures.bytes c.requires.enough c.requires.capacity c.requires.fits c.in-Ok.ensures.done in
     let stopped = is_stopped g.S.WordStore.words g.S.WordStore.down g.S.WordStore.passed g.S.WordStore.refusals c.write_image.new.store
     c.in-Err.field-0-0 c.in-Err.store good c.in-Err.ensures in
@@ -54,7 +54,7 @@ returns-in-Err-clause-down g c =
 
 pub returns-in-Err-clause-refused : goal.returns-in-Err-clause-refused
 returns-in-Err-clause-refused g c =
-    let good : IsGoodLog (g.S.WordStore.words c.write_image.new.store) = good_all c.args.capacity c.args.text.now (g.S.WordStore.words c.args.store)
+    let good : IsGoodLog (g.S.WordStore.words c.write_image.new.store) = good_all c.args.room c.args.text.now (g.S.WordStore.words c.args.store)
     (g.S.WordStore.words c.write_image.new.store) c.in-Ok.ensures.bytes c.requires.enough c.requires.capacity c.requires.fits c.in-Ok.ensures.done in
     let stopped = is_stopped g.S.WordStore.words g.S.WordStore.down g.S.WordStore.passed g.S.WordStore.refusals c.write_image.new.store
     c.in-Err.field-0-0 c.in-Err.store good c.in-Err.ensures in
@@ -63,26 +63,26 @@ returns-in-Err-clause-refused g c =
 
 pub returns-in-Err-clause-part : goal.returns-in-Err-clause-part
 returns-in-Err-clause-part g c =
-    let good : IsGoodLog (g.S.WordStore.words c.write_image.new.store) = good_all c.args.capacity c.args.text.now (g.S.WordStore.words c.args.store)
+    let good : IsGoodLog (g.S.WordStore.words c.write_image.new.store) = good_all c.args.room c.args.text.now (g.S.WordStore.words c.args.store)
     (g.S.WordStore.words c.write_image.new.store) c.in-Ok.ensures.bytes c.requires.enough c.requires.capacity c.requires.fits c.in-Ok.ensures.done in
     let stopped = is_stopped g.S.WordStore.words g.S.WordStore.down g.S.WordStore.passed g.S.WordStore.refusals c.write_image.new.store
     c.in-Err.field-0-0 c.in-Err.store good c.in-Err.ensures in
-    part_after c.args.capacity c.args.text.now (g.S.WordStore.words c.args.store) (g.S.WordStore.words c.write_image.new.store) c.in-Ok.ensures.bytes
+    part_after c.args.room c.args.text.now (g.S.WordStore.words c.args.store) (g.S.WordStore.words c.write_image.new.store) c.in-Ok.ensures.bytes
     c.requires.enough c.requires.capacity c.requires.fits c.in-Ok.ensures.done (g.S.WordStore.words c.in-Err.store) stopped.part.0 stopped.part.2
 
 pub returns-in-Err-clause-unmarked : goal.returns-in-Err-clause-unmarked
 returns-in-Err-clause-unmarked g c =
-    let good : IsGoodLog (g.S.WordStore.words c.write_image.new.store) = good_all c.args.capacity c.args.text.now (g.S.WordStore.words c.args.store)
+    let good : IsGoodLog (g.S.WordStore.words c.write_image.new.store) = good_all c.args.room c.args.text.now (g.S.WordStore.words c.args.store)
     (g.S.WordStore.words c.write_image.new.store) c.in-Ok.ensures.bytes c.requires.enough c.requires.capacity c.requires.fits c.in-Ok.ensures.done in
     let stopped = is_stopped g.S.WordStore.words g.S.WordStore.down g.S.WordStore.passed g.S.WordStore.refusals c.write_image.new.store
     c.in-Err.field-0-0 c.in-Err.store good c.in-Err.ensures in
-    unmarked c.args.capacity c.args.text.now (g.S.WordStore.words c.args.store) (g.S.WordStore.words c.in-Err.store)
-    (part_after c.args.capacity c.args.text.now (g.S.WordStore.words c.args.store) (g.S.WordStore.words c.write_image.new.store) c.in-Ok.ensures.bytes
+    unmarked c.args.room c.args.text.now (g.S.WordStore.words c.args.store) (g.S.WordStore.words c.in-Err.store)
+    (part_after c.args.room c.args.text.now (g.S.WordStore.words c.args.store) (g.S.WordStore.words c.write_image.new.store) c.in-Ok.ensures.bytes
     c.requires.enough c.requires.capacity c.requires.fits c.in-Ok.ensures.done (g.S.WordStore.words c.in-Err.store) stopped.part.0 stopped.part.2)
 
 pub returns-in-Err-clause-size : goal.returns-in-Err-clause-size
 returns-in-Err-clause-size g c =
-    let good : IsGoodLog (g.S.WordStore.words c.write_image.new.store) = good_all c.args.capacity c.args.text.now (g.S.WordStore.words c.args.store)
+    let good : IsGoodLog (g.S.WordStore.words c.write_image.new.store) = good_all c.args.room c.args.text.now (g.S.WordStore.words c.args.store)
     (g.S.WordStore.words c.write_image.new.store) c.in-Ok.ensures.bytes c.requires.enough c.requires.capacity c.requires.fits c.in-Ok.ensures.done in
     let stopped = is_stopped g.S.WordStore.words g.S.WordStore.down g.S.WordStore.passed g.S.WordStore.refusals c.write_image.new.store
     c.in-Err.field-0-0 c.in-Err.store good c.in-Err.ensures in

@@ -16,15 +16,15 @@ loop-i-preserved g c =
     let i = c.loop-i.i in
     let inv = c.loop-i.invariant in
     let written = c.in_ok-write.ensures.written in
-    let long : length (new_image_words (length first) c.args.capacity text) ≡ text_start + (length text + 1) / 2 = length-laid (length first) c.args.capacity text in
-    let word : c.new_image_word.result ≡ get_or (new_image_words (length first) c.args.capacity text) i 0 = c.new_image_word.ensures.word
-    ∙ ap (λ n. get_or (new_image_words n c.args.capacity text) i 0) c.size-n.ensures in
+    let long : length (new_image_words (length first) c.args.room text) ≡ text_start + (length text + 1) / 2 = length-laid (length first) c.args.room text in
+    let word : c.new_image_word.result ≡ get_or (new_image_words (length first) c.args.room text) i 0 = c.new_image_word.ensures.word
+    ∙ ap (λ n. get_or (new_image_words n c.args.room text) i 0) c.size-n.ensures in
     record {
       words =
           written
           ∙ ap (λ v. set now i v) word
-          ∙ ap (λ (ws : List ℕ). set ws i (get_or (new_image_words (length first) c.args.capacity text) i 0)) inv.words
-          ∙ front_more (new_image_words (length first) c.args.capacity text) first i (omega arith) (omega arith);
+          ∙ ap (λ (ws : List ℕ). set ws i (get_or (new_image_words (length first) c.args.room text) i 0)) inv.words
+          ∙ front_more (new_image_words (length first) c.args.room text) first i (omega arith) (omega arith);
       size = ap (λ (ws : List ℕ). length ws) written ∙ length-set now i c.new_image_word.result ∙ inv.size;
       up = λ _. c.in_ok-write.ensures.down;
       passed = search rules;

@@ -10,7 +10,7 @@ invariant-loop-i g l =
     let now = g.S.WordStore.words l.store in
     let first = g.S.WordStore.words l.initial.store in
     record {
-      words : now ≡ written_image_prefix l.i (length first) l.capacity l.text first;
+      words : now ≡ written_image_prefix l.i (length first) l.room l.text first;
       size : length now ≡ length first;
       up : 1 ≤ l.i → g.S.WordStore.down l.store ≡ false;
       passed : g.S.WordStore.passed l.store ≡ saturating_count (g.S.WordStore.passed l.initial.store) l.i;

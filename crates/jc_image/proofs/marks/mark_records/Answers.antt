@@ -2,7 +2,7 @@ use Rattle.std.proofs.Common.{arith, rules, ◌≡◌, ◌<◌, ◌||◌, ◌∙
 use Rattle.std.proofs.lemmas.List.{length-set}
 use Rattle.std.proofs.lemmas.Bool.{false≢true}
 use Rattle.jc_transient.specs.declared.cell.ClearEvent.TheVariants.{Reset, Deselect}
-use Rattle.jc_heap.specs.Heap.{heap_of, area_end}
+use Rattle.jc_heap.specs.Heap.{heap_of, area_end, area_limit}
 use Rattle.jc_heap.specs.Table.{has_entry}
 use Rattle.jc_image.specs.Steps.{items_from, item_from}
 use Rattle.jc_heap.proofs.AreaRuns.{Run, run_of}
@@ -29,12 +29,12 @@ loop-at-init g c =
       reset_room = omega arith;
       deselect_room = omega arith;
       reset = (
-        (λ run. subst (λ l. Run Reset 0 l (area_end (heap_of c.args.journal.now.plain) Reset)) (sym items) run),
-        λ run. subst (λ l. Run Reset 0 l (area_end (heap_of c.args.journal.now.plain) Reset)) items run,
+        (λ run. subst (λ l. Run Reset (area_limit (heap_of c.args.journal.now.plain) Reset) 0 l (area_end (heap_of c.args.journal.now.plain) Reset)) (sym items) run),
+        λ run. subst (λ l. Run Reset (area_limit (heap_of c.args.journal.now.plain) Reset) 0 l (area_end (heap_of c.args.journal.now.plain) Reset)) items run,
       );
       deselect = (
-        (λ run. subst (λ l. Run Deselect 0 l (area_end (heap_of c.args.journal.now.plain) Deselect)) (sym items) run),
-        λ run. subst (λ l. Run Deselect 0 l (area_end (heap_of c.args.journal.now.plain) Deselect)) items run,
+        (λ run. subst (λ l. Run Deselect (area_limit (heap_of c.args.journal.now.plain) Deselect) 0 l (area_end (heap_of c.args.journal.now.plain) Deselect)) (sym items) run),
+        λ run. subst (λ l. Run Deselect (area_limit (heap_of c.args.journal.now.plain) Deselect) 0 l (area_end (heap_of c.args.journal.now.plain) Deselect)) items run,
       );
       held = (
         (λ x. subst (AllHold (heap_of c.args.journal.now.plain)) (sym items) x.1),
@@ -52,13 +52,13 @@ returns-in_default-clause-broken g c = λ u. λ laid f holds.
 
 pub returns-in_default-visit-clause-broken : goal.returns-in_default-visit-clause-broken
 returns-in_default-visit-clause-broken g c = λ u. λ laid f holds.
-    let reset : Run Reset c.loop-at.places.reset ((c.loop-at.at, item_from c.args.journal.now.plain c.loop-at.at)
+    let reset : Run Reset (area_limit (heap_of c.args.journal.now.plain) Reset) c.loop-at.places.reset ((c.loop-at.at, item_from c.args.journal.now.plain c.loop-at.at)
     ∷ items_from c.args.journal.now.plain c.in-Some.end) (area_end (heap_of c.args.journal.now.plain) Reset) =
-    subst (λ l. Run Reset c.loop-at.places.reset l (area_end (heap_of c.args.journal.now.plain) Reset)) c.in-Some.ensures.items
+    subst (λ l. Run Reset (area_limit (heap_of c.args.journal.now.plain) Reset) c.loop-at.places.reset l (area_end (heap_of c.args.journal.now.plain) Reset)) c.in-Some.ensures.items
     (c.loop-at.invariant.reset.1 (run_of (heap_of c.args.journal.now.plain) Reset (f Reset))) in
-    let deselect : Run Deselect c.loop-at.places.deselect ((c.loop-at.at, item_from c.args.journal.now.plain c.loop-at.at)
+    let deselect : Run Deselect (area_limit (heap_of c.args.journal.now.plain) Deselect) c.loop-at.places.deselect ((c.loop-at.at, item_from c.args.journal.now.plain c.loop-at.at)
     ∷ items_from c.args.journal.now.plain c.in-Some.end) (area_end (heap_of c.args.journal.now.plain) Deselect) =
-    subst (λ l. Run Deselect c.loop-at.places.deselect l (area_end (heap_of c.args.journal.now.plain) Deselect)) c.in-Some.ensures.items
+    subst (λ l. Run Deselect (area_limit (heap_of c.args.journal.now.plain) Deselect) c.loop-at.places.deselect l (area_end (heap_of c.args.journal.now.plain) Deselect)) c.in-Some.ensures.items
     (c.loop-at.invariant.deselect.1 (run_of (heap_of c.args.journal.now.plain) Deselect (f Deselect))) in
     let held : AllHold (heap_of c.args.journal.now.plain) ((c.loop-at.at, item_from c.args.journal.now.plain c.loop-at.at)
     ∷ items_from c.args.journal.now.plain c.in-Some.end) =
@@ -88,11 +88,11 @@ loop-at-preserved g c =
       reset_room = omega (arith, c.in-Some-visit.ensures.next.0, c.in-Some-visit.ensures.fits.0.ends);
       deselect_room = omega (arith, c.in-Some-visit.ensures.next.1, c.in-Some-visit.ensures.fits.1.ends);
       reset = run_step Reset (items_from c.args.journal.now.plain c.loop-at.at) (items_from c.args.journal.now.plain c.in-Some.end) c.loop-at.at
-          (item_from c.args.journal.now.plain c.loop-at.at) c.loop-at.places.reset c.in-Some-visit.next.reset
+          (item_from c.args.journal.now.plain c.loop-at.at) (area_limit (heap_of c.args.journal.now.plain) Reset) c.loop-at.places.reset c.in-Some-visit.next.reset
           (area_end (heap_of c.args.journal.now.plain) Reset) _ c.in-Some.ensures.items c.in-Some-visit.ensures.fits.0 c.in-Some-visit.ensures.next.0
           c.loop-at.invariant.reset;
       deselect = run_step Deselect (items_from c.args.journal.now.plain c.loop-at.at) (items_from c.args.journal.now.plain c.in-Some.end) c.loop-at.at
-          (item_from c.args.journal.now.plain c.loop-at.at) c.loop-at.places.deselect c.in-Some-visit.next.deselect
+          (item_from c.args.journal.now.plain c.loop-at.at) (area_limit (heap_of c.args.journal.now.plain) Deselect) c.loop-at.places.deselect c.in-Some-visit.next.deselect
           (area_end (heap_of c.args.journal.now.plain) Deselect) _ c.in-Some.ensures.items c.in-Some-visit.ensures.fits.1 c.in-Some-visit.ensures.next.1
           c.loop-at.invariant.deselect;
       held = held_step (heap_of c.args.journal.now.plain) (items_from c.args.journal.now.plain c.loop-at.at)

@@ -3,9 +3,8 @@
 use Rattle.std.proofs.Common.{ℕ, ◌≡◌, ◌≤◌, ◌-◌, ◌↔◌, false, get_or, length}
 use Rattle.jc_words.specs.Layout.{top_address, text_start}
 use Rattle.jc_transient.specs.declared.cell.ClearEvent.TheVariants.{Reset, Deselect}
-use Rattle.jc_transient.specs.State.{area_size}
 use Rattle.jc_heap.specs.Image.{image, missing_words_of_image}
-use Rattle.jc_heap.specs.Heap.{heap_of, area_end}
+use Rattle.jc_heap.specs.Heap.{heap_of, area_end, area_limit}
 use Rattle.jc_heap.proofs.AreaRuns.{Run}
 use Rattle.jc_image.specs.Steps.{items_from, AreReferences}
 use Rattle.jc_image.proofs.Marking.{Marks}
@@ -22,12 +21,12 @@ invariant-loop-at g l = record {
   named_long : length l.named ≡ 65536;
   marks : Marks l.marks (items_from l.journal.plain l.at) ((heap_of l.journal.plain).items);
   below : (r : ℕ) → get_or l.journal.plain top_address 0 ≤ r → get_or l.named r false ≡ false;
-  reset_room : l.places.reset ≤ area_size;
-  deselect_room : l.places.deselect ≤ area_size;
-  reset : Run Reset l.places.reset (items_from l.journal.plain l.at) (area_end (heap_of l.journal.plain) Reset)
-      ↔ Run Reset 0 ((heap_of l.journal.plain).items) (area_end (heap_of l.journal.plain) Reset);
-  deselect : Run Deselect l.places.deselect (items_from l.journal.plain l.at) (area_end (heap_of l.journal.plain) Deselect)
-      ↔ Run Deselect 0 ((heap_of l.journal.plain).items) (area_end (heap_of l.journal.plain) Deselect);
+  reset_room : l.places.reset ≤ area_limit (heap_of l.journal.plain) Reset;
+  deselect_room : l.places.deselect ≤ area_limit (heap_of l.journal.plain) Deselect;
+  reset : Run Reset (area_limit (heap_of l.journal.plain) Reset) l.places.reset (items_from l.journal.plain l.at) (area_end (heap_of l.journal.plain) Reset)
+      ↔ Run Reset (area_limit (heap_of l.journal.plain) Reset) 0 ((heap_of l.journal.plain).items) (area_end (heap_of l.journal.plain) Reset);
+  deselect : Run Deselect (area_limit (heap_of l.journal.plain) Deselect) l.places.deselect (items_from l.journal.plain l.at) (area_end (heap_of l.journal.plain) Deselect)
+      ↔ Run Deselect (area_limit (heap_of l.journal.plain) Deselect) 0 ((heap_of l.journal.plain).items) (area_end (heap_of l.journal.plain) Deselect);
   held : (AreReferences (heap_of l.journal.plain) l.named × AllHold (heap_of l.journal.plain) (items_from l.journal.plain l.at))
       ↔ AllHold (heap_of l.journal.plain) ((heap_of l.journal.plain).items);
 }

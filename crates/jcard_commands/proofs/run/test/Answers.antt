@@ -9,8 +9,8 @@ returns-clause-done g c =
       done.1,
       done.2,
       (
-        record { junit = o.junit; table = o.table; words = o.words; journal = o.journal; budget = c.unwrap_or-budget.result },
-        (refl, refl, refl, refl, c.unwrap_or-budget.ensures),
+        record { junit = o.junit; table = o.table; size = c.image_size.result; budget = c.unwrap_or-budget.result },
+        (refl, refl, c.image_size.ensures, c.unwrap_or-budget.ensures),
         done.3,
       ),
       done.4,

@@ -1,36 +1,43 @@
-use Rattle.std.proofs.Common.{◌≡◌, ◌∙◌, [], Ok, Err, refl, subst, inl, inr}
+use Rattle.std.proofs.Common.{◌≡◌, ◌∙◌, [], ◌∷◌, Ok, Err, refl, subst, sym, inl, inr}
+use Rattle.std.proofs.lemmas.Result.{err_from_is_err_and}
 use Rattle.std.specs.Prelude.{codes}
 use Rattle.jcard_script.proofs.Known.{appends_same}
-use Rattle.jcard_files.specs.FileDeeds.{fresh_store}
+use Rattle.jcard_files.specs.FileDeeds.{ReadsText, fresh_store}
+use Rattle.jcard_files.specs.Images.{IsUnopened}
 use Rattle.jcard_commands.specs.Runs.{IsCarriedOut}
 use Rattle.jcard_files.proofs.Stores.{fresh_under_fuse}
 use Rattle.jcard_commands.proofs.Trials.{not_tried}
 use Rattle.jcard_commands.proofs.trial.try_on.Goals as goal
 
-pub returns-in-Err-clause-done : goal.returns-in-Err-clause-done
-returns-in-Err-clause-done g c = ([], Err c.in-Err.fault, appends_same _, inl (c.in-Err.fault, refl, c.in-Err.ensures.refused, refl, refl), c.in-Err.ensures.does)
+pub returns-in_err-file-clause-done : goal.returns-in_err-file-clause-done
+returns-in_err-file-clause-done g c =
+    let p = err_from_is_err_and c.from_residual.result c.from_residual.ensures.1 in
+    let refused = subst (IsUnopened c.args.asked.script.now) (sym p.2) c.in_err-file.ensures.refused in
+    let read = subst (λ fault. g.D.Disk.does c.args.disk.now (ReadsText c.args.asked.script.now (Err fault) ∷ []) c.open_text.new.self) (sym p.2) c.in_err-file.ensures.does in
+    ([], Err p.0, appends_same _, inl (p.0, p.1, refused, refl, refl), read)
 
-pub returns-in-Err-new_image_of-clause-done : goal.returns-in-Err-new_image_of-clause-done
-returns-in-Err-new_image_of-clause-done g c =
-    let known = g.D.Text.Read.remaining c.in-Ok.file in (
+pub returns-in_err-store-clause-done : goal.returns-in_err-store-clause-done
+returns-in_err-store-clause-done g c =
+    let known = g.D.Text.Read.remaining c.in_ok-file.file in
+    let p = err_from_is_err_and c.from_residual-in_err-store.result c.from_residual-in_err-store.ensures.1 in (
       [],
       Ok known,
       appends_same _,
-      not_tried c.args.asked.budget c.args.asked.script.now c.args.card.count c.args.card.capacity c.args.card.table.now
-          c.in-Err-new_image_of.fault known c.in-Err-new_image_of.ensures,
-      c.in-Ok.ensures.does,
+      rw p.1 (not_tried c.args.asked.budget c.args.asked.script.now c.args.card.extent.count c.args.card.extent.room c.args.card.table.now p.0 known
+          (rw p.2 c.in_err-store.ensures)),
+      c.in_ok-file.ensures.does,
     )
 
 pub returns-clause-done : goal.returns-clause-done
 returns-clause-done g c =
     let script = c.args.asked.script.now in
-    let words = c.in-Ok-new_image_of.store.words in
+    let words = c.in_ok-store.store.words in
     let unread = g.D.Text.Read.remaining in
-    let known = unread c.in-Ok.file in
+    let known = unread c.in_ok-file.file in
     let after = c.run_named.result.0 in
     let ended = c.run_named.result.1 in
     let left = unread c.run_named.new.script.inner in
-    let made = c.in-Ok-new_image_of.ensures in
+    let made = c.in_ok-store.ensures in
     let fresh : c.new.result ≡ fresh_store words = c.new.ensures ∙ fresh_under_fuse words _ _ _ refl made.1 refl in
     let done = c.run_named.ensures.done in
     let over = subst (λ f. IsCarriedOut c.args.asked.budget (codes "memory") script (unread f) left c.new.result after ended done.0) c.new-reader.ensures.inner done.2 in
@@ -39,5 +46,5 @@ returns-clause-done g c =
       Ok known,
       done.1,
       inr (known, left, refl, inr (inr (words, after, made.0, carried))),
-      c.in-Ok.ensures.does,
+      c.in_ok-file.ensures.does,
     )

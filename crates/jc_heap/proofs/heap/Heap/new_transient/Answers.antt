@@ -103,7 +103,7 @@ returns-then-area_end-from-clause-moves g c =
     (c.self.invariant.now (up_is c.self.inside.journal c.args.self.now c.self.inside.size c.self.view_is c.requires)) in
     unless_refused (refusal_of_transient c.args.self.now c.args.event c.args.length) c.args.self.now c.args.self.now NoTransientSpace
     (AddTransient c.args.kind c.args.event c.args.class c.args.owner c.args.length ∷ []) c.args.self.now.now.top
-    (has_no_cells c.args.self.now c.args.event c.args.length (omega (arith, va, at))) refl
+    (has_no_cells c.args.self.now c.args.event c.args.length (omega (arith, va, at, c.area_limit.ensures))) refl
 
 pub returns-then-end-from-clause-moves : goal.returns-then-end-from-clause-moves
 returns-then-end-from-clause-moves g c =
@@ -114,7 +114,7 @@ returns-then-end-from-clause-moves g c =
     (c.self.invariant.now (up_is c.self.inside.journal c.args.self.now c.self.inside.size c.self.view_is c.requires)) in
     unless_refused (refusal_of_transient c.args.self.now c.args.event c.args.length) c.args.self.now c.args.self.now HeapFull
     (AddTransient c.args.kind c.args.event c.args.class c.args.owner c.args.length ∷ []) c.args.self.now.now.top
-    (has_some_cells c.args.self.now c.args.event c.args.length (λ l. omega (arith, l, va, at))
+    (has_some_cells c.args.self.now c.args.event c.args.length (λ l. omega (arith, l, va, at, c.area_limit.ensures))
     ∙ has_no_space c.args.self.now transient_size (end_address ∷ area_end_address c.args.event ∷ [])
     (lacks_space c.self.inside.journal c.args.self.now c.self.inside.size transient_size c.self.view_is
     (c.self.invariant.now (up_is c.self.inside.journal c.args.self.now c.self.inside.size c.self.view_is c.requires)) (omega arith))) refl
@@ -128,7 +128,7 @@ returns-then-not-fits-clause-moves g c =
     (c.self.invariant.now (up_is c.self.inside.journal c.args.self.now c.self.inside.size c.self.view_is c.requires)) in
     unless_refused (refusal_of_transient c.args.self.now c.args.event c.args.length) c.args.self.now c.args.self.now CommitFull
     (AddTransient c.args.kind c.args.event c.args.class c.args.owner c.args.length ∷ []) c.args.self.now.now.top
-    (has_some_cells c.args.self.now c.args.event c.args.length (λ l. omega (arith, l, va, at))
+    (has_some_cells c.args.self.now c.args.event c.args.length (λ l. omega (arith, l, va, at, c.area_limit.ensures))
     ∙ object_full c.args.self.now transient_size (end_address ∷ area_end_address c.args.event ∷ [])
     (has_space c.self.inside.journal c.args.self.now c.self.inside.size transient_size c.self.view_is
     (c.self.invariant.now (up_is c.self.inside.journal c.args.self.now c.self.inside.size c.self.view_is c.requires)) (omega arith))
@@ -147,7 +147,7 @@ returns-in_default-clause-moves g c =
     subst (λ t. KeepsBelow t c.self.inside.journal c.write_run.new.journal) c.read-top.ensures c.write_run.ensures.below in
     unless_cut (refusal_of_transient c.args.self.now c.args.event c.args.length) c.args.self.now (heap_view c.write_run.new.journal c.self.inside.size)
     (AddTransient c.args.kind c.args.event c.args.class c.args.owner c.args.length) c.args.self.now.now.top
-    (has_some_cells c.args.self.now c.args.event c.args.length (λ l. omega (arith, l, va, at))
+    (has_some_cells c.args.self.now c.args.event c.args.length (λ l. omega (arith, l, va, at, c.area_limit.ensures))
     ∙ object_fits c.args.self.now transient_size (end_address ∷ area_end_address c.args.event ∷ [])
     (has_space c.self.inside.journal c.args.self.now c.self.inside.size transient_size c.self.view_is
     (c.self.invariant.now (up_is c.self.inside.journal c.args.self.now c.self.inside.size c.self.view_is c.requires)) (omega arith))
@@ -189,7 +189,7 @@ returns-in_default-write_all-clause-moves g c =
     ∙ count_is c.self.inside.journal c.args.self.now c.self.inside.size (top_address ∷ area_end_address c.args.event ∷ []) c.self.invariant.back c.self.view_is) in
     unless_cut (refusal_of_transient c.args.self.now c.args.event c.args.length) c.args.self.now (heap_view c.write_all.new.self c.self.inside.size)
     (AddTransient c.args.kind c.args.event c.args.class c.args.owner c.args.length) c.args.self.now.now.top
-    (has_some_cells c.args.self.now c.args.event c.args.length (λ l. omega (arith, l, va, at))
+    (has_some_cells c.args.self.now c.args.event c.args.length (λ l. omega (arith, l, va, at, c.area_limit.ensures))
     ∙ object_fits c.args.self.now transient_size (end_address ∷ area_end_address c.args.event ∷ [])
     (has_space c.self.inside.journal c.args.self.now c.self.inside.size transient_size c.self.view_is
     (c.self.invariant.now (up_is c.self.inside.journal c.args.self.now c.self.inside.size c.self.view_is c.requires)) (omega arith))
@@ -227,7 +227,7 @@ returns-clause-moves g c =
     c.write_all.new.self) area c.in-Ok-write_all.ensures.ok) in
     unless_done (refusal_of_transient c.args.self.now c.args.event c.args.length) c.args.self.now (heap_view c.write_all.new.self c.self.inside.size)
     (AddTransient c.args.kind c.args.event c.args.class c.args.owner c.args.length) c.at.result c.args.self.now.now.top
-    (has_some_cells c.args.self.now c.args.event c.args.length (λ l. omega (arith, l, va, at))
+    (has_some_cells c.args.self.now c.args.event c.args.length (λ l. omega (arith, l, va, at, c.area_limit.ensures))
     ∙ object_fits c.args.self.now transient_size (end_address ∷ area_end_address c.args.event ∷ [])
     (has_space c.self.inside.journal c.args.self.now c.self.inside.size transient_size c.self.view_is
     (c.self.invariant.now (up_is c.self.inside.journal c.args.self.now c.self.inside.size c.self.view_is c.requires)) (omega arith))

@@ -8,6 +8,7 @@ invariant_of-result g c = (
     heap = λ up. at_rest c.args.heap c.requires.whole c.top.ensures.end (subst (λ n. 0 < n) c.top.ensures.top c.top.ensures.some)
         (c.is_open.ensures.settled c.requires.up (c.is_open.ensures.open ∙ c.requires.rests));
     ram = c.requires.sizes;
+    sizes = λ up. c.requires.fits;
   },
   c.requires.marked,
 )

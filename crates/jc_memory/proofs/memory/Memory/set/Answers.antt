@@ -1,28 +1,35 @@
-use Rattle.std.proofs.Common.{ap, ◌∙◌, subst, sym}
+use Rattle.std.proofs.Common.{ap, arith, ◌∙◌, subst, sym}
 use Rattle.jc_heap.specs.declared.place.Place.TheVariants.{Cell}
 use Rattle.jc_heap.specs.Keeping.{IsLegalValue}
 use Rattle.jc_memory.specs.Cells.{word_of}
 use Rattle.jc_memory.proofs.Marking.{known_change}
+use Rattle.jc_memory.proofs.Usable.{within_area}
 use Rattle.jc_memory.proofs.memory.Memory.set.Goals as goal
 
 pub invariant_of-self : goal.invariant_of-self
 invariant_of-self g c =
-    let k = known_change c.self.inside.marks _ c.self.inside.heap c.set-done.new.self c.set-done.result _ _ c.set-done.ensures
+    let k = known_change c.self.inside.marks c.self.inside.ram.sizes _ c.self.inside.heap c.set-done.new.self c.set-done.result _ _ c.set-done.ensures
     (λ none. rw c.word_of.ensures (subst (λ s. IsLegalValue s.heap.now (Cell c.args.object c.args.i) (word_of c.args.value))
     (sym c.self.view_is) c.requires.value.reference))
     tt (
       c.self.invariant.0.heap (ap (λ s. s.heap.down) c.self.view_is ∙ c.requires.up),
       c.self.invariant.1 (ap (λ s. s.heap.down) c.self.view_is ∙ c.requires.up),
+      c.self.invariant.0.sizes (ap (λ s. s.heap.down) c.self.view_is ∙ c.requires.up),
     ) in
-    (record { heap = k.0; ram = c.self.invariant.0.ram }, k.1)
+    (record { heap = k.0; ram = c.self.invariant.0.ram; sizes = k.2 }, k.1)
 
 pub invariant_of-self-in_default : goal.invariant_of-self-in_default
 invariant_of-self-in_default g c =
-    let k = known_change c.self.inside.marks _ c.self.inside.heap c.set-done.new.self c.set-done.result _ _ c.set-done.ensures
+    let k = known_change c.self.inside.marks c.self.inside.ram.sizes _ c.self.inside.heap c.set-done.new.self c.set-done.result _ _ c.set-done.ensures
     (λ none. rw c.word_of.ensures (subst (λ s. IsLegalValue s.heap.now (Cell c.args.object c.args.i) (word_of c.args.value))
     (sym c.self.view_is) c.requires.value.reference))
     tt (
       c.self.invariant.0.heap (ap (λ s. s.heap.down) c.self.view_is ∙ c.requires.up),
       c.self.invariant.1 (ap (λ s. s.heap.down) c.self.view_is ∙ c.requires.up),
+      c.self.invariant.0.sizes (ap (λ s. s.heap.down) c.self.view_is ∙ c.requires.up),
     ) in
-    (record { heap = k.0; ram = c.self.invariant.0.ram }, k.1)
+    (record { heap = k.0; ram = c.self.invariant.0.ram; sizes = k.2 }, k.1)
+
+pub fill-requires : goal.fill-requires
+fill-requires g c = within_area c.args.self.now c.self.inside.ram c.args.object c.args.i 1 c.facts-facts.result c.in-Some.event
+    (ap (λ s. s.ram) c.self.view_is) c.facts-facts.ensures c.in-Some.is (omega (arith, c.requires.cell))
