@@ -40,7 +40,7 @@ AreStruckBy words c accepted objects before undisturbed (fault ∷ faults) (s �
     × AreStruckBy words c accepted objects before undisturbed faults strikes
 AreStruckBy words c accepted objects before undisturbed faults strikes = ⊥
 
--- the faults that are tried of a command of so many instructions: all, or those in a part
+-- the faults that are tried of a command of n instructions: all, or those of a part
 abbrev pub faults_of : Sought → Option Share → ℕ → List PlannedFault
 faults_of sought part n = asked_in part (faults_tried (kinds_tried sought.models sought.within) n)
 

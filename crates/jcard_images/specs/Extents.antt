@@ -34,7 +34,8 @@ pub record IsExtent (words journal : List ℕ) (cells : Option (List ℕ)) (exte
   pub cells_said : IsCellCount cells extent.room.cells
   pub buffer : extent.room.buffer ≡ 0
 
--- no image has so many words; or it can, and no journal has so many entries; or both can, and the transient objects of an event cannot have so many cells
+-- the first text is no number of words of an image; or it is, and the second is no number of entries of a journal; or both are, and the third is no number
+-- of cells
 abbrev pub IsNoExtent : List ℕ → List ℕ → Option (List ℕ) → Fault → Type 0
 IsNoExtent words journal cells BadWords = (n : ℕ) → IsWordCount words n → ⊥
 IsNoExtent words journal cells BadJournal = ((n : ℕ) × IsWordCount words n) × ((c : ℕ) → IsJournalCapacity journal c → ⊥)
