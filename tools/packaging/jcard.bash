@@ -2,20 +2,20 @@
 _jcard() {
     local word=${COMP_WORDS[COMP_CWORD]} before=${COMP_WORDS[COMP_CWORD - 1]} words=""
     case $before in
-    --words | --journal | --transient | --line | --lines | --recovery | --part | --instructions | --model | --accept | --twice) return ;;
+    --words | --journal | --transient | --apdu | --line | --lines | --recovery | --part | --instructions | --model | --accept | --twice) return ;;
     --table | --probe | --junit | --map | --cover | --against) ;;
     *)
         if [ "$COMP_CWORD" -eq 1 ]; then
             words="new run dump try tear attack test --help --version --program --reader"
         elif [[ $word == -* ]]; then
             case ${COMP_WORDS[1]} in
-            new) words="--words --table --journal --transient --help" ;;
+            new) words="--words --table --journal --transient --apdu --help" ;;
             run) words="--why --trace --lines --map --cover --instructions --expect --help" ;;
             dump) words="--objects --all --secrets --against --help" ;;
-            try) words="--words --table --journal --transient --instructions --help" ;;
+            try) words="--words --table --journal --transient --apdu --instructions --help" ;;
             tear) words="--probe --line --each --recovery --part --join --objects --instructions --help" ;;
             attack) words="--model --accept --twice --probe --line --each --part --join --objects --map --instructions --help" ;;
-            test) words="--junit --table --words --journal --transient --instructions --help" ;;
+            test) words="--junit --table --words --journal --transient --apdu --instructions --help" ;;
             --reader) words="--port --atr --log --help" ;;
             esac
         fi

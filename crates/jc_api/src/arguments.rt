@@ -16,6 +16,9 @@ use jc_world::{Stretch, bytes_argument, elements};
 /// How many elements a call names at most, since their number is a short.
 pub const MOST_ELEMENTS: usize = i16::MAX as usize;
 
+/// How many bytes a piece of an array has at most that is worked on in a small room: a command in the short form has no more.
+pub const SMALL_PIECE: usize = 261;
+
 /// An array of bytes with its header, none for null; an offset and a length.
 #[derive(Clone, Copy)]
 pub struct ArrayArguments {

@@ -12,8 +12,8 @@ pub mod short_arrays;
 pub mod transient_events;
 
 pub use arguments::{
-    ArrayArguments, MOST_ELEMENTS, Pair, PairArguments, argument_bytes, array_arguments,
-    counted_of, elements_at, given_elements, pair_arguments, pair_of, two_of,
+    ArrayArguments, MOST_ELEMENTS, Pair, PairArguments, SMALL_PIECE, argument_bytes,
+    array_arguments, counted_of, elements_at, given_elements, pair_arguments, pair_of, two_of,
 };
 pub use changing::{change_state, change_state_and_put, state_at};
 pub use factory::{NewEngine, StateKind, make_engine};

@@ -1,7 +1,7 @@
 -- What is to be shown of something that is to hold of each effect of a call of these classes.
 use Rattle.std.specs.Prelude.{slice_index}
 use Rattle.std.proofs.Common.{◌≡◌, ◌≤◌, ◌+◌, ℕ, true, false, List, None, Option, Result, Ok, Err, Some, Bool, length}
-use Rattle.jc_transient.specs.State.{buffer_size}
+use Rattle.jc_heap.specs.Heap.{facts}
 use Rattle.jc_heap.specs.Moves.{Begin, Commit, Abort, SetPlaces, WriteNonAtomic}
 use Rattle.jc_memory.specs.Cells.{cells_effect}
 use Rattle.jc_memory.specs.Making.{object_creation}
@@ -97,13 +97,13 @@ pub record IsPinCall (method : PlatformMethod) (args : List Cell) (m : MemorySta
 abbrev pub recorded : ℕ → ℕ → ℕ → ℕ → Program (Result (Unit {0}) PinRefusal)
 recorded pin limit maximum value = Perform (HeapMove (SetPlaces (first_record pin limit maximum value))) (Perform (SetFlag pin false) (Finish (Ok tt)))
 
--- what a method sets: what those of any class set; the cells of an AID; the APDU buffer, within which the words fit where the command does;
+-- what a method sets: what those of any class set; the cells of an AID; the APDU buffer, within which the words fit;
 -- the record of a new PIN; and the flag of a PIN, its counter, and its value
 pub record MethodPasses (P : Effect → MemoryState → Type 0) (method : PlatformMethod) (args : List Cell) (p : Packages) (m : MemoryState) : Type 0 where
   pub calls : CallPasses P method args p m
   pub aid : method ≡ Aids AidInit → (own : ℕ) (bytes : List ℕ) → reference_argument args 0 ≡ Some own → IsInstanceWith m own 9 → is_aid_length (length bytes) ≡ true
       → P (cells_effect m own 0 (cells_of_aid bytes)) m
-  pub buffer : (r : ℕ) (words : List ℕ) → IsCommandBuffer m r → (length m.command ≤ buffer_size → 5 + length words ≤ buffer_size) → P (cells_effect m r 5 words) m
+  pub buffer : (r at : ℕ) (words : List ℕ) → IsCommandBuffer m r → at + length words ≤ (facts m.heap.now r).length → P (cells_effect m r at words) m
   pub starts : (pin : ℕ) → IsPinCall method args m pin → (limit maximum : ℕ) → AllDue P (object_creation (value_array m maximum) (recorded pin limit maximum)) m
   pub flags : (pin : ℕ) → IsPinCall method args m pin → (flag : Bool) (v : MemoryState) → P (SetFlag pin flag) v
   pub counts : (pin : ℕ) → IsPinCall method args m pin → (n : ℕ) → P (HeapMove (WriteNonAtomic (counter pin) n)) (apply_effect (SetFlag pin false) m)

@@ -20,11 +20,12 @@ use crate::apdu::class::{
 };
 use crate::apdu::current::{apdu_get_current_apdu, apdu_get_current_apdu_buffer};
 use crate::apdu::queries::{
-    apdu_get_current_state, apdu_get_incoming_length, apdu_get_offset_cdata,
+    apdu_get_current_state, apdu_get_incoming_length, apdu_get_offset_cdata, by_protocol,
 };
 use crate::apdu::receive::{apdu_receive_bytes, apdu_set_incoming_and_receive};
 use crate::apdu::send::{
     apdu_send_bytes, apdu_set_outgoing, apdu_set_outgoing_and_send, apdu_set_outgoing_length,
+    apdu_set_outgoing_no_chaining,
 };
 use crate::apdu::send_long::apdu_send_bytes_long;
 use jc_frames::Cell;
@@ -35,10 +36,11 @@ use jc_words::WordStore;
 use jc_world::arguments::short_argument;
 use jc_world::{NativeResult, StepExit, boolean, short};
 
-// What is answered of the transmission protocol, which is T=0: its number, the node address, the sizes of blocks.
-const PROTOCOL: i16 = 0;
-
+// No node address is used.
 const NODE_ADDRESS: i16 = 0;
+
+// How many bytes a block has: of T=1, either way; of T=0, received and sent.
+const BLOCK_SIZE: i16 = 254;
 
 const IN_BLOCK_SIZE: i16 = 1;
 
@@ -69,8 +71,8 @@ pub fn call_apdu<S: WordStore>(
     match method {
         ApdusMethod::ApduGetBuffer => apdu_get_buffer(memory),
         ApdusMethod::ApduReceiveBytes => {
-            short_argument(args, 1)?;
-            apdu_receive_bytes(memory)
+            let at = short_argument(args, 1)?;
+            apdu_receive_bytes(at, memory)
         }
         ApdusMethod::ApduSendBytes => {
             let start = short_argument(args, 1)?;
@@ -78,9 +80,8 @@ pub fn call_apdu<S: WordStore>(
             apdu_send_bytes(start, count, memory)
         }
         ApdusMethod::ApduSetIncomingAndReceive => apdu_set_incoming_and_receive(memory),
-        ApdusMethod::ApduSetOutgoing | ApdusMethod::ApduSetOutgoingNoChaining => {
-            apdu_set_outgoing(memory)
-        }
+        ApdusMethod::ApduSetOutgoing => apdu_set_outgoing(memory),
+        ApdusMethod::ApduSetOutgoingNoChaining => apdu_set_outgoing_no_chaining(memory),
         ApdusMethod::ApduSetOutgoingAndSend => {
             let start = short_argument(args, 1)?;
             let count = short_argument(args, 2)?;
@@ -94,10 +95,10 @@ pub fn call_apdu<S: WordStore>(
         ApdusMethod::ApduGetOffsetCdata => apdu_get_offset_cdata(memory),
         ApdusMethod::ApduSendBytesLong => apdu_send_bytes_long(args, memory, linked),
         ApdusMethod::ApduGetCurrentState => apdu_get_current_state(memory),
-        ApdusMethod::ApduGetProtocol => Ok(short(PROTOCOL)),
+        ApdusMethod::ApduGetProtocol => by_protocol(1, 0, memory),
         ApdusMethod::ApduGetNad => Ok(short(NODE_ADDRESS)),
-        ApdusMethod::ApduGetInBlockSize => Ok(short(IN_BLOCK_SIZE)),
-        ApdusMethod::ApduGetOutBlockSize => Ok(short(OUT_BLOCK_SIZE)),
+        ApdusMethod::ApduGetInBlockSize => by_protocol(BLOCK_SIZE, IN_BLOCK_SIZE, memory),
+        ApdusMethod::ApduGetOutBlockSize => by_protocol(BLOCK_SIZE, OUT_BLOCK_SIZE, memory),
         ApdusMethod::ApduGetClaChannel => {
             Ok(short(i16::from(channel_of(class_byte(memory.command())))))
         }

@@ -14,10 +14,11 @@ use Rattle.jc_image.specs.Laying.{unsealed_heap, sealed_heap}
 use Rattle.jc_platform.specs.Tokens.{Tokens}
 use Rattle.jc_card_load.specs.Reading.{packages_of, with_records}
 use Rattle.jc_environment.specs.declared.objects.FixedObject.{FixedObject}
-use Rattle.jc_environment.specs.Objects.{fixed_count, fixed_objects}
-use Rattle.jc_environment.proofs.Counts.{least_count}
+use Rattle.jc_environment.specs.Objects.{fixed_count}
+use Rattle.jc_environment.proofs.Counts.{count_sized, least_count}
+use Rattle.jc_transient.specs.State.{buffer_told}
 use Rattle.jc_card.specs.Fixed.{class_number_of, last_fixed, next_or_null, object_number, with_objects}
-use Rattle.jc_card.specs.Made.{new_card_heap}
+use Rattle.jc_card.specs.Made.{new_card_heap, objects_in}
 use Rattle.jc_card.specs.PowerUp.{HasPackages}
 use Rattle.jc_card.proofs.FixedObjects.{IsBelow, below-one, found-first, has_entry-push, items-all, items-one, next_is, next_sealed, none-push, top-add}
 use Rattle.jc_card.proofs.FixedObjects.{with_one}
@@ -89,8 +90,8 @@ last_all t h (o ∷ os) k e some b none below x above object =
 
 pub alone : (n : ℕ) (room : ImageRoom) (text : List ℕ) (t : Tokens) (x : ℕ) → last_fixed t (new_card_heap n room text t) < x → IsObject (new_card_heap n room text t) x → ⊥
 alone n room text t x above object =
-    let h : HeapState = with_objects t (unsealed_heap n room text) (fixed_objects t) in
-    last_all t (unsealed_heap n room text) (fixed_objects t) (fixed_count t) refl (omega (arith, least_count t)) (record { absent = λ q le. refl; none = λ q le. refl }) refl (omega arith)
+    let h : HeapState = with_objects t (unsealed_heap n room text) (objects_in room t) in
+    last_all t (unsealed_heap n room text) (objects_in room t) (fixed_count t) (sym (count_sized t (buffer_told room.buffer))) (omega (arith, least_count t)) (record { absent = λ q le. refl; none = λ q le. refl }) refl (omega arith)
     x (omega (arith, number_sealed h (fixed_count t), above)) (object_sealed h x object)
 
 pub packages_add : (t : Tokens) (h : HeapState) (os : List FixedObject) → (with_objects t h os).packages ≡ h.packages
@@ -110,8 +111,8 @@ no_packages t h none = ap (λ ps. with_records (record { platform = t; loaded = 
 
 pub fits-new_card_heap : (n : ℕ) (room : ImageRoom) (text : List ℕ) (t : Tokens) → HasPackages t (new_card_heap n room text t)
 fits-new_card_heap n room text t =
-    let none : (new_card_heap n room text t).packages ≡ [] = packages_add t (unsealed_heap n room text) (fixed_objects t) in
-    let counts : (new_card_heap n room text t).counts ≡ (0, 0) = counts_add t (unsealed_heap n room text) (fixed_objects t) in (
+    let none : (new_card_heap n room text t).packages ≡ [] = packages_add t (unsealed_heap n room text) (objects_in room t) in
+    let counts : (new_card_heap n room text t).counts ≡ (0, 0) = counts_add t (unsealed_heap n room text) (objects_in room t) in (
       record { platform = t; loaded = [] },
       no_packages t (new_card_heap n room text t) none,
       record {

@@ -1,12 +1,12 @@
 -- The objects of the runtime environment, as they are made.
 use Rattle.std.proofs.Common.{◌≡◌, ℕ, Bool, ◌+◌, ◌<◌, ◌≤◌, ◌&&◌, ◌||◌, ◌==◌, nat_lt, false, true, List, [], ◌∷◌, ◌++◌, Option, Some, None, Err, inl, inr}
-use Rattle.std.proofs.Common.{refl, sym, ◌∙◌, ap}
+use Rattle.std.proofs.Common.{refl, sym, slice_index, ◌∙◌, ap}
 use Rattle.std.proofs.Common.{subst, arith, if◌then◌else◌}
 use Rattle.std.proofs.lemmas.Bool.{lt-ltb, le-ltb, eq-eqb, ne_eqb, true≢false}
 use Rattle.std.proofs.lemmas.List.{append-nil, append_assoc}
 use Rattle.std.proofs.lemmas.Option.{none-some}
 use Rattle.jc_words.specs.Layout.{magic}
-use Rattle.jc_transient.specs.State.{AreSizes, ram_sizes, usual_cells}
+use Rattle.jc_transient.specs.State.{AreSizes, buffer_told, ram_sizes}
 use Rattle.jc_transient.specs.declared.cell.ClearEvent.{ClearEvent}
 use Rattle.jc_transient.specs.declared.cell.ClearEvent.TheVariants.{Reset, Deselect}
 use Rattle.jc_heap.specs.declared.object.Kind.{Kind}
@@ -28,10 +28,10 @@ use Rattle.jc_image.specs.Beginning.{HeadersFollow, HeapBeginsWith}
 use Rattle.jc_heap.specs.declared.object.Facts.{Facts}
 use Rattle.jc_platform.specs.Tokens.{Tokens}
 use Rattle.jc_environment.specs.declared.objects.FixedObject.{FixedObject}
-use Rattle.jc_environment.specs.Objects.{cells_of_all, fixed_objects}
-use Rattle.jc_environment.proofs.Counts.{most_cells}
-use Rattle.jc_card.specs.Fixed.{class_number_of, fixed_facts, BeginsWithFixed, with_objects}
-use Rattle.jc_card.specs.Made.{new_card_heap}
+use Rattle.jc_environment.specs.Objects.{cells_of_all, sized_objects}
+use Rattle.jc_environment.proofs.Counts.{cells_sized, most_cells}
+use Rattle.jc_card.specs.Fixed.{buffer_cells, class_number_of, fixed_facts, BeginsWithFixed, with_objects}
+use Rattle.jc_card.specs.Made.{new_card_heap, objects_in}
 
 -- what a new transient object changes
 pub head-add : (h : HeapState) (kind : Kind) (class owner n : ℕ) → (add_transient h kind Reset class owner n).head ≡ h.head
@@ -223,21 +223,33 @@ whole-sealed_heap h w = record {
   areas = λ event. filled-sealed_heap h event (w.areas event);
 }
 
--- its first area has as many cells as are usual, or more
-least_limit : (cells buffer : ℕ) → AreSizes cells buffer → usual_cells ≤ (ram_sizes cells buffer).reset
+-- its first area has room for the objects of the runtime environment
+least_limit : (t : Tokens) (cells buffer : ℕ) → AreSizes cells buffer → cells_of_all (sized_objects t (buffer_told buffer)) ≤ (ram_sizes cells buffer).reset
 unfolding ram_sizes
-least_limit cells buffer sizes = let least = sizes.cells_least in omega (arith, least)
+least_limit t cells buffer sizes =
+    let least = sizes.cells_least in let above = sizes.buffer_least in let below = sizes.buffer_most in
+    let sum = cells_sized t (buffer_told buffer) in let most = most_cells t in
+    omega (arith, least, above, below, sum, most)
 
-pub room_limit : (n : ℕ) (room : ImageRoom) (text : List ℕ) → AreSizes room.cells room.buffer
-    → usual_cells ≤ area_limit (unsealed_heap n room text) Reset
-room_limit n room text sizes = least_limit room.cells room.buffer sizes
+pub room_limit : (n : ℕ) (room : ImageRoom) (text : List ℕ) (t : Tokens) → AreSizes room.cells room.buffer
+    → cells_of_all (objects_in room t) ≤ area_limit (unsealed_heap n room text) Reset
+room_limit n room text t sizes = least_limit t room.cells room.buffer sizes
 
 pub whole-new_card_heap : (n : ℕ) (room : ImageRoom) (text : List ℕ) (t : Tokens) → AreSizes room.cells room.buffer
     → IsConsistent (new_card_heap n room text t)
-whole-new_card_heap n room text t sizes = whole-sealed_heap (with_objects t (unsealed_heap n room text) (fixed_objects t))
-    (all_whole t (unsealed_heap n room text) (fixed_objects t) (record { absent = λ q le. refl; none = λ q le. refl })
-    (omega (arith, most_cells t, room_limit n room text sizes))
+whole-new_card_heap n room text t sizes = whole-sealed_heap (with_objects t (unsealed_heap n room text) (objects_in room t))
+    (all_whole t (unsealed_heap n room text) (objects_in room t) (record { absent = λ q le. refl; none = λ q le. refl })
+    (omega (arith, room_limit n room text t sizes))
     (empty_whole (unsealed_heap n room text) refl refl refl refl sizes))
+
+-- the words of the front that no change touches stay
+lasting-add : (h : HeapState) (kind : Kind) (class owner n : ℕ) → (add_transient h kind Reset class owner n).lasting ≡ h.lasting
+unfolding add_transient add_object
+lasting-add h kind class owner n = refl
+
+pub lasting-all : (t : Tokens) (h : HeapState) (os : List FixedObject) → (with_objects t h os).lasting ≡ h.lasting
+lasting-all t h [] = refl
+lasting-all t h (o ∷ os) = lasting-all t (with_one t h o) os ∙ lasting-add h o.kind (class_number_of t o.class) 0 o.cells
 
 pub head-all : (t : Tokens) (h : HeapState) (os : List FixedObject) → (with_objects t h os).head ≡ h.head
 head-all t h [] = refl
@@ -265,11 +277,15 @@ sealed_heap-follow h r (d ∷ fs) f = (f.0, next_sealed h r ∙ f.1, facts_seale
 
 pub begins-new_card_heap : (n : ℕ) (room : ImageRoom) (text : List ℕ) (t : Tokens) → BeginsWithFixed t (new_card_heap n room text t)
 unfolding HeapBeginsWith
-begins-new_card_heap n room text t = sealed_heap-follow (with_objects t (unsealed_heap n room text) (fixed_objects t)) 0 (fixed_facts t 0 (fixed_objects t))
-    (follow-made t (unsealed_heap n room text) 0 (fixed_objects t) (record { absent = λ q le. refl; none = λ q le. refl }) refl (omega arith))
+begins-new_card_heap n room text t =
+    let buffer : buffer_cells (new_card_heap n room text t) ≡ buffer_told room.buffer = ap (λ (l : List ℕ). buffer_told (slice_index l 2))
+    (lasting-all t (unsealed_heap n room text) (objects_in room t)) in
+    subst (λ k. HeadersFollow (new_card_heap n room text t) 0 (fixed_facts t 0 (sized_objects t k))) (sym buffer)
+    (sealed_heap-follow (with_objects t (unsealed_heap n room text) (objects_in room t)) 0 (fixed_facts t 0 (objects_in room t))
+    (follow-made t (unsealed_heap n room text) 0 (objects_in room t) (record { absent = λ q le. refl; none = λ q le. refl }) refl (omega arith)))
 
 pub head-new_card_heap : (n : ℕ) (room : ImageRoom) (text : List ℕ) (t : Tokens) → (new_card_heap n room text t).head ≡ (magic, n)
-head-new_card_heap n room text t = ap (λ (h : ℕ × ℕ). (magic, h.1)) (head-all t (unsealed_heap n room text) (fixed_objects t))
+head-new_card_heap n room text t = ap (λ (h : ℕ × ℕ). (magic, h.1)) (head-all t (unsealed_heap n room text) (objects_in room t))
 
 pub text-new_card_heap : (n : ℕ) (room : ImageRoom) (text : List ℕ) (t : Tokens) → (new_card_heap n room text t).text ≡ text
-text-new_card_heap n room text t = text-all t (unsealed_heap n room text) (fixed_objects t)
+text-new_card_heap n room text t = text-all t (unsealed_heap n room text) (objects_in room t)

@@ -11,10 +11,12 @@ use Rattle.jc_image.specs.declared.laying.ImageRoom.{ImageRoom}
 use Rattle.jc_image.specs.Laying.{first_free, first_words_of, unsealed_heap}
 use Rattle.jc_platform.specs.Tokens.{Tokens}
 use Rattle.jc_environment.specs.declared.objects.FixedObject.{FixedObject}
-use Rattle.jc_environment.specs.Objects.{cells_of_all, fixed_objects, fixed_size}
+use Rattle.jc_environment.specs.Objects.{cells_of_all, fixed_size}
 use Rattle.jc_card.specs.Fixed.{class_number_of, with_objects}
-use Rattle.jc_card.specs.Made.{new_card_heap, new_front}
-use Rattle.jc_card.proofs.FixedObjects.{end-add, head-new_card_heap, text-new_card_heap, top-add}
+use Rattle.jc_card.specs.Made.{new_card_heap, new_front, objects_in}
+use Rattle.jc_card.proofs.FixedObjects.{end-add, head-new_card_heap, lasting-all, text-new_card_heap, top-add}
+use Rattle.jc_environment.proofs.Counts.{count_sized}
+use Rattle.jc_transient.specs.State.{buffer_told}
 
 -- what a new transient object leaves
 module _ (h : HeapState) (kind : Kind) (class owner n : ℕ) where
@@ -26,10 +28,6 @@ module _ (h : HeapState) (kind : Kind) (class owner n : ℕ) where
   unfolding add_transient add_object
   other_end-add = refl
 
-  lasting-add : (add_transient h kind Reset class owner n).lasting ≡ h.lasting
-  unfolding add_transient add_object
-  lasting-add = refl
-
 -- what the objects of the runtime environment leave
 counts-all : (t : Tokens) (h : HeapState) (os : List FixedObject) → (with_objects t h os).counts ≡ h.counts
 counts-all t h [] = refl
@@ -40,11 +38,6 @@ other_end-all : (t : Tokens) (h : HeapState) (os : List FixedObject) → (with_o
 other_end-all t h [] = refl
 other_end-all t h (o ∷ os) = other_end-all t (add_transient h o.kind Reset (class_number_of t o.class) 0 o.cells) os
     ∙ other_end-add h o.kind (class_number_of t o.class) 0 o.cells
-
-pub lasting-all : (t : Tokens) (h : HeapState) (os : List FixedObject) → (with_objects t h os).lasting ≡ h.lasting
-lasting-all t h [] = refl
-lasting-all t h (o ∷ os) = lasting-all t (add_transient h o.kind Reset (class_number_of t o.class) 0 o.cells) os
-    ∙ lasting-add h o.kind (class_number_of t o.class) 0 o.cells
 
 capacity-add : (h : HeapState) (kind : Kind) (class owner n : ℕ) → (add_transient h kind Reset class owner n).capacity ≡ h.capacity
 unfolding add_transient add_object
@@ -74,13 +67,14 @@ pub front-new : (n : ℕ) (room : ImageRoom) (text : List ℕ) (t : Tokens) → 
 front-new n room text t =
     let h : HeapState = unsealed_heap n room text in
     let head = head-new_card_heap n room text t in
-    let counts = counts-all t h (fixed_objects t) in
-    let lasting = lasting-all t h (fixed_objects t) in
-    let top : (with_objects t h (fixed_objects t)).top ≡ first_free (length text) + fixed_size t = omega (arith, top-all t h (fixed_objects t)) in
-    let first_end : (with_objects t h (fixed_objects t)).area_ends.0 ≡ cells_of_all (fixed_objects t) = omega (arith, end-all t h (fixed_objects t)) in
-    let second_end = other_end-all t h (fixed_objects t) in
+    let counts = counts-all t h (objects_in room t) in
+    let lasting = lasting-all t h (objects_in room t) in
+    let top : (with_objects t h (objects_in room t)).top ≡ first_free (length text) + fixed_size t =
+    omega (arith, top-all t h (objects_in room t), count_sized t (buffer_told room.buffer)) in
+    let first_end : (with_objects t h (objects_in room t)).area_ends.0 ≡ cells_of_all (objects_in room t) = omega (arith, end-all t h (objects_in room t)) in
+    let second_end = other_end-all t h (objects_in room t) in
     let long = ap (λ (l : List ℕ). length l) (text-new_card_heap n room text t) in
-    let capacities = capacity-all t h (fixed_objects t) in
+    let capacities = capacity-all t h (objects_in room t) in
     λ i. (head i).0 ∷ version ∷ (head i).1 ∷ 0 ∷ slice_index (lasting i) 0 ∷ top i ∷ (counts i).0 ∷ (counts i).1 ∷ first_end i ∷ second_end i
     ∷ long i ∷ capacities i ∷ journal_start ((head i).1) (capacities i) ∷ slice_index (lasting i) 1 ∷ slice_index (lasting i) 2 ∷ slice_index (lasting i) 3 ∷ []
 
@@ -88,4 +82,4 @@ front-new n room text t =
 pub sizes-new_card_heap : (n : ℕ) (room : ImageRoom) (text : List ℕ) (t : Tokens) → IsConsistent (new_card_heap n room text t)
     → AreSizes room.cells room.buffer
 sizes-new_card_heap n room text t whole = subst (λ (l : List ℕ). AreSizes (slice_index l 1) (slice_index l 2))
-    (lasting-all t (unsealed_heap n room text) (fixed_objects t)) whole.sizes
+    (lasting-all t (unsealed_heap n room text) (objects_in room t)) whole.sizes

@@ -1,6 +1,6 @@
--- Command APDUs in the short form (ISO/IEC 7816-4).
-use Rattle.std.specs.Prelude.{ℕ, ◌+◌, ◌==◌, nat_lt, nat_le, if◌then◌else◌, List, [], length, take, drop, slice_index, Option, Some, None}
-use Rattle.std.specs.Option.{option_map}
+-- Command APDUs (ISO/IEC 7816-4).
+use Rattle.std.specs.Prelude.{ℕ, ◌+◌, ◌==◌, ◌&&◌, ◌||◌, nat_lt, nat_le, if◌then◌else◌, Bool, List, length, slice_index, Option, Some, None}
+use Rattle.jc_memory.specs.Commands.{data_of, has_extended_length, two_bytes}
 
 -- a command: its class, its instruction, two parameters and its data
 pub record Apdu : Type 0 where
@@ -10,18 +10,21 @@ pub record Apdu : Type 0 where
   pub p2 : ℕ
   pub content : List ℕ
 
--- The data of a command of these bytes: none after a header of four bytes, and none where one byte
--- follows it, the expected length; else the fifth byte is the length of the data, 1 to 255, and after
--- the data the expected length may follow. Bytes of any other length are no command.
-abbrev pub data_of : List ℕ → Option (List ℕ)
-data_of c =
-    if nat_lt (length c) 4 then None else
-    if nat_le (length c) 5 then Some [] else
-    if slice_index c 4 == 0 then None else
-    if length c == 5 + slice_index c 4 then Some (drop 5 c) else
-    if length c == 6 + slice_index c 4 then Some (take (slice_index c 4) (drop 5 c)) else None
+-- The short form: a header of four bytes; then nothing, or one byte, the expected length; or the length of the data, 1 to 255, the data, and
+-- perhaps the expected length
+abbrev pub has_short_form : List ℕ → Bool
+has_short_form c = nat_le 4 (length c) && (nat_le (length c) 5
+    || (nat_lt 0 (slice_index c 4) && (length c == 5 + slice_index c 4 || length c == 6 + slice_index c 4)))
 
--- the command of these bytes
+-- The extended form: a header of four bytes and a byte of 0; then two bytes, the expected length; or two bytes, the length of the data, 1 to
+-- 65,535, the data, and perhaps two bytes, the expected length
+abbrev pub has_extended_form : List ℕ → Bool
+has_extended_form c = has_extended_length c && (length c == 7
+    || (nat_lt 0 (two_bytes c 5) && (length c == 7 + two_bytes c 5 || length c == 9 + two_bytes c 5)))
+
+-- the command of these bytes; bytes of another form are none
 abbrev pub apdu_of : List ℕ → Option Apdu
-apdu_of c = option_map (λ d. record { class = slice_index c 0; instruction = slice_index c 1; p1 = slice_index c 2; p2 = slice_index c 3; content = d })
-    (data_of c)
+apdu_of c =
+    if has_short_form c || has_extended_form c
+    then Some (record { class = slice_index c 0; instruction = slice_index c 1; p1 = slice_index c 2; p2 = slice_index c 3; content = data_of c })
+    else None

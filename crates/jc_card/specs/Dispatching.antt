@@ -2,8 +2,10 @@
 use Rattle.std.specs.Prelude.{ℕ, ◌+◌, ◌-◌, ◌==◌, ◌&&◌, nat_lt, Bool, false, List, [], ◌∷◌, ◌++◌, length, slice_index, Option, Some, None}
 use Rattle.std.specs.Prelude.{if◌then◌else◌}
 use Rattle.std.specs.Int.{w16, cast_unsigned}
+use Rattle.std.specs.Option.{option_or}
 use Rattle.std.specs.Str.{bytes_eq}
 use Rattle.jc_memory.specs.declared.registers.AppletNumber.{AppletNumber}
+use Rattle.jc_memory.specs.Commands.{has_extended_length, takes_extended_length, two_bytes}
 use Rattle.jc_memory.specs.State.{MemoryState, BeginCommand}
 use Rattle.jc_memory.specs.Programs.{Program, Finish, bind}
 use Rattle.jc_linker.specs.Values.{Packages}
@@ -12,6 +14,7 @@ use Rattle.jc_interp.specs.declared.attacks.Budget.{Budget}
 use Rattle.jc_dispatch.specs.declared.applet_result.AppletResult.{AppletResult}
 use Rattle.jc_dispatch.specs.declared.applet_result.AppletResult.TheVariants.{Done, Reason, Unknown, NotSelected, NotRegistered, Malformed, NoApplet}
 use Rattle.jc_dispatch.specs.declared.applet_result.AppletResult.TheVariants.{RegistryFull}
+use Rattle.jc_dispatch.specs.ExtendedLength.{implements_extended_length}
 use Rattle.jc_dispatch.specs.Phases.{then_with}
 use Rattle.jc_dispatch.specs.Selecting.{manager_selection, process_command, applet_selection}
 use Rattle.jc_dispatch.specs.Creating.{applet_creation}
@@ -32,11 +35,21 @@ manager_aid = 0xF0 ∷ 0x4A ∷ 0x43 ∷ 0x4D ∷ 0x47 ∷ 0x52 ∷ []
 abbrev pub is_select : Apdu → Bool
 is_select c = c.class == 0 && c.instruction == 0xA4 && c.p1 == 4 && c.p2 == 0 && nat_lt 0 (length c.content)
 
--- how many bytes a command expects: its last byte where that follows the header or the data, else none
-abbrev pub expected_by : List ℕ → ℕ
-expected_by bytes =
+-- how many bytes a command in the short form expects: its last byte where that follows the header or the data, else none
+abbrev pub expected_by_short : List ℕ → ℕ
+expected_by_short bytes =
     if length bytes == 5 then slice_index bytes 4 else
     if nat_lt 5 (length bytes) && length bytes == 6 + slice_index bytes 4 then slice_index bytes (length bytes - 1) else 0
+
+-- how many one in the extended form expects: its last two bytes where they follow the header or the data, else none
+abbrev pub expected_by_extended : List ℕ → ℕ
+expected_by_extended bytes =
+    if length bytes == 7 then two_bytes bytes 5 else
+    if length bytes == 9 + two_bytes bytes 5 then two_bytes bytes (length bytes - 2) else 0
+
+-- how many bytes a command expects; 0 where it says 0 or nothing
+abbrev pub expected_by : List ℕ → ℕ
+expected_by bytes = if has_extended_length bytes then expected_by_extended bytes else expected_by_short bytes
 
 -- the status word of a command that an applet answered, or by which one was made
 abbrev pub status_of_ending : AppletResult → ℕ
@@ -65,6 +78,18 @@ route budget c expected p m =
     if is_select c then (if bytes_eq c.content manager_aid then manager_selection budget p m else to_named budget
     (applet_with_aid m c.content) expected p m)
     else to_selected budget m.registers.selected expected p m
+
+-- the applet with an AID, or the selected one where no applet has it; none for that of the manager
+abbrev pub named_or_selected : MemoryState → List ℕ → Option AppletNumber
+named_or_selected m aid = if bytes_eq aid manager_aid then None else option_or (applet_with_aid m aid) m.registers.selected
+
+-- the applet that answers a command; none where the manager does
+abbrev pub answering : Apdu → MemoryState → Option AppletNumber
+answering c m = if is_select c then named_or_selected m c.content else m.registers.selected
+
+-- the image takes commands in the extended form, and so does the applet that answers this one
+unfoldable pub takes_extended : Apdu → Packages → MemoryState → Bool
+takes_extended c p m = takes_extended_length m.ram.sizes && implements_extended_length p m (answering c m)
 
 -- a response to the command, and nothing else of the card but its memory changed
 abbrev pub with_response : CardState → List ℕ → LoadResponse

@@ -3,13 +3,14 @@ use Rattle.std.specs.Prelude.{ℕ, zero, suc, ◌+◌, false, List, [], ◌∷�
 use Rattle.std.specs.List.{range_with_len}
 use Rattle.jc_transient.specs.declared.cell.ClearEvent.TheVariants.{Reset}
 use Rattle.jc_heap.specs.declared.object.Facts.{Facts}
-use Rattle.jc_heap.specs.Heap.{HeapState, add_transient, next_object}
+use Rattle.jc_transient.specs.State.{buffer_told}
+use Rattle.jc_heap.specs.Heap.{HeapState, add_transient, buffer_word, next_object}
 use Rattle.jc_image.specs.Beginning.{HeapBeginsWith}
 use Rattle.jc_platform.specs.Tokens.{Tokens}
 use Rattle.jc_platform.specs.Distinct.{class_word}
 use Rattle.jc_platform.specs.declared.names.PlatformClass.{PlatformClass}
 use Rattle.jc_environment.specs.declared.objects.FixedObject.{FixedObject}
-use Rattle.jc_environment.specs.Objects.{fixed_count, fixed_objects}
+use Rattle.jc_environment.specs.Objects.{fixed_count, sized_objects}
 
 -- the class as a header names it; an array of numbers has none
 abbrev pub class_number_of : Tokens → Option PlatformClass → ℕ
@@ -25,9 +26,13 @@ abbrev pub fixed_facts : Tokens → ℕ → List FixedObject → List Facts
 fixed_facts t place [] = []
 fixed_facts t place (o ∷ more) = facts_of_fixed t o place ∷ fixed_facts t (place + o.cells) more
 
--- the heap begins with the objects of the runtime environment, as many as its table names
+-- how many cells the APDU buffer has, by the words of the heap
+abbrev pub buffer_cells : HeapState → ℕ
+buffer_cells h = buffer_told (buffer_word h)
+
+-- the heap begins with the objects of the runtime environment, as many as its table names, with a buffer of as many cells as its words say
 abbrev pub BeginsWithFixed : Tokens → HeapState → Type 0
-BeginsWithFixed t h = HeapBeginsWith h (fixed_facts t 0 (fixed_objects t))
+BeginsWithFixed t h = HeapBeginsWith h (fixed_facts t 0 (sized_objects t (buffer_cells h)))
 
 -- the heap with these objects after the others
 abbrev pub with_objects : Tokens → HeapState → List FixedObject → HeapState

@@ -1,23 +1,25 @@
 //! Commands that applets answer, and "create applet".
-ghost use Rattle.std.specs.Prelude.{◌≡◌, ◌≤◌, false, length, OnErr, OnOk};
-ghost use Rattle.jc_transient.specs.State.{buffer_size};
+ghost use Rattle.std.specs.Prelude.{◌≡◌, ◌<◌, ◌≤◌, false, length, OnErr, OnOk};
+ghost use Rattle.jc_memory.specs.Commands.{most_command};
 ghost use Rattle.jc_memory.specs.Programs.{Executes};
 ghost use Rattle.jc_heap.specs.Completions.{after_step};
 ghost use Rattle.jc_card.specs.Answers.{after_exchange, answered};
 ghost use Rattle.jc_card.specs.Commands.{apdu_value};
-ghost use Rattle.jc_card.specs.Dispatching.{create_applet, dispatch, expected_by, is_select, route, status_of_ending, to_selected};
+ghost use Rattle.jc_card.specs.Dispatching.{answering, create_applet, dispatch, expected_by, expected_by_extended, expected_by_short, is_select, named_or_selected, route, status_of_ending, takes_extended, to_selected};
 
 use crate::card::Card;
 use crate::command::Command;
-use crate::response::Response;
+use crate::response::{Response, StatusResponse};
 use crate::status::StatusWord;
 use jc_dispatch::applet_result::AppletResult;
 use jc_dispatch::create::create;
+use jc_dispatch::extended_length::implements_extended_length;
 use jc_dispatch::process::process;
 use jc_dispatch::select::{select, select_manager};
+use jc_frames::Frames;
 use jc_interp::attacks::Budget;
 use jc_linker::linked::Linked;
-use jc_memory::Memory;
+use jc_memory::{AppletNumber, Memory, has_extended_length, two_bytes};
 use jc_registry::applet_with_aid;
 use jc_words::{StoreDown, WordStore};
 
@@ -40,9 +42,9 @@ pub(crate) fn is_select(command: Command<'_>) -> bool
         && !command.data.is_empty()
 }
 
-// How many bytes a command expects.
-fn expected_by(bytes: &[u8]) -> u16
-    ensures { result ≡ expected_by bytes.now }
+// How many bytes a command in the short form expects.
+fn expected_by_short(bytes: &[u8]) -> u16
+    ensures { result ≡ expected_by_short bytes.now }
 {
     let count = bytes.len();
     if count == 5 {
@@ -52,6 +54,76 @@ fn expected_by(bytes: &[u8]) -> u16
         return u16::from(bytes[count - 1]);
     }
     0
+}
+
+// How many bytes a command in the extended form expects.
+fn expected_by_extended(bytes: &[u8]) -> u16
+    requires { 5 < length bytes.now }
+    ensures { result ≡ expected_by_extended bytes.now }
+{
+    let count = bytes.len();
+    if count < 7 {
+        return 0;
+    }
+    let number = two_bytes(bytes, 5);
+    if count == 7 {
+        return number;
+    }
+    if count == 9 + usize::from(number) {
+        return two_bytes(bytes, count - 2);
+    }
+    0
+}
+
+// How many bytes a command expects; 0 where it says 0 or nothing.
+fn expected_by(bytes: &[u8]) -> u16
+    ensures { result ≡ expected_by bytes.now }
+{
+    if has_extended_length(bytes) {
+        return expected_by_extended(bytes);
+    }
+    expected_by_short(bytes)
+}
+
+// The applet with an AID, or the selected one where no applet has it; none for that of the manager.
+fn named_or_selected<S: WordStore>(aid: &[u8], memory: &Memory<S>) -> Option<AppletNumber>
+    requires up { memory.now.heap.down ≡ false }
+    ensures { result ≡ named_or_selected memory.now aid.now }
+{
+    if aid == MANAGER_AID.as_slice() {
+        return None;
+    }
+    match applet_with_aid(memory, aid) {
+        Some(applet) => Some(applet),
+        None => memory.registers().selected,
+    }
+}
+
+// The applet that answers a command; none where the manager does.
+fn answering<S: WordStore>(command: Command<'_>, memory: &Memory<S>) -> Option<AppletNumber>
+    requires up { memory.now.heap.down ≡ false }
+    ensures { result ≡ answering (apdu_value command.entry) memory.now }
+{
+    if is_select(command) {
+        return named_or_selected(command.data, memory);
+    }
+    memory.registers().selected
+}
+
+// Whether the image takes commands in the extended form, and so does the applet that answers this one.
+#[tactic(auto, unfolding(crate::specs::Dispatching::takes_extended))]
+pub(crate) fn takes_extended<S: WordStore>(
+    command: Command<'_>,
+    memory: &Memory<S>,
+    linked: &Linked,
+) -> bool
+    requires up { memory.now.heap.down ≡ false }
+    ensures { result ≡ takes_extended (apdu_value command.entry) linked.now memory.now }
+{
+    if !memory.takes_extended_length() {
+        return false;
+    }
+    implements_extended_length(answering(command, memory), memory, linked)
 }
 
 // The status word of a command that an applet answered, or by which one was made.
@@ -74,6 +146,7 @@ fn status_of(ending: AppletResult) -> StatusWord
 fn to_selected<S: WordStore>(
     budget: Budget,
     expected: u16,
+    frames: &mut Frames,
     memory: &mut Memory<S>,
     linked: &Linked,
 ) -> Result<AppletResult, StoreDown>
@@ -84,7 +157,7 @@ fn to_selected<S: WordStore>(
     ensures outside { OnOk result (memory.new.heap.begun ≡ false) }
 {
     match memory.registers().selected {
-        Some(applet) => process(budget, applet, false, expected, memory, linked),
+        Some(applet) => process(budget, applet, false, expected, frames, memory, linked),
         None => Ok(AppletResult::NotSelected),
     }
 }
@@ -95,6 +168,7 @@ fn route<S: WordStore>(
     budget: Budget,
     command: Command<'_>,
     expected: u16,
+    frames: &mut Frames,
     memory: &mut Memory<S>,
     linked: &Linked,
 ) -> Result<AppletResult, StoreDown>
@@ -105,14 +179,14 @@ fn route<S: WordStore>(
     ensures outside { OnOk result (memory.new.heap.begun ≡ false) }
 {
     if !is_select(command) {
-        return to_selected(budget, expected, memory, linked);
+        return to_selected(budget, expected, frames, memory, linked);
     }
     if command.data == MANAGER_AID.as_slice() {
-        return select_manager(budget, memory, linked);
+        return select_manager(budget, frames, memory, linked);
     }
     match applet_with_aid(memory, command.data) {
-        Some(applet) => select(budget, applet, expected, memory, linked),
-        None => to_selected(budget, expected, memory, linked),
+        Some(applet) => select(budget, applet, expected, frames, memory, linked),
+        None => to_selected(budget, expected, frames, memory, linked),
     }
 }
 
@@ -126,7 +200,7 @@ impl<S: WordStore> Card<S> {
         response: &mut Response,
     ) -> Result<(), StoreDown>
         requires up { self.old.memory.heap.down ≡ false }
-        requires long { length bytes.now ≤ buffer_size }
+        requires long { length bytes.now ≤ most_command }
         ensures executes { Executes (dispatch bytes.now (apdu_value command.entry) self.old)
             self.old.memory (after_exchange (answered result response.new) self.new) }
         ensures unanswered { OnErr result (response.new ≡ response.old) }
@@ -137,6 +211,7 @@ impl<S: WordStore> Card<S> {
             self.budget,
             command,
             expected,
+            &mut self.frames,
             &mut self.memory,
             &self.linked,
         )?;
@@ -146,16 +221,16 @@ impl<S: WordStore> Card<S> {
 
     /// Command 80 B8 create applet: installs an applet.
     #[tactic(auto, unfolding(crate::specs::Dispatching::create_applet), using(jc_memory::proofs::ProgramLemmas::in_two_steps))]
-    pub(crate) fn create(&mut self, bytes: &[u8]) -> Result<Response, StoreDown>
+    pub(crate) fn create(&mut self, bytes: &[u8]) -> Result<StatusResponse, StoreDown>
         requires up { self.old.memory.heap.down ≡ false }
         ensures { Executes (create_applet bytes.now self.old) self.old.memory
             (after_exchange result self.new) }
     {
         if bytes.is_empty() {
-            return Ok(Response::of_status(StatusWord::WRONG_LENGTH));
+            return Ok(StatusResponse::of_status(StatusWord::WRONG_LENGTH));
         }
         self.memory.start(&[]);
         let ending = create(self.budget, bytes, &mut self.memory, &self.linked)?;
-        Ok(Response::of_status(status_of(ending)))
+        Ok(StatusResponse::of_status(status_of(ending)))
     }
 }

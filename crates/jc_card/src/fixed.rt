@@ -1,21 +1,30 @@
 //! The objects that the runtime environment owns from an image's making on: made, and found again.
 ghost use Rattle.std.specs.Prelude.{◌≡◌, ◌≤◌, ◌<◌, ◌+◌, ◌*◌, false, true, OnOk, OnErr, is_ok, if◌then◌else◌, length, [], ◌∷◌, ◌++◌};
 ghost use Rattle.jc_words.specs.Refusals.{refused_once};
-ghost use Rattle.jc_transient.specs.State.{usual_cells};
+ghost use Rattle.jc_transient.specs.State.{buffer_told, most_buffer};
 ghost use Rattle.jc_transient.specs.declared.cell.ClearEvent.TheVariants.{Reset};
 ghost use Rattle.jc_heap.specs.Object.{transient_size};
 ghost use Rattle.jc_heap.specs.Heap.{IsObject, area_end, area_limit, limit};
-ghost use Rattle.jc_environment.specs.Objects.{cells_of_all, fixed_objects, fixed_size};
+ghost use Rattle.jc_environment.specs.Objects.{cells_of_all, fixed_size, sized_objects};
+ghost use Rattle.jc_card.specs.Made.{objects_in};
 ghost use Rattle.jc_card.specs.Fixed.{class_number_of, facts_of_fixed, fixed_facts, next_or_null, numbered, object_number, with_objects};
 
 use arrayvec::ArrayVec;
-use jc_environment::{FixedObject, MOST_OBJECTS, fixed_objects};
+use jc_environment::{FixedObject, MOST_OBJECTS, fixed_objects, sized_objects};
 use jc_heap::{Facts, Heap};
+use jc_image::ImageRoom;
 use jc_memory::MOST_FIXED;
 use jc_platform::names::PlatformClass;
 use jc_platform::table::Table;
-use jc_transient::{ClassWord, ClearEvent, NO_CLASS, RUNTIME_ENVIRONMENT, Ref};
+use jc_transient::{BUFFER_CELLS, ClassWord, ClearEvent, NO_CLASS, RUNTIME_ENVIRONMENT, Ref};
 use jc_words::{StoreDown, WordStore};
+
+/// How many cells the APDU buffer has, by the word that says it: 0 says as many as are usual.
+pub(crate) const fn buffer_told(word: u16) -> u16
+    ensures { result ≡ buffer_told word }
+{
+    if word == 0 { BUFFER_CELLS } else { word }
+}
 
 /// How many words the objects of images with this table take.
 pub(crate) fn fixed_size(table: &Table) -> u32
@@ -49,11 +58,12 @@ fn class_number(table: &Table, class: Option<PlatformClass>) -> ClassWord
     }
 }
 
-/// What the headers of all of them say.
-pub(crate) fn fixed_headers(table: &Table) -> ArrayVec<Facts, MOST_OBJECTS>
-    ensures { result.items ≡ fixed_facts table.now 0 (fixed_objects table.now) }
+/// What the headers of all of them say, where the APDU buffer has this number of cells.
+pub(crate) fn fixed_headers(table: &Table, buffer: u16) -> ArrayVec<Facts, MOST_OBJECTS>
+    requires { buffer ≤ most_buffer }
+    ensures { result.items ≡ fixed_facts table.now 0 (sized_objects table.now buffer) }
 {
-    let objects = fixed_objects(table);
+    let objects = sized_objects(table, buffer);
     let mut headers = ArrayVec::new();
     add_headers(table, 0, objects.as_slice(), &mut headers);
     headers
@@ -77,16 +87,20 @@ fn add_headers(
     add_headers(table, place + first.cells, more, headers);
 }
 
-/// Makes the objects of the runtime environment in a heap that has space for them, and no transient cells.
-pub(crate) fn make_fixed<S: WordStore>(heap: &mut Heap<S>, table: &Table) -> Result<(), StoreDown>
+/// Makes the objects of the runtime environment of an image that is to have this room, in a heap that has space for them, and no transient cells.
+pub(crate) fn make_fixed<S: WordStore>(
+    heap: &mut Heap<S>,
+    table: &Table,
+    room: ImageRoom,
+) -> Result<(), StoreDown>
     requires up { heap.old.down ≡ false }
     requires outside { heap.old.begun ≡ false }
     requires settled { heap.old.durable ≡ heap.old.now }
     requires space { heap.old.now.top + fixed_size table.now ≤ limit heap.old }
     requires area { area_end heap.old.now Reset ≡ 0 }
-    requires room { usual_cells ≤ area_limit heap.old.now Reset }
+    requires room { cells_of_all (objects_in room table.now) ≤ area_limit heap.old.now Reset }
     ensures made { OnOk result (heap.new.now ≡ with_objects table.now heap.old.now
-        (fixed_objects table.now)) }
+        (objects_in room table.now)) }
     ensures size { heap.new.size ≡ heap.old.size }
     ensures up { OnOk result (heap.new.down ≡ false) }
     ensures outside { OnOk result (heap.new.begun ≡ false) }
@@ -96,7 +110,7 @@ pub(crate) fn make_fixed<S: WordStore>(heap: &mut Heap<S>, table: &Table) -> Res
         refused_once heap.old.down heap.new.passed heap.old.refusals) }
     ensures head { heap.new.durable.head ≡ heap.old.durable.head }
 {
-    let objects = fixed_objects(table);
+    let objects = sized_objects(table, buffer_told(room.buffer));
     make_all(heap, table, objects.as_slice())
 }
 

@@ -99,7 +99,7 @@ fn make_image<S: WordStore>(store: S, text: &[u8], room: ImageRoom, table: &Tabl
         ⊎ (slice_index (S.words s) magic_address ≢ magic)) }
 {
     let mut heap = lay(store, text, room)?;
-    let Ok(()) = make_fixed(&mut heap, table) else {
+    let Ok(()) = make_fixed(&mut heap, table, room) else {
         return Err(heap.into_store());
     };
     seal(heap)

@@ -6,7 +6,7 @@ ghost use Rattle.jc_card.specs.Loads.{begin_component, end_component, append_com
 ghost use Rattle.jc_card.specs.Loads.{status_of};
 
 use crate::card::Card;
-use crate::response::Response;
+use crate::response::StatusResponse;
 use crate::status::StatusWord;
 use jc_card_load::{LoadRefusal, OpenLoad, end_package};
 use jc_linker::fault::LinkFault;
@@ -45,17 +45,19 @@ fn status_of(refusal: LoadRefusal) -> StatusWord
 }
 
 // The response to a command of a load that ended so.
-fn response_to(ended: Result<(), LoadRefusal>) -> Response
+fn response_to(ended: Result<(), LoadRefusal>) -> StatusResponse
     ensures { result ≡ response_to ended }
 {
     match ended {
-        Ok(()) => Response::of_status(StatusWord::NO_ERROR),
-        Err(refusal) => Response::of_status(status_of(refusal)),
+        Ok(()) => StatusResponse::of_status(StatusWord::NO_ERROR),
+        Err(refusal) => StatusResponse::of_status(status_of(refusal)),
     }
 }
 
 // What is said of how a load ended.
-fn response_of_end(ended: Result<Result<(), LoadRefusal>, StoreDown>) -> Result<Response, StoreDown>
+fn response_of_end(
+    ended: Result<Result<(), LoadRefusal>, StoreDown>,
+) -> Result<StatusResponse, StoreDown>
     ensures { result ≡ response_of_end ended }
 {
     Ok(response_to(ended?))
@@ -73,7 +75,7 @@ impl<S: WordStore> Card<S> {
     }
 
     /// Command 80 B0 begin load: opens a load; one that was open is dropped.
-    pub(crate) fn begin_load(&mut self) -> Response
+    pub(crate) fn begin_load(&mut self) -> StatusResponse
         requires up { self.old.memory.heap.down ≡ false }
         ensures { Executes (begin_load self.old) self.old.memory (after_response result self.new) }
     {
@@ -82,7 +84,7 @@ impl<S: WordStore> Card<S> {
     }
 
     /// Command 80 B2 begin component: begins a component.
-    pub(crate) fn begin_component(&mut self, tag: u8) -> Response
+    pub(crate) fn begin_component(&mut self, tag: u8) -> StatusResponse
         requires up { self.old.memory.heap.down ≡ false }
         ensures { Executes (begin_component tag self.old) self.old.memory
             (after_response result self.new) }
@@ -94,13 +96,13 @@ impl<S: WordStore> Card<S> {
     }
 
     /// Command 80 B4 append: takes more bytes of the open component.
-    pub(crate) fn append(&mut self, more: &[u8]) -> Response
+    pub(crate) fn append(&mut self, more: &[u8]) -> StatusResponse
         requires up { self.old.memory.heap.down ≡ false }
         ensures { Executes (append_component more.now self.old) self.old.memory
             (after_response result self.new) }
     {
         if more.is_empty() {
-            return Response::of_status(StatusWord::WRONG_LENGTH);
+            return StatusResponse::of_status(StatusWord::WRONG_LENGTH);
         }
         match &mut self.load {
             Some(load) => response_to(load.append(more)),
@@ -109,7 +111,7 @@ impl<S: WordStore> Card<S> {
     }
 
     /// Command 80 BC end component: reads and keeps the open component, or drops it.
-    pub(crate) fn end_component(&mut self) -> Response
+    pub(crate) fn end_component(&mut self) -> StatusResponse
         requires up { self.old.memory.heap.down ≡ false }
         ensures { Executes (end_component self.old) self.old.memory
             (after_response result self.new) }
@@ -122,7 +124,7 @@ impl<S: WordStore> Card<S> {
     }
 
     /// Command 80 BA end load: links the package and adds it, or refuses it.
-    pub(crate) fn end_load(&mut self) -> Result<Response, StoreDown>
+    pub(crate) fn end_load(&mut self) -> Result<StatusResponse, StoreDown>
         requires up { self.old.memory.heap.down ≡ false }
         ensures { Executes (end_load self.old) self.old.memory (after_exchange result self.new) }
     {

@@ -18,28 +18,29 @@ ghost use Rattle.jc_card_load.specs.Reading.{packages_of};
 ghost use Rattle.jc_card_checks.specs.Sound.{IsSound};
 ghost use Rattle.jc_interp.specs.Attacks.{undisturbed};
 ghost use Rattle.jc_card.specs.Dispatching.{usual_budget};
-ghost use Rattle.jc_card.specs.Fixed.{fixed_facts, fixed_of, last_fixed};
-ghost use Rattle.jc_environment.specs.Objects.{fixed_objects};
+ghost use Rattle.jc_card.specs.Fixed.{buffer_cells, fixed_facts, fixed_of, last_fixed};
+ghost use Rattle.jc_environment.specs.Objects.{sized_objects};
 ghost use Rattle.jc_card.specs.Reset.{IsAtReset};
 ghost use Rattle.jc_card.specs.PowerUp.{FailsToLink, HasHeap, HasTable, RecoveredWordsFail, fault_of};
 ghost use Rattle.jc_card.specs.PoweringUp.{PowersUpOver};
 
 use crate::card::{Card, USUAL_BUDGET};
-use crate::fixed::{first_objects, fixed_headers};
+use crate::fixed::{buffer_told, first_objects, fixed_headers};
 use crate::lent::LentStore;
 use arrayvec::ArrayVec;
 use jc_card_checks::sound::is_sound;
 use jc_card_load::reading::{RecordFault, read_packages};
 use jc_commit::OpenRefusal;
 use jc_environment::fixed_objects;
+use jc_frames::Frames;
 use jc_heap::Heap;
 use jc_image::OpenImage;
 use jc_interp::attacks::Budget;
 use jc_linker::linked::Linked;
-use jc_memory::{MOST_FIXED, Marks, Memory, unset_flags};
+use jc_memory::{MOST_FIXED, Marks, Memory, Rooms, unset_flags};
 use jc_platform::read::{LARGEST_TEXT, read_table};
 use jc_platform::table::Table;
-use jc_transient::{Ram, Ref};
+use jc_transient::{MOST_BUFFER, Ram, Ref};
 use jc_words::{ImageFault, WordStore, check_image};
 use std::alloc::{AllocError, Global};
 use thiserror::Error;
@@ -119,7 +120,7 @@ fn start<S: WordStore>(alloc: Global, store: S, budget: u32) -> Result<Card<S>, 
     let image = OpenImage::resume(LentStore::of(&store));
     match lent_card(alloc, image, marks.as_mut_slice()) {
         Ok(card) => {
-            let (linked, ram, fixed) = parts_of(card);
+            let (linked, ram, fixed, rooms) = parts_of(card);
             Ok(card_over(
                 alloc,
                 store,
@@ -127,6 +128,7 @@ fn start<S: WordStore>(alloc: Global, store: S, budget: u32) -> Result<Card<S>, 
                 ram,
                 fixed,
                 Marks::of_flags(marks),
+                rooms,
                 budget,
             ))
         }
@@ -160,10 +162,13 @@ fn lent_card<S: WordStore + Drop>(
             let Ok(ram) = Ram::new(alloc, heap.area_sizes()) else {
                 return Err(PowerFault::NoMemory);
             };
+            let Ok(rooms) = Rooms::new(alloc) else {
+                return Err(PowerFault::NoMemory);
+            };
             let Ok(copy) = Vec::from_slice(alloc, marks) else {
                 return Err(PowerFault::NoMemory);
             };
-            link_packages(alloc, &table, heap, ram, Marks::of_flags(copy))
+            link_packages(alloc, &table, heap, ram, Marks::of_flags(copy), rooms)
         }
         Err(fault) => Err(fault),
     }
@@ -183,12 +188,16 @@ fn whole_heap<S: WordStore + Drop>(
     ensures marked { IfOk result (AreObjects marks.new) }
     ensures exact { IsOk result ↔ (IsWellFormed image.plain × IsConsistent (heap_of image.plain)
         × HeapBeginsWith (heap_of image.plain) (fixed_facts table.now 0
-        (fixed_objects table.now))) }
+        (sized_objects table.now (buffer_cells (heap_of image.plain))))) }
     ensures whole { IfOk result (λ heap. IsConsistent heap.now) }
     ensures heap { IfOk result (λ heap. heap ≡ heap_view image (length image.plain)) }
     ensures fault { IfErr result (λ fault. fault ≡ PowerFault.BadPackage) }
 {
-    match image.check_and_mark(&fixed_headers(table), marks) {
+    let buffer = buffer_told(image.buffer_word());
+    if buffer > MOST_BUFFER {
+        return Err(PowerFault::BadPackage);
+    }
+    match image.check_and_mark(&fixed_headers(table, buffer), marks) {
         Ok(heap) => Ok(heap),
         Err(_) => Err(PowerFault::BadPackage),
     }
@@ -201,6 +210,7 @@ fn link_packages<S: WordStore + Drop>(
     heap: Heap<S>,
     ram: Ram,
     marks: Marks,
+    rooms: Rooms,
 ) -> Result<Card<S>, PowerFault>
     requires up { heap.down ≡ false }
     requires marked { AreObjects marks heap }
@@ -209,6 +219,8 @@ fn link_packages<S: WordStore + Drop>(
     requires words { (w : List ℕ) × (heap.now ≡ heap_of w) }
     requires sizes { HasSizes ram }
     requires fits { ram.sizes ≡ area_sizes heap.now }
+    requires command { rooms.command ≡ [] }
+    requires sent { rooms.sent ≡ [] }
     ensures packages { IfOk result (λ card. (packages_of table.now heap.now ≡ Some card.packages)
         × IsSound card.packages heap.now (last_fixed table.now heap.now)) }
     ensures memory { IfOk result (λ card. card.memory
@@ -227,7 +239,7 @@ fn link_packages<S: WordStore + Drop>(
     match read_packages(alloc, table.platform(), &heap) {
         Ok(linked) => {
             let (fixed, own) = first_objects(&heap, count);
-            let memory = Memory::new(heap, ram, fixed, marks);
+            let memory = Memory::new(heap, ram, fixed, marks, rooms);
             sound_card(alloc, memory, linked, own)
         }
         Err(fault) => Err(fault_of(fault)),
@@ -263,18 +275,21 @@ fn sound_card<S: WordStore + Drop>(
         linked,
         load: None,
         budget: Budget::undisturbed(USUAL_BUDGET),
+        frames: Frames::empty(),
     })
 }
 
-// The packages of a card, its transient contents, and the addresses of the objects of the runtime environment.
-fn parts_of<S: WordStore + Drop>(card: Card<S>) -> (Linked, Ram, ArrayVec<u16, MOST_FIXED>)
+// The packages of a card, its transient contents, the addresses of the objects of the runtime environment, and its rooms.
+fn parts_of<S: WordStore + Drop>(card: Card<S>) -> (Linked, Ram, ArrayVec<u16, MOST_FIXED>, Rooms)
     ensures packages { result.0 ≡ card.packages }
     ensures ram { result.1 ≡ card.memory.ram }
     ensures fixed { result.2.items ≡ card.memory.fixed }
+    ensures command { result.3.command ≡ card.memory.command }
+    ensures sent { result.3.sent ≡ card.memory.sent }
 {
     let Card { memory, linked, .. } = card;
-    let (_, ram, fixed) = memory.into_parts();
-    (linked, ram, fixed)
+    let (_, ram, fixed, rooms) = memory.into_parts();
+    (linked, ram, fixed, rooms)
 }
 
 // The card over a store at rest, with packages, transient contents and objects of the runtime environment that were found.
@@ -286,6 +301,7 @@ fn card_over<S: WordStore>(
     ram: Ram,
     fixed: ArrayVec<u16, MOST_FIXED>,
     marks: Marks,
+    rooms: Rooms,
     budget: u32,
 ) -> Card<S>
     requires rests { IsAtRest (S.words store) (S.down store) }
@@ -294,6 +310,8 @@ fn card_over<S: WordStore>(
         (S.refusals store)) }
     requires sizes { HasSizes ram }
     requires fits { ram.sizes ≡ area_sizes (heap_of (recovered_of (S.words store))) }
+    requires command { rooms.command ≡ [] }
+    requires sent { rooms.sent ≡ [] }
     ensures memory { result.memory
         ≡ record {
           heap = heap_of_store_at_rest (S.words store) (S.passed store) (S.refusals store);
@@ -310,10 +328,11 @@ fn card_over<S: WordStore>(
     let heap = Heap::resume(store);
     Card {
         alloc,
-        memory: Memory::new(heap, ram, fixed, marks),
+        memory: Memory::new(heap, ram, fixed, marks, rooms),
         linked,
         load: None,
         budget: Budget::undisturbed(budget),
+        frames: Frames::empty(),
     }
 }
 

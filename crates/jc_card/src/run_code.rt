@@ -5,20 +5,20 @@ ghost use Rattle.jc_memory.specs.Programs.{Executes};
 ghost use Rattle.jc_card.specs.Answers.{after_exchange, answer_of, run_code};
 
 use crate::card::Card;
-use crate::response::Response;
+use crate::response::StatusResponse;
 use crate::status::StatusWord;
 use jc_dispatch::ad_hoc_code;
 use jc_frames::Outcome;
 use jc_words::{StoreDown, WordStore};
 
 // How code answers that ended so.
-fn answer_of(outcome: Outcome) -> Response
+fn answer_of(outcome: Outcome) -> StatusResponse
     ensures { result ≡ answer_of outcome }
 {
     match outcome {
-        Outcome::Short(value) => Response::new(&value.to_be_bytes(), StatusWord::NO_ERROR),
-        Outcome::Void => Response::of_status(StatusWord::NO_ERROR),
-        _ => Response::of_status(StatusWord::UNKNOWN),
+        Outcome::Short(value) => StatusResponse::new(&value.to_be_bytes(), StatusWord::NO_ERROR),
+        Outcome::Void => StatusResponse::of_status(StatusWord::NO_ERROR),
+        _ => StatusResponse::of_status(StatusWord::UNKNOWN),
     }
 }
 
@@ -30,14 +30,14 @@ impl<S: WordStore> Card<S> {
         max_stack: u8,
         locals: u8,
         code: &[u8],
-    ) -> Result<Response, StoreDown>
+    ) -> Result<StatusResponse, StoreDown>
         requires up { self.old.memory.heap.down ≡ false }
         requires short { length code.now < 256 }
         ensures { Executes (run_code max_stack locals code.now self.old) self.old.memory
             (after_exchange result self.new) }
     {
         if code.is_empty() {
-            return Ok(Response::of_status(StatusWord::WRONG_LENGTH));
+            return Ok(StatusResponse::of_status(StatusWord::WRONG_LENGTH));
         }
         let outcome = ad_hoc_code::run_command_code(
             self.budget,

@@ -2,6 +2,7 @@ pub mod Slices
 pub mod AppletResults
 pub mod Buffer
 pub mod Phases
+pub mod ExtendedLength
 pub mod Selecting
 pub mod Installing
 pub mod Creating

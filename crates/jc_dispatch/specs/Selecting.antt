@@ -7,6 +7,7 @@ use Rattle.jc_memory.specs.declared.registers.ApduPhase.TheVariants.{Waiting}
 use Rattle.jc_memory.specs.declared.registers.AppletNumber.{AppletNumber}
 use Rattle.jc_memory.specs.declared.registers.Owner.TheVariants.{Applet}
 use Rattle.jc_memory.specs.declared.registers.Registers.{Registers}
+use Rattle.jc_memory.specs.Commands.{header_length}
 use Rattle.jc_memory.specs.State.{MemoryState, SetRegisters, ClearTransient}
 use Rattle.jc_memory.specs.Programs.{Program, Finish, bind}
 use Rattle.jc_linker.specs.Values.{Packages}
@@ -36,9 +37,9 @@ is_same_applet _ _ = false
 abbrev pub with_next : Option AppletNumber → Registers → Registers
 with_next next g = record g { reselecting = is_same_applet next g.selected }
 
--- the first five bytes of a command, of which the fifth may be missing
+-- the bytes of a command before its data: five, of which the fifth may be missing, or in the extended form seven
 abbrev pub header_of : List ℕ → List ℕ
-header_of bytes = take 5 bytes
+header_of bytes = take (header_length bytes) bytes
 
 -- an applet is left: its deselect runs, however it ends, and then what is cleared at a deselection is
 unfoldable pub applet_left : Budget → Packages → Option AppletNumber → MemoryState → Program ℕ

@@ -1,13 +1,14 @@
 //! The APDU buffer as the runtime environment fills it.
 ghost use Rattle.std.specs.Prelude.{◌≡◌, ◌≤◌, false, length};
+ghost use Rattle.jc_transient.specs.State.{buffer_size};
 ghost use Rattle.jc_memory.specs.Programs.{Executes};
 ghost use Rattle.jc_heap.specs.Completions.{Completed};
 ghost use Rattle.jc_dispatch.specs.Buffer.{apdu_buffer, apdu_object, buffer_fill, is_buffer};
 
 use jc_environment::{APDU_BUFFER, APDU_OBJECT};
 use jc_heap::{Facts, Kind};
-use jc_memory::{MOST_COMMAND, Memory};
-use jc_transient::Ref;
+use jc_memory::Memory;
+use jc_transient::{BUFFER_CELLS, Ref};
 use jc_words::WordStore;
 
 pub(crate) fn apdu_object<S: WordStore>(memory: &Memory<S>) -> Ref
@@ -22,7 +23,7 @@ pub(crate) fn apdu_buffer<S: WordStore>(memory: &Memory<S>) -> Ref
     memory.fixed(APDU_BUFFER)
 }
 
-// A transient array of bytes that a command fits into.
+// A transient array of bytes with room for any command in the short form.
 fn is_buffer(facts: Facts) -> bool
     ensures { result ≡ is_buffer facts }
 {
@@ -30,14 +31,14 @@ fn is_buffer(facts: Facts) -> bool
         Kind::ByteArray => true,
         _ => false,
     };
-    of_bytes && facts.event.is_some() && usize::from(facts.length) >= MOST_COMMAND
+    of_bytes && facts.event.is_some() && facts.length >= BUFFER_CELLS
 }
 
-/// The buffer holds these bytes, as many as it has room for at most, and zeros after them.
+/// The buffer holds these bytes and zeros after them.
 #[tactic(auto, unfolding(crate::specs::Buffer::buffer_fill))]
 pub(crate) fn fill<S: WordStore>(bytes: &[u8], memory: &mut Memory<S>)
     requires up { memory.old.heap.down ≡ false }
-    requires few { length bytes.now ≤ MOST_COMMAND }
+    requires few { length bytes.now ≤ buffer_size }
     ensures { Executes (buffer_fill memory.old bytes.now) memory.old (Completed tt memory.new) }
 {
     let buffer = apdu_buffer(memory);
@@ -48,7 +49,7 @@ pub(crate) fn fill<S: WordStore>(bytes: &[u8], memory: &mut Memory<S>)
         return;
     };
     if is_buffer(facts) {
-        let zeros = MOST_COMMAND - bytes.len();
-        memory.fill(buffer, event, bytes, zeros as u16);
+        let zeros = facts.length - bytes.len() as u16;
+        memory.fill(buffer, event, bytes, zeros);
     }
 }

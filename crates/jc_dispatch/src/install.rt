@@ -9,7 +9,7 @@ use crate::applet_result::{AppletResult, result_of_run};
 use crate::buffer::{apdu_buffer, fill};
 use crate::closing::close;
 use crate::phase::run_for;
-use jc_frames::{Cell, Outcome};
+use jc_frames::{Cell, Frames, Outcome};
 use jc_interp::attacks::Budget;
 use jc_linker::linked::Linked;
 use jc_memory::{
@@ -95,7 +95,17 @@ pub fn install<S: WordStore>(
         Cell::Short(0),
         Cell::Short(parameters.len() as i16),
     ];
-    let (_, outcome) = run_for(budget, home.0, offset, &arguments, owner, memory, linked)?;
+    let mut frames = Frames::empty();
+    let (_, outcome) = run_for(
+        budget,
+        home.0,
+        offset,
+        &arguments,
+        owner,
+        &mut frames,
+        memory,
+        linked,
+    )?;
     let installation = memory.registers().installation;
     let ending = installed_by(installation, outcome, memory, linked);
     close(memory)?;

@@ -6,6 +6,7 @@ pub mod applet_result;
 mod buffer;
 mod closing;
 pub mod create;
+pub mod extended_length;
 pub mod install;
 mod phase;
 pub mod process;

@@ -39,8 +39,8 @@ fn registers_idle(registers: Registers) -> Registers
     }
 }
 
-/// Runs a method for an owner. The answer is what is left of the command's instructions, and how the
-/// method ended.
+/// Runs a method for an owner, in frames that may be those of an earlier run. The answer is what is left of the command's instructions, and
+/// how the method ended.
 #[tactic(auto, unfolding(crate::specs::Phases::method_run), using(jc_memory::proofs::ProgramLemmas::in_two_steps))]
 pub(crate) fn run_for<S: WordStore>(
     budget: Budget,
@@ -48,6 +48,7 @@ pub(crate) fn run_for<S: WordStore>(
     offset: u16,
     arguments: &[Cell],
     owner: Owner,
+    frames: &mut Frames,
     memory: &mut Memory<S>,
     linked: &Linked,
 ) -> Result<(u32, Outcome), StoreDown>
@@ -55,21 +56,20 @@ pub(crate) fn run_for<S: WordStore>(
     ensures { Executes (method_run budget linked.now package_number offset arguments.now owner
         memory.old) memory.old (after_step result memory.new) }
 {
-    let mut frames = Frames::empty();
     let begun = begin(
         linked,
         package_number,
         offset,
         arguments,
         owner.number(),
-        &mut frames,
+        frames,
     );
     let Ok(()) = begun else {
         return Ok((budget.left, Outcome::Fault));
     };
     let registers = memory.registers();
     memory.set_registers(registers_for(owner, registers));
-    let end = run_methods(budget, &mut frames, memory, linked)?;
+    let end = run_methods(budget, frames, memory, linked)?;
     let registers = memory.registers();
     memory.set_registers(registers_idle(registers));
     Ok(end)
@@ -124,7 +124,7 @@ fn default_of(name: PlatformMethod) -> Outcome
     }
 }
 
-/// Calls a method of an applet by its name.
+/// Calls a method of an applet by its name, in frames that may be those of an earlier run.
 #[tactic(auto, unfolding(crate::specs::Phases::applet_method_call))]
 pub(crate) fn call_applet_method<S: WordStore>(
     budget: Budget,
@@ -132,6 +132,7 @@ pub(crate) fn call_applet_method<S: WordStore>(
     applet: Ref,
     arguments: &[Cell],
     owner: Owner,
+    frames: &mut Frames,
     memory: &mut Memory<S>,
     linked: &Linked,
 ) -> Result<(u32, Outcome), StoreDown>
@@ -154,6 +155,7 @@ pub(crate) fn call_applet_method<S: WordStore>(
             offset,
             arguments,
             owner,
+            frames,
             memory,
             linked,
         ),

@@ -9,10 +9,10 @@ use crate::buffer::{apdu_object, fill};
 use crate::closing::close;
 use crate::phase::{call_applet_method, instance_of};
 use arrayvec::ArrayVec;
-use jc_frames::Cell;
+use jc_frames::{Cell, Frames};
 use jc_interp::attacks::Budget;
 use jc_linker::linked::Linked;
-use jc_memory::{ApduPhase, ApduState, AppletNumber, Memory, Owner, Registers};
+use jc_memory::{ApduPhase, ApduState, AppletNumber, Memory, Owner, Registers, header_length};
 use jc_platform::names::{AppletsMethod, PlatformMethod};
 use jc_words::{StoreDown, WordStore};
 
@@ -30,24 +30,25 @@ fn with_command(expected: u16, selecting: bool, registers: Registers) -> Registe
     }
 }
 
-// The first five bytes of a command, of which the fifth may be missing.
-fn header_of(bytes: &[u8]) -> ArrayVec<u8, 5>
+// The bytes of a command before its data: five, of which the fifth may be missing, or in the extended form seven.
+fn header_of(bytes: &[u8]) -> ArrayVec<u8, 7>
     ensures header { result.items ≡ header_of bytes.now }
-    ensures few { length result.items ≤ 5 }
+    ensures few { length result.items ≤ 7 }
 {
     let mut header = ArrayVec::new();
-    let _ = header.try_extend_from_slice(&bytes[..bytes.len().min(5)]);
+    let _ = header.try_extend_from_slice(&bytes[..bytes.len().min(header_length(bytes))]);
     header
 }
 
-/// An applet answers the command that was begun, which expects this many bytes. It may be the command
-/// that selected it.
+/// An applet answers the command that was begun, which expects this many bytes, in frames that may be those of an earlier run. It may be the
+/// command that selected it.
 #[tactic(auto, unfolding(crate::specs::Selecting::process_command), using(jc_memory::proofs::ProgramLemmas::in_two_steps))]
 pub fn process<S: WordStore>(
     budget: Budget,
     applet: AppletNumber,
     selecting: bool,
     expected: u16,
+    frames: &mut Frames,
     memory: &mut Memory<S>,
     linked: &Linked,
 ) -> Result<AppletResult, StoreDown>
@@ -68,7 +69,7 @@ pub fn process<S: WordStore>(
     let name = PlatformMethod::Applets(AppletsMethod::AppletProcess);
     let owner = Owner::Applet(applet);
     let (_, outcome) = call_applet_method(
-        budget, name, instance, &arguments, owner, memory, linked,
+        budget, name, instance, &arguments, owner, frames, memory, linked,
     )?;
     let ending = result_of_run(outcome, memory, linked);
     close(memory)?;

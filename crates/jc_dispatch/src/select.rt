@@ -8,7 +8,7 @@ use crate::applet_result::{AppletResult, is_select_accepted};
 use crate::closing::close;
 use crate::phase::{call_applet_method, instance_of};
 use crate::process::process;
-use jc_frames::Cell;
+use jc_frames::{Cell, Frames};
 use jc_interp::attacks::Budget;
 use jc_linker::linked::Linked;
 use jc_memory::{AppletNumber, Memory, Owner, Registers};
@@ -40,6 +40,7 @@ fn with_next(next: Option<AppletNumber>, registers: Registers) -> Registers
 fn leave_applet<S: WordStore>(
     budget: Budget,
     applet: Option<AppletNumber>,
+    frames: &mut Frames,
     memory: &mut Memory<S>,
     linked: &Linked,
 ) -> Result<u32, StoreDown>
@@ -57,7 +58,9 @@ fn leave_applet<S: WordStore>(
     let arguments = [Cell::Reference(instance)];
     let name = PlatformMethod::Applets(AppletsMethod::AppletDeselect);
     let owner = Owner::Applet(applet);
-    let (rest, _) = call_applet_method(budget, name, instance, &arguments, owner, memory, linked)?;
+    let (rest, _) = call_applet_method(
+        budget, name, instance, &arguments, owner, frames, memory, linked,
+    )?;
     close(memory)?;
     memory.clear(ClearEvent::Deselect);
     Ok(rest)
@@ -69,6 +72,7 @@ fn leave_applet<S: WordStore>(
 fn leave<S: WordStore>(
     budget: Budget,
     next: Option<AppletNumber>,
+    frames: &mut Frames,
     memory: &mut Memory<S>,
     linked: &Linked,
 ) -> Result<u32, StoreDown>
@@ -80,7 +84,7 @@ fn leave<S: WordStore>(
 {
     let registers = with_next(next, memory.registers());
     memory.set_registers(registers);
-    leave_applet(budget, registers.selected, memory, linked)
+    leave_applet(budget, registers.selected, frames, memory, linked)
 }
 
 /// SELECT of an applet by a command that expects this many bytes: the selected one is deselected, the new one's
@@ -90,6 +94,7 @@ pub fn select<S: WordStore>(
     budget: Budget,
     applet: AppletNumber,
     expected: u16,
+    frames: &mut Frames,
     memory: &mut Memory<S>,
     linked: &Linked,
 ) -> Result<AppletResult, StoreDown>
@@ -99,7 +104,7 @@ pub fn select<S: WordStore>(
         memory.old (after_step result memory.new) }
     ensures outside { OnOk result (memory.new.heap.begun ≡ false) }
 {
-    let rest = leave(budget, Some(applet), memory, linked)?;
+    let rest = leave(budget, Some(applet), frames, memory, linked)?;
     let registers = memory.registers();
     memory.set_registers(Registers {
         selected: Some(applet),
@@ -111,7 +116,7 @@ pub fn select<S: WordStore>(
     let owner = Owner::Applet(applet);
     let budget = budget.with_left(rest);
     let (rest, outcome) = call_applet_method(
-        budget, name, instance, &arguments, owner, memory, linked,
+        budget, name, instance, &arguments, owner, frames, memory, linked,
     )?;
     close(memory)?;
     if is_select_accepted(outcome) {
@@ -120,6 +125,7 @@ pub fn select<S: WordStore>(
             applet,
             true,
             expected,
+            frames,
             memory,
             linked,
         );
@@ -136,6 +142,7 @@ pub fn select<S: WordStore>(
 #[tactic(auto, unfolding(crate::specs::Selecting::manager_selection), using(jc_memory::proofs::ProgramLemmas::in_two_steps))]
 pub fn select_manager<S: WordStore>(
     budget: Budget,
+    frames: &mut Frames,
     memory: &mut Memory<S>,
     linked: &Linked,
 ) -> Result<AppletResult, StoreDown>
@@ -145,7 +152,7 @@ pub fn select_manager<S: WordStore>(
         (after_step result memory.new) }
     ensures outside { OnOk result (memory.new.heap.begun ≡ false) }
 {
-    leave(budget, None, memory, linked)?;
+    leave(budget, None, frames, memory, linked)?;
     let registers = memory.registers();
     memory.set_registers(Registers {
         selected: None,

@@ -1,6 +1,6 @@
 -- The objects that the runtime environment owns from an image's making on: one exception of each class that it
 -- throws itself, the APDU object and the APDU buffer. All are cleared at a reset.
-use Rattle.std.specs.Prelude.{ℕ, ◌+◌, ◌-◌, ◌*◌, ◌&&◌, nat_lt, not, Bool, false, List, [], ◌∷◌, ◌++◌, length, slice_index, Option, Some, None, is_some, if◌then◌else◌}
+use Rattle.std.specs.Prelude.{ℕ, ◌+◌, ◌-◌, ◌*◌, ◌&&◌, nat_lt, not, Bool, false, List, [], ◌∷◌, ◌++◌, length, map, slice_index, Option, Some, None, is_some, if◌then◌else◌}
 use Rattle.jc_transient.specs.State.{buffer_size}
 use Rattle.jc_heap.specs.declared.object.Kind.TheVariants.{Instance, ByteArray}
 use Rattle.jc_platform.specs.Hierarchy.{cells_of}
@@ -74,6 +74,18 @@ own_instances t (e ∷ more) = if is_further t e then own_instance e.class ∷ o
 -- environment throws an instance, in the order of the platform's classes
 unfoldable pub fixed_objects : Tokens → List FixedObject
 fixed_objects t = first_objects ++ own_instances t classes
+
+-- how many cells an object has where the buffer, the only array among them, has n
+abbrev pub cells_by : Option PlatformClass → ℕ → ℕ → ℕ
+cells_by None n cells = n
+cells_by (Some class) n cells = cells
+
+abbrev pub sized : ℕ → FixedObject → FixedObject
+sized n o = record o { cells = cells_by o.class n o.cells }
+
+-- the objects of images with a table and with a buffer of n cells
+abbrev pub sized_objects : Tokens → ℕ → List FixedObject
+sized_objects t n = map (sized n) (fixed_objects t)
 
 -- how many there are
 abbrev pub fixed_count : Tokens → ℕ

@@ -3,4 +3,6 @@
 
 pub mod objects;
 
-pub use objects::{APDU_BUFFER, APDU_OBJECT, FixedObject, MOST_OBJECTS, fixed_objects, own_place};
+pub use objects::{
+    APDU_BUFFER, APDU_OBJECT, FixedObject, MOST_OBJECTS, fixed_objects, own_place, sized_objects,
+};

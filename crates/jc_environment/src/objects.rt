@@ -2,7 +2,7 @@
 //! exception whose class the table has.
 ghost use Rattle.std.specs.Prelude.{◌≡◌, ◌≤◌, ◌+◌, ◌++◌, length, map};
 ghost use Rattle.jc_transient.specs.State.{usual_cells};
-ghost use Rattle.jc_environment.specs.Objects.{cells_of_all, first_objects, fixed_objects, is_first, is_further, is_of, own_instance, own_instances, own_place, place_among};
+ghost use Rattle.jc_environment.specs.Objects.{cells_of_all, first_objects, fixed_objects, is_first, is_further, is_of, own_instance, own_instances, own_place, place_among, sized, sized_objects};
 ghost use Rattle.jc_platform.specs.Names.{classes};
 ghost use Rattle.jc_platform.specs.Seen.{class_value};
 
@@ -155,6 +155,43 @@ pub fn fixed_objects(table: &Table) -> ArrayVec<FixedObject, MOST_OBJECTS>
     ensures cells { cells_of_all result.items ≤ usual_cells }
 {
     listed(table)
+}
+
+// The object, with this number of cells if it is the buffer, the only array.
+fn sized(object: &FixedObject, buffer: u16) -> FixedObject
+    ensures { result ≡ sized buffer object.now }
+{
+    match object.class {
+        Some(_) => *object,
+        None => FixedObject {
+            cells: buffer,
+            ..*object
+        },
+    }
+}
+
+// Adds these objects, with a buffer of this number of cells.
+fn add_sized(objects: &[FixedObject], buffer: u16, to: &mut ArrayVec<FixedObject, MOST_OBJECTS>)
+    requires room { length to.old.items + length objects.now ≤ 128 }
+    ensures { to.new.items ≡ to.old.items ++ map (sized buffer) objects.now }
+{
+    let Some((first, more)) = objects.split_first() else {
+        return;
+    };
+    to.push(sized(first, buffer));
+    add_sized(more, buffer, to);
+}
+
+/// The objects of images with this table and with an APDU buffer of this number of cells, in their order.
+pub fn sized_objects(table: &Table, buffer: u16) -> ArrayVec<FixedObject, MOST_OBJECTS>
+    ensures all { result.items ≡ sized_objects table.now buffer }
+    ensures few { length result.items ≤ 32 }
+    ensures cells { cells_of_all result.items ≤ usual_cells + buffer }
+{
+    let usual = fixed_objects(table);
+    let mut objects = ArrayVec::new();
+    add_sized(usual.as_slice(), buffer, &mut objects);
+    objects
 }
 
 /// The place of the instance of a class among them, from 0; their number where there is none.

@@ -5,7 +5,7 @@ ghost use Rattle.jc_commit.specs.Image.{IsGoodLog, count_of};
 ghost use Rattle.jc_commit.specs.Opening.{Opens};
 ghost use Rattle.jc_commit.specs.State.{resumed_journal};
 ghost use Rattle.jc_heap.specs.Object.{is_object};
-ghost use Rattle.jc_heap.specs.Image.{text_byte, table_text, IsWellFormed, image, package_addresses, is_package};
+ghost use Rattle.jc_heap.specs.Image.{buffer_address, text_byte, table_text, IsWellFormed, image, package_addresses, is_package};
 ghost use Rattle.jc_heap.specs.Heap.{heap_view, heap_of, heap_item_at, is_allocated};
 ghost use Rattle.jc_heap.specs.Whole.{IsConsistent};
 ghost use Rattle.jc_image.specs.Beginning.{HeapBeginsWith};
@@ -17,6 +17,7 @@ use crate::consistency::is_consistent;
 use crate::marks::no_marks;
 use crate::package_table::unmark_packages;
 use jc_commit::{Journal, OpenRefusal};
+use jc_heap::layout::BUFFER_WORD;
 use jc_heap::{Facts, Heap};
 use jc_words::WordStore;
 use jc_words::layout::{ADDRESSES, MOST_PACKAGES, PACKAGES, TEXT_LENGTH, TEXT_START, TOP};
@@ -132,6 +133,13 @@ impl<S: WordStore> OpenImage<S> {
             return (word / 256) as u8;
         }
         (word % 256) as u8
+    }
+
+    /// The word that says how many cells the APDU buffer has; 0 says as many as are usual.
+    pub fn buffer_word(&self) -> u16
+        ensures { result ≡ slice_index self.now.plain buffer_address }
+    {
+        self.journal.read(BUFFER_WORD)
     }
 
     /// Whether there are words for a table text of that length below the heap's end.

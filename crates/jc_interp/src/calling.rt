@@ -3,17 +3,18 @@ ghost use Rattle.std.specs.Prelude.{◌≡◌, false, IfSome};
 ghost use Rattle.jc_memory.specs.Programs.{Executes};
 ghost use Rattle.jc_world.specs.Instructions.{after_instruction};
 ghost use Rattle.jc_interp_calls.specs.Invoke.{header_of, method_selection, with_header};
+ghost use Rattle.jc_platform.specs.Signatures.{argument_cells};
 ghost use Rattle.jc_interp.specs.Calling.{after_native_return, invoke_instruction, invoke_selected, native_invoke};
 
 use crate::natives::call_native;
 use jc_frames::{CallKind, FrameExit, Frames, Outcome};
 use jc_interp_calls::enter::{CallSite, Callee, enter};
 use jc_interp_calls::invoke::{
-    SelectedCall, select_method, select_static_method, select_virtual_method,
+    SelectedCall, method_of_platform, select_method, select_static_method, select_virtual_method,
 };
 use jc_interp_calls::server_call::call_server;
 use jc_linker::linked::Linked;
-use jc_linker::target::Method;
+use jc_linker::target::{Method, Target};
 use jc_memory::Memory;
 use jc_opcodes::instr::InvokeOp;
 use jc_platform::names::PlatformMethod;
@@ -21,6 +22,7 @@ use jc_words::WordStore;
 use jc_world::{NativeResult, StepExit};
 
 // The frames go on with what a method of the platform answered, whose arguments were taken.
+#[inline(always)]
 fn answer<S: WordStore>(
     answer: NativeResult,
     place: u16,
@@ -46,9 +48,33 @@ fn answer<S: WordStore>(
     }
 }
 
-// Carries out a method of the platform with this many cells as arguments, called by the instruction at a
-// place.
+// Carries out a method of the platform with as many cells as arguments as it takes, called by the instruction at a place.
 #[tactic(auto, using(jc_memory::proofs::ProgramLemmas::in_two_calls), unfolding(crate::specs::Calling::native_invoke))]
+#[inline(always)]
+fn carry_out_native<S: WordStore>(
+    method: PlatformMethod,
+    count: u8,
+    place: u16,
+    frames: &mut Frames,
+    memory: &mut Memory<S>,
+    linked: &Linked,
+) -> Result<(), StepExit>
+    requires up { memory.old.heap.down ≡ false }
+    requires cells { count ≡ argument_cells method }
+    ensures { Executes (native_invoke method count place linked.now frames.old memory.old)
+        memory.old (after_instruction result frames.new memory.new) }
+{
+    let Some(arguments) = frames.arguments(count) else {
+        return Err(StepExit::End(Outcome::Fault));
+    };
+    let answered = call_native(method, arguments, memory, linked)?;
+    frames.discard(count);
+    answer(answered, place, frames, memory, linked)
+}
+
+// The same with this many cells as arguments, which may be others than it takes.
+#[tactic(auto, unfolding(crate::specs::Calling::native_invoke))]
+#[inline(never)]
 fn invoke_native<S: WordStore>(
     method: PlatformMethod,
     count: u8,
@@ -64,12 +90,7 @@ fn invoke_native<S: WordStore>(
     if count != method.argument_cells() {
         return Err(StepExit::End(Outcome::Fault));
     }
-    let Some(arguments) = frames.arguments(count) else {
-        return Err(StepExit::End(Outcome::Fault));
-    };
-    let answered = call_native(method, arguments, memory, linked)?;
-    frames.discard(count);
-    answer(answered, place, frames, memory, linked)
+    carry_out_native(method, count, place, frames, memory, linked)
 }
 
 // A call by the instruction at a place, whose method was chosen.
@@ -129,7 +150,42 @@ fn invoke_other<S: WordStore>(
     invoke_selected(chosen, place, frames, memory, linked)
 }
 
-// Which method a virtual or a static call runs; nothing of other calls.
+// A virtual call by the instruction at a place whose entry names a method of the platform, out of line. Where the one that it runs can be told
+// at once, no more is asked.
+#[tactic(auto, unfolding(crate::specs::Calling::invoke_instruction))]
+#[inline(never)]
+fn invoke_of_platform<S: WordStore>(
+    invoke: InvokeOp,
+    place: u16,
+    frames: &mut Frames,
+    memory: &mut Memory<S>,
+    linked: &Linked,
+) -> Result<(), StepExit>
+    requires up { memory.old.heap.down ≡ false }
+    ensures { Executes (invoke_instruction invoke place linked.now frames.old memory.old) memory.old
+        (after_instruction result frames.new memory.new) }
+{
+    match method_of_platform(invoke, frames, memory, linked) {
+        Some((method, count)) => { carry_out_native(method, count, place, frames, memory, linked) }
+        None => invoke_other(invoke, place, frames, memory, linked),
+    }
+}
+
+// Whether the entry of a virtual call names a method of the platform.
+#[inline(always)]
+fn names_platform(index: u16, frames: &Frames, linked: &Linked) -> bool {
+    match linked.target_at(frames.origin().package_number, index) {
+        Some(
+            Target::VirtualMethod {
+                method: Method::Native(_),
+                ..
+            },
+        ) => true,
+        _ => false,
+    }
+}
+
+// Which method a virtual or a static call runs; nothing of other calls, and where the entry of a virtual one names a method of the platform.
 #[tactic(auto, unfolding(jc_interp_calls::specs::Invoke::method_selection))]
 #[inline(always)]
 fn select_in_line<S: WordStore>(
@@ -143,16 +199,19 @@ fn select_in_line<S: WordStore>(
         (method_selection invoke linked.now frames.now memory.now)) }
 {
     match invoke {
-        InvokeOp::Virtual(index) => Some(select_virtual_method::<S, S>(
-            index, frames, memory, linked,
-        )),
+        InvokeOp::Virtual(index) => {
+            if names_platform(index, frames, linked) {
+                return None;
+            }
+            Some(select_virtual_method::<S, S>(index, frames, memory, linked))
+        }
         InvokeOp::Static(index) => Some(select_static_method(index, frames, linked)),
         _ => None,
     }
 }
 
-/// A call by the instruction at a place. Virtual and static calls stay in line, with one copy of what comes after the choice of their
-/// method: the loop of all instructions has to stay small enough to stand in one function.
+/// A call by the instruction at a place. Static calls, and virtual ones of methods in bytecode, stay in line, with one copy of what comes
+/// after the choice of their method: the loop of all instructions has to stay small enough to stand in one function.
 #[tactic(auto, unfolding(crate::specs::Calling::invoke_instruction))]
 #[inline(always)]
 pub(crate) fn invoke_instruction<S: WordStore>(
@@ -168,6 +227,9 @@ pub(crate) fn invoke_instruction<S: WordStore>(
 {
     match select_in_line(invoke, frames, memory, linked) {
         Some(chosen) => invoke_selected(chosen?, place, frames, memory, linked),
-        None => invoke_other(invoke, place, frames, memory, linked),
+        None => match invoke {
+            InvokeOp::Virtual(_) => invoke_of_platform(invoke, place, frames, memory, linked),
+            _ => invoke_other(invoke, place, frames, memory, linked),
+        },
     }
 }

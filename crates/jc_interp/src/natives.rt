@@ -21,6 +21,7 @@ use jc_world::{NativeResult, StepExit};
 /// Carries out a method of the platform with these arguments, the receiver first, in the caller's
 /// context.
 #[tactic(auto, unfolding(crate::specs::Natives::native_call))]
+#[inline(always)]
 pub fn call_native<S: WordStore>(
     method: PlatformMethod,
     args: &[Cell],

@@ -1,3 +1,4 @@
 mod Few
 pub mod Handlers
 pub mod Implementing
+mod Same

@@ -1,5 +1,5 @@
 -- Which method a call runs, and for whom.
-use Rattle.std.specs.Prelude.{ℕ, ◌-◌, ◌/◌, ◌==◌, ◌||◌, not, Bool, true, false, List, slice_get, Option, Some, None, Result, Ok, Err, if◌then◌else◌}
+use Rattle.std.specs.Prelude.{ℕ, ◌≡◌, ◌-◌, ◌==◌, ◌||◌, not, Bool, true, false, List, slice_get, Option, Some, None, Result, Ok, Err, if◌then◌else◌}
 use Rattle.std.specs.Option.{option_map, option_and_then}
 use Rattle.jc_heap.specs.declared.object.Facts.{Facts}
 use Rattle.jc_memory.specs.declared.registers.Owner.{Owner}
@@ -7,6 +7,7 @@ use Rattle.jc_memory.specs.Owners.{owner_of}
 use Rattle.jc_memory.specs.State.{MemoryState}
 use Rattle.jc_cap_linkage.specs.declared.pool.VirtualToken.{VirtualToken}
 use Rattle.jc_platform.specs.declared.names.PlatformClass.TheVariants.{Object}
+use Rattle.jc_platform.specs.declared.names.PlatformMethod.{PlatformMethod}
 use Rattle.jc_platform.specs.Distinct.{class_word}
 use Rattle.jc_linker.specs.declared.target.Method.{Method}
 use Rattle.jc_linker.specs.declared.target.Method.TheVariants.{Code, Native}
@@ -15,7 +16,7 @@ use Rattle.jc_linker.specs.declared.target.Target.TheVariants.{Class, VirtualMet
 use Rattle.jc_linker.specs.Values.{Packages}
 use Rattle.jc_linker.specs.Classes.{is_below, is_shareable}
 use Rattle.jc_linker.specs.Lookups.{target_at}
-use Rattle.jc_linker.specs.Methods.{interface_method_at, method_at}
+use Rattle.jc_linker.specs.Methods.{interface_method_at, method_below}
 use Rattle.jc_firewall.specs.declared.access.Access.{Access}
 use Rattle.jc_firewall.specs.declared.access.Access.TheVariants.{InstanceField, VirtualCall, StandardInterfaceCall, ShareableInterfaceCall}
 use Rattle.jc_firewall.specs.declared.decide.Decision.{Decision}
@@ -97,7 +98,7 @@ unfoldable pub invokevirtual : ℕ → VirtualToken → Method → Packages → 
 invokevirtual class token method p stack m =
     and_then (some_or_fault (arguments_of p method)) (λ n. and_then (check_or_fault (fits_at_null n method p stack m))
     (λ u. and_then (receiver_of n stack m) (λ f. and_then (check_or_fault (is_of p f class))
-    (λ v. and_then (some_or_fault (method_at p (class_of p f) (class / 256) token)) (λ found.
+    (λ v. and_then (some_or_fault (method_below p (class_of p f) class token method)) (λ found.
     and_then (check_or_fault (fits found p m stack)) (λ w. call_decision (firewall_decision VirtualCall p m f) f found n))))))
 
 -- invokespecial: the method that the entry names, on an instance of its class where the entry names one; the
@@ -163,6 +164,15 @@ method_selection (Virtual index) p s m = virtual_selection index p s m
 method_selection (Special index) p s m = special_by (target_at p s.current.origin.package_number index) p s.current.stack m
 method_selection (Static index) p s m = static_selection index p s
 method_selection (Interface n index token) p s m = interface_by (target_at p s.current.origin.package_number index) n token p s.current.stack m
+
+-- a virtual call that names this class and this method of the platform finds one on instances of a class, which takes as many cells
+abbrev pub IsFoundAt : Packages → ℕ → ℕ → VirtualToken → PlatformMethod → PlatformMethod → Type 0
+IsFoundAt p own class token method found = (is_below p own class ≡ true) × (method_below p own class token (Native method) ≡ Some (Native found))
+    × (argument_cells found ≡ argument_cells method)
+
+-- a call of a method of the platform was chosen, with as many cells as arguments as it takes
+abbrev pub ChoosesOfPlatform : Result MethodCall FrameExit → PlatformMethod → Type 0
+ChoosesOfPlatform result method = (owner : Option Owner) × (result ≡ Ok (call_of (Native method) (argument_cells method) owner))
 
 -- the call that was chosen, with what the header of its method says
 abbrev pub with_header : Packages → Result MethodCall FrameExit → Result SelectedCall FrameExit

@@ -2,16 +2,19 @@
 ghost use Rattle.std.specs.Prelude.{◌≡◌, false, true, IfSome, None, option_copied};
 ghost use Rattle.std.specs.Option.{option_map};
 ghost use Rattle.jc_linker.specs.Classes.{is_below};
-ghost use Rattle.jc_linker.specs.Methods.{interface_method_at};
+ghost use Rattle.jc_linker.specs.Methods.{interface_method_at, method_below};
+ghost use Rattle.jc_linker.specs.declared.target.Method.TheVariants.{Native};
+ghost use Rattle.jc_cap_linkage.specs.declared.pool.VirtualToken.{VirtualToken};
 ghost use Rattle.jc_world.specs.Answers.{and_then};
 ghost use Rattle.jc_world.specs.Contexts.{firewall_decision};
 ghost use Rattle.jc_world.specs.Objects.{check_or_fault, some_or_fault};
-ghost use Rattle.jc_interp_calls.specs.Invoke.{arguments_of, invokeinterface, invokespecial, invokestatic, invokevirtual, call_of, method_selection};
+ghost use Rattle.jc_platform.specs.Signatures.{argument_cells};
+ghost use Rattle.jc_interp_calls.specs.Invoke.{ChoosesOfPlatform, IsFoundAt, arguments_of, invokeinterface, invokespecial, invokestatic, invokevirtual, call_of, method_selection};
 ghost use Rattle.jc_interp_calls.specs.Invoke.{static_selection, class_of, fits_at_null, header_of, interface_access, interface_by, is_native_constructor};
 ghost use Rattle.jc_interp_calls.specs.Invoke.{is_null_on, is_of_any, call_decision, receiver_of, receiver_on, special_by, virtual_by, virtual_selection, with_header};
 
 use crate::method_component::method_component_of;
-use crate::parameters::fits;
+use crate::parameters::{fits, native_fits};
 use jc_cap_linkage::pool::VirtualToken;
 use jc_firewall::access::Access;
 use jc_firewall::decide::Decision;
@@ -22,7 +25,7 @@ use jc_linker::target::{Method, Target};
 use jc_memory::{Memory, Owner};
 use jc_opcodes::instr::InvokeOp;
 use jc_opcodes::{Header, header_at};
-use jc_platform::names::PlatformClass;
+use jc_platform::names::{PlatformClass, PlatformMethod};
 use jc_transient::{ClassWord, Ref};
 use jc_words::WordStore;
 use jc_world::contexts::{allow, firewall_decision, is_own};
@@ -235,6 +238,29 @@ fn call_decision(
     }
 }
 
+// The virtual method that a call runs on an instance of a class, and its header, where the header of the entry's is known.
+#[tactic(auto, using(crate::proofs::Same::method_itself))]
+#[inline(always)]
+fn virtual_method(
+    own: ClassWord,
+    class: ClassWord,
+    token: VirtualToken,
+    method: Method,
+    header: Option<Header>,
+    linked: &Linked,
+) -> Option<(Method, Option<Header>)>
+    requires { header ≡ header_of linked.now method }
+    ensures method { option_map (λ r. r.0) result
+        ≡ method_below linked.now own class token method }
+    ensures header { IfSome result (λ r. r.1 ≡ header_of linked.now r.0) }
+{
+    if own == class {
+        return Some((method, header));
+    }
+    let found = linked.method_below(own, class, token, method)?;
+    Some((found, header_by(found, method, header, linked)))
+}
+
 // `invokevirtual`: selects the method by the receiver's class.
 #[tactic(auto, unfolding(crate::specs::Invoke::invokevirtual))]
 fn invokevirtual<C, S: WordStore>(
@@ -254,13 +280,12 @@ fn invokevirtual<C, S: WordStore>(
     let facts = receiver_of(arguments, frames, memory)?;
     let own = class_of(facts, linked);
     check(is_below(own, class, linked))?;
-    let found = linked
-        .method_at(own, (class.0 / 256) as u8, token)
-        .ok_or(FrameExit::End(Outcome::Fault))?;
+    let (found, header) = virtual_method(own, class, token, method, header, linked).ok_or(
+        FrameExit::End(Outcome::Fault),
+    )?;
     check(fits(found, frames, memory, linked))?;
     let decision = firewall_decision(Access::VirtualCall, facts, memory, linked);
     let call = call_decision(decision, facts, found, arguments)?;
-    let header = header_by(found, method, header, linked);
     Ok(SelectedCall { call, header })
 }
 
@@ -490,6 +515,119 @@ pub fn select_virtual_method<C, S: WordStore>(
 {
     let entry = linked.target_at(frames.origin().package_number, index);
     virtual_by::<C, S>(entry, frames, memory, linked)
+}
+
+// The method of the platform that a virtual call finds on an instance of a class below the one that its entry names with this method, if it
+// is one that takes as many cells.
+#[inline(never)]
+fn found_below(
+    own: ClassWord,
+    class: ClassWord,
+    token: VirtualToken,
+    method: PlatformMethod,
+    linked: &Linked,
+) -> Option<PlatformMethod>
+    ensures { IfSome result (IsFoundAt linked.now own class token method) }
+{
+    if !linked.is_below(own, class) {
+        return None;
+    }
+    match linked.method_below(own, class, token, Method::Native(method)) {
+        Some(Method::Native(found)) if found.argument_cells() == method.argument_cells() => {
+            Some(found)
+        }
+        _ => None,
+    }
+}
+
+// The same where the class may be the one that the entry names.
+#[tactic(auto, using(crate::proofs::Same::method_itself, jc_world::proofs::Below::below_same))]
+#[inline(always)]
+fn found_at(
+    own: ClassWord,
+    class: ClassWord,
+    token: VirtualToken,
+    method: PlatformMethod,
+    linked: &Linked,
+) -> Option<PlatformMethod>
+    ensures { IfSome result (IsFoundAt linked.now own class token method) }
+{
+    if class == own {
+        return Some(method);
+    }
+    found_below(own, class, token, method, linked)
+}
+
+// The method of the platform that a virtual call runs whose entry names one with this many cells, where the arguments are of the kinds that
+// it wants and no rule refuses the call; else nothing.
+#[tactic(auto, unfolding(crate::specs::Invoke::invokevirtual, crate::specs::Invoke::arguments_of, crate::specs::Invoke::receiver_of, crate::specs::Parameters::fits))]
+#[inline(always)]
+fn virtual_of_platform<S: WordStore>(
+    class: ClassWord,
+    token: VirtualToken,
+    method: PlatformMethod,
+    count: u8,
+    frames: &Frames,
+    memory: &Memory<S>,
+    linked: &Linked,
+) -> Option<PlatformMethod>
+    requires up { memory.now.heap.down ≡ false }
+    requires cells { count ≡ argument_cells method }
+    ensures chosen { IfSome result (ChoosesOfPlatform (invokevirtual class token (Native method)
+        linked.now frames.now.current.stack memory.now)) }
+    ensures cells { IfSome result (λ found. argument_cells found ≡ count) }
+{
+    let receiver = receiver_on(count, frames)?;
+    if receiver.is_null() {
+        return None;
+    }
+    let facts = object(receiver, memory).ok()?;
+    let found = found_at(class_of(facts, linked), class, token, method, linked)?;
+    if !native_fits(found, frames, memory, linked) {
+        return None;
+    }
+    match firewall_decision(Access::VirtualCall, facts, memory, linked) {
+        Decision::Allow => Some(found),
+        Decision::Switch(_) => Some(found),
+        Decision::Deny(_) => None,
+    }
+}
+
+/// The method of the platform that a virtual call runs, and how many cells its arguments have, where that can be told at once; else, and
+/// of other calls, nothing.
+#[tactic(auto, unfolding(crate::specs::Invoke::method_selection))]
+#[inline(always)]
+pub fn method_of_platform<S: WordStore>(
+    invoke: InvokeOp,
+    frames: &Frames,
+    memory: &Memory<S>,
+    linked: &Linked,
+) -> Option<(PlatformMethod, u8)>
+    requires up { memory.now.heap.down ≡ false }
+    ensures chosen { IfSome result (λ r. ChoosesOfPlatform
+        (method_selection invoke linked.now frames.now memory.now) r.0) }
+    ensures cells { IfSome result (λ r. r.1 ≡ argument_cells r.0) }
+{
+    let number = frames.origin().package_number;
+    match invoke {
+        InvokeOp::Virtual(index) => match linked.target_at(number, index) {
+            Some(
+                Target::VirtualMethod {
+                    class,
+                    token,
+                    method: Method::Native(method),
+                },
+            ) => {
+                let count = method.argument_cells();
+                let found = virtual_of_platform(
+                    *class, *token, *method, count, frames, memory, linked,
+                )?;
+                Some((found, count))
+            }
+            _ => None,
+        },
+        _ => None,
+    }
 }
 
 /// Which method a call runs, with how many arguments, and for whom; and what the method's header says.

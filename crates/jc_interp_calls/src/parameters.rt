@@ -12,7 +12,7 @@ use jc_words::WordStore;
 
 // The cells on the top of the stack are of the kinds of a method's parameters.
 #[tactic(auto, using(crate::proofs::Few::few))]
-fn native_fits<S: WordStore>(
+pub(crate) fn native_fits<S: WordStore>(
     method: PlatformMethod,
     frames: &Frames,
     memory: &Memory<S>,

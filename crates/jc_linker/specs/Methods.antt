@@ -63,6 +63,12 @@ lookup_classes (PackageVisible token) package_number classes = filter (λ c. c /
 unfoldable pub method_at : Packages → ℕ → ℕ → VirtualToken → Option Method
 method_at p class package_number token = first_decided (method_in p token) (lookup_classes token package_number (lineage p class))
 
+-- the method that a call runs on an instance of a class, where linking found this method for the class that the call names: one that a class
+-- below that class has in its place, or else this one
+unfoldable pub method_below : Packages → ℕ → ℕ → VirtualToken → Method → Option Method
+method_below p own class token method = first_decided (λ c. if c == class then Found method else method_in p token c)
+    (lookup_classes token (class / 256) (lineage p own))
+
 -- ---- methods of interfaces: which virtual method carries one out, by its token
 
 abbrev pub by_token : Option ℕ → Search ℕ

@@ -2,7 +2,7 @@
 ghost use Rattle.std.specs.Prelude.{◌≡◌, ◌<◌, ◌≤◌, ◌++◌, [], ◌∷◌, length, slice_get, IfOk, option_copied};
 ghost use Rattle.jc_linker.specs.Classes.{is_below, is_class, is_instantiable_class, is_shareable, package_in, reference_cell, size_of, superclass_in};
 ghost use Rattle.jc_linker.specs.Linking.{with_package};
-ghost use Rattle.jc_linker.specs.Methods.{interface_method_at, method_at};
+ghost use Rattle.jc_linker.specs.Methods.{interface_method_at, method_at, method_below};
 ghost use Rattle.jc_linker.specs.Resolves.{names_interface};
 
 use crate::package::LinkedPackage;
@@ -181,6 +181,20 @@ impl Linked {
         ensures { result ≡ method_at self.now class package_number token }
     {
         self.scope().method_at(class, package_number, token)
+    }
+
+    /// The method that a call by token runs on an instance of a class, where linking found this method for the class that
+    /// the call names. It takes time that grows with the number of classes up to that one.
+    pub fn method_below(
+        &self,
+        own: ClassWord,
+        class: ClassWord,
+        token: VirtualToken,
+        method: Method,
+    ) -> Option<Method>
+        ensures { result ≡ method_below self.now own class token method }
+    {
+        self.scope().method_below(own, class, token, method)
     }
 
     /// The method that a call of an interface's method by token on an instance of a class runs. It takes time that

@@ -1,7 +1,7 @@
 //! Methods by class and token.
 ghost use Rattle.std.specs.Prelude.{◌≡◌};
 ghost use Rattle.jc_linker.specs.Classes.{lineage};
-ghost use Rattle.jc_linker.specs.Methods.{implementation_in, if_native, interface_method_at, method_at, method_in, native_implementation, first_decided};
+ghost use Rattle.jc_linker.specs.Methods.{implementation_in, if_native, interface_method_at, method_at, method_below, method_in, native_implementation, first_decided};
 ghost use Rattle.jc_platform.specs.Platform.{method_by_token};
 
 use crate::scope::Scope;
@@ -61,6 +61,76 @@ impl Scope<'_> {
             }
             match self.method_in(VirtualToken::PackageVisible(token), above) {
                 Search::Found(method) => return Some(method),
+                Search::Above => {}
+                Search::Nowhere => return None,
+            }
+        }
+        None
+    }
+
+    /// The method that a call by token runs on an instance of a class, where linking found this method for the class that
+    /// the call names. It takes time that grows with the number of classes up to that one.
+    #[tactic(auto, unfolding(crate::specs::Methods::method_below))]
+    pub(crate) fn method_below(
+        &self,
+        own: ClassWord,
+        class: ClassWord,
+        token: VirtualToken,
+        method: Method,
+    ) -> Option<Method>
+        ensures { result ≡ method_below self.now own class token method }
+    {
+        match token {
+            VirtualToken::Public(token) => self.public_below(own, class, token, method),
+            VirtualToken::PackageVisible(token) => self.package_below(own, class, token, method),
+        }
+    }
+
+    #[tactic(auto, unfolding(crate::specs::Methods::method_below, crate::specs::Methods::first_decided))]
+    fn public_below(
+        &self,
+        own: ClassWord,
+        class: ClassWord,
+        token: u8,
+        method: Method,
+    ) -> Option<Method>
+        ensures { result ≡ method_below self.now own class (VirtualToken.Public token) method }
+    {
+        let mut walk = self.lineage(own);
+        while let Some(above) = walk.pop() {
+            if above == class {
+                return Some(method);
+            }
+            match self.method_in(VirtualToken::Public(token), above) {
+                Search::Found(found) => return Some(found),
+                Search::Above => {}
+                Search::Nowhere => return None,
+            }
+        }
+        None
+    }
+
+    #[tactic(auto, unfolding(crate::specs::Methods::method_below, crate::specs::Methods::first_decided))]
+    fn package_below(
+        &self,
+        own: ClassWord,
+        class: ClassWord,
+        token: u8,
+        method: Method,
+    ) -> Option<Method>
+        ensures { result ≡ method_below self.now own class
+            (VirtualToken.PackageVisible token) method }
+    {
+        let mut walk = self.lineage(own);
+        while let Some(above) = walk.pop() {
+            if above.0 / 256 != class.0 / 256 {
+                continue;
+            }
+            if class == above {
+                return Some(method);
+            }
+            match self.method_in(VirtualToken::PackageVisible(token), above) {
+                Search::Found(found) => return Some(found),
                 Search::Above => {}
                 Search::Nowhere => return None,
             }

@@ -6,3 +6,4 @@ pub mod Running
 pub mod Touched
 pub mod Room
 pub mod NonAtomicWrites
+pub mod Sending

@@ -5,6 +5,7 @@ pub mod Programs
 pub mod Reading
 pub mod Laws
 pub mod Cells
+pub mod Commands
 pub mod Making
 pub mod Changing
 pub mod Dead

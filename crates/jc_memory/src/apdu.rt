@@ -1,9 +1,16 @@
 //! The command that is carried out, and the bytes sent in answer to it.
-ghost use Rattle.std.specs.Prelude.{◌≡◌, ◌+◌, ◌≤◌, length};
+ghost use Rattle.std.specs.Prelude.{◌≡◌, ◌+◌, ◌≤◌, false, length};
+ghost use Rattle.jc_heap.specs.Heap.{IsObject, facts};
+ghost use Rattle.jc_memory.specs.Cells.{bytes_at};
+ghost use Rattle.jc_memory.specs.Commands.{takes_extended_length};
 ghost use Rattle.jc_memory.specs.State.{BeginCommand, SendBytes, apply_effect};
 
 use crate::memory::{MOST_COMMAND, MOST_SENT, Memory};
+use jc_transient::Ref;
 use jc_words::WordStore;
+
+// How many bytes are read at once where they are sent.
+const SENT_AT_ONCE: u16 = 256;
 
 impl<S: WordStore> Memory<S> {
     /// Begins a command of these bytes, in answer to which nothing was sent yet.
@@ -12,7 +19,7 @@ impl<S: WordStore> Memory<S> {
         ensures { self.new ≡ apply_effect (BeginCommand bytes.now) self.old }
     {
         self.command.clear();
-        let _ = self.command.try_extend_from_slice(bytes);
+        self.command.append(bytes);
         self.sent.clear();
     }
 
@@ -28,7 +35,48 @@ impl<S: WordStore> Memory<S> {
         requires { length self.old.sent + length bytes.now ≤ MOST_SENT }
         ensures { self.new ≡ apply_effect (SendBytes bytes.now) self.old }
     {
-        let _ = self.sent.try_extend_from_slice(bytes);
+        self.sent.append(bytes);
+    }
+
+    // Sends a few bytes of an object from an index on, after those that were sent already.
+    fn send_piece(&mut self, object: Ref, i: u16, count: u16)
+        requires up { self.old.heap.down ≡ false }
+        requires there { IsObject self.old.heap.now object }
+        requires cells { i + count ≤ (facts self.old.heap.now object).length }
+        requires few { length self.old.sent + count ≤ MOST_SENT }
+        requires piece { count ≤ SENT_AT_ONCE }
+        ensures { self.new ≡ apply_effect (SendBytes (bytes_at self.old object i count)) self.old }
+    {
+        let mut bytes = [0; SENT_AT_ONCE as usize];
+        let bytes = &mut bytes[..count as usize];
+        self.bytes(object, i, bytes);
+        self.send(bytes);
+    }
+
+    /// Sends bytes of an object from an index on, after those that were sent already.
+    pub fn send_elements(&mut self, object: Ref, i: u16, count: u16)
+        requires up { self.old.heap.down ≡ false }
+        requires there { IsObject self.old.heap.now object }
+        requires cells { i + count ≤ (facts self.old.heap.now object).length }
+        requires few { length self.old.sent + count ≤ MOST_SENT }
+        ensures { self.new ≡ apply_effect (SendBytes (bytes_at self.old object i count)) self.old }
+    {
+        let _header = self.facts(object);
+        if count <= SENT_AT_ONCE {
+            self.send_piece(object, i, count);
+            return;
+        }
+        self.send_piece(object, i, SENT_AT_ONCE);
+        self.send_elements(object, i + SENT_AT_ONCE, count - SENT_AT_ONCE);
+    }
+
+    /// Whether its image takes commands in the extended form: its APDU buffer is longer than usual.
+    pub fn takes_extended_length(&self) -> bool
+        requires up { self.now.heap.down ≡ false }
+        ensures { result ≡ takes_extended_length self.now.ram.sizes }
+    {
+        let sizes = self.heap.area_sizes();
+        sizes.deselect < sizes.reset
     }
 
     /// The bytes that were sent.

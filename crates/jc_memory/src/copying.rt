@@ -16,8 +16,8 @@ impl<S: CopyStore> Memory<S> {
         let ram = self.ram.copy(alloc)?;
         let marks = self.marks.copy(alloc)?;
         let fixed = copy_of(&self.fixed)?;
-        let command = copy_of(&self.command)?;
-        let sent = copy_of(&self.sent)?;
+        let command = self.command.copy(alloc)?;
+        let sent = self.sent.copy(alloc)?;
         let heap = self.heap.copy(alloc)?;
         Ok(Memory {
             heap,

@@ -6,10 +6,12 @@ mod adding;
 mod apdu;
 mod bytes;
 mod cells;
+mod commands;
 mod commit_capacity;
 mod copying;
 mod filling;
 mod flags;
+mod kept;
 mod making;
 mod marks;
 mod memory;
@@ -20,13 +22,18 @@ mod registers;
 mod shortages;
 mod transaction;
 
+pub use commands::{
+    MOST_SHORT, data_of, data_offset, has_extended_length, header_length, lc_of, most_answer,
+    two_bytes,
+};
 pub use commit_capacity::{
     has_space, lacks_capacity, make_within_capacity, register_within_capacity, set_within_capacity,
     write_within_capacity,
 };
+pub use kept::Kept;
 pub use making::NewObject;
 pub use marks::{Marks, unset_flags};
-pub use memory::{MOST_COMMAND, MOST_FIXED, MOST_SENT, Memory};
+pub use memory::{MOST_COMMAND, MOST_FIXED, MOST_SENT, Memory, Rooms};
 pub use notes::{
     Cause, Denial, FaultKind, MOST_AID, MOST_SPOTS, Member, MemberKind, Note, Notes, Phase,
     RefusedLoad, Shortage, Space, Spot, Step, TopCell,

@@ -1,5 +1,5 @@
 //! A memory: its parts, and what headers say.
-ghost use Rattle.std.specs.Prelude.{◌≡◌, ◌<◌, [], false, IfSome, slice_index};
+ghost use Rattle.std.specs.Prelude.{◌≡◌, ◌<◌, [], false, IfOk, IfSome, slice_index};
 ghost use Rattle.jc_heap.specs.Heap.{IsObject, area_sizes};
 ghost use Rattle.jc_heap.specs.Whole.{IsConsistent};
 ghost use Rattle.jc_transient.specs.State.{HasSizes};
@@ -7,20 +7,22 @@ ghost use Rattle.jc_memory.specs.Owners.{at_reset};
 ghost use Rattle.jc_memory.specs.Cells.{IsHeaderOf, header_at};
 ghost use Rattle.jc_memory.specs.Marks.{AreObjects};
 
+use crate::kept::Kept;
 use crate::marks::Marks;
 use crate::notes::Notes;
 use crate::registers::Registers;
 use arrayvec::ArrayVec;
 use jc_heap::{Facts, Heap};
-use jc_transient::{BUFFER_CELLS, Ram, Ref};
+use jc_transient::{Ram, Ref};
 use jc_words::WordStore;
+use std::alloc::{AllocError, Global};
 use std::marker::Model;
 
-/// How many bytes a command has at most.
-pub const MOST_COMMAND: usize = BUFFER_CELLS as usize;
+/// How many bytes a command has at most: seven, 65535 bytes of data, and two that say how many are expected.
+pub const MOST_COMMAND: usize = 65544;
 
 /// How many bytes are sent in answer to it at most.
-pub const MOST_SENT: usize = 256;
+pub const MOST_SENT: usize = 32767;
 
 /// With how many objects the heap begins at most.
 pub const MOST_FIXED: usize = 32;
@@ -36,8 +38,8 @@ pub struct Memory<S: WordStore> {
     pub(crate) fixed: ArrayVec<u16, MOST_FIXED>,
     pub(crate) marks: Marks,
     pub(crate) registers: Registers,
-    pub(crate) command: ArrayVec<u8, MOST_COMMAND>,
-    pub(crate) sent: ArrayVec<u8, MOST_SENT>,
+    pub(crate) command: Kept<MOST_COMMAND>,
+    pub(crate) sent: Kept<MOST_SENT>,
     // What it says is no part of the value.
     pub(crate) notes: Notes,
 }
@@ -53,17 +55,44 @@ impl<S: WordStore> Model for Memory<S> {
       ram = m.ram;
       fixed = m.fixed.items;
       registers = m.registers;
-      command = m.command.items;
-      sent = m.sent.items;
+      command = m.command;
+      sent = m.sent;
     } };
 
     ghost invariant = { λ m. IsConsistentMemory m.heap m.ram × AreObjects m.marks m.heap };
 }
 
+/// Room for the bytes of a command, and for those that are sent in answer to it.
+#[derive(Drop)]
+pub struct Rooms {
+    pub command: Kept<MOST_COMMAND>,
+    pub sent: Kept<MOST_SENT>,
+}
+
+impl Rooms {
+    /// Both rooms, in which nothing is kept. Without memory for them, it answers the error.
+    pub fn new(alloc: Global) -> Result<Rooms, AllocError>
+        ensures command { IfOk result (λ rooms. rooms.command ≡ []) }
+        ensures sent { IfOk result (λ rooms. rooms.sent ≡ []) }
+    {
+        Ok(Rooms {
+            command: Kept::new(alloc)?,
+            sent: Kept::new(alloc)?,
+        })
+    }
+}
+
 impl<S: WordStore> Memory<S> {
     /// A memory over a whole heap at rest, as a reset leaves it; with transient contents of the sizes that the heap's words say, with the
-    /// addresses of the objects with which the heap begins, in their order, and with marks where objects stand.
-    pub fn new(heap: Heap<S>, ram: Ram, fixed: ArrayVec<u16, MOST_FIXED>, marks: Marks) -> Memory<S>
+    /// addresses of the objects with which the heap begins, in their order; with marks where objects stand; and with what these rooms keep
+    /// as the command and as what was sent.
+    pub fn new(
+        heap: Heap<S>,
+        ram: Ram,
+        fixed: ArrayVec<u16, MOST_FIXED>,
+        marks: Marks,
+        rooms: Rooms,
+    ) -> Memory<S>
         requires up { heap.down ≡ false }
         requires rests { heap.begun ≡ false }
         requires whole { IsConsistent heap.now }
@@ -75,29 +104,32 @@ impl<S: WordStore> Memory<S> {
           ram = ram;
           fixed = fixed.items;
           registers = at_reset;
-          command = [];
-          sent = [];
+          command = rooms.command;
+          sent = rooms.sent;
         } }
     {
         // Nothing stands at or above the top, and the durable heap is this one.
         let _ = (heap.top(), heap.is_open());
+        let Rooms { command, sent } = rooms;
         Memory {
             heap,
             ram,
             fixed,
             marks,
             registers: Registers::at_reset(),
-            command: ArrayVec::new(),
-            sent: ArrayVec::new(),
+            command,
+            sent,
             notes: Notes::nowhere(),
         }
     }
 
-    /// The parts that outlive a command, and the addresses of the objects with which the heap begins.
-    pub fn into_parts(self) -> (Heap<S>, Ram, ArrayVec<u16, MOST_FIXED>)
+    /// The parts that outlive a command, the addresses of the objects with which the heap begins, and the rooms.
+    pub fn into_parts(self) -> (Heap<S>, Ram, ArrayVec<u16, MOST_FIXED>, Rooms)
         ensures heap { result.0 ≡ self.heap }
         ensures ram { result.1 ≡ self.ram }
         ensures fixed { result.2.items ≡ self.fixed }
+        ensures command { result.3.command ≡ self.command }
+        ensures sent { result.3.sent ≡ self.sent }
     {
         let Memory {
             heap,
@@ -105,11 +137,11 @@ impl<S: WordStore> Memory<S> {
             fixed,
             marks: _,
             registers: _,
-            command: _,
-            sent: _,
+            command,
+            sent,
             notes: _,
         } = self;
-        (heap, ram, fixed)
+        (heap, ram, fixed, Rooms { command, sent })
     }
 
     /// Where it is noted from now on what keeps code from going on.

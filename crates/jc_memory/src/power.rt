@@ -6,8 +6,9 @@ ghost use Rattle.jc_heap.specs.Stored.{HoldsHeap, IsAtRest, heap_of_store_at_res
 ghost use Rattle.jc_heap.specs.Whole.{IsConsistent};
 ghost use Rattle.jc_memory.specs.Power.{resumed_memory, volatile_of};
 
+use crate::kept::Kept;
 use crate::marks::Marks;
-use crate::memory::{MOST_COMMAND, MOST_FIXED, MOST_SENT, Memory};
+use crate::memory::{MOST_COMMAND, MOST_FIXED, MOST_SENT, Memory, Rooms};
 use crate::notes::Notes;
 use crate::registers::Registers;
 use arrayvec::ArrayVec;
@@ -23,8 +24,8 @@ pub struct Volatile {
     fixed: ArrayVec<u16, MOST_FIXED>,
     marks: Marks,
     registers: Registers,
-    command: ArrayVec<u8, MOST_COMMAND>,
-    sent: ArrayVec<u8, MOST_SENT>,
+    command: Kept<MOST_COMMAND>,
+    sent: Kept<MOST_SENT>,
     notes: Notes,
 }
 
@@ -38,8 +39,8 @@ impl Model for Volatile {
       ram = m.ram;
       fixed = m.fixed.items;
       registers = m.registers;
-      command = m.command.items;
-      sent = m.sent.items;
+      command = m.command;
+      sent = m.sent;
     } };
 
     ghost invariant = { λ m. HasSizes m.ram };
@@ -97,10 +98,8 @@ impl<S: WordStore> Memory<S> {
         let heap = Heap::resume(store);
         marks.clear();
         marks.scan(&heap);
-        let mut memory = Memory::new(heap, ram, fixed, marks);
+        let mut memory = Memory::new(heap, ram, fixed, marks, Rooms { command, sent });
         memory.registers = registers;
-        memory.command = command;
-        memory.sent = sent;
         memory.notes = notes;
         memory
     }

@@ -76,10 +76,10 @@ pub enum Installation {
 pub enum ApduPhase {
     /// Nothing but the header has been received.
     Waiting,
-    /// The data have been received.
-    Received,
-    /// It turned to sending; how much is not said yet.
-    Outgoing,
+    /// This number of bytes of the data has been received.
+    Received(u16),
+    /// It turned to sending; how much is not said yet, this number of bytes at most.
+    Outgoing(u16),
     /// This number of bytes is left to be sent.
     Sending(u16),
 }
@@ -87,7 +87,7 @@ pub enum ApduPhase {
 /// The APDU that is carried out.
 #[derive(Clone, Copy)]
 pub struct ApduState {
-    /// How many bytes the command expects, 0 to 256.
+    /// How many bytes the command expects, 0 to 65535. 0 where it says 0 or nothing.
     pub expected: u16,
     pub phase: ApduPhase,
 }

@@ -2,6 +2,7 @@
 use Rattle.std.proofs.Common.{◌≡◌, ℕ, Bool, true, false, List, ◌++◌, None, if◌then◌else◌, refl, ◌∙◌, ap, subst}
 use Rattle.std.specs.Prelude.{◌||◌, is_some}
 use Rattle.std.specs.Str.{bytes_eq}
+use Rattle.jc_memory.specs.Commands.{has_extended_length}
 use Rattle.jc_memory.specs.State.{MemoryState, BeginCommand, SetRegisters, apply_effect}
 use Rattle.jc_memory.specs.Programs.{Finish, Perform, Completes}
 use Rattle.jc_memory.proofs.ProgramLemmas.{did_bind}
@@ -11,7 +12,7 @@ use Rattle.jc_interp.specs.declared.attacks.Budget.{Budget}
 use Rattle.jc_dispatch.specs.declared.applet_result.AppletResult.{AppletResult}
 use Rattle.jc_dispatch.specs.declared.applet_result.AppletResult.TheVariants.{Done}
 use Rattle.jc_dispatch.specs.Selecting.{deselection, manager_selection, with_selected}
-use Rattle.jc_card.specs.Answers.{exchange, exchange_of_apdu, is_dispatched}
+use Rattle.jc_card.specs.Answers.{exchange, exchange_extended, exchange_of_apdu, exchange_short, is_dispatched}
 use Rattle.jc_card.specs.Answers.{manager_response as to_manager}
 use Rattle.jc_card.specs.Apdu.{Apdu}
 use Rattle.jc_card.specs.CardState.{CardState}
@@ -24,6 +25,10 @@ use Rattle.jc_session.specs.Laws.{ManagerUnselects}
 is_first : {A : Type 0} (b : Bool) (x y : A) → b ≡ true → (if b then x else y) ≡ x
 is_first true x y e = refl
 is_first false x y e = absurd (cc)
+
+is_second : {A : Type 0} (b : Bool) (x y : A) → b ≡ false → (if b then x else y) ≡ y
+is_second true x y e = absurd (cc)
+is_second false x y e = refl
 
 or_first : (a b : Bool) → a ≡ true → (a || b) ≡ true
 or_first true b e = refl
@@ -58,8 +63,9 @@ dispatched_none bytes c card a new select content did =
 
 pub unselects : ManagerUnselects
 unfolding exchange
-unselects card next bytes response c is select content did =
-    let chosen = ap (λ o. exchange_of_apdu bytes o card) is ∙ is_first (is_dispatched card c) (dispatch bytes c card) (to_manager c card)
+unselects card next bytes response c short is select content did =
+    let chosen = ap (λ o. exchange_of_apdu bytes o card) is ∙ is_second (has_extended_length bytes) (exchange_extended bytes c card) (exchange_short bytes c card) short
+    ∙ is_first (is_dispatched card c) (dispatch bytes c card) (to_manager c card)
     (or_first (is_select c) (is_some card.memory.registers.selected) select) in
     dispatched_none bytes c card (with_response next response) next.memory select content
     (subst (λ d. Completes d card.memory (with_response next response) next.memory) chosen did)

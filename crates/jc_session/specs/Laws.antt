@@ -3,6 +3,7 @@ use Rattle.std.specs.Prelude.{ℕ, ◌≡◌, true, false, List, Some, None}
 use Rattle.jc_words.specs.Refusals.{Refusals, refused_once}
 use Rattle.jc_transient.specs.State.{IsCleared}
 use Rattle.jc_interp.specs.Attacks.{undisturbed}
+use Rattle.jc_memory.specs.Commands.{has_extended_length}
 use Rattle.jc_card.specs.Apdu.{Apdu, apdu_of}
 use Rattle.jc_card.specs.CardState.{CardState}
 use Rattle.jc_card.specs.Dispatching.{is_select, manager_aid}
@@ -31,9 +32,10 @@ pub record BeginsAnew (card next : CardState) : Type 0 where
 abbrev pub ResetsBeginAnew : Type 0
 ResetsBeginAnew = (card next : CardState) → Serves (Up card) Reset Ready (Up next) → BeginsAnew card next
 
--- SELECT of the manager's AID leaves nothing selected, however the applet was left that was selected
+-- SELECT of the manager's AID, in the short form, leaves nothing selected, however the applet was left that was selected
 abbrev pub ManagerUnselects : Type 0
-ManagerUnselects = (card next : CardState) (bytes response : List ℕ) (c : Apdu) → apdu_of bytes ≡ Some c → is_select c ≡ true → c.content ≡ manager_aid →
+ManagerUnselects = (card next : CardState) (bytes response : List ℕ) (c : Apdu) → has_extended_length bytes ≡ false → apdu_of bytes ≡ Some c → is_select c ≡ true
+    → c.content ≡ manager_aid →
     AnswersCommand (Up card) bytes (Response response) (Up next) → next.memory.registers.selected ≡ None
 
 -- what is known of refused writes before a request is served: where it arms the fuse, after that

@@ -1,4 +1,5 @@
--- Plain lines of the commands `new` and `try`, which take one operand and the options `--words`, `--table` and `--transient`, `new` also `--journal`.
+-- Plain lines of the commands `new` and `try`, which take one operand and the options `--words`, `--table`, `--transient` and `--apdu`, `new` also
+-- `--journal`.
 use Rattle.std.proofs.Common.{◌≡◌, ◌∙◌, ap, false, List, [], ◌∷◌, Option, Some, None, refl, codes}
 use Rattle.std.specs.Prelude.{fold}
 use Rattle.clap.specs.Words.{App, Row, Text}
@@ -8,7 +9,7 @@ use Rattle.clap.specs.Faults.{defaults_fault, turn_fault, walk_fault}
 use Rattle.clap.proofs.OnLiterals.{clap_on_literals}
 use Rattle.jcard_arguments.proofs.Hyphens.{no_hyphen}
 use Rattle.jcard_arguments.proofs.CommandWalk.{after_next, as_ended, causes_of, met, none_more, opened_by, request_after, whole}
-use Rattle.jcard_arguments.specs.CommandLine.{CommandLineRequest, ToMake, ToTry, new_of, request_of_words, try_of}
+use Rattle.jcard_arguments.specs.CommandLine.{CommandLineRequest, SizeAsked, ToMake, ToTry, new_of, request_of_words, try_of}
 use Rattle.jcard_arguments.specs.Grammar.{new_grammar, program_grammar, try_grammar}
 use Rattle.jcard_arguments.specs.PlainLines.{IsNoFlag, JournalTableWords, JournalWordsTable, NewOrder, TableJournalWords, TableWordsJournal, TakesNews}
 use Rattle.jcard_arguments.specs.PlainLines.{TakesTries, WordsJournalTable, WordsTableJournal, in_order, plain_size}
@@ -341,53 +342,78 @@ in_any_order name image words table journal hi hw ht hj o =
     ∙ (step (at_value (third o) (second_read o image first_value second_value) third_value (is_value (third o))) []
     ∙ order_last o image words table journal))))))))
 
--- ---- `--transient`
+-- ---- `--transient` alone, and `--apdu` alone
 
--- what it asks for, with this operand, these cells and no other option
-abbrev cells_by : OptionCommand → Text → Text → CommandLineRequest
-cells_by NewCommand operand cells = ToMake operand (record plain_size { cells = Some cells }) None
-cells_by TryCommand operand cells = ToTry operand (record plain_size { cells = Some cells }) None None
+data LastOption : Type 0 where
+  Cells : LastOption
+  Buffer : LastOption
 
-cells_name : (c : OptionCommand) (operand : Text)
-    → Goes c (given [] (operand_of c) operand) (codes "--transient") (named (operand_read c operand) (codes "transient"))
+abbrev id_by : LastOption → Text
+id_by Cells = codes "transient"
+id_by Buffer = codes "apdu"
+
+abbrev flag_by : LastOption → Text
+flag_by Cells = codes "--transient"
+flag_by Buffer = codes "--apdu"
+
+abbrev size_by : LastOption → Text → SizeAsked
+size_by Cells value = record plain_size { cells = Some value }
+size_by Buffer value = record plain_size { buffer = Some value }
+
+-- what it asks for, with this operand, this value and no other option
+abbrev with_by : OptionCommand → LastOption → Text → Text → CommandLineRequest
+with_by NewCommand o operand value = ToMake operand (size_by o value) None
+with_by TryCommand o operand value = ToTry operand (size_by o value) None None
+
+last_name : (c : OptionCommand) (o : LastOption) (operand : Text)
+    → Goes c (given [] (operand_of c) operand) (flag_by o) (named (operand_read c operand) (id_by o))
 unfolding clap_on_literals
-cells_name NewCommand operand = record { fault = refl; walk = refl }
-cells_name TryCommand operand = record { fault = refl; walk = refl }
+last_name NewCommand Cells operand = record { fault = refl; walk = refl }
+last_name NewCommand Buffer operand = record { fault = refl; walk = refl }
+last_name TryCommand Cells operand = record { fault = refl; walk = refl }
+last_name TryCommand Buffer operand = record { fault = refl; walk = refl }
 
-at_cells : (c : OptionCommand) (rows : List Row) (value : Text) → IsNoFlag value
-    → Goes c (named rows (codes "transient")) value (given rows (codes "transient") value)
+at_last : (c : OptionCommand) (o : LastOption) (rows : List Row) (value : Text) → IsNoFlag value
+    → Goes c (named rows (id_by o)) value (given rows (id_by o) value)
 unfolding clap_on_literals
-at_cells NewCommand rows [] h = record { fault = refl; walk = refl }
-at_cells NewCommand rows (x ∷ xs) h = record { fault = simp (no_hyphen x xs h); walk = simp (no_hyphen x xs h) }
-at_cells TryCommand rows [] h = record { fault = refl; walk = refl }
-at_cells TryCommand rows (x ∷ xs) h = record { fault = simp (no_hyphen x xs h); walk = simp (no_hyphen x xs h) }
+at_last NewCommand Cells rows [] h = record { fault = refl; walk = refl }
+at_last NewCommand Cells rows (x ∷ xs) h = record { fault = simp (no_hyphen x xs h); walk = simp (no_hyphen x xs h) }
+at_last NewCommand Buffer rows [] h = record { fault = refl; walk = refl }
+at_last NewCommand Buffer rows (x ∷ xs) h = record { fault = simp (no_hyphen x xs h); walk = simp (no_hyphen x xs h) }
+at_last TryCommand Cells rows [] h = record { fault = refl; walk = refl }
+at_last TryCommand Cells rows (x ∷ xs) h = record { fault = simp (no_hyphen x xs h); walk = simp (no_hyphen x xs h) }
+at_last TryCommand Buffer rows [] h = record { fault = refl; walk = refl }
+at_last TryCommand Buffer rows (x ∷ xs) h = record { fault = simp (no_hyphen x xs h); walk = simp (no_hyphen x xs h) }
 
-cells_last : (c : OptionCommand) (operand cells : Text)
-    → after c (given (operand_read c operand) (codes "transient") cells) [] ≡ Some (cells_by c operand cells)
+last_read : (c : OptionCommand) (o : LastOption) (operand value : Text)
+    → after c (given (operand_read c operand) (id_by o) value) [] ≡ Some (with_by c o operand value)
 unfolding request_after clap_on_literals
-cells_last NewCommand operand cells = refl
-cells_last TryCommand operand cells = refl
+last_read NewCommand Cells operand value = refl
+last_read NewCommand Buffer operand value = refl
+last_read TryCommand Cells operand value = refl
+last_read TryCommand Buffer operand value = refl
 
-with_cells : (c : OptionCommand) (name operand cells : Text) → IsNoFlag operand → IsNoFlag cells
-    → request_of_words (name ∷ name_of c ∷ operand ∷ codes "--transient" ∷ cells ∷ []) ≡ Some (cells_by c operand cells)
-with_cells c name operand cells ho hc =
-    opened c name (operand ∷ codes "--transient" ∷ cells ∷ [])
-    ∙ (step (at_operand c operand ho) (codes "--transient" ∷ cells ∷ [])
-    ∙ (step (cells_name c operand) (cells ∷ [])
-    ∙ (step (at_cells c (operand_read c operand) cells hc) []
-    ∙ cells_last c operand cells)))
+with_last : (c : OptionCommand) (o : LastOption) (name operand value : Text) → IsNoFlag operand → IsNoFlag value
+    → request_of_words (name ∷ name_of c ∷ operand ∷ flag_by o ∷ value ∷ []) ≡ Some (with_by c o operand value)
+with_last c o name operand value ho hv =
+    opened c name (operand ∷ flag_by o ∷ value ∷ [])
+    ∙ (step (at_operand c operand ho) (flag_by o ∷ value ∷ [])
+    ∙ (step (last_name c o operand) (value ∷ [])
+    ∙ (step (at_last c o (operand_read c operand) value hv) []
+    ∙ last_read c o operand value)))
 
 pub news : TakesNews
-news name image words table journal cells hi hw ht hj hc = (
+news name image words table journal cells buffer hi hw ht hj hc hb = (
   no_option NewCommand name image hi,
   words_before_table NewCommand name image words table hi hw ht,
   table_before_words NewCommand name image words table hi hw ht,
   in_any_order name image words table journal hi hw ht hj,
-  with_cells NewCommand name image cells hi hc,
+  with_last NewCommand Cells name image cells hi hc,
+  with_last NewCommand Buffer name image buffer hi hb,
 )
 
 pub tries : TakesTries
-tries name script words table cells hs hw ht hc = (
+tries name script words table cells buffer hs hw ht hc hb = (
   no_option TryCommand name script hs,
   opened TryCommand name (script ∷ codes "--table" ∷ table ∷ [])
       ∙ (step (at_operand TryCommand script hs) (codes "--table" ∷ table ∷ [])
@@ -396,5 +422,6 @@ tries name script words table cells hs hw ht hc = (
       ∙ table_alone script table))),
   table_before_words TryCommand name script words table hs hw ht,
   words_before_table TryCommand name script words table hs hw ht,
-  with_cells TryCommand name script cells hs hc,
+  with_last TryCommand Cells name script cells hs hc,
+  with_last TryCommand Buffer name script buffer hs hb,
 )

@@ -61,11 +61,13 @@ pub record AttackAsked : Type 0 where
   pub part : Option Text
   pub instructions : Option ℕ
 
--- how large a new card is: its words, the entries of its journal, and the cells for the transient objects of each event, or as many as are usual
+-- how large a new card is: its words, the entries of its journal, and the cells for the transient objects of each event and the bytes of the APDU
+-- buffer, or as many as are usual
 pub record SizeAsked : Type 0 where
   pub words : Text
   pub journal : Text
   pub cells : Option Text
+  pub buffer : Option Text
 
 -- the cards that answer rows, and the report
 pub record TestAsked : Type 0 where
@@ -273,6 +275,7 @@ size_asked rows = record {
   words = unwrap_or (first_of (codes "words") rows) (codes "8192");
   journal = unwrap_or (first_of (codes "journal") rows) (codes "256");
   cells = first_of (codes "transient") rows;
+  buffer = first_of (codes "apdu") rows;
 }
 
 abbrev pub new_of : List Row → Option CommandLineRequest
@@ -383,7 +386,7 @@ attack_asked_by o = record {
 }
 
 abbrev pub size_asked_by : SizeOptions → SizeAsked
-size_asked_by o = record { words = o.words.now; journal = o.journal.now; cells = text_of o.cells }
+size_asked_by o = record { words = o.words.now; journal = o.journal.now; cells = text_of o.cells; buffer = text_of o.buffer }
 
 abbrev pub test_asked_by : TestOptions → TestAsked
 test_asked_by o = record {

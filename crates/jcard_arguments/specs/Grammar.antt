@@ -51,10 +51,10 @@ abbrev pub with_commands : App → List App → App
 with_commands program [] = program
 with_commands program (command ∷ commands) = with_commands (with_subcommand program command.top) commands
 
--- `new IMAGE [--words N] [--table FILE] [--journal C] [--transient T]`
+-- `new IMAGE [--words N] [--table FILE] [--journal C] [--transient T] [--apdu B]`
 abbrev pub new_grammar : App
 new_grammar = with_rules (new_app (codes "new")) (operand (codes "image") ∷ value_option (codes "words") ∷ value_option (codes "table")
-    ∷ value_option (codes "journal") ∷ value_option (codes "transient") ∷ [])
+    ∷ value_option (codes "journal") ∷ value_option (codes "transient") ∷ value_option (codes "apdu") ∷ [])
 
 -- `run IMAGE SCRIPT [--why] [--trace] [--expect] [--lines N] [--map FILE] [--break PLACE] [--cover FILE] [--instructions N]`
 abbrev pub run_grammar : App
@@ -67,10 +67,10 @@ abbrev pub dump_grammar : App
 dump_grammar = with_rules (new_app (codes "dump")) (operand (codes "image") ∷ flag (codes "objects") ∷ value_option (codes "against")
     ∷ flag (codes "all") ∷ flag (codes "secrets") ∷ value_option (codes "map") ∷ [])
 
--- `try SCRIPT [--words N] [--table FILE] [--journal C] [--transient T] [--instructions N]`
+-- `try SCRIPT [--words N] [--table FILE] [--journal C] [--transient T] [--apdu B] [--instructions N]`
 abbrev pub try_grammar : App
 try_grammar = with_rules (new_app (codes "try")) (operand (codes "script") ∷ value_option (codes "words") ∷ value_option (codes "table")
-    ∷ value_option (codes "journal") ∷ value_option (codes "transient") ∷ value_option (codes "instructions") ∷ [])
+    ∷ value_option (codes "journal") ∷ value_option (codes "transient") ∷ value_option (codes "apdu") ∷ value_option (codes "instructions") ∷ [])
 
 -- `tear IMAGE SCRIPT [--probe FILE] [--line N | --each] [--recovery D] [--part I/N] [--objects] [--why] [--map FILE] [--instructions N]`, `tear --join FILE..`
 abbrev pub tear_grammar : App
@@ -85,10 +85,10 @@ attack_grammar = with_rules (new_app (codes "attack")) (operands (codes "file") 
     ∷ value_option (codes "accept") ∷ value_option (codes "twice") ∷ flag (codes "objects") ∷ value_option (codes "map") ∷ value_option (codes "probe")
     ∷ value_option (codes "line") ∷ flag (codes "each") ∷ value_option (codes "part") ∷ value_option (codes "instructions") ∷ [])
 
--- `test FILE.. [--junit FILE] [--table FILE] [--words N] [--journal C] [--transient T] [--instructions N]`
+-- `test FILE.. [--junit FILE] [--table FILE] [--words N] [--journal C] [--transient T] [--apdu B] [--instructions N]`
 abbrev pub test_grammar : App
 test_grammar = with_rules (new_app (codes "test")) (operands (codes "file") ∷ value_option (codes "junit") ∷ value_option (codes "table")
-    ∷ value_option (codes "words") ∷ value_option (codes "journal") ∷ value_option (codes "transient") ∷ value_option (codes "instructions") ∷ [])
+    ∷ value_option (codes "words") ∷ value_option (codes "journal") ∷ value_option (codes "transient") ∷ value_option (codes "apdu") ∷ value_option (codes "instructions") ∷ [])
 
 -- the program's name alone, of whose commands none is `help`
 abbrev pub program_alone : App

@@ -37,7 +37,7 @@ plain_attack = record {
 
 -- a card of the usual size
 abbrev pub plain_size : SizeAsked
-plain_size = record { words = codes "8192"; journal = codes "256"; cells = None }
+plain_size = record { words = codes "8192"; journal = codes "256"; cells = None; buffer = None }
 
 -- cards of the usual size, and no report
 abbrev pub plain_test : TestAsked
@@ -77,9 +77,10 @@ in_order JournalTableWords words table journal = codes "--journal" ∷ journal �
 
 -- `NAME new IMAGE` asks to make exactly this image, of 8192 words, with a journal of 256 entries and the usual table; with `--words N` and
 -- `--table FILE`, of N words and with this table; with `--journal C`, with a journal of C entries; in any order of the options;
--- with `--transient T`, with T cells for the transient objects of each event
+-- with `--transient T`, with T cells for the transient objects of each event; with `--apdu B`, with an APDU buffer of B bytes
 abbrev pub TakesNews : Type 0
-TakesNews = (name image words table journal cells : Text) → IsNoFlag image → IsNoFlag words → IsNoFlag table → IsNoFlag journal → IsNoFlag cells
+TakesNews = (name image words table journal cells buffer : Text) → IsNoFlag image → IsNoFlag words → IsNoFlag table → IsNoFlag journal → IsNoFlag cells
+    → IsNoFlag buffer
     → (request_of_words (name ∷ codes "new" ∷ image ∷ []) ≡ Some (ToMake image plain_size None))
     × (request_of_words (name ∷ codes "new" ∷ image ∷ codes "--words" ∷ words ∷ codes "--table" ∷ table ∷ [])
     ≡ Some (ToMake image (record plain_size { words = words }) (Some table)))
@@ -87,17 +88,19 @@ TakesNews = (name image words table journal cells : Text) → IsNoFlag image →
     ≡ Some (ToMake image (record plain_size { words = words }) (Some table)))
     × ((order : NewOrder) → request_of_words (name ∷ codes "new" ∷ image ∷ in_order order words table journal) ≡ Some (ToMake image (record plain_size { words = words; journal = journal }) (Some table)))
     × (request_of_words (name ∷ codes "new" ∷ image ∷ codes "--transient" ∷ cells ∷ []) ≡ Some (ToMake image (record plain_size { cells = Some cells }) None))
+    × (request_of_words (name ∷ codes "new" ∷ image ∷ codes "--apdu" ∷ buffer ∷ []) ≡ Some (ToMake image (record plain_size { buffer = Some buffer }) None))
 
 -- `NAME try SCRIPT` asks to try exactly this script on a card of 8192 words with the usual table; with `--table FILE`, with this table;
 -- with `--words N`, in either order of the options, on one of N words; with `--transient T`, on one with T cells for the transient objects of each
--- event
+-- event; with `--apdu B`, on one with an APDU buffer of B bytes
 abbrev pub TakesTries : Type 0
-TakesTries = (name script words table cells : Text) → IsNoFlag script → IsNoFlag words → IsNoFlag table → IsNoFlag cells
+TakesTries = (name script words table cells buffer : Text) → IsNoFlag script → IsNoFlag words → IsNoFlag table → IsNoFlag cells → IsNoFlag buffer
     → (request_of_words (name ∷ codes "try" ∷ script ∷ []) ≡ Some (ToTry script plain_size None None))
     × (request_of_words (name ∷ codes "try" ∷ script ∷ codes "--table" ∷ table ∷ []) ≡ Some (ToTry script plain_size (Some table) None))
     × (request_of_words (name ∷ codes "try" ∷ script ∷ codes "--table" ∷ table ∷ codes "--words" ∷ words ∷ []) ≡ Some (ToTry script (record plain_size { words = words }) (Some table) None))
     × (request_of_words (name ∷ codes "try" ∷ script ∷ codes "--words" ∷ words ∷ codes "--table" ∷ table ∷ []) ≡ Some (ToTry script (record plain_size { words = words }) (Some table) None))
     × (request_of_words (name ∷ codes "try" ∷ script ∷ codes "--transient" ∷ cells ∷ []) ≡ Some (ToTry script (record plain_size { cells = Some cells }) None None))
+    × (request_of_words (name ∷ codes "try" ∷ script ∷ codes "--apdu" ∷ buffer ∷ []) ≡ Some (ToTry script (record plain_size { buffer = Some buffer }) None None))
 
 -- `NAME tear IMAGE SCRIPT` asks to cut the last command of exactly this script over this image; with `--probe FILE`, `--line N` or both,
 -- in this order, with this probe, and the command in this line; with `--each`, after a probe or without one, each command; with

@@ -63,6 +63,7 @@ fn size_options<'a>(values: &ArgMatches<'a>) -> SizeOptions<'a>
         words: value_of(values, "words").unwrap_or(USUAL_WORDS),
         journal: value_of(values, "journal").unwrap_or(USUAL_JOURNAL),
         cells: value_of(values, "transient"),
+        buffer: value_of(values, "apdu"),
     }
 }
 

@@ -64,6 +64,12 @@ const TRANSIENT: Entry<'static> = Entry {
     help: "Cells for the transient objects of each event, 2048 to 16384 [default: 2048]",
 };
 
+const APDU: Entry<'static> = Entry {
+    kind: Kind::Value,
+    name: "apdu",
+    help: "Bytes of the APDU buffer, 261 to 32767: above 261 commands may have extended length [default: 261]",
+};
+
 const INSTRUCTIONS: Entry<'static> = Entry {
     kind: Kind::Value,
     name: "instructions",
@@ -255,7 +261,7 @@ pub(crate) struct Usage<'a> {
 const NEW: Usage<'static> = Usage {
     name: "new",
     about: "Makes the image of a new card, in place of any file of that name",
-    entries: &[IMAGE, WORDS, TABLE, JOURNAL, TRANSIENT],
+    entries: &[IMAGE, WORDS, TABLE, JOURNAL, TRANSIENT, APDU],
 };
 
 const RUN: Usage<'static> = Usage {
@@ -284,7 +290,7 @@ const DUMP: Usage<'static> = Usage {
 const TRY: Usage<'static> = Usage {
     name: "try",
     about: "Carries out a script on a new card in memory",
-    entries: &[SCRIPT, WORDS, TABLE, JOURNAL, TRANSIENT, INSTRUCTIONS],
+    entries: &[SCRIPT, WORDS, TABLE, JOURNAL, TRANSIENT, APDU, INSTRUCTIONS],
 };
 
 const TEAR: Usage<'static> = Usage {
@@ -327,7 +333,16 @@ const ATTACK: Usage<'static> = Usage {
 const TEST: Usage<'static> = Usage {
     name: "test",
     about: "Says which rows of files hold, on new cards in memory",
-    entries: &[ROWS, JUNIT, TABLE, WORDS, JOURNAL, TRANSIENT, INSTRUCTIONS],
+    entries: &[
+        ROWS,
+        JUNIT,
+        TABLE,
+        WORDS,
+        JOURNAL,
+        TRANSIENT,
+        APDU,
+        INSTRUCTIONS,
+    ],
 };
 
 /// The program's commands.

@@ -90,6 +90,8 @@ pub struct SizeOptions<'a> {
     pub journal: &'a str,
     /// The cells for the transient objects of each event, a decimal number, or as many as are usual.
     pub cells: Option<&'a str>,
+    /// The bytes of its APDU buffer, a decimal number, or as many as are usual.
+    pub buffer: Option<&'a str>,
 }
 
 /// The cards that answer rows, and the report.

@@ -24,7 +24,7 @@ use std::alloc::{AllocError, Global};
 #[derive(Drop)]
 pub(crate) struct AtCommand {
     begun: BegunScript<MemStore>,
-    command: ArrayVec<u8, 262>,
+    command: ArrayVec<u8, 65545>,
 }
 
 /// The card of a copy of these words at a command. Nothing where its line is no command that a line feed ends, or where the lines before it

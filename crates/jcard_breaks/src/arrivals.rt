@@ -283,11 +283,19 @@ fn push_static(text: &mut Text, machine: &Machine<'_>, package_number: u8, membe
     text.push(b".");
     text.push(member.field.name);
     text.push(b": ");
-    match member.field.kind {
-        b"boolean" => push_boolean(text, first != 0),
-        b"byte" => text.push_signed(i16::from(first.cast_signed())),
-        b"short" => text.push_signed(i16::from_be_bytes([first, second])),
-        _ => push_reference(text, u16::from_be_bytes([first, second])),
-    }
+    push_of_kind(text, member.field.kind, first, second);
     text.push(b"\n");
+}
+
+// The value of a field of a type, which begins with these bytes.
+fn push_of_kind(text: &mut Text, kind: &[u8], first: u8, second: u8) {
+    if kind == b"boolean".as_slice() {
+        push_boolean(text, first != 0);
+    } else if kind == b"byte".as_slice() {
+        text.push_signed(i16::from(first.cast_signed()));
+    } else if kind == b"short".as_slice() {
+        text.push_signed(i16::from_be_bytes([first, second]));
+    } else {
+        push_reference(text, u16::from_be_bytes([first, second]));
+    }
 }

@@ -13,7 +13,7 @@ use jc_opcodes::instr::{
     FieldOp, Instr, InvokeOp, LocalOp, ObjectOp, ReturnOp, StackOp, ValueType,
 };
 use jc_platform::kinds::Answer;
-use jc_platform::names::{MethodKind, PlatformMethod};
+use jc_platform::names::{MethodKind, PlatformMethod, SystemMethod};
 use jc_transient::ClassWord;
 use jcard_script::static_image::StaticImage;
 use std::alloc::{AllocError, Global};
@@ -66,17 +66,20 @@ impl<'a> Machine<'a> {
 
     /// A step is about to be carried out.
     pub(crate) fn arrive(&mut self, number: usize, step: &Step) -> Result<(), AllocError> {
-        let is_there = self
-            .frames
-            .as_slice()
-            .last()
-            .is_some_and(|frame| frame.spot == step.spot);
-        if !is_there {
+        if !self.is_at(&step.spot) {
             self.begin_anew(number, step)?;
         }
         match self.frames.last_mut() {
             Some(frame) => frame.agree(step.top),
             None => Ok(()),
+        }
+    }
+
+    // Whether the innermost frame stands at a spot.
+    fn is_at(&self, spot: &Spot) -> bool {
+        match self.frames.as_slice().last() {
+            Some(frame) => frame.spot == *spot,
+            None => false,
         }
     }
 
@@ -428,18 +431,17 @@ impl<'a> Machine<'a> {
         platform.method_by_token(interface, MethodKind::Interface, token)
     }
 
-    // A call of the platform may begin a transaction or end it, as its name says.
+    // A call of the platform may begin a transaction or end it.
     fn note_transaction(&mut self, named: Option<PlatformMethod>) -> Result<(), AllocError> {
-        let Some(named) = named else {
-            return Ok(());
-        };
-        match named.name() {
-            b"beginTransaction" => self.statics.begin(),
-            b"commitTransaction" => {
+        match named {
+            Some(PlatformMethod::System(SystemMethod::JcSystemBeginTransaction)) => {
+                self.statics.begin()
+            }
+            Some(PlatformMethod::System(SystemMethod::JcSystemCommitTransaction)) => {
                 self.statics.commit();
                 Ok(())
             }
-            b"abortTransaction" => {
+            Some(PlatformMethod::System(SystemMethod::JcSystemAbortTransaction)) => {
                 self.statics.abort();
                 Ok(())
             }

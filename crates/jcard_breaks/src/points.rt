@@ -1,7 +1,7 @@
 //! Places of the code that a run is asked to stop at, and what is wrong with them.
 
 use crate::remarks::remark_on;
-use jcard_why::maps::{number_of, split_place};
+use jcard_why::maps::{cut_once, is_line_feed, is_space, number_of, split_place};
 use jcard_why::sources::file_of;
 use std::alloc::{AllocError, Global};
 
@@ -36,7 +36,7 @@ pub fn points_of(alloc: Global, map: &[u8], asked: &[u8]) -> Result<Points, Allo
         points: Vec::new(alloc),
         remarks: Vec::new(alloc),
     };
-    for word in asked.split(|byte| *byte == b',') {
+    for word in asked.split(is_comma) {
         let before = found.points.len();
         push_points(alloc, &mut found.points, map, word)?;
         if found.points.len() == before {
@@ -47,6 +47,10 @@ pub fn points_of(alloc: Global, map: &[u8], asked: &[u8]) -> Result<Points, Allo
     Ok(found)
 }
 
+fn is_comma(byte: &u8) -> bool {
+    *byte == b','
+}
+
 fn push_points(
     alloc: Global,
     points: &mut Vec<Point>,
@@ -55,7 +59,7 @@ fn push_points(
 ) -> Result<(), AllocError> {
     let mut aid: &[u8] = b"";
     let mut method: &[u8] = b"";
-    for line in map.split(|byte| *byte == b'\n') {
+    for line in map.split(is_line_feed) {
         if let Some(other) = line.strip_prefix(b"package ".as_slice()) {
             aid = other;
             method = b"";
@@ -80,7 +84,7 @@ fn push_places(
     places: &[u8],
     number: u32,
 ) -> Result<(), AllocError> {
-    for word in places.split(|byte| *byte == b' ') {
+    for word in places.split(is_space) {
         if let Some((offset, line)) = split_place(word) {
             if line == number {
                 push_point(alloc, points, aid, Place::Instruction(offset))?;
@@ -103,26 +107,27 @@ fn push_point(
 
 /// The offset and the name in a line that states a method.
 pub(crate) fn method_in(line: &[u8]) -> Option<(u32, &[u8])> {
-    let at = line.iter().position(|byte| *byte == b' ')?;
-    Some((number_of(&line[..at])?, &line[at + 1..]))
+    let (offset, name) = cut_once(line, b' ')?;
+    Some((number_of(offset)?, name))
 }
 
 /// Whether a method is named by a word: by its name as the map has it, or by the end of what stands before its parameters.
 pub(crate) fn is_method(name: &[u8], word: &[u8]) -> bool {
-    let end = name
-        .iter()
-        .position(|byte| *byte == b'(')
-        .unwrap_or(name.len());
-    let Some(bare) = name.get(..end) else {
-        return false;
-    };
-    name == word || ends_with(bare, word, b'.')
+    name == word || ends_with(bare_name(name), word, b'.')
+}
+
+// What stands before the parameters.
+fn bare_name(name: &[u8]) -> &[u8] {
+    match cut_once(name, b'(') {
+        Some((bare, _parameters)) => bare,
+        None => name,
+    }
 }
 
 /// The file and the line in a word `FILE:LINE`.
 pub(crate) fn file_and_line(word: &[u8]) -> Option<(&[u8], u32)> {
-    let at = word.iter().position(|byte| *byte == b':')?;
-    Some((&word[..at], number_of(&word[at + 1..])?))
+    let (file, line) = cut_once(word, b':')?;
+    Some((file, number_of(line)?))
 }
 
 // The line in a word `FILE:LINE`, where the method stands in that file.

@@ -1,7 +1,7 @@
 //! What is reported of a place that the map does not have.
 
 use crate::points::{file_and_line, is_file, method_in};
-use jcard_why::maps::split_place;
+use jcard_why::maps::{is_line_feed, is_space, split_place};
 use jcard_why::sources::file_of;
 use jcard_why::text::Text;
 use std::alloc::{AllocError, Global};
@@ -41,7 +41,7 @@ fn next_line(map: &[u8], wanted: &[u8], above: u32) -> Option<u32> {
     let mut aid: &[u8] = b"";
     let mut method: &[u8] = b"";
     let mut found: Option<u32> = None;
-    for line in map.split(|byte| *byte == b'\n') {
+    for line in map.split(is_line_feed) {
         if let Some(other) = line.strip_prefix(b"package ".as_slice()) {
             aid = other;
             method = b"";
@@ -65,7 +65,7 @@ fn is_in_file(map: &[u8], aid: &[u8], method: &[u8], wanted: &[u8]) -> bool {
 
 fn first_above(places: &[u8], above: u32) -> Option<u32> {
     let mut found: Option<u32> = None;
-    for word in places.split(|byte| *byte == b' ') {
+    for word in places.split(is_space) {
         if let Some((_, line)) = split_place(word) {
             if line > above {
                 found = earlier(found, Some(line));

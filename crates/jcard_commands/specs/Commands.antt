@@ -46,7 +46,7 @@ IsRunWith image script asked ended text deeds =
 
 -- the size that these texts say
 abbrev pub size_by : ImageSize → SizeAsked
-size_by size = record { words = size.words.now; journal = size.journal.now; cells = text_of size.cells }
+size_by size = record { words = size.words.now; journal = size.journal.now; cells = text_of size.cells; buffer = text_of size.buffer }
 
 -- the cards and the report that a test is asked for
 abbrev pub IsAskedAs : TestAsked → Asked → Type 0
@@ -63,13 +63,13 @@ IsRefused fault ended text deeds = (ended ≡ Err fault) × (text ≡ []) × (de
 
 -- what is asked for was done to this end, this text was written, and this was done with files; no files are not joined
 abbrev pub IsDone : CommandLineRequest → Result Unit Fault → List ℕ → List FileDeed → Type 0
-IsDone (ToMake image size table) ended text deeds = IsNew image size.words size.journal size.cells table ended deeds × (text ≡ [])
+IsDone (ToMake image size table) ended text deeds = IsNew image size.words size.journal size.cells size.buffer table ended deeds × (text ≡ [])
 IsDone (ToRun image script asked) ended text deeds = IsRunWith image script asked ended text deeds
 IsDone (ToList image) ended text deeds = IsDump image ended text deeds
 IsDone (ToListObjects image all secrets map) ended text deeds = IsToldBy map (IsObjectsDump image (record { all = all; secrets = secrets })) ended text deeds
 IsDone (ToCompare image other all secrets map) ended text deeds = IsToldBy map (IsComparison image other (record { all = all; secrets = secrets })) ended text deeds
 IsDone (ToTry script size table instructions) ended text deeds =
-    IsTrial (budget_of instructions) script size.words size.journal size.cells table ended text deeds
+    IsTrial (budget_of instructions) script size.words size.journal size.cells size.buffer table ended text deeds
 IsDone (ToTear image script asked) ended text deeds = IsToldBy asked.map (IsTearWith image script asked) ended text deeds
 IsDone (ToAttack image script asked) ended text deeds = IsToldBy asked.map (IsAttackWith image script asked) ended text deeds
 IsDone (ToJoin []) ended text deeds = IsRefused BadCommandLine ended text deeds

@@ -27,10 +27,10 @@ IsTriedOn budget script n room table ended text opened = ((fault : Fault) × (en
 
 -- a script was tried, on a card of the extent that these texts say: no image has it, and no file was asked for; or after that the table was not read,
 -- or it is none, and no other file was asked for; or the script was tried, and its file was the only other
-abbrev pub IsTrial : ℕ → List ℕ → List ℕ → List ℕ → Option (List ℕ) → Option (List ℕ) → Result Unit Fault → List ℕ → List FileDeed → Type 0
-IsTrial budget script words journal cells table ended text deeds =
-    ((fault : Fault) × (ended ≡ Err fault) × IsNoExtent words journal cells fault × (text ≡ []) × (deeds ≡ []))
-    ⊎ ((extent : Extent) × IsExtent words journal cells extent × (((fault : Fault) × (ended ≡ Err fault) × (text ≡ []) × IsNoPlatform table fault deeds)
+abbrev pub IsTrial : ℕ → List ℕ → List ℕ → List ℕ → Option (List ℕ) → Option (List ℕ) → Option (List ℕ) → Result Unit Fault → List ℕ → List FileDeed → Type 0
+IsTrial budget script words journal cells buffer table ended text deeds =
+    ((fault : Fault) × (ended ≡ Err fault) × IsNoExtent words journal cells buffer fault × (text ≡ []) × (deeds ≡ []))
+    ⊎ ((extent : Extent) × IsExtent words journal cells buffer extent × (((fault : Fault) × (ended ≡ Err fault) × (text ≡ []) × IsNoPlatform table fault deeds)
     ⊎ ((platform : List ℕ) × (line : ℕ) × (ended ≡ Err (BadTable line)) × IsPlatform table platform deeds × Reads platform (Err (BadLine line)) × (text ≡ []))
     ⊎ ((platform : List ℕ) × (reads : List FileDeed) × (opened : Result (Option (List ℕ)) Fault) × IsPlatform table platform reads × IsTable platform
     × IsTriedOn budget script extent.count extent.room platform ended text opened

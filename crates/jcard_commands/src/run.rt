@@ -232,6 +232,7 @@ fn image_size<'n>(size: SizeOptions<'n>) -> ImageSize<'n>
         words: size.words,
         journal: size.journal,
         cells: size.cells,
+        buffer: size.buffer,
     }
 }
 

@@ -54,7 +54,7 @@ pub fn try_script<'n, D: Disk, W: TextOut, M: Remarks>(
         × Appends (W.contents out.old) (W.contents out.new) text
         × IsTrial asked.entry.budget asked.entry.script.now asked.entry.size.words.now
         asked.entry.size.journal.now (text_of asked.entry.size.cells)
-        (text_of asked.entry.table) result text deeds
+        (text_of asked.entry.size.buffer) (text_of asked.entry.table) result text deeds
         × D.does disk.old deeds disk.new }
     ensures writes { W.failures out.new ≡ failures_after (W.failures out.old)
         (is_unwritten result) }

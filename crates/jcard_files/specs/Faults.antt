@@ -12,7 +12,7 @@ use Rattle.jcard_files.specs.declared.fault.Fault.TheVariants.{BadCommandLine, N
 use Rattle.jcard_files.specs.declared.fault.Fault.TheVariants.{CannotWrite, NotReplaced, ImageInUse, BadImage, BadCommand, ScriptTooLong, WriteFailed}
 use Rattle.jcard_files.specs.declared.fault.Fault.TheVariants.{Down, NoCommand, TooManyCuts, NotAllOrNothing, TooManyInstructions, FaultAccepted}
 use Rattle.jcard_files.specs.declared.fault.Fault.TheVariants.{CannotInclude, RowsFailed, OtherAnswer, NothingExpected}
-use Rattle.jcard_files.specs.declared.fault.Fault.TheVariants.{BadCut, BadJournal, BadTransient, BadProbeCommand, ProbeTooLong, BadPart, CutMissing, CutTwice, OtherPart, OtherSweep, ShareMissing, ShareTwice, BadShare}
+use Rattle.jcard_files.specs.declared.fault.Fault.TheVariants.{BadApdu, BadCut, BadJournal, BadTransient, BadProbeCommand, ProbeTooLong, BadPart, CutMissing, CutTwice, OtherPart, OtherSweep, ShareMissing, ShareTwice, BadShare}
 
 -- the exit status
 abbrev pub status_of : Result Unit Fault → ℕ
@@ -22,6 +22,7 @@ status_of (Err NoMemory) = 1
 status_of (Err BadWords) = 1
 status_of (Err BadJournal) = 1
 status_of (Err BadTransient) = 1
+status_of (Err BadApdu) = 1
 status_of (Err (BadTable line)) = 1
 status_of (Err ImageTooSmall) = 1
 status_of (Err (CannotRead path)) = 1
@@ -104,6 +105,7 @@ line_of NoMemory = codes "jcard: no memory\n"
 line_of BadWords = codes "jcard: words must be 4096 to 65535\n"
 line_of BadJournal = codes "jcard: journal must be 16 to 1024\n"
 line_of BadTransient = codes "jcard: transient must be 2048 to 16384\n"
+line_of BadApdu = codes "jcard: apdu must be 261 to 32767\n"
 line_of (BadTable line) = codes "jcard: bad table line " ++ decimal line ++ codes "\n"
 line_of ImageTooSmall = codes "jcard: image too small\n"
 line_of (CannotRead path) = unread_text path.now

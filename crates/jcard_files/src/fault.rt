@@ -53,6 +53,8 @@ pub enum Fault<'a> {
     BadJournal,
     /// The transient objects of each event cannot have this many cells.
     BadTransient,
+    /// The APDU buffer cannot have this many bytes.
+    BadApdu,
     /// This line of the platform table, counted from 1, is bad; or 0.
     BadTable(u16),
     /// The platform table and the objects of the runtime environment don't fit.
@@ -153,6 +155,7 @@ fn write_line<W: TextOut>(fault: Fault, out: &mut W) -> Result<(), WriteFailed>
         Fault::BadWords => write_all(out, b"jcard: words must be 4096 to 65535\n"),
         Fault::BadJournal => write_all(out, b"jcard: journal must be 16 to 1024\n"),
         Fault::BadTransient => write_all(out, b"jcard: transient must be 2048 to 16384\n"),
+        Fault::BadApdu => write_all(out, b"jcard: apdu must be 261 to 32767\n"),
         Fault::BadTable(n) => write_parts(
             out,
             b"jcard: bad table line ",

@@ -6,7 +6,7 @@ use Rattle.jc_words.specs.Image.{IsCapacity}
 use Rattle.jc_words.specs.Layout.{least_size, magic, magic_address}
 use Rattle.jc_words.specs.Refusals.{Refusals}
 use Rattle.jc_words.specs.Stores.{MemStoreValue, StoreValue}
-use Rattle.jc_transient.specs.State.{AreSizes, cells_told, most_cells, usual_cells}
+use Rattle.jc_transient.specs.State.{AreSizes, buffer_size, buffer_told, cells_told, most_buffer, most_cells, told_or, usual_cells}
 use Rattle.jc_image.specs.declared.laying.ImageRoom.{ImageRoom}
 use Rattle.jc_platform.specs.declared.fault.TableFault.TheVariants.{BadTable as BadLine}
 use Rattle.jc_platform.proofs.OneAnswer.{no_fault}
@@ -14,7 +14,7 @@ use Rattle.jc_card.specs.Formatting.{Formats, IsStoppedFormat, IsTooSmall}
 use Rattle.jc_card.specs.declared.formatting.FormatFault.{FormatFault}
 use Rattle.jc_card.specs.declared.formatting.FormatFault.TheVariants.{StoreDown, BadSize, BadCapacity, BadCells, BadTable, TooSmall}
 use Rattle.jcard_files.specs.FileDeeds.{untouched}
-use Rattle.jcard_images.specs.Extents.{IsCellCount}
+use Rattle.jcard_images.specs.Extents.{IsBufferLength, IsCellCount}
 use Rattle.jcard_images.specs.NewImages.{IsFormatFault, IsLaid, IsLaidInMemory, IsNewImageInMemory, IsNewImageOf, IsTable}
 use Rattle.jcard_files.specs.declared.fault.Fault.{Fault}
 use Rattle.jcard_files.specs.declared.fault.Fault.TheVariants.{ImageTooSmall}
@@ -56,23 +56,27 @@ pub stopped_words : (n : ℕ) (w v after : List ℕ) → after ≡ v → w ≡ r
 stopped_words n w v after same zeros (inl e) = inl (same ∙ (e ∙ zeros))
 stopped_words n w v after same zeros (inr h) = inr (subst (λ (x : List ℕ). slice_index x magic_address ≢ magic) (sym same) h)
 
--- the sizes that a word says are those of a text, or the usual ones
-are_usual : AreSizes 0 0
-are_usual = record { cells_least = lit≤ tt; cells_most = lit≤ tt; buffer_least = lit≤ tt; buffer_most = lit≤ tt }
+-- the sizes that words say are those of texts, or the usual ones
+told_is : (usual n : ℕ) → 0 < usual → usual ≤ n → told_or usual n ≡ n
+told_is usual n some low = ap (λ b. if b then usual else n) (ne_eqb n 0 (λ e. omega (arith, e, low, some)))
 
-cells_are : (n : ℕ) → usual_cells ≤ n → cells_told n ≡ n
-cells_are n low = ap (λ b. if b then usual_cells else n) (ne_eqb n 0 (λ e. omega (arith, e, low)))
+cells_told_within : (text : Option (List ℕ)) (n : ℕ) → IsCellCount text n → (usual_cells ≤ cells_told n) × (cells_told n ≤ most_cells)
+cells_told_within None n none = subst (λ k. (usual_cells ≤ cells_told k) × (cells_told k ≤ most_cells)) (sym none) (lit≤ tt, lit≤ tt)
+cells_told_within (Some text) n count =
+    let is = told_is usual_cells n (omega arith) count.low in
+    (subst (λ k. usual_cells ≤ k) (sym is) count.low, subst (λ k. k ≤ most_cells) (sym is) count.high)
 
-pub are_sizes_told : (text : Option (List ℕ)) (n : ℕ) → IsCellCount text n → AreSizes n 0
-are_sizes_told None n none = subst (λ k. AreSizes k 0) (sym none) are_usual
-are_sizes_told (Some text) n count =
-    let is = cells_are n count.low in
-    record {
-      cells_least = subst (λ k. usual_cells ≤ k) (sym is) count.low;
-      cells_most = subst (λ k. k ≤ most_cells) (sym is) count.high;
-      buffer_least = are_usual.buffer_least;
-      buffer_most = are_usual.buffer_most;
-    }
+buffer_told_within : (text : Option (List ℕ)) (n : ℕ) → IsBufferLength text n → (buffer_size ≤ buffer_told n) × (buffer_told n ≤ most_buffer)
+buffer_told_within None n none = subst (λ k. (buffer_size ≤ buffer_told k) × (buffer_told k ≤ most_buffer)) (sym none) (lit≤ tt, lit≤ tt)
+buffer_told_within (Some text) n count =
+    let is = told_is buffer_size n (omega arith) count.low in
+    (subst (λ k. buffer_size ≤ k) (sym is) count.low, subst (λ k. k ≤ most_buffer) (sym is) count.high)
+
+pub are_sizes_told : (cells buffer : Option (List ℕ)) (n b : ℕ) → IsCellCount cells n → IsBufferLength buffer b → AreSizes n b
+are_sizes_told cells buffer n b count long =
+    let of_cells = cells_told_within cells n count in
+    let of_buffer = buffer_told_within buffer b long in
+    record { cells_least = of_cells.0; cells_most = of_cells.1; buffer_least = of_buffer.0; buffer_most = of_buffer.1 }
 
 -- a format in memory that ended by a fault
 pub not_in_memory : {S : Type 0} (words : S → List ℕ) (down : S → Bool) (passed : S → ℕ) (refusals : S → Refusals) (old new : S) (room : ImageRoom)

@@ -2,9 +2,9 @@
 use Rattle.std.specs.Prelude.{ℕ, ◌≡◌, ◌≤◌, List, Option, None, Some}
 use Rattle.std.specs.Str.Parse.{IsNumeral, digits_value}
 use Rattle.jc_words.specs.Layout.{least_capacity, least_size, most_capacity}
-use Rattle.jc_transient.specs.State.{most_cells, usual_cells}
+use Rattle.jc_transient.specs.State.{buffer_size, most_buffer, most_cells, usual_cells}
 use Rattle.jcard_files.specs.declared.fault.Fault.{Fault}
-use Rattle.jcard_files.specs.declared.fault.Fault.TheVariants.{BadJournal, BadTransient, BadWords}
+use Rattle.jcard_files.specs.declared.fault.Fault.TheVariants.{BadApdu, BadJournal, BadTransient, BadWords}
 use Rattle.jcard_images.specs.declared.extent.Extent.{Extent}
 
 -- the text is decimal digits, and spells a number that is neither below the least nor above the most
@@ -27,17 +27,24 @@ abbrev pub IsCellCount : Option (List ℕ) → ℕ → Type 0
 IsCellCount None n = n ≡ 0
 IsCellCount (Some text) n = IsNumberAmong usual_cells most_cells text n
 
--- the extent of an image with this many words, a journal of this many entries, this many cells, and an APDU buffer of the usual length
-pub record IsExtent (words journal : List ℕ) (cells : Option (List ℕ)) (extent : Extent) : Type 0 where
+-- the text says how many bytes the APDU buffer has, 261 to 32767; with none the word that says it is 0
+abbrev pub IsBufferLength : Option (List ℕ) → ℕ → Type 0
+IsBufferLength None n = n ≡ 0
+IsBufferLength (Some text) n = IsNumberAmong buffer_size most_buffer text n
+
+-- the extent of an image with this many words, a journal of this many entries, this many cells, and an APDU buffer of this many bytes
+pub record IsExtent (words journal : List ℕ) (cells buffer : Option (List ℕ)) (extent : Extent) : Type 0 where
   pub count : IsWordCount words extent.count
   pub capacity : IsJournalCapacity journal extent.room.capacity
   pub cells_said : IsCellCount cells extent.room.cells
-  pub buffer : extent.room.buffer ≡ 0
+  pub buffer_said : IsBufferLength buffer extent.room.buffer
 
 -- the first text is no number of words of an image; or it is, and the second is no number of entries of a journal; or both are, and the third is no number
--- of cells
-abbrev pub IsNoExtent : List ℕ → List ℕ → Option (List ℕ) → Fault → Type 0
-IsNoExtent words journal cells BadWords = (n : ℕ) → IsWordCount words n → ⊥
-IsNoExtent words journal cells BadJournal = ((n : ℕ) × IsWordCount words n) × ((c : ℕ) → IsJournalCapacity journal c → ⊥)
-IsNoExtent words journal cells BadTransient = ((n : ℕ) × IsWordCount words n) × ((c : ℕ) × IsJournalCapacity journal c) × ((m : ℕ) → IsCellCount cells m → ⊥)
-IsNoExtent words journal cells other = ⊥
+-- of cells; or all are, and the fourth is no length of an APDU buffer
+abbrev pub IsNoExtent : List ℕ → List ℕ → Option (List ℕ) → Option (List ℕ) → Fault → Type 0
+IsNoExtent words journal cells buffer BadWords = (n : ℕ) → IsWordCount words n → ⊥
+IsNoExtent words journal cells buffer BadJournal = ((n : ℕ) × IsWordCount words n) × ((c : ℕ) → IsJournalCapacity journal c → ⊥)
+IsNoExtent words journal cells buffer BadTransient = ((n : ℕ) × IsWordCount words n) × ((c : ℕ) × IsJournalCapacity journal c) × ((m : ℕ) → IsCellCount cells m → ⊥)
+IsNoExtent words journal cells buffer BadApdu = ((n : ℕ) × IsWordCount words n) × ((c : ℕ) × IsJournalCapacity journal c) × ((m : ℕ) × IsCellCount cells m)
+    × ((b : ℕ) → IsBufferLength buffer b → ⊥)
+IsNoExtent words journal cells buffer other = ⊥

@@ -74,9 +74,9 @@ IsMadeFrom image extent text ended deeds =
 
 -- the image with this name was made, of the extent that these texts say, from the platform table that is named last, or the usual one; or no image has
 -- this extent, and no file was asked for; or after that the table was not read, and no other file was asked for
-abbrev pub IsNew : List ℕ → List ℕ → List ℕ → Option (List ℕ) → Option (List ℕ) → Result Unit Fault → List FileDeed → Type 0
-IsNew image words journal cells table ended deeds =
-    ((fault : Fault) × (ended ≡ Err fault) × IsNoExtent words journal cells fault × (deeds ≡ []))
-    ⊎ ((extent : Extent) × IsExtent words journal cells extent × (((fault : Fault) × (ended ≡ Err fault) × IsNoPlatform table fault deeds)
+abbrev pub IsNew : List ℕ → List ℕ → List ℕ → Option (List ℕ) → Option (List ℕ) → Option (List ℕ) → Result Unit Fault → List FileDeed → Type 0
+IsNew image words journal cells buffer table ended deeds =
+    ((fault : Fault) × (ended ≡ Err fault) × IsNoExtent words journal cells buffer fault × (deeds ≡ []))
+    ⊎ ((extent : Extent) × IsExtent words journal cells buffer extent × (((fault : Fault) × (ended ≡ Err fault) × IsNoPlatform table fault deeds)
     ⊎ ((text : List ℕ) × (reads then : List FileDeed) × IsPlatform table text reads × IsMadeFrom image extent text ended then
     × (deeds ≡ reads ++ then))))

@@ -1,30 +1,33 @@
 //! How large a new image is to be.
 ghost use Rattle.std.specs.Prelude.{ℕ, ◌≡◌, List, None, IfSome, MatchResult, option_map};
 ghost use Rattle.std.specs.Borrow.{Bor};
-ghost use Rattle.jcard_images.specs.Extents.{IsCellCount, IsExtent, IsJournalCapacity, IsNoExtent, IsNumberAmong, IsWordCount};
+ghost use Rattle.jcard_images.specs.Extents.{IsBufferLength, IsCellCount, IsExtent, IsJournalCapacity, IsNoExtent, IsNumberAmong, IsWordCount};
 
 use crate::extent::Extent;
 use jc_image::ImageRoom;
-use jc_transient::{MOST_CELLS, USUAL_CELLS};
+use jc_transient::{BUFFER_CELLS, MOST_BUFFER, MOST_CELLS, USUAL_CELLS};
 use jc_words::layout::{LEAST_CAPACITY, LEAST_SIZE, MOST_CAPACITY};
 use jcard_files::fault::Fault;
 
 /// How large a new image is to be, in decimal numbers: its words, the entries of its journal, and the cells for the transient objects
-/// of each event, or as many as are usual.
+/// of each event and the bytes of the APDU buffer, or as many as are usual.
 #[derive(Clone, Copy, Drop)]
 pub struct ImageSize<'n> {
     pub words: &'n str,
     pub journal: &'n str,
     pub cells: Option<&'n str>,
+    pub buffer: Option<&'n str>,
 }
 
-/// The extent of an image of this size; `BadWords`, `BadJournal` or `BadTransient` where no image has it, in this order.
+/// The extent of an image of this size; `BadWords`, `BadJournal`, `BadTransient` or `BadApdu` where no image has it, in this order.
 pub fn extent_of<'n>(size: ImageSize<'n>) -> Result<Extent, Fault<'n>>
     ensures { MatchResult result
         (λ extent. IsExtent size.entry.words.now size.entry.journal.now
-        (option_map (λ (text : Bor (List ℕ)). text.now) size.entry.cells) extent)
+        (option_map (λ (text : Bor (List ℕ)). text.now) size.entry.cells)
+        (option_map (λ (text : Bor (List ℕ)). text.now) size.entry.buffer) extent)
         (λ fault. IsNoExtent size.entry.words.now size.entry.journal.now
-        (option_map (λ (text : Bor (List ℕ)). text.now) size.entry.cells) fault) }
+        (option_map (λ (text : Bor (List ℕ)). text.now) size.entry.cells)
+        (option_map (λ (text : Bor (List ℕ)). text.now) size.entry.buffer) fault) }
 {
     let Some(count) = word_count(size.words) else {
         return Err(Fault::BadWords);
@@ -35,10 +38,13 @@ pub fn extent_of<'n>(size: ImageSize<'n>) -> Result<Extent, Fault<'n>>
     let Some(cells) = cell_count(size.cells) else {
         return Err(Fault::BadTransient);
     };
+    let Some(buffer) = buffer_length(size.buffer) else {
+        return Err(Fault::BadApdu);
+    };
     let room = ImageRoom {
         capacity,
         cells,
-        buffer: 0,
+        buffer,
     };
     Ok(Extent { count, room })
 }
@@ -69,6 +75,19 @@ fn cell_count(text: Option<&str>) -> Option<u16>
 {
     match text {
         Some(text) => number_among(text, USUAL_CELLS, MOST_CELLS),
+        None => Some(0),
+    }
+}
+
+// The word that says how many bytes the APDU buffer has: the number that a text spells, if it may be said, and 0 where there is no text.
+fn buffer_length(text: Option<&str>) -> Option<u16>
+    ensures some { IfSome result (λ buffer. IsBufferLength
+        (option_map (λ (text : Bor (List ℕ)). text.now) text.entry) buffer) }
+    ensures none { result ≡ None → (buffer : ℕ) → IsBufferLength
+        (option_map (λ (text : Bor (List ℕ)). text.now) text.entry) buffer → ⊥ }
+{
+    match text {
+        Some(text) => number_among(text, BUFFER_CELLS, MOST_BUFFER),
         None => Some(0),
     }
 }

@@ -35,6 +35,7 @@ pub fn make_image<'n, D: Disk, M: Remarks>(
 ) -> Result<(), Fault<'n>>
     ensures { (deeds : List FileDeed) × IsNew image.now size.entry.words.now size.entry.journal.now
         (option_map (λ (name : Bor (List ℕ)). name.now) size.entry.cells)
+        (option_map (λ (name : Bor (List ℕ)). name.now) size.entry.buffer)
         (option_map (λ (name : Bor (List ℕ)). name.now) table.entry) result deeds
         × D.does disk.old deeds disk.new }
 {

@@ -68,6 +68,16 @@ enum Keyword {
     Interface,
 }
 
+const KEYWORDS: [Keyword; 7] = [
+    Keyword::Extended,
+    Keyword::Random,
+    Keyword::Package,
+    Keyword::Class,
+    Keyword::Static,
+    Keyword::Virtual,
+    Keyword::Interface,
+];
+
 // The words of a line, and where they begin, from 1.
 #[derive(Clone, Copy, Drop)]
 struct Line<'t> {
@@ -87,16 +97,12 @@ struct Above<'t> {
 
 impl Keyword {
     fn of(word: &[u8]) -> Option<Keyword> {
-        match word {
-            b"extended" => Some(Keyword::Extended),
-            b"random" => Some(Keyword::Random),
-            b"package" => Some(Keyword::Package),
-            b"class" => Some(Keyword::Class),
-            b"static" => Some(Keyword::Static),
-            b"virtual" => Some(Keyword::Virtual),
-            b"interface" => Some(Keyword::Interface),
-            _ => None,
+        for keyword in &KEYWORDS {
+            if keyword.text() == word {
+                return Some(*keyword);
+            }
         }
+        None
     }
 
     // How many words its line has.
@@ -159,7 +165,7 @@ impl<'t> Line<'t> {
             length: line.len(),
         };
         let mut column = 1usize;
-        for word in line.split(|byte| *byte == b' ') {
+        for word in line.split(is_space) {
             if found.count < WORDS {
                 found.words[found.count] = word;
                 found.columns[found.count] = column;
@@ -224,7 +230,7 @@ fn places_above(table: &[u8], number: u32) -> Places {
         class: 0,
     };
     let mut at = 1u32;
-    for part in table.split(|byte| *byte == b'\n') {
+    for part in table.split(is_line_feed) {
         if at < number {
             places = places.with(Keyword::of(word_in(part, 0)), at);
         }
@@ -237,7 +243,7 @@ fn places_above(table: &[u8], number: u32) -> Places {
 fn word_at(table: &[u8], number: u32, place: usize) -> &[u8] {
     let mut found: Option<&[u8]> = None;
     let mut at = 1u32;
-    for part in table.split(|byte| *byte == b'\n') {
+    for part in table.split(is_line_feed) {
         if at == number {
             found = Some(part);
         }
@@ -253,7 +259,7 @@ fn word_at(table: &[u8], number: u32, place: usize) -> &[u8] {
 fn word_in(line: &[u8], place: usize) -> &[u8] {
     let mut found: Option<&[u8]> = None;
     let mut at = 0usize;
-    for word in line.split(|byte| *byte == b' ') {
+    for word in line.split(is_space) {
         if at == place {
             found = Some(word);
         }
@@ -269,7 +275,7 @@ fn word_in(line: &[u8], place: usize) -> &[u8] {
 fn cause_of(text: &[u8], number: u32) -> LineCause {
     let mut at = 0u32;
     let mut found: Option<&[u8]> = None;
-    for part in text.split(|byte| *byte == b'\n') {
+    for part in text.split(is_line_feed) {
         if let Some(line) = found {
             return cause_in(text, number, line);
         }
@@ -505,7 +511,7 @@ fn line_with(table: &[u8], before: u32, keyword: Keyword, name: &[u8], section: 
     let mut state = Walk::begin(section);
     let mut at = 1u32;
     let mut found = 0u32;
-    for part in table.split(|byte| *byte == b'\n') {
+    for part in table.split(is_line_feed) {
         let is_named = word_in(part, keyword.place_of_name()) == name;
         if at < before
             && found == 0
@@ -531,7 +537,7 @@ fn line_with_token(
     let mut state = Walk::begin(section);
     let mut at = 1u32;
     let mut found = 0u32;
-    for part in table.split(|byte| *byte == b'\n') {
+    for part in table.split(is_line_feed) {
         let is_same = number_of(word_in(part, 1)) == number_of(token);
         if at < before
             && found == 0
@@ -623,7 +629,7 @@ fn remark_on_all(alloc: Global, text: &[u8]) -> Result<Vec<u8>, AllocError> {
     }
     let mut missing = 0u32;
     let mut at = 1u32;
-    for part in EXAMPLE.as_bytes().split(|byte| *byte == b'\n') {
+    for part in EXAMPLE.as_bytes().split(is_line_feed) {
         if missing == 0 && is_lacking(text, part, at) {
             missing = at;
         }
@@ -666,6 +672,14 @@ fn remark_on_missing(alloc: Global, number: u32) -> Result<Vec<u8>, AllocError> 
     }
     text.extend_from_slice(b"\n")?;
     Ok(text)
+}
+
+fn is_line_feed(byte: &u8) -> bool {
+    *byte == b'\n'
+}
+
+fn is_space(byte: &u8) -> bool {
+    *byte == b' '
 }
 
 fn push_number(text: &mut Vec<u8>, number: u64) -> Result<(), AllocError> {

@@ -53,34 +53,34 @@ bad_digits line plain h =
 -- the digits that are kept spell the first bytes of the command
 pub good_digits : (line digits command : List ℕ) → IsPlain line → list_all is_hex_digit (without_spaces line) ≡ true
     → (length (without_spaces line) % 2 == 1) ≡ false
-    → digits ≡ take 524 (without_spaces line) → decode_of digits ≡ Ok command
-    → (bytes : List ℕ) × (plain_form_of line ≡ Asks (Command bytes)) × (command ≡ take 262 bytes)
+    → digits ≡ take 131090 (without_spaces line) → decode_of digits ≡ Ok command
+    → (bytes : List ℕ) × (plain_form_of line ≡ Asks (Command bytes)) × (command ≡ take 65545 bytes)
 good_digits line digits command plain all even kept e =
     let s = without_spaces line in
     let ne = eqb-false (length s % 2) 1 even in
     let two : length s % 2 ≡ 0 = omega (arith, ne) in
     let whole = decode_of-digits s two (AllPass-from_list_all is_hex_digit s all) in
     let pairs : decode_pairs 0 s ≡ Ok whole.0 = sym (decode_of-even s two) ∙ whole.1 in
-    let short = take_pairs 262 0 s whole.0 pairs in
-    let fit : length (take 524 s) % 2 ≡ 0 = even_take s two in
-    let same : decode_of digits ≡ Ok (take 262 whole.0) = ap decode_of kept ∙ decode_of-even (take 524 s) fit ∙ short in
-    (whole.0, form_plain line plain ∙ ap form_of_decoded whole.1, decode_of-same digits command (take 262 whole.0) e same)
+    let short = take_pairs 65545 0 s whole.0 pairs in
+    let fit : length (take 131090 s) % 2 ≡ 0 = even_take s two in
+    let same : decode_of digits ≡ Ok (take 65545 whole.0) = ap decode_of kept ∙ decode_of-even (take 131090 s) fit ∙ short in
+    (whole.0, form_plain line plain ∙ ap form_of_decoded whole.1, decode_of-same digits command (take 65545 whole.0) e same)
   where
-    even_take : (s : List ℕ) → length s % 2 ≡ 0 → length (take 524 s) % 2 ≡ 0
-    even_take s h = omega (arith, length-take 524 s)
+    even_take : (s : List ℕ) → length s % 2 ≡ 0 → length (take 131090 s) % 2 ≡ 0
+    even_take s h = omega (arith, length-take 131090 s)
 
 -- ---- so they do not spell nothing
 
 pub some_digits : (line digits : List ℕ) → list_all is_hex_digit (without_spaces line) ≡ true → (length (without_spaces line) % 2 == 1) ≡ false
-    → digits ≡ take 524 (without_spaces line) → (command : List ℕ) × (decode_of digits ≡ Ok command)
+    → digits ≡ take 131090 (without_spaces line) → (command : List ℕ) × (decode_of digits ≡ Ok command)
 some_digits line digits all even kept =
     let s = without_spaces line in
     let ne = eqb-false (length s % 2) 1 even in
     let two : length s % 2 ≡ 0 = omega (arith, ne) in
     let whole = decode_of-digits s two (AllPass-from_list_all is_hex_digit s all) in
     let pairs : decode_pairs 0 s ≡ Ok whole.0 = sym (decode_of-even s two) ∙ whole.1 in
-    let fit : length (take 524 s) % 2 ≡ 0 = omega (arith, length-take 524 s) in
-    (take 262 whole.0, ap decode_of kept ∙ decode_of-even (take 524 s) fit ∙ take_pairs 262 0 s whole.0 pairs)
+    let fit : length (take 131090 s) % 2 ≡ 0 = omega (arith, length-take 131090 s) in
+    (take 65545 whole.0, ap decode_of kept ∙ decode_of-even (take 131090 s) fit ∙ take_pairs 65545 0 s whole.0 pairs)
 
 -- ---- a command's bytes are bytes
 

@@ -60,14 +60,14 @@ no_word (c ∷ line) h some =
     rw (r, s, g) refl
 
 -- such a line is the command that it spells
-pub spelt : (line bytes : List ℕ) → decode_of line ≡ Ok bytes → 0 < length line → length line ≤ 524
-    → (form_of (strip_carriage_return line) ≡ Asks (Command bytes)) × (bytes ≡ take 262 bytes)
+pub spelt : (line bytes : List ℕ) → decode_of line ≡ Ok bytes → 0 < length line → length line ≤ 131090
+    → (form_of (strip_carriage_return line) ≡ Asks (Command bytes)) × (bytes ≡ take 65545 bytes)
 spelt line bytes h some few =
     let ok = decode_of-ok line bytes h in
     let all = list_all-from_AllPass is_hex_digit line ok.1 in
     let form : form_of line ≡ Asks (Command bytes) = no_word line all some ∙ form_plain line (plain_digits line all some)
     ∙ ap (λ l. form_of_decoded (decode_of l)) (spaceless line all) ∙ ap form_of_decoded h in
-    (ap form_of (no_return line all) ∙ form, sym (take_all 262 bytes (omega (arith, ok.2, few))))
+    (ap form_of (no_return line all) ∙ form, sym (take_all 65545 bytes (omega (arith, ok.2, few))))
 
 -- what holds of the one holds of the other
 pub if_some : {X : Type 0} (E : Type 0) (r : Option X) (P Q : X → Type 0) → MatchOption r E P → ((x : X) → P x → Q x) → IfSome r Q

@@ -43,13 +43,13 @@ take_step m digits next s b h room full =
 
 -- one more digit is kept while there is room
 pub digit_step : (digits next line : List ℕ) (odd : Bool) (b : ℕ) → HasDigits digits odd line → (b == 32) ≡ false → is_hex_digit b ≡ true
-    → (length digits < 524 → next ≡ digits ++ b ∷ []) → (524 ≤ length digits → next ≡ digits) → HasDigits next (not odd) (line ++ b ∷ [])
+    → (length digits < 131090 → next ≡ digits ++ b ∷ []) → (131090 ≤ length digits → next ≡ digits) → HasDigits next (not odd) (line ++ b ∷ [])
 digit_step digits next line odd b h other digit room full =
     let s = without_spaces line in
     let e = spaceless_other line b other in
     let count : length (s ++ b ∷ []) ≡ length s + 1 = length-append s (b ∷ []) in
     let parity : not odd ≡ (length (s ++ b ∷ []) % 2 == 1) = ap not h.2 ∙ sym (odd_more (length s)) ∙ ap (λ n. n % 2 == 1) (sym count) in
-    let kept : next ≡ take 524 (s ++ b ∷ []) = take_step 524 digits next s b h.1 room full in
+    let kept : next ≡ take 131090 (s ++ b ∷ []) = take_step 131090 digits next s b h.1 room full in
     rw e (all_true s b h.0 digit, kept, parity)
 
 -- ---- a carriage return at the end

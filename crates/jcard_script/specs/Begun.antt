@@ -21,7 +21,7 @@ pub record HasBegun (budget : ℕ) (before : FuseStoreValue) (script : List ℕ)
   pub carried : AreCarriedOut (ended_lines script) first (Up card) text
   pub whole : unfinished_line script ≡ []
 
--- a line, with its line feed, that is a command, of which these are the first 262 bytes
+-- a line, with its line feed, that is a command, of which these are the first 65,545 bytes
 abbrev pub IsCommandLine : List ℕ → List ℕ → Type 0
 IsCommandLine command line = (bytes : List ℕ) × (line ≡ bytes ++ 10 ∷ []) × IsUnbroken bytes × IsCommandOf command (form_of (strip_carriage_return bytes))
 

@@ -14,9 +14,9 @@ abbrev pub IsPlain : List ℕ → Type 0
 IsPlain [] = ⊥
 IsPlain (first ∷ rest) = (first == 35) ≡ false
 
--- the line has digits and spaces alone, these are its first 524 digits, and their number is odd or not
+-- the line has digits and spaces alone, these are its first 131,090 digits, and their number is odd or not
 abbrev pub HasDigits : List ℕ → Bool → List ℕ → Type 0
-HasDigits digits odd line = (list_all is_hex_digit (without_spaces line) ≡ true) × (digits ≡ take 524 (without_spaces line))
+HasDigits digits odd line = (list_all is_hex_digit (without_spaces line) ≡ true) × (digits ≡ take 131090 (without_spaces line))
     × (odd ≡ (length (without_spaces line) % 2 == 1))
 
 -- a line of this kind
@@ -30,9 +30,9 @@ IsLineOf Nonsense digits odd line = IsPlain line × (list_all is_hex_digit (with
 abbrev pub ends_in_return : List ℕ → Bool
 ends_in_return line = slice_index line (length line - 1) == 13
 
--- the form is a command, of which these are the first 262 bytes, more than any command has
+-- the form is a command, of which these are the first 65,545 bytes, more than any command has
 abbrev pub IsCommandOf : List ℕ → Form → Type 0
-IsCommandOf told form = (bytes : List ℕ) × (form ≡ Asks (Command bytes)) × (told ≡ take 262 bytes)
+IsCommandOf told form = (bytes : List ℕ) × (form ≡ Asks (Command bytes)) × (told ≡ take 65545 bytes)
 
 -- what is asked for is a form
 abbrev pub IsAsked : LineRequest → Form → Type 0

@@ -72,7 +72,7 @@ pub fn begin_script<S: WordStore + Drop>(
 }
 
 impl<S: CopyStore> BegunScript<S> {
-    /// Carries out, on a copy of the card, a line `stop K`, which is given without its line feed, and then a command, of which 262 bytes at
+    /// Carries out, on a copy of the card, a line `stop K`, which is given without its line feed, and then a command, of which 65545 bytes at
     /// most are given; and gives the copy's store. Nothing where memory for the copy is refused, or the line is another.
     pub fn cut(&self, stop: &[u8], command: &[u8]) -> Option<FuseStore<S>>
         ensures leaves { IfSome result (λ store. LeavesCut self.now stop.now command.now store) }
@@ -83,7 +83,7 @@ impl<S: CopyStore> BegunScript<S> {
 }
 
 impl<S: CopyStore + Drop> BegunScript<S> {
-    /// Carries out, on a copy of the card, a line `glitch ..`, which is given without its line feed, then a command, of which 262 bytes at most are
+    /// Carries out, on a copy of the card, a line `glitch ..`, which is given without its line feed, then a command, of which 65545 bytes at most are
     /// given, and then `glitch none`: the copy, and its response to the command. Nothing where memory for the copy is refused, the line is another, the
     /// store refuses a write, or the command opens a load.
     pub fn after(
@@ -212,9 +212,9 @@ fn glitched<S: WordStore + Drop>(
     }
 }
 
-/// The command that a line is, with its line feed: its bytes, of which 262 at most are kept. Nothing where it is none, or no line feed ends
+/// The command that a line is, with its line feed: its bytes, of which 65545 at most are kept. Nothing where it is none, or no line feed ends
 /// it.
-pub fn command_of_line(line: &[u8]) -> Option<ArrayVec<u8, 262>>
+pub fn command_of_line(line: &[u8]) -> Option<ArrayVec<u8, 65545>>
     ensures { IfSome result (λ command. IsCommandLine command.items line.now) }
 {
     let (last, bytes) = line.split_last()?;

@@ -4,11 +4,11 @@ ghost use Rattle.std.specs.Prelude.{◌≡◌};
 use arrayvec::ArrayVec;
 
 /// Compares the answers of a script with those that its comments `# = ANSWER` expect of the line before. Spaces and the case of digits
-/// do not count.
+/// do not count, nor do digits after the first 1018.
 #[derive(Drop)]
 pub struct Expectations {
-    // The last answer, without its spaces: at most 516 digits.
-    last: ArrayVec<u8, 516>,
+    // The first digits of the last answer, without its spaces.
+    last: ArrayVec<u8, 1018>,
     // Whether a line has been answered.
     is_answered: bool,
     compared: u32,
@@ -57,13 +57,13 @@ impl Expectations {
 
     // Whether the last answer is this.
     fn is_as_expected(&self, due: &[u8]) -> bool {
-        let due: ArrayVec<u8, 516> = without_spaces(due);
+        let due: ArrayVec<u8, 1018> = without_spaces(due);
         self.is_answered && due.as_slice() == self.last.as_slice()
     }
 }
 
 // A text without its spaces, in upper case.
-fn without_spaces(text: &[u8]) -> ArrayVec<u8, 516> {
+fn without_spaces(text: &[u8]) -> ArrayVec<u8, 1018> {
     let mut kept = ArrayVec::new();
     for byte in text {
         if *byte != b' ' {

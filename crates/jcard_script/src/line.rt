@@ -13,10 +13,10 @@ use arrayvec::ArrayVec;
 use jc_session::planned_fault::PlannedFault;
 
 /// The most digits of a line that are kept: two more than the longest command has.
-const DIGITS: usize = 524;
+const DIGITS: usize = 131_090;
 
 /// The most bytes of a command that are kept: one more than the longest command has.
-pub(crate) const BYTES: usize = 262;
+pub const BYTES: usize = 65_545;
 
 /// What the bytes of a line are.
 #[derive(Clone, Copy)]
@@ -36,8 +36,8 @@ pub(crate) enum Kind {
 pub(crate) enum LineRequest {
     /// Nothing: it is empty or a comment.
     Nothing,
-    /// The command of these bytes, of which 262 at most are kept.
-    Exchange(ArrayVec<u8, 262>),
+    /// The command of these bytes, of which 65545 at most are kept.
+    Exchange(ArrayVec<u8, 65545>),
     /// A reset.
     Reset,
     /// To let this many writes pass.
@@ -52,7 +52,7 @@ pub(crate) enum LineRequest {
 #[derive(Drop)]
 pub(crate) struct Content {
     kind: Kind,
-    digits: ArrayVec<u8, 524>,
+    digits: ArrayVec<u8, 131090>,
     is_odd: bool,
 }
 
@@ -198,8 +198,8 @@ impl Line {
 
     /// How many bytes the command has that the line is if these digits and a line feed follow, which it then puts at the front of the
     /// room. `None` where a byte has come before, and where they are any other bytes than digits of one command.
-    pub(crate) fn whole_command(&self, bytes: &[u8], room: &mut [u8; 262]) -> Option<usize>
-        ensures within { IfSome result (λ count. count ≤ 262) }
+    pub(crate) fn whole_command(&self, bytes: &[u8], room: &mut [u8; 65545]) -> Option<usize>
+        ensures within { IfSome result (λ count. count ≤ 65545) }
         ensures new { IsSome result → (line : List ℕ) → IsKeptOf self.now line → line ≡ [] }
         ensures command { IfSome result (λ count. IsCommandOf (take count room.new)
             (form_of (strip_carriage_return bytes.now))) }
@@ -256,8 +256,8 @@ fn asked_by(content: &Content, word: &Word) -> LineRequest
 }
 
 // The command that a line of these bytes is which are hexadecimal digits alone, at the front of the room, and how many bytes it has.
-fn command_in(line: &[u8], room: &mut [u8; 262]) -> Option<usize>
-    ensures within { IfSome result (λ count. count ≤ 262) }
+fn command_in(line: &[u8], room: &mut [u8; 65545]) -> Option<usize>
+    ensures within { IfSome result (λ count. count ≤ 65545) }
     ensures command { IfSome result (λ count. IsCommandOf (take count room.new)
         (form_of (strip_carriage_return line.now))) }
 {
@@ -287,8 +287,8 @@ fn is_digit(byte: u8) -> bool
 }
 
 // The bytes that this many digits spell.
-fn command_of(digits: &[u8]) -> Option<ArrayVec<u8, 262>>
-    requires { length digits.now ≤ 524 }
+fn command_of(digits: &[u8]) -> Option<ArrayVec<u8, 65545>>
+    requires { length digits.now ≤ 131090 }
     ensures { MatchOption result (IsErr (decode_of digits.now))
         (λ command. decode_of digits.now ≡ Ok command.items) }
 {

@@ -38,19 +38,23 @@ pub(crate) fn status_of(response: &Response) -> Option<u16> {
     Some(u16::from_be_bytes([*high, *bytes.last()?]))
 }
 
-/// The most bytes of the text of a reply, without its line feed.
-pub(crate) const MOST_TEXT: usize = 516;
+/// The most bytes of the text of a reply that are compared.
+pub(crate) const MOST_TEXT: usize = 1018;
 
-/// The text of a reply without its line feed, at the front of the room; nothing for a silent one.
+// How many bytes of a response are written at once.
+const AT_ONCE: usize = 258;
+
+/// The text of a reply without its line feed, as much as the room has place for, at its front; nothing for a silent one.
 pub(crate) fn reply_text<'a>(
     reply: Reply,
     response: &Response,
-    room: &'a mut [u8; 516],
+    room: &'a mut [u8; 1018],
 ) -> &'a [u8] {
     match reply {
         Reply::Silent => b"",
         Reply::Answer => {
             let bytes = response.as_bytes();
+            let bytes = &bytes[..bytes.len().min(MOST_TEXT / 2)];
             let end = 2 * bytes.len();
             encode(bytes, &mut room[..end]);
             &room[..end]
@@ -64,7 +68,7 @@ pub(crate) fn reply_text<'a>(
 }
 
 // `planned`, and a number and a model of each fault.
-fn planned_bytes(fault: PlannedFault, room: &mut [u8; 516]) -> &[u8] {
+fn planned_bytes(fault: PlannedFault, room: &mut [u8; 1018]) -> &[u8] {
     let mut end = put(room, 0, b"planned ");
     end = put_fault(room, end, fault.instruction, fault.model);
     if let Some(second) = fault.second {
@@ -75,9 +79,9 @@ fn planned_bytes(fault: PlannedFault, room: &mut [u8; 516]) -> &[u8] {
 }
 
 // Puts a number and a model into the room from a place on: the place after them.
-fn put_fault(room: &mut [u8; 516], at: usize, number: u32, model: FaultModel) -> usize
-    requires { at ≤ 516 }
-    ensures { result ≤ 516 }
+fn put_fault(room: &mut [u8; 1018], at: usize, number: u32, model: FaultModel) -> usize
+    requires { at ≤ 1018 }
+    ensures { result ≤ 1018 }
 {
     let mut digits = Buffer::new();
     let end = put(room, at, digits.format(number).as_bytes());
@@ -85,9 +89,9 @@ fn put_fault(room: &mut [u8; 516], at: usize, number: u32, model: FaultModel) ->
 }
 
 // Puts as much of a text into the room as fits there from a place on: the place after it.
-fn put(room: &mut [u8; 516], at: usize, text: &[u8]) -> usize
-    requires { at ≤ 516 }
-    ensures { result ≤ 516 }
+fn put(room: &mut [u8; 1018], at: usize, text: &[u8]) -> usize
+    requires { at ≤ 1018 }
+    ensures { result ≤ 1018 }
 {
     let count = text.len().min(MOST_TEXT - at);
     room[at..at + count].copy_from_slice(&text[..count]);
@@ -95,7 +99,7 @@ fn put(room: &mut [u8; 516], at: usize, text: &[u8]) -> usize
 }
 
 // `armed` and a number.
-fn armed_bytes(k: u16, room: &mut [u8; 516]) -> &[u8] {
+fn armed_bytes(k: u16, room: &mut [u8; 1018]) -> &[u8] {
     let mut digits = Buffer::new();
     let number = digits.format(k).as_bytes();
     room[..6].copy_from_slice(b"armed ");
@@ -184,7 +188,45 @@ fn write_response<W: TextOut>(response: &Response, writer: &mut W) -> Result<(),
         (λ _. AppendsCut (W.contents writer.old) (W.contents writer.new) (text_of response.now)) }
     ensures count { W.failures writer.new ≡ failures_after (W.failures writer.old) (is_err result) }
 {
-    let bytes = response.as_bytes();
+    write_line(response.as_bytes(), writer)
+}
+
+// Writes bytes in hexadecimal, and a line feed.
+fn write_line<W: TextOut>(bytes: &[u8], writer: &mut W) -> Result<(), WriteFailed>
+    ensures text { MatchResult result
+        (λ _. Appends (W.contents writer.old) (W.contents writer.new) (text_of bytes.now))
+        (λ _. AppendsCut (W.contents writer.old) (W.contents writer.new) (text_of bytes.now)) }
+    ensures count { W.failures writer.new ≡ failures_after (W.failures writer.old) (is_err result) }
+{
+    if bytes.len() <= AT_ONCE {
+        return write_last(bytes, writer);
+    }
+    write_digits(&bytes[..AT_ONCE], writer)?;
+    write_line(&bytes[AT_ONCE..], writer)
+}
+
+// Writes a few bytes in hexadecimal.
+fn write_digits<W: TextOut>(bytes: &[u8], writer: &mut W) -> Result<(), WriteFailed>
+    requires { length bytes.now ≤ AT_ONCE }
+    ensures text { MatchResult result
+        (λ _. Appends (W.contents writer.old) (W.contents writer.new) (encode_upper bytes.now))
+        (λ _. AppendsCut (W.contents writer.old) (W.contents writer.new) (encode_upper bytes.now)) }
+    ensures count { W.failures writer.new ≡ failures_after (W.failures writer.old) (is_err result) }
+{
+    let mut text = [0u8; 516];
+    let end = 2 * bytes.len();
+    encode(bytes, &mut text[..end]);
+    write_all(writer, &text[..end])
+}
+
+// Writes a few bytes in hexadecimal, and a line feed.
+fn write_last<W: TextOut>(bytes: &[u8], writer: &mut W) -> Result<(), WriteFailed>
+    requires { length bytes.now ≤ AT_ONCE }
+    ensures text { MatchResult result
+        (λ _. Appends (W.contents writer.old) (W.contents writer.new) (text_of bytes.now))
+        (λ _. AppendsCut (W.contents writer.old) (W.contents writer.new) (text_of bytes.now)) }
+    ensures count { W.failures writer.new ≡ failures_after (W.failures writer.old) (is_err result) }
+{
     let mut text = [0u8; 517];
     let end = 2 * bytes.len();
     encode(bytes, &mut text[..end]);

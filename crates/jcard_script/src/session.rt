@@ -36,6 +36,9 @@ use jc_words::{FuseStore, WordStore};
 use memchr::memchr;
 use std::alloc::Global;
 
+/// How many bytes a command in the short form has at most.
+const SHORT: usize = 261;
+
 /// How many bytes of a script are asked for at once.
 const PIECE: usize = 16_384;
 
@@ -52,8 +55,8 @@ pub(crate) struct Session<S: WordStore> {
     passed_before: u64,
     // The card's last response.
     response: Response,
-    // The last command, where notes are kept.
-    command: ArrayVec<u8, 262>,
+    // The first bytes of the last command, where notes are kept.
+    command: ArrayVec<u8, 261>,
     // The static images before it, where somebody wants to know of arrivals.
     statics: Vec<StaticImage>,
     // What is to be reported of the last command within which the power was cut, and the number of its line.
@@ -492,8 +495,8 @@ impl<S: WordStore + Drop> Session<S> {
             (state_of_held self.new.held) (text_for_line result self.new.response) }
     {
         self.notes.begin(self.number);
-        self.command = kept_command(command, &self.notes);
-        self.statics = kept_statics(self.alloc, &self.held, explainer);
+        self.keep_command(command);
+        self.keep_statics(explainer);
         let budget = self.budget();
         if let Some(held) = &mut self.held {
             self.passed_before = held.passed_writes();
@@ -502,6 +505,31 @@ impl<S: WordStore + Drop> Session<S> {
             }
         }
         self.go_down(budget, explainer)
+    }
+
+    // Keeps a command, where notes are kept.
+    #[inline(always)]
+    fn keep_command(&mut self, command: &[u8])
+        ensures held { self.new.held ≡ self.old.held }
+        ensures number { self.new.number ≡ self.old.number }
+        ensures line { self.new.line ≡ self.old.line }
+    {
+        if self.notes.are_kept() {
+            self.command = first_bytes(command);
+        }
+    }
+
+    // Keeps the static images before a command, where somebody wants to know of arrivals and there is memory for them.
+    #[inline(always)]
+    fn keep_statics<E: Explainer>(&mut self, explainer: &E)
+        requires { IsState self.old.held }
+        ensures held { self.new.held ≡ self.old.held }
+        ensures number { self.new.number ≡ self.old.number }
+        ensures line { self.new.line ≡ self.old.line }
+    {
+        if explainer.looks_for_arrivals() {
+            self.statics = statics_of(self.alloc, &self.held);
+        }
     }
 
     // The store is all that is left of the card, which has this budget when it is up again.
@@ -614,34 +642,25 @@ fn cut_text<S: WordStore, E: Explainer>(
     held.told_of_cut(alloc, &told, explainer)
 }
 
-// The static images before a command, where somebody wants to know of arrivals and there is memory for them.
-fn kept_statics<S: WordStore, E: Explainer>(
-    alloc: Global,
-    held: &Option<CardOrStore<S>>,
-    explainer: &E,
-) -> Vec<StaticImage>
+// The static images of a card that is up, where there is memory for them.
+fn statics_of<S: WordStore>(alloc: Global, held: &Option<CardOrStore<S>>) -> Vec<StaticImage>
     requires { IsState held.now }
 {
-    if !explainer.looks_for_arrivals() {
-        return Vec::new(alloc);
-    }
     match held {
         Some(held) => held.statics(alloc).unwrap_or(Vec::new(alloc)),
         None => Vec::new(alloc),
     }
 }
 
-// A command, where notes are kept.
-fn kept_command(command: &[u8], notes: &Notes) -> ArrayVec<u8, 262> {
+// The first bytes of a command: those of a whole one in the short form.
+fn first_bytes(command: &[u8]) -> ArrayVec<u8, 261> {
     let mut kept = ArrayVec::new();
-    if notes.are_kept() {
-        let _ = kept.try_extend_from_slice(&command[..command.len().min(BYTES)]);
-    }
+    let _ = kept.try_extend_from_slice(&command[..command.len().min(SHORT)]);
     kept
 }
 
 // The code that comes with a command: its data.
-fn code_of(command: &ArrayVec<u8, 262>) -> &[u8] {
+fn code_of(command: &ArrayVec<u8, 261>) -> &[u8] {
     let bytes = command.as_slice();
     match bytes.get(4) {
         None => b"",

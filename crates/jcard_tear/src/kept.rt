@@ -15,11 +15,14 @@ use jcard_outcomes::recoveries::Depth;
 use jcard_script::begun::{BegunScript, begin_script, command_of_line};
 use std::alloc::{AllocError, Global};
 
+/// How many bytes are taken once; copies of a card of the largest image take less.
+const KEPT_ROOM: usize = 4_194_304;
+
 /// A card that has carried out the lines before a command, and the bytes of the command.
 #[derive(Drop)]
 pub(crate) struct AtCommand {
     begun: BegunScript<MemStore>,
-    command: ArrayVec<u8, 262>,
+    command: ArrayVec<u8, 65545>,
 }
 
 /// What came of a cut of a copy of that card.
@@ -41,6 +44,7 @@ pub(crate) fn kept_for(alloc: Global, words: &[u16], command: Command) -> Option
         return None;
     };
     let bytes = command_of_line(command.line)?;
+    keep_room(alloc);
     let Ok(copy) = Vec::from_slice(alloc, words) else {
         return None;
     };
@@ -50,6 +54,13 @@ pub(crate) fn kept_for(alloc: Global, words: &[u16], command: Command) -> Option
         begun,
         command: bytes,
     })
+}
+
+// Takes room once and gives it back. The allocator of the C library keeps from then on what is given back, up to twice as much, in place of giving
+// it to the system and asking for it again for each copy of the card.
+fn keep_room(alloc: Global) {
+    let room: Result<Vec<u8>, AllocError> = Vec::with_capacity(alloc, KEPT_ROOM);
+    drop(room);
 }
 
 impl AtCommand {

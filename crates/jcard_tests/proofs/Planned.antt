@@ -7,7 +7,7 @@ use Rattle.jcard_tests.specs.declared.card_rows.CardRows.{CardRows}
 use Rattle.jcard_tests.specs.declared.numbered.Numbered.{Numbered}
 use Rattle.jcard_tests.specs.declared.outcome.Tested.{Tested}
 use Rattle.jcard_files.specs.declared.fault.Fault.{Fault}
-use Rattle.jcard_files.specs.declared.fault.Fault.TheVariants.{BadJournal, BadTransient, BadWords}
+use Rattle.jcard_files.specs.declared.fault.Fault.TheVariants.{BadApdu, BadJournal, BadTransient, BadWords}
 use Rattle.jcard_tests.specs.Sources.{IsReading, files_named, paths_read}
 use Rattle.jcard_tests.specs.Tests.{AreAnswered, IsOutcome, IsPlanFor, IsTested, IsUnanswered, IsUntested, table_of}
 use Rattle.jcard_tests.specs.declared.rows_file.NamedFile.{NamedFile}
@@ -42,14 +42,15 @@ platform_unwritten : (table : Option (List ℕ)) (fault : Fault) (deeds : List F
 platform_unwritten None fault deeds h = ap (λ (f : Fault). is_unwritten (Err f)) h.0
 platform_unwritten (Some name) fault deeds h = unread_unwritten name fault deeds h
 
-no_extent_unwritten : (words journal : List ℕ) (cells : Option (List ℕ)) (fault : Fault) → IsNoExtent words journal cells fault → is_unwritten (Err fault) ≡ false
-no_extent_unwritten words journal cells BadWords h = refl
-no_extent_unwritten words journal cells BadJournal h = refl
-no_extent_unwritten words journal cells BadTransient h = refl
-no_extent_unwritten words journal cells other h = absurd h
+no_extent_unwritten : (words journal : List ℕ) (cells buffer : Option (List ℕ)) (fault : Fault) → IsNoExtent words journal cells buffer fault → is_unwritten (Err fault) ≡ false
+no_extent_unwritten words journal cells buffer BadWords h = refl
+no_extent_unwritten words journal cells buffer BadJournal h = refl
+no_extent_unwritten words journal cells buffer BadTransient h = refl
+no_extent_unwritten words journal cells buffer BadApdu h = refl
+no_extent_unwritten words journal cells buffer other h = absurd h
 
 pub unplanned_unwritten : (a : Asked) (fault : Fault) (deeds : List FileDeed) → IsUnplanned a fault deeds → is_unwritten (Err fault) ≡ false
-unplanned_unwritten a fault deeds (inl h) = no_extent_unwritten _ _ _ fault h.0
+unplanned_unwritten a fault deeds (inl h) = no_extent_unwritten _ _ _ _ fault h.0
 unplanned_unwritten a fault deeds (inr h) = platform_unwritten (table_asked a) fault deeds h
 
 -- for the platform table a text was read, or nothing

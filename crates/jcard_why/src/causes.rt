@@ -65,7 +65,14 @@ fn push_exception(text: &mut Text, class: ClassWord, reason: Option<i16>, linked
     };
     text.push(b" with reason ");
     text.push_hex(&reason.to_be_bytes());
-    if let Some(name) = named.and_then(|named| reason_name(named, reason)) {
+    if let Some(named) = named {
+        push_reason_name(text, named, reason);
+    }
+}
+
+// The name of a reason, where the standard gives it one.
+fn push_reason_name(text: &mut Text, class: PlatformClass, reason: i16) {
+    if let Some(name) = reason_name(class, reason) {
         text.push(b" (");
         text.push(name);
         text.push(b")");

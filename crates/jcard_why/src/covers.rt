@@ -77,21 +77,37 @@ impl Cover {
 
     // Makes room for the counts of a package, if there is none yet.
     fn add_package(&mut self, number: u8, linked: &Linked) -> Result<(), AllocError> {
-        if self.packages.iter().any(|package| package.number == number) {
+        if is_counted(&self.packages, number) {
             return Ok(());
         }
-        let aid = Vec::from_slice(self.alloc, linked.aid_at(number))?;
-        let counts = vec![in self.alloc; 0u64; linked.code_at(number, 0).len()]?;
-        self.packages.push(PackageCover {
-            number,
-            aid,
-            counts,
-        })?;
+        let package = PackageCover::new(self.alloc, number, linked)?;
+        self.packages.push(package)?;
         Ok(())
     }
 }
 
+// Whether there is room for the counts of a package.
+fn is_counted(packages: &[PackageCover], number: u8) -> bool {
+    for package in packages {
+        if package.number == number {
+            return true;
+        }
+    }
+    false
+}
+
 impl PackageCover {
+    // None of its instructions was carried out yet.
+    fn new(alloc: Global, number: u8, linked: &Linked) -> Result<PackageCover, AllocError> {
+        let aid = Vec::from_slice(alloc, linked.aid_at(number))?;
+        let counts = vec![in alloc; 0u64; linked.code_at(number, 0).len()]?;
+        Ok(PackageCover {
+            number,
+            aid,
+            counts,
+        })
+    }
+
     fn count(&mut self, spot: Spot) {
         if let Some(count) = self.counts.get_mut(usize::from(spot.place)) {
             *count = count.saturating_add(1);

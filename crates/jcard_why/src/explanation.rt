@@ -61,7 +61,10 @@ impl<'a> Asked<'a> {
 
     /// Whether an instruction was carried out.
     pub(crate) fn has_run(&self) -> bool {
-        self.note.left.is_some_and(|left| left < self.budget)
+        match self.note.left {
+            Some(left) => left < self.budget,
+            None => false,
+        }
     }
 }
 

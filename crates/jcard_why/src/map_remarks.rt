@@ -1,5 +1,6 @@
 //! What is wrong with a line of a map, and where.
 
+use crate::maps::{cut_once, is_line_feed, is_space};
 use crate::text::Text;
 use std::alloc::{AllocError, Global};
 
@@ -14,7 +15,7 @@ struct LineFault {
 pub fn remark_on_map(alloc: Global, map: &[u8]) -> Result<Vec<u8>, AllocError> {
     let mut is_inside = false;
     let mut number = 0u32;
-    for line in map.split(|byte| *byte == b'\n') {
+    for line in map.split(is_line_feed) {
         number = number.saturating_add(1);
         if let Some(fault) = fault_of(line, is_inside) {
             return remark_of(alloc, number, &fault);
@@ -103,7 +104,7 @@ fn fault_of_method(line: &[u8]) -> Option<LineFault> {
 // Of a line with the places of instructions: words of digits, perhaps with a colon and more digits.
 fn fault_of_places(line: &[u8]) -> Option<LineFault> {
     let mut column = 1usize;
-    for word in line.split(|byte| *byte == b' ') {
+    for word in line.split(is_space) {
         if !is_place(word) {
             return at(
                 column,
@@ -116,15 +117,14 @@ fn fault_of_places(line: &[u8]) -> Option<LineFault> {
 }
 
 fn is_place(word: &[u8]) -> bool {
-    match word.iter().position(|byte| *byte == b':') {
+    match cut_once(word, b':') {
         None => first_other(word).is_none(),
-        Some(at) => {
-            at > 0
-                && at + 1 < word.len()
-                && first_other(&word[..at]).is_none()
-                && first_other(&word[at + 1..]).is_none()
-        }
+        Some((offset, line)) => is_number(offset) && is_number(line),
     }
+}
+
+fn is_number(digits: &[u8]) -> bool {
+    !digits.is_empty() && first_other(digits).is_none()
 }
 
 // The place of the first byte that is no digit.

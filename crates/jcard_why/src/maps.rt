@@ -11,7 +11,7 @@ pub fn name_at<'a>(map: &'a [u8], aid: &[u8], offset: &[u8]) -> Option<&'a [u8]>
 {
     let mut rest = map;
     let mut is_inside = false;
-    while let Some((line, more)) = split_line(rest) {
+    while let Some((line, more)) = cut_once(rest, b'\n') {
         if is_inside {
             if let Some(name) = named_by(line, offset) {
                 return Some(name);
@@ -31,7 +31,7 @@ pub(crate) fn places_at<'a>(map: &'a [u8], aid: &[u8], offset: &[u8]) -> Option<
     let mut rest = map;
     let mut is_inside = false;
     let mut is_named = false;
-    while let Some((line, more)) = split_line(rest) {
+    while let Some((line, more)) = cut_once(rest, b'\n') {
         if is_named {
             return behind(line, b" ");
         }
@@ -45,12 +45,12 @@ pub(crate) fn places_at<'a>(map: &'a [u8], aid: &[u8], offset: &[u8]) -> Option<
 /// What stands after this word with which a line of a map begins; none where lines that begin so differ.
 pub(crate) fn entry_name<'a>(map: &'a [u8], head: &[u8]) -> Option<&'a [u8]> {
     let mut found: Option<&'a [u8]> = None;
-    for line in map.split(|byte| *byte == b'\n') {
+    for line in map.split(is_line_feed) {
         if let Some(name) = behind(line, head) {
-            if found.is_some_and(|other| other != name) {
-                return None;
+            match found {
+                Some(other) if other != name => return None,
+                _ => found = Some(name),
             }
-            found = Some(name);
         }
     }
     found
@@ -60,7 +60,7 @@ pub(crate) fn entry_name<'a>(map: &'a [u8], head: &[u8]) -> Option<&'a [u8]> {
 /// the last line up to it.
 pub(crate) fn java_line(places: &[u8], place: u32) -> Option<u32> {
     let mut found = None;
-    for word in places.split(|byte| *byte == b' ') {
+    for word in places.split(is_space) {
         if let Some((offset, line)) = split_place(word) {
             if offset > place {
                 return found;
@@ -73,8 +73,8 @@ pub(crate) fn java_line(places: &[u8], place: u32) -> Option<u32> {
 
 /// The offset and the line in a word with both.
 pub fn split_place(word: &[u8]) -> Option<(u32, u32)> {
-    let at = word.iter().position(|byte| *byte == b':')?;
-    Some((number_of(&word[..at])?, number_of(&word[at + 1..])?))
+    let (offset, line) = cut_once(word, b':')?;
+    Some((number_of(offset)?, number_of(line)?))
 }
 
 /// A decimal number below ten million.
@@ -94,15 +94,29 @@ pub fn number_of(digits: &[u8]) -> Option<u32> {
     Some(number)
 }
 
-// The first line of a text and what follows; none where no line feed ends it.
-fn split_line(text: &[u8]) -> Option<(&[u8], &[u8])>
+/// What ends a line.
+pub fn is_line_feed(byte: &u8) -> bool
+    ensures { result ≡ (byte.now == 10) }
+{
+    *byte == b'\n'
+}
+
+/// What ends a word.
+pub fn is_space(byte: &u8) -> bool
+    ensures { result ≡ (byte.now == 32) }
+{
+    *byte == b' '
+}
+
+/// What stands before the first such byte, and what follows it; none where there is no such byte.
+pub fn cut_once(text: &[u8], separator: u8) -> Option<(&[u8], &[u8])>
     ensures parts { MatchOption result
-        (slice_split (λ b. b == 10) text.now ≡ text.now ∷ [])
-        (λ r. slice_split (λ b. b == 10) text.now
-        ≡ r.0.now ∷ slice_split (λ b. b == 10) r.1.now) }
+        (slice_split (λ b. b == separator) text.now ≡ text.now ∷ [])
+        (λ r. slice_split (λ b. b == separator) text.now
+        ≡ r.0.now ∷ slice_split (λ b. b == separator) r.1.now) }
     ensures shorter { IfSome result (λ r. length r.1.now < length text.now) }
 {
-    let at = text.iter().position(|byte| *byte == b'\n')?;
+    let at = text.iter().position(|byte| *byte == separator)?;
     Some((&text[..at], &text[at + 1..]))
 }
 

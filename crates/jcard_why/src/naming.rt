@@ -1,6 +1,6 @@
 //! Which name of a map belongs after a word of what is reported of objects.
 
-use crate::maps::number_of;
+use crate::maps::{cut_once, number_of};
 use crate::records::image_with;
 use crate::sources::{Member, class_numbered, field_at, static_from};
 use crate::text::Text;
@@ -104,24 +104,11 @@ impl<'a> Names<'a> {
         if word == b"word".as_slice() {
             return Ok(Place::Word);
         }
-        let next = match place {
-            Place::Line => match word {
-                b"package" => Place::Package,
-                b"+" | b"-" => Place::Line,
-                _ => Place::Other,
-            },
-            Place::Package => numbered(word),
-            Place::Numbered(number) => {
-                self.keep(number, word)?;
-                Place::Other
-            }
-            Place::Record(number) if word == b"image".as_slice() => Place::Static(number, 0),
-            Place::Record(number) => Place::Record(number),
-            Place::Listed(class) if word.ends_with(b":") => Place::Cell(class, 0),
-            Place::Listed(class) => Place::Listed(class),
-            _ => Place::Other,
-        };
-        Ok(next)
+        if let Place::Numbered(number) = place {
+            self.keep(number, word)?;
+            return Ok(Place::Other);
+        }
+        Ok(plain_place_after(place, word))
     }
 
     // Keeps the AID of the package with a number.
@@ -207,6 +194,28 @@ impl<'a> Names<'a> {
     }
 }
 
+// Where the words stand after one that is neither an object nor `word`, nor kept.
+fn plain_place_after<'a>(place: Place<'a>, word: &[u8]) -> Place<'a> {
+    match place {
+        Place::Line => place_in_line(word),
+        Place::Package => numbered(word),
+        Place::Record(number) if word == b"image".as_slice() => Place::Static(number, 0),
+        Place::Record(number) => Place::Record(number),
+        Place::Listed(class) if word.ends_with(b":") => Place::Cell(class, 0),
+        Place::Listed(class) => Place::Listed(class),
+        _ => Place::Other,
+    }
+}
+
+// Where they stand after the first word of a line.
+fn place_in_line<'a>(word: &[u8]) -> Place<'a> {
+    match word {
+        b"package" => Place::Package,
+        b"+" | b"-" => Place::Line,
+        _ => Place::Other,
+    }
+}
+
 fn push_member(text: &mut Text, member: Member<'_>) {
     text.push(member.class);
     text.push(b".");
@@ -254,10 +263,10 @@ fn is_object(word: &[u8]) -> bool {
 
 // `AID.N`, the class of record N of a package.
 fn class_of(word: &[u8]) -> Option<Class<'_>> {
-    let at = word.iter().position(|byte| *byte == b'.')?;
+    let (aid, number) = cut_once(word, b'.')?;
     Some(Class {
-        aid: &word[..at],
-        number: number_of(&word[at + 1..])?,
+        aid,
+        number: number_of(number)?,
     })
 }
 

@@ -94,7 +94,12 @@ fn push_source(text: &mut Text, spot: Spot, asked: &Asked<'_>) {
     let Some(line) = line_at(asked.map, &aid, offset, u32::from(spot.place)) else {
         return;
     };
-    match name_at(asked.map, &aid, offset).and_then(|name| file_of(asked.map, &aid, name)) {
+    push_line_of(text, file_at(asked.map, &aid, offset), line);
+}
+
+// A line of a file, or of a source that the map does not name.
+fn push_line_of(text: &mut Text, file: Option<&[u8]>, line: u32) {
+    match file {
         Some(file) => {
             text.push(b" (");
             text.push(file);
@@ -107,6 +112,11 @@ fn push_source(text: &mut Text, spot: Spot, asked: &Asked<'_>) {
             text.push_number(line);
         }
     }
+}
+
+// The file of the method at an offset of a package.
+fn file_at<'a>(map: &'a [u8], aid: &[u8], offset: &[u8]) -> Option<&'a [u8]> {
+    file_of(map, aid, name_at(map, aid, offset)?)
 }
 
 // The line of the source to which the instruction at a place of a method belongs.

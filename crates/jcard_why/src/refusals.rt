@@ -118,26 +118,42 @@ fn push_load(text: &mut Text, refused: &RefusedLoad, asked: &Asked<'_>) {
             member,
         } => {
             if let NO_PACKAGE | OTHER_VERSION = asked.status {
-                text.push(b"  package ");
-                text.push_hex(package.as_slice());
-                text.push(b"\n");
+                push_package_alone(text, package.as_slice());
                 return;
             }
-            push_entry(text, *entry);
-            push_home(text, package.as_slice());
-            let package = package.as_slice();
-            let named = named_class(package, *class, asked.linked);
-            push_token(text, b", class ", *class);
-            push_class_name(text, named);
-            push_token(text, b", token ", token_of(*member));
-            match name_in_map(*entry, package, *class, *member, asked) {
-                Ok(Some(name)) => push_name(text, name),
-                Ok(None) => push_method(text, named, *member, asked.linked),
-                Err(_) => text.give_up(),
-            }
-            text.push(b"\n");
+            push_named_entry(text, *entry, package.as_slice(), *class, *member, asked);
         }
     }
+}
+
+// The package that an import names.
+fn push_package_alone(text: &mut Text, package: &[u8]) {
+    text.push(b"  package ");
+    text.push_hex(package);
+    text.push(b"\n");
+}
+
+// An entry, with what it names.
+fn push_named_entry(
+    text: &mut Text,
+    entry: u16,
+    package: &[u8],
+    class: Option<u8>,
+    member: Option<Member>,
+    asked: &Asked<'_>,
+) {
+    push_entry(text, entry);
+    push_home(text, package);
+    let named = named_class(package, class, asked.linked);
+    push_token(text, b", class ", class);
+    push_class_name(text, named);
+    push_token(text, b", token ", token_of(member));
+    match name_in_map(entry, package, class, member, asked) {
+        Ok(Some(name)) => push_name(text, name),
+        Ok(None) => push_method(text, named, member, asked.linked),
+        Err(_) => text.give_up(),
+    }
+    text.push(b"\n");
 }
 
 // A component, and where it is wrong.

@@ -1,6 +1,6 @@
 //! What a map names of the Java source: classes, files, fields and variables.
 
-use crate::maps::{is_of, named_by, number_of};
+use crate::maps::{cut_once, is_line_feed, is_of, named_by, number_of};
 use jc_platform::lookup::all_classes;
 
 /// The most classes of a map that stand above one another.
@@ -41,7 +41,7 @@ pub struct MethodPlace<'a> {
 /// The class with this number of a package.
 pub(crate) fn class_numbered<'a>(map: &'a [u8], aid: &[u8], number: u32) -> Option<ClassLine<'a>> {
     let mut is_inside = false;
-    for line in map.split(|byte| *byte == b'\n') {
+    for line in map.split(is_line_feed) {
         is_inside = is_of(line, is_inside, aid);
         if is_inside {
             if let Some(class) = class_in(line) {
@@ -58,7 +58,7 @@ pub(crate) fn class_numbered<'a>(map: &'a [u8], aid: &[u8], number: u32) -> Opti
 pub fn file_of<'a>(map: &'a [u8], aid: &[u8], method: &[u8]) -> Option<&'a [u8]> {
     let mut is_inside = false;
     let mut found: Option<ClassLine<'a>> = None;
-    for line in map.split(|byte| *byte == b'\n') {
+    for line in map.split(is_line_feed) {
         is_inside = is_of(line, is_inside, aid);
         if is_inside {
             if let Some(class) = class_in(line) {
@@ -109,7 +109,7 @@ pub fn static_from<'a>(map: &'a [u8], aid: &[u8], from: u32) -> Option<Member<'a
     let mut is_inside = false;
     let mut class: &'a [u8] = b"";
     let mut found: Option<Member<'a>> = None;
-    for line in map.split(|byte| *byte == b'\n') {
+    for line in map.split(is_line_feed) {
         is_inside = is_of(line, is_inside, aid);
         if is_inside {
             class = class_after(line, class);
@@ -139,7 +139,7 @@ pub fn variable_at<'a>(
 ) -> Option<Named<'a>> {
     let mut is_inside = false;
     let mut is_named = false;
-    for line in map.split(|byte| *byte == b'\n') {
+    for line in map.split(is_line_feed) {
         is_inside = is_of(line, is_inside, method.aid);
         is_named = is_inside && is_of_method(line, is_named, method.offset);
         if is_named {
@@ -155,7 +155,7 @@ pub fn variable_at<'a>(
 pub fn tells_variables(map: &[u8], method: MethodPlace<'_>) -> bool {
     let mut is_inside = false;
     let mut is_named = false;
-    for line in map.split(|byte| *byte == b'\n') {
+    for line in map.split(is_line_feed) {
         is_inside = is_of(line, is_inside, method.aid);
         is_named = is_inside && is_of_method(line, is_named, method.offset);
         if is_named && line.starts_with(b"local ") {
@@ -176,7 +176,7 @@ pub(crate) fn is_of_method(line: &[u8], before: bool, offset: &[u8]) -> bool {
 
 // The class with this name, in any package.
 fn class_named<'a>(map: &'a [u8], name: &[u8]) -> Option<ClassLine<'a>> {
-    for line in map.split(|byte| *byte == b'\n') {
+    for line in map.split(is_line_feed) {
         if let Some(class) = class_in(line) {
             if class.name == name {
                 return Some(class);
@@ -217,7 +217,7 @@ fn platform_cells(name: &[u8]) -> Option<u32> {
 fn own_fields(map: &[u8], name: &[u8]) -> u32 {
     let mut class: &[u8] = b"";
     let mut count = 0u32;
-    for line in map.split(|byte| *byte == b'\n') {
+    for line in map.split(is_line_feed) {
         class = class_after(line, class);
         if class == name && line.starts_with(b"field ") {
             count = count.saturating_add(1);
@@ -229,7 +229,7 @@ fn own_fields(map: &[u8], name: &[u8]) -> u32 {
 // The field in the cell of this number among those that the class with this name declares.
 fn own_field<'a>(map: &'a [u8], name: &'a [u8], cell: u32) -> Option<Member<'a>> {
     let mut class: &[u8] = b"";
-    for line in map.split(|byte| *byte == b'\n') {
+    for line in map.split(is_line_feed) {
         class = class_after(line, class);
         if class == name {
             if let Some((at, field)) = member_in(line, b"field ") {
@@ -259,12 +259,11 @@ fn class_after<'a>(line: &'a [u8], before: &'a [u8]) -> &'a [u8] {
 
 // What a line `class N NAME ABOVE FILE` says.
 fn class_in(line: &[u8]) -> Option<ClassLine<'_>> {
-    let rest = line.strip_prefix(b"class ".as_slice())?;
-    let (number, rest) = split_word(rest)?;
-    let (name, rest) = split_word(rest)?;
-    let (above, file) = split_word(rest)?;
+    let (number, rest) = number_before(line.strip_prefix(b"class ".as_slice())?)?;
+    let (name, rest) = cut_once(rest, b' ')?;
+    let (above, file) = cut_once(rest, b' ')?;
     Some(ClassLine {
-        number: number_of(number)?,
+        number,
         name,
         above,
         file,
@@ -273,27 +272,29 @@ fn class_in(line: &[u8]) -> Option<ClassLine<'_>> {
 
 // What a line `WORD N TYPE NAME` reports of a field: where it stands, its type and its name.
 fn member_in<'a>(line: &'a [u8], word: &[u8]) -> Option<(u32, Named<'a>)> {
-    let rest = line.strip_prefix(word)?;
-    let (at, rest) = split_word(rest)?;
-    let (kind, name) = split_word(rest)?;
-    Some((number_of(at)?, Named { kind, name }))
+    let (at, rest) = number_before(line.strip_prefix(word)?)?;
+    Some((at, named_in(rest)?))
 }
 
 // The variable that a line `local I START END TYPE NAME` says, where it is this local at this place.
 fn variable_in(line: &[u8], local: u32, place: u32) -> Option<Named<'_>> {
-    let rest = line.strip_prefix(b"local ".as_slice())?;
-    let (number, rest) = split_word(rest)?;
-    let (start, rest) = split_word(rest)?;
-    let (end, rest) = split_word(rest)?;
-    let (kind, name) = split_word(rest)?;
-    if number_of(number)? == local && number_of(start)? <= place && place < number_of(end)? {
-        return Some(Named { kind, name });
+    let (number, rest) = number_before(line.strip_prefix(b"local ".as_slice())?)?;
+    let (start, rest) = number_before(rest)?;
+    let (end, rest) = number_before(rest)?;
+    if number == local && start <= place && place < end {
+        return named_in(rest);
     }
     None
 }
 
-// What stands before the first blank, and what follows it.
-fn split_word(text: &[u8]) -> Option<(&[u8], &[u8])> {
-    let at = text.iter().position(|byte| *byte == b' ')?;
-    Some((&text[..at], &text[at + 1..]))
+// What `TYPE NAME` says.
+fn named_in(text: &[u8]) -> Option<Named<'_>> {
+    let (kind, name) = cut_once(text, b' ')?;
+    Some(Named { kind, name })
+}
+
+// The number before the first blank, and what follows that.
+fn number_before(text: &[u8]) -> Option<(u32, &[u8])> {
+    let (digits, rest) = cut_once(text, b' ')?;
+    Some((number_of(digits)?, rest))
 }

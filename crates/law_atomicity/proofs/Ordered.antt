@@ -94,7 +94,7 @@ module _ (p : Packages) (m : MemoryState) where
       initial = λ a own is r count s words event state kept all. (cells_orderly m (facts m.heap.now own).event own a.start _, tt);
     };
     aid = λ init own bytes is long fine. cells_orderly m (facts m.heap.now own).event own 0 (cells_of_aid bytes);
-    buffer = λ r words is fits. cells_orderly m (facts m.heap.now r).event r 5 words;
+    buffer = λ r at words is fits. cells_orderly m (facts m.heap.now r).event r at words;
     starts = λ pin is limit maximum value new. (tt, (tt, (tt, tt)));
     flags = λ pin is flag v. tt;
     counts = λ pin is n. inl (pin, refl, pin_flagged m pin false is.is);

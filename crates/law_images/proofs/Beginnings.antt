@@ -1,9 +1,10 @@
 -- How a heap begins, after a change.
 use Rattle.std.proofs.Common.{◌≡◌, ℕ, zero, suc, ◌+◌, ◌<◌, ◌≤◌, List, [], ◌∷◌, ◌++◌, length, map, Ok, Some, refl, sym, ◌∙◌, ap, subst, arith}
-use Rattle.std.specs.Prelude.{unwrap_or}
+use Rattle.std.specs.Prelude.{slice_index, unwrap_or}
 use Rattle.std.specs.List.{range_with_len}
 use Rattle.jc_transient.specs.declared.cell.ClearEvent.{ClearEvent}
 use Rattle.jc_transient.specs.declared.cell.ClearEvent.TheVariants.{Reset, Deselect}
+use Rattle.jc_transient.specs.State.{buffer_told}
 use Rattle.jc_heap.specs.declared.object.Facts.{Facts}
 use Rattle.jc_heap.specs.declared.object.Kind.{Kind}
 use Rattle.jc_heap.specs.declared.place.Place.{Place}
@@ -20,16 +21,18 @@ use Rattle.jc_heap.proofs.RecordWords.{header_only-set_word}
 use Rattle.jc_image.specs.Beginning.{HeapBeginsWith, HeadersFollow}
 use Rattle.jc_platform.specs.Table.{Reads}
 use Rattle.jc_platform.specs.Tokens.{Tokens}
-use Rattle.jc_environment.specs.Objects.{fixed_count, fixed_objects}
-use Rattle.jc_card.specs.Fixed.{fixed_facts, fixed_of, object_number}
+use Rattle.jc_environment.specs.Objects.{fixed_count, sized_objects}
+use Rattle.jc_environment.proofs.Counts.{count_sized}
+use Rattle.jc_card.specs.Fixed.{buffer_cells, fixed_facts, fixed_of, object_number}
 use Rattle.law_images.specs.Heaps.{HasBeginning}
 use Rattle.law_images.proofs.Finding.{found_put, found_still, found_there, looked_up_still}
 use Rattle.law_soundness.proofs.Statics.{object-with_word}
 
--- the first words and the table are the same, and each object is followed by the one that followed it
+-- the first words, those that no change touches and the table are the same, and each object is followed by the one that followed it
 pub record Stays (h g : HeapState) : Type 0 where
   pub head : g.head ≡ h.head
   pub text : g.text ≡ h.text
+  pub lasting : g.lasting ≡ h.lasting
   pub next : (r q : ℕ) → next_object h r ≡ Some q → next_object g r ≡ Some q
   pub same : (r q : ℕ) → next_object h r ≡ Some q → facts g q ≡ facts h q
 
@@ -37,6 +40,7 @@ stays_then : (h g k : HeapState) → Stays h g → Stays g k → Stays h k
 stays_then h g k first second = record {
   head = second.head ∙ first.head;
   text = second.text ∙ first.text;
+  lasting = second.lasting ∙ first.lasting;
   next = λ r q e. second.next r q (first.next r q e);
   same = λ r q e. second.same r q (first.next r q e) ∙ first.same r q e;
 }
@@ -60,6 +64,7 @@ unfolding set_cell
 cell_stays h r i v = record {
   head = refl;
   text = refl;
+  lasting = refl;
   next = λ p q e. next-set_cell h r i v p ∙ e;
   same = λ p q e. facts-set_cell h r i v q;
 }
@@ -69,6 +74,7 @@ unfolding set_word
 word_stays h r j v = record {
   head = refl;
   text = refl;
+  lasting = refl;
   next = λ p q e. next-set_word h r j v p ∙ e;
   same = λ p q e. same_facts (heap_item_at (set_word h r j v) q) (heap_item_at h q) (header_only-set_word h r j v q);
 }
@@ -77,11 +83,11 @@ pub set_place_stays : (h : HeapState) (place : Place) (v : ℕ) → Stays h (set
 unfolding next_object heap_item_at
 set_place_stays h (Cell r i) v = cell_stays h r i v
 set_place_stays h (Static r j) v = word_stays h r j v
-set_place_stays h (Registry i) v = record { head = refl; text = refl; next = λ p q e. e; same = λ p q e. refl }
-set_place_stays h AppletCount v = record { head = refl; text = refl; next = λ p q e. e; same = λ p q e. refl }
+set_place_stays h (Registry i) v = record { head = refl; text = refl; lasting = refl; next = λ p q e. e; same = λ p q e. refl }
+set_place_stays h AppletCount v = record { head = refl; text = refl; lasting = refl; next = λ p q e. e; same = λ p q e. refl }
 
 itself_stays : (h : HeapState) → Stays h h
-itself_stays h = record { head = refl; text = refl; next = λ p q e. e; same = λ p q e. refl }
+itself_stays h = record { head = refl; text = refl; lasting = refl; next = λ p q e. e; same = λ p q e. refl }
 
 pub set_places_stays : (changes : List (Place × ℕ)) (h : HeapState) → Stays h (set_places h changes)
 set_places_stays [] h = itself_stays h
@@ -95,11 +101,12 @@ set_cells_stays (v ∷ vs) h r i = stays_then h (set_cell h r i v) (set_cells (s
 
 -- ---- something new after the others
 
-pushed_stays : (h g : HeapState) (more : List (ℕ × Item)) → g.head ≡ h.head → g.text ≡ h.text → g.items ≡ h.items ++ more → Stays h g
+pushed_stays : (h g : HeapState) (more : List (ℕ × Item)) → g.head ≡ h.head → g.text ≡ h.text → g.lasting ≡ h.lasting → g.items ≡ h.items ++ more → Stays h g
 unfolding next_object heap_item_at
-pushed_stays h g more head text items = record {
+pushed_stays h g more head text lasting items = record {
   head = head;
   text = text;
+  lasting = lasting;
   next = λ r q e. ap (λ l. first_above l r) items ∙ found_still h.items more r q e;
   same = λ r q e. ap (λ l. facts_of (entry_or (APackage []) l q)) items ∙ ap facts_of
       (looked_up_still (APackage []) h.items more q (found_there h.items r q e));
@@ -107,12 +114,12 @@ pushed_stays h g more head text items = record {
 
 pub object_stays : (h : HeapState) (o : Object) (n : ℕ) → Stays h (add_object h o n)
 unfolding add_object
-object_stays h o n = pushed_stays h (add_object h o n) ((h.top, AnObject o) ∷ []) refl refl refl
+object_stays h o n = pushed_stays h (add_object h o n) ((h.top, AnObject o) ∷ []) refl refl refl refl
 
 end_stays : (h : HeapState) (event : ClearEvent) (n : ℕ) → Stays h (with_area_end h event n)
 unfolding next_object heap_item_at
-end_stays h Reset n = record { head = refl; text = refl; next = λ p q e. e; same = λ p q e. refl }
-end_stays h Deselect n = record { head = refl; text = refl; next = λ p q e. e; same = λ p q e. refl }
+end_stays h Reset n = record { head = refl; text = refl; lasting = refl; next = λ p q e. e; same = λ p q e. refl }
+end_stays h Deselect n = record { head = refl; text = refl; lasting = refl; next = λ p q e. e; same = λ p q e. refl }
 
 pub transient_stays : (h : HeapState) (kind : Kind) (event : ClearEvent) (class owner long : ℕ) → Stays h (add_transient h kind event class owner long)
 unfolding add_transient
@@ -124,7 +131,7 @@ transient_stays h kind event class owner long =
 
 record_stays : (h : HeapState) (words : List ℕ) → Stays h (push_package h words)
 unfolding push_package
-record_stays h words = pushed_stays h (push_package h words) ((h.top, APackage words) ∷ []) refl refl refl
+record_stays h words = pushed_stays h (push_package h words) ((h.top, APackage words) ∷ []) refl refl refl refl
 
 arrays_stay : (xs : List (Kind × List ℕ)) (h : HeapState) (owner : ℕ) → Stays h (add_arrays h owner xs)
 arrays_stay [] h owner = itself_stays h
@@ -178,12 +185,12 @@ module _ (h g : HeapState) (s : Stays h g) where
   length-facts t place [] = refl
   length-facts t place (o ∷ os) = ap suc (length-facts t (place + o.cells) os)
 
-  module _ (t : Tokens) (begins : HeadersFollow h 0 (fixed_facts t 0 (fixed_objects t))) where
+  module _ (t : Tokens) (k : ℕ) (begins : HeadersFollow h 0 (fixed_facts t 0 (sized_objects t k))) where
     pub fixed_still : fixed_of t g ≡ fixed_of t h
     fixed_still =
-        let long = length-facts t 0 (fixed_objects t) in
-        numbers_from 1 (fixed_count t) (λ k le. let at : k ≡ 0 + k = omega arith in ap (object_number g) at
-        ∙ numbers_still (fixed_facts t 0 (fixed_objects t)) 0 k (from_null (fixed_facts t 0 (fixed_objects t)) begins) zeroth (omega (arith, long, le))
+        let long = length-facts t 0 (sized_objects t k) ∙ count_sized t k in
+        numbers_from 1 (fixed_count t) (λ j le. let at : j ≡ 0 + j = omega arith in ap (object_number g) at
+        ∙ numbers_still (fixed_facts t 0 (sized_objects t k)) 0 j (from_null (fixed_facts t 0 (sized_objects t k)) begins) zeroth (omega (arith, long, le))
         ∙ sym (ap (object_number h) at))
 
 -- the heap has its beginning, with these objects
@@ -198,7 +205,8 @@ begins_still n t fixed h g s b = record {
     head = s.head ∙ b.has.head;
     enough = b.has.enough;
     table = subst (λ l. Reads l (Ok t)) (sym s.text) b.has.table;
-    begins = follow_still h g s (fixed_facts t 0 (fixed_objects t)) 0 b.has.begins;
+    begins = subst (λ (l : List ℕ). HeadersFollow g 0 (fixed_facts t 0 (sized_objects t (buffer_told (slice_index l 2))))) (sym s.lasting)
+        (follow_still h g s (fixed_facts t 0 (sized_objects t (buffer_cells h))) 0 b.has.begins);
   };
-  are = fixed_still h g s t b.has.begins ∙ b.are;
+  are = fixed_still h g s t (buffer_cells h) b.has.begins ∙ b.are;
 }

@@ -16,9 +16,8 @@ use Rattle.jc_platform.proofs.NamesTold.{names_told}
 use Rattle.jc_platform.specs.Table.{Reads}
 use Rattle.jc_platform.specs.Tokens.{Tokens}
 use Rattle.jc_card.specs.CardState.{CardState}
-use Rattle.jc_environment.specs.Objects.{fixed_objects}
 use Rattle.jc_card.specs.Fixed.{last_fixed}
-use Rattle.jc_card.specs.Made.{IsCardHeap, IsMade, new_card_heap}
+use Rattle.jc_card.specs.Made.{IsCardHeap, IsMade, new_card_heap, objects_in}
 use Rattle.jc_card.proofs.FittingImages.{counts_add, packages_add}
 use Rattle.jc_card_checks.specs.Sound.{IsSound}
 use Rattle.jc_card.proofs.NewFronts.{sizes-new_card_heap}
@@ -67,7 +66,7 @@ kept_made t words k own keeps = record {
 -- a new image has no packages
 pub new_layout : (n : ℕ) (room : ImageRoom) (text : List ℕ) (t : Tokens) → IsLaidOut (new_card_heap n room text t)
 new_layout n room text t = record {
-  counted = ap (λ c. c.0) (counts_add t (unsealed_heap n room text) (fixed_objects t)) ∙ ap length (sym (packages_add t (unsealed_heap n room text) (fixed_objects t)));
+  counted = ap (λ c. c.0) (counts_add t (unsealed_heap n room text) (objects_in room t)) ∙ ap length (sym (packages_add t (unsealed_heap n room text) (objects_in room t)));
   apart = new_apart n room text t;
 }
 

@@ -7,7 +7,6 @@ use Rattle.std.specs.Str.{bytes_eq}
 use Rattle.std.proofs.lemmas.Bool.{and_from, cases_lt, eqb-true, le-leb, leb-true, lt-ltb}
 use Rattle.std.proofs.lemmas.List.Elements.{All-get_or}
 use Rattle.std.proofs.lemmas.Option.{none-some, same_Some}
-use Rattle.jc_transient.specs.State.{buffer_size}
 use Rattle.jc_heap.specs.Heap.{HeapState}
 use Rattle.jc_memory.specs.declared.registers.AppletNumber.{AppletNumber}
 use Rattle.jc_memory.specs.State.{MemoryState, BeginCommand, apply_effect}
@@ -23,7 +22,7 @@ use Rattle.jc_dispatch.specs.declared.applet_result.AppletResult.TheVariants.{No
 use Rattle.jc_dispatch.specs.Creating.{applet_creation}
 use Rattle.jc_dispatch.specs.AdHocCode.{ad_hoc_run}
 use Rattle.jc_card.specs.Answers.{answer_of, respond_with, run_code}
-use Rattle.jc_card.specs.Apdu.{Apdu, apdu_of, data_of}
+use Rattle.jc_card.specs.Apdu.{Apdu}
 use Rattle.jc_card.specs.CardState.{CardState}
 use Rattle.jc_card.specs.Dispatching.{with_response, create_applet, dispatch, expected_by, is_select, manager_aid, route, to_named}
 use Rattle.jc_card.specs.Dispatching.{to_selected}
@@ -86,36 +85,6 @@ module _ (begins : EffectsKeepBeginnings) (t : Tokens) (card : CardState) (own :
   lost_own passed h left = due_left (IsServed card.packages) (IsOwnMemory card.memory.heap.durable.head.1 t card.packages) keeps (IsLeft card.memory.heap.durable.head.1 t card.packages)
       (λ s o. left_own card.memory.heap.durable.head.1 t card.packages s o) d card.memory passed h good.due left (own_memory t card own)
 
--- ---- the buffer has room for a command
-
-module _ (bytes : List ℕ) (are : AreBytes bytes) where
-  long_by : (few bare one two : Bool) → nat_le (length bytes) 5 ≡ few → (length bytes == 5 + slice_index bytes 4) ≡ one
-      → (length bytes == 6 + slice_index bytes 4) ≡ two → slice_index bytes 4 < 256 → (x y d : List ℕ) →
-      (if few then Some [] else (if bare then None else (if one then Some x else (if two then Some y else None)))) ≡ Some d → length bytes ≤ buffer_size
-  long_by true bare one two le is other byte x y d e = let n = leb-true (length bytes) 5 le in omega (arith, n)
-  long_by false true one two le is other byte x y d e = absurd (none-some d e)
-  long_by false false true two le is other byte x y d e = let n = eqb-true (length bytes) (5 + slice_index bytes 4) is in omega (arith, n, byte)
-  long_by false false false true le is other byte x y d e = let n = eqb-true (length bytes) (6 + slice_index bytes 4) other in omega (arith, n, byte)
-  long_by false false false false le is other byte x y d e = absurd (none-some d e)
-
-  long_in : (short : Bool) (d : List ℕ) → 4 < length bytes → (if short then None else
-      (if nat_le (length bytes) 5 then Some [] else (if slice_index bytes 4 == 0 then None else (if length bytes == 5 + slice_index bytes 4 then Some
-      (drop 5 bytes) else (if length bytes == 6 + slice_index bytes 4 then Some (take (slice_index bytes 4) (drop 5 bytes)) else None))))) ≡ Some d
-      → length bytes ≤ buffer_size
-  long_in true d there e = absurd (none-some d e)
-  long_in false d there e = long_by (nat_le (length bytes) 5) (slice_index bytes 4 == 0) (length bytes == 5 + slice_index bytes 4)
-      (length bytes == 6 + slice_index bytes 4) refl refl refl (All-get_or (λ b. b < 256) bytes 4 0 there are) _ _ d e
-
-  fits_if : (f : List ℕ → Apdu) (o : Option (List ℕ)) (c : Apdu) → data_of bytes ≡ o → option_map f o ≡ Some c → 4 < length bytes → length bytes ≤ buffer_size
-  fits_if f None c is e there = absurd (none-some c e)
-  fits_if f (Some d) c is e there = long_in (nat_lt (length bytes) 4) d there is
-
-  pub command_fits : (c : Apdu) → apdu_of bytes ≡ Some c → length bytes ≤ buffer_size
-  command_fits c is = elim (cases_lt 4 (length bytes)) [
-    | inl there ↦ fits_if _ (data_of bytes) c refl is there
-    | inr short ↦ omega (arith, short)
-  ]
-
 -- ---- commands but the end of a load
 
 module _ (commands : CommandsAreSound) (t : Tokens) (card : CardState) (own : IsOwnCard t card) (known : AreKnown card.packages) where
@@ -158,10 +127,10 @@ module _ (commands : CommandsAreSound) (t : Tokens) (card : CardState) (own : Is
       record { due = (one.due, other.due); each = (one.each, other.each); runs = OneOf _ _ card.memory one.runs other.runs }
 
   -- a command begins
-  started : (bytes : List ℕ) (v : MemoryState) → length bytes ≤ buffer_size → IsReady p v → IsReady p (apply_effect (BeginCommand bytes) v)
-  started bytes v few r = record {
-    sound = serving_keeps.sound p (BeginCommand bytes) v few r.sound;
-    environment = serving_keeps.environment p (BeginCommand bytes) v few r.sound r.environment;
+  started : (bytes : List ℕ) (v : MemoryState) → IsReady p v → IsReady p (apply_effect (BeginCommand bytes) v)
+  started bytes v r = record {
+    sound = serving_keeps.sound p (BeginCommand bytes) v tt r.sound;
+    environment = serving_keeps.environment p (BeginCommand bytes) v tt r.sound r.environment;
     closed = r.closed;
     idle = r.idle;
   }
@@ -172,9 +141,8 @@ module _ (commands : CommandsAreSound) (t : Tokens) (card : CardState) (own : Is
   creates_good (b ∷ more) =
       let v = apply_effect (BeginCommand []) card.memory in
       let d = applet_creation card.budget p (b ∷ more) v in
-      let few : 0 ≤ buffer_size = omega arith in
-      good_then p _ (BeginCommand []) _ card.memory few tt (good_bind p _ _ d v (good_more p _ _ d v
-      (of_leaves d v (commands.making card.budget p (b ∷ more) v known (started [] card.memory few own.ready))) (λ e w ready. ends_good _ w ready)))
+      good_then p _ (BeginCommand []) _ card.memory tt tt (good_bind p _ _ d v (good_more p _ _ d v
+      (of_leaves d v (commands.making card.budget p (b ∷ more) v known (started [] card.memory own.ready))) (λ e w ready. ends_good _ w ready)))
 
   -- the applet with an AID is there
   number_found : (m : MemoryState) (o : Option ℕ) (a : AppletNumber) → option_map (λ n. record { 0 = n }) o ≡ Some a
@@ -220,11 +188,11 @@ module _ (commands : CommandsAreSound) (t : Tokens) (card : CardState) (own : Is
       (to_named_good (applet_with_aid v c.content) expected v r (λ a is. registered v c.content a r is)))
       (to_selected_good v.registers.selected expected v r r.sound.selected)
 
-  pub dispatched_good : (bytes : List ℕ) (c : Apdu) → length bytes ≤ buffer_size → Good p (dispatch bytes c card) card.memory (IsAnswered p)
+  pub dispatched_good : (bytes : List ℕ) (c : Apdu) → Good p (dispatch bytes c card) card.memory (IsAnswered p)
   unfolding dispatch
-  dispatched_good bytes c few =
+  dispatched_good bytes c =
       let v = apply_effect (BeginCommand bytes) card.memory in
       let d = route card.budget c (expected_by bytes) p v in
-      good_then p _ (BeginCommand bytes) _ card.memory few tt (good_bind p _ _ d v (good_more p _ _ d v
-      (routed_good c (expected_by bytes) v (started bytes card.memory few own.ready))
+      good_then p _ (BeginCommand bytes) _ card.memory tt tt (good_bind p _ _ d v (good_more p _ _ d v
+      (routed_good c (expected_by bytes) v (started bytes card.memory own.ready))
       (λ e w ready. good_gives p _ _ w (record { ready = ready; packages = refl; load = own.load }))))

@@ -143,7 +143,6 @@ module _ (all : List LinkerComponents) (p : Packages) (load : LoadedComponents) 
     home = home_closed g m.registers.installation closed;
     selected = λ a e. (λ t. nat_lt 0 a.0 && nat_le a.0 ((ap (λ k. k.counts.1) settled ∙ ap (λ c. c.1) counts_are ∙ ap (λ c. c.1) counts_settled) t))
         ∙ sound.selected a e;
-    command = sound.command;
     transients = package_carried h m.ram cs xs rest s.end sound.transients;
   }
 

@@ -6,9 +6,8 @@ use Rattle.jc_heap.specs.Heap.{HeapState, heap_item_at, is_allocated}
 use Rattle.jc_image.specs.declared.laying.ImageRoom.{ImageRoom}
 use Rattle.jc_image.specs.Laying.{unsealed_heap}
 use Rattle.jc_platform.specs.Tokens.{Tokens}
-use Rattle.jc_environment.specs.Objects.{fixed_objects}
 use Rattle.jc_card.specs.Fixed.{class_number_of, with_objects}
-use Rattle.jc_card.specs.Made.{new_card_heap}
+use Rattle.jc_card.specs.Made.{new_card_heap, objects_in}
 use Rattle.jc_card.proofs.FixedObjects.{IsBelow, below-one, with_one}
 use Rattle.law_images.specs.Apart.{StandApart}
 use Rattle.law_images.proofs.Apart.{transient_apart}
@@ -28,5 +27,5 @@ new_apart n room text t =
       below = λ r there. absurd (true≢false (sym there));
       apart = λ r q there behind lt. absurd (true≢false (sym there));
     } in
-    let s = objects_apart t (unsealed_heap n room text) (fixed_objects t) (record { absent = λ q le. refl; none = λ q le. refl }) bare in
+    let s = objects_apart t (unsealed_heap n room text) (objects_in room t) (record { absent = λ q le. refl; none = λ q le. refl }) bare in
     record { start = s.start; first = s.first; below = s.below; apart = s.apart }

@@ -1,5 +1,5 @@
 -- The heap of a new image fits its packages.
-use Rattle.std.proofs.Common.{◌≡◌, ℕ, zero, suc, ◌+◌, ◌<◌, ◌≤◌, ◌&&◌, ◌==◌, not, Bool, true, false, inl, inr, List, [], ◌∷◌, ◌++◌, length, Option, Some, None, Ok}
+use Rattle.std.proofs.Common.{◌≡◌, ℕ, zero, suc, ◌+◌, ◌<◌, ◌≤◌, ◌&&◌, ◌==◌, not, Bool, true, false, inl, inr, List, [], ◌∷◌, ◌++◌, length, map, Option, Some, None, Ok}
 use Rattle.std.proofs.Common.{refl, sym, ◌∙◌, ap, subst, arith, if◌then◌else◌}
 use Rattle.std.specs.Prelude.{is_some, slice_index, unwrap_or}
 use Rattle.std.proofs.lemmas.List.FromFn.{get_or-map-range_with_len, length-map-range_with_len}
@@ -8,7 +8,7 @@ use Rattle.std.proofs.lemmas.Bool.{and_from, cases_lt, false≢true}
 use Rattle.std.proofs.lemmas.List.{length-replicate}
 use Rattle.jc_words.specs.Layout.{least_size, registry_length}
 use Rattle.jc_transient.specs.declared.cell.ClearEvent.TheVariants.{Reset}
-use Rattle.jc_transient.specs.State.{AreSizes}
+use Rattle.jc_transient.specs.State.{AreSizes, buffer_told}
 use Rattle.jc_heap.specs.declared.object.Kind.{Kind}
 use Rattle.jc_heap.specs.Object.{AnObject, APackage, Item, facts_of, is_object, new_transient}
 use Rattle.jc_heap.specs.Table.{entry_or}
@@ -24,13 +24,13 @@ use Rattle.jc_platform.proofs.Lists.{and_true}
 use Rattle.jc_linker.specs.Values.{Packages}
 use Rattle.jc_card_checks.specs.Objects.{is_instance, is_persistent_instance}
 use Rattle.jc_environment.specs.declared.objects.FixedObject.{FixedObject}
-use Rattle.jc_environment.specs.Objects.{first_objects, fixed_count, fixed_objects, is_first, own_instance, own_instances}
-use Rattle.jc_environment.proofs.Counts.{all_further, is_thrown_further, least_count}
+use Rattle.jc_environment.specs.Objects.{first_objects, fixed_count, fixed_objects, is_first, own_instance, own_instances, sized, sized_objects}
+use Rattle.jc_environment.proofs.Counts.{all_further, count_sized, is_thrown_further, least_count}
 use Rattle.jc_platform.specs.Names.{ClassEntry, classes}
-use Rattle.jc_card.specs.Fixed.{BeginsWithFixed, class_number_of, fixed_facts, fixed_of, last_fixed, next_or_null, object_number, with_objects}
+use Rattle.jc_card.specs.Fixed.{BeginsWithFixed, buffer_cells, class_number_of, fixed_facts, fixed_of, last_fixed, next_or_null, object_number, with_objects}
 use Rattle.jc_image.specs.Beginning.{HeadersFollow, HeapBeginsWith}
 use Rattle.jc_image.proofs.Referring.{not_true}
-use Rattle.jc_card.specs.Made.{new_card_heap}
+use Rattle.jc_card.specs.Made.{new_card_heap, objects_in}
 use Rattle.jc_card.proofs.FittingImages.{alone, counts_add, no_packages, number_suc, packages_add}
 use Rattle.jc_card.proofs.FixedObjects.{IsBelow, begins-new_card_heap, below-one, head-new_card_heap, items-one, next_is, text-new_card_heap, top-add}
 use Rattle.jc_card.proofs.FixedObjects.{whole-new_card_heap, with_one}
@@ -100,6 +100,12 @@ further_fit = refl
 fixed_fit : (t : Tokens) → all_fit (fixed_objects t) ≡ true
 unfolding fixed_objects
 fixed_fit t = fit-append first_objects (own_instances t classes) first_fit (fit-own t classes further_fit)
+
+-- and of those with a buffer of n cells
+sized_fit : (n : ℕ) (os : List FixedObject) → all_fit os ≡ true → all_fit (map (sized n) os) ≡ true
+sized_fit n [] f = refl
+sized_fit n (o ∷ os) f = let both = and_true (fits_kind o.kind o.class) (all_fit os) f in
+    and_from (fits_kind o.kind o.class) _ both.0 (sized_fit n os both.1)
 
 class_fits : (t : Tokens) (kind : Kind) (class : Option PlatformClass) → fits_kind kind class ≡ true → is_instance kind ≡ true
     → IsPlatformClass (alone_with t) (class_number_of t class)
@@ -192,23 +198,25 @@ follow_there h t place (o ∷ os) j (suc i) n follow lt is =
 begin_there : (h : HeapState) (t : Tokens) → BeginsWithFixed t h → (k : ℕ) → k < length (fixed_of t h) → IsObject h (slice_index (fixed_of t h) k)
 unfolding HeapBeginsWith
 begin_there h t begins k low =
+    let os : List FixedObject = sized_objects t (buffer_cells h) in
+    let all = count_sized t (buffer_cells h) in
     let lt : k < fixed_count t = omega (arith, low, length-map-range_with_len (object_number h) 1 (fixed_count t)) in
     let at : slice_index (fixed_of t h) k ≡ object_number h (1 + k) =
     get_or-map-range_with_len (object_number h) 1 (fixed_count t) k (1 + k) 0 lt refl in
-    subst (IsObject h) (sym at) (follow_there h t 0 (fixed_objects t) 0 k (1 + k)
-    (subst (λ q. HeadersFollow h q (fixed_facts t 0 (fixed_objects t))) (sym (zeroth h)) begins) lt (omega arith))
+    subst (IsObject h) (sym at) (follow_there h t 0 os 0 k (1 + k)
+    (subst (λ q. HeadersFollow h q (fixed_facts t 0 os)) (sym (zeroth h)) begins) (omega (arith, lt, all)) (omega arith))
 
 module _ (n : ℕ) (room : ImageRoom) (text : List ℕ) (t : Tokens) where
   abbrev made : HeapState
-  made = with_objects t (unsealed_heap n room text) (fixed_objects t)
+  made = with_objects t (unsealed_heap n room text) (objects_in room t)
 
   below : IsBelow (new_card_heap n room text t)
   below =
-      let b : IsBelow made = below_all t (unsealed_heap n room text) (fixed_objects t) (record { absent = λ q le. refl; none = λ q le. refl }) in
+      let b : IsBelow made = below_all t (unsealed_heap n room text) (objects_in room t) (record { absent = λ q le. refl; none = λ q le. refl }) in
       record { absent = b.absent; none = b.none }
 
   some : 0 < (new_card_heap n room text t).top
-  some = let more = top_all t (unsealed_heap n room text) (fixed_objects t) in omega (arith, more)
+  some = let more = top_all t (unsealed_heap n room text) (objects_in room t) in omega (arith, more)
 
   stands_whole : AreSizes room.cells room.buffer → IsConsistentHeap (new_card_heap n room text t)
   unfolding is_allocated
@@ -216,13 +224,13 @@ module _ (n : ℕ) (room : ImageRoom) (text : List ℕ) (t : Tokens) where
 
   fixed_items : (r : ℕ) → IsFixed t (heap_item_at (new_card_heap n room text t) r)
   unfolding heap_item_at
-  fixed_items r = all_fixed t (unsealed_heap n room text) (fixed_objects t) (fixed_fit t) (λ q. absent_fixed t) r
+  fixed_items r = all_fixed t (unsealed_heap n room text) (objects_in room t) (sized_fit (buffer_told room.buffer) (fixed_objects t) (fixed_fit t)) (λ q. absent_fixed t) r
 
   no_package : (new_card_heap n room text t).packages ≡ []
-  no_package = packages_add t (unsealed_heap n room text) (fixed_objects t)
+  no_package = packages_add t (unsealed_heap n room text) (objects_in room t)
 
   no_applet : (new_card_heap n room text t).counts ≡ (0, 0)
-  no_applet = counts_add t (unsealed_heap n room text) (fixed_objects t)
+  no_applet = counts_add t (unsealed_heap n room text) (objects_in room t)
 
   nothing_above : IsSoundUpTo (new_card_heap n room text t).counts.1 (alone_with t) (new_card_heap n room text t) (last_fixed t (new_card_heap n room text t))
   nothing_above = record {
@@ -258,7 +266,7 @@ module _ (n : ℕ) (room : ImageRoom) (text : List ℕ) (t : Tokens) where
     beginning = begins enough reads;
     packages = no_packages t (new_card_heap n room text t) no_package;
     stands = stands_whole sizes;
-    registry = ap length (applets_all t (unsealed_heap n room text) (fixed_objects t)) ∙ length-replicate {A = ℕ} registry_length 0;
+    registry = ap length (applets_all t (unsealed_heap n room text) (objects_in room t)) ∙ length-replicate {A = ℕ} registry_length 0;
     loaded = ap length no_package;
     fits = nothing_above;
     environment = environments;

@@ -1,12 +1,11 @@
 -- Sessions leave a card as it should be.
-use Rattle.std.proofs.Common.{◌≡◌, ℕ, ◌+◌, ◌<◌, ◌≤◌, ◌==◌, nat_le, nat_lt, Bool, true, false, List, [], ◌∷◌, length, drop, take, Option, Some, None}
+use Rattle.std.proofs.Common.{◌≡◌, ℕ, ◌+◌, ◌<◌, ◌≤◌, ◌==◌, Bool, true, false, List, [], ◌∷◌, length, drop, take, Option, Some, None}
 use Rattle.std.proofs.Common.{refl, sym, ◌∙◌, ap, subst, arith, if◌then◌else◌}
-use Rattle.std.specs.Prelude.{Ok, slice_index}
-use Rattle.std.specs.Option.{option_map}
-use Rattle.std.proofs.lemmas.List.Elements.{All-drop, All-nil, All-take}
+use Rattle.std.specs.Prelude.{◌||◌, Ok}
+use Rattle.std.proofs.lemmas.List.Elements.{All-drop, All-take}
 use Rattle.std.proofs.lemmas.Option.{none-some, same_Some}
 use Rattle.jc_words.specs.Refusals.{Refusals}
-use Rattle.jc_transient.specs.State.{IsCleared, buffer_size}
+use Rattle.jc_transient.specs.State.{IsCleared}
 use Rattle.jc_heap.specs.Heap.{HeapState, area_sizes, heap_at_rest}
 use Rattle.jc_heap.specs.Keeping.{AreConsistent}
 use Rattle.jc_heap.proofs.Changing.{shape-same}
@@ -20,9 +19,10 @@ use Rattle.jc_interp.specs.declared.attacks.Budget.{Budget}
 use Rattle.jc_card_load.specs.Reading.{packages_of}
 use Rattle.jc_card_load.specs.Loading.{empty_load, component_begin, component_end as ended_component}
 use Rattle.jc_card.specs.Answers.{respond_with, manager_command, exchange, exchange_of_apdu, is_dispatched, manager_response, run_code}
-use Rattle.jc_card.specs.Apdu.{Apdu, apdu_of, data_of}
+use Rattle.jc_memory.specs.Commands.{data_of, data_offset, has_extended_length}
+use Rattle.jc_card.specs.Apdu.{Apdu, apdu_of, has_extended_form, has_short_form}
 use Rattle.jc_card.specs.CardState.{CardState}
-use Rattle.jc_card.specs.Dispatching.{with_response, create_applet, dispatch}
+use Rattle.jc_card.specs.Dispatching.{with_response, create_applet, dispatch, takes_extended}
 use Rattle.jc_environment.specs.Objects.{last_of}
 use Rattle.jc_card.specs.Fixed.{fixed_of, last_fixed}
 use Rattle.jc_card.proofs.Objects.{last_numbered}
@@ -48,7 +48,7 @@ use Rattle.law_images.proofs.Memories.{loads_are_sound}
 use Rattle.law_images.proofs.ImageEffects.{effects_keep}
 use Rattle.law_images.specs.Cards.{AreLinkedWell, AreOfBytes, IsOfBytes, IsOwnCard, IsOwnKept, IsOwnPower, StaysOwn}
 use Rattle.law_images.specs.Loads.{IsLaidOut}
-use Rattle.law_images.proofs.Commands.{IsAnswered, answers_good, command_fits, creates_good, did_own, dispatched_good, grows_good, loads_good, lost_own, on_load_good}
+use Rattle.law_images.proofs.Commands.{IsAnswered, answers_good, creates_good, did_own, dispatched_good, grows_good, loads_good, lost_own, on_load_good}
 use Rattle.law_images.proofs.Commands.{own_memory, runs_good}
 use Rattle.law_images.proofs.CardHeaps.{IsLeft, left_own, own_at}
 use Rattle.law_images.proofs.Loads.{ends_lost, ends_own}
@@ -68,29 +68,16 @@ OneTable = (text : List ℕ) (t u : Tokens) → Reads text (Ok t) → Reads text
 
 -- ---- the data of a command
 
-data_bytes : (a b c d e : Bool) (n : ℕ) (bytes content : List ℕ) → AreBytes bytes
-    → (if a then None else if b then Some [] else if c then None else if d then Some (drop 5 bytes) else if e then Some (take n (drop 5 bytes)) else None)
-    ≡ Some content → AreBytes content
-data_bytes true b c d e n bytes content are is = absurd (none-some content is)
-data_bytes false true c d e n bytes content are is = subst AreBytes (same_Some [] content is) (All-nil (λ b. b < 256))
-data_bytes false false true d e n bytes content are is = absurd (none-some content is)
-data_bytes false false false true e n bytes content are is = subst AreBytes (same_Some (drop 5 bytes) content is) (All-drop (λ b. b < 256) 5 bytes are)
-data_bytes false false false false true n bytes content are is = subst AreBytes (same_Some (take n (drop 5 bytes)) content is)
-    (All-take (λ b. b < 256) n (drop 5 bytes) (All-drop (λ b. b < 256) 5 bytes are))
-data_bytes false false false false false n bytes content are is = absurd (none-some content is)
+data_bytes : (bytes : List ℕ) → AreBytes bytes → AreBytes (data_of bytes)
+unfolding data_of
+data_bytes bytes are = All-take (λ b. b < 256) _ (drop (data_offset bytes) bytes) (All-drop (λ b. b < 256) (data_offset bytes) bytes are)
 
-content_of : (bytes : List ℕ) (o : Option (List ℕ)) (c : Apdu) → data_of bytes ≡ o → AreBytes bytes
-    → option_map (λ d. record {
-      class = slice_index bytes 0;
-      instruction = slice_index bytes 1;
-      p1 = slice_index bytes 2;
-      p2 = slice_index bytes 3;
-      content = d;
-    }) o ≡ Some c → AreBytes c.content
-content_of bytes None c is are e = absurd (none-some c e)
-content_of bytes (Some d) c is are e = subst AreBytes (ap (λ x. x.content) (same_Some _ c e))
-    (data_bytes (nat_lt (length bytes) 4) (nat_le (length bytes) 5) (slice_index bytes 4 == 0) (length bytes == 5 + slice_index bytes 4)
-    (length bytes == 6 + slice_index bytes 4) (slice_index bytes 4) bytes d are is)
+content_if : (b : Bool) (a c : Apdu) → (if b then Some a else None) ≡ Some c → AreBytes a.content → AreBytes c.content
+content_if true a c e are = subst AreBytes (ap (λ x. x.content) (same_Some a c e)) are
+content_if false a c e are = absurd (none-some c e)
+
+content_of : (bytes : List ℕ) (c : Apdu) → AreBytes bytes → apdu_of bytes ≡ Some c → AreBytes c.content
+content_of bytes c are e = content_if (has_short_form bytes || has_extended_form bytes) _ c e (data_bytes bytes are)
 
 -- ---- a command
 
@@ -133,16 +120,21 @@ module _ (t : Tokens) (card : CardState) (own : IsOwnCard t card) where
   managed_does c are = does_if (c.class == 0x80) _ _ (commanded_does c are) (does (respond_with card (status_bytes cla_not_supported))
       (answers_good commands_are_sound t card own are_known (status_bytes cla_not_supported)))
 
-  apdu_does : (bytes : List ℕ) (o : Option Apdu) → ((c : Apdu) → o ≡ Some c → AreBytes c.content) → ((c : Apdu) → o ≡ Some c → length bytes ≤ buffer_size)
-      → Does (exchange_of_apdu bytes o card)
-  apdu_does bytes None are fits = does (respond_with card (status_bytes wrong_length))
-      (answers_good commands_are_sound t card own are_known (status_bytes wrong_length))
-  apdu_does bytes (Some c) are fits = does_if (is_dispatched card c) _ _ (does (dispatch bytes c card)
-      (dispatched_good commands_are_sound t card own are_known bytes c (fits c refl))) (managed_does c (are c refl))
+  refused_does : Does (respond_with card (status_bytes wrong_length))
+  refused_does = does (respond_with card (status_bytes wrong_length)) (answers_good commands_are_sound t card own are_known (status_bytes wrong_length))
+
+  dispatch_does : (bytes : List ℕ) (c : Apdu) → Does (dispatch bytes c card)
+  dispatch_does bytes c = does (dispatch bytes c card) (dispatched_good commands_are_sound t card own are_known bytes c)
+
+  apdu_does : (bytes : List ℕ) (o : Option Apdu) → ((c : Apdu) → o ≡ Some c → AreBytes c.content) → Does (exchange_of_apdu bytes o card)
+  apdu_does bytes None are = refused_does
+  apdu_does bytes (Some c) are =
+      does_if (has_extended_length bytes) _ _ (does_if (takes_extended c card.packages card.memory) _ _ (dispatch_does bytes c) refused_does)
+      (does_if (is_dispatched card c) _ _ (dispatch_does bytes c) (managed_does c (are c refl)))
 
   exchanging_does : (bytes : List ℕ) → AreBytes bytes → Does (exchange bytes card)
   unfolding exchange
-  exchanging_does bytes are = apdu_does bytes (apdu_of bytes) (λ c is. content_of bytes (data_of bytes) c refl are is) (command_fits bytes are)
+  exchanging_does bytes are = apdu_does bytes (apdu_of bytes) (λ c is. content_of bytes c are is)
 
   pub command_own : (bytes : List ℕ) (reply : Reply) (next : PowerState) → AreBytes bytes → AnswersCommand (Up card) bytes reply next → IsOwnPower t next
   command_own bytes (Response r) (Up next) are did = (exchanging_does bytes are).did (with_response next r) next.memory did
@@ -166,8 +158,7 @@ kept_own t (Up card) own = record {
 kept_own t (Off b k) own = own
 
 module _ (n : ℕ) (t : Tokens) (p : Packages) (h : HeapState) (own : IsOwnHeap h.head.1 t p h) (linked : AreLinkedWell p) (layout : IsLaidOut h)
-    (passed : ℕ) (budget : Budget) (refusals : Refusals) (m : MemoryState) (clear : IsCleared m.ram) (fits : m.ram.sizes ≡ area_sizes h)
-    (none : m.command ≡ []) where
+    (passed : ℕ) (budget : Budget) (refusals : Refusals) (m : MemoryState) (clear : IsCleared m.ram) (fits : m.ram.sizes ≡ area_sizes h) where
   abbrev reset_memory : MemoryState
   reset_memory = record m { heap = heap_at_rest h passed refusals n; fixed = fixed_of t h; registers = at_reset }
 
@@ -193,7 +184,6 @@ module _ (n : ℕ) (t : Tokens) (p : Packages) (h : HeapState) (own : IsOwnHeap 
     own = λ r low there. let b = last_is in own.own r (omega (arith, low, b)) there;
     home = refl;
     selected = λ a e. absurd (none-some a e);
-    command = let long = ap length none in omega (arith, long);
     transients = blank_lives h m.ram clear fits;
   }
 
@@ -214,7 +204,7 @@ powered_own g t k budget card own up =
     let known : card.memory.fixed ≡ fixed_of t k.durable = subst (λ u. card.memory.fixed ≡ fixed_of u k.durable) table up.reset.packages.3 in
     let same : card.packages ≡ own.packages = same_Some card.packages own.packages (sym read ∙ own.heap.packages) in
     let reset = reset_own k.size t own.packages k.durable own.heap own.linked own.layout card.memory.heap.passed card.budget k.refusals card.memory
-    up.reset.ram up.reset.sizes up.reset.command in
+    up.reset.ram up.reset.sizes in
     let path : card ≡ record {
       memory = record card.memory {
         heap = heap_at_rest k.durable card.memory.heap.passed k.refusals k.size;
@@ -266,7 +256,6 @@ armed_sound p k card s = record {
   own = s.own;
   home = s.home;
   selected = s.selected;
-  command = s.command;
   transients = s.transients;
 }
 

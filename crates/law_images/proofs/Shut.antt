@@ -36,9 +36,10 @@ use Rattle.jc_card_load.specs.declared.load_refusal.LoadRefusal.{LoadRefusal}
 use Rattle.jc_card_load.specs.declared.load.OpenLoad.{OpenLoad}
 use Rattle.jc_card_load.specs.Ending.{package_entry, assembly_result, after_addition, after_preparation, end_of_load}
 use Rattle.jc_card.specs.Answers.{manager_command, exchange, exchange_of_apdu, is_dispatched, run_code}
+use Rattle.jc_memory.specs.Commands.{has_extended_length}
 use Rattle.jc_card.specs.Apdu.{Apdu, apdu_of}
 use Rattle.jc_card.specs.CardState.{CardState}
-use Rattle.jc_card.specs.Dispatching.{create_applet, dispatch, expected_by, is_select, manager_aid, route, to_named, to_selected}
+use Rattle.jc_card.specs.Dispatching.{create_applet, dispatch, expected_by, is_select, manager_aid, route, takes_extended, to_named, to_selected}
 use Rattle.jc_card.specs.Loads.{begin_component, end_component, append_component, end_load}
 
 -- no transaction is open
@@ -273,8 +274,10 @@ exchanging_of_shut : (bytes : List ℕ) (c : Option Apdu) (card : CardState) →
     → EndsShut (exchange_of_apdu bytes c card) card.memory
 exchanging_of_shut bytes None card shut = stays_shut shut
 exchanging_of_shut bytes (Some c) card shut =
-    shut_if (is_dispatched card c) _ _ card.memory (dispatched_shut bytes c card shut)
-    (shut_if (c.class == 0x80) _ _ card.memory (commanded_shut c card shut) (stays_shut shut))
+    shut_if (has_extended_length bytes) _ _ card.memory
+    (shut_if (takes_extended c card.packages card.memory) _ _ card.memory (dispatched_shut bytes c card shut) (stays_shut shut))
+    (shut_if (is_dispatched card c) _ _ card.memory (dispatched_shut bytes c card shut)
+    (shut_if (c.class == 0x80) _ _ card.memory (commanded_shut c card shut) (stays_shut shut)))
 
 pub exchanging_shut : (bytes : List ℕ) (card : CardState) → card.memory.heap.begun ≡ false → EndsShut (exchange bytes card) card.memory
 unfolding exchange

@@ -8,7 +8,6 @@ use Rattle.jc_words.specs.Layout.{most_applets}
 use Rattle.jc_transient.specs.declared.cell.CellValue.TheVariants.{Short}
 use Rattle.jc_transient.specs.Cells.{number_of}
 use Rattle.jc_transient.specs.declared.cell.ClearEvent.{ClearEvent}
-use Rattle.jc_transient.specs.State.{buffer_size}
 use Rattle.jc_heap.specs.declared.object.Kind.TheVariants.{ByteArray}
 use Rattle.jc_heap.specs.Object.{is_object}
 use Rattle.jc_heap.specs.Heap.{IsObject, facts, is_allocated}
@@ -117,7 +116,7 @@ engine_leaves p q m out e array new r other =
     (subst (λ t. is_allocated made.heap.now t ≡ false) other.chosen other.free) in
     object-set_cell with_number.heap.now r state_cell array q (object-set_cell with_instance.heap.now r number_cell number q later)
 
-module _ (method : PlatformMethod) (args : List Cell) (p : Packages) (m : MemoryState) (q : ℕ) (out : IsOutside p m q) (few : length m.command ≤ buffer_size)
+module _ (method : PlatformMethod) (args : List Cell) (p : Packages) (m : MemoryState) (q : ℕ) (out : IsOutside p m q)
     (reach : sets_receiver method ≡ true → ReachesCalled args p m) where
   -- what is called, and sets cells of it, is another object
   other : sets_receiver method ≡ true → (own : ℕ) → reference_argument args 0 ≡ Some own → own ≡ q → ⊥
@@ -234,8 +233,7 @@ module _ (method : PlatformMethod) (args : List Cell) (p : Packages) (m : Memory
     };
     aid = λ init own bytes is long fine. run_spares q m own 0 (cells_of_aid bytes) (other (sets_aid init) own is)
         (let l = long.cells in let n = nine bytes in omega (arith, l, n));
-    buffer = λ r words is fits. run_spares q m r 5 words (λ same. out.others (16, sym same ∙ is.is))
-        (let d = fits few in let l = is.long in omega (arith, d, l));
+    buffer = λ r at words is fits. run_spares q m r at words (λ same. out.others (16, sym same ∙ is.is)) fits;
     starts = λ pin is limit maximum.
         let ne = other_pin pin is in
         new_spares q (value_array m maximum) (recorded pin limit maximum) m out.there (λ value v new. (inl (ne, (ne, (ne, (ne, (ne, tt))))), (ne, tt)));
@@ -269,5 +267,5 @@ module _ (method : PlatformMethod) (args : List Cell) (p : Packages) (m : Memory
   }
 
 pub natives_spare : NativesSpare
-natives_spare method args p m q out few reach = method_due (LeavesObject q) (λ m. Unit {0}) (bears q) args p m tt method
-    (passes method args p m q out few reach) (of_forms p m (LeavesObject q) Anything method args (forms_pass method args p m q out few reach)) (registers_so method args p m q out few reach)
+natives_spare method args p m q out reach = method_due (LeavesObject q) (λ m. Unit {0}) (bears q) args p m tt method
+    (passes method args p m q out reach) (of_forms p m (LeavesObject q) Anything method args (forms_pass method args p m q out reach)) (registers_so method args p m q out reach)

@@ -42,7 +42,7 @@ use Rattle.jc_interp_calls.specs.declared.invoke.MethodCall.{MethodCall}
 use Rattle.jc_interp_calls.specs.Invoke.{call_decision, call_of, class_of, is_native_constructor, method_selection, receiver_of, receiver_on}
 use Rattle.jc_api.proofs.Reaching.{err_not_ok, object_is, one_context, own_reach, same_Ok}
 use Rattle.jc_api.proofs.Stretches.{both_ok}
-use Rattle.law_isolation.proofs.Selecting.{Bare, Found, IsByInterface, IsByToken, Named, Selected, is_there, selected}
+use Rattle.law_isolation.proofs.Selecting.{Bare, Found, IsSought, Named, Selected, is_there, selected}
 use Rattle.law_isolation.specs.Steps.{NamesStatics}
 
 -- ---- what the firewall allows without a switch
@@ -130,14 +130,15 @@ module _ (p : Packages) (m : MemoryState) (stack : List Cell) (c : MethodCall) (
   interface_decided interface f true is e = shareable_allowed p m f e
   interface_decided interface f false is e = standard_allowed p m f e
 
-  found_reach : (f : Facts) (method : Method) (a : Access) → IsByToken p (class_of p f) method a ⊎ IsByInterface p (class_of p f) method a
-      → firewall_decision a p m f ≡ Allow → IsInReach (situation_of p m f)
-  found_reach f method a (inl by) e = virtual_allowed p m f (subst (λ x. firewall_decision x p m f ≡ Allow) by.0 e)
-  found_reach f method a (inr by) e = interface_decided by.0 f (is_shareable p by.0) refl (subst (λ x. firewall_decision x p m f ≡ Allow) by.2 e)
+  found_reach : (number : ℕ) (f : Facts) (method : Method) (a : Access) → IsSought p number (class_of p f) method a → firewall_decision a p m f ≡ Allow
+      → IsInReach (situation_of p m f)
+  found_reach number f method a (inl by) e = virtual_allowed p m f (subst (λ x. firewall_decision x p m f ≡ Allow) by.0 e)
+  found_reach number f method a (inr (inl by)) e = interface_decided by.0 f (is_shareable p by.0) refl (subst (λ x. firewall_decision x p m f ≡ Allow) by.2 e)
+  found_reach number f method a (inr (inr by)) e = virtual_allowed p m f (subst (λ x. firewall_decision x p m f ≡ Allow) by.0 e)
 
   selected_on : (number : ℕ) → NamesStatics p → Selected p number stack m c → IsFit p m stack c
   selected_on number statics (Found f) = inl (judged_on (firewall_decision f.access p m f.header) f.header f.method f.count
-      (found_reach f.header f.method f.access f.by) f.there f.judged)
+      (found_reach number f.header f.method f.access f.by) f.there f.judged)
   selected_on number statics (Named n) = inl (found_on n.count n.header n.there n.reach (ap (λ x. x.arguments) (sym n.is)))
   selected_on number statics (Bare b) = inr (λ native is. let same : b.method ≡ Native native = ap (λ x. x.method) b.is ∙ is in (
     statics number b.index b.class native (b.target ∙ ap (λ x. Some (StaticMethod b.class x)) same),

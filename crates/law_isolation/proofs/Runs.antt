@@ -1,6 +1,5 @@
 -- Runs.
-use Rattle.std.proofs.Common.{◌≡◌, ℕ, zero, suc, ◌≤◌, List, ◌++◌, length, sym, subst}
-use Rattle.jc_transient.specs.State.{buffer_size}
+use Rattle.std.proofs.Common.{◌≡◌, ℕ, zero, suc, List, ◌++◌, sym, subst}
 use Rattle.jc_heap.specs.Object.{Object, AnObject}
 use Rattle.jc_heap.specs.Heap.{heap_item_at}
 use Rattle.jc_memory.specs.State.{MemoryState, Effect, apply_effects}
@@ -20,13 +19,10 @@ use Rattle.law_isolation.proofs.Steps.{steps_spare}
 -- an object stands as it stood when the run began
 module _ (p : Packages) (statics : NamesStatics p) (lent : List ℕ) (start : MemoryState) (set : IsSet start) (q : ℕ) (out : IsOutside p start q) (o : Object)
     (is : heap_item_at start.heap.now q ≡ AnObject o) where
-  fits : (m : MemoryState) → Stands q o start m → length m.command ≤ buffer_size
-  fits m st = subst (λ l. length l ≤ buffer_size) (sym st.command) set.command
-
   step_taken : (s : Frames) (m : MemoryState) (es : List Effect) (next : Next Frames) → Stands q o start m → Stays lent p s m
       → HasTrace (machine_step lent p s m) m es next → AllEffectsDue (LeavesObject q) es m
   step_taken s m es next st stays takes = due_taken (LeavesObject q) (machine_step lent p s m) m es next
-      (steps_spare lent p s m q statics (fits m st) (outside_still p q o start m is out st) stays) takes
+      (steps_spare lent p s m q statics (outside_still p q o start m is out st) stays) takes
 
   ran_stands : (k : ℕ) (s : Frames) (m : MemoryState) (t : Frames) (n : MemoryState) → RunStepsWithin k lent p s m t n → Stands q o start m → Stands q o start n
   ran_stands zero s m t n ran st = subst (Stands q o start) (sym ran.1) st

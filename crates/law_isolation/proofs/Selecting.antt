@@ -1,6 +1,8 @@
 -- Which method a call selects, in one walk over the calls: what is known of it, and how a call ends that selects none.
-use Rattle.std.proofs.Common.{◌≡◌, ℕ, ◌/◌, ◌⊎◌, Bool, true, false, inl, inr, List, Option, Some, None, Result, Ok, Err, refl, ap, subst}
+use Rattle.std.proofs.Common.{◌≡◌, ℕ, ◌/◌, ◌==◌, ◌⊎◌, Bool, true, false, inl, inr, List, [], ◌∷◌, Option, Some, None, Result, Ok, Err, refl, ◌∙◌, ap, subst}
+use Rattle.std.proofs.Common.{if◌then◌else◌}
 use Rattle.std.proofs.lemmas.Bool.{not-true}
+use Rattle.std.proofs.lemmas.Option.{none-some, same_Some}
 use Rattle.std.specs.Prelude.{not}
 use Rattle.jc_heap.specs.declared.object.Facts.{Facts}
 use Rattle.jc_memory.specs.State.{MemoryState}
@@ -9,7 +11,10 @@ use Rattle.jc_linker.specs.declared.target.Method.{Method}
 use Rattle.jc_linker.specs.declared.target.Target.{Target}
 use Rattle.jc_linker.specs.declared.target.Target.TheVariants.{Class, VirtualMethod, SuperMethod, StaticMethod}
 use Rattle.jc_linker.specs.Lookups.{target_at}
-use Rattle.jc_linker.specs.Methods.{interface_method_at, method_at}
+use Rattle.jc_linker.specs.declared.search.Search.{Search}
+use Rattle.jc_linker.specs.declared.search.Search.TheVariants as search
+use Rattle.jc_linker.specs.Classes.{is_below, lineage}
+use Rattle.jc_linker.specs.Methods.{first_decided, found_or_above, interface_method_at, lookup_classes, method_at, method_below, method_in}
 use Rattle.jc_linker.specs.Values.{Packages}
 use Rattle.jc_opcodes.specs.declared.instr.InvokeOp.{InvokeOp}
 use Rattle.jc_opcodes.specs.declared.instr.InvokeOp.TheVariants.{Virtual, Special, Static, Interface}
@@ -34,7 +39,8 @@ use Rattle.jc_api.proofs.Reaching.{err_not_ok, field_allowed, same_Ok}
 
 -- ---- what is known of the method
 
--- by a token, or by an interface, a class has it, and the firewall sees the call so
+-- by a token, or by an interface, a class has it, or an entry of the package with this number names it for a class above; and the firewall
+-- sees the call so
 abbrev pub IsByToken : Packages → ℕ → Method → Access → Type 0
 IsByToken p class method access = (access ≡ VirtualCall) × (home : ℕ) × (token : VirtualToken) × (method_at p class home token ≡ Some method)
 
@@ -42,14 +48,21 @@ abbrev pub IsByInterface : Packages → ℕ → Method → Access → Type 0
 IsByInterface p class method access = (interface : ℕ) × (token : ℕ) × (access ≡ interface_access p interface)
     × (interface_method_at p class interface token ≡ Some method)
 
+abbrev pub IsByEntry : Packages → ℕ → ℕ → Method → Access → Type 0
+IsByEntry p number class method access = (access ≡ VirtualCall) × (index : ℕ) × (token : VirtualToken) × (above : ℕ)
+    × (target_at p number index ≡ Some (VirtualMethod above token method)) × (is_below p class above ≡ true)
+
+abbrev pub IsSought : Packages → ℕ → ℕ → Method → Access → Type 0
+IsSought p number class method access = IsByToken p class method access ⊎ (IsByInterface p class method access ⊎ IsByEntry p number class method access)
+
 -- it was found in the class of the receiver, and the firewall judged the call
-pub record IsFound (p : Packages) (stack : List Cell) (m : MemoryState) (c : MethodCall) : Type 0 where
+pub record IsFound (p : Packages) (number : ℕ) (stack : List Cell) (m : MemoryState) (c : MethodCall) : Type 0 where
   pub count : ℕ
   pub header : Facts
   pub method : Method
   pub access : Access
   pub there : receiver_of count stack m ≡ Ok header
-  pub by : IsByToken p (class_of p header) method access ⊎ IsByInterface p (class_of p header) method access
+  pub by : IsSought p number (class_of p header) method access
   pub judged : call_decision (firewall_decision access p m header) header method count ≡ Ok c
 
 -- the entry names it, for an object whose fields are within reach
@@ -77,7 +90,7 @@ pub record IsBare (p : Packages) (number : ℕ) (c : MethodCall) : Type 0 where
   pub is : call_of method count None ≡ c
 
 pub data Selected (p : Packages) (number : ℕ) (stack : List Cell) (m : MemoryState) (c : MethodCall) : Type 0 where
-  Found : IsFound p stack m c → Selected p number stack m c
+  Found : IsFound p number stack m c → Selected p number stack m c
   Named : IsNamed p number stack m c → Selected p number stack m c
   Bare : IsBare p number c → Selected p number stack m c
 
@@ -109,6 +122,23 @@ it_holds : (b : Bool) (u : Unit {0}) → check_or_fault b ≡ Ok u → b ≡ tru
 it_holds true u e = refl
 it_holds false u e = absurd (err_not_ok e)
 
+-- ---- a search that ends at a class with its method: it has found what it finds else, or that one
+
+one_more : (b : Bool) (s : Search Method) (method found : Method) (ended whole : Option Method)
+    → (ended ≡ Some found → (whole ≡ Some found) ⊎ (method ≡ found)) → found_or_above (if b then search.Found method else s) ended ≡ Some found
+    → (found_or_above s whole ≡ Some found) ⊎ (method ≡ found)
+one_more true s method found ended whole rest e = inr (same_Some method found e)
+one_more false (search.Found a) method found ended whole rest e = inl e
+one_more false search.Above method found ended whole rest e = rest e
+one_more false search.Nowhere method found ended whole rest e = absurd (none-some found e)
+
+either : (step : ℕ → Search Method) (class : ℕ) (method found : Method) (cs : List ℕ)
+    → first_decided (λ c. if c == class then search.Found method else step c) cs ≡ Some found → (first_decided step cs ≡ Some found) ⊎ (method ≡ found)
+unfolding first_decided
+either step class method found [] e = absurd (none-some found e)
+either step class method found (c ∷ cs) e = one_more (c == class) (step c) method found
+    (first_decided (λ x. if x == class then search.Found method else step x) cs) (first_decided step cs) (either step class method found cs) e
+
 -- ---- the calls
 
 plain_receiver : (n : ℕ) (stack : List Cell) (m : MemoryState) → FaultsOnly (receiver_of n stack m)
@@ -124,14 +154,25 @@ module _ (p : Packages) (number : ℕ) (stack : List Cell) (m : MemoryState) whe
   abbrev So : Result MethodCall FrameExit → Type 0
   So = GivesSo (Selected p number stack m)
 
-  virtual_so : (class : ℕ) (token : VirtualToken) (method : Method) → So (invokevirtual class token method p stack m)
+  virtually : (index class own : ℕ) (token : VirtualToken) (method found : Method) → target_at p number index ≡ Some (VirtualMethod class token method)
+      → is_below p own class ≡ true → method_below p own class token method ≡ Some found → IsSought p number own found VirtualCall
+  unfolding method_below method_at
+  virtually index class own token method found target below is =
+      elim (either (method_in p token) class method found (lookup_classes token (class / 256) (lineage p own)) is) [
+        | inl at ↦ inl (refl, class / 256, token, at)
+        | inr same ↦ inr (inr (refl, index, token, class, target ∙ ap (λ x. Some (VirtualMethod class token x)) same, below))
+      ]
+
+  virtual_so : (index class : ℕ) (token : VirtualToken) (method : Method) → target_at p number index ≡ Some (VirtualMethod class token method)
+      → So (invokevirtual class token method p stack m)
   unfolding invokevirtual
-  virtual_so class token method =
+  virtual_so index class token method target =
       so_then _ (some_or_fault (arguments_of p method)) _ (plain_some (arguments_of p method)) (λ n counted.
       so_then _ (check_or_fault (fits_at_null n method p stack m)) _ (plain_check (fits_at_null n method p stack m)) (λ u kinds.
       so_then _ (receiver_of n stack m) _ (plain_receiver n stack m) (λ f there.
       so_then _ (check_or_fault (is_of p f class)) _ (plain_check (is_of p f class)) (λ v of.
-      so_then _ (some_or_fault (method_at p (class_of p f) (class / 256) token)) _ (plain_some (method_at p (class_of p f) (class / 256) token)) (λ found at.
+      so_then _ (some_or_fault (method_below p (class_of p f) class token method)) _ (plain_some (method_below p (class_of p f) class token method))
+      (λ found at.
       so_then _ (check_or_fault (fits found p m stack)) _ (plain_check (fits found p m stack)) (λ w wanted.
       so_of _ (call_decision (firewall_decision VirtualCall p m f) f found n) (plain_decision (firewall_decision VirtualCall p m f) f found n) (λ c judged.
       Found (record {
@@ -140,7 +181,8 @@ module _ (p : Packages) (number : ℕ) (stack : List Cell) (m : MemoryState) whe
         method = found;
         access = VirtualCall;
         there = there;
-        by = inl (refl, class / 256, token, is_there (method_at p (class_of p f) (class / 256) token) found at);
+        by = virtually index class (class_of p f) token method found target (it_holds (is_of p f class) v of)
+            (is_there (method_below p (class_of p f) class token method) found at);
         judged = judged;
       }))))))))
 
@@ -160,7 +202,7 @@ module _ (p : Packages) (number : ℕ) (stack : List Cell) (m : MemoryState) whe
         method = found;
         access = interface_access p interface;
         there = there;
-        by = inr (interface, token, refl, is_there (interface_method_at p (class_of p f) interface token) found at);
+        by = inr (inl (interface, token, refl, is_there (interface_method_at p (class_of p f) interface token) found at));
         judged = judged;
       }))))))
 
@@ -203,9 +245,9 @@ module _ (p : Packages) (number : ℕ) (stack : List Cell) (m : MemoryState) whe
       })))
 
   -- by what the entry of the pool resolves to
-  virtual_by_so : (o : Option Target) → So (virtual_by o p stack m)
-  virtual_by_so (Some (VirtualMethod class token method)) = virtual_so class token method
-  virtual_by_so _ = tt
+  virtual_by_so : (index : ℕ) (o : Option Target) → target_at p number index ≡ o → So (virtual_by o p stack m)
+  virtual_by_so index (Some (VirtualMethod class token method)) is = virtual_so index class token method is
+  virtual_by_so index _ is = tt
 
   special_by_so : (index : ℕ) (o : Option Target) → target_at p number index ≡ o → So (special_by o p stack m)
   special_by_so index (Some (StaticMethod class method)) is = special_so index class method (inl is)
@@ -223,7 +265,7 @@ module _ (p : Packages) (number : ℕ) (stack : List Cell) (m : MemoryState) whe
 selection_so : (p : Packages) (i : InvokeOp) (s : Frames) (m : MemoryState)
     → GivesSo (Selected p s.current.origin.package_number s.current.stack m) (method_selection i p s m)
 unfolding method_selection
-selection_so p (Virtual index) s m = virtual_by_so p _ s.current.stack m (target_at p s.current.origin.package_number index)
+selection_so p (Virtual index) s m = virtual_by_so p _ s.current.stack m index (target_at p s.current.origin.package_number index) refl
 selection_so p (Special index) s m = special_by_so p _ s.current.stack m index (target_at p s.current.origin.package_number index) refl
 selection_so p (Static index) s m = static_by_so p _ s.current.stack m index (target_at p s.current.origin.package_number index) refl
 selection_so p (Interface n index token) s m = interface_by_so p _ s.current.stack m n token (target_at p s.current.origin.package_number index)

@@ -61,7 +61,6 @@ stands_first m q o set is =
       active = refl;
       packages = λ a. refl;
       fixed = refl;
-      command = refl;
       applets = set.applets;
     }
 

@@ -243,7 +243,6 @@ pub record Stands (q : ℕ) (o : Object) (start m : MemoryState) : Type 0 where
   pub active : m.registers.active ≡ start.registers.active
   pub packages : (a : ℕ) → package_of_applet m a ≡ package_of_applet start a
   pub fixed : m.fixed ≡ start.fixed
-  pub command : m.command ≡ start.command
   pub applets : length m.heap.now.applets ≡ registry_length
 
 module _ (q : ℕ) (o : Object) (start : MemoryState) where
@@ -262,7 +261,6 @@ module _ (q : ℕ) (o : Object) (start : MemoryState) where
     active = st.active;
     packages = λ a. packages_stay m (apply_effect (HeapMove move) m) same refl a ∙ st.packages a;
     fixed = st.fixed;
-    command = st.command;
     applets = ap length same.1 ∙ st.applets;
   }
 
@@ -277,7 +275,6 @@ module _ (q : ℕ) (o : Object) (start : MemoryState) where
     active = st.active;
     packages = λ a. package_registered m entry few home st.applets a ∙ st.packages a;
     fixed = st.fixed;
-    command = st.command;
     applets = length-set _ _ _ ∙ length-set _ _ _ ∙ length-set m.heap.now.applets (3 * m.heap.now.counts.1) entry.aid ∙ st.applets;
   }
 
@@ -321,7 +318,6 @@ module _ (q : ℕ) (o : Object) (start : MemoryState) where
     active = st.active;
     packages = λ a. packages_stay m (apply_effect (SetTransient r i vs) m) (refl, refl) refl a ∙ st.packages a;
     fixed = st.fixed;
-    command = st.command;
     applets = st.applets;
   }
     where
@@ -335,8 +331,8 @@ module _ (q : ℕ) (o : Object) (start : MemoryState) where
   -- an effect that changes neither heap nor cells, nor the object's flag
   rest_keeps : (m n : MemoryState) → n.heap.now ≡ m.heap.now → ((event : ClearEvent) → area n.ram event ≡ area m.ram event)
       → flag_of n.ram q ≡ flag_of m.ram q → n.registers.active ≡ m.registers.active → installed_package n.registers.installation ≡ installed_package m.registers.installation →
-      n.fixed ≡ m.fixed → n.command ≡ m.command → Stands q o start m → Stands q o start n
-  rest_keeps m n heap ram flag active home fixed command st = record {
+      n.fixed ≡ m.fixed → Stands q o start m → Stands q o start n
+  rest_keeps m n heap ram flag active home fixed st = record {
     heap = subst (StandsBeside q o) (sym heap) st.heap;
     ram = record {
       cells = λ event e i lt. ap (λ l. get_or l (o.facts.place + i) (Short (pos 0))) (ram event) ∙ st.ram.cells event e i lt;
@@ -346,7 +342,6 @@ module _ (q : ℕ) (o : Object) (start : MemoryState) where
     active = active ∙ st.active;
     packages = λ a. packages_stay m n (ap (λ h. h.counts.1) heap, ap (λ h. h.applets) heap) home a ∙ st.packages a;
     fixed = fixed ∙ st.fixed;
-    command = command ∙ st.command;
     applets = ap (λ h. length h.applets) heap ∙ st.applets;
   }
 
@@ -354,8 +349,8 @@ module _ (q : ℕ) (o : Object) (start : MemoryState) where
   keeps (HeapMove move) m spares quiet st = move_keeps move m spares quiet st
   keeps (SetTransient r i vs) m spares quiet st = fill_keeps r i vs m spares st
   keeps (SetFlag r flag) m spares quiet st = rest_keeps m (apply_effect (SetFlag r flag) m) refl (area_flagged m.ram (set m.ram.flags r flag))
-      (other_flag m.ram q r flag spares) refl refl refl refl st
+      (other_flag m.ram q r flag spares) refl refl refl st
   keeps (ClearTransient event) m spares quiet st = absurd quiet
-  keeps (SetRegisters registers) m spares quiet st = rest_keeps m (apply_effect (SetRegisters registers) m) refl (λ event. refl) refl quiet.0 quiet.1 refl refl st
+  keeps (SetRegisters registers) m spares quiet st = rest_keeps m (apply_effect (SetRegisters registers) m) refl (λ event. refl) refl quiet.0 quiet.1 refl st
   keeps (BeginCommand bytes) m spares quiet st = absurd quiet
-  keeps (SendBytes bytes) m spares quiet st = rest_keeps m (apply_effect (SendBytes bytes) m) refl (λ event. refl) refl refl refl refl refl st
+  keeps (SendBytes bytes) m spares quiet st = rest_keeps m (apply_effect (SendBytes bytes) m) refl (λ event. refl) refl refl refl refl st

@@ -32,12 +32,12 @@ reaches_called p m stack args c method (inl own) is are sets = λ r there.
 reaches_called p m stack args c method (inr static) is are sets = absurd (static_minds_none method (static method is).0 (static method is).1 (sets_minds method sets))
 
 pub steps_spare : StepsSpare
-steps_spare lent p s m q statics few out stays = step_due (LeavesObject q) lent p s m (record {
+steps_spare lent p s m q statics out stays = step_due (LeavesObject q) lent p s m (record {
   fields = fields_pass p m q out;
   arrays = arrays_pass p m q out;
   instances = instances_pass p m q out;
   turns = λ g n. tt;
   reasons = λ r v n own some. ((λ same. out.others (own.0, sym same ∙ own.1)), omega (arith, some));
-  calls = λ c method args called is are. natives_spare method args p m q out few
+  calls = λ c method args called is are. natives_spare method args p m q out
       (reaches_called p m s.current.stack args c method (chosen_fit p statics m (at_place s called.1) c (stays c called) called.0 called.3) is are);
 })

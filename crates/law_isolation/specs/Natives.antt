@@ -1,6 +1,5 @@
 -- Methods of the platform spare what is outside reach and is not what they are called on.
 use Rattle.std.specs.Prelude.{ℕ, ◌≡◌, ◌≤◌, true, List, length, Some}
-use Rattle.jc_transient.specs.State.{buffer_size}
 use Rattle.jc_frames.specs.declared.cell.Cell.{Cell}
 use Rattle.jc_heap.specs.Heap.{facts}
 use Rattle.jc_memory.specs.State.{MemoryState}
@@ -26,5 +25,5 @@ ReachesCalled args p m = (own : ℕ) → reference_argument args 0 ≡ Some own 
 -- where a method that sets cells of its receiver is called on an object within reach, each effect of a method of the platform
 -- spares each object outside it: of arrays the firewall is asked
 abbrev pub NativesSpare : Type 0
-NativesSpare = (method : PlatformMethod) (args : List Cell) (p : Packages) (m : MemoryState) (q : ℕ) → IsOutside p m q → length m.command ≤ buffer_size →
+NativesSpare = (method : PlatformMethod) (args : List Cell) (p : Packages) (m : MemoryState) (q : ℕ) → IsOutside p m q →
     (sets_receiver method ≡ true → ReachesCalled args p m) → AllDue (LeavesObject q) (native_call method args p m) m

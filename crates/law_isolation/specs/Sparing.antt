@@ -1,7 +1,7 @@
 -- Effects that leave an object as it is.
 use Rattle.std.specs.Prelude.{ℕ, ◌+◌, ◌≡◌, ◌<◌, ◌≤◌, ◌⊎◌, false, List, [], ◌∷◌, length, None}
 use Rattle.jc_words.specs.Layout.{most_applets, registry_length}
-use Rattle.jc_transient.specs.State.{buffer_size, HasSizes}
+use Rattle.jc_transient.specs.State.{HasSizes}
 use Rattle.jc_heap.specs.declared.place.AppletEntry.{AppletEntry}
 use Rattle.jc_heap.specs.declared.place.Place.{Place}
 use Rattle.jc_heap.specs.declared.place.Place.TheVariants.{Cell, Static, Registry, AppletCount}
@@ -73,14 +73,13 @@ IsQuiet (SendBytes bytes) m = Unit {0}
 abbrev pub AreQuiet : List Effect → MemoryState → Type 0
 AreQuiet es m = AllEffectsDue IsQuiet es m
 
--- what is so of each memory of a card that is up: its heap is whole, the registry has its words, the areas have the sizes that its words say, and
--- the command fits the APDU buffer
+-- what is so of each memory of a card that is up: its heap is whole, the registry has its words, and the areas have the sizes that its words
+-- say
 pub record IsSet (m : MemoryState) : Type 0 where
   pub whole : IsConsistent m.heap.now
   pub applets : length m.heap.now.applets ≡ registry_length
   pub sizes : HasSizes m.ram
   pub fits : m.ram.sizes ≡ area_sizes m.heap.now
-  pub command : length m.command ≤ buffer_size
 
 -- quiet effects that spare an object outside reach leave its cells and its flag as they are, and it outside reach
 abbrev pub LeaveObjects : Type 0

@@ -1,6 +1,5 @@
 -- Steps that stay in their context.
 use Rattle.std.specs.Prelude.{ℕ, ◌≡◌, ◌≤◌, List, length, Option, Some, None, Ok}
-use Rattle.jc_transient.specs.State.{buffer_size}
 use Rattle.jc_opcodes.specs.declared.instr.Instr.TheVariants as instr
 use Rattle.jc_opcodes.specs.declared.instr.InvokeOp.{InvokeOp}
 use Rattle.jc_opcodes.specs.Table.{decode}
@@ -43,5 +42,5 @@ Stays lent p s m = (c : MethodCall) → IsCalled lent p s m c → c.switches_to 
 
 -- each effect of such a step spares each object outside reach
 abbrev pub StepsSpare : Type 0
-StepsSpare = (lent : List ℕ) (p : Packages) (s : Frames) (m : MemoryState) (q : ℕ) → NamesStatics p → length m.command ≤ buffer_size → IsOutside p m q
+StepsSpare = (lent : List ℕ) (p : Packages) (s : Frames) (m : MemoryState) (q : ℕ) → NamesStatics p → IsOutside p m q
     → Stays lent p s m → AllDue (LeavesObject q) (machine_step lent p s m) m

@@ -1,4 +1,4 @@
--- Entries that name a superclass's method: it is found in the superclass, and the class is no interface.
+-- Entries that name a superclass's method: it is found in the superclass, and the class is no interface. Those that name a virtual one: its class has it.
 use Rattle.std.proofs.Common.{◌≡◌, ℕ, ◌/◌, Bool, true, false, List, Option, Some, None, refl, subst, if◌then◌else◌}
 use Rattle.std.specs.Option.{option_and_then, option_map}
 use Rattle.std.proofs.lemmas.Option.{none-some}
@@ -19,7 +19,7 @@ use Rattle.jc_linker.specs.Values.{LinkerComponents}
 use Rattle.law_linking.specs.Linked.{AreLinked}
 use Rattle.law_linking.proofs.Entered.{entered}
 use Rattle.law_linking.proofs.Facts.{extending_class}
-use Rattle.law_linking.proofs.Fields.{any_field, any_foreign, mapped_there, of_entry}
+use Rattle.law_linking.proofs.Fields.{any_field, any_foreign, any_super, mapped_there, of_entry}
 use Rattle.law_linking.proofs.Lists.{IfThere}
 
 -- a superclass's method is found in the superclass
@@ -70,9 +70,28 @@ super_entry cs p linked number index class m is =
     subst (IfThere (IsAbove p)) entry.1 (of_entry p number (IsAbove p) (record {
       classes = λ c. mapped_there (IsAbove p) targets.Class (class_named p number c) (λ w. tt);
       fields = any_field p (IsAbove p) (λ w cell reference. tt);
-      virtual = λ w token method. tt;
+      virtual = λ w token method plain found. tt;
       super = super_above p;
       statics = λ n offset. tt;
       own = λ offset. tt;
       foreign = any_foreign p (IsAbove p) (λ w method. tt);
+    }) entry.0)
+
+-- a virtual method that an entry names is the one that its class has by the token, which is no interface
+abbrev pub IsOfClass : Packages → Target → Type 0
+IsOfClass p (targets.VirtualMethod class token m) = (names_interface p class ≡ false) × (method_at p class (class / 256) token ≡ Some m)
+IsOfClass p _ = Unit {0}
+
+pub virtual_entry : (cs : List LinkerComponents) (p : Packages) → AreLinked cs p → (number index class : ℕ) (token : VirtualToken) (m : Method)
+    → target_at p number index ≡ Some (targets.VirtualMethod class token m) → IsOfClass p (targets.VirtualMethod class token m)
+virtual_entry cs p linked number index class token m is =
+    let entry = entered cs p linked number index (targets.VirtualMethod class token m) is in
+    subst (IfThere (IsOfClass p)) entry.1 (of_entry p number (IsOfClass p) (record {
+      classes = λ c. mapped_there (IsOfClass p) targets.Class (class_named p number c) (λ w. tt);
+      fields = any_field p (IsOfClass p) (λ w cell reference. tt);
+      virtual = λ w token method plain found. (plain, found);
+      super = any_super p (IsOfClass p) (λ w method. tt);
+      statics = λ n offset. tt;
+      own = λ offset. tt;
+      foreign = any_foreign p (IsOfClass p) (λ w method. tt);
     }) entry.0)

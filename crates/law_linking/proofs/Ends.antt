@@ -37,7 +37,7 @@ module _ (p : Packages) where
   none_above zero = refl
   none_above (suc n) = refl
 
-  ended : (n m : ℕ) (o : Option ℕ) → n ≤ m → Ends p n o → lineage_from p m o ≡ lineage_from p n o
+  pub ended : (n m : ℕ) (o : Option ℕ) → n ≤ m → Ends p n o → lineage_from p m o ≡ lineage_from p n o
   unfolding Ends lineage_from
   ended zero m None le ends = none_above m
   ended zero m (Some w) le ends = absurd ends
@@ -73,6 +73,23 @@ module _ (p : Packages) where
   above_reached of class (suc n) m (Some w) (inr more) e =
       let above = above_reached of class n m (superclass_in p w) more e in
       (suc above.0, or_right (w == of || implements p w of) (any_is p of (lineage_from p above.0 (superclass_in p w))) above.1)
+
+  -- what a class is below that is reached
+  class_reached : (of class n m : ℕ) (o : Option ℕ) → Reaches p class n o → any_is p of (lineage_from p m (Some class)) ≡ true
+      → (k : ℕ) × (any_is p of (lineage_from p k o) ≡ true)
+  unfolding any_is lineage_from Reaches
+  class_reached of class zero m o reaches e = absurd reaches
+  class_reached of class (suc n) m None reaches e = absurd reaches
+  class_reached of class (suc n) m (Some w) (inl here) e = (m, subst (λ x. any_is p of (lineage_from p m (Some x)) ≡ true) (sym here) e)
+  class_reached of class (suc n) m (Some w) (inr more) e =
+      let above = class_reached of class n m (superclass_in p w) more e in
+      (suc above.0, or_right (w == of || implements p w of) (any_is p of (lineage_from p above.0 (superclass_in p w))) above.1)
+
+  pub below_through : (below class of : ℕ) → Ends p most_classes (Some below) → Reaches p class most_classes (Some below) → is_below p class of ≡ true
+      → is_below p below of ≡ true
+  unfolding is_below
+  below_through below class of ends reaches e =
+      let found = class_reached of class most_classes most_classes (Some below) reaches e in any_ended of most_classes found.0 (Some below) ends found.1
 
   pub below_above : (below class above of : ℕ) → Ends p most_classes (Some below) → Reaches p class most_classes (Some below)
       → superclass_in p class ≡ Some above → is_below p above of ≡ true → is_below p below of ≡ true

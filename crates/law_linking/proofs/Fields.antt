@@ -101,7 +101,7 @@ module _ (p : Packages) (few : length p.loaded ≤ 32) where
         | inr more ↦ implemented c of high more
       ]) e
 
-  below_high : (w of : ℕ) → IsHigh w → is_below p w of ≡ true → IsHigh of
+  pub below_high : (w of : ℕ) → IsHigh w → is_below p w of ≡ true → IsHigh of
   unfolding is_below
   below_high w of high e = any_high of (lineage_from p most_classes (Some w)) (lineage_high most_classes (Some w) high) e
 
@@ -113,15 +113,20 @@ some_there Q f o each = then_there (λ a. Unit {0}) Q f o (anything o) (λ a non
 pub mapped_there : {A B : Type 0} (Q : B → Type 0) (f : A → B) (o : Option A) → ((a : A) → Q (f a)) → IfThere Q (option_map f o)
 mapped_there Q f o each = map_there (λ a. Unit {0}) Q f o (anything o) (λ a none. each a)
 
-unless_there : (Q : Target → Type 0) (b : Bool) (o : Option Target) → IfThere Q o → IfThere Q (if b then None else o)
-unless_there Q true o each = tt
-unless_there Q false o each = each
+mapped_so : {A B : Type 0} (Q : B → Type 0) (f : A → B) (o : Option A) → ((a : A) → o ≡ Some a → Q (f a)) → IfThere Q (option_map f o)
+mapped_so Q f None each = tt
+mapped_so Q f (Some a) each = each a refl
+
+unless_so : (Q : Target → Type 0) (b : Bool) (o : Option Target) → (b ≡ false → IfThere Q o) → IfThere Q (if b then None else o)
+unless_so Q true o each = tt
+unless_so Q false o each = each refl
 
 -- targets of all kinds have it
 pub record IsOfTargets (p : Packages) (number : ℕ) (Q : Target → Type 0) : Type 0 where
   pub classes : (c : ClassRef) → IfThere Q (option_map targets.Class (class_named p number c))
   pub fields : (token class : ℕ) → IfThere Q (field_target p token class)
-  pub virtual : (class : ℕ) (token : VirtualToken) (m : Method) → Q (targets.VirtualMethod class token m)
+  pub virtual : (class : ℕ) (token : VirtualToken) (m : Method) → names_interface p class ≡ false → method_at p class (class / 256) token ≡ Some m
+      → Q (targets.VirtualMethod class token m)
   pub super : (token : VirtualToken) (class : ℕ) → IfThere Q (super_target p token class)
   pub statics : (n offset : ℕ) → Q (targets.StaticField n offset)
   pub own : (offset : ℕ) → Q (targets.StaticMethod None (Code number offset))
@@ -132,8 +137,8 @@ unfolding resolution virtual_target foreign_field
 of_entry p number Q all (entries.Class c) = all.classes c
 of_entry p number Q all (entries.InstanceField c token) = some_there Q (field_target p token) (class_named p number c) (all.fields token)
 of_entry p number Q all (entries.VirtualMethod c token) = some_there Q (virtual_target p token) (class_named p number c) (λ class.
-    unless_there Q (names_interface p class) (option_map (targets.VirtualMethod class token) (method_at p class (class / 256) token))
-    (mapped_there Q (targets.VirtualMethod class token) (method_at p class (class / 256) token) (all.virtual class token)))
+    unless_so Q (names_interface p class) (option_map (targets.VirtualMethod class token) (method_at p class (class / 256) token)) (λ plain.
+    mapped_so Q (targets.VirtualMethod class token) (method_at p class (class / 256) token) (λ m. all.virtual class token m plain)))
 of_entry p number Q all (entries.SuperMethod c token) = some_there Q (super_target p token) (class_named p number c) (all.super token)
 of_entry p number Q all (entries.StaticField (statics.Internal offset)) = all.statics number offset
 of_entry p number Q all (entries.StaticField (statics.External package_token class_token token)) =
@@ -193,7 +198,7 @@ entry_loaded : (p : Packages) (number : ℕ) (e : Entry) → IfThere (IsLoaded p
 entry_loaded p number e = of_entry p number (IsLoaded p) (record {
   classes = λ c. mapped_there (IsLoaded p) targets.Class (class_named p number c) (λ class. tt);
   fields = field_loaded p;
-  virtual = λ class token m. tt;
+  virtual = λ class token m plain found. tt;
   super = any_super p (IsLoaded p) (λ class m. tt);
   statics = λ n offset. tt;
   own = λ offset. tt;

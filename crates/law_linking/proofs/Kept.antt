@@ -20,10 +20,12 @@ use Rattle.jc_linker.specs.declared.target.Method.{Method}
 use Rattle.jc_linker.specs.declared.target.Method.TheVariants.{Code}
 use Rattle.jc_linker.specs.Classes.{any_is, class_in, extends, implements, interfaces_by, interfaces_in, is_below, lineage, lineage_from, most_classes}
 use Rattle.jc_linker.specs.Classes.{superclass_in}
+use Rattle.jc_linker.specs.declared.target.Target.TheVariants.{VirtualMethod}
+use Rattle.jc_linker.specs.Lookups.{target_at}
 use Rattle.jc_linker.specs.Methods.{implementation_in, if_native, interface_method_at, lookup_classes, method_at, method_in, method_by_class, first_decided}
 use Rattle.jc_linker.specs.Values.{ClassValue, Packages}
 use Rattle.jc_linker.specs.Classes.{is_a}
-use Rattle.law_linking.proofs.Fields.{IsHigh, lineage_high, no_class}
+use Rattle.law_linking.proofs.Fields.{IsHigh, below_high, lineage_high, no_class}
 use Rattle.law_linking.proofs.Lists.{AllOf, all_filtered}
 use Rattle.law_linking.proofs.Numbers.{word_high}
 use Rattle.law_linking.specs.Given.{HasByteTokens}
@@ -55,22 +57,33 @@ looked_up_high : (token : VirtualToken) (number : ℕ) (cs : List ℕ) → AllOf
 looked_up_high (Public token) number cs high = high
 looked_up_high (PackageVisible token) number cs high = all_filtered IsHigh (λ c. c / 256 == number) cs high
 
-module _ (p : Packages) (few : length p.loaded ≤ 32) where
-  lineage_of : (of : PlatformClass) → AllOf IsHigh (lineage p (class_word p.platform of))
-  lineage_of of = lineage_high p few most_classes (Some (class_word p.platform of)) (word_high p.platform of)
+-- what entries for virtual calls name their classes have
+abbrev HasItsMethods : Packages → Type 0
+HasItsMethods p = (number index class : ℕ) (token : VirtualToken) (m : Method) → target_at p number index ≡ Some (VirtualMethod class token m)
+    → method_at p class (class / 256) token ≡ Some m
 
+module _ (p : Packages) (few : length p.loaded ≤ 32) where
   method_no_code : (token : VirtualToken) (w home offset : ℕ) → method_in p token w ≡ code home offset → IsHigh w → ⊥
   unfolding method_in
   method_no_code token w home offset e high = said_no_code p token w (class_in p w) (class_by_word p.platform w) home offset (no_class p w few high) e
 
+  high_no_code : (w : ℕ) → IsHigh w → (number : ℕ) (token : VirtualToken) (home offset : ℕ) → method_at p w number token ≡ Some (Code home offset) → ⊥
+  unfolding method_at
+  high_no_code w high number token home offset is =
+      let cs : List ℕ = lookup_classes token number (lineage p w) in
+      one_and_all (λ c. method_in p token c ≡ code home offset) IsHigh ⊥ cs (found_in (method_in p token) (Code home offset) cs is)
+      (looked_up_high token number (lineage p w) (lineage_high p few most_classes (Some w) high))
+      (λ c found above. method_no_code token c home offset found above)
+
   virtual_no_code : (of : PlatformClass) (number : ℕ) (token : VirtualToken) (home offset : ℕ)
       → method_at p (class_word p.platform of) number token ≡ Some (Code home offset) → ⊥
-  unfolding method_at
-  virtual_no_code of number token home offset is =
-      let cs : List ℕ = lookup_classes token number (lineage p (class_word p.platform of)) in
-      one_and_all (λ c. method_in p token c ≡ code home offset) IsHigh ⊥ cs (found_in (method_in p token) (Code home offset) cs is)
-      (looked_up_high token number (lineage p (class_word p.platform of)) (lineage_of of))
-      (λ c found high. method_no_code token c home offset found high)
+  virtual_no_code of = high_no_code (class_word p.platform of) (word_high p.platform of)
+
+  entry_no_code : HasItsMethods p → (of : PlatformClass) (number index class : ℕ) (token : VirtualToken) (home offset : ℕ)
+      → target_at p number index ≡ Some (VirtualMethod class token (Code home offset)) → is_below p (class_word p.platform of) class ≡ true → ⊥
+  entry_no_code its of number index class token home offset is below =
+      high_no_code class (below_high p few (class_word p.platform of) class (word_high p.platform of) below) (class / 256) token home offset
+      (its number index class token (Code home offset) is)
 
   interface_no_code : (of : PlatformClass) (interface token home offset : ℕ) → interface_method_at p (class_word p.platform of) interface token
       ≡ Some (Code home offset) → ⊥
@@ -79,8 +92,8 @@ module _ (p : Packages) (few : length p.loaded ≤ 32) where
       (first_decided (implementation_in p interface token) (lineage p (class_word p.platform of))) (Code home offset) is
       (λ own at more. virtual_no_code of 0 (Public own) home offset more)
 
-  pub keeps_platform : KeepsPlatform p
-  keeps_platform = record { virtually = virtual_no_code; by_interface = interface_no_code }
+  pub keeps_platform : HasItsMethods p → KeepsPlatform p
+  keeps_platform its = record { virtually = virtual_no_code; by_interface = interface_no_code; by_entry = entry_no_code its }
 
 -- ---- above Object is no class
 

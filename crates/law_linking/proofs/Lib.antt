@@ -10,6 +10,7 @@ pub mod Fields
 pub mod Facts
 pub mod Tokens
 pub mod Chains
+mod Inherited
 pub mod Inherits
 pub mod Nameless
 pub mod Good

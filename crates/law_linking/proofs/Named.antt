@@ -100,7 +100,7 @@ named_there cs p read number index class is =
     subst (IfThere (NamesOne p read.names read.bytes closed)) entry.1 (of_entry p number (NamesOne p read.names read.bytes closed) (record {
       classes = λ c. class_one p read.names read.bytes closed (class_named p number c) (ref_there p read.names read.bytes closed number c);
       fields = any_field p (NamesOne p read.names read.bytes closed) (λ w cell reference. tt);
-      virtual = λ w token m. tt;
+      virtual = λ w token m plain found. tt;
       super = any_super p (NamesOne p read.names read.bytes closed) (λ w m. tt);
       statics = λ n offset. tt;
       own = λ offset. tt;

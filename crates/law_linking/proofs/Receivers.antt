@@ -175,7 +175,7 @@ by_entry cs p linked number index class m is =
     subst (IfThere (IsNamed p)) entry.1 (of_entry p number (IsNamed p) (record {
       classes = λ c. mapped_there (IsNamed p) targets.Class (named_class p number c) (λ w. tt);
       fields = any_field p (IsNamed p) (λ w cell reference. tt);
-      virtual = λ w token method. tt;
+      virtual = λ w token method plain found. tt;
       super = any_super p (IsNamed p) (λ w method. tt);
       statics = λ n offset. tt;
       own = λ offset. tt;

@@ -15,6 +15,7 @@ pub use class_laws::{
 pub use method_laws::{
     classes_of_the_platform_have_no_code, linked_packages_know_their_methods,
     platform_tokens_are_bytes, tables_without_the_line_have_no_further_names,
+    virtual_calls_run_the_method_of_their_receiver,
 };
 pub use resolution_laws::{
     all_entries_resolve, fields_of_the_platform_have_no_names, look_ups_stay_with_one_more_package,

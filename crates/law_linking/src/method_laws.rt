@@ -1,16 +1,23 @@
 //! Laws of the definitions of methods, and of the platform's tokens.
-ghost use Rattle.law_linking.specs.MethodLaws.{HaveBytes, HaveMethods, HaveNoCode};
+ghost use Rattle.law_linking.specs.MethodLaws.{HaveBytes, HaveMethods, HaveNoCode, RunTheirMethods};
 ghost use Rattle.law_linking.specs.Plain.{ArePlain};
 
 /// Among packages that were linked, each onto those before it, what a call by token, one by interface and one
 /// of a superclass's method find of the platform is a method of the receiver's class, by the first two no
-/// static one; above Object is no class; and there are no more packages than a card can have.
+/// static one; what an entry for virtual calls names of the platform is a method of each class below its own; above Object is no
+/// class; and there are no more packages than a card can have.
 pub fn linked_packages_know_their_methods()
     ensures { HaveMethods }
 {}
 
+/// Among packages that were linked, each onto those before it, a virtual call on an instance of a class finds the method that
+/// the instance's class has by the call's token, though it begins with the one that linking found for the class that its entry names.
+pub fn virtual_calls_run_the_method_of_their_receiver()
+    ensures { RunTheirMethods }
+{}
+
 /// Among packages that were linked, each onto those before it, a call on an instance of one of the platform's
-/// classes, by token or by interface, finds no method in bytecode.
+/// classes, by token, by interface or by an entry, finds no method in bytecode.
 pub fn classes_of_the_platform_have_no_code()
     ensures { HaveNoCode }
 {}

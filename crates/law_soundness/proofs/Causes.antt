@@ -147,7 +147,7 @@ module _ (m : MemoryState) where
         initial = λ a own is r count s words event state kept all. (run_in (facts m.heap.now own).event own a.start (words_given args a.values), tt);
       };
       aid = λ init own bytes is long fine. run_in (facts m.heap.now own).event own 0 (cells_of_aid bytes);
-      buffer = λ r words is fits. run_in (facts m.heap.now r).event r 5 words;
+      buffer = λ r at words is fits. run_in (facts m.heap.now r).event r at words;
       starts = λ pin is limit maximum value new. (tt, (tt, (tt, tt)));
       flags = λ pin is flag v. tt;
       counts = λ pin is n. tt;

@@ -1,5 +1,5 @@
 -- Selecting, installing and answering.
-use Rattle.std.proofs.Common.{◌≡◌, ℕ, zero, suc, ◌+◌, ◌<◌, ◌≤◌, ◌-◌, ◌==◌, ◌⊎◌, ◌&&◌, ◌||◌, nat_lt, nat_le, Bool, true, false, inl, inr, List, [], ◌∷◌, length}
+use Rattle.std.proofs.Common.{◌≡◌, ℕ, zero, suc, ◌+◌, ◌<◌, ◌≤◌, ◌-◌, ◌==◌, ◌⊎◌, ◌&&◌, ◌||◌, nat_lt, nat_le, take, Bool, true, false, inl, inr, List, [], ◌∷◌, length}
 use Rattle.std.proofs.Common.{find, Option, Some, None, refl, sym, ◌∙◌, ap, subst, arith, if◌then◌else◌}
 use Rattle.std.specs.Prelude.{pos}
 use Rattle.std.specs.List.{range_with_len}
@@ -11,6 +11,7 @@ use Rattle.jc_words.specs.Layout.{most_applets}
 use Rattle.jc_transient.specs.declared.cell.ClearEvent.TheVariants.{Deselect}
 use Rattle.jc_transient.specs.State.{buffer_size}
 use Rattle.jc_heap.specs.Heap.{HeapState}
+use Rattle.jc_memory.specs.Commands.{has_extended_length}
 use Rattle.jc_heap.specs.Moves.{Begin}
 use Rattle.jc_frames.specs.declared.cell.Cell.TheVariants.{Short, Reference}
 use Rattle.jc_memory.specs.declared.registers.AppletNumber.{AppletNumber}
@@ -107,7 +108,11 @@ mapped_first q (Some entry) x is = ap (λ y. y.0) (same_Some (q, entry) x is)
 -- ---- the buffer has room for a header, and for the parameters of an installation
 
 header_fits : (bytes : List ℕ) → length (header_of bytes) ≤ buffer_size
-header_fits bytes = let l = length-take 5 bytes in omega (arith, l)
+header_fits bytes = either (has_extended_length bytes)
+  where
+    either : (b : Bool) → length (take (if b then 7 else 5) bytes) ≤ buffer_size
+    either true = let l = length-take 7 bytes in omega (arith, l)
+    either false = let l = length-take 5 bytes in omega (arith, l)
 
 parameters_fit : (bytes : List ℕ) (c : List ℕ × List ℕ) → creation_of bytes ≡ Some c → length c.1 ≤ buffer_size
 unfolding creation_of

@@ -126,7 +126,6 @@ module _ (p : Packages) (m : MemoryState) (s : IsSoundMemory p m) (r i v : ℕ) 
             ∙ there);
         home = home_same m.heap.now (set_cell m.heap.now r i v) m.registers.installation f.packages ∙ s.home;
         selected = λ a e. applet_same m.heap.durable left a d.counts ∙ s.selected a e;
-        command = s.command;
         transients = same_carried m.heap.now (set_cell m.heap.now r i v) m.ram f.lasting (header_only-set_cell m.heap.now r i v) s.transients;
       }
 
@@ -204,7 +203,6 @@ module _ (p : Packages) (m : MemoryState) (s : IsSoundMemory p m) (changes : Lis
         ∙ s.own q low (sym (ap is_object (item_still p m.heap.now (last_own m) f.entry new_entry q)) ∙ there);
     home = s.home;
     selected = λ a e. ap (λ h. is_applet h a) left_is ∙ s.selected a e;
-    command = s.command;
     transients = same_carried m.heap.now registered m.ram refl (λ q. ap header_only (item_still p m.heap.now (last_own m) f.entry new_entry q)) s.transients;
   }
 
@@ -363,14 +361,14 @@ module _ (p : Packages) (m : MemoryState) (s : IsSoundMemory p m) where
 
 effect_kept : (p : Packages) (e : Effect) (m : MemoryState) → IsFit p e m → IsSoundMemory p m → IsSoundMemory p (apply_effect e m)
 effect_kept p (HeapMove move) m fits s = move_kept p m s move fits
-effect_kept p (SetTransient r i values) m fits s = again p m _ m.command m.sent s.command (fill_carried m s.whole.now.whole s.transients r i values fits) s
-effect_kept p (SetFlag r flag) m fits s = again p m _ m.command m.sent s.command
+effect_kept p (SetTransient r i values) m fits s = again p m _ m.command m.sent (fill_carried m s.whole.now.whole s.transients r i values fits) s
+effect_kept p (SetFlag r flag) m fits s = again p m _ m.command m.sent
     (flags_carried m.heap.now m.ram _ (length-set m.ram.flags r flag) s.transients) s
-effect_kept p (ClearTransient event) m fits s = again p m _ m.command m.sent s.command (cleared_carried m.heap.now m.ram s.transients event) s
+effect_kept p (ClearTransient event) m fits s = again p m _ m.command m.sent (cleared_carried m.heap.now m.ram s.transients event) s
 effect_kept p (SetRegisters registers) m fits s = turned_kept p m s registers (record
     { active = fits.active; leaves = fits.leaves; home = fits.home; selected = fits.selected })
-effect_kept p (BeginCommand bytes) m fits s = again p m m.ram bytes [] fits s.transients s
-effect_kept p (SendBytes bytes) m fits s = again p m m.ram m.command (m.sent ++ bytes) s.command s.transients s
+effect_kept p (BeginCommand bytes) m fits s = again p m m.ram bytes [] s.transients s
+effect_kept p (SendBytes bytes) m fits s = again p m m.ram m.command (m.sent ++ bytes) s.transients s
 
 pub keeps_sound : KeepsSound
 keeps_sound = effect_kept

@@ -1,5 +1,5 @@
 -- What a loss of power leaves of a sound memory.
-use Rattle.std.proofs.Common.{◌≡◌, ◌+◌, ◌≤◌, [], length, sym, ◌∙◌, ap, subst, arith, if◌then◌else◌}
+use Rattle.std.proofs.Common.{◌≡◌, ◌+◌, ◌≤◌, length, sym, ◌∙◌, ap, subst, arith, if◌then◌else◌}
 use Rattle.std.proofs.lemmas.Option.{none-some}
 use Rattle.jc_environment.specs.Objects.{last_of}
 use Rattle.jc_transient.specs.State.{IsCleared}
@@ -27,7 +27,7 @@ found p m s = record {
 }
 
 module _ (p : Packages) (m n : MemoryState) (s : IsSoundMemory p m) (now : n.heap.now ≡ m.heap.durable) (durable : n.heap.durable ≡ m.heap.durable)
-    (fixed : n.fixed ≡ m.fixed) (reset : n.registers ≡ at_reset) (none : n.command ≡ []) (clear : IsCleared n.ram)
+    (fixed : n.fixed ≡ m.fixed) (reset : n.registers ≡ at_reset) (clear : IsCleared n.ram)
     (fits : n.ram.sizes ≡ area_sizes n.heap.now) where
   most_is : most_owner n ≡ n.heap.now.counts.1
   most_is = ap (λ g. if is_open g.installation then n.heap.durable.counts.1 + 1 else n.heap.now.counts.1) reset
@@ -68,7 +68,6 @@ module _ (p : Packages) (m n : MemoryState) (s : IsSoundMemory p m) (now : n.hea
         ∙ s.own r here (same_object (heap_item_at m.heap.now r) (heap_item_at m.heap.durable r) same ∙ ap (λ h. is_object_address h r) (sym now) ∙ there);
     home = ap (λ g. is_home n.heap.now g.installation) reset;
     selected = λ a e. absurd (none-some a (ap (λ g. g.selected) (sym reset) ∙ e));
-    command = let long = ap length none in omega (arith, long);
     transients = blank_lives n.heap.now n.ram clear fits;
   }
 

@@ -3,7 +3,7 @@ use Rattle.std.proofs.Common.{◌≡◌, ℕ, ◌+◌, ◌<◌, ◌≤◌, ◌&&
 use Rattle.std.proofs.Common.{nat_lt, nat_le}
 use Rattle.std.proofs.lemmas.Bool.{and_from, and_parts, cases_Bool, le-leb, leb-true}
 use Rattle.jc_words.specs.Layout.{registry_length}
-use Rattle.jc_transient.specs.State.{RamState, buffer_size}
+use Rattle.jc_transient.specs.State.{RamState}
 use Rattle.jc_heap.specs.Heap.{HeapState, heap_after_change, heap_item_at}
 use Rattle.jc_heap.specs.Keeping.{AreConsistent}
 use Rattle.jc_heap.specs.Moves.{Begin, Commit, Abort}
@@ -35,9 +35,9 @@ choose P true x y on off = on refl
 choose P false x y on off = off refl
 
 -- the rest of a memory says nothing of its heap
-pub again : (p : Packages) (m : MemoryState) (ram : RamState) (command sent : List ℕ) → length command ≤ buffer_size → TransientCells m.heap.now ram
+pub again : (p : Packages) (m : MemoryState) (ram : RamState) (command sent : List ℕ) → TransientCells m.heap.now ram
     → IsSoundMemory p m → IsSoundMemory p (record m { ram = ram; command = command; sent = sent })
-again p m ram command sent few lives s = record {
+again p m ram command sent lives s = record {
   whole = s.whole;
   registry = s.registry;
   registry_kept = s.registry_kept;
@@ -52,7 +52,6 @@ again p m ram command sent few lives s = record {
   own = s.own;
   home = s.home;
   selected = s.selected;
-  command = few;
   transients = lives;
 }
 
@@ -126,7 +125,6 @@ module _ (p : Packages) (m : MemoryState) (s : IsSoundMemory p m) where
           ap is_persistent_instance (f.headers r inside) ∙ s.own r low (sym (f.objects r inside) ∙ there);
       home = home_same now h m.registers.installation f.packages ∙ s.home;
       selected = λ a e. applet_same durable left a counts_left ∙ s.selected a e;
-      command = s.command;
       transients = lives;
     }
 
@@ -168,7 +166,6 @@ module _ (p : Packages) (m : MemoryState) (s : IsSoundMemory p m) where
         own = s.own;
         home = s.home;
         selected = λ a e. applet_same durable now a (ap (λ h. h.counts) (s.settled off)) ∙ s.selected a e;
-        command = s.command;
         transients = s.transients;
       }
 
@@ -203,7 +200,6 @@ module _ (p : Packages) (m : MemoryState) (s : IsSoundMemory p m) where
       own = s.own;
       home = s.home;
       selected = λ a e. applet_more durable now a counts_committed (s.selected a e);
-      command = s.command;
       transients = s.transients;
     }
 
@@ -237,7 +233,6 @@ module _ (p : Packages) (m : MemoryState) (s : IsSoundMemory p m) where
         ∙ s.own r low (same_object (heap_item_at now r) (heap_item_at durable r) same ∙ there);
     home = home_same now durable m.registers.installation (sym s.packages) ∙ s.home;
     selected = s.selected;
-    command = s.command;
     transients = abort_carried m.heap s.whole m.ram s.transients;
   }
 
@@ -280,6 +275,5 @@ module _ (p : Packages) (m : MemoryState) (s : IsSoundMemory p m) where
       own = s.own;
       home = fits.home;
       selected = fits.selected;
-      command = s.command;
       transients = s.transients;
     }

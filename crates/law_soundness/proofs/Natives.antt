@@ -149,7 +149,7 @@ module _ (method : PlatformMethod) (args : List Cell) (p : Packages) (m : Memory
     aid = λ init own bytes is there long. run_in p m own 0 (cells_of_aid bytes) (facts m.heap.now own).event refl
         (let l = there.cells in let n = nine bytes in omega (arith, l, n))
         (aid_fits p m known sound own bytes (called_on Aid (aid_minds method init) (class_init method init) own is) (receiver.owned init own is) there long);
-    buffer = λ r words is fits. elements_fit p m r 5 words (inl is.kind) (let d = fits sound.command in let l = is.long in omega (arith, d, l));
+    buffer = λ r at words is fits. elements_fit p m r at words (inl is.kind) fits;
     starts = λ pin is limit maximum. starts p m sound steady pin limit maximum (object_of pin is);
     flags = λ pin is flag v. tt;
     counts = λ pin is n. inl (pin, refl, after_flag p m pin false (object_of pin is));

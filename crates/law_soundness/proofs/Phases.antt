@@ -221,11 +221,11 @@ module _ (p : Packages) where
 -- ---- the APDU buffer is filled
 
 -- the buffer has room for what it is filled with
-padded_fits : (bytes : List ℕ) → length bytes ≤ buffer_size → length (padded_bytes bytes) ≤ buffer_size
-padded_fits bytes few =
-    let whole = length-append bytes (replicate (buffer_size - length bytes) 0) in
-    let behind = length-replicate {A = ℕ} (buffer_size - length bytes) 0 in
-    omega (arith, whole, behind, few)
+padded_fits : (size : ℕ) (bytes : List ℕ) → length bytes ≤ buffer_size → buffer_size ≤ size → length (padded_bytes size bytes) ≤ size
+padded_fits size bytes few long =
+    let whole = length-append bytes (replicate (size - length bytes) 0) in
+    let behind = length-replicate {A = ℕ} (size - length bytes) 0 in
+    omega (arith, whole, behind, few, long)
 
 -- nothing but the contents of transient objects changed
 pub record IsFilled (p : Packages) (m n : MemoryState) : Type 0 where
@@ -247,17 +247,19 @@ module _ (p : Packages) (m : MemoryState) (s : IsSoundMemory p m) (h : HasEnviro
   itself = record { behind = behind_itself p m s h; heap = refl; registers = refl }
 
   is_buffer_filled : (f : Facts) (bytes : List ℕ) → f ≡ facts m.heap.now (apdu_buffer m) → is_buffer f ≡ true → length bytes ≤ buffer_size
-      → FitsFill m (apdu_buffer m) 0 (map number_of bytes)
+      → FitsFill m (apdu_buffer m) 0 (map number_of (padded_bytes f.length bytes))
   is_buffer_filled f bytes same is few =
       let long = leb-true buffer_size f.length (and_parts (is_of_bytes f.kind && is_some f.event) _ is).1 in
-      numbers_fit m (apdu_buffer m) 0 bytes (subst (λ g. 0 + length bytes ≤ g.length) same (omega (arith, long, few)))
+      let padded : List ℕ = padded_bytes f.length bytes in
+      let room = padded_fits f.length bytes few long in
+      numbers_fit m (apdu_buffer m) 0 padded (subst (λ g. 0 + length padded ≤ g.length) same (omega (arith, room)))
       (λ array. true≢false (sym (and_parts (is_of_bytes f.kind) _ (and_parts (is_of_bytes f.kind && is_some f.event) _ is).0).0
       ∙ ap is_of_bytes (ap (λ g. g.kind) same ∙ array)))
 
   buffer_good : (b : Bool) (f : Facts) (bytes : List ℕ) → f ≡ facts m.heap.now (apdu_buffer m) → is_buffer f ≡ b → length bytes ≤ buffer_size
-      → Good p (if b then Perform (cells_effect m (apdu_buffer m) 0 bytes) (Finish (tt {0})) else Finish tt) m (λ u n. IsFilled p m n)
+      → Good p (if b then Perform (cells_effect m (apdu_buffer m) 0 (padded_bytes f.length bytes)) (Finish (tt {0})) else Finish tt) m (λ u n. IsFilled p m n)
   buffer_good false f bytes same is few = good_gives p _ _ m itself
-  buffer_good true f bytes same is few = run_good (facts m.heap.now (apdu_buffer m)).event bytes
+  buffer_good true f bytes same is few = run_good (facts m.heap.now (apdu_buffer m)).event (padded_bytes f.length bytes)
       (subst (λ g. is_some g.event ≡ true) same (and_parts (is_of_bytes f.kind) _ (and_parts (is_of_bytes f.kind && is_some f.event) _ is).0).1)
       (is_buffer_filled f bytes same is few)
 
@@ -268,4 +270,4 @@ module _ (p : Packages) (m : MemoryState) (s : IsSoundMemory p m) (h : HasEnviro
 
   pub filled_good : (bytes : List ℕ) → length bytes ≤ buffer_size → Good p (buffer_fill m bytes) m (λ u n. IsFilled p m n)
   unfolding buffer_fill
-  filled_good bytes few = fills_good (header_at m (apdu_buffer m)) (padded_bytes bytes) refl (padded_fits bytes few)
+  filled_good bytes few = fills_good (header_at m (apdu_buffer m)) bytes refl few

@@ -13,7 +13,7 @@ use Rattle.jc_memory.specs.Owners.{owner_number, owner_of}
 use Rattle.jc_memory.specs.State.{MemoryState}
 use Rattle.jc_linker.specs.declared.target.Method.{Method}
 use Rattle.jc_linker.specs.declared.target.Method.TheVariants.{Native}
-use Rattle.jc_linker.specs.declared.target.Target.TheVariants.{SuperMethod, StaticMethod}
+use Rattle.jc_linker.specs.declared.target.Target.TheVariants.{SuperMethod, StaticMethod, VirtualMethod}
 use Rattle.jc_linker.specs.Classes.{is_below}
 use Rattle.jc_linker.specs.Lookups.{target_at}
 use Rattle.jc_linker.specs.Values.{Packages}
@@ -177,7 +177,10 @@ module _ (p : Packages) (m : MemoryState) (known : KnowsClasses p) (methods : Kn
       found_as : (native : PlatformMethod) → f.method ≡ Native native → IsMethodOf p (class_of p f.header) native
       found_as native is = elim f.by [
         | inl by ↦ methods.virtually (class_of p f.header) by.1 by.2 native (by.3 ∙ ap Some is)
-        | inr by ↦ methods.by_interface (class_of p f.header) by.0 by.1 native (by.3 ∙ ap Some is)
+        | inr more ↦ elim more [
+          | inl by ↦ methods.by_interface (class_of p f.header) by.0 by.1 native (by.3 ∙ ap Some is)
+          | inr by ↦ methods.entries number by.1 by.3 (class_of p f.header) by.2 native (by.4 ∙ ap (λ x. Some (VirtualMethod by.3 by.2 x)) is) by.5
+        ]
       ]
   selected_fit number (Named n) = record {
     on = λ method reached minds r on. (

@@ -12,6 +12,8 @@ use Rattle.jc_platform.specs.declared.names.PlatformClass.TheVariants.{Object}
 use Rattle.jc_platform.specs.Distinct.{class_word}
 use Rattle.jc_linker.specs.declared.target.Method.{Method}
 use Rattle.jc_linker.specs.declared.target.Method.TheVariants.{Code}
+use Rattle.jc_linker.specs.declared.target.Target.TheVariants.{VirtualMethod}
+use Rattle.jc_linker.specs.Classes.{is_below}
 use Rattle.jc_linker.specs.Methods.{interface_method_at, method_at}
 use Rattle.jc_linker.specs.Values.{Packages}
 use Rattle.jc_opcodes.specs.declared.instr.InvokeOp.{InvokeOp}
@@ -77,7 +79,11 @@ module _ (p : Packages) (m : MemoryState) (platform : KeepsPlatform p) (environm
       found_others : f.method ≡ Code number offset → IsOfPlatform p (class_of p f.header) → ⊥
       found_others is of = elim f.by [
         | inl by ↦ platform.virtually of.0 by.1 by.2 number offset (ap (λ x. method_at p x by.1 by.2) (sym of.1) ∙ by.3 ∙ ap Some is)
-        | inr by ↦ platform.by_interface of.0 by.0 by.1 number offset (ap (λ x. interface_method_at p x by.0 by.1) (sym of.1) ∙ by.3 ∙ ap Some is)
+        | inr more ↦ elim more [
+          | inl by ↦ platform.by_interface of.0 by.0 by.1 number offset (ap (λ x. interface_method_at p x by.0 by.1) (sym of.1) ∙ by.3 ∙ ap Some is)
+          | inr by ↦ platform.by_entry of.0 home by.1 by.3 by.2 number offset (by.4 ∙ ap (λ x. Some (VirtualMethod by.3 by.2 x)) is)
+              (subst (λ x. is_below p x by.3 ≡ true) of.1 by.5)
+        ]
       ]
   selected_others home (Named n) = to_others c (ap (λ x. x.switches_to) n.is)
   selected_others home (Bare b) = to_others c (ap (λ x. x.switches_to) b.is)

@@ -2,7 +2,6 @@
 use Rattle.std.specs.Prelude.{ℕ, ◌≡◌, ◌<◌, ◌≤◌, ◌+◌, ◌⊎◌, true, false, List, [], ◌∷◌, length, slice_index, slice_index_or, pos, Some, None}
 use Rattle.jc_transient.specs.declared.cell.CellValue.{CellValue}
 use Rattle.jc_transient.specs.declared.cell.CellValue.TheVariants.{Short}
-use Rattle.jc_transient.specs.State.{buffer_size}
 use Rattle.jc_words.specs.Layout.{most_applets}
 use Rattle.jc_platform.specs.declared.names.PlatformClass.{PlatformClass}
 use Rattle.jc_platform.specs.declared.names.PlatformClass.TheVariants.{Aid, Applet, OwnerPin}
@@ -205,7 +204,7 @@ IsFit p (SetTransient r i values) m = FitsFill m r i values
 IsFit p (SetFlag r flag) m = Unit {0}
 IsFit p (ClearTransient event) m = Unit {0}
 IsFit p (SetRegisters registers) m = FitsTurn m registers
-IsFit p (BeginCommand bytes) m = length bytes ≤ buffer_size
+IsFit p (BeginCommand bytes) m = Unit {0}
 IsFit p (SendBytes bytes) m = Unit {0}
 
 -- an effect that fits leaves a sound memory sound

@@ -1,10 +1,10 @@
 -- A memory whose heaps fit the packages that are linked, also while an applet is being installed.
-use Rattle.std.specs.Prelude.{ℕ, ◌≡◌, ◌<◌, ◌≤◌, ◌+◌, ◌-◌, ◌==◌, ◌&&◌, ◌||◌, nat_lt, nat_le, Bool, true, false, length, if◌then◌else◌, Some, None, pos, []}
+use Rattle.std.specs.Prelude.{ℕ, ◌≡◌, ◌<◌, ◌≤◌, ◌+◌, ◌-◌, ◌==◌, ◌&&◌, ◌||◌, nat_lt, nat_le, Bool, true, false, length, if◌then◌else◌, Some, None, pos}
 use Rattle.jc_words.specs.Layout.{registry_length}
 use Rattle.jc_transient.specs.declared.cell.CellValue.{CellValue}
 use Rattle.jc_transient.specs.declared.cell.CellValue.TheVariants.{Short, Reference}
 use Rattle.jc_transient.specs.declared.cell.ClearEvent.{ClearEvent}
-use Rattle.jc_transient.specs.State.{HasSizes, IsCleared, RamState, buffer_size, cell_at}
+use Rattle.jc_transient.specs.State.{HasSizes, IsCleared, RamState, cell_at}
 use Rattle.jc_environment.specs.Objects.{last_of}
 use Rattle.jc_heap.specs.declared.object.Facts.{Facts}
 use Rattle.jc_heap.specs.declared.object.Kind.TheVariants.{ReferenceArray}
@@ -104,8 +104,7 @@ pub record TransientCells (h : HeapState) (ram : RamState) : Type 0 where
 
 -- the heap as it is and the one that a loss of power leaves fit the packages; outside a transaction they are one; none but an
 -- installation adds an applet, of a package that is there; for whom code runs is there, and the applet that is selected; and among the runtime environment's
--- own objects, with which the heap begins, is no persistent instance; the command fits the APDU buffer; and transient cells keep no reference
--- to what is gone
+-- own objects, with which the heap begins, is no persistent instance; and transient cells keep no reference to what is gone
 pub record IsSoundMemory (p : Packages) (m : MemoryState) : Type 0 where
   pub whole : AreConsistent m.heap
   pub registry : length m.heap.now.applets ≡ registry_length
@@ -121,7 +120,6 @@ pub record IsSoundMemory (p : Packages) (m : MemoryState) : Type 0 where
   pub own : (r : ℕ) → r ≤ last_own m → is_object_address m.heap.now r ≡ true → is_persistent_instance (facts m.heap.now r) ≡ false
   pub home : is_home m.heap.now m.registers.installation ≡ true
   pub selected : (a : AppletNumber) → m.registers.selected ≡ Some a → is_applet m.heap.durable a ≡ true
-  pub command : length m.command ≤ buffer_size
   pub transients : TransientCells m.heap.now m.ram
 
 -- between two instructions no applet has been registered but not committed, and while one is being installed, its transaction is open
@@ -134,4 +132,4 @@ pub record IsSteady (m : MemoryState) : Type 0 where
 pub record OutlastsLosses : Type 0 where
   pub left : (p : Packages) (m : MemoryState) → IsSoundMemory p m → IsSound p m.heap.durable (last_own m)
   pub again : (p : Packages) (m n : MemoryState) → IsSoundMemory p m → n.heap.now ≡ m.heap.durable → n.heap.durable ≡ m.heap.durable → n.fixed ≡ m.fixed
-      → n.registers ≡ at_reset → n.command ≡ [] → IsCleared n.ram → n.ram.sizes ≡ area_sizes n.heap.now → IsSoundMemory p n
+      → n.registers ≡ at_reset → IsCleared n.ram → n.ram.sizes ≡ area_sizes n.heap.now → IsSoundMemory p n

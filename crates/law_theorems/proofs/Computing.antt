@@ -25,10 +25,11 @@ use Rattle.jc_linker.specs.Linking.{classes_behind, targets_from, link_result}
 use Rattle.jc_linker.specs.Lookups.{target_at, code_at, aid_at as aid_at_in_lookups, statics_at as statics_at_in_lookups}
 use Rattle.jc_linker.specs.Lookups.{applet_entry as applet_entry_in_lookups}
 use Rattle.jc_linker.specs.Lookups.{entry_with_aid, package_with_aid}
-use Rattle.jc_linker.specs.Methods.{first_decided, method_in, method_at as method_at_in_methods}
+use Rattle.jc_linker.specs.Methods.{first_decided, method_below, method_in, method_at as method_at_in_methods}
 use Rattle.jc_linker.specs.Resolves.{class_index, class_with_token, import_by_token, class_at_offset, class_named as class_named_in_resolves, names_interface}
 use Rattle.jc_linker.specs.Resolves.{field_target, virtual_target, super_target, export_of, foreign_method, resolution}
 use Rattle.jc_opcodes.specs.Headers.{header_in}
+use Rattle.jc_memory.specs.Commands.{data_of}
 use Rattle.jc_environment.specs.Objects.{first_objects, is_first, fixed_objects, own_place}
 use Rattle.jc_world.specs.Arrays.{bytes_argument, elements_of}
 use Rattle.jc_world.specs.Contexts.{package_of_applet, subject_of, situation_of, firewall_decision}
@@ -134,7 +135,7 @@ unfolding classes_behind targets_from link_result target_at code_at aid_at_in_lo
 in_linking_3 = tt
 
 unfoldable pub in_linking_4 : Unit {0}
-unfolding package_with_aid first_decided method_in method_at_in_methods class_index class_with_token import_by_token class_at_offset
+unfolding package_with_aid first_decided method_below method_in method_at_in_methods class_index class_with_token import_by_token class_at_offset
 in_linking_4 = tt
 
 unfoldable pub in_linking_5 : Unit {0}
@@ -190,7 +191,7 @@ unfolding assembly_result empty_load linked_package linked_components packages_o
 in_loads = tt
 
 unfoldable pub in_card : Unit {0}
-unfolding manager_command exchange route dispatch create_applet object_number
+unfolding manager_command exchange route dispatch create_applet object_number data_of
 in_card = tt
 
 unfoldable pub in_components_1 : Unit {0}

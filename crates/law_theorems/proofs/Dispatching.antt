@@ -30,7 +30,7 @@ use Rattle.law_images.specs.Cards.{IsOwnCard}
 use Rattle.law_images.specs.Comes.{AddNone, ComesWithin, memory_at}
 use Rattle.law_images.specs.Loaded.{AreBytes}
 use Rattle.law_soundness.proofs.Phases.{Good}
-use Rattle.law_images.proofs.Commands.{IsAnswered, command_fits, creates_good, dispatched_good, runs_good}
+use Rattle.law_images.proofs.Commands.{IsAnswered, creates_good, dispatched_good, runs_good}
 use Rattle.law_images.proofs.Sessions.{linked_known}
 use Rattle.law_theorems.specs.Commands.{CommandsRunCode}
 use Rattle.law_theorems.specs.References.{RunsFrom}
@@ -61,7 +61,7 @@ dispatched t card own shut bytes are =
     (alone p (end_load card) card.memory (load_ended IsByEnvironment card (λ components arrays image. shut)))
     (λ limit locals code. of_good p (run_code limit locals code card) card.memory (runs_good commands_are_sound t card own known limit locals code))
     (λ content. of_good p (create_applet content card) card.memory (creates_good commands_are_sound t card own known content)) bytes
-    (λ c is. of_good p (dispatch bytes c card) card.memory (dispatched_good commands_are_sound t card own known bytes c (command_fits bytes are c is)))
+    (λ c is. of_good p (dispatch bytes c card) card.memory (dispatched_good commands_are_sound t card own known bytes c))
 
 -- ---- each effect
 

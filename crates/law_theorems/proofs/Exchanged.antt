@@ -21,7 +21,8 @@ use Rattle.jc_card_load.specs.Loading.{CommandResult, component_append, componen
 use Rattle.jc_card.specs.Answers.{manager_command, exchange, exchange_of_apdu, is_dispatched, run_code}
 use Rattle.jc_card.specs.Apdu.{Apdu, apdu_of}
 use Rattle.jc_card.specs.CardState.{CardState}
-use Rattle.jc_card.specs.Dispatching.{create_applet, dispatch}
+use Rattle.jc_card.specs.Dispatching.{create_applet, dispatch, takes_extended}
+use Rattle.jc_memory.specs.Commands.{has_extended_length}
 use Rattle.jc_api.proofs.Due.{due_if}
 use Rattle.jc_card.specs.Loads.{LoadResponse, append_component, component_append_without_memory, end_load, on_load}
 
@@ -99,7 +100,8 @@ module _ (D : Program LoadResponse → Type 0) (card : CardState) (one : (a : Lo
   module _ (bytes : List ℕ) (dispatches : (c : Apdu) → apdu_of bytes ≡ Some c → D (dispatch bytes c card)) where
     of_apdu : (c : Option Apdu) → apdu_of bytes ≡ c → D (exchange_of_apdu bytes c card)
     of_apdu None is = one _
-    of_apdu (Some c) is = so_if (is_dispatched card c) _ _ (dispatches c is) (so_if (c.class == 0x80) _ _ (managed c) (one _))
+    of_apdu (Some c) is = so_if (has_extended_length bytes) _ _ (so_if (takes_extended c card.packages card.memory) _ _ (dispatches c is) (one _))
+        (so_if (is_dispatched card c) _ _ (dispatches c is) (so_if (c.class == 0x80) _ _ (managed c) (one _)))
 
     pub exchanged : D (exchange bytes card)
     unfolding exchange

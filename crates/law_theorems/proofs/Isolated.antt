@@ -41,7 +41,6 @@ set_of p m sound = record {
   applets = sound.registry;
   sizes = sound.transients.sizes;
   fits = sound.transients.fits;
-  command = sound.command;
 }
 
 statics_of : (t : Tokens) (card : CardState) → IsOwnCard t card → NamesStatics card.packages

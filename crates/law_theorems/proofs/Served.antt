@@ -11,7 +11,7 @@ use Rattle.jc_card.specs.Answers.{exchange}
 use Rattle.jc_card.specs.CardState.{CardState}
 use Rattle.law_images.specs.Cards.{IsOwnCard}
 use Rattle.law_images.specs.Loaded.{AreBytes}
-use Rattle.law_images.proofs.Commands.{command_fits, creates_good, dispatched_good, runs_good}
+use Rattle.law_images.proofs.Commands.{creates_good, dispatched_good, runs_good}
 use Rattle.law_images.proofs.Sessions.{linked_known}
 use Rattle.law_soundness.specs.Commands.{IsServed}
 use Rattle.law_soundness.specs.State.{IsSoundMemory}
@@ -36,7 +36,7 @@ commands_fine t card own bytes are =
     (inr (load_ended AddsPackage card (λ components arrays image. tt)))
     (λ limit locals code. inl (runs_good commands_are_sound t card own known limit locals code).due)
     (λ content. inl (creates_good commands_are_sound t card own known content).due) bytes
-    (λ c is. inl (dispatched_good commands_are_sound t card own known bytes c (command_fits bytes are c is)).due)
+    (λ c is. inl (dispatched_good commands_are_sound t card own known bytes c).due)
 
 -- after effects that are served the memory is sound
 pub sound_behind : (p : Packages) (es : List Effect) (m : MemoryState) → AllEffectsDue (IsServed p) es m → IsSoundMemory p m

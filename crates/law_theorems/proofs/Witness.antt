@@ -12,6 +12,7 @@ use Rattle.jc_heap.specs.Whole.{IsConsistent}
 use Rattle.jc_heap.specs.Heap.{HeapState}
 use Rattle.jc_linker.specs.Values.{Packages}
 use Rattle.jc_transient.specs.State.{AreSizes}
+use Rattle.jc_memory.specs.Commands.{data_of}
 use Rattle.jc_image.specs.declared.laying.ImageRoom.{ImageRoom}
 use Rattle.jc_platform.specs.Table.{Reads}
 use Rattle.jc_platform.specs.Tokens.{Tokens}
@@ -98,7 +99,7 @@ selects : AreBytes select_bytes
 selects = All-from_recursion (λ b. b < 256) select_bytes (omega arith, (omega arith, (omega arith, (omega arith, (omega arith, (omega arith, tt))))))
 
 pub witnesses : HaveWitnesses
-unfolding exchange dispatch manager_command refused_once machine_step instruction_step
+unfolding data_of exchange dispatch manager_command refused_once machine_step instruction_step
 witnesses budget n room text t enough sizes reads =
     let size = heap_end n room.capacity in
     let refused = refused_once false 0 no_refusals in

@@ -13,7 +13,7 @@ REFUSED = {"jcard: words must be 4096 to 65535": "BadSize", "jcard: journal must
            "jcard: image too small": "TooSmall", f"jcard: cannot write {IMAGE}": "down"}
 # What a line does that is none of a script.
 FORMS = {name: re.compile(form) for name, form in {
-    "card": r"card (\d+)(?: journal (\d+))?", "table": "table (.*)", "zeros": r"zeros (\d+)", "random": r"random (\d+) (\d+)",
+    "card": r"card (\d+)(?: journal (\d+))?(?: apdu (\d+))?", "table": "table (.*)", "zeros": r"zeros (\d+)", "random": r"random (\d+) (\d+)",
     "noted": "noted (.*)", "moves": "moves (.*)", "tear": "tear all-or-nothing", "cut": r"cut (\d+)", "recoveries": "recoveries",
     "format": r"format(?: (\d+))?(?: journal (\d+))?", "power": r"power(?: (\d+))?", "word": r"word (\d+)", "words": r"words (\d+) (\d+)",
     "put": r"put (\d+) (.*)", "append": "append (.*)", "copy": "copy", "undo": "undo", "changed": "changed( outside the journal)?",
@@ -196,9 +196,11 @@ class Cards:
             last = ended.printed.splitlines()[-1]
             raise Wrong(piece.numbers[at], piece.script[at], "all or nothing", "not cut" if ended.status == 1 else last)
 
-    def new(self, count, capacity, fuse=None):
+    def new(self, count, capacity, fuse=None, buffer=None):
         """Makes an image: its words, what was printed, and how many words were written."""
         words = ["new", IMAGE, "--words", str(count), "--journal", str(capacity)]
+        if buffer is not None:
+            words += ["--apdu", str(buffer)]
         if self.table is not None:
             put(TABLE, self.table.encode("ascii") or self.example)
             words += ["--table", TABLE]
@@ -209,11 +211,11 @@ class Cards:
         self.on_file = bytes_of(IMAGE)
         return Left(self.on_file, ended.writes, told)
 
-    def format_new(self, count, capacity):
+    def format_new(self, count, capacity, buffer=None):
         """A new image; each is made once."""
-        key = count, capacity, self.table
+        key = count, capacity, buffer, self.table
         if key not in self.made:
-            self.made[key] = self.new(count, capacity).image
+            self.made[key] = self.new(count, capacity, buffer=buffer).image
         return self.made[key]
 
     # Orders.
@@ -222,8 +224,8 @@ class Cards:
         self.image = self.kept = image
         self.writes = 0
 
-    def card(self, _row, count, capacity):
-        self.begin(self.format_new(int(count), int(capacity or USUAL_CAPACITY)))
+    def card(self, _row, count, capacity, buffer):
+        self.begin(self.format_new(int(count), int(capacity or USUAL_CAPACITY), buffer and int(buffer)))
 
     def zeros(self, _row, count):
         self.begin(bytes(2 * int(count)))

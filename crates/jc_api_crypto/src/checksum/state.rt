@@ -10,13 +10,13 @@ ghost use Rattle.jc_api_crypto.specs.Checksum.{IsRunning, begins_with, checksum_
 ghost use Rattle.jc_api_keys.specs.Shorts.{bytes_of_shorts};
 
 use crate::checksum::{ChecksumAlgorithm, RunningChecksum, checksum_shorts};
-use jc_api::{MOST_ELEMENTS, change_state, change_state_and_put};
+use jc_api::{MOST_ELEMENTS, SMALL_PIECE, change_state, change_state_and_put};
 use jc_api_keys::exceptions::ILLEGAL_VALUE;
 use jc_api_keys::receivers::read;
 use jc_api_keys::shorts::{put_bytes_of, put_shorts_of};
 use jc_digests::checksums::{update_16, update_32};
 use jc_linker::linked::Linked;
-use jc_memory::{MOST_COMMAND, Memory};
+use jc_memory::Memory;
 use jc_words::WordStore;
 use jc_world::{NativeResult, StepExit, Stretch};
 
@@ -102,8 +102,8 @@ fn words_after<S: WordStore>(
     requires few { piece.count ≤ MOST_ELEMENTS }
     ensures { take (checksum_shorts own.now.algorithm) result ≡ words_after memory.now own.now piece }
 {
-    if piece.count as usize <= MOST_COMMAND {
-        return words_after_most::<MOST_COMMAND, S>(own, piece, memory);
+    if piece.count as usize <= SMALL_PIECE {
+        return words_after_most::<SMALL_PIECE, S>(own, piece, memory);
     }
     words_after_most::<MOST_ELEMENTS, S>(own, piece, memory)
 }

@@ -15,13 +15,13 @@ ghost use Rattle.jc_api_keys.specs.Shorts.{shorts_of};
 use crate::cipher::block::{RunningCipher, cipher_shorts};
 use crate::initialized::{MOST_VECTOR, read_vector};
 use crate::outputs::put_output;
-use jc_api::MOST_ELEMENTS;
+use jc_api::{MOST_ELEMENTS, SMALL_PIECE};
 use jc_api_keys::exceptions::ILLEGAL_USE;
 use jc_api_keys::receivers::{read, read_state};
 use jc_api_keys::shorts::put_shorts_of;
 use jc_frames::Cell;
 use jc_linker::linked::Linked;
-use jc_memory::{MOST_COMMAND, Memory};
+use jc_memory::Memory;
 use jc_modes::kept::MOST_STATE;
 use jc_modes::kept::conversion::{finish_conversion, update_conversion};
 use jc_words::WordStore;
@@ -36,8 +36,8 @@ const MOST_CIPHER_KEY: usize = 32;
 // How many bytes more than came are written at most: those of an open block, and a padding.
 const MOST_MORE: usize = 32;
 
-// The same for a buffer of as many bytes as a command, and of as many as a call names.
-const COMMAND_ROOM: usize = MOST_COMMAND + MOST_MORE;
+// The same for a small piece, and for as many bytes as a call names.
+const SMALL_ROOM: usize = SMALL_PIECE + MOST_MORE;
 
 const MOST_ROOM: usize = MOST_ELEMENTS + MOST_MORE;
 
@@ -183,8 +183,8 @@ pub(crate) fn go_on<S: WordStore>(
     ensures { Executes (changing_call (goes_on own.now piece args.now linked.now memory.old)
         linked.now memory.old) memory.old (after_call result memory.new) }
 {
-    if piece.count as usize <= MOST_COMMAND {
-        return go_on_most::<MOST_COMMAND, COMMAND_ROOM, S>(own, piece, args, memory, linked);
+    if piece.count as usize <= SMALL_PIECE {
+        return go_on_most::<SMALL_PIECE, SMALL_ROOM, S>(own, piece, args, memory, linked);
     }
     go_on_most::<MOST_ELEMENTS, MOST_ROOM, S>(own, piece, args, memory, linked)
 }
@@ -252,8 +252,8 @@ pub(crate) fn end<S: WordStore>(
         (last_output memory.old own.now piece)) linked.now memory.old)
         memory.old (after_call result memory.new) }
 {
-    if piece.count as usize <= MOST_COMMAND {
-        return end_most::<MOST_COMMAND, COMMAND_ROOM, S>(own, piece, args, memory, linked);
+    if piece.count as usize <= SMALL_PIECE {
+        return end_most::<SMALL_PIECE, SMALL_ROOM, S>(own, piece, args, memory, linked);
     }
     end_most::<MOST_ELEMENTS, MOST_ROOM, S>(own, piece, args, memory, linked)
 }

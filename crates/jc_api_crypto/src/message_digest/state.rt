@@ -11,12 +11,12 @@ ghost use Rattle.jc_api_keys.specs.Receivers.{bytes_of_state};
 ghost use Rattle.jc_api_keys.specs.Shorts.{first_shorts, shorts_of};
 
 use crate::message_digest::{RunningDigest, digest_length, digest_shorts};
-use jc_api::{MOST_ELEMENTS, change_state, change_state_and_put};
+use jc_api::{MOST_ELEMENTS, SMALL_PIECE, change_state, change_state_and_put};
 use jc_api_keys::receivers::{read, read_state};
 use jc_api_keys::shorts::put_shorts_of;
 use jc_digests::kept::{HashAlgorithm, MOST_HASH, MOST_STATE, put_digest_of, update_state};
 use jc_linker::linked::Linked;
-use jc_memory::{MOST_COMMAND, Memory};
+use jc_memory::Memory;
 use jc_words::WordStore;
 use jc_world::{NativeResult, StepExit, Stretch};
 
@@ -85,8 +85,8 @@ fn put_next<S: WordStore>(own: &RunningDigest, piece: Stretch, memory: &Memory<S
     requires all { length bytes.old ≡ 2 * digest_shorts own.now.algorithm }
     ensures { bytes.new ≡ bytes_after memory.now own.now piece }
 {
-    if piece.count as usize <= MOST_COMMAND {
-        next_most::<MOST_COMMAND, S>(own, piece, memory, bytes);
+    if piece.count as usize <= SMALL_PIECE {
+        next_most::<SMALL_PIECE, S>(own, piece, memory, bytes);
     } else {
         next_most::<MOST_ELEMENTS, S>(own, piece, memory, bytes);
     }

@@ -11,14 +11,14 @@ ghost use Rattle.jc_api_keys.specs.Shorts.{first_shorts};
 
 use crate::random_data::RunningRandom;
 use crate::random_data::source::{MIXED_SIZE, Source, put_random};
-use jc_api::{MOST_ELEMENTS, change_state, change_state_and_put};
+use jc_api::{MOST_ELEMENTS, SMALL_PIECE, change_state, change_state_and_put};
 use jc_api_keys::exceptions::ILLEGAL_VALUE;
 use jc_api_keys::receivers::read;
 use jc_api_keys::shorts::{put_bytes_of, put_shorts_of};
 use jc_digests::digest::digest_of_pieces;
 use jc_digests::sha_256::Sha256;
 use jc_linker::linked::Linked;
-use jc_memory::{MOST_COMMAND, Memory};
+use jc_memory::Memory;
 use jc_words::WordStore;
 use jc_world::{NativeResult, StepExit, Stretch};
 
@@ -120,8 +120,8 @@ pub(crate) fn draw<S: WordStore>(
     if e.count == 0 {
         return Err(StepExit::Throw(ILLEGAL_VALUE));
     }
-    if e.count as usize <= MOST_COMMAND {
-        return draw_most::<MOST_COMMAND, S>(own, e, answer, memory, linked);
+    if e.count as usize <= SMALL_PIECE {
+        return draw_most::<SMALL_PIECE, S>(own, e, answer, memory, linked);
     }
     draw_most::<MOST_ELEMENTS, S>(own, e, answer, memory, linked)
 }
@@ -176,8 +176,8 @@ pub(crate) fn mix<S: WordStore>(
         (first_shorts (sha256 (mixed_of memory.old own.now ++ bytes_in memory.old e)) mixed_shorts) None))
         linked.now memory.old) memory.old (after_call result memory.new) }
 {
-    if e.count as usize <= MOST_COMMAND {
-        return mix_most::<MOST_COMMAND, S>(own, e, memory, linked);
+    if e.count as usize <= SMALL_PIECE {
+        return mix_most::<SMALL_PIECE, S>(own, e, memory, linked);
     }
     mix_most::<MOST_ELEMENTS, S>(own, e, memory, linked)
 }

@@ -15,14 +15,14 @@ use crate::message_digest::state::MOST_SHORTS;
 use crate::signature::algorithms::SignatureAlgorithm;
 use crate::signature::code::{RunningSignature, signature_shorts, vector_size};
 use crate::signature::codes::{put_signature_of, take_in};
-use jc_api::{MOST_ELEMENTS, change_state, change_state_and_put};
+use jc_api::{MOST_ELEMENTS, SMALL_PIECE, change_state, change_state_and_put};
 use jc_api_keys::exceptions::ILLEGAL_USE;
 use jc_api_keys::key_objects::contents::MOST_KEY;
 use jc_api_keys::receivers::{read, read_state};
 use jc_api_keys::shorts::put_shorts_of;
 use jc_digests::kept::{MOST_HASH, MOST_STATE};
 use jc_linker::linked::Linked;
-use jc_memory::{MOST_COMMAND, Memory};
+use jc_memory::Memory;
 use jc_words::WordStore;
 use jc_world::{NativeResult, StepExit, Stretch};
 
@@ -155,8 +155,8 @@ pub(crate) fn update<S: WordStore>(
     ensures { Executes (changing_call (Ok (goes_on own.now (bytes_after memory.old own.now piece)))
         linked.now memory.old) memory.old (after_call result memory.new) }
 {
-    if piece.count as usize <= MOST_COMMAND {
-        return update_most::<MOST_COMMAND, S>(own, piece, memory, linked);
+    if piece.count as usize <= SMALL_PIECE {
+        return update_most::<SMALL_PIECE, S>(own, piece, memory, linked);
     }
     update_most::<MOST_ELEMENTS, S>(own, piece, memory, linked)
 }
@@ -197,8 +197,8 @@ fn signature<S: WordStore>(
     requires all { length to.old ≡ signature_size own.now.algorithm }
     ensures { (if result then Some to.new else None) ≡ signature_with memory.now own.now piece }
 {
-    if piece.count as usize <= MOST_COMMAND {
-        return signature_most::<MOST_COMMAND, S>(own, piece, memory, to);
+    if piece.count as usize <= SMALL_PIECE {
+        return signature_most::<SMALL_PIECE, S>(own, piece, memory, to);
     }
     signature_most::<MOST_ELEMENTS, S>(own, piece, memory, to)
 }

@@ -1,35 +1,36 @@
 -- APDU: what its checks give where a call does not go on, and what they say where it does.
 use Rattle.std.specs.Option.{option_map}
-use Rattle.std.specs.Prelude.{ℤ, pos, negsuc, nat_le, slice_index, min, slice_range}
-use Rattle.std.proofs.Common.{◌+◌, ◌≡◌, ◌≤◌, ℕ, true, refl, arith, Bool, false, Option, Some, None, subst, if◌then◌else◌, List, [], length}
-use Rattle.std.proofs.lemmas.Bool.{eqb-true}
-use Rattle.std.proofs.lemmas.List.Edits.{length-between}
+use Rattle.std.specs.Prelude.{ℤ, pos, negsuc, ◌&&◌, nat_le, nat_lt, slice_index, take, drop}
+use Rattle.std.proofs.Common.{◌+◌, ◌-◌, ◌≡◌, ◌≤◌, ℕ, true, refl, arith, Bool, false, Option, Some, None, subst, if◌then◌else◌, List, [], length}
+use Rattle.std.proofs.lemmas.Bool.{and_parts, leb-true}
+use Rattle.std.proofs.lemmas.List.{length-take}
 use Rattle.std.proofs.lemmas.Option.{none-some, same_Some}
-use Rattle.jc_transient.specs.State.{buffer_size}
+use Rattle.jc_transient.specs.State.{buffer_size, most_buffer}
 use Rattle.jc_heap.specs.Heap.{facts}
 use Rattle.jc_heap.specs.declared.object.Facts.{Facts}
 use Rattle.jc_heap.specs.declared.object.Kind.{Kind}
 use Rattle.jc_heap.specs.declared.object.Kind.TheVariants.{ByteArray, Instance, BooleanArray, ShortArray, ReferenceArray}
 use Rattle.jc_memory.specs.Cells.{header_at}
+use Rattle.jc_memory.specs.Commands.{data_of, data_offset, has_extended_length}
 use Rattle.jc_memory.specs.State.{MemoryState}
 use Rattle.jc_api.proofs.Exits.{FaultsOnly, plain_if}
 use Rattle.jc_api.proofs.Reaching.{header_is}
-use Rattle.jc_api_framework.specs.Apdu.{length_of, buffer_piece, is_too_much, piece_of}
-use Rattle.jc_api_framework.specs.Apdu.Buffer.{is_buffer_of, is_buffer, buffer_of, data_of}
+use Rattle.jc_api_framework.specs.Apdu.{length_of, buffer_piece, is_too_much, next_piece, piece_of}
+use Rattle.jc_api_framework.specs.Apdu.Buffer.{is_buffer_of, is_buffer, buffer_of}
 use Rattle.jc_api_framework.specs.Apdu.Current.{apdu_object}
 
-pub plain_length : (v : ℤ) → FaultsOnly (length_of v)
-plain_length (pos n) = plain_if (nat_le n 256) _ _ tt tt
-plain_length (negsuc n) = tt
+pub plain_length : (most : ℕ) (v : ℤ) → FaultsOnly (length_of most v)
+plain_length most (pos n) = plain_if (nat_le n most) _ _ tt tt
+plain_length most (negsuc n) = tt
 
-plain_buffer_piece : (start count : ℤ) → FaultsOnly (buffer_piece start count)
-plain_buffer_piece (pos start) (pos count) = plain_if (nat_le (start + count) buffer_size) _ _ tt tt
-plain_buffer_piece (pos start) (negsuc n) = tt
-plain_buffer_piece (negsuc n) count = tt
+plain_buffer_piece : (size : ℕ) (start count : ℤ) → FaultsOnly (buffer_piece size start count)
+plain_buffer_piece size (pos start) (pos count) = plain_if (nat_le (start + count) size) _ _ tt tt
+plain_buffer_piece size (pos start) (negsuc n) = tt
+plain_buffer_piece size (negsuc n) count = tt
 
-pub plain_piece : (m : MemoryState) (left : ℕ) (start count : ℤ) → FaultsOnly (piece_of m left start count)
+pub plain_piece : (m : MemoryState) (size left : ℕ) (start count : ℤ) → FaultsOnly (piece_of m size left start count)
 unfolding piece_of
-plain_piece m left start count = plain_if (is_too_much m left count) _ _ tt (plain_buffer_piece start count)
+plain_piece m size left start count = plain_if (is_too_much m left count) _ _ tt (plain_buffer_piece size start count)
 
 -- the APDU buffer, where it is there
 pub record IsCommandBuffer (m : MemoryState) (r : ℕ) : Type 0 where
@@ -40,7 +41,7 @@ pub record IsCommandBuffer (m : MemoryState) (r : ℕ) : Type 0 where
 buffer_kind : (kind : Kind) (n : ℕ) → is_buffer_of kind n ≡ true → (kind ≡ ByteArray) × (buffer_size ≤ n)
 buffer_kind Instance n e = absurd cc
 buffer_kind BooleanArray n e = absurd cc
-buffer_kind ByteArray n e = (refl, (let is = eqb-true n buffer_size e in omega (arith, is)))
+buffer_kind ByteArray n e = (refl, leb-true buffer_size n (and_parts (nat_le buffer_size n) (nat_le n most_buffer) e).0)
 buffer_kind ShortArray n e = absurd cc
 buffer_kind ReferenceArray n e = absurd cc
 
@@ -68,13 +69,14 @@ pub apdu_is : (m : MemoryState) (r : ℕ) → apdu_object m ≡ Some r → slice
 unfolding apdu_object
 apdu_is m r is = apdu_found m (header_at m (slice_index m.fixed 15)) r is
 
-pub data_fits : (command : List ℕ) → length command ≤ buffer_size → 5 + length (data_of command) ≤ buffer_size
-unfolding data_of
-data_fits command few = either (nat_le (length command) 5)
+-- the data begin at the sixth byte or at the eighth
+pub offset_few : (command : List ℕ) → data_offset command ≤ 7
+offset_few command = either (has_extended_length command && nat_lt 7 (length command))
   where
-    most : (n : ℕ) → n ≤ length command → 5 + length (slice_range command 5 n) ≤ buffer_size
-    most n le = let l = length-between command 5 n le in omega (arith, l, le, few)
-
-    either : (b : Bool) → 5 + length (if b then [] else slice_range command 5 (min (5 + slice_index command 4) (length command))) ≤ buffer_size
+    either : (b : Bool) → (if b then 7 else 5) ≤ 7
     either true = omega arith
-    either false = most (min (5 + slice_index command 4) (length command)) (omega arith)
+    either false = omega arith
+
+-- a piece fits into the buffer
+pub piece_fits : (command : List ℕ) (n size at : ℕ) → at ≤ size → at + length (next_piece command n size at) ≤ size
+piece_fits command n size at within = let few = length-take (size - at) (drop n (data_of command)) in omega (arith, few, within)

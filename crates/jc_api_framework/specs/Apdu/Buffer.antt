@@ -1,6 +1,6 @@
--- The APDU buffer, and the data of a command.
-use Rattle.std.specs.Prelude.{ℕ, ◌+◌, ◌≡◌, ◌==◌, nat_le, min, Bool, false, List, [], length, slice_index, slice_range, if◌then◌else◌, Option, Some, None}
-use Rattle.jc_transient.specs.State.{buffer_size}
+-- The APDU buffer.
+use Rattle.std.specs.Prelude.{ℕ, ◌≡◌, ◌≤◌, ◌&&◌, nat_le, Bool, false, slice_index, if◌then◌else◌, Option, Some, None}
+use Rattle.jc_transient.specs.State.{buffer_size, most_buffer}
 use Rattle.jc_environment.specs.Objects.{buffer_place}
 use Rattle.jc_heap.specs.declared.object.Facts.{Facts}
 use Rattle.jc_heap.specs.declared.object.Kind.{Kind}
@@ -9,11 +9,11 @@ use Rattle.jc_heap.specs.Heap.{IsObject, facts}
 use Rattle.jc_memory.specs.State.{MemoryState}
 use Rattle.jc_memory.specs.Cells.{header_at}
 
--- an array of bytes of the buffer's length
+-- an array of bytes that is as long as a buffer may be
 abbrev pub is_buffer_of : Kind → ℕ → Bool
 is_buffer_of Instance n = false
 is_buffer_of BooleanArray n = false
-is_buffer_of ByteArray n = n == buffer_size
+is_buffer_of ByteArray n = nat_le buffer_size n && nat_le n most_buffer
 is_buffer_of ShortArray n = false
 is_buffer_of ReferenceArray n = false
 
@@ -29,8 +29,9 @@ buffer_of m = if is_buffer (header_at m (slice_index m.fixed buffer_place)) then
 pub record IsBuffer (m : MemoryState) (r : ℕ) : Type 0 where
   pub there : IsObject m.heap.now r
   pub bytes : (facts m.heap.now r).kind ≡ ByteArray
-  pub long : (facts m.heap.now r).length ≡ buffer_size
+  pub long : buffer_size ≤ (facts m.heap.now r).length
+  pub short : (facts m.heap.now r).length ≤ most_buffer
 
--- the data of a command: as many bytes after the fifth one as this says. One of five bytes or fewer has none
-unfoldable pub data_of : List ℕ → List ℕ
-data_of command = if nat_le (length command) 5 then [] else slice_range command 5 (min (5 + slice_index command 4) (length command))
+-- how many bytes it has
+abbrev pub buffer_length : MemoryState → ℕ → ℕ
+buffer_length m r = (facts m.heap.now r).length

@@ -8,9 +8,9 @@ use Rattle.jc_memory.specs.declared.registers.Installation.{Installation}
 use Rattle.jc_memory.specs.declared.registers.Installation.TheVariants.{Idle, Open, Registered}
 use Rattle.jc_memory.specs.State.{MemoryState}
 use Rattle.jc_memory.specs.Cells.{header_at}
+use Rattle.jc_memory.specs.Commands.{data_of}
 use Rattle.jc_registry.specs.Registry.{applet_with_aid}
 use Rattle.jc_world.specs.Contexts.{context_of, selected_context}
-use Rattle.jc_api_framework.specs.Apdu.Buffer.{data_of}
 
 -- the AID by which the manager is selected
 abbrev pub manager_aid : List ℕ

@@ -6,10 +6,10 @@ ghost use Rattle.jc_world.specs.NativeCalls.{after_call};
 ghost use Rattle.jc_api_framework.specs.Apdu.Current.{apdu_object, has_command, has_process, is_select, is_selection, names_somebody};
 ghost use Rattle.jc_api_framework.specs.Apdu.{apdu_get_current_apdu, apdu_get_current_apdu_buffer};
 
-use crate::apdu::buffer::{buffer, data_of};
+use crate::apdu::buffer::buffer;
 use jc_environment::APDU_OBJECT;
 use jc_frames::{Cell, CodeFault, Exception};
-use jc_memory::{Installation, Memory};
+use jc_memory::{Installation, Memory, data_of};
 use jc_registry::applet_with_aid;
 use jc_transient::Ref;
 use jc_words::WordStore;

@@ -1,25 +1,21 @@
 //! The answer's data are sent.
 ghost use Rattle.std.specs.Prelude.{◌≡◌, ◌≤◌, ◌+◌, false, IfOk, length};
 ghost use Rattle.jc_memory.specs.declared.registers.ApduPhase.TheVariants.{Sending};
-ghost use Rattle.jc_memory.specs.State.{SendBytes, apply_effect};
 ghost use Rattle.jc_memory.specs.Programs.{Executes};
-ghost use Rattle.jc_memory.specs.Cells.{bytes_at};
 ghost use Rattle.jc_world.specs.NativeCalls.{after_call};
-ghost use Rattle.jc_api_framework.specs.Apdu.Buffer.{IsBuffer};
-ghost use Rattle.jc_api_framework.specs.Apdu.{apdu_set_outgoing_and_send, apdu_send_bytes, send_in_phase, expected_of, is_too_much, length_of};
-ghost use Rattle.jc_api_framework.specs.Apdu.{apdu_set_outgoing_length, apdu_set_outgoing, piece_of, buffer_piece};
+ghost use Rattle.jc_api_framework.specs.Apdu.{apdu_set_outgoing_and_send, apdu_send_bytes, send_in_phase, expected_of, is_too_much, length_of, most_unchained, set_outgoing_in_phase};
+ghost use Rattle.jc_api_framework.specs.Apdu.{apdu_set_outgoing_length, apdu_set_outgoing, apdu_set_outgoing_no_chaining, phase_of, piece_of, buffer_piece};
 
-use crate::apdu::buffer::buffer;
+use crate::apdu::buffer::{buffer, buffer_length};
 use crate::apdu::phase::set_phase;
 use jc_frames::reasons::{BAD_LENGTH, BUFFER_BOUNDS, ILLEGAL_USE};
 use jc_frames::{Cell, FrameExit};
-use jc_memory::{ApduPhase, Memory};
-use jc_transient::{BUFFER_CELLS, Ref};
+use jc_memory::{ApduPhase, MOST_SENT, MOST_SHORT, Memory, most_answer};
 use jc_words::WordStore;
 use jc_world::{NativeResult, StepExit};
 
-/// How many bytes an answer has at most.
-pub(crate) const MOST_SENT: u16 = 256;
+// How many bytes are sent in one block of T=1 at most, without the status word.
+const MOST_IN_BLOCK: u16 = 252;
 
 /// Bytes of the buffer, from one on.
 #[derive(Clone, Copy)]
@@ -28,13 +24,28 @@ pub(crate) struct Piece {
     pub count: u16,
 }
 
-// How many bytes the command expects: 256 where it says 0 or nothing.
+// How many bytes the command expects, 32767 at most; as many as an answer to it has at most where it says 0 or nothing.
 fn expected_of<S: WordStore>(memory: &Memory<S>) -> u16
     ensures { result ≡ expected_of memory.now }
 {
     match memory.registers().apdu.expected {
-        0 => MOST_SENT,
-        expected => expected,
+        0 => most_answer(memory.command()),
+        expected => expected.min(MOST_SENT as u16),
+    }
+}
+
+// Begins to send, once, at most this many bytes.
+fn set_outgoing<S: WordStore>(most: u16, memory: &mut Memory<S>) -> Result<NativeResult, StepExit>
+    ensures { Executes (set_outgoing_in_phase memory.old (phase_of memory.old) most) memory.old
+        (after_call result memory.new) }
+{
+    match memory.registers().apdu.phase {
+        ApduPhase::Waiting | ApduPhase::Received(_) => {
+            let expected = expected_of(memory);
+            set_phase(memory, ApduPhase::Outgoing(most));
+            Ok(NativeResult::ReturnValue(Cell::Short(expected.cast_signed())))
+        }
+        _ => Err(StepExit::Throw(ILLEGAL_USE)),
     }
 }
 
@@ -45,27 +56,50 @@ pub(crate) fn apdu_set_outgoing<S: WordStore>(
 ) -> Result<NativeResult, StepExit>
     ensures { Executes (apdu_set_outgoing memory.old) memory.old (after_call result memory.new) }
 {
-    match memory.registers().apdu.phase {
-        ApduPhase::Waiting | ApduPhase::Received => {
-            let expected = expected_of(memory);
-            set_phase(memory, ApduPhase::Outgoing);
-            Ok(NativeResult::ReturnValue(Cell::Short(expected.cast_signed())))
-        }
-        _ => Err(StepExit::Throw(ILLEGAL_USE)),
+    let most = most_answer(memory.command());
+    set_outgoing(most, memory)
+}
+
+// How many bytes may be sent in one block.
+fn most_unchained<S: WordStore>(memory: &Memory<S>) -> u16
+    requires up { memory.now.heap.down ≡ false }
+    ensures { result ≡ most_unchained memory.now }
+{
+    if memory.takes_extended_length() {
+        MOST_IN_BLOCK
+    } else {
+        MOST_SHORT as u16
     }
 }
 
-// How many bytes are going to be sent: 256 at most.
-fn length_of(count: i16) -> Result<u16, FrameExit>
-    ensures { result ≡ length_of count }
+/// `APDU.setOutgoingNoChaining`: the same, where what is sent has to fit into one block.
+#[tactic(auto, unfolding(crate::specs::Apdu::apdu_set_outgoing_no_chaining))]
+pub(crate) fn apdu_set_outgoing_no_chaining<S: WordStore>(
+    memory: &mut Memory<S>,
+) -> Result<NativeResult, StepExit>
+    requires up { memory.old.heap.down ≡ false }
+    ensures { Executes (apdu_set_outgoing_no_chaining memory.old) memory.old
+        (after_call result memory.new) }
 {
-    if count < 0 || count > 256 {
+    let most = most_unchained(memory);
+    set_outgoing(most, memory)
+}
+
+// How many bytes are going to be sent, of which there may be at most so many.
+fn length_of(most: u16, count: i16) -> Result<u16, FrameExit>
+    ensures { result ≡ length_of most count }
+{
+    if count < 0 {
         return Err(FrameExit::Throw(BAD_LENGTH));
     }
-    Ok(count.cast_unsigned())
+    let count = count.cast_unsigned();
+    if count > most {
+        return Err(FrameExit::Throw(BAD_LENGTH));
+    }
+    Ok(count)
 }
 
-/// `APDU.setOutgoingLength`: says how many bytes are going to be sent, 256 at most; once, after `setOutgoing`.
+/// `APDU.setOutgoingLength`: says how many bytes are going to be sent; once, after `setOutgoing`.
 #[tactic(auto, unfolding(crate::specs::Apdu::apdu_set_outgoing_length))]
 pub(crate) fn apdu_set_outgoing_length<S: WordStore>(
     count: i16,
@@ -75,8 +109,8 @@ pub(crate) fn apdu_set_outgoing_length<S: WordStore>(
         (after_call result memory.new) }
 {
     match memory.registers().apdu.phase {
-        ApduPhase::Outgoing => {
-            let count = length_of(count)?;
+        ApduPhase::Outgoing(most) => {
+            let count = length_of(most, count)?;
             set_phase(memory, ApduPhase::Sending(count));
             Ok(NativeResult::ReturnVoid)
         }
@@ -92,55 +126,41 @@ pub(crate) fn is_too_much<S: WordStore>(memory: &Memory<S>, left: u16, count: i1
         return false;
     }
     let count = count.cast_unsigned();
-    count > left || memory.sent().len() + count as usize > MOST_SENT as usize
+    count > left || memory.sent().len() + count as usize > MOST_SENT
 }
 
-// This many bytes of the buffer, from one on.
-fn buffer_piece(start: i16, count: i16) -> Result<Piece, FrameExit>
-    ensures { result ≡ buffer_piece start count }
+// This many bytes of a buffer of this size, from one on.
+fn buffer_piece(size: u16, start: i16, count: i16) -> Result<Piece, FrameExit>
+    ensures { result ≡ buffer_piece size start count }
 {
     if start < 0 || count < 0 {
         return Err(FrameExit::Throw(BUFFER_BOUNDS));
     }
     let (start, count) = (start.cast_unsigned(), count.cast_unsigned());
-    if start + count > BUFFER_CELLS {
+    if start + count > size {
         return Err(FrameExit::Throw(BUFFER_BOUNDS));
     }
     Ok(Piece { start, count })
 }
 
-// What may be sent of the buffer, where this many bytes are left.
+// What may be sent of a buffer of this size, where this many bytes are left.
 #[tactic(auto, unfolding(crate::specs::Apdu::piece_of))]
 fn piece_of<S: WordStore>(
+    size: u16,
     start: i16,
     count: i16,
     left: u16,
     memory: &Memory<S>,
 ) -> Result<Piece, FrameExit>
-    ensures piece { result ≡ piece_of memory.now left start count }
-    ensures within { IfOk result (λ piece. piece.start + piece.count ≤ BUFFER_CELLS) }
+    ensures piece { result ≡ piece_of memory.now size left start count }
+    ensures within { IfOk result (λ piece. piece.start + piece.count ≤ size) }
     ensures left { IfOk result (λ piece. piece.count ≤ left) }
     ensures few { IfOk result (λ piece. length memory.now.sent + piece.count ≤ MOST_SENT) }
 {
     if is_too_much(memory, left, count) {
         return Err(FrameExit::Throw(ILLEGAL_USE));
     }
-    buffer_piece(start, count)
-}
-
-// Sends bytes of the buffer.
-fn send_piece<S: WordStore>(piece: Piece, buffer: Ref, memory: &mut Memory<S>)
-    requires up { memory.old.heap.down ≡ false }
-    requires buffer { IsBuffer memory.old buffer }
-    requires within { piece.start + piece.count ≤ BUFFER_CELLS }
-    requires few { length memory.old.sent + piece.count ≤ MOST_SENT }
-    ensures { memory.new ≡ apply_effect (SendBytes (bytes_at memory.old buffer piece.start
-        piece.count)) memory.old }
-{
-    let mut bytes = [0; MOST_SENT as usize];
-    let bytes = &mut bytes[..piece.count as usize];
-    memory.bytes(buffer, piece.start, bytes);
-    memory.send(bytes);
+    buffer_piece(size, start, count)
 }
 
 // Sends bytes of the buffer, while this many are left.
@@ -154,9 +174,10 @@ fn send_in_phase<S: WordStore>(
     ensures { Executes (send_in_phase memory.old (Sending left) start count) memory.old
         (after_call result memory.new) }
 {
-    let piece = piece_of(start, count, left, memory)?;
     let buffer = buffer(memory)?;
-    send_piece(piece, buffer, memory);
+    let size = buffer_length(buffer, memory);
+    let piece = piece_of(size, start, count, left, memory)?;
+    memory.send_elements(buffer, piece.start, piece.count);
     set_phase(memory, ApduPhase::Sending(left - piece.count));
     Ok(NativeResult::ReturnVoid)
 }

@@ -1,14 +1,13 @@
 //! Elements of any array of bytes are sent.
-ghost use Rattle.std.specs.Prelude.{◌≡◌, ◌+◌, ◌≤◌, false, length};
+ghost use Rattle.std.specs.Prelude.{◌≡◌, ◌≤◌, false};
 ghost use Rattle.jc_memory.specs.declared.registers.ApduPhase.TheVariants.{Sending};
-ghost use Rattle.jc_memory.specs.State.{SendBytes, apply_effect};
 ghost use Rattle.jc_memory.specs.Programs.{Executes};
-ghost use Rattle.jc_world.specs.Arrays.{IsInArray, bytes_in};
+ghost use Rattle.jc_world.specs.Arrays.{IsInArray};
 ghost use Rattle.jc_world.specs.NativeCalls.{after_call};
 ghost use Rattle.jc_api_framework.specs.Apdu.{apdu_send_bytes_long, phase_of, send_elements_in_phase};
 
 use crate::apdu::phase::set_phase;
-use crate::apdu::send::{MOST_SENT, is_too_much};
+use crate::apdu::send::is_too_much;
 use jc_api::{MOST_ELEMENTS, counted_of};
 use jc_frames::Cell;
 use jc_frames::reasons::ILLEGAL_USE;
@@ -16,19 +15,6 @@ use jc_linker::linked::Linked;
 use jc_memory::{ApduPhase, Memory};
 use jc_words::WordStore;
 use jc_world::{NativeResult, StepExit, Stretch};
-
-// Sends elements of an array of bytes.
-fn send_elements<S: WordStore>(elements: Stretch, memory: &mut Memory<S>)
-    requires up { memory.old.heap.down ≡ false }
-    requires there { IsInArray memory.old elements }
-    requires few { length memory.old.sent + elements.count ≤ MOST_SENT }
-    ensures { memory.new ≡ apply_effect (SendBytes (bytes_in memory.old elements)) memory.old }
-{
-    let mut bytes = [0; MOST_SENT as usize];
-    let bytes = &mut bytes[..elements.count as usize];
-    memory.bytes(elements.array, elements.start, bytes);
-    memory.send(bytes);
-}
 
 // Sends elements of an array of bytes, while this many are left.
 fn send_while_left<S: WordStore>(
@@ -46,7 +32,7 @@ fn send_while_left<S: WordStore>(
     if is_too_much(memory, left, count.cast_signed()) {
         return Err(StepExit::Throw(ILLEGAL_USE));
     }
-    send_elements(elements, memory);
+    memory.send_elements(elements.array, elements.start, count);
     set_phase(memory, ApduPhase::Sending(left - count));
     Ok(NativeResult::ReturnVoid)
 }

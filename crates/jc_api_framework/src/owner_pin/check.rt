@@ -9,10 +9,10 @@ ghost use Rattle.jc_world.specs.Arrays.{IsInArray, bytes_in};
 ghost use Rattle.jc_api_framework.specs.OwnerPin.{pin_comparison, owner_pin_check};
 
 use crate::owner_pin::receiver;
-use jc_api::{MOST_ELEMENTS, argument_bytes, array_arguments};
+use jc_api::{MOST_ELEMENTS, SMALL_PIECE, argument_bytes, array_arguments};
 use jc_frames::{Cell, FrameExit};
 use jc_linker::linked::Linked;
-use jc_memory::{MOST_COMMAND, Memory};
+use jc_memory::Memory;
 use jc_pin::tries;
 use jc_transient::Ref;
 use jc_words::{StoreDown, WordStore};
@@ -52,8 +52,8 @@ fn compare_bytes<S: WordStore>(
     ensures { Executes (pin_check memory.old pin (Some (bytes_in memory.old bytes))) memory.old
         (after_step result memory.new) }
 {
-    if bytes.count as usize <= MOST_COMMAND {
-        return compare_most::<MOST_COMMAND, S>(memory, pin, bytes);
+    if bytes.count as usize <= SMALL_PIECE {
+        return compare_most::<SMALL_PIECE, S>(memory, pin, bytes);
     }
     compare_most::<MOST_ELEMENTS, S>(memory, pin, bytes)
 }

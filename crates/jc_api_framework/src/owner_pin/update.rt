@@ -9,11 +9,11 @@ ghost use Rattle.jc_world.specs.Arrays.{IsInArray, bytes_in};
 ghost use Rattle.jc_api_framework.specs.OwnerPin.{answer_of, at_least_1, changed_or_thrown, is_own_value, owner_pin_init, owner_pin_update};
 
 use crate::owner_pin::receiver;
-use jc_api::{MOST_ELEMENTS, counted_of};
+use jc_api::{MOST_ELEMENTS, SMALL_PIECE, counted_of};
 use jc_frames::reasons::{BUFFER_FULL, ILLEGAL_PIN_VALUE, NO_RESOURCE};
 use jc_frames::{Cell, Exception, FrameExit};
 use jc_linker::linked::Linked;
-use jc_memory::{MOST_COMMAND, Memory, Owner};
+use jc_memory::{Memory, Owner};
 use jc_pin::{PinRefusal, init, record, update};
 use jc_transient::Ref;
 use jc_words::WordStore;
@@ -129,8 +129,8 @@ fn set_bytes<S: WordStore>(
     ensures { Executes (pin_update memory.old pin (bytes_in memory.old bytes)) memory.old
         (after_pin result memory.new) }
 {
-    if bytes.count as usize <= MOST_COMMAND {
-        return set_most::<MOST_COMMAND, S>(memory, pin, bytes);
+    if bytes.count as usize <= SMALL_PIECE {
+        return set_most::<SMALL_PIECE, S>(memory, pin, bytes);
     }
     set_most::<MOST_ELEMENTS, S>(memory, pin, bytes)
 }

@@ -8,8 +8,8 @@ ghost use Rattle.jc_api.specs.Forms.{put_then};
 ghost use Rattle.jc_api_framework.specs.Util.{end_of};
 
 use crate::util::storing::store;
-use jc_api::MOST_ELEMENTS;
-use jc_memory::{MOST_COMMAND, Memory};
+use jc_api::{MOST_ELEMENTS, SMALL_PIECE};
+use jc_memory::Memory;
 use jc_transient::USUAL_CELLS;
 use jc_words::WordStore;
 use jc_world::{NativeResult, StepExit, Stretch};
@@ -57,8 +57,8 @@ pub(crate) fn copy<S: WordStore>(
         (returns_short (end_of to))) memory.old (after_call result memory.new) }
 {
     let count = from.count as usize;
-    if count <= MOST_COMMAND {
-        return copy_most::<MOST_COMMAND, S>(memory, from, to, lasting);
+    if count <= SMALL_PIECE {
+        return copy_most::<SMALL_PIECE, S>(memory, from, to, lasting);
     }
     if count <= USUAL_TRANSIENT {
         return copy_most::<USUAL_TRANSIENT, S>(memory, from, to, lasting);

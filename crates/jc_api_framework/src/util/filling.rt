@@ -8,8 +8,8 @@ ghost use Rattle.jc_api.specs.Forms.{put_then};
 ghost use Rattle.jc_api_framework.specs.Util.{end_of};
 
 use crate::util::storing::store;
-use jc_api::MOST_ELEMENTS;
-use jc_memory::{MOST_COMMAND, Memory};
+use jc_api::{MOST_ELEMENTS, SMALL_PIECE};
+use jc_memory::Memory;
 use jc_words::WordStore;
 use jc_world::{NativeResult, StepExit, Stretch};
 
@@ -45,8 +45,8 @@ pub(crate) fn fill<S: WordStore>(
     ensures { Executes (put_then lasting (replicate to.count value) memory.old to
         (returns_short (end_of to))) memory.old (after_call result memory.new) }
 {
-    if to.count as usize <= MOST_COMMAND {
-        return fill_most::<MOST_COMMAND, S>(memory, to, value, lasting);
+    if to.count as usize <= SMALL_PIECE {
+        return fill_most::<SMALL_PIECE, S>(memory, to, value, lasting);
     }
     fill_most::<MOST_ELEMENTS, S>(memory, to, value, lasting)
 }

@@ -10,7 +10,7 @@ use Rattle.jcard_commands.proofs.run.act.Goals as goal
 pub returns-in-New-clause-done : goal.returns-in-New-clause-done
 returns-in-New-clause-done g c =
     let made = c.make_image.ensures in
-    let new = subst (λ (s : SizeAsked). IsNew c.in-New.image.now s.words s.journal s.cells (text_of c.in-New.table) c.make_image.result made.0)
+    let new = subst (λ (s : SizeAsked). IsNew c.in-New.image.now s.words s.journal s.cells s.buffer (text_of c.in-New.table) c.make_image.result made.0)
     c.image_size.ensures made.1 in
     ([], made.0, appends_same _, rw c.in-New.is (new, refl), made.2)
 
@@ -40,9 +40,9 @@ returns-in-Try-clause-done g c =
     let script = c.in-Try.script.now in
     let table = text_of c.in-Try.table in
     let size = c.image_size-in-Try.result in
-    let trial = subst (λ (n : ℕ). IsTrial n script size.words.now size.journal.now (text_of size.cells) table c.try_script.result done.0 done.1)
+    let trial = subst (λ (n : ℕ). IsTrial n script size.words.now size.journal.now (text_of size.cells) (text_of size.buffer) table c.try_script.result done.0 done.1)
     c.unwrap_or.ensures done.3 in
-    let of_size = subst (λ (s : SizeAsked). IsTrial (budget_of c.in-Try.instructions) script s.words s.journal s.cells table c.try_script.result done.0 done.1)
+    let of_size = subst (λ (s : SizeAsked). IsTrial (budget_of c.in-Try.instructions) script s.words s.journal s.cells s.buffer table c.try_script.result done.0 done.1)
     c.image_size-in-Try.ensures trial in
     (done.0, done.1, done.2, rw c.in-Try.is of_size, done.4)
 

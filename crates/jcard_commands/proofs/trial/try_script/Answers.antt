@@ -13,7 +13,7 @@ pub returns-in_err-extent-clause-done : goal.returns-in_err-extent-clause-done
 returns-in_err-extent-clause-done g c =
     let size = c.args.asked.size in
     let p = err_from_is_err_and c.from_residual.result c.from_residual.ensures.1 in
-    let none = subst (IsNoExtent size.words.now size.journal.now (text_of size.cells)) (sym p.2) c.in_err-extent.ensures in
+    let none = subst (IsNoExtent size.words.now size.journal.now (text_of size.cells) (text_of size.buffer)) (sym p.2) c.in_err-extent.ensures in
     ([], [], appends_same _, inl (p.0, p.1, none, refl, refl), g.met.D.Disk.none c.args.disk.now)
 
 pub returns-in_err-text-clause-done : goal.returns-in_err-text-clause-done

@@ -10,7 +10,8 @@ pub returns-in_err-extent : goal.returns-in_err-extent
 returns-in_err-extent g c =
     let p = err_from_is_err_and c.from_residual.result c.from_residual.ensures.1 in
     let cells = option_map (λ (name : Bor (List ℕ)). name.now) c.args.size.cells in
-    let none = subst (IsNoExtent c.args.size.words.now c.args.size.journal.now cells) (sym p.2) c.in_err-extent.ensures in
+    let buffer = option_map (λ (name : Bor (List ℕ)). name.now) c.args.size.buffer in
+    let none = subst (IsNoExtent c.args.size.words.now c.args.size.journal.now cells buffer) (sym p.2) c.in_err-extent.ensures in
     ([], inl (p.0, p.1, none, refl), g.met.D.Disk.none c.args.disk.now)
 
 pub returns-in_err-text : goal.returns-in_err-text

@@ -2,7 +2,7 @@ use Rattle.std.proofs.Common.{[], refl, sym, subst, inl, inr}
 use Rattle.std.proofs.lemmas.Result.{err_from_is_err_and}
 use Rattle.jcard_images.specs.Extents.{IsNoExtent}
 use Rattle.jcard_images.specs.UsualTables.{IsNoPlatform}
-use Rattle.jcard_tests.specs.Plans.{cells_asked, table_asked}
+use Rattle.jcard_tests.specs.Plans.{buffer_asked, cells_asked, table_asked}
 use Rattle.jcard_tests.proofs.Planned.{no_platform_reading, platform_reading}
 use Rattle.jcard_tests.proofs.RowTests.{no_reading}
 use Rattle.jcard_tests.proofs.planning.plan_of.Goals as goal
@@ -11,7 +11,7 @@ pub returns-in_err-extent : goal.returns-in_err-extent
 returns-in_err-extent g c =
     let a = c.args.asked in
     let p = err_from_is_err_and c.from_residual.result c.from_residual.ensures.1 in
-    let none = subst (IsNoExtent a.size.words.now a.size.journal.now (cells_asked a)) (sym p.2) c.in_err-extent.ensures in
+    let none = subst (IsNoExtent a.size.words.now a.size.journal.now (cells_asked a) (buffer_asked a)) (sym p.2) c.in_err-extent.ensures in
     ([], g.met.D.Disk.none c.args.disk.now, no_reading, rw p.1 (inl (none, refl)))
 
 pub returns-in_err-table : goal.returns-in_err-table

@@ -9,6 +9,6 @@ returns-then-is_digit c = λ line h plain.
     let new = c.try_push.new.self.items in
     let step = digit_step old new line c.args.self.now.is_odd c.args.byte h
     (ne_eqb c.args.byte 32 c.if-byte-eq32.false) (sym c.is_digit.ensures ∙ c.if-is_digit.true)
-    (λ room. pushed_room c.try_push.result old new 524 c.args.byte c.try_push.ensures.variant c.try_push.ensures.ok room)
-    (λ full. pushed_full c.try_push.result old new 524 _ c.try_push.ensures.variant c.try_push.ensures.err (λ e. cc e) full) in
+    (λ room. pushed_room c.try_push.result old new 131090 c.args.byte c.try_push.ensures.variant c.try_push.ensures.ok room)
+    (λ full. pushed_full c.try_push.result old new 131090 _ c.try_push.ensures.variant c.try_push.ensures.err (λ e. cc e) full) in
     (plain, step)
