@@ -20,6 +20,7 @@ pub struct Command<'a> {
 
 impl<'a> Command<'a> {
     /// The command that the bytes are, in the short form or in the extended one. `None` for bytes of any other form.
+    #[tactic(auto, unfolding(jc_memory::specs::Commands::data_of))]
     pub fn parse(bytes: &'a [u8]) -> Option<Self>
         ensures value { option_map apdu_value result ≡ apdu_of bytes.entry.now }
         ensures short { IfSome result (λ command. has_extended_length bytes.entry.now ≡ false
