@@ -8,7 +8,7 @@ returns-in-Nonsense c = λ line h. let k = rw c.in-Nonsense.is at h in bad_digit
 pub returns-in-Some : goal.returns-in-Some
 returns-in-Some c = λ line h.
     let k = rw c.in-Digits.is at h in
-    good_digits line c.as_slice.result.now c.in-Some.command.items k.0 k.1.0 (sym k.1.2 ∙ c.if-self.false) (c.as_slice.ensures.value ∙ k.1.1) c.in-Some.ensures
+    good_digits line c.as_slice.result.now c.in-Some.command.now k.0 k.1.0 (sym k.1.2 ∙ c.if-self.false) (c.as_slice.ensures.value ∙ k.1.1) c.in-Some.ensures
 
 pub returns-in-None : goal.returns-in-None
 returns-in-None c = λ line h.
