@@ -203,6 +203,7 @@ fn run_budget<S: WordStore>(
 /// Carries out at most this many instructions, with each fault of an attack before one of them, if one is planned: how many are left, and how
 /// the run ended. One that has not ended then is a code fault. Code of no package, in frames with the package number 0, is the one that is
 /// lent: it has no fields, arrays, objects and methods.
+#[inline(always)]
 pub fn run_of<S: WordStore>(
     lent: &[u8],
     budget: Budget,
@@ -226,6 +227,7 @@ pub fn run_of<S: WordStore>(
 }
 
 /// The same for methods of packages.
+#[inline(always)]
 pub fn run_methods<S: WordStore>(
     budget: Budget,
     frames: &mut Frames,
