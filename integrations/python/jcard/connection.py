@@ -16,7 +16,7 @@ from smartcard.reader.Reader import Reader
 
 from jcard.card import Card, PowerCut, ProgramEnded
 
-# T=1, whole AIDs alone, neither extended lengths nor logical channels, the name JCARD: as the PC/SC reader has it
+# T=1, whole AIDs alone, neither extended lengths nor logical channels, the name JCARD: the PC/SC reader's for an image with the usual APDU buffer
 ATR = bytes.fromhex("3B8B8131FE458073800100554A43415244F9")
 
 

@@ -11,7 +11,7 @@ import javax.smartcardio.ResponseAPDU;
 
 /** A connection to the card in a terminal. */
 final class JcardCard extends Card {
-    /** T=1, whole AIDs alone, neither extended lengths nor logical channels, the name JCARD: as the PC/SC reader has it. */
+    /** T=1, whole AIDs alone, neither extended lengths nor logical channels, the name JCARD: the PC/SC reader's for an image with the usual APDU buffer. */
     private static final ATR ANSWER_TO_RESET = new ATR(HexFormat.of().parseHex("3b8b8131fe458073800100554a43415244f9"));
 
     private final JcardTerminal terminal;
