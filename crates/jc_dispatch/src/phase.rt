@@ -42,6 +42,7 @@ fn registers_idle(registers: Registers) -> Registers
 /// Runs a method for an owner, in frames that may be those of an earlier run. The answer is what is left of the command's instructions, and
 /// how the method ended.
 #[tactic(auto, unfolding(crate::specs::Phases::method_run), using(jc_memory::proofs::ProgramLemmas::in_two_steps))]
+#[inline(always)]
 pub(crate) fn run_for<S: WordStore>(
     budget: Budget,
     package_number: u8,

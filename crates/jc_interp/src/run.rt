@@ -23,10 +23,10 @@ use jc_world::StepExit;
 fn run_part<S: WordStore>(
     lent: &[u8],
     budget: u32,
-    later: u32,
     frames: &mut Frames,
     memory: &mut Memory<S>,
     linked: &Linked,
+    later: u32,
 ) -> Result<Option<(u32, Outcome)>, StoreDown>
     requires up { memory.old.heap.down ≡ false }
     requires short { length lent.now < 2 ^ 16 }
@@ -69,10 +69,10 @@ fn run_part<S: WordStore>(
 fn run_noted<S: WordStore>(
     lent: &[u8],
     budget: u32,
-    later: u32,
     frames: &mut Frames,
     memory: &mut Memory<S>,
     linked: &Linked,
+    later: u32,
 ) -> Result<Option<(u32, Outcome)>, StoreDown>
     requires up { memory.old.heap.down ≡ false }
     requires short { length lent.now < 2 ^ 16 }
@@ -84,7 +84,7 @@ fn run_noted<S: WordStore>(
     for turns in 0..budget {
         note_step(frames, memory.notes());
         let after = budget - (turns + 1) + later;
-        match run_part(lent, 1, after, frames, memory, linked) {
+        match run_part(lent, 1, frames, memory, linked, after) {
             Ok(None) => {}
             Ok(Some(end)) => return Ok(Some(end)),
             Err(StoreDown) => return Err(StoreDown),
@@ -98,10 +98,10 @@ fn run_noted<S: WordStore>(
 fn run_whole<S: WordStore>(
     lent: &[u8],
     budget: u32,
-    later: u32,
     frames: &mut Frames,
     memory: &mut Memory<S>,
     linked: &Linked,
+    later: u32,
 ) -> Result<Option<(u32, Outcome)>, StoreDown>
     requires up { memory.old.heap.down ≡ false }
     requires short { length lent.now < 2 ^ 16 }
@@ -111,9 +111,9 @@ fn run_whole<S: WordStore>(
         memory.old frames.new memory.new }
 {
     if memory.notes().keep_steps() {
-        return run_noted(lent, budget, later, frames, memory, linked);
+        return run_noted(lent, budget, frames, memory, linked, later);
     }
-    run_part(lent, budget, later, frames, memory, linked)
+    run_part(lent, budget, frames, memory, linked, later)
 }
 
 // Carries out a run of this many instructions up to the first fault of an attack, and the fault: how many are left and how the run
@@ -134,7 +134,7 @@ fn run_to_fault<S: WordStore>(
         linked.now frames.old memory.old frames.new memory.new }
 {
     let before = budget - attack.left;
-    if let Some(end) = run_whole(lent, before, attack.left, frames, memory, linked)? {
+    if let Some(end) = run_whole(lent, before, frames, memory, linked, attack.left)? {
         return Ok(Some(end));
     }
     let place = frames.place();
@@ -177,7 +177,7 @@ fn run_attacked<S: WordStore>(
         }
         faults = attack.later_attack();
     }
-    run_whole(lent, left, 0, frames, memory, linked)
+    run_whole(lent, left, frames, memory, linked, 0)
 }
 
 // Carries out a run within a budget; `None` where it has not ended then.
@@ -195,7 +195,7 @@ fn run_budget<S: WordStore>(
         memory.old frames.new memory.new }
 {
     match budget.attack {
-        None => run_whole(lent, budget.left, 0, frames, memory, linked),
+        None => run_whole(lent, budget.left, frames, memory, linked, 0),
         Some(_) => run_attacked(lent, budget, frames, memory, linked),
     }
 }
@@ -203,6 +203,7 @@ fn run_budget<S: WordStore>(
 /// Carries out at most this many instructions, with each fault of an attack before one of them, if one is planned: how many are left, and how
 /// the run ended. One that has not ended then is a code fault. Code of no package, in frames with the package number 0, is the one that is
 /// lent: it has no fields, arrays, objects and methods.
+#[inline(always)]
 pub fn run_of<S: WordStore>(
     lent: &[u8],
     budget: Budget,
@@ -226,6 +227,7 @@ pub fn run_of<S: WordStore>(
 }
 
 /// The same for methods of packages.
+#[inline(always)]
 pub fn run_methods<S: WordStore>(
     budget: Budget,
     frames: &mut Frames,

@@ -5,7 +5,7 @@ ghost use Rattle.jc_heap.specs.Heap.{IsObject, facts};
 ghost use Rattle.jc_memory.specs.State.{SetTransient, apply_effect};
 
 use crate::memory::Memory;
-use jc_transient::{CellValue, ClearEvent, Ref};
+use jc_transient::{ClearEvent, Ref};
 use jc_words::WordStore;
 
 impl<S: WordStore> Memory<S> {
@@ -21,7 +21,7 @@ impl<S: WordStore> Memory<S> {
     {
         let place = self.facts(object).place;
         self.ram.put_bytes(event, place, bytes);
-        let behind = place + bytes.len() as u16;
-        self.ram.fill(event, behind, zeros, CellValue::Short(0));
+        let after = place + bytes.len() as u16;
+        self.ram.fill_zeros(event, after, zeros);
     }
 }

@@ -1,2 +1,3 @@
 pub mod Clearing
 mod Numbers
+pub mod Zeros

@@ -1,5 +1,5 @@
 -- Values of cells.
-use Rattle.std.specs.Prelude.{ℕ, ◌≡◌, ◌%◌, Bool, true, false, List, [], ◌∷◌, map, drop, pos, nat_lt, if◌then◌else◌}
+use Rattle.std.specs.Prelude.{ℕ, ◌≡◌, ◌≤◌, ◌<◌, ◌⊎◌, ◌%◌, slice_index_or, Bool, true, false, List, [], ◌∷◌, map, drop, pos, nat_lt, if◌then◌else◌}
 use Rattle.std.specs.Int.{w16, cast_signed, cast_unsigned}
 use Rattle.jc_transient.specs.declared.cell.CellValue.{CellValue}
 use Rattle.jc_transient.specs.declared.cell.CellValue.TheVariants.{Short, Reference}
@@ -36,3 +36,11 @@ is_reference (Reference r) = true
 abbrev pub AreNumbers : List CellValue → Type 0
 AreNumbers [] = Unit {0}
 AreNumbers (cell ∷ cells) = (is_reference cell ≡ false) × AreNumbers cells
+
+-- the cells from one place on and before another are zero
+abbrev pub AreZeros : ℕ → ℕ → List CellValue → Type 0
+AreZeros start end cells = (k : ℕ) → start ≤ k → k < end → slice_index_or cells k (Short (pos 0)) ≡ Short (pos 0)
+
+-- a place lies from `start` on and before `end`, and not from one place on and before another
+abbrev pub AreAmong : ℕ → ℕ → ℕ → ℕ → ℕ → Type 0
+AreAmong start end from to k = (start ≤ k) × (k < end) × ((k < from) ⊎ (to ≤ k))

@@ -1,24 +1,62 @@
 //! The cells of one area.
 ghost use Rattle.std.specs.Prelude.{◌≡◌, ◌<◌, ◌≤◌, ◌+◌, ℕ, ◌++◌, length, map, replicate, take, drop, pos, IfOk, vec_len, slice_index_or, slice_set};
-ghost use Rattle.jc_transient.specs.Cells.{default_value, without_dead, number_of};
+ghost use Rattle.jc_transient.specs.Cells.{default_value, without_dead, number_of, AreAmong};
 ghost use Rattle.jc_transient.specs.State.{with_cells};
 
 use crate::cell::CellValue;
 use std::alloc::{AllocError, Global};
 use std::marker::Model;
 
+/// Places of cells: those at or after `start` and before `end`.
+#[derive(Clone, Copy)]
+struct Places {
+    start: usize,
+    end: usize,
+}
+
+impl Places {
+    // Some of these, none of which is one from `start` to `end`.
+    #[inline(always)]
+    fn without(self, start: usize, end: usize) -> Places
+        ensures { (k : ℕ) → result.start ≤ k → k < result.end → AreAmong self.start self.end start end k }
+    {
+        if start < self.end && self.start < end {
+            return Places {
+                start: end,
+                end: self.end,
+            };
+        }
+        self
+    }
+
+    // The place from which on all from `start` to `end` are among these, or `end`.
+    fn first_of_tail(self, start: usize, end: usize) -> usize
+        requires { start ≤ end }
+        ensures first { start ≤ result }
+        ensures last { result ≤ end }
+        ensures among { (k : ℕ) → result ≤ k → k < end → (self.start ≤ k) × (k < self.end) }
+    {
+        if self.start <= end && end <= self.end {
+            return self.start.max(start);
+        }
+        end
+    }
+}
+
 /// Cells, all of which from the first `used` on are as a clearing leaves them. They hold numbers alone where none was set to a reference.
+/// Those at `zeros` are zero: to fill them with zeros takes no write.
 #[derive(Drop)]
 pub(crate) struct Area {
     cells: Vec<CellValue>,
     used: usize,
     has_references: bool,
+    zeros: Places,
 }
 
 impl Model for Area {
     ghost use Rattle.std.specs.Prelude.{List, ◌≡◌, ◌≤◌, false, length};
     ghost use Rattle.jc_transient.specs.declared.cell.CellValue.{CellValue};
-    ghost use Rattle.jc_transient.specs.Cells.{AreClearedFrom, AreNumbers};
+    ghost use Rattle.jc_transient.specs.Cells.{AreClearedFrom, AreNumbers, AreZeros};
 
     ghost Value = { List CellValue };
 
@@ -26,7 +64,8 @@ impl Model for Area {
 
     ghost invariant = { λ a. (a.used ≤ length a.cells.items)
         × AreClearedFrom a.used a.cells.items
-        × (a.has_references ≡ false → AreNumbers a.cells.items) };
+        × (a.has_references ≡ false → AreNumbers a.cells.items)
+        × AreZeros a.zeros.start a.zeros.end a.cells.items };
 }
 
 impl Area {
@@ -40,6 +79,10 @@ impl Area {
             cells: zero_cells(alloc, count)?,
             used: 0,
             has_references: false,
+            zeros: Places {
+                start: 0,
+                end: count,
+            },
         })
     }
 
@@ -52,6 +95,7 @@ impl Area {
             cells,
             used: self.used,
             has_references: self.has_references,
+            zeros: self.zeros,
         })
     }
 
@@ -73,6 +117,7 @@ impl Area {
         self.has_references = value.is_reference() || self.has_references;
         self.cells[place] = value;
         self.used = self.used.max(place + 1);
+        self.zeros = self.zeros.without(place, place + 1);
     }
 
     /// Sets `count` cells from a place on.
@@ -83,6 +128,25 @@ impl Area {
         self.has_references = value.is_reference() || self.has_references;
         fill_cells(self.cells.as_mut_slice(), place, count, &value);
         self.used = self.used.max(place + count);
+        self.zeros = self.zeros.without(place, place + count);
+    }
+
+    /// Sets `count` cells from a place on to zero. Where the last of them are known to be zero, only those before are written.
+    pub(crate) fn fill_zeros(&mut self, place: u16, count: u16)
+        requires { place + count ≤ length self.old }
+        ensures { self.new ≡ with_cells self.old place (replicate count (CellValue.Short (pos 0))) }
+    {
+        let place = place as usize;
+        let end = place + count as usize;
+        let written = self.zeros.first_of_tail(place, end);
+        fill_cells(
+            self.cells.as_mut_slice(),
+            place,
+            written - place,
+            &CellValue::Short(0),
+        );
+        self.used = self.used.max(written);
+        self.zeros = Places { start: place, end };
     }
 
     /// Puts bytes, each as a number, into the cells from a place on.
@@ -92,6 +156,7 @@ impl Area {
     {
         write_bytes(self.cells.as_mut_slice(), place, bytes);
         self.used = self.used.max(place + bytes.len());
+        self.zeros = self.zeros.without(place, place + bytes.len());
     }
 
     /// Puts words into the cells, from a place on.
@@ -101,6 +166,7 @@ impl Area {
     {
         write_words(self.cells.as_mut_slice(), place, words);
         self.used = self.used.max(place + words.len());
+        self.zeros = self.zeros.without(place, place + words.len());
     }
 
     /// Clears the cells.

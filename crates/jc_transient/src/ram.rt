@@ -114,6 +114,20 @@ impl Ram {
         }
     }
 
+    /// Sets `count` cells from a place on to zero.
+    pub fn fill_zeros(&mut self, event: ClearEvent, place: u16, count: u16)
+        requires { place + count ≤ area_size self.old event }
+        ensures done { self.new ≡ with_area self.old event
+            (with_cells (area self.old event) place (replicate count (CellValue.Short (pos 0)))) }
+        ensures sizes { HasSizes self.new }
+        ensures same { self.new.sizes ≡ self.old.sizes }
+    {
+        match event {
+            ClearEvent::Reset => self.reset_cells.fill_zeros(place, count),
+            ClearEvent::Deselect => self.deselect_cells.fill_zeros(place, count),
+        }
+    }
+
     /// Puts bytes, each as a number, into the cells from a place on.
     pub fn put_bytes(&mut self, event: ClearEvent, place: u16, bytes: &[u8])
         requires { place + length bytes.now ≤ area_size self.old event }

@@ -73,3 +73,7 @@ spelt line bytes h some few =
 pub if_some : {X : Type 0} (E : Type 0) (r : Option X) (P Q : X → Type 0) → MatchOption r E P → ((x : X) → P x → Q x) → IfSome r Q
 if_some E None P Q h f = tt
 if_some E (Some x) P Q h f = f x h
+
+pub some_so : {X : Type 0} (r : Option X) (P Q : X → Type 0) → IfSome r P → ((x : X) → P x → Q x) → IfSome r Q
+some_so None P Q h f = tt
+some_so (Some x) P Q h f = f x h

@@ -37,7 +37,7 @@ IsCommandOf told form = (bytes : List ℕ) × (form ≡ Asks (Command bytes)) ×
 -- what is asked for is a form
 abbrev pub IsAsked : LineRequest → Form → Type 0
 IsAsked Nothing form = form ≡ Skipped
-IsAsked (Exchange command) form = IsCommandOf command.items form
+IsAsked (Exchange command) form = IsCommandOf command.now form
 IsAsked Reset form = form ≡ Asks Resets
 IsAsked (ArmFuse k) form = form ≡ Asks (ArmsFuse k)
 IsAsked (PlanFault fault) form = form ≡ Asks (PlansFault fault)

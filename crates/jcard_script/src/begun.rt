@@ -14,6 +14,7 @@ use crate::line::{Line, LineRequest};
 use crate::script::BOUND;
 use crate::session::Session;
 use crate::streams::{TextIn, TextOut, WriteFailed};
+use crate::word::word_asked;
 use arrayvec::ArrayVec;
 use jc_card::card::Card;
 use jc_card::response::Response;
@@ -72,7 +73,7 @@ pub fn begin_script<S: WordStore + Drop>(
 }
 
 impl<S: CopyStore> BegunScript<S> {
-    /// Carries out, on a copy of the card, a line `stop K`, which is given without its line feed, and then a command, of which 65545 bytes at
+    /// Carries out, on a copy of the card, a line `stop K`, which is given without what ends it, and then a command, of which 65545 bytes at
     /// most are given; and gives the copy's store. Nothing where memory for the copy is refused, or the line is another.
     pub fn cut(&self, stop: &[u8], command: &[u8]) -> Option<FuseStore<S>>
         ensures leaves { IfSome result (λ store. LeavesCut self.now stop.now command.now store) }
@@ -83,7 +84,7 @@ impl<S: CopyStore> BegunScript<S> {
 }
 
 impl<S: CopyStore + Drop> BegunScript<S> {
-    /// Carries out, on a copy of the card, a line `glitch ..`, which is given without its line feed, then a command, of which 65545 bytes at most are
+    /// Carries out, on a copy of the card, a line `glitch ..`, which is given without what ends it, then a command, of which 65545 bytes at most are
     /// given, and then `glitch none`: the copy, and its response to the command. Nothing where memory for the copy is refused, the line is another, the
     /// store refuses a write, or the command opens a load.
     pub fn after(
@@ -221,10 +222,18 @@ pub fn command_of_line(line: &[u8]) -> Option<ArrayVec<u8, 65545>>
     if *last != b'\n' || !is_unbroken(bytes) {
         return None;
     }
-    match Line::empty().ended_by(bytes) {
-        LineRequest::Exchange(command) => Some(command),
+    let mut room = ArrayVec::new();
+    match Line::empty().ended_by(bytes, &mut room) {
+        LineRequest::Exchange(command) => kept(command),
         _ => None,
     }
+}
+
+// The same bytes, unless they are more than are kept of a command.
+fn kept(command: &[u8]) -> Option<ArrayVec<u8, 65545>>
+    ensures { IfSome result (λ kept. kept.items ≡ command.now) }
+{
+    ArrayVec::try_from(command).ok()
 }
 
 // The number of a line `stop K`.
@@ -234,7 +243,7 @@ fn stop_number(line: &[u8]) -> Option<u16>
     if !is_unbroken(line) {
         return None;
     }
-    match Line::empty().ended_by(line) {
+    match word_asked(line)? {
         LineRequest::ArmFuse(k) => Some(k),
         _ => None,
     }
@@ -247,7 +256,7 @@ fn planned_by(line: &[u8]) -> Option<Option<PlannedFault>>
     if !is_unbroken(line) {
         return None;
     }
-    match Line::empty().ended_by(line) {
+    match word_asked(line)? {
         LineRequest::PlanFault(fault) => Some(fault),
         _ => None,
     }

@@ -16,7 +16,7 @@ const MODEL: usize = 5;
 const DIGITS: usize = 10;
 
 /// What a line asks for of which this stands after `glitch `.
-pub(crate) fn glitch_asked(text: &[u8]) -> LineRequest
+pub(crate) fn glitch_asked<'a>(text: &[u8]) -> LineRequest<'a>
     ensures { IsAsked result (glitch_form_of text.now) }
 {
     if text == b"none".as_slice() {

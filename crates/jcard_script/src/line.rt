@@ -15,9 +15,6 @@ use jc_session::planned_fault::PlannedFault;
 /// The most digits of a line that are kept: two more than the longest command has.
 const DIGITS: usize = 131_090;
 
-/// The most bytes of a command that are kept: one more than the longest command has.
-pub const BYTES: usize = 65_545;
-
 /// What the bytes of a line are.
 #[derive(Clone, Copy)]
 pub(crate) enum Kind {
@@ -32,12 +29,12 @@ pub(crate) enum Kind {
 }
 
 /// What a line asks for.
-#[derive(Drop)]
-pub(crate) enum LineRequest {
+#[derive(Clone, Copy)]
+pub(crate) enum LineRequest<'a> {
     /// Nothing: it is empty or a comment.
     Nothing,
     /// The command of these bytes, of which 65545 at most are kept.
-    Exchange(ArrayVec<u8, 65545>),
+    Exchange(&'a [u8]),
     /// A reset.
     Reset,
     /// To let this many writes pass.
@@ -121,8 +118,8 @@ impl Content {
         }
     }
 
-    // What a line of these bytes asks for that is no word.
-    fn asked(&self) -> LineRequest
+    // What a line of these bytes asks for that is no word. A command's bytes are put at the front of the room.
+    fn asked<'a>(&self, room: &'a mut ArrayVec<u8, 65545>) -> LineRequest<'a>
         ensures { (line : List ℕ) → IsLineOf self.now.kind self.now.digits.items self.now.is_odd
             line → PlainlyAsksFor result line }
     {
@@ -133,7 +130,7 @@ impl Content {
                 if self.is_odd {
                     return LineRequest::Refused;
                 }
-                match command_of(self.digits.as_slice()) {
+                match command_of(self.digits.as_slice(), room) {
                     Some(command) => LineRequest::Exchange(command),
                     None => LineRequest::Refused,
                 }
@@ -187,25 +184,28 @@ impl Line {
         }
     }
 
-    /// What the line asks for if these bytes, none of which is a line feed, and a line feed follow.
-    pub(crate) fn ended_by(&mut self, bytes: &[u8]) -> LineRequest
+    /// What the line asks for if these bytes, none of which is a line feed, and a line feed follow. The room is for the bytes of a command.
+    pub(crate) fn ended_by<'a>(
+        &mut self,
+        bytes: &[u8],
+        room: &'a mut ArrayVec<u8, 65545>,
+    ) -> LineRequest<'a>
         ensures { (line : List ℕ) → IsKeptOf self.old line
             → AsksFor result (strip_carriage_return (line ++ bytes.now)) }
     {
         self.push_all(bytes);
-        asked_by(&self.content, &self.word)
+        asked_by(&self.content, &self.word, room)
     }
 
-    /// How many bytes the command has that the line is if these digits and a line feed follow, which it then puts at the front of the
-    /// room. `None` where a byte has come before, and where they are any other bytes than digits of one command.
-    pub(crate) fn whole_command(&self, bytes: &[u8], room: &mut [u8; 65545]) -> Option<usize>
-        ensures within { IfSome result (λ count. count ≤ 65545) }
-        ensures new { IsSome result → (line : List ℕ) → IsKeptOf self.now line → line ≡ [] }
-        ensures command { IfSome result (λ count. IsCommandOf (take count room.new)
-            (form_of (strip_carriage_return bytes.now))) }
+    /// Whether the line is a command if these digits and a line feed follow, whose bytes the room then holds. `false` where a byte has come
+    /// before, and where they are any other bytes than digits of one command.
+    pub(crate) fn whole_command(&self, bytes: &[u8], room: &mut ArrayVec<u8, 65545>) -> bool
+        ensures new { result ≡ true → (line : List ℕ) → IsKeptOf self.now line → line ≡ [] }
+        ensures command { result ≡ true → IsCommandOf room.new.items
+            (form_of (strip_carriage_return bytes.now)) }
     {
         if !self.is_new() {
-            return None;
+            return false;
         }
         command_in(bytes, room)
     }
@@ -217,12 +217,12 @@ impl Line {
         matches!(self.content.kind, Kind::Empty) && !self.carriage_return
     }
 
-    /// What the line asks for if it is the script's last, which no line feed ends.
-    pub(crate) fn last(&mut self) -> LineRequest
+    /// What the line asks for if it is the script's last, which no line feed ends. The room is for the bytes of a command.
+    pub(crate) fn last<'a>(&mut self, room: &'a mut ArrayVec<u8, 65545>) -> LineRequest<'a>
         ensures { (line : List ℕ) → IsKeptOf self.old line → AsksFor result line }
     {
         self.settle();
-        asked_by(&self.content, &self.word)
+        asked_by(&self.content, &self.word, room)
     }
 
     /// What is kept of it for who is shown it.
@@ -245,39 +245,49 @@ impl Line {
 }
 
 // What a line asks for of which this is kept.
-fn asked_by(content: &Content, word: &Word) -> LineRequest
+fn asked_by<'a>(
+    content: &Content,
+    word: &Word,
+    room: &'a mut ArrayVec<u8, 65545>,
+) -> LineRequest<'a>
     ensures { (line : List ℕ) → IsLineOf content.now.kind content.now.digits.items
         content.now.is_odd line → IsWordOf word.now line → AsksFor result line }
 {
     match word.asked() {
         Some(asked) => asked,
-        None => content.asked(),
+        None => content.asked(room),
     }
 }
 
-// The command that a line of these bytes is which are hexadecimal digits alone, at the front of the room, and how many bytes it has.
-fn command_in(line: &[u8], room: &mut [u8; 65545]) -> Option<usize>
-    ensures within { IfSome result (λ count. count ≤ 65545) }
-    ensures command { IfSome result (λ count. IsCommandOf (take count room.new)
-        (form_of (strip_carriage_return line.now))) }
+// Whether a line of these bytes, which are hexadecimal digits alone, is a command, whose bytes the room then holds.
+fn command_in(line: &[u8], room: &mut ArrayVec<u8, 65545>) -> bool
+    ensures command { result ≡ true → IsCommandOf room.new.items
+        (form_of (strip_carriage_return line.now)) }
 {
     if line.is_empty() || line.len() > DIGITS {
-        return None;
+        return false;
     }
-    let count = line.len() / 2;
-    if decode(line, &mut room[..count]) {
-        Some(count)
-    } else {
-        None
+    decode(line, room)
+}
+
+// The room holds this many zeros.
+fn make_zeros(room: &mut ArrayVec<u8, 65545>, count: usize)
+    requires { count ≤ 65545 }
+    ensures { length room.new.items ≡ count }
+{
+    room.clear();
+    for _k in 0..count {
+        room.push(0);
     }
 }
 
-// Puts the bytes that digits spell there, and says whether they spell this many.
-fn decode(digits: &[u8], bytes: &mut [u8]) -> bool
-    ensures len { length bytes.new ≡ length bytes.old }
-    ensures spelt { result ≡ true → decode_of digits.now ≡ Ok bytes.new }
+// Puts the bytes that digits spell into the room, and says whether they spell any.
+fn decode(digits: &[u8], room: &mut ArrayVec<u8, 65545>) -> bool
+    requires { length digits.now ≤ 131090 }
+    ensures { result ≡ true → decode_of digits.now ≡ Ok room.new.items }
 {
-    hex::decode_to_slice(digits, bytes).is_ok()
+    make_zeros(room, digits.len() / 2);
+    hex::decode_to_slice(digits, room.as_mut_slice()).is_ok()
 }
 
 fn is_digit(byte: u8) -> bool
@@ -286,15 +296,13 @@ fn is_digit(byte: u8) -> bool
     byte.is_ascii_hexdigit()
 }
 
-// The bytes that this many digits spell.
-fn command_of(digits: &[u8]) -> Option<ArrayVec<u8, 65545>>
+// The bytes that this many digits spell, which the room then holds.
+fn command_of<'a>(digits: &[u8], room: &'a mut ArrayVec<u8, 65545>) -> Option<&'a [u8]>
     requires { length digits.now ≤ 131090 }
     ensures { MatchOption result (IsErr (decode_of digits.now))
-        (λ command. decode_of digits.now ≡ Ok command.items) }
+        (λ command. decode_of digits.now ≡ Ok command.now) }
 {
-    let mut bytes = [0u8; BYTES];
-    let count = digits.len() / 2;
-    let text = &mut bytes[..count];
-    hex::decode_to_slice(digits, text).ok()?;
-    ArrayVec::try_from(&bytes[..count]).ok()
+    make_zeros(room, digits.len() / 2);
+    hex::decode_to_slice(digits, room.as_mut_slice()).ok()?;
+    Some(room.as_slice())
 }

@@ -5,6 +5,7 @@ ghost use Rattle.jcard_script.specs.RefusedLines.{fault_at, fault_of, is_of_comm
 ghost use Rattle.jcard_script.specs.Script.{Bad, form_of};
 
 use crate::line::{Line, LineRequest};
+use arrayvec::ArrayVec;
 use itoa::Buffer;
 use std::alloc::{AllocError, Global};
 
@@ -29,8 +30,9 @@ pub fn refusal_of(line: &[u8]) -> Option<LineFault>
         (λ fault. (form_of line.now ≡ Bad) × (fault ≡ fault_of line.now)) }
 {
     let mut read = Line::empty();
+    let mut room = ArrayVec::new();
     read.push_all(line);
-    match read.last() {
+    match read.last(&mut room) {
         LineRequest::Refused => Some(fault_of(line)),
         LineRequest::Nothing => None,
         LineRequest::Exchange(_command) => None,

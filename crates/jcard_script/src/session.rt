@@ -19,7 +19,7 @@ ghost use Rattle.jcard_script.specs.Session.{EndsLine, StandsAt, IsUnbroken, IsW
 use crate::card_or_store::{CardOrStore, ToldOf};
 use crate::expectations::Expectations;
 use crate::explainer::Explainer;
-use crate::line::{BYTES, Line, LineRequest};
+use crate::line::{Line, LineRequest};
 use crate::refused_line::remark_of;
 use crate::reply::{MOST_TEXT, Reply, reply_text, status_of, write_reply};
 use crate::script::{BOUND, ScriptFault};
@@ -237,7 +237,7 @@ impl<S: WordStore + Drop> Session<S> {
             (is_write_failed result) }
     {
         let mut rest = piece;
-        let mut room = [0u8; BYTES];
+        let mut room = ArrayVec::new();
         while let Some(end) = memchr(b'\n', rest) {
             self.end_line(&rest[..end], &mut room, writer, explainer)?;
             rest = &rest[end + 1..];
@@ -250,7 +250,7 @@ impl<S: WordStore + Drop> Session<S> {
     fn end_line<W: TextOut, E: Explainer>(
         &mut self,
         bytes: &[u8],
-        room: &mut [u8; BYTES],
+        room: &mut ArrayVec<u8, 65545>,
         writer: &mut W,
         explainer: &mut E,
     ) -> Result<(), ScriptFault>
@@ -264,12 +264,11 @@ impl<S: WordStore + Drop> Session<S> {
         ensures writes { W.failures writer.new ≡ failures_after (W.failures writer.old)
             (is_write_failed result) }
     {
-        match self.line.whole_command(bytes, room) {
-            Some(count) => {
-                self.number += 1;
-                self.answer_command(&room[..count], writer, explainer)
-            }
-            None => self.end_other_line(bytes, writer, explainer),
+        if self.line.whole_command(bytes, room) {
+            self.number += 1;
+            self.answer_command(room.as_slice(), writer, explainer)
+        } else {
+            self.end_other_line(bytes, room, writer, explainer)
         }
     }
 
@@ -278,6 +277,7 @@ impl<S: WordStore + Drop> Session<S> {
     fn end_other_line<W: TextOut, E: Explainer>(
         &mut self,
         bytes: &[u8],
+        room: &mut ArrayVec<u8, 65545>,
         writer: &mut W,
         explainer: &mut E,
     ) -> Result<(), ScriptFault>
@@ -291,7 +291,7 @@ impl<S: WordStore + Drop> Session<S> {
         ensures writes { W.failures writer.new ≡ failures_after (W.failures writer.old)
             (is_write_failed result) }
     {
-        let asked = self.line.ended_by(bytes);
+        let asked = self.line.ended_by(bytes, room);
         self.number += 1;
         let result = self.answer_line(asked, writer, explainer);
         self.line.clear();
@@ -314,7 +314,8 @@ impl<S: WordStore + Drop> Session<S> {
         ensures writes { W.failures writer.new ≡ failures_after (W.failures writer.old)
             (is_write_failed result) }
     {
-        let asked = self.line.last();
+        let mut room = ArrayVec::new();
+        let asked = self.line.last(&mut room);
         self.number += 1;
         self.answer_line(asked, writer, explainer)
     }
@@ -475,7 +476,7 @@ impl<S: WordStore + Drop> Session<S> {
         match asked {
             LineRequest::Nothing => Ok(Reply::Silent),
             LineRequest::Refused => Err(ScriptFault::BadLine(self.number)),
-            LineRequest::Exchange(command) => Ok(self.exchange(command.as_slice(), explainer)),
+            LineRequest::Exchange(command) => Ok(self.exchange(command, explainer)),
             LineRequest::Reset => match self.reset() {
                 Ok(reply) => Ok(reply),
                 Err(fault) => Err(ScriptFault::PowerFault(fault)),

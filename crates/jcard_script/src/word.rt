@@ -1,5 +1,6 @@
 //! The words that a line may be: `reset`, `stop` with a number, and `glitch` with faults.
-ghost use Rattle.std.specs.Prelude.{◌≡◌, ◌++◌, ◌∷◌, ℕ, List, [], MatchOption};
+ghost use Rattle.std.specs.Prelude.{◌≡◌, ◌++◌, ◌∷◌, ℕ, List, [], IfSome, MatchOption};
+ghost use Rattle.std.specs.Str.Lines.{strip_carriage_return};
 ghost use Rattle.jcard_script.specs.Script.{form_of, plain_form_of};
 ghost use Rattle.jcard_script.specs.Line.{AsksFor};
 ghost use Rattle.jcard_script.specs.Word.{IsWordOf, next_number};
@@ -52,8 +53,17 @@ impl Word {
         self.number = with_digit(self.number, byte);
     }
 
+    // More bytes.
+    fn push_all(&mut self, bytes: &[u8])
+        ensures { (line : List ℕ) → IsWordOf self.old line → IsWordOf self.new (line ++ bytes.now) }
+    {
+        for byte in bytes {
+            self.push(*byte);
+        }
+    }
+
     /// What a line asks for that is a word, or seems to begin one.
-    pub(crate) fn asked(&self) -> Option<LineRequest>
+    pub(crate) fn asked<'a>(&self) -> Option<LineRequest<'a>>
         ensures { (line : List ℕ) → IsWordOf self.now line
             → MatchOption result (form_of line ≡ plain_form_of line) (λ asked. AsksFor asked line) }
     {
@@ -75,6 +85,18 @@ impl Word {
             None => Some(LineRequest::Refused),
         }
     }
+}
+
+/// What a line asks for that is a word, or seems to begin one, and that no carriage return ends.
+pub(crate) fn word_asked<'a>(line: &[u8]) -> Option<LineRequest<'a>>
+    ensures { IfSome result (λ asked. AsksFor asked (strip_carriage_return line.now)) }
+{
+    if line.is_empty() || line[line.len() - 1] == b'\r' {
+        return None;
+    }
+    let mut word = Word::empty();
+    word.push_all(line);
+    word.asked()
 }
 
 // A number with one more digit.

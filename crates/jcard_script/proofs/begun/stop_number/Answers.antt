@@ -1,5 +1,4 @@
-use Rattle.std.proofs.Common.{[]}
 use Rattle.jcard_script.proofs.begun.stop_number.Goals as goal
 
 pub returns-in-ArmFuse : goal.returns-in-ArmFuse
-returns-in-ArmFuse c = (c.is_unbroken.ensures c.if-not-is_unbroken.false, c.in-ArmFuse.ensures [] c.empty.ensures)
+returns-in-ArmFuse c = (c.is_unbroken.ensures c.if-not-is_unbroken.false, c.in-ArmFuse.ensures)

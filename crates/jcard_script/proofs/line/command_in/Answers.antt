@@ -1,15 +1,12 @@
-use Rattle.std.proofs.Common.{◌≡◌, ◌∙◌, ◌/◌, length, arith, refl}
-use Rattle.std.proofs.lemmas.List.{take-append-le, take_all}
-use Rattle.hex.proofs.HexLemmas.{decode_of-ok}
+use Rattle.std.proofs.Common.{◌∙◌, ◌<◌, arith, length, sym}
+use Rattle.std.proofs.lemmas.Bool.{eqb-false}
 use Rattle.jcard_script.proofs.Digits.{spelt}
 use Rattle.jcard_script.proofs.line.command_in.Goals as goal
 
-pub returns-then-decode-clause-command : goal.returns-then-decode-clause-command
-returns-then-decode-clause-command c =
-    let line = c.args.line.now in
-    let bytes = c.decode.new.bytes in
-    let h = c.if-decode.ensures.spelt refl in
-    let s = spelt line bytes h (grind arith) (omega arith) in
-    let ok = decode_of-ok line bytes h in
-    let long : length bytes ≡ length line / 2 = omega (arith, ok.2) in
-    (bytes, s.0, take-append-le (length line / 2) bytes _ (omega (arith, long)) ∙ take_all (length line / 2) bytes (omega (arith, long)) ∙ s.1)
+pub returns : goal.returns
+returns c = record {
+  command = λ spells.
+      let some : 0 < length c.args.line.now = omega (arith, eqb-false (length c.args.line.now) 0 (sym c.is_empty.ensures ∙ c.if-is_empty.false)) in
+      let s = spelt c.args.line.now c.decode.new.room.items (c.decode.ensures spells) some c.if-line-gt-DIGITS.false in
+      (c.decode.new.room.items, s.0, s.1);
+}

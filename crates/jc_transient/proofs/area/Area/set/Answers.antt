@@ -1,6 +1,7 @@
 use Rattle.std.proofs.Common.{◌∙◌, ap, arith, length, sym}
 use Rattle.jc_transient.proofs.Clearing.{set_in}
 use Rattle.jc_transient.proofs.Numbers.{numbers_set}
+use Rattle.jc_transient.proofs.Zeros.{zeros_set}
 use Rattle.jc_transient.proofs.area.Area.set.Goals as goal
 use Rattle.jc_transient.proofs.area.Area.set.Goals.{then-is_reference, else-is_reference}
 
@@ -15,4 +16,6 @@ invariant_of-self c =
         | else-is_reference w ↦ numbers_set c.args.place c.self.inside.cells.items c.args.value (sym c.is_reference.ensures ∙ w.if-is_reference.false)
             (c.self.invariant.2 (sym w.self-is ∙ e))
       ],
+      zeros_set c.self.inside.zeros.start c.self.inside.zeros.end c.args.place c.without-self-inside.result.start c.without-self-inside.result.end c.self.inside.cells.items c.args.value
+          c.without-self-inside.ensures c.self.invariant.3,
     )

@@ -1,4 +1,4 @@
-use Rattle.std.proofs.Common.{◌+◌, ◌∙◌, refl, sym, ap, subst, [], ◌∷◌, ◌++◌, length, length-append, take}
+use Rattle.std.proofs.Common.{◌+◌, ◌∙◌, refl, sym, ap, subst, [], ◌∷◌, ◌++◌, length, length-append}
 use Rattle.std.specs.Str.Lines.{strip_carriage_return}
 use Rattle.jcard_script.specs.Script.{ended_lines, form_of}
 use Rattle.jcard_script.specs.CardOrStore.{state_of_held}
@@ -8,14 +8,14 @@ use Rattle.jcard_script.proofs.Parts.{line_ended}
 use Rattle.jcard_script.proofs.Ending.{line_done, if_carried}
 use Rattle.jcard_script.proofs.session.Session.end_line.Goals as goal
 
-pub returns-in-Some-clause-goes : goal.returns-in-Some-clause-goes
-returns-in-Some-clause-goes g c = λ script text first h.
+pub returns-then-whole_command-clause-goes : goal.returns-then-whole_command-clause-goes
+returns-then-whole_command-clause-goes g c = λ script text first h.
     let bytes = c.args.bytes.now in
-    let none = c.in-Some.ensures.new refl (unfinished_line script) h.0 in
+    let none = c.if-whole_command.ensures.new refl (unfinished_line script) h.0 in
     let line = strip_carriage_return (unfinished_line script ++ bytes) in
     let same = ap (λ l. strip_carriage_return (l ++ bytes)) none in
-    let told = subst (λ l. IsCommandOf (take c.in-Some.count c.whole_command.new.room) (form_of l)) (sym same) c.in-Some.ensures.command in
-    let went = c.answer_command.ensures.goes line told in
+    let told = subst (λ l. IsCommandOf c.whole_command.new.room.items (form_of l)) (sym same) (c.if-whole_command.ensures.command refl) in
+    let went = c.answer_command.ensures.goes line (subst (λ command. IsCommandOf command (form_of line)) (sym c.as_slice.ensures.value) told) in
     let more = line_ended script bytes c.requires.unbroken in
     let next = ap (λ n. n + 1) h.1 in
     let now = state_of_held c.answer_command.new.self.held in
