@@ -1,14 +1,10 @@
-use Rattle.std.proofs.Common.{subst, sym}
 use Rattle.jcard_script.specs.CardOrStore.{state_of_held}
-use Rattle.jcard_script.specs.Line.{IsCommandOf}
 use Rattle.jcard_script.specs.Reply.{text_for_line}
-use Rattle.jcard_script.specs.Script.{form_of}
 use Rattle.jcard_script.proofs.LongCommands.{answered_line}
 use Rattle.jcard_script.proofs.session.Session.reply.Goals as goal
 
 pub returns-in-Exchange-clause-goes : goal.returns-in-Exchange-clause-goes
 returns-in-Exchange-clause-goes g c = λ line h.
     let told = rw c.in-Exchange.is at h in
-    let spelt = subst (λ l. IsCommandOf l (form_of line)) (sym c.as_slice.ensures.value) told in
-    answered_line (state_of_held c.args.self.now.held) (state_of_held c.exchange.new.self.held) line c.as_slice.result.now
-    (text_for_line c.exchange.result c.exchange.new.self.response) spelt c.exchange.ensures.answer
+    answered_line (state_of_held c.args.self.now.held) (state_of_held c.exchange.new.self.held) line c.in-Exchange.command.now
+    (text_for_line c.exchange.result c.exchange.new.self.response) told c.exchange.ensures.answer
