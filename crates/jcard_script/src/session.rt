@@ -330,7 +330,7 @@ impl<S: WordStore + Drop> Session<S> {
         requires held { IsState self.old.held }
         ensures held { IsState self.new.held }
         ensures number { self.new.number ≡ self.old.number }
-        ensures goes { (line : List ℕ) → AsksFor asked line
+        ensures goes { (line : List ℕ) → AsksFor asked.entry line
             → (more : List ℕ) × Appends (W.contents writer.old) (W.contents writer.new) more
             × LineEnds result self.old.number (form_of line) (state_of_held self.old.held)
             (state_of_held self.new.held) more }
@@ -466,7 +466,7 @@ impl<S: WordStore + Drop> Session<S> {
         requires held { IsState self.old.held }
         ensures held { IsState self.new.held }
         ensures number { self.new.number ≡ self.old.number }
-        ensures goes { (line : List ℕ) → AsksFor asked line → MatchResult result
+        ensures goes { (line : List ℕ) → AsksFor asked.entry line → MatchResult result
             (λ reply. IsWrittenFor (form_of line) (state_of_held self.old.held)
             (state_of_held self.new.held) (text_for_line reply self.new.response))
             (λ fault. LineFails fault self.old.number (form_of line) (state_of_held self.old.held)
