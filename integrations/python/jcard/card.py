@@ -55,19 +55,24 @@ class Card:
         return card
 
     @classmethod
-    def new(cls, words: Optional[int] = None, table: Optional[Path] = None, instructions: Optional[int] = None) -> Card:
-        """A new card in memory, with 8192 words and the usual platform table where none is given."""
-        line = ["try", "/dev/stdin"]
-        line += ["--words", str(words)] if words is not None else []
-        line += ["--table", os.fspath(table)] if table is not None else []
+    def new(
+        cls,
+        words: Optional[int] = None,
+        table: Optional[Path] = None,
+        instructions: Optional[int] = None,
+        *,
+        journal: Optional[int] = None,
+        transient: Optional[int] = None,
+    ) -> Card:
+        """A new card in memory, with 8192 words and the usual platform table where none is given; the others are options of `jcard try`."""
         card = cls.__new__(cls)
-        card._begin(line, instructions, None)
+        sizes = programs.options(words=words, table=table, journal=journal, transient=transient)
+        card._begin(["try", "/dev/stdin", *sizes], instructions, None)
         return card
 
     def _begin(self, line: list[str], instructions: Optional[int], temporary: Optional[str]) -> None:
         self._temporary = temporary
-        self._line = [programs.command(), *line]
-        self._line += ["--instructions", str(instructions)] if instructions is not None else []
+        self._line = [programs.command(), *line, *programs.options(instructions=instructions)]
         self._start()
 
     def _start(self) -> None:

@@ -8,7 +8,7 @@
         assert balance(torn) == (500 if response is None else 380)
 
 A test with `torn` is carried out with the power cut after 0 word writes of the command that `tear` sends, after 1, and so on, until it is
-not cut: with a card of its own each time, and the other fixtures as they are. The first cut at which it fails is told.
+not cut: with a card of its own each time, and the other fixtures as they are. The first cut at which it fails is reported.
 """
 from __future__ import annotations
 
@@ -159,7 +159,7 @@ def torn(jcard_image: Tuple[str, Optional[str]], request: pytest.FixtureRequest)
 
 def pytest_configure(config: pytest.Config) -> None:
     for line in (
-        "card(image=, words=, table=): the card that fixtures of jcard begin with",
+        "card(image=, words=, table=, journal=, transient=): the card that fixtures of jcard begin with",
         "applet(*sources, load=, options=, select=): what is brought onto it",
         "torn(recovery=False): how the fixture torn cuts",
     ):

@@ -28,18 +28,26 @@ class Applet(NamedTuple):
 
 
 def make_image(
-    path: Path, applets: Sequence[Applet] = (), *, image: Optional[Path] = None, words: int = 16384, table: Optional[Path] = None
+    path: Path,
+    applets: Sequence[Applet] = (),
+    *,
+    image: Optional[Path] = None,
+    words: int = 16384,
+    table: Optional[Path] = None,
+    journal: Optional[int] = None,
+    transient: Optional[int] = None,
 ) -> None:
-    """Makes the image of a new card, or copies one, and brings applets onto it."""
+    """Makes the image of a new card, or copies one, and brings applets onto it. The numbers are options of `jcard new`."""
     if image is not None:
         shutil.copyfile(image, path)
     else:
-        _said([programs.command(), "new", os.fspath(path), "--words", str(words), *_table(table)])
+        sizes = programs.options(words=words, table=table, journal=journal, transient=transient)
+        _said([programs.command(), "new", os.fspath(path), *sizes])
     for applet in applets:
         if applet.source:
             with tempfile.TemporaryDirectory() as folder:
                 script = os.path.join(folder, "applet.load")
-                _said([programs.tool("applet"), *map(os.fspath, applet.source), "--load", script, *_table(table), *applet.options])
+                _said([programs.tool("applet"), *map(os.fspath, applet.source), "--load", script, *programs.options(table=table), *applet.options])
                 load(path, script)
         if applet.load is not None:
             load(path, applet.load)
@@ -51,10 +59,6 @@ def load(image: Path, script: Path) -> None:
     for number, answer in enumerate(answers, 1):
         if answer != "9000":
             raise NotMade(f"{os.fspath(script)}: answer {number} is {answer}, not 9000")
-
-
-def _table(table: Optional[Path]) -> list[str]:
-    return [] if table is None else ["--table", os.fspath(table)]
 
 
 def _said(line: list[str]) -> str:

@@ -1,11 +1,21 @@
 """Where the program and its tools are."""
 import os
 import shutil
+from typing import Union
 
 
 def command() -> str:
     """The program: the file or name in the environment's JCARD, or else `jcard`."""
     return os.environ.get("JCARD") or "jcard"
+
+
+def options(**values: Union[None, int, str, "os.PathLike[str]"]) -> list[str]:
+    """The options of a command line: of those that have a value, the name and the value."""
+    line = []
+    for name, value in values.items():
+        if value is not None:
+            line += ["--" + name, str(value) if isinstance(value, int) else os.fspath(value)]
+    return line
 
 
 def tool(name: str) -> str:

@@ -38,4 +38,18 @@ public @interface Card {
      * @return its name; without one it is the usual table
      */
     String table() default "";
+
+    /**
+     * The entries of a new card's journal, the most words that a transaction changes.
+     *
+     * @return 16 to 1024
+     */
+    int journal() default 256;
+
+    /**
+     * The cells of a new card for the transient objects of each event, of a reset and of a deselection.
+     *
+     * @return 2048 to 16384
+     */
+    int transientCells() default 2048;
 }

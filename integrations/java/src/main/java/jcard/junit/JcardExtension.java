@@ -84,7 +84,8 @@ public final class JcardExtension implements ParameterResolver {
                 folder = Files.createTempDirectory("jcard");
                 file = folder.resolve("card.img");
                 if (card.image().isEmpty()) {
-                    List<String> line = new ArrayList<>(List.of(Program.command(), "new", file.toString(), "--words", "" + card.words()));
+                    List<String> line = new ArrayList<>(List.of(Program.command(), "new", file.toString(), "--words", "" + card.words(),
+                            "--journal", "" + card.journal(), "--transient", "" + card.transientCells()));
                     if (!card.table().isEmpty()) {
                         line.addAll(List.of("--table", card.table()));
                     }

@@ -72,6 +72,26 @@ public final class CardSource {
     }
 
     /**
+     * The same new card with another journal.
+     *
+     * @param entries the most words that a transaction changes, 16 to 1024
+     * @return the source
+     */
+    public CardSource journal(int entries) {
+        return with("--journal", Integer.toString(entries));
+    }
+
+    /**
+     * The same new card with other room for transient objects.
+     *
+     * @param cells the cells for the transient objects of each event, 2048 to 16384
+     * @return the source
+     */
+    public CardSource transientCells(int cells) {
+        return with("--transient", Integer.toString(cells));
+    }
+
+    /**
      * The same card with another limit of a command.
      *
      * @param instructions the instructions that a command carries out at most, from 1 on
