@@ -10,13 +10,13 @@ _jcard() {
         elif [[ $word == -* ]]; then
             case ${COMP_WORDS[1]} in
             new) words="--words --table --journal --transient --help" ;;
-            run) words="--why --trace --lines --map --cover --instructions --expect --help" ;;
-            dump) words="--objects --all --secrets --against --help" ;;
+            run) words="--why --trace --lines --map --break --cover --instructions --expect --help" ;;
+            dump) words="--objects --all --secrets --against --map --help" ;;
             try) words="--words --table --journal --transient --instructions --help" ;;
-            tear) words="--probe --line --each --recovery --part --join --objects --instructions --help" ;;
+            tear) words="--probe --line --each --recovery --part --join --objects --why --map --instructions --help" ;;
             attack) words="--model --accept --twice --probe --line --each --part --join --objects --map --instructions --help" ;;
             test) words="--junit --table --words --journal --transient --instructions --help" ;;
-            --reader) words="--port --atr --log --help" ;;
+            --reader) words="--port --atr --log --globalplatform --help" ;;
             esac
         fi
         ;;
