@@ -1,8 +1,10 @@
 -- Hexadecimal text in upper case.
-use Rattle.std.proofs.Common.{◌≡◌, ℕ, ◌/◌, ◌%◌, List, [], ◌∷◌, map, slice_index, get_or, refl, sym, ◌∙◌, ap}
+use Rattle.std.proofs.Common.{◌≡◌, ℕ, ◌/◌, ◌%◌, List, [], ◌∷◌, ◌++◌, append_assoc, drop, map, slice_index, get_or, refl, sym, take, ◌∙◌, ap}
+use Rattle.std.proofs.lemmas.List.{take-append-drop}
 use Rattle.std.specs.Char.{to_ascii_uppercase}
 use Rattle.std.proofs.Math.ListN.{get_or-map}
 use Rattle.hex.specs.Hex.{encode_lower, encode_upper, encode_with, lower_digits, upper_digits}
+use Rattle.jcard_script.specs.Script.{text_of}
 
 digit_upper : (k : ℕ) → to_ascii_uppercase (slice_index lower_digits k) ≡ slice_index upper_digits k
 digit_upper k =
@@ -20,3 +22,15 @@ upper (b ∷ rest) =
 -- the lower case text made upper case is the upper case text
 pub upper_of_lower : (xs : List ℕ) → map to_ascii_uppercase (encode_lower xs) ≡ encode_upper xs
 upper_of_lower xs = upper xs
+
+-- the text of two parts
+upper_parts : (xs ys : List ℕ) → encode_upper (xs ++ ys) ≡ encode_upper xs ++ encode_upper ys
+unfolding encode_with
+upper_parts [] ys = refl
+upper_parts (b ∷ rest) ys = ap (λ l. slice_index upper_digits (b / 16) ∷ slice_index upper_digits (b % 16) ∷ l) (upper_parts rest ys)
+
+-- the line of bytes is that of those from the nth on, after the text of the first n
+pub line_parts : (n : ℕ) (bytes : List ℕ) → text_of bytes ≡ encode_upper (take n bytes) ++ text_of (drop n bytes)
+line_parts n bytes =
+    ap (λ b. encode_upper b ++ 10 ∷ []) (sym (take-append-drop n bytes)) ∙ ap (λ t. t ++ 10 ∷ []) (upper_parts (take n bytes) (drop n bytes))
+    ∙ append_assoc (encode_upper (take n bytes)) (encode_upper (drop n bytes)) (10 ∷ [])

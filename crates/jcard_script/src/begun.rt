@@ -243,8 +243,8 @@ fn stop_number(line: &[u8]) -> Option<u16>
     if !is_unbroken(line) {
         return None;
     }
-    match word_asked(line)? {
-        LineRequest::ArmFuse(k) => Some(k),
+    match word_asked(line) {
+        Some(LineRequest::ArmFuse(k)) => Some(k),
         _ => None,
     }
 }
@@ -256,8 +256,8 @@ fn planned_by(line: &[u8]) -> Option<Option<PlannedFault>>
     if !is_unbroken(line) {
         return None;
     }
-    match word_asked(line)? {
-        LineRequest::PlanFault(fault) => Some(fault),
+    match word_asked(line) {
+        Some(LineRequest::PlanFault(fault)) => Some(fault),
         _ => None,
     }
 }
