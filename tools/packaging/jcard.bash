@@ -16,7 +16,7 @@ _jcard() {
             tear) words="--probe --line --each --recovery --part --join --objects --why --map --instructions --help" ;;
             attack) words="--model --accept --twice --probe --line --each --part --join --objects --map --instructions --help" ;;
             test) words="--junit --table --words --journal --transient --apdu --instructions --help" ;;
-            --reader) words="--port --atr --log --globalplatform --help" ;;
+            --reader) words="--port --atr --log --instructions --globalplatform --help" ;;
             esac
         fi
         ;;
