@@ -47,7 +47,7 @@ class Names:
     def added(self, record):
         """A record, with what the map adds to it."""
         frames = [*record.get("frames", ()), *([record["frame"]] if "offset" in record.get("frame", ()) else ())]
-        for frame in [*frames, *(record.get("instructions", ()) if record["record"] == "trace" else ())]:
+        for frame in [*frames, *(record.get("instructions", ()) if record["record"] in ("trace", "faults") else ())]:
             source, method = self.source(frame.get("package"), frame["offset"]), self.method(frame)
             if source:
                 frame["source"] = source

@@ -30,8 +30,18 @@ UNWRITTEN = re.compile(r"no write: answered (\S+)")
 RECOVERED = re.compile(r"no recovery made a difference: (\d+) ways?, (\d+) deep")
 UNRECOVERED = re.compile(r"a recovery made a difference: first at cut (\d+), recoveries cut after (.*)")
 PART = re.compile(r"cut after (\d+): (?:recoveries (\d+) (alike|\d+(?: \d+)*), )?(.*), (\d+) words? lost, answers ?(.*)")
-SWEEP = re.compile(r"sweep ([0-9a-f]+)(?: (each)| recovery (\d))?")
+SWEEP = re.compile(r"sweep ([0-9a-f]+)(?: (each)| (faults)| recovery (\d))?")
 SHARE = re.compile(r"share (\d+): of (\d+), (NOT )?all or nothing")
+FAULT = r"(skip|turn|zero) (\d+)"
+SECOND = r"(?:, then (skip|turn|zero) (\d+) later)?"
+FAULTS = re.compile(rf"{FAULT}(?:[.][.](\d+))?{SECOND}: (.*)")
+CAME = re.compile(r"(.*?), answer (\S+): (.*)")
+SAME = "as without a fault"
+STRUCK_AT = re.compile(r"  (\d+)( at .*)")
+UNFAULTED = re.compile(r"no fault, answer (\S+): (.*)")
+ATTACKED = re.compile(
+    rf"(?:none accepted: (\d+) faults?|ACCEPTED: (\d+) of (\d+) faults?, first {FAULT}{SECOND})(?:, (\d+) changed in silence, first {FAULT}{SECOND})?")
+PART_SECOND = re.compile(r"(\w+) (\d+)")
 COUNT = re.compile(r"(words|journal|packages|applets) (\d+)(?: of (\d+))?")
 PACKAGE = re.compile(r"package (\d+) ([0-9A-F]+) (\d+)\.(\d+)")
 APPLET = re.compile(r"applet (\d+) ([0-9A-F]+) package (\d+)")
@@ -246,6 +256,16 @@ def verdict(text):
     return None
 
 
+def sweep_record(found):
+    made = {"record": "sweep", "checksum": found[1]}
+    made.update({key: True for key, word in (("each", found[2]), ("faults", found[3])) if word})
+    return {**made, "recovery": int(found[4])} if found[4] else made
+
+
+def share_record(found):
+    return {"record": "share", "number": int(found[1]), "of": int(found[2]), "all_or_nothing": found[3] is None}
+
+
 def torn_line(line):
     """The record of a line of `tear`."""
     part, sweep, share = PART.fullmatch(line), SWEEP.fullmatch(line), SHARE.fullmatch(line)
@@ -255,9 +275,9 @@ def torn_line(line):
         recovered = {} if part[2] is None else {"ways": int(part[2]), **({} if part[3] == "alike" else {"unlike": [int(each) for each in part[3].split()]})}
         return {"record": "cuts", "first": int(part[1]), "last": int(part[1]), **left, **recovered}
     if sweep:
-        return {"record": "sweep", "checksum": sweep[1], **({"each": True} if sweep[2] else {}), **({"recovery": int(sweep[3])} if sweep[3] else {})}
+        return sweep_record(sweep)
     if share:
-        return {"record": "share", "number": int(share[1]), "of": int(share[2]), "all_or_nothing": share[3] is None}
+        return share_record(share)
     cuts, uncut, of_line = CUTS.fullmatch(line), UNCUT.fullmatch(line), OF_LINE.fullmatch(line)
     if uncut:
         left = standing(uncut[3])
@@ -276,6 +296,86 @@ def torn_line(line):
 def tears(lines):
     """The records of what `tear` prints."""
     return map(torn_line, lines)
+
+
+# ---- attack
+
+def fault(model, at, second, later):
+    """A fault, or two."""
+    made = {"model": model, "first": int(at)}
+    return made if second is None else {**made, "second_model": second, "later": int(later)}
+
+
+def aftermath(text):
+    """What a fault made of the command; None where the text is none."""
+    came = CAME.fullmatch(text)
+    left = standing(came[3]) if came else None
+    if text == SAME:
+        return {"outcome": SAME}
+    return {"outcome": came[1].lower(), "response": came[2], **left} if left else None
+
+
+def attack_verdict(text):
+    """What is told of all faults of a command."""
+    found = ATTACKED.fullmatch(text)
+    if not found:
+        return None
+    none, accepted, faults, model, at, second, later, silent, *first_silent = found.groups()
+    made = {"record": "attack verdict", "accepted": int(accepted or 0), "faults": int(none or faults), "changed_in_silence": int(silent or 0)}
+    if accepted:
+        made["first_accepted"] = fault(model, at, second, later)
+    if silent:
+        made["first_changed_in_silence"] = fault(*first_silent)
+    return made
+
+
+def part_of_attack(line):
+    """A fault of a part of a sweep: five words."""
+    model, at, second, came, where = line.split("\t")
+    second = PART_SECOND.fullmatch(second)
+    left = aftermath(came)
+    if model not in ("skip", "turn", "zero") or not at.isdecimal() or left is None:
+        return text_record(line)
+    struck = [{"number": int(at), **(traced("  " + where) or {"text": where})}] if where else []
+    return {"record": "faults", **fault(model, at, *(second.groups() if second else (None, None))), "last": int(at), **left, "instructions": struck}
+
+
+def struck_line(line):
+    """The record of a line of `attack`, but for instructions of a row."""
+    faults, unfaulted, of_line, sweep, share = (form.fullmatch(line) for form in (FAULTS, UNFAULTED, OF_LINE, SWEEP, SHARE))
+    if line.count("\t") == 4:
+        return part_of_attack(line)
+    if sweep:
+        return sweep_record(sweep)
+    if share:
+        return share_record(share)
+    if faults:
+        model, first, last, second, later, came = faults.groups()
+        left = aftermath(came)
+        return {"record": "faults", **fault(model, first, second, later), "last": int(last or first), **left, "instructions": []} if left else text_record(line)
+    if unfaulted:
+        left = standing(unfaulted[2])
+        return {"record": "no fault", "response": unfaulted[1], **left} if left else text_record(line)
+    if of_line:
+        told = attack_verdict(of_line[4]) or verdict(of_line[4])
+        answer = {"answer": of_line[3]} if of_line[3] else {}
+        return {**told, "line": int(of_line[1]), "command": of_line[2], **answer} if told else text_record(line)
+    return attack_verdict(line) or text_record(line)
+
+
+def attacks(lines):
+    """The records of what `attack` prints."""
+    record = None
+    for line in lines:
+        at = STRUCK_AT.fullmatch(line)
+        if at and record and record["record"] == "faults":
+            record["instructions"].append({"number": int(at[1]), **(traced(" " + at[2]) or {"text": at[2].strip()})})
+            continue
+        if record:
+            yield record
+        record = struck_line(line)
+    if record:
+        yield record
 
 
 # ---- dump
