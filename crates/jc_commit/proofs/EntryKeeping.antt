@@ -10,14 +10,14 @@ use Rattle.std.proofs.lemmas.List.{length-append, length-map, length-set, take_m
 use Rattle.std.proofs.lemmas.List.Elements.{filter-append, All-filter, All-head, All-tail}
 use Rattle.std.proofs.lemmas.List.Folds.{list_any-append}
 use Rattle.std.proofs.lemmas.List.FromFn.{map-range_with_len_more}
-use Rattle.jc_words.specs.Count.{saturating_count}
 use Rattle.jc_words.specs.Layout.{log_start, log_end, top_address, count_address, addresses_start}
 use Rattle.jc_words.specs.Image.{log_of}
 use Rattle.jc_words.specs.declared.log.Log.{Log}
 use Rattle.jc_commit.specs.Image.{address_at, old_at, entries, old_value, count_of, capacity_of, limit_of, plain_of, recovered_of, touched_of, top_of, IsPlace}
 use Rattle.jc_commit.specs.Image.{IsGoodLog}
 use Rattle.jc_commit.specs.Entries.{addresses_of, AreDistinct, ArePlaces, IsBeside, AreBeside, SameBefore, HasEntries}
-use Rattle.jc_commit.specs.State.{State, IsShort, live_words, born_of}
+use Rattle.jc_commit.specs.State.{State, IsSound, live_words, born_of}
+use Rattle.jc_commit.specs.Writing.{KeepsTransaction, KeepsEntries, ArePut}
 use Rattle.jc_commit.specs.Keeping.{writes_inside, is_taken_back}
 use Rattle.jc_commit.specs.EntryIndex.{named_by, needing, with_entries, IsIndexOf, IsGapFor, GoBack, KeepsAddresses}
 use Rattle.jc_commit.proofs.Words.{Spot, bounds_of, place_spot, log-set}
@@ -29,6 +29,9 @@ use Rattle.jc_commit.proofs.Outside.{new_ones}
 use Rattle.jc_commit.proofs.Indexes.{get_or-named_by, length-named_by, IsIndexOf-same}
 
 -- ---- which changes need an entry
+
+pub needing_one : (touched : List ℕ) (born : ℕ) (change : ℕ × ℕ) → is_taken_back touched born change.0 ≡ false → needing touched born (change ∷ []) ≡ change ∷ []
+needing_one touched born change new = ap (λ (b : Bool). cond (not b) (change ∷ []) []) new
 
 pub needing_more : (touched : List ℕ) (born : ℕ) (changes : List (ℕ × ℕ)) (i : ℕ) → i < length changes →
     needing touched born (take (i + 1) changes) ≡ needing touched born (take i changes) ++ needing touched born (get_or changes i (0, 0) ∷ [])
@@ -308,20 +311,63 @@ index_of_all l v u x behind numbers index few first second count =
     (IsIndexOf-same l v x behind numbers (λ k below. second k (omega (arith, below, few)) ∙ first k (omega (arith, below, few))) index)
 
 -- how many writes that is
-pub writes_sum : (p q r s first behind n m : ℕ) → behind ≡ first + m → q ≡ saturating_count p (2 * m) → r
-    ≡ saturating_count q (if first == behind then 0 else 1) → s ≡ saturating_count r n → s ≡ saturating_count p (writes_inside n m)
-writes_sum p q r s first behind n m all put count through = elim (cases_eq m 0) [
+pub inside_sum : (first behind n m : ℕ) → behind ≡ first + m → writes_inside n m ≡ 2 * m + (if first == behind then 0 else 1) + n
+inside_sum first behind n m all = elim (cases_eq m 0) [
   | inl none ↦
-      let same : (first == behind) ≡ true = eq-eqb first behind (omega (arith, all, none)) in
-      let no_more : r ≡ saturating_count q 0 = count ∙ ap (λ (b : Bool). saturating_count q (if b then 0 else 1)) same in
+      let same : ◌≡◌ {A = ℕ} (if first == behind then 0 else 1) 0 = ap (λ (b : Bool). if b then 0 else 1) (eq-eqb first behind (omega (arith, all, none))) in
       let cost : writes_inside n m ≡ n + 0 = ap (λ (b : Bool). n + (if b then 0 else 2 * m + 1)) (eq-eqb m 0 none) in
-      omega (arith, put, no_more, through, cost, none)
+      omega (arith, same, cost, none)
   | inr some ↦
-      let other : (first == behind) ≡ false = ne_eqb first behind (λ e. some (omega (arith, all, e))) in
-      let one : r ≡ saturating_count q 1 = count ∙ ap (λ (b : Bool). saturating_count q (if b then 0 else 1)) other in
+      let other : ◌≡◌ {A = ℕ} (if first == behind then 0 else 1) 1 = ap (λ (b : Bool). if b then 0 else 1) (ne_eqb first behind (λ e. some (omega (arith, all, e)))) in
       let cost : writes_inside n m ≡ n + (2 * m + 1) = ap (λ (b : Bool). n + (if b then 0 else 2 * m + 1)) (ne_eqb m 0 some) in
-      omega (arith, put, one, through, cost)
+      omega (arith, other, cost)
 ]
+
+-- what needs an entry, by the entries' own words
+pub needing_names : (l : Log) (w : List ℕ) (first born : ℕ) (changes : List (ℕ × ℕ)) → l ≡ log_of w → first ≡ count_of w
+    → length (needing (named_by l w first) born changes) ≡ length (needing (touched_of w) born changes)
+needing_names l w first born changes log is =
+    ap (λ (t : List ℕ). length (needing t born changes)) (ap (named_by l w) is ∙ names_touched l w log)
+
+-- before the entries are counted
+pub stays_put : (l : Log) (w v : List ℕ) (first : ℕ) → l ≡ log_of w → IsGoodLog w → first ≡ count_of w → SameBefore l first w v → KeepsTransaction w v
+stays_put l w v first log good is same =
+    let kept = kept_before w v first good is (subst (λ (m : Log). SameBefore m first w v) log same) in record {
+      good = kept.good;
+      size = same.0;
+      log = kept.log;
+      live = ap live_words kept.recovered;
+      top = ap top_of kept.recovered;
+    }
+
+pub stays_ready : {w u : List ℕ} {changes : List (ℕ × ℕ)} → Ready w changes u → KeepsTransaction w u
+stays_ready now = record { good = now.good; size = now.size; log = now.log; live = ap live_words now.recovered; top = ap top_of now.recovered }
+
+-- and once they are: the words stand for the same, and numbers that are the entries' index stay it
+pub record Counting (l : Log) (w u : List ℕ) (first behind born : ℕ) (changes : List (ℕ × ℕ)) (numbers : List ℕ) : Type 0 where
+  pub ready : Ready w (needing (touched_of w) born changes) u
+  pub writes : (n : ℕ) → writes_inside n (length (needing (touched_of w) born changes))
+      ≡ 2 * length (needing (named_by l w first) born changes) + (if first == behind then 0 else 1) + n
+  pub index : (x : List ℕ) → KeepsEntries u x → IsIndexOf l x (count_of x) numbers
+
+pub counting : {l : Log} {w v : List ℕ} {first behind born needed : ℕ} {old numbers : List ℕ} (u : List ℕ) (changes : List (ℕ × ℕ)) → IsSound w false true l born old
+    → ArePlaces (limit_of w) changes → needed ≡ length (needing (touched_of w) born changes) → count_of w + needed ≤ l.capacity → first ≡ count_of w
+    → ArePut l first (needing (named_by l w first) born changes) w v behind numbers → SameBefore l first w v
+    → u ≡ (if first == behind then v else set v count_address behind) → Counting l w u first behind born changes numbers
+counting {l = l} {w = w} {v = v} {first = first} {behind = behind} {born = born} {numbers = numbers} u changes sound places few room is put same written =
+    let big = sound.good.size.enough in
+    let long = needing_names l w first born changes sound.stands is in
+    let all : behind ≡ first + length (needing (touched_of w) born changes) = omega (arith, put.next, long) in
+    let ready : Ready w (needing (touched_of w) born changes) u = ready_by_log l w v u first behind born changes sound.stands sound.good places is
+    (omega (arith, long, is, few, room)) put.words put.next written in
+    let low : log_start ≤ l.start = subst (λ (m : Log). log_start ≤ m.start) (sym sound.stands) (bounds_of w sound.good).low in
+    let both = count_by l w v u first behind low same is (omega (arith, big)) written in record {
+      ready = ready;
+      writes = λ n. inside_sum first behind n (length (needing (touched_of w) born changes)) all
+          ∙ ap (λ (m : ℕ). 2 * m + (if first == behind then 0 else 1) + n) (sym long);
+      index = λ x kept. index_of_all l v u x behind numbers put.index (omega (arith, all, is, few, room)) both.1
+          (subst (λ (m : Log). KeepsAddresses m u x) (ready.log ∙ sym sound.stands) kept.addresses) (kept.count ∙ both.0);
+    }
 
 -- ---- then each word goes back
 
@@ -392,14 +438,8 @@ all_go_back w u born changes is k within =
 -- ---- a word that goes back is written
 
 pub record Through (w : List ℕ) (a x : ℕ) (v : List ℕ) : Type 0 where
-  pub good : IsGoodLog v
-  pub size : length v ≡ length w
-  pub live : live_words (recovered_of v) ≡ live_words (recovered_of w)
-  pub top : top_of (recovered_of v) ≡ top_of (recovered_of w)
-  pub entries : entries v ≡ entries w
-  pub count : count_of v ≡ count_of w
-  pub addresses : KeepsAddresses (log_of w) w v
-  pub log : log_of v ≡ log_of w
+  pub stays : KeepsTransaction w v
+  pub entries : KeepsEntries w v
   pub plain : plain_of v ≡ set (plain_of w) a x
 
 abbrev SameLive : List ℕ → List ℕ → Type 0
@@ -424,15 +464,13 @@ through_at w a x born good place top low back =
     let both : SameLive (recovered_of w) (recovered_of (set w a x)) = subst (λ (r : List ℕ). SameLive (recovered_of w) r) (sym is)
     (same_live named (recovered_of w) a x high) in
     record {
-      good = IsGoodLog-set_place w a x good read;
-      size = length-set w a x;
-      live = both.0;
-      top = both.1;
-      entries = entries-set_place w a x good read;
-      count = count-set_place w a x read;
-      addresses = λ k few. get_or-set_other w a ((log_of w).start + 2 * k) x 0
-          (λ same. let far = read.beside (omega (arith, same)) in absurd (omega (arith, few, far, same)));
-      log = log-set w a x read;
+      stays = record { good = IsGoodLog-set_place w a x good read; size = length-set w a x; log = log-set w a x read; live = both.0; top = both.1 };
+      entries = record {
+        entries = entries-set_place w a x good read;
+        count = count-set_place w a x read;
+        addresses = λ k few. get_or-set_other w a ((log_of w).start + 2 * k) x 0
+            (λ same. let far = read.beside (omega (arith, same)) in absurd (omega (arith, few, far, same)));
+      };
       plain = plain-set_place w a x good read;
     }
 
@@ -495,34 +533,11 @@ index_none l w n numbers none empty = subst (λ (ns : List ℕ). IsIndexOf l w n
   all = λ k below. absurd (omega (arith, below, none));
 })
 
--- a refused write came after fewer than all writes: as the old values were kept; as they were counted; as the words were written
-most_kept : (n m : ℕ) → 2 * m ≤ writes_inside n m
+-- the entries are part of it
+pub most_kept : (n m : ℕ) → 2 * m ≤ writes_inside n m
 most_kept n m = elim (cases_eq m 0) [
   | inl none ↦ omega (arith, none)
   | inr some ↦
       let cost : writes_inside n m ≡ n + (2 * m + 1) = ap (λ (b : Bool). n + (if b then 0 else 2 * m + 1)) (ne_eqb m 0 some) in
       omega (arith, cost)
 ]
-
-pub short_keeping : (p q n m k : ℕ) → k ≡ m → IsShort (2 * k) p q → IsShort (writes_inside n m) p q
-short_keeping p q n m k same short small = omega (arith, same, short small, most_kept n m)
-
-pub short_counting : (p q r first behind n m : ℕ) → behind ≡ first + m → q ≡ saturating_count p (2 * m)
-    → IsShort (if first == behind then 0 else 1) q r → q ≤ r → IsShort (writes_inside n m) p r
-short_counting p q r first behind n m all put short from small = elim (cases_eq m 0) [
-  | inl none ↦
-      let same : (first == behind) ≡ true = eq-eqb first behind (omega (arith, all, none)) in
-      let no_more : r < q + 0 = subst (λ (b : Bool). r < q + (if b then 0 else 1)) same (short small) in
-      absurd (omega (arith, no_more, from))
-  | inr some ↦
-      let other : (first == behind) ≡ false = ne_eqb first behind (λ e. some (omega (arith, all, e))) in
-      let one : r < q + 1 = subst (λ (b : Bool). r < q + (if b then 0 else 1)) other (short small) in
-      let cost : writes_inside n m ≡ n + (2 * m + 1) = ap (λ (b : Bool). n + (if b then 0 else 2 * m + 1)) (ne_eqb m 0 some) in
-      omega (arith, one, from, put, cost, small)
-]
-
-pub short_writing : (p q r s first behind n m : ℕ) → behind ≡ first + m → q ≡ saturating_count p (2 * m) → r ≡ saturating_count q (if first == behind then 0 else 1)
-    → IsShort n r s → IsShort (writes_inside n m) p s
-short_writing p q r s first behind n m all put count short small =
-    let sum : saturating_count r n ≡ saturating_count p (writes_inside n m) = writes_sum p q r (saturating_count r n) first behind n m all put count refl in
-    omega (arith, sum, short small, small)

@@ -13,3 +13,4 @@ pub mod EntryKeeping
 pub mod WhatIsKept
 pub mod Migrations
 pub mod Openings
+pub mod Writes

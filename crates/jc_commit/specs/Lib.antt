@@ -6,3 +6,4 @@ pub mod Keeping
 pub mod EntryIndex
 pub mod State
 pub mod Opening
+pub mod Writing

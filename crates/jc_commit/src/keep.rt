@@ -1,14 +1,12 @@
 //! Changes in a transaction: a word's first old value is kept, and none of a word born in it.
-ghost use Rattle.std.specs.Prelude.{◌≡◌, ◌<◌, ◌≤◌, ◌+◌, ◌*◌, ◌^◌, ◌++◌, ◌==◌, [], ◌∷◌, length, OnOk, OnErr, IfOk, IfSome, is_none, slice_set, filter, not, is_ok, true, if◌then◌else◌};
-ghost use Rattle.jc_words.specs.Count.{saturating_count};
-ghost use Rattle.jc_words.specs.Refusals.{refused_once};
-ghost use Rattle.jc_words.specs.Layout.{count_address, log_end, most_capacity};
-ghost use Rattle.jc_words.specs.Image.{log_of};
-ghost use Rattle.jc_commit.specs.Image.{count_of, limit_of, entries, plain_of, recovered_of, touched_of, top_of, with_words, IsGoodLog};
+ghost use Rattle.std.specs.Prelude.{◌≡◌, ◌<◌, ◌≤◌, ◌+◌, ◌*◌, ◌^◌, ◌==◌, [], ◌∷◌, length, max, OnOk, OnErr, IfOk, IfSome, is_none, slice_set, filter, not, is_ok, true, false, if◌then◌else◌};
+ghost use Rattle.jc_words.specs.Layout.{count_address, log_end};
+ghost use Rattle.jc_commit.specs.Image.{count_of, limit_of, plain_of, recovered_of, touched_of, top_of, with_words, IsGoodLog};
 ghost use Rattle.jc_commit.specs.Entries.{addresses_of, AreDistinct, ArePlaces, IsBeside, AreBeside, SameBefore};
-ghost use Rattle.jc_commit.specs.State.{live_words, IsShort};
+ghost use Rattle.jc_commit.specs.State.{IsSound};
 ghost use Rattle.jc_commit.specs.Keeping.{is_taken_back, writes_inside};
-ghost use Rattle.jc_commit.specs.EntryIndex.{named_by, needing, with_entries, IsIndexOf, IsGapFor, GoBack, KeepsAddresses};
+ghost use Rattle.jc_commit.specs.EntryIndex.{named_by, needing, with_entries, IsIndexOf, IsGapFor, GoBack};
+ghost use Rattle.jc_commit.specs.Writing.{Wrote, IsIndexed, KeepsTransaction, KeepsEntries, ArePut, ChangesInside};
 
 use crate::changes::WordChanges;
 use crate::index::{EntryIndex, find, is_named};
@@ -117,12 +115,7 @@ fn put_entry<S: WordStore>(store: &mut S, log: Log, k: u16, address: u16) -> Res
     ensures words { OnOk result (S.words store.new ≡ with_entries log (S.words store.old) k
         ((address, 0) ∷ [])) }
     ensures same { SameBefore log k (S.words store.old) (S.words store.new) }
-    ensures passed { OnOk result (S.passed store.new ≡ saturating_count (S.passed store.old) 2) }
-    ensures down { S.down store.new ≡ (if is_ok result then S.down store.old else true) }
-    ensures from { S.passed store.old ≤ S.passed store.new }
-    ensures short { OnErr result (IsShort 2 (S.passed store.old) (S.passed store.new)) }
-    ensures refusals { S.refusals store.new ≡ (if is_ok result then S.refusals store.old else
-        refused_once (S.down store.old) (S.passed store.new) (S.refusals store.old)) }
+    ensures wrote { Wrote S.down S.passed S.refusals 2 (is_ok result) store.old store.new }
 {
     let old = store.read(address);
     let slot = log.address_word(k);
@@ -141,29 +134,16 @@ fn put_change<S: WordStore>(
     born: u16,
     change: (u16, u16),
 ) -> Result<u16, StoreDown>
-    requires size { log.start + 2 * log.capacity ≤ length (S.words store.old) }
-    requires most { log.capacity ≤ most_capacity }
-    requires small { log.start + 2 * log.capacity < 2 ^ 16 }
-    requires index { IsIndexOf log (S.words store.old) k numbers.old.items }
+    requires stands { IsIndexed log (S.words store.old) k numbers.old.items }
     requires place { IsBeside log (length (S.words store.old)) change.0 }
-    requires few { k ≤ log.capacity }
     requires room { k + length (needing (named_by log (S.words store.old) k) born (change ∷ [])) ≤
         log.capacity }
-    ensures next { IfOk result (λ n. n ≡ k + length (needing (named_by log (S.words store.old) k) born
-        (change ∷ []))) }
-    ensures words { OnOk result (S.words store.new ≡ with_entries log (S.words store.old) k
-        (needing (named_by log (S.words store.old) k) born (change ∷ []))) }
-    ensures index { IfOk result (λ n. IsIndexOf log (S.words store.new) n numbers.new.items) }
+    ensures put { IfOk result (λ n. ArePut log k (needing (named_by log (S.words store.old) k) born
+        (change ∷ [])) (S.words store.old) (S.words store.new) n numbers.new.items) }
     ensures same { SameBefore log k (S.words store.old) (S.words store.new) }
-    ensures passed { OnOk result (S.passed store.new ≡ saturating_count (S.passed store.old)
-        (2 * length (needing (named_by log (S.words store.old) k) born (change ∷ [])))) }
-    ensures down { S.down store.new ≡ (if is_ok result then S.down store.old else true) }
-    ensures from { S.passed store.old ≤ S.passed store.new }
-    ensures short { OnErr result (IsShort
+    ensures wrote { Wrote S.down S.passed S.refusals
         (2 * length (needing (named_by log (S.words store.old) k) born (change ∷ [])))
-        (S.passed store.old) (S.passed store.new)) }
-    ensures refusals { S.refusals store.new ≡ (if is_ok result then S.refusals store.old else
-        refused_once (S.down store.old) (S.passed store.new) (S.refusals store.old)) }
+        (is_ok result) store.old store.new }
 {
     let (address, _) = change;
     let Some(place) = place_to_keep(store, log, k, numbers.as_slice(), born, address) else {
@@ -184,29 +164,18 @@ fn put_needing<S: WordStore, C: WordChanges>(
     born: u16,
     changes: &C,
 ) -> Result<u16, StoreDown>
-    requires size { log.start + 2 * log.capacity ≤ length (S.words store.old) }
-    requires most { log.capacity ≤ most_capacity }
-    requires small { log.start + 2 * log.capacity < 2 ^ 16 }
-    requires index { IsIndexOf log (S.words store.old) first numbers.old.items }
+    requires stands { IsIndexed log (S.words store.old) first numbers.old.items }
     requires places { AreBeside log (length (S.words store.old)) (C.changes changes.now) }
     requires distinct { AreDistinct (addresses_of (C.changes changes.now)) }
     requires room { first + length (needing (named_by log (S.words store.old) first) born (C.changes changes.now)) ≤
         log.capacity }
-    ensures behind { IfOk result (λ n. n ≡ first + length
-        (needing (named_by log (S.words store.old) first) born (C.changes changes.now))) }
-    ensures words { OnOk result (S.words store.new ≡ with_entries log (S.words store.old) first
-        (needing (named_by log (S.words store.old) first) born (C.changes changes.now))) }
-    ensures index { IfOk result (λ n. IsIndexOf log (S.words store.new) n numbers.new.items) }
+    ensures put { IfOk result (λ n. ArePut log first
+        (needing (named_by log (S.words store.old) first) born (C.changes changes.now))
+        (S.words store.old) (S.words store.new) n numbers.new.items) }
     ensures same { SameBefore log first (S.words store.old) (S.words store.new) }
-    ensures passed { OnOk result (S.passed store.new ≡ saturating_count (S.passed store.old)
-        (2 * length (needing (named_by log (S.words store.old) first) born (C.changes changes.now)))) }
-    ensures down { S.down store.new ≡ (if is_ok result then S.down store.old else true) }
-    ensures from { S.passed store.old ≤ S.passed store.new }
-    ensures short { OnErr result (IsShort
+    ensures wrote { Wrote S.down S.passed S.refusals
         (2 * length (needing (named_by log (S.words store.old) first) born (C.changes changes.now)))
-        (S.passed store.old) (S.passed store.new)) }
-    ensures refusals { S.refusals store.new ≡ (if is_ok result then S.refusals store.old else
-        refused_once (S.down store.old) (S.passed store.new) (S.refusals store.old)) }
+        (is_ok result) store.old store.new }
 {
     let mut k = first;
     for i in 0..changes.count() {
@@ -225,30 +194,19 @@ fn put_counted<S: WordStore, C: WordChanges>(
     born: u16,
     changes: &C,
 ) -> Result<u16, StoreDown>
-    requires size { log.start + 2 * log.capacity ≤ length (S.words store.old) }
-    requires most { log.capacity ≤ most_capacity }
-    requires small { log.start + 2 * log.capacity < 2 ^ 16 }
-    requires index { IsIndexOf log (S.words store.old) first numbers.old.items }
+    requires stands { IsIndexed log (S.words store.old) first numbers.old.items }
     requires places { AreBeside log (length (S.words store.old)) (C.changes changes.now) }
     requires distinct { AreDistinct (addresses_of (C.changes changes.now)) }
     requires needed { needed ≡ length (needing (named_by log (S.words store.old) first) born
         (C.changes changes.now)) }
     requires room { first + needed ≤ log.capacity }
-    ensures behind { IfOk result (λ n. n ≡ first + length
-        (needing (named_by log (S.words store.old) first) born (C.changes changes.now))) }
-    ensures words { OnOk result (S.words store.new ≡ with_entries log (S.words store.old) first
-        (needing (named_by log (S.words store.old) first) born (C.changes changes.now))) }
-    ensures index { IfOk result (λ n. IsIndexOf log (S.words store.new) n numbers.new.items) }
+    ensures put { IfOk result (λ n. ArePut log first
+        (needing (named_by log (S.words store.old) first) born (C.changes changes.now))
+        (S.words store.old) (S.words store.new) n numbers.new.items) }
     ensures same { SameBefore log first (S.words store.old) (S.words store.new) }
-    ensures passed { OnOk result (S.passed store.new ≡ saturating_count (S.passed store.old)
-        (2 * length (needing (named_by log (S.words store.old) first) born (C.changes changes.now)))) }
-    ensures down { S.down store.new ≡ (if is_ok result then S.down store.old else true) }
-    ensures from { S.passed store.old ≤ S.passed store.new }
-    ensures short { OnErr result (IsShort
+    ensures wrote { Wrote S.down S.passed S.refusals
         (2 * length (needing (named_by log (S.words store.old) first) born (C.changes changes.now)))
-        (S.passed store.old) (S.passed store.new)) }
-    ensures refusals { S.refusals store.new ≡ (if is_ok result then S.refusals store.old else
-        refused_once (S.down store.old) (S.passed store.new) (S.refusals store.old)) }
+        (is_ok result) store.old store.new }
 {
     if needed == 0 {
         return Ok(first);
@@ -263,14 +221,8 @@ fn count_entries<S: WordStore>(store: &mut S, before: u16, behind: u16) -> Resul
     ensures words { OnOk result (S.words store.new ≡ (if before ==
         behind then S.words store.old else slice_set (S.words store.old) count_address behind)) }
     ensures kept { OnErr result (S.words store.new ≡ S.words store.old) }
-    ensures passed { OnOk result (S.passed store.new ≡ saturating_count (S.passed store.old)
-        (if before == behind then 0 else 1)) }
-    ensures down { S.down store.new ≡ (if is_ok result then S.down store.old else true) }
-    ensures from { S.passed store.old ≤ S.passed store.new }
-    ensures short { OnErr result (IsShort (if before == behind then 0 else 1)
-        (S.passed store.old) (S.passed store.new)) }
-    ensures refusals { S.refusals store.new ≡ (if is_ok result then S.refusals store.old else
-        refused_once (S.down store.old) (S.passed store.new) (S.refusals store.old)) }
+    ensures wrote { Wrote S.down S.passed S.refusals (if before == behind then 0 else 1)
+        (is_ok result) store.old store.new }
 {
     if before == behind {
         return Ok(());
@@ -288,28 +240,13 @@ fn write_through<S: WordStore, C: WordChanges>(
     requires good { IsGoodLog (S.words store.old) }
     requires places { ArePlaces (limit_of (S.words store.old)) (C.changes changes.now) }
     requires kept { GoBack (S.words store.old) born (C.changes changes.now) }
-    requires top { top_of (recovered_of (S.words store.old)) ≤ born }
-    requires low { log_end ≤ born }
-    ensures good { IsGoodLog (S.words store.new) }
-    ensures size { length (S.words store.new) ≡ length (S.words store.old) }
-    ensures live { live_words (recovered_of (S.words store.new))
-        ≡ live_words (recovered_of (S.words store.old)) }
-    ensures top { top_of (recovered_of (S.words store.new))
-        ≡ top_of (recovered_of (S.words store.old)) }
-    ensures entries { entries (S.words store.new) ≡ entries (S.words store.old) }
-    ensures count { count_of (S.words store.new) ≡ count_of (S.words store.old) }
-    ensures log { log_of (S.words store.new) ≡ log_of (S.words store.old) }
-    ensures addresses { KeepsAddresses (log_of (S.words store.old)) (S.words store.old) (S.words store.new) }
+    requires births { max log_end (top_of (recovered_of (S.words store.old))) ≤ born }
+    ensures stays { KeepsTransaction (S.words store.old) (S.words store.new) }
+    ensures entries { KeepsEntries (S.words store.old) (S.words store.new) }
     ensures plain { OnOk result (plain_of (S.words store.new)
         ≡ with_words (plain_of (S.words store.old)) (C.changes changes.now)) }
-    ensures passed { OnOk result (S.passed store.new ≡ saturating_count (S.passed store.old)
-        (length (C.changes changes.now))) }
-    ensures down { S.down store.new ≡ (if is_ok result then S.down store.old else true) }
-    ensures from { S.passed store.old ≤ S.passed store.new }
-    ensures short { OnErr result (IsShort (length (C.changes changes.now))
-        (S.passed store.old) (S.passed store.new)) }
-    ensures refusals { S.refusals store.new ≡ (if is_ok result then S.refusals store.old else
-        refused_once (S.down store.old) (S.passed store.new) (S.refusals store.old)) }
+    ensures wrote { Wrote S.down S.passed S.refusals (length (C.changes changes.now))
+        (is_ok result) store.old store.new }
 {
     for i in 0..changes.count() {
         let (address, value) = changes.change(i);
@@ -328,44 +265,19 @@ pub(crate) fn keep_and_write<S: WordStore, C: WordChanges>(
     born: u16,
     changes: &C,
 ) -> Result<(), StoreDown>
-    requires good { IsGoodLog (S.words store.old) }
-    requires log { log ≡ log_of (S.words store.old) }
-    requires most { log.capacity ≤ most_capacity }
-    requires within { log.start + 2 * log.capacity ≤ length (S.words store.old) }
-    requires small { length (S.words store.old) < 2 ^ 16 }
-    requires index { IsIndexOf log (S.words store.old) (count_of (S.words store.old)) numbers.old.items }
+    requires sound { IsSound (S.words store.old) false true log born numbers.old.items }
     requires places { ArePlaces (limit_of (S.words store.old)) (C.changes changes.now) }
     requires distinct { AreDistinct (addresses_of (C.changes changes.now)) }
-    requires top { top_of (recovered_of (S.words store.old)) ≤ born }
-    requires low { log_end ≤ born }
     requires needed { needed
         ≡ length (needing (touched_of (S.words store.old)) born (C.changes changes.now)) }
     requires room { count_of (S.words store.old) + needed ≤ log.capacity }
-    ensures good { IsGoodLog (S.words store.new) }
-    ensures size { length (S.words store.new) ≡ length (S.words store.old) }
-    ensures log { log ≡ log_of (S.words store.new) }
     // What a recovery leaves stays, below the top that the transaction found.
-    ensures live { live_words (recovered_of (S.words store.new))
-        ≡ live_words (recovered_of (S.words store.old)) }
-    ensures top { top_of (recovered_of (S.words store.new))
-        ≡ top_of (recovered_of (S.words store.old)) }
-    ensures index { OnOk result (IsIndexOf log (S.words store.new) (count_of (S.words store.new))
-        numbers.new.items) }
-    ensures plain { OnOk result (plain_of (S.words store.new)
-        ≡ with_words (plain_of (S.words store.old)) (C.changes changes.now)) }
-    ensures touched { OnOk result (touched_of (S.words store.new)
-        ≡ touched_of (S.words store.old) ++ addresses_of
-        (needing (touched_of (S.words store.old)) born (C.changes changes.now))) }
-    ensures passed { OnOk result (S.passed store.new ≡ saturating_count (S.passed store.old)
-        (writes_inside (length (C.changes changes.now)) (length (needing (touched_of (S.words store.old)) born
-        (C.changes changes.now))))) }
-    ensures down { S.down store.new ≡ (if is_ok result then S.down store.old else true) }
-    ensures from { S.passed store.old ≤ S.passed store.new }
-    ensures short { OnErr result (IsShort (writes_inside (length (C.changes changes.now))
+    ensures stays { KeepsTransaction (S.words store.old) (S.words store.new) }
+    ensures changed { OnOk result (ChangesInside log born (C.changes changes.now) (S.words store.old)
+        (S.words store.new) numbers.new.items) }
+    ensures wrote { Wrote S.down S.passed S.refusals (writes_inside (length (C.changes changes.now))
         (length (needing (touched_of (S.words store.old)) born (C.changes changes.now))))
-        (S.passed store.old) (S.passed store.new)) }
-    ensures refusals { S.refusals store.new ≡ (if is_ok result then S.refusals store.old else
-        refused_once (S.down store.old) (S.passed store.new) (S.refusals store.old)) }
+        (is_ok result) store.old store.new }
 {
     let first = store.read(COUNT);
     let behind = put_counted(store, log, first, needed, numbers, born, changes)?;

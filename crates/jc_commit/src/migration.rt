@@ -1,9 +1,8 @@
 //! Makes an image of the first version one of the version that is written.
-ghost use Rattle.std.specs.Prelude.{◌≡◌, ◌≤◌, OnOk, OnErr, is_ok, true, if◌then◌else◌, length};
-ghost use Rattle.jc_words.specs.Count.{saturating_count};
-ghost use Rattle.jc_words.specs.Refusals.{refused_once};
+ghost use Rattle.std.specs.Prelude.{◌≡◌, ◌≤◌, OnOk, OnErr, is_ok, length};
 ghost use Rattle.jc_words.specs.Layout.{log_end};
 ghost use Rattle.jc_commit.specs.Migration.{migration, migrated, IsPartOfMigration};
+ghost use Rattle.jc_commit.specs.Writing.{Wrote};
 
 use jc_words::layout::{
     CAPACITY_WORD, FIRST_VERSION, FRONT_CAPACITY, JOURNAL_WORD, LOG_START, VERSION, VERSION_WORD,
@@ -15,13 +14,10 @@ use jc_words::{StoreDown, WordStore};
 pub(crate) fn migrate<S: WordStore>(store: &mut S) -> Result<(), StoreDown>
     requires { log_end ≤ length (S.words store.old) }
     ensures words { OnOk result (S.words store.new ≡ migrated 3 (S.words store.old)) }
-    ensures passed { OnOk result (S.passed store.new
-        ≡ saturating_count (S.passed store.old) (length (migration (S.words store.old)))) }
     ensures part { OnErr result (IsPartOfMigration (S.words store.old) (S.words store.new)
         (S.passed store.old) (S.passed store.new)) }
-    ensures down { S.down store.new ≡ (if is_ok result then S.down store.old else true) }
-    ensures refusals { S.refusals store.new ≡ (if is_ok result then S.refusals store.old else
-        refused_once (S.down store.old) (S.passed store.new) (S.refusals store.old)) }
+    ensures wrote { Wrote S.down S.passed S.refusals (length (migration (S.words store.old)))
+        (is_ok result) store.old store.new }
 {
     if store.read(VERSION_WORD) != FIRST_VERSION {
         return Ok(());

@@ -133,6 +133,11 @@ pub record AreArrays (xs : List (Kind × List ℕ)) : Type 0 where
   pub kinds : (k : ℕ) → k < length xs → is_array_init ((slice_index_or xs k (Instance, [])).0) ≡ true
   pub sizes : (k : ℕ) → k < length xs → length ((slice_index_or xs k (Instance, [])).1) < 65536
 
+-- the components and the arrays of a package
+pub record ArePackageParts (cs : List (ℕ × List ℕ)) (xs : List (Kind × List ℕ)) : Type 0 where
+  pub components : AreComponents cs
+  pub arrays : AreArrays xs
+
 -- the values of these arrays are bytes
 abbrev pub AreArraysOfBytes : List (Kind × List ℕ) → Type 0
 AreArraysOfBytes [] = Unit {0}

@@ -6,7 +6,7 @@ ghost use Rattle.jc_heap.specs.Object.{APackage};
 ghost use Rattle.jc_heap.specs.Moves.{AddPackage, PerformsMovesUnless, refusal_of_package};
 ghost use Rattle.jc_heap.specs.Completions.{after_making};
 ghost use Rattle.jc_heap.specs.Heap.{is_allocated, heap_item_at};
-ghost use Rattle.jc_heap.specs.Packages.{parts, array_inits, AreComponents, AreArrays, image_size, record_size, package_record, package_size, package_words};
+ghost use Rattle.jc_heap.specs.Packages.{parts, array_inits, AreComponents, AreArrays, ArePackageParts, image_size, record_size, package_record, package_size, package_words};
 ghost use Rattle.jc_heap.specs.Packages.{add_package, AreArraysOfBytes};
 
 use crate::heap::Heap;
@@ -34,8 +34,7 @@ fn write_package<S: WordStore>(
     requires free { IsFree at (package_size (parts components.now)
         (array_inits arrays.now) image.now) journal.old }
     requires size { size ≡ record_size (parts components.now) (array_inits arrays.now) image.now }
-    requires components { AreComponents (parts components.now) }
-    requires arrays { AreArrays (array_inits arrays.now) }
+    requires parts { ArePackageParts (parts components.now) (array_inits arrays.now) }
     requires number { number < 256 }
     ensures below { KeepsBelow at journal.old journal.new }
     ensures done { OnOk result (Fills at (package_words at number (parts components.now)

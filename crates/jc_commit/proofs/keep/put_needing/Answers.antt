@@ -1,14 +1,21 @@
-use Rattle.std.proofs.Common.{◌≡◌, ◌<◌, ◌≤◌, ◌+◌, ◌++◌, ℕ, List, [], ◌∷◌, length, take, get_or, sym, ap, ◌∙◌, arith, rules}
+use Rattle.std.proofs.Common.{◌≡◌, ◌<◌, ◌≤◌, ◌+◌, ◌++◌, ℕ, List, [], ◌∷◌, length, take, take_all, get_or, sym, ap, ◌∙◌, arith}
 use Rattle.std.proofs.lemmas.List.{length-append}
 use Rattle.jc_commit.specs.EntryIndex.{named_by, needing, with_entries}
 use Rattle.jc_commit.proofs.EntryKeeping.{needing_more, needing_part, needing_still, same_more, with_entries-append, names_with}
-use Rattle.jc_commit.proofs.Refusals.{anyway}
+use Rattle.jc_commit.proofs.Writes.{no_write, more_writes, refused_later, at_err}
 use Rattle.jc_commit.proofs.keep.put_needing.Goals as goal
 
-pub put_change-requires-clause-few : goal.put_change-requires-clause-few
-put_change-requires-clause-few g c =
+pub put_change-requires-clause-stands : goal.put_change-requires-clause-stands
+put_change-requires-clause-stands g c =
     let t = named_by c.args.log (g.S.WordStore.words c.args.store.now) c.args.first in
-    omega (arith, c.loop-i.invariant.k, needing_part t c.args.born (g.C.WordChanges.changes c.args.changes.now) c.loop-i.i, c.requires.room)
+    let i = c.loop-i.invariant in
+    let long = i.same.0 in record {
+      size = omega (arith, long, c.requires.stands.size);
+      small = c.requires.stands.small;
+      most = c.requires.stands.most;
+      few = omega (arith, i.k, needing_part t c.args.born (g.C.WordChanges.changes c.args.changes.now) c.loop-i.i, c.requires.room);
+      index = i.index;
+    }
 
 pub put_change-requires-clause-room : goal.put_change-requires-clause-room
 put_change-requires-clause-room g c =
@@ -49,9 +56,9 @@ loop-i-preserved g c =
     let whole : all ≡ done ++ needing t b (x ∷ []) = needing_more t b changes j within in
     let more : length all ≡ length done + length (needing t b (x ∷ [])) = ap (λ (l : List (ℕ × ℕ)). length l) whole
     ∙ length-append done (needing t b (x ∷ [])) in
-    let next : c.in_ok-k.k ≡ first + length all = omega (arith, e.next, i.k, long, more) in
+    let next : c.in_ok-k.k ≡ first + length all = omega (arith, e.put.next, i.k, long, more) in
     let put : v ≡ with_entries c.args.log initial first all =
-    e.words ∙ ap (λ (l : List (ℕ × ℕ)). with_entries c.args.log w c.loop-i.k l) still ∙ ap (λ (u : List ℕ). with_entries c.args.log u c.loop-i.k (needing t b (x ∷ [])))
+    e.put.words ∙ ap (λ (l : List (ℕ × ℕ)). with_entries c.args.log w c.loop-i.k l) still ∙ ap (λ (u : List ℕ). with_entries c.args.log u c.loop-i.k (needing t b (x ∷ [])))
     i.put
     ∙ ap (λ (k : ℕ). with_entries c.args.log (with_entries c.args.log initial first done) k (needing t b (x ∷ []))) i.k
     ∙ sym (with_entries-append c.args.log initial first done (needing t b (x ∷ []))) ∙ ap (λ (l : List (ℕ × ℕ)). with_entries c.args.log initial first l) (sym whole) in
@@ -59,17 +66,15 @@ loop-i-preserved g c =
     record {
       k = next;
       put = put;
-      index = e.index;
+      index = e.put.index;
       names = ap (λ (u : List ℕ). named_by c.args.log u c.in_ok-k.k) put ∙ ap (λ (k : ℕ). named_by c.args.log (with_entries c.args.log initial first all) k) next
-          ∙ names_with c.args.log initial first all room c.requires.size;
+          ∙ names_with c.args.log initial first all room c.requires.stands.size;
       same = same_more c.args.log first c.loop-i.k initial w v (omega (arith, i.k)) i.same c.put_change.ensures.same;
-      passed = omega (arith, e.passed, i.passed, long, more);
-      down = search rules;
-      refusals = search rules;
+      wrote = more_writes i.wrote e.wrote (omega (arith, long, more));
     }
 
-pub returns-in_err-k-clause-short : goal.returns-in_err-k-clause-short
-returns-in_err-k-clause-short g c =
+pub returns-in_err-k-clause-wrote : goal.returns-in_err-k-clause-wrote
+returns-in_err-k-clause-wrote g c =
     let t = named_by c.args.log (g.S.WordStore.words c.args.store.now) c.args.first in
     let b = c.args.born in
     let changes = g.C.WordChanges.changes c.args.changes.now in
@@ -83,4 +88,12 @@ returns-in_err-k-clause-short g c =
     ap (λ (l : List (ℕ × ℕ)). length l) still in
     let more : length (needing t b (take (j + 1) changes)) ≡ length (needing t b (take j changes)) + length (needing t b (x ∷ [])) =
     ap (λ (l : List (ℕ × ℕ)). length l) (needing_more t b changes j within) ∙ length-append (needing t b (take j changes)) (needing t b (x ∷ [])) in
-    anyway c.from_residual.result _ (λ small. omega (arith, small, c.in_err-k.ensures.short small, i.passed, long, more, needing_part t b changes (j + 1)))
+    at_err c.from_residual.result c.from_residual.ensures.0
+    (refused_later i.wrote c.in_err-k.ensures.wrote (omega (arith, long, more, needing_part t b changes (j + 1))))
+
+pub returns-clause-wrote : goal.returns-clause-wrote
+returns-clause-wrote g c =
+    let t = named_by c.args.log (g.S.WordStore.words c.args.store.now) c.args.first in
+    let changes = g.C.WordChanges.changes c.args.changes.now in
+    let all = ap (λ (xs : List (ℕ × ℕ)). length (needing t c.args.born xs)) (take_all c.loop-i.i changes (omega arith)) in
+    more_writes c.loop-i.invariant.wrote (no_write _) (omega (arith, all))

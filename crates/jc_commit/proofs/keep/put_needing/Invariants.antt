@@ -1,7 +1,7 @@
-use Rattle.std.proofs.Common.{◌≡◌, ◌+◌, ◌*◌, ◌++◌, length, take}
-use Rattle.jc_words.specs.Count.{saturating_count}
+use Rattle.std.proofs.Common.{◌≡◌, ◌+◌, ◌*◌, ◌++◌, true, length, take}
 use Rattle.jc_commit.specs.Entries.{addresses_of, SameBefore}
 use Rattle.jc_commit.specs.EntryIndex.{named_by, needing, with_entries, IsIndexOf}
+use Rattle.jc_commit.specs.Writing.{Wrote}
 use Rattle.jc_commit.proofs.keep.put_needing.Given as goal
 
 abbrev pub invariant-loop-i : goal.invariant-loop-i
@@ -15,7 +15,5 @@ invariant-loop-i g l =
       index : IsIndexOf l.log words l.k l.numbers.items;
       names : named_by l.log words l.k ≡ named_by l.log initial l.first ++ addresses_of done;
       same : SameBefore l.log l.first initial words;
-      passed : g.S.WordStore.passed l.store ≡ saturating_count (g.S.WordStore.passed l.initial.store) (2 * length done);
-      down : g.S.WordStore.down l.store ≡ g.S.WordStore.down l.initial.store;
-      refusals : g.S.WordStore.refusals l.store ≡ g.S.WordStore.refusals l.initial.store;
+      wrote : Wrote g.S.WordStore.down g.S.WordStore.passed g.S.WordStore.refusals (2 * length done) true l.initial.store l.store;
     }

@@ -1,13 +1,23 @@
-use Rattle.std.proofs.Common.{◌≡◌, ◌<◌, ◌≤◌, ◌⊎◌, ℕ, List, set, get_or, length, sym, ap, subst, ◌∙◌, arith, rules}
+use Rattle.std.proofs.Common.{◌<◌, ◌≤◌, ◌⊎◌, ℕ, List, set, get_or, length, refl, sym, ap, subst, ◌∙◌, arith}
 use Rattle.std.specs.Prelude.{IsSome}
-use Rattle.jc_words.specs.declared.log.Log.{Log}
-use Rattle.jc_commit.specs.Image.{IsPlace, limit_of, address_at, entries, old_value}
+use Rattle.jc_commit.specs.Image.{IsPlace, limit_of, entries, old_value}
+use Rattle.jc_commit.specs.Writing.{KeepsTransaction, KeepsEntries}
 use Rattle.jc_commit.proofs.Words.{place_spot, spot_within}
 use Rattle.jc_commit.proofs.Steps.{limit-same}
 use Rattle.jc_commit.proofs.Entries.{target}
 use Rattle.jc_commit.proofs.Counted.{with_words_more}
 use Rattle.jc_commit.proofs.EntryKeeping.{Through, through}
+use Rattle.jc_commit.proofs.Writes.{no_write, one_write, no_more, more_writes, refused_later, at_err, stays_more, entries_more}
 use Rattle.jc_commit.proofs.keep.write_through.Goals as goal
+
+-- nothing is written yet
+pub loop-i-init : goal.loop-i-init
+loop-i-init g c = record {
+  stays = record { good = c.requires.good; size = refl; log = refl; live = refl; top = refl };
+  entries = record { entries = refl; count = refl; addresses = λ k few. refl };
+  plain = refl;
+  wrote = no_write _;
+}
 
 pub loop-i-preserved : goal.loop-i-preserved
 loop-i-preserved g c =
@@ -20,25 +30,17 @@ loop-i-preserved g c =
     let inside : k < length changes = omega arith in
     let a = target changes k in
     let x = (get_or changes k (0, 0)).1 in
-    let place : IsPlace (limit_of w) a = subst (λ (n : ℕ). IsPlace n a) (sym (limit-same initial w i.size i.log)) (c.requires.places k inside) in
-    let back : IsSome (old_value (entries w) a) ⊎ (c.args.born ≤ a) = subst (λ (es : List (ℕ × ℕ)). IsSome (old_value es a) ⊎ (c.args.born ≤ a)) (sym i.entries)
+    let place : IsPlace (limit_of w) a = subst (λ (n : ℕ). IsPlace n a) (sym (limit-same initial w i.stays.size i.stays.log)) (c.requires.places k inside) in
+    let back : IsSome (old_value (entries w) a) ⊎ (c.args.born ≤ a) = subst (λ (es : List (ℕ × ℕ)). IsSome (old_value es a) ⊎ (c.args.born ≤ a)) (sym i.entries.entries)
     (c.requires.kept k inside) in
-    let step : Through w a x v = through w v a x c.args.born i.good place (omega (arith, i.top, c.requires.top)) c.requires.low back
-    (c.in_ok-write.ensures.written ∙ ap (λ (d : ℕ × ℕ). set w d.0 d.1) c.change-address.ensures) in
+    let e = c.in_ok-write.ensures in
+    let step : Through w a x v = through w v a x c.args.born i.stays.good place (omega (arith, i.stays.top, c.requires.births)) (omega (arith, c.requires.births)) back
+    (e.written ∙ ap (λ (d : ℕ × ℕ). set w d.0 d.1) c.change-address.ensures) in
     record {
-      good = step.good;
-      size = step.size ∙ i.size;
-      live = step.live ∙ i.live;
-      top = step.top ∙ i.top;
-      entries = step.entries ∙ i.entries;
-      count = step.count ∙ i.count;
-      addresses = λ j few. subst (λ (m : Log). address_at m v j ≡ address_at m w j) i.log
-          (step.addresses j (subst (λ (m : Log). j < m.capacity) (sym i.log) few)) ∙ i.addresses j few;
-      log = step.log ∙ i.log;
+      stays = stays_more i.stays step.stays;
+      entries = entries_more i.stays.log i.entries step.entries;
       plain = step.plain ∙ ap (λ (p : List ℕ). set p a x) i.plain ∙ sym (with_words_more _ changes k inside);
-      passed = search rules;
-      down = search rules;
-      refusals = search rules;
+      wrote = more_writes i.wrote (one_write e.was_up e.down e.passed e.refusals) refl;
     }
 
 -- a place is there
@@ -49,5 +51,21 @@ write-requires g c =
     let i = c.loop-i.invariant in
     let changes = g.C.WordChanges.changes c.args.changes.now in
     let a = target changes c.loop-i.i in
-    let place : IsPlace (limit_of w) a = subst (λ (n : ℕ). IsPlace n a) (sym (limit-same initial w i.size i.log)) (c.requires.places c.loop-i.i (omega arith)) in
-    subst (λ (d : ℕ × ℕ). d.0 < length w) (sym c.change-address.ensures) (spot_within w a i.good (place_spot w a i.good place))
+    let place : IsPlace (limit_of w) a = subst (λ (n : ℕ). IsPlace n a) (sym (limit-same initial w i.stays.size i.stays.log)) (c.requires.places c.loop-i.i (omega arith)) in
+    subst (λ (d : ℕ × ℕ). d.0 < length w) (sym c.change-address.ensures) (spot_within w a i.stays.good (place_spot w a i.stays.good place))
+
+pub returns-in_err-write-clause-stays : goal.returns-in_err-write-clause-stays
+returns-in_err-write-clause-stays g c =
+    subst (λ (u : List ℕ). KeepsTransaction (g.S.WordStore.words c.args.store.now) u) (sym c.in_err-write.ensures.kept) c.loop-i.invariant.stays
+
+pub returns-in_err-write-clause-entries : goal.returns-in_err-write-clause-entries
+returns-in_err-write-clause-entries g c =
+    subst (λ (u : List ℕ). KeepsEntries (g.S.WordStore.words c.args.store.now) u) (sym c.in_err-write.ensures.kept) c.loop-i.invariant.entries
+
+pub returns-in_err-write-clause-wrote : goal.returns-in_err-write-clause-wrote
+returns-in_err-write-clause-wrote g c =
+    let e = c.in_err-write.ensures in
+    at_err c.from_residual.result c.from_residual.ensures.0 (refused_later c.loop-i.invariant.wrote (no_more e.down e.passed e.refusals) (omega arith))
+
+pub returns-clause-wrote : goal.returns-clause-wrote
+returns-clause-wrote g c = more_writes c.loop-i.invariant.wrote (no_write _) (omega arith)

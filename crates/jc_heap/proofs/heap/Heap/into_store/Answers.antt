@@ -11,9 +11,9 @@ returns g c =
     c.self.view_is
     (holds w _ _ _ c.self.inside.journal c.self.inside.size
     (record {
-      good = e.good;
-      plain = e.plain;
-      recovered = e.recovered;
+      good = e.stands.good;
+      plain = e.stands.plain;
+      recovered = e.stands.recovered;
       size = e.size;
       down = e.down;
       passed = e.passed;
