@@ -375,7 +375,7 @@ fn attack_options<'a>(values: &ArgMatches<'a>) -> Result<AttackOptions<'a>, &'st
         return Err("--line does not go with --each");
     }
     let Some(models) = models_given(value_of(values, "model")) else {
-        return Err("--model takes skip, turn and zero, parted by commas");
+        return Err("--model takes skip, turn and zero, separated by commas");
     };
     let Some(accepted) = accepted_given(value_of(values, "accept")) else {
         return Err("--accept takes four hexadecimal digits in upper case, or more, an even number");

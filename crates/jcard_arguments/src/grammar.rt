@@ -211,7 +211,7 @@ const JUNIT: Entry<'static> = Entry {
 const MODEL: Entry<'static> = Entry {
     kind: Kind::Value,
     name: "model",
-    help: "Faults to try: skip, turn and zero, parted by commas [default: all]",
+    help: "Faults to try: skip, turn and zero, separated by commas [default: all]",
 };
 
 const ACCEPT: Entry<'static> = Entry {

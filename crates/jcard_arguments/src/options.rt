@@ -25,7 +25,7 @@ pub struct RunOptions<'a> {
     pub lines: Option<Lines>,
     /// The file with the map whose names are used.
     pub map: Option<&'a str>,
-    /// The places whose arrivals are reported, as `Purse.java:109` or a method, parted by commas.
+    /// The places whose arrivals are reported, as `Purse.java:109` or a method, separated by commas.
     pub stops: Option<&'a str>,
     /// The file that how often each instruction was carried out is written to.
     pub cover: Option<&'a str>,
