@@ -84,7 +84,7 @@ fn folder_fault() -> Fault<'static>
 // Says on standard error what the last line leaves open.
 fn explain<R: Eprint>(rt: &R, ended: Result<(), Fault>) {
     if let Err(Fault::CannotOpenToWrite(path)) = ended {
-        let _ = eprintln!(rt; "jcard: {path} cannot be opened for writing: is it there, and may it be written?");
+        let _ = eprintln!(rt; "jcard: {path} is not there, or cannot be written");
     }
 }
 
