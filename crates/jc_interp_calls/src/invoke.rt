@@ -519,6 +519,7 @@ pub fn select_virtual_method<C, S: WordStore>(
 
 // The method of the platform that a virtual call finds on an instance of a class below the one that its entry names with this method, if it
 // is one that takes as many cells.
+#[tactic(auto, using(jc_linker::proofs::Inheriting::inherited_below, jc_linker::proofs::Inheriting::inherited_found))]
 #[inline(never)]
 fn found_below(
     own: ClassWord,
@@ -529,6 +530,11 @@ fn found_below(
 ) -> Option<PlatformMethod>
     ensures { IfSome result (IsFoundAt linked.now own class token method) }
 {
+    if let VirtualToken::Public(token) = token {
+        if linked.inherits_method(own, class, token) {
+            return Some(method);
+        }
+    }
     if !linked.is_below(own, class) {
         return None;
     }
