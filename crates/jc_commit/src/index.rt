@@ -24,30 +24,40 @@ pub(crate) fn copy_of(numbers: &EntryIndex) -> EntryIndex
     }
 }
 
-// The end of the index where an entry that names the address would belong, if it would belong at one: code mostly writes the
-// words of an array in their order.
-fn gap_at_end<S: WordStore>(
+// The end of the index where an entry that names the address stands, or where one would belong, if it is an end: code mostly writes the
+// words of an array in their order, and two bytes of each.
+fn find_at_end<S: WordStore>(
     store: &S,
     log: Log,
     n: u16,
     numbers: &[u16],
     address: u16,
-) -> Option<usize>
+) -> Option<Result<usize, usize>>
     requires few { n ≤ log.capacity }
     requires size { log.start + 2 * log.capacity ≤ length (S.words store.now) }
     requires small { log.start + 2 * log.capacity < 2 ^ 16 }
     requires index { IsIndexOf log (S.words store.now) n numbers.now }
-    ensures { IfSome result (λ i. IsGapFor log (S.words store.now) numbers.now address i) }
+    ensures { IfSome result (λ place. MatchResult place
+        (λ i. StandsAt log (S.words store.now) numbers.now address i)
+        (λ i. IsGapFor log (S.words store.now) numbers.now address i)) }
 {
     let count = numbers.len();
     if count == 0 {
-        return Some(0);
+        return Some(Err(0));
     }
-    if store.read(log.address_word(numbers[count - 1])) < address {
-        return Some(count);
+    let last = store.read(log.address_word(numbers[count - 1]));
+    if last < address {
+        return Some(Err(count));
     }
-    if address < store.read(log.address_word(numbers[0])) {
-        return Some(0);
+    if last == address {
+        return Some(Ok(count - 1));
+    }
+    let first = store.read(log.address_word(numbers[0]));
+    if address < first {
+        return Some(Err(0));
+    }
+    if first == address {
+        return Some(Ok(0));
     }
     None
 }
@@ -68,8 +78,8 @@ pub(crate) fn find<S: WordStore>(
     ensures { MatchResult result (λ i. StandsAt log (S.words store.now) numbers.now address i)
         (λ i. IsGapFor log (S.words store.now) numbers.now address i) }
 {
-    if let Some(end) = gap_at_end(store, log, n, numbers, address) {
-        return Err(end);
+    if let Some(end) = find_at_end(store, log, n, numbers, address) {
+        return end;
     }
     let mut low = 0;
     let mut high = numbers.len();

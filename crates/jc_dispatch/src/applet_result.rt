@@ -55,6 +55,7 @@ fn result_of_exception<S: WordStore>(
 
 /// What a method that hands nothing over is answered by.
 #[tactic(auto, unfolding(crate::specs::AppletResults::result_of_run))]
+#[inline(always)]
 pub(crate) fn result_of_run<S: WordStore>(
     outcome: Outcome,
     memory: &Memory<S>,

@@ -36,6 +36,7 @@ fn is_buffer(facts: Facts) -> bool
 
 /// The buffer holds these bytes and zeros after them.
 #[tactic(auto, unfolding(crate::specs::Buffer::buffer_fill))]
+#[inline(always)]
 pub(crate) fn fill<S: WordStore>(bytes: &[u8], memory: &mut Memory<S>)
     requires up { memory.old.heap.down ≡ false }
     requires few { length bytes.now ≤ buffer_size }

@@ -127,6 +127,7 @@ fn default_of(name: PlatformMethod) -> Outcome
 
 /// Calls a method of an applet by its name, in frames that may be those of an earlier run.
 #[tactic(auto, unfolding(crate::specs::Phases::applet_method_call))]
+#[inline(always)]
 pub(crate) fn call_applet_method<S: WordStore>(
     budget: Budget,
     name: PlatformMethod,

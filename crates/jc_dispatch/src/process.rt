@@ -43,6 +43,7 @@ fn header_of(bytes: &[u8]) -> ArrayVec<u8, 7>
 /// An applet answers the command that was begun, which expects this many bytes, in frames that may be those of an earlier run. It may be the
 /// command that selected it.
 #[tactic(auto, unfolding(crate::specs::Selecting::process_command), using(jc_memory::proofs::ProgramLemmas::in_two_steps))]
+#[inline(always)]
 pub fn process<S: WordStore>(
     budget: Budget,
     applet: AppletNumber,

@@ -1,5 +1,7 @@
 //! Calls: methods of the platform are carried out at once, those in bytecode get a frame.
-ghost use Rattle.std.specs.Prelude.{◌≡◌, false, IfSome};
+ghost use Rattle.std.specs.Prelude.{◌≡◌, false, IfSome, Some, option_copied};
+ghost use Rattle.jc_opcodes.specs.declared.instr.InvokeOp.TheVariants.{Virtual};
+ghost use Rattle.jc_linker.specs.Lookups.{target_at};
 ghost use Rattle.jc_memory.specs.Programs.{Executes};
 ghost use Rattle.jc_world.specs.Instructions.{after_instruction};
 ghost use Rattle.jc_interp_calls.specs.Invoke.{header_of, method_selection, with_header};
@@ -152,36 +154,41 @@ fn invoke_other<S: WordStore>(
 
 // A virtual call by the instruction at a place whose entry names a method of the platform, out of line. Where the one that it runs can be told
 // at once, no more is asked.
-#[tactic(auto, unfolding(crate::specs::Calling::invoke_instruction))]
+#[tactic(auto, unfolding(crate::specs::Calling::invoke_instruction, jc_interp_calls::specs::Invoke::method_selection))]
 #[inline(never)]
 fn invoke_of_platform<S: WordStore>(
-    invoke: InvokeOp,
+    entry: &Target,
+    index: u16,
     place: u16,
     frames: &mut Frames,
     memory: &mut Memory<S>,
     linked: &Linked,
 ) -> Result<(), StepExit>
     requires up { memory.old.heap.down ≡ false }
-    ensures { Executes (invoke_instruction invoke place linked.now frames.old memory.old) memory.old
-        (after_instruction result frames.new memory.new) }
+    requires entry { Some entry.now ≡ target_at linked.now frames.old.current.origin.package_number
+        index }
+    ensures { Executes (invoke_instruction (Virtual index) place linked.now frames.old memory.old)
+        memory.old (after_instruction result frames.new memory.new) }
 {
-    match method_of_platform(invoke, frames, memory, linked) {
+    match method_of_platform(entry, frames, memory, linked) {
         Some((method, count)) => { carry_out_native(method, count, place, frames, memory, linked) }
-        None => invoke_other(invoke, place, frames, memory, linked),
+        None => invoke_other(InvokeOp::Virtual(index), place, frames, memory, linked),
     }
 }
 
-// Whether the entry of a virtual call names a method of the platform.
+// The entry of a virtual call, where it names a method of the platform.
 #[inline(always)]
-fn names_platform(index: u16, frames: &Frames, linked: &Linked) -> bool {
-    match linked.target_at(frames.origin().package_number, index) {
-        Some(
-            Target::VirtualMethod {
-                method: Method::Native(_),
-                ..
-            },
-        ) => true,
-        _ => false,
+fn platform_entry<'a>(index: u16, frames: &Frames, linked: &'a Linked) -> Option<&'a Target>
+    ensures { IfSome (option_copied result) (λ entry. Some entry
+        ≡ target_at linked.entry.now frames.now.current.origin.package_number index) }
+{
+    let entry = linked.target_at(frames.origin().package_number, index)?;
+    match entry {
+        Target::VirtualMethod {
+            method: Method::Native(_),
+            ..
+        } => Some(entry),
+        _ => None,
     }
 }
 
@@ -200,7 +207,7 @@ fn select_in_line<S: WordStore>(
 {
     match invoke {
         InvokeOp::Virtual(index) => {
-            if names_platform(index, frames, linked) {
+            if platform_entry(index, frames, linked).is_some() {
                 return None;
             }
             Some(select_virtual_method::<S, S>(index, frames, memory, linked))
@@ -225,11 +232,13 @@ pub(crate) fn invoke_instruction<S: WordStore>(
     ensures { Executes (invoke_instruction invoke place linked.now frames.old memory.old) memory.old
         (after_instruction result frames.new memory.new) }
 {
-    match select_in_line(invoke, frames, memory, linked) {
-        Some(chosen) => invoke_selected(chosen?, place, frames, memory, linked),
-        None => match invoke {
-            InvokeOp::Virtual(_) => invoke_of_platform(invoke, place, frames, memory, linked),
-            _ => invoke_other(invoke, place, frames, memory, linked),
-        },
+    if let Some(chosen) = select_in_line(invoke, frames, memory, linked) {
+        return invoke_selected(chosen?, place, frames, memory, linked);
     }
+    if let InvokeOp::Virtual(index) = invoke {
+        if let Some(entry) = platform_entry(index, frames, linked) {
+            return invoke_of_platform(entry, index, place, frames, memory, linked);
+        }
+    }
+    invoke_other(invoke, place, frames, memory, linked)
 }

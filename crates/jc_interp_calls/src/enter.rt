@@ -129,6 +129,7 @@ pub fn enter<S: WordStore>(
 /// nothing changes, where its header is cut, where it is abstract or takes another number of cells, or where
 /// its cells are too many.
 #[tactic(auto, unfolding(crate::specs::Entering::first_frames_of))]
+#[inline(always)]
 pub fn begin(
     linked: &Linked,
     package_number: u8,

@@ -1,5 +1,5 @@
 //! Which method a call runs, and for whom.
-ghost use Rattle.std.specs.Prelude.{◌≡◌, false, true, IfSome, None, option_copied};
+ghost use Rattle.std.specs.Prelude.{◌≡◌, false, true, IfSome, Some, None, option_copied};
 ghost use Rattle.std.specs.Option.{option_map};
 ghost use Rattle.jc_linker.specs.Classes.{is_below};
 ghost use Rattle.jc_linker.specs.Methods.{interface_method_at, method_below};
@@ -519,6 +519,7 @@ pub fn select_virtual_method<C, S: WordStore>(
 
 // The method of the platform that a virtual call finds on an instance of a class below the one that its entry names with this method, if it
 // is one that takes as many cells.
+#[tactic(auto, using(jc_linker::proofs::Inheriting::inherited_below, jc_linker::proofs::Inheriting::inherited_found))]
 #[inline(never)]
 fn found_below(
     own: ClassWord,
@@ -529,6 +530,11 @@ fn found_below(
 ) -> Option<PlatformMethod>
     ensures { IfSome result (IsFoundAt linked.now own class token method) }
 {
+    if let VirtualToken::Public(token) = token {
+        if linked.inherits_method(own, class, token) {
+            return Some(method);
+        }
+    }
     if !linked.is_below(own, class) {
         return None;
     }
@@ -593,39 +599,32 @@ fn virtual_of_platform<S: WordStore>(
     }
 }
 
-/// The method of the platform that a virtual call runs, and how many cells its arguments have, where that can be told at once; else, and
-/// of other calls, nothing.
-#[tactic(auto, unfolding(crate::specs::Invoke::method_selection))]
+/// The method of the platform that a virtual call by this entry runs, and how many cells its arguments have, where that can be told at once;
+/// else, and of other entries, nothing.
 #[inline(always)]
 pub fn method_of_platform<S: WordStore>(
-    invoke: InvokeOp,
+    entry: &Target,
     frames: &Frames,
     memory: &Memory<S>,
     linked: &Linked,
 ) -> Option<(PlatformMethod, u8)>
     requires up { memory.now.heap.down ≡ false }
-    ensures chosen { IfSome result (λ r. ChoosesOfPlatform
-        (method_selection invoke linked.now frames.now memory.now) r.0) }
+    ensures chosen { IfSome result (λ r. ChoosesOfPlatform (virtual_by
+        (Some entry.now) linked.now frames.now.current.stack memory.now) r.0) }
     ensures cells { IfSome result (λ r. r.1 ≡ argument_cells r.0) }
 {
-    let number = frames.origin().package_number;
-    match invoke {
-        InvokeOp::Virtual(index) => match linked.target_at(number, index) {
-            Some(
-                Target::VirtualMethod {
-                    class,
-                    token,
-                    method: Method::Native(method),
-                },
-            ) => {
-                let count = method.argument_cells();
-                let found = virtual_of_platform(
-                    *class, *token, *method, count, frames, memory, linked,
-                )?;
-                Some((found, count))
-            }
-            _ => None,
-        },
+    match entry {
+        Target::VirtualMethod {
+            class,
+            token,
+            method: Method::Native(method),
+        } => {
+            let count = method.argument_cells();
+            let found = virtual_of_platform(
+                *class, *token, *method, count, frames, memory, linked,
+            )?;
+            Some((found, count))
+        }
         _ => None,
     }
 }

@@ -1,5 +1,5 @@
 -- Methods by class and token.
-use Rattle.std.specs.Prelude.{ℕ, ◌-◌, ◌/◌, ◌==◌, nat_lt, List, [], ◌∷◌, Option, Some, None, if◌then◌else◌, slice_get, filter, find}
+use Rattle.std.specs.Prelude.{ℕ, ◌-◌, ◌/◌, ◌==◌, ◌||◌, ◌&&◌, nat_lt, Bool, true, false, List, [], ◌∷◌, Option, Some, None, if◌then◌else◌, slice_get, filter, find}
 use Rattle.std.specs.Option.{option_and_then, option_map}
 use Rattle.jc_platform.specs.declared.names.PlatformClass.{PlatformClass}
 use Rattle.jc_platform.specs.declared.names.MethodKind.TheVariants as kinds
@@ -68,6 +68,21 @@ method_at p class package_number token = first_decided (method_in p token) (look
 unfoldable pub method_below : Packages → ℕ → ℕ → VirtualToken → Method → Option Method
 method_below p own class token method = first_decided (λ c. if c == class then Found method else method_in p token c)
     (lookup_classes token (class / 256) (lineage p own))
+
+-- a class that says nothing of what is looked up sends the search on
+abbrev pub is_silent : {A : Type 0} → Search A → Bool
+is_silent (Found a) = false
+is_silent Above = true
+is_silent Nowhere = false
+
+-- this class is among these, and none before it says anything of the token
+unfoldable pub leads_to : Packages → VirtualToken → ℕ → List ℕ → Bool
+leads_to p token class [] = false
+leads_to p token class (c ∷ cs) = c == class || (is_silent (method_in p token c) && leads_to p token class cs)
+
+-- no class from the first one on up to the second one says anything of this public token
+abbrev pub inherits_method : Packages → ℕ → ℕ → ℕ → Bool
+inherits_method p own class token = leads_to p (Public token) class (lineage p own)
 
 -- ---- methods of interfaces: which virtual method carries one out, by its token
 

@@ -2,7 +2,7 @@
 ghost use Rattle.std.specs.Prelude.{◌≡◌, ◌<◌, ◌≤◌, ◌++◌, [], ◌∷◌, length, slice_get, IfOk, option_copied};
 ghost use Rattle.jc_linker.specs.Classes.{is_below, is_class, is_instantiable_class, is_shareable, package_in, reference_cell, size_of, superclass_in};
 ghost use Rattle.jc_linker.specs.Linking.{with_package};
-ghost use Rattle.jc_linker.specs.Methods.{interface_method_at, method_at, method_below};
+ghost use Rattle.jc_linker.specs.Methods.{inherits_method, interface_method_at, method_at, method_below};
 ghost use Rattle.jc_linker.specs.Resolves.{names_interface};
 
 use crate::package::LinkedPackage;
@@ -195,6 +195,15 @@ impl Linked {
         ensures { result ≡ method_below self.now own class token method }
     {
         self.scope().method_below(own, class, token, method)
+    }
+
+    /// Whether a call by this public token on an instance of the first class runs the method that linking found for the second one, since the
+    /// walk up from the first class comes to the second one and no class before says anything of the token. It takes time that grows
+    /// with the number of classes up to the second one.
+    pub fn inherits_method(&self, own: ClassWord, class: ClassWord, token: u8) -> bool
+        ensures { result ≡ inherits_method self.now own class token }
+    {
+        self.scope().inherits_method(own, class, token)
     }
 
     /// The method that a call of an interface's method by token on an instance of a class runs. It takes time that

@@ -1,7 +1,7 @@
 //! Methods by class and token.
 ghost use Rattle.std.specs.Prelude.{◌≡◌};
 ghost use Rattle.jc_linker.specs.Classes.{lineage};
-ghost use Rattle.jc_linker.specs.Methods.{implementation_in, if_native, interface_method_at, method_at, method_below, method_in, native_implementation, first_decided};
+ghost use Rattle.jc_linker.specs.Methods.{implementation_in, if_native, inherits_method, interface_method_at, method_at, method_below, method_in, native_implementation, first_decided};
 ghost use Rattle.jc_platform.specs.Platform.{method_by_token};
 
 use crate::scope::Scope;
@@ -136,6 +136,25 @@ impl Scope<'_> {
             }
         }
         None
+    }
+
+    /// Whether a call by this public token on an instance of the first class runs the method that linking found for the second one, since the
+    /// walk up from the first class comes to the second one and no class before says anything of the token.
+    #[tactic(auto, unfolding(crate::specs::Methods::leads_to))]
+    pub(crate) fn inherits_method(&self, own: ClassWord, class: ClassWord, token: u8) -> bool
+        ensures { result ≡ inherits_method self.now own class token }
+    {
+        let mut walk = self.lineage(own);
+        while let Some(next) = walk.pop() {
+            if next == class {
+                return true;
+            }
+            match self.method_in(VirtualToken::Public(token), next) {
+                Search::Above => {}
+                Search::Found(_) | Search::Nowhere => return false,
+            }
+        }
+        false
     }
 
     // What a class says of a token.

@@ -20,6 +20,48 @@ use Rattle.jc_platform.specs.Tokens.{Tokens, number_in, token_of_class, token_of
 abbrev pub entry_of_class : PlatformClass → ClassEntry
 entry_of_class c = slice_index_or classes (class_number c) no_class
 
+-- the methods of a method's room
+abbrev pub room_rows : PlatformMethod → List MethodEntry
+room_rows (Objects m) = objects_rows
+room_rows (Exceptions m) = exceptions_rows
+room_rows (Utilities m) = utilities_rows
+room_rows (System m) = system_rows
+room_rows (Aids m) = aids_rows
+room_rows (Pins m) = pins_rows
+room_rows (Applets m) = applets_rows
+room_rows (Apdus m) = apdus_rows
+room_rows (Events m) = events_rows
+room_rows (Engines m) = engines_rows
+room_rows (Keys m) = keys_rows
+room_rows (KeyInterfaces m) = key_interfaces_rows
+room_rows (Ciphers m) = ciphers_rows
+room_rows (RsaKeys m) = rsa_keys_rows
+room_rows (EcKeys m) = ec_keys_rows
+room_rows (RsaInterfaces m) = rsa_interfaces_rows
+room_rows (EcInterfaces m) = ec_interfaces_rows
+room_rows (KeyPairs m) = key_pairs_rows
+
+-- its place in its room
+abbrev pub room_place : PlatformMethod → ℕ
+room_place (Objects m) = objects_number m
+room_place (Exceptions m) = exceptions_number m
+room_place (Utilities m) = utilities_number m
+room_place (System m) = system_number m
+room_place (Aids m) = aids_number m
+room_place (Pins m) = pins_number m
+room_place (Applets m) = applets_number m
+room_place (Apdus m) = apdus_number m
+room_place (Events m) = events_number m
+room_place (Engines m) = engines_number m
+room_place (Keys m) = keys_number m
+room_place (KeyInterfaces m) = key_interfaces_number m
+room_place (Ciphers m) = ciphers_number m
+room_place (RsaKeys m) = rsa_keys_number m
+room_place (EcKeys m) = ec_keys_number m
+room_place (RsaInterfaces m) = rsa_interfaces_number m
+room_place (EcInterfaces m) = ec_interfaces_number m
+room_place (KeyPairs m) = key_pairs_number m
+
 -- the row of a method
 abbrev pub entry_of_method : PlatformMethod → MethodEntry
 entry_of_method (Objects m) = slice_index_or objects_rows (objects_number m) no_method

@@ -1,9 +1,9 @@
 //! Looking rows up.
 
-ghost use Rattle.std.specs.Prelude.{◌≡◌, ◌&&◌, find, map};
+ghost use Rattle.std.specs.Prelude.{◌≡◌, ◌<◌, ◌&&◌, find, length, map};
 ghost use Rattle.std.specs.Option.{option_map};
 ghost use Rattle.std.specs.Str.{bytes_eq};
-ghost use Rattle.jc_platform.specs.Distinct.{entry_of_class, entry_of_method};
+ghost use Rattle.jc_platform.specs.Distinct.{entry_of_class, entry_of_method, room_place, room_rows};
 ghost use Rattle.jc_platform.specs.Names.{classes, packages};
 ghost use Rattle.jc_platform.specs.Names.{objects_rows, exceptions_rows, utilities_rows, system_rows, aids_rows, pins_rows, applets_rows, apdus_rows, events_rows, engines_rows};
 ghost use Rattle.jc_platform.specs.Names.{keys_rows, key_interfaces_rows, ciphers_rows};
@@ -11,16 +11,8 @@ ghost use Rattle.jc_platform.specs.Names.{rsa_keys_rows, ec_keys_rows, rsa_inter
 ghost use Rattle.jc_platform.specs.Rooms.{rows_of};
 ghost use Rattle.jc_platform.specs.Rows.{classes_of, method_named, methods_of};
 ghost use Rattle.jc_platform.specs.Seen.{class_value, method_value, package_value};
-ghost use Rattle.jc_platform.specs.declared.names.PlatformMethod.TheVariants.{Objects, Exceptions, Utilities, System, Aids, Pins, Applets, Apdus, Events, Engines};
-ghost use Rattle.jc_platform.specs.declared.names.PlatformMethod.TheVariants.{Keys, KeyInterfaces, Ciphers};
-ghost use Rattle.jc_platform.specs.declared.names.PlatformMethod.TheVariants.{RsaKeys, EcKeys, RsaInterfaces, EcInterfaces, KeyPairs};
 
-use crate::names::{
-    AidsMethod, ApdusMethod, AppletsMethod, CiphersMethod, EcInterfacesMethod, EcKeysMethod,
-    EnginesMethod, EventsMethod, ExceptionsMethod, KeyInterfacesMethod, KeyPairsMethod, KeysMethod,
-    MethodKind, ObjectsMethod, PinsMethod, PlatformClass, PlatformMethod, PlatformPackage,
-    RsaInterfacesMethod, RsaKeysMethod, SystemMethod, UtilitiesMethod,
-};
+use crate::names::{MethodKind, PlatformClass, PlatformMethod, PlatformPackage};
 use crate::rows::{
     AIDS, APDUS, APPLETS, CIPHERS, CLASSES, ClassRow, EC_INTERFACES, EC_KEYS, ENGINES, EVENTS,
     EXCEPTIONS, FIRST_CLASSES, KEY_INTERFACES, KEY_PAIRS, KEYS, MethodRow, OBJECTS, PACKAGES, PINS,
@@ -221,212 +213,69 @@ impl PlatformClass {
     }
 }
 
-impl ObjectsMethod {
-    // Its row.
-    #[inline(always)]
-    fn row(self) -> &'static MethodRow
-        ensures { method_value result.now ≡ entry_of_method (Objects self) }
-    {
-        &objects_rows()[self.index()]
-    }
-}
-
-impl ExceptionsMethod {
-    // Its row.
-    #[inline(always)]
-    fn row(self) -> &'static MethodRow
-        ensures { method_value result.now ≡ entry_of_method (Exceptions self) }
-    {
-        &exceptions_rows()[self.index()]
-    }
-}
-
-impl UtilitiesMethod {
-    // Its row.
-    #[inline(always)]
-    fn row(self) -> &'static MethodRow
-        ensures { method_value result.now ≡ entry_of_method (Utilities self) }
-    {
-        &utilities_rows()[self.index()]
-    }
-}
-
-impl SystemMethod {
-    // Its row.
-    #[inline(always)]
-    fn row(self) -> &'static MethodRow
-        ensures { method_value result.now ≡ entry_of_method (System self) }
-    {
-        &system_rows()[self.index()]
-    }
-}
-
-impl AidsMethod {
-    // Its row.
-    #[inline(always)]
-    fn row(self) -> &'static MethodRow
-        ensures { method_value result.now ≡ entry_of_method (Aids self) }
-    {
-        &aids_rows()[self.index()]
-    }
-}
-
-impl PinsMethod {
-    // Its row.
-    #[inline(always)]
-    fn row(self) -> &'static MethodRow
-        ensures { method_value result.now ≡ entry_of_method (Pins self) }
-    {
-        &pins_rows()[self.index()]
-    }
-}
-
-impl AppletsMethod {
-    // Its row.
-    #[inline(always)]
-    fn row(self) -> &'static MethodRow
-        ensures { method_value result.now ≡ entry_of_method (Applets self) }
-    {
-        &applets_rows()[self.index()]
-    }
-}
-
-impl ApdusMethod {
-    // Its row.
-    #[inline(always)]
-    fn row(self) -> &'static MethodRow
-        ensures { method_value result.now ≡ entry_of_method (Apdus self) }
-    {
-        &apdus_rows()[self.index()]
-    }
-}
-
-impl EventsMethod {
-    // Its row.
-    #[inline(always)]
-    fn row(self) -> &'static MethodRow
-        ensures { method_value result.now ≡ entry_of_method (Events self) }
-    {
-        &events_rows()[self.index()]
-    }
-}
-
-impl EnginesMethod {
-    // Its row.
-    #[inline(always)]
-    fn row(self) -> &'static MethodRow
-        ensures { method_value result.now ≡ entry_of_method (Engines self) }
-    {
-        &engines_rows()[self.index()]
-    }
-}
-
-impl KeysMethod {
-    // Its row.
-    #[inline(always)]
-    fn row(self) -> &'static MethodRow
-        ensures { method_value result.now ≡ entry_of_method (Keys self) }
-    {
-        &keys_rows()[self.index()]
-    }
-}
-
-impl KeyInterfacesMethod {
-    // Its row.
-    #[inline(always)]
-    fn row(self) -> &'static MethodRow
-        ensures { method_value result.now ≡ entry_of_method (KeyInterfaces self) }
-    {
-        &key_interfaces_rows()[self.index()]
-    }
-}
-
-impl CiphersMethod {
-    // Its row.
-    #[inline(always)]
-    fn row(self) -> &'static MethodRow
-        ensures { method_value result.now ≡ entry_of_method (Ciphers self) }
-    {
-        &ciphers_rows()[self.index()]
-    }
-}
-
-impl RsaKeysMethod {
-    // Its row.
-    #[inline(always)]
-    fn row(self) -> &'static MethodRow
-        ensures { method_value result.now ≡ entry_of_method (RsaKeys self) }
-    {
-        &rsa_keys_rows()[self.index()]
-    }
-}
-
-impl EcKeysMethod {
-    // Its row.
-    #[inline(always)]
-    fn row(self) -> &'static MethodRow
-        ensures { method_value result.now ≡ entry_of_method (EcKeys self) }
-    {
-        &ec_keys_rows()[self.index()]
-    }
-}
-
-impl RsaInterfacesMethod {
-    // Its row.
-    #[inline(always)]
-    fn row(self) -> &'static MethodRow
-        ensures { method_value result.now ≡ entry_of_method (RsaInterfaces self) }
-    {
-        &rsa_interfaces_rows()[self.index()]
-    }
-}
-
-impl EcInterfacesMethod {
-    // Its row.
-    #[inline(always)]
-    fn row(self) -> &'static MethodRow
-        ensures { method_value result.now ≡ entry_of_method (EcInterfaces self) }
-    {
-        &ec_interfaces_rows()[self.index()]
-    }
-}
-
-impl KeyPairsMethod {
-    // Its row.
-    #[inline(always)]
-    fn row(self) -> &'static MethodRow
-        ensures { method_value result.now ≡ entry_of_method (KeyPairs self) }
-    {
-        &key_pairs_rows()[self.index()]
-    }
-}
-
 impl PlatformMethod {
+    // The methods of its room.
+    #[inline(always)]
+    fn room_rows(self) -> &'static [MethodRow]
+        ensures { map method_value result.now ≡ room_rows self }
+    {
+        match self {
+            PlatformMethod::Objects(_) => objects_rows(),
+            PlatformMethod::Exceptions(_) => exceptions_rows(),
+            PlatformMethod::Utilities(_) => utilities_rows(),
+            PlatformMethod::System(_) => system_rows(),
+            PlatformMethod::Aids(_) => aids_rows(),
+            PlatformMethod::Pins(_) => pins_rows(),
+            PlatformMethod::Applets(_) => applets_rows(),
+            PlatformMethod::Apdus(_) => apdus_rows(),
+            PlatformMethod::Events(_) => events_rows(),
+            PlatformMethod::Engines(_) => engines_rows(),
+            PlatformMethod::Keys(_) => keys_rows(),
+            PlatformMethod::KeyInterfaces(_) => key_interfaces_rows(),
+            PlatformMethod::Ciphers(_) => ciphers_rows(),
+            PlatformMethod::RsaKeys(_) => rsa_keys_rows(),
+            PlatformMethod::EcKeys(_) => ec_keys_rows(),
+            PlatformMethod::RsaInterfaces(_) => rsa_interfaces_rows(),
+            PlatformMethod::EcInterfaces(_) => ec_interfaces_rows(),
+            PlatformMethod::KeyPairs(_) => key_pairs_rows(),
+        }
+    }
+
+    // Its place in its room.
+    #[tactic(auto, using(crate::proofs::Facts::objects_places, crate::proofs::Facts::exceptions_places, crate::proofs::Facts::utilities_places, crate::proofs::Facts::system_places, crate::proofs::Facts::aids_places, crate::proofs::Facts::pins_places, crate::proofs::Facts::applets_places, crate::proofs::Facts::apdus_places, crate::proofs::Facts::events_places, crate::proofs::Facts::engines_places, crate::proofs::Facts::keys_places, crate::proofs::Facts::key_interfaces_places, crate::proofs::Facts::ciphers_places, crate::proofs::Facts::rsa_keys_places, crate::proofs::Facts::ec_keys_places, crate::proofs::Facts::rsa_interfaces_places, crate::proofs::Facts::ec_interfaces_places, crate::proofs::Facts::key_pairs_places))]
+    #[inline(always)]
+    fn room_place(self) -> usize
+        ensures place { result ≡ room_place self }
+        ensures within { result < length (room_rows self) }
+    {
+        match self {
+            PlatformMethod::Objects(method) => method.index(),
+            PlatformMethod::Exceptions(method) => method.index(),
+            PlatformMethod::Utilities(method) => method.index(),
+            PlatformMethod::System(method) => method.index(),
+            PlatformMethod::Aids(method) => method.index(),
+            PlatformMethod::Pins(method) => method.index(),
+            PlatformMethod::Applets(method) => method.index(),
+            PlatformMethod::Apdus(method) => method.index(),
+            PlatformMethod::Events(method) => method.index(),
+            PlatformMethod::Engines(method) => method.index(),
+            PlatformMethod::Keys(method) => method.index(),
+            PlatformMethod::KeyInterfaces(method) => method.index(),
+            PlatformMethod::Ciphers(method) => method.index(),
+            PlatformMethod::RsaKeys(method) => method.index(),
+            PlatformMethod::EcKeys(method) => method.index(),
+            PlatformMethod::RsaInterfaces(method) => method.index(),
+            PlatformMethod::EcInterfaces(method) => method.index(),
+            PlatformMethod::KeyPairs(method) => method.index(),
+        }
+    }
+
     /// Its row.
     #[inline(always)]
     pub(crate) fn row(self) -> &'static MethodRow
         ensures { method_value result.now ≡ entry_of_method self }
     {
-        match self {
-            PlatformMethod::Objects(method) => method.row(),
-            PlatformMethod::Exceptions(method) => method.row(),
-            PlatformMethod::Utilities(method) => method.row(),
-            PlatformMethod::System(method) => method.row(),
-            PlatformMethod::Aids(method) => method.row(),
-            PlatformMethod::Pins(method) => method.row(),
-            PlatformMethod::Applets(method) => method.row(),
-            PlatformMethod::Apdus(method) => method.row(),
-            PlatformMethod::Events(method) => method.row(),
-            PlatformMethod::Engines(method) => method.row(),
-            PlatformMethod::Keys(method) => method.row(),
-            PlatformMethod::KeyInterfaces(method) => method.row(),
-            PlatformMethod::Ciphers(method) => method.row(),
-            PlatformMethod::RsaKeys(method) => method.row(),
-            PlatformMethod::EcKeys(method) => method.row(),
-            PlatformMethod::RsaInterfaces(method) => method.row(),
-            PlatformMethod::EcInterfaces(method) => method.row(),
-            PlatformMethod::KeyPairs(method) => method.row(),
-        }
+        &self.room_rows()[self.room_place()]
     }
 }
 

@@ -1,5 +1,5 @@
 //! What is written for a line.
-ghost use Rattle.std.specs.Prelude.{◌≡◌, ◌≤◌, ◌*◌, Some, length, is_err, MatchResult};
+ghost use Rattle.std.specs.Prelude.{◌≡◌, ◌<◌, ◌≤◌, ◌*◌, Some, length, is_err, MatchResult};
 ghost use Rattle.std.specs.Io.KnownBytes.{Appends};
 ghost use Rattle.hex.specs.Hex.{encode_upper};
 ghost use Rattle.jc_words.specs.Count.{failures_after};
@@ -43,6 +43,9 @@ pub(crate) const MOST_TEXT: usize = 1018;
 
 // How many bytes of a response are written at once.
 const AT_ONCE: usize = 258;
+
+// How many bytes the response to most commands has at most.
+const FEW: usize = 16;
 
 /// The text of a reply without its line feed, as much as the room has place for, at its front; nothing for a silent one.
 pub(crate) fn reply_text<'a>(
@@ -198,6 +201,9 @@ fn write_line<W: TextOut>(bytes: &[u8], writer: &mut W) -> Result<(), WriteFaile
         (λ _. AppendsCut (W.contents writer.old) (W.contents writer.new) (text_of bytes.now)) }
     ensures count { W.failures writer.new ≡ failures_after (W.failures writer.old) (is_err result) }
 {
+    if bytes.len() <= FEW {
+        return write_few(bytes, writer);
+    }
     if bytes.len() <= AT_ONCE {
         return write_last(bytes, writer);
     }
@@ -219,6 +225,20 @@ fn write_digits<W: TextOut>(bytes: &[u8], writer: &mut W) -> Result<(), WriteFai
     write_all(writer, &text[..end])
 }
 
+// Writes bytes in hexadecimal, and a line feed. There is room for their text.
+fn write_in<W: TextOut>(bytes: &[u8], text: &mut [u8], writer: &mut W) -> Result<(), WriteFailed>
+    requires { 2 * length bytes.now < length text.old }
+    ensures text { MatchResult result
+        (λ _. Appends (W.contents writer.old) (W.contents writer.new) (text_of bytes.now))
+        (λ _. AppendsCut (W.contents writer.old) (W.contents writer.new) (text_of bytes.now)) }
+    ensures count { W.failures writer.new ≡ failures_after (W.failures writer.old) (is_err result) }
+{
+    let end = 2 * bytes.len();
+    encode(bytes, &mut text[..end]);
+    text[end] = b'\n';
+    write_all(writer, &text[..end + 1])
+}
+
 // Writes a few bytes in hexadecimal, and a line feed.
 fn write_last<W: TextOut>(bytes: &[u8], writer: &mut W) -> Result<(), WriteFailed>
     requires { length bytes.now ≤ AT_ONCE }
@@ -228,10 +248,19 @@ fn write_last<W: TextOut>(bytes: &[u8], writer: &mut W) -> Result<(), WriteFaile
     ensures count { W.failures writer.new ≡ failures_after (W.failures writer.old) (is_err result) }
 {
     let mut text = [0u8; 517];
-    let end = 2 * bytes.len();
-    encode(bytes, &mut text[..end]);
-    text[end] = b'\n';
-    write_all(writer, &text[..end + 1])
+    write_in(bytes, &mut text, writer)
+}
+
+// The same for so few bytes that their room is soon blank.
+fn write_few<W: TextOut>(bytes: &[u8], writer: &mut W) -> Result<(), WriteFailed>
+    requires { length bytes.now ≤ FEW }
+    ensures text { MatchResult result
+        (λ _. Appends (W.contents writer.old) (W.contents writer.new) (text_of bytes.now))
+        (λ _. AppendsCut (W.contents writer.old) (W.contents writer.new) (text_of bytes.now)) }
+    ensures count { W.failures writer.new ≡ failures_after (W.failures writer.old) (is_err result) }
+{
+    let mut text = [0u8; 33];
+    write_in(bytes, &mut text, writer)
 }
 
 // The bytes in hexadecimal, in upper case.
