@@ -6,6 +6,7 @@ use Rattle.jcard_arguments.specs.CommandLine.{ToAttack, ToCompare, ToJoin, ToLis
 use Rattle.jcard_arguments.specs.declared.arguments.NoAction.{NoAction}
 use Rattle.jcard_arguments.specs.declared.arguments.NoAction.TheVariants.{Help, Refused, Misused, NoMemory as NoRoom}
 use Rattle.jcard_images.specs.Dumps.{IsDump}
+use Rattle.jcard_files.specs.Effects.{Says, Tells}
 use Rattle.jcard_files.specs.FileDeeds.{FileDeed}
 use Rattle.jcard_sweeps.specs.Joinings.{IsJoining}
 use Rattle.jc_card.specs.Dispatching.{usual_budget}
@@ -29,7 +30,7 @@ budget_of instructions = unwrap_or instructions usual_budget
 
 -- a script was carried out, its answers were compared with those that are expected, and then the cover was written; or nothing was done, where
 -- the file of the cover was refused
-abbrev pub IsRunAfter : List ℕ → List ℕ → RunAsked → List Operand → Result Unit Fault → Result Unit Fault → List ℕ → List FileDeed → Type 0
+abbrev pub IsRunAfter : List ℕ → List ℕ → RunAsked → List Operand → Result Unit Fault → Tells
 IsRunAfter image script asked operands (Err fault) ended text deeds = (ended ≡ Err fault) × (text ≡ []) × (deeds ≡ [])
 IsRunAfter image script asked operands (Ok done) ended text deeds = (ran compared : Result Unit Fault) × (others writes : List FileDeed)
     × IsRun (budget_of asked.instructions) image script ran text others × IsCompared asked.expect ran compared
@@ -37,7 +38,7 @@ IsRunAfter image script asked operands (Ok done) ended text deeds = (ran compare
 
 -- a run with options: its map was not read, and nothing was begun; or after that the file of its cover was emptied, if one is named,
 -- and then the script was carried out
-abbrev pub IsRunWith : List ℕ → List ℕ → RunAsked → Result Unit Fault → List ℕ → List FileDeed → Type 0
+abbrev pub IsRunWith : List ℕ → List ℕ → RunAsked → Tells
 IsRunWith image script asked ended text deeds =
     ((fault : Fault) × (ended ≡ Err fault) × (text ≡ []) × AreNamesUnread asked.map fault deeds)
     ⊎ ((begun : Result Unit Fault) × (reads begins more : List FileDeed) × (operands : List Operand) × AreNamesRead asked.map reads
@@ -54,15 +55,15 @@ IsAskedAs asked a = (text_of a.junit ≡ asked.junit) × (text_of a.table ≡ as
     × (a.budget ≡ budget_of asked.instructions)
 
 -- the rows of files were answered by such cards
-abbrev pub IsTestWith : List (List ℕ) → TestAsked → Result Unit Fault → List ℕ → List FileDeed → Type 0
+abbrev pub IsTestWith : List (List ℕ) → TestAsked → Tells
 IsTestWith files asked ended text deeds = (cards : Asked) × IsAskedAs asked cards × IsTest files cards ended text deeds
 
 -- nothing was done with files, and nothing was written, with this end
-abbrev pub IsRefused : Fault → Result Unit Fault → List ℕ → List FileDeed → Type 0
+abbrev pub IsRefused : Fault → Tells
 IsRefused fault ended text deeds = (ended ≡ Err fault) × (text ≡ []) × (deeds ≡ [])
 
 -- what is asked for was done to this end, this text was written, and this was done with files; no files are not joined
-abbrev pub IsDone : CommandLineRequest → Result Unit Fault → List ℕ → List FileDeed → Type 0
+abbrev pub IsDone : CommandLineRequest → Tells
 IsDone (ToMake image size table) ended text deeds = IsNew image size.words size.journal size.cells size.buffer table ended deeds × (text ≡ [])
 IsDone (ToRun image script asked) ended text deeds = IsRunWith image script asked ended text deeds
 IsDone (ToList image) ended text deeds = IsDump image ended text deeds
@@ -81,7 +82,7 @@ abbrev pub IsHelped : Result Unit Fault → Type 0
 IsHelped ended = (ended ≡ Ok tt) ⊎ (ended ≡ Err WriteFailed)
 
 -- where no action is asked for, the program ends so, and writes this text
-abbrev pub IsAnswered : NoAction → Result Unit Fault → List ℕ → Type 0
+abbrev pub IsAnswered : NoAction → Says
 IsAnswered (Help help) ended text = IsHelped ended
 IsAnswered (Refused why) ended text = (ended ≡ Err BadCommandLine) × (text ≡ [])
 IsAnswered (Misused why) ended text = (ended ≡ Err BadCommandLine) × (text ≡ [])
@@ -89,7 +90,7 @@ IsAnswered NoRoom ended text = (ended ≡ Err NoMemory) × (text ≡ [])
 
 -- on these words the program came to this end, wrote this text and did this with files: memory was refused before anything was done; or
 -- they ask for help, for nothing, or for what was done
-abbrev pub IsPerformed : List (List ℕ) → Result Unit Fault → List ℕ → List FileDeed → Type 0
+abbrev pub IsPerformed : List (List ℕ) → Tells
 IsPerformed words ended text deeds = IsRefused NoMemory ended text deeds
     ⊎ (AskForHelp words × IsHelped ended × (deeds ≡ []))
     ⊎ (AskForNothing words × IsRefused BadCommandLine ended text deeds)
@@ -103,6 +104,6 @@ IsUnbegun (Err (CannotRead path)) = path.now ≡ codes "/"
 IsUnbegun other = ⊥
 
 -- on the program's arguments it came to this end and wrote this text: they are texts, and it did what they ask for; or nothing was begun
-abbrev pub IsStarted : Result Unit Fault → List ℕ → List FileDeed → Type 0
+abbrev pub IsStarted : Tells
 IsStarted ended text deeds = ((words : List (List ℕ)) × IsPerformed words ended text deeds)
     ⊎ (IsUnbegun ended × (text ≡ []) × (deeds ≡ []))

@@ -13,7 +13,7 @@ use Rattle.jcard_script.specs.Texts.{IsCutOf}
 use Rattle.jcard_sweeps.specs.Attackings as sweeps
 use Rattle.jcard_sweeps.specs.SweepsAsked.{SweepAsked}
 use Rattle.jcard_sweeps.specs.Tears.{IsTear}
-use Rattle.jcard_sweeps.specs.Writings.{Tells}
+use Rattle.jcard_files.specs.Effects.{Says, Tells}
 use Rattle.jcard_why.specs.Named.{HasNames}
 use Rattle.jcard_commands.specs.declared.listed.Listed.{Listed}
 use Rattle.jcard_commands.specs.declared.listed.Listed.TheVariants.{Objects, Compared, Torn, Attacked}
@@ -63,11 +63,11 @@ in_memory (Err WriteFailed) = Err NoMemory
 in_memory told = told
 
 -- a text was written that was written into memory to the first end: whole, or a beginning of it where a write failed
-abbrev pub IsWritten : List ℕ → Result Unit Fault → Result Unit Fault → List ℕ → Type 0
+abbrev pub IsWritten : List ℕ → Result Unit Fault → Says
 IsWritten whole told ended text = ((ended ≡ in_memory told) × (text ≡ whole)) ⊎ ((ended ≡ Err WriteFailed) × IsCutOf whole text)
 
 -- a text that was written into memory to the first end was written with names in it; or memory was refused, and nothing was written
-abbrev pub IsNamed : List ℕ → Result Unit Fault → Result Unit Fault → List ℕ → Type 0
+abbrev pub IsNamed : List ℕ → Result Unit Fault → Says
 IsNamed plain told ended text = ((ended ≡ Err NoMemory) × (text ≡ [])) ⊎ ((whole : List ℕ) × HasNames plain whole × IsWritten whole told ended text)
 
 -- what this says was reported; or, where a map is named, the map was not read, and nothing else was done; or it was read, and names were put into what

@@ -4,7 +4,7 @@ ghost use Rattle.jcard_arguments.specs.CommandLine.{attack_asked_by as words_ask
 ghost use Rattle.jcard_files.specs.Faults.{is_unwritten};
 ghost use Rattle.jcard_sweeps.specs.Attackings.{attack_asked_by};
 ghost use Rattle.jcard_sweeps.specs.SweepsAsked.{sweep_asked_by};
-ghost use Rattle.jcard_sweeps.specs.Writings.{Does, Writes};
+ghost use Rattle.jcard_files.specs.Effects.{Does, Writes};
 ghost use Rattle.jcard_commands.specs.Listed.{IsAskedOf, IsListed, IsNamed, IsToldBy, IsWritten, in_memory, sweep_asked};
 
 use crate::script_run::remark_on;

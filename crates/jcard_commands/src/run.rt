@@ -2,11 +2,11 @@
 ghost use Rattle.std.specs.Prelude.{◌≡◌, ◌++◌, ℕ, List, Bool, Result, map};
 ghost use Rattle.std.specs.String.{string_bytes};
 ghost use Rattle.std.specs.Io.KnownBytes.{Appends};
-ghost use Rattle.jc_words.specs.Count.{failures_after};
 ghost use Rattle.jcard_arguments.specs.CommandLine.{request_by, size_asked_by};
 ghost use Rattle.jcard_arguments.specs.JoinedWords.{joined};
+ghost use Rattle.jcard_files.specs.Effects.{Does, Writes};
 ghost use Rattle.jcard_files.specs.FileDeeds.{FileDeed};
-ghost use Rattle.jcard_files.specs.Faults.{status_of, failures_of, is_unwritten, IsLastLine};
+ghost use Rattle.jcard_files.specs.Faults.{status_of, failures_of, IsLastLine};
 ghost use Rattle.jcard_arguments.specs.CommandLine.{ToJoin, test_asked_by, texts_of};
 ghost use Rattle.jcard_commands.specs.Commands.{IsAnswered, IsDone, IsHelped, IsPerformed, IsTestWith, size_by};
 ghost use Rattle.jcard_files.specs.declared.fault.Fault.{Fault};
@@ -82,12 +82,8 @@ pub(crate) fn perform<'n, D: Disk, W: TextOut, P: Progress + Listener + Remarks 
     out: &mut W,
     progress: &mut P,
 ) -> Result<(), Fault<'n>>
-    ensures done { (text : List ℕ) × (deeds : List FileDeed)
-        × Appends (W.contents out.old) (W.contents out.new) text
-        × IsPerformed (map string_bytes words.now) result text deeds
-        × D.does disk.old deeds disk.new }
-    ensures writes { W.failures out.new ≡ failures_after (W.failures out.old)
-        (is_unwritten result) }
+    ensures { Does D.does W.contents W.failures disk.old disk.new out.old out.new result
+        (IsPerformed (map string_bytes words.now)) }
 {
     match parse(disk.alloc(), words) {
         Ok(action) => act(disk, action, out, progress),
@@ -101,10 +97,7 @@ fn answer<'n, W: TextOut, M: Remarks>(
     out: &mut W,
     remarks: &mut M,
 ) -> Result<(), Fault<'n>>
-    ensures done { (text : List ℕ) × Appends (W.contents out.old) (W.contents out.new) text
-        × IsAnswered why result text }
-    ensures writes { W.failures out.new ≡ failures_after (W.failures out.old)
-        (is_unwritten result) }
+    ensures { Writes W.contents W.failures out.old out.new result (IsAnswered why) }
 {
     match why {
         NoAction::Help(text) => write_help(text.as_str(), out),
@@ -124,10 +117,7 @@ fn answer<'n, W: TextOut, M: Remarks>(
 
 // Writes a text of help.
 fn write_help<'n, W: TextOut>(text: &str, out: &mut W) -> Result<(), Fault<'n>>
-    ensures done { (text : List ℕ) × Appends (W.contents out.old) (W.contents out.new) text
-        × IsHelped result }
-    ensures writes { W.failures out.new ≡ failures_after (W.failures out.old)
-        (is_unwritten result) }
+    ensures { Writes W.contents W.failures out.old out.new result (λ ended _. IsHelped ended) }
 {
     match write_all(out, text.as_bytes()) {
         Ok(()) => Ok(()),
@@ -141,11 +131,8 @@ fn act<'n, D: Disk, W: TextOut, P: Progress + Listener + Remarks + Timer>(
     out: &mut W,
     progress: &mut P,
 ) -> Result<(), Fault<'n>>
-    ensures done { (text : List ℕ) × (deeds : List FileDeed)
-        × Appends (W.contents out.old) (W.contents out.new) text
-        × IsDone (request_by action.entry) result text deeds × D.does disk.old deeds disk.new }
-    ensures writes { W.failures out.new ≡ failures_after (W.failures out.old)
-        (is_unwritten result) }
+    ensures { Does D.does W.contents W.failures disk.old disk.new out.old out.new result
+        (IsDone (request_by action.entry)) }
 {
     match action {
         Action::New { image, size, table } => {
@@ -242,11 +229,8 @@ fn join<'n, D: Disk, W: TextOut>(
     files: &[&'n str],
     out: &mut W,
 ) -> Result<(), Fault<'n>>
-    ensures done { (text : List ℕ) × (deeds : List FileDeed)
-        × Appends (W.contents out.old) (W.contents out.new) text
-        × IsDone (ToJoin (texts_of files.now)) result text deeds × D.does disk.old deeds disk.new }
-    ensures writes { W.failures out.new ≡ failures_after (W.failures out.old)
-        (is_unwritten result) }
+    ensures { Does D.does W.contents W.failures disk.old disk.new out.old out.new result
+        (IsDone (ToJoin (texts_of files.now))) }
 {
     let Some((_first, _others)) = files.split_first() else {
         return Err(Fault::BadCommandLine);
@@ -262,12 +246,8 @@ fn test<'n, D: Disk, W: TextOut, T: Timer + Remarks>(
     out: &mut W,
     timer: &mut T,
 ) -> Result<(), Fault<'n>>
-    ensures done { (text : List ℕ) × (deeds : List FileDeed)
-        × Appends (W.contents out.old) (W.contents out.new) text
-        × IsTestWith (texts_of files.now) (test_asked_by options.entry) result text deeds
-        × D.does disk.old deeds disk.new }
-    ensures writes { W.failures out.new ≡ failures_after (W.failures out.old)
-        (is_unwritten result) }
+    ensures { Does D.does W.contents W.failures disk.old disk.new out.old out.new result
+        (IsTestWith (texts_of files.now) (test_asked_by options.entry)) }
 {
     let budget = options.instructions.unwrap_or(USUAL_BUDGET);
     let asked = TestRequest {

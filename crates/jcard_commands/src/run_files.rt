@@ -1,7 +1,7 @@
 //! A run whose words ask for more than its answers.
-ghost use Rattle.std.specs.Prelude.{◌≡◌, ℕ, List, Err, false, option_map, IfErr, MatchResult};
-ghost use Rattle.std.specs.Borrow.{Bor};
-ghost use Rattle.jcard_files.specs.FileDeeds.{FileDeed};
+ghost use Rattle.std.specs.Prelude.{◌≡◌, Err, false, IfErr};
+ghost use Rattle.jcard_arguments.specs.CommandLine.{text_of};
+ghost use Rattle.jcard_files.specs.Effects.{ReadsFiles, UsesFiles};
 ghost use Rattle.jcard_files.specs.Faults.{is_unwritten};
 ghost use Rattle.jcard_commands.specs.RunOptions.{AreNamesRead, AreNamesUnread, AreOperands, IsCoverBegun, IsCovered, IsCoverWritten, ended_by};
 
@@ -17,10 +17,8 @@ pub(crate) fn names_of<'n, D: Disk>(
     disk: &mut D,
     map: Option<&'n str>,
 ) -> Result<Vec<u8>, Fault<'n>>
-    ensures read { (deeds : List FileDeed) × D.does disk.old deeds disk.new × MatchResult result
-        (λ _. AreNamesRead (option_map (λ (name : Bor (List ℕ)). name.now) map.entry) deeds)
-        (λ fault. AreNamesUnread (option_map (λ (name : Bor (List ℕ)). name.now) map.entry) fault
-        deeds) }
+    ensures read { ReadsFiles D.does disk.old disk.new result
+        (λ _. AreNamesRead (text_of map.entry)) (AreNamesUnread (text_of map.entry)) }
     ensures unwritten { IfErr result (λ fault. is_unwritten (Err fault) ≡ false) }
 {
     match map {
@@ -36,9 +34,8 @@ pub(crate) fn begin_cover<'n, D: Disk>(
     file: Option<&'n str>,
     operands: &[Operand],
 ) -> Result<(), Fault<'n>>
-    ensures begun { (deeds : List FileDeed) × IsCoverBegun operands.now
-        (option_map (λ (name : Bor (List ℕ)). name.now) file.entry) result deeds
-        × D.does disk.old deeds disk.new }
+    ensures begun { UsesFiles D.does disk.old disk.new result
+        (IsCoverBegun operands.now (text_of file.entry)) }
     ensures unwritten { is_unwritten result ≡ false }
 {
     match file {
@@ -55,9 +52,8 @@ pub(crate) fn keep_cover<'n, D: Disk>(
     operands: &[Operand],
     ran: Result<(), Fault<'n>>,
 ) -> Result<(), Fault<'n>>
-    ensures kept { (deeds : List FileDeed)
-        × IsCovered operands.now (option_map (λ (name : Bor (List ℕ)). name.now) file.entry) ran.entry
-        result deeds × D.does disk.old deeds disk.new }
+    ensures kept { UsesFiles D.does disk.old disk.new result
+        (IsCovered operands.now (text_of file.entry) ran.entry) }
     ensures unwritten { is_unwritten result ≡ is_unwritten ran.entry }
 {
     match file {
@@ -72,8 +68,8 @@ fn write_cover<'n, D: Disk>(
     file: &'n str,
     operands: &[Operand],
 ) -> Result<(), Fault<'n>>
-    ensures written { (deeds : List FileDeed) × IsCoverWritten operands.now file.now result deeds
-        × D.does disk.old deeds disk.new }
+    ensures written { UsesFiles D.does disk.old disk.new result
+        (IsCoverWritten operands.now file.now) }
     ensures unwritten { is_unwritten result ≡ false }
 {
     match cover.text() {
@@ -96,8 +92,7 @@ pub(crate) fn operands_of<'n>(
     script: &'n str,
     map: Option<&'n str>,
 ) -> [Operand<'n>; 3]
-    ensures { AreOperands image.now script.now
-        (option_map (λ (name : Bor (List ℕ)). name.now) map.entry) result }
+    ensures { AreOperands image.now script.now (text_of map.entry) result }
 {
     let image = Operand {
         name: image,

@@ -1,9 +1,7 @@
 //! Carrying out a script on the card of an image.
-ghost use Rattle.std.specs.Prelude.{◌≡◌, ℕ, List};
-ghost use Rattle.std.specs.Io.KnownBytes.{Appends};
-ghost use Rattle.jc_words.specs.Count.{failures_after};
+ghost use Rattle.std.specs.Prelude.{◌≡◌};
 ghost use Rattle.jcard_arguments.specs.CommandLine.{run_asked_by};
-ghost use Rattle.jcard_files.specs.FileDeeds.{FileDeed};
+ghost use Rattle.jcard_files.specs.Effects.{Does, Writes};
 ghost use Rattle.jcard_files.specs.Faults.{is_unwritten};
 ghost use Rattle.jcard_commands.specs.Commands.{IsRunWith};
 ghost use Rattle.jcard_commands.specs.RunOptions.{IsCompared};
@@ -37,12 +35,8 @@ pub(crate) fn run_with<'n, D: Disk, W: TextOut, L: Listener + Remarks>(
     out: &mut W,
     listener: &mut L,
 ) -> Result<(), Fault<'n>>
-    ensures done { (text : List ℕ) × (deeds : List FileDeed)
-        × Appends (W.contents out.old) (W.contents out.new) text
-        × IsRunWith image.now script.now (run_asked_by options.entry) result text deeds
-        × D.does disk.old deeds disk.new }
-    ensures writes { W.failures out.new ≡ failures_after (W.failures out.old)
-        (is_unwritten result) }
+    ensures { Does D.does W.contents W.failures disk.old disk.new out.old out.new result
+        (IsRunWith image.now script.now (run_asked_by options.entry)) }
 {
     let names = match names_of(disk, options.map) {
         Ok(names) => names,
@@ -120,11 +114,8 @@ fn run_file<'n, D: Disk, W: TextOut, E: Explainer>(
     out: &mut W,
     explainer: &mut E,
 ) -> Result<(), Fault<'n>>
-    ensures done { (text : List ℕ) × (deeds : List FileDeed)
-        × Appends (W.contents out.old) (W.contents out.new) text
-        × IsRun budget image.now script.now result text deeds × D.does disk.old deeds disk.new }
-    ensures writes { W.failures out.new ≡ failures_after (W.failures out.old)
-        (is_unwritten result) }
+    ensures { Does D.does W.contents W.failures disk.old disk.new out.old out.new result
+        (IsRun budget image.now script.now) }
 {
     let store = match disk.open_image(image) {
         Ok(store) => FuseStore::new(store),
@@ -163,11 +154,9 @@ pub(crate) fn run_named<'a, S: WordStore + Drop, I: TextIn, W: TextOut, E: Expla
     out: &mut W,
     explainer: &mut E,
 ) -> (FuseStore<S>, Result<(), Fault<'a>>)
-    ensures done { (text : List ℕ) × Appends (W.contents out.old) (W.contents out.new) text
-        × IsCarriedOut budget names.entry.image.now names.entry.script.now (I.remaining script.old)
-        (I.remaining script.new) store result.0 result.1 text }
-    ensures writes { W.failures out.new ≡ failures_after (W.failures out.old)
-        (is_unwritten result.1) }
+    ensures { Writes W.contents W.failures out.old out.new result.1
+        (IsCarriedOut budget names.entry.image.now names.entry.script.now (I.remaining script.old)
+        (I.remaining script.new) store result.0) }
 {
     let (store, ended) = run_script_explained(alloc, store, budget, script, out, explainer);
     match ended {

@@ -1,12 +1,7 @@
 //! Trying a script on a new card in memory.
-ghost use Rattle.std.specs.Prelude.{◌≡◌, ◌∷◌, [], ℕ, List, Option, Result};
 ghost use Rattle.jcard_arguments.specs.CommandLine.{text_of};
-ghost use Rattle.std.specs.Io.KnownBytes.{Appends};
-ghost use Rattle.jc_words.specs.Count.{failures_after};
 ghost use Rattle.jcard_commands.specs.Trials.{IsTrial, IsTriedOn};
-ghost use Rattle.jcard_files.specs.Faults.{is_unwritten};
-ghost use Rattle.jcard_files.specs.declared.fault.Fault.{Fault};
-ghost use Rattle.jcard_files.specs.FileDeeds.{FileDeed, ReadsText};
+ghost use Rattle.jcard_files.specs.Effects.{Does};
 ghost use Rattle.jcard_images.specs.NewImages.{IsTable};
 
 use crate::script_run::run_named;
@@ -50,14 +45,10 @@ pub fn try_script<'n, D: Disk, W: TextOut, M: Remarks>(
     out: &mut W,
     remarks: &mut M,
 ) -> Result<(), Fault<'n>>
-    ensures done { (text : List ℕ) × (deeds : List FileDeed)
-        × Appends (W.contents out.old) (W.contents out.new) text
-        × IsTrial asked.entry.budget asked.entry.script.now asked.entry.size.words.now
+    ensures { Does D.does W.contents W.failures disk.old disk.new out.old out.new result
+        (IsTrial asked.entry.budget asked.entry.script.now asked.entry.size.words.now
         asked.entry.size.journal.now (text_of asked.entry.size.cells)
-        (text_of asked.entry.size.buffer) (text_of asked.entry.table) result text deeds
-        × D.does disk.old deeds disk.new }
-    ensures writes { W.failures out.new ≡ failures_after (W.failures out.old)
-        (is_unwritten result) }
+        (text_of asked.entry.size.buffer) (text_of asked.entry.table)) }
 {
     let extent = extent_of(asked.size)?;
     let text = platform_of(disk, asked.table)?;
@@ -83,13 +74,9 @@ fn try_on<'n, D: Disk, W: TextOut, M: Remarks>(
     remarks: &mut M,
 ) -> Result<(), Fault<'n>>
     requires table { IsTable card.table.now }
-    ensures done { (text : List ℕ) × (opened : Result (Option (List ℕ)) Fault)
-        × Appends (W.contents out.old) (W.contents out.new) text
-        × IsTriedOn asked.entry.budget asked.entry.script.now card.entry.extent.count
-        card.entry.extent.room card.entry.table.now result text opened
-        × D.does disk.old (ReadsText asked.entry.script.now opened ∷ []) disk.new }
-    ensures writes { W.failures out.new ≡ failures_after (W.failures out.old)
-        (is_unwritten result) }
+    ensures { Does D.does W.contents W.failures disk.old disk.new out.old out.new result
+        (IsTriedOn asked.entry.budget asked.entry.script.now card.entry.extent.count
+        card.entry.extent.room card.entry.table.now) }
 {
     let file = disk.open_text(asked.script)?;
     let store = new_image(disk.alloc(), card.extent, card.table)?;

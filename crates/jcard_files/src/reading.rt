@@ -1,6 +1,6 @@
 //! Reading texts.
-ghost use Rattle.std.specs.Prelude.{◌≡◌, List, [], false, MatchResult, IfOk, IfErr, IfSome, OnOk, take};
-ghost use Rattle.jcard_files.specs.FileDeeds.{FileDeed};
+ghost use Rattle.std.specs.Prelude.{◌≡◌, [], false, IfOk, IfErr, IfSome, OnOk, take};
+ghost use Rattle.jcard_files.specs.Effects.{ReadsFiles};
 ghost use Rattle.jcard_files.specs.Images.{IsNotRead, IsUnopened};
 ghost use Rattle.jcard_files.specs.Readings.{IsRead, IsUnread, IsUnreadFault, IsScriptRead};
 ghost use Rattle.jcard_files.specs.Faults.{is_unwritten};
@@ -18,8 +18,8 @@ const MOST_READ: u64 = 16_777_217;
 
 /// What the platform table in the file with this name holds, up to one byte more than it can have.
 pub fn text_of<'n, D: Disk>(disk: &mut D, name: &'n str) -> Result<Vec<u8>, Fault<'n>>
-    ensures { (deeds : List FileDeed) × D.does disk.old deeds disk.new × MatchResult result
-        (λ text. IsRead name.now text.items deeds) (λ fault. IsUnread name.now fault deeds) }
+    ensures { ReadsFiles D.does disk.old disk.new result
+        (λ text. IsRead name.now text.items) (IsUnread name.now) }
 {
     match disk.open_text(name) {
         Ok(mut file) => read_text(disk.alloc(), name, &mut file),
@@ -57,8 +57,8 @@ fn read_into<'a, F: Read>(path: &'a str, file: &mut F, text: &mut Vec<u8>) -> Re
 
 /// What the script with this name holds, up to one byte more than is carried out.
 pub fn script_of<'n, D: Disk>(disk: &mut D, name: &'n str) -> Result<Vec<u8>, Fault<'n>>
-    ensures read { (deeds : List FileDeed) × D.does disk.old deeds disk.new × MatchResult result
-        (λ text. IsScriptRead name.now text.items deeds) (λ fault. IsUnread name.now fault deeds) }
+    ensures read { ReadsFiles D.does disk.old disk.new result
+        (λ text. IsScriptRead name.now text.items) (IsUnread name.now) }
     ensures unwritten { IfErr result (λ fault. is_unwritten (Err fault) ≡ false) }
 {
     match disk.open_text(name) {

@@ -1,3 +1,4 @@
 pub mod Listings
 pub mod NewImages
+pub mod Unwritten
 pub mod UsualTables

@@ -1,12 +1,13 @@
 -- What is reported of an image.
-use Rattle.std.specs.Prelude.{ℕ, ◌≡◌, ◌⊎◌, ◌*◌, true, false, List, [], ◌∷◌, ◌++◌, codes, length, Result, Ok, Err}
+use Rattle.std.specs.Prelude.{ℕ, ◌≡◌, ◌⊎◌, ◌*◌, true, false, List, [], ◌∷◌, ◌++◌, codes, length, Ok, Err}
 use Rattle.jc_words.specs.Files.{IsImageSize}
 use Rattle.jc_words.specs.declared.image.ImageFault.{ImageFault}
 use Rattle.jc_card.specs.Inventory.{inventory_of}
 use Rattle.jc_card.specs.PowerUp.{HasHead, PowerUpRefuses, fault_of}
 use Rattle.jc_card.specs.declared.inventory.Inventory.{Inventory}
 use Rattle.jcard_script.specs.Texts.{IsCutOf}
-use Rattle.jcard_files.specs.FileDeeds.{FileDeed, ClosesImage, ReadsImage, untouched}
+use Rattle.jcard_files.specs.Effects.{Says, Tells}
+use Rattle.jcard_files.specs.FileDeeds.{ClosesImage, ReadsImage, untouched}
 use Rattle.jcard_files.specs.Images.{IsNotOpened}
 use Rattle.jcard_images.specs.Listings.{Lines, count_line, journal_line, line, listing_of, then_lines}
 use Rattle.jcard_images.specs.declared.listing.ListingFault.{ListingFault}
@@ -46,7 +47,7 @@ IsDamaged w damage text = ((text ≡ []) × ((fault : ImageFault) × PowerUpRefu
     ⊎ (HasHead w × (damage ≡ Package) × ((dump_text w).readable ≡ false) × (text ≡ (dump_text w).text))
 
 -- of these words all was reported, or the beginning of it where a write failed; or they are damaged
-abbrev pub IsTold : List ℕ → Result Unit Fault → List ℕ → Type 0
+abbrev pub IsTold : List ℕ → Says
 IsTold w (Ok done) text = HasHead w × ((dump_text w).readable ≡ true) × (text ≡ (dump_text w).text)
 IsTold w (Err WriteFailed) text = HasHead w × IsCutOf (dump_text w).text text
 IsTold w (Err (BadImage damage)) text = IsDamaged w damage text
@@ -54,7 +55,7 @@ IsTold w (Err other) text = ⊥
 
 -- the image with this name could not be opened to read it alone, and nothing was written; or its words were reported, and it was closed
 -- with no write asked for
-abbrev pub IsDump : List ℕ → Result Unit Fault → List ℕ → List FileDeed → Type 0
+abbrev pub IsDump : List ℕ → Tells
 IsDump image ended text deeds =
     ((fault : Fault) × (ended ≡ Err fault) × IsNotOpened image fault × (text ≡ []) × (deeds ≡ ReadsImage image (Err fault) ∷ []))
     ⊎ ((w : List ℕ) × IsImageSize (2 * length w) × IsTold w ended text × (deeds ≡ ReadsImage image (Ok w) ∷ ClosesImage image (untouched w) ∷ []))

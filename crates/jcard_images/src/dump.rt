@@ -1,11 +1,10 @@
 //! Printing what an image holds.
-ghost use Rattle.std.specs.Prelude.{◌≡◌, ◌≤◌, ◌++◌, ℕ, List, is_err, length, MatchResult};
+ghost use Rattle.std.specs.Prelude.{◌≡◌, ◌≤◌, ◌++◌, is_err, length, MatchResult};
 ghost use Rattle.jc_words.specs.Layout.{text_start};
 ghost use Rattle.std.specs.Io.KnownBytes.{Appends};
 ghost use Rattle.jcard_script.specs.Texts.{AppendsCut};
 ghost use Rattle.jc_words.specs.Count.{failures_after};
-ghost use Rattle.jcard_files.specs.FileDeeds.{FileDeed};
-ghost use Rattle.jcard_files.specs.Faults.{is_unwritten};
+ghost use Rattle.jcard_files.specs.Effects.{Does, Writes};
 ghost use Rattle.jcard_images.specs.Dumps.{IsDump, IsTold, lines_of, sizes_of, told_listing_fault, damage_of};
 ghost use Rattle.jcard_images.specs.Listings.{Tells, applet_text, count_line, journal_line, line, numbered_lines, package_text, then_lines};
 ghost use Rattle.jcard_images.specs.Listings.{is_not_written};
@@ -29,11 +28,8 @@ pub fn dump_image<'n, D: Disk, W: TextOut>(
     image: &'n str,
     out: &mut W,
 ) -> Result<(), Fault<'n>>
-    ensures told { (text : List ℕ) × (deeds : List FileDeed)
-        × Appends (W.contents out.old) (W.contents out.new) text
-        × IsDump image.now result text deeds × D.does disk.old deeds disk.new }
-    ensures writes { W.failures out.new ≡ failures_after (W.failures out.old)
-        (is_unwritten result) }
+    ensures { Does D.does W.contents W.failures disk.old disk.new out.old out.new result
+        (IsDump image.now) }
 {
     match disk.open_image_to_read(image) {
         Ok(store) => {
@@ -47,10 +43,7 @@ pub fn dump_image<'n, D: Disk, W: TextOut>(
 
 /// Prints what the words of a store hold, as `jcard dump` does.
 pub fn dump_store<'a, S: WordStore, W: TextOut>(store: &S, out: &mut W) -> Result<(), Fault<'a>>
-    ensures told { (text : List ℕ) × Appends (W.contents out.old) (W.contents out.new) text
-        × IsTold (S.words store.now) result text }
-    ensures writes { W.failures out.new ≡ failures_after (W.failures out.old)
-        (is_unwritten result) }
+    ensures { Writes W.contents W.failures out.old out.new result (IsTold (S.words store.now)) }
 {
     match Inventory::of(store) {
         Ok(found) => match write_all_lines(store, found, out) {

@@ -6,7 +6,7 @@ ghost use Rattle.jc_words.specs.Image.{IsCapacity};
 ghost use Rattle.jc_words.specs.Refusals.{no_refusals};
 ghost use Rattle.jc_transient.specs.State.{AreSizes};
 ghost use Rattle.jc_words.specs.Stores.{store_value};
-ghost use Rattle.jcard_files.specs.FileDeeds.{FileDeed};
+ghost use Rattle.jcard_files.specs.Effects.{UsesFiles};
 ghost use Rattle.jcard_images.specs.NewImages.{IsFormatFault, IsLaid, IsMadeFrom, IsNew, IsTable};
 
 use crate::extent::Extent;
@@ -33,11 +33,11 @@ pub fn make_image<'n, D: Disk, M: Remarks>(
     table: Option<&'n str>,
     remarks: &mut M,
 ) -> Result<(), Fault<'n>>
-    ensures { (deeds : List FileDeed) × IsNew image.now size.entry.words.now size.entry.journal.now
+    ensures { UsesFiles D.does disk.old disk.new result
+        (IsNew image.now size.entry.words.now size.entry.journal.now
         (option_map (λ (name : Bor (List ℕ)). name.now) size.entry.cells)
         (option_map (λ (name : Bor (List ℕ)). name.now) size.entry.buffer)
-        (option_map (λ (name : Bor (List ℕ)). name.now) table.entry) result deeds
-        × D.does disk.old deeds disk.new }
+        (option_map (λ (name : Bor (List ℕ)). name.now) table.entry)) }
 {
     let extent = extent_of(size)?;
     let text = platform_of(disk, table)?;
@@ -52,9 +52,7 @@ fn make_from<'n, D: Disk>(
     extent: Extent,
     text: &[u8],
 ) -> Result<(), Fault<'n>>
-    ensures { (deeds : List FileDeed)
-        × IsMadeFrom image.now extent text.now result deeds
-        × D.does disk.old deeds disk.new }
+    ensures { UsesFiles D.does disk.old disk.new result (IsMadeFrom image.now extent text.now) }
 {
     match read_table(text) {
         Ok(_) => (),

@@ -2,7 +2,7 @@
 ghost use Rattle.std.specs.Prelude.{◌≡◌, ℕ, List, MatchResult, option_map};
 ghost use Rattle.std.specs.Borrow.{Bor};
 ghost use Rattle.jc_packing.specs.Packing.{IsKept};
-ghost use Rattle.jcard_files.specs.FileDeeds.{FileDeed};
+ghost use Rattle.jcard_files.specs.Effects.{ReadsFiles};
 ghost use Rattle.jcard_images.specs.UsualTables.{IsNoPlatform, IsPlatform};
 
 use jc_packing::packing::kept;
@@ -14,11 +14,9 @@ use std::alloc::{AllocError, Global};
 /// What an image keeps of its platform table: the text in the file with this name, up to one byte more than one can have; without a name
 /// the usual one, packed.
 pub fn platform_of<'n, D: Disk>(disk: &mut D, table: Option<&'n str>) -> Result<Vec<u8>, Fault<'n>>
-    ensures { (deeds : List FileDeed) × D.does disk.old deeds disk.new × MatchResult result
-        (λ kept. IsPlatform (option_map (λ (name : Bor (List ℕ)). name.now) table.entry) kept.items
-        deeds)
-        (λ fault. IsNoPlatform (option_map (λ (name : Bor (List ℕ)). name.now) table.entry) fault
-        deeds) }
+    ensures { ReadsFiles D.does disk.old disk.new result
+        (λ kept. IsPlatform (option_map (λ (name : Bor (List ℕ)). name.now) table.entry) kept.items)
+        (IsNoPlatform (option_map (λ (name : Bor (List ℕ)). name.now) table.entry)) }
 {
     match table {
         Some(name) => text_of(disk, name),

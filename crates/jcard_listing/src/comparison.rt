@@ -1,11 +1,8 @@
 //! Printing what is not the same in two images.
-ghost use Rattle.std.specs.Prelude.{◌≡◌, ℕ, List};
-ghost use Rattle.std.specs.Io.KnownBytes.{Appends};
-ghost use Rattle.jc_words.specs.Count.{failures_after};
+ghost use Rattle.std.specs.Prelude.{◌≡◌};
 ghost use Rattle.jc_words.specs.Image.{HasSize};
-ghost use Rattle.jcard_files.specs.Faults.{is_unwritten};
-ghost use Rattle.jcard_files.specs.FileDeeds.{FileDeed};
 ghost use Rattle.jcard_images.specs.Dumps.{damage_of};
+ghost use Rattle.jcard_files.specs.Effects.{Does, Writes};
 ghost use Rattle.jcard_listing.specs.Comparisons.{AreDifferencesTold, AreLinesOfBoth, AreToldBeside, IsBesideTold, IsComparison, IsRefusalTold};
 
 use crate::differences::differences_of;
@@ -28,11 +25,8 @@ pub fn compare_images<'n, D: Disk, W: TextOut>(
     shown: Shown,
     out: &mut W,
 ) -> Result<(), Fault<'n>>
-    ensures told { (text : List ℕ) × (deeds : List FileDeed)
-        × Appends (W.contents out.old) (W.contents out.new) text
-        × IsComparison image.now other.now shown result text deeds × D.does disk.old deeds disk.new }
-    ensures writes { W.failures out.new ≡ failures_after (W.failures out.old)
-        (is_unwritten result) }
+    ensures { Does D.does W.contents W.failures disk.old disk.new out.old out.new result
+        (IsComparison image.now other.now shown) }
 {
     match disk.open_image_to_read(image) {
         Ok(store) => {
@@ -52,12 +46,8 @@ fn compare_with<'n, D: Disk, W: TextOut>(
     shown: Shown,
     out: &mut W,
 ) -> Result<(), Fault<'n>>
-    ensures told { (text : List ℕ) × (deeds : List FileDeed)
-        × Appends (W.contents out.old) (W.contents out.new) text
-        × IsBesideTold (D.Image.words store.now) other.now shown result text deeds
-        × D.does disk.old deeds disk.new }
-    ensures writes { W.failures out.new ≡ failures_after (W.failures out.old)
-        (is_unwritten result) }
+    ensures { Does D.does W.contents W.failures disk.old disk.new out.old out.new result
+        (IsBesideTold (D.Image.words store.now) other.now shown) }
 {
     match disk.open_image_to_read(other) {
         Ok(second) => {
@@ -77,10 +67,8 @@ fn tell_differences<'a, S: WordStore, W: TextOut>(
     shown: Shown,
     out: &mut W,
 ) -> Result<(), Fault<'a>>
-    ensures told { (text : List ℕ) × Appends (W.contents out.old) (W.contents out.new) text
-        × AreDifferencesTold (S.words store.now) (S.words other.now) shown result text }
-    ensures writes { W.failures out.new ≡ failures_after (W.failures out.old)
-        (is_unwritten result) }
+    ensures { Writes W.contents W.failures out.old out.new result
+        (AreDifferencesTold (S.words store.now) (S.words other.now) shown) }
 {
     match Inventory::of(store) {
         Ok(_) => tell_beside(alloc, store, other, shown, out),
@@ -97,10 +85,8 @@ fn tell_beside<'a, S: WordStore, W: TextOut>(
     out: &mut W,
 ) -> Result<(), Fault<'a>>
     requires { HasSize (S.words store.now) }
-    ensures told { (text : List ℕ) × Appends (W.contents out.old) (W.contents out.new) text
-        × AreToldBeside (S.words store.now) (S.words other.now) shown result text }
-    ensures writes { W.failures out.new ≡ failures_after (W.failures out.old)
-        (is_unwritten result) }
+    ensures { Writes W.contents W.failures out.old out.new result
+        (AreToldBeside (S.words store.now) (S.words other.now) shown) }
 {
     match Inventory::of(other) {
         Ok(_) => tell_lines(alloc, store, other, shown, out),
@@ -114,10 +100,7 @@ fn tell_no_image<'a, W: TextOut>(
     fault: ImageFault,
     out: &mut W,
 ) -> Result<(), Fault<'a>>
-    ensures told { (text : List ℕ) × Appends (W.contents out.old) (W.contents out.new) text
-        × IsRefusalTold side fault result text }
-    ensures writes { W.failures out.new ≡ failures_after (W.failures out.old)
-        (is_unwritten result) }
+    ensures { Writes W.contents W.failures out.old out.new result (IsRefusalTold side fault) }
 {
     match write_all(out, side.unread()) {
         Ok(()) => Err(Fault::BadImage(damage_by(fault))),
@@ -135,10 +118,8 @@ fn tell_lines<'a, S: WordStore, W: TextOut>(
 ) -> Result<(), Fault<'a>>
     requires size { HasSize (S.words store.now) }
     requires other_size { HasSize (S.words other.now) }
-    ensures told { (text : List ℕ) × Appends (W.contents out.old) (W.contents out.new) text
-        × AreLinesOfBoth (S.words store.now) (S.words other.now) shown result text }
-    ensures writes { W.failures out.new ≡ failures_after (W.failures out.old)
-        (is_unwritten result) }
+    ensures { Writes W.contents W.failures out.old out.new result
+        (AreLinesOfBoth (S.words store.now) (S.words other.now) shown) }
 {
     match differences_of(alloc, store, other, shown) {
         Ok(listing) => write_listing(&listing, out),

@@ -1,10 +1,7 @@
 //! Printing what an image holds, object by object.
-ghost use Rattle.std.specs.Prelude.{◌≡◌, ℕ, List};
-ghost use Rattle.std.specs.Io.KnownBytes.{Appends};
-ghost use Rattle.jc_words.specs.Count.{failures_after};
+ghost use Rattle.std.specs.Prelude.{◌≡◌};
 ghost use Rattle.jc_words.specs.Image.{HasSize};
-ghost use Rattle.jcard_files.specs.Faults.{is_unwritten};
-ghost use Rattle.jcard_files.specs.FileDeeds.{FileDeed};
+ghost use Rattle.jcard_files.specs.Effects.{Does, Writes};
 ghost use Rattle.jcard_listing.specs.Told.{AreLinesTold, AreObjectsTold, IsListingTold, IsObjectsDump, end_of};
 
 use crate::listing::{Listing, listing_of};
@@ -25,11 +22,8 @@ pub fn dump_objects<'n, D: Disk, W: TextOut>(
     shown: Shown,
     out: &mut W,
 ) -> Result<(), Fault<'n>>
-    ensures told { (text : List ℕ) × (deeds : List FileDeed)
-        × Appends (W.contents out.old) (W.contents out.new) text
-        × IsObjectsDump image.now shown result text deeds × D.does disk.old deeds disk.new }
-    ensures writes { W.failures out.new ≡ failures_after (W.failures out.old)
-        (is_unwritten result) }
+    ensures { Does D.does W.contents W.failures disk.old disk.new out.old out.new result
+        (IsObjectsDump image.now shown) }
 {
     match disk.open_image_to_read(image) {
         Ok(store) => {
@@ -48,10 +42,8 @@ fn tell_objects<'a, S: WordStore, W: TextOut>(
     shown: Shown,
     out: &mut W,
 ) -> Result<(), Fault<'a>>
-    ensures told { (text : List ℕ) × Appends (W.contents out.old) (W.contents out.new) text
-        × AreObjectsTold (S.words store.now) shown result text }
-    ensures writes { W.failures out.new ≡ failures_after (W.failures out.old)
-        (is_unwritten result) }
+    ensures { Writes W.contents W.failures out.old out.new result
+        (AreObjectsTold (S.words store.now) shown) }
 {
     match dump_store(store, out) {
         Ok(()) => tell_listing(alloc, store, shown, out),
@@ -67,10 +59,8 @@ fn tell_listing<'a, S: WordStore, W: TextOut>(
     out: &mut W,
 ) -> Result<(), Fault<'a>>
     requires { HasSize (S.words store.now) }
-    ensures told { (text : List ℕ) × Appends (W.contents out.old) (W.contents out.new) text
-        × IsListingTold (S.words store.now) shown result text }
-    ensures writes { W.failures out.new ≡ failures_after (W.failures out.old)
-        (is_unwritten result) }
+    ensures { Writes W.contents W.failures out.old out.new result
+        (IsListingTold (S.words store.now) shown) }
 {
     match listing_of(alloc, store, shown) {
         Ok(listing) => write_listing(&listing, out),
@@ -80,13 +70,11 @@ fn tell_listing<'a, S: WordStore, W: TextOut>(
 
 /// Writes these lines, and says whether there could be more.
 pub(crate) fn write_listing<'a, W: TextOut>(listing: &Listing, out: &mut W) -> Result<(), Fault<'a>>
-    ensures told { (text : List ℕ) × Appends (W.contents out.old) (W.contents out.new) text
-        × AreLinesTold (record {
+    ensures { Writes W.contents W.failures out.old out.new result
+        (AreLinesTold (record {
           text = listing.now.text.items;
           readable = listing.now.readable;
-        }) result text }
-    ensures writes { W.failures out.new ≡ failures_after (W.failures out.old)
-        (is_unwritten result) }
+        })) }
 {
     match write_all(out, &listing.text) {
         Ok(()) => end_of(listing.readable),

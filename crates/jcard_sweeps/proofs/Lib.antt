@@ -3,4 +3,3 @@ pub mod Cuttings
 pub mod Joinings
 pub mod NamedParts
 pub mod Tears
-pub mod Writings

@@ -30,7 +30,8 @@ use Rattle.jcard_sweeps.specs.Targets.{IsNoTarget, IsTarget}
 use Rattle.jcard_sweeps.specs.TearFaults.{IsFaultInMemory, IsProbeFaultInMemory}
 use Rattle.jcard_sweeps.specs.Tears.{IsCarried, IsImageRead, IsImageUnread, IsProbeRead, IsProbeUnread, IsSubject, IsUncarried}
 use Rattle.jcard_sweeps.specs.Texts.{text_of}
-use Rattle.jcard_sweeps.specs.Writings.{FindsThen, IsAttackTold, ReadsThen, Tells, WithNoFile}
+use Rattle.jcard_files.specs.Effects.{FindsThen, ReadsThen, Tells, WithNoFile}
+use Rattle.jcard_sweeps.specs.Writings.{IsAttackTold}
 use Rattle.jcard_sweeps.specs.declared.attacking.AskedAttack.{AskedAttack}
 use Rattle.jcard_sweeps.specs.declared.attacking.ToldAttack.{ToldAttack}
 use Rattle.jcard_sweeps.specs.declared.cutting.Subject.{Subject}

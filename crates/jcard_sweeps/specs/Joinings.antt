@@ -26,7 +26,8 @@ use Rattle.jcard_outcomes.specs.declared.join.Joined.{Joined}
 use Rattle.jcard_outcomes.specs.declared.report.Sweep.{Sweep}
 use Rattle.jcard_files.specs.FileDeeds.{FileDeed}
 use Rattle.jcard_files.specs.Readings.{IsUnread, IsScriptRead}
-use Rattle.jcard_sweeps.specs.Writings.{IsAttackTold, IsTold, Says}
+use Rattle.jcard_files.specs.Effects.{Says}
+use Rattle.jcard_sweeps.specs.Writings.{IsAttackTold, IsTold}
 use Rattle.jcard_files.specs.declared.fault.Fault.{Fault}
 use Rattle.jcard_files.specs.declared.fault.Fault.TheVariants.{BadCut, BadShare, CutMissing, CutTwice, NoMemory, OtherPart, OtherSweep, ShareMissing, ShareTwice}
 

@@ -15,7 +15,8 @@ use Rattle.jcard_sweeps.specs.SweepsAsked.{SweepAsked}
 use Rattle.jcard_sweeps.specs.Targets.{IsNoTarget, IsTarget}
 use Rattle.jcard_sweeps.specs.TearFaults.{IsTearFault}
 use Rattle.jcard_sweeps.specs.Texts.{text_of}
-use Rattle.jcard_sweeps.specs.Writings.{FindsThen, IsTold, ReadsThen, Tells, WithNoFile}
+use Rattle.jcard_files.specs.Effects.{FindsThen, ReadsThen, Tells, WithNoFile}
+use Rattle.jcard_sweeps.specs.Writings.{IsTold}
 use Rattle.jcard_sweeps.specs.declared.cutting.Cutting.{Cutting}
 use Rattle.jcard_sweeps.specs.declared.cutting.Subject.{Subject}
 use Rattle.jcard_sweeps.specs.declared.targets.Target.{Target}

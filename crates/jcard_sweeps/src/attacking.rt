@@ -6,7 +6,7 @@ ghost use Rattle.jcard_sweeps.specs.Attackings.{AreToldEach, AreToldIn, AreUntol
 ghost use Rattle.jcard_sweeps.specs.Attackings.{attack_asked_by, attack_name, behind_of, faults_name, faults_text, models_text, sweep_of};
 ghost use Rattle.jcard_sweeps.specs.SweepsAsked.{sweep_asked_by};
 ghost use Rattle.jcard_sweeps.specs.Targets.{IsAmong};
-ghost use Rattle.jcard_sweeps.specs.Writings.{Does};
+ghost use Rattle.jcard_files.specs.Effects.{Does};
 
 use crate::cutting::Subject;
 use crate::remarking::remark_on_probe;

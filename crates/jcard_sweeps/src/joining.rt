@@ -1,13 +1,12 @@
 //! `jcard tear --join` and `jcard attack --join`: joining the texts of all parts of a sweep, which have cuts or faults of one command, or commands of
 //! a script.
-ghost use Rattle.std.specs.Prelude.{◌≡◌, ◌⊎◌, ◌<◌, List, Err, MatchResult, IfErr, map, false, length};
+ghost use Rattle.std.specs.Prelude.{◌≡◌, ◌⊎◌, ◌<◌, Err, IfErr, map, false, length};
 ghost use Rattle.jcard_files.specs.Faults.{is_unwritten};
-ghost use Rattle.jcard_files.specs.FileDeeds.{FileDeed};
 ghost use Rattle.jcard_outcomes.specs.SweepHeads.{AreOfOthers};
 ghost use Rattle.jcard_sweeps.specs.Joinings.{AreBodiesJoinedTo, AreFaultsJoinedTo, AreFirstRead, AreRead, AreJoinedBy, AreLinesJoinedTo, AreNamedJoined, AreSharesJoinedTo, AreUnread};
 ghost use Rattle.jcard_sweeps.specs.Joinings.{IsJoinedTo, IsJoining, IsOtherTold, is_of_faults, told_join_fault, told_share_fault};
 ghost use Rattle.jcard_sweeps.specs.Texts.{texts_of};
-ghost use Rattle.jcard_sweeps.specs.Writings.{Does, Writes};
+ghost use Rattle.jcard_files.specs.Effects.{Does, ReadsFiles, Writes};
 
 use crate::writing::{write_attack, write_report};
 use jcard_attack::joining::join_lines;
@@ -43,9 +42,9 @@ pub fn join_files<'n, D: Disk, W: TextOut>(
 
 // What the files with these names hold.
 fn texts_of<'n, D: Disk>(disk: &mut D, files: &[&'n str]) -> Result<Vec<Vec<u8>>, Fault<'n>>
-    ensures read { (deeds : List FileDeed) × D.does disk.old deeds disk.new × MatchResult result
-        (λ texts. AreRead (texts_of files.now) (map (λ t. t.items) texts.items) deeds)
-        (λ fault. ((fault ≡ Fault.NoMemory) × AreFirstRead (texts_of files.now) deeds)
+    ensures read { ReadsFiles D.does disk.old disk.new result
+        (λ texts. AreRead (texts_of files.now) (map (λ t. t.items) texts.items))
+        (λ fault deeds. ((fault ≡ Fault.NoMemory) × AreFirstRead (texts_of files.now) deeds)
         ⊎ AreUnread (texts_of files.now) fault deeds) }
     ensures unwritten { IfErr result (λ fault. is_unwritten (Err fault) ≡ false) }
 {

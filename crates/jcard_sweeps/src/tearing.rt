@@ -1,11 +1,10 @@
 //! `jcard tear`: cutting the power within commands of a script, after each number of their word writes.
-ghost use Rattle.std.specs.Prelude.{◌≡◌, ◌<◌, List, Err, MatchResult, IfOk, IfErr, false, length, option_map};
+ghost use Rattle.std.specs.Prelude.{◌≡◌, ◌<◌, Err, MatchResult, IfOk, IfErr, false, length, option_map};
 ghost use Rattle.jcard_files.specs.Faults.{is_unwritten};
-ghost use Rattle.jcard_files.specs.FileDeeds.{FileDeed};
 ghost use Rattle.jcard_sweeps.specs.SweepsAsked.{sweep_asked_by};
 ghost use Rattle.jcard_sweeps.specs.Tears.{IsCarried, IsImageRead, IsImageUnread, IsProbeRead, IsProbeUnread, IsTear, IsTorn, IsUncarried};
 ghost use Rattle.jcard_sweeps.specs.Texts.{text_of};
-ghost use Rattle.jcard_sweeps.specs.Writings.{Does};
+ghost use Rattle.jcard_files.specs.Effects.{Does, ReadsFiles};
 
 use crate::cutting::{Cutting, Subject, cut};
 use crate::remarking::{remark_on_probe, remark_on_script};
@@ -70,8 +69,8 @@ pub fn tear_image<'n, D: Disk, W: TextOut, P: Progress + Remarks>(
 
 /// The words of the image with this name, which is opened to read it alone.
 pub(crate) fn words_of<'n, D: Disk>(disk: &mut D, image: &'n str) -> Result<Vec<u16>, Fault<'n>>
-    ensures read { (deeds : List FileDeed) × D.does disk.old deeds disk.new × MatchResult result
-        (λ words. IsImageRead image.now words.items deeds) (λ fault. IsImageUnread image.now fault deeds) }
+    ensures read { ReadsFiles D.does disk.old disk.new result
+        (λ words. IsImageRead image.now words.items) (IsImageUnread image.now) }
     ensures short { IfOk result (λ words. length words.items < 65536) }
     ensures unwritten { IfErr result (λ fault. is_unwritten (Err fault) ≡ false) }
 {
@@ -138,9 +137,9 @@ pub(crate) fn probe_of<'n, D: Disk>(
     disk: &mut D,
     probe: Option<&'n str>,
 ) -> Result<Option<Vec<u8>>, Fault<'n>>
-    ensures read { (deeds : List FileDeed) × D.does disk.old deeds disk.new × MatchResult result
-        (λ given. IsProbeRead (text_of probe.entry) (option_map (λ text. text.items) given) deeds)
-        (λ fault. IsProbeUnread (text_of probe.entry) fault deeds) }
+    ensures read { ReadsFiles D.does disk.old disk.new result
+        (λ given. IsProbeRead (text_of probe.entry) (option_map (λ text. text.items) given))
+        (IsProbeUnread (text_of probe.entry)) }
     ensures unwritten { IfErr result (λ fault. is_unwritten (Err fault) ≡ false) }
 {
     let Some(name) = probe else {

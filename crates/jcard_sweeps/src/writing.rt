@@ -1,5 +1,6 @@
 //! Writing reports.
-ghost use Rattle.jcard_sweeps.specs.Writings.{IsAttackTold, IsTold, Writes};
+ghost use Rattle.jcard_files.specs.Effects.{Writes};
+ghost use Rattle.jcard_sweeps.specs.Writings.{IsAttackTold, IsTold};
 
 use jcard_files::fault::Fault;
 use jcard_script::streams::{TextOut, write_all};

@@ -1,5 +1,5 @@
 -- Cards that are planned.
-use Rattle.std.proofs.Common.{◌≡◌, ℕ, List, [], ◌∷◌, Result, Ok, Err, Option, Some, None, false, refl, ap, subst, sym, inl, inr, arith}
+use Rattle.std.proofs.Common.{◌≡◌, ℕ, List, [], ◌∷◌, Result, Ok, Err, Option, Some, None, false, subst, sym, inl, inr, arith}
 use Rattle.std.specs.Prelude.{All, Contains, IfSome, MatchOption, MatchResult}
 use Rattle.std.proofs.lemmas.List.Elements.{Contains-append_right}
 use Rattle.jcard_tests.specs.Cards.{AreCardsOf}
@@ -7,17 +7,16 @@ use Rattle.jcard_tests.specs.declared.card_rows.CardRows.{CardRows}
 use Rattle.jcard_tests.specs.declared.numbered.Numbered.{Numbered}
 use Rattle.jcard_tests.specs.declared.outcome.Tested.{Tested}
 use Rattle.jcard_files.specs.declared.fault.Fault.{Fault}
-use Rattle.jcard_files.specs.declared.fault.Fault.TheVariants.{BadApdu, BadJournal, BadTransient, BadWords}
 use Rattle.jcard_tests.specs.Sources.{IsReading, files_named, paths_read}
 use Rattle.jcard_tests.specs.Tests.{AreAnswered, IsOutcome, IsPlanFor, IsTested, IsUnanswered, IsUntested, table_of}
 use Rattle.jcard_tests.specs.declared.rows_file.NamedFile.{NamedFile}
 use Rattle.jcard_files.specs.Faults.{is_unwritten}
 use Rattle.jcard_files.specs.FileDeeds.{FileDeed}
-use Rattle.jcard_images.specs.Extents.{IsNoExtent}
+use Rattle.jcard_images.proofs.Unwritten.{no_extent_unwritten, platform_unwritten}
 use Rattle.jcard_images.specs.UsualTables.{IsNoPlatform, IsPlatform}
 use Rattle.jcard_tests.specs.Plans.{IsPlanned, IsUnplanned, table_asked}
 use Rattle.jcard_tests.specs.declared.asked.Asked.{Asked}
-use Rattle.jcard_tests.proofs.RowTests.{no_reading, one_reading, unread_reading, unread_unwritten}
+use Rattle.jcard_tests.proofs.RowTests.{no_reading, one_reading, unread_reading}
 use Rattle.jcard_tests.specs.declared.plan.Plan.{Plan}
 
 -- the rows of a file were answered by cards with its platform table
@@ -38,17 +37,6 @@ answered_cards (Ok t) p name lines cards made h = (
 answered_cards (Err f) p name lines cards made h = (p, h)
 
 -- no write failed where no cards were planned
-platform_unwritten : (table : Option (List ℕ)) (fault : Fault) (deeds : List FileDeed) → IsNoPlatform table fault deeds → is_unwritten (Err fault) ≡ false
-platform_unwritten None fault deeds h = ap (λ (f : Fault). is_unwritten (Err f)) h.0
-platform_unwritten (Some name) fault deeds h = unread_unwritten name fault deeds h
-
-no_extent_unwritten : (words journal : List ℕ) (cells buffer : Option (List ℕ)) (fault : Fault) → IsNoExtent words journal cells buffer fault → is_unwritten (Err fault) ≡ false
-no_extent_unwritten words journal cells buffer BadWords h = refl
-no_extent_unwritten words journal cells buffer BadJournal h = refl
-no_extent_unwritten words journal cells buffer BadTransient h = refl
-no_extent_unwritten words journal cells buffer BadApdu h = refl
-no_extent_unwritten words journal cells buffer other h = absurd h
-
 pub unplanned_unwritten : (a : Asked) (fault : Fault) (deeds : List FileDeed) → IsUnplanned a fault deeds → is_unwritten (Err fault) ≡ false
 unplanned_unwritten a fault deeds (inl h) = no_extent_unwritten _ _ _ _ fault h.0
 unplanned_unwritten a fault deeds (inr h) = platform_unwritten (table_asked a) fault deeds h

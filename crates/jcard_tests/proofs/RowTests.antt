@@ -29,8 +29,8 @@ use Rattle.jcard_tests.specs.declared.table_line.TableLine.{TableLine}
 use Rattle.jcard_files.specs.declared.operand.Operand.{Operand}
 use Rattle.jc_words.specs.Stores.{MemStoreValue}
 use Rattle.jcard_files.specs.Faults.{is_unwritten}
+use Rattle.jcard_files.proofs.Effects.{unread_unwritten}
 use Rattle.jcard_files.specs.FileDeeds.{FileDeed, ReadsText}
-use Rattle.jcard_files.specs.Images.{IsNotRead}
 use Rattle.jcard_images.specs.NewImages.{IsNewImageInMemory}
 use Rattle.jcard_files.specs.Readings.{IsRead, IsUnread, IsScriptRead}
 use Rattle.jcard_tests.specs.Sources.{AreNoted, IsReading, files_named, name_of, names_in, names_of, path_read, paths_of, paths_read}
@@ -284,10 +284,6 @@ table_read text_of (Ok t) name deeds h = h
 table_read text_of (Err f) name deeds h = tt
 
 -- no write failed where a file was not read
-not_read_unwritten : (name : List ℕ) (fault : Fault) → IsNotRead name fault → is_unwritten (Err fault) ≡ false
-not_read_unwritten name WriteFailed h = absurd h
-not_read_unwritten name other h = refl
-
 no_text_unwritten : (name bytes : List ℕ) (fault : Fault) → IsNoText name bytes fault → is_unwritten (Err fault) ≡ false
 no_text_unwritten name bytes WriteFailed h = absurd h
 no_text_unwritten name bytes other h = refl
@@ -300,13 +296,8 @@ unanswered_unwritten : (p : Plan) (fault : Fault) → IsUnanswered p fault → i
 unanswered_unwritten p WriteFailed h = absurd h
 unanswered_unwritten p other h = refl
 
-pub unread_unwritten : (name : List ℕ) (fault : Fault) (deeds : List FileDeed) → IsUnread name fault deeds → is_unwritten (Err fault) ≡ false
-unread_unwritten name fault deeds (inl u) = ap (λ (f : Fault). is_unwritten (Err f)) u.0.1
-unread_unwritten name fault deeds (inr u) = not_read_unwritten name fault u.0
-
 no_lines_unwritten : (name : List ℕ) (fault : Fault) (deeds : List FileDeed) → AreNoFileLines name fault deeds → is_unwritten (Err fault) ≡ false
-no_lines_unwritten name fault deeds (inl (inl (inl u))) = ap (λ (f : Fault). is_unwritten (Err f)) u.0.1
-no_lines_unwritten name fault deeds (inl (inl (inr u))) = not_read_unwritten name fault u.0
+no_lines_unwritten name fault deeds (inl (inl u)) = unread_unwritten name fault deeds u
 no_lines_unwritten name fault deeds (inl (inr t)) = no_text_unwritten name t.0 fault t.2
 no_lines_unwritten name fault deeds (inr n) = not_included_unwritten name fault n
 

@@ -1,8 +1,9 @@
 -- The files that `jcard test` reads, and is not to write over.
-use Rattle.std.specs.Prelude.{ℕ, ◌≡◌, List, [], ◌∷◌, ◌++◌, All, Contains, flat_map, map, option_map, Option, Some, None, Ok}
+use Rattle.std.specs.Prelude.{ℕ, ◌≡◌, List, [], ◌∷◌, ◌++◌, All, Contains, flat_map, map, option_map, MatchResult, Option, Some, None, Result, Ok}
 use Rattle.std.specs.Borrow.{Bor}
 use Rattle.std.specs.String.{string_bytes}
 use Rattle.jcard_files.specs.FileDeeds.{FileDeed, ReadsText, WritesText}
+use Rattle.jcard_files.specs.declared.fault.Fault.{Fault}
 use Rattle.jcard_files.specs.declared.operand.Operand.{Operand}
 use Rattle.jcard_tests.specs.declared.sources.Source.{Source}
 
@@ -27,6 +28,12 @@ paths_of sources = map (λ (s : Source). string_bytes s.path) sources
 -- texts were asked for and nothing else was done, and the path of each was noted after those that were before
 abbrev pub AreNoted : List Source → List Source → List FileDeed → Type 0
 AreNoted before after deeds = All IsReading deeds × (paths_of after ≡ paths_of before ++ paths_read deeds)
+
+-- files were read so, or were not, and each was noted before it was read
+abbrev pub ReadsNoted : {D A : Type 0} → (D → List FileDeed → D → Type 0) → D → D → List Source → List Source → Result A Fault
+    → (A → List FileDeed → Type 0) → (Fault → List FileDeed → Type 0) → Type 0
+ReadsNoted does before after old new result IsRead IsUnread = (deeds : List FileDeed) × does before deeds after × AreNoted old new deeds
+    × MatchResult result (λ read. IsRead read deeds) (λ fault. IsUnread fault deeds)
 
 -- the files that the words of a command name: those with these names, and its platform table, if it names one
 abbrev pub files_named : List (List ℕ) → Option (List ℕ) → List (List ℕ)

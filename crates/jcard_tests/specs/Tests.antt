@@ -34,6 +34,7 @@ use Rattle.jcard_tests.specs.declared.row.Row.{Row}
 use Rattle.jcard_tests.specs.declared.rows_file.NamedFile.{NamedFile}
 use Rattle.jcard_tests.specs.declared.rows_file.RowFile.{RowFile}
 use Rattle.jcard_tests.specs.declared.table_line.TableLine.{TableLine}
+use Rattle.jcard_files.specs.Effects.{Tells}
 use Rattle.jcard_files.specs.declared.operand.Operand.{Operand}
 use Rattle.jcard_files.specs.FileDeeds.{FileDeed, ReadsText, fresh_store}
 use Rattle.jcard_files.specs.Readings.{IsRead, IsScriptRead, IsUnread}
@@ -263,40 +264,40 @@ IsKeptAfter operands junit ts (Ok done) ended deeds = IsKept operands junit ts e
 IsKeptAfter operands junit ts (Err fault) ended deeds = (ended ≡ Err fault) × (deeds ≡ [])
 
 -- both were
-abbrev pub IsTold : List Operand → Option (List ℕ) → List Tested → Result Unit Fault → List ℕ → List FileDeed → Type 0
+abbrev pub IsTold : List Operand → Option (List ℕ) → List Tested → Tells
 IsTold operands junit ts ended text deeds = (told : Result Unit Fault) × IsReported ts told text × IsKeptAfter operands junit ts told ended deeds
 
 -- the rows of these files were answered by cards as planned, and that was reported; or those of one were not, and nothing was written
-abbrev pub IsTestOn : Plan → List NamedFile → List Operand → Option (List ℕ) → Result Unit Fault → List ℕ → List FileDeed → Type 0
+abbrev pub IsTestOn : Plan → List NamedFile → List Operand → Option (List ℕ) → Tells
 IsTestOn p files operands junit ended text deeds = ((fault : Fault) × (ended ≡ Err fault) × IsUntested fault × (text ≡ []) × (deeds ≡ []))
     ⊎ ((ts : List Tested) × AreTested p files ts × IsTold operands junit ts ended text deeds)
 
 -- so they were after the file of the report for build servers was emptied; or nothing was done, where it could not be
-abbrev pub IsTestAfter : Plan → List NamedFile → List Operand → Option (List ℕ) → Result Unit Fault → Result Unit Fault → List ℕ → List FileDeed → Type 0
+abbrev pub IsTestAfter : Plan → List NamedFile → List Operand → Option (List ℕ) → Result Unit Fault → Tells
 IsTestAfter p files operands junit (Ok done) ended text deeds = IsTestOn p files operands junit ended text deeds
 IsTestAfter p files operands junit (Err fault) ended text deeds = (ended ≡ Err fault) × (text ≡ []) × (deeds ≡ [])
 
 -- that file was emptied, if one was asked for, which is none of these, and then the rows were answered
-abbrev pub IsTestBeside : Plan → List NamedFile → List Operand → Option (List ℕ) → Result Unit Fault → List ℕ → List FileDeed → Type 0
+abbrev pub IsTestBeside : Plan → List NamedFile → List Operand → Option (List ℕ) → Tells
 IsTestBeside p files operands junit ended text deeds = (begun : Result Unit Fault) × (begins more : List FileDeed) × (deeds ≡ begins ++ more)
     × IsBegun operands junit begun begins × IsTestAfter p files operands junit begun ended text more
 
 -- so they were, after these files were read from these paths: the report for build servers is none of the files that the command names, and none
 -- that was read. Or memory was refused, and nothing was done
-abbrev pub IsTestOfRead : Plan → List (List ℕ) → List NamedFile → List (List ℕ) → Asked → Result Unit Fault → List ℕ → List FileDeed → Type 0
+abbrev pub IsTestOfRead : Plan → List (List ℕ) → List NamedFile → List (List ℕ) → Asked → Tells
 IsTestOfRead p names files paths a ended text deeds = ((ended ≡ Err NoMemory) × (text ≡ []) × (deeds ≡ []))
     ⊎ ((operands : List Operand) × AreSpared names (table_asked a) paths operands
     × IsTestBeside p files operands (name_of a.junit) ended text deeds)
 
 -- all files with these names were read, with what they include and name, before one was written, and then their rows were answered; or one was
 -- not read, and nothing was written
-abbrev pub IsTestBy : Plan → List (List ℕ) → Asked → Result Unit Fault → List ℕ → List FileDeed → Type 0
+abbrev pub IsTestBy : Plan → List (List ℕ) → Asked → Tells
 IsTestBy p names a ended text deeds = (reads more : List FileDeed) × (deeds ≡ reads ++ more) × All IsReading reads
     × (((fault : Fault) × (ended ≡ Err fault) × IsOneUnread names fault reads × (text ≡ []) × (more ≡ []))
     ⊎ ((files : List NamedFile) × AreFilesRead names files reads × IsTestOfRead p names files (paths_read reads) a ended text more))
 
 -- so they were by the cards that were asked for; or no card can be as it was asked for, and nothing was written
-abbrev pub IsTest : List (List ℕ) → Asked → Result Unit Fault → List ℕ → List FileDeed → Type 0
+abbrev pub IsTest : List (List ℕ) → Asked → Tells
 IsTest names a ended text deeds = ((fault : Fault) × (ended ≡ Err fault) × IsUnplanned a fault deeds × (text ≡ []))
     ⊎ ((p : Plan) × (first more : List FileDeed) × (deeds ≡ first ++ more) × IsPlanned a p first × IsTestBy p names a ended text more)
 

@@ -1,7 +1,7 @@
 //! All files of rows of a command, which are read before one is written.
 ghost use Rattle.std.specs.Prelude.{◌≡◌, ◌++◌, ◌∷◌, [], List, All, MatchResult, IfErr, OnOk};
 ghost use Rattle.jcard_files.specs.FileDeeds.{FileDeed};
-ghost use Rattle.jcard_tests.specs.Sources.{AreNoted, IsReading, names_of, paths_of, paths_read};
+ghost use Rattle.jcard_tests.specs.Sources.{IsReading, ReadsNoted, names_of, paths_of, paths_read};
 ghost use Rattle.jcard_tests.specs.Tests.{AreFilesRead, AreNoFileLines, IsFileRead, IsOneUnread};
 ghost use Rattle.jcard_tests.specs.declared.rows_file.NamedFile.{NamedFile};
 
@@ -40,10 +40,9 @@ fn named_files<'n, D: Disk>(
     names: &[&'n str],
     sources: &mut Vec<Source>,
 ) -> Result<Vec<NamedFile<'n>>, Fault<'n>>
-    ensures { (deeds : List FileDeed) × D.does disk.old deeds disk.new
-        × AreNoted sources.old.items sources.new.items deeds × MatchResult result
-        (λ files. AreFilesRead (names_of names.now) files.items deeds)
-        (λ fault. IsOneUnread (names_of names.now) fault deeds) }
+    ensures { ReadsNoted D.does disk.old disk.new sources.old.items sources.new.items result
+        (λ files. AreFilesRead (names_of names.now) files.items)
+        (IsOneUnread (names_of names.now)) }
 {
     let mut files = Vec::new(disk.alloc());
     for name in names {
@@ -62,11 +61,9 @@ fn add_named_file<'n, D: Disk>(
     files: &mut Vec<NamedFile<'n>>,
     sources: &mut Vec<Source>,
 ) -> Result<(), Fault<'n>>
-    ensures { (deeds : List FileDeed) × D.does disk.old deeds disk.new
-        × AreNoted sources.old.items sources.new.items deeds × MatchResult result
-        (λ _. (file : NamedFile) × IsFileRead name.now file deeds
-        × (files.new.items ≡ files.old.items ++ file ∷ []))
-        (λ fault. AreNoFileLines name.now fault deeds) }
+    ensures { ReadsNoted D.does disk.old disk.new sources.old.items sources.new.items result
+        (λ _ deeds. (file : NamedFile) × IsFileRead name.now file deeds
+        × (files.new.items ≡ files.old.items ++ file ∷ [])) (AreNoFileLines name.now) }
 {
     match file_of(disk, name, sources) {
         Ok(file) => push_file(files, NamedFile { name, file }),

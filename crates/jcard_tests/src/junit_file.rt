@@ -1,6 +1,6 @@
 //! The file of the report for build servers.
-ghost use Rattle.std.specs.Prelude.{◌≡◌, List, false};
-ghost use Rattle.jcard_files.specs.FileDeeds.{FileDeed};
+ghost use Rattle.std.specs.Prelude.{◌≡◌, false};
+ghost use Rattle.jcard_files.specs.Effects.{UsesFiles};
 ghost use Rattle.jcard_files.specs.Faults.{is_unwritten};
 ghost use Rattle.jcard_tests.specs.JunitFiles.{IsBegun, IsKept, IsReportWritten, ended_by, verdict};
 ghost use Rattle.jcard_tests.specs.Sources.{name_of};
@@ -25,9 +25,8 @@ pub(crate) fn begin_junit<'n, D: Disk>(
     disk: &mut D,
     file: JunitFile<'n, '_>,
 ) -> Result<(), Fault<'n>>
-    ensures begun { (deeds : List FileDeed)
-        × IsBegun file.entry.spared.now (name_of file.entry.name) result deeds
-        × D.does disk.old deeds disk.new }
+    ensures begun { UsesFiles D.does disk.old disk.new result
+        (IsBegun file.entry.spared.now (name_of file.entry.name)) }
     ensures unwritten { is_unwritten result ≡ false }
 {
     match file.name {
@@ -42,9 +41,8 @@ pub(crate) fn keep_junit<'n, D: Disk>(
     tested: &[Tested],
     file: JunitFile<'n, '_>,
 ) -> Result<(), Fault<'n>>
-    ensures kept { (deeds : List FileDeed)
-        × IsKept file.entry.spared.now (name_of file.entry.name) tested.now result deeds
-        × D.does disk.old deeds disk.new }
+    ensures kept { UsesFiles D.does disk.old disk.new result
+        (IsKept file.entry.spared.now (name_of file.entry.name) tested.now) }
     ensures unwritten { is_unwritten result ≡ false }
 {
     match file.name {
@@ -63,9 +61,8 @@ fn write_report<'n, D: Disk>(
     name: &'n str,
     spared: &[Operand],
 ) -> Result<(), Fault<'n>>
-    ensures written { (deeds : List FileDeed)
-        × IsReportWritten spared.now name.now tested.now result deeds
-        × D.does disk.old deeds disk.new }
+    ensures written { UsesFiles D.does disk.old disk.new result
+        (IsReportWritten spared.now name.now tested.now) }
     ensures unwritten { is_unwritten result ≡ false }
 {
     match junit(disk.alloc(), tested) {

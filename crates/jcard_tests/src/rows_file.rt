@@ -1,9 +1,10 @@
 //! The lines of files of rows.
-ghost use Rattle.std.specs.Prelude.{◌≡◌, ◌<◌, ◌++◌, ◌∷◌, [], OnOk, List, length, ◌≤◌, IfOk, IfErr, MatchResult};
+ghost use Rattle.std.specs.Prelude.{◌≡◌, ◌<◌, ◌++◌, ◌∷◌, [], OnOk, List, length, ◌≤◌, IfOk, IfErr};
 ghost use Rattle.std.specs.String.{string_bytes};
+ghost use Rattle.jcard_files.specs.Effects.{ReadsFiles};
 ghost use Rattle.jcard_files.specs.FileDeeds.{FileDeed};
 ghost use Rattle.jcard_files.specs.Readings.{IsRead};
-ghost use Rattle.jcard_tests.specs.Sources.{AreNoted};
+ghost use Rattle.jcard_tests.specs.Sources.{AreNoted, ReadsNoted};
 ghost use Rattle.jcard_tests.specs.Tests.{AreIncluded, AreNoFileLines, IsFile, IsFileBehind, IsFileOf, IsFilePlace, IsIncludeFault, IsNoRowsText, IsNoText, IsNotIncluded, IsPlace, IsRowsText, IsTableBeside, table_of};
 ghost use Rattle.jcard_tests.specs.Unrolled.{IsLineOf, IsUnrolled};
 ghost use Rattle.jcard_tests.specs.declared.numbered.Numbered.{Numbered};
@@ -42,10 +43,8 @@ pub(crate) fn file_of<'n, D: Disk>(
     name: &'n str,
     sources: &mut Vec<Source>,
 ) -> Result<RowFile, Fault<'n>>
-    ensures { (deeds : List FileDeed) × D.does disk.old deeds disk.new
-        × AreNoted sources.old.items sources.new.items deeds × MatchResult result
-        (λ file. IsFile name.now (table_of file) file.lines.items deeds)
-        (λ fault. AreNoFileLines name.now fault deeds) }
+    ensures { ReadsNoted D.does disk.old disk.new sources.old.items sources.new.items result
+        (λ file. IsFile name.now (table_of file) file.lines.items) (AreNoFileLines name.now) }
 {
     match rows_text(disk, name, sources) {
         Ok(text) => unrolled(disk, name, text.as_str(), sources),
@@ -60,11 +59,10 @@ fn unrolled<'n, D: Disk>(
     text: &str,
     sources: &mut Vec<Source>,
 ) -> Result<RowFile, Fault<'n>>
-    ensures { (deeds : List FileDeed) × D.does disk.old deeds disk.new
-        × AreNoted sources.old.items sources.new.items deeds × MatchResult result
-        (λ file. (own : List Numbered) × IsUnrolled text.now own
+    ensures { ReadsNoted D.does disk.old disk.new sources.old.items sources.new.items result
+        (λ file deeds. (own : List Numbered) × IsUnrolled text.now own
         × IsFileOf name.now own (table_of file) file.lines.items deeds)
-        (λ fault. IsNotIncluded name.now fault) }
+        (λ fault _. IsNotIncluded name.now fault) }
 {
     match unroll(disk.alloc(), text) {
         Ok(lines) => of_lines(disk, name, &lines, sources),
@@ -79,10 +77,9 @@ fn of_lines<'n, D: Disk>(
     own: &[Numbered],
     sources: &mut Vec<Source>,
 ) -> Result<RowFile, Fault<'n>>
-    ensures { (deeds : List FileDeed) × D.does disk.old deeds disk.new
-        × AreNoted sources.old.items sources.new.items deeds × MatchResult result
-        (λ file. IsFileOf name.now own.now (table_of file) file.lines.items deeds)
-        (λ fault. IsNotIncluded name.now fault) }
+    ensures { ReadsNoted D.does disk.old disk.new sources.old.items sources.new.items result
+        (λ file. IsFileOf name.now own.now (table_of file) file.lines.items)
+        (λ fault _. IsNotIncluded name.now fault) }
 {
     match named_table(own) {
         Some(line) => with_table(disk, name, line, sources),
@@ -100,10 +97,9 @@ fn with_table<'n, D: Disk>(
     line: TableLine,
     sources: &mut Vec<Source>,
 ) -> Result<RowFile, Fault<'n>>
-    ensures { (deeds : List FileDeed) × D.does disk.old deeds disk.new
-        × AreNoted sources.old.items sources.new.items deeds × MatchResult result
-        (λ file. IsFileBehind name.now line.entry (table_of file) file.lines.items deeds)
-        (λ fault. IsNotIncluded name.now fault) }
+    ensures { ReadsNoted D.does disk.old disk.new sources.old.items sources.new.items result
+        (λ file. IsFileBehind name.now line.entry (table_of file) file.lines.items)
+        (λ fault _. IsNotIncluded name.now fault) }
 {
     let table = match table_beside(disk, name, line.name, line.number, sources) {
         Ok(table) => table,
@@ -126,10 +122,9 @@ fn table_beside<'n, D: Disk>(
     number: usize,
     sources: &mut Vec<Source>,
 ) -> Result<Vec<u8>, Fault<'n>>
-    ensures { (deeds : List FileDeed) × D.does disk.old deeds disk.new
-        × AreNoted sources.old.items sources.new.items deeds × MatchResult result
-        (λ text. IsTableBeside name.now file.now text.items deeds)
-        (λ fault. IsNotIncluded name.now fault) }
+    ensures { ReadsNoted D.does disk.old disk.new sources.old.items sources.new.items result
+        (λ text. IsTableBeside name.now file.now text.items)
+        (λ fault _. IsNotIncluded name.now fault) }
 {
     let Ok(table) = beside(disk.alloc(), name, file) else {
         return Err(Fault::NoMemory);
@@ -147,10 +142,9 @@ fn with_included<'n, D: Disk>(
     own: &[Numbered],
     sources: &mut Vec<Source>,
 ) -> Result<Vec<Numbered>, Fault<'n>>
-    ensures { (deeds : List FileDeed) × D.does disk.old deeds disk.new
-        × AreNoted sources.old.items sources.new.items deeds × MatchResult result
-        (λ lines. AreIncluded name.now own.now lines.items deeds)
-        (λ fault. IsNotIncluded name.now fault) }
+    ensures { ReadsNoted D.does disk.old disk.new sources.old.items sources.new.items result
+        (λ lines. AreIncluded name.now own.now lines.items)
+        (λ fault _. IsNotIncluded name.now fault) }
 {
     let mut lines = Vec::new(disk.alloc());
     for line in own {
@@ -170,10 +164,9 @@ fn add_line<'n, D: Disk>(
     lines: &mut Vec<Numbered>,
     sources: &mut Vec<Source>,
 ) -> Result<(), Fault<'n>>
-    ensures { (deeds : List FileDeed) × D.does disk.old deeds disk.new
-        × AreNoted sources.old.items sources.new.items deeds × MatchResult result
-        (λ _. (here : List Numbered) × IsPlace name.now line.now here deeds
-        × (lines.new.items ≡ lines.old.items ++ here)) (λ fault. IsNotIncluded name.now fault) }
+    ensures { ReadsNoted D.does disk.old disk.new sources.old.items sources.new.items result
+        (λ _ deeds. (here : List Numbered) × IsPlace name.now line.now here deeds
+        × (lines.new.items ≡ lines.old.items ++ here)) (λ fault _. IsNotIncluded name.now fault) }
 {
     if let Line::Include(file) = read_line(line.text.as_str()) {
         return add_file(disk, name, file, line.number, lines, sources);
@@ -213,11 +206,9 @@ fn add_file<'n, D: Disk>(
     sources: &mut Vec<Source>,
 ) -> Result<(), Fault<'n>>
     requires { 0 < number }
-    ensures { (deeds : List FileDeed) × D.does disk.old deeds disk.new
-        × AreNoted sources.old.items sources.new.items deeds × MatchResult result
-        (λ _. (here : List Numbered)
-        × IsFilePlace name.now file.now number here deeds
-        × (lines.new.items ≡ lines.old.items ++ here)) (λ fault. IsNotIncluded name.now fault) }
+    ensures { ReadsNoted D.does disk.old disk.new sources.old.items sources.new.items result
+        (λ _ deeds. (here : List Numbered) × IsFilePlace name.now file.now number here deeds
+        × (lines.new.items ≡ lines.old.items ++ here)) (λ fault _. IsNotIncluded name.now fault) }
 {
     let Ok(path) = beside(disk.alloc(), name, file) else {
         return Err(Fault::NoMemory);
@@ -248,10 +239,8 @@ fn rows_text<'n, D: Disk>(
     name: &'n str,
     sources: &mut Vec<Source>,
 ) -> Result<String, Fault<'n>>
-    ensures { (deeds : List FileDeed) × D.does disk.old deeds disk.new
-        × AreNoted sources.old.items sources.new.items deeds × MatchResult result
-        (λ text. IsRowsText name.now (string_bytes text) deeds)
-        (λ fault. AreNoFileLines name.now fault deeds) }
+    ensures { ReadsNoted D.does disk.old disk.new sources.old.items sources.new.items result
+        (λ text. IsRowsText name.now (string_bytes text)) (AreNoFileLines name.now) }
 {
     match note(disk.alloc(), name, FileKind::Rows, sources) {
         Ok(()) => read_rows(disk, name),
@@ -277,9 +266,8 @@ fn table_text<'n, D: Disk>(
 
 // What is read from the file with this name.
 fn read_rows<'n, D: Disk>(disk: &mut D, name: &'n str) -> Result<String, Fault<'n>>
-    ensures { (deeds : List FileDeed) × D.does disk.old deeds disk.new × MatchResult result
-        (λ text. IsRowsText name.now (string_bytes text) deeds)
-        (λ fault. IsNoRowsText name.now fault deeds) }
+    ensures { ReadsFiles D.does disk.old disk.new result
+        (λ text. IsRowsText name.now (string_bytes text)) (IsNoRowsText name.now) }
 {
     match script_of(disk, name) {
         Ok(bytes) => text_of_bytes(name, bytes),

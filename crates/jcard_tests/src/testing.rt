@@ -1,9 +1,6 @@
 //! `jcard test`: rows of files, answered by cards in memory.
-ghost use Rattle.std.specs.Prelude.{◌≡◌, ◌++◌, ◌∷◌, [], ℕ, List, IfErr, IfOk, MatchResult, OnOk, unwrap_or};
-ghost use Rattle.std.specs.Io.KnownBytes.{Appends};
-ghost use Rattle.jc_words.specs.Count.{failures_after};
-ghost use Rattle.jcard_files.specs.Faults.{is_unwritten};
-ghost use Rattle.jcard_files.specs.FileDeeds.{FileDeed};
+ghost use Rattle.std.specs.Prelude.{◌≡◌, ◌++◌, ◌∷◌, [], IfErr, IfOk, MatchResult, OnOk, unwrap_or};
+ghost use Rattle.jcard_files.specs.Effects.{Does, Writes};
 ghost use Rattle.jcard_tests.specs.Sources.{name_of, names_of, paths_of};
 ghost use Rattle.jcard_tests.specs.Tests.{AreAnswered, AreTested, IsOutcome, IsPlanFor, IsReported, IsTest, IsTestBeside, IsTestBy, IsTestOfRead, IsTestOn, IsTested, IsTold, IsUnanswered, IsUntested, table_of};
 ghost use Rattle.jcard_tests.specs.declared.outcome.Tested.{Tested};
@@ -42,12 +39,8 @@ pub fn test_files<'n, D: Disk, W: TextOut, T: Timer + Remarks>(
     out: &mut W,
     timer: &mut T,
 ) -> Result<(), Fault<'n>>
-    ensures done { (text : List ℕ) × (deeds : List FileDeed)
-        × Appends (W.contents out.old) (W.contents out.new) text
-        × IsTest (names_of files.now) asked.entry result text deeds
-        × D.does disk.old deeds disk.new }
-    ensures writes { W.failures out.new ≡ failures_after (W.failures out.old)
-        (is_unwritten result) }
+    ensures { Does D.does W.contents W.failures disk.old disk.new out.old out.new result
+        (IsTest (names_of files.now) asked.entry) }
 {
     match plan_of(disk, asked) {
         Ok(plan) => test_by(disk, files, &plan, asked, out, timer),
@@ -64,12 +57,8 @@ fn test_by<'n, D: Disk, W: TextOut, T: Timer + Remarks>(
     out: &mut W,
     timer: &mut T,
 ) -> Result<(), Fault<'n>>
-    ensures done { (text : List ℕ) × (deeds : List FileDeed)
-        × Appends (W.contents out.old) (W.contents out.new) text
-        × IsTestBy plan.now (names_of names.now) asked.entry result text deeds
-        × D.does disk.old deeds disk.new }
-    ensures writes { W.failures out.new ≡ failures_after (W.failures out.old)
-        (is_unwritten result) }
+    ensures { Does D.does W.contents W.failures disk.old disk.new out.old out.new result
+        (IsTestBy plan.now (names_of names.now) asked.entry) }
 {
     match files_read(disk, names) {
         Ok(read) => test_read(disk, names, &read, plan, asked, out, timer),
@@ -87,13 +76,9 @@ fn test_read<'n, D: Disk, W: TextOut, T: Timer + Remarks>(
     out: &mut W,
     timer: &mut T,
 ) -> Result<(), Fault<'n>>
-    ensures done { (text : List ℕ) × (deeds : List FileDeed)
-        × Appends (W.contents out.old) (W.contents out.new) text
-        × IsTestOfRead plan.now (names_of names.now) read.now.files.items
-        (paths_of read.now.sources.items) asked.entry result text deeds
-        × D.does disk.old deeds disk.new }
-    ensures writes { W.failures out.new ≡ failures_after (W.failures out.old)
-        (is_unwritten result) }
+    ensures { Does D.does W.contents W.failures disk.old disk.new out.old out.new result
+        (IsTestOfRead plan.now (names_of names.now) read.now.files.items
+        (paths_of read.now.sources.items) asked.entry) }
 {
     let Ok(operands) = spared(disk.alloc(), names, asked.table, &read.sources) else {
         return Err(Fault::NoMemory);
@@ -114,13 +99,8 @@ fn test_beside<'n, D: Disk, W: TextOut, T: Timer + Remarks>(
     out: &mut W,
     timer: &mut T,
 ) -> Result<(), Fault<'n>>
-    ensures done { (text : List ℕ) × (deeds : List FileDeed)
-        × Appends (W.contents out.old) (W.contents out.new) text
-        × IsTestBeside plan.now files.now junit.entry.spared.now (name_of junit.entry.name)
-        result text deeds
-        × D.does disk.old deeds disk.new }
-    ensures writes { W.failures out.new ≡ failures_after (W.failures out.old)
-        (is_unwritten result) }
+    ensures { Does D.does W.contents W.failures disk.old disk.new out.old out.new result
+        (IsTestBeside plan.now files.now junit.entry.spared.now (name_of junit.entry.name)) }
 {
     match begin_junit(disk, junit) {
         Ok(()) => test_on(disk, files, plan, junit, out, timer),
@@ -137,13 +117,8 @@ fn test_on<'n, D: Disk, W: TextOut, T: Timer + Remarks>(
     out: &mut W,
     timer: &mut T,
 ) -> Result<(), Fault<'n>>
-    ensures done { (text : List ℕ) × (deeds : List FileDeed)
-        × Appends (W.contents out.old) (W.contents out.new) text
-        × IsTestOn plan.now files.now junit.entry.spared.now (name_of junit.entry.name)
-        result text deeds
-        × D.does disk.old deeds disk.new }
-    ensures writes { W.failures out.new ≡ failures_after (W.failures out.old)
-        (is_unwritten result) }
+    ensures { Does D.does W.contents W.failures disk.old disk.new out.old out.new result
+        (IsTestOn plan.now files.now junit.entry.spared.now (name_of junit.entry.name)) }
 {
     match tested_files(disk.alloc(), files, plan, timer) {
         Ok(tested) => {
@@ -306,12 +281,8 @@ fn tell_tested<'n, D: Disk, W: TextOut>(
     junit: JunitFile<'n, '_>,
     out: &mut W,
 ) -> Result<(), Fault<'n>>
-    ensures done { (text : List ℕ) × (deeds : List FileDeed)
-        × Appends (W.contents out.old) (W.contents out.new) text
-        × IsTold junit.entry.spared.now (name_of junit.entry.name) tested.now result text deeds
-        × D.does disk.old deeds disk.new }
-    ensures writes { W.failures out.new ≡ failures_after (W.failures out.old)
-        (is_unwritten result) }
+    ensures { Does D.does W.contents W.failures disk.old disk.new out.old out.new result
+        (IsTold junit.entry.spared.now (name_of junit.entry.name) tested.now) }
 {
     match tell(disk.alloc(), tested, out) {
         Ok(()) => keep_junit(disk, tested, junit),
@@ -321,10 +292,7 @@ fn tell_tested<'n, D: Disk, W: TextOut>(
 
 // Writes the report.
 fn tell<'n, W: TextOut>(alloc: Global, tested: &[Tested], out: &mut W) -> Result<(), Fault<'n>>
-    ensures told { (text : List ℕ) × Appends (W.contents out.old) (W.contents out.new) text
-        × IsReported tested.now result text }
-    ensures writes { W.failures out.new ≡ failures_after (W.failures out.old)
-        (is_unwritten result) }
+    ensures { Writes W.contents W.failures out.old out.new result (IsReported tested.now) }
 {
     let Ok(text) = report(alloc, tested) else {
         return Err(Fault::NoMemory);

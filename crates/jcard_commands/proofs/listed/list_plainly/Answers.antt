@@ -5,13 +5,13 @@ use Rattle.jcard_commands.proofs.listed.list_plainly.Goals as goal
 
 pub returns-in-Objects : goal.returns-in-Objects
 returns-in-Objects g c =
-    let done = c.dump_objects.ensures.told in
-    ((done.0, done.1, done.2, rw c.in-Objects.is done.3, done.4), c.dump_objects.ensures.writes)
+    let done = c.dump_objects.ensures.0 in
+    ((done.0, done.1, done.2, rw c.in-Objects.is done.3, done.4), c.dump_objects.ensures.1)
 
 pub returns-in-Compared : goal.returns-in-Compared
 returns-in-Compared g c =
-    let done = c.compare_images.ensures.told in
-    ((done.0, done.1, done.2, rw c.in-Compared.is done.3, done.4), c.compare_images.ensures.writes)
+    let done = c.compare_images.ensures.0 in
+    ((done.0, done.1, done.2, rw c.in-Compared.is done.3, done.4), c.compare_images.ensures.1)
 
 pub returns-in-Torn : goal.returns-in-Torn
 returns-in-Torn g c =

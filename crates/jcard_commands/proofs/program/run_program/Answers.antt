@@ -13,9 +13,9 @@ returns-in_default g c =
 
 pub returns-in-Ok-words_of : goal.returns-in-Ok-words_of
 returns-in-Ok-words_of g c =
-    let done = c.perform-ended.ensures.done in
+    let done = c.perform-ended.ensures.0 in
     let told = c.tell-status.ensures.line in
-    let failures = told.4 ∙ ap (λ n. failures_after n told.1) c.perform-ended.ensures.writes in (
+    let failures = told.4 ∙ ap (λ n. failures_after n told.1) c.perform-ended.ensures.1 in (
       done.0,
       told.0,
       c.perform-ended.result,

@@ -5,9 +5,9 @@ use Rattle.jcard_commands.proofs.run.run_joined.Goals as goal
 
 pub returns : goal.returns
 returns g c =
-    let done = c.perform-ended.ensures.done in
+    let done = c.perform-ended.ensures.0 in
     let told = c.tell.ensures.line in
-    let failures = told.4 ∙ ap (λ n. failures_after n told.1) c.perform-ended.ensures.writes in (
+    let failures = told.4 ∙ ap (λ n. failures_after n told.1) c.perform-ended.ensures.1 in (
       done.0,
       told.0,
       c.perform-ended.result,

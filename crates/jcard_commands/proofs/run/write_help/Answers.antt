@@ -1,10 +1,10 @@
 use Rattle.std.proofs.Common.{refl, inl, inr}
 use Rattle.jcard_commands.proofs.run.write_help.Goals as goal
 
-pub returns-in-Ok-clause-done : goal.returns-in-Ok-clause-done
-returns-in-Ok-clause-done g c = (_, c.in-Ok.ensures.text, inl refl)
+pub returns-in-Ok : goal.returns-in-Ok
+returns-in-Ok g c = ((_, c.in-Ok.ensures.text, inl refl), c.in-Ok.ensures.count)
 
-pub returns-in-Err-clause-done : goal.returns-in-Err-clause-done
-returns-in-Err-clause-done g c =
+pub returns-in-Err : goal.returns-in-Err
+returns-in-Err g c =
     let cut = c.in-Err.ensures.text in
-    (cut.0, cut.1, inr refl)
+    ((cut.0, cut.1, inr refl), c.in-Err.ensures.count)

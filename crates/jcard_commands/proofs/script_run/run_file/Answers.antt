@@ -4,19 +4,23 @@ use Rattle.jc_words.specs.Stores.{below_fuse, store_value}
 use Rattle.jcard_files.specs.FileDeeds.{FileDeed, ClosesImage, OpensImage, ReadsText, fresh_store, untouched}
 use Rattle.jcard_commands.specs.Runs.{IsCarriedOut}
 use Rattle.jcard_files.proofs.Stores.{fresh_under_fuse}
+use Rattle.jcard_files.proofs.Effects.{not_opened_to_write_unwritten, unfailed, unopened_unwritten}
 use Rattle.jcard_commands.proofs.script_run.run_file.Goals as goal
 
-pub returns-in-Err-clause-done : goal.returns-in-Err-clause-done
-returns-in-Err-clause-done g c = (
-  [],
-  OpensImage c.args.image.now (Err c.in-Err.fault) ∷ [],
-  appends_same _,
-  inl (c.in-Err.fault, refl, c.in-Err.ensures.refused, refl, refl),
-  c.in-Err.ensures.does,
+pub returns-in-Err : goal.returns-in-Err
+returns-in-Err g c = (
+  (
+    [],
+    OpensImage c.args.image.now (Err c.in-Err.fault) ∷ [],
+    appends_same _,
+    inl (c.in-Err.fault, refl, c.in-Err.ensures.refused, refl, refl),
+    c.in-Err.ensures.does,
+  ),
+  unfailed _ c.in-Err.fault (not_opened_to_write_unwritten c.args.image.now c.in-Err.fault c.in-Err.ensures.refused),
 )
 
-pub returns-in-Ok-open_text-clause-done : goal.returns-in-Ok-open_text-clause-done
-returns-in-Ok-open_text-clause-done g c =
+pub returns-in-Ok-open_text : goal.returns-in-Ok-open_text
+returns-in-Ok-open_text g c =
     let image = c.args.image.now in
     let script = c.args.script.now in
     let words = g.D.Image.WordStore.words c.in-Ok.store in
@@ -26,7 +30,7 @@ returns-in-Ok-open_text-clause-done g c =
     let left = unread c.run_named-store.new.script.inner in
     let fresh : c.new-store.result ≡ fresh_store words = c.new-store.ensures
     ∙ fresh_under_fuse words _ _ _ c.in-Ok.ensures.up c.in-Ok.ensures.none_passed c.in-Ok.ensures.none_refused in
-    let done = c.run_named-store.ensures.done in
+    let done = c.run_named-store.ensures.0 in
     let known = unread c.in-Ok-open_text.file in
     let over = subst (λ f. IsCarriedOut c.args.budget image script (unread f) left c.new-store.result after ended done.0) c.new-reader.ensures.inner done.2 in
     let carried = subst (λ s. IsCarriedOut c.args.budget image script known left s after ended done.0) fresh over in
@@ -36,15 +40,18 @@ returns-in-Ok-open_text-clause-done g c =
     let closed = subst (λ s. g.D.Disk.does c.open_text.new.self (ClosesImage image s ∷ []) c.close_image.new.self) below c.close_image.ensures in
     let opens : List FileDeed = OpensImage image (Ok words) ∷ [] in
     let reads : List FileDeed = ReadsText script (Ok known) ∷ [] in (
-      done.0,
-      OpensImage image (Ok words) ∷ ReadsText script (Ok known) ∷ ClosesImage image (below_fuse after) ∷ [],
-      done.1,
-      inr (inr (words, known, left, after, c.in-Ok.ensures.size, carried, refl)),
-      g.met.D.Disk.then _ _ _ opens _ c.in-Ok.ensures.does (g.met.D.Disk.then _ _ _ reads _ c.in-Ok-open_text.ensures.does closed),
+      (
+        done.0,
+        OpensImage image (Ok words) ∷ ReadsText script (Ok known) ∷ ClosesImage image (below_fuse after) ∷ [],
+        done.1,
+        inr (inr (words, known, left, after, c.in-Ok.ensures.size, carried, refl)),
+        g.met.D.Disk.then _ _ _ opens _ c.in-Ok.ensures.does (g.met.D.Disk.then _ _ _ reads _ c.in-Ok-open_text.ensures.does closed),
+      ),
+      c.run_named-store.ensures.1,
     )
 
-pub returns-in-Err-open_text-clause-done : goal.returns-in-Err-open_text-clause-done
-returns-in-Err-open_text-clause-done g c =
+pub returns-in-Err-open_text : goal.returns-in-Err-open_text
+returns-in-Err-open_text g c =
     let image = c.args.image.now in
     let script = c.args.script.now in
     let words = g.D.Image.WordStore.words c.in-Ok.store in
@@ -58,9 +65,12 @@ returns-in-Err-open_text-clause-done g c =
     c.close_image-in-Err-open_text.ensures in
     let opens : List FileDeed = OpensImage image (Ok words) ∷ [] in
     let reads : List FileDeed = ReadsText script (Err c.in-Err-open_text.fault) ∷ [] in (
-      [],
-      OpensImage image (Ok words) ∷ ReadsText script (Err c.in-Err-open_text.fault) ∷ ClosesImage image (untouched words) ∷ [],
-      appends_same _,
-      inr (inl (words, c.in-Err-open_text.fault, refl, c.in-Err-open_text.ensures.refused, refl, refl)),
-      g.met.D.Disk.then _ _ _ opens _ c.in-Ok.ensures.does (g.met.D.Disk.then _ _ _ reads _ c.in-Err-open_text.ensures.does closed),
+      (
+        [],
+        OpensImage image (Ok words) ∷ ReadsText script (Err c.in-Err-open_text.fault) ∷ ClosesImage image (untouched words) ∷ [],
+        appends_same _,
+        inr (inl (words, c.in-Err-open_text.fault, refl, c.in-Err-open_text.ensures.refused, refl, refl)),
+        g.met.D.Disk.then _ _ _ opens _ c.in-Ok.ensures.does (g.met.D.Disk.then _ _ _ reads _ c.in-Err-open_text.ensures.does closed),
+      ),
+      unfailed _ c.in-Err-open_text.fault (unopened_unwritten script c.in-Err-open_text.fault c.in-Err-open_text.ensures.refused),
     )

@@ -18,6 +18,6 @@ returns-in-Ok-make_image g c =
     let laid = subst (λ k. IsLaid image k c.args.extent.room c.args.text.now c.lay_image-store.result.1 store) size c.lay_image-store.ensures in
     let makes : List FileDeed = MakesImage image n (Ok tt) ∷ [] in (
       MakesImage image n (Ok tt) ∷ ClosesImage image store ∷ [],
-      inr (inr (store, (c.in-Ok.field-0, c.in-Ok.ensures), laid, refl)),
       g.met.D.Disk.then _ _ _ makes _ c.in-Ok-make_image.ensures.does closed,
+      inr (inr (store, (c.in-Ok.field-0, c.in-Ok.ensures), laid, refl)),
     )

@@ -4,12 +4,12 @@ use Rattle.jcard_listing.proofs.comparison.tell_differences.Goals as goal
 pub tell_beside-requires : goal.tell_beside-requires
 tell_beside-requires g c = c.in-Ok.ensures.0.size
 
-pub returns-in-Ok-clause-told : goal.returns-in-Ok-clause-told
-returns-in-Ok-clause-told g c =
-    let told = c.tell_beside.ensures.told in
-    (told.0, told.1, inr (c.in-Ok.ensures.0, told.2))
+pub returns-in-Ok : goal.returns-in-Ok
+returns-in-Ok g c =
+    let told = c.tell_beside.ensures.0 in
+    ((told.0, told.1, inr (c.in-Ok.ensures.0, told.2)), c.tell_beside.ensures.1)
 
-pub returns-in-Err-clause-told : goal.returns-in-Err-clause-told
-returns-in-Err-clause-told g c =
-    let told = c.tell_no_image.ensures.told in
-    (told.0, told.1, inl (c.in-Err.fault, c.in-Err.ensures, told.2))
+pub returns-in-Err : goal.returns-in-Err
+returns-in-Err g c =
+    let told = c.tell_no_image.ensures.0 in
+    ((told.0, told.1, inl (c.in-Err.fault, c.in-Err.ensures, told.2)), c.tell_no_image.ensures.1)

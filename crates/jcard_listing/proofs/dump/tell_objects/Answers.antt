@@ -1,25 +1,30 @@
-use Rattle.std.proofs.Common.{◌++◌, List, ℕ, inl, inr, refl, subst}
+use Rattle.std.proofs.Common.{◌++◌, ◌∙◌, List, ℕ, ap, inl, inr, refl, subst}
 use Rattle.std.specs.Io.KnownBytes.{Appends}
+use Rattle.jc_words.specs.Count.{failures_after}
+use Rattle.jcard_files.specs.Faults.{is_unwritten}
 use Rattle.jcard_script.proofs.Known.{appends_then_appends}
 use Rattle.jcard_images.specs.Dumps.{dump_text}
 use Rattle.jcard_listing.proofs.dump.tell_objects.Goals as goal
 
 pub tell_listing-requires : goal.tell_listing-requires
-tell_listing-requires g c = c.in-Ok.ensures.told.2.0.size
+tell_listing-requires g c = c.in-Ok.ensures.0.2.0.size
 
-pub returns-in-Ok-clause-told : goal.returns-in-Ok-clause-told
-returns-in-Ok-clause-told g c =
+pub returns-in-Ok : goal.returns-in-Ok
+returns-in-Ok g c =
     let w = g.S.WordStore.words c.args.store.now in
-    let first = c.in-Ok.ensures.told in
-    let second = c.tell_listing.ensures.told in
+    let first = c.in-Ok.ensures.0 in
+    let second = c.tell_listing.ensures.0 in
     let text : List ℕ = (dump_text w).text in
     let wrote = subst (λ (t : List ℕ). Appends (g.W.TextOut.contents c.args.out.now) (g.W.TextOut.contents c.dump_store.new.out) t) first.2.2 first.1 in (
-      text ++ second.0,
-      appends_then_appends _ _ _ text second.0 wrote second.1,
-      inr (second.0, (first.2.0, first.2.1, refl), second.2, refl),
+      (
+        text ++ second.0,
+        appends_then_appends _ _ _ text second.0 wrote second.1,
+        inr (second.0, (first.2.0, first.2.1, refl), second.2, refl),
+      ),
+      c.tell_listing.ensures.1 ∙ ap (λ n. failures_after n (is_unwritten c.tell_listing.result)) c.in-Ok.ensures.1,
     )
 
-pub returns-in-Err-clause-told : goal.returns-in-Err-clause-told
-returns-in-Err-clause-told g c =
-    let told = c.in-Err.ensures.told in
-    (told.0, told.1, inl (c.in-Err.fault, refl, told.2))
+pub returns-in-Err : goal.returns-in-Err
+returns-in-Err g c =
+    let told = c.in-Err.ensures.0 in
+    ((told.0, told.1, inl (c.in-Err.fault, refl, told.2)), c.in-Err.ensures.1)

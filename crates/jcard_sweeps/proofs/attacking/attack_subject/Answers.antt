@@ -7,7 +7,7 @@ use Rattle.jcard_sweeps.specs.Targets.{IsNoTarget, IsTarget}
 use Rattle.jcard_sweeps.specs.Writings.{IsAttackTold}
 use Rattle.jcard_sweeps.proofs.Attackings.{asked_after}
 use Rattle.jcard_sweeps.proofs.NamedParts.{among}
-use Rattle.jcard_sweeps.proofs.Writings.{unfailed}
+use Rattle.jcard_files.proofs.Effects.{unfailed}
 use Rattle.jcard_sweeps.proofs.attacking.attack_subject.Goals as goal
 
 pub returns-in_err-target : goal.returns-in_err-target

@@ -3,7 +3,7 @@ use Rattle.jcard_script.proofs.Known.{appends_same}
 use Rattle.jcard_sweeps.specs.Texts.{texts_of}
 use Rattle.jcard_sweeps.specs.Writings.{IsTold}
 use Rattle.jcard_sweeps.proofs.Joinings.{joined_told, unjoined}
-use Rattle.jcard_sweeps.proofs.Writings.{unfailed}
+use Rattle.jcard_files.proofs.Effects.{unfailed}
 use Rattle.jcard_sweeps.proofs.joining.join_cuts.Goals as goal
 
 pub returns-in-Ok : goal.returns-in-Ok

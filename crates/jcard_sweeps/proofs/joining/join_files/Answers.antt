@@ -6,7 +6,7 @@ use Rattle.jcard_script.proofs.Known.{appends_same}
 use Rattle.jcard_sweeps.specs.Joinings.{IsJoinedTo}
 use Rattle.jcard_sweeps.specs.Texts.{texts_of}
 use Rattle.jcard_sweeps.proofs.Joinings.{read_lengths, unread_joining}
-use Rattle.jcard_sweeps.proofs.Writings.{unfailed}
+use Rattle.jcard_files.proofs.Effects.{unfailed}
 use Rattle.jcard_sweeps.proofs.joining.join_files.Goals as goal
 
 pub join_texts-requires-clause-some : goal.join_texts-requires-clause-some

@@ -3,7 +3,7 @@ use Rattle.std.specs.Borrow.{Bor}
 use Rattle.std.proofs.lemmas.List.{length-map}
 use Rattle.jcard_script.proofs.Known.{appends_same}
 use Rattle.jcard_sweeps.proofs.Joinings.{heads_joined, others_told}
-use Rattle.jcard_sweeps.proofs.Writings.{unfailed}
+use Rattle.jcard_files.proofs.Effects.{unfailed}
 use Rattle.jcard_sweeps.proofs.joining.join_texts.Goals as goal
 
 pub join_named-requires : goal.join_named-requires

@@ -6,7 +6,7 @@ use Rattle.jcard_sweeps.specs.Tears.{IsProbeRead}
 use Rattle.jcard_sweeps.specs.Texts.{text_of}
 use Rattle.jcard_sweeps.specs.Writings.{IsTold}
 use Rattle.jcard_sweeps.proofs.NamedParts.{among}
-use Rattle.jcard_sweeps.proofs.Writings.{unfailed}
+use Rattle.jcard_files.proofs.Effects.{unfailed}
 use Rattle.jcard_sweeps.proofs.tearing.tear.Goals as goal
 
 pub returns-in_err-target : goal.returns-in_err-target

@@ -4,7 +4,7 @@ use Rattle.jcard_script.proofs.Known.{appends_same}
 use Rattle.jcard_tear.specs.ScriptLines.{commands_of, line_of}
 use Rattle.jcard_sweeps.specs.Tears.{IsSubject}
 use Rattle.jcard_sweeps.specs.declared.cutting.Subject.{Subject}
-use Rattle.jcard_sweeps.proofs.Writings.{unfailed}
+use Rattle.jcard_files.proofs.Effects.{unfailed}
 use Rattle.jcard_sweeps.proofs.tearing.tear_image.Goals as goal
 
 pub returns-in_err-words : goal.returns-in_err-words

@@ -5,12 +5,12 @@ use Rattle.jcard_tests.specs.Sources.{AreSpared, name_of, names_of, paths_of}
 use Rattle.jcard_tests.specs.Tests.{IsTestBeside}
 use Rattle.jcard_tests.proofs.testing.test_read.Goals as goal
 
-pub returns-in_default-clause-done : goal.returns-in_default-clause-done
-returns-in_default-clause-done g c = ([], [], appends_same _, inl (refl, refl, refl), g.met.D.Disk.none c.args.disk.now)
+pub returns-in_default : goal.returns-in_default
+returns-in_default g c = (([], [], appends_same _, inl (refl, refl, refl), g.met.D.Disk.none c.args.disk.now), refl)
 
-pub returns-clause-done : goal.returns-clause-done
-returns-clause-done g c =
-    let done = c.test_beside.ensures.done in
+pub returns : goal.returns
+returns g c =
+    let done = c.test_beside.ensures.0 in
     let p = c.args.plan.now in
     let a = c.args.asked in
     let operands = c.in-Ok.operands.items in
@@ -18,4 +18,4 @@ returns-clause-done g c =
     let spared = subst (λ ss. AreSpared (names_of c.args.names.now) (table_asked a) (paths_of ss) operands) c.deref.ensures.value c.in-Ok.ensures in
     let by_files = subst (λ files. IsTestBeside p files c.deref-2.result.now (name_of a.junit) ended done.0 done.1) c.deref-3.ensures.value done.3 in
     let tested = subst (λ os. IsTestBeside p c.args.read.now.files.items os (name_of a.junit) ended done.0 done.1) c.deref-2.ensures.value by_files in
-    (done.0, done.1, done.2, inr (operands, spared, tested), done.4)
+    ((done.0, done.1, done.2, inr (operands, spared, tested), done.4), c.test_beside.ensures.1)
