@@ -4,9 +4,10 @@ ghost use Rattle.jcard_tests.specs.Junit.{cards_cases, case_text, cases_text, fa
 
 use crate::escaping::push_escaped;
 use crate::outcome::{Failure, Outcome, Tested};
-use crate::report::{is_failed, push_number};
+use crate::report::is_failed;
 use crate::row::Row;
 use crate::seconds::push_seconds;
+use jcard_outcomes::rows::push_number;
 use std::alloc::{AllocError, Global};
 
 /// The XML text that says what came of files: a test suite for each, with a test case for each of its rows and the time that it took. The

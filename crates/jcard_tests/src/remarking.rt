@@ -1,8 +1,8 @@
 //! Remarks on rows that have no form.
 
 use crate::outcome::{Failure, Outcome, Tested};
-use itoa::Buffer;
 use jcard_files::remarks::Remarks;
+use jcard_outcomes::rows::push_number;
 use jcard_script::refused_line::{LineFault, refusal_of, told_fault};
 use std::alloc::{AllocError, Global};
 
@@ -30,12 +30,11 @@ fn remark_of(
     number: usize,
     fault: LineFault,
 ) -> Result<Vec<u8>, AllocError> {
-    let mut digits = Buffer::new();
     let mut text = Vec::new(alloc);
     text.extend_from_slice(b"jcard: ")?;
     text.extend_from_slice(name.as_bytes())?;
     text.extend_from_slice(b" line ")?;
-    text.extend_from_slice(digits.format(number).as_bytes())?;
+    push_number(&mut text, number)?;
     told_fault(&mut text, fault)?;
     Ok(text)
 }

@@ -1,9 +1,9 @@
 //! What is reported of files of rows: a line for each, and how many rows passed and failed.
-ghost use Rattle.std.specs.Prelude.{◌≡◌, ◌++◌, decimal, min, IfOk, OnOk};
+ghost use Rattle.std.specs.Prelude.{◌≡◌, ◌++◌, min, IfOk, OnOk};
 ghost use Rattle.jcard_tests.specs.Reports.{failed_of, failure_text, hold_text, holds_text, is_failed, lines_text, passed_in, passed_of, report_text, row_text, rows_text, tested_text, told_text, total_text};
 
 use crate::outcome::{Failure, Outcome, Tested};
-use itoa::Buffer;
+use jcard_outcomes::rows::push_number;
 use std::alloc::{AllocError, Global};
 
 /// The text that says what came of files: a line for each, and one for all.
@@ -140,12 +140,4 @@ fn push_total(text: &mut Vec<u8>, passed: usize, failed: usize) -> Result<(), Al
     text.extend_from_slice(b" passed, ")?;
     push_number(text, failed)?;
     text.extend_from_slice(b" failed\n")
-}
-
-/// Writes a number in decimal digits.
-pub(crate) fn push_number(text: &mut Vec<u8>, number: usize) -> Result<(), AllocError>
-    ensures { OnOk result (text.new.items ≡ text.old.items ++ decimal number) }
-{
-    let mut digits = Buffer::new();
-    text.extend_from_slice(digits.format(number).as_bytes())
 }
