@@ -1,4 +1,4 @@
-use Rattle.std.proofs.Common.{[]}
+use Rattle.std.proofs.Common.{[], refl}
 use Rattle.jcard_script.proofs.Known.{appends_same}
 use Rattle.jcard_commands.proofs.Joins.{joined, not_joined}
 use Rattle.jcard_commands.proofs.run.join.Goals as goal
