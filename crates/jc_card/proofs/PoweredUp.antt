@@ -1,6 +1,6 @@
 -- What power up finds.
-use Rattle.std.proofs.Common.{◌≡◌, ℕ, ◌+◌, ◌/◌, ◌≤◌, ◌<◌, ◌⊎◌, inl, inr, List, length, get_or, refl, sym, ◌∙◌, ap, subst, arith, Ok, Err}
-use Rattle.std.specs.Prelude.{Result, IsOk, IfOk, IfErr, OnOk, MatchResult, None, Some}
+use Rattle.std.proofs.Common.{◌≡◌, ℕ, ◌+◌, ◌/◌, ◌≤◌, ◌⊎◌, inl, inr, List, length, get_or, refl, sym, ◌∙◌, ap, subst, arith, Ok, Err}
+use Rattle.std.specs.Prelude.{Result, IsOk, IfOk, IfErr, OnOk, None, Some}
 use Rattle.jc_words.specs.Image.{HasSize, IsVersion}
 use Rattle.jc_words.specs.declared.image.ImageFault.{ImageFault}
 use Rattle.jc_words.specs.Layout.{magic_address, version_address, size_address, text_length_address, text_start, magic}
@@ -10,13 +10,13 @@ use Rattle.jc_commit.proofs.InPlace.{length-recovered}
 use Rattle.jc_heap.specs.Whole.{IsConsistent}
 use Rattle.jc_heap.specs.Alike.{StandAlike}
 use Rattle.jc_heap.proofs.Migrated.{migrated_alike}
-use Rattle.jc_heap.specs.Image.{IsWellFormed, base, image, table_text}
+use Rattle.jc_heap.specs.Image.{IsWellFormed, base, image}
 use Rattle.jc_heap.specs.Heap.{HeapState, head_of, heap_of}
 use Rattle.jc_card_checks.specs.Sound.{IsSound}
 use Rattle.jc_card_load.specs.Reading.{packages_of}
+use Rattle.jc_card_load.specs.ImageTables.{HasTable}
 use Rattle.jc_heap.proofs.RawWords.{recovered-head, head_is, text_is}
 use Rattle.jc_heap.proofs.Following.{base_is}
-use Rattle.jc_image.proofs.TextBytes.{length-table_text}
 use Rattle.jc_linker.specs.Values.{Packages}
 use Rattle.jc_platform.specs.Tokens.{Tokens}
 use Rattle.jc_platform.specs.Table.{Reads}
@@ -27,7 +27,7 @@ use Rattle.jc_interp.specs.Attacks.{undisturbed}
 use Rattle.jc_card.specs.Dispatching.{usual_budget}
 use Rattle.jc_card.specs.Fixed.{BeginsWithFixed, last_fixed}
 use Rattle.jc_card.specs.Made.{IsMade}
-use Rattle.jc_card.specs.PowerUp.{HasHead, HasTable, HasHeap, PowerUpRefuses, RecoveredWordsFail, FailsToLink, HasPackages}
+use Rattle.jc_card.specs.PowerUp.{HasHead, HasHeap, PowerUpRefuses, RecoveredWordsFail, FailsToLink, HasPackages}
 use Rattle.jc_card.specs.declared.power_up.PowerFault.{PowerFault}
 use Rattle.jc_card.specs.declared.power_up.PowerFault.TheVariants.{BadMagic, BadVersion, BadSize, BadLog, BadTable, BadPackage, NoMemory, StoreDown}
 
@@ -50,10 +50,6 @@ made_found w head log t table heap = record {
     whole = heap.1;
   };
 }
-
--- a table's text is not longer than a table may be
-pub too_long : (w : List ℕ) → 16384 < get_or w text_length_address 0 → (t : Tokens) → HasTable w t → ⊥
-too_long w h t table = omega (arith, table.1.0, length-table_text w)
 
 -- an image that the product made has a head and a table
 head_made : (w : List ℕ) → IsMade w → head_of w ≡ (magic, length w)
@@ -176,11 +172,3 @@ pub unfit : {A : Type 0} (r : Result A PowerFault) (m : MemoryState) (p : Packag
 unfit (Ok card) m p t h own cause same at linked = tt
 unfit (Err e) m p t h own cause same at linked = subst (λ (f : PowerFault). FailsToLink f t h) (sym cause.0) (none_fit t h p linked
     (λ (fit : IsSound p h (last_fixed t h)). cause.1 (subst (λ (x : HeapState). IsSound p x own) (sym same) (subst (λ (o : ℕ). IsSound p h o) (sym at) fit))))
-
--- the text of a table, or of none
-pub table_told : (r : Result Tokens PowerFault) (w text : List ℕ) → text_start + (get_or w text_length_address 0 + 1) / 2 ≤ length w → text ≡ table_text w
-    → MatchResult r (λ t. Reads text (Ok t)) (λ fault. (fault ≡ BadTable) × ((t : Tokens) → Reads text (Ok t) → ⊥))
-    → MatchResult r (λ t. HasTable w t) (λ fault. RecoveredWordsFail fault w)
-table_told (Ok t) w text fits same told = (fits, subst (λ (l : List ℕ). Reads l (Ok t)) same told)
-table_told (Err fault) w text fits same told = subst (λ (f : PowerFault). RecoveredWordsFail f w) (sym told.0)
-    (λ t table. told.1 t (subst (λ (l : List ℕ). Reads l (Ok t)) (sym same) table.1))

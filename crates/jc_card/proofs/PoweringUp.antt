@@ -18,7 +18,8 @@ use Rattle.jc_image.specs.Opening.{HoldsImage}
 use Rattle.jc_platform.specs.Tokens.{Tokens}
 use Rattle.jc_interp.specs.Attacks.{undisturbed}
 use Rattle.jc_card.specs.CardState.{CardState}
-use Rattle.jc_card.specs.PowerUp.{HasHead, HasTable, HasHeap, IsFoundAfter, IsFoundFirst, PowerUpRefuses, RecoveredWordsFail, RefusalLeaves, fault_of}
+use Rattle.jc_card_load.specs.ImageTables.{HasTable}
+use Rattle.jc_card.specs.PowerUp.{HasHead, HasHeap, IsFoundAfter, IsFoundFirst, PowerUpRefuses, RecoveredWordsFail, RefusalLeaves, fault_of}
 use Rattle.jc_card.specs.PoweringUp.{FaultLeaves, IsLeftRecovered, IsPoweredOver, PowerUpFails, PowersUpOver}
 use Rattle.jc_card.specs.Reset.{IsAtReset}
 use Rattle.jc_card.specs.declared.power_up.PowerFault.{PowerFault}

@@ -1,18 +1,18 @@
 -- Powering up: why words don't, and what a refusal leaves.
-use Rattle.std.specs.Prelude.{ℕ, ◌≡◌, ◌≢◌, ◌+◌, ◌/◌, ◌≤◌, List, length, slice_index, Ok, Some}
+use Rattle.std.specs.Prelude.{ℕ, ◌≡◌, ◌≢◌, List, slice_index, Some}
 use Rattle.jc_words.specs.Image.{HasSize, IsVersion}
 use Rattle.jc_words.specs.declared.image.ImageFault.{ImageFault}
 use Rattle.jc_words.specs.declared.image.ImageFault.TheVariants.{BadMagic as NoMagic, BadVersion as OtherVersion, BadSize as NoSize}
-use Rattle.jc_words.specs.Layout.{magic_address, version_address, text_length_address, text_start, magic}
+use Rattle.jc_words.specs.Layout.{magic_address, version_address, magic}
 use Rattle.jc_commit.specs.Image.{IsGoodLog, plain_of, recovered_of, count_of}
 use Rattle.jc_commit.specs.Migration.{migrated, StillOpens}
-use Rattle.jc_heap.specs.Image.{IsWellFormed, table_text}
+use Rattle.jc_heap.specs.Image.{IsWellFormed}
 use Rattle.jc_heap.specs.Heap.{HeapState, heap_of}
 use Rattle.jc_heap.specs.Whole.{IsConsistent}
 use Rattle.jc_platform.specs.Tokens.{Tokens}
-use Rattle.jc_platform.specs.Table.{Reads}
 use Rattle.jc_linker.specs.Values.{Packages}
 use Rattle.jc_card_load.specs.Reading.{packages_of}
+use Rattle.jc_card_load.specs.ImageTables.{HasTable}
 use Rattle.jc_card_checks.specs.Sound.{IsSound}
 use Rattle.jc_card.specs.Fixed.{BeginsWithFixed, last_fixed}
 use Rattle.jc_card.specs.declared.power_up.PowerFault.{PowerFault}
@@ -29,10 +29,6 @@ pub record HasHead (w : List ℕ) : Type 0 where
   pub magic : slice_index w magic_address ≡ magic
   pub version : IsVersion (slice_index w version_address)
   pub size : HasSize w
-
--- the table text is there, and this is the table that it spells
-abbrev pub HasTable : List ℕ → Tokens → Type 0
-HasTable w t = (text_start + (slice_index w text_length_address + 1) / 2 ≤ length w) × Reads (table_text w) (Ok t)
 
 -- its packages link, each against those before it, and what stands after the objects of the runtime environment fits them
 abbrev pub HasPackages : Tokens → HeapState → Type 0

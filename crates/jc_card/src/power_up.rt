@@ -1,11 +1,10 @@
 //! Powering a card up over the words of its image.
-ghost use Rattle.std.specs.Prelude.{ℕ, List, ◌≡◌, ◌⊎◌, ◌+◌, ◌/◌, ◌≤◌, ◌↔◌, [], length, slice_index, None, Some, Ok, IsOk, IfOk, IfErr, OnOk, false, MatchResult};
-ghost use Rattle.jc_words.specs.Layout.{text_length_address, text_start, version, version_address};
+ghost use Rattle.std.specs.Prelude.{ℕ, List, ◌≡◌, ◌⊎◌, ◌+◌, ◌/◌, ◌↔◌, [], length, slice_index, None, Some, Ok, IsOk, IfOk, IfErr, OnOk, false, MatchResult};
+ghost use Rattle.jc_words.specs.Layout.{version, version_address};
 ghost use Rattle.jc_heap.specs.Heap.{heap_view};
-ghost use Rattle.jc_heap.specs.Image.{IsWellFormed, table_text};
+ghost use Rattle.jc_heap.specs.Image.{IsWellFormed};
 ghost use Rattle.jc_image.specs.Beginning.{HeapBeginsWith};
 ghost use Rattle.jc_transient.specs.State.{IsCleared};
-ghost use Rattle.jc_platform.specs.Table.{Reads};
 ghost use Rattle.jc_platform.specs.Tokens.{Tokens};
 ghost use Rattle.jc_heap.specs.Whole.{IsConsistent};
 ghost use Rattle.jc_heap.specs.Heap.{IsObject, area_sizes, heap_of};
@@ -15,13 +14,14 @@ ghost use Rattle.jc_transient.specs.State.{HasSizes};
 ghost use Rattle.jc_memory.specs.Marks.{AreNone, AreObjects, mark_count};
 ghost use Rattle.jc_memory.specs.Owners.{at_reset};
 ghost use Rattle.jc_card_load.specs.Reading.{packages_of};
+ghost use Rattle.jc_card_load.specs.ImageTables.{HasTable};
 ghost use Rattle.jc_card_checks.specs.Sound.{IsSound};
 ghost use Rattle.jc_interp.specs.Attacks.{undisturbed};
 ghost use Rattle.jc_card.specs.Dispatching.{usual_budget};
 ghost use Rattle.jc_card.specs.Fixed.{buffer_cells, fixed_facts, fixed_of, last_fixed};
 ghost use Rattle.jc_environment.specs.Objects.{sized_objects};
 ghost use Rattle.jc_card.specs.Reset.{IsAtReset};
-ghost use Rattle.jc_card.specs.PowerUp.{FailsToLink, HasHeap, HasTable, RecoveredWordsFail, fault_of};
+ghost use Rattle.jc_card.specs.PowerUp.{FailsToLink, HasHeap, RecoveredWordsFail, fault_of};
 ghost use Rattle.jc_card.specs.PoweringUp.{PowersUpOver};
 
 use crate::card::{Card, USUAL_BUDGET};
@@ -30,6 +30,7 @@ use crate::lent::LentStore;
 use arrayvec::ArrayVec;
 use jc_card_checks::sound::is_sound;
 use jc_card_load::reading::{RecordFault, read_packages};
+use jc_card_load::tables::{ImageTableFault, table_of};
 use jc_commit::OpenRefusal;
 use jc_environment::fixed_objects;
 use jc_frames::Frames;
@@ -38,11 +39,10 @@ use jc_image::OpenImage;
 use jc_interp::attacks::Budget;
 use jc_linker::linked::Linked;
 use jc_memory::{MOST_FIXED, Marks, Memory, Rooms, unset_flags};
-use jc_platform::read::{LARGEST_TEXT, read_table};
 use jc_platform::table::Table;
 use jc_transient::{MOST_BUFFER, Ram, Ref};
 use jc_words::{ImageFault, WordStore, check_image};
-use std::alloc::{AllocError, Global};
+use std::alloc::Global;
 use thiserror::Error;
 
 /// Why a card doesn't power up, in the order in which it is asked.
@@ -348,50 +348,14 @@ fn fault_of(fault: RecordFault) -> PowerFault
     }
 }
 
-// The platform of the table text of an image.
+// The platform table of an image.
 fn platform_of<S: WordStore>(alloc: Global, image: &OpenImage<S>) -> Result<Table, PowerFault>
     ensures { MatchResult result (λ t. HasTable image.now.plain t)
         (λ fault. RecoveredWordsFail fault image.now.plain) }
 {
-    let long = usize::from(image.text_length());
-    if long > LARGEST_TEXT {
-        return Err(PowerFault::BadTable);
-    }
-    if !image.has_text() {
-        return Err(PowerFault::BadTable);
-    }
-    match text_of(alloc, image) {
-        Ok(text) => table_in(text.as_slice()),
-        Err(AllocError) => Err(PowerFault::NoMemory),
-    }
-}
-
-// The platform of a table text. No memory is asked for.
-fn table_in(text: &[u8]) -> Result<Table, PowerFault>
-    ensures { MatchResult result (λ t. Reads text.now (Ok t))
-        (λ fault. (fault ≡ PowerFault.BadTable) × ((t : Tokens) → Reads text.now (Ok t) → ⊥)) }
-{
-    match read_table(text) {
+    match table_of(alloc, image) {
         Ok(table) => Ok(table),
-        Err(_) => Err(PowerFault::BadTable),
+        Err(ImageTableFault::Damaged) => Err(PowerFault::BadTable),
+        Err(ImageTableFault::NoMemory) => Err(PowerFault::NoMemory),
     }
-}
-
-// The table text of an image that has its words.
-fn text_of<S: WordStore>(alloc: Global, image: &OpenImage<S>) -> Result<Vec<u8>, AllocError>
-    requires { text_start + (slice_index image.now.plain text_length_address + 1) / 2
-        ≤ length image.now.plain }
-    ensures { IfOk result (λ text. text.items ≡ table_text image.now.plain) }
-{
-    let mut text = zeros(alloc, usize::from(image.text_length()))?;
-    image.read_text(text.as_mut_slice());
-    Ok(text)
-}
-
-// This many zero bytes.
-fn zeros(alloc: Global, count: usize) -> Result<Vec<u8>, AllocError>
-    ensures { IfOk result (λ bytes. length bytes.items ≡ count) }
-{
-    let bytes = vec![in alloc; 0u8; count]?;
-    Ok(bytes)
 }

@@ -3,3 +3,4 @@ pub mod Statics
 pub mod Assembled
 pub mod NoPackages
 pub mod RecordLoads
+pub mod ImageTables

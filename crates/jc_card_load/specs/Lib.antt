@@ -5,3 +5,4 @@ pub mod Reading
 pub mod Incoming
 pub mod Loading
 pub mod Ending
+pub mod ImageTables

@@ -12,6 +12,7 @@ mod load_refusal;
 pub mod reading;
 pub mod record_contents;
 mod refusals;
+pub mod tables;
 
 pub use incoming::IncomingComponent;
 pub use load::OpenLoad;

@@ -1,10 +1,12 @@
 -- What is answered about an image that is opened: if that migrated it, it stands for the same heap.
-use Rattle.std.proofs.Common.{◌≡◌, ◌∙◌, ℕ, List, Option, Some, None, Ok, ap, subst, sym}
+use Rattle.std.proofs.Common.{◌≡◌, ◌∙◌, ◌+◌, ◌/◌, ◌≤◌, ℕ, List, Option, Some, None, Ok, ap, arith, get_or, length, subst, sym}
+use Rattle.jc_words.specs.Layout.{text_length_address, text_start}
 use Rattle.jc_commit.specs.Image.{IsGoodLog, recovered_of}
 use Rattle.jc_commit.specs.Migration.{migrated}
 use Rattle.jc_heap.specs.Alike.{StandAlike}
 use Rattle.jc_heap.specs.Heap.{HeapState, heap_of}
-use Rattle.jc_heap.specs.Image.{table_text}
+use Rattle.jc_heap.specs.Image.{IsWellFormed, base, image, table_text}
+use Rattle.jc_heap.proofs.Following.{base_is}
 use Rattle.jc_heap.specs.Whole.{IsConsistent}
 use Rattle.jc_heap.proofs.Migrated.{migrated_alike}
 use Rattle.jc_platform.specs.Table.{Reads}
@@ -48,10 +50,16 @@ image_before words plain t good same whole = record { good = good; whole = whole
 pub no_image : (words plain : List ℕ) → plain ≡ migrated 3 (recovered_of words) → ((t : Tokens) → IsWhole plain t → ⊥) → (t : Tokens) → IsImage words t → ⊥
 no_image words plain same none t is = none t (whole_behind (recovered_of words) plain t same is.whole)
 
+-- well-formed words have those of their table text
+text_there : (w : List ℕ) → IsWellFormed w → text_start + (get_or w text_length_address 0 + 1) / 2 ≤ length w
+text_there w formed =
+    let b : base (image w) ≡ text_start + (get_or w text_length_address 0 + 1) / 2 = base_is w formed in
+    omega (arith, b, formed.based, formed.fits)
+
 -- why nothing is answered, from the table, the heap and the packages to the words
 pub whole_untold : (fault : ImageFault) (w : List ℕ) → IsNoTable w fault → IsNotWhole w fault
 whole_untold NoMemory w none = tt
-whole_untold Damaged w none = λ t whole. none t whole.formed whole.table
+whole_untold Damaged w none = λ t whole. none t (text_there w whole.formed, whole.table)
 
 pub image_untold : (fault : ImageFault) (words plain : List ℕ) → plain ≡ migrated 3 (recovered_of words) → IsNotWhole plain fault → IsNoImage words fault
 image_untold NoMemory words plain same none = tt

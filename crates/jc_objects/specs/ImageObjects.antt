@@ -9,6 +9,7 @@ use Rattle.jc_heap.specs.Image.{IsWellFormed, table_text}
 use Rattle.jc_heap.specs.Whole.{IsConsistent}
 use Rattle.jc_platform.specs.Table.{Reads}
 use Rattle.jc_platform.specs.Tokens.{Tokens}
+use Rattle.jc_card_load.specs.ImageTables.{HasTable}
 use Rattle.jc_objects.specs.declared.image_objects.ImageFault.{ImageFault}
 use Rattle.jc_objects.specs.declared.image_objects.ImageFault.TheVariants.{NoMemory, Damaged}
 use Rattle.jc_objects.specs.declared.image_objects.ImageObjects.{ImageObjects}
@@ -42,10 +43,10 @@ abbrev pub IsNotWhole : List ℕ → ImageFault → Type 0
 IsNotWhole w NoMemory = Unit {0}
 IsNotWhole w Damaged = (t : Tokens) → IsWhole w t → ⊥
 
--- why their table text gives no platform: memory was refused, or the words are not well formed, or it is no table
+-- why they give no platform: memory was refused, or they have no table
 abbrev pub IsNoTable : List ℕ → ImageFault → Type 0
 IsNoTable w NoMemory = Unit {0}
-IsNoTable w Damaged = (t : Tokens) → IsWellFormed w → Reads (table_text w) (Ok t) → ⊥
+IsNoTable w Damaged = (t : Tokens) → HasTable w t → ⊥
 
 -- an image of these words was recovered, and perhaps migrated
 pub record IsOpenedImage (words : List ℕ) (image : State) : Type 0 where

@@ -74,7 +74,7 @@ fn push_loaded(
 }
 
 /// Writes a number in decimal digits after a text.
-pub(crate) fn push_number(text: &mut Vec<u8>, number: u16) -> Result<(), AllocError>
+pub fn push_number(text: &mut Vec<u8>, number: u16) -> Result<(), AllocError>
     ensures { OnOk result (text.new.items ≡ text.old.items ++ decimal number) }
 {
     let mut digits = Buffer::new();

@@ -1,16 +1,16 @@
 //! The heap of an image, and the platform whose classes its objects have.
-ghost use Rattle.std.specs.Prelude.{◌≡◌, ◌+◌, ◌/◌, ◌≤◌, ◌<◌, IfOk, MatchResult, Ok, false, length, slice_index};
-ghost use Rattle.jc_words.specs.Layout.{size_address, text_length_address, text_start};
+ghost use Rattle.std.specs.Prelude.{◌≡◌, ◌/◌, ◌<◌, MatchResult, Ok, false, slice_index};
+ghost use Rattle.jc_words.specs.Layout.{size_address};
 ghost use Rattle.jc_heap.specs.Heap.{heap_of};
 ghost use Rattle.jc_heap.specs.Image.{table_text};
 ghost use Rattle.jc_platform.specs.Table.{Reads};
 ghost use Rattle.jc_objects.specs.ImageObjects.{AreObjectsOf, IsNoImage, IsNoTable, IsNotOpened, IsNotWhole, IsOpenedImage, IsWhole};
 ghost use Rattle.jc_objects.specs.declared.image_objects.ImageFault.TheVariants.{NoMemory};
 
+use jc_card_load::tables::{ImageTableFault, table_of};
 use jc_heap::Heap;
 use jc_image::OpenImage;
 use jc_platform::platform::Platform;
-use jc_platform::read::{LARGEST_TEXT, read_table};
 use jc_words::layout::SIZE_WORD;
 use jc_words::{MemStore, WordStore};
 use std::alloc::{AllocError, Global};
@@ -96,40 +96,14 @@ pub(crate) fn whole_of(
     }
 }
 
-// The platform of the table text of an image.
+// The platform of an image.
 fn platform_of<S: WordStore>(alloc: Global, image: &OpenImage<S>) -> Result<Platform, ImageFault>
     ensures { MatchResult result (λ t. Reads (table_text image.now.plain) (Ok t))
         (λ fault. IsNoTable image.now.plain fault) }
 {
-    let long = usize::from(image.text_length());
-    if long > LARGEST_TEXT {
-        return Err(ImageFault::Damaged);
-    }
-    if !image.has_text() {
-        return Err(ImageFault::Damaged);
-    }
-    let text = text_of(alloc, image)?;
-    match read_table(text.as_slice()) {
+    match table_of(alloc, image) {
         Ok(table) => Ok(table.platform()),
-        Err(_) => Err(ImageFault::Damaged),
+        Err(ImageTableFault::Damaged) => Err(ImageFault::Damaged),
+        Err(ImageTableFault::NoMemory) => Err(ImageFault::NoMemory),
     }
-}
-
-// The table text of an image that has its words.
-fn text_of<S: WordStore>(alloc: Global, image: &OpenImage<S>) -> Result<Vec<u8>, AllocError>
-    requires { text_start + (slice_index image.now.plain text_length_address + 1) / 2
-        ≤ length image.now.plain }
-    ensures { IfOk result (λ text. text.items ≡ table_text image.now.plain) }
-{
-    let mut text = zeros(alloc, usize::from(image.text_length()))?;
-    image.read_text(text.as_mut_slice());
-    Ok(text)
-}
-
-// This many zero bytes.
-fn zeros(alloc: Global, count: usize) -> Result<Vec<u8>, AllocError>
-    ensures { IfOk result (λ bytes. length bytes.items ≡ count) }
-{
-    let bytes = vec![in alloc; 0u8; count]?;
-    Ok(bytes)
 }

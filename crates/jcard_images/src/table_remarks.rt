@@ -3,12 +3,12 @@
 ghost use Rattle.std.specs.Prelude.{◌<◌};
 
 use crate::usual_table::USUAL_TABLE;
-use itoa::Buffer;
 use jc_platform::example::EXAMPLE;
 use jc_platform::fault::TableFault;
 use jc_platform::lookup::all_classes;
 use jc_platform::read::{LARGEST_TEXT, read_table};
 use jcard_files::remarks::Remarks;
+use jcard_script::numbers::push_number;
 use std::alloc::{AllocError, Global};
 
 /// How many words a line has at most, and one more.
@@ -680,9 +680,4 @@ fn is_line_feed(byte: &u8) -> bool {
 
 fn is_space(byte: &u8) -> bool {
     *byte == b' '
-}
-
-fn push_number(text: &mut Vec<u8>, number: u64) -> Result<(), AllocError> {
-    let mut digits = Buffer::new();
-    text.extend_from_slice(digits.format(number).as_bytes())
 }

@@ -9,8 +9,8 @@ ghost use Rattle.jcard_listing.specs.Fault.{Lists, each_line};
 ghost use Rattle.jc_objects.specs.Changes.{value_text};
 
 use crate::fault::ListFault;
-use crate::texts::{push_labelled, push_number, push_word};
-use jc_objects::class_texts::push_kind;
+use crate::texts::{push_labelled, push_word};
+use jc_objects::class_texts::{push_kind, push_number};
 use jc_platform::platform::Platform;
 use jc_records::holders::{Holder, holder_of};
 use jc_records::records::is_packed;

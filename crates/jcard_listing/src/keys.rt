@@ -4,7 +4,8 @@ ghost use Rattle.jcard_listing.specs.Images.{IsObjectIn, cells_in};
 ghost use Rattle.jcard_listing.specs.Keys.{found_text, is_pair_type, key_text, pair_text, set_text, size_text, type_text};
 
 use crate::image::{Image, PlacedObject};
-use crate::texts::{push_labelled, push_number, push_reference};
+use crate::texts::{push_labelled, push_reference};
+use jc_objects::class_texts::push_number;
 use jc_records::keys::{KeyFacts, key_at};
 use jc_words::WordStore;
 use std::alloc::AllocError;

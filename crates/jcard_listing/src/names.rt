@@ -5,8 +5,9 @@ ghost use Rattle.jcard_images.specs.Listings.{applet_line, applet_text, line_if,
 ghost use Rattle.jcard_listing.specs.Fault.{Lists};
 
 use crate::fault::ListFault;
-use crate::texts::{push_hex, push_labelled, push_number};
+use crate::texts::{push_hex, push_labelled};
 use jc_image::{AppletName, PackageName, applet_at, package_at};
+use jc_objects::class_texts::push_number;
 use jc_words::WordStore;
 use std::alloc::AllocError;
 

@@ -9,9 +9,10 @@ ghost use Rattle.jcard_listing.specs.Objects.{aid_length, aid_text, applet_name,
 use crate::fault::ListFault;
 use crate::image::{Image, PlacedObject};
 use crate::keys::{push_key, push_not_shown};
-use crate::texts::{push_hex, push_labelled, push_number, push_reference, push_short};
+use crate::texts::{push_hex, push_labelled, push_reference, push_short};
 use jc_heap::{Facts, Kind};
 use jc_image::{AppletName, PackageName, applet_at, package_at};
+use jc_objects::class_texts::push_number;
 use jc_objects::legend::Legend;
 use jc_platform::names::PlatformClass;
 use jc_records::keys::is_key;

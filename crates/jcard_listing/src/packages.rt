@@ -8,7 +8,8 @@ ghost use Rattle.jcard_listing.specs.Fault.{Lists, each_line};
 ghost use Rattle.jcard_listing.specs.Packages.{component_bytes, component_text, head_text, image_text, package_lines, parts_lines, record_at, record_from, record_lines, static_text};
 
 use crate::fault::ListFault;
-use crate::texts::{push_labelled, push_number, push_reference, push_word};
+use crate::texts::{push_labelled, push_reference, push_word};
+use jc_objects::class_texts::push_number;
 use jc_objects::legend::Legend;
 use jc_records::bounds::first_record;
 use jc_records::records::whole_size;

@@ -1,18 +1,11 @@
 //! Numbers, references and bytes after a text.
-ghost use Rattle.std.specs.Prelude.{◌≡◌, ◌++◌, ◌/◌, ◌%◌, decimal, OnOk};
+ghost use Rattle.std.specs.Prelude.{◌≡◌, ◌++◌, ◌/◌, ◌%◌, OnOk};
 ghost use Rattle.hex.specs.Hex.{encode_upper};
 ghost use Rattle.jcard_listing.specs.Texts.{labelled_text, reference_text, short_text, word_text};
 
 use itoa::Buffer;
+use jc_objects::class_texts::push_number;
 use std::alloc::AllocError;
-
-/// Writes a number in decimal digits.
-pub(crate) fn push_number(text: &mut Vec<u8>, number: u16) -> Result<(), AllocError>
-    ensures { OnOk result (text.new.items ≡ text.old.items ++ decimal number) }
-{
-    let mut digits = Buffer::new();
-    text.extend_from_slice(digits.format(number).as_bytes())
-}
 
 /// Writes a short in decimal digits, with its sign.
 pub(crate) fn push_short(text: &mut Vec<u8>, word: u16) -> Result<(), AllocError>

@@ -9,6 +9,7 @@ mod glitch;
 mod line;
 mod line_text;
 pub mod mem_text;
+pub mod numbers;
 pub mod refused_line;
 mod reply;
 pub mod script;

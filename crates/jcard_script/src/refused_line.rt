@@ -5,8 +5,8 @@ ghost use Rattle.jcard_script.specs.RefusedLines.{fault_at, fault_of, is_of_comm
 ghost use Rattle.jcard_script.specs.Script.{Bad, form_of};
 
 use crate::line::{Line, LineRequest};
+use crate::numbers::push_number;
 use arrayvec::ArrayVec;
-use itoa::Buffer;
 use std::alloc::{AllocError, Global};
 
 /// Why a line has no form.
@@ -116,11 +116,6 @@ pub fn told_fault(text: &mut Vec<u8>, fault: LineFault) -> Result<(), AllocError
             b": glitch takes a number from 0 to 4294967295 and skip, turn or zero; or none\n",
         ),
     }
-}
-
-fn push_number(text: &mut Vec<u8>, number: u64) -> Result<(), AllocError> {
-    let mut digits = Buffer::new();
-    text.extend_from_slice(digits.format(number).as_bytes())
 }
 
 fn push_column(text: &mut Vec<u8>, column: usize) -> Result<(), AllocError> {

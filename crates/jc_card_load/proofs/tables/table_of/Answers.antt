@@ -1,7 +1,7 @@
 use Rattle.std.proofs.Common.{rules, ◌∙◌, ◌+◌, ◌/◌, ◌≤◌, get_or, length, arith}
 use Rattle.jc_words.specs.Layout.{text_length_address, text_start}
-use Rattle.jc_card.proofs.PoweredUp.{table_told, too_long}
-use Rattle.jc_card.proofs.power_up.platform_of.Goals as goal
+use Rattle.jc_card_load.proofs.ImageTables.{table_told, too_long}
+use Rattle.jc_card_load.proofs.tables.table_of.Goals as goal
 
 pub returns-then-long-gt-LARGEST_TEXT : goal.returns-then-long-gt-LARGEST_TEXT
 returns-then-long-gt-LARGEST_TEXT g c = λ t table. too_long c.args.image.now.plain
