@@ -1,4 +1,4 @@
-use Rattle.std.proofs.Common.{◌≡◌, ◌≤◌, ◌+◌, ◌*◌, ℕ, List, length, refl, sym, ap, subst, ◌∙◌, arith}
+use Rattle.std.proofs.Common.{◌≤◌, ℕ, List, length, refl, sym, ap, subst, ◌∙◌, arith}
 use Rattle.jc_words.specs.Layout.{count_address, log_start}
 use Rattle.jc_words.specs.declared.log.Log.{Log}
 use Rattle.jc_commit.specs.Image.{top_of, touched_of, with_words}
