@@ -7,7 +7,7 @@ use Rattle.jc_commit.proofs.Steps.{limit-same}
 use Rattle.jc_commit.proofs.Entries.{target}
 use Rattle.jc_commit.proofs.Counted.{with_words_more}
 use Rattle.jc_commit.proofs.EntryKeeping.{Through, through}
-use Rattle.jc_commit.proofs.Writes.{no_write, one_write, no_more, more_writes, refused_later, at_err, stays_more, entries_more}
+use Rattle.jc_commit.proofs.Writes.{one_write, more_writes, stays_more, entries_more}
 use Rattle.jc_commit.proofs.keep.write_through.Goals as goal
 
 pub loop-i-preserved : goal.loop-i-preserved

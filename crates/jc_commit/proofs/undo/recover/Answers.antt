@@ -7,7 +7,7 @@ use Rattle.jc_commit.proofs.Steps.{limit-same}
 use Rattle.jc_commit.proofs.Openings.{migration_after, stops_first, stops_later, still_first, still_later, most_writes}
 use Rattle.jc_commit.specs.State.{undo_writes}
 use Rattle.jc_commit.proofs.Refusals.{anyway}
-use Rattle.jc_commit.proofs.Writes.{more_writes, refused_later, refused_early, at_err}
+use Rattle.jc_commit.proofs.Writes.{more_writes, refused_later, at_err}
 use Rattle.jc_commit.proofs.undo.recover.Goals as goal
 
 pub migrate-requires : goal.migrate-requires
