@@ -65,30 +65,17 @@ returns-in_err-count_entries-clause-wrote g c =
     at_err c.from_residual-in_err-count_entries.result c.from_residual-in_err-count_entries.ensures.0
     (refused_later c.in_ok-behind.ensures.wrote c.in_err-count_entries.ensures.wrote (omega (arith, long, sum)))
 
-pub write_through-requires-clause-good : goal.write_through-requires-clause-good
-write_through-requires-clause-good g c =
-    let now = counting _ (g.C.WordChanges.changes c.args.changes.now) c.requires.sound c.requires.places c.requires.needed c.requires.room c.read-first.ensures
-    c.in_ok-behind.ensures.put c.put_counted.ensures.same c.in_ok-count_entries.ensures.words in
-    now.ready.good
-
-pub write_through-requires-clause-places : goal.write_through-requires-clause-places
-write_through-requires-clause-places g c =
-    let now = counting _ (g.C.WordChanges.changes c.args.changes.now) c.requires.sound c.requires.places c.requires.needed c.requires.room c.read-first.ensures
-    c.in_ok-behind.ensures.put c.put_counted.ensures.same c.in_ok-count_entries.ensures.words in
-    subst (λ (n : ℕ). ArePlaces n (g.C.WordChanges.changes c.args.changes.now)) (sym (limit-same _ _ now.ready.size now.ready.log)) c.requires.places
-
-pub write_through-requires-clause-kept : goal.write_through-requires-clause-kept
-write_through-requires-clause-kept g c =
-    let now = counting _ (g.C.WordChanges.changes c.args.changes.now) c.requires.sound c.requires.places c.requires.needed c.requires.room c.read-first.ensures
-    c.in_ok-behind.ensures.put c.put_counted.ensures.same c.in_ok-count_entries.ensures.words in
-    all_go_back (g.S.WordStore.words c.args.store.now) (g.S.WordStore.words c.count_entries.new.store) c.args.born (g.C.WordChanges.changes c.args.changes.now) now.ready.entries
-
-pub write_through-requires-clause-births : goal.write_through-requires-clause-births
-write_through-requires-clause-births g c =
-    let now = counting _ (g.C.WordChanges.changes c.args.changes.now) c.requires.sound c.requires.places c.requires.needed c.requires.room c.read-first.ensures
-    c.in_ok-behind.ensures.put c.put_counted.ensures.same c.in_ok-count_entries.ensures.words in
-    let top = ap top_of now.ready.recovered in
-    omega (arith, top, c.requires.sound.births refl refl)
+pub write_through-requires : goal.write_through-requires
+write_through-requires g c =
+    let changes = g.C.WordChanges.changes c.args.changes.now in
+    let now = counting _ changes c.requires.sound c.requires.places c.requires.needed c.requires.room c.read-first.ensures c.in_ok-behind.ensures.put
+    c.put_counted.ensures.same c.in_ok-count_entries.ensures.words in
+    let top = ap top_of now.ready.recovered in record {
+      good = now.ready.good;
+      places = subst (λ (n : ℕ). ArePlaces n changes) (sym (limit-same _ _ now.ready.size now.ready.log)) c.requires.places;
+      kept = all_go_back (g.S.WordStore.words c.args.store.now) (g.S.WordStore.words c.count_entries.new.store) c.args.born changes now.ready.entries;
+      births = omega (arith, top, c.requires.sound.births refl refl);
+    }
 
 pub returns-in_err-write_through-clause-stays : goal.returns-in_err-write_through-clause-stays
 returns-in_err-write_through-clause-stays g c =

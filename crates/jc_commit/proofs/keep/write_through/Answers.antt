@@ -7,17 +7,8 @@ use Rattle.jc_commit.proofs.Steps.{limit-same}
 use Rattle.jc_commit.proofs.Entries.{target}
 use Rattle.jc_commit.proofs.Counted.{with_words_more}
 use Rattle.jc_commit.proofs.EntryKeeping.{Through, through}
-use Rattle.jc_commit.proofs.Writes.{no_write, one_write, no_more, more_writes, refused_later, at_err, stays_more, entries_more}
+use Rattle.jc_commit.proofs.Writes.{one_write, more_writes, stays_more, entries_more}
 use Rattle.jc_commit.proofs.keep.write_through.Goals as goal
-
--- nothing is written yet
-pub loop-i-init : goal.loop-i-init
-loop-i-init g c = record {
-  stays = record { good = c.requires.good; size = refl; log = refl; live = refl; top = refl };
-  entries = record { entries = refl; count = refl; addresses = λ k few. refl };
-  plain = refl;
-  wrote = no_write _;
-}
 
 pub loop-i-preserved : goal.loop-i-preserved
 loop-i-preserved g c =
@@ -61,11 +52,3 @@ returns-in_err-write-clause-stays g c =
 pub returns-in_err-write-clause-entries : goal.returns-in_err-write-clause-entries
 returns-in_err-write-clause-entries g c =
     subst (λ (u : List ℕ). KeepsEntries (g.S.WordStore.words c.args.store.now) u) (sym c.in_err-write.ensures.kept) c.loop-i.invariant.entries
-
-pub returns-in_err-write-clause-wrote : goal.returns-in_err-write-clause-wrote
-returns-in_err-write-clause-wrote g c =
-    let e = c.in_err-write.ensures in
-    at_err c.from_residual.result c.from_residual.ensures.0 (refused_later c.loop-i.invariant.wrote (no_more e.down e.passed e.refusals) (omega arith))
-
-pub returns-clause-wrote : goal.returns-clause-wrote
-returns-clause-wrote g c = more_writes c.loop-i.invariant.wrote (no_write _) (omega arith)

@@ -7,21 +7,18 @@ use Rattle.jc_commit.proofs.Steps.{limit-same}
 use Rattle.jc_commit.proofs.Openings.{migration_after, stops_first, stops_later, still_first, still_later, most_writes}
 use Rattle.jc_commit.specs.State.{undo_writes}
 use Rattle.jc_commit.proofs.Refusals.{anyway}
-use Rattle.jc_commit.proofs.Writes.{more_writes, refused_later, refused_early, at_err}
+use Rattle.jc_commit.proofs.Writes.{more_writes, refused_later, at_err}
 use Rattle.jc_commit.proofs.undo.recover.Goals as goal
 
 pub migrate-requires : goal.migrate-requires
 migrate-requires g c = let big = c.replay.ensures.stays.good.size.enough in omega (arith, big)
 
 pub returns-clause-good : goal.returns-clause-good
-returns-clause-good g c =
-    let u = g.S.WordStore.words c.replay.new.store in
-    subst IsGoodLog (sym c.in_ok-migrate.ensures.words) (migrates u 3 c.replay.ensures.stays.good).good
+returns-clause-good g c = subst IsGoodLog (sym c.in_ok-migrate.ensures.words) (migrates _ 3 c.replay.ensures.stays.good).good
 
 pub returns-clause-size : goal.returns-clause-size
 returns-clause-size g c =
-    let u = g.S.WordStore.words c.replay.new.store in
-    ap (λ (v : List ℕ). length v) c.in_ok-migrate.ensures.words ∙ (migrates u 3 c.replay.ensures.stays.good).size ∙ c.replay.ensures.stays.size
+    ap (λ (v : List ℕ). length v) c.in_ok-migrate.ensures.words ∙ (migrates _ 3 c.replay.ensures.stays.good).size ∙ c.replay.ensures.stays.size
 
 pub returns-clause-recovered : goal.returns-clause-recovered
 returns-clause-recovered g c =
@@ -41,10 +38,6 @@ returns-clause-wrote g c =
     more_writes c.in_ok-replay.ensures.wrote c.in_ok-migrate.ensures.wrote
     (ap (λ (ws : List (ℕ × ℕ)). undo_writes (count_of (g.S.WordStore.words c.args.store.now)) + length ws) (sym same))
 
-pub returns-in_err-replay-clause-wrote : goal.returns-in_err-replay-clause-wrote
-returns-in_err-replay-clause-wrote g c =
-    at_err c.from_residual.result c.from_residual.ensures.0 (refused_early c.in_err-replay.ensures.wrote (omega arith))
-
 pub returns-in_err-migrate-clause-wrote : goal.returns-in_err-migrate-clause-wrote
 returns-in_err-migrate-clause-wrote g c =
     let long : length (migration (g.S.WordStore.words c.replay.new.store)) ≡ length (migration (g.S.WordStore.words c.args.store.now)) =
@@ -55,14 +48,12 @@ returns-in_err-migrate-clause-wrote g c =
 
 pub returns-clause-limit : goal.returns-clause-limit
 returns-clause-limit g c =
-    let w = g.S.WordStore.words c.args.store.now in
-    let u = g.S.WordStore.words c.replay.new.store in
-    ap limit_of c.in_ok-migrate.ensures.words ∙ (migrates u 3 c.replay.ensures.stays.good).limit
-    ∙ limit-same w u c.replay.ensures.stays.size c.replay.ensures.stays.log
+    let stays = c.replay.ensures.stays in
+    ap limit_of c.in_ok-migrate.ensures.words ∙ (migrates _ 3 stays.good).limit ∙ limit-same _ _ stays.size stays.log
 
 pub returns-in_err-replay-clause-limit : goal.returns-in_err-replay-clause-limit
 returns-in_err-replay-clause-limit g c =
-    limit-same (g.S.WordStore.words c.args.store.now) (g.S.WordStore.words c.replay.new.store) c.replay.ensures.stays.size c.replay.ensures.stays.log
+    limit-same _ _ c.replay.ensures.stays.size c.replay.ensures.stays.log
 
 pub returns-in_err-replay-clause-still : goal.returns-in_err-replay-clause-still
 returns-in_err-replay-clause-still g c =
@@ -74,22 +65,19 @@ returns-in_err-replay-clause-part g c =
 
 pub returns-in_err-migrate-clause-good : goal.returns-in_err-migrate-clause-good
 returns-in_err-migrate-clause-good g c =
-    let u = g.S.WordStore.words c.replay.new.store in
     let part = c.in_err-migrate.ensures.part in
-    subst IsGoodLog (sym part.2) (migrates u part.0 c.replay.ensures.stays.good).good
+    subst IsGoodLog (sym part.2) (migrates _ part.0 c.replay.ensures.stays.good).good
 
 pub returns-in_err-migrate-clause-size : goal.returns-in_err-migrate-clause-size
 returns-in_err-migrate-clause-size g c =
-    let u = g.S.WordStore.words c.replay.new.store in
     let part = c.in_err-migrate.ensures.part in
-    ap (λ (v : List ℕ). length v) part.2 ∙ (migrates u part.0 c.replay.ensures.stays.good).size ∙ c.replay.ensures.stays.size
+    ap (λ (v : List ℕ). length v) part.2 ∙ (migrates _ part.0 c.replay.ensures.stays.good).size ∙ c.replay.ensures.stays.size
 
 pub returns-in_err-migrate-clause-limit : goal.returns-in_err-migrate-clause-limit
 returns-in_err-migrate-clause-limit g c =
-    let w = g.S.WordStore.words c.args.store.now in
-    let u = g.S.WordStore.words c.replay.new.store in
     let part = c.in_err-migrate.ensures.part in
-    ap limit_of part.2 ∙ (migrates u part.0 c.replay.ensures.stays.good).limit ∙ limit-same w u c.replay.ensures.stays.size c.replay.ensures.stays.log
+    let stays = c.replay.ensures.stays in
+    ap limit_of part.2 ∙ (migrates _ part.0 stays.good).limit ∙ limit-same _ _ stays.size stays.log
 
 pub returns-in_err-migrate-clause-still : goal.returns-in_err-migrate-clause-still
 returns-in_err-migrate-clause-still g c =

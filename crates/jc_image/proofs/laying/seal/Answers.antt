@@ -10,9 +10,9 @@ returns-in-Ok-clause-sealed g c =
     let e = c.into_store.ensures in
     holds_sealed (g.S.WordStore.words c.into_store.result) _ _ _ c.write_both.new.self c.into_journal-journal.result c.args.heap c.args.heap.size
     (record {
-      good = e.good;
-      plain = e.plain;
-      recovered = e.recovered;
+      good = e.stands.good;
+      plain = e.stands.plain;
+      recovered = e.stands.recovered;
       size = e.size;
       down = e.down;
       passed = e.passed;
@@ -30,9 +30,9 @@ returns-in-Ok-clause-front g c =
     let held : HoldsHeap (S.words s) (S.down s) (S.passed s) (S.refusals s) (sealed_view c.args.heap) =
     holds_sealed (S.words s) _ _ _ c.write_both.new.self c.into_journal-journal.result c.args.heap c.args.heap.size
     (record {
-      good = e.good;
-      plain = e.plain;
-      recovered = e.recovered;
+      good = e.stands.good;
+      plain = e.stands.plain;
+      recovered = e.stands.recovered;
       size = e.size;
       down = e.down;
       passed = e.passed;
@@ -54,9 +54,9 @@ returns-in-Err-clause-stopped g c =
     let e = c.into_store-in-Err.ensures in
     holds_unsealed (g.S.WordStore.words c.into_store-in-Err.result) _ _ _ c.write_both.new.self c.into_journal-journal.result c.args.heap c.args.heap.size
     (record {
-      good = e.good;
-      plain = e.plain;
-      recovered = e.recovered;
+      good = e.stands.good;
+      plain = e.stands.plain;
+      recovered = e.stands.recovered;
       size = e.size;
       down = e.down;
       passed = e.passed;

@@ -12,16 +12,16 @@ later : (x : ℕ) → x ≡ version → x ≢ first_version
 later x e = λ is. absurd (omega (arith, e, is))
 
 pub returns-in-Ok-clause-heap : goal.returns-in-Ok-clause-heap
-returns-in-Ok-clause-heap c = ap plain_of c.into_words.ensures ∙ c.into_store-store.ensures.plain ∙ ap (λ (s : State). s.plain) c.in-Ok.ensures.recovered
+returns-in-Ok-clause-heap c = ap plain_of c.into_words.ensures ∙ c.into_store-store.ensures.stands.plain ∙ ap (λ (s : State). s.plain) c.in-Ok.ensures.recovered
     ∙ ap (λ (m : MemStoreValue). migrated 3 (recovered_of m.words)) c.of.ensures
 
 pub returns-in-Ok-clause-recovered : goal.returns-in-Ok-clause-recovered
 returns-in-Ok-clause-recovered c =
     let left = c.into_store-store.ensures in
     let words = c.into_words.ensures in (
-      rw words left.good,
-      ap recovered_of words ∙ left.recovered ∙ ap (λ (s : State). s.recovered) c.in-Ok.ensures.recovered
-          ∙ sym (ap plain_of words ∙ left.plain ∙ ap (λ (s : State). s.plain) c.in-Ok.ensures.recovered),
+      rw words left.stands.good,
+      ap recovered_of words ∙ left.stands.recovered ∙ ap (λ (s : State). s.recovered) c.in-Ok.ensures.recovered
+          ∙ sym (ap plain_of words ∙ left.stands.plain ∙ ap (λ (s : State). s.plain) c.in-Ok.ensures.recovered),
       later _ (ap (λ (w : List ℕ). slice_index w version_address) words ∙ left.current),
     )
 

@@ -10,9 +10,9 @@ returns g c =
     subst (HoldsImage (g.S.WordStore.words s) (g.S.WordStore.down s) (g.S.WordStore.passed s) (g.S.WordStore.refusals s)) c.self.view_is
     (holds_image _ _ _ _ c.self.inside.journal c.self.inside.size
     (record {
-      good = e.good;
-      plain = e.plain;
-      recovered = e.recovered;
+      good = e.stands.good;
+      plain = e.stands.plain;
+      recovered = e.stands.recovered;
       size = e.size;
       down = e.down;
       passed = e.passed;
