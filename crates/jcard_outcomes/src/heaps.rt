@@ -1,9 +1,12 @@
 //! Comparing the heaps of two images, word by word.
-ghost use Rattle.std.specs.Prelude.{◌≡◌, ◌≤◌, ◌<◌, ◌↔◌, slice_index, true, IsTrue, MatchOption};
+ghost use Rattle.std.specs.Prelude.{◌≡◌, ◌≤◌, ◌<◌, ◌↔◌, ℕ, slice_index, true, IsTrue, MatchOption};
 ghost use Rattle.jc_words.specs.Layout.{top_address};
 ghost use Rattle.jcard_outcomes.specs.Heaps.{AgreeAtSpared, AgreeBetween, IsDifference, StandsAsAfter, StandsAsBefore, differ_at, words_above};
 
 use jc_words::layout::{ADDRESSES, PACKAGES, RESET_END, TEXT_LENGTH, TOP};
+
+/// How many words are compared at once.
+const BLOCK: u16 = 64;
 
 /// A word that has become another.
 #[derive(Clone, Copy, Drop)]
@@ -94,10 +97,54 @@ fn first_difference(spared: &[u16], a: &[u16], b: &[u16], first: u16, end: u16) 
     ensures { MatchOption result (AgreeBetween first end spared.now a.now b.now)
         (λ i. (first ≤ i) × (i < end) × (differ_at spared.now a.now b.now i ≡ true)) }
 {
-    for address in first..end {
+    let mut from = first;
+    while from < end {
+        let to = block_end(from, end);
+        if let Some(address) = difference_in_block(spared, a, b, from, to) {
+            return Some(address);
+        }
+        from = to;
+    }
+    None
+}
+
+// Where a block of words ends that are compared at once.
+fn block_end(from: u16, end: u16) -> u16
+    requires { from < end }
+    ensures some { from < result }
+    ensures within { result ≤ end }
+{
+    if end - from > BLOCK { from + BLOCK } else { end }
+}
+
+// The first address in a block at which two images differ.
+fn difference_in_block(spared: &[u16], a: &[u16], b: &[u16], from: u16, to: u16) -> Option<u16>
+    ensures { MatchOption result (AgreeBetween from to spared.now a.now b.now)
+        (λ i. (from ≤ i) × (i < to) × (differ_at spared.now a.now b.now i ≡ true)) }
+{
+    if have_same_words(a, b, usize::from(from), usize::from(to)) {
+        return None;
+    }
+    for address in from..to {
         if word_at(a, address) != word_at(b, address) && !spared.contains(&address) {
             return Some(address);
         }
     }
     None
+}
+
+// Whether two images have all words of a block, and the same ones.
+fn have_same_words(a: &[u16], b: &[u16], from: usize, to: usize) -> bool
+    ensures { IsTrue result → (i : ℕ) → from ≤ i → i < to → slice_index a.now i ≡ slice_index b.now i }
+{
+    if from > to || to > a.len() || to > b.len() {
+        return false;
+    }
+    are_equal(&a[from..to], &b[from..to])
+}
+
+fn are_equal(a: &[u16], b: &[u16]) -> bool
+    ensures { IsTrue result → a.now ≡ b.now }
+{
+    a == b
 }

@@ -9,6 +9,7 @@ use Rattle.jc_commit.specs.Image.{IsGoodLog, plain_of, recovered_of, with_words}
 use Rattle.jc_commit.specs.Migration.{migrated, migration}
 use Rattle.jc_commit.specs.Replay.{replay_writes}
 use Rattle.jc_commit.proofs.Migrations.{migration-recovered}
+use Rattle.jc_session.specs.Power.{Up}
 use Rattle.jcard_script.specs.Begun.{LeavesCut}
 use Rattle.jcard_script.specs.Script.{EndsWithin}
 use Rattle.jcard_outcomes.specs.declared.recoveries.Depth.{Depth}
@@ -19,7 +20,7 @@ use Rattle.jcard_outcomes.specs.declared.standing.Left.{Left}
 use Rattle.jcard_outcomes.specs.declared.standing.Standing.{Standing}
 use Rattle.jcard_outcomes.specs.Standings.{IsStanding, lost_of}
 use Rattle.jcard_tear.specs.Faults.{IsCarriedOut}
-use Rattle.jcard_tear.specs.Kept.{HasAnswered, IsKeptFor, IsLastCut, IsReportedAlike, IsReportedAt, MayLeave, none_cut}
+use Rattle.jcard_tear.specs.Kept.{GivesAnswers, HasAnswered, IsKeptFor, IsLastCut, IsReportedAlike, IsReportedAt, MayLeave, none_cut}
 use Rattle.jcard_tear.specs.Recoveries.{AreRecoveries}
 use Rattle.jcard_tear.specs.Runs.{IsLeft, IsRecovered, Runs, store_of}
 use Rattle.jcard_tear.specs.Sweeps.{IsCutAt, IsUncutAt, cut_script}
@@ -36,9 +37,15 @@ migrated_none w good later =
     let none : migration w ≡ [] = rw (ne_eqb (slice_index w version_address) first_version later) refl in
     ap (λ (ws : List (ℕ × ℕ)). with_words (recovered_of w) (take 3 ws)) (migration-recovered w good ∙ none)
 
+-- a script is carried out by the card that is powered up over these words
+pub gives_runs : (budget : ℕ) (words probe answers : List ℕ) → GivesAnswers budget words probe answers → (last : FuseStoreValue) × Runs budget words probe answers last
+gives_runs budget words probe answers g = (g.2, inr (Up g.0, g.3.0, g.1, g.3.2, g.3.1))
+
 -- what is left by words that a recovery leaves as they are
-is_left : (budget : ℕ) (probe : List ℕ) (left : Left) → IsRecovered left.words.items → HasAnswered budget probe left → IsLeft budget left.words.items probe left
-is_left budget probe left is has = (has.0, sym (migrated_none left.words.items is.0 is.2 ∙ is.1), has.1, is)
+pub is_left : (budget : ℕ) (probe : List ℕ) (left : Left) → IsRecovered left.words.items → HasAnswered budget probe left → IsLeft budget left.words.items probe left
+is_left budget probe left is has =
+    let runs = gives_runs budget left.words.items probe left.answers.items has in
+    (runs.0, sym (migrated_none left.words.items is.0 is.2 ∙ is.1), runs.1, is)
 
 -- the same heap as was left may be left by this cut
 cut_alike : (words : List ℕ) (c : Command) (k : ℕ) (heap : List ℕ) (left : Left) (r : Recoveries) → c.behind.depth ≡ Zero → MayLeave words c k heap
