@@ -20,3 +20,4 @@ pub mod Shares
 pub mod JoinEnds
 pub mod ShareLists
 pub mod PartHeads
+pub mod Blocks

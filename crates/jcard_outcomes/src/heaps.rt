@@ -114,7 +114,11 @@ fn block_end(from: u16, end: u16) -> u16
     ensures some { from < result }
     ensures within { result ≤ end }
 {
-    if end - from > BLOCK { from + BLOCK } else { end }
+    if end - from > BLOCK {
+        from + BLOCK
+    } else {
+        end
+    }
 }
 
 // The first address in a block at which two images differ.

@@ -1,6 +1,6 @@
 -- Images that hold one heap: a card powers up over either in the same way.
 use Rattle.std.proofs.Common.{◌≡◌, ◌≢◌, ◌∙◌, ◌+◌, ◌*◌, ◌-◌, ◌<◌, ◌≤◌, ◌⊎◌, ℕ, Bool, true, false, cond, List, [], length, min, take, drop, get_or, ap, ap₂, arith, inl, inr, refl, subst, sym, ⊎_elim}
-use Rattle.std.proofs.Common.{get_or-take, get_or-drop}
+use Rattle.std.proofs.Common.{get_or-take}
 use Rattle.std.specs.Prelude.{slice_index}
 use Rattle.std.proofs.lemmas.Bool.{cases_lt, ne_eqb}
 use Rattle.std.proofs.lemmas.List.{ext_get_or, length-take}
@@ -25,18 +25,10 @@ use Rattle.jc_card.specs.Reset.{IsAtReset}
 use Rattle.jcard_tear.specs.Kept.{GivesAnswers, HoldOneHeap}
 use Rattle.jcard_tear.specs.Runs.{IsRecovered}
 use Rattle.jcard_tear.proofs.KeptCuts.{migrated_none}
+use Rattle.jcard_outcomes.proofs.Blocks.{agree_between}
 use Rattle.jcard_tear.proofs.SameHeaps.{agree_below}
 
 -- ---- words that are compared in two parts
-
--- words that are the same from one place up to another
-agree_between : (a b : List ℕ) (from to k : ℕ) → take (to - from) (drop from a) ≡ take (to - from) (drop from b) → from ≤ k → k < to → get_or a k 0 ≡ get_or b k 0
-agree_between a b from to k same above below =
-    let place : from + (k - from) ≡ k = omega (arith, above) in
-    let within : k - from < to - from = omega (arith, above, below) in
-    subst (λ (i : ℕ). get_or a i 0 ≡ get_or b i 0) place
-    (sym (get_or-drop from a (k - from) 0) ∙ sym (get_or-take (to - from) (drop from a) (k - from) 0 within)
-    ∙ ap (λ (u : List ℕ). get_or u (k - from) 0) same ∙ get_or-take (to - from) (drop from b) (k - from) 0 within ∙ get_or-drop from b (k - from) 0)
 
 -- two images whose words are the same before the journal, as far as the first words and the heap reach, and after it hold one heap
 pub one_heap : (a b : List ℕ) (front back : ℕ) → length a ≡ length b → least_size ≤ length b → IsLogAmong (length b) (log_of b)
@@ -44,7 +36,7 @@ pub one_heap : (a b : List ℕ) (front back : ℕ) → length a ≡ length b →
     → (back ≡ length b) ⊎ (top_of b ≤ back)
     → take front a ≡ take front b
     → take (back - ((log_of b).start + 2 * (log_of b).capacity)) (drop ((log_of b).start + 2 * (log_of b).capacity) a)
-        ≡ take (back - ((log_of b).start + 2 * (log_of b).capacity)) (drop ((log_of b).start + 2 * (log_of b).capacity) b)
+    ≡ take (back - ((log_of b).start + 2 * (log_of b).capacity)) (drop ((log_of b).start + 2 * (log_of b).capacity) b)
     → HoldOneHeap a b
 one_heap a b front back long enough fits at_front at_back fr bk =
     let l : Log = log_of b in

@@ -50,7 +50,13 @@ pub(crate) fn hold_one_heap(a: &[u16], b: &[u16]) -> bool
     let start = usize::from(log.start);
     let end = start + 2 * usize::from(log.capacity);
     let top = usize::from(b[usize::from(TOP)]);
-    agree_in_parts(a, b, front_end(start, top), end, back_end(end, top, b.len()))
+    agree_in_parts(
+        a,
+        b,
+        front_end(start, top),
+        end,
+        back_end(end, top, b.len()),
+    )
 }
 
 // Whether words are the same below one place, and from another one up to a third.
