@@ -147,7 +147,8 @@ fn have_same_words(a: &[u16], b: &[u16], from: usize, to: usize) -> bool
     are_equal(&a[from..to], &b[from..to])
 }
 
-fn are_equal(a: &[u16], b: &[u16]) -> bool
+/// Whether these words are those.
+pub(crate) fn are_equal(a: &[u16], b: &[u16]) -> bool
     ensures { IsTrue result → a.now ≡ b.now }
 {
     a == b

@@ -1,10 +1,12 @@
 //! How what a cut left stands beside what was there before the command, and beside what it leaves where it is not cut.
-ghost use Rattle.std.specs.Prelude.{◌≡◌, IsTrue, IsSome};
+ghost use Rattle.std.specs.Prelude.{◌≡◌, IsTrue, IsSome, MatchOption};
 ghost use Rattle.std.specs.Bool.{MatchBool};
-ghost use Rattle.jcard_outcomes.specs.Heaps.{AgreeAtSpared, StandsAsBefore};
+ghost use Rattle.jcard_outcomes.specs.Heaps.{AgreeAtSpared, IsDifference, StandsAsBefore};
 ghost use Rattle.jcard_outcomes.specs.Standings.{IsJudged, IsLikeness, IsStanding, lost_of, told_of_calls};
 
-use crate::heaps::{Difference, agree_at_spared, changed_since, is_as_after, words_above};
+use crate::heaps::{
+    Difference, agree_at_spared, are_equal, changed_since, is_as_after, words_above,
+};
 use crate::recoveries::Recoveries;
 
 /// What a reset found, and what a probe was answered then.
@@ -71,7 +73,27 @@ pub fn standing_of(
     let like_before = compared(spared, before, changed.is_none(), heap, answers);
     let like_after = compared(spared, after, is_after, heap, answers);
     let judged = judge(changed, like_before, like_after);
-    told_of_calls(is_as_before(lenient, &before.words, heap), judged)
+    let by_calls = is_but_by_calls(spared, lenient, changed, &before.words, heap);
+    told_of_calls(by_calls, judged)
+}
+
+// Whether what stood before stands. The words at the lenient addresses do not count; where they are those that are spared, it is known already.
+fn is_but_by_calls(
+    spared: &[u16],
+    lenient: &[u16],
+    changed: Option<Difference>,
+    before: &[u16],
+    heap: &[u16],
+) -> bool
+    requires { MatchOption changed (StandsAsBefore spared.now before.now heap.now)
+        (λ d. IsDifference spared.now before.now heap.now d) }
+    ensures { MatchBool result (StandsAsBefore lenient.now before.now heap.now)
+        (StandsAsBefore lenient.now before.now heap.now → ⊥) }
+{
+    if are_equal(lenient, spared) {
+        return changed.is_none();
+    }
+    is_as_before(lenient, before, heap)
 }
 
 // Whether what stood before stands. The words at the lenient addresses do not count.
