@@ -45,7 +45,8 @@ pub(crate) fn reported_cut(
     Ok(cut)
 }
 
-// What is left, and what is reported of it: as of the cut before, if that left the same heap.
+// What is left, and what is reported of it: the answers are those of the cut before, if that left the same heap. Where objects are asked for and no
+// word is another, the whole report is the same.
 fn next_reported(
     alloc: Global,
     command: Command,
@@ -65,7 +66,7 @@ fn next_reported(
     let Some(reported) = last else {
         return first_reported(alloc, command, shared, found);
     };
-    if are_alike(&reported.left.words, &found) {
+    if shared.objects.is_some() && are_alike(&reported.left.words, &found) {
         return Ok(reported);
     }
     if hold_one_heap(&reported.left.words, &found) {
