@@ -20,10 +20,10 @@ use Rattle.jcard_outcomes.specs.declared.standing.Left.{Left}
 use Rattle.jcard_outcomes.specs.declared.standing.Standing.{Standing}
 use Rattle.jcard_outcomes.specs.Standings.{IsStanding, lost_of}
 use Rattle.jcard_tear.specs.Faults.{IsCarriedOut}
-use Rattle.jcard_tear.specs.Kept.{GivesAnswers, HasAnswered, IsKeptFor, IsLastCut, IsReportedAlike, IsReportedAt, MayLeave, none_cut}
+use Rattle.jcard_tear.specs.Kept.{GivesAnswers, HasAnswered, IsKeptFor, IsKnown, IsLastCut, IsReportedAlike, IsReportedAt, MayLeave, none_cut}
 use Rattle.jcard_tear.specs.Recoveries.{AreRecoveries}
 use Rattle.jcard_tear.specs.Runs.{IsLeft, IsRecovered, Runs, store_of}
-use Rattle.jcard_tear.specs.Sweeps.{IsCutAt, IsUncutAt, cut_script}
+use Rattle.jcard_tear.specs.Sweeps.{IsCutAt, IsToldAs, IsUncutAt, cut_script}
 use Rattle.jcard_tear.specs.declared.cuts.Command.{Command}
 use Rattle.jcard_tear.specs.declared.cuts.Shared.{Shared}
 use Rattle.jcard_tear.specs.Told.{IsTold}
@@ -71,6 +71,17 @@ cut_alike words c k heap left r zero may is same has none =
 pub reported_at : (words : List ℕ) (c : Command) (s : Shared) (k : ℕ) (heap : List ℕ) (cut : Cut) → c.behind.depth ≡ Zero → MayLeave words c k heap
     → IsReportedAlike c s heap cut → IsReportedAt words c s k cut
 reported_at words c s k heap cut zero may t = (t.0.left, cut_alike words c k heap t.0.left cut.recoveries zero may t.1.0 t.2 t.1.1 t.4, t.3)
+
+-- what is left, where its answers are known, and told so
+pub told_last_cut : (c : Command) (s : Shared) (left : Left) (reported : LastCut) → IsKnown c left → reported.left ≡ left
+    → IsToldAs s.spared.now s.lenient.now s.objects.now s.before.now s.after.now left reported.cut → reported.cut.recoveries ≡ none_cut → IsLastCut c s reported
+told_last_cut c s left reported known same told none =
+    let is = subst (λ (l : Left). IsKnown c l) (sym same) known in (
+      is.0,
+      is.1,
+      subst (λ (l : Left). IsToldAs s.spared.now s.lenient.now s.objects.now s.before.now s.after.now l reported.cut) (sym same) told,
+      none,
+    )
 
 -- a copy of what was reported last reports the same
 pub copied_alike : (c : Command) (s : Shared) (reported : LastCut) (heap : List ℕ) (cut : Cut) → IsLastCut c s reported → plain_of reported.left.words.items ≡ heap

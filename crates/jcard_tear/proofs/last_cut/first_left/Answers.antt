@@ -1,4 +1,4 @@
-use Rattle.std.proofs.Common.{List, ℕ, refl, subst, sym}
+use Rattle.std.proofs.Common.{◌∙◌, List, ℕ, refl, subst, sym}
 use Rattle.jcard_tear.specs.Kept.{GivesAnswers, HoldOneHeap}
 use Rattle.jcard_tear.proofs.OneHeaps.{gives_alike}
 use Rattle.jcard_tear.proofs.Uncut.{memory_probed, passed_on}
@@ -13,7 +13,7 @@ returns-then-is_as_before c =
     let before : List ℕ = c.args.shared.now.before.now.words.items in
     let one = subst (λ (w : List ℕ). HoldOneHeap before w) c.deref.ensures.value (c.is_as_before.ensures.one c.if-is_as_before.true) in
     let gives = gives_alike before found one known.0 c.requires.recovered budget probe c.args.shared.now.before.now.answers.items known.1 in
-    ((c.requires.recovered, subst (λ (t : List ℕ). GivesAnswers budget found probe t) (sym c.in_ok-answers.ensures.items) gives), refl)
+    ((c.requires.recovered, subst (λ (t : List ℕ). GivesAnswers budget found probe t) (sym (c.in_ok-answers.ensures.items ∙ c.deref-then-is_as_before.ensures.value)) gives), refl)
 
 pub returns-in_err-answers : goal.returns-in_err-answers
 returns-in_err-answers c = passed_on _ _ c.from_residual.result c.from_residual.ensures.1
