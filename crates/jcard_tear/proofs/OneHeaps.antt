@@ -1,5 +1,5 @@
 -- Images that hold one heap: a card powers up over either in the same way.
-use Rattle.std.proofs.Common.{◌≡◌, ◌≢◌, ◌∙◌, ◌+◌, ◌*◌, ◌-◌, ◌<◌, ◌≤◌, ◌⊎◌, ℕ, Bool, true, false, cond, List, [], length, min, take, drop, get_or, ap, ap₂, arith, inl, inr, refl, subst, sym, ⊎_elim}
+use Rattle.std.proofs.Common.{◌≡◌, ◌≢◌, ◌∙◌, ◌+◌, ◌*◌, ◌-◌, ◌<◌, ◌≤◌, ◌⊎◌, ℕ, Bool, true, false, cond, List, [], length, min, take, drop, get_or, ap, ap₂, arith, refl, subst, sym, ⊎_elim}
 use Rattle.std.proofs.Common.{get_or-take}
 use Rattle.std.specs.Prelude.{slice_index}
 use Rattle.std.proofs.lemmas.Bool.{cases_lt, ne_eqb}
@@ -8,7 +8,7 @@ use Rattle.std.proofs.lemmas.List.FromFn.{get_or-map-range_with_len}
 use Rattle.jc_words.specs.Count.{saturating_count}
 use Rattle.jc_words.specs.Image.{IsLogAmong, heap_end, log_of}
 use Rattle.jc_words.specs.Layout.{capacity_address, count_address, first_version, front_length, journal_address, least_size, top_address, version_address}
-use Rattle.jc_words.specs.Refusals.{Refusals, no_refusals}
+use Rattle.jc_words.specs.Refusals.{no_refusals}
 use Rattle.jc_words.specs.declared.log.Log.{Log}
 use Rattle.jc_commit.specs.Image.{is_log, limit_of, plain_of, recovered_of, top_of, touched_of, words_by}
 use Rattle.jc_commit.specs.Migration.{migrated, migration}
@@ -16,7 +16,7 @@ use Rattle.jc_commit.specs.State.{recovered_journal, undo_writes}
 use Rattle.jc_commit.proofs.InPlace.{length-recovered, plain_top}
 use Rattle.jc_commit.proofs.Views.{length-touched}
 use Rattle.jc_commit.proofs.Words.{bounds, length-words_by, log-same, not_entry}
-use Rattle.jc_heap.specs.Heap.{HeapState, HeapView, heap_of, heap_view, read_image}
+use Rattle.jc_heap.specs.Heap.{HeapState, heap_of, heap_view, read_image}
 use Rattle.jc_heap.specs.Image.{IsWellFormed, base, image, is_package, missing_words_of_image, package_addresses}
 use Rattle.jc_card.specs.CardState.{CardState}
 use Rattle.jc_card.specs.Made.{IsCardHeap}

@@ -1,7 +1,6 @@
-use Rattle.std.proofs.Common.{◌≡◌, ap, refl}
+use Rattle.std.proofs.Common.{ap}
 use Rattle.jc_commit.specs.Image.{plain_of}
 use Rattle.jcard_outcomes.specs.declared.standing.Left.{Left}
-use Rattle.jcard_tear.specs.Kept.{IsKnown}
 use Rattle.jcard_tear.proofs.KeptCuts.{told_last_cut}
 use Rattle.jcard_tear.proofs.OneHeaps.{gives_alike}
 use Rattle.jcard_tear.proofs.Uncut.{memory_probed, passed_on}
