@@ -1,8 +1,6 @@
 //! The card at a command, which is kept for all its faults: the lines before the command are carried out once.
 ghost use Rattle.std.specs.Prelude.{◌≡◌, ◌<◌, List, [], ℕ, length, IfOk, IfSome};
 ghost use Rattle.hex.specs.Hex.{encode_upper};
-ghost use Rattle.jc_words.specs.Stores.{FuseStoreValue};
-ghost use Rattle.jcard_script.specs.Begun.{AnswersLines};
 ghost use Rattle.jcard_attack.specs.Aftermaths.{IsAftermath, glitch_line};
 ghost use Rattle.jcard_attack.specs.Kept.{HasStruck, IsKeptFor, Leaves};
 ghost use Rattle.jcard_attack.specs.declared.aftermaths.Attacked.{Attacked as AnAttacked};
@@ -15,9 +13,7 @@ use jc_session::planned_fault::PlannedFault;
 use jc_words::{FuseStore, MemStore};
 use jcard_outcomes::standing::Left;
 use jcard_script::begun::{BegunScript, begin_script, command_of_line};
-use jcard_script::mem_text::MemText;
-use jcard_tear::kept_text::KeptText;
-use jcard_tear::runs::{recovered, words_of};
+use jcard_tear::runs::{probed, recovered, words_of};
 use std::alloc::{AllocError, Global};
 
 /// A card that has carried out the lines before a command, and the bytes of the command.
@@ -118,18 +114,6 @@ fn left_alone(alloc: Global, card: BegunScript<MemStore>) -> Option<Left>
         }),
         Err(_) => None,
     }
-}
-
-// What the lines of a probe are answered by this card.
-fn probed(alloc: Global, card: BegunScript<MemStore>, probe: &[u8]) -> Option<Vec<u8>>
-    ensures { IfSome result (λ answers. (last : FuseStoreValue) × AnswersLines card probe.now answers.items last) }
-{
-    let Ok(mut reader) = MemText::new(alloc, probe, 0) else {
-        return None;
-    };
-    let mut writer = KeptText::new(alloc);
-    let _last = card.answers(alloc, &mut reader, &mut writer)?;
-    Some(writer.into_bytes())
 }
 
 // Bytes in hexadecimal digits, in upper case.

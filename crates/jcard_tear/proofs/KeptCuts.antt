@@ -9,6 +9,7 @@ use Rattle.jc_commit.specs.Image.{IsGoodLog, plain_of, recovered_of, with_words}
 use Rattle.jc_commit.specs.Migration.{migrated, migration}
 use Rattle.jc_commit.specs.Replay.{replay_writes}
 use Rattle.jc_commit.proofs.Migrations.{migration-recovered}
+use Rattle.jc_session.specs.Power.{Up}
 use Rattle.jcard_script.specs.Begun.{LeavesCut}
 use Rattle.jcard_script.specs.Script.{EndsWithin}
 use Rattle.jcard_outcomes.specs.declared.recoveries.Depth.{Depth}
@@ -19,10 +20,10 @@ use Rattle.jcard_outcomes.specs.declared.standing.Left.{Left}
 use Rattle.jcard_outcomes.specs.declared.standing.Standing.{Standing}
 use Rattle.jcard_outcomes.specs.Standings.{IsStanding, lost_of}
 use Rattle.jcard_tear.specs.Faults.{IsCarriedOut}
-use Rattle.jcard_tear.specs.Kept.{HasAnswered, IsKeptFor, IsLastCut, IsReportedAlike, IsReportedAt, MayLeave, none_cut}
+use Rattle.jcard_tear.specs.Kept.{GivesAnswers, HasAnswered, IsKeptFor, IsKnown, IsLastCut, IsReportedAlike, IsReportedAt, MayLeave, none_cut}
 use Rattle.jcard_tear.specs.Recoveries.{AreRecoveries}
 use Rattle.jcard_tear.specs.Runs.{IsLeft, IsRecovered, Runs, store_of}
-use Rattle.jcard_tear.specs.Sweeps.{IsCutAt, IsUncutAt, cut_script}
+use Rattle.jcard_tear.specs.Sweeps.{IsCutAt, IsToldAs, IsUncutAt, cut_script}
 use Rattle.jcard_tear.specs.declared.cuts.Command.{Command}
 use Rattle.jcard_tear.specs.declared.cuts.Shared.{Shared}
 use Rattle.jcard_tear.specs.Told.{IsTold}
@@ -36,9 +37,15 @@ migrated_none w good later =
     let none : migration w ≡ [] = rw (ne_eqb (slice_index w version_address) first_version later) refl in
     ap (λ (ws : List (ℕ × ℕ)). with_words (recovered_of w) (take 3 ws)) (migration-recovered w good ∙ none)
 
+-- a script is carried out by the card that is powered up over these words
+pub gives_runs : (budget : ℕ) (words probe answers : List ℕ) → GivesAnswers budget words probe answers → (last : FuseStoreValue) × Runs budget words probe answers last
+gives_runs budget words probe answers g = (g.2, inr (Up g.0, g.3.0, g.1, g.3.2, g.3.1))
+
 -- what is left by words that a recovery leaves as they are
-is_left : (budget : ℕ) (probe : List ℕ) (left : Left) → IsRecovered left.words.items → HasAnswered budget probe left → IsLeft budget left.words.items probe left
-is_left budget probe left is has = (has.0, sym (migrated_none left.words.items is.0 is.2 ∙ is.1), has.1, is)
+pub is_left : (budget : ℕ) (probe : List ℕ) (left : Left) → IsRecovered left.words.items → HasAnswered budget probe left → IsLeft budget left.words.items probe left
+is_left budget probe left is has =
+    let runs = gives_runs budget left.words.items probe left.answers.items has in
+    (runs.0, sym (migrated_none left.words.items is.0 is.2 ∙ is.1), runs.1, is)
 
 -- the same heap as was left may be left by this cut
 cut_alike : (words : List ℕ) (c : Command) (k : ℕ) (heap : List ℕ) (left : Left) (r : Recoveries) → c.behind.depth ≡ Zero → MayLeave words c k heap
@@ -64,6 +71,17 @@ cut_alike words c k heap left r zero may is same has none =
 pub reported_at : (words : List ℕ) (c : Command) (s : Shared) (k : ℕ) (heap : List ℕ) (cut : Cut) → c.behind.depth ≡ Zero → MayLeave words c k heap
     → IsReportedAlike c s heap cut → IsReportedAt words c s k cut
 reported_at words c s k heap cut zero may t = (t.0.left, cut_alike words c k heap t.0.left cut.recoveries zero may t.1.0 t.2 t.1.1 t.4, t.3)
+
+-- what is left, where its answers are known, and told so
+pub told_last_cut : (c : Command) (s : Shared) (left : Left) (reported : LastCut) → IsKnown c left → reported.left ≡ left
+    → IsToldAs s.spared.now s.lenient.now s.objects.now s.before.now s.after.now left reported.cut → reported.cut.recoveries ≡ none_cut → IsLastCut c s reported
+told_last_cut c s left reported known same told none =
+    let is = subst (λ (l : Left). IsKnown c l) (sym same) known in (
+      is.0,
+      is.1,
+      subst (λ (l : Left). IsToldAs s.spared.now s.lenient.now s.objects.now s.before.now s.after.now l reported.cut) (sym same) told,
+      none,
+    )
 
 -- a copy of what was reported last reports the same
 pub copied_alike : (c : Command) (s : Shared) (reported : LastCut) (heap : List ℕ) (cut : Cut) → IsLastCut c s reported → plain_of reported.left.words.items ≡ heap

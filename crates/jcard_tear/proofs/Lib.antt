@@ -9,3 +9,4 @@ pub mod EveryLists
 pub mod Uncut
 pub mod SameHeaps
 pub mod KeptCuts
+pub mod OneHeaps

@@ -8,7 +8,7 @@ use Rattle.jc_commit.specs.Image.{is_log, limit_of, plain_of, words_by}
 use Rattle.jc_commit.proofs.Words.{bounds, log-same, not_entry, words_by_same}
 
 -- words that are the same below some place and from another on
-agree_below : (a b : List ℕ) (start k : ℕ) → take start a ≡ take start b → k < start → get_or a k 0 ≡ get_or b k 0
+pub agree_below : (a b : List ℕ) (start k : ℕ) → take start a ≡ take start b → k < start → get_or a k 0 ≡ get_or b k 0
 agree_below a b start k front h = sym (get_or-take start a k 0 h) ∙ ap (λ (u : List ℕ). get_or u k 0) front ∙ get_or-take start b k 0 h
 
 agree_above : (a b : List ℕ) (end k : ℕ) → drop end a ≡ drop end b → end ≤ k → get_or a k 0 ≡ get_or b k 0

@@ -1,8 +1,12 @@
 -- The card at a command, which is kept for all its cuts.
-use Rattle.std.specs.Prelude.{ℕ, ◌≡◌, ◌<◌, true, List, None, vec_len}
+use Rattle.std.specs.Prelude.{ℕ, ◌≡◌, ◌<◌, true, false, List, None, length, slice_index, vec_len}
+use Rattle.jc_words.specs.Image.{log_of}
 use Rattle.jc_words.specs.Stores.{FuseStoreValue}
-use Rattle.jc_commit.specs.Image.{IsGoodLog, plain_of, recovered_of}
-use Rattle.jcard_script.specs.Begun.{HasBegun, IsCommandLine}
+use Rattle.jc_commit.specs.Image.{IsGoodLog, count_of, is_log, limit_of, plain_of, recovered_of, top_of}
+use Rattle.jc_card.specs.CardState.{CardState}
+use Rattle.jc_session.specs.Power.{Up}
+use Rattle.jcard_script.specs.Begun.{AnswersLines, HasBegun, IsCommandLine}
+use Rattle.jcard_script.specs.ScriptStates.{PowersUp}
 use Rattle.jcard_outcomes.specs.declared.recoveries.Depth.TheVariants.{Zero}
 use Rattle.jcard_outcomes.specs.declared.recoveries.Recoveries.{Recoveries}
 use Rattle.jcard_outcomes.specs.declared.standing.Cut.{Cut}
@@ -31,9 +35,23 @@ abbrev pub IsKeptCut : List ℕ → Command → ℕ → KeptCut → Type 0
 IsKeptCut words c k Uncut = IsUncutAt words c k
 IsKeptCut words c k (Leaves found) = IsRecovered found.items × MayLeave words c k (plain_of found.items) × (c.behind.depth ≡ Zero)
 
--- a card powers up over these words, and gives the lines of the probe these answers
+-- a card that is powered up over these words gives the lines of the probe these answers
+abbrev pub GivesAnswers : ℕ → List ℕ → List ℕ → List ℕ → Type 0
+GivesAnswers budget words probe answers = (card : CardState) × PowersUp budget (store_of words) (Up card) × (last : FuseStoreValue)
+    × AnswersLines card probe answers last
+
+-- so it is over what is left
 abbrev pub HasAnswered : ℕ → List ℕ → Left → Type 0
-HasAnswered budget probe left = (last : FuseStoreValue) × Runs budget left.words.items probe left.answers.items last
+HasAnswered budget probe left = GivesAnswers budget left.words.items probe left.answers.items
+
+-- two images hold one heap: they have as many words and entries that count, one journal and one top, and below it the same words, but for the
+-- journal's
+pub record HoldOneHeap (v w : List ℕ) : Type 0 where
+  pub long : length v ≡ length w
+  pub log : log_of v ≡ log_of w
+  pub count : count_of v ≡ count_of w
+  pub top : top_of v ≡ top_of w
+  pub words : (k : ℕ) → k < limit_of w → is_log (log_of w) k ≡ false → k < top_of w → slice_index v k ≡ slice_index w k
 
 -- a recovery leaves these words as they are, and it is known what a card answers that powers up over them
 abbrev pub IsKnown : Command → Left → Type 0

@@ -2,13 +2,14 @@
 ghost use Rattle.std.specs.Prelude.{◌≡◌, ◌<◌, true, length, vec_len, IsTrue, IfOk, IfSome, MatchResult};
 ghost use Rattle.jc_commit.specs.Image.{plain_of};
 ghost use Rattle.jcard_tear.specs.Faults.{IsProbeFault};
-ghost use Rattle.jcard_tear.specs.Kept.{HasAnswered, IsKnown, IsLastCut, IsReportedAlike};
+ghost use Rattle.jcard_tear.specs.Kept.{HasAnswered, HoldOneHeap, IsKnown, IsLastCut, IsReportedAlike, none_cut};
+ghost use Rattle.jcard_tear.specs.Sweeps.{IsToldAs};
 ghost use Rattle.jcard_tear.specs.Runs.{IsRecovered};
 ghost use Rattle.jcard_tear.specs.Told.{AreOfImage};
 
-use crate::alike::are_alike;
+use crate::alike::{are_alike, hold_one_heap};
 use crate::cuts::{Command, Shared, told_cut};
-use crate::runs::run_copy;
+use crate::runs::{answers_over, run_copy};
 use crate::tearing::{TearFault, probe_fault};
 use jcard_outcomes::recoveries::Recoveries;
 use jcard_outcomes::standing::{Cut, Left};
@@ -44,7 +45,8 @@ pub(crate) fn reported_cut(
     Ok(cut)
 }
 
-// What is left, and what is reported of it: as of the cut before, if that left the same heap.
+// What is left, and what is reported of it: the answers are those of the cut before, if that left the same heap. Where objects are asked for and no
+// word is another, the whole report is the same.
 fn next_reported(
     alloc: Global,
     command: Command,
@@ -61,12 +63,42 @@ fn next_reported(
         × (plain_of reported.left.words.items ≡ plain_of found.items))
         (λ fault. IsProbeFault command.entry.behind.instructions command.entry.probe.now fault) }
 {
-    if let Some(reported) = last {
-        if are_alike(&reported.left.words, &found) {
-            return Ok(reported);
-        }
+    let Some(reported) = last else {
+        return first_reported(alloc, command, shared, found);
+    };
+    if shared.objects.is_some() && are_alike(&reported.left.words, &found) {
+        return Ok(reported);
+    }
+    if hold_one_heap(&reported.left.words, &found) {
+        let LastCut { left, cut: _ } = reported;
+        return answered_again(alloc, command, shared, found, left);
     }
     first_reported(alloc, command, shared, found)
+}
+
+// What is left, and what is reported of it, where it holds the heap of these words, which a recovery leaves as they are, so that their answers are
+// its own.
+fn answered_again(
+    alloc: Global,
+    command: Command,
+    shared: &Shared<'_>,
+    found: Vec<u16>,
+    last: Left,
+) -> Result<LastCut, TearFault>
+    requires whole { AreOfImage shared.now.objects.now }
+    requires recovered { IsRecovered found.items }
+    requires last { IsKnown command last }
+    requires one { HoldOneHeap last.words.items found.items }
+    ensures { MatchResult result (λ reported. IsLastCut command.entry shared.now reported
+        × (plain_of reported.left.words.items ≡ plain_of found.items))
+        (λ fault. IsProbeFault command.entry.behind.instructions command.entry.probe.now fault) }
+{
+    let left = Left {
+        words: found,
+        answers: last.answers,
+    };
+    let reported = reported_of(alloc, shared, left)?;
+    Ok(reported)
 }
 
 // What is left, and what is reported of it, where that is not as of the cut before.
@@ -85,6 +117,18 @@ fn first_reported(
         (λ fault. IsProbeFault command.entry.behind.instructions command.entry.probe.now fault) }
 {
     let left = first_left(alloc, command, shared, found)?;
+    let reported = reported_of(alloc, shared, left)?;
+    Ok(reported)
+}
+
+// What is left, and what is reported of it.
+fn reported_of(alloc: Global, shared: &Shared<'_>, left: Left) -> Result<LastCut, AllocError>
+    requires { AreOfImage shared.now.objects.now }
+    ensures left { IfOk result (λ reported. reported.left ≡ left) }
+    ensures told { IfOk result (λ reported. IsToldAs shared.now.spared.now shared.now.lenient.now
+        shared.now.objects.now shared.now.before.now shared.now.after.now left reported.cut) }
+    ensures recoveries { IfOk result (λ reported. reported.cut.recoveries ≡ none_cut) }
+{
     let none_cut = Recoveries {
         ways: 1,
         difference: None,
@@ -93,7 +137,7 @@ fn first_reported(
     Ok(LastCut { left, cut })
 }
 
-// What is left: what was before the command, if it is the same heap and its answers are known; else the probe is asked.
+// What is left, and its answers: those of before the command, if they are known and it holds the same heap; else the probe is asked.
 fn first_left(
     alloc: Global,
     command: Command,
@@ -104,47 +148,50 @@ fn first_left(
     requires recovered { IsRecovered found.items }
     requires known { shared.now.is_known ≡ true → IsKnown command shared.now.before.now }
     ensures { MatchResult result (λ left. IsKnown command.entry left
-        × (plain_of left.words.items ≡ plain_of found.items))
+        × (left.words.items ≡ found.items))
         (λ fault. IsProbeFault command.entry.behind.instructions command.entry.probe.now fault) }
 {
     if is_as_before(shared, &found) {
-        let left = copy_of_left(alloc, shared.before)?;
-        return Ok(left);
+        let answers = Vec::from_slice(alloc, &shared.before.answers)?;
+        return Ok(Left {
+            words: found,
+            answers,
+        });
     }
     answered(alloc, found, command.probe, command.behind.instructions)
 }
 
-// Whether these words are the same heap as before the command, whose answers are known.
+// Whether these words hold the heap from before the command, whose answers are known.
 fn is_as_before(shared: &Shared<'_>, found: &[u16]) -> bool
     requires { length found.now < 65536 }
     ensures known { IsTrue result → shared.now.is_known ≡ true }
-    ensures alike { IsTrue result → plain_of shared.now.before.now.words.items ≡ plain_of found.now }
+    ensures one { IsTrue result → HoldOneHeap shared.now.before.now.words.items found.now }
 {
-    shared.is_known && are_alike(&shared.before.words, found)
+    shared.is_known && hold_one_heap(&shared.before.words, found)
 }
 
-// A copy of what was left.
-fn copy_of_left(alloc: Global, left: &Left) -> Result<Left, AllocError>
-    ensures words { IfOk result (λ copy. copy.words.items ≡ left.now.words.items) }
-    ensures answers { IfOk result (λ copy. copy.answers.items ≡ left.now.answers.items) }
-{
-    let words = Vec::from_slice(alloc, &left.words)?;
-    let answers = Vec::from_slice(alloc, &left.answers)?;
-    Ok(Left { words, answers })
-}
-
-// What a card that powers up over these words answers to the lines of a probe.
+// What a card that powers up over these words, which a recovery leaves as they are, answers to the lines of a probe.
 fn answered(alloc: Global, words: Vec<u16>, probe: &[u8], budget: u32) -> Result<Left, TearFault>
-    requires { vec_len words < 65536 }
-    ensures { MatchResult result (λ left. (left.words.items ≡ words.items) × HasAnswered budget probe.now left)
+    requires short { vec_len words < 65536 }
+    requires recovered { IsRecovered words.items }
+    ensures { MatchResult result (λ left. (IsRecovered left.words.items × HasAnswered budget probe.now left)
+        × (left.words.items ≡ words.items))
         (λ fault. IsProbeFault budget probe.now fault) }
 {
-    match run_copy(alloc, &words, probe, budget) {
-        Ok(ran) => Ok(Left {
-            words,
-            answers: ran.text,
-        }),
-        Err(fault) => Err(probe_fault(fault)),
+    match answers_over(alloc, &words, probe, budget) {
+        Some(answers) => Ok(Left { words, answers }),
+        None => Err(unanswered(alloc, &words, probe, budget)),
+    }
+}
+
+// Why the lines of a probe were not answered over these words. Where they are answered now, memory was refused before.
+fn unanswered(alloc: Global, words: &[u16], probe: &[u8], budget: u32) -> TearFault
+    requires { length words.now < 65536 }
+    ensures { IsProbeFault budget probe.now result }
+{
+    match run_copy(alloc, words, probe, budget) {
+        Ok(_ran) => TearFault::NoMemory,
+        Err(fault) => probe_fault(fault),
     }
 }
 

@@ -1,5 +1,8 @@
 //! Running a script on a card in memory, and what a reset finds then.
-ghost use Rattle.std.specs.Prelude.{◌≡◌, ◌<◌, length, vec_len, IfOk, MatchResult, OnOk};
+ghost use Rattle.std.specs.Prelude.{◌≡◌, ◌<◌, length, vec_len, IfOk, IfSome, MatchResult, OnOk};
+ghost use Rattle.jc_words.specs.Stores.{FuseStoreValue};
+ghost use Rattle.jcard_script.specs.Begun.{AnswersLines};
+ghost use Rattle.jcard_tear.specs.Kept.{GivesAnswers};
 ghost use Rattle.jcard_tear.specs.declared.runs.RunFault.TheVariants.{NoMemory};
 ghost use Rattle.jcard_tear.specs.Faults.{IsLeftFault, IsLogFault};
 ghost use Rattle.jcard_tear.specs.Runs.{HasRun, IsCarriedThrough, IsLeft, IsRecovered, IsRunFault, IsSelectedBy};
@@ -13,6 +16,7 @@ use jc_commit::Journal;
 use jc_registry::Aid;
 use jc_words::{FuseStore, MemStore, WordStore};
 use jcard_outcomes::standing::Left;
+use jcard_script::begun::{BegunScript, begin_script};
 use jcard_script::explainer::Unasked;
 use jcard_script::mem_text::MemText;
 use jcard_script::script::{ScriptFault, run_script_explained, run_script_selecting};
@@ -192,6 +196,36 @@ pub(crate) fn selected_by(
         Err(ScriptFault::WriteFailed) => Err(RunFault::NoMemory),
         Err(fault) => Err(RunFault::Script(fault)),
     }
+}
+
+/// What the lines of a probe are answered by this card. Nothing where memory is refused, or they do not come to their end.
+pub fn probed(alloc: Global, card: BegunScript<MemStore>, probe: &[u8]) -> Option<Vec<u8>>
+    ensures { IfSome result (λ answers. (last : FuseStoreValue) × AnswersLines card probe.now answers.items last) }
+{
+    let Ok(mut reader) = MemText::new(alloc, probe, 0) else {
+        return None;
+    };
+    let mut writer = KeptText::new(alloc);
+    let _last = card.answers(alloc, &mut reader, &mut writer)?;
+    Some(writer.into_bytes())
+}
+
+/// What the lines of a probe are answered by a card that is powered up over a copy of these words. Nothing where there is none.
+pub(crate) fn answers_over(
+    alloc: Global,
+    words: &[u16],
+    probe: &[u8],
+    budget: u32,
+) -> Option<Vec<u8>>
+    requires { length words.now < 65536 }
+    ensures { IfSome result (λ answers. GivesAnswers budget words.now probe.now answers.items) }
+{
+    let Ok(copy) = Vec::from_slice(alloc, words) else {
+        return None;
+    };
+    let store = FuseStore::new(MemStore::of(copy));
+    let card = begin_script(alloc, store, budget, b"")?;
+    probed(alloc, card, probe)
 }
 
 /// What a power up over these words leaves, and what the lines of a probe are answered after it.

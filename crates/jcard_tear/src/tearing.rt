@@ -1,16 +1,16 @@
 //! A command that is cut after each number of its writes, beside what was before it and what it leaves.
-ghost use Rattle.std.specs.Prelude.{◌≡◌, ◌<◌, ◌++◌, ℕ, length, vec_len, IfOk, IsTrue, MatchResult};
+ghost use Rattle.std.specs.Prelude.{◌≡◌, ◌<◌, ◌++◌, ℕ, length, vec_len, IfOk, IfSome, IsTrue, MatchResult};
 ghost use Rattle.jcard_tear.specs.declared.tearing.TearFault.TheVariants.{NoMemory};
-ghost use Rattle.jcard_tear.specs.Kept.{IsKnown};
+ghost use Rattle.jcard_tear.specs.Kept.{HasAnswered, IsKnown};
 ghost use Rattle.jcard_tear.specs.Sweeps.{IsBegun, IsDone, IsLastLine, IsSwept};
-ghost use Rattle.jcard_tear.specs.Runs.{IsLeft};
+ghost use Rattle.jcard_tear.specs.Runs.{IsLeft, IsRecovered};
 ghost use Rattle.jcard_tear.specs.Faults.{IsImageFault, IsProbeFault, IsUncutFor, told_probe_fault, told_run_fault};
 ghost use Rattle.jc_objects.specs.Pins.{AreTriesIn};
 
 use crate::cuts::{Command, cut_all};
 use crate::progress::Progress;
 use crate::recoveries::are_equal;
-use crate::runs::{RunFault, left, run_copy, run_told};
+use crate::runs::{RunFault, answers_over, left, recovered, run_copy, run_told};
 use crate::told::{left_told, objects_asked};
 use jc_card::power_up::PowerFault;
 use jc_objects::image_objects::ImageFault;
@@ -124,10 +124,50 @@ pub(crate) fn begun(
         (λ fault. (step : ℕ) → IsUncutFor words.now command.entry step fault) }
 {
     let ran = run_copy(alloc, words, command.before, command.behind.instructions)?;
-    let found = Vec::from_slice(alloc, &ran.words)?;
-    let left = left_by_probe(alloc, ran.words, command.probe, command.behind.instructions)?;
-    let is_known = are_equal(&found, &left.words);
-    Ok((left, is_known))
+    left_known(alloc, ran.words, command.probe, command.behind.instructions)
+}
+
+// What a reset finds and the probe is answered; and whether it is known of a card that powers up over the words that it finds.
+fn left_known(
+    alloc: Global,
+    words: Vec<u16>,
+    probe: &[u8],
+    budget: u32,
+) -> Result<(Left, bool), TearFault>
+    requires { vec_len words < 65536 }
+    ensures { MatchResult result (λ r. IsLeft budget words.items probe.now r.0
+        × (IsTrue r.1 → IsRecovered r.0.words.items × HasAnswered budget probe.now r.0))
+        (λ fault. IsProbeFault budget probe.now fault) }
+{
+    if let Some(left) = left_standing(alloc, &words, probe, budget) {
+        return Ok((left, true));
+    }
+    match left_by_probe(alloc, words, probe, budget) {
+        Ok(left) => Ok((left, false)),
+        Err(fault) => Err(fault),
+    }
+}
+
+// The same of words that a reset leaves as they are, if a card powers up over them.
+fn left_standing(alloc: Global, words: &[u16], probe: &[u8], budget: u32) -> Option<Left>
+    requires { length words.now < 65536 }
+    ensures left { IfSome result (λ left. IsLeft budget words.now probe.now left) }
+    ensures known { IfSome result (λ left. IsRecovered left.words.items × HasAnswered budget probe.now left) }
+{
+    let Ok(copy) = Vec::from_slice(alloc, words) else {
+        return None;
+    };
+    let Ok(found) = recovered(copy) else {
+        return None;
+    };
+    if !are_equal(&found, words) {
+        return None;
+    }
+    let answers = answers_over(alloc, &found, probe, budget)?;
+    Some(Left {
+        words: found,
+        answers,
+    })
 }
 
 // What a reset finds and the probe is answered; what is wrong then is wrong with the probe.
