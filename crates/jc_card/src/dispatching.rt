@@ -213,7 +213,7 @@ impl<S: WordStore> Card<S> {
             expected,
             &mut self.frames,
             &mut self.memory,
-            &self.linked,
+            self.linked.get(),
         )?;
         response.set(self.memory.sent(), status_of(ending));
         Ok(())
@@ -230,7 +230,7 @@ impl<S: WordStore> Card<S> {
             return Ok(StatusResponse::of_status(StatusWord::WRONG_LENGTH));
         }
         self.memory.start(&[]);
-        let ending = create(self.budget, bytes, &mut self.memory, &self.linked)?;
+        let ending = create(self.budget, bytes, &mut self.memory, self.linked.get())?;
         Ok(StatusResponse::of_status(status_of(ending)))
     }
 }

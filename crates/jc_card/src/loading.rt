@@ -6,9 +6,10 @@ ghost use Rattle.jc_card.specs.Loads.{begin_component, end_component, append_com
 ghost use Rattle.jc_card.specs.Loads.{status_of};
 
 use crate::card::Card;
+use crate::packages::end_load_of;
 use crate::response::StatusResponse;
 use crate::status::StatusWord;
-use jc_card_load::{LoadRefusal, OpenLoad, end_package};
+use jc_card_load::{LoadRefusal, OpenLoad};
 use jc_linker::fault::LinkFault;
 use jc_words::{StoreDown, WordStore};
 
@@ -128,7 +129,7 @@ impl<S: WordStore> Card<S> {
         requires up { self.old.memory.heap.down ≡ false }
         ensures { Executes (end_load self.old) self.old.memory (after_exchange result self.new) }
     {
-        let ended = end_package(
+        let ended = end_load_of(
             self.alloc,
             &mut self.memory,
             &mut self.linked,

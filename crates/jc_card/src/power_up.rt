@@ -27,6 +27,7 @@ ghost use Rattle.jc_card.specs.PoweringUp.{PowersUpOver};
 use crate::card::{Card, USUAL_BUDGET};
 use crate::fixed::{buffer_told, first_objects, fixed_headers};
 use crate::lent::LentStore;
+use crate::packages::CardPackages;
 use arrayvec::ArrayVec;
 use jc_card_checks::sound::is_sound;
 use jc_card_load::reading::{RecordFault, read_packages};
@@ -272,7 +273,7 @@ fn sound_card<S: WordStore + Drop>(
     Ok(Card {
         alloc,
         memory,
-        linked,
+        linked: CardPackages::own(linked),
         load: None,
         budget: Budget::undisturbed(USUAL_BUDGET),
         frames: Frames::empty(),
@@ -280,7 +281,9 @@ fn sound_card<S: WordStore + Drop>(
 }
 
 // The packages of a card, its transient contents, the addresses of the objects of the runtime environment, and its rooms.
-fn parts_of<S: WordStore + Drop>(card: Card<S>) -> (Linked, Ram, ArrayVec<u16, MOST_FIXED>, Rooms)
+fn parts_of<S: WordStore + Drop>(
+    card: Card<S>,
+) -> (CardPackages, Ram, ArrayVec<u16, MOST_FIXED>, Rooms)
     ensures packages { result.0 ≡ card.packages }
     ensures ram { result.1 ≡ card.memory.ram }
     ensures fixed { result.2.items ≡ card.memory.fixed }
@@ -297,7 +300,7 @@ fn parts_of<S: WordStore + Drop>(card: Card<S>) -> (Linked, Ram, ArrayVec<u16, M
 fn card_over<S: WordStore>(
     alloc: Global,
     store: S,
-    linked: Linked,
+    linked: CardPackages,
     ram: Ram,
     fixed: ArrayVec<u16, MOST_FIXED>,
     marks: Marks,

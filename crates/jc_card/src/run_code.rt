@@ -45,7 +45,7 @@ impl<S: WordStore> Card<S> {
             locals,
             code,
             &mut self.memory,
-            &self.linked,
+            self.linked.get(),
         )?;
         Ok(answer_of(outcome))
     }

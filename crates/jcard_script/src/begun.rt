@@ -69,7 +69,9 @@ pub fn begin_script<S: WordStore + Drop>(
     if card.has_open_load() {
         return None;
     }
-    Some(BegunScript { card })
+    Some(BegunScript {
+        card: card.sharing(),
+    })
 }
 
 impl<S: CopyStore> BegunScript<S> {

@@ -1,4 +1,6 @@
-use Rattle.std.proofs.Common.{[], subst}
+use Rattle.std.proofs.Common.{[], subst, sym}
+use Rattle.jc_card.specs.CardState.{CardState}
+use Rattle.jcard_script.specs.Begun.{HasBegun}
 use Rattle.jcard_script.specs.CardOrStore.{state_of_held}
 use Rattle.jcard_script.specs.Script.{AreCarriedOut, ended_lines}
 use Rattle.jcard_script.specs.ScriptStates.{ScriptState}
@@ -10,10 +12,11 @@ returns g c =
     let first : ScriptState = state_of_held c.start-session.result.0.held in
     let went = c.in-Ok-feed.ensures.goes [] [] first start.stands in
     let up = c.in_ok-card.ensures in
-    record {
+    subst (λ (card : CardState). HasBegun c.args.budget c.args.fuse c.args.script.now card) (sym c.sharing.ensures)
+    (record {
       first = first;
       text = went.0;
       powers = rw c.in-Ok.is at start.powered;
       carried = subst (λ (s : ScriptState). AreCarriedOut (ended_lines c.args.script.now) first s went.0) up.0 went.3;
       whole = c.ends_a_line.ensures c.if-not-ends_a_line.false;
-    }
+    })

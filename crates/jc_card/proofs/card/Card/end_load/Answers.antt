@@ -9,17 +9,17 @@ use Rattle.jc_card.proofs.card.Card.end_load.Goals as goal
 
 pub invariant_of-self : goal.invariant_of-self
 invariant_of-self g c =
-    ends_outside c.self.inside.linked _ c.self.inside.memory _ c.self.inside.load _ c.end_package-ended.result
-    (c.self.invariant (ap (λ (v : CardState). v.memory.heap.down) c.self.view_is ∙ c.requires.up)) c.end_package-ended.ensures
+    ends_outside c.self.inside.linked _ c.self.inside.memory _ c.self.inside.load _ c.end_load_of-ended.result
+    (c.self.invariant (ap (λ (v : CardState). v.memory.heap.down) c.self.view_is ∙ c.requires.up)) c.end_load_of-ended.ensures
 
 pub returns : goal.returns
 returns g c =
     subst (λ (v : CardState). Executes (end_load v) v.memory (after_exchange c.response_of_end.result
     (record {
-      memory = c.end_package-ended.new.memory;
-      packages = c.end_package-ended.new.linked;
-      load = c.end_package-ended.new.load;
+      memory = c.end_load_of-ended.new.memory;
+      packages = c.end_load_of-ended.new.packages;
+      load = c.end_load_of-ended.new.load;
       budget = c.self.inside.budget;
     }))) c.self.view_is
-    (ends_so c.self.inside.budget (end_of_load c.self.inside.linked c.self.inside.memory c.self.inside.load) c.self.inside.memory _ c.end_package-ended.result _ _
-    c.response_of_end.result c.response_of_end.ensures c.end_package-ended.ensures)
+    (ends_so c.self.inside.budget (end_of_load c.self.inside.linked c.self.inside.memory c.self.inside.load) c.self.inside.memory _ c.end_load_of-ended.result _ _
+    c.response_of_end.result c.response_of_end.ensures c.end_load_of-ended.ensures)
