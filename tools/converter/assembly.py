@@ -31,7 +31,7 @@ from .components import NAMES, SIZES_IN_DIRECTORY
 from .refusal import Refusal
 
 TOP = os.path.dirname(os.path.dirname(os.path.dirname(os.path.realpath(__file__))))
-INSTRUCTIONS = os.path.join(TOP, "crates/jc_opcodes/specs/Table.antt")
+INSTRUCTIONS = os.path.join(TOP, "crates/jc_frames/specs/Table.antt")
 PLATFORM = os.path.join(TOP, "examples/extended.table")  # has the numbers of the other example table, and more names
 WIDER = 0x38  # from a conditional branch to its form with two bytes
 SIZES = {"Bare": "", "U1": "B", "S1": "b", "S2": "s", "U2": "S", "U1S1": "Bb", "U1S2": "Bs", "U1U2U1": "BSB", "Listed": "B",

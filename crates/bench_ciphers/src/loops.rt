@@ -1,8 +1,8 @@
 //! Loops of a primitive, each over the result of the one before.
 
-use jc_aes::aes::Aes;
-use jc_des::des::Des;
-use jc_des::triple::TripleDes;
+use jc_ciphers::aes::Aes;
+use jc_ciphers::des::Des;
+use jc_ciphers::triple::TripleDes;
 use jc_digests::absorbing::Compression;
 use jc_digests::checksums::{update_16, update_32};
 use jc_digests::md_5::Words128;

@@ -3,16 +3,16 @@
 ghost use Rattle.std.specs.Prelude.{◌≡◌, ◌≤◌, length, IfOk};
 
 use crate::words::bytes;
-use jc_aes::aes::Aes;
-use jc_des::des::Des;
-use jc_des::triple::TripleDes;
+use jc_ciphers::aes::Aes;
+use jc_ciphers::cipher::BlockCipher;
+use jc_ciphers::conversion::{convert, finish};
+use jc_ciphers::des::Des;
+use jc_ciphers::hmac::Hmac;
+use jc_ciphers::macs::{finish_3, finish_cmac};
+use jc_ciphers::padding::{Padding, unpadded};
+use jc_ciphers::steps::{CbcDecryption, CbcEncryption, EcbDecryption, EcbEncryption, Step};
+use jc_ciphers::triple::TripleDes;
 use jc_digests::digest::Digest;
-use jc_modes::cipher::BlockCipher;
-use jc_modes::conversion::{convert, finish};
-use jc_modes::hmac::Hmac;
-use jc_modes::macs::{finish_3, finish_cmac};
-use jc_modes::padding::{Padding, unpadded};
-use jc_modes::steps::{CbcDecryption, CbcEncryption, EcbDecryption, EcbEncryption, Step};
 use std::alloc::{AllocError, Global};
 
 fn padding_of(name: &str) -> Padding {

@@ -5,13 +5,13 @@ use Rattle.jc_memory.specs.Programs.{Program, Finish, Perform, Choose, Either, b
 use Rattle.jc_memory.specs.Reading.{AllDue, AllResults}
 use Rattle.jc_memory.specs.State.{MemoryState, Effect, IsNew, apply_effect}
 use Rattle.jc_memory.proofs.ProgramLemmas.{each_always}
-use Rattle.jc_registry.specs.Registry.{instance_of_applet}
+use Rattle.jc_environment.specs.Registry.{instance_of_applet}
 use Rattle.jc_frames.specs.declared.outcome.FrameExit.{FrameExit}
 use Rattle.jc_frames.specs.declared.outcome.FrameExit.TheVariants as stop
 use Rattle.jc_frames.specs.declared.outcome.Outcome.TheVariants.{Fault}
 use Rattle.jc_world.specs.NativeCalls.{NativeProgram}
 use Rattle.jc_world.specs.NativeCalls as calls
-use Rattle.jc_world.specs.StepExits.{exception_of}
+use Rattle.jc_world.specs.StepExit.{exception_of}
 use Rattle.jc_world.specs.declared.native_result.NativeResult.{NativeResult}
 use Rattle.jc_world.specs.declared.native_result.NativeResult.TheVariants.{ReturnVoid, ReturnValue, CallServer, Aborted}
 use Rattle.jc_api.specs.Referring.{CellRefersSo}

@@ -17,13 +17,13 @@ use Rattle.jc_heap.specs.Places.{place_at}
 use Rattle.jc_heap.specs.declared.place.Place.TheVariants as place
 use Rattle.jc_heap.specs.declared.refusal.HeapRefusal.{HeapRefusal}
 use Rattle.jc_heap.specs.declared.refusal.HeapRefusal.TheVariants.{CommitFull, HeapFull, NoTransientSpace}
-use Rattle.jc_heap.specs.Touches.{CanTouch}
+use Rattle.jc_heap.specs.Touch.{CanTouch}
 use Rattle.jc_heap.specs.declared.touch.Touch.TheVariants as touch
 use Rattle.jc_heap.proofs.Calls.{not_full}
 use Rattle.jc_heap.proofs.KeptWords.{goes_back_later, goes_back_now, room_behind}
 use Rattle.jc_heap.proofs.Laws.{top-add_object}
 use Rattle.jc_memory.specs.Making.{creation_move, creation_refusal, creation_refusal_in}
-use Rattle.jc_memory.specs.Room.{has_space, lacks_capacity}
+use Rattle.jc_memory.specs.CommitCapacity.{has_space, lacks_capacity}
 use Rattle.jc_memory.specs.State.{HeapMove, MemoryState, apply_effect}
 use Rattle.jc_memory.specs.declared.making.NewObject.{NewObject}
 use Rattle.jc_memory.proofs.Touched.{room_inside}

@@ -6,7 +6,7 @@ use Rattle.std.proofs.lemmas.Option.{none-some, same_Some}
 use Rattle.jc_heap.specs.Heap.{IsObject, facts, heap_item_at}
 use Rattle.jc_heap.specs.Object.{is_object}
 use Rattle.jc_heap.specs.declared.object.Facts.{Facts}
-use Rattle.jc_firewall.specs.Reach.{IsInReach}
+use Rattle.jc_firewall.specs.FirewallLaws.{IsInReach}
 use Rattle.jc_firewall.specs.Situation.{same_context, is_own, is_global_array, is_environment}
 use Rattle.jc_firewall.specs.Table.{rules, AllAllow, judgement, first_refusal}
 use Rattle.jc_firewall.specs.declared.access.Access.{Access}

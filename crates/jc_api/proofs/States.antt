@@ -9,7 +9,7 @@ use Rattle.jc_heap.specs.declared.refusal.HeapRefusal.{HeapRefusal}
 use Rattle.jc_heap.specs.declared.object.Facts.{Facts}
 use Rattle.jc_heap.specs.declared.object.Kind.{Kind}
 use Rattle.jc_heap.specs.declared.object.Kind.TheVariants.{Instance, BooleanArray, ByteArray, ShortArray, ReferenceArray}
-use Rattle.jc_firewall.specs.Reach.{IsInReach}
+use Rattle.jc_firewall.specs.FirewallLaws.{IsInReach}
 use Rattle.jc_firewall.specs.declared.access.Access.TheVariants.{ArrayElement}
 use Rattle.jc_memory.specs.Cells.{cell_refusal_in, cells_effect_in, header_at}
 use Rattle.jc_memory.specs.Programs.{Completes, Finish, Perform, unless_refused}

@@ -11,7 +11,7 @@ use Rattle.jc_heap.specs.Heap.{facts}
 use Rattle.jc_heap.specs.declared.object.Facts.{Facts}
 use Rattle.jc_heap.specs.declared.object.Kind.{Kind}
 use Rattle.jc_heap.specs.declared.object.Kind.TheVariants.{ByteArray, ShortArray, Instance, BooleanArray, ReferenceArray}
-use Rattle.jc_firewall.specs.Reach.{IsInReach}
+use Rattle.jc_firewall.specs.FirewallLaws.{IsInReach}
 use Rattle.jc_firewall.specs.declared.access.Access.TheVariants.{ArrayElement}
 use Rattle.jc_memory.specs.Cells.{header_at, byte_at}
 use Rattle.jc_memory.specs.State.{MemoryState}

@@ -7,7 +7,7 @@ use Rattle.jc_heap.specs.Moves.{Write}
 use Rattle.jc_heap.specs.Object.{object_size, transient_size}
 use Rattle.jc_heap.specs.declared.object.Kind.{Kind}
 use Rattle.jc_heap.specs.declared.object.Kind.TheVariants.{ByteArray, Instance, ShortArray}
-use Rattle.jc_heap.specs.Touches.{touch_words}
+use Rattle.jc_heap.specs.Touch.{touch_words}
 use Rattle.jc_heap.specs.declared.place.Place.TheVariants as place
 use Rattle.jc_heap.specs.declared.touch.Touch.TheVariants as touch
 use Rattle.jc_frames.specs.Reasons.{buffer_full, no_resource}

@@ -9,7 +9,7 @@ ghost use Rattle.jc_heap.specs.declared.touch.Touch.TheVariants as touch;
 ghost use Rattle.jc_memory.specs.Cells.{MayHave, word_of};
 ghost use Rattle.jc_memory.specs.Making.{new_object};
 ghost use Rattle.jc_memory.specs.Programs.{Executes};
-ghost use Rattle.jc_memory.specs.Room.{has_space, lacks_capacity};
+ghost use Rattle.jc_memory.specs.CommitCapacity.{has_space, lacks_capacity};
 ghost use Rattle.jc_platform.specs.Hierarchy.{cells_of};
 ghost use Rattle.jc_world.specs.NativeCalls.{after_call};
 ghost use Rattle.jc_api.specs.Factory.{HasState, array_words, cell_update, cells_set, engine_object, factory_call, has_space_for_both, instance_creation, is_in_table, keeps_no_cells, kind_of_state, state_array};

@@ -2,11 +2,11 @@
 use Rattle.std.proofs.Common.{◌≡◌, ◌+◌, ◌*◌, ◌≤◌, ◌++◌, ℕ, Bool, true, false, List, drop, length, arith}
 use Rattle.std.proofs.lemmas.List.{length-append, length-drop, length-take}
 use Rattle.std.specs.Prelude.{slice_index}
-use Rattle.jc_modes.specs.Conversions.{holds_back, released, size_of}
-use Rattle.jc_modes.specs.Kept.{block_size, open_in, ready_blocks, state_size}
-use Rattle.jc_modes.specs.declared.kept.BlockAlgorithm.{BlockAlgorithm}
-use Rattle.jc_modes.specs.declared.kept.BlockAlgorithm.TheVariants.{Aes, Des}
-use Rattle.jc_modes.specs.declared.kept.conversion.Conversion.{Conversion}
+use Rattle.jc_ciphers.specs.Conversions.{holds_back, released, size_of}
+use Rattle.jc_ciphers.specs.Kept.{block_size, open_in, ready_blocks, state_size}
+use Rattle.jc_ciphers.specs.declared.kept.BlockAlgorithm.{BlockAlgorithm}
+use Rattle.jc_ciphers.specs.declared.kept.BlockAlgorithm.TheVariants.{Aes, Des}
+use Rattle.jc_ciphers.specs.declared.kept.conversion.Conversion.{Conversion}
 
 -- no more than there are
 ready_few : (a : BlockAlgorithm) (holds : Bool) (n : ℕ) → ready_blocks holds (block_size a) n * block_size a ≤ n

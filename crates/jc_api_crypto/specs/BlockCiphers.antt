@@ -5,15 +5,15 @@ use Rattle.jc_frames.specs.declared.cell.Cell.{Cell}
 use Rattle.jc_frames.specs.declared.outcome.FrameExit.{FrameExit}
 use Rattle.jc_frames.specs.declared.outcome.FrameExit.TheVariants.{Throw}
 use Rattle.jc_memory.specs.State.{MemoryState}
-use Rattle.jc_modes.specs.Conversions.{conversion_after, conversion_end, conversion_output}
-use Rattle.jc_modes.specs.Kept.{IsKeyLength, block_size, state_size}
-use Rattle.jc_modes.specs.declared.kept.BlockAlgorithm.{BlockAlgorithm}
-use Rattle.jc_modes.specs.declared.kept.BlockAlgorithm.TheVariants as block
-use Rattle.jc_modes.specs.declared.kept.conversion.Chaining.{Chaining}
-use Rattle.jc_modes.specs.declared.kept.conversion.Chaining.TheVariants.{Cbc, Ecb}
-use Rattle.jc_modes.specs.declared.kept.conversion.Conversion.{Conversion}
-use Rattle.jc_modes.specs.declared.kept.conversion.Direction.{Direction}
-use Rattle.jc_modes.specs.declared.kept.conversion.Direction.TheVariants.{Decrypt, Encrypt}
+use Rattle.jc_ciphers.specs.Conversions.{conversion_after, conversion_end, conversion_output}
+use Rattle.jc_ciphers.specs.Kept.{IsKeyLength, block_size, state_size}
+use Rattle.jc_ciphers.specs.declared.kept.BlockAlgorithm.{BlockAlgorithm}
+use Rattle.jc_ciphers.specs.declared.kept.BlockAlgorithm.TheVariants as block
+use Rattle.jc_ciphers.specs.declared.kept.conversion.Chaining.{Chaining}
+use Rattle.jc_ciphers.specs.declared.kept.conversion.Chaining.TheVariants.{Cbc, Ecb}
+use Rattle.jc_ciphers.specs.declared.kept.conversion.Conversion.{Conversion}
+use Rattle.jc_ciphers.specs.declared.kept.conversion.Direction.{Direction}
+use Rattle.jc_ciphers.specs.declared.kept.conversion.Direction.TheVariants.{Decrypt, Encrypt}
 use Rattle.jc_platform.specs.declared.names.PlatformClass.TheVariants as class
 use Rattle.jc_linker.specs.Values.{Packages}
 use Rattle.jc_world.specs.Answers.{and_then}

@@ -2,7 +2,7 @@
 use Rattle.std.specs.Ordering.{int_eq}
 use Rattle.std.specs.Prelude.{ℕ, ℤ, pos, ◌≡◌, ◌+◌, ◌-◌, ◌*◌, ◌/◌, ◌%◌, ◌==◌, List, [], ◌∷◌, replicate, slice_index, Option, Some, None, Result, Ok, Err, if◌then◌else◌}
 use Rattle.jc_transient.specs.declared.cell.ClearEvent.TheVariants.{Reset}
-use Rattle.jc_digests.specs.Remainders.{generator_16, generator_32, remainder}
+use Rattle.jc_digests.specs.Checksums.{generator_16, generator_32, remainder}
 use Rattle.jc_frames.specs.declared.cell.Cell.{Cell}
 use Rattle.jc_frames.specs.declared.outcome.FrameExit.{FrameExit}
 use Rattle.jc_frames.specs.declared.outcome.FrameExit.TheVariants.{Throw}

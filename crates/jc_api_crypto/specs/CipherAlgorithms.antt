@@ -2,12 +2,12 @@
 use Rattle.std.specs.Ordering.{int_eq}
 use Rattle.std.specs.Option.{option_and_then}
 use Rattle.std.specs.Prelude.{ℤ, pos, int_le, Option, Some, None, if◌then◌else◌}
-use Rattle.jc_modes.specs.declared.kept.BlockAlgorithm.{BlockAlgorithm}
-use Rattle.jc_modes.specs.declared.kept.BlockAlgorithm.TheVariants.{Aes, Des}
-use Rattle.jc_modes.specs.declared.kept.conversion.Chaining.{Chaining}
-use Rattle.jc_modes.specs.declared.kept.conversion.Chaining.TheVariants.{Cbc, Ecb}
-use Rattle.jc_modes.specs.declared.padding.Padding.{Padding}
-use Rattle.jc_modes.specs.declared.padding.Padding.TheVariants.{Method1, Method2, NoPadding, Pkcs5}
+use Rattle.jc_ciphers.specs.declared.kept.BlockAlgorithm.{BlockAlgorithm}
+use Rattle.jc_ciphers.specs.declared.kept.BlockAlgorithm.TheVariants.{Aes, Des}
+use Rattle.jc_ciphers.specs.declared.kept.conversion.Chaining.{Chaining}
+use Rattle.jc_ciphers.specs.declared.kept.conversion.Chaining.TheVariants.{Cbc, Ecb}
+use Rattle.jc_ciphers.specs.declared.padding.Padding.{Padding}
+use Rattle.jc_ciphers.specs.declared.padding.Padding.TheVariants.{Method1, Method2, NoPadding, Pkcs5}
 use Rattle.jc_api_crypto.specs.declared.cipher.algorithms.CipherAlgorithm.{CipherAlgorithm}
 
 -- a block algorithm in a chaining, with a padding

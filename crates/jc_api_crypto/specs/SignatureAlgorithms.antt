@@ -4,14 +4,14 @@ use Rattle.std.specs.Prelude.{ℕ, ℤ, pos, int_le, Option, Some, None, if◌th
 use Rattle.jc_digests.specs.Kept.{digest_size}
 use Rattle.jc_digests.specs.declared.kept.HashAlgorithm.{HashAlgorithm}
 use Rattle.jc_digests.specs.declared.kept.HashAlgorithm.TheVariants.{Md5, Sha1, Sha224, Sha256, Sha384, Sha512}
-use Rattle.jc_modes.specs.Kept.{block_size}
-use Rattle.jc_modes.specs.KeptMacs.{cipher_of}
-use Rattle.jc_modes.specs.declared.kept.BlockAlgorithm.{BlockAlgorithm}
-use Rattle.jc_modes.specs.declared.kept.BlockAlgorithm.TheVariants.{Aes, Des}
-use Rattle.jc_modes.specs.declared.kept.macs.MacAlgorithm.{MacAlgorithm}
-use Rattle.jc_modes.specs.declared.kept.macs.MacAlgorithm.TheVariants.{Algorithm3, Cbc, Cmac}
-use Rattle.jc_modes.specs.declared.padding.Padding.{Padding}
-use Rattle.jc_modes.specs.declared.padding.Padding.TheVariants.{Method1, Method2, NoPadding, Pkcs5}
+use Rattle.jc_ciphers.specs.Kept.{block_size}
+use Rattle.jc_ciphers.specs.KeptMacs.{cipher_of}
+use Rattle.jc_ciphers.specs.declared.kept.BlockAlgorithm.{BlockAlgorithm}
+use Rattle.jc_ciphers.specs.declared.kept.BlockAlgorithm.TheVariants.{Aes, Des}
+use Rattle.jc_ciphers.specs.declared.kept.macs.MacAlgorithm.{MacAlgorithm}
+use Rattle.jc_ciphers.specs.declared.kept.macs.MacAlgorithm.TheVariants.{Algorithm3, Cbc, Cmac}
+use Rattle.jc_ciphers.specs.declared.padding.Padding.{Padding}
+use Rattle.jc_ciphers.specs.declared.padding.Padding.TheVariants.{Method1, Method2, NoPadding, Pkcs5}
 use Rattle.jc_api_crypto.specs.declared.signature.algorithms.CodeLength.{CodeLength}
 use Rattle.jc_api_crypto.specs.declared.signature.algorithms.CodeLength.TheVariants.{Four, Whole}
 use Rattle.jc_api_crypto.specs.declared.signature.algorithms.SignatureAlgorithm.{SignatureAlgorithm}

@@ -8,12 +8,12 @@ use Rattle.jc_frames.specs.declared.cell.Cell.{Cell}
 use Rattle.jc_frames.specs.declared.outcome.FrameExit.{FrameExit}
 use Rattle.jc_frames.specs.declared.outcome.FrameExit.TheVariants.{Throw}
 use Rattle.jc_memory.specs.State.{MemoryState}
-use Rattle.jc_modes.specs.Kept as modes
-use Rattle.jc_modes.specs.KeptHmac.{hmac_of_state, hmac_state_after}
-use Rattle.jc_modes.specs.KeptMacs.{IsMacKeyLength, cipher_of, mac_of_state, mac_state_after}
-use Rattle.jc_modes.specs.declared.kept.BlockAlgorithm.TheVariants as block
-use Rattle.jc_modes.specs.declared.kept.macs.MacAlgorithm.{MacAlgorithm}
-use Rattle.jc_modes.specs.declared.kept.macs.MacAlgorithm.TheVariants.{Algorithm3, Cbc, Cmac}
+use Rattle.jc_ciphers.specs.Kept as modes
+use Rattle.jc_ciphers.specs.KeptHmac.{hmac_of_state, hmac_state_after}
+use Rattle.jc_ciphers.specs.KeptMacs.{IsMacKeyLength, cipher_of, mac_of_state, mac_state_after}
+use Rattle.jc_ciphers.specs.declared.kept.BlockAlgorithm.TheVariants as block
+use Rattle.jc_ciphers.specs.declared.kept.macs.MacAlgorithm.{MacAlgorithm}
+use Rattle.jc_ciphers.specs.declared.kept.macs.MacAlgorithm.TheVariants.{Algorithm3, Cbc, Cmac}
 use Rattle.jc_platform.specs.declared.names.PlatformClass.TheVariants as class
 use Rattle.jc_linker.specs.Values.{Packages}
 use Rattle.jc_world.specs.Answers.{and_then}

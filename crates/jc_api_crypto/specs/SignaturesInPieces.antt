@@ -3,8 +3,8 @@ use Rattle.std.specs.Prelude.{ℕ, ◌≡◌, ◌+◌, ◌<◌, ◌^◌, List, �
 use Rattle.std.specs.List.{concat}
 use Rattle.jc_digests.specs.Kept.{block_size, state_size}
 use Rattle.jc_digests.specs.declared.kept.HashAlgorithm.{HashAlgorithm}
-use Rattle.jc_modes.specs.KeptHmac.{hmac_of_state, hmac_state_after}
-use Rattle.jc_modes.specs.Macs.{hmac}
+use Rattle.jc_ciphers.specs.KeptHmac.{hmac_of_state, hmac_state_after}
+use Rattle.jc_ciphers.specs.Macs.{hmac}
 use Rattle.jc_api_crypto.specs.MessagesInPieces.{hash_of}
 
 -- under a key, the code of any pieces and a last one is HMAC (RFC 2104) of the whole, over the hash function of the standard

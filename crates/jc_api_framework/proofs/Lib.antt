@@ -10,3 +10,13 @@ pub mod ApduCalls
 pub mod SystemCalls
 pub mod AppletCalls
 pub mod EventCalls
+pub mod ShortsRead
+pub mod ReadByRow
+pub mod UtilRows
+pub mod SystemRows
+pub mod ExceptionRows
+pub mod AidRows
+pub mod OwnerPinRows
+pub mod AppletRows
+pub mod ApduRows
+pub mod Rows

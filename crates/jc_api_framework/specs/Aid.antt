@@ -18,8 +18,8 @@ use Rattle.jc_platform.specs.Distinct.{class_word}
 use Rattle.jc_linker.specs.Values.{Packages}
 use Rattle.jc_world.specs.NativeCalls.{NativeProgram}
 use Rattle.jc_world.specs.Objects.{is_instance_of, reference_argument, short_argument, some_or_fault}
-use Rattle.jc_registry.specs.Aids.{aid_at}
-use Rattle.jc_registry.specs.Registry.{is_aid}
+use Rattle.jc_environment.specs.Aid.{aid_at}
+use Rattle.jc_environment.specs.Registry.{is_aid}
 use Rattle.jc_world.specs.Answers.{and_then}
 use Rattle.jc_world.specs.Arrays.{bytes_in}
 use Rattle.jc_world.specs.Numbers.{not_negative}

@@ -8,3 +8,5 @@ pub mod Objects
 pub mod OwnerPin
 pub mod System
 pub mod Util
+pub mod ArgumentReading
+pub mod RowLaws

@@ -24,13 +24,13 @@ use Rattle.jc_platform.specs.declared.names.PinsMethod.TheVariants.{PinCheck, Pi
 use Rattle.jc_platform.specs.declared.names.PinsMethod.TheVariants.{OwnerPinInit, OwnerPinCheck, OwnerPinGetTriesRemaining, OwnerPinIsValidated}
 use Rattle.jc_platform.specs.declared.names.PinsMethod.TheVariants.{OwnerPinReset, OwnerPinResetAndUnblock, OwnerPinUpdate}
 use Rattle.jc_platform.specs.declared.names.PinsMethod.TheVariants.{OwnerPinGetValidatedFlag, OwnerPinSetValidatedFlag}
-use Rattle.jc_pin.specs.declared.updating.PinRefusal.{PinRefusal}
-use Rattle.jc_pin.specs.declared.updating.PinRefusal.TheVariants.{StoreDown, CommitFull, IllegalValue, HeapFull}
-use Rattle.jc_pin.specs.Pins.{is_pin, record_of}
-use Rattle.jc_pin.specs.Checking.{pin_check}
-use Rattle.jc_pin.specs.Resetting.{pin_unblock, pin_reset}
-use Rattle.jc_pin.specs.Updating.{pin_update}
-use Rattle.jc_pin.specs.PinInit.{pin_init}
+use Rattle.jc_environment.specs.declared.pins.updating.PinRefusal.{PinRefusal}
+use Rattle.jc_environment.specs.declared.pins.updating.PinRefusal.TheVariants.{StoreDown, CommitFull, IllegalValue, HeapFull}
+use Rattle.jc_environment.specs.Pins.{is_pin, record_of}
+use Rattle.jc_environment.specs.PinChecks.{pin_check}
+use Rattle.jc_environment.specs.PinResets.{pin_unblock, pin_reset}
+use Rattle.jc_environment.specs.PinUpdates.{pin_update}
+use Rattle.jc_environment.specs.PinInit.{pin_init}
 use Rattle.jc_world.specs.declared.native_result.NativeResult.{NativeResult}
 use Rattle.jc_world.specs.declared.native_result.NativeResult.TheVariants.{ReturnVoid, ReturnValue}
 use Rattle.jc_world.specs.declared.step_exit.StepExit.{StepExit}

@@ -18,12 +18,12 @@ ghost use Rattle.jc_api_framework.specs.Aid.{begins_with, compared_with_bytes, c
 use crate::aid::cells::{cells_of_aid, is_aid_length};
 use crate::constructing::{construct, new_instance};
 use jc_api::{argument_bytes, array_arguments, elements_at, given_elements};
+use jc_environment::{Aid, MOST_AID, aid_at};
 use jc_frames::reasons::ILLEGAL_VALUE;
 use jc_frames::{Cell, Exception, Outcome};
 use jc_linker::linked::Linked;
 use jc_memory::Memory;
 use jc_platform::names::{AidsMethod, PlatformClass};
-use jc_registry::{Aid, MOST_AID, aid_at};
 use jc_transient::Ref;
 use jc_words::WordStore;
 use jc_world::arguments::{reference_argument, short_argument};

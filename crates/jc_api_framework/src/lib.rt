@@ -1,5 +1,6 @@
 //! The calls of `java.lang` and `javacard.framework` (API specification), a room a class: `Object` and the exceptions, `Util`, `APDU`, `OwnerPIN`, `AID`,
 //! `JCSystem` and `Applet`.
+//! Arguments of API calls are read by the rows of their methods.
 #![tactic(auto)]
 
 pub mod aid;
@@ -10,6 +11,7 @@ pub mod events;
 pub mod exceptions;
 pub mod objects;
 mod owner_pin;
+pub mod row_laws;
 pub mod system;
 pub mod util;
 
@@ -22,5 +24,6 @@ pub use events::call_event;
 pub use exceptions::call_exception;
 pub use objects::call_object;
 pub use owner_pin::call_pin;
+pub use row_laws::arguments_are_read_by_rows;
 pub use system::call_system;
 pub use util::call_util;

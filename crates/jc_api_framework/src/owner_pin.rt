@@ -6,17 +6,17 @@ pub(crate) mod update;
 ghost use Rattle.std.specs.Prelude.{◌≡◌, false, IfOk};
 ghost use Rattle.jc_frames.specs.Cells.{result_or_none};
 ghost use Rattle.jc_memory.specs.Programs.{Executes};
-ghost use Rattle.jc_pin.specs.Pins.{IsPin};
+ghost use Rattle.jc_environment.specs.Pins.{IsPin};
 ghost use Rattle.jc_world.specs.NativeCalls.{after_call};
 ghost use Rattle.jc_api_framework.specs.OwnerPin.{pin_call, owner_pin_get_tries_remaining, owner_pin_is_validated, owner_pin_reset, owner_pin_reset_and_unblock};
 ghost use Rattle.jc_api_framework.specs.OwnerPin.{owner_pin_set_validated_flag, receiver};
 
 use crate::owner_pin::check::owner_pin_check;
 use crate::owner_pin::update::{owner_pin_init, owner_pin_update};
+use jc_environment::pins::{is_pin, is_validated, tries};
 use jc_frames::{Cell, CodeFault, Outcome};
 use jc_linker::linked::Linked;
 use jc_memory::Memory;
-use jc_pin::{is_pin, is_validated, tries};
 use jc_platform::names::PinsMethod;
 use jc_transient::Ref;
 use jc_words::WordStore;
@@ -47,7 +47,7 @@ fn owner_pin_reset<S: WordStore>(
         (after_call result memory.new) }
 {
     let pin = receiver(args, memory)?;
-    jc_pin::reset(memory, pin)?;
+    jc_environment::pins::reset(memory, pin)?;
     Ok(NativeResult::ReturnVoid)
 }
 
@@ -62,7 +62,7 @@ fn owner_pin_reset_and_unblock<S: WordStore>(
         (after_call result memory.new) }
 {
     let pin = receiver(args, memory)?;
-    jc_pin::reset_and_unblock(memory, pin)?;
+    jc_environment::pins::reset_and_unblock(memory, pin)?;
     Ok(NativeResult::ReturnVoid)
 }
 

@@ -9,7 +9,7 @@ use Rattle.jc_heap.specs.Places.{cell_changes}
 use Rattle.jc_heap.specs.declared.object.Kind.TheVariants.{ByteArray}
 use Rattle.jc_heap.specs.declared.place.Place.{Place}
 use Rattle.jc_heap.specs.declared.place.Place.TheVariants as place
-use Rattle.jc_firewall.specs.Reach.{IsInReach}
+use Rattle.jc_firewall.specs.FirewallLaws.{IsInReach}
 use Rattle.jc_memory.specs.Cells.{word_at}
 use Rattle.jc_memory.specs.State.{Effect, HeapMove, MemoryState, SetTransient, apply_effect}
 use Rattle.jc_platform.specs.Distinct.{class_word}

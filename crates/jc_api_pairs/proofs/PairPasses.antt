@@ -10,7 +10,7 @@ use Rattle.jc_heap.specs.Heap.{facts}
 use Rattle.jc_heap.specs.Moves.{SetPlaces, refusal_of_places}
 use Rattle.jc_heap.specs.Places.{places_of}
 use Rattle.jc_heap.specs.declared.object.Kind.TheVariants.{ByteArray}
-use Rattle.jc_firewall.specs.Reach.{IsInReach}
+use Rattle.jc_firewall.specs.FirewallLaws.{IsInReach}
 use Rattle.jc_firewall.specs.declared.access.Access.TheVariants.{InstanceField}
 use Rattle.jc_memory.specs.Cells.{word_at}
 use Rattle.jc_memory.specs.State.{Effect, HeapMove, MemoryState, SetTransient, apply_effect}

@@ -21,7 +21,7 @@ use Rattle.jc_memory.specs.Cells.{IsHeaderOf}
 use Rattle.jc_memory.specs.Programs.{Completes, Finish, Perform, unless_refused}
 use Rattle.jc_memory.specs.State.{HeapMove, MemoryState}
 use Rattle.jc_memory.proofs.Room.{facts-places}
-use Rattle.jc_pin.proofs.Putting.{puts_apart, puts_stand}
+use Rattle.jc_environment.proofs.PinWrites.{puts_apart, puts_stand}
 use Rattle.jc_world.specs.declared.arrays.Stretch.{Stretch}
 use Rattle.jc_world.specs.Objects.{check_or_fault}
 use Rattle.jc_api.proofs.Reaching.{err_not_ok}

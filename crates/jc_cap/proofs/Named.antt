@@ -3,43 +3,43 @@ use Rattle.std.proofs.Common.{◌≡◌, ℕ, zero, suc, ◌<◌, Bool, true, fa
 use Rattle.std.proofs.Common.{Err, refl, sym, ◌∙◌, subst, arith, inl, inr, ◌⊎◌}
 use Rattle.std.specs.Prelude.{IfOk, is_some}
 use Rattle.std.proofs.lemmas.Bool.{eqb-true}
-use Rattle.jc_cap_linkage.specs.declared.fault.CapFault.{CapFault}
-use Rattle.jc_cap_linkage.specs.declared.fault.CapFault.TheVariants.{SizesDisagree, BadOffset}
-use Rattle.jc_cap_linkage.specs.declared.class_refs.ClassRef.{ClassRef}
-use Rattle.jc_cap_linkage.specs.declared.class_refs.ClassRef.TheVariants as classes
-use Rattle.jc_cap_linkage.specs.Reading.{ParsesAs}
-use Rattle.jc_cap_linkage.proofs.Many.{bind_ok, ok_is}
-use Rattle.jc_cap_linkage.proofs.Telling.{wanted_ok}
-use Rattle.jc_cap_linkage.proofs.Wholes.{whole_takes}
-use Rattle.jc_cap_linkage.specs.Envelope.{info_at}
-use Rattle.jc_cap_linkage.specs.declared.exports.ExportedClass.{ExportedClass}
-use Rattle.jc_cap_linkage.specs.declared.pool.StaticRef.{StaticRef}
-use Rattle.jc_cap_linkage.specs.declared.pool.StaticRef.TheVariants as statics
-use Rattle.jc_cap_linkage.specs.declared.pool.Entry.{Entry}
-use Rattle.jc_cap_linkage.specs.declared.pool.Entry.TheVariants as entries
-use Rattle.jc_cap_code.specs.declared.class_records.ClassRecord.{ClassRecord}
-use Rattle.jc_cap_code.specs.declared.class_records.ClassRecord.TheVariants as records
-use Rattle.jc_cap_code.specs.ClassValues.{RecordAt, offsets_of, contents_of}
-use Rattle.jc_cap_code.specs.ClassGrammar.{AreClasses}
-use Rattle.jc_cap_code.specs.ClassReading.{is_among, classes_of}
-use Rattle.jc_cap_code.specs.StaticReading.{statics_at}
-use Rattle.jc_cap_code.specs.StaticGrammar.{AreStatics}
-use Rattle.jc_cap_code.specs.MethodValues.{MethodParts}
-use Rattle.jc_cap_code.specs.MethodReading.{method_at, has_room}
-use Rattle.jc_cap_code.specs.Tables as tables
-use Rattle.jc_cap_code.specs.Tables.{all_of_list, tables_fit}
-use Rattle.jc_cap_code.proofs.Among.{among_contains}
-use Rattle.jc_cap_code.proofs.RecordWalk.{classes_take}
-use Rattle.jc_cap_code.proofs.StaticTelling.{statics_tells}
+use Rattle.jc_cap.specs.declared.fault.CapFault.{CapFault}
+use Rattle.jc_cap.specs.declared.fault.CapFault.TheVariants.{SizesDisagree, BadOffset}
+use Rattle.jc_cap.specs.declared.class_refs.ClassRef.{ClassRef}
+use Rattle.jc_cap.specs.declared.class_refs.ClassRef.TheVariants as classes
+use Rattle.jc_cap.specs.Reading.{ParsesAs}
+use Rattle.jc_cap.proofs.Many.{bind_ok, ok_is}
+use Rattle.jc_cap.proofs.Telling.{wanted_ok}
+use Rattle.jc_cap.proofs.Wholes.{whole_takes}
+use Rattle.jc_cap.specs.Envelope.{info_at}
+use Rattle.jc_cap.specs.declared.exports.ExportedClass.{ExportedClass}
+use Rattle.jc_cap.specs.declared.pool.StaticRef.{StaticRef}
+use Rattle.jc_cap.specs.declared.pool.StaticRef.TheVariants as statics
+use Rattle.jc_cap.specs.declared.pool.Entry.{Entry}
+use Rattle.jc_cap.specs.declared.pool.Entry.TheVariants as entries
+use Rattle.jc_cap.specs.declared.class_records.ClassRecord.{ClassRecord}
+use Rattle.jc_cap.specs.declared.class_records.ClassRecord.TheVariants as records
+use Rattle.jc_cap.specs.ClassValues.{RecordAt, offsets_of, contents_of}
+use Rattle.jc_cap.specs.Classes.{AreClasses}
+use Rattle.jc_cap.specs.ClassReading.{is_among, classes_of}
+use Rattle.jc_cap.specs.StaticReading.{statics_at}
+use Rattle.jc_cap.specs.Statics.{AreStatics}
+use Rattle.jc_cap.specs.MethodValues.{MethodParts}
+use Rattle.jc_cap.specs.MethodReading.{method_at, has_room}
+use Rattle.jc_cap.specs.Tables as tables
+use Rattle.jc_cap.specs.Tables.{all_of_list, tables_fit}
+use Rattle.jc_cap.proofs.Among.{among_contains}
+use Rattle.jc_cap.proofs.RecordWalk.{classes_take}
+use Rattle.jc_cap.proofs.StaticTelling.{statics_tells}
 use Rattle.jc_cap.specs.declared.texts.PackageBytes.{PackageBytes}
 use Rattle.jc_cap.specs.declared.texts.LoadedComponents.{LoadedComponents}
 use Rattle.jc_cap.specs.Contents.{PackageContents}
-use Rattle.jc_cap.specs.Reading as reading
+use Rattle.jc_cap.specs.PackageReading as reading
 use Rattle.jc_cap.specs.ComponentReading.{header_in, directory_in, applets_in, imports_in, pool_in, classes_in, methods_in, statics_in, exports_in}
 use Rattle.jc_cap.specs.Sizes.{sizes_agree}
 use Rattle.jc_cap.specs.Fitting.{class_fits, method_fits, entry_fits, applet_fits, export_fits, all_if_present, offsets_fit}
 use Rattle.jc_cap.specs.Assembling.{required_components, checked_package, assembly_of}
-use Rattle.jc_cap.specs.Packages.{NamesMethod, ClassNamed, MethodNamed, EntryNamed, PublicNamed, RecordNamed, AppletNames, ExportNames, AllIfPresent, IsPackage}
+use Rattle.jc_cap.specs.KnownPackages.{NamesMethod, ClassNamed, MethodNamed, EntryNamed, PublicNamed, RecordNamed, AppletNames, ExportNames, AllIfPresent, IsPackage}
 
 both : (a b : Bool) → a && b ≡ true → (a ≡ true) × (b ≡ true)
 both true true e = (refl, refl)

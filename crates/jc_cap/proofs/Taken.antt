@@ -1,19 +1,19 @@
 -- A component is read by its tag.
 use Rattle.std.proofs.Common.{◌≡◌, ◌≢◌, ℕ, List, None, Result, Ok, Err, refl, sym, ap, ◌∙◌}
 use Rattle.std.proofs.lemmas.Bool.{ne_eqb}
-use Rattle.jc_cap_linkage.specs.declared.fault.CapFault.{CapFault}
-use Rattle.jc_cap_linkage.specs.declared.formats.Format.{Format}
-use Rattle.jc_cap_linkage.specs.Reading.{◌>>=◌, value_of_whole}
-use Rattle.jc_cap_linkage.specs.Envelope.{info_at}
-use Rattle.jc_cap_linkage.specs.Header.{header_at}
-use Rattle.jc_cap_linkage.specs.Directory.{directory_at}
-use Rattle.jc_cap_linkage.specs.Applets.{applets_at}
-use Rattle.jc_cap_linkage.specs.Imports.{imports_at}
-use Rattle.jc_cap_linkage.specs.Pool.{pool_at}
-use Rattle.jc_cap_linkage.specs.Exports.{exports_at}
-use Rattle.jc_cap_code.specs.ClassReading.{classes_of}
-use Rattle.jc_cap_code.specs.MethodReading.{methods_of}
-use Rattle.jc_cap_code.specs.StaticReading.{statics_at}
+use Rattle.jc_cap.specs.declared.fault.CapFault.{CapFault}
+use Rattle.jc_cap.specs.declared.formats.Format.{Format}
+use Rattle.jc_cap.specs.Reading.{◌>>=◌, value_of_whole}
+use Rattle.jc_cap.specs.Envelope.{info_at}
+use Rattle.jc_cap.specs.Header.{header_at}
+use Rattle.jc_cap.specs.Directory.{directory_at}
+use Rattle.jc_cap.specs.Applets.{applets_at}
+use Rattle.jc_cap.specs.Imports.{imports_at}
+use Rattle.jc_cap.specs.Pool.{pool_at}
+use Rattle.jc_cap.specs.Exports.{exports_at}
+use Rattle.jc_cap.specs.ClassReading.{classes_of}
+use Rattle.jc_cap.specs.MethodReading.{methods_of}
+use Rattle.jc_cap.specs.StaticReading.{statics_at}
 use Rattle.jc_cap.specs.declared.texts.LoadedComponents.{LoadedComponents}
 use Rattle.jc_cap.specs.Contents.{Content}
 use Rattle.jc_cap.specs.Contents as contents

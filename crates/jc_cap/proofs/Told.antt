@@ -2,34 +2,34 @@
 use Rattle.std.proofs.Common.{◌≡◌, ℕ, eqb, List, Option, Result, Ok, Err, refl, sym, ap, subst, ◌∙◌, inl, inr}
 use Rattle.std.specs.Prelude.{IfOk}
 use Rattle.std.proofs.lemmas.Bool.{eqb-true, eqb-false, ne_eqb}
-use Rattle.jc_cap_linkage.specs.declared.fault.CapFault.{CapFault}
-use Rattle.jc_cap_linkage.specs.declared.formats.Format.{Format}
-use Rattle.jc_cap_linkage.specs.Reading.{Field, ParsesAs, value_of_whole}
-use Rattle.jc_cap_linkage.specs.Telling.{ReadsEncodings}
-use Rattle.jc_cap_linkage.proofs.Many.{bind_ok, ok_is}
-use Rattle.jc_cap_linkage.proofs.Telling.{chosen}
-use Rattle.jc_cap_linkage.proofs.Wholes.{whole_takes, whole_again}
-use Rattle.jc_cap_linkage.specs.Envelope.{info_at}
-use Rattle.jc_cap_linkage.specs.Header.{header_at, IsHeader}
-use Rattle.jc_cap_linkage.specs.Directory.{directory_at, IsDirectory}
-use Rattle.jc_cap_linkage.specs.Applets.{applets_at, IsApplets}
-use Rattle.jc_cap_linkage.specs.Imports.{imports_at, IsImports}
-use Rattle.jc_cap_linkage.specs.Pool.{pool_at, IsPool}
-use Rattle.jc_cap_linkage.specs.Exports.{exports_at, IsExports}
-use Rattle.jc_cap_linkage.proofs.ToldEnvelope.{info_takes, info_again}
-use Rattle.jc_cap_linkage.proofs.ToldHeader.{header_tells}
-use Rattle.jc_cap_linkage.proofs.ToldDirectory.{directory_tells}
-use Rattle.jc_cap_linkage.proofs.ToldLists.{imports_tells, applets_tells, exports_tells}
-use Rattle.jc_cap_linkage.proofs.ToldPool.{pool_tells}
-use Rattle.jc_cap_code.specs.ClassReading.{classes_of}
-use Rattle.jc_cap_code.specs.ClassValues.{RecordAt}
-use Rattle.jc_cap_code.specs.ClassGrammar.{AreClasses}
-use Rattle.jc_cap_code.specs.MethodReading.{methods_of}
-use Rattle.jc_cap_code.specs.StaticReading.{statics_at}
-use Rattle.jc_cap_code.specs.StaticGrammar.{AreStatics}
-use Rattle.jc_cap_code.proofs.RecordWalk.{classes_found, classes_only}
-use Rattle.jc_cap_code.proofs.MethodTelling.{methods_take, methods_again}
-use Rattle.jc_cap_code.proofs.StaticTelling.{statics_tells}
+use Rattle.jc_cap.specs.declared.fault.CapFault.{CapFault}
+use Rattle.jc_cap.specs.declared.formats.Format.{Format}
+use Rattle.jc_cap.specs.Reading.{Field, ParsesAs, value_of_whole}
+use Rattle.jc_cap.specs.Telling.{ReadsEncodings}
+use Rattle.jc_cap.proofs.Many.{bind_ok, ok_is}
+use Rattle.jc_cap.proofs.Telling.{chosen}
+use Rattle.jc_cap.proofs.Wholes.{whole_takes, whole_again}
+use Rattle.jc_cap.specs.Envelope.{info_at}
+use Rattle.jc_cap.specs.Header.{header_at, IsHeader}
+use Rattle.jc_cap.specs.Directory.{directory_at, IsDirectory}
+use Rattle.jc_cap.specs.Applets.{applets_at, IsApplets}
+use Rattle.jc_cap.specs.Imports.{imports_at, IsImports}
+use Rattle.jc_cap.specs.Pool.{pool_at, IsPool}
+use Rattle.jc_cap.specs.Exports.{exports_at, IsExports}
+use Rattle.jc_cap.proofs.ToldEnvelope.{info_takes, info_again}
+use Rattle.jc_cap.proofs.ToldHeader.{header_tells}
+use Rattle.jc_cap.proofs.ToldDirectory.{directory_tells}
+use Rattle.jc_cap.proofs.ToldLists.{imports_tells, applets_tells, exports_tells}
+use Rattle.jc_cap.proofs.ToldPool.{pool_tells}
+use Rattle.jc_cap.specs.ClassReading.{classes_of}
+use Rattle.jc_cap.specs.ClassValues.{RecordAt}
+use Rattle.jc_cap.specs.Classes.{AreClasses}
+use Rattle.jc_cap.specs.MethodReading.{methods_of}
+use Rattle.jc_cap.specs.StaticReading.{statics_at}
+use Rattle.jc_cap.specs.Statics.{AreStatics}
+use Rattle.jc_cap.proofs.RecordWalk.{classes_found, classes_only}
+use Rattle.jc_cap.proofs.MethodTelling.{methods_take, methods_again}
+use Rattle.jc_cap.proofs.StaticTelling.{statics_tells}
 use Rattle.jc_cap.specs.declared.texts.LoadedComponents.{LoadedComponents}
 use Rattle.jc_cap.specs.Taking.{Taken, taken, taken_with}
 use Rattle.jc_cap.specs.Contents.{Content}

@@ -1,13 +1,13 @@
 -- A package that is put together of its components.
 use Rattle.std.specs.Prelude.{ℕ, Bool, List, Option, Some, None, Result, Ok, Err, if◌then◌else◌}
-use Rattle.jc_cap_linkage.specs.declared.fault.CapFault.{CapFault}
-use Rattle.jc_cap_linkage.specs.declared.fault.CapFault.TheVariants.{Missing, SizesDisagree, BadOffset}
-use Rattle.jc_cap_linkage.specs.Reading.{◌>>=◌}
-use Rattle.jc_cap_linkage.specs.Tags.{header_tag, directory_tag, applet_tag, import_tag, constant_pool_tag, class_tag, method_tag, static_field_tag, export_tag}
+use Rattle.jc_cap.specs.declared.fault.CapFault.{CapFault}
+use Rattle.jc_cap.specs.declared.fault.CapFault.TheVariants.{Missing, SizesDisagree, BadOffset}
+use Rattle.jc_cap.specs.Reading.{◌>>=◌}
+use Rattle.jc_cap.specs.Tags.{header_tag, directory_tag, applet_tag, import_tag, constant_pool_tag, class_tag, method_tag, static_field_tag, export_tag}
 use Rattle.jc_cap.specs.declared.texts.LoadedComponents.{LoadedComponents}
 use Rattle.jc_cap.specs.declared.texts.PackageBytes.{PackageBytes}
 use Rattle.jc_cap.specs.ComponentReading.{header_in}
-use Rattle.jc_cap.specs.Reading as reading
+use Rattle.jc_cap.specs.PackageReading as reading
 use Rattle.jc_cap.specs.Sizes.{sizes_agree}
 use Rattle.jc_cap.specs.Fitting.{offsets_fit}
 

@@ -1,26 +1,26 @@
 -- Reading one component of a package, its tag and its size first.
 use Rattle.std.specs.Prelude.{ℕ, List, Option, Some, None, Result, Ok}
-use Rattle.jc_cap_linkage.specs.declared.fault.CapFault.{CapFault}
-use Rattle.jc_cap_linkage.specs.declared.formats.Format.{Format}
-use Rattle.jc_cap_linkage.specs.Reading.{◌>>=◌, value_of_whole}
-use Rattle.jc_cap_linkage.specs.Packages.{NamedPackage}
-use Rattle.jc_cap_linkage.specs.Envelope.{info_at}
-use Rattle.jc_cap_linkage.specs.Header.{HeaderValue, header_at}
-use Rattle.jc_cap_linkage.specs.declared.directory.Directory.{Directory}
-use Rattle.jc_cap_linkage.specs.Directory.{directory_at}
-use Rattle.jc_cap_linkage.specs.Applets.{AppletNamed, applets_at}
-use Rattle.jc_cap_linkage.specs.Imports.{imports_at}
-use Rattle.jc_cap_linkage.specs.declared.pool.Entry.{Entry}
-use Rattle.jc_cap_linkage.specs.Pool.{pool_at}
-use Rattle.jc_cap_linkage.specs.declared.exports.ExportedClass.{ExportedClass}
-use Rattle.jc_cap_linkage.specs.Exports.{exports_at}
-use Rattle.jc_cap_linkage.specs.Tags.{header_tag, directory_tag, applet_tag, import_tag, constant_pool_tag, class_tag, method_tag, static_field_tag, export_tag}
-use Rattle.jc_cap_code.specs.ClassValues.{RecordAt}
-use Rattle.jc_cap_code.specs.ClassReading.{classes_of}
-use Rattle.jc_cap_code.specs.MethodValues.{MethodParts}
-use Rattle.jc_cap_code.specs.MethodReading.{methods_of}
-use Rattle.jc_cap_code.specs.StaticValues.{StaticParts}
-use Rattle.jc_cap_code.specs.StaticReading.{statics_at}
+use Rattle.jc_cap.specs.declared.fault.CapFault.{CapFault}
+use Rattle.jc_cap.specs.declared.formats.Format.{Format}
+use Rattle.jc_cap.specs.Reading.{◌>>=◌, value_of_whole}
+use Rattle.jc_cap.specs.Packages.{NamedPackage}
+use Rattle.jc_cap.specs.Envelope.{info_at}
+use Rattle.jc_cap.specs.Header.{HeaderValue, header_at}
+use Rattle.jc_cap.specs.declared.directory.Directory.{Directory}
+use Rattle.jc_cap.specs.Directory.{directory_at}
+use Rattle.jc_cap.specs.Applets.{AppletNamed, applets_at}
+use Rattle.jc_cap.specs.Imports.{imports_at}
+use Rattle.jc_cap.specs.declared.pool.Entry.{Entry}
+use Rattle.jc_cap.specs.Pool.{pool_at}
+use Rattle.jc_cap.specs.declared.exports.ExportedClass.{ExportedClass}
+use Rattle.jc_cap.specs.Exports.{exports_at}
+use Rattle.jc_cap.specs.Tags.{header_tag, directory_tag, applet_tag, import_tag, constant_pool_tag, class_tag, method_tag, static_field_tag, export_tag}
+use Rattle.jc_cap.specs.ClassValues.{RecordAt}
+use Rattle.jc_cap.specs.ClassReading.{classes_of}
+use Rattle.jc_cap.specs.MethodValues.{MethodParts}
+use Rattle.jc_cap.specs.MethodReading.{methods_of}
+use Rattle.jc_cap.specs.StaticValues.{StaticParts}
+use Rattle.jc_cap.specs.StaticReading.{statics_at}
 
 abbrev pub header_in : List ℕ → Result HeaderValue CapFault
 header_in text = info_at header_tag text >>= λ info. value_of_whole (header_at info)

@@ -1,22 +1,22 @@
 -- Whole components: the tag, the size, and the info, which is read by the tag.
 use Rattle.std.specs.Prelude.{◌≡◌, ◌≢◌, ℕ, List, Result, Ok, ◌==◌, if◌then◌else◌}
-use Rattle.jc_cap_linkage.specs.declared.fault.CapFault.{CapFault}
-use Rattle.jc_cap_linkage.specs.declared.formats.Format.{Format}
-use Rattle.jc_cap_linkage.specs.Reading.{◌>>=◌, value_of_whole}
-use Rattle.jc_cap_linkage.specs.Envelope.{info_at, IsEnvelope}
-use Rattle.jc_cap_linkage.specs.Header.{header_at, IsHeader}
-use Rattle.jc_cap_linkage.specs.Directory.{directory_at, IsDirectory}
-use Rattle.jc_cap_linkage.specs.Applets.{applets_at, IsApplets}
-use Rattle.jc_cap_linkage.specs.Imports.{imports_at, IsImports}
-use Rattle.jc_cap_linkage.specs.Pool.{pool_at, IsPool}
-use Rattle.jc_cap_linkage.specs.Exports.{exports_at, IsExports}
-use Rattle.jc_cap_linkage.specs.Tags.{header_tag, directory_tag, applet_tag, import_tag, constant_pool_tag, class_tag, method_tag, static_field_tag, export_tag}
-use Rattle.jc_cap_code.specs.ClassReading.{classes_of}
-use Rattle.jc_cap_code.specs.ClassGrammar.{AreClasses}
-use Rattle.jc_cap_code.specs.MethodReading.{methods_of}
-use Rattle.jc_cap_code.specs.MethodGrammar.{AreMethods}
-use Rattle.jc_cap_code.specs.StaticReading.{statics_at}
-use Rattle.jc_cap_code.specs.StaticGrammar.{AreStatics}
+use Rattle.jc_cap.specs.declared.fault.CapFault.{CapFault}
+use Rattle.jc_cap.specs.declared.formats.Format.{Format}
+use Rattle.jc_cap.specs.Reading.{◌>>=◌, value_of_whole}
+use Rattle.jc_cap.specs.Envelope.{info_at, IsEnvelope}
+use Rattle.jc_cap.specs.Header.{header_at, IsHeader}
+use Rattle.jc_cap.specs.Directory.{directory_at, IsDirectory}
+use Rattle.jc_cap.specs.Applets.{applets_at, IsApplets}
+use Rattle.jc_cap.specs.Imports.{imports_at, IsImports}
+use Rattle.jc_cap.specs.Pool.{pool_at, IsPool}
+use Rattle.jc_cap.specs.Exports.{exports_at, IsExports}
+use Rattle.jc_cap.specs.Tags.{header_tag, directory_tag, applet_tag, import_tag, constant_pool_tag, class_tag, method_tag, static_field_tag, export_tag}
+use Rattle.jc_cap.specs.ClassReading.{classes_of}
+use Rattle.jc_cap.specs.Classes.{AreClasses}
+use Rattle.jc_cap.specs.MethodReading.{methods_of}
+use Rattle.jc_cap.specs.MethodGrammar.{AreMethods}
+use Rattle.jc_cap.specs.StaticReading.{statics_at}
+use Rattle.jc_cap.specs.Statics.{AreStatics}
 use Rattle.jc_cap.specs.Contents.{Content}
 use Rattle.jc_cap.specs.Contents as contents
 

@@ -1,14 +1,14 @@
 -- What a component says.
 use Rattle.std.specs.Prelude.{List, Option}
-use Rattle.jc_cap_linkage.specs.Packages.{NamedPackage}
-use Rattle.jc_cap_linkage.specs.Header.{HeaderValue}
-use Rattle.jc_cap_linkage.specs.Applets.{AppletNamed}
-use Rattle.jc_cap_linkage.specs.declared.directory.Directory.{Directory}
-use Rattle.jc_cap_linkage.specs.declared.pool.Entry.{Entry}
-use Rattle.jc_cap_linkage.specs.declared.exports.ExportedClass.{ExportedClass}
-use Rattle.jc_cap_code.specs.ClassValues.{RecordAt}
-use Rattle.jc_cap_code.specs.MethodValues.{MethodParts}
-use Rattle.jc_cap_code.specs.StaticValues.{StaticParts}
+use Rattle.jc_cap.specs.Packages.{NamedPackage}
+use Rattle.jc_cap.specs.Header.{HeaderValue}
+use Rattle.jc_cap.specs.Applets.{AppletNamed}
+use Rattle.jc_cap.specs.declared.directory.Directory.{Directory}
+use Rattle.jc_cap.specs.declared.pool.Entry.{Entry}
+use Rattle.jc_cap.specs.declared.exports.ExportedClass.{ExportedClass}
+use Rattle.jc_cap.specs.ClassValues.{RecordAt}
+use Rattle.jc_cap.specs.MethodValues.{MethodParts}
+use Rattle.jc_cap.specs.StaticValues.{StaticParts}
 
 pub data Content : Type 0 where
   header : HeaderValue → Content

@@ -1,18 +1,18 @@
 -- Which offsets name records and methods.
 use Rattle.std.specs.Prelude.{ℕ, Bool, true, ◌&&◌, List, Option, Some, None}
-use Rattle.jc_cap_linkage.specs.declared.class_refs.ClassRef.{ClassRef}
-use Rattle.jc_cap_linkage.specs.declared.class_refs.ClassRef.TheVariants as classes
-use Rattle.jc_cap_linkage.specs.Applets.{AppletNamed}
-use Rattle.jc_cap_linkage.specs.declared.exports.ExportedClass.{ExportedClass}
-use Rattle.jc_cap_linkage.specs.declared.pool.StaticRef.{StaticRef}
-use Rattle.jc_cap_linkage.specs.declared.pool.StaticRef.TheVariants as statics
-use Rattle.jc_cap_linkage.specs.declared.pool.Entry.{Entry}
-use Rattle.jc_cap_linkage.specs.declared.pool.Entry.TheVariants as entries
-use Rattle.jc_cap_code.specs.ClassValues.{RecordAt, offsets_of}
-use Rattle.jc_cap_code.specs.ClassReading.{is_among}
-use Rattle.jc_cap_code.specs.MethodValues.{MethodParts}
-use Rattle.jc_cap_code.specs.MethodReading.{has_room}
-use Rattle.jc_cap_code.specs.Tables.{all_of_list, tables_fit}
+use Rattle.jc_cap.specs.declared.class_refs.ClassRef.{ClassRef}
+use Rattle.jc_cap.specs.declared.class_refs.ClassRef.TheVariants as classes
+use Rattle.jc_cap.specs.Applets.{AppletNamed}
+use Rattle.jc_cap.specs.declared.exports.ExportedClass.{ExportedClass}
+use Rattle.jc_cap.specs.declared.pool.StaticRef.{StaticRef}
+use Rattle.jc_cap.specs.declared.pool.StaticRef.TheVariants as statics
+use Rattle.jc_cap.specs.declared.pool.Entry.{Entry}
+use Rattle.jc_cap.specs.declared.pool.Entry.TheVariants as entries
+use Rattle.jc_cap.specs.ClassValues.{RecordAt, offsets_of}
+use Rattle.jc_cap.specs.ClassReading.{is_among}
+use Rattle.jc_cap.specs.MethodValues.{MethodParts}
+use Rattle.jc_cap.specs.MethodReading.{has_room}
+use Rattle.jc_cap.specs.Tables.{all_of_list, tables_fit}
 use Rattle.jc_cap.specs.Contents.{PackageContents}
 
 -- a record of the Class component begins there

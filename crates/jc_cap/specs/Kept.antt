@@ -1,13 +1,13 @@
 -- Components that are kept once they were read.
 use Rattle.std.specs.Prelude.{◌≡◌, ℕ, List, Result, Ok, Err}
-use Rattle.jc_cap_linkage.specs.declared.fault.CapFault.{CapFault}
-use Rattle.jc_cap_linkage.specs.declared.exports.ExportedClass.{ExportedClass}
-use Rattle.jc_cap_linkage.specs.Again.{IsReadable}
-use Rattle.jc_cap_linkage.specs.Applets.{AppletNamed, applets_at}
-use Rattle.jc_cap_linkage.specs.Envelope.{info_at}
-use Rattle.jc_cap_linkage.specs.Exports.{exports_at}
-use Rattle.jc_cap_linkage.specs.Reading.{◌>>=◌, value_of_whole}
-use Rattle.jc_cap_linkage.specs.Tags.{applet_tag, export_tag}
+use Rattle.jc_cap.specs.declared.fault.CapFault.{CapFault}
+use Rattle.jc_cap.specs.declared.exports.ExportedClass.{ExportedClass}
+use Rattle.jc_cap.specs.Again.{IsReadable}
+use Rattle.jc_cap.specs.Applets.{AppletNamed, applets_at}
+use Rattle.jc_cap.specs.Envelope.{info_at}
+use Rattle.jc_cap.specs.Exports.{exports_at}
+use Rattle.jc_cap.specs.Reading.{◌>>=◌, value_of_whole}
+use Rattle.jc_cap.specs.Tags.{applet_tag, export_tag}
 
 -- what was found of a component: its bytes are kept, and can be read; or the fault of reading them
 abbrev pub Keeps : {A : Type 0} → List ℕ → Result A CapFault → Result (List ℕ) CapFault → Type 0

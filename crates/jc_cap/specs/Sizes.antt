@@ -1,10 +1,10 @@
 -- What a directory says of the other components.
 use Rattle.std.specs.Prelude.{ℕ, ◌-◌, Bool, true, ◌&&◌, List, length, Option, Some, None, ◌==◌, get_or}
-use Rattle.jc_cap_code.specs.StaticReading.{values_size}
+use Rattle.jc_cap.specs.StaticReading.{values_size}
 use Rattle.jc_cap.specs.declared.texts.PackageBytes.{PackageBytes}
 use Rattle.jc_cap.specs.Contents.{PackageContents}
-use Rattle.jc_cap_linkage.specs.Tags.{header_tag, directory_tag, applet_tag, import_tag, constant_pool_tag, class_tag, method_tag, static_field_tag}
-use Rattle.jc_cap_linkage.specs.Tags.{reference_location_tag, export_tag, descriptor_tag}
+use Rattle.jc_cap.specs.Tags.{header_tag, directory_tag, applet_tag, import_tag, constant_pool_tag, class_tag, method_tag, static_field_tag}
+use Rattle.jc_cap.specs.Tags.{reference_location_tag, export_tag, descriptor_tag}
 
 -- the size of a component's info: what stands after its tag and its size
 abbrev pub size_of : List ℕ → ℕ

@@ -1,7 +1,7 @@
 -- The components of a package that have come.
 use Rattle.std.specs.Prelude.{ℕ, ◌-◌, ◌==◌, List, length, Some, None, if◌then◌else◌}
-use Rattle.jc_cap_linkage.specs.Tags.{header_tag, directory_tag, applet_tag, import_tag, constant_pool_tag, class_tag, method_tag, static_field_tag}
-use Rattle.jc_cap_linkage.specs.Tags.{reference_location_tag, export_tag, descriptor_tag}
+use Rattle.jc_cap.specs.Tags.{header_tag, directory_tag, applet_tag, import_tag, constant_pool_tag, class_tag, method_tag, static_field_tag}
+use Rattle.jc_cap.specs.Tags.{reference_location_tag, export_tag, descriptor_tag}
 use Rattle.jc_cap.specs.declared.texts.LoadedComponents.{LoadedComponents}
 
 -- no component has come yet

@@ -1,9 +1,9 @@
 -- What components say, without where it lies.
 use Rattle.jc_cap.specs.declared.contents.Contents.{Contents}
 use Rattle.jc_cap.specs.Contents.{PackageContents}
-use Rattle.jc_cap_linkage.specs.ComponentViews.{head}
-use Rattle.jc_cap_code.specs.MethodViews.{method_parts}
-use Rattle.jc_cap_code.specs.StaticViews.{static_parts}
+use Rattle.jc_cap.specs.ComponentViews.{head}
+use Rattle.jc_cap.specs.MethodViews.{method_parts}
+use Rattle.jc_cap.specs.StaticViews.{static_parts}
 
 abbrev pub package_contents : Contents → PackageContents
 package_contents c = record {

@@ -1,18 +1,18 @@
 //! A package is put together of the components that came.
 ghost use Rattle.std.specs.Prelude.{◌≡◌, Ok, IfOk};
-ghost use Rattle.jc_cap_linkage.specs.Reading.{ParsesAs};
+ghost use Rattle.jc_cap.specs.Reading.{ParsesAs};
 ghost use Rattle.jc_cap.specs.Assembling.{required_component, flagged_component, flags_in, required_components, checked_package, assembly_of};
-ghost use Rattle.jc_cap.specs.Packages.{IsPackage};
-ghost use Rattle.jc_cap.specs.Reading.{contents_of};
+ghost use Rattle.jc_cap.specs.KnownPackages.{IsPackage};
+ghost use Rattle.jc_cap.specs.PackageReading.{contents_of};
 ghost use Rattle.jc_cap.specs.Views.{package_contents};
 
 use crate::component::HeaderComponent;
 use crate::contents::{Contents, contents_of};
+use crate::fault::CapFault;
 use crate::fitting::offsets_fit;
 use crate::sizes::sizes_agree;
+use crate::tags;
 use crate::texts::{LoadedComponents, PackageBytes};
-use jc_cap_linkage::fault::CapFault;
-use jc_cap_linkage::tags;
 use std::marker::Model;
 
 fn required_component<T>(tag: u8, component: Option<T>) -> Result<T, CapFault>

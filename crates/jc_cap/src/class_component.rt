@@ -1,16 +1,16 @@
 //! A Class component that came and was read.
 ghost use Rattle.std.specs.Prelude.{◌≡◌};
-ghost use Rattle.jc_cap_linkage.specs.Reading.{ParsesAs};
-ghost use Rattle.jc_cap_code.specs.ClassReading.{record_offsets_or_none};
+ghost use Rattle.jc_cap.specs.Reading.{ParsesAs};
+ghost use Rattle.jc_cap.specs.ClassReading.{record_offsets_or_none};
 ghost use Rattle.jc_cap.specs.ComponentReading.{classes_in};
 ghost use Rattle.jc_cap.specs.Kept.{Keeps};
 
+use crate::classes::{Classes, read_class};
+use crate::envelope::{info_found_in, info_of};
+use crate::fault::CapFault;
+use crate::formats::Format;
+use crate::tags;
 use arrayvec::ArrayVec;
-use jc_cap_code::classes::{Classes, read_class};
-use jc_cap_linkage::envelope::{info_found_in, info_of};
-use jc_cap_linkage::fault::CapFault;
-use jc_cap_linkage::formats::Format;
-use jc_cap_linkage::tags;
 use std::marker::Model;
 
 fn classes_in(format: Format, bytes: &[u8]) -> Result<Classes<'_>, CapFault>
@@ -38,9 +38,9 @@ pub struct ClassComponent {
 
 impl Model for ClassComponent {
     ghost use Rattle.std.specs.Prelude.{◌≡◌, ℕ, List};
-    ghost use Rattle.jc_cap_linkage.specs.Again.{IsReadable};
-    ghost use Rattle.jc_cap_code.specs.ClassValues.{offsets_of};
-    ghost use Rattle.jc_cap_code.specs.ClassReading.{records_or_none};
+    ghost use Rattle.jc_cap.specs.Again.{IsReadable};
+    ghost use Rattle.jc_cap.specs.ClassValues.{offsets_of};
+    ghost use Rattle.jc_cap.specs.ClassReading.{records_or_none};
     ghost use Rattle.jc_cap.specs.ComponentReading.{classes_in};
 
     ghost Value = { List ℕ };

@@ -1,28 +1,28 @@
 //! Components that came and were read.
 ghost use Rattle.std.specs.Prelude.{◌≡◌, ◌<◌, ◌^◌, length, Ok};
-ghost use Rattle.jc_cap_linkage.specs.declared.formats.Format.{Format};
-ghost use Rattle.jc_cap_linkage.specs.Again.{IsReadable};
-ghost use Rattle.jc_cap_linkage.specs.Envelope.{info_at};
-ghost use Rattle.jc_cap_linkage.specs.Reading.{ParsesAs};
-ghost use Rattle.jc_cap_linkage.specs.ComponentViews.{head};
-ghost use Rattle.jc_cap_code.specs.MethodViews.{method_parts};
+ghost use Rattle.jc_cap.specs.declared.formats.Format.{Format};
+ghost use Rattle.jc_cap.specs.Again.{IsReadable};
+ghost use Rattle.jc_cap.specs.Envelope.{info_at};
+ghost use Rattle.jc_cap.specs.Reading.{ParsesAs};
+ghost use Rattle.jc_cap.specs.ComponentViews.{head};
+ghost use Rattle.jc_cap.specs.MethodViews.{method_parts};
 ghost use Rattle.jc_cap.specs.ComponentReading.{header_in, directory_in, imports_in, pool_in, methods_in};
 ghost use Rattle.jc_cap.specs.Components.{component_at, content_at};
 ghost use Rattle.jc_cap.specs.Kept.{IsReadAs, Keeps, applets_told, exports_told};
 
-use jc_cap_code::classes::read_class;
-use jc_cap_code::methods::{Methods, read_method};
-use jc_cap_code::statics::read_static_field;
-use jc_cap_linkage::applets::{Applets, read_applets};
-use jc_cap_linkage::directory::{Directory, read_directory};
-use jc_cap_linkage::envelope::{info_found_in, info_of};
-use jc_cap_linkage::exports::{Exports, read_exports};
-use jc_cap_linkage::fault::CapFault;
-use jc_cap_linkage::formats::Format;
-use jc_cap_linkage::header::{Header, read_header};
-use jc_cap_linkage::imports::{Imports, read_imports};
-use jc_cap_linkage::pool::{ConstantPool, read_pool};
-use jc_cap_linkage::tags::{
+use crate::applets::{Applets, read_applets};
+use crate::classes::read_class;
+use crate::directory::{Directory, read_directory};
+use crate::envelope::{info_found_in, info_of};
+use crate::exports::{Exports, read_exports};
+use crate::fault::CapFault;
+use crate::formats::Format;
+use crate::header::{Header, read_header};
+use crate::imports::{Imports, read_imports};
+use crate::methods::{Methods, read_method};
+use crate::pool::{ConstantPool, read_pool};
+use crate::statics::read_static_field;
+use crate::tags::{
     APPLET, CLASS, CONSTANT_POOL, DIRECTORY, EXPORT, HEADER, IMPORT, METHOD, STATIC_FIELD,
 };
 use std::marker::Model;
@@ -92,7 +92,7 @@ pub struct Component<const TAG: u8> {
 
 impl<const TAG: u8> Model for Component<TAG> {
     ghost use Rattle.std.specs.Prelude.{ℕ, List};
-    ghost use Rattle.jc_cap_linkage.specs.Again.{IsReadable};
+    ghost use Rattle.jc_cap.specs.Again.{IsReadable};
     ghost use Rattle.jc_cap.specs.Components.{component_at};
 
     ghost Value = { List ℕ };
@@ -144,7 +144,7 @@ pub type ExportComponent = Component<EXPORT>;
 
 impl Component<HEADER> {
     /// What the package says of itself. It is found again in the bytes, without a fault.
-    #[tactic(auto, using(crate::proofs::Again::of_header))]
+    #[tactic(auto, using(crate::proofs::ReadAgain::of_header))]
     pub fn header(&self) -> Header<'_>
         ensures { header_in self.now ≡ Ok (head result) }
     {
@@ -175,7 +175,7 @@ impl Component<DIRECTORY> {
 
 impl Component<APPLET> {
     /// The package's applets. They are found again in the bytes, without a fault.
-    #[tactic(auto, using(crate::proofs::Again::of_applets))]
+    #[tactic(auto, using(crate::proofs::ReadAgain::of_applets))]
     pub fn applets(&self) -> Applets<'_>
         ensures { applets_told self.now ≡ Ok result }
     {
@@ -185,7 +185,7 @@ impl Component<APPLET> {
 
 impl Component<IMPORT> {
     /// The packages that the package imports. They are found again in the bytes, without a fault.
-    #[tactic(auto, using(crate::proofs::Again::of_imports))]
+    #[tactic(auto, using(crate::proofs::ReadAgain::of_imports))]
     pub fn imports(&self) -> Imports<'_>
         ensures { imports_in self.now ≡ Ok result }
     {
@@ -195,7 +195,7 @@ impl Component<IMPORT> {
 
 impl Component<CONSTANT_POOL> {
     /// The package's constant pool. It is found again in the bytes, without a fault.
-    #[tactic(auto, using(crate::proofs::Again::of_pool))]
+    #[tactic(auto, using(crate::proofs::ReadAgain::of_pool))]
     pub fn pool(&self) -> ConstantPool<'_>
         ensures { pool_in self.now ≡ Ok result }
     {
@@ -205,7 +205,7 @@ impl Component<CONSTANT_POOL> {
 
 impl Component<METHOD> {
     /// The package's methods. They are found again in the bytes, without a fault.
-    #[tactic(auto, using(crate::proofs::Again::of_methods))]
+    #[tactic(auto, using(crate::proofs::ReadAgain::of_methods))]
     pub fn methods(&self) -> Methods<'_>
         ensures { methods_in self.now ≡ Ok (method_parts result) }
     {
@@ -215,7 +215,7 @@ impl Component<METHOD> {
 
 impl Component<EXPORT> {
     /// The classes that the package exports. They are found again in the bytes, without a fault.
-    #[tactic(auto, using(crate::proofs::Again::of_exports))]
+    #[tactic(auto, using(crate::proofs::ReadAgain::of_exports))]
     pub fn exports(&self) -> Exports<'_>
         ensures { exports_told self.now ≡ Ok result }
     {

@@ -1,23 +1,23 @@
 //! What the components of a package say.
 ghost use Rattle.std.specs.Prelude.{◌≡◌, Ok};
-ghost use Rattle.jc_cap_linkage.specs.Reading.{ParsesAs};
+ghost use Rattle.jc_cap.specs.Reading.{ParsesAs};
 ghost use Rattle.jc_cap.specs.Contents.{PackageContents};
 ghost use Rattle.jc_cap.specs.ComponentReading.{applets_in, exports_in};
-ghost use Rattle.jc_cap.specs.Reading.{contents_of};
+ghost use Rattle.jc_cap.specs.PackageReading.{contents_of};
 ghost use Rattle.jc_cap.specs.Views.{package_contents};
 
+use crate::applets::Applets;
+use crate::classes::Classes;
 use crate::component::{AppletComponent, ExportComponent};
+use crate::directory::Directory;
+use crate::exports::Exports;
+use crate::fault::CapFault;
+use crate::header::Header;
+use crate::imports::Imports;
+use crate::methods::Methods;
+use crate::pool::ConstantPool;
+use crate::statics::StaticFields;
 use crate::texts::PackageBytes;
-use jc_cap_code::classes::Classes;
-use jc_cap_code::methods::Methods;
-use jc_cap_code::statics::StaticFields;
-use jc_cap_linkage::applets::Applets;
-use jc_cap_linkage::directory::Directory;
-use jc_cap_linkage::exports::Exports;
-use jc_cap_linkage::fault::CapFault;
-use jc_cap_linkage::header::Header;
-use jc_cap_linkage::imports::Imports;
-use jc_cap_linkage::pool::ConstantPool;
 
 /// What the components of a package say. It is lent from their bytes.
 #[derive(Drop)]
@@ -53,7 +53,7 @@ fn exports_in(component: &Option<ExportComponent>) -> Option<Exports<'_>>
 
 /// What the components say. They are found again in the bytes. A fault is only where the Directory or the Class component was
 /// read in another format than the header's, in which it cannot be read.
-#[tactic(auto, unfolding(crate::specs::Reading::contents_of))]
+#[tactic(auto, unfolding(crate::specs::PackageReading::contents_of))]
 pub(crate) fn contents_of(texts: &PackageBytes) -> Result<Contents<'_>, CapFault>
     ensures { ParsesAs package_contents result (contents_of texts.now) }
 {

@@ -2,19 +2,19 @@
 ghost use Rattle.std.specs.Prelude.{◌≡◌};
 ghost use Rattle.jc_cap.specs.Fitting.{all_if_present, class_fits, method_fits, entry_fits, applet_fits, export_fits, offsets_fit};
 ghost use Rattle.jc_cap.specs.Views.{package_contents};
-ghost use Rattle.jc_cap_code.specs.MethodReading.{has_room};
-ghost use Rattle.jc_cap_code.specs.Tables.{all_of_list};
-ghost use Rattle.jc_cap_code.specs.MethodViews.{method_parts};
+ghost use Rattle.jc_cap.specs.MethodReading.{has_room};
+ghost use Rattle.jc_cap.specs.Tables.{all_of_list};
+ghost use Rattle.jc_cap.specs.MethodViews.{method_parts};
 
+use crate::applets::Applets;
+use crate::class_refs::ClassRef;
+use crate::classes::Classes;
 use crate::contents::Contents;
-use jc_cap_code::classes::Classes;
-use jc_cap_code::methods::Methods;
-use jc_cap_code::tables::tables_fit;
-use jc_cap_linkage::applets::Applets;
-use jc_cap_linkage::class_refs::ClassRef;
-use jc_cap_linkage::exports::{ExportedClass, Exports};
-use jc_cap_linkage::lists::U2List;
-use jc_cap_linkage::pool::{ConstantPool, Entry, StaticRef};
+use crate::exports::{ExportedClass, Exports};
+use crate::lists::U2List;
+use crate::methods::Methods;
+use crate::pool::{ConstantPool, Entry, StaticRef};
+use crate::tables::tables_fit;
 
 fn all_methods(methods: &Methods<'_>, offsets: &U2List<'_>) -> bool
     ensures { result ≡ all_of_list (has_room (method_parts methods.now)) offsets.now }

@@ -4,12 +4,12 @@ ghost use Rattle.jc_cap.specs.Sizes.{size_of, size_if_present, directory_size_of
 ghost use Rattle.jc_cap.specs.Sizes.{count_if_present, sizes_agree};
 ghost use Rattle.jc_cap.specs.Views.{package_contents};
 
+use crate::applets::Applets;
 use crate::component::{AppletComponent, ExportComponent};
 use crate::contents::Contents;
+use crate::lists::U2List;
+use crate::tags;
 use crate::texts::PackageBytes;
-use jc_cap_linkage::applets::Applets;
-use jc_cap_linkage::lists::U2List;
-use jc_cap_linkage::tags;
 
 fn size_of(bytes: &[u8]) -> usize
     ensures { result ≡ size_of bytes.now }

@@ -1,14 +1,14 @@
 //! A StaticField component that came and was read.
 ghost use Rattle.std.specs.Prelude.{◌≡◌, Ok};
-ghost use Rattle.jc_cap_linkage.specs.Reading.{ParsesAs};
-ghost use Rattle.jc_cap_code.specs.StaticViews.{counts_or_none, static_parts};
+ghost use Rattle.jc_cap.specs.Reading.{ParsesAs};
+ghost use Rattle.jc_cap.specs.StaticViews.{counts_or_none, static_parts};
 ghost use Rattle.jc_cap.specs.ComponentReading.{statics_in};
 ghost use Rattle.jc_cap.specs.Kept.{Keeps};
 
-use jc_cap_code::statics::{StaticCounts, StaticFields, read_static_field};
-use jc_cap_linkage::envelope::{info_found_in, info_of};
-use jc_cap_linkage::fault::CapFault;
-use jc_cap_linkage::tags;
+use crate::envelope::{info_found_in, info_of};
+use crate::fault::CapFault;
+use crate::statics::{StaticCounts, StaticFields, read_static_field};
+use crate::tags;
 use std::marker::Model;
 
 // The numbers that the component states.
@@ -29,7 +29,7 @@ pub struct StaticFieldComponent {
 
 impl Model for StaticFieldComponent {
     ghost use Rattle.std.specs.Prelude.{ℕ, List};
-    ghost use Rattle.jc_cap_code.specs.StaticViews.{TellsCounts};
+    ghost use Rattle.jc_cap.specs.StaticViews.{TellsCounts};
     ghost use Rattle.jc_cap.specs.ComponentReading.{statics_in};
 
     ghost Value = { List ℕ };
@@ -41,7 +41,7 @@ impl Model for StaticFieldComponent {
 
 impl StaticFieldComponent {
     /// Reads the component that the bytes are, and keeps them. No memory is taken.
-    #[tactic(auto, using(crate::proofs::Again::counts_told, crate::proofs::Again::counts_fault))]
+    #[tactic(auto, using(crate::proofs::ReadAgain::counts_told, crate::proofs::ReadAgain::counts_fault))]
     pub fn read(bytes: Vec<u8>) -> Result<StaticFieldComponent, CapFault>
         ensures { Keeps bytes.items (statics_in bytes.items) result }
     {
@@ -58,7 +58,7 @@ impl StaticFieldComponent {
     }
 
     /// The package's static fields. They are found again in the bytes, without a fault.
-    #[tactic(auto, using(crate::proofs::Again::counts_of_info))]
+    #[tactic(auto, using(crate::proofs::ReadAgain::counts_of_info))]
     pub fn statics(&self) -> StaticFields<'_>
         ensures { statics_in self.now ≡ Ok (static_parts result) }
     {

@@ -6,19 +6,19 @@ ghost use Rattle.jc_cap.specs.Contents as contents;
 ghost use Rattle.jc_cap.specs.Components.{component_at, content_result, IsComponent};
 ghost use Rattle.jc_cap.specs.ComponentReading.{classes_in, statics_in};
 ghost use Rattle.jc_cap.specs.Taking.{taken, taken_with, unused_taken};
-ghost use Rattle.jc_cap_linkage.specs.Envelope.{info_at};
-ghost use Rattle.jc_cap_linkage.specs.Tags.{header_tag, class_tag, static_field_tag};
+ghost use Rattle.jc_cap.specs.Envelope.{info_at};
+ghost use Rattle.jc_cap.specs.Tags.{header_tag, class_tag, static_field_tag};
 
 use crate::class_component::ClassComponent;
 use crate::component::{
     AppletComponent, Component, ConstantPoolComponent, DirectoryComponent, ExportComponent,
     HeaderComponent, ImportComponent, MethodComponent,
 };
+use crate::envelope::info_of;
+use crate::fault::CapFault;
+use crate::formats::Format;
 use crate::static_component::StaticFieldComponent;
-use jc_cap_linkage::envelope::info_of;
-use jc_cap_linkage::fault::CapFault;
-use jc_cap_linkage::formats::Format;
-use jc_cap_linkage::tags;
+use crate::tags;
 
 /// The components of a package that have come, those that are used.
 #[derive(Drop)]

@@ -8,7 +8,7 @@ use Rattle.jc_transient.specs.State.{IsCleared, RamState}
 use Rattle.jc_linker.specs.Values.{Packages}
 use Rattle.jc_platform.specs.Tokens.{Tokens}
 use Rattle.jc_platform.specs.Table.{Reads}
-use Rattle.jc_card_load.specs.Reading.{packages_of}
+use Rattle.jc_packages.specs.Reading.{packages_of}
 use Rattle.jc_memory.specs.Cells.{word_in, word_of}
 use Rattle.jc_memory.specs.Owners.{at_reset}
 use Rattle.jc_memory.specs.State.{MemoryState}

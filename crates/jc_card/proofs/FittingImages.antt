@@ -12,10 +12,10 @@ use Rattle.jc_heap.proofs.Laws.{object_named}
 use Rattle.jc_image.specs.declared.laying.ImageRoom.{ImageRoom}
 use Rattle.jc_image.specs.Laying.{unsealed_heap, sealed_heap}
 use Rattle.jc_platform.specs.Tokens.{Tokens}
-use Rattle.jc_card_load.specs.Reading.{packages_of, with_records}
+use Rattle.jc_packages.specs.Reading.{packages_of, with_records}
 use Rattle.jc_environment.specs.declared.objects.FixedObject.{FixedObject}
 use Rattle.jc_environment.specs.Objects.{fixed_count}
-use Rattle.jc_environment.proofs.Counts.{count_sized, least_count}
+use Rattle.jc_environment.proofs.ObjectCounts.{count_sized, least_count}
 use Rattle.jc_transient.specs.State.{buffer_told}
 use Rattle.jc_card.specs.Fixed.{class_number_of, last_fixed, next_or_null, object_number, with_objects}
 use Rattle.jc_card.specs.Made.{new_card_heap, objects_in}

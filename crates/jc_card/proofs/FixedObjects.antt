@@ -29,7 +29,7 @@ use Rattle.jc_heap.specs.declared.object.Facts.{Facts}
 use Rattle.jc_platform.specs.Tokens.{Tokens}
 use Rattle.jc_environment.specs.declared.objects.FixedObject.{FixedObject}
 use Rattle.jc_environment.specs.Objects.{cells_of_all, sized_objects}
-use Rattle.jc_environment.proofs.Counts.{cells_sized, most_cells}
+use Rattle.jc_environment.proofs.ObjectCounts.{cells_sized, most_cells}
 use Rattle.jc_card.specs.Fixed.{buffer_cells, class_number_of, fixed_facts, BeginsWithFixed, with_objects}
 use Rattle.jc_card.specs.Made.{new_card_heap, objects_in}
 

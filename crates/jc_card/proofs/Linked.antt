@@ -6,9 +6,9 @@ use Rattle.jc_heap.specs.Components.{record_of}
 use Rattle.jc_heap.specs.Heap.{HeapState}
 use Rattle.jc_linker.specs.Values.{Packages}
 use Rattle.jc_platform.specs.Tokens.{Tokens}
-use Rattle.jc_card_load.specs.PendingPackages.{PendingPackageValue, linked_components}
-use Rattle.jc_card_load.specs.Reading.{load_of, packages_of, with_prepared, with_records}
-use Rattle.jc_card_load.specs.declared.load_refusal.LoadRefusal.{LoadRefusal}
+use Rattle.jc_packages.specs.PendingPackages.{PendingPackageValue, linked_components}
+use Rattle.jc_packages.specs.Reading.{load_of, packages_of, with_prepared, with_records}
+use Rattle.jc_packages.specs.declared.load_refusal.LoadRefusal.{LoadRefusal}
 
 one_more : (p q : Packages) (r : Result PendingPackageValue LoadRefusal) → with_prepared p r ≡ Some q → length q.loaded ≡ length p.loaded + 1
 one_more p q (Err e) h = absurd (let g : None ≡ Some q = h in cc)

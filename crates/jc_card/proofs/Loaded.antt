@@ -13,13 +13,13 @@ use Rattle.jc_memory.specs.Programs.{Program, Finish, Perform, Choose, Completes
 use Rattle.jc_memory.proofs.ProgramLemmas.{bind_did, bind_cut}
 use Rattle.jc_cap.specs.declared.texts.LoadedComponents.{LoadedComponents}
 use Rattle.jc_interp.specs.declared.attacks.Budget.{Budget}
-use Rattle.jc_card_load.specs.PendingPackages.{PendingPackageValue, linked_components}
-use Rattle.jc_card_load.specs.RecordContents.{arrays_of, image_of, parts_of, statics_of}
-use Rattle.jc_card_load.specs.declared.load_refusal.LoadRefusal.{LoadRefusal}
-use Rattle.jc_card_load.specs.declared.load.OpenLoad.{OpenLoad}
-use Rattle.jc_card_load.specs.Loading.{CommandResult}
-use Rattle.jc_card_load.specs.Ending.{LoadResult, after_end, assembly_result, after_addition, after_preparation, end_of_load}
-use Rattle.jc_card.specs.Loads.{answer_of_left, response_of_end}
+use Rattle.jc_packages.specs.PendingPackages.{PendingPackageValue, linked_components}
+use Rattle.jc_packages.specs.RecordContents.{arrays_of, image_of, parts_of, statics_of}
+use Rattle.jc_packages.specs.declared.load_refusal.LoadRefusal.{LoadRefusal}
+use Rattle.jc_packages.specs.declared.load.OpenLoad.{OpenLoad}
+use Rattle.jc_packages.specs.Loading.{CommandResult}
+use Rattle.jc_packages.specs.LoadEnd.{LoadResult, after_end, assembly_result, after_addition, after_preparation, end_of_load}
+use Rattle.jc_card.specs.Loading.{answer_of_left, response_of_end}
 use Rattle.jc_card.specs.Answers.{after_exchange}
 
 -- no transaction began or ended, and the store is as it was

@@ -15,7 +15,7 @@ use Rattle.jc_environment.specs.Objects.{cells_of_all, fixed_size}
 use Rattle.jc_card.specs.Fixed.{class_number_of, with_objects}
 use Rattle.jc_card.specs.Made.{new_card_heap, new_front, objects_in}
 use Rattle.jc_card.proofs.FixedObjects.{end-add, head-new_card_heap, lasting-all, text-new_card_heap, top-add}
-use Rattle.jc_environment.proofs.Counts.{count_sized}
+use Rattle.jc_environment.proofs.ObjectCounts.{count_sized}
 use Rattle.jc_transient.specs.State.{buffer_told}
 
 -- what a new transient object leaves

@@ -2,7 +2,7 @@
 use Rattle.std.proofs.Common.{◌≡◌, ◌∙◌, ℕ, ◌+◌, ◌-◌, ◌<◌, length, slice_index, refl, ap, arith, add-one}
 use Rattle.std.proofs.lemmas.List.FromFn.{get_or-map-range_with_len, length-map-range_with_len}
 use Rattle.jc_environment.specs.Objects.{fixed_count, last_of}
-use Rattle.jc_environment.proofs.Counts.{least_count}
+use Rattle.jc_environment.proofs.ObjectCounts.{least_count}
 use Rattle.jc_platform.specs.Tokens.{Tokens}
 use Rattle.jc_heap.specs.Heap.{HeapState}
 use Rattle.jc_card.specs.Fixed.{fixed_of, last_fixed, object_number, next_or_null}

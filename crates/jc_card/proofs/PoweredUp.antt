@@ -12,9 +12,9 @@ use Rattle.jc_heap.specs.Alike.{StandAlike}
 use Rattle.jc_heap.proofs.Migrated.{migrated_alike}
 use Rattle.jc_heap.specs.Image.{IsWellFormed, base, image}
 use Rattle.jc_heap.specs.Heap.{HeapState, head_of, heap_of}
-use Rattle.jc_card_checks.specs.Sound.{IsSound}
-use Rattle.jc_card_load.specs.Reading.{packages_of}
-use Rattle.jc_card_load.specs.ImageTables.{HasTable}
+use Rattle.jc_packages.specs.Sound.{IsSound}
+use Rattle.jc_packages.specs.Reading.{packages_of}
+use Rattle.jc_packages.specs.ImageTables.{HasTable}
 use Rattle.jc_heap.proofs.RawWords.{recovered-head, head_is, text_is}
 use Rattle.jc_heap.proofs.Following.{base_is}
 use Rattle.jc_linker.specs.Values.{Packages}

@@ -8,7 +8,7 @@ use Rattle.jc_words.specs.Layout.{size_address}
 use Rattle.jc_words.specs.Refusals.{Refusals}
 use Rattle.jc_commit.specs.Image.{IsGoodLog, limit_of, recovered_of}
 use Rattle.jc_commit.specs.Migration.{migrated}
-use Rattle.jc_commit.specs.Opening.{IsOpened}
+use Rattle.jc_commit.specs.Journal.{IsOpened}
 use Rattle.jc_commit.specs.State.{State}
 use Rattle.jc_commit.proofs.InPlace.{length-recovered}
 use Rattle.jc_heap.specs.Heap.{heap_at_rest, heap_of}
@@ -18,7 +18,7 @@ use Rattle.jc_image.specs.Opening.{HoldsImage}
 use Rattle.jc_platform.specs.Tokens.{Tokens}
 use Rattle.jc_interp.specs.Attacks.{undisturbed}
 use Rattle.jc_card.specs.CardState.{CardState}
-use Rattle.jc_card_load.specs.ImageTables.{HasTable}
+use Rattle.jc_packages.specs.ImageTables.{HasTable}
 use Rattle.jc_card.specs.PowerUp.{HasHead, HasHeap, IsFoundAfter, IsFoundFirst, PowerUpRefuses, RecoveredWordsFail, RefusalLeaves, fault_of}
 use Rattle.jc_card.specs.PoweringUp.{FaultLeaves, IsLeftRecovered, IsPoweredOver, PowerUpFails, PowersUpOver}
 use Rattle.jc_card.specs.Reset.{IsAtReset}

@@ -5,10 +5,10 @@ use Rattle.jc_heap.specs.Heap.{HeapView}
 use Rattle.jc_linker.specs.Values.{Packages}
 use Rattle.jc_memory.specs.State.{MemoryState}
 use Rattle.jc_memory.specs.Power.{VolatileState}
-use Rattle.jc_registry.specs.Aids.{aid_at}
-use Rattle.jc_registry.specs.Registry.{aid_of_applet}
+use Rattle.jc_environment.specs.Aid.{aid_at}
+use Rattle.jc_environment.specs.Registry.{aid_of_applet}
 use Rattle.jc_interp.specs.declared.attacks.Budget.{Budget}
-use Rattle.jc_card_load.specs.declared.load.OpenLoad.{OpenLoad}
+use Rattle.jc_packages.specs.declared.load.OpenLoad.{OpenLoad}
 
 -- what running code changes; the packages, linked; the load that is open, if one is; and how many instructions a command may carry out, with the
 -- attack that may come among them

@@ -9,7 +9,7 @@ use Rattle.jc_memory.specs.Commands.{has_extended_length, takes_extended_length,
 use Rattle.jc_memory.specs.State.{MemoryState, BeginCommand}
 use Rattle.jc_memory.specs.Programs.{Program, Finish, bind}
 use Rattle.jc_linker.specs.Values.{Packages}
-use Rattle.jc_registry.specs.Registry.{applet_with_aid}
+use Rattle.jc_environment.specs.Registry.{applet_with_aid}
 use Rattle.jc_interp.specs.declared.attacks.Budget.{Budget}
 use Rattle.jc_dispatch.specs.declared.applet_result.AppletResult.{AppletResult}
 use Rattle.jc_dispatch.specs.declared.applet_result.AppletResult.TheVariants.{Done, Reason, Unknown, NotSelected, NotRegistered, Malformed, NoApplet}
@@ -17,10 +17,10 @@ use Rattle.jc_dispatch.specs.declared.applet_result.AppletResult.TheVariants.{Re
 use Rattle.jc_dispatch.specs.ExtendedLength.{implements_extended_length}
 use Rattle.jc_dispatch.specs.Phases.{then_with}
 use Rattle.jc_dispatch.specs.Selecting.{manager_selection, process_command, applet_selection}
-use Rattle.jc_dispatch.specs.Creating.{applet_creation}
+use Rattle.jc_dispatch.specs.Create.{applet_creation}
 use Rattle.jc_card.specs.Apdu.{Apdu}
 use Rattle.jc_card.specs.CardState.{CardState}
-use Rattle.jc_card.specs.Loads.{LoadResponse}
+use Rattle.jc_card.specs.Loading.{LoadResponse}
 use Rattle.jc_card.specs.StatusWord.{status_bytes, no_error, wrong_length, wrong_data, unknown, full, conditions_not_satisfied, no_applet, not_selected}
 
 -- this many instructions a command may carry out where nothing else was said

@@ -11,9 +11,9 @@ use Rattle.jc_heap.specs.Heap.{HeapState, heap_of}
 use Rattle.jc_heap.specs.Whole.{IsConsistent}
 use Rattle.jc_platform.specs.Tokens.{Tokens}
 use Rattle.jc_linker.specs.Values.{Packages}
-use Rattle.jc_card_load.specs.Reading.{packages_of}
-use Rattle.jc_card_load.specs.ImageTables.{HasTable}
-use Rattle.jc_card_checks.specs.Sound.{IsSound}
+use Rattle.jc_packages.specs.Reading.{packages_of}
+use Rattle.jc_packages.specs.ImageTables.{HasTable}
+use Rattle.jc_packages.specs.Sound.{IsSound}
 use Rattle.jc_card.specs.Fixed.{BeginsWithFixed, last_fixed}
 use Rattle.jc_card.specs.declared.power_up.PowerFault.{PowerFault}
 use Rattle.jc_card.specs.declared.power_up.PowerFault.TheVariants.{BadMagic, BadVersion, BadSize, BadLog, BadTable, BadPackage, NoMemory, StoreDown}

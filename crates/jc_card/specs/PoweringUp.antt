@@ -3,7 +3,7 @@ use Rattle.std.specs.Prelude.{ℕ, ◌≡◌, Bool, false, List, Result, Ok, Err
 use Rattle.jc_words.specs.Refusals.{Refusals}
 use Rattle.jc_commit.specs.Image.{limit_of, recovered_of}
 use Rattle.jc_commit.specs.Migration.{migrated}
-use Rattle.jc_commit.specs.Opening.{IsStoppedOpening}
+use Rattle.jc_commit.specs.Journal.{IsStoppedOpening}
 use Rattle.jc_commit.specs.State.{recovered_journal}
 use Rattle.jc_heap.specs.Heap.{heap_of, heap_view}
 use Rattle.jc_card.specs.CardState.{CardState}

@@ -5,7 +5,7 @@ use Rattle.jc_transient.specs.State.{IsCleared}
 use Rattle.jc_heap.specs.Heap.{HeapState, area_sizes, facts}
 use Rattle.jc_platform.specs.Tokens.{Tokens}
 use Rattle.jc_platform.specs.Table.{Reads}
-use Rattle.jc_card_load.specs.Reading.{packages_of}
+use Rattle.jc_packages.specs.Reading.{packages_of}
 use Rattle.jc_memory.specs.Cells.{word_at}
 use Rattle.jc_memory.specs.Owners.{at_reset}
 use Rattle.jc_memory.specs.State.{MemoryState}

@@ -16,11 +16,11 @@ use jc_dispatch::create::create;
 use jc_dispatch::extended_length::implements_extended_length;
 use jc_dispatch::process::process;
 use jc_dispatch::select::{select, select_manager};
+use jc_environment::applet_with_aid;
 use jc_frames::Frames;
 use jc_interp::attacks::Budget;
 use jc_linker::linked::Linked;
 use jc_memory::{AppletNumber, Memory, has_extended_length, two_bytes};
-use jc_registry::applet_with_aid;
 use jc_words::{StoreDown, WordStore};
 
 /// The AID by which the manager is selected.

@@ -2,15 +2,15 @@
 ghost use Rattle.std.specs.Prelude.{◌≡◌, false};
 ghost use Rattle.jc_memory.specs.Programs.{Executes};
 ghost use Rattle.jc_card.specs.Answers.{after_exchange, after_response};
-ghost use Rattle.jc_card.specs.Loads.{begin_component, end_component, append_component, link_number, begin_load, end_load, response_to, response_of_end};
-ghost use Rattle.jc_card.specs.Loads.{status_of};
+ghost use Rattle.jc_card.specs.Loading.{begin_component, end_component, append_component, link_number, begin_load, end_load, response_to, response_of_end};
+ghost use Rattle.jc_card.specs.Loading.{status_of};
 
 use crate::card::Card;
 use crate::packages::end_load_of;
 use crate::response::StatusResponse;
 use crate::status::StatusWord;
-use jc_card_load::{LoadRefusal, OpenLoad};
 use jc_linker::fault::LinkFault;
+use jc_packages::{LoadRefusal, OpenLoad};
 use jc_words::{StoreDown, WordStore};
 
 /// The status words of the faults of components and of linking, which are numbered from 1, each less its number.

@@ -3,12 +3,12 @@ ghost use Rattle.std.specs.Prelude.{◌≡◌, false, IfOk, IfSome, Ok, Err};
 ghost use Rattle.jc_linker.specs.Values.{Packages};
 ghost use Rattle.jc_memory.specs.Programs.{Executes};
 ghost use Rattle.jc_memory.specs.State.{MemoryState};
-ghost use Rattle.jc_card_load.specs.Ending.{after_end, end_of_load};
+ghost use Rattle.jc_packages.specs.LoadEnd.{after_end, end_of_load};
 
-use jc_card_load::{LoadRefusal, OpenLoad, end_package};
 use jc_linker::fault::LinkFault;
 use jc_linker::linked::Linked;
 use jc_memory::Memory;
+use jc_packages::{LoadRefusal, OpenLoad, end_package};
 use jc_words::{StoreDown, WordStore};
 use std::alloc::{AllocError, Global};
 use std::marker::Model;
@@ -127,7 +127,7 @@ pub(crate) fn end_load_of<S: WordStore>(
 }
 
 // Why a load does not end for which there is no memory.
-#[tactic(auto, unfolding(jc_card_load::specs::Ending::assembly_result))]
+#[tactic(auto, unfolding(jc_packages::specs::LoadEnd::assembly_result))]
 fn refused_for_memory(load: &mut Option<OpenLoad>) -> LoadRefusal
     ensures { (p : Packages) (s : MemoryState) → Executes (end_of_load p s load.old) s
         (after_end (Ok (Err result)) p load.new s) }

@@ -2,7 +2,7 @@
 ghost use Rattle.std.specs.Prelude.{◌≡◌, ◌<◌, false, length, IfSome};
 ghost use Rattle.std.specs.Option.{option_map};
 ghost use Rattle.jc_heap.specs.Components.{record_of};
-ghost use Rattle.jc_interp_objects.specs.StaticImages.{image_word, record_at, word_value};
+ghost use Rattle.jc_instructions.specs.StaticImages.{image_word, record_at, word_value};
 
 use crate::card::Card;
 use jc_memory::Memory;
@@ -11,7 +11,7 @@ use jc_words::WordStore;
 
 impl<S: WordStore> Card<S> {
     /// A word of the static image of the package with a number, from 0; none past its end, or where there is no such package.
-    #[tactic(auto, unfolding(jc_interp_objects::specs::StaticImages::image_word))]
+    #[tactic(auto, unfolding(jc_instructions::specs::StaticImages::image_word))]
     pub fn static_word(&self, package_number: u8, number: u16) -> Option<u16>
         requires up { self.now.memory.heap.down ≡ false }
         ensures { result ≡ option_map (λ w. word_value self.now.memory.heap.now w)
@@ -29,7 +29,7 @@ impl<S: WordStore> Card<S> {
 }
 
 // The record of the package with this number.
-#[tactic(auto, unfolding(jc_interp_objects::specs::StaticImages::record_at))]
+#[tactic(auto, unfolding(jc_instructions::specs::StaticImages::record_at))]
 fn record_at<S: WordStore>(memory: &Memory<S>, number: u8) -> Option<Ref>
     requires { memory.now.heap.down ≡ false }
     ensures exact { result ≡ record_at memory.now.heap.now number }

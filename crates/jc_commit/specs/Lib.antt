@@ -5,5 +5,5 @@ pub mod Entries
 pub mod Keeping
 pub mod EntryIndex
 pub mod State
-pub mod Opening
+pub mod Journal
 pub mod Writing

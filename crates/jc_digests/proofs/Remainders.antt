@@ -6,7 +6,7 @@ use Rattle.std.proofs.Math.Seq.{take-suc}
 use Rattle.std.proofs.Math.Nat.{div-div-eq-div-mul, pow-suc}
 use Rattle.std.proofs.lemmas.Nat.{xor_shr}
 use Rattle.std.specs.Int.Bits.{xor_add_and, xor_assoc, xor_zero_r}
-use Rattle.jc_digests.specs.Remainders.{bit_in, bits_in, crc_16, crc_32, generator_16, generator_32, remainder}
+use Rattle.jc_digests.specs.Checksums.{bit_in, bits_in, crc_16, crc_32, generator_16, generator_32, remainder}
 use Rattle.jc_digests.specs.declared.constants.TheConstants.{REMAINDERS_16, REMAINDERS_32}
 
 -- what is added to the register's higher bits stays apart from the next bit

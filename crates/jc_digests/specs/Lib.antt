@@ -1,3 +1,3 @@
 pub mod Pieces
-pub mod Remainders
+pub mod Checksums
 pub mod Kept

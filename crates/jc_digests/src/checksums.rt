@@ -2,7 +2,7 @@
 //! remainder's complement.
 
 ghost use Rattle.std.specs.Prelude.{◌≡◌};
-ghost use Rattle.jc_digests.specs.Remainders.{bits_in, generator_16, generator_32, remainder};
+ghost use Rattle.jc_digests.specs.Checksums.{bits_in, generator_16, generator_32, remainder};
 
 use crate::constants::{REMAINDERS_16, REMAINDERS_32};
 

@@ -1,9 +1,9 @@
 pub mod Slices
-pub mod AppletResults
+pub mod AppletResult
 pub mod Buffer
 pub mod Phases
 pub mod ExtendedLength
 pub mod Selecting
-pub mod Installing
-pub mod Creating
+pub mod Install
+pub mod Create
 pub mod AdHocCode

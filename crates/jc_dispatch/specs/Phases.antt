@@ -2,7 +2,7 @@
 use Rattle.std.specs.Prelude.{ℕ, Bool, true, false, pos, List, [], ◌∷◌, Option, Some, None, unwrap_or}
 use Rattle.std.specs.Option.{option_and_then}
 use Rattle.jc_heap.specs.Moves.{Abort}
-use Rattle.jc_cap_linkage.specs.declared.pool.VirtualToken.TheVariants.{Public}
+use Rattle.jc_cap.specs.declared.pool.VirtualToken.TheVariants.{Public}
 use Rattle.jc_frames.specs.declared.cell.Cell.{Cell}
 use Rattle.jc_frames.specs.declared.outcome.Outcome.{Outcome}
 use Rattle.jc_frames.specs.declared.outcome.Outcome.TheVariants.{Void, Short, Fault}
@@ -23,8 +23,8 @@ use Rattle.jc_platform.specs.declared.names.PlatformMethod.{PlatformMethod}
 use Rattle.jc_platform.specs.declared.names.PlatformMethod.TheVariants.{Applets}
 use Rattle.jc_platform.specs.declared.names.AppletsMethod.TheVariants.{AppletSelect, AppletDeselect}
 use Rattle.jc_platform.specs.Tokens.{method_token}
-use Rattle.jc_registry.specs.Registry.{instance_of_applet}
-use Rattle.jc_interp_calls.specs.Entering.{first_frames_of}
+use Rattle.jc_environment.specs.Registry.{instance_of_applet}
+use Rattle.jc_instructions.specs.Enter.{first_frames_of}
 use Rattle.jc_interp.specs.declared.attacks.Budget.{Budget}
 use Rattle.jc_interp.specs.Running.{run_methods}
 

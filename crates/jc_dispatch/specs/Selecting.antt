@@ -17,7 +17,7 @@ use Rattle.jc_interp.specs.declared.attacks.Budget.{Budget}
 use Rattle.jc_dispatch.specs.declared.applet_result.AppletResult.{AppletResult}
 use Rattle.jc_dispatch.specs.declared.applet_result.AppletResult.TheVariants.{Done, NotSelected}
 use Rattle.jc_dispatch.specs.Buffer.{apdu_object, buffer_fill}
-use Rattle.jc_dispatch.specs.AppletResults.{result_of_run, is_select_accepted}
+use Rattle.jc_dispatch.specs.AppletResult.{result_of_run, is_select_accepted}
 use Rattle.jc_dispatch.specs.Phases.{then_with, applet_method_call, close, instance_of}
 
 -- the applet is selected, or none

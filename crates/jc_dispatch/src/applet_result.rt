@@ -1,7 +1,7 @@
 //! How the runtime environment answers after an applet's code has ended.
 ghost use Rattle.std.specs.Prelude.{◌≡◌, false};
 ghost use Rattle.jc_memory.specs.Cells.{header_at};
-ghost use Rattle.jc_dispatch.specs.AppletResults.{result_of_exception, result_of_run, is_select_accepted};
+ghost use Rattle.jc_dispatch.specs.AppletResult.{result_of_exception, result_of_run, is_select_accepted};
 
 use jc_frames::Outcome;
 use jc_linker::linked::Linked;
@@ -54,7 +54,7 @@ fn result_of_exception<S: WordStore>(
 }
 
 /// What a method that hands nothing over is answered by.
-#[tactic(auto, unfolding(crate::specs::AppletResults::result_of_run))]
+#[tactic(auto, unfolding(crate::specs::AppletResult::result_of_run))]
 #[inline(always)]
 pub(crate) fn result_of_run<S: WordStore>(
     outcome: Outcome,

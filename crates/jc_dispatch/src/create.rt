@@ -3,8 +3,8 @@ ghost use Rattle.std.specs.Prelude.{OnOk, ◌≡◌, ◌≤◌, ◌<◌, false, 
 ghost use Rattle.std.specs.Option.{option_map};
 ghost use Rattle.jc_memory.specs.Programs.{Executes};
 ghost use Rattle.jc_heap.specs.Completions.{after_step};
-ghost use Rattle.jc_dispatch.specs.Creating.{applet_named, are_parameters, applet_creation, creation_of, ends_with_data, field_of, first_with_entry};
-ghost use Rattle.jc_dispatch.specs.Creating.{has_aid_length, instance_named, third_field};
+ghost use Rattle.jc_dispatch.specs.Create.{applet_named, are_parameters, applet_creation, creation_of, ends_with_data, field_of, first_with_entry};
+ghost use Rattle.jc_dispatch.specs.Create.{has_aid_length, instance_named, third_field};
 ghost use Rattle.jc_dispatch.specs.Slices.{slice_pair_bytes, slice_bytes};
 
 use crate::applet_result::AppletResult;
@@ -72,7 +72,7 @@ fn are_parameters(bytes: &[u8]) -> bool
 }
 
 // The AID of the applet in its package, and the parameters.
-#[tactic(auto, unfolding(crate::specs::Creating::creation_of))]
+#[tactic(auto, unfolding(crate::specs::Create::creation_of))]
 fn creation_of(bytes: &[u8]) -> Option<(&[u8], &[u8])>
     ensures parts { option_map slice_pair_bytes result ≡ creation_of bytes.entry.now }
     ensures short { IfSome result (λ parts. length parts.1.now ≤ 127) }
@@ -97,7 +97,7 @@ fn first_with_entry(aid: &[u8], linked: &Linked) -> Option<u8>
     None
 }
 
-#[tactic(auto, unfolding(crate::specs::Creating::applet_named))]
+#[tactic(auto, unfolding(crate::specs::Create::applet_named))]
 fn applet_named(aid: &[u8], linked: &Linked) -> Option<(u8, u8)>
     ensures { result ≡ applet_named linked.now aid.now }
 {
@@ -108,7 +108,7 @@ fn applet_named(aid: &[u8], linked: &Linked) -> Option<(u8, u8)>
 
 /// Makes an applet of these data: the AID of the applet in its package; then the parameters: the
 /// instance's AID, the control information and the applet's data. Each stands after its length.
-#[tactic(auto, unfolding(crate::specs::Creating::applet_creation))]
+#[tactic(auto, unfolding(crate::specs::Create::applet_creation))]
 pub fn create<S: WordStore>(
     budget: Budget,
     bytes: &[u8],

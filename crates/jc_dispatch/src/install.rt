@@ -3,7 +3,7 @@ ghost use Rattle.std.specs.Prelude.{OnOk, ◌≡◌, ◌≤◌, ◌<◌, false, 
 ghost use Rattle.jc_words.specs.Layout.{most_applets};
 ghost use Rattle.jc_memory.specs.Programs.{Executes};
 ghost use Rattle.jc_heap.specs.Completions.{after_step};
-ghost use Rattle.jc_dispatch.specs.Installing.{applet_installation, installation_end, next_applet, with_installation};
+ghost use Rattle.jc_dispatch.specs.Install.{applet_installation, installation_end, next_applet, with_installation};
 
 use crate::applet_result::{AppletResult, result_of_run};
 use crate::buffer::{apdu_buffer, fill};
@@ -66,7 +66,7 @@ fn installed_by<S: WordStore>(
 
 /// Installs an applet of a package, by the entry of its Applet component with this number and the
 /// place of its `install` method. The parameters lie in the buffer from its first byte on.
-#[tactic(auto, unfolding(crate::specs::Installing::applet_installation), using(jc_memory::proofs::ProgramLemmas::in_two_steps))]
+#[tactic(auto, unfolding(crate::specs::Install::applet_installation), using(jc_memory::proofs::ProgramLemmas::in_two_steps))]
 pub fn install<S: WordStore>(
     budget: Budget,
     home: PackageNumber,

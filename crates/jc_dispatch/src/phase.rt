@@ -4,7 +4,8 @@ ghost use Rattle.jc_memory.specs.Programs.{Executes};
 ghost use Rattle.jc_heap.specs.Completions.{after_step};
 ghost use Rattle.jc_dispatch.specs.Phases.{applet_method_call, default_of, instance_of, method_named, registers_idle, method_run, registers_for};
 
-use jc_cap_linkage::pool::VirtualToken;
+use jc_cap::pool::VirtualToken;
+use jc_environment::instance_of_applet;
 use jc_frames::{Cell, Frames, Outcome};
 use jc_interp::attacks::Budget;
 use jc_interp::begin;
@@ -13,7 +14,6 @@ use jc_linker::linked::Linked;
 use jc_linker::target::Method;
 use jc_memory::{AppletNumber, Memory, Notes, Owner, Phase, Registers};
 use jc_platform::names::{AppletsMethod, PlatformMethod};
-use jc_registry::instance_of_applet;
 use jc_transient::Ref;
 use jc_words::{StoreDown, WordStore};
 

@@ -1,8 +1,17 @@
-//! The runtime environment's own objects, with which the heap of an image begins: a list that follows the image's table.
+//! What the runtime environment keeps in the heap of an image: its own objects, with which the heap begins, a list that follows the image's
+//! table; the registry, which applets there are, by number and by AID; and PINs.
 #![tactic(auto)]
 
+mod aid;
+mod applets;
 pub mod objects;
+pub mod pins;
 
+pub use aid::{AID_CELLS, Aid, MOST_AID, aid_at};
+pub use applets::{
+    aid_of_applet, applet_count, applet_with_aid, entry_of_applet, has_aid, instance_of_applet,
+    package_of_applet,
+};
 pub use objects::{
     APDU_BUFFER, APDU_OBJECT, FixedObject, MOST_OBJECTS, fixed_objects, own_place, sized_objects,
 };

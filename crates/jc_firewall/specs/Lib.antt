@@ -1,3 +1,3 @@
 pub mod Situation
 pub mod Table
-pub mod Reach
+pub mod FirewallLaws

@@ -4,7 +4,7 @@ ghost use Rattle.jc_firewall.specs.declared.access.Access.{Access};
 ghost use Rattle.jc_firewall.specs.declared.decide.Decision.{Decision};
 ghost use Rattle.jc_firewall.specs.declared.subject.Context.{Context};
 ghost use Rattle.jc_firewall.specs.declared.subject.Situation.{Situation};
-ghost use Rattle.jc_firewall.specs.Reach.{IsInReach, IsSwitchOf, SetsCells};
+ghost use Rattle.jc_firewall.specs.FirewallLaws.{IsInReach, IsSwitchOf, SetsCells};
 ghost use Rattle.jc_firewall.specs.Table.{Answers, decision};
 
 use crate::decide::Decision;

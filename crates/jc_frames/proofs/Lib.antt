@@ -1,3 +1,4 @@
+pub mod Wraps
 pub mod Stores
 pub mod Orders
 pub mod Entered

@@ -4,7 +4,7 @@ use Rattle.std.proofs.Common.{length-append, append_assoc}
 use Rattle.std.specs.Prelude.{nat_le, if◌then◌else◌, ◌&&◌, IsTrue}
 use Rattle.std.proofs.lemmas.Grind.{common_steps}
 use Rattle.std.proofs.lemmas.Bool.Decides.{nat_tests}
-use Rattle.jc_opcodes.specs.Table.{can_duplicate_below}
+use Rattle.jc_frames.specs.Table.{can_duplicate_below}
 use Rattle.jc_frames.specs.Frames.{Frame, Frames, GoesOn, Ends, in_frame, with_stack, copy_below}
 use Rattle.jc_frames.specs.declared.outcome.Outcome.TheVariants.{Fault}
 use Rattle.jc_frames.specs.declared.cell.Cell.{Cell}

@@ -1,8 +1,8 @@
 -- Arithmetic on shorts. The kinds of the operands are tested before a divisor is.
 use Rattle.std.specs.Prelude.{ℤ, List, ◌∷◌, Option, Some, None}
-use Rattle.jc_opcodes.specs.declared.instr.ArithmeticOp.{ArithmeticOp}
-use Rattle.jc_opcodes.specs.declared.instr.ArithmeticOp.TheVariants.{Two, Negate, S2b}
-use Rattle.jc_opcodes.specs.Short.{answer_of, negate, low_byte}
+use Rattle.jc_frames.specs.declared.instr.ArithmeticOp.{ArithmeticOp}
+use Rattle.jc_frames.specs.declared.instr.ArithmeticOp.TheVariants.{Two, Negate, S2b}
+use Rattle.jc_frames.specs.Short.{answer_of, negate, low_byte}
 use Rattle.jc_frames.specs.declared.cell.Cell.{Cell}
 use Rattle.jc_frames.specs.declared.cell.Cell.TheVariants.{Short}
 use Rattle.jc_frames.specs.declared.outcome.Exception.TheVariants.{ArithmeticException}

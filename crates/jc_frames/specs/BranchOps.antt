@@ -3,12 +3,12 @@ use Rattle.std.specs.Option.{option_map, option_and_then}
 use Rattle.std.specs.Prelude.{ℕ, zero, suc, ◌+◌, ◌*◌, ℤ, pos, negsuc, ◌+ℤ◌, ◌-ℤ◌, unsigned_abs, int_lt, ◌==◌, ◌&&◌, nat_lt, nat_le, not, Bool, if◌then◌else◌}
 use Rattle.std.specs.Prelude.{List, length, slice_get, Option, Some, None}
 use Rattle.std.specs.Ordering.{int_eq}
-use Rattle.jc_opcodes.specs.declared.instr.Condition.{Condition}
-use Rattle.jc_opcodes.specs.declared.instr.Condition.TheVariants.{Zero, IsNull, NotNull, SameReference, OtherReference, Shorts}
-use Rattle.jc_opcodes.specs.declared.instr.BranchOp.{BranchOp}
-use Rattle.jc_opcodes.specs.declared.instr.BranchOp.TheVariants.{If, Goto, Jsr, Ret, Table, Lookup}
-use Rattle.jc_opcodes.specs.Operands.{s2}
-use Rattle.jc_opcodes.specs.Short.{compare}
+use Rattle.jc_frames.specs.declared.instr.Condition.{Condition}
+use Rattle.jc_frames.specs.declared.instr.Condition.TheVariants.{Zero, IsNull, NotNull, SameReference, OtherReference, Shorts}
+use Rattle.jc_frames.specs.declared.instr.BranchOp.{BranchOp}
+use Rattle.jc_frames.specs.declared.instr.BranchOp.TheVariants.{If, Goto, Jsr, Ret, Table, Lookup}
+use Rattle.jc_frames.specs.Operands.{s2}
+use Rattle.jc_frames.specs.Short.{compare}
 use Rattle.jc_frames.specs.declared.cell.Cell.{Cell}
 use Rattle.jc_frames.specs.declared.cell.Cell.TheVariants.{ReturnAddress}
 use Rattle.jc_frames.specs.declared.outcome.Outcome.TheVariants.{Fault}

@@ -1,6 +1,6 @@
 -- Constants: a value put on the stack.
-use Rattle.jc_opcodes.specs.declared.instr.ConstantOp.{ConstantOp}
-use Rattle.jc_opcodes.specs.declared.instr.ConstantOp.TheVariants.{Null, Number}
+use Rattle.jc_frames.specs.declared.instr.ConstantOp.{ConstantOp}
+use Rattle.jc_frames.specs.declared.instr.ConstantOp.TheVariants.{Null, Number}
 use Rattle.jc_frames.specs.declared.cell.Cell.TheVariants.{Short, Reference}
 use Rattle.jc_frames.specs.Frames.{Frame, Next, push}
 

@@ -1,9 +1,9 @@
 -- Locals: each is read or written by its number, with the kind that the instruction names.
 use Rattle.std.specs.Prelude.{◌+ℤ◌, slice_get}
 use Rattle.std.specs.Option.{option_and_then}
-use Rattle.jc_opcodes.specs.declared.instr.LocalOp.{LocalOp}
-use Rattle.jc_opcodes.specs.declared.instr.LocalOp.TheVariants.{Aload, Sload, Astore, Sstore, Sinc}
-use Rattle.jc_opcodes.specs.Short.{wrap}
+use Rattle.jc_frames.specs.declared.instr.LocalOp.{LocalOp}
+use Rattle.jc_frames.specs.declared.instr.LocalOp.TheVariants.{Aload, Sload, Astore, Sstore, Sinc}
+use Rattle.jc_frames.specs.Short.{wrap}
 use Rattle.jc_frames.specs.declared.cell.Cell.TheVariants.{Short, Reference}
 use Rattle.jc_frames.specs.Cells.{as_short, as_reference, short_on, storable_on}
 use Rattle.jc_frames.specs.Frames.{Frame, Next, if_some, push, store_local}

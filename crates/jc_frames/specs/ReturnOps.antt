@@ -1,8 +1,8 @@
 -- Returns: what a method hands to its caller, and where the run goes on.
 use Rattle.std.specs.Option.{option_map}
 use Rattle.std.specs.Prelude.{List, Option, Some, None}
-use Rattle.jc_opcodes.specs.declared.instr.ReturnOp.{ReturnOp as Leaving}
-use Rattle.jc_opcodes.specs.declared.instr.ReturnOp.TheVariants.{Areturn, Sreturn, Return}
+use Rattle.jc_frames.specs.declared.instr.ReturnOp.{ReturnOp as Leaving}
+use Rattle.jc_frames.specs.declared.instr.ReturnOp.TheVariants.{Areturn, Sreturn, Return}
 use Rattle.jc_frames.specs.declared.cell.Cell.{Cell}
 use Rattle.jc_frames.specs.declared.cell.Cell.TheVariants.{Short, Reference}
 use Rattle.jc_frames.specs.declared.method.ReturnPoint.{ReturnPoint}

@@ -3,9 +3,8 @@ ghost use Rattle.std.specs.Prelude.{◌≡◌};
 ghost use Rattle.jc_frames.specs.Frames.{next_of, in_frame};
 ghost use Rattle.jc_frames.specs.ArithmeticOps.{arithmetic_instruction};
 
-use crate::{Cell, Exception, FrameExit, Frames};
-use jc_opcodes::instr::ArithmeticOp;
-use jc_opcodes::short;
+use crate::instr::ArithmeticOp;
+use crate::{Cell, Exception, FrameExit, Frames, short};
 
 /// `sadd`, `ssub`, `smul`, `sdiv`, `srem`, `sneg`, `sshl`, `sshr`, `sushr`, `sand`, `sor`, `sxor`, `s2b`:
 /// computes on the shorts on top; a division by 0 throws.

@@ -4,10 +4,9 @@ ghost use Rattle.jc_frames.specs.Cells.{result_or_none, popped};
 ghost use Rattle.jc_frames.specs.Frames.{in_frame, unless_fault, with_stack};
 ghost use Rattle.jc_frames.specs.BranchOps.{branch_instruction, branch_target, condition_on, table_offset, pair_offset};
 
-use crate::{Cell, CodeFault, Frames};
-use jc_opcodes::instr::{BranchOp, Condition};
-use jc_opcodes::operands::s2_at;
-use jc_opcodes::short;
+use crate::instr::{BranchOp, Condition};
+use crate::operands::s2_at;
+use crate::{Cell, CodeFault, Frames, short};
 
 /// `ifeq`, `ifne`, `iflt`, `ifge`, `ifgt`, `ifle`, `ifnull`, `ifnonnull`, `if_acmpeq`, `if_acmpne`,
 /// `if_scmpeq`, `if_scmpne`, `if_scmplt`, `if_scmpge`, `if_scmpgt`, `if_scmple`, `ifeq_w`, `ifne_w`, `iflt_w`,

@@ -3,8 +3,8 @@ ghost use Rattle.std.specs.Prelude.{◌≡◌};
 ghost use Rattle.jc_frames.specs.Frames.{in_frame, unless_fault};
 ghost use Rattle.jc_frames.specs.ConstantOps.{constant_instruction};
 
+use crate::instr::ConstantOp;
 use crate::{Cell, CodeFault, Frames};
-use jc_opcodes::instr::ConstantOp;
 use jc_transient::Ref;
 
 /// `aconst_null`, `sconst_m1`, `sconst_0`, `sconst_1`, `sconst_2`, `sconst_3`, `sconst_4`, `sconst_5`,

@@ -1,7 +1,7 @@
-//! Frames: what a running method computes with, and the frames of the methods that called it. All
-//! their cells lie in one array, and a call moves none of them.
-//! The instructions that need nothing but frames: constants, locals, the stack's order, arithmetic,
-//! branches and returns.
+//! The instructions of the virtual machine: their decoding, and the operations on shorts. Methods as the machine enters them: headers and
+//! exception handlers, read where they stand in a Method component.
+//! Frames: what a running method computes with, and the frames of the methods that called it. All their cells lie in one array, and a call
+//! moves none of them. The instructions that need nothing but frames: constants, locals, the stack's order, arithmetic, branches and returns.
 #![tactic(auto)]
 
 pub mod arithmetic_ops;
@@ -12,18 +12,26 @@ mod calls;
 pub mod cell;
 pub mod constant_ops;
 mod dead_references;
+pub mod decode;
 pub mod frames;
+pub mod handlers;
+pub mod header;
+pub mod instr;
 pub mod local_ops;
 mod locals;
 pub mod method;
+pub mod operands;
 pub mod outcome;
 pub mod reasons;
 pub mod return_ops;
+pub mod short;
 mod stack;
 pub mod stack_ops;
 
 pub use call_sites::CallSite;
 pub use cell::Cell;
 pub use frames::{Frames, MOST_CELLS, MOST_FRAMES};
+pub use handlers::{Handler, handler_at};
+pub use header::{Header, header_at};
 pub use method::{CallKind, Entry, Origin, ReturnPoint};
 pub use outcome::{CodeFault, Exception, FrameExit, Outcome};

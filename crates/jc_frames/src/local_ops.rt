@@ -3,9 +3,8 @@ ghost use Rattle.std.specs.Prelude.{◌≡◌};
 ghost use Rattle.jc_frames.specs.Frames.{in_frame, unless_fault};
 ghost use Rattle.jc_frames.specs.LocalOps.{local_instruction};
 
-use crate::{Cell, CodeFault, Frames};
-use jc_opcodes::instr::LocalOp;
-use jc_opcodes::short;
+use crate::instr::LocalOp;
+use crate::{Cell, CodeFault, Frames, short};
 
 /// `aload`, `sload`, `aload_0`, `aload_1`, `aload_2`, `aload_3`, `sload_0`, `sload_1`, `sload_2`, `sload_3`,
 /// `astore`, `sstore`, `astore_0`, `astore_1`, `astore_2`, `astore_3`, `sstore_0`, `sstore_1`, `sstore_2`,

@@ -4,8 +4,8 @@ ghost use Rattle.jc_frames.specs.Cells.{result_or_none};
 ghost use Rattle.jc_frames.specs.Frames.{next_of, with_stack};
 ghost use Rattle.jc_frames.specs.ReturnOps.{returned_cell, return_instruction};
 
+use crate::instr::ReturnOp;
 use crate::{Cell, CodeFault, FrameExit, Frames, Outcome};
-use jc_opcodes::instr::ReturnOp;
 
 /// `areturn`, `sreturn`, `return`: ends the method with the value on top, if the instruction has one: its
 /// caller goes on with it, or the run ends with it where nothing called the method. The registers that the

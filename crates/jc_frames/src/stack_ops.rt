@@ -1,11 +1,11 @@
 //! The stack's order: `pop`, `pop2`, `dup`, `dup2`, `dup_x`, `swap_x`.
 ghost use Rattle.std.specs.Prelude.{◌≡◌};
-ghost use Rattle.jc_opcodes.specs.Table.{HasListedOperands};
+ghost use Rattle.jc_frames.specs.Table.{HasListedOperands};
 ghost use Rattle.jc_frames.specs.Frames.{in_frame, unless_fault};
 ghost use Rattle.jc_frames.specs.StackOps.{stack_instruction};
 
+use crate::instr::{Instr, StackOp};
 use crate::{CodeFault, Frames};
-use jc_opcodes::instr::{Instr, StackOp};
 
 /// `pop`, `pop2`, `dup`, `dup2`, `dup_x`, `swap_x`: reorders the stack.
 #[inline(always)]

@@ -18,7 +18,7 @@ use Rattle.jc_heap.specs.Image.{IsWellFormed}
 use Rattle.jc_commit.specs.declared.refusal.WriteRefusal.{WriteRefusal}
 use Rattle.jc_commit.specs.declared.refusal.WriteRefusal.TheVariants.{StoreDown, Full}
 use Rattle.jc_heap.specs.declared.refusal.ChangeRefusal.{ChangeRefusal}
-use Rattle.jc_heap.specs.Refusals.{change_refusal}
+use Rattle.jc_heap.specs.Refusal.{change_refusal}
 use Rattle.jc_heap.proofs.JournalViews.{keeping_view}
 use Rattle.jc_heap.proofs.Changing.{stopped_view}
 

@@ -8,7 +8,7 @@ use Rattle.jc_commit.specs.State.{State, keeping as journal_keeping}
 use Rattle.jc_heap.specs.declared.touch.Touch.{Touch}
 use Rattle.jc_heap.specs.Image.{IsWellFormed}
 use Rattle.jc_heap.specs.Heap.{HeapView, heap_view, goes_back, unlogged_places, has_room_for}
-use Rattle.jc_heap.specs.Touches.{touch_word, touch_words}
+use Rattle.jc_heap.specs.Touch.{touch_word, touch_words}
 use Rattle.jc_heap.proofs.JournalViews.{keeping_view}
 
 -- of these words those that do not go back yet

@@ -12,7 +12,7 @@ use Rattle.jc_heap.specs.Heap.{HeapState, HeapView, heap_view, heap_of, heap_aft
 use Rattle.jc_heap.proofs.Changing.{change_view, change_sound}
 use Rattle.jc_heap.specs.Moves.{Move, PerformsMovesUnless, apply_move, writes_of, refusal_at}
 use Rattle.jc_heap.specs.Completions.{Completed, Done, after_change}
-use Rattle.jc_heap.specs.Refusals.{change_refusal}
+use Rattle.jc_heap.specs.Refusal.{change_refusal}
 use Rattle.jc_heap.specs.declared.refusal.ChangeRefusal.{ChangeRefusal}
 use Rattle.jc_commit.specs.declared.refusal.WriteRefusal.{WriteRefusal}
 use Rattle.jc_commit.specs.declared.refusal.WriteRefusal.TheVariants.{StoreDown, Full}

@@ -7,9 +7,9 @@ pub mod Stored
 pub mod Whole
 pub mod Keeping
 pub mod Places
-pub mod Touches
+pub mod Touch
 pub mod Fresh
-pub mod Refusals
+pub mod Refusal
 pub mod Packages
 pub mod Components
 pub mod Statics
@@ -19,6 +19,6 @@ pub mod Losses
 pub mod Packed
 pub mod Elements
 pub mod RegistryLayout
-pub mod WordRuns
+pub mod Changes
 pub mod ByteRuns
 pub mod Alike

@@ -1,6 +1,6 @@
 //! Why a call of a heap is refused.
 ghost use Rattle.std.specs.Prelude.{◌≡◌};
-ghost use Rattle.jc_heap.specs.Refusals.{change_refusal, heap_refusal};
+ghost use Rattle.jc_heap.specs.Refusal.{change_refusal, heap_refusal};
 ghost use Rattle.jc_heap.specs.declared.refusal.HeapRefusal.TheVariants.{StoreDown};
 
 use jc_commit::WriteRefusal;

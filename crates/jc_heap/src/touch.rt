@@ -1,7 +1,7 @@
 //! Words that changes touch: how many old values they have to keep, and whether there is room for them.
 ghost use Rattle.std.specs.Prelude.{◌≡◌, ◌<◌, false, All, filter, not, length};
 ghost use Rattle.jc_heap.specs.Heap.{has_room_for, goes_back, unlogged_places, cell_address, limit};
-ghost use Rattle.jc_heap.specs.Touches.{CanTouch, touch_word, touch_words};
+ghost use Rattle.jc_heap.specs.Touch.{CanTouch, touch_word, touch_words};
 
 use crate::heap::Heap;
 use crate::layout::HEADER;

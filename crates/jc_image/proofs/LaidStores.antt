@@ -8,7 +8,7 @@ use Rattle.jc_words.specs.Layout.{first_version, version, version_address, capac
 use Rattle.jc_words.specs.Image.{heap_end, IsCapacity}
 use Rattle.jc_commit.specs.Image.{count_of, limit_of, plain_of, recovered_of, touched_of, with_words, IsGoodLog}
 use Rattle.jc_commit.specs.Migration.{migration, migrated, opening_writes}
-use Rattle.jc_commit.specs.Opening.{IsStoppedOpening, OpeningFails}
+use Rattle.jc_commit.specs.Journal.{IsStoppedOpening, OpeningFails}
 use Rattle.jc_commit.specs.State.{recovered_journal}
 use Rattle.jc_commit.specs.declared.refusal.OpenRefusal.{OpenRefusal}
 use Rattle.jc_commit.specs.declared.refusal.OpenRefusal.TheVariants.{StoreDown, BadLog}

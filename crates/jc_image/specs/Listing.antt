@@ -5,11 +5,11 @@ use Rattle.std.specs.List.{range_with_len}
 use Rattle.jc_words.specs.Layout.{addresses_start, most_packages, most_applets, registry_start}
 use Rattle.jc_heap.specs.Object.{header_size}
 use Rattle.jc_heap.specs.RegistryLayout.{entry_start, entry_package}
-use Rattle.jc_cap_linkage.specs.Tags.{header_tag}
-use Rattle.jc_cap_linkage.specs.declared.fault.CapFault.{CapFault}
-use Rattle.jc_cap_linkage.specs.Packages.{NamedPackage}
-use Rattle.jc_cap_linkage.specs.Reading.{value_of_whole}
-use Rattle.jc_cap_linkage.specs.Header.{HeaderValue, header_at}
+use Rattle.jc_cap.specs.Tags.{header_tag}
+use Rattle.jc_cap.specs.declared.fault.CapFault.{CapFault}
+use Rattle.jc_cap.specs.Packages.{NamedPackage}
+use Rattle.jc_cap.specs.Reading.{value_of_whole}
+use Rattle.jc_cap.specs.Header.{HeaderValue, header_at}
 use Rattle.jc_image.specs.Listed.{NamedApplet}
 
 -- a byte of words from a place on, two a word, the high one first

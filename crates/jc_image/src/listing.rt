@@ -4,8 +4,8 @@ ghost use Rattle.jc_words.specs.Layout.{text_start};
 ghost use Rattle.jc_image.specs.Listing.{applet_at, applet_in, byte_in, bytes_in, name_in, package_name_at, package_at};
 
 use arrayvec::ArrayVec;
-use jc_cap_linkage::header::read_header;
-use jc_cap_linkage::tags;
+use jc_cap::header::read_header;
+use jc_cap::tags;
 use jc_heap::layout::{HEADER, LENGTH};
 use jc_heap::registry_layout::{ENTRY_PACKAGE, entry_start};
 use jc_words::WordStore;
@@ -51,7 +51,7 @@ pub struct PackageName {
 }
 
 impl Model for PackageName {
-    ghost use Rattle.jc_cap_linkage.specs.Packages.{NamedPackage};
+    ghost use Rattle.jc_cap.specs.Packages.{NamedPackage};
 
     ghost Value = { NamedPackage };
 

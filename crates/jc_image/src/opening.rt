@@ -2,7 +2,7 @@
 ghost use Rattle.std.specs.Prelude.{ℕ, ◌+◌, ◌/◌, ◌≡◌, ◌<◌, ◌≤◌, ◌↔◌, IsTrue, IsOk, IfOk, IfErr, true, false, length, slice_index, slice_index_or};
 ghost use Rattle.jc_words.specs.Layout.{top_address, text_length_address, text_start, version, version_address};
 ghost use Rattle.jc_commit.specs.Image.{IsGoodLog, count_of};
-ghost use Rattle.jc_commit.specs.Opening.{Opens};
+ghost use Rattle.jc_commit.specs.Journal.{Opens};
 ghost use Rattle.jc_commit.specs.State.{resumed_journal};
 ghost use Rattle.jc_heap.specs.Object.{is_object};
 ghost use Rattle.jc_heap.specs.Image.{buffer_address, text_byte, table_text, IsWellFormed, image, package_addresses, is_package};

@@ -3,10 +3,10 @@ use Rattle.std.proofs.Common.{◌≡◌, ℤ, Bool, true, false, List, Option, S
 use Rattle.std.specs.Option.{option_map}
 use Rattle.std.specs.Prelude.{not, pos, int_lt, ◌==◌}
 use Rattle.std.specs.Ordering.{int_eq}
-use Rattle.jc_opcodes.specs.declared.instr.Comparison.{Comparison}
-use Rattle.jc_opcodes.specs.declared.instr.Comparison.TheVariants.{Equal, NotEqual, Less, GreaterOrEqual, Greater, LessOrEqual}
-use Rattle.jc_opcodes.specs.declared.instr.Condition.TheVariants.{Zero, IsNull, NotNull, SameReference, OtherReference, Shorts}
-use Rattle.jc_opcodes.specs.Short.{compare}
+use Rattle.jc_frames.specs.declared.instr.Comparison.{Comparison}
+use Rattle.jc_frames.specs.declared.instr.Comparison.TheVariants.{Equal, NotEqual, Less, GreaterOrEqual, Greater, LessOrEqual}
+use Rattle.jc_frames.specs.declared.instr.Condition.TheVariants.{Zero, IsNull, NotNull, SameReference, OtherReference, Shorts}
+use Rattle.jc_frames.specs.Short.{compare}
 use Rattle.jc_frames.specs.declared.cell.Cell.{Cell}
 use Rattle.jc_frames.specs.Cells.{reference_on, short_on, two_references_on, two_shorts_on}
 use Rattle.jc_interp.specs.Attacks.{OppositesDiffer, opposite_comparison}

@@ -2,17 +2,17 @@
 use Rattle.std.proofs.Common.{◌≡◌, ℕ, ◌+◌, List, [], ◌∷◌, ◌++◌, length, take, drop, Bool, true, false, Option, Some, None, refl}
 use Rattle.std.specs.Prelude.{ℤ, pos, ◌+ℤ◌, ◌&&◌, nat_lt, nat_le, slice_get, slice_set, if◌then◌else◌}
 use Rattle.std.specs.Option.{option_and_then}
-use Rattle.jc_opcodes.specs.declared.instr.ConstantOp.{ConstantOp}
-use Rattle.jc_opcodes.specs.declared.instr.ConstantOp.TheVariants.{Null, Number}
-use Rattle.jc_opcodes.specs.declared.instr.LocalOp.{LocalOp}
-use Rattle.jc_opcodes.specs.declared.instr.LocalOp.TheVariants.{Aload, Sload, Astore, Sstore, Sinc}
-use Rattle.jc_opcodes.specs.declared.instr.StackOp.{StackOp}
-use Rattle.jc_opcodes.specs.declared.instr.StackOp.TheVariants.{Pop, Pop2, Dup, Dup2, DupX, SwapX}
-use Rattle.jc_opcodes.specs.declared.instr.ArithmeticOp.{ArithmeticOp}
-use Rattle.jc_opcodes.specs.declared.instr.ArithmeticOp.TheVariants.{Two, Negate, S2b}
-use Rattle.jc_opcodes.specs.declared.instr.BranchOp.{BranchOp}
-use Rattle.jc_opcodes.specs.declared.instr.BranchOp.TheVariants.{If, Goto, Jsr, Ret, Table, Lookup}
-use Rattle.jc_opcodes.specs.Short.{wrap, answer_of, negate, low_byte}
+use Rattle.jc_frames.specs.declared.instr.ConstantOp.{ConstantOp}
+use Rattle.jc_frames.specs.declared.instr.ConstantOp.TheVariants.{Null, Number}
+use Rattle.jc_frames.specs.declared.instr.LocalOp.{LocalOp}
+use Rattle.jc_frames.specs.declared.instr.LocalOp.TheVariants.{Aload, Sload, Astore, Sstore, Sinc}
+use Rattle.jc_frames.specs.declared.instr.StackOp.{StackOp}
+use Rattle.jc_frames.specs.declared.instr.StackOp.TheVariants.{Pop, Pop2, Dup, Dup2, DupX, SwapX}
+use Rattle.jc_frames.specs.declared.instr.ArithmeticOp.{ArithmeticOp}
+use Rattle.jc_frames.specs.declared.instr.ArithmeticOp.TheVariants.{Two, Negate, S2b}
+use Rattle.jc_frames.specs.declared.instr.BranchOp.{BranchOp}
+use Rattle.jc_frames.specs.declared.instr.BranchOp.TheVariants.{If, Goto, Jsr, Ret, Table, Lookup}
+use Rattle.jc_frames.specs.Short.{wrap, answer_of, negate, low_byte}
 use Rattle.jc_frames.specs.declared.cell.Cell.{Cell}
 use Rattle.jc_frames.specs.declared.cell.Cell.TheVariants.{Short, Reference, ReturnAddress}
 use Rattle.jc_frames.specs.declared.outcome.Exception.{Exception}

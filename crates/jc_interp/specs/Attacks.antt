@@ -4,14 +4,14 @@ use Rattle.std.specs.Prelude.{ℕ, ◌≡◌, ◌<◌, ◌≤◌, ◌==◌, ◌+
 use Rattle.jc_memory.specs.State.{MemoryState}
 use Rattle.jc_memory.specs.Programs.{Program, Finish}
 use Rattle.jc_linker.specs.Values.{Packages}
-use Rattle.jc_opcodes.specs.declared.instr.BranchOp.TheVariants.{If}
-use Rattle.jc_opcodes.specs.declared.instr.Comparison.{Comparison}
-use Rattle.jc_opcodes.specs.declared.instr.Comparison.TheVariants.{Equal, NotEqual, Less, GreaterOrEqual, Greater, LessOrEqual}
-use Rattle.jc_opcodes.specs.declared.instr.Condition.{Condition}
-use Rattle.jc_opcodes.specs.declared.instr.Condition.TheVariants as conditions
-use Rattle.jc_opcodes.specs.declared.instr.Instr.{Instr}
-use Rattle.jc_opcodes.specs.declared.instr.Instr.TheVariants.{Branch}
-use Rattle.jc_opcodes.specs.Table.{decode}
+use Rattle.jc_frames.specs.declared.instr.BranchOp.TheVariants.{If}
+use Rattle.jc_frames.specs.declared.instr.Comparison.{Comparison}
+use Rattle.jc_frames.specs.declared.instr.Comparison.TheVariants.{Equal, NotEqual, Less, GreaterOrEqual, Greater, LessOrEqual}
+use Rattle.jc_frames.specs.declared.instr.Condition.{Condition}
+use Rattle.jc_frames.specs.declared.instr.Condition.TheVariants as conditions
+use Rattle.jc_frames.specs.declared.instr.Instr.{Instr}
+use Rattle.jc_frames.specs.declared.instr.Instr.TheVariants.{Branch}
+use Rattle.jc_frames.specs.Table.{decode}
 use Rattle.jc_frames.specs.declared.cell.Cell.{Cell}
 use Rattle.jc_frames.specs.declared.cell.Cell.TheVariants.{Short, Reference, ReturnAddress}
 use Rattle.jc_frames.specs.declared.outcome.Outcome.TheVariants.{Fault}

@@ -6,7 +6,7 @@ use Rattle.jc_platform.specs.declared.names.PlatformMethod.{PlatformMethod}
 use Rattle.jc_linker.specs.declared.target.Method.{Method}
 use Rattle.jc_linker.specs.declared.target.Method.TheVariants.{Code, Native}
 use Rattle.jc_linker.specs.Values.{Packages}
-use Rattle.jc_opcodes.specs.declared.instr.InvokeOp.{InvokeOp}
+use Rattle.jc_frames.specs.declared.instr.InvokeOp.{InvokeOp}
 use Rattle.jc_frames.specs.declared.method.CallKind.TheVariants.{Instruction}
 use Rattle.jc_frames.specs.declared.outcome.Outcome.TheVariants.{Fault}
 use Rattle.jc_frames.specs.declared.outcome.FrameExit.{FrameExit}
@@ -15,10 +15,10 @@ use Rattle.jc_frames.specs.Frames.{Frames, Next, Ends, in_frame, push, with_stac
 use Rattle.jc_world.specs.declared.native_result.NativeResult.{NativeResult}
 use Rattle.jc_world.specs.declared.native_result.NativeResult.TheVariants.{ReturnVoid, ReturnValue, CallServer, Aborted}
 use Rattle.jc_world.specs.Instructions.{continue_with, if_ok, if_some, exit_of}
-use Rattle.jc_interp_calls.specs.declared.invoke.MethodCall.{MethodCall}
-use Rattle.jc_interp_calls.specs.ServerCalls.{server_call}
-use Rattle.jc_interp_calls.specs.Invoke.{method_selection}
-use Rattle.jc_interp_calls.specs.Entering.{method_entry}
+use Rattle.jc_instructions.specs.declared.invoke.MethodCall.{MethodCall}
+use Rattle.jc_instructions.specs.ServerCall.{server_call}
+use Rattle.jc_instructions.specs.Invoke.{method_selection}
+use Rattle.jc_instructions.specs.Enter.{method_entry}
 use Rattle.jc_platform.specs.Signatures.{argument_cells}
 use Rattle.jc_interp.specs.Natives.{native_call}
 

@@ -3,14 +3,14 @@ use Rattle.std.specs.Prelude.{ℕ, ◌+◌, List, Option, Some, None, Result, Ok
 use Rattle.jc_memory.specs.State.{MemoryState}
 use Rattle.jc_memory.specs.Programs.{Program, Finish, bind}
 use Rattle.jc_linker.specs.Values.{Packages}
-use Rattle.jc_opcodes.specs.declared.instr.Instr.{Instr}
-use Rattle.jc_opcodes.specs.declared.instr.Instr.TheVariants.{Return, Field, Array, Object, Invoke}
+use Rattle.jc_frames.specs.declared.instr.Instr.{Instr}
+use Rattle.jc_frames.specs.declared.instr.Instr.TheVariants.{Return, Field, Array, Object, Invoke}
 use Rattle.jc_frames.specs.declared.outcome.Outcome.{Outcome}
 use Rattle.jc_frames.specs.declared.outcome.Outcome.TheVariants.{Fault}
 use Rattle.jc_frames.specs.Frames.{Frames, Next, Ends}
-use Rattle.jc_interp_objects.specs.FieldOps.{field_instruction}
-use Rattle.jc_interp_objects.specs.ArrayOps.{array_instruction}
-use Rattle.jc_interp_calls.specs.MethodReturn.{method_return}
+use Rattle.jc_instructions.specs.FieldOps.{field_instruction}
+use Rattle.jc_instructions.specs.ArrayOps.{array_instruction}
+use Rattle.jc_instructions.specs.MethodReturn.{method_return}
 use Rattle.jc_world.specs.Instructions.{continue_with, exit_of}
 use Rattle.jc_interp.specs.declared.attacks.Attack.{Attack}
 use Rattle.jc_interp.specs.declared.frames_only.PausedStep.{PausedStep}

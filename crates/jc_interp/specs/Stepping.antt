@@ -3,12 +3,12 @@ use Rattle.std.specs.Prelude.{ℕ, ◌==◌, ◌||◌, not, Bool, true, false, L
 use Rattle.jc_memory.specs.State.{MemoryState}
 use Rattle.jc_memory.specs.Programs.{Program, Finish, bind}
 use Rattle.jc_linker.specs.Values.{Packages}
-use Rattle.jc_opcodes.specs.declared.instr.Instr.{Instr}
-use Rattle.jc_opcodes.specs.declared.instr.Instr.TheVariants.{Nop, Constant, Local, Stack, Arithmetic, Branch, Return, Field, Array, Object, Invoke}
-use Rattle.jc_opcodes.specs.declared.instr.ObjectOp.{ObjectOp}
-use Rattle.jc_opcodes.specs.declared.instr.ObjectOp.TheVariants.{New, Athrow, CheckCast, InstanceOf}
-use Rattle.jc_opcodes.specs.declared.instr.ReturnOp.TheVariants.{Areturn, Sreturn, Return}
-use Rattle.jc_opcodes.specs.Table.{decode}
+use Rattle.jc_frames.specs.declared.instr.Instr.{Instr}
+use Rattle.jc_frames.specs.declared.instr.Instr.TheVariants.{Nop, Constant, Local, Stack, Arithmetic, Branch, Return, Field, Array, Object, Invoke}
+use Rattle.jc_frames.specs.declared.instr.ObjectOp.{ObjectOp}
+use Rattle.jc_frames.specs.declared.instr.ObjectOp.TheVariants.{New, Athrow, CheckCast, InstanceOf}
+use Rattle.jc_frames.specs.declared.instr.ReturnOp.TheVariants.{Areturn, Sreturn, Return}
+use Rattle.jc_frames.specs.Table.{decode}
 use Rattle.jc_frames.specs.declared.outcome.Outcome.TheVariants.{Fault}
 use Rattle.jc_frames.specs.Frames.{Frames, Next, GoesOn, Throws, Ends, in_frame}
 use Rattle.jc_frames.specs.ConstantOps.{constant_instruction}
@@ -16,13 +16,13 @@ use Rattle.jc_frames.specs.LocalOps.{local_instruction}
 use Rattle.jc_frames.specs.StackOps.{stack_instruction}
 use Rattle.jc_frames.specs.ArithmeticOps.{arithmetic_instruction}
 use Rattle.jc_frames.specs.BranchOps.{branch_instruction}
-use Rattle.jc_interp_objects.specs.FieldOps.{field_instruction}
-use Rattle.jc_interp_objects.specs.ArrayOps.{array_instruction}
-use Rattle.jc_interp_objects.specs.ObjectCreation.{new_instance}
-use Rattle.jc_interp_objects.specs.TypeChecks.{checkcast, instanceof}
-use Rattle.jc_interp_calls.specs.MethodReturn.{method_return}
-use Rattle.jc_interp_calls.specs.MethodComponent.{method_component_of}
-use Rattle.jc_interp_calls.specs.Throwing.{athrow, exception_throw}
+use Rattle.jc_instructions.specs.FieldOps.{field_instruction}
+use Rattle.jc_instructions.specs.ArrayOps.{array_instruction}
+use Rattle.jc_instructions.specs.ObjectCreation.{new_instance}
+use Rattle.jc_instructions.specs.TypeChecks.{checkcast, instanceof}
+use Rattle.jc_instructions.specs.MethodReturn.{method_return}
+use Rattle.jc_instructions.specs.MethodComponent.{method_component_of}
+use Rattle.jc_instructions.specs.Throw.{athrow, exception_throw}
 use Rattle.jc_world.specs.Instructions.{continue_with}
 use Rattle.jc_interp.specs.Calling.{invoke_instruction}
 

@@ -4,9 +4,9 @@ ghost use Rattle.jc_frames.specs.Frames.{unless_fault};
 ghost use Rattle.jc_interp.specs.Attacks.{faulted, later_attack, opposite, opposite_comparison, skipped, turned, undisturbed, zero_like, zeroed};
 
 use jc_frames::branch_ops::branch_instruction;
+use jc_frames::decode::decode;
+use jc_frames::instr::{BranchOp, Comparison, Condition, Instr};
 use jc_frames::{Cell, CodeFault, Frames};
-use jc_opcodes::decode::decode;
-use jc_opcodes::instr::{BranchOp, Comparison, Condition, Instr};
 use jc_transient::Ref;
 
 /// What a fault does.

@@ -1,24 +1,24 @@
 //! Calls: methods of the platform are carried out at once, those in bytecode get a frame.
 ghost use Rattle.std.specs.Prelude.{◌≡◌, false, IfSome, Some, option_copied};
-ghost use Rattle.jc_opcodes.specs.declared.instr.InvokeOp.TheVariants.{Virtual};
+ghost use Rattle.jc_frames.specs.declared.instr.InvokeOp.TheVariants.{Virtual};
 ghost use Rattle.jc_linker.specs.Lookups.{target_at};
 ghost use Rattle.jc_memory.specs.Programs.{Executes};
 ghost use Rattle.jc_world.specs.Instructions.{after_instruction};
-ghost use Rattle.jc_interp_calls.specs.Invoke.{header_of, method_selection, with_header};
+ghost use Rattle.jc_instructions.specs.Invoke.{header_of, method_selection, with_header};
 ghost use Rattle.jc_platform.specs.Signatures.{argument_cells};
 ghost use Rattle.jc_interp.specs.Calling.{after_native_return, invoke_instruction, invoke_selected, native_invoke};
 
 use crate::natives::call_native;
+use jc_frames::instr::InvokeOp;
 use jc_frames::{CallKind, FrameExit, Frames, Outcome};
-use jc_interp_calls::enter::{CallSite, Callee, enter};
-use jc_interp_calls::invoke::{
+use jc_instructions::enter::{CallSite, Callee, enter};
+use jc_instructions::invoke::{
     SelectedCall, method_of_platform, select_method, select_static_method, select_virtual_method,
 };
-use jc_interp_calls::server_call::call_server;
+use jc_instructions::server_call::call_server;
 use jc_linker::linked::Linked;
 use jc_linker::target::{Method, Target};
 use jc_memory::Memory;
-use jc_opcodes::instr::InvokeOp;
 use jc_platform::names::PlatformMethod;
 use jc_words::WordStore;
 use jc_world::{NativeResult, StepExit};
@@ -96,7 +96,7 @@ fn invoke_native<S: WordStore>(
 }
 
 // A call by the instruction at a place, whose method was chosen.
-#[tactic(auto, unfolding(jc_interp_calls::specs::Invoke::header_of, jc_interp_calls::specs::Entering::method_entry))]
+#[tactic(auto, unfolding(jc_instructions::specs::Invoke::header_of, jc_instructions::specs::Enter::method_entry))]
 #[inline(always)]
 fn invoke_selected<S: WordStore>(
     chosen: SelectedCall,
@@ -154,7 +154,7 @@ fn invoke_other<S: WordStore>(
 
 // A virtual call by the instruction at a place whose entry names a method of the platform, out of line. Where the one that it runs can be told
 // at once, no more is asked.
-#[tactic(auto, unfolding(crate::specs::Calling::invoke_instruction, jc_interp_calls::specs::Invoke::method_selection))]
+#[tactic(auto, unfolding(crate::specs::Calling::invoke_instruction, jc_instructions::specs::Invoke::method_selection))]
 #[inline(never)]
 fn invoke_of_platform<S: WordStore>(
     entry: &Target,
@@ -193,7 +193,7 @@ fn platform_entry<'a>(index: u16, frames: &Frames, linked: &'a Linked) -> Option
 }
 
 // Which method a virtual or a static call runs; nothing of other calls, and where the entry of a virtual one names a method of the platform.
-#[tactic(auto, unfolding(jc_interp_calls::specs::Invoke::method_selection))]
+#[tactic(auto, unfolding(jc_instructions::specs::Invoke::method_selection))]
 #[inline(always)]
 fn select_in_line<S: WordStore>(
     invoke: InvokeOp,

@@ -3,12 +3,12 @@ ghost use Rattle.std.specs.Prelude.{◌≡◌, false};
 
 use crate::explain_members::{call_fault, use_fault};
 use crate::frames_only::is_plain;
+use jc_frames::decode::decode;
+use jc_frames::instr::{BranchOp, Instr, LocalOp, ReturnOp, StackOp};
 use jc_frames::{Cell, Frames, Outcome};
-use jc_interp_calls::notes::{note_frames, spot_of};
+use jc_instructions::notes::{note_frames, spot_of};
 use jc_linker::linked::Linked;
 use jc_memory::{Cause, FaultKind, Memory, Notes, Step, TopCell};
-use jc_opcodes::decode::decode;
-use jc_opcodes::instr::{BranchOp, Instr, LocalOp, ReturnOp, StackOp};
 use jc_words::WordStore;
 
 // A cell as it is noted.

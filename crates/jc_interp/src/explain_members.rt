@@ -2,15 +2,14 @@
 ghost use Rattle.std.specs.Prelude.{◌≡◌, false};
 
 use crate::explain::stack_fault;
-use jc_frames::{Cell, Frames};
+use jc_frames::instr::{ArrayOp, FieldOp, Instr, InvokeOp, ObjectOp, TestedType, ValueType};
+use jc_frames::{Cell, Frames, header_at};
 use jc_heap::{Facts, Kind};
-use jc_interp_calls::invoke::{SelectedCall, select_method};
-use jc_interp_calls::method_component::method_component_of;
+use jc_instructions::invoke::{SelectedCall, select_method};
+use jc_instructions::method_component::method_component_of;
 use jc_linker::linked::Linked;
 use jc_linker::target::{Method, Target};
 use jc_memory::{FaultKind, Memory};
-use jc_opcodes::header_at;
-use jc_opcodes::instr::{ArrayOp, FieldOp, Instr, InvokeOp, ObjectOp, TestedType, ValueType};
 use jc_platform::names::PlatformClass;
 use jc_transient::{ClassWord, Ref};
 use jc_words::WordStore;

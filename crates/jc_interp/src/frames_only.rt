@@ -1,7 +1,7 @@
 //! Turns: instructions that need nothing but the frames are carried out one after the other, up to one that
 //! needs more.
 ghost use Rattle.std.specs.Prelude.{◌≡◌, ◌<◌, ◌+◌, ◌^◌, ℕ, List, Option, length, IfErr, IfSome, OnOk};
-ghost use Rattle.jc_opcodes.specs.Table.{HasListedOperands};
+ghost use Rattle.jc_frames.specs.Table.{HasListedOperands};
 ghost use Rattle.jc_linker.specs.Values.{Packages};
 ghost use Rattle.jc_memory.specs.State.{MemoryState};
 ghost use Rattle.jc_interp.specs.declared.attacks.Attack.{Attack};
@@ -13,11 +13,11 @@ ghost use Rattle.jc_interp.specs.PausedSteps.{after_part, after_frames_step, run
 use jc_frames::arithmetic_ops::arithmetic_instruction;
 use jc_frames::branch_ops::branch_instruction;
 use jc_frames::constant_ops::constant_instruction;
+use jc_frames::decode::decode;
+use jc_frames::instr::{Instr, ReturnOp};
 use jc_frames::local_ops::local_instruction;
 use jc_frames::stack_ops::stack_instruction;
 use jc_frames::{CodeFault, FrameExit, Frames, Outcome};
-use jc_opcodes::decode::decode;
-use jc_opcodes::instr::{Instr, ReturnOp};
 
 /// Why frames alone do not go on.
 #[derive(Clone, Copy)]

@@ -7,16 +7,14 @@ ghost use Rattle.jc_interp.specs.PausedSteps.{step_rest, memory_instruction, pau
 
 use crate::calling::invoke_instruction;
 use crate::frames_only::{FramesExit, PausedStep};
+use jc_frames::instr::{Instr, ObjectOp};
 use jc_frames::{Frames, Outcome};
-use jc_interp_calls::method_component::method_component_of;
-use jc_interp_calls::method_return::return_to_caller;
-use jc_interp_calls::throw::{athrow, throw};
-use jc_interp_objects::{
-    array_instruction, checkcast, field_instruction, instanceof, new_instance,
-};
+use jc_instructions::method_component::method_component_of;
+use jc_instructions::method_return::return_to_caller;
+use jc_instructions::throw::{athrow, throw};
+use jc_instructions::{array_instruction, checkcast, field_instruction, instanceof, new_instance};
 use jc_linker::linked::Linked;
 use jc_memory::Memory;
-use jc_opcodes::instr::{Instr, ObjectOp};
 use jc_words::WordStore;
 use jc_world::StepExit;
 

@@ -3,8 +3,8 @@ use Rattle.std.proofs.Common.{◌≡◌, ◌∙◌, ◌≤◌, ◌+◌, ◌*◌,
 use Rattle.std.proofs.Common.{add_assoc}
 use Rattle.std.specs.Prelude.{slice_get}
 use Rattle.std.proofs.lemmas.List.{drop_all}
-use Rattle.jc_cap_code.specs.declared.class_records.ClassRecord.{ClassRecord}
-use Rattle.jc_cap_code.specs.ClassValues.{RecordAt}
+use Rattle.jc_cap.specs.declared.class_records.ClassRecord.{ClassRecord}
+use Rattle.jc_cap.specs.ClassValues.{RecordAt}
 use Rattle.jc_linker.specs.Values.{ClassValue, Packages}
 use Rattle.jc_linker.specs.Linking.{class_by_record, classes_behind}
 use Rattle.jc_linker.specs.Completeness.{are_complete_from, has_method, inherits_from, is_complete}

@@ -1,7 +1,7 @@
 -- Methods that instances of a class have from a class above it.
 use Rattle.std.proofs.Common.{◌≡◌, ◌∙◌, ◌==◌, ◌||◌, ◌&&◌, ℕ, Bool, true, false, List, [], ◌∷◌, Option, Some, if◌then◌else◌, refl, ap, sym}
 use Rattle.std.proofs.lemmas.Bool.{and_parts, false≢true}
-use Rattle.jc_cap_linkage.specs.declared.pool.VirtualToken.TheVariants.{Public}
+use Rattle.jc_cap.specs.declared.pool.VirtualToken.TheVariants.{Public}
 use Rattle.jc_linker.specs.declared.target.Method.{Method}
 use Rattle.jc_linker.specs.declared.search.Search.{Search}
 use Rattle.jc_linker.specs.declared.search.Search.TheVariants.{Found, Above, Nowhere}

@@ -2,8 +2,8 @@
 use Rattle.std.proofs.Common.{◌≡◌, ◌<◌, ◌≤◌, ◌+◌, ℕ, Bool, true, false, List, [], ◌∷◌, ◌++◌, Option, Some, None, Result, Ok, Err, length, drop, refl, ap, sym, subst, ◌∙◌, append_assoc}
 use Rattle.std.specs.Prelude.{slice_get, if◌then◌else◌}
 use Rattle.std.proofs.lemmas.List.{append-nil, drop_all}
-use Rattle.jc_cap_linkage.specs.Packages.{NamedPackage}
-use Rattle.jc_cap_linkage.specs.declared.pool.Entry.{Entry}
+use Rattle.jc_cap.specs.Packages.{NamedPackage}
+use Rattle.jc_cap.specs.declared.pool.Entry.{Entry}
 use Rattle.jc_linker.specs.declared.target.Target.{Target}
 use Rattle.jc_linker.specs.Resolves.{resolution}
 use Rattle.jc_linker.specs.Lookups.{package_with_aid}

@@ -4,8 +4,8 @@ use Rattle.std.proofs.Common.{add-one, drop-cons}
 use Rattle.std.specs.Prelude.{slice_get}
 use Rattle.std.proofs.lemmas.List.{map-append, take_more}
 use Rattle.std.proofs.lemmas.Option.{get_or_from_slice_get, slice_get_within}
-use Rattle.jc_cap_code.specs.declared.class_records.ClassRecord.{ClassRecord}
-use Rattle.jc_cap_code.specs.ClassValues.{RecordAt, contents_of, offsets_of}
+use Rattle.jc_cap.specs.declared.class_records.ClassRecord.{ClassRecord}
+use Rattle.jc_cap.specs.ClassValues.{RecordAt, contents_of, offsets_of}
 
 -- one more is taken
 pub taken_next : {A : Type 0} (xs : List A) (i : ℕ) (x : A) → slice_get xs i ≡ Some x → take (i + 1) xs ≡ take i xs ++ x ∷ []

@@ -1,7 +1,7 @@
 -- Whether what a package's classes name is there.
 use Rattle.std.specs.Prelude.{ℕ, ◌+◌, ◌*◌, ◌==◌, ◌&&◌, ◌||◌, not, nat_le, Bool, true, List, [], ◌∷◌, is_some}
 use Rattle.std.specs.List.{list_all}
-use Rattle.jc_cap_linkage.specs.declared.pool.VirtualToken.TheVariants.{Public}
+use Rattle.jc_cap.specs.declared.pool.VirtualToken.TheVariants.{Public}
 use Rattle.jc_linker.specs.Classes.{is_class}
 use Rattle.jc_linker.specs.Methods.{method_at}
 use Rattle.jc_linker.specs.Resolves.{names_interface}

@@ -4,7 +4,7 @@ use Rattle.std.specs.Option.{option_and_then}
 use Rattle.jc_platform.specs.declared.row.Version.{Version}
 use Rattle.jc_platform.specs.Platform.{package_by_number}
 use Rattle.jc_platform.specs.Tokens.{version_of_package}
-use Rattle.jc_cap_linkage.specs.Packages.{NamedPackage}
+use Rattle.jc_cap.specs.Packages.{NamedPackage}
 use Rattle.jc_linker.specs.Classes.{package_in}
 use Rattle.jc_linker.specs.Lookups.{package_with_aid}
 use Rattle.jc_linker.specs.Values.{PackageValue, Packages}

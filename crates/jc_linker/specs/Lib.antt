@@ -7,6 +7,6 @@ pub mod Outlines
 pub mod Answers
 pub mod Imports
 pub mod Linking
-pub mod Walk
+pub mod Lineage
 pub mod Tables
 pub mod Completeness

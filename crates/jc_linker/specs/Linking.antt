@@ -1,13 +1,13 @@
 -- A package as it is linked.
 use Rattle.std.specs.Prelude.{ℕ, ◌+◌, ◌*◌, ◌/◌, ◌%◌, ◌==◌, min, true, false, List, [], ◌∷◌, ◌++◌, map, length, Option, Some, None, Result, Ok, Err}
 use Rattle.std.specs.Prelude.{if◌then◌else◌, slice_get, unwrap_or}
-use Rattle.jc_cap_linkage.specs.declared.class_refs.ClassRef.{ClassRef}
-use Rattle.jc_cap_linkage.specs.declared.pool.Entry.{Entry}
-use Rattle.jc_cap_code.specs.declared.class_records.ClassRecord.{ClassRecord}
-use Rattle.jc_cap_code.specs.declared.class_records.ClassRecord.TheVariants as records
-use Rattle.jc_cap_code.specs.declared.class_records.ClassInfo.{ClassInfo}
-use Rattle.jc_cap_code.specs.ClassValues.{RecordAt}
-use Rattle.jc_cap_code.specs.Implemented.{Implemented}
+use Rattle.jc_cap.specs.declared.class_refs.ClassRef.{ClassRef}
+use Rattle.jc_cap.specs.declared.pool.Entry.{Entry}
+use Rattle.jc_cap.specs.declared.class_records.ClassRecord.{ClassRecord}
+use Rattle.jc_cap.specs.declared.class_records.ClassRecord.TheVariants as records
+use Rattle.jc_cap.specs.declared.class_records.ClassInfo.{ClassInfo}
+use Rattle.jc_cap.specs.ClassValues.{RecordAt}
+use Rattle.jc_cap.specs.Implemented.{Implemented}
 use Rattle.jc_linker.specs.declared.target.Target.{Target}
 use Rattle.jc_linker.specs.Classes.{size_of}
 use Rattle.jc_linker.specs.Resolves.{class_named, resolution}

@@ -10,8 +10,8 @@ use Rattle.jc_platform.specs.Tokens.{method_token}
 use Rattle.jc_platform.specs.Platform.{class_by_word, method_by_token}
 use Rattle.jc_linker.specs.declared.target.Method.{Method}
 use Rattle.jc_linker.specs.declared.target.Method.TheVariants.{Code, Native}
-use Rattle.jc_cap_linkage.specs.declared.pool.VirtualToken.{VirtualToken}
-use Rattle.jc_cap_linkage.specs.declared.pool.VirtualToken.TheVariants.{Public, PackageVisible}
+use Rattle.jc_cap.specs.declared.pool.VirtualToken.{VirtualToken}
+use Rattle.jc_cap.specs.declared.pool.VirtualToken.TheVariants.{Public, PackageVisible}
 use Rattle.jc_linker.specs.declared.search.Search.{Search}
 use Rattle.jc_linker.specs.declared.search.Search.TheVariants.{Found, Above, Nowhere}
 use Rattle.jc_linker.specs.Classes.{class_in, lineage}

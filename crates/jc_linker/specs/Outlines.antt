@@ -1,8 +1,8 @@
 -- What of a package is copied from its components.
 use Rattle.std.specs.Prelude.{ℕ, false, List, [], map, Option, Some, None}
-use Rattle.jc_cap_linkage.specs.declared.exports.ExportedClass.{ExportedClass}
-use Rattle.jc_cap_linkage.specs.Applets.{AppletNamed}
-use Rattle.jc_cap_code.specs.ClassValues.{offsets_of}
+use Rattle.jc_cap.specs.declared.exports.ExportedClass.{ExportedClass}
+use Rattle.jc_cap.specs.Applets.{AppletNamed}
+use Rattle.jc_cap.specs.ClassValues.{offsets_of}
 use Rattle.jc_cap.specs.Contents.{PackageContents}
 use Rattle.jc_linker.specs.Values.{AppletEntry, ClassValue, Export, LinkerComponents, PackageValue}
 

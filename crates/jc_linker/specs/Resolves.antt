@@ -7,12 +7,12 @@ use Rattle.jc_platform.specs.declared.names.MethodKind.TheVariants as kinds
 use Rattle.jc_platform.specs.Distinct.{class_word}
 use Rattle.jc_platform.specs.Hierarchy.{is_interface}
 use Rattle.jc_platform.specs.Platform.{class_by_token, class_by_word, method_by_token, package_by_number}
-use Rattle.jc_cap_linkage.specs.declared.class_refs.ClassRef.{ClassRef}
-use Rattle.jc_cap_linkage.specs.declared.class_refs.ClassRef.TheVariants as refs
-use Rattle.jc_cap_linkage.specs.declared.pool.Entry.{Entry}
-use Rattle.jc_cap_linkage.specs.declared.pool.Entry.TheVariants as entries
-use Rattle.jc_cap_linkage.specs.declared.pool.StaticRef.TheVariants as statics
-use Rattle.jc_cap_linkage.specs.declared.pool.VirtualToken.{VirtualToken}
+use Rattle.jc_cap.specs.declared.class_refs.ClassRef.{ClassRef}
+use Rattle.jc_cap.specs.declared.class_refs.ClassRef.TheVariants as refs
+use Rattle.jc_cap.specs.declared.pool.Entry.{Entry}
+use Rattle.jc_cap.specs.declared.pool.Entry.TheVariants as entries
+use Rattle.jc_cap.specs.declared.pool.StaticRef.TheVariants as statics
+use Rattle.jc_cap.specs.declared.pool.VirtualToken.{VirtualToken}
 use Rattle.jc_linker.specs.declared.target.Method.{Method}
 use Rattle.jc_linker.specs.declared.target.Method.TheVariants.{Code, Native}
 use Rattle.jc_linker.specs.declared.target.Target.{Target}

@@ -1,11 +1,11 @@
 -- Linked packages.
 use Rattle.std.specs.Prelude.{ℕ, Bool, List, Option}
 use Rattle.jc_platform.specs.Tokens.{Tokens}
-use Rattle.jc_cap_linkage.specs.Packages.{NamedPackage}
-use Rattle.jc_cap_linkage.specs.Applets.{AppletNamed}
-use Rattle.jc_cap_linkage.specs.declared.exports.ExportedClass.{ExportedClass}
-use Rattle.jc_cap_linkage.specs.declared.pool.Entry.{Entry}
-use Rattle.jc_cap_code.specs.ClassValues.{RecordAt}
+use Rattle.jc_cap.specs.Packages.{NamedPackage}
+use Rattle.jc_cap.specs.Applets.{AppletNamed}
+use Rattle.jc_cap.specs.declared.exports.ExportedClass.{ExportedClass}
+use Rattle.jc_cap.specs.declared.pool.Entry.{Entry}
+use Rattle.jc_cap.specs.ClassValues.{RecordAt}
 use Rattle.jc_linker.specs.declared.target.Target.{Target}
 
 -- what of a package's components is linked; methods is the info of the Method component

@@ -1,15 +1,15 @@
 //! The classes of a package, linked.
 ghost use Rattle.std.specs.Prelude.{◌≡◌, ◌+◌, ◌≤◌, ◌<◌, [], length, map, IfOk};
-ghost use Rattle.jc_cap_code.specs.ImplementedViews.{implemented_value};
+ghost use Rattle.jc_cap.specs.ImplementedViews.{implemented_value};
 ghost use Rattle.jc_linker.specs.Linking.{cells_above, class_by_record, class_of, classes_behind, implementation_of, superinterface_of, word_of};
 
 use crate::class::{LinkedClass, LinkedInterface, TokenTable};
 use crate::copies::{bytes, numbers, outline};
 use crate::scope::Scope;
-use jc_cap_code::class_lists::{ClassRefs, ImplementedInterface, ImplementedInterfaces};
-use jc_cap_code::class_records::{ClassInfo, ClassRecord};
-use jc_cap_code::classes::Classes;
-use jc_cap_linkage::class_refs::ClassRef;
+use jc_cap::class_lists::{ClassRefs, ImplementedInterface, ImplementedInterfaces};
+use jc_cap::class_records::{ClassInfo, ClassRecord};
+use jc_cap::class_refs::ClassRef;
+use jc_cap::classes::Classes;
 use jc_transient::{ClassWord, NO_CLASS};
 use std::alloc::{AllocError, Global};
 

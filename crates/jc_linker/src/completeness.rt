@@ -5,7 +5,7 @@ ghost use Rattle.jc_linker.specs.Completeness.{are_complete, has_method, has_sup
 
 use crate::class::{LinkedClass, LinkedInterface};
 use crate::scope::Scope;
-use jc_cap_linkage::pool::VirtualToken;
+use jc_cap::pool::VirtualToken;
 use jc_transient::ClassWord;
 
 impl Scope<'_> {

@@ -1,17 +1,17 @@
 //! Lists of components, copied.
 ghost use Rattle.std.specs.Prelude.{◌≡◌, ◌≤◌, length, map, IfOk};
-ghost use Rattle.jc_cap_code.specs.ClassValues.{offsets_of};
-ghost use Rattle.jc_cap_linkage.specs.ComponentViews.{applet_info};
+ghost use Rattle.jc_cap.specs.ClassValues.{offsets_of};
+ghost use Rattle.jc_cap.specs.ComponentViews.{applet_info};
 ghost use Rattle.jc_cap.specs.Views.{package_contents};
 ghost use Rattle.jc_linker.specs.Outlines.{all_of, applet_of, components_of, export_of, outline_of, package_outline};
 
 use crate::class::{LinkedClass, TokenTable};
 use crate::package::{Applet, ExportedClass, LinkedPackage, PackageName};
+use jc_cap::applets::{AppletInfo, Applets};
+use jc_cap::classes::Classes;
 use jc_cap::contents::Contents;
-use jc_cap_code::classes::Classes;
-use jc_cap_linkage::applets::{AppletInfo, Applets};
-use jc_cap_linkage::exports::{ExportedClass as Exported, Exports};
-use jc_cap_linkage::lists::U2List;
+use jc_cap::exports::{ExportedClass as Exported, Exports};
+use jc_cap::lists::U2List;
 use jc_transient::NO_CLASS;
 use std::alloc::{AllocError, Global};
 

@@ -1,6 +1,6 @@
 //! Which packages a package imports.
 ghost use Rattle.std.specs.Prelude.{◌≡◌, Err};
-ghost use Rattle.jc_cap_linkage.specs.FieldViews.{package_info};
+ghost use Rattle.jc_cap.specs.FieldViews.{package_info};
 ghost use Rattle.jc_linker.specs.Answers.{Answers, Tells};
 ghost use Rattle.jc_linker.specs.Imports.{AreFound, import_number, import_numbers, version_of};
 
@@ -8,8 +8,8 @@ use crate::copies::bytes;
 use crate::fault::LinkFault;
 use crate::linked::Linked;
 use arrayvec::ArrayVec;
-use jc_cap_linkage::imports::Imports;
-use jc_cap_linkage::packages::PackageInfo;
+use jc_cap::imports::Imports;
+use jc_cap::packages::PackageInfo;
 use jc_platform::row::Version;
 use std::alloc::Global;
 

@@ -1,6 +1,6 @@
 //! A class and the classes above it.
 ghost use Rattle.std.specs.Prelude.{◌≡◌, [], ◌∷◌, MatchOption};
-ghost use Rattle.jc_linker.specs.Walk.{next_class};
+ghost use Rattle.jc_linker.specs.Lineage.{next_class};
 ghost use Rattle.jc_linker.specs.Classes.{lineage};
 
 use crate::scope::Scope;
@@ -30,7 +30,7 @@ pub(crate) struct Lineage<'a> {
 impl<'a> Model for Lineage<'a> {
     ghost use Rattle.std.specs.Prelude.{ℕ, List};
     ghost use Rattle.jc_linker.specs.Classes.{lineage_from};
-    ghost use Rattle.jc_linker.specs.Walk.{next_class};
+    ghost use Rattle.jc_linker.specs.Lineage.{next_class};
 
     ghost Value = { List ℕ };
 

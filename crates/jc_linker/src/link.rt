@@ -14,9 +14,9 @@ use crate::linked::Linked;
 use crate::package::LinkedPackage;
 use crate::scope::Scope;
 use crate::target::Target;
+use jc_cap::classes::Classes;
 use jc_cap::contents::Contents;
-use jc_cap_code::classes::Classes;
-use jc_cap_linkage::pool::ConstantPool;
+use jc_cap::pool::ConstantPool;
 use std::alloc::{AllocError, Global};
 
 /// Links a package of these contents against those that are there. Its Method component has this info. What each entry of its

@@ -8,7 +8,7 @@ ghost use Rattle.jc_linker.specs.Resolves.{names_interface};
 use crate::package::LinkedPackage;
 use crate::scope::Scope;
 use crate::target::Method;
-use jc_cap_linkage::pool::VirtualToken;
+use jc_cap::pool::VirtualToken;
 use jc_platform::platform::Platform;
 use jc_transient::ClassWord;
 use std::alloc::{AllocError, Global};

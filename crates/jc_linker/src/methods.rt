@@ -7,7 +7,7 @@ ghost use Rattle.jc_platform.specs.Platform.{method_by_token};
 use crate::scope::Scope;
 use crate::search::Search;
 use crate::target::Method;
-use jc_cap_linkage::pool::VirtualToken;
+use jc_cap::pool::VirtualToken;
 use jc_platform::names::{MethodKind, PlatformClass};
 use jc_transient::ClassWord;
 

@@ -17,7 +17,7 @@ pub struct PackageName {
 }
 
 impl Model for PackageName {
-    ghost use Rattle.jc_cap_linkage.specs.Packages.{NamedPackage};
+    ghost use Rattle.jc_cap.specs.Packages.{NamedPackage};
 
     ghost Value = { NamedPackage };
 

@@ -7,8 +7,8 @@ ghost use Rattle.jc_linker.specs.Resolves.{import_by_token, names_interface, res
 use crate::package::ExportedClass;
 use crate::scope::Scope;
 use crate::target::{Method, Target};
-use jc_cap_linkage::class_refs::ClassRef;
-use jc_cap_linkage::pool::{Entry, StaticRef, VirtualToken};
+use jc_cap::class_refs::ClassRef;
+use jc_cap::pool::{Entry, StaticRef, VirtualToken};
 use jc_platform::names::MethodKind;
 use jc_transient::ClassWord;
 

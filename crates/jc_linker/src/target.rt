@@ -1,6 +1,6 @@
 //! What the entry of a constant pool resolves to.
 
-use jc_cap_linkage::pool::VirtualToken;
+use jc_cap::pool::VirtualToken;
 use jc_platform::names::PlatformMethod;
 use jc_transient::ClassWord;
 

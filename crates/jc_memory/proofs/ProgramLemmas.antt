@@ -9,7 +9,7 @@ use Rattle.jc_memory.specs.State.{MemoryState, Effect, HeapMove, apply_effect, a
 use Rattle.jc_memory.specs.Programs.{Program, Finish, Perform, Choose, Either, Completes, TearLeaves, IsTornIn, Executes, bind}
 use Rattle.jc_heap.specs.Completions.{Completion, Completed, Torn}
 use Rattle.jc_memory.specs.Reading.{AllResults, AllDue, AllEffectsDue, HasTrace, HasTracePrefix}
-use Rattle.jc_memory.specs.Laws.{IsSequence, IsByEffects}
+use Rattle.jc_memory.specs.ProgramLaws.{IsSequence, IsByEffects}
 
 module _ {A B : Type 0} (more : A → MemoryState → Program B) where
   pub bind_did : (d : Program A) (s mid new : MemoryState) (a : A) (b : B) → Completes d s a mid → Completes (more a mid) mid b new

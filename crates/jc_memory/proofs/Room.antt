@@ -21,7 +21,7 @@ use Rattle.jc_heap.specs.Moves.{Move, SetPlaces, SetCells, refusal_of_places, re
 use Rattle.jc_heap.specs.Completions.{Attempt, Done, Refused, after_change, after_making}
 use Rattle.jc_heap.specs.Places.{ArePlain, places_of, place_word, words_at, cells_from, set_place, set_places}
 use Rattle.jc_heap.specs.declared.place.Place.TheVariants.{Cell}
-use Rattle.jc_heap.specs.Touches.{touch_words, touched_places, touched_cells, once_made}
+use Rattle.jc_heap.specs.Touch.{touch_words, touched_places, touched_cells, once_made}
 use Rattle.jc_commit.proofs.WhatIsKept.{keeps_old_values}
 use Rattle.jc_heap.proofs.Calls.{not_full, object_fits}
 use Rattle.std.specs.List.{range_with_len}
@@ -35,7 +35,7 @@ use Rattle.jc_memory.specs.State.{MemoryState, HeapMove, IsNew, apply_effect}
 use Rattle.jc_memory.specs.Programs.{Program, Finish, Perform, Choose, Completes, IsTornIn, Executes, unless_refused}
 use Rattle.jc_memory.specs.Cells.{cell_refusal_in, cells_effect_in}
 use Rattle.jc_memory.specs.Making.{creation_move, creation_refusal, creation_refusal_in}
-use Rattle.jc_memory.specs.Room.{has_space, lacks_capacity, cells_update, places_update, KeepsObjects, KeepsRest, StayPut}
+use Rattle.jc_memory.specs.CommitCapacity.{has_space, lacks_capacity, cells_update, places_update, KeepsObjects, KeepsRest, StayPut}
 use Rattle.jc_memory.proofs.Touched.{lacks_room, room_inside, touches_left, view_left, words_of_cells, words_of_plain, words_once_made}
 
 -- places within the room of a heap

@@ -13,13 +13,13 @@ use Rattle.jc_heap.specs.declared.object.Kind.{Kind}
 use Rattle.jc_heap.specs.Object.{Object, AnObject, facts_of, has_bytes, is_packed}
 use Rattle.jc_heap.specs.Places.{place_word, place_at, cell_at, words_at, cells_from, ArePlain}
 use Rattle.jc_heap.specs.declared.place.Place.TheVariants.{Cell, Static, Registry, AppletCount}
-use Rattle.jc_heap.specs.Touches.{touch_word, touch_words, touched_places, touched_cells, once_made}
+use Rattle.jc_heap.specs.Touch.{touch_word, touch_words, touched_places, touched_cells, once_made}
 use Rattle.jc_heap.proofs.KeptWords.{room_behind}
 use Rattle.jc_memory.specs.State.{MemoryState}
 use Rattle.jc_heap.proofs.Images.{has_cells}
 use Rattle.jc_heap.proofs.Places.{plain_at}
 use Rattle.jc_heap.proofs.WordsAt.{words_at-plain, plain_cells}
-use Rattle.jc_memory.specs.Room.{lacks_capacity, KeepsObjects, IsThere, StayPut}
+use Rattle.jc_memory.specs.CommitCapacity.{lacks_capacity, KeepsObjects, IsThere, StayPut}
 
 -- ---- the words
 

@@ -3,11 +3,11 @@ pub mod Power
 pub mod State
 pub mod Programs
 pub mod Reading
-pub mod Laws
+pub mod ProgramLaws
 pub mod Cells
 pub mod Commands
 pub mod Making
 pub mod Changing
 pub mod Dead
 pub mod Marks
-pub mod Room
+pub mod CommitCapacity

@@ -8,14 +8,14 @@ ghost use Rattle.jc_heap.specs.Keeping.{AreLegalValues};
 ghost use Rattle.jc_heap.specs.Places.{AreThere, AreApart, ArePlain, places_of, applet_places};
 ghost use Rattle.jc_heap.specs.declared.touch.Touch.{Touch};
 ghost use Rattle.jc_heap.specs.declared.touch.Touch.TheVariants.{HeapEnd};
-ghost use Rattle.jc_heap.specs.Touches.{CanTouch, touched_places, touched_cells, once_made};
+ghost use Rattle.jc_heap.specs.Touch.{CanTouch, touched_places, touched_cells, once_made};
 ghost use Rattle.jc_words.specs.Layout.{most_applets};
 ghost use Rattle.jc_memory.specs.Cells.{MayHaveAll};
 ghost use Rattle.jc_memory.specs.Owners.{owner_number};
 ghost use Rattle.jc_memory.specs.Programs.{Executes, Finish};
 ghost use Rattle.jc_heap.specs.Completions.{after_step};
 ghost use Rattle.jc_memory.specs.Making.{object_creation};
-ghost use Rattle.jc_memory.specs.Room.{has_space, lacks_capacity, applet_registration, cells_update, places_update, KeepsObjects, KeepsRest, StayPut};
+ghost use Rattle.jc_memory.specs.CommitCapacity.{has_space, lacks_capacity, applet_registration, cells_update, places_update, KeepsObjects, KeepsRest, StayPut};
 
 use crate::{Memory, NewObject};
 use jc_heap::{AppletEntry, Kind, Place, Touch};

@@ -1,7 +1,7 @@
 -- The cell in a word, as far as a walk over the objects of a heap has come.
 use Rattle.std.proofs.Common.{◌≡◌, ℕ, ◌<◌, ◌≤◌, Some, None, arith}
 use Rattle.jc_heap.specs.Heap.{HeapState, IsObject, facts, next_object}
-use Rattle.jc_card_checks.proofs.Order.{Walks, one_more, all_of_them}
+use Rattle.jc_packages.proofs.Order.{Walks, one_more, all_of_them}
 use Rattle.jc_objects.specs.Cells.{HoldsNoCell, IsCellOf}
 
 -- up to an address no object has a cell in the word

@@ -1,3 +1,10 @@
+pub mod Arrays
+pub mod HeapBounds
+pub mod Holding
+pub mod ItemWords
+pub mod PlaceSteps
+pub mod Sizes
+pub mod Standing
 mod CellWalk
 mod CellWords
 mod Opened

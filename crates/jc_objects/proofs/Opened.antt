@@ -13,7 +13,7 @@ use Rattle.jc_platform.specs.Table.{Reads}
 use Rattle.jc_platform.specs.Tokens.{Tokens}
 use Rattle.jc_platform.proofs.OneAnswer.{one_table}
 use Rattle.jc_linker.specs.Values.{Packages}
-use Rattle.jc_card_load.specs.Reading.{packages_of}
+use Rattle.jc_packages.specs.Reading.{packages_of}
 use Rattle.jc_objects.specs.ImageObjects.{IsImage, IsNoImage, IsNoTable, IsNotWhole, IsWhole}
 use Rattle.jc_objects.specs.Legends.{ArePackagesIn, HasNoPackages, HasNoneLinked, IsNotLinked}
 use Rattle.jc_objects.specs.declared.image_objects.ImageFault.{ImageFault}

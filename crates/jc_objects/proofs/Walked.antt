@@ -6,7 +6,7 @@ use Rattle.std.proofs.lemmas.Bool.{false≢true, le-ltb}
 use Rattle.std.proofs.lemmas.List.Elements.{All-nil, All-push, Contains-append_left, Contains-push}
 use Rattle.jc_heap.specs.Heap.{HeapState, IsObject, next_object}
 use Rattle.jc_linker.specs.Values.{Packages}
-use Rattle.jc_card_checks.proofs.Order.{Walks, one_more, all_of_them}
+use Rattle.jc_packages.proofs.Order.{Walks, one_more, all_of_them}
 use Rattle.jc_objects.specs.Pins.{AreTryWords, IsPin, is_pin, noted, try_word}
 
 -- the word of the object at an address is among those that were found, if it is an OwnerPIN

@@ -9,7 +9,7 @@ use Rattle.jc_heap.specs.Image.{IsWellFormed, table_text}
 use Rattle.jc_heap.specs.Whole.{IsConsistent}
 use Rattle.jc_platform.specs.Table.{Reads}
 use Rattle.jc_platform.specs.Tokens.{Tokens}
-use Rattle.jc_card_load.specs.ImageTables.{HasTable}
+use Rattle.jc_packages.specs.ImageTables.{HasTable}
 use Rattle.jc_objects.specs.declared.image_objects.ImageFault.{ImageFault}
 use Rattle.jc_objects.specs.declared.image_objects.ImageFault.TheVariants.{NoMemory, Damaged}
 use Rattle.jc_objects.specs.declared.image_objects.ImageObjects.{ImageObjects}

@@ -6,7 +6,7 @@ use Rattle.jc_platform.specs.Tokens.{Tokens}
 use Rattle.jc_linker.specs.Classes.{reference_cell}
 use Rattle.jc_linker.specs.Lookups.{statics_at}
 use Rattle.jc_linker.specs.Values.{Packages}
-use Rattle.jc_card_load.specs.Reading.{packages_of}
+use Rattle.jc_packages.specs.Reading.{packages_of}
 use Rattle.jc_objects.specs.ImageObjects.{IsImage}
 use Rattle.jc_objects.specs.declared.image_objects.ImageFault.{ImageFault}
 use Rattle.jc_objects.specs.declared.image_objects.ImageFault.TheVariants.{NoMemory, Damaged}

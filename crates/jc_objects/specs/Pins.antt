@@ -3,13 +3,13 @@ use Rattle.std.specs.Prelude.{ℕ, ◌≡◌, ◌+◌, ◌<◌, ◌&&◌, nat_lt
 use Rattle.jc_commit.specs.Image.{recovered_of}
 use Rattle.jc_heap.specs.Heap.{HeapState, IsObject, facts, heap_of}
 use Rattle.jc_heap.specs.Object.{header_size}
-use Rattle.jc_pin.specs.Pins.{counter_cell}
+use Rattle.jc_environment.specs.Pins.{counter_cell}
 use Rattle.jc_platform.specs.Tokens.{Tokens}
 use Rattle.jc_platform.specs.declared.names.PlatformClass.TheVariants.{OwnerPin}
 use Rattle.jc_linker.specs.Values.{Packages}
-use Rattle.jc_card_checks.specs.Objects.{is_persistent_instance}
+use Rattle.jc_packages.specs.Objects.{is_persistent_instance}
 use Rattle.jc_linker.specs.Classes.{is_a}
-use Rattle.jc_card_load.specs.Reading.{packages_of}
+use Rattle.jc_packages.specs.Reading.{packages_of}
 use Rattle.jc_objects.specs.ImageObjects.{IsImage}
 
 -- the object at this address is an OwnerPIN: a persistent instance of that class, or of one below it

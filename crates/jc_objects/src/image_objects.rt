@@ -7,9 +7,9 @@ ghost use Rattle.jc_platform.specs.Table.{Reads};
 ghost use Rattle.jc_objects.specs.ImageObjects.{AreObjectsOf, IsNoImage, IsNoTable, IsNotOpened, IsNotWhole, IsOpenedImage, IsWhole};
 ghost use Rattle.jc_objects.specs.declared.image_objects.ImageFault.TheVariants.{NoMemory};
 
-use jc_card_load::tables::{ImageTableFault, table_of};
 use jc_heap::Heap;
 use jc_image::OpenImage;
+use jc_packages::tables::{ImageTableFault, table_of};
 use jc_platform::platform::Platform;
 use jc_words::layout::SIZE_WORD;
 use jc_words::{MemStore, WordStore};

@@ -1,13 +1,13 @@
 //! What the cells of an image's objects are read by: its platform, and its packages.
 ghost use Rattle.std.specs.Prelude.{◌≡◌, Some, None, IfOk, MatchResult, false};
 ghost use Rattle.jc_heap.specs.Whole.{IsConsistent};
-ghost use Rattle.jc_card_load.specs.Reading.{packages_of};
+ghost use Rattle.jc_packages.specs.Reading.{packages_of};
 ghost use Rattle.jc_objects.specs.Legends.{ArePackagesIn, HasNoneLinked, IsLegend, IsNotLinked, holds_reference, static_references};
 
 use crate::image_objects::{ImageFault, opened, whole_of};
-use jc_card_load::reading::{RecordFault, read_packages};
 use jc_heap::Heap;
 use jc_linker::linked::Linked;
+use jc_packages::reading::{RecordFault, read_packages};
 use jc_platform::platform::Platform;
 use jc_transient::ClassWord;
 use jc_words::WordStore;

@@ -3,7 +3,7 @@ ghost use Rattle.std.specs.Prelude.{ℕ, List, ◌≡◌, IfOk, IfSome, OnOk, Ma
 ghost use Rattle.jc_heap.specs.Heap.{IsObject, heap_of, next_object};
 ghost use Rattle.jc_objects.specs.Pins.{AreTriesIn, AreTryWords, is_pin, noted};
 ghost use Rattle.jc_objects.specs.Legends.{HasNoPackages};
-ghost use Rattle.jc_card_checks.specs.Objects.{is_persistent_instance};
+ghost use Rattle.jc_packages.specs.Objects.{is_persistent_instance};
 
 use crate::image_objects::{ImageFault, opened, whole_of};
 use crate::legend::packages_in;

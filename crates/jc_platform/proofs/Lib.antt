@@ -15,3 +15,8 @@ pub mod Versions
 pub mod PackageClasses
 mod Superclasses
 pub mod Constructors
+pub mod RowEntries
+pub mod PackedLines
+pub mod Options
+pub mod Packed
+pub mod Places

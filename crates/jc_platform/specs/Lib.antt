@@ -11,3 +11,4 @@ pub mod Distinct
 pub mod Signatures
 pub mod Hierarchy
 pub mod Platform
+pub mod Packing

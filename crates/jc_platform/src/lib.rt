@@ -1,4 +1,5 @@
 //! The platform's packages, classes and methods, and the tokens that a table gives them.
+//! The packed form of a platform table's text, which images keep.
 #![tactic(auto)]
 
 mod entries;
@@ -9,6 +10,9 @@ pub mod kinds;
 pub mod laws;
 pub mod lookup;
 pub mod names;
+mod packed_entry;
+pub mod packing;
+pub mod packing_laws;
 pub mod platform;
 pub mod read;
 pub mod reading;

@@ -10,7 +10,7 @@ use Rattle.jc_memory.specs.Programs.{Program, Finish, unless_else}
 use Rattle.jc_heap.specs.Completions.{Completion, Completed, Torn}
 use Rattle.jc_world.specs.declared.step_exit.StepExit.{StepExit}
 use Rattle.jc_world.specs.declared.step_exit.StepExit.TheVariants.{Throw, End, Down}
-use Rattle.jc_world.specs.StepExits.{exception_of}
+use Rattle.jc_world.specs.StepExit.{exception_of}
 
 -- the frames go on
 abbrev pub continue_with : Frames → Program (Next Frames)

@@ -1,4 +1,4 @@
-pub mod StepExits
+pub mod StepExit
 pub mod Contexts
 pub mod Objects
 pub mod Instructions

@@ -12,7 +12,7 @@ use Rattle.jc_heap.specs.Completions.{Completion, Completed, Torn}
 use Rattle.jc_world.specs.declared.native_result.NativeResult.{NativeResult}
 use Rattle.jc_world.specs.declared.step_exit.StepExit.{StepExit}
 use Rattle.jc_world.specs.declared.step_exit.StepExit.TheVariants.{Throw, End, Down}
-use Rattle.jc_world.specs.StepExits.{exception_of}
+use Rattle.jc_world.specs.StepExit.{exception_of}
 
 -- what a call may do
 abbrev pub NativeProgram : Type 0

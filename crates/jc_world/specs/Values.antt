@@ -4,8 +4,8 @@ use Rattle.std.specs.Option.{option_map}
 use Rattle.std.specs.Int.{w8, w16, cast_signed, cast_unsigned}
 use Rattle.jc_transient.specs.declared.cell.CellValue.{CellValue}
 use Rattle.jc_transient.specs.declared.cell.CellValue.TheVariants as kept
-use Rattle.jc_opcodes.specs.declared.instr.ValueType.{ValueType}
-use Rattle.jc_opcodes.specs.declared.instr.ValueType.TheVariants as types
+use Rattle.jc_frames.specs.declared.instr.ValueType.{ValueType}
+use Rattle.jc_frames.specs.declared.instr.ValueType.TheVariants as types
 use Rattle.jc_frames.specs.declared.cell.Cell.{Cell}
 use Rattle.jc_frames.specs.declared.cell.Cell.TheVariants.{Short, Reference}
 use Rattle.jc_frames.specs.declared.outcome.FrameExit.{FrameExit}

@@ -19,7 +19,7 @@ pub enum StepExit {
 
 impl From<FrameExit> for StepExit {
     ghost use Rattle.std.specs.Prelude.{◌≡◌};
-    ghost use Rattle.jc_world.specs.StepExits.{exit_of_frames};
+    ghost use Rattle.jc_world.specs.StepExit.{exit_of_frames};
 
     ghost from_gives = { λ s b. b ≡ exit_of_frames s };
 
@@ -45,7 +45,7 @@ impl From<CodeFault> for StepExit {
 
 impl From<ChangeRefusal> for StepExit {
     ghost use Rattle.std.specs.Prelude.{◌≡◌};
-    ghost use Rattle.jc_world.specs.StepExits.{exit_of_change};
+    ghost use Rattle.jc_world.specs.StepExit.{exit_of_change};
 
     ghost from_gives = { λ r b. b ≡ exit_of_change r };
 
@@ -59,7 +59,7 @@ impl From<ChangeRefusal> for StepExit {
 
 impl From<HeapRefusal> for StepExit {
     ghost use Rattle.std.specs.Prelude.{◌≡◌};
-    ghost use Rattle.jc_world.specs.StepExits.{exit_of_creation};
+    ghost use Rattle.jc_world.specs.StepExit.{exit_of_creation};
 
     ghost from_gives = { λ r b. b ≡ exit_of_creation r };
 

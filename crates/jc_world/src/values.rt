@@ -7,10 +7,10 @@ ghost use Rattle.jc_memory.specs.Cells.{word_of};
 ghost use Rattle.jc_world.specs.Values.{IsValueOf, value_on, value_at, keepable};
 
 use crate::objects::allow_store;
+use jc_frames::instr::ValueType;
 use jc_frames::{Cell, CodeFault, FrameExit, Frames};
 use jc_linker::linked::Linked;
 use jc_memory::Memory;
-use jc_opcodes::instr::ValueType;
 use jc_transient::{CellValue, Ref};
 use jc_words::WordStore;
 

@@ -14,7 +14,7 @@ use Rattle.jcard_outcomes.specs.Models.{all_models}
 use Rattle.jcard_arguments.specs.Attacks.{within_of}
 use Rattle.jcard_arguments.specs.CommandLine.{CommandLineRequest, ToAttack, ToJoin, attack_by, attack_of, attack_with, request_of_words}
 use Rattle.jcard_arguments.specs.Grammar.{attack_grammar, operands, program_grammar}
-use Rattle.jcard_arguments.specs.PlainLines.{IsNoFlag, TakesAttackJoins, TakesAttacks, plain_attack}
+use Rattle.jcard_arguments.specs.Arguments.{IsNoFlag, TakesAttackJoins, TakesAttacks, plain_attack}
 
 -- the command, as the build leaves it
 abbrev shape : Shape

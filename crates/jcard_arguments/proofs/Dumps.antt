@@ -10,7 +10,7 @@ use Rattle.jcard_arguments.proofs.CommandWalk.{after_next, as_ended, causes_of, 
 use Rattle.jcard_arguments.proofs.Hyphens.{no_hyphen}
 use Rattle.jcard_arguments.specs.CommandLine.{CommandLineRequest, ToList, ToListObjects, dump_of, request_of_words}
 use Rattle.jcard_arguments.specs.Grammar.{dump_grammar, program_grammar}
-use Rattle.jcard_arguments.specs.PlainLines.{IsNoFlag, TakesDumps}
+use Rattle.jcard_arguments.specs.Arguments.{IsNoFlag, TakesDumps}
 
 -- the command, as the build leaves it
 abbrev shape : Shape

@@ -11,8 +11,8 @@ use Rattle.jcard_arguments.proofs.Hyphens.{no_hyphen}
 use Rattle.jcard_arguments.proofs.CommandWalk.{after_next, as_ended, causes_of, met, none_more, opened_by, request_after, whole}
 use Rattle.jcard_arguments.specs.CommandLine.{CommandLineRequest, SizeAsked, ToMake, ToTry, new_of, request_of_words, try_of}
 use Rattle.jcard_arguments.specs.Grammar.{new_grammar, program_grammar, try_grammar}
-use Rattle.jcard_arguments.specs.PlainLines.{IsNoFlag, JournalTableWords, JournalWordsTable, NewOrder, TableJournalWords, TableWordsJournal, TakesNews}
-use Rattle.jcard_arguments.specs.PlainLines.{TakesTries, WordsJournalTable, WordsTableJournal, in_order, plain_size}
+use Rattle.jcard_arguments.specs.Arguments.{IsNoFlag, JournalTableWords, JournalWordsTable, NewOrder, TableJournalWords, TableWordsJournal, TakesNews}
+use Rattle.jcard_arguments.specs.Arguments.{TakesTries, WordsJournalTable, WordsTableJournal, in_order, plain_size}
 
 data OptionCommand : Type 0 where
   NewCommand : OptionCommand

@@ -10,7 +10,7 @@ use Rattle.jcard_arguments.proofs.CommandWalk.{after_next, as_ended, causes_of, 
 use Rattle.jcard_arguments.proofs.Hyphens.{no_hyphen}
 use Rattle.jcard_arguments.specs.CommandLine.{CommandLineRequest, ToRun, request_of_words, run_of}
 use Rattle.jcard_arguments.specs.Grammar.{program_grammar, run_grammar}
-use Rattle.jcard_arguments.specs.PlainLines.{IsNoFlag, TakesRuns, plain_run}
+use Rattle.jcard_arguments.specs.Arguments.{IsNoFlag, TakesRuns, plain_run}
 
 -- the command, as the build leaves it
 abbrev shape : Shape

@@ -13,7 +13,7 @@ use Rattle.jcard_arguments.proofs.CommandWalk.{after_next, as_ended, causes_of, 
 use Rattle.jcard_outcomes.specs.declared.recoveries.Depth.{Depth}
 use Rattle.jcard_arguments.specs.CommandLine.{CommandLineRequest, ToJoin, ToTear, depth_of, request_of_words, tear_by, tear_of, tear_with}
 use Rattle.jcard_arguments.specs.Grammar.{operands, program_grammar, tear_grammar}
-use Rattle.jcard_arguments.specs.PlainLines.{IsNoFlag, TakesJoins, TakesTears, plain_tear}
+use Rattle.jcard_arguments.specs.Arguments.{IsNoFlag, TakesJoins, TakesTears, plain_tear}
 
 -- the command, as the build leaves it
 abbrev shape : Shape

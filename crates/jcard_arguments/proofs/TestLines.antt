@@ -12,7 +12,7 @@ use Rattle.jcard_arguments.proofs.Hyphens.{no_hyphen}
 use Rattle.jcard_arguments.proofs.CommandWalk.{after_next, as_ended, causes_of, met, none_more, opened_by, request_after, whole}
 use Rattle.jcard_arguments.specs.CommandLine.{CommandLineRequest, ToTest, request_of_words, test_of}
 use Rattle.jcard_arguments.specs.Grammar.{operands, program_grammar, test_grammar}
-use Rattle.jcard_arguments.specs.PlainLines.{IsNoFlag, TakesTests, plain_test}
+use Rattle.jcard_arguments.specs.Arguments.{IsNoFlag, TakesTests, plain_test}
 
 -- the command, as the build leaves it
 abbrev shape : Shape

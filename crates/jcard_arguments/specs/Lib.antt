@@ -3,4 +3,4 @@ pub mod CommandLine
 pub mod Grammar
 pub mod JoinedWords
 pub mod Numbers
-pub mod PlainLines
+pub mod Arguments

@@ -4,7 +4,7 @@ ghost use Rattle.std.specs.String.{string_bytes};
 ghost use Rattle.clap.specs.Words.{IsAmong, fault_of, found_of, kind_of, rows_of, subcommand_of, subcommand_rows_of};
 ghost use Rattle.jcard_arguments.specs.CommandLine.{IsReadAs, IsTakenAs, IsToldFor, request_of};
 ghost use Rattle.jcard_arguments.specs.Grammar.{program_grammar};
-ghost use Rattle.jcard_arguments.specs.PlainLines.{TakesPlainLines};
+ghost use Rattle.jcard_arguments.specs.Arguments.{TakesPlainLines};
 
 use crate::actions::action_of;
 use crate::grammar::program;

@@ -3,7 +3,7 @@ use Rattle.std.proofs.Common.{◌≡◌, ◌∙◌, ℕ, true, List, [], ◌∷�
 use Rattle.std.specs.Str.Lines.{lines, strip_carriage_return}
 use Rattle.jc_words.specs.Stores.{FuseStoreValue}
 use Rattle.jc_card.specs.CardState.{CardState}
-use Rattle.jc_session.specs.Power.{Up}
+use Rattle.jc_card.specs.Power.{Up}
 use Rattle.jcard_script.specs.Begun.{AnswersLines, HasBegun}
 use Rattle.jcard_script.specs.Script.{AreCarriedOut, EndsWithin, IsWrittenFor, ended_lines, form_of}
 use Rattle.jcard_script.specs.ScriptStates.{IsSessionStore, ScriptState}

@@ -5,9 +5,9 @@ use Rattle.std.proofs.lemmas.List.{drop_at, get_or_at, same_from_push}
 use Rattle.hex.specs.Hex.{encode_upper}
 use Rattle.jc_words.specs.Stores.{FuseStoreValue}
 use Rattle.jc_card.specs.CardState.{CardState}
-use Rattle.jc_session.specs.Power.{Up, planned_card}
-use Rattle.jc_session.specs.Requests.{Planned, Response}
-use Rattle.jc_session.specs.declared.planned_fault.PlannedFault.{PlannedFault}
+use Rattle.jc_card.specs.Power.{Up, planned_card}
+use Rattle.jc_card.specs.Requests.{Planned, Response}
+use Rattle.jc_card.specs.declared.planned_fault.PlannedFault.{PlannedFault}
 use Rattle.jcard_script.specs.Begun.{AnswersGlitched, AnswersLines}
 use Rattle.jcard_script.specs.Script.{Form, IsWrittenFor, faults_text, planned_text, text_of}
 use Rattle.jcard_script.specs.ScriptStates.{IsSessionStore}

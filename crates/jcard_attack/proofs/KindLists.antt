@@ -1,7 +1,7 @@
 -- Lists of kinds of faults.
 use Rattle.std.proofs.Common.{◌≡◌, ◌∙◌, ℕ, suc, ◌+◌, List, [], ◌∷◌, ◌++◌, map, ap, append_assoc, append-nil, arith, sym}
 use Rattle.jc_interp.specs.declared.attacks.FaultModel.{FaultModel}
-use Rattle.jc_session.specs.declared.planned_fault.PlannedFault.{PlannedFault}
+use Rattle.jc_card.specs.declared.planned_fault.PlannedFault.{PlannedFault}
 use Rattle.jcard_attack.specs.Models.{fault_at, faults_within, second_at, seconds_within}
 
 -- no second faults

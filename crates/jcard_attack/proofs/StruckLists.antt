@@ -2,7 +2,7 @@
 use Rattle.std.proofs.Common.{◌≡◌, ℕ, ◌+◌, ◌<◌, List, [], ◌∷◌, ◌++◌, length, get_or, take, Option, subst, sym}
 use Rattle.std.proofs.lemmas.List.{take_more}
 use Rattle.jc_objects.specs.declared.image_objects.ImageObjects.{ImageObjects}
-use Rattle.jc_session.specs.declared.planned_fault.PlannedFault.{PlannedFault}
+use Rattle.jc_card.specs.declared.planned_fault.PlannedFault.{PlannedFault}
 use Rattle.jcard_outcomes.specs.declared.standing.Left.{Left}
 use Rattle.jcard_attack.specs.Sweeps.{AreStruckBy, IsStruck}
 use Rattle.jcard_attack.specs.declared.aftermaths.Attacked.{Attacked}

@@ -4,8 +4,8 @@ use Rattle.jc_words.specs.Stores.{FuseStoreValue}
 use Rattle.jc_card.specs.CardState.{CardState}
 use Rattle.jc_commit.specs.Image.{plain_of, recovered_of}
 use Rattle.jc_commit.specs.Migration.{migrated}
-use Rattle.jc_session.specs.Power.{Up, planned_card}
-use Rattle.jc_session.specs.declared.planned_fault.PlannedFault.{PlannedFault}
+use Rattle.jc_card.specs.Power.{Up, planned_card}
+use Rattle.jc_card.specs.declared.planned_fault.PlannedFault.{PlannedFault}
 use Rattle.jcard_outcomes.specs.declared.standing.Left.{Left}
 use Rattle.jcard_script.specs.Begun.{AnswersLines, HasBegun, IsCommandLine}
 use Rattle.jcard_script.specs.Script.{planned_text, text_of}

@@ -1,6 +1,6 @@
 pub mod Aftermaths
 pub mod Each
-pub mod Judgements
+pub mod Judging
 pub mod Kept
 pub mod Models
 pub mod Objects

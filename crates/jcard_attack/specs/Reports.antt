@@ -4,8 +4,8 @@ use Rattle.std.specs.List.{slice_index_or}
 use Rattle.std.specs.Str.{bytes_eq}
 use Rattle.jc_interp.specs.declared.attacks.FaultModel.{FaultModel}
 use Rattle.jc_interp.specs.declared.attacks.FaultModel.TheVariants.{Skip, Turn, Zero}
-use Rattle.jc_session.specs.declared.planned_fault.PlannedFault.{PlannedFault}
-use Rattle.jc_session.specs.declared.planned_fault.SecondFault.{SecondFault}
+use Rattle.jc_card.specs.declared.planned_fault.PlannedFault.{PlannedFault}
+use Rattle.jc_card.specs.declared.planned_fault.SecondFault.{SecondFault}
 use Rattle.jcard_outcomes.specs.Reports.{ended, in_line, standing_text}
 use Rattle.jcard_attack.specs.declared.outcomes.AttackSweep.{AttackSweep}
 use Rattle.jcard_attack.specs.declared.outcomes.Outcome.{Outcome}

@@ -1,13 +1,13 @@
 -- A command with a fault at each of its instructions.
 use Rattle.std.specs.Prelude.{ℕ, ◌≡◌, ◌⊎◌, List, [], ◌∷◌, length, codes, Bool, Option, Some, None}
 use Rattle.std.specs.Bool.{MatchBool}
-use Rattle.jc_session.specs.declared.planned_fault.PlannedFault.{PlannedFault}
+use Rattle.jc_card.specs.declared.planned_fault.PlannedFault.{PlannedFault}
 use Rattle.jc_objects.specs.declared.image_objects.ImageObjects.{ImageObjects}
 use Rattle.jcard_outcomes.specs.declared.part.Share.{Share}
 use Rattle.jcard_outcomes.specs.declared.standing.Left.{Left}
 use Rattle.jcard_tear.specs.Told.{AreObjectsAsked, IsTold}
 use Rattle.jcard_attack.specs.Aftermaths.{IsAftermath, IsBegun, IsUnfinished}
-use Rattle.jcard_attack.specs.Judgements.{IsLastAnswer, IsSameAs, IsStanding, gives_access, judged}
+use Rattle.jcard_attack.specs.Judging.{IsLastAnswer, IsSameAs, IsStanding, gives_access, judged}
 use Rattle.jcard_attack.specs.Models.{faults_tried, kinds_tried}
 use Rattle.jcard_attack.specs.Objects.{IsAftermathTold, IsObjectsFault}
 use Rattle.jcard_attack.specs.Shares.{asked_in}

@@ -6,8 +6,8 @@ ghost use Rattle.jcard_script.specs.Script.{model_word, second_text};
 
 use crate::outcomes::Aftermath;
 use itoa::Buffer;
+use jc_card::planned_fault::{PlannedFault, SecondFault};
 use jc_interp::attacks::FaultModel;
-use jc_session::planned_fault::{PlannedFault, SecondFault};
 use jcard_outcomes::standing::Left;
 use jcard_script::script::ScriptFault;
 use jcard_tear::runs::{RunFault, recovered, run_copy};

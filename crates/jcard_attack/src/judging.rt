@@ -1,6 +1,6 @@
 //! What a fault makes of a command, beside the command without one.
 ghost use Rattle.std.specs.Prelude.{◌≡◌, ◌↔◌, IsTrue};
-ghost use Rattle.jcard_attack.specs.Judgements.{IsLastAnswer, IsSameAs, IsStanding, gives_access, is_accepted, judged, other_answer, same_answer};
+ghost use Rattle.jcard_attack.specs.Judging.{IsLastAnswer, IsSameAs, IsStanding, gives_access, is_accepted, judged, other_answer, same_answer};
 
 use crate::outcomes::{Aftermath, Outcome};
 use jcard_outcomes::heaps::is_as_after;

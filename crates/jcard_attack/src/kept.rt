@@ -8,8 +8,8 @@ ghost use Rattle.jcard_attack.specs.declared.aftermaths.Attacked.{Attacked as An
 use crate::aftermaths::{Attacked, push_glitch};
 use crate::outcomes::Aftermath;
 use arrayvec::ArrayVec;
+use jc_card::planned_fault::PlannedFault;
 use jc_card::response::Response;
-use jc_session::planned_fault::PlannedFault;
 use jc_words::{FuseStore, MemStore};
 use jcard_outcomes::standing::Left;
 use jcard_script::begun::{BegunScript, begin_script, command_of_line};

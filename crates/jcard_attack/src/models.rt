@@ -3,8 +3,8 @@ ghost use Rattle.std.specs.List.{flat_map};
 ghost use Rattle.std.specs.Prelude.{◌≡◌, ◌++◌, if◌then◌else◌, ◌∷◌, [], map, IfOk, OnOk};
 ghost use Rattle.jcard_attack.specs.Models.{fault_at, faults_tried, faults_within, first_fault, has_model, kinds_tried, models_tried, pairs_within, second_at, seconds_within};
 
+use jc_card::planned_fault::{PlannedFault, SecondFault};
 use jc_interp::attacks::FaultModel;
-use jc_session::planned_fault::{PlannedFault, SecondFault};
 use jcard_outcomes::models::Models;
 use std::alloc::{AllocError, Global};
 

@@ -1,5 +1,5 @@
 //! What faults at the instructions of a command came to.
-use jc_session::planned_fault::PlannedFault;
+use jc_card::planned_fault::PlannedFault;
 use jcard_outcomes::standing::{Left, Standing};
 
 /// What a command came to: its answer, and what it left.

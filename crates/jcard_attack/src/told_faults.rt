@@ -5,8 +5,8 @@ ghost use Rattle.jcard_attack.specs.Reports.{fault_told, is_told_in_full, kind_t
 ghost use Rattle.jcard_attack.specs.Reports.{is_undisturbed};
 
 use crate::outcomes::{Outcome, Struck};
+use jc_card::planned_fault::SecondFault;
 use jc_interp::attacks::FaultModel;
-use jc_session::planned_fault::SecondFault;
 use jcard_outcomes::rows::{push_in_line, push_number, push_standing};
 use std::alloc::{AllocError, Global};
 

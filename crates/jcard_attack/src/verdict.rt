@@ -6,7 +6,7 @@ ghost use Rattle.jcard_attack.specs.declared.outcomes.Outcome.TheVariants.{Accep
 
 use crate::outcomes::{Outcome, Struck};
 use crate::told_faults::{model_name, second_text};
-use jc_session::planned_fault::PlannedFault;
+use jc_card::planned_fault::PlannedFault;
 use jcard_outcomes::rows::push_number;
 use jcard_outcomes::verdict::push_either;
 use std::alloc::{AllocError, Global};

@@ -1,6 +1,6 @@
 //! What instructions do to the stack that need no more than to be counted.
 
-use jc_opcodes::instr::{ArithmeticOp, ArrayOp, BranchOp, Condition, FieldOp, Instr, ObjectOp};
+use jc_frames::instr::{ArithmeticOp, ArrayOp, BranchOp, Condition, FieldOp, Instr, ObjectOp};
 
 /// How many cells an instruction pops, and whether it pushes one then.
 #[derive(Clone, Copy, Drop)]

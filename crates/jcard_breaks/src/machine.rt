@@ -3,15 +3,13 @@
 use crate::effects::effect_of;
 use crate::frames::{Frame, Known, push};
 use crate::statics::Statics;
+use jc_frames::decode::decode;
+use jc_frames::handlers::{HANDLER_SIZE, handler_at};
+use jc_frames::header::{Header, header_at};
+use jc_frames::instr::{FieldOp, Instr, InvokeOp, LocalOp, ObjectOp, ReturnOp, StackOp, ValueType};
 use jc_linker::linked::Linked;
 use jc_linker::target::{Method, Target};
 use jc_memory::{Spot, Step, TopCell};
-use jc_opcodes::decode::decode;
-use jc_opcodes::handlers::{HANDLER_SIZE, handler_at};
-use jc_opcodes::header::{Header, header_at};
-use jc_opcodes::instr::{
-    FieldOp, Instr, InvokeOp, LocalOp, ObjectOp, ReturnOp, StackOp, ValueType,
-};
 use jc_platform::kinds::Answer;
 use jc_platform::names::{MethodKind, PlatformMethod, SystemMethod};
 use jc_transient::ClassWord;

@@ -1,8 +1,8 @@
 -- A trial over no image.
 use Rattle.std.proofs.Common.{ℕ, List, [], ◌∷◌, Option, Ok, Err, refl, inl, inr}
 use Rattle.jc_image.specs.declared.laying.ImageRoom.{ImageRoom}
-use Rattle.jcard_commands.specs.Trials.{IsTriedOn}
-use Rattle.jcard_images.specs.NewImages.{IsNewImageInMemory}
+use Rattle.jcard_commands.specs.Trial.{IsTriedOn}
+use Rattle.jcard_files.specs.NewImages.{IsNewImageInMemory}
 use Rattle.jcard_files.specs.FileDeeds.{ReadsText}
 use Rattle.jcard_files.specs.declared.fault.Fault.{Fault}
 use Rattle.jcard_files.specs.declared.fault.Fault.TheVariants.{ImageTooSmall, NoMemory}

@@ -5,24 +5,24 @@ use Rattle.jcard_arguments.specs.CommandLine.{AskForHelp, AskForNothing, Command
 use Rattle.jcard_arguments.specs.CommandLine.{ToAttack, ToCompare, ToJoin, ToList, ToListObjects, ToMake, ToRun, ToTear, ToTest, ToTry}
 use Rattle.jcard_arguments.specs.declared.arguments.NoAction.{NoAction}
 use Rattle.jcard_arguments.specs.declared.arguments.NoAction.TheVariants.{Help, Refused, Misused, NoMemory as NoRoom}
-use Rattle.jcard_images.specs.Dumps.{IsDump}
+use Rattle.jcard_files.specs.Dump.{IsDump}
 use Rattle.jcard_files.specs.Effects.{Says, Tells}
 use Rattle.jcard_files.specs.FileDeeds.{FileDeed}
-use Rattle.jcard_sweeps.specs.Joinings.{IsJoining}
+use Rattle.jcard_sweeps.specs.Joining.{IsJoining}
 use Rattle.jc_card.specs.Dispatching.{usual_budget}
-use Rattle.jcard_images.specs.NewImages.{IsNew}
-use Rattle.jcard_images.specs.declared.image_size.ImageSize.{ImageSize}
-use Rattle.jcard_listing.specs.Comparisons.{IsComparison}
-use Rattle.jcard_listing.specs.Told.{IsObjectsDump}
+use Rattle.jcard_files.specs.NewImages.{IsNew}
+use Rattle.jcard_files.specs.declared.image_size.ImageSize.{ImageSize}
+use Rattle.jcard_listing.specs.Comparison.{IsComparison}
+use Rattle.jcard_listing.specs.Dump.{IsObjectsDump}
 use Rattle.jcard_tests.specs.Tests.{IsTest}
 use Rattle.jcard_tests.specs.declared.asked.Asked.{Asked}
 use Rattle.jcard_files.specs.declared.fault.Fault.{Fault}
 use Rattle.jcard_files.specs.declared.fault.Fault.TheVariants.{BadCommandLine, NoMemory, CannotRead, WriteFailed}
 use Rattle.jcard_commands.specs.Listed.{IsAttackWith, IsTearWith, IsToldBy}
-use Rattle.jcard_commands.specs.Runs.{IsRun}
+use Rattle.jcard_commands.specs.ScriptRun.{IsRun}
 use Rattle.jcard_commands.specs.RunOptions.{AreNamesRead, AreNamesUnread, AreOperands, IsCompared, IsCoverBegun, IsCovered}
 use Rattle.jcard_files.specs.declared.operand.Operand.{Operand}
-use Rattle.jcard_commands.specs.Trials.{IsTrial}
+use Rattle.jcard_commands.specs.Trial.{IsTrial}
 
 -- this number of instructions, or the usual one
 abbrev pub budget_of : Option ℕ → ℕ

@@ -1,5 +1,5 @@
 pub mod Commands
 pub mod Listed
 pub mod RunOptions
-pub mod Runs
-pub mod Trials
+pub mod ScriptRun
+pub mod Trial

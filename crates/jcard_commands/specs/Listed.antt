@@ -6,13 +6,13 @@ use Rattle.jcard_arguments.specs.CommandLine.{AttackAsked, TearAsked, attack_ask
 use Rattle.jcard_files.specs.declared.fault.Fault.{Fault}
 use Rattle.jcard_files.specs.declared.fault.Fault.TheVariants.{NoMemory, WriteFailed}
 use Rattle.jcard_files.specs.FileDeeds.{FileDeed}
-use Rattle.jcard_files.specs.Readings.{IsScriptRead, IsUnread}
-use Rattle.jcard_listing.specs.Comparisons.{IsComparison}
-use Rattle.jcard_listing.specs.Told.{IsObjectsDump}
+use Rattle.jcard_files.specs.Reading.{IsScriptRead, IsUnread}
+use Rattle.jcard_listing.specs.Comparison.{IsComparison}
+use Rattle.jcard_listing.specs.Dump.{IsObjectsDump}
 use Rattle.jcard_script.specs.Texts.{IsCutOf}
-use Rattle.jcard_sweeps.specs.Attackings as sweeps
+use Rattle.jcard_sweeps.specs.Attacking as sweeps
 use Rattle.jcard_sweeps.specs.SweepsAsked.{SweepAsked}
-use Rattle.jcard_sweeps.specs.Tears.{IsTear}
+use Rattle.jcard_sweeps.specs.Tearing.{IsTear}
 use Rattle.jcard_files.specs.Effects.{Says, Tells}
 use Rattle.jcard_why.specs.Named.{HasNames}
 use Rattle.jcard_commands.specs.declared.listed.Listed.{Listed}

@@ -3,7 +3,7 @@ use Rattle.std.specs.Prelude.{ℕ, Bool, true, ◌≡◌, ◌⊎◌, List, [], �
 use Rattle.jcard_files.specs.FileDeeds.{FileDeed, WritesText}
 use Rattle.jcard_files.specs.Images.{IsUnwritten}
 use Rattle.jcard_files.specs.Operands.{IsNoOperand}
-use Rattle.jcard_files.specs.Readings.{IsScriptRead, IsUnread}
+use Rattle.jcard_files.specs.Reading.{IsScriptRead, IsUnread}
 use Rattle.jcard_files.specs.declared.operand.Operand.{Operand}
 use Rattle.jcard_files.specs.declared.fault.FileKind.{FileKind}
 use Rattle.jcard_files.specs.declared.fault.FileKind.TheVariants as kind

@@ -2,7 +2,7 @@
 ghost use Rattle.std.specs.Prelude.{◌≡◌, Some, false};
 ghost use Rattle.jcard_arguments.specs.CommandLine.{attack_asked_by as words_ask_by, tear_asked_by, text_of};
 ghost use Rattle.jcard_files.specs.Faults.{is_unwritten};
-ghost use Rattle.jcard_sweeps.specs.Attackings.{attack_asked_by};
+ghost use Rattle.jcard_sweeps.specs.Attacking.{attack_asked_by};
 ghost use Rattle.jcard_sweeps.specs.SweepsAsked.{sweep_asked_by};
 ghost use Rattle.jcard_files.specs.Effects.{Does, Writes};
 ghost use Rattle.jcard_commands.specs.Listed.{IsAskedOf, IsListed, IsNamed, IsToldBy, IsWritten, in_memory, sweep_asked};

@@ -5,7 +5,7 @@ ghost use Rattle.jcard_files.specs.Effects.{Does, Writes};
 ghost use Rattle.jcard_files.specs.Faults.{is_unwritten};
 ghost use Rattle.jcard_commands.specs.Commands.{IsRunWith};
 ghost use Rattle.jcard_commands.specs.RunOptions.{IsCompared};
-ghost use Rattle.jcard_commands.specs.Runs.{IsCarriedOut, IsRun};
+ghost use Rattle.jcard_commands.specs.ScriptRun.{IsCarriedOut, IsRun};
 
 use crate::run_files::{begin_cover, keep_cover, names_of, operands_of};
 use crate::told::{Listener, Told};

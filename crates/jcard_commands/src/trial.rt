@@ -1,8 +1,8 @@
 //! Trying a script on a new card in memory.
 ghost use Rattle.jcard_arguments.specs.CommandLine.{text_of};
-ghost use Rattle.jcard_commands.specs.Trials.{IsTrial, IsTriedOn};
+ghost use Rattle.jcard_commands.specs.Trial.{IsTrial, IsTriedOn};
 ghost use Rattle.jcard_files.specs.Effects.{Does};
-ghost use Rattle.jcard_images.specs.NewImages.{IsTable};
+ghost use Rattle.jcard_files.specs.NewImages.{IsTable};
 
 use crate::script_run::run_named;
 use crate::told::OnlyRemarks;
@@ -10,14 +10,14 @@ use jc_platform::fault::TableFault;
 use jc_platform::read::read_table;
 use jc_words::FuseStore;
 use jcard_files::disk::Disk;
+use jcard_files::extent::Extent;
 use jcard_files::fault::Fault;
+use jcard_files::image_size::{ImageSize, extent_of};
+use jcard_files::memory_image::new_image;
 use jcard_files::remarks::Remarks;
 use jcard_files::script_fault::Names;
-use jcard_images::extent::Extent;
-use jcard_images::image_size::{ImageSize, extent_of};
-use jcard_images::memory_image::new_image;
-use jcard_images::table_remarks::remark_on_table;
-use jcard_images::usual_table::platform_of;
+use jcard_files::table_remarks::remark_on_table;
+use jcard_files::usual_table::platform_of;
 use jcard_script::std_text::StdText;
 use jcard_script::streams::TextOut;
 

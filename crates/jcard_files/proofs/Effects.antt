@@ -4,7 +4,7 @@ use Rattle.jc_words.specs.Count.{failures_after}
 use Rattle.jcard_files.specs.Faults.{is_unwritten}
 use Rattle.jcard_files.specs.FileDeeds.{FileDeed}
 use Rattle.jcard_files.specs.Images.{IsNotMade, IsNotOpened, IsNotOpenedToWrite, IsNotRead, IsUnopened}
-use Rattle.jcard_files.specs.Readings.{IsUnread}
+use Rattle.jcard_files.specs.Reading.{IsUnread}
 use Rattle.jcard_files.specs.declared.fault.Fault.{Fault}
 use Rattle.jcard_files.specs.declared.fault.Fault.TheVariants.{WriteFailed}
 

@@ -1,2 +1,6 @@
 pub mod Effects
 pub mod Stores
+pub mod Listings
+pub mod NewImages
+pub mod Unwritten
+pub mod UsualTables

@@ -4,5 +4,10 @@ pub mod FileDeeds
 pub mod Images
 pub mod MemDisks
 pub mod Operands
-pub mod Readings
-pub mod ScriptFaults
+pub mod Reading
+pub mod ScriptFault
+pub mod Dump
+pub mod ImageSize
+pub mod Listings
+pub mod NewImages
+pub mod UsualTable

@@ -2,7 +2,7 @@
 ghost use Rattle.std.specs.Prelude.{◌≡◌, [], false, IfOk, IfErr, IfSome, OnOk, take};
 ghost use Rattle.jcard_files.specs.Effects.{ReadsFiles};
 ghost use Rattle.jcard_files.specs.Images.{IsNotRead, IsUnopened};
-ghost use Rattle.jcard_files.specs.Readings.{IsRead, IsUnread, IsUnreadFault, IsScriptRead};
+ghost use Rattle.jcard_files.specs.Reading.{IsRead, IsUnread, IsUnreadFault, IsScriptRead};
 ghost use Rattle.jcard_files.specs.Faults.{is_unwritten};
 
 use crate::disk::Disk;

@@ -1,5 +1,5 @@
 //! What is reported where a script was not carried out to its end.
-ghost use Rattle.jcard_files.specs.ScriptFaults.{IsScriptFault, IsUnpowered};
+ghost use Rattle.jcard_files.specs.ScriptFault.{IsScriptFault, IsUnpowered};
 
 use crate::fault::{Damage, Fault};
 use jcard_script::card::power_up::PowerFault;

@@ -2,8 +2,8 @@
 use Rattle.std.proofs.Common.{◌≡◌, ◌∙◌, ◌&&◌, ◌++◌, ℕ, Bool, true, false, inl, inr, List, Some, Result, Ok, Err, ap, ap₂, refl, subst, sym}
 use Rattle.std.proofs.lemmas.Bool.{cases_Bool, false≢true}
 use Rattle.jc_objects.specs.declared.legend.Legend.{Legend}
-use Rattle.jc_records.specs.Bounds.{has_bounds}
-use Rattle.jcard_images.specs.Listings.{Lines, line, line_if, then_lines}
+use Rattle.jc_objects.specs.Bounds.{has_bounds}
+use Rattle.jcard_files.specs.Listings.{Lines, line, line_if, then_lines}
 use Rattle.jcard_listing.specs.Areas.{areas_line}
 use Rattle.jcard_listing.specs.Differences.{AreToldTo, IsContent, IsContentTold, area_lines}
 use Rattle.jcard_listing.specs.Fault.{Lists}

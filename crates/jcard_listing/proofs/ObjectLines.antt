@@ -3,10 +3,10 @@ use Rattle.std.proofs.Common.{◌≡◌, ℕ, ◌+◌, ◌<◌, ◌≤◌, Bool,
 use Rattle.std.specs.List.{flat_map}
 use Rattle.jc_heap.specs.Object.{Item}
 use Rattle.jc_commit.specs.Image.{top_of}
-use Rattle.jc_records.specs.Bounds.{first_record, has_bounds}
-use Rattle.jc_records.specs.Records.{are_whole, is_whole_from, item_at, items_from, record_size, standing_items}
-use Rattle.jc_records.proofs.Standing.{items_end, items_first, items_short, items_step}
-use Rattle.jcard_images.specs.Listings.{Lines}
+use Rattle.jc_objects.specs.Bounds.{first_record, has_bounds}
+use Rattle.jc_objects.specs.Records.{are_whole, is_whole_from, item_at, items_from, record_size, standing_items}
+use Rattle.jc_objects.proofs.Standing.{items_end, items_first, items_short, items_step}
+use Rattle.jcard_files.specs.Listings.{Lines}
 
 abbrev both : List ℕ → Bool → Lines
 both text readable = record { text = text; readable = readable }

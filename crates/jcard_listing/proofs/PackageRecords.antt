@@ -4,9 +4,9 @@ use Rattle.std.specs.Prelude.{nat_le, nat_lt, slice_index, unwrap_or}
 use Rattle.std.proofs.lemmas.Bool.{cases_Bool, false≢true, leb-true, ltb-true}
 use Rattle.jc_words.specs.Layout.{addresses_start, most_packages}
 use Rattle.jc_commit.specs.Image.{top_of}
-use Rattle.jc_records.specs.Bounds.{first_record}
-use Rattle.jc_records.specs.Records.{IsRecord, record_size, whole_size}
-use Rattle.jc_records.proofs.Sizes.{size_some}
+use Rattle.jc_objects.specs.Bounds.{first_record}
+use Rattle.jc_objects.specs.Records.{IsRecord, record_size, whole_size}
+use Rattle.jc_objects.proofs.Sizes.{size_some}
 use Rattle.jcard_listing.specs.Packages.{record_at, record_from, sized}
 use Rattle.jcard_listing.specs.declared.packages.Record.{Record}
 

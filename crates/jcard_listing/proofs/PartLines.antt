@@ -5,11 +5,11 @@ use Rattle.std.specs.Prelude.{nat_lt, unwrap_or}
 use Rattle.std.proofs.lemmas.Bool.{cases_lt, eq-eqb, false≢true, le-ltb, ne_eqb}
 use Rattle.std.proofs.lemmas.List.{drop-drop, drop-take, get_or-drop, get_or-take, length-drop, take_all}
 use Rattle.jc_heap.specs.Components.{part_sizes, words_for}
-use Rattle.jc_records.specs.Bounds.{has_bounds}
-use Rattle.jc_records.specs.Records.{IsRecord, are_whole_from, record_size, record_words, whole_from}
-use Rattle.jc_records.proofs.ItemWords.{length-words, word_is, words_raw}
-use Rattle.jc_records.proofs.Standing.{whole_end, whole_short, whole_step}
-use Rattle.jcard_images.specs.Listings.{Lines}
+use Rattle.jc_objects.specs.Bounds.{has_bounds}
+use Rattle.jc_objects.specs.Records.{IsRecord, are_whole_from, record_size, record_words, whole_from}
+use Rattle.jc_objects.proofs.ItemWords.{length-words, word_is, words_raw}
+use Rattle.jc_objects.proofs.Standing.{whole_end, whole_short, whole_step}
+use Rattle.jcard_files.specs.Listings.{Lines}
 use Rattle.jcard_listing.specs.Packages.{component_bytes, component_text, image_text, part_text, parts_lines}
 
 -- those of the words of a record from an offset on

@@ -5,7 +5,7 @@ use Rattle.jc_transient.specs.State.{ram_sizes}
 use Rattle.jc_transient.specs.declared.sizes.RamSizes.{RamSizes}
 use Rattle.jc_heap.specs.Image.{buffer_address, cells_address}
 use Rattle.jc_commit.specs.Image.{limit_of, top_of}
-use Rattle.jc_records.specs.Bounds.{has_bounds}
+use Rattle.jc_objects.specs.Bounds.{has_bounds}
 use Rattle.jcard_listing.specs.Texts.{labelled_text}
 
 -- how many cells the two areas have

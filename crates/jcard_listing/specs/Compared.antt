@@ -4,11 +4,11 @@ use Rattle.std.specs.List.{flat_map}
 use Rattle.jc_transient.specs.declared.cell.ClearEvent.{ClearEvent}
 use Rattle.jc_heap.specs.Object.{Item, event_number, kind_number}
 use Rattle.jc_heap.specs.declared.object.Facts.{Facts}
-use Rattle.jc_records.specs.Places.{standing_at}
-use Rattle.jc_records.specs.Records.{are_whole, standing_items}
-use Rattle.jc_records.specs.declared.places.Standing.{Standing}
-use Rattle.jc_records.specs.declared.places.Standing.TheVariants.{Object, Nothing, Unread}
-use Rattle.jcard_images.specs.Listings.{Lines, line, then_lines}
+use Rattle.jc_objects.specs.Places.{standing_at}
+use Rattle.jc_objects.specs.Records.{are_whole, standing_items}
+use Rattle.jc_objects.specs.declared.places.Standing.{Standing}
+use Rattle.jc_objects.specs.declared.places.Standing.TheVariants.{Object, Nothing, Unread}
+use Rattle.jcard_files.specs.Listings.{Lines, line, then_lines}
 use Rattle.jc_objects.specs.ClassTexts.{kind_text}
 use Rattle.jcard_listing.specs.Images.{ListedImage, cells_in, is_hidden, is_listed, object_here}
 use Rattle.jcard_listing.specs.Objects.{object_text, value_text}

@@ -1,8 +1,8 @@
 -- All that is not the same in two images.
 use Rattle.std.specs.Prelude.{ℕ, ◌≡◌, ◌⊎◌, ◌&&◌, ◌++◌, true, false, Bool, List, Some, None, Ok, Err, Result}
 use Rattle.jc_objects.specs.declared.legend.Legend.{Legend}
-use Rattle.jc_records.specs.Bounds.{has_bounds}
-use Rattle.jcard_images.specs.Listings.{Lines, line_if, then_lines}
+use Rattle.jc_objects.specs.Bounds.{has_bounds}
+use Rattle.jcard_files.specs.Listings.{Lines, line_if, then_lines}
 use Rattle.jcard_listing.specs.Areas.{areas_line}
 use Rattle.jcard_listing.specs.Compared.{heap_lines}
 use Rattle.jcard_listing.specs.Fault.{Lists}

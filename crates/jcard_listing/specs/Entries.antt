@@ -4,12 +4,12 @@ use Rattle.jc_words.specs.Image.{log_of}
 use Rattle.jc_commit.specs.Image.{address_at, capacity_of, old_at}
 use Rattle.jc_heap.specs.Object.{is_packed}
 use Rattle.jc_platform.specs.Tokens.{Tokens}
-use Rattle.jc_records.specs.Holders.{holder_in}
-use Rattle.jc_records.specs.Records.{standing_items}
-use Rattle.jc_records.specs.declared.holders.Holder.{Holder}
+use Rattle.jc_objects.specs.Holders.{holder_in}
+use Rattle.jc_objects.specs.Records.{standing_items}
+use Rattle.jc_objects.specs.declared.holders.Holder.{Holder}
 use Rattle.jc_objects.specs.Changes.{value_text}
 use Rattle.jc_objects.specs.ClassTexts.{kind_text}
-use Rattle.jcard_images.specs.Listings.{Lines, line_if}
+use Rattle.jcard_files.specs.Listings.{Lines, line_if}
 use Rattle.jcard_listing.specs.Texts.{labelled_text}
 
 -- the old value of a cell, and which it is: the object, its class, the cell

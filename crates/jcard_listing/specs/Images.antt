@@ -4,11 +4,11 @@ use Rattle.std.specs.List.{list_any}
 use Rattle.jc_words.specs.Image.{HasSize}
 use Rattle.jc_heap.specs.Object.{Item, AnObject, APackage, cells_of}
 use Rattle.jc_objects.specs.declared.legend.Legend.{Legend}
-use Rattle.jc_records.specs.Bounds.{has_bounds}
-use Rattle.jc_records.specs.Keys.{is_bytes, key_arrays}
-use Rattle.jc_records.specs.Places.{IsStanding}
-use Rattle.jc_records.specs.Records.{item_at}
-use Rattle.jc_records.specs.declared.places.Standing.TheVariants.{Object}
+use Rattle.jc_objects.specs.Bounds.{has_bounds}
+use Rattle.jc_objects.specs.Keys.{is_bytes, key_arrays}
+use Rattle.jc_objects.specs.Places.{IsStanding}
+use Rattle.jc_objects.specs.Records.{item_at}
+use Rattle.jc_objects.specs.declared.places.Standing.TheVariants.{Object}
 use Rattle.jcard_listing.specs.declared.image.PlacedObject.{PlacedObject}
 
 -- what the cells of its objects are read by, its words, the arrays whose bytes are not shown, and whether the objects of the runtime environment are listed

@@ -1,7 +1,7 @@
 -- The lines of keys.
 use Rattle.std.specs.Prelude.{ℕ, ◌==◌, ◌&&◌, ◌||◌, ◌++◌, nat_le, Bool, List, [], codes, decimal, slice_index, Option, Some, None, if◌then◌else◌}
-use Rattle.jc_records.specs.Keys.{key_at}
-use Rattle.jc_records.specs.declared.keys.KeyFacts.{KeyFacts}
+use Rattle.jc_objects.specs.Keys.{key_at}
+use Rattle.jc_objects.specs.declared.keys.KeyFacts.{KeyFacts}
 use Rattle.jcard_listing.specs.Texts.{labelled_text, reference_text}
 
 -- KeyBuilder's name of a type of keys of pairs, or its number

@@ -1,7 +1,7 @@
 pub mod Applets
 pub mod Areas
 pub mod Compared
-pub mod Comparisons
+pub mod Comparison
 pub mod Differences
 pub mod Entries
 pub mod Fault
@@ -13,5 +13,5 @@ pub mod Packages
 pub mod Pairs
 pub mod Parts
 pub mod Table
-pub mod Told
+pub mod Dump
 pub mod Texts

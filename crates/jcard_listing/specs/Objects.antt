@@ -9,7 +9,7 @@ use Rattle.jc_heap.specs.Object.{cells_of as item_cells}
 use Rattle.jc_heap.specs.declared.object.Facts.{Facts}
 use Rattle.jc_heap.specs.declared.object.Kind.{Kind}
 use Rattle.jc_heap.specs.declared.object.Kind.TheVariants.{Instance, BooleanArray, ByteArray, ShortArray, ReferenceArray}
-use Rattle.jc_cap_linkage.specs.Packages.{NamedPackage}
+use Rattle.jc_cap.specs.Packages.{NamedPackage}
 use Rattle.jc_image.specs.Listed.{NamedApplet}
 use Rattle.jc_image.specs.Listing.{applet_at, package_at}
 use Rattle.jc_platform.specs.Distinct.{class_word}
@@ -20,10 +20,10 @@ use Rattle.jc_objects.specs.Legends.{holds_reference}
 use Rattle.jc_objects.specs.declared.legend.Legend.{Legend}
 use Rattle.jc_platform.specs.declared.names.PlatformClass.{PlatformClass}
 use Rattle.jc_platform.specs.declared.names.PlatformClass.TheVariants.{Aid, OwnerPin}
-use Rattle.jc_records.specs.Records.{are_whole, standing_items}
-use Rattle.jcard_images.specs.Listings.{Lines}
+use Rattle.jc_objects.specs.Records.{are_whole, standing_items}
+use Rattle.jcard_files.specs.Listings.{Lines}
 use Rattle.jc_objects.specs.ClassTexts.{kind_text}
-use Rattle.jc_records.specs.Keys.{is_key}
+use Rattle.jc_objects.specs.Keys.{is_key}
 use Rattle.jcard_listing.specs.Images.{ListedImage, is_hidden, is_listed, object_here}
 use Rattle.jcard_listing.specs.Keys.{key_text}
 use Rattle.jcard_listing.specs.Texts.{each_text, labelled_text, reference_text, short_text}

@@ -1,15 +1,15 @@
 //! The line of the heap's end and of the ends of the areas.
 ghost use Rattle.std.specs.Prelude.{◌≡◌, ◌++◌, true, OnOk};
 ghost use Rattle.jc_words.specs.Image.{HasSize};
-ghost use Rattle.jc_records.specs.Bounds.{has_bounds};
-ghost use Rattle.jcard_images.specs.Listings.{line_if};
+ghost use Rattle.jc_objects.specs.Bounds.{has_bounds};
+ghost use Rattle.jcard_files.specs.Listings.{line_if};
 ghost use Rattle.jcard_listing.specs.Areas.{areas_line, areas_text, space_text, taken_text};
 ghost use Rattle.jcard_listing.specs.Fault.{Lists};
 
 use crate::fault::ListFault;
 use crate::texts::push_labelled;
 use jc_heap::layout::{BUFFER_WORD, CELLS_WORD};
-use jc_records::bounds::{has_bounds, heap_end};
+use jc_objects::bounds::{has_bounds, heap_end};
 use jc_transient::RamSizes;
 use jc_words::WordStore;
 use jc_words::layout::{DESELECT_END, RESET_END, TOP};

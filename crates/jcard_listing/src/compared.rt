@@ -1,8 +1,8 @@
 //! The objects of two images, compared.
 ghost use Rattle.std.specs.Prelude.{◌≡◌, ◌++◌, Some, None, IfOk, OnOk};
 ghost use Rattle.jc_heap.specs.Object.{event_number, kind_number};
-ghost use Rattle.jc_records.specs.Places.{IsPlaceFor, IsStanding};
-ghost use Rattle.jc_records.specs.Records.{IsRecord, item_at};
+ghost use Rattle.jc_objects.specs.Places.{IsPlaceFor, IsStanding};
+ghost use Rattle.jc_objects.specs.Records.{IsRecord, item_at};
 ghost use Rattle.jcard_listing.specs.Compared.{alone_text, beside_text, change_line, change_text, changes_text, compared_lines, compared_text, heap_lines, is_same, kept_text, values_text};
 ghost use Rattle.jcard_listing.specs.Fault.{Lists};
 ghost use Rattle.jcard_listing.specs.Images.{IsObjectIn};
@@ -15,7 +15,7 @@ use crate::objects::{push_object, push_value};
 use crate::pairs::{Side, listing_by, push_end};
 use crate::texts::push_labelled;
 use jc_heap::{Facts, Kind};
-use jc_records::places::Standing;
+use jc_objects::places::Standing;
 use jc_transient::ClearEvent;
 use jc_words::WordStore;
 use std::alloc::{AllocError, Global};

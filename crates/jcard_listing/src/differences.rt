@@ -1,8 +1,8 @@
 //! All that is not the same in two images.
 ghost use Rattle.std.specs.Prelude.{◌≡◌, Err, Some, true, IfOk};
 ghost use Rattle.jc_words.specs.Image.{HasSize};
-ghost use Rattle.jc_records.specs.Bounds.{has_bounds};
-ghost use Rattle.jcard_images.specs.Listings.{line_if};
+ghost use Rattle.jc_objects.specs.Bounds.{has_bounds};
+ghost use Rattle.jcard_files.specs.Listings.{line_if};
 ghost use Rattle.jcard_listing.specs.Areas.{areas_line};
 ghost use Rattle.jcard_listing.specs.Differences.{AreDifferences, AreToldTo, IsContentTold, area_lines, both_lines, content_lines, named_lines, placed_lines};
 ghost use Rattle.jcard_listing.specs.Fault.{Lists};

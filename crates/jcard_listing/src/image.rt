@@ -3,18 +3,18 @@ ghost use Rattle.std.specs.Prelude.{ℕ, ◌≡◌, ◌<◌, ◌++◌, true, len
 ghost use Rattle.jc_words.specs.Image.{HasSize};
 ghost use Rattle.jc_commit.specs.Image.{top_of};
 ghost use Rattle.jc_objects.specs.ClassTexts.{kind_text};
-ghost use Rattle.jc_records.specs.Bounds.{first_record, has_bounds};
-ghost use Rattle.jc_records.specs.Places.{IsPlaceFor, IsStanding, standing_at};
-ghost use Rattle.jc_records.specs.Records.{IsRecord, item_at, whole_size};
+ghost use Rattle.jc_objects.specs.Bounds.{first_record, has_bounds};
+ghost use Rattle.jc_objects.specs.Places.{IsPlaceFor, IsStanding, standing_at};
+ghost use Rattle.jc_objects.specs.Records.{IsRecord, item_at, whole_size};
 ghost use Rattle.jcard_listing.specs.Images.{IsObjectIn, cells_in, hiding, image_of, is_hidden, is_listed, keys_in, object_here};
 
 use jc_heap::{Facts, Kind};
+use jc_objects::bounds::first_record;
 use jc_objects::class_texts::push_kind;
+use jc_objects::keys::key_arrays;
 use jc_objects::legend::Legend;
-use jc_records::bounds::first_record;
-use jc_records::keys::key_arrays;
-use jc_records::places::{Standing, first_place, standing_from};
-use jc_records::records::{cell_of, object_at, whole_size};
+use jc_objects::places::{Standing, first_place, standing_from};
+use jc_objects::records::{cell_of, object_at, whole_size};
 use jc_words::WordStore;
 use jc_words::layout::TOP;
 use std::alloc::{AllocError, Global};

@@ -6,7 +6,7 @@ ghost use Rattle.jcard_listing.specs.Keys.{found_text, is_pair_type, key_text, p
 use crate::image::{Image, PlacedObject};
 use crate::texts::{push_labelled, push_reference};
 use jc_objects::class_texts::push_number;
-use jc_records::keys::{KeyFacts, key_at};
+use jc_objects::keys::{KeyFacts, key_at};
 use jc_words::WordStore;
 use std::alloc::AllocError;
 

@@ -1,7 +1,7 @@
 //! All that is listed of an image.
 ghost use Rattle.std.specs.Prelude.{◌≡◌, true, IfOk};
 ghost use Rattle.jc_words.specs.Image.{HasSize};
-ghost use Rattle.jc_records.specs.Bounds.{has_bounds};
+ghost use Rattle.jc_objects.specs.Bounds.{has_bounds};
 ghost use Rattle.jcard_listing.specs.Fault.{Lists};
 ghost use Rattle.jcard_listing.specs.Listing.{IsListed, IsListing, image_lines, shown_lines, tables_lines};
 

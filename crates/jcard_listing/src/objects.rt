@@ -1,7 +1,7 @@
 //! The lines of the objects.
 ghost use Rattle.std.specs.Prelude.{◌≡◌, ◌<◌, ◌≤◌, ◌++◌, None, true, length, IfSome, OnOk};
 ghost use Rattle.jc_words.specs.Layout.{text_start};
-ghost use Rattle.jc_records.specs.Records.{IsRecord, item_at};
+ghost use Rattle.jc_objects.specs.Records.{IsRecord, item_at};
 ghost use Rattle.jcard_listing.specs.Fault.{Lists};
 ghost use Rattle.jcard_listing.specs.Images.{IsObjectIn, cells_in};
 ghost use Rattle.jcard_listing.specs.Objects.{aid_length, aid_text, applet_name, area_text, byte_text, cell_text, cells_text, contents_text, engine_text, field_text, header_text, is_aid, is_engine, is_engine_class, is_pin, item_text, keyed_engine_text, object_text, objects_lines, owner_text, package_name, pin_text, rest_text, value_text};
@@ -13,9 +13,9 @@ use crate::texts::{push_hex, push_labelled, push_reference, push_short};
 use jc_heap::{Facts, Kind};
 use jc_image::{AppletName, PackageName, applet_at, package_at};
 use jc_objects::class_texts::push_number;
+use jc_objects::keys::is_key;
 use jc_objects::legend::Legend;
 use jc_platform::names::PlatformClass;
-use jc_records::keys::is_key;
 use jc_transient::{ClearEvent, OwnerWord};
 use jc_words::WordStore;
 use std::alloc::AllocError;

@@ -2,17 +2,17 @@
 ghost use Rattle.std.specs.Prelude.{◌≡◌, ◌<◌, ◌≤◌, ◌+◌, ◌++◌, true, drop, length, slice_index, take, OnOk};
 ghost use Rattle.jc_words.specs.Layout.{packages_address};
 ghost use Rattle.jc_heap.specs.Components.{words_for};
-ghost use Rattle.jc_records.specs.Bounds.{has_bounds};
-ghost use Rattle.jc_records.specs.Records.{IsRecord, record_size, record_words};
+ghost use Rattle.jc_objects.specs.Bounds.{has_bounds};
+ghost use Rattle.jc_objects.specs.Records.{IsRecord, record_size, record_words};
 ghost use Rattle.jcard_listing.specs.Fault.{Lists, each_line};
 ghost use Rattle.jcard_listing.specs.Packages.{component_bytes, component_text, head_text, image_text, package_lines, parts_lines, record_at, record_from, record_lines, static_text};
 
 use crate::fault::ListFault;
 use crate::texts::{push_labelled, push_reference, push_word};
+use jc_objects::bounds::first_record;
 use jc_objects::class_texts::push_number;
 use jc_objects::legend::Legend;
-use jc_records::bounds::first_record;
-use jc_records::records::whole_size;
+use jc_objects::records::whole_size;
 use jc_words::WordStore;
 use jc_words::layout::{ADDRESSES, MOST_PACKAGES, PACKAGES, TOP};
 use std::alloc::AllocError;

@@ -2,7 +2,7 @@
 ghost use Rattle.std.specs.Prelude.{◌≡◌, ◌+◌, ◌<◌, ◌/◌, IfOk, true, length};
 ghost use Rattle.jc_words.specs.Layout.{text_start};
 ghost use Rattle.jc_heap.specs.Image.{table_text, text_byte};
-ghost use Rattle.jc_records.specs.Bounds.{has_bounds};
+ghost use Rattle.jc_objects.specs.Bounds.{has_bounds};
 ghost use Rattle.jcard_listing.specs.Table.{IsLegendFor, IsPlatformIn, IsPlatformOf};
 
 use crate::fault::ListFault;

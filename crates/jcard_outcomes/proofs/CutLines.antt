@@ -6,7 +6,7 @@ use Rattle.std.specs.List.{All}
 use Rattle.std.proofs.lemmas.Bool.{cases_lt}
 use Rattle.std.proofs.lemmas.List.{length-map, map-append, take-append-drop, take_more}
 use Rattle.std.proofs.lemmas.List.Elements.{All-push}
-use Rattle.jcard_outcomes.specs.Joins.{AreTold, IsBadLine, IsUncutTold, TellCuts}
+use Rattle.jcard_outcomes.specs.Join.{AreTold, IsBadLine, IsUncutTold, TellCuts}
 use Rattle.jcard_outcomes.specs.Parts.{IsCutOfWords, IsReadCut, has, told_cut}
 use Rattle.jcard_outcomes.specs.declared.standing.Cut.{Cut}
 use Rattle.jcard_outcomes.proofs.Dealt.{from_next}

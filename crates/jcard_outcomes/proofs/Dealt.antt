@@ -5,7 +5,7 @@ use Rattle.std.proofs.lemmas.Bool.{cases_lt, eq-eqb, false≢true, ne_eqb, eqb-t
 use Rattle.std.proofs.lemmas.List.{append_cancel_left, drop_all, get_or-set_other, get_or-set_same, length-append, length-set, take_all, take_more}
 use Rattle.std.proofs.lemmas.List.Elements.{All-nil, All-push}
 use Rattle.std.proofs.Math.Nat.{mod-lt}
-use Rattle.jcard_outcomes.specs.Joins.{AreOrdered}
+use Rattle.jcard_outcomes.specs.Join.{AreOrdered}
 use Rattle.jcard_outcomes.specs.Parts.{dealt, has, line_start, line_text, numbered}
 use Rattle.jcard_outcomes.proofs.Splits.{cut_unique}
 

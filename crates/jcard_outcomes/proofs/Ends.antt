@@ -4,7 +4,7 @@ use Rattle.std.specs.Prelude.{map}
 use Rattle.std.specs.Borrow.{Bor}
 use Rattle.std.specs.Str.{bytes_eq}
 use Rattle.std.proofs.lemmas.List.{get_or-drop, get_or-map, get_or-replicate, length-drop, length-map, length-replicate, map-append, take_all, take_more, replicate_more}
-use Rattle.jcard_outcomes.specs.Joins.{IsNoEnd}
+use Rattle.jcard_outcomes.specs.Join.{IsNoEnd}
 use Rattle.jcard_outcomes.specs.declared.join_fault.JoinFault.TheVariants.{Missing, OtherSweep}
 use Rattle.jcard_outcomes.proofs.Splits.{other, same}
 

@@ -4,8 +4,8 @@ use Rattle.std.specs.Prelude.{map, IfOk, MatchResult}
 use Rattle.std.specs.List.{All}
 use Rattle.std.proofs.lemmas.List.{get_or-drop, get_or-replicate, length-append, length-drop, length-map, length-replicate}
 use Rattle.std.proofs.lemmas.List.Elements.{All-append, All-cons, All-head, All-nil, All-replicate, All-tail}
-use Rattle.jcard_outcomes.specs.Joins.{AreBodiesInOrder, AreJoinedInOrder, AreOrdered, AreTold, IsAnswerTold, IsJoinOf, IsJoinOfCuts, IsLinesFault, IsNoCut, IsNoEnd, IsNoReport}
-use Rattle.jcard_outcomes.specs.Joins.{IsReportOf, IsTellable, IsUncutTold, IsUnjoined, TellCuts}
+use Rattle.jcard_outcomes.specs.Join.{AreBodiesInOrder, AreJoinedInOrder, AreOrdered, AreTold, IsAnswerTold, IsJoinOf, IsJoinOfCuts, IsLinesFault, IsNoCut, IsNoEnd, IsNoReport}
+use Rattle.jcard_outcomes.specs.Join.{IsReportOf, IsTellable, IsUncutTold, IsUnjoined, TellCuts}
 use Rattle.jcard_outcomes.specs.Parts.{AreDealt, IsCutOfWords, has, told_cut, told_sweep, told_uncut}
 use Rattle.jcard_outcomes.specs.Reports.{are_whole, in_line, report_text}
 use Rattle.jcard_outcomes.specs.declared.join_fault.JoinFault.{JoinFault}

@@ -6,7 +6,7 @@ use Rattle.std.specs.List.{All}
 use Rattle.std.specs.Str.{bytes_eq}
 use Rattle.std.proofs.lemmas.List.{append_cancel_left, length-drop, length-map, length-replicate}
 use Rattle.std.proofs.lemmas.List.Elements.{All-cons, All-head, All-nil, All-tail}
-use Rattle.jcard_outcomes.specs.Joins.{IsAnswerTold, IsTellable, IsUncutTold, TellCuts, joined_text}
+use Rattle.jcard_outcomes.specs.Join.{IsAnswerTold, IsTellable, IsUncutTold, TellCuts, joined_text}
 use Rattle.jcard_outcomes.specs.Parts.{IsCutOfWords, IsOfWords, IsReadCut, cut_tail, has, told_cut, told_left, told_sweep, told_uncut}
 use Rattle.jcard_outcomes.specs.Reports.{any_but_tries, are_whole, broken_by_calls, broken_text, count_before, first_broken, in_line, is_after, is_before, is_but_tries, is_by_calls, is_refused, is_refused_at_once, lost_text, most_lost_from, no_write_text, outcome_text, report_text, row_text, rows_from, rows_text, standing_text, uncut_text, verdict_by, verdict_text, whole_text}
 use Rattle.jcard_outcomes.specs.Recoveries.{difference_or, first_difference, recoveries_by, recoveries_text, same_text, ways_from}

@@ -5,7 +5,7 @@ use Rattle.std.specs.Borrow.{Bor}
 use Rattle.std.specs.List.{All}
 use Rattle.std.proofs.lemmas.List.{get_or-map}
 use Rattle.std.proofs.Math.Nat.{mod-lt}
-use Rattle.jcard_outcomes.specs.Joins.{AreOrdered, IsHeadFault, IsNextFault, IsNextLine, IsReadTo}
+use Rattle.jcard_outcomes.specs.Join.{AreOrdered, IsHeadFault, IsNextFault, IsNextLine, IsReadTo}
 use Rattle.jcard_outcomes.specs.Parts.{line_text}
 use Rattle.jcard_outcomes.specs.declared.join_fault.JoinFault.{JoinFault}
 use Rattle.jcard_outcomes.specs.declared.join_fault.JoinFault.TheVariants.{BadLine, Missing, NoMemory, OtherSweep, Twice}

@@ -6,9 +6,9 @@ use Rattle.std.proofs.Math.Seq.{get_or-append_seam}
 use Rattle.std.proofs.lemmas.Bool.{cases_lt}
 use Rattle.std.proofs.lemmas.Fmt.{decimal_injective}
 use Rattle.std.proofs.lemmas.List.{append_cancel_left, get_or_append_left, length-append}
-use Rattle.jcard_outcomes.specs.Joins.{AreBodiesInOrder, AreBodiesOf, AreJoined, AreJoinedInOrder, IsJoinFault, IsPartOf, IsUnjoined}
+use Rattle.jcard_outcomes.specs.Join.{AreBodiesInOrder, AreBodiesOf, AreJoined, AreJoinedInOrder, IsJoinFault, IsPartOf, IsUnjoined}
 use Rattle.jcard_outcomes.specs.declared.join.Joined.{Joined}
-use Rattle.jcard_outcomes.specs.Orders.{AreInOrder, ArePlaces, AreUnplaced, BeginsAt, IsOnlyAt, IsUnplaced}
+use Rattle.jcard_outcomes.specs.Order.{AreInOrder, ArePlaces, AreUnplaced, BeginsAt, IsOnlyAt, IsUnplaced}
 use Rattle.jcard_outcomes.specs.Parts.{body_text, cut_label, line_start, numbered, lines_text, told_cut, told_uncut}
 use Rattle.jcard_outcomes.specs.declared.join_fault.JoinFault.{JoinFault}
 use Rattle.jcard_outcomes.specs.declared.join_fault.JoinFault.TheVariants.{BadLine, Missing, NoMemory, OtherSweep, Twice}

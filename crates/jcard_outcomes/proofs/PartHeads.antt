@@ -5,10 +5,10 @@ use Rattle.std.specs.Borrow.{Bor}
 use Rattle.std.proofs.Math.Seq.{get_or-append_seam}
 use Rattle.std.proofs.lemmas.Bool.{cases_lt}
 use Rattle.std.proofs.lemmas.List.{append_cancel_left, get_or-map, get_or_append_left}
-use Rattle.jcard_outcomes.specs.Joins.{AreBodiesOf, ArePartsOf, IsPartOf}
-use Rattle.jcard_outcomes.specs.Orders.{ArePlaces}
+use Rattle.jcard_outcomes.specs.Join.{AreBodiesOf, ArePartsOf, IsPartOf}
+use Rattle.jcard_outcomes.specs.Order.{ArePlaces}
 use Rattle.jcard_outcomes.specs.Parts.{body_text, has, head_text, part_text}
-use Rattle.jcard_outcomes.specs.SweepHeads.{AreBehindHeads, AreOfOthers, IsBehindHead, IsOfOther}
+use Rattle.jcard_outcomes.specs.SweepHead.{AreBehindHeads, AreOfOthers, IsBehindHead, IsOfOther}
 use Rattle.jcard_outcomes.specs.declared.part.Part.{Part}
 use Rattle.jcard_outcomes.specs.declared.report.Sweep.{Sweep}
 use Rattle.jcard_outcomes.specs.declared.sweep_head.HeadFault.{HeadFault}

@@ -4,7 +4,7 @@ use Rattle.std.specs.Prelude.{slice_get}
 use Rattle.std.proofs.lemmas.Bool.{cases_lt}
 use Rattle.std.proofs.lemmas.List.{drop_all}
 use Rattle.std.proofs.Math.Nat.{mod-lt, mod-eq_of_lt, mod_self, suc-mod, suc-mul}
-use Rattle.jcard_outcomes.specs.Joins.{AreBodiesInOrder, IsEvery}
+use Rattle.jcard_outcomes.specs.Join.{AreBodiesInOrder, IsEvery}
 use Rattle.jcard_outcomes.specs.Parts.{AreDealt, dealt, line_text, lines_text, told_cut, told_sweep, told_uncut}
 use Rattle.jcard_outcomes.specs.declared.report.Sweep.{Sweep}
 use Rattle.jcard_outcomes.specs.declared.standing.Cut.{Cut}

@@ -4,7 +4,7 @@ use Rattle.std.specs.Prelude.{map, slice_get}
 use Rattle.std.specs.List.{All}
 use Rattle.std.proofs.lemmas.List.{get_or-replicate, length-append, length-map, length-replicate}
 use Rattle.std.proofs.lemmas.List.Elements.{All-head, All-tail}
-use Rattle.jcard_outcomes.specs.Joins.{AreTold, IsUncutTold}
+use Rattle.jcard_outcomes.specs.Join.{AreTold, IsUncutTold}
 use Rattle.jcard_outcomes.specs.Parts.{IsCutOfWords, cut_tail, is_one_way, told_cut, told_left, told_sweep}
 use Rattle.jcard_outcomes.specs.Reports.{in_line, standing_text}
 use Rattle.jcard_outcomes.specs.declared.standing.Cut.{Cut}

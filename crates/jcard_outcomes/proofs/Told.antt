@@ -4,7 +4,7 @@ use Rattle.std.specs.Prelude.{MatchOption}
 use Rattle.std.proofs.lemmas.Bool.{false≢true}
 use Rattle.std.proofs.lemmas.List.{append_cancel_right, length-append}
 use Rattle.std.proofs.lemmas.List.Folds.{list_any-append}
-use Rattle.jcard_outcomes.specs.Joins.{IsAnswerTold}
+use Rattle.jcard_outcomes.specs.Join.{IsAnswerTold}
 use Rattle.jcard_outcomes.specs.Parts.{AreWords, IsLeftOfWords, IsOfWords, cut_tail, has, told_left, told_uncut}
 use Rattle.jcard_outcomes.specs.Reports.{changed_text, in_line, is_by_calls, standing_text}
 use Rattle.jcard_outcomes.specs.declared.heaps.Difference.{Difference}

@@ -1,7 +1,7 @@
 -- Shares of the commands of a script: what the text of each says, and what all of them say together.
 use Rattle.std.specs.Prelude.{ℕ, ◌≡◌, ◌⊎◌, ◌+◌, ◌<◌, ◌&&◌, Bool, true, false, List, [], ◌∷◌, ◌++◌, codes, decimal, length}
 use Rattle.std.specs.List.{slice_index_or}
-use Rattle.jcard_outcomes.specs.Orders.{AreInOrder, AreUnplaced}
+use Rattle.jcard_outcomes.specs.Order.{AreInOrder, AreUnplaced}
 use Rattle.jcard_outcomes.specs.Parts.{numbered}
 use Rattle.jcard_outcomes.specs.declared.join_fault.JoinFault.{JoinFault}
 use Rattle.jcard_outcomes.specs.declared.join_fault.JoinFault.TheVariants.{BadLine, Missing, NoMemory}

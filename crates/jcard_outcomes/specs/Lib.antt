@@ -1,11 +1,11 @@
 pub mod Heaps
-pub mod Standings
+pub mod Standing
 pub mod Recoveries
 pub mod Reports
 pub mod Models
-pub mod Orders
+pub mod Order
 pub mod Parts
-pub mod Joins
-pub mod SweepHeads
+pub mod Join
+pub mod SweepHead
 pub mod CommandShares
-pub mod SweepKinds
+pub mod SweepKind

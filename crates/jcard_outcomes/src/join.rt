@@ -2,8 +2,8 @@
 ghost use Rattle.std.specs.Prelude.{◌≡◌, ◌++◌, ◌∷◌, ◌<◌, ◌≤◌, ◌↔◌, [], ℕ, List, All, map, drop, replicate, false, length, slice_index_or, IsTrue, IfOk, IfErr, OnOk, MatchOption, MatchResult};
 ghost use Rattle.std.specs.Bool.{MatchBool};
 ghost use Rattle.std.specs.Borrow.{Bor};
-ghost use Rattle.jcard_outcomes.specs.Joins.{AreBodiesInOrder, AreBodiesOf, AreJoined, AreJoinedInOrder, AreOrdered, AreTold, IsAnswerTold, IsHeadFault};
-ghost use Rattle.jcard_outcomes.specs.Joins.{IsJoinFault, IsJoinOf, IsJoinOfCuts, IsNextFault, IsNextLine, IsNoCut, IsNoEnd, IsNoReport, IsReportOf, IsTellable, IsUncutTold, IsUnjoined, TellCuts, joined_text};
+ghost use Rattle.jcard_outcomes.specs.Join.{AreBodiesInOrder, AreBodiesOf, AreJoined, AreJoinedInOrder, AreOrdered, AreTold, IsAnswerTold, IsHeadFault};
+ghost use Rattle.jcard_outcomes.specs.Join.{IsJoinFault, IsJoinOf, IsJoinOfCuts, IsNextFault, IsNextLine, IsNoCut, IsNoEnd, IsNoReport, IsReportOf, IsTellable, IsUncutTold, IsUnjoined, TellCuts, joined_text};
 ghost use Rattle.jcard_outcomes.specs.Parts.{has, line_start, told_cut};
 ghost use Rattle.jcard_outcomes.specs.Reports.{are_whole, report_text};
 ghost use Rattle.jcard_outcomes.specs.declared.report.Sweep.{Sweep as ASweep};

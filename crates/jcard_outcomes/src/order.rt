@@ -2,7 +2,7 @@
 ghost use Rattle.std.specs.Prelude.{◌≡◌, ◌++◌, ◌∷◌, ◌<◌, ◌≤◌, ◌^◌, [], ℕ, List, map, length, slice_index_or, IfErr, IfOk, MatchOption, MatchResult, OnOk};
 ghost use Rattle.std.specs.Bool.{MatchBool};
 ghost use Rattle.std.specs.Borrow.{Bor};
-ghost use Rattle.jcard_outcomes.specs.Orders.{AreInOrder, AreUnplaced, IsOnlyAt, IsUnplaced};
+ghost use Rattle.jcard_outcomes.specs.Order.{AreInOrder, AreUnplaced, IsOnlyAt, IsUnplaced};
 
 use crate::join_fault::JoinFault;
 use crate::line::after;

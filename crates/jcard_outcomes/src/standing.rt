@@ -2,7 +2,7 @@
 ghost use Rattle.std.specs.Prelude.{◌≡◌, IsTrue, IsSome, MatchOption};
 ghost use Rattle.std.specs.Bool.{MatchBool};
 ghost use Rattle.jcard_outcomes.specs.Heaps.{AgreeAtSpared, IsDifference, StandsAsBefore};
-ghost use Rattle.jcard_outcomes.specs.Standings.{IsJudged, IsLikeness, IsStanding, lost_of, told_of_calls};
+ghost use Rattle.jcard_outcomes.specs.Standing.{IsJudged, IsLikeness, IsStanding, lost_of, told_of_calls};
 
 use crate::heaps::{
     Difference, agree_at_spared, are_equal, changed_since, is_as_after, words_above,

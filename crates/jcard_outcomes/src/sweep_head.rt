@@ -2,7 +2,7 @@
 ghost use Rattle.std.specs.Prelude.{◌≡◌, ◌++◌, ◌∷◌, ◌<◌, [], ℕ, List, map, false, length, IfErr, MatchOption, MatchResult, OnOk};
 ghost use Rattle.std.specs.Borrow.{Bor};
 ghost use Rattle.std.specs.List.{slice_index_or};
-ghost use Rattle.jcard_outcomes.specs.SweepHeads.{AreBehindHeads, AreOfOthers, IsBehindHead};
+ghost use Rattle.jcard_outcomes.specs.SweepHead.{AreBehindHeads, AreOfOthers, IsBehindHead};
 ghost use Rattle.jcard_outcomes.specs.Parts.{has, head_text};
 ghost use Rattle.jcard_outcomes.specs.declared.sweep_head.HeadFault.TheVariants.{NoMemory};
 

@@ -1,6 +1,6 @@
 //! What the name of a sweep says after its checksum.
 ghost use Rattle.std.specs.Prelude.{◌≡◌, ◌++◌, drop, OnOk};
-ghost use Rattle.jcard_outcomes.specs.SweepKinds.{kind_of, mark_of, marked};
+ghost use Rattle.jcard_outcomes.specs.SweepKind.{kind_of, mark_of, marked};
 
 use crate::recoveries::Depth;
 use crate::rows::is_same;

@@ -2,7 +2,7 @@
 use Rattle.std.proofs.Common.{◌≡◌, ℕ, ◌+◌, List, [], ◌∷◌, ◌++◌, length, refl, sym, ◌∙◌, ap, subst, append_assoc, append-nil}
 use Rattle.jcard_script.specs.Texts.{IsCutOf}
 use Rattle.jc_card.specs.declared.power_up.PowerFault.{PowerFault}
-use Rattle.jc_session.specs.Requests.{Reset}
+use Rattle.jc_card.specs.Requests.{Reset}
 use Rattle.jcard_script.specs.ScriptStates.{ScriptState, FailsReset}
 use Rattle.jcard_script.specs.Script.{Bad, Asks, form_of, IsWrittenFor, AreCarriedOut, FailsAtBadLine, FailsAtReset, EndsInsideLine}
 

@@ -13,8 +13,8 @@ use Rattle.jc_heap.specs.Stored.{HoldsHeap}
 use Rattle.jc_memory.specs.Programs.{Executes}
 use Rattle.jc_card.specs.Answers.{after_exchange, answered, exchange}
 use Rattle.jc_card.specs.CardState.{CardState}
-use Rattle.jc_session.specs.Power.{Up, Off, armed_card}
-use Rattle.jc_session.specs.Requests.{Armed, ArmFuse, Down, Response}
+use Rattle.jc_card.specs.Power.{Up, Off, armed_card}
+use Rattle.jc_card.specs.Requests.{Armed, ArmFuse, Down, Response}
 use Rattle.jcard_script.specs.Begun.{AnswersLeaving, EndsLeaving, ForEachAlike, HasBegun, IsCommandLine, IsStopLine, LeavesCut}
 use Rattle.jcard_script.specs.Script.{AreCarriedOut, Asks, EndsWithin, IsWrittenFor, armed_text, ended_lines, form_of, text_of_reply}
 use Rattle.jcard_script.specs.ScriptStates.{IsStoreOf, ScriptState, with_fuse}

@@ -4,9 +4,9 @@ use Rattle.jc_words.specs.Stores.{FuseStoreValue}
 use Rattle.jc_card.specs.CardState.{CardState}
 use Rattle.jc_card.specs.PoweringUp.{IsPoweredOver, PowerUpFails}
 use Rattle.jc_card.specs.declared.power_up.PowerFault.{PowerFault as Fault}
-use Rattle.jc_session.specs.SessionStates.{answer_of_power_up}
-use Rattle.jc_session.specs.Power.{Up, Off}
-use Rattle.jc_session.specs.Serving.{AnswersResetOver}
+use Rattle.jc_card.specs.SessionStates.{answer_of_power_up}
+use Rattle.jc_card.specs.Power.{Up, Off}
+use Rattle.jc_card.specs.Serving.{AnswersResetOver}
 use Rattle.jcard_script.specs.ScriptStates.{FailsOver, FailsUp, IsReset, IsSessionStore, PowersUp, ScriptState, fuse_kind, with_power}
 
 module _ (before mid : FuseStoreValue) (is : mid ≡ with_power before) where

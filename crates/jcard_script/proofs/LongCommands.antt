@@ -12,9 +12,9 @@ use Rattle.jc_memory.specs.Programs.{Completes, TearLeaves}
 use Rattle.jc_card.specs.CardState.{CardState}
 use Rattle.jc_card.specs.Answers.{exchange, exchange_of_apdu}
 use Rattle.jc_card.specs.Dispatching.{with_response}
-use Rattle.jc_session.specs.Power.{Up, Off}
-use Rattle.jc_session.specs.Requests.{Command, Reply, Response, Down}
-use Rattle.jc_session.specs.Serving.{AnswersCommandOver}
+use Rattle.jc_card.specs.Power.{Up, Off}
+use Rattle.jc_card.specs.Requests.{Command, Reply, Response, Down}
+use Rattle.jc_card.specs.Serving.{AnswersCommandOver}
 use Rattle.jcard_script.specs.Line.{IsCommandOf}
 use Rattle.jcard_script.specs.Script.{IsAnswered, IsWrittenFor, form_of}
 use Rattle.jcard_script.specs.ScriptStates.{ScriptState, IsStoreLeft, fuse_kind}

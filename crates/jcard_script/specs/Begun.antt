@@ -4,10 +4,10 @@ use Rattle.std.specs.Str.Lines.{strip_carriage_return}
 use Rattle.jc_words.specs.Stores.{FuseStoreValue}
 use Rattle.jc_commit.specs.Image.{IsGoodLog, recovered_of}
 use Rattle.jc_card.specs.CardState.{CardState}
-use Rattle.jc_session.specs.Power.{Up, planned_card}
-use Rattle.jc_session.specs.Requests.{ArmFuse, PlanFault, Reply, Response}
-use Rattle.jc_session.specs.declared.planned_fault.PlannedFault.{PlannedFault}
-use Rattle.jc_session.specs.Serving.{AnswersCommandOver}
+use Rattle.jc_card.specs.Power.{Up, planned_card}
+use Rattle.jc_card.specs.Requests.{ArmFuse, PlanFault, Reply, Response}
+use Rattle.jc_card.specs.declared.planned_fault.PlannedFault.{PlannedFault}
+use Rattle.jc_card.specs.Serving.{AnswersCommandOver}
 use Rattle.jcard_script.specs.Line.{IsCommandOf}
 use Rattle.jcard_script.specs.Script.{AreCarriedOut, Asks, EndsFrom, EndsWithin, ended_lines, form_of}
 use Rattle.jcard_script.specs.ScriptStates.{PowersUp, ScriptState, IsSessionStore, fuse_kind}

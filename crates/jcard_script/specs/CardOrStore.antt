@@ -3,7 +3,7 @@ use Rattle.std.specs.Prelude.{◌≡◌, [], true, false, Option, Some, None}
 use Rattle.jc_card.specs.Dispatching.{usual_budget}
 use Rattle.jc_words.specs.Refusals.{no_refusals}
 use Rattle.jc_words.specs.Stores.{FuseStoreValue}
-use Rattle.jc_session.specs.Power.{Up, Off}
+use Rattle.jc_card.specs.Power.{Up, Off}
 use Rattle.jcard_script.specs.ScriptStates.{ScriptState}
 use Rattle.jcard_script.specs.declared.card_or_store.CardOrStore.{CardOrStore}
 use Rattle.jcard_script.specs.declared.card_or_store.CardOrStore.TheVariants.{Card, Store}

@@ -7,4 +7,4 @@ pub mod Session
 pub mod ScriptStates
 pub mod Texts
 pub mod Word
-pub mod RefusedLines
+pub mod RefusedLine

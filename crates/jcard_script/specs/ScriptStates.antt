@@ -11,8 +11,8 @@ use Rattle.jc_card.specs.CardState.{selected_aid}
 use Rattle.jc_card.specs.PoweringUp.{IsPoweredOver, PowerUpFails}
 use Rattle.jc_card.specs.declared.power_up.PowerFault.{PowerFault as Fault}
 use Rattle.jc_card.specs.declared.power_up.PowerFault.TheVariants.{StoreDown}
-use Rattle.jc_session.specs.Power.{PowerOver, Up, Off, budget_of}
-use Rattle.jc_session.specs.Serving.{StoreKind}
+use Rattle.jc_card.specs.Power.{PowerOver, Up, Off, budget_of}
+use Rattle.jc_card.specs.Serving.{StoreKind}
 
 -- a session that keeps the store of a card that is off as it is
 abbrev pub ScriptState : Type 0

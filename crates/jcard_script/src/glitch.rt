@@ -6,8 +6,8 @@ ghost use Rattle.jcard_script.specs.Line.{IsAsked};
 ghost use Rattle.jcard_script.specs.Script.{fault_named, faults_named, first_length, first_space, glitch_form_of, is_instruction_number, model_named, model_word, second_named};
 
 use crate::line::LineRequest;
+use jc_card::planned_fault::{PlannedFault, SecondFault};
 use jc_interp::attacks::FaultModel;
-use jc_session::planned_fault::{PlannedFault, SecondFault};
 
 /// How many bytes the word for a model has, with the space before it.
 const MODEL: usize = 5;

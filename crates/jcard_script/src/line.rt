@@ -10,7 +10,7 @@ ghost use Rattle.jcard_script.specs.Word.{IsWordOf};
 use crate::line_text::LineText;
 use crate::word::Word;
 use arrayvec::ArrayVec;
-use jc_session::planned_fault::PlannedFault;
+use jc_card::planned_fault::PlannedFault;
 
 /// The most digits of a line that are kept: two more than the longest command has.
 const DIGITS: usize = 131_090;

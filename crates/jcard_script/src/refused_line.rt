@@ -1,7 +1,7 @@
 //! Why a line of a script has no form.
 ghost use Rattle.std.specs.Prelude.{◌≡◌, ◌≢◌, ◌<◌, not, length, IfSome, MatchOption};
 ghost use Rattle.std.specs.List.{position};
-ghost use Rattle.jcard_script.specs.RefusedLines.{fault_at, fault_of, is_of_command};
+ghost use Rattle.jcard_script.specs.RefusedLine.{fault_at, fault_of, is_of_command};
 ghost use Rattle.jcard_script.specs.Script.{Bad, form_of};
 
 use crate::line::{Line, LineRequest};

@@ -10,9 +10,9 @@ ghost use Rattle.jcard_script.specs.Reply.{text_for_line};
 use crate::glitch::model_word;
 use crate::streams::{TextOut, WriteFailed, write_all, write_parts};
 use itoa::Buffer;
+use jc_card::planned_fault::{PlannedFault, SecondFault};
 use jc_card::response::Response;
 use jc_interp::attacks::FaultModel;
-use jc_session::planned_fault::{PlannedFault, SecondFault};
 
 /// What is to be written for a line.
 #[derive(Clone, Copy, Drop)]

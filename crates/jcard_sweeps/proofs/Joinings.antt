@@ -10,22 +10,22 @@ use Rattle.jcard_attack.specs.Reports.{any_accepted}
 use Rattle.jcard_attack.specs.Reports as attacks
 use Rattle.jcard_attack.specs.declared.joining.JoinedAttack.{JoinedAttack}
 use Rattle.jcard_attack.specs.declared.outcomes.AttackSweep.{AttackSweep}
-use Rattle.jcard_outcomes.specs.Joins.{AreBodiesOf, AreJoined, IsJoinFault, IsTellable}
+use Rattle.jcard_outcomes.specs.Join.{AreBodiesOf, AreJoined, IsJoinFault, IsTellable}
 use Rattle.jcard_outcomes.specs.Reports.{are_whole, report_text}
-use Rattle.jcard_outcomes.specs.SweepKinds.{kind_of}
+use Rattle.jcard_outcomes.specs.SweepKind.{kind_of}
 use Rattle.jcard_outcomes.specs.declared.recoveries.Depth.{Depth}
 use Rattle.jcard_outcomes.specs.declared.join_fault.JoinFault.{JoinFault}
 use Rattle.jcard_outcomes.specs.declared.join_fault.JoinFault.TheVariants as joining
 use Rattle.jcard_outcomes.specs.declared.join.Joined.{Joined}
 use Rattle.jcard_outcomes.specs.declared.report.Sweep.{Sweep}
-use Rattle.jcard_outcomes.specs.SweepHeads.{AreBehindHeads, AreOfOthers}
+use Rattle.jcard_outcomes.specs.SweepHead.{AreBehindHeads, AreOfOthers}
 use Rattle.jcard_outcomes.specs.declared.sweep_head.HeadFault.{HeadFault}
 use Rattle.jcard_outcomes.specs.declared.sweep_head.HeadFault.TheVariants as heading
 use Rattle.jcard_outcomes.proofs.PartHeads.{bodies_of_parts, name_of_parts, parts_of_one}
 use Rattle.jcard_script.specs.Texts.{IsCutOf}
 use Rattle.jcard_files.specs.FileDeeds.{FileDeed}
-use Rattle.jcard_sweeps.specs.Joinings.{AreBodiesJoinedTo, AreFirstRead, AreJoinedAs, AreJoinedBy, AreLinesJoinedTo, AreNamedJoined, AreRead, AreUnread, IsJoinTold, IsJoinedTo, IsJoining, IsOtherTold, IsReported, told_join_fault, told_share_fault}
-use Rattle.jcard_files.specs.Readings.{IsScriptRead}
+use Rattle.jcard_sweeps.specs.Joining.{AreBodiesJoinedTo, AreFirstRead, AreJoinedAs, AreJoinedBy, AreLinesJoinedTo, AreNamedJoined, AreRead, AreUnread, IsJoinTold, IsJoinedTo, IsJoining, IsOtherTold, IsReported, told_join_fault, told_share_fault}
+use Rattle.jcard_files.specs.Reading.{IsScriptRead}
 use Rattle.jcard_sweeps.specs.Writings.{IsAttackTold}
 use Rattle.jcard_files.specs.declared.fault.Fault.{Fault}
 use Rattle.jcard_files.specs.declared.fault.Fault.TheVariants.{NoMemory, NotAllOrNothing, WriteFailed}

@@ -1,9 +1,9 @@
-pub mod Attackings
-pub mod Cuttings
-pub mod Joinings
+pub mod Attacking
+pub mod Cutting
+pub mod Joining
 pub mod SweepsAsked
 pub mod Targets
 pub mod TearFaults
-pub mod Tears
+pub mod Tearing
 pub mod Texts
 pub mod Writings

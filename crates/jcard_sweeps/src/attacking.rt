@@ -2,8 +2,8 @@
 ghost use Rattle.std.specs.Prelude.{◌≡◌, ◌<◌, ◌++◌, Err, false, length, IfOk, MatchResult, OnOk};
 ghost use Rattle.jcard_files.specs.Faults.{is_unwritten};
 ghost use Rattle.jcard_tear.specs.ScriptLines.{line_of};
-ghost use Rattle.jcard_sweeps.specs.Attackings.{AreToldEach, AreToldIn, AreUntoldEach, AreUntoldIn, IsAttack, IsAttackFault, IsAttacked, IsStruck, IsToldBy, IsToldPart, IsUnstruck, IsUntoldBy};
-ghost use Rattle.jcard_sweeps.specs.Attackings.{attack_asked_by, attack_name, behind_of, faults_name, faults_text, models_text, sweep_of};
+ghost use Rattle.jcard_sweeps.specs.Attacking.{AreToldEach, AreToldIn, AreUntoldEach, AreUntoldIn, IsAttack, IsAttackFault, IsAttacked, IsStruck, IsToldBy, IsToldPart, IsUnstruck, IsUntoldBy};
+ghost use Rattle.jcard_sweeps.specs.Attacking.{attack_asked_by, attack_name, behind_of, faults_name, faults_text, models_text, sweep_of};
 ghost use Rattle.jcard_sweeps.specs.SweepsAsked.{sweep_asked_by};
 ghost use Rattle.jcard_sweeps.specs.Targets.{IsAmong};
 ghost use Rattle.jcard_files.specs.Effects.{Does};

@@ -1,6 +1,6 @@
 //! Cutting commands of a script over the words of an image, and what is reported of that.
 ghost use Rattle.std.specs.Prelude.{◌≡◌, ◌<◌, length, IfOk, MatchResult};
-ghost use Rattle.jcard_sweeps.specs.Cuttings.{IsCut, IsUncut};
+ghost use Rattle.jcard_sweeps.specs.Cutting.{IsCut, IsUncut};
 ghost use Rattle.jcard_sweeps.specs.Targets.{IsAmong};
 
 use crate::targets::Target;

@@ -2,9 +2,9 @@
 //! a script.
 ghost use Rattle.std.specs.Prelude.{◌≡◌, ◌⊎◌, ◌<◌, Err, IfErr, map, false, length};
 ghost use Rattle.jcard_files.specs.Faults.{is_unwritten};
-ghost use Rattle.jcard_outcomes.specs.SweepHeads.{AreOfOthers};
-ghost use Rattle.jcard_sweeps.specs.Joinings.{AreBodiesJoinedTo, AreFaultsJoinedTo, AreFirstRead, AreRead, AreJoinedBy, AreLinesJoinedTo, AreNamedJoined, AreSharesJoinedTo, AreUnread};
-ghost use Rattle.jcard_sweeps.specs.Joinings.{IsJoinedTo, IsJoining, IsOtherTold, is_of_faults, told_join_fault, told_share_fault};
+ghost use Rattle.jcard_outcomes.specs.SweepHead.{AreOfOthers};
+ghost use Rattle.jcard_sweeps.specs.Joining.{AreBodiesJoinedTo, AreFaultsJoinedTo, AreFirstRead, AreRead, AreJoinedBy, AreLinesJoinedTo, AreNamedJoined, AreSharesJoinedTo, AreUnread};
+ghost use Rattle.jcard_sweeps.specs.Joining.{IsJoinedTo, IsJoining, IsOtherTold, is_of_faults, told_join_fault, told_share_fault};
 ghost use Rattle.jcard_sweeps.specs.Texts.{texts_of};
 ghost use Rattle.jcard_files.specs.Effects.{Does, ReadsFiles, Writes};
 

@@ -2,7 +2,7 @@
 ghost use Rattle.std.specs.Prelude.{◌≡◌, ◌<◌, Err, MatchResult, IfOk, IfErr, false, length, option_map};
 ghost use Rattle.jcard_files.specs.Faults.{is_unwritten};
 ghost use Rattle.jcard_sweeps.specs.SweepsAsked.{sweep_asked_by};
-ghost use Rattle.jcard_sweeps.specs.Tears.{IsCarried, IsImageRead, IsImageUnread, IsProbeRead, IsProbeUnread, IsTear, IsTorn, IsUncarried};
+ghost use Rattle.jcard_sweeps.specs.Tearing.{IsCarried, IsImageRead, IsImageUnread, IsProbeRead, IsProbeUnread, IsTear, IsTorn, IsUncarried};
 ghost use Rattle.jcard_sweeps.specs.Texts.{text_of};
 ghost use Rattle.jcard_files.specs.Effects.{Does, ReadsFiles};
 

@@ -9,7 +9,7 @@ use Rattle.jc_commit.specs.Image.{IsGoodLog, plain_of, recovered_of, with_words}
 use Rattle.jc_commit.specs.Migration.{migrated, migration}
 use Rattle.jc_commit.specs.Replay.{replay_writes}
 use Rattle.jc_commit.proofs.Migrations.{migration-recovered}
-use Rattle.jc_session.specs.Power.{Up}
+use Rattle.jc_card.specs.Power.{Up}
 use Rattle.jcard_script.specs.Begun.{LeavesCut}
 use Rattle.jcard_script.specs.Script.{EndsWithin}
 use Rattle.jcard_outcomes.specs.declared.recoveries.Depth.{Depth}
@@ -18,7 +18,7 @@ use Rattle.jcard_outcomes.specs.declared.recoveries.Recoveries.{Recoveries}
 use Rattle.jcard_outcomes.specs.declared.standing.Cut.{Cut}
 use Rattle.jcard_outcomes.specs.declared.standing.Left.{Left}
 use Rattle.jcard_outcomes.specs.declared.standing.Standing.{Standing}
-use Rattle.jcard_outcomes.specs.Standings.{IsStanding, lost_of}
+use Rattle.jcard_outcomes.specs.Standing.{IsStanding, lost_of}
 use Rattle.jcard_tear.specs.Faults.{IsCarriedOut}
 use Rattle.jcard_tear.specs.Kept.{GivesAnswers, HasAnswered, IsKeptFor, IsKnown, IsLastCut, IsReportedAlike, IsReportedAt, MayLeave, none_cut}
 use Rattle.jcard_tear.specs.Recoveries.{AreRecoveries}

@@ -4,7 +4,7 @@ use Rattle.jc_words.specs.Image.{log_of}
 use Rattle.jc_words.specs.Stores.{FuseStoreValue}
 use Rattle.jc_commit.specs.Image.{IsGoodLog, count_of, is_log, limit_of, plain_of, recovered_of, top_of}
 use Rattle.jc_card.specs.CardState.{CardState}
-use Rattle.jc_session.specs.Power.{Up}
+use Rattle.jc_card.specs.Power.{Up}
 use Rattle.jcard_script.specs.Begun.{AnswersLines, HasBegun, IsCommandLine}
 use Rattle.jcard_script.specs.ScriptStates.{PowersUp}
 use Rattle.jcard_outcomes.specs.declared.recoveries.Depth.TheVariants.{Zero}

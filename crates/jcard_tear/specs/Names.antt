@@ -4,7 +4,7 @@ use Rattle.byteorder.specs.Endian.{big_bytes}
 use Rattle.hex.specs.Hex.{encode_lower}
 use Rattle.sha1.specs.Sha1.{sha1}
 use Rattle.jc_card.specs.Dispatching.{usual_budget}
-use Rattle.jcard_outcomes.specs.SweepKinds.{mark_of}
+use Rattle.jcard_outcomes.specs.SweepKind.{mark_of}
 use Rattle.jcard_outcomes.specs.declared.sweep_kind.SweepKind.TheVariants.{Cuts, Commands}
 use Rattle.jcard_tear.specs.declared.cuts.Behind.{Behind}
 use Rattle.jcard_tear.specs.declared.cuts.Command.{Command}

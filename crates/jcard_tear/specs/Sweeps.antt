@@ -4,7 +4,7 @@ use Rattle.hex.specs.Hex.{encode_upper}
 use Rattle.jc_words.specs.Stores.{FuseStoreValue}
 use Rattle.jc_objects.specs.Pins.{AreTriesIn}
 use Rattle.jc_objects.specs.declared.image_objects.ImageObjects.{ImageObjects}
-use Rattle.jcard_outcomes.specs.Standings.{IsStanding, lost_of}
+use Rattle.jcard_outcomes.specs.Standing.{IsStanding, lost_of}
 use Rattle.jcard_outcomes.specs.declared.recoveries.Depth.TheVariants.{Zero}
 use Rattle.jcard_outcomes.specs.declared.recoveries.Recoveries.{Recoveries}
 use Rattle.jcard_outcomes.specs.declared.standing.Cut.{Cut}

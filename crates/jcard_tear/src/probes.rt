@@ -6,7 +6,7 @@ ghost use Rattle.jcard_tear.specs.Runs.{IsRunFault};
 ghost use Rattle.jcard_tear.specs.Sweeps.{IsProbe, select_line};
 
 use crate::runs::{RunFault, selected_by};
-use jc_registry::Aid;
+use jc_environment::Aid;
 use std::alloc::{AllocError, Global};
 
 /// The lines of the probe of a command that stands after this text: those that are given, or else the SELECT of the applet that is

@@ -13,7 +13,7 @@ use crate::kept_text::KeptText;
 use crate::watched::{WatchedStore, Watcher};
 use jc_card::power_up::PowerFault;
 use jc_commit::Journal;
-use jc_registry::Aid;
+use jc_environment::Aid;
 use jc_words::{FuseStore, MemStore, WordStore};
 use jcard_outcomes::standing::Left;
 use jcard_script::begun::{BegunScript, begin_script};

@@ -5,7 +5,7 @@ use Rattle.std.specs.String.{string_bytes}
 use Rattle.std.proofs.lemmas.List.{take-append-drop, take_all, take_more}
 use Rattle.std.proofs.lemmas.List.Elements.{All-append}
 use Rattle.jcard_tests.specs.Lines.{Says}
-use Rattle.jcard_tests.specs.NamedTables.{IsUnnamed, Names, NamesNone, SaysNothing}
+use Rattle.jcard_tests.specs.NamedTable.{IsUnnamed, Names, NamesNone, SaysNothing}
 use Rattle.jcard_tests.specs.declared.line.Line.{Line}
 use Rattle.jcard_tests.specs.declared.line.Line.TheVariants.{Nothing}
 use Rattle.jcard_tests.specs.declared.numbered.Numbered.{Numbered}

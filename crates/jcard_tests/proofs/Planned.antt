@@ -12,9 +12,9 @@ use Rattle.jcard_tests.specs.Tests.{AreAnswered, IsOutcome, IsPlanFor, IsTested,
 use Rattle.jcard_tests.specs.declared.rows_file.NamedFile.{NamedFile}
 use Rattle.jcard_files.specs.Faults.{is_unwritten}
 use Rattle.jcard_files.specs.FileDeeds.{FileDeed}
-use Rattle.jcard_images.proofs.Unwritten.{no_extent_unwritten, platform_unwritten}
-use Rattle.jcard_images.specs.UsualTables.{IsNoPlatform, IsPlatform}
-use Rattle.jcard_tests.specs.Plans.{IsPlanned, IsUnplanned, table_asked}
+use Rattle.jcard_files.proofs.Unwritten.{no_extent_unwritten, platform_unwritten}
+use Rattle.jcard_files.specs.UsualTable.{IsNoPlatform, IsPlatform}
+use Rattle.jcard_tests.specs.Planning.{IsPlanned, IsUnplanned, table_asked}
 use Rattle.jcard_tests.specs.declared.asked.Asked.{Asked}
 use Rattle.jcard_tests.proofs.RowTests.{no_reading, one_reading, unread_reading}
 use Rattle.jcard_tests.specs.declared.plan.Plan.{Plan}

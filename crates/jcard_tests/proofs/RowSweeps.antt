@@ -9,7 +9,7 @@ use Rattle.jcard_outcomes.specs.Reports.{broken_by_calls, broken_told, first_bro
 use Rattle.jcard_outcomes.specs.declared.report.Sweep.{Sweep}
 use Rattle.jcard_tear.specs.ScriptLines.{Line}
 use Rattle.jcard_tear.specs.Sweeps.{IsLineSwept, nothing_more}
-use Rattle.jcard_tests.specs.Sweeps.{IsStruckLine, IsToldOfFaults, IsToldOfLine, IsToldOfSweptLine}
+use Rattle.jcard_tests.specs.Sweeping.{IsStruckLine, IsToldOfFaults, IsToldOfLine, IsToldOfSweptLine}
 
 -- what is reported of the cuts of a line
 told_by : (budget : ℕ) (w : List ℕ) (l : Line) (sweep : Sweep) (found : Option (List ℕ)) (first : Option ℕ) → IsLineSwept w None (nothing_more budget) l sweep

@@ -21,7 +21,7 @@ use Rattle.jcard_tests.specs.declared.outcome.Failure.{Failure}
 use Rattle.jcard_tests.specs.declared.outcome.Outcome.{Outcome}
 use Rattle.jcard_tests.specs.declared.outcome.Outcome.TheVariants.{Held, Failed}
 use Rattle.jcard_tests.specs.declared.outcome.Tested.{Tested}
-use Rattle.jcard_tests.specs.NamedTables.{IsNamed}
+use Rattle.jcard_tests.specs.NamedTable.{IsNamed}
 use Rattle.jcard_tests.specs.declared.row.Row.{Row}
 use Rattle.jcard_tests.specs.declared.rows_file.NamedFile.{NamedFile}
 use Rattle.jcard_tests.specs.declared.sources.Source.{Source}
@@ -31,8 +31,8 @@ use Rattle.jc_words.specs.Stores.{MemStoreValue}
 use Rattle.jcard_files.specs.Faults.{is_unwritten}
 use Rattle.jcard_files.proofs.Effects.{unread_unwritten}
 use Rattle.jcard_files.specs.FileDeeds.{FileDeed, ReadsText}
-use Rattle.jcard_images.specs.NewImages.{IsNewImageInMemory}
-use Rattle.jcard_files.specs.Readings.{IsRead, IsUnread, IsScriptRead}
+use Rattle.jcard_files.specs.NewImages.{IsNewImageInMemory}
+use Rattle.jcard_files.specs.Reading.{IsRead, IsUnread, IsScriptRead}
 use Rattle.jcard_tests.specs.Sources.{AreNoted, IsReading, files_named, name_of, names_in, names_of, path_read, paths_of, paths_read}
 use Rattle.jcard_tests.specs.Tests.{AreAnsweredOn, AreSwept, AreSweptWell, AreFilesRead, EndsOn, IsFile, IsFileBehind, IsFileOf, IsFileRead, IsNewCard, IsSweptWell, IsToldOf, IsSweptFailure, AreIncluded, AreTested, IsFilePlace, IsPlace, IsPrinted, AreNoFileLines, IsNoRowsText, IsNoText, IsNotIncluded, IsOneUnread, IsRowsText, IsTested, IsUnanswered, IsUntested, operands_named, rows_operand}
 use Rattle.jcard_tests.specs.declared.plan.Plan.{Plan}

@@ -11,8 +11,8 @@ use Rattle.jcard_files.specs.FileDeeds.{FileDeed, ClosesImage, MakesImage, Opens
 use Rattle.jcard_files.specs.Operands.{IsNoOperand}
 use Rattle.jcard_files.specs.declared.fault.Fault.{Fault}
 use Rattle.jcard_files.specs.declared.operand.Operand.{Operand}
-use Rattle.jcard_tests.specs.JunitFiles.{IsBegun, IsKept, IsReportWritten, IsWritten}
-use Rattle.jcard_tests.specs.Plans.{IsPlanned, table_asked}
+use Rattle.jcard_tests.specs.JunitFile.{IsBegun, IsKept, IsReportWritten, IsWritten}
+use Rattle.jcard_tests.specs.Planning.{IsPlanned, table_asked}
 use Rattle.jcard_tests.specs.Sources.{IsReading, SparesTexts, files_named, name_of, names_in, path_read, path_written, paths_read, paths_written}
 use Rattle.jcard_tests.specs.Tests.{AreFilesRead, IsKeptAfter, IsOneUnread, IsTest, IsTestAfter, IsTestBeside, IsTestBy, IsTestOfRead, IsTestOn}
 use Rattle.jcard_tests.specs.declared.asked.Asked.{Asked}

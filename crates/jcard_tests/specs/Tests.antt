@@ -13,14 +13,14 @@ use Rattle.jcard_script.specs.Texts.{IsCutOf}
 use Rattle.jcard_script.specs.declared.script.ScriptFault.{ScriptFault}
 use Rattle.jcard_script.specs.declared.script.ScriptFault.TheVariants.{PowerFault as NotPoweredUp, WriteFailed as NotWritten}
 use Rattle.jcard_tests.specs.Cards.{AreCardsOf}
-use Rattle.jcard_tests.specs.JunitFiles.{IsBegun, IsKept}
+use Rattle.jcard_tests.specs.JunitFile.{IsBegun, IsKept}
 use Rattle.jcard_tests.specs.Lines.{Says}
 use Rattle.jcard_tests.specs.Outcomes.{AllAnswered, IsFirstFailure}
-use Rattle.jcard_tests.specs.Reports.{report_text}
+use Rattle.jcard_tests.specs.Report.{report_text}
 use Rattle.jcard_tests.specs.Sources.{AreSpared, IsReading, name_of, paths_read}
 use Rattle.jcard_tests.specs.Rows.{script_text}
-use Rattle.jcard_tests.specs.Sweeps.{IsToldOfSweep}
-use Rattle.jcard_tests.specs.NamedTables.{IsNamed, IsUnnamed}
+use Rattle.jcard_tests.specs.Sweeping.{IsToldOfSweep}
+use Rattle.jcard_tests.specs.NamedTable.{IsNamed, IsUnnamed}
 use Rattle.jcard_tests.specs.Unrolled.{AreLinesOf, IsBeside, IsLineOf, IsUnrolled}
 use Rattle.jcard_tests.specs.declared.card_rows.CardRows.{CardRows}
 use Rattle.jcard_tests.specs.declared.line.Line.{Line as RowLine}
@@ -37,11 +37,11 @@ use Rattle.jcard_tests.specs.declared.table_line.TableLine.{TableLine}
 use Rattle.jcard_files.specs.Effects.{Tells}
 use Rattle.jcard_files.specs.declared.operand.Operand.{Operand}
 use Rattle.jcard_files.specs.FileDeeds.{FileDeed, ReadsText, fresh_store}
-use Rattle.jcard_files.specs.Readings.{IsRead, IsScriptRead, IsUnread}
-use Rattle.jcard_images.specs.NewImages.{IsNewImageOf}
+use Rattle.jcard_files.specs.Reading.{IsRead, IsScriptRead, IsUnread}
+use Rattle.jcard_files.specs.NewImages.{IsNewImageOf}
 use Rattle.jcard_files.specs.declared.fault.FileKind.TheVariants.{Rows, Table}
 use Rattle.jcard_files.specs.declared.fault.Fault.{Fault}
-use Rattle.jcard_tests.specs.Plans.{IsPlanned, IsUnplanned, table_asked}
+use Rattle.jcard_tests.specs.Planning.{IsPlanned, IsUnplanned, table_asked}
 use Rattle.jcard_tests.specs.declared.asked.Asked.{Asked}
 use Rattle.jcard_tests.specs.declared.plan.Plan.{Plan}
 use Rattle.jcard_files.specs.declared.fault.Fault.TheVariants.{BadTable, CannotInclude, CannotRead, ImageTooSmall, NoMemory, ScriptTooLong}

@@ -1,6 +1,6 @@
 //! What the words of `jcard test` ask for.
 
-use jcard_images::image_size::ImageSize;
+use jcard_files::image_size::ImageSize;
 
 /// What the words of `jcard test` ask for besides its files: the file of a report for build servers, that of a platform table, how large a
 /// card is, and how many instructions a command can have.

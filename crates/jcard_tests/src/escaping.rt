@@ -1,6 +1,6 @@
 //! Texts within quotes in XML.
 ghost use Rattle.std.specs.Prelude.{◌≡◌, ◌<◌, ◌++◌, length, drop, IfOk, MatchResult, OnOk};
-ghost use Rattle.jcard_tests.specs.Escapes.{begins_outside, escape, escaped, escaped_behind};
+ghost use Rattle.jcard_tests.specs.Escaping.{begins_outside, escape, escaped, escaped_behind};
 
 use std::alloc::AllocError;
 

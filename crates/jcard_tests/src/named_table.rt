@@ -1,6 +1,6 @@
 //! The platform table that a file of rows names.
 ghost use Rattle.std.specs.Prelude.{MatchOption};
-ghost use Rattle.jcard_tests.specs.NamedTables.{IsNamed, IsUnnamed, Names, NamesNone};
+ghost use Rattle.jcard_tests.specs.NamedTable.{IsNamed, IsUnnamed, Names, NamesNone};
 
 use crate::line::{Line, read_line};
 use crate::numbered::Numbered;

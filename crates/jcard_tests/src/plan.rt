@@ -1,6 +1,6 @@
 //! What the cards are that rows are given to.
 
-use jcard_images::extent::Extent;
+use jcard_files::extent::Extent;
 
 /// What the cards are that rows are given to: the platform table, how large a file's first is (the others differ in their words alone), and how
 /// many instructions a command can have.

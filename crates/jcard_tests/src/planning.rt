@@ -1,15 +1,15 @@
 //! What cards are made from what was asked for.
 ghost use Rattle.std.specs.Prelude.{ℕ, List, All, MatchResult};
 ghost use Rattle.jcard_files.specs.FileDeeds.{FileDeed};
-ghost use Rattle.jcard_tests.specs.Plans.{IsPlanned, IsUnplanned};
+ghost use Rattle.jcard_tests.specs.Planning.{IsPlanned, IsUnplanned};
 ghost use Rattle.jcard_tests.specs.Sources.{IsReading};
 
 use crate::asked::Asked;
 use crate::plan::Plan;
 use jcard_files::disk::Disk;
 use jcard_files::fault::Fault;
-use jcard_images::image_size::extent_of;
-use jcard_images::usual_table::platform_of;
+use jcard_files::image_size::extent_of;
+use jcard_files::usual_table::platform_of;
 
 /// What the cards are that were asked for.
 pub(crate) fn plan_of<'n, D: Disk>(disk: &mut D, asked: Asked<'n>) -> Result<Plan, Fault<'n>>

@@ -1,6 +1,6 @@
 //! What is reported of files of rows: a line for each, and how many rows passed and failed.
 ghost use Rattle.std.specs.Prelude.{◌≡◌, ◌++◌, min, IfOk, OnOk};
-ghost use Rattle.jcard_tests.specs.Reports.{failed_of, failure_text, hold_text, holds_text, is_failed, lines_text, passed_in, passed_of, report_text, row_text, rows_text, tested_text, told_text, total_text};
+ghost use Rattle.jcard_tests.specs.Report.{failed_of, failure_text, hold_text, holds_text, is_failed, lines_text, passed_in, passed_of, report_text, row_text, rows_text, tested_text, told_text, total_text};
 
 use crate::outcome::{Failure, Outcome, Tested};
 use jcard_outcomes::rows::push_number;

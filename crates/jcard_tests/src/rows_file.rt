@@ -3,7 +3,7 @@ ghost use Rattle.std.specs.Prelude.{◌≡◌, ◌<◌, ◌++◌, ◌∷◌, [],
 ghost use Rattle.std.specs.String.{string_bytes};
 ghost use Rattle.jcard_files.specs.Effects.{ReadsFiles};
 ghost use Rattle.jcard_files.specs.FileDeeds.{FileDeed};
-ghost use Rattle.jcard_files.specs.Readings.{IsRead};
+ghost use Rattle.jcard_files.specs.Reading.{IsRead};
 ghost use Rattle.jcard_tests.specs.Sources.{AreNoted, ReadsNoted};
 ghost use Rattle.jcard_tests.specs.Tests.{AreIncluded, AreNoFileLines, IsFile, IsFileBehind, IsFileOf, IsFilePlace, IsIncludeFault, IsNoRowsText, IsNoText, IsNotIncluded, IsPlace, IsRowsText, IsTableBeside, table_of};
 ghost use Rattle.jcard_tests.specs.Unrolled.{IsLineOf, IsUnrolled};

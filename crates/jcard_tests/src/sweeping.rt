@@ -2,7 +2,7 @@
 ghost use Rattle.std.specs.Prelude.{◌≡◌, ◌<◌, ◌++◌, codes, length, IfOk, option_map};
 ghost use Rattle.jcard_tear.specs.ScriptLines.{line_of};
 ghost use Rattle.jcard_tests.specs.Cards.{probe_of};
-ghost use Rattle.jcard_tests.specs.Sweeps.{IsToldOfFaults, IsToldOfLine, IsToldOfSweep, IsToldOfSweptLine, IsUsual};
+ghost use Rattle.jcard_tests.specs.Sweeping.{IsToldOfFaults, IsToldOfLine, IsToldOfSweep, IsToldOfSweptLine, IsUsual};
 
 use crate::row::{Row, line, script};
 use jc_words::{MemStore, WordStore};

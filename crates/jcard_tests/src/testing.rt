@@ -23,7 +23,7 @@ use crate::timer::Timer;
 use jcard_files::disk::Disk;
 use jcard_files::fault::Fault;
 use jcard_files::remarks::Remarks;
-use jcard_images::table_remarks::remark_on_table;
+use jcard_files::table_remarks::remark_on_table;
 use jcard_script::streams::{TextOut, write_all};
 use std::alloc::{AllocError, Global};
 

@@ -1,6 +1,6 @@
 //! What a command did, and why it was not answered by 9000, as a text.
 ghost use Rattle.std.specs.Prelude.{◌≡◌};
-ghost use Rattle.jcard_why.specs.Wanted.{most_noted};
+ghost use Rattle.jcard_why.specs.Explanation.{most_noted};
 
 use crate::causes::push_cause;
 use crate::places::push_spots;

@@ -5,10 +5,10 @@ use crate::places::aid_text;
 use crate::sources::{MethodPlace, Named, field_at, static_from, variable_at};
 use crate::text::Text;
 use itoa::Buffer;
+use jc_frames::decode::decode;
+use jc_frames::instr::{FieldOp, Instr, LocalOp};
 use jc_linker::target::Target;
 use jc_memory::Spot;
-use jc_opcodes::decode::decode;
-use jc_opcodes::instr::{FieldOp, Instr, LocalOp};
 use jc_transient::ClassWord;
 
 /// Adds the name that the map has of the local or the field that the instruction at a spot uses.

@@ -22,10 +22,10 @@ use Rattle.jc_image.specs.Beginning.{HeapBeginsWith, HeadersFollow}
 use Rattle.jc_platform.specs.Table.{Reads}
 use Rattle.jc_platform.specs.Tokens.{Tokens}
 use Rattle.jc_environment.specs.Objects.{fixed_count, sized_objects}
-use Rattle.jc_environment.proofs.Counts.{count_sized}
+use Rattle.jc_environment.proofs.ObjectCounts.{count_sized}
 use Rattle.jc_card.specs.Fixed.{buffer_cells, fixed_facts, fixed_of, object_number}
 use Rattle.law_images.specs.Heaps.{HasBeginning}
-use Rattle.law_images.proofs.Finding.{found_put, found_still, found_there, looked_up_still}
+use Rattle.law_images.proofs.FirstObjects.{found_put, found_still, found_there, looked_up_still}
 use Rattle.law_soundness.proofs.Statics.{object-with_word}
 
 -- the first words, those that no change touches and the table are the same, and each object is followed by the one that followed it

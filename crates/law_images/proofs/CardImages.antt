@@ -19,9 +19,9 @@ use Rattle.jc_card.specs.CardState.{CardState}
 use Rattle.jc_card.specs.Fixed.{last_fixed}
 use Rattle.jc_card.specs.Made.{IsCardHeap, IsMade, new_card_heap, objects_in}
 use Rattle.jc_card.proofs.FittingImages.{counts_add, packages_add}
-use Rattle.jc_card_checks.specs.Sound.{IsSound}
+use Rattle.jc_packages.specs.Sound.{IsSound}
 use Rattle.jc_card.proofs.NewFronts.{sizes-new_card_heap}
-use Rattle.jc_session.specs.Power.{KeptState, Up, durable_rest}
+use Rattle.jc_card.specs.Power.{KeptState, Up, durable_rest}
 use Rattle.law_soundness.specs.State.{IsFitObject}
 use Rattle.law_images.specs.Loads.{IsLaidOut}
 use Rattle.law_images.specs.Heaps.{IsOwnHeap}

@@ -13,16 +13,16 @@ use Rattle.jc_memory.specs.Programs.{Completes, Program, Finish, TearLeaves, Cho
 use Rattle.jc_memory.specs.State.{MemoryState, HeapMove}
 use Rattle.jc_linker.specs.Values.{Packages}
 use Rattle.jc_platform.specs.Tokens.{Tokens}
-use Rattle.jc_card_load.specs.RecordContents.{arrays_of, image_of, parts_of, statics_of}
-use Rattle.jc_card_load.specs.PendingPackages.{PendingPackageValue, linked_components}
-use Rattle.jc_card_load.specs.Reading.{packages_of}
-use Rattle.jc_card_load.specs.declared.load_refusal.LoadRefusal.{LoadRefusal}
-use Rattle.jc_card_load.specs.declared.load.OpenLoad.{OpenLoad}
-use Rattle.jc_card_load.specs.Ending.{LoadResult, assembly_result, after_addition, after_preparation, end_of_load}
-use Rattle.law_images.specs.Kept.{IsReadAs}
-use Rattle.law_images.specs.Loaded.{IsReadable}
+use Rattle.jc_packages.specs.RecordContents.{arrays_of, image_of, parts_of, statics_of}
+use Rattle.jc_packages.specs.PendingPackages.{PendingPackageValue, linked_components}
+use Rattle.jc_packages.specs.Reading.{packages_of}
+use Rattle.jc_packages.specs.declared.load_refusal.LoadRefusal.{LoadRefusal}
+use Rattle.jc_packages.specs.declared.load.OpenLoad.{OpenLoad}
+use Rattle.jc_packages.specs.LoadEnd.{LoadResult, assembly_result, after_addition, after_preparation, end_of_load}
+use Rattle.law_images.specs.StableReading.{IsReadAs}
+use Rattle.law_images.specs.LoadedPackages.{IsReadable}
 use Rattle.law_images.specs.ReadingLoads.{IsOpenReadable, LoadEndsKeepReading}
-use Rattle.law_images.proofs.Loaded.{read_back}
+use Rattle.law_images.proofs.AddedPackages.{read_back}
 
 -- one way or the other
 either : (P : Program LoadResult → Type 0) (G : Type 0) (b : Bool) (x y : Program LoadResult) → (P x → G) → (P y → G) → P (if b then x else y) → G

@@ -8,16 +8,16 @@ use Rattle.jc_card.specs.PowerUp.{PowerUpRefuses}
 use Rattle.jc_card.specs.declared.power_up.PowerFault.{PowerFault as Fault}
 use Rattle.jc_card.specs.declared.power_up.PowerFault.TheVariants.{NoMemory, StoreDown}
 use Rattle.jc_card.proofs.PoweredUp.{refused_made}
-use Rattle.jc_session.specs.Requests.{Request, Command, Reset, ArmFuse, PlanFault, Reply, Response, Ready, Down}
-use Rattle.jc_session.specs.Power.{KeptState, PowerState, Up, Off, StoreState, IsStoreOf, armed, budget_of, durable_state, durable_state_in_store, planned, with_power}
-use Rattle.jc_session.specs.declared.planned_fault.PlannedFault.{PlannedFault}
-use Rattle.jc_session.specs.Serving.{AnswersCommand, AnswersReset, Serves, SessionRun}
-use Rattle.jc_session.specs.Starting.{FailsToReset, FailsToStart, Starts}
-use Rattle.jc_session.specs.Sessions.{IsSession, FailsAtReset}
-use Rattle.jc_session.proofs.Laid.{if_laid, laid_if}
-use Rattle.jc_session.proofs.Resets.{start_fails}
+use Rattle.jc_card.specs.Requests.{Request, Command, Reset, ArmFuse, PlanFault, Reply, Response, Ready, Down}
+use Rattle.jc_card.specs.Power.{KeptState, PowerState, Up, Off, StoreState, IsStoreOf, armed, budget_of, durable_state, durable_state_in_store, planned, with_power}
+use Rattle.jc_card.specs.declared.planned_fault.PlannedFault.{PlannedFault}
+use Rattle.jc_card.specs.Serving.{AnswersCommand, AnswersReset, Serves, SessionRun}
+use Rattle.jc_card.specs.Starting.{FailsToReset, FailsToStart, Starts}
+use Rattle.jc_card.specs.Session.{IsSession, FailsAtReset}
+use Rattle.jc_card.proofs.Laid.{if_laid, laid_if}
+use Rattle.jc_card.proofs.Resets.{start_fails}
 use Rattle.law_images.specs.Cards.{AreOfBytes, IsOwnKept, IsOwnPower, StaysOwn}
-use Rattle.law_images.specs.Faults.{IsOwnStore, SessionsEndWell}
+use Rattle.law_images.specs.CardLaws.{IsOwnStore, SessionsEndWell}
 use Rattle.law_images.specs.CardImages.{Keeps}
 use Rattle.law_images.proofs.Sessions.{OneTable, kept_own, powered_own, stays_own}
 use Rattle.law_images.proofs.CardImages.{images_made}

@@ -12,10 +12,10 @@ use Rattle.jc_linker.specs.Classes.{is_class, size_of}
 use Rattle.jc_linker.specs.Resolves.{names_interface}
 use Rattle.jc_linker.specs.Values.{PackageValue, Packages}
 use Rattle.jc_linker.specs.Linking.{next_number, with_package}
-use Rattle.jc_card_checks.specs.Objects.{HoldsValues, fits_class, has_value, is_instance, is_object_address}
+use Rattle.jc_packages.specs.Objects.{HoldsValues, fits_class, has_value, is_instance, is_object_address}
 use Rattle.jc_linker.specs.Classes.{is_a}
-use Rattle.jc_card_checks.specs.Sound.{HoldsStatics, IsRegistered, entry_word, package_record_at}
-use Rattle.law_linking.specs.Staying.{ClassStays, Stays}
+use Rattle.jc_packages.specs.Sound.{HoldsStatics, IsRegistered, entry_word, package_record_at}
+use Rattle.law_linking.specs.Stability.{ClassStays, Stays}
 use Rattle.law_linking.proofs.ResolutionLaws.{adding_keeps}
 use Rattle.law_soundness.specs.State.{IsFitObject, IsSoundUpTo}
 use Rattle.law_images.specs.Growth.{GrowthKeepsSound}

@@ -10,15 +10,15 @@ use Rattle.jc_linker.specs.Values.{Packages}
 use Rattle.jc_cap.specs.declared.texts.LoadedComponents.{LoadedComponents}
 use Rattle.jc_linker.specs.Values.{LinkerComponents}
 use Rattle.jc_linker.specs.Linking.{with_package}
-use Rattle.jc_card_load.specs.PendingPackages.{PendingPackageValue, linked_components}
-use Rattle.jc_card_load.specs.Reading.{load_of, packages_of, with_prepared, with_records}
-use Rattle.jc_card_load.specs.LinkerView.{linker_view}
-use Rattle.jc_card_load.specs.declared.load_refusal.LoadRefusal.{LoadRefusal}
-use Rattle.law_linking.specs.Linked.{AreLinkedAgainst, IsLinkedAgainst}
-use Rattle.law_linking.proofs.Linking.{some_value}
+use Rattle.jc_packages.specs.PendingPackages.{PendingPackageValue, linked_components}
+use Rattle.jc_packages.specs.Reading.{load_of, packages_of, with_prepared, with_records}
+use Rattle.jc_packages.specs.LinkerView.{linker_view}
+use Rattle.jc_packages.specs.declared.load_refusal.LoadRefusal.{LoadRefusal}
+use Rattle.law_linking.specs.LinkedPackages.{AreLinkedAgainst, IsLinkedAgainst}
+use Rattle.law_linking.proofs.LinkAnswers.{some_value}
 use Rattle.law_linking.proofs.Lists.{AllOf, IfThere, all_at}
 use Rattle.law_linking.specs.Given.{HasAppletComponent, HasByteTokens, HasClassComponent}
-use Rattle.law_images.specs.GrowthRecords.{AreWords, RecordsAreRead}
+use Rattle.law_images.specs.GrowthLaws.{AreWords, RecordsAreRead}
 use Rattle.law_images.proofs.Prepares.{IsPrepared, prepares}
 use Rattle.law_images.proofs.GrowthTexts.{IsOfBytes, applet_component, applets_said, assembled_applets, class_component, few_classes, text_bytes}
 

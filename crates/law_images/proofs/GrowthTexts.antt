@@ -7,29 +7,29 @@ use Rattle.std.proofs.lemmas.List.Elements.{All-from_get_or}
 use Rattle.std.proofs.lemmas.List.FromFn.{length-map-range_with_len, get_or-map-range_with_len}
 use Rattle.jc_heap.specs.Components.{info_of}
 use Rattle.jc_heap.specs.Packed.{packed_byte, bytes_of_packed}
-use Rattle.jc_cap_linkage.specs.declared.formats.Format.{Format}
-use Rattle.jc_cap_linkage.specs.Reading.{value_of_whole}
-use Rattle.jc_cap_linkage.proofs.Many.{bind_ok, ok_is}
-use Rattle.jc_cap_linkage.proofs.Wholes.{whole_takes}
-use Rattle.jc_cap_linkage.specs.Applets.{AppletNamed, IsApplets, applets_at}
-use Rattle.jc_cap_linkage.specs.Envelope.{info_at}
-use Rattle.jc_cap_linkage.proofs.ToldEnvelope.{info_takes}
-use Rattle.jc_cap_linkage.proofs.ToldLists.{applets_tells}
-use Rattle.jc_cap_code.specs.ClassGrammar.{AreClasses}
-use Rattle.jc_cap_code.specs.ClassValues.{RecordAt}
+use Rattle.jc_cap.specs.declared.formats.Format.{Format}
+use Rattle.jc_cap.specs.Reading.{value_of_whole}
+use Rattle.jc_cap.proofs.Many.{bind_ok, ok_is}
+use Rattle.jc_cap.proofs.Wholes.{whole_takes}
+use Rattle.jc_cap.specs.Applets.{AppletNamed, IsApplets, applets_at}
+use Rattle.jc_cap.specs.Envelope.{info_at}
+use Rattle.jc_cap.proofs.ToldEnvelope.{info_takes}
+use Rattle.jc_cap.proofs.ToldLists.{applets_tells}
+use Rattle.jc_cap.specs.Classes.{AreClasses}
+use Rattle.jc_cap.specs.ClassValues.{RecordAt}
 use Rattle.jc_cap.specs.declared.texts.LoadedComponents.{LoadedComponents}
 use Rattle.jc_cap.specs.declared.texts.PackageBytes.{PackageBytes}
 use Rattle.jc_cap.specs.Contents.{PackageContents}
 use Rattle.jc_cap.specs.Assembling.{assembly_of, checked_package, required_components}
 use Rattle.jc_cap.specs.ComponentReading.{applets_in, classes_in, directory_in, exports_in, header_in, imports_in, methods_in, pool_in, statics_in}
-use Rattle.jc_cap.specs.Reading.{contents_of}
+use Rattle.jc_cap.specs.PackageReading.{contents_of}
 use Rattle.jc_cap.proofs.Named.{is_assembled}
-use Rattle.jc_card_load.specs.Reading.{text_at, text_in}
-use Rattle.law_linking.proofs.Closed.{anything}
+use Rattle.jc_packages.specs.Reading.{text_at, text_in}
+use Rattle.law_linking.proofs.ClosedPackages.{anything}
 use Rattle.law_linking.proofs.Lists.{IfThere, map_there}
 use Rattle.law_linking.specs.Given.{HasAppletComponent}
-use Rattle.law_images.specs.GrowthRecords.{AreWords}
-use Rattle.law_images.proofs.Preparing.{has_all}
+use Rattle.law_images.specs.GrowthLaws.{AreWords}
+use Rattle.law_images.proofs.RecordPackages.{has_all}
 
 -- ---- bytes
 

@@ -1,7 +1,7 @@
 -- The static image of a package's record that was written.
 use Rattle.std.proofs.Common.{◌≡◌, ℕ, suc, ◌+◌, ◌-◌, ◌*◌, ◌/◌, ◌<◌, ◌≤◌, List, [], ◌∷◌, ◌++◌, length, drop, get_or, replicate, refl, ◌∙◌, ap, arith}
 use Rattle.std.proofs.Common.{append_assoc, Some}
-use Rattle.jc_cap_linkage.proofs.FoundHeader.{back_of}
+use Rattle.jc_cap.proofs.FoundHeader.{back_of}
 use Rattle.std.proofs.lemmas.List.{length-append, length-replicate, get_or_append_left, get_or-append_right}
 use Rattle.jc_heap.specs.declared.object.Kind.{Kind}
 use Rattle.jc_heap.specs.Components.{part_sizes, words_for}

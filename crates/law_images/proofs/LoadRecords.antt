@@ -16,10 +16,10 @@ use Rattle.jc_heap.proofs.NewPackages.{item-package, top-push}
 use Rattle.jc_heap.proofs.Tables.{at_or-push_other, at_or-push_same}
 use Rattle.jc_linker.specs.Lookups.{statics_at}
 use Rattle.jc_linker.specs.Values.{Packages}
-use Rattle.jc_card_checks.specs.Objects.{HoldsValues, fits_class, is_instance, is_reference, is_object_address}
-use Rattle.jc_card_checks.specs.Sound.{HoldsStatics, IsRegistered, aid_in, aid_of_entry, entry_word, package_record_at}
+use Rattle.jc_packages.specs.Objects.{HoldsValues, fits_class, is_instance, is_reference, is_object_address}
+use Rattle.jc_packages.specs.Sound.{HoldsStatics, IsRegistered, aid_in, aid_of_entry, entry_word, package_record_at}
 use Rattle.law_soundness.specs.State.{IsFitObject, IsOwnAid, IsSoundUpTo, is_owner_up_to}
-use Rattle.law_soundness.proofs.Kept.{Carries, HoldsBut, IsFitBut, object_kept, registered_kept, statics_kept}
+use Rattle.law_soundness.proofs.HeapChanges.{Carries, HoldsBut, IsFitBut, object_kept, registered_kept, statics_kept}
 use Rattle.law_images.proofs.Arrays.{AreInitial, IsArrayOf, below_end, item_behind, old_or_array, same_registry}
 use Rattle.law_images.proofs.LoadImages.{AreTagged, image_begins, image_ends}
 

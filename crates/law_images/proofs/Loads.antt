@@ -15,15 +15,15 @@ use Rattle.jc_linker.specs.Values.{Packages}
 use Rattle.jc_platform.specs.Tokens.{Tokens}
 use Rattle.jc_linker.specs.Linking.{with_package}
 use Rattle.jc_linker.specs.declared.fault.LinkFault.TheVariants as link
-use Rattle.jc_card_load.specs.RecordContents.{arrays_of, image_of, parts_of, statics_of}
-use Rattle.jc_card_load.specs.PendingPackages.{PendingPackageValue, linked_components}
-use Rattle.jc_card_load.specs.declared.load.OpenLoad.{OpenLoad}
-use Rattle.jc_card_load.specs.declared.load_refusal.LoadRefusal.{LoadRefusal}
-use Rattle.jc_card_load.specs.declared.load_refusal.LoadRefusal.TheVariants.{HeapFull, Full, LinkFailed, OutOfSequence}
-use Rattle.jc_card_load.specs.Ending.{LoadResult, assembly_result, with_dropped_load, after_addition, after_preparation, end_of_load}
+use Rattle.jc_packages.specs.RecordContents.{arrays_of, image_of, parts_of, statics_of}
+use Rattle.jc_packages.specs.PendingPackages.{PendingPackageValue, linked_components}
+use Rattle.jc_packages.specs.declared.load.OpenLoad.{OpenLoad}
+use Rattle.jc_packages.specs.declared.load_refusal.LoadRefusal.{LoadRefusal}
+use Rattle.jc_packages.specs.declared.load_refusal.LoadRefusal.TheVariants.{HeapFull, Full, LinkFailed, OutOfSequence}
+use Rattle.jc_packages.specs.LoadEnd.{LoadResult, assembly_result, with_dropped_load, after_addition, after_preparation, end_of_load}
 use Rattle.jc_card.specs.CardState.{CardState}
-use Rattle.jc_card.specs.Loads.{LoadResponse, answer_of_left, end_load}
-use Rattle.law_images.specs.Loaded.{AreBytes, IsReadable}
+use Rattle.jc_card.specs.Loading.{LoadResponse, answer_of_left, end_load}
+use Rattle.law_images.specs.LoadedPackages.{AreBytes, IsReadable}
 use Rattle.law_images.specs.ReadingLoads.{IsOpenReadable}
 use Rattle.law_images.proofs.Ends.{ends_keep}
 use Rattle.law_images.proofs.OneMore.{growth_keeps_read}

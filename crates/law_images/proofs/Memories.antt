@@ -18,17 +18,17 @@ use Rattle.jc_memory.specs.State.{HeapMove, MemoryState, apply_effect}
 use Rattle.jc_linker.specs.Values.{Packages}
 use Rattle.jc_linker.specs.Values.{LinkerComponents}
 use Rattle.jc_linker.specs.Linking.{with_package}
-use Rattle.law_linking.specs.Linked.{AreLinked}
-use Rattle.jc_card_load.specs.RecordContents.{arrays_of, image_of, parts_of, statics_of}
-use Rattle.jc_card_load.specs.PendingPackages.{PendingPackageValue, linked_components}
-use Rattle.jc_card_checks.specs.Objects.{is_instance, is_persistent_instance}
+use Rattle.law_linking.specs.LinkedPackages.{AreLinked}
+use Rattle.jc_packages.specs.RecordContents.{arrays_of, image_of, parts_of, statics_of}
+use Rattle.jc_packages.specs.PendingPackages.{PendingPackageValue, linked_components}
+use Rattle.jc_packages.specs.Objects.{is_instance, is_persistent_instance}
 use Rattle.law_soundness.specs.Environment.{HasEnvironment, AreEnvironmentObjects}
 use Rattle.law_soundness.specs.State.{IsSoundMemory, IsSoundUpTo, is_home, is_open, is_owner_up_to, last_own, most_owner}
 use Rattle.law_images.specs.Growth.{GrowthKeepsSound}
 use Rattle.law_images.proofs.Grows.{growth_keeps}
 use Rattle.law_images.specs.Loads.{AreLaidOut, CountsPackages, IsLaidOut, IsSoundForLoads, LoadsKeepSound, load_move, with_record}
-use Rattle.law_images.proofs.Fitting.{records_fit}
-use Rattle.law_images.proofs.Prepared.{initial_arrays}
+use Rattle.law_images.proofs.RecordFit.{records_fit}
+use Rattle.law_images.proofs.PreparedPackages.{initial_arrays}
 use Rattle.law_images.proofs.LoadRecords.{applets_same, counts_grown, item_low, item_old, longer, no_instance, old_or_new}
 use Rattle.law_images.proofs.LivingLoads.{package_carried}
 use Rattle.law_images.proofs.Whole.{package_stands}

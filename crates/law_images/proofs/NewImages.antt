@@ -22,10 +22,10 @@ use Rattle.jc_platform.specs.Table.{Reads}
 use Rattle.jc_platform.specs.Tokens.{Tokens, token_of_class}
 use Rattle.jc_platform.proofs.Lists.{and_true}
 use Rattle.jc_linker.specs.Values.{Packages}
-use Rattle.jc_card_checks.specs.Objects.{is_instance, is_persistent_instance}
+use Rattle.jc_packages.specs.Objects.{is_instance, is_persistent_instance}
 use Rattle.jc_environment.specs.declared.objects.FixedObject.{FixedObject}
 use Rattle.jc_environment.specs.Objects.{first_objects, fixed_count, fixed_objects, is_first, own_instance, own_instances, sized, sized_objects}
-use Rattle.jc_environment.proofs.Counts.{all_further, count_sized, is_thrown_further, least_count}
+use Rattle.jc_environment.proofs.ObjectCounts.{all_further, count_sized, is_thrown_further, least_count}
 use Rattle.jc_platform.specs.Names.{ClassEntry, classes}
 use Rattle.jc_card.specs.Fixed.{BeginsWithFixed, buffer_cells, class_number_of, fixed_facts, fixed_of, last_fixed, next_or_null, object_number, with_objects}
 use Rattle.jc_image.specs.Beginning.{HeadersFollow, HeapBeginsWith}
@@ -40,7 +40,7 @@ use Rattle.law_soundness.specs.Fit.{IsPlatformClass}
 use Rattle.law_soundness.specs.State.{IsSoundUpTo}
 use Rattle.law_images.specs.Heaps.{HasBeginning, IsOwnHeap}
 use Rattle.law_images.specs.NewImages.{NewImagesFit}
-use Rattle.law_images.proofs.Finding.{found_there}
+use Rattle.law_images.proofs.FirstObjects.{found_there}
 
 -- the platform alone
 abbrev alone_with : Tokens → Packages

@@ -5,9 +5,9 @@ use Rattle.std.proofs.lemmas.List.Elements.{All-nil, All-tail}
 use Rattle.jc_linker.specs.Values.{PackageValue, Packages}
 use Rattle.jc_linker.specs.Values.{LinkerComponents}
 use Rattle.jc_linker.specs.Linking.{with_package}
-use Rattle.jc_card_load.specs.LinkerView.{linker_view}
-use Rattle.law_linking.specs.Linked.{AreLinkedAgainst, IsLinkedAgainst}
-use Rattle.law_linking.proofs.Linking.{some_value}
+use Rattle.jc_packages.specs.LinkerView.{linker_view}
+use Rattle.law_linking.specs.LinkedPackages.{AreLinkedAgainst, IsLinkedAgainst}
+use Rattle.law_linking.proofs.LinkAnswers.{some_value}
 use Rattle.law_linking.proofs.Lists.{IfThere}
 use Rattle.law_linking.specs.Given.{HasAppletComponent, HasClassComponent}
 use Rattle.law_images.specs.Growth.{GrowthKeepsRead}

@@ -2,15 +2,15 @@
 use Rattle.std.proofs.Common.{ℕ, ◌+◌, ◌-◌, ◌==◌, ◌<◌, false, List, length, Option, Some, None, Result, Ok, Err, nat_lt}
 use Rattle.std.specs.Prelude.{IfSome, is_some, slice_index_or}
 use Rattle.std.proofs.lemmas.List.Elements.{All-append, All-nil}
-use Rattle.jc_cap_linkage.specs.declared.fault.CapFault.{CapFault}
+use Rattle.jc_cap.specs.declared.fault.CapFault.{CapFault}
 use Rattle.jc_cap.specs.declared.texts.LoadedComponents.{LoadedComponents}
 use Rattle.jc_cap.specs.Contents.{Content}
-use Rattle.jc_card_load.specs.declared.load.OpenLoad.{OpenLoad}
-use Rattle.jc_card_load.specs.Incoming.{IncomingValue}
+use Rattle.jc_packages.specs.declared.load.OpenLoad.{OpenLoad}
+use Rattle.jc_packages.specs.Incoming.{IncomingValue}
 use Rattle.jc_cap.specs.Texts.{with_component}
-use Rattle.jc_card_load.specs.Loading.{CommandResult, content_in, empty_load, component_begin, is_tag, load_with, more_of, read_of}
+use Rattle.jc_packages.specs.Loading.{CommandResult, content_in, empty_load, component_begin, is_tag, load_with, more_of, read_of}
 use Rattle.law_soundness.proofs.Memories.{choose}
-use Rattle.law_images.specs.Loaded.{AreBytes, IsReadable}
+use Rattle.law_images.specs.LoadedPackages.{AreBytes, IsReadable}
 use Rattle.law_images.specs.ReadingLoads.{IsOpenReadable, LoadsAreReadable}
 
 -- ---- the components that came

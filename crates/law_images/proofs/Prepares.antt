@@ -6,15 +6,15 @@ use Rattle.jc_cap.specs.declared.texts.LoadedComponents.{LoadedComponents}
 use Rattle.jc_cap.specs.declared.texts.PackageBytes.{PackageBytes}
 use Rattle.jc_cap.specs.Contents.{PackageContents}
 use Rattle.jc_cap.specs.Assembling.{assembly_of}
-use Rattle.jc_cap.specs.Reading.{contents_of}
+use Rattle.jc_cap.specs.PackageReading.{contents_of}
 use Rattle.jc_linker.specs.Values.{PackageValue, Packages}
 use Rattle.jc_linker.specs.Lookups.{package_with_aid}
 use Rattle.jc_linker.specs.Linking.{link_result}
-use Rattle.jc_card_load.specs.PendingPackages.{PendingPackageValue, if_read, linked_components, linked_package}
-use Rattle.jc_card_load.specs.LinkerView.{linker_view}
-use Rattle.jc_card_load.specs.declared.load_refusal.LoadRefusal.{LoadRefusal}
-use Rattle.jc_card_load.specs.declared.load_refusal.LoadRefusal.TheVariants.{AidTaken, Full}
-use Rattle.law_images.proofs.Preparing.{linked_ok, read_ok, refused}
+use Rattle.jc_packages.specs.PendingPackages.{PendingPackageValue, if_read, linked_components, linked_package}
+use Rattle.jc_packages.specs.LinkerView.{linker_view}
+use Rattle.jc_packages.specs.declared.load_refusal.LoadRefusal.{LoadRefusal}
+use Rattle.jc_packages.specs.declared.load_refusal.LoadRefusal.TheVariants.{AidTaken, Full}
+use Rattle.law_images.proofs.RecordPackages.{linked_ok, read_ok, refused}
 
 abbrev prepared_or : PendingPackageValue → Result PendingPackageValue LoadRefusal → PendingPackageValue
 prepared_or d (Ok q) = q

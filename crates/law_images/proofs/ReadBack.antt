@@ -11,7 +11,7 @@ use Rattle.jc_heap.specs.Components.{AreInfosOfBytes, HasBytes, info_of}
 use Rattle.jc_heap.specs.Packed.{packed_byte, bytes_of_packed}
 use Rattle.jc_heap.specs.Packages.{AreComponents, package_record}
 use Rattle.jc_heap.proofs.ReadBack.{reads_back}
-use Rattle.jc_card_load.specs.Reading.{text_at, text_in}
+use Rattle.jc_packages.specs.Reading.{text_at, text_in}
 
 -- the info with a tag among components
 abbrev pub look : List (ℕ × List ℕ) → ℕ → Option (List ℕ)

@@ -10,11 +10,11 @@ use Rattle.jc_memory.specs.State.{MemoryState, Effect, HeapMove, SetTransient, S
 use Rattle.jc_memory.specs.State.{apply_effect}
 use Rattle.jc_linker.specs.Values.{Packages}
 use Rattle.jc_platform.specs.Tokens.{Tokens}
-use Rattle.jc_card_load.specs.Reading.{packages_of}
+use Rattle.jc_packages.specs.Reading.{packages_of}
 use Rattle.law_soundness.specs.State.{IsSoundMemory}
 use Rattle.law_soundness.specs.Fit.{FitPlaces, FitsChange, FitsMove, FitsPlace, IsFit, OfPin, OfPlaces, OfRegistry, OfValue}
 use Rattle.law_soundness.proofs.Memories.{choose}
-use Rattle.law_images.specs.Kept.{IsReadAs, KeepsReading}
+use Rattle.law_images.specs.StableReading.{IsReadAs, KeepsReading}
 use Rattle.law_images.proofs.ReadingHeaps.{ArePlaced, IsPlaced, TellSame, object_tells, place_tells, places_tell, read_same, run_tells, transient_tells}
 
 -- ---- what fits is placed

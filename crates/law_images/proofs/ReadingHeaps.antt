@@ -18,8 +18,8 @@ use Rattle.jc_heap.specs.Whole.{AreAllocated}
 use Rattle.jc_heap.proofs.Laws.{heap_item_at-add_other}
 use Rattle.jc_linker.specs.Values.{Packages}
 use Rattle.jc_platform.specs.Tokens.{Tokens}
-use Rattle.jc_card_load.specs.PendingPackages.{linked_components}
-use Rattle.jc_card_load.specs.Reading.{load_of, packages_of, with_prepared, with_records}
+use Rattle.jc_packages.specs.PendingPackages.{linked_components}
+use Rattle.jc_packages.specs.Reading.{load_of, packages_of, with_prepared, with_records}
 use Rattle.law_soundness.proofs.Cells.{record-set_cell}
 use Rattle.law_soundness.proofs.Statics.{record-other, record-set_word, statics_set}
 use Rattle.law_soundness.proofs.Pins.{packages-set_place}

@@ -13,7 +13,7 @@ use Rattle.jc_heap.specs.Packed.{packed_byte, bytes_of_packed}
 use Rattle.jc_heap.specs.Statics.{IsStatic, image_from, statics_of}
 use Rattle.jc_heap.proofs.StaticImages.{static_behind, statics-walk, statics-zero}
 use Rattle.law_soundness.proofs.Lists.{byte_same, map_same}
-use Rattle.jc_card_load.specs.Reading.{load_of, text_at, text_in}
+use Rattle.jc_packages.specs.Reading.{load_of, text_at, text_in}
 
 -- words that all belong to an earlier part begin none
 none_left : (s at : ℕ) (ws : List ℕ) → length ws ≤ s → records_from part_sizes s at ws ≡ []

@@ -5,18 +5,18 @@ use Rattle.std.specs.Option.{option_map}
 use Rattle.std.specs.Result.{result_unwrap_or}
 use Rattle.std.proofs.lemmas.List.{get_or_past, take_all}
 use Rattle.std.proofs.lemmas.Bool.{cases_lt}
-use Rattle.jc_cap_linkage.specs.Envelope.{IsEnvelope, info_at}
-use Rattle.jc_cap_linkage.proofs.ToldEnvelope.{info_takes}
+use Rattle.jc_cap.specs.Envelope.{IsEnvelope, info_at}
+use Rattle.jc_cap.proofs.ToldEnvelope.{info_takes}
 use Rattle.jc_cap.specs.declared.texts.LoadedComponents.{LoadedComponents}
 use Rattle.jc_cap.specs.declared.texts.PackageBytes.{PackageBytes}
 use Rattle.jc_heap.specs.declared.object.Kind.{Kind}
 use Rattle.jc_heap.specs.Components.{AreInfosOfBytes}
 use Rattle.jc_heap.specs.Packages.{package_record}
-use Rattle.jc_card_load.specs.RecordContents.{part, component_if_present, parts_of}
-use Rattle.jc_card_load.specs.Reading.{load_of, text_in}
-use Rattle.jc_card_load.specs.LinkerView.{info_of_component}
-use Rattle.jc_card_load.proofs.Fit.{parts_fit}
-use Rattle.law_images.specs.Loaded.{AreBytes}
+use Rattle.jc_packages.specs.RecordContents.{part, component_if_present, parts_of}
+use Rattle.jc_packages.specs.Reading.{load_of, text_in}
+use Rattle.jc_packages.specs.LinkerView.{info_of_component}
+use Rattle.jc_packages.proofs.Fit.{parts_fit}
+use Rattle.law_images.specs.LoadedPackages.{AreBytes}
 use Rattle.law_images.proofs.ReadingRecords.{load_is}
 use Rattle.law_images.proofs.ReadBack.{look, text_back, text_of}
 

@@ -9,11 +9,11 @@ use Rattle.jc_memory.specs.State.{apply_effect, apply_effects}
 use Rattle.jc_memory.proofs.ProgramLemmas.{down_did, each_did, took}
 use Rattle.jc_card.specs.Answers.{exchange}
 use Rattle.jc_card.specs.CardState.{CardState}
-use Rattle.jc_session.specs.Power.{KeptState, armed_card}
-use Rattle.jc_session.specs.Starting.{IsPoweredUp}
-use Rattle.law_atomicity.specs.Tears.{IsDurableOutside}
-use Rattle.law_atomicity.proofs.Torn.{settled_effect}
-use Rattle.law_images.proofs.Shut.{IsShut, exchanging_shut}
+use Rattle.jc_card.specs.Power.{KeptState, armed_card}
+use Rattle.jc_card.specs.Starting.{IsPoweredUp}
+use Rattle.law_code.specs.Tears.{IsDurableOutside}
+use Rattle.law_code.proofs.AtomicEffects.{settled_effect}
+use Rattle.law_images.proofs.ClosedTransactions.{IsShut, exchanging_shut}
 use Rattle.law_images.specs.Rest.{IsResting, LeaveAtRest}
 
 -- where no transaction is open none keeps old values

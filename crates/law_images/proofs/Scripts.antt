@@ -13,19 +13,19 @@ use Rattle.jc_heap.specs.Heap.{HeapView, heap_at_rest}
 use Rattle.jc_memory.specs.Programs.{TearLeaves}
 use Rattle.jc_card.specs.Answers.{exchange}
 use Rattle.jc_card.specs.Dispatching.{with_response}
-use Rattle.jc_session.specs.Requests.{Request, Command, Reset, ArmFuse, PlanFault, Reply, Response, Ready, Down}
-use Rattle.jc_session.specs.Power.{PowerState, Up, Off, StoreState, IsStoreOf, armed, budget_of, durable_state, durable_rest, durable_state_in_store, planned, with_refusal}
-use Rattle.jc_session.specs.declared.planned_fault.PlannedFault.{PlannedFault}
-use Rattle.jc_session.specs.Serving.{AnswersCommand, AnswersCommandOver, IsReset, Serves, ServesOver, SessionRun}
-use Rattle.jc_session.specs.declared.session.SessionFault.{SessionFault}
-use Rattle.jc_session.specs.declared.session.SessionFault.TheVariants.{PowerFault as NotPoweredUp}
-use Rattle.jc_session.specs.Sessions.{FailsAtReset, IsSession, SessionEnds}
-use Rattle.jc_session.specs.Starting.{FailsToReset, FailsToStart, IsPoweredUp, Starts}
+use Rattle.jc_card.specs.Requests.{Request, Command, Reset, ArmFuse, PlanFault, Reply, Response, Ready, Down}
+use Rattle.jc_card.specs.Power.{PowerState, Up, Off, StoreState, IsStoreOf, armed, budget_of, durable_state, durable_rest, durable_state_in_store, planned, with_refusal}
+use Rattle.jc_card.specs.declared.planned_fault.PlannedFault.{PlannedFault}
+use Rattle.jc_card.specs.Serving.{AnswersCommand, AnswersCommandOver, IsReset, Serves, ServesOver, SessionRun}
+use Rattle.jc_card.specs.declared.session.SessionFault.{SessionFault}
+use Rattle.jc_card.specs.declared.session.SessionFault.TheVariants.{PowerFault as NotPoweredUp}
+use Rattle.jc_card.specs.Session.{FailsAtReset, IsSession, SessionEnds}
+use Rattle.jc_card.specs.Starting.{FailsToReset, FailsToStart, IsPoweredUp, Starts}
 use Rattle.jc_card.specs.declared.power_up.PowerFault.{PowerFault as Fault}
-use Rattle.jc_session.proofs.Laid.{if_laid}
-use Rattle.jc_session.proofs.Resets.{start_fails}
-use Rattle.jc_session.proofs.SessionRuns.{run_then}
-use Rattle.jc_session.proofs.WholeSessions.{are_whole}
+use Rattle.jc_card.proofs.Laid.{if_laid}
+use Rattle.jc_card.proofs.Resets.{start_fails}
+use Rattle.jc_card.proofs.SessionRuns.{run_then}
+use Rattle.jc_card.proofs.WholeSessions.{are_whole}
 use Rattle.jcard_script.specs.declared.script.ScriptFault.{ScriptFault}
 use Rattle.jcard_script.specs.declared.script.ScriptFault.TheVariants.{ReadFailed, WriteFailed, BadLine, TooLong, PowerFault}
 use Rattle.jcard_script.specs.ScriptStates.{ScriptState, FailsReset, FailsUp, IsReset as IsResetOf, IsStoreOf as IsStoreOfHeap, IsSessionStore}
@@ -35,12 +35,12 @@ use Rattle.jcard_script.specs.Texts.{IsCutOf}
 use Rattle.jcard_script.proofs.Decoding.{command_bytes}
 use Rattle.jcard_script.proofs.Words.{form_command}
 use Rattle.law_images.specs.Cards.{AreOfBytes}
-use Rattle.law_images.specs.Loaded.{AreBytes}
+use Rattle.law_images.specs.LoadedPackages.{AreBytes}
 use Rattle.law_images.proofs.Rest.{leave_at_rest, rests_so}
 use Rattle.law_images.proofs.Steps.{cut_kept}
-use Rattle.jc_session.proofs.Starts.{fault_starts, starts_off, starts_up}
+use Rattle.jc_card.proofs.Starts.{fault_starts, starts_off, starts_up}
 use Rattle.law_images.specs.Rest.{IsResting}
-use Rattle.law_images.specs.Scripts.{AreSessionsOfScript, AreSessions, AreWholeSessions, AskBytes, EndAsSessions, EndsAsSession, HaveForm, IsSameEnd, Leaves, asked_by, asked_by_form, state_of, text_of_replies}
+use Rattle.law_images.specs.ScriptLaws.{AreSessionsOfScript, AreSessions, AreWholeSessions, AskBytes, EndAsSessions, EndsAsSession, HaveForm, IsSameEnd, Leaves, asked_by, asked_by_form, state_of, text_of_replies}
 
 -- how the card of a script stands, as a session sees it
 abbrev power_in : ScriptState → PowerState

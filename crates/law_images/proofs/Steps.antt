@@ -5,11 +5,11 @@ use Rattle.jc_words.specs.Stores.{FuseStoreValue}
 use Rattle.jc_commit.specs.Image.{recovered_of}
 use Rattle.jc_heap.specs.Heap.{HeapState, HeapView}
 use Rattle.jc_heap.specs.Moves.{IsTorn}
-use Rattle.jc_session.specs.Power.{durable_state_in_store}
-use Rattle.jc_session.specs.Serving.{IsKeptOf}
-use Rattle.jc_session.proofs.Laid.{if_laid}
+use Rattle.jc_card.specs.Power.{durable_state_in_store}
+use Rattle.jc_card.specs.Serving.{IsKeptOf}
+use Rattle.jc_card.proofs.Laid.{if_laid}
 use Rattle.jcard_script.specs.ScriptStates.{IsStoreOf}
-use Rattle.law_images.specs.Scripts.{state_of}
+use Rattle.law_images.specs.ScriptLaws.{state_of}
 
 -- what is left where a write was refused, in a store of such a heap
 pub cut_kept : (May : ℕ → HeapState → Type 0) (old new : HeapView) (store : FuseStoreValue) → old.down ≡ false → IsTorn May old new → IsStoreOf new store

@@ -7,7 +7,7 @@ use Rattle.jc_heap.specs.Image.{base, image, is_package, item, item_entry, packa
 use Rattle.jc_heap.specs.Object.{Item, AnObject, APackage, object_of}
 use Rattle.jc_heap.specs.Table.{entry_or}
 use Rattle.law_linking.proofs.Lists.{AllOf}
-use Rattle.law_images.specs.GrowthRecords.{AreWords, ImagesHaveWords}
+use Rattle.law_images.specs.GrowthLaws.{AreWords, ImagesHaveWords}
 
 no_words : AreWords []
 no_words i = omega arith

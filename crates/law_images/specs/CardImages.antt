@@ -10,7 +10,7 @@ use Rattle.jc_platform.specs.Table.{Reads}
 use Rattle.jc_platform.specs.Tokens.{Tokens}
 use Rattle.jc_card.specs.CardState.{CardState}
 use Rattle.jc_card.specs.Made.{IsMade, new_card_heap}
-use Rattle.jc_session.specs.Power.{KeptState}
+use Rattle.jc_card.specs.Power.{KeptState}
 use Rattle.law_images.specs.Cards.{IsOwnCard, IsOwnKept}
 
 -- these words keep what is left of a card: a recovery of them leaves its heap

@@ -5,12 +5,12 @@ use Rattle.jc_linker.specs.Values.{Packages}
 use Rattle.jc_linker.specs.Values.{LinkerComponents}
 use Rattle.jc_card.specs.CardState.{CardState}
 use Rattle.law_linking.specs.Given.{AreRead}
-use Rattle.law_images.specs.GrowthRecords.{HaveAppletComponents}
-use Rattle.jc_session.specs.Requests.{Request, Command, Reset, ArmFuse, PlanFault, Reply}
-use Rattle.jc_session.specs.Power.{PowerState, Up, Off, KeptState}
-use Rattle.jc_session.specs.Serving.{Serves, SessionRun}
-use Rattle.law_images.specs.Kept.{IsReadAs}
-use Rattle.law_images.specs.Loaded.{AreBytes}
+use Rattle.law_images.specs.GrowthLaws.{HaveAppletComponents}
+use Rattle.jc_card.specs.Requests.{Request, Command, Reset, ArmFuse, PlanFault, Reply}
+use Rattle.jc_card.specs.Power.{PowerState, Up, Off, KeptState}
+use Rattle.jc_card.specs.Serving.{Serves, SessionRun}
+use Rattle.law_images.specs.StableReading.{IsReadAs}
+use Rattle.law_images.specs.LoadedPackages.{AreBytes}
 use Rattle.law_images.specs.ReadingLoads.{IsOpenReadable}
 use Rattle.law_soundness.specs.Commands.{IsReady}
 use Rattle.law_images.specs.Loads.{AreLaidOut, IsLaidOut}

@@ -6,13 +6,13 @@ use Rattle.jc_memory.specs.Reading.{HasTracePrefix}
 use Rattle.jc_platform.specs.Tokens.{Tokens}
 use Rattle.jc_card.specs.Answers.{exchange}
 use Rattle.jc_card.specs.CardState.{CardState}
-use Rattle.jc_session.specs.Requests.{Request, Reply, Response, Ready, Down, Armed, Planned}
-use Rattle.jc_session.specs.Power.{PowerState, Up, Off, KeptState, StoreState}
-use Rattle.jc_session.specs.Serving.{SessionRun}
-use Rattle.jc_session.specs.Sessions.{IsSession}
-use Rattle.law_images.specs.Loaded.{AreBytes}
+use Rattle.jc_card.specs.Requests.{Request, Reply, Response, Ready, Down, Armed, Planned}
+use Rattle.jc_card.specs.Power.{PowerState, Up, Off, KeptState, StoreState}
+use Rattle.jc_card.specs.Serving.{SessionRun}
+use Rattle.jc_card.specs.Session.{IsSession}
+use Rattle.law_images.specs.LoadedPackages.{AreBytes}
 use Rattle.law_images.specs.Cards.{AreOfBytes, IsOwnKept}
-use Rattle.law_images.specs.Faults.{IsOwnStore}
+use Rattle.law_images.specs.CardLaws.{IsOwnStore}
 
 -- a session comes to this state that began without power, with any budget and with what is left of a new image, or of one that sessions left of it
 pub record ComesTo (t : Tokens) (s : PowerState) : Type 0 where

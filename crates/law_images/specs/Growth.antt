@@ -5,11 +5,11 @@ use Rattle.jc_cap.specs.declared.texts.LoadedComponents.{LoadedComponents}
 use Rattle.jc_linker.specs.Values.{Packages}
 use Rattle.jc_linker.specs.Values.{LinkerComponents}
 use Rattle.jc_linker.specs.Linking.{with_package}
-use Rattle.jc_card_load.specs.PendingPackages.{PendingPackageValue, linked_components}
-use Rattle.law_linking.specs.Linked.{AreLinked}
+use Rattle.jc_packages.specs.PendingPackages.{PendingPackageValue, linked_components}
+use Rattle.law_linking.specs.LinkedPackages.{AreLinked}
 use Rattle.law_linking.specs.Given.{AreRead}
 use Rattle.law_soundness.specs.State.{IsSoundUpTo}
-use Rattle.law_images.specs.GrowthRecords.{HaveAppletComponents}
+use Rattle.law_images.specs.GrowthLaws.{HaveAppletComponents}
 
 -- what fits packages that were linked fits them with one more, which was prepared onto them
 abbrev pub GrowthKeepsSound : Type 0

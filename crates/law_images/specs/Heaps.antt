@@ -6,8 +6,8 @@ use Rattle.jc_heap.specs.Keeping.{IsConsistentHeap}
 use Rattle.jc_platform.specs.Tokens.{Tokens}
 use Rattle.jc_platform.specs.Table.{Reads}
 use Rattle.jc_linker.specs.Values.{Packages}
-use Rattle.jc_card_checks.specs.Objects.{is_persistent_instance}
-use Rattle.jc_card_load.specs.Reading.{packages_of}
+use Rattle.jc_packages.specs.Objects.{is_persistent_instance}
+use Rattle.jc_packages.specs.Reading.{packages_of}
 use Rattle.jc_card.specs.Fixed.{BeginsWithFixed, fixed_of, last_fixed}
 use Rattle.law_soundness.specs.Environment.{AreEnvironmentObjects}
 use Rattle.law_soundness.specs.State.{IsSoundUpTo}

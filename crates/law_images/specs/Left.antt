@@ -6,7 +6,7 @@ use Rattle.jc_memory.specs.State.{Effect, HeapMove, apply_effect, moves_of}
 use Rattle.jc_memory.specs.Reading.{HasTracePrefix}
 use Rattle.jc_card.specs.Answers.{exchange}
 use Rattle.jc_card.specs.CardState.{CardState}
-use Rattle.jc_session.specs.Requests.{Request, Command, Reset, ArmFuse, PlanFault}
+use Rattle.jc_card.specs.Requests.{Request, Command, Reset, ArmFuse, PlanFault}
 use Rattle.law_images.specs.Comes.{memory_at}
 use Rattle.law_images.specs.Tries.{IsAsFound}
 

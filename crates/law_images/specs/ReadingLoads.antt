@@ -6,12 +6,12 @@ use Rattle.jc_memory.specs.Programs.{Completes, TearLeaves}
 use Rattle.jc_memory.specs.State.{MemoryState}
 use Rattle.jc_linker.specs.Values.{Packages}
 use Rattle.jc_platform.specs.Tokens.{Tokens}
-use Rattle.jc_card_load.specs.Reading.{packages_of}
-use Rattle.jc_card_load.specs.declared.load.OpenLoad.{OpenLoad}
-use Rattle.jc_card_load.specs.Ending.{LoadResult, end_of_load}
-use Rattle.jc_card_load.specs.Loading.{empty_load, component_begin, component_end, component_append}
-use Rattle.law_images.specs.Kept.{IsReadAs}
-use Rattle.law_images.specs.Loaded.{AreBytes, IsReadable}
+use Rattle.jc_packages.specs.Reading.{packages_of}
+use Rattle.jc_packages.specs.declared.load.OpenLoad.{OpenLoad}
+use Rattle.jc_packages.specs.LoadEnd.{LoadResult, end_of_load}
+use Rattle.jc_packages.specs.Loading.{empty_load, component_begin, component_end, component_append}
+use Rattle.law_images.specs.StableReading.{IsReadAs}
+use Rattle.law_images.specs.LoadedPackages.{AreBytes, IsReadable}
 
 -- an open load whose components can be read of a record: what came is bytes
 pub record IsOpenReadable (load : OpenLoad) : Type 0 where

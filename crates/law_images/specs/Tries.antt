@@ -8,11 +8,11 @@ use Rattle.jc_heap.specs.Moves.{SetPlaces, WriteNonAtomic}
 use Rattle.jc_heap.specs.Places.{place_at}
 use Rattle.jc_memory.specs.State.{MemoryState, Effect, HeapMove, apply_effect}
 use Rattle.jc_linker.specs.Values.{Packages}
-use Rattle.jc_pin.specs.Pins.{counter_cell, record_of}
-use Rattle.jc_pin.specs.PinInit.{first_record}
-use Rattle.jc_pin.specs.Updating.{changes_of_update}
+use Rattle.jc_environment.specs.Pins.{counter_cell, record_of}
+use Rattle.jc_environment.specs.PinInit.{first_record}
+use Rattle.jc_environment.specs.PinUpdates.{changes_of_update}
 use Rattle.jc_platform.specs.declared.names.PlatformClass.TheVariants.{OwnerPin}
-use Rattle.jc_card_checks.specs.Objects.{is_bytes, is_object_address, is_persistent_instance}
+use Rattle.jc_packages.specs.Objects.{is_bytes, is_object_address, is_persistent_instance}
 use Rattle.jc_linker.specs.Classes.{is_a}
 
 -- a persistent instance of OwnerPIN, or of a class below it

@@ -1,5 +1,5 @@
 //! Laws of the definitions of scripts.
-ghost use Rattle.law_images.specs.Scripts.{AreSessions, AreWholeSessions, AskBytes, EndAsSessions};
+ghost use Rattle.law_images.specs.ScriptLaws.{AreSessions, AreWholeSessions, AskBytes, EndAsSessions};
 
 /// However a script ends, the lines that were carried out are a session over its store: it is asked their commands and
 /// resets, and to arm the fuse, in their order, its replies are what was written for them, and the store is the one

@@ -6,7 +6,7 @@ use Rattle.jc_platform.specs.declared.names.PlatformClass.{PlatformClass}
 use Rattle.jc_platform.specs.Distinct.{class_word}
 use Rattle.jc_platform.specs.Hierarchy.{is_interface, superclass_of}
 use Rattle.jc_platform.specs.Platform.{class_by_word}
-use Rattle.jc_cap_linkage.specs.declared.pool.VirtualToken.{VirtualToken}
+use Rattle.jc_cap.specs.declared.pool.VirtualToken.{VirtualToken}
 use Rattle.jc_linker.specs.declared.target.Method.{Method}
 use Rattle.jc_linker.specs.declared.target.Target.{Target}
 use Rattle.jc_linker.specs.declared.target.Target.TheVariants as targets
@@ -16,8 +16,8 @@ use Rattle.jc_linker.specs.Methods.{method_at}
 use Rattle.jc_linker.specs.Resolves.{class_named, interface_by, names_interface, super_target}
 use Rattle.jc_linker.specs.Values.{ClassValue, Packages}
 use Rattle.jc_linker.specs.Values.{LinkerComponents}
-use Rattle.law_linking.specs.Linked.{AreLinked}
-use Rattle.law_linking.proofs.Entered.{entered}
+use Rattle.law_linking.specs.LinkedPackages.{AreLinked}
+use Rattle.law_linking.proofs.EntryTargets.{entered}
 use Rattle.law_linking.proofs.Facts.{extending_class}
 use Rattle.law_linking.proofs.Fields.{any_field, any_foreign, any_super, mapped_there, of_entry}
 use Rattle.law_linking.proofs.Lists.{IfThere}

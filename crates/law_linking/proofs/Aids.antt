@@ -4,16 +4,16 @@ use Rattle.std.proofs.Common.{if◌then◌else◌}
 use Rattle.std.specs.Prelude.{All, slice_get}
 use Rattle.std.proofs.lemmas.Bool.{and_from, le-leb}
 use Rattle.std.proofs.lemmas.List.Elements.{All-cons, All-head, All-nil, All-tail}
-use Rattle.jc_cap_linkage.specs.Grammar.{AreEncodedInTurn}
-use Rattle.jc_cap_linkage.specs.Applets.{AppletNamed, IsApplet}
+use Rattle.jc_cap.specs.Grammar.{AreEncodedInTurn}
+use Rattle.jc_cap.specs.Applets.{AppletNamed, IsApplet}
 use Rattle.jc_linker.specs.Classes.{package_in}
 use Rattle.jc_linker.specs.Lookups.{applet_entry}
 use Rattle.jc_linker.specs.Values.{AppletEntry, PackageValue, Packages}
 use Rattle.jc_linker.specs.Values.{LinkerComponents}
 use Rattle.jc_linker.specs.Linking.{with_package}
 use Rattle.jc_linker.specs.Outlines.{all_of, applet_of}
-use Rattle.law_linking.specs.Linked.{AreLinkedAgainst}
-use Rattle.law_linking.proofs.Linking.{made}
+use Rattle.law_linking.specs.LinkedPackages.{AreLinkedAgainst}
+use Rattle.law_linking.proofs.LinkAnswers.{made}
 use Rattle.law_linking.proofs.Lists.{AllOf, IfThere, all_at, all_behind, then_there}
 use Rattle.law_linking.specs.Given.{HasAppletComponent}
 use Rattle.law_linking.specs.ClassLaws.{HaveAids}

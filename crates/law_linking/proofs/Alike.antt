@@ -6,8 +6,8 @@ use Rattle.std.specs.Option.{option_and_then}
 use Rattle.jc_platform.specs.declared.names.PlatformClass.TheVariants.{Shareable}
 use Rattle.jc_platform.specs.Distinct.{class_word}
 use Rattle.jc_platform.specs.Platform.{class_by_word}
-use Rattle.jc_cap_linkage.specs.declared.pool.VirtualToken.{VirtualToken}
-use Rattle.jc_cap_linkage.specs.declared.pool.VirtualToken.TheVariants.{Public, PackageVisible}
+use Rattle.jc_cap.specs.declared.pool.VirtualToken.{VirtualToken}
+use Rattle.jc_cap.specs.declared.pool.VirtualToken.TheVariants.{Public, PackageVisible}
 use Rattle.jc_linker.specs.Classes.{any_is, any_reference, class_in, extends, extends_within, implements, interfaces_by, interfaces_in, is_below, is_class}
 use Rattle.jc_linker.specs.Classes.{is_instantiable_class, is_instantiable_class_by, is_shareable, lineage, lineage_from, most_classes, own_reference}
 use Rattle.jc_linker.specs.Classes.{reference_cell, size_by, size_of, stands_before, superclass_by, superclass_in}
@@ -16,7 +16,7 @@ use Rattle.jc_linker.specs.Methods.{implementation_by, implementation_in, interf
 use Rattle.jc_linker.specs.Methods.{first_decided}
 use Rattle.jc_linker.specs.Resolves.{interface_by, names_interface}
 use Rattle.jc_linker.specs.Values.{PackageValue, Packages}
-use Rattle.law_linking.specs.Staying.{ClassStays}
+use Rattle.law_linking.specs.Stability.{ClassStays}
 use Rattle.law_linking.proofs.Lists.{AllOf, IfThere, all_filtered, any_alike, searched_alike, then_alike}
 
 abbrev pub with_loaded : Packages → List PackageValue → Packages

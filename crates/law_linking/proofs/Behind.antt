@@ -8,9 +8,9 @@ use Rattle.jc_linker.specs.Classes.{class_in}
 use Rattle.jc_linker.specs.Values.{ClassValue, PackageValue, Packages}
 use Rattle.jc_linker.specs.Values.{LinkerComponents}
 use Rattle.jc_linker.specs.Linking.{next_number, with_classes, with_package}
-use Rattle.law_linking.specs.Linked.{AreLinkedAgainst, IsLinkedAgainst}
-use Rattle.law_linking.proofs.Closed.{IsClosed, IsClosedClass, class_closed, package_same}
-use Rattle.law_linking.proofs.Linking.{closed_next, imports_stand, longer, made}
+use Rattle.law_linking.specs.LinkedPackages.{AreLinkedAgainst, IsLinkedAgainst}
+use Rattle.law_linking.proofs.ClosedPackages.{IsClosed, IsClosedClass, class_closed, package_same}
+use Rattle.law_linking.proofs.LinkAnswers.{closed_next, imports_stand, longer, made}
 use Rattle.law_linking.proofs.Lists.{IfThere}
 use Rattle.law_linking.proofs.Numbers.{Stands}
 use Rattle.law_linking.specs.Given.{AreRead, HasClassComponent}

@@ -23,8 +23,8 @@ use Rattle.law_linking.proofs.Chains.{Fits, Reaches, below_reached, cell_of_reac
 use Rattle.law_linking.proofs.Good.{AllGood}
 use Rattle.law_linking.proofs.Facts.{few_cells, reference_above}
 use Rattle.law_linking.proofs.Nameless.{nameless, names_none, no_class_there, no_interface_there, token_or_none}
-use Rattle.law_linking.proofs.Ordered.{inherited_size, listed, named, not_loaded, ordered, platform_above, platform_interface}
-use Rattle.law_linking.proofs.Ordered.{of_some, platform_own, platform_size, superclass_stands}
+use Rattle.law_linking.proofs.CellOrder.{inherited_size, listed, named, not_loaded, ordered, platform_above, platform_interface}
+use Rattle.law_linking.proofs.CellOrder.{of_some, platform_own, platform_size, superclass_stands}
 use Rattle.law_linking.proofs.Tokens.{HasToken, token_of_word}
 
 module _ (p : Packages) (few : length p.loaded ≤ 32) (names : TellNames p.platform) (bytes : HasByteTokens p.platform) (good : AllGood p) where

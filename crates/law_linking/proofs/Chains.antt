@@ -7,7 +7,7 @@ use Rattle.jc_linker.specs.Classes.{any_is, any_reference, class_in, extends, ex
 use Rattle.jc_linker.specs.Classes.{own_reference, size_of, stands_before, superclass_in}
 use Rattle.jc_linker.specs.Resolves.{names_interface}
 use Rattle.jc_linker.specs.Values.{Packages}
-use Rattle.law_linking.proofs.Closed.{if_more}
+use Rattle.law_linking.proofs.ClosedPackages.{if_more}
 use Rattle.law_linking.proofs.Lists.{AllOf, IfThere, any_so}
 
 -- a cell belongs to the class itself, of one of the platform also to a superclass, and holds a reference

@@ -7,7 +7,7 @@ use Rattle.jc_linker.specs.Classes.{is_below, reference_cell}
 use Rattle.jc_linker.specs.Lookups.{target_at}
 use Rattle.jc_linker.specs.Values.{Packages}
 use Rattle.jc_linker.specs.Values.{LinkerComponents}
-use Rattle.law_linking.proofs.Entered.{few_packages}
+use Rattle.law_linking.proofs.EntryTargets.{few_packages}
 use Rattle.law_linking.proofs.Fields.{named_field}
 use Rattle.jc_linker.specs.Classes.{is_a}
 use Rattle.law_linking.specs.Classes.{has_instances}
@@ -16,7 +16,7 @@ use Rattle.law_linking.specs.ClassLaws.{HaveCells, HaveClasses, HaveFields, Have
 use Rattle.law_linking.proofs.Cells.{field_behind, field_is, platform_cells}
 use Rattle.law_linking.proofs.Fields.{hide_fields}
 use Rattle.law_linking.proofs.Good.{AllGood, all_good}
-use Rattle.law_linking.proofs.Named.{named_there}
+use Rattle.law_linking.proofs.NamedClasses.{named_there}
 use Rattle.law_linking.proofs.Receivers.{by_entry, by_token}
 
 pub good_of : (cs : List LinkerComponents) (p : Packages) → AreRead cs p → AllGood p

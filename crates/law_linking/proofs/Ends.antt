@@ -18,7 +18,7 @@ use Rattle.law_linking.proofs.Lists.{IfThere}
 use Rattle.law_linking.proofs.Numbers.{package_low, then_some}
 use Rattle.law_linking.specs.Given.{HasByteTokens}
 use Rattle.law_linking.proofs.Chains.{Reaches}
-use Rattle.law_linking.proofs.Ordered.{no_value, platform_above, superclass_stands}
+use Rattle.law_linking.proofs.CellOrder.{no_value, platform_above, superclass_stands}
 use Rattle.law_linking.proofs.Tokens.{HasToken, token_of_word}
 use Rattle.law_linking.proofs.Behind.{AllBehind}
 

@@ -2,12 +2,12 @@
 use Rattle.std.proofs.Common.{◌≡◌, ℕ, ◌/◌, List, [], Option, Some, None, refl, sym, ap, ◌∙◌, if◌then◌else◌}
 use Rattle.std.specs.Prelude.{slice_get}
 use Rattle.std.specs.Option.{option_map, option_and_then}
-use Rattle.jc_cap_linkage.specs.declared.class_refs.ClassRef.{ClassRef}
-use Rattle.jc_cap_linkage.specs.declared.class_refs.ClassRef.TheVariants as refs
-use Rattle.jc_cap_linkage.specs.declared.pool.Entry.{Entry}
-use Rattle.jc_cap_linkage.specs.declared.pool.Entry.TheVariants as entries
-use Rattle.jc_cap_linkage.specs.declared.pool.StaticRef.TheVariants as statics
-use Rattle.jc_cap_linkage.specs.declared.pool.VirtualToken.{VirtualToken}
+use Rattle.jc_cap.specs.declared.class_refs.ClassRef.{ClassRef}
+use Rattle.jc_cap.specs.declared.class_refs.ClassRef.TheVariants as refs
+use Rattle.jc_cap.specs.declared.pool.Entry.{Entry}
+use Rattle.jc_cap.specs.declared.pool.Entry.TheVariants as entries
+use Rattle.jc_cap.specs.declared.pool.StaticRef.TheVariants as statics
+use Rattle.jc_cap.specs.declared.pool.VirtualToken.{VirtualToken}
 use Rattle.jc_linker.specs.declared.target.Target.{Target}
 use Rattle.jc_linker.specs.declared.target.Target.TheVariants as targets
 use Rattle.jc_linker.specs.Classes.{package_in, superclass_in}

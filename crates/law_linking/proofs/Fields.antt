@@ -8,11 +8,11 @@ use Rattle.jc_platform.specs.declared.names.PlatformClass.{PlatformClass}
 use Rattle.jc_platform.specs.Distinct.{class_word}
 use Rattle.jc_platform.specs.Hierarchy.{interfaces_of, superclass_of}
 use Rattle.jc_platform.specs.Platform.{class_by_word}
-use Rattle.jc_cap_linkage.specs.declared.class_refs.ClassRef.{ClassRef}
-use Rattle.jc_cap_linkage.specs.declared.pool.Entry.{Entry}
-use Rattle.jc_cap_linkage.specs.declared.pool.Entry.TheVariants as entries
-use Rattle.jc_cap_linkage.specs.declared.pool.StaticRef.TheVariants as statics
-use Rattle.jc_cap_linkage.specs.declared.pool.VirtualToken.{VirtualToken}
+use Rattle.jc_cap.specs.declared.class_refs.ClassRef.{ClassRef}
+use Rattle.jc_cap.specs.declared.pool.Entry.{Entry}
+use Rattle.jc_cap.specs.declared.pool.Entry.TheVariants as entries
+use Rattle.jc_cap.specs.declared.pool.StaticRef.TheVariants as statics
+use Rattle.jc_cap.specs.declared.pool.VirtualToken.{VirtualToken}
 use Rattle.jc_linker.specs.declared.target.Method.{Method}
 use Rattle.jc_linker.specs.declared.target.Method.TheVariants.{Code}
 use Rattle.jc_linker.specs.declared.target.Target.{Target}
@@ -26,10 +26,10 @@ use Rattle.jc_linker.specs.Resolves.{names_interface, resolution, static_method_
 use Rattle.jc_linker.specs.Values.{ClassValue, Packages}
 use Rattle.jc_linker.specs.Values.{LinkerComponents}
 use Rattle.law_linking.specs.Fields.{HideFields}
-use Rattle.law_linking.specs.Linked.{AreLinked}
+use Rattle.law_linking.specs.LinkedPackages.{AreLinked}
 use Rattle.law_linking.proofs.Lists.{AllOf, IfThere, any_so, map_there, then_there}
-use Rattle.law_linking.proofs.Closed.{anything}
-use Rattle.law_linking.proofs.Entered.{entered, few_packages}
+use Rattle.law_linking.proofs.ClosedPackages.{anything}
+use Rattle.law_linking.proofs.EntryTargets.{entered, few_packages}
 use Rattle.law_linking.proofs.Numbers.{package_low, then_some, word_high}
 
 abbrev pub IsHigh : ℕ → Type 0

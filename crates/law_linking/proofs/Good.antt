@@ -13,13 +13,13 @@ use Rattle.jc_linker.specs.Values.{ClassValue, Implementation, PackageValue, Pac
 use Rattle.jc_linker.specs.Values.{LinkerComponents}
 use Rattle.jc_linker.specs.Linking.{cells_above, cells_in, next_number, with_classes, with_package}
 use Rattle.jc_linker.specs.Completeness.{are_complete_from, has_superclass, inherits_from, is_implemented, is_complete}
-use Rattle.law_linking.specs.Linked.{AreLinked, AreLinkedAgainst, IsLinkedAgainst}
+use Rattle.law_linking.specs.LinkedPackages.{AreLinked, AreLinkedAgainst, IsLinkedAgainst}
 use Rattle.law_linking.proofs.Alike.{interface_alike, size_alike}
-use Rattle.law_linking.proofs.Closed.{IsBeside, IsClosed, IsClosedClass, alike, class_closed}
-use Rattle.law_linking.proofs.Entered.{there as some_at}
+use Rattle.law_linking.proofs.ClosedPackages.{IsBeside, IsClosed, IsClosedClass, alike, class_closed}
+use Rattle.law_linking.proofs.EntryTargets.{there as some_at}
 use Rattle.law_linking.proofs.Facts.{either}
 use Rattle.law_linking.proofs.ResolutionLaws.{package_last, told_alike}
-use Rattle.law_linking.proofs.Linking.{closed_next, imports_stand, made}
+use Rattle.law_linking.proofs.LinkAnswers.{closed_next, imports_stand, made}
 use Rattle.law_linking.proofs.Lists.{AllOf, IfThere, all_at, all_more}
 use Rattle.law_linking.proofs.Nameless.{nameless, no_class_there}
 use Rattle.law_linking.proofs.Numbers.{Stands, stands_beside}

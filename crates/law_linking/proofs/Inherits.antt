@@ -6,20 +6,20 @@ use Rattle.std.specs.Option.{option_map}
 use Rattle.std.proofs.lemmas.Bool.{cases_eq, cases_lt, eq-eqb, false≢true, ne_eqb}
 use Rattle.std.proofs.lemmas.List.{get_or-map, get_or_append_left}
 use Rattle.std.proofs.lemmas.List.Quantifiers.{position-Some}
-use Rattle.jc_cap_linkage.specs.declared.class_refs.ClassRef.{ClassRef}
-use Rattle.jc_cap_linkage.specs.declared.class_refs.ClassRef.TheVariants.{External, Internal}
-use Rattle.jc_cap_linkage.specs.declared.formats.Format.{Format}
-use Rattle.jc_cap_code.specs.declared.class_records.ClassRecord.{ClassRecord}
-use Rattle.jc_cap_code.specs.declared.class_records.ClassRecord.TheVariants as records
-use Rattle.jc_cap_code.specs.ClassGrammar.{AreClasses, AreRecords, IsEarlier, IsRecord, LooksBack}
-use Rattle.jc_cap_code.specs.ClassValues.{RecordAt, offsets_of}
+use Rattle.jc_cap.specs.declared.class_refs.ClassRef.{ClassRef}
+use Rattle.jc_cap.specs.declared.class_refs.ClassRef.TheVariants.{External, Internal}
+use Rattle.jc_cap.specs.declared.formats.Format.{Format}
+use Rattle.jc_cap.specs.declared.class_records.ClassRecord.{ClassRecord}
+use Rattle.jc_cap.specs.declared.class_records.ClassRecord.TheVariants as records
+use Rattle.jc_cap.specs.Classes.{AreClasses, AreRecords, IsEarlier, IsRecord, LooksBack}
+use Rattle.jc_cap.specs.ClassValues.{RecordAt, offsets_of}
 use Rattle.jc_linker.specs.Classes.{size_of}
 use Rattle.jc_linker.specs.Resolves.{class_at_offset, class_named, class_of, class_with_token, import_of, import_by_token, class_index}
 use Rattle.jc_linker.specs.Values.{ClassValue, PackageValue, Packages}
 use Rattle.jc_linker.specs.Values.{LinkerComponents}
 use Rattle.jc_linker.specs.Linking.{cells_above, cells_in, class_by_record, classes_behind, next_number, with_package, word_of}
 use Rattle.jc_linker.specs.Outlines.{outline_of, package_outline}
-use Rattle.law_linking.proofs.Closed.{Beside, IsBeside, IsClosed, alike, names}
+use Rattle.law_linking.proofs.ClosedPackages.{Beside, IsBeside, IsClosed, alike, names}
 use Rattle.law_linking.proofs.Entries.{token_alike}
 use Rattle.law_linking.proofs.ResolutionLaws.{package_last}
 use Rattle.law_linking.proofs.Lists.{AllOf, IfThere, all_at, all_behind, all_more, then_there}

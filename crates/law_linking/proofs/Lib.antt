@@ -2,28 +2,28 @@ pub mod Lists
 pub mod Alike
 pub mod Entries
 pub mod Numbers
-pub mod Closed
-pub mod Linking
+pub mod ClosedPackages
+pub mod LinkAnswers
 pub mod ResolutionLaws
-pub mod Entered
+pub mod EntryTargets
 pub mod Fields
 pub mod Facts
 pub mod Tokens
 pub mod Chains
-mod Inherited
+mod InheritedMethods
 pub mod Inherits
 pub mod Nameless
 pub mod Good
-pub mod Ordered
+pub mod CellOrder
 pub mod Cells
 pub mod Receivers
-pub mod Named
+pub mod NamedClasses
 pub mod Aids
 pub mod ClassLaws
 pub mod Bytes
 pub mod Plain
-pub mod Found
-pub mod Kept
+pub mod PlatformSearches
+pub mod PlatformClasses
 pub mod Behind
 pub mod Ends
 pub mod Above

@@ -2,7 +2,7 @@
 use Rattle.std.proofs.Common.{◌≡◌, ℕ, ◌/◌, true, List, Some, arith}
 use Rattle.jc_platform.specs.declared.names.PlatformMethod.{PlatformMethod}
 use Rattle.jc_platform.specs.Distinct.{class_of, class_word}
-use Rattle.jc_cap_linkage.specs.declared.pool.VirtualToken.{VirtualToken}
+use Rattle.jc_cap.specs.declared.pool.VirtualToken.{VirtualToken}
 use Rattle.jc_linker.specs.declared.target.Method.TheVariants.{Native}
 use Rattle.jc_linker.specs.declared.target.Target.TheVariants.{SuperMethod, VirtualMethod}
 use Rattle.jc_linker.specs.Classes.{is_below, most_classes}
@@ -11,19 +11,19 @@ use Rattle.jc_linker.specs.Lookups.{target_at}
 use Rattle.jc_linker.specs.Values.{Packages}
 use Rattle.jc_linker.specs.Values.{LinkerComponents}
 use Rattle.jc_linker.specs.Classes.{is_a}
-use Rattle.law_linking.proofs.Entered.{few_packages}
+use Rattle.law_linking.proofs.EntryTargets.{few_packages}
 use Rattle.law_linking.specs.Given.{AreRead}
 use Rattle.law_linking.proofs.Chains.{below_reached}
 use Rattle.law_linking.proofs.ClassLaws.{good_of}
-use Rattle.law_linking.proofs.Ordered.{listed}
+use Rattle.law_linking.proofs.CellOrder.{listed}
 use Rattle.law_linking.specs.MethodLaws.{HaveMethods, HaveNoCode, RunTheirMethods}
 use Rattle.law_linking.specs.Methods.{IsMethodOf}
 use Rattle.law_linking.proofs.Above.{no_interface, super_entry, virtual_entry}
 use Rattle.law_linking.proofs.Behind.{all_stand_behind}
 use Rattle.law_linking.proofs.Ends.{all_end, below_above, below_through}
-use Rattle.law_linking.proofs.Found.{by_interface, by_virtual}
-use Rattle.law_linking.proofs.Inherited.{from_below}
-use Rattle.law_linking.proofs.Kept.{above_none, keeps_platform}
+use Rattle.law_linking.proofs.PlatformSearches.{by_interface, by_virtual}
+use Rattle.law_linking.proofs.InheritedMethods.{from_below}
+use Rattle.law_linking.proofs.PlatformClasses.{above_none, keeps_platform}
 
 above_is : (cs : List LinkerComponents) (p : Packages) → AreRead cs p → (number index class below : ℕ) (m : PlatformMethod)
     → target_at p number index ≡ Some (SuperMethod class (Native m)) → is_below p below class ≡ true → is_a p below (class_of m) ≡ true

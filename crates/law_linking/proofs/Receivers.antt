@@ -13,8 +13,8 @@ use Rattle.jc_platform.specs.declared.names.PlatformMethod.{PlatformMethod}
 use Rattle.jc_platform.specs.Distinct.{class_of, class_word, kind_of_method}
 use Rattle.jc_platform.specs.Numbers.{kind_number}
 use Rattle.jc_platform.specs.Platform.{class_by_word, method_by_token}
-use Rattle.jc_cap_linkage.specs.declared.pool.VirtualToken.{VirtualToken}
-use Rattle.jc_cap_linkage.specs.declared.pool.VirtualToken.TheVariants.{PackageVisible, Public}
+use Rattle.jc_cap.specs.declared.pool.VirtualToken.{VirtualToken}
+use Rattle.jc_cap.specs.declared.pool.VirtualToken.TheVariants.{PackageVisible, Public}
 use Rattle.jc_linker.specs.declared.search.Search.{Search}
 use Rattle.jc_linker.specs.declared.search.Search.TheVariants.{Above, Found, Nowhere}
 use Rattle.jc_linker.specs.declared.target.Method.{Method}
@@ -28,8 +28,8 @@ use Rattle.jc_linker.specs.Resolves.{class_named as named_class, class_with_toke
 use Rattle.jc_linker.specs.Values.{ClassValue, Export, MethodTable, Packages}
 use Rattle.jc_linker.specs.Values.{LinkerComponents}
 use Rattle.jc_linker.specs.Classes.{is_a}
-use Rattle.law_linking.specs.Linked.{AreLinked}
-use Rattle.law_linking.proofs.Entered.{entered}
+use Rattle.law_linking.specs.LinkedPackages.{AreLinked}
+use Rattle.law_linking.proofs.EntryTargets.{entered}
 use Rattle.law_linking.proofs.Fields.{any_field, any_super, mapped_there, of_entry, some_there}
 use Rattle.law_linking.proofs.Lists.{IfThere}
 use Rattle.law_linking.proofs.Tokens.{place_of_method, word_of_class}

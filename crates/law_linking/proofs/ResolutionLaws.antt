@@ -10,7 +10,7 @@ use Rattle.std.specs.Option.{option_map, option_and_then, option_or}
 use Rattle.std.specs.Str.{bytes_eq}
 use Rattle.jc_platform.specs.Platform.{package_by_aid}
 use Rattle.jc_platform.specs.Tokens.{number_in}
-use Rattle.jc_cap_linkage.specs.declared.pool.Entry.{Entry}
+use Rattle.jc_cap.specs.declared.pool.Entry.{Entry}
 use Rattle.jc_linker.specs.declared.target.Target.{Target}
 use Rattle.jc_linker.specs.Classes.{class_in, interfaces_in, package_in, superclass_in}
 use Rattle.jc_linker.specs.Lookups.{applet_entry, applet_of, code_at, entry_at, entry_with_aid, package_with_aid, if_entry, methods_of, statics_at, statics_of}
@@ -19,14 +19,14 @@ use Rattle.jc_linker.specs.Resolves.{class_at_offset, class_with_token, import_b
 use Rattle.jc_linker.specs.Values.{PackageValue, Packages}
 use Rattle.jc_linker.specs.Values.{LinkerComponents}
 use Rattle.jc_linker.specs.Linking.{next_number, with_classes, with_package}
-use Rattle.law_linking.specs.Linked.{AreLinkedAgainst, IsLinkedAgainst}
-use Rattle.law_linking.specs.Staying.{AddingKeeps, PackageStays, Stays}
-use Rattle.law_linking.specs.Resolving.{AllResolve, Resolve}
+use Rattle.law_linking.specs.LinkedPackages.{AreLinkedAgainst, IsLinkedAgainst}
+use Rattle.law_linking.specs.Stability.{AddingKeeps, PackageStays, Stays}
+use Rattle.law_linking.specs.Resolution.{AllResolve, Resolve}
 use Rattle.law_linking.proofs.Lists.{AllOf}
 use Rattle.law_linking.proofs.Alike.{AreAlike, class_stays}
 use Rattle.law_linking.proofs.Entries.{NamesAlike, bare, resolves_alike}
-use Rattle.law_linking.proofs.Closed.{Beside, IsBeside, IsClosed, alike, anything, names, package_same}
-use Rattle.law_linking.proofs.Linking.{IsMade, IsSome, closed_next, some_value, longer, made, target_of_entry, target_past}
+use Rattle.law_linking.proofs.ClosedPackages.{Beside, IsBeside, IsClosed, alike, anything, names, package_same}
+use Rattle.law_linking.proofs.LinkAnswers.{IsMade, IsSome, closed_next, some_value, longer, made, target_of_entry, target_past}
 
 -- ---- what an AID finds
 

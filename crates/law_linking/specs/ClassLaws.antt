@@ -2,7 +2,7 @@
 use Rattle.std.specs.Prelude.{ℕ, ◌≡◌, List, Some, slice_get}
 use Rattle.jc_linker.specs.Values.{Packages}
 use Rattle.jc_linker.specs.Values.{LinkerComponents}
-use Rattle.law_linking.specs.Linked.{AreLinked}
+use Rattle.law_linking.specs.LinkedPackages.{AreLinked}
 use Rattle.law_linking.specs.Classes.{HasAids, HasFieldCells, HasPlatformCells, HasReceivers, KnowsClasses}
 use Rattle.law_linking.specs.Given.{AreRead, HasAppletComponent}
 

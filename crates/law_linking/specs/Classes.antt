@@ -1,6 +1,6 @@
 -- What the classes of linked packages say of one another, as far as cells of instances and methods of the platform go.
 use Rattle.std.specs.Prelude.{ℕ, ◌≡◌, ◌≤◌, ◌<◌, ◌&&◌, ◌⊎◌, nat_le, nat_lt, Bool, true, false, not, length, slice_index, Option, Some, is_some}
-use Rattle.jc_cap_linkage.specs.declared.pool.VirtualToken.{VirtualToken}
+use Rattle.jc_cap.specs.declared.pool.VirtualToken.{VirtualToken}
 use Rattle.jc_platform.specs.declared.names.PlatformClass.{PlatformClass}
 use Rattle.jc_platform.specs.declared.names.PlatformMethod.{PlatformMethod}
 use Rattle.jc_platform.specs.declared.names.MethodKind.TheVariants as kinds

@@ -7,7 +7,7 @@ use Rattle.jc_linker.specs.Classes.{is_below}
 use Rattle.jc_linker.specs.Lookups.{target_at}
 use Rattle.jc_linker.specs.Values.{Packages}
 use Rattle.jc_linker.specs.Values.{LinkerComponents}
-use Rattle.law_linking.specs.Linked.{AreLinked}
+use Rattle.law_linking.specs.LinkedPackages.{AreLinked}
 
 -- among packages that were linked no entry names a field that instances of a class of the platform have, if they are of no class below it
 abbrev pub HideFields : Type 0

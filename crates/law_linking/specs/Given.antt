@@ -1,14 +1,14 @@
 -- Packages that were read and linked.
 use Rattle.std.specs.Prelude.{ℕ, ◌≡◌, ◌<◌, All, List, Option, Some, None, slice_get}
-use Rattle.jc_cap_linkage.specs.declared.formats.Format.{Format}
-use Rattle.jc_cap_linkage.specs.Applets.{AppletNamed, IsApplets}
-use Rattle.jc_cap_code.specs.ClassGrammar.{AreClasses}
+use Rattle.jc_cap.specs.declared.formats.Format.{Format}
+use Rattle.jc_cap.specs.Applets.{AppletNamed, IsApplets}
+use Rattle.jc_cap.specs.Classes.{AreClasses}
 use Rattle.jc_platform.specs.declared.names.PlatformClass.{PlatformClass}
 use Rattle.jc_platform.specs.Platform.{TellNames}
 use Rattle.jc_platform.specs.Tokens.{Tokens, class_token}
 use Rattle.jc_linker.specs.Values.{Packages}
 use Rattle.jc_linker.specs.Values.{LinkerComponents}
-use Rattle.law_linking.specs.Linked.{AreLinked}
+use Rattle.law_linking.specs.LinkedPackages.{AreLinked}
 
 -- the token of each class that the platform has is one byte
 abbrev pub HasByteTokens : Tokens → Type 0

@@ -1,9 +1,9 @@
 pub mod Classes
 pub mod Methods
 pub mod Platform
-pub mod Linked
-pub mod Staying
-pub mod Resolving
+pub mod LinkedPackages
+pub mod Stability
+pub mod Resolution
 pub mod Fields
 pub mod Given
 pub mod ClassLaws

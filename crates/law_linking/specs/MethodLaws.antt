@@ -1,6 +1,6 @@
 -- What linked packages know of methods, and what reading a platform table says of its tokens.
 use Rattle.std.specs.Prelude.{ℕ, ◌≡◌, ◌/◌, true, List, Ok, Some}
-use Rattle.jc_cap_linkage.specs.declared.pool.VirtualToken.{VirtualToken}
+use Rattle.jc_cap.specs.declared.pool.VirtualToken.{VirtualToken}
 use Rattle.jc_linker.specs.declared.target.Method.{Method}
 use Rattle.jc_linker.specs.declared.target.Target.TheVariants.{VirtualMethod}
 use Rattle.jc_linker.specs.Classes.{is_below}
@@ -10,7 +10,7 @@ use Rattle.jc_platform.specs.Table.{Reads}
 use Rattle.jc_platform.specs.Tokens.{Tokens}
 use Rattle.jc_linker.specs.Values.{Packages}
 use Rattle.jc_linker.specs.Values.{LinkerComponents}
-use Rattle.law_linking.specs.Linked.{AreLinked}
+use Rattle.law_linking.specs.LinkedPackages.{AreLinked}
 use Rattle.law_linking.specs.Given.{AreRead, HasByteTokens}
 use Rattle.law_linking.specs.Methods.{KnowsMethods}
 use Rattle.law_linking.specs.Platform.{KeepsPlatform}

@@ -1,7 +1,7 @@
 -- What calls rely on, of the methods and classes of linked packages.
 use Rattle.std.specs.Prelude.{ℕ, ◌≡◌, ◌≤◌, true, length, Some}
 use Rattle.jc_words.specs.Layout.{most_packages}
-use Rattle.jc_cap_linkage.specs.declared.pool.VirtualToken.{VirtualToken}
+use Rattle.jc_cap.specs.declared.pool.VirtualToken.{VirtualToken}
 use Rattle.jc_platform.specs.declared.names.MethodKind.TheVariants.{Static}
 use Rattle.jc_platform.specs.declared.names.PlatformClass.{PlatformClass}
 use Rattle.jc_platform.specs.declared.names.PlatformClass.TheVariants.{Object}

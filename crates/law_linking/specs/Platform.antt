@@ -1,6 +1,6 @@
 -- The platform's own classes have the platform's methods alone.
 use Rattle.std.specs.Prelude.{ℕ, ◌≡◌, true, Some}
-use Rattle.jc_cap_linkage.specs.declared.pool.VirtualToken.{VirtualToken}
+use Rattle.jc_cap.specs.declared.pool.VirtualToken.{VirtualToken}
 use Rattle.jc_platform.specs.declared.names.PlatformClass.{PlatformClass}
 use Rattle.jc_platform.specs.Distinct.{class_word}
 use Rattle.jc_linker.specs.declared.target.Method.TheVariants.{Code}

@@ -33,9 +33,9 @@ use Rattle.jc_platform.specs.Distinct.{class_word}
 use Rattle.jc_platform.specs.Hierarchy.{is_interface}
 use Rattle.jc_platform.specs.Hierarchy as platform
 use Rattle.jc_platform.specs.Names.{classes}
-use Rattle.jc_card_checks.specs.Objects.{is_instance, is_object_address}
+use Rattle.jc_packages.specs.Objects.{is_instance, is_object_address}
 use Rattle.jc_linker.specs.Classes.{is_a}
-use Rattle.jc_card_checks.specs.Sound.{aid_in, aid_of_entry, entry_word, holds_aid}
+use Rattle.jc_packages.specs.Sound.{aid_in, aid_of_entry, entry_word, holds_aid}
 use Rattle.jc_world.specs.declared.arrays.Stretch.{Stretch}
 use Rattle.jc_world.specs.declared.native_result.NativeResult.{NativeResult}
 use Rattle.jc_world.specs.declared.native_result.NativeResult.TheVariants.{ReturnVoid}
@@ -51,10 +51,10 @@ use Rattle.law_soundness.specs.State.{IsSoundMemory, IsSteady, is_home, is_open,
 use Rattle.jc_api.proofs.Reaching.{header_is}
 use Rattle.jc_api.proofs.Stretches.{length_bytes}
 use Rattle.jc_api_framework.proofs.AppletCalls.Registering.{MayRegister, Registering}
-use Rattle.law_isolation.proofs.Standing.{applets-add_object, applets-set_cells}
+use Rattle.law_code.proofs.SparedObjects.{applets-add_object, applets-set_cells}
 use Rattle.law_soundness.proofs.Below.{aid_no_pin}
 use Rattle.law_soundness.proofs.Frames.{run_headers}
-use Rattle.law_isolation.proofs.Natives.{nine}
+use Rattle.law_code.proofs.Natives.{nine}
 use Rattle.law_soundness.proofs.RunCells.{aid_put, all_set, item-set_cells}
 use Rattle.law_soundness.proofs.RunRegistry.{unlike}
 

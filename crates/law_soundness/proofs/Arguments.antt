@@ -9,8 +9,8 @@ use Rattle.jc_frames.specs.declared.cell.Cell.TheVariants.{Short}
 use Rattle.jc_frames.specs.Calls.{arguments_on}
 use Rattle.jc_frames.specs.Cells.{as_reference}
 use Rattle.jc_world.specs.Objects.{reference_argument}
-use Rattle.jc_interp_calls.specs.Invoke.{receiver_on}
-use Rattle.law_isolation.proofs.Receivers.{args_are, first_is}
+use Rattle.jc_instructions.specs.Invoke.{receiver_on}
+use Rattle.law_code.proofs.Receivers.{args_are, first_is}
 
 none_first : (stack : List Cell) (r : ℕ) → option_and_then as_reference (slice_get (reverse (take 0 stack)) 0) ≡ Some r → ⊥
 none_first stack r e = none-some r e

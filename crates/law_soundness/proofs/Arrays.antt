@@ -9,10 +9,10 @@ use Rattle.jc_transient.specs.declared.cell.CellValue.TheVariants as kept
 use Rattle.jc_heap.specs.declared.object.Kind.{Kind}
 use Rattle.jc_heap.specs.declared.object.Kind.TheVariants.{Instance, BooleanArray, ByteArray, ShortArray, ReferenceArray}
 use Rattle.jc_heap.specs.Heap.{facts}
-use Rattle.jc_opcodes.specs.declared.instr.PrimitiveArray.{PrimitiveArray}
-use Rattle.jc_opcodes.specs.declared.instr.PrimitiveArray.TheVariants.{Booleans, Bytes, Shorts}
-use Rattle.jc_opcodes.specs.declared.instr.ValueType.{ValueType}
-use Rattle.jc_opcodes.specs.declared.instr.ValueType.TheVariants as types
+use Rattle.jc_frames.specs.declared.instr.PrimitiveArray.{PrimitiveArray}
+use Rattle.jc_frames.specs.declared.instr.PrimitiveArray.TheVariants.{Booleans, Bytes, Shorts}
+use Rattle.jc_frames.specs.declared.instr.ValueType.{ValueType}
+use Rattle.jc_frames.specs.declared.instr.ValueType.TheVariants as types
 use Rattle.jc_frames.specs.declared.outcome.FrameExit.{FrameExit}
 use Rattle.jc_memory.specs.State.{MemoryState}
 use Rattle.jc_memory.specs.Cells.{word_of}
@@ -21,18 +21,18 @@ use Rattle.jc_linker.specs.declared.target.Target.TheVariants as targets
 use Rattle.jc_linker.specs.Classes.{is_class}
 use Rattle.jc_linker.specs.Lookups.{target_at}
 use Rattle.jc_linker.specs.Values.{Packages}
-use Rattle.jc_card_checks.specs.Objects.{fits_class, is_instance, is_reference}
+use Rattle.jc_packages.specs.Objects.{fits_class, is_instance, is_reference}
 use Rattle.jc_world.specs.Types.{class_named, class_of}
 use Rattle.jc_world.specs.Values.{keepable}
-use Rattle.jc_interp_objects.specs.ArrayElements.{assignable_or_null, element_value, has_elements, element_if_assignable}
-use Rattle.jc_interp_objects.specs.ArrayCreation.{kind_of}
+use Rattle.jc_instructions.specs.ArrayElements.{assignable_or_null, element_value, has_elements, element_if_assignable}
+use Rattle.jc_instructions.specs.ArrayCreation.{kind_of}
 use Rattle.law_linking.specs.Classes.{KnowsClasses}
 use Rattle.law_soundness.specs.Fit.{FitsFill, FitsValue, IsFit}
 use Rattle.law_soundness.specs.State.{IsLivingValue, IsSoundMemory, IsSteady}
-use Rattle.law_isolation.proofs.Instructions.{arrays_due}
+use Rattle.law_code.proofs.Instructions.{arrays_due}
 use Rattle.jc_api.proofs.Passing.{Makes}
 use Rattle.jc_api.proofs.Reaching.{err_not_ok, same_Ok}
-use Rattle.law_isolation.proofs.Passing.{ArraysPass, new_for}
+use Rattle.law_code.proofs.EffectConditions.{ArraysPass, new_for}
 use Rattle.law_soundness.specs.Groups.{ArraysFit}
 use Rattle.law_soundness.proofs.RunObjects.{active_known, new_kept, one_fits, set_in}
 use Rattle.law_soundness.proofs.RunValues.{HasType, IsRef, element_of, has_type, keepable_is, keepable_lives, keepable_same}

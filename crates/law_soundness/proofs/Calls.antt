@@ -9,14 +9,14 @@ use Rattle.jc_linker.specs.Values.{Packages}
 use Rattle.jc_frames.specs.declared.cell.Cell.{Cell}
 use Rattle.jc_frames.specs.declared.method.CallKind.TheVariants.{Instruction}
 use Rattle.jc_frames.specs.Calls.{arguments_on}
-use Rattle.jc_opcodes.specs.declared.instr.InvokeOp.{InvokeOp}
+use Rattle.jc_frames.specs.declared.instr.InvokeOp.{InvokeOp}
 use Rattle.jc_frames.specs.Frames.{Frames}
-use Rattle.jc_interp_calls.specs.declared.invoke.MethodCall.{MethodCall}
-use Rattle.jc_interp_calls.specs.declared.enter.CallSite.{CallSite}
-use Rattle.jc_interp_calls.specs.Entering.{method_entry, registers_in_callee}
-use Rattle.jc_interp_calls.specs.ServerCalls.{server_call}
+use Rattle.jc_instructions.specs.declared.invoke.MethodCall.{MethodCall}
+use Rattle.jc_instructions.specs.declared.enter.CallSite.{CallSite}
+use Rattle.jc_instructions.specs.Enter.{method_entry, registers_in_callee}
+use Rattle.jc_instructions.specs.ServerCall.{server_call}
 use Rattle.jc_api.proofs.Due.{due_of}
-use Rattle.law_isolation.proofs.Walk.{AnyCell, EntersPass, asking, entering}
+use Rattle.law_code.proofs.Walk.{AnyCell, EntersPass, asking, entering}
 use Rattle.law_soundness.specs.Fit.{IsFit}
 use Rattle.law_soundness.specs.State.{IsSoundMemory, is_owner_up_to, most_owner}
 use Rattle.law_soundness.specs.Natives.{IsReceiver}
@@ -24,7 +24,7 @@ use Rattle.law_soundness.proofs.Natives.{natives_are_fit}
 use Rattle.law_linking.specs.Methods.{KnowsMethods}
 use Rattle.law_soundness.specs.Steps.{AsksFit, CallsFit, IsSoundInvoke, callee_of}
 use Rattle.law_soundness.proofs.Arguments.{receiver_first}
-use Rattle.law_soundness.proofs.Living.{arguments_living}
+use Rattle.law_soundness.proofs.LivingReferences.{arguments_living}
 use Rattle.law_soundness.proofs.Receivers.{aid_minds}
 use Rattle.law_soundness.proofs.Owners.{turn_known}
 use Rattle.law_soundness.proofs.Receivers.{IsFitCall, chosen_fit}

@@ -24,9 +24,9 @@ use Rattle.jc_platform.specs.declared.names.PlatformMethod.{PlatformMethod}
 use Rattle.jc_linker.specs.declared.target.Method.{Method}
 use Rattle.jc_linker.specs.declared.target.Method.TheVariants.{Native}
 use Rattle.jc_linker.specs.Values.{Packages}
-use Rattle.jc_opcodes.specs.declared.instr.Instr.{Instr}
-use Rattle.jc_opcodes.specs.declared.instr.Instr.TheVariants.{Nop, Constant, Local, Stack, Arithmetic, Branch, Return, Field, Array, Object, Invoke}
-use Rattle.jc_opcodes.specs.declared.instr.ObjectOp.TheVariants.{New, Athrow, CheckCast, InstanceOf}
+use Rattle.jc_frames.specs.declared.instr.Instr.{Instr}
+use Rattle.jc_frames.specs.declared.instr.Instr.TheVariants.{Nop, Constant, Local, Stack, Arithmetic, Branch, Return, Field, Array, Object, Invoke}
+use Rattle.jc_frames.specs.declared.instr.ObjectOp.TheVariants.{New, Athrow, CheckCast, InstanceOf}
 use Rattle.jc_firewall.specs.declared.access.Access.{Access}
 use Rattle.jc_firewall.specs.declared.decide.Decision.{Decision}
 use Rattle.jc_firewall.specs.declared.decide.Decision.TheVariants.{Allow, Switch, Deny}
@@ -57,21 +57,21 @@ use Rattle.jc_api.proofs.Due.{Anything, DueThen, due_of, results_of}
 use Rattle.jc_api.proofs.Reaching.{err_not_ok, same_Ok}
 use Rattle.jc_api_framework.proofs.AppletCalls.Registering.{MayRegister, Registering, home_of}
 use Rattle.jc_api_framework.proofs.Passing.{Bears, MethodPasses, RegistersSo}
-use Rattle.jc_interp_calls.specs.declared.invoke.MethodCall.{MethodCall}
-use Rattle.jc_interp_calls.specs.Entering.{registers_in_callee}
-use Rattle.jc_interp_calls.specs.Invoke.{call_decision, call_of, receiver_of}
-use Rattle.jc_interp_calls.specs.ServerCalls.{with_local}
+use Rattle.jc_instructions.specs.declared.invoke.MethodCall.{MethodCall}
+use Rattle.jc_instructions.specs.Enter.{registers_in_callee}
+use Rattle.jc_instructions.specs.Invoke.{call_decision, call_of, receiver_of}
+use Rattle.jc_instructions.specs.ServerCall.{with_local}
 use Rattle.jc_interp.proofs.Calls.{method_due}
 use Rattle.jc_interp.specs.Natives.{native_call}
 use Rattle.jc_interp.specs.Stepping.{at_place, instruction_at, machine_step}
-use Rattle.law_isolation.proofs.Bytes.{store_due}
-use Rattle.law_isolation.proofs.Going.{IsPlainNext, StaysIn}
-use Rattle.law_isolation.proofs.Instructions.{any_frame, any_reads, arrays_going, checked_going, examined_going, fields_going, made_going}
-use Rattle.law_isolation.proofs.Passing.{ArraysPass, FieldsPass, InstancesPass}
-use Rattle.law_isolation.proofs.Selecting.{Bare, Found, Named, Selected, selected}
-use Rattle.law_isolation.proofs.Walk.{AnyCell, EntersPass, IsAlone, IsAnswered, LeavesPass, any_handed, walked_of, walked_step}
-use Rattle.law_isolation.specs.Steps.{IsCalled}
-use Rattle.law_soundness.specs.Switching.{AsksServer, Cause, Called, Asked, Left, FollowsWithin, HasLeft, IsOfStep, IsSwitchingCall, SwitchesHaveCauses}
+use Rattle.law_code.proofs.Bytes.{store_due}
+use Rattle.law_code.proofs.StepsInMethod.{IsPlainNext, StaysIn}
+use Rattle.law_code.proofs.Instructions.{any_frame, any_reads, arrays_going, checked_going, examined_going, fields_going, made_going}
+use Rattle.law_code.proofs.EffectConditions.{ArraysPass, FieldsPass, InstancesPass}
+use Rattle.law_code.proofs.MethodSelection.{Bare, Found, Named, Selected, selected}
+use Rattle.law_code.proofs.Walk.{AnyCell, EntersPass, IsAlone, IsAnswered, LeavesPass, any_handed, walked_of, walked_step}
+use Rattle.law_code.specs.Steps.{IsCalled}
+use Rattle.law_soundness.specs.OwnerSwitches.{AsksServer, Cause, Called, Asked, Left, FollowsWithin, HasLeft, IsOfStep, IsSwitchingCall, SwitchesHaveCauses}
 
 -- ---- what is done in a method
 

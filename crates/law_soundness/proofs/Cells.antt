@@ -12,13 +12,13 @@ use Rattle.jc_heap.proofs.Laws.{length-cells-set_cell, object_named, set_cell-ab
 use Rattle.jc_heap.proofs.Keeping.{object-header_only}
 use Rattle.jc_linker.specs.Classes.{reference_cell}
 use Rattle.jc_linker.specs.Values.{Packages}
-use Rattle.jc_card_checks.specs.Objects.{HoldsReferences, fits_aid, fits_pin, is_persistent_instance, is_reference, is_object_address}
+use Rattle.jc_packages.specs.Objects.{HoldsReferences, fits_aid, fits_pin, is_persistent_instance, is_reference, is_object_address}
 use Rattle.jc_linker.specs.Classes.{is_a}
-use Rattle.jc_card_checks.specs.Sound.{entry_word}
+use Rattle.jc_packages.specs.Sound.{entry_word}
 use Rattle.law_soundness.proofs.Lists.{first_set}
-use Rattle.law_soundness.proofs.Kept.{AidsStay, Carries, HoldsBut, IsFitBut, IsSoundBut, object_kept, object_new, pin_kept, pin_same, records_kept}
-use Rattle.law_soundness.proofs.Kept.{reference_kept, sound_kept}
-use Rattle.law_isolation.proofs.Standing.{applets-set_cell}
+use Rattle.law_soundness.proofs.HeapChanges.{AidsStay, Carries, HoldsBut, IsFitBut, IsSoundBut, object_kept, object_new, pin_kept, pin_same, records_kept}
+use Rattle.law_soundness.proofs.HeapChanges.{reference_kept, sound_kept}
+use Rattle.law_code.proofs.SparedObjects.{applets-set_cell}
 
 -- what is set in a cell fits it; of one object, a PIN's cells need not say the right thing of one another
 pub record CellFits (x : ℕ) (p : Packages) (h : HeapState) (r i v : ℕ) : Type 0 where

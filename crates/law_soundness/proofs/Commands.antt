@@ -33,27 +33,27 @@ use Rattle.jc_interp.specs.declared.attacks.Budget.{Budget}
 use Rattle.jc_dispatch.specs.declared.applet_result.AppletResult.{AppletResult}
 use Rattle.jc_dispatch.specs.declared.applet_result.AppletResult.TheVariants.{RegistryFull}
 use Rattle.jc_dispatch.specs.Buffer.{apdu_buffer, apdu_object, buffer_fill}
-use Rattle.jc_dispatch.specs.Creating.{applet_named, applet_creation, are_parameters, creation_in_registry, creation_by_data, creation_of, ends_with_data}
-use Rattle.jc_dispatch.specs.Creating.{field_of, first_with_entry, creation_by_entry, has_aid_length, instance_named, parameters_or_none}
-use Rattle.jc_dispatch.specs.AppletResults.{is_select_accepted}
-use Rattle.jc_dispatch.specs.Installing.{applet_installation, next_applet, with_installation}
+use Rattle.jc_dispatch.specs.Create.{applet_named, applet_creation, are_parameters, creation_in_registry, creation_by_data, creation_of, ends_with_data}
+use Rattle.jc_dispatch.specs.Create.{field_of, first_with_entry, creation_by_entry, has_aid_length, instance_named, parameters_or_none}
+use Rattle.jc_dispatch.specs.AppletResult.{is_select_accepted}
+use Rattle.jc_dispatch.specs.Install.{applet_installation, next_applet, with_installation}
 use Rattle.jc_dispatch.specs.AdHocCode.{ad_hoc_run}
 use Rattle.jc_dispatch.specs.Phases.{applet_method_call, close, instance_of, method_run}
 use Rattle.jc_dispatch.specs.Selecting.{after_select, header_of, applet_left, deselection, manager_selection, process_command, applet_selection, with_command, with_next, with_selected}
 use Rattle.law_soundness.specs.Environment.{HasEnvironment}
 use Rattle.law_soundness.specs.Fit.{FitsTurn, IsFit}
 use Rattle.law_soundness.specs.State.{IsSoundMemory, IsSteady, is_applet, is_home, is_open, is_owner_up_to, most_owner}
-use Rattle.law_soundness.proofs.Kept.{owner_more}
+use Rattle.law_soundness.proofs.HeapChanges.{owner_more}
 use Rattle.law_soundness.specs.Machines.{IsSoundMachine}
 use Rattle.law_soundness.specs.Soundness.{AreKnown, RunsAreSound}
 use Rattle.law_soundness.specs.Commands.{CommandsAreSound, IsReady, LeavesReady, OpensInstallation}
 use Rattle.law_soundness.proofs.Phases.{Good, IsFilled, MayRun, called_good, closed_good, filled_good, good_bind, good_gives, good_more}
-use Rattle.law_soundness.specs.Living.{AreLivingCells}
-use Rattle.law_soundness.proofs.Living.{first_living, more_living, none_living}
-use Rattle.law_soundness.proofs.Registered.{instance_refers}
+use Rattle.law_soundness.specs.LivingReferences.{AreLivingCells}
+use Rattle.law_soundness.proofs.LivingReferences.{first_living, more_living, none_living}
+use Rattle.law_soundness.proofs.RegistryEntries.{instance_refers}
 use Rattle.law_soundness.proofs.Phases.{good_then, run_for_good}
-use Rattle.law_soundness.proofs.Dispatched.{dispatched_run}
-use Rattle.law_soundness.proofs.Serving.{StandsBehind, all_served, behind_both, behind_each, behind_itself, behind_one, same_fits, serving_keeps}
+use Rattle.law_soundness.proofs.CommandParts.{dispatched_run}
+use Rattle.law_soundness.proofs.CommandEffects.{StandsBehind, all_served, behind_both, behind_each, behind_itself, behind_one, same_fits, serving_keeps}
 use Rattle.law_soundness.proofs.Memories.{applet_more}
 
 -- ---- owners

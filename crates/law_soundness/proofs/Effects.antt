@@ -25,8 +25,8 @@ use Rattle.jc_memory.specs.Owners.{owner_number}
 use Rattle.jc_memory.specs.State.{MemoryState, Effect, HeapMove, SetTransient, SetFlag, ClearTransient, SetRegisters, BeginCommand, SendBytes}
 use Rattle.jc_memory.specs.State.{apply_effect, ram_after_move}
 use Rattle.jc_linker.specs.Values.{Packages}
-use Rattle.jc_pin.specs.PinInit.{first_record}
-use Rattle.jc_card_checks.specs.Objects.{is_bytes, is_instance, is_persistent_instance}
+use Rattle.jc_environment.specs.PinInit.{first_record}
+use Rattle.jc_packages.specs.Objects.{is_bytes, is_instance, is_persistent_instance}
 use Rattle.law_soundness.specs.State.{IsFitObject, IsSoundMemory, IsSoundUpTo, is_applet, is_open, is_owner_up_to, last_own, most_owner}
 use Rattle.law_soundness.specs.Fit.{FitsChange, FitsMove, FitsNew, FitsPlace, FitsRun, IsFit, IsPinObject, KeepsSound, OfPin, OfPlaces, OfRegistry}
 use Rattle.law_soundness.specs.Fit.{OfValue, RegistersApplet, SetsAid, SetsUpPin, UpdatesPin}
@@ -34,7 +34,7 @@ use Rattle.law_soundness.proofs.Frames.{Frames, bytes_held, cell_frames, object_
 use Rattle.law_soundness.proofs.Frames.{transient_frames}
 use Rattle.law_soundness.proofs.Transients.{cleared_carried, fill_carried, flags_carried, names_object, object_carried, same_carried, transient_carried}
 use Rattle.law_soundness.proofs.Frames.{word_frames}
-use Rattle.law_soundness.proofs.Kept.{IsSoundBut, owner_same}
+use Rattle.law_soundness.proofs.HeapChanges.{IsSoundBut, owner_same}
 use Rattle.law_soundness.proofs.Lists.{zeros}
 use Rattle.law_soundness.proofs.Memories.{aborted_kept, again, applet_same, begun_kept, change_kept, choose, committed_kept, home_same, kept_changed, known_low}
 use Rattle.law_soundness.proofs.Memories.{known_now, low_now, most_opened, turned_kept}

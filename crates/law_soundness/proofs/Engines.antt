@@ -22,7 +22,7 @@ use Rattle.jc_linker.specs.Values.{Packages}
 use Rattle.jc_platform.specs.Distinct.{class_word}
 use Rattle.jc_platform.specs.Hierarchy.{cells_of}
 use Rattle.jc_platform.specs.declared.names.PlatformClass.TheVariants.{Aid, OwnerPin}
-use Rattle.jc_card_checks.specs.Objects.{is_instance, is_object_address, is_reference}
+use Rattle.jc_packages.specs.Objects.{is_instance, is_object_address, is_reference}
 use Rattle.jc_world.proofs.Below.{below_itself}
 use Rattle.jc_api.specs.Factory.{HasState, engine_creation, engine_object, is_in_table, kind_of_state, number_cell, state_array, state_cell}
 use Rattle.jc_api.specs.NewArrays.{class_for}

@@ -13,7 +13,7 @@ use Rattle.jc_heap.proofs.Laws.{heap_item_at-add_object, heap_item_at-add_other,
 use Rattle.jc_memory.specs.State.{MemoryState, Effect, HeapMove}
 use Rattle.jc_memory.specs.State.{apply_effect}
 use Rattle.jc_linker.specs.Values.{Packages}
-use Rattle.jc_card_checks.specs.Objects.{is_instance, is_object_address}
+use Rattle.jc_packages.specs.Objects.{is_instance, is_object_address}
 use Rattle.law_soundness.specs.Environment.{HasEnvironment, AreEnvironmentObjects, KeepsEnvironment}
 use Rattle.law_soundness.specs.Fit.{FitsMove, FitsNew, IsFit, IsPlatformClass}
 use Rattle.law_soundness.specs.State.{IsSoundMemory, last_own}

@@ -4,11 +4,11 @@ use Rattle.jc_heap.specs.Heap.{HeapState}
 use Rattle.jc_heap.specs.Whole.{IsReference}
 use Rattle.jc_memory.specs.State.{MemoryState}
 use Rattle.jc_linker.specs.Values.{Packages}
-use Rattle.jc_opcodes.specs.declared.instr.BranchOp.{BranchOp}
-use Rattle.jc_opcodes.specs.declared.instr.BranchOp.TheVariants.{If}
-use Rattle.jc_opcodes.specs.declared.instr.Instr.{Instr}
-use Rattle.jc_opcodes.specs.declared.instr.Instr.TheVariants as instr
-use Rattle.jc_opcodes.specs.Table.{decode}
+use Rattle.jc_frames.specs.declared.instr.BranchOp.{BranchOp}
+use Rattle.jc_frames.specs.declared.instr.BranchOp.TheVariants.{If}
+use Rattle.jc_frames.specs.declared.instr.Instr.{Instr}
+use Rattle.jc_frames.specs.declared.instr.Instr.TheVariants as instr
+use Rattle.jc_frames.specs.Table.{decode}
 use Rattle.jc_frames.specs.declared.cell.Cell.{Cell}
 use Rattle.jc_frames.specs.declared.cell.Cell.TheVariants.{Short, Reference, ReturnAddress}
 use Rattle.jc_frames.specs.Frames.{Frames}
@@ -18,11 +18,11 @@ use Rattle.jc_interp.specs.declared.attacks.FaultModel.TheVariants.{Skip, Turn, 
 use Rattle.jc_interp.specs.Attacks.{attacked, faulted, opposite, skipped_instruction, turned_branch, turned_instruction, zero_like, zeroed_top}
 use Rattle.jc_interp.specs.Stepping.{at_place}
 use Rattle.jc_interp.proofs.Kept.{attacked_kept}
-use Rattle.law_isolation.proofs.Taking.{cell_taken}
-use Rattle.law_soundness.specs.Living.{AreLivingCells, IsLivingCell}
+use Rattle.law_code.proofs.StackCells.{cell_taken}
+use Rattle.law_soundness.specs.LivingReferences.{AreLivingCells, IsLivingCell}
 use Rattle.law_soundness.specs.Machines.{IsSoundMachine}
 use Rattle.law_soundness.specs.Soundness.{FaultsAreSound, IsSoundNext}
-use Rattle.law_soundness.proofs.Living.{more_living}
+use Rattle.law_soundness.proofs.LivingReferences.{more_living}
 use Rattle.law_soundness.proofs.Machines.{framed, machine_of, stacked, under_of}
 use Rattle.law_soundness.proofs.Plain.{keeps_branched}
 

@@ -2,21 +2,21 @@
 use Rattle.std.proofs.Common.{◌≡◌, ℕ, Bool, true, false, Ok, refl, sym, ◌∙◌, ap, subst}
 use Rattle.jc_transient.specs.declared.cell.CellValue.{CellValue}
 use Rattle.jc_heap.specs.Heap.{facts}
-use Rattle.jc_opcodes.specs.declared.instr.ValueType.{ValueType}
-use Rattle.jc_opcodes.specs.declared.instr.ValueType.TheVariants as types
+use Rattle.jc_frames.specs.declared.instr.ValueType.{ValueType}
+use Rattle.jc_frames.specs.declared.instr.ValueType.TheVariants as types
 use Rattle.jc_memory.specs.State.{MemoryState}
 use Rattle.jc_memory.specs.Cells.{word_of}
 use Rattle.jc_platform.specs.declared.names.PlatformClass.TheVariants.{Aid, OwnerPin}
 use Rattle.jc_platform.specs.Hierarchy.{cells_of, is_interface}
 use Rattle.jc_platform.specs.Names.{classes}
 use Rattle.jc_linker.specs.Values.{Packages}
-use Rattle.jc_card_checks.specs.Objects.{is_instance, is_persistent_instance, is_reference}
+use Rattle.jc_packages.specs.Objects.{is_instance, is_persistent_instance, is_reference}
 use Rattle.jc_world.specs.Values.{keepable}
-use Rattle.jc_interp_objects.specs.declared.field_names.FieldOfClass.{FieldOfClass}
-use Rattle.jc_interp_objects.specs.FieldNames.{is_type_of_cell}
-use Rattle.law_isolation.proofs.Instructions.{fields_due}
-use Rattle.law_isolation.proofs.Passing.{FieldsPass}
-use Rattle.law_isolation.proofs.Reached.{IsCell, Names}
+use Rattle.jc_instructions.specs.declared.field_names.FieldOfClass.{FieldOfClass}
+use Rattle.jc_instructions.specs.FieldNames.{is_type_of_cell}
+use Rattle.law_code.proofs.Instructions.{fields_due}
+use Rattle.law_code.proofs.EffectConditions.{FieldsPass}
+use Rattle.law_code.proofs.AccessChecks.{IsCell, Names}
 use Rattle.law_linking.specs.Classes.{KnowsClasses}
 use Rattle.law_soundness.specs.Fit.{FitsCell, FitsValue, IsFit, OfPlaces}
 use Rattle.law_soundness.specs.State.{IsSoundMemory}

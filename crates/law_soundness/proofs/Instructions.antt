@@ -5,9 +5,9 @@ use Rattle.std.specs.Prelude.{◌==◌}
 use Rattle.jc_memory.specs.State.{MemoryState}
 use Rattle.jc_memory.specs.Reading.{AllDue}
 use Rattle.jc_linker.specs.Values.{Packages}
-use Rattle.jc_opcodes.specs.declared.instr.Instr.TheVariants.{Return, Field, Array, Object, Invoke}
-use Rattle.jc_opcodes.specs.declared.instr.ObjectOp.{ObjectOp}
-use Rattle.jc_opcodes.specs.declared.instr.ObjectOp.TheVariants.{New, Athrow, CheckCast, InstanceOf}
+use Rattle.jc_frames.specs.declared.instr.Instr.TheVariants.{Return, Field, Array, Object, Invoke}
+use Rattle.jc_frames.specs.declared.instr.ObjectOp.{ObjectOp}
+use Rattle.jc_frames.specs.declared.instr.ObjectOp.TheVariants.{New, Athrow, CheckCast, InstanceOf}
 use Rattle.jc_frames.specs.Frames.{Frames}
 use Rattle.jc_interp.specs.Stepping.{instruction_at, object_instruction}
 use Rattle.law_linking.specs.Classes.{KnowsClasses}
@@ -15,7 +15,7 @@ use Rattle.law_soundness.specs.Fit.{IsFit}
 use Rattle.law_soundness.proofs.Arrays.{arrays_are_fit}
 use Rattle.law_soundness.proofs.Fields.{fields_are_fit}
 use Rattle.law_soundness.proofs.Machines.{sound_callers}
-use Rattle.law_soundness.proofs.Making.{objects_are_fit}
+use Rattle.law_soundness.proofs.ObjectInstructions.{objects_are_fit}
 use Rattle.law_soundness.specs.Machines.{IsSoundMachine}
 use Rattle.law_linking.specs.Methods.{KnowsMethods}
 use Rattle.law_soundness.specs.Steps.{InstructionsFit}

@@ -11,11 +11,11 @@ use Rattle.jc_linker.specs.Values.{Packages}
 use Rattle.jc_frames.specs.declared.method.ReturnPoint.{ReturnPoint}
 use Rattle.jc_frames.specs.Frames.{Caller}
 use Rattle.jc_world.specs.Objects.{is_instance}
-use Rattle.jc_interp_calls.specs.MethodReturn.{registers_of_caller, method_return}
-use Rattle.jc_interp_calls.specs.Throwing.{athrow, exception_throw, has_reason_cell}
+use Rattle.jc_instructions.specs.MethodReturn.{registers_of_caller, method_return}
+use Rattle.jc_instructions.specs.Throw.{athrow, exception_throw, has_reason_cell}
 use Rattle.jc_api.proofs.Due.{due_of}
 use Rattle.jc_api.proofs.Reaching.{header_is}
-use Rattle.law_isolation.proofs.Walk.{AnyCell, LeavesPass, any_handed, returning, throwing, thrown}
+use Rattle.law_code.proofs.Walk.{AnyCell, LeavesPass, any_handed, returning, throwing, thrown}
 use Rattle.law_soundness.specs.Fit.{FitsFill, FitsTurn, IsFit}
 use Rattle.law_soundness.specs.LocalEffects.{IsLocalEffect}
 use Rattle.law_soundness.specs.Machines.{KnowOwners}

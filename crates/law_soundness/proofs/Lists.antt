@@ -4,7 +4,7 @@ use Rattle.std.proofs.Common.{if◌then◌else◌}
 use Rattle.std.specs.List.{range_with_len}
 use Rattle.std.proofs.lemmas.List.{get_or-drop}
 use Rattle.jc_heap.specs.Packed.{packed_byte, bytes_of_packed}
-use Rattle.jc_card_checks.specs.Sound.{aid_in}
+use Rattle.jc_packages.specs.Sound.{aid_in}
 
 -- each cell of zeros is 0
 pub zeros : (n k : ℕ) → get_or (replicate {A = ℕ} n 0) k 0 ≡ 0

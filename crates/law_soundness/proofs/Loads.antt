@@ -20,28 +20,28 @@ use Rattle.jc_memory.specs.State.{MemoryState}
 use Rattle.jc_linker.specs.Lookups.{statics_at}
 use Rattle.jc_linker.specs.Classes.{is_below, reference_cell}
 use Rattle.jc_linker.specs.Values.{Packages}
-use Rattle.jc_opcodes.specs.declared.instr.ValueType.{ValueType}
-use Rattle.jc_opcodes.specs.declared.instr.ValueType.TheVariants as types
+use Rattle.jc_frames.specs.declared.instr.ValueType.{ValueType}
+use Rattle.jc_frames.specs.declared.instr.ValueType.TheVariants as types
 use Rattle.jc_frames.specs.declared.cell.Cell.{Cell}
 use Rattle.jc_frames.specs.declared.cell.Cell.TheVariants.{Reference}
 use Rattle.jc_frames.specs.declared.outcome.FrameExit.{FrameExit}
-use Rattle.jc_card_checks.specs.Objects.{is_instance, is_persistent_instance, is_reference}
-use Rattle.jc_card_checks.specs.Sound.{HoldsStatics}
+use Rattle.jc_packages.specs.Objects.{is_instance, is_persistent_instance, is_reference}
+use Rattle.jc_packages.specs.Sound.{HoldsStatics}
 use Rattle.jc_world.specs.Values.{value_at}
-use Rattle.jc_interp_objects.specs.declared.array_elements.Element.{Element}
-use Rattle.jc_interp_objects.specs.declared.static_images.ImageWord.{ImageWord}
-use Rattle.jc_interp_objects.specs.declared.field_names.FieldOfClass.{FieldOfClass}
-use Rattle.jc_interp_objects.specs.declared.field_names.FieldOfImage.{FieldOfImage}
-use Rattle.jc_interp_objects.specs.ArrayElements.{array_at, element_at, element_in, has_elements}
-use Rattle.jc_interp_objects.specs.StaticFields.{static_value}
-use Rattle.jc_interp_objects.specs.StaticImages.{byte_of, image_byte, image_pair, image_word, word_value}
-use Rattle.law_isolation.proofs.Passing.{ReadsSo}
-use Rattle.law_isolation.proofs.Reached.{IsArray, IsCell, Names, array_reached, index_within}
+use Rattle.jc_instructions.specs.declared.array_elements.Element.{Element}
+use Rattle.jc_instructions.specs.declared.static_images.ImageWord.{ImageWord}
+use Rattle.jc_instructions.specs.declared.field_names.FieldOfClass.{FieldOfClass}
+use Rattle.jc_instructions.specs.declared.field_names.FieldOfImage.{FieldOfImage}
+use Rattle.jc_instructions.specs.ArrayElements.{array_at, element_at, element_in, has_elements}
+use Rattle.jc_instructions.specs.StaticFields.{static_value}
+use Rattle.jc_instructions.specs.StaticImages.{byte_of, image_byte, image_pair, image_word, word_value}
+use Rattle.law_code.proofs.EffectConditions.{ReadsSo}
+use Rattle.law_code.proofs.AccessChecks.{IsArray, IsCell, Names, array_reached, index_within}
 use Rattle.jc_api.proofs.Reaching.{err_not_ok}
-use Rattle.law_isolation.proofs.Taking.{mapped_some}
+use Rattle.law_code.proofs.StackCells.{mapped_some}
 use Rattle.law_linking.specs.Classes.{KnowsClasses}
 use Rattle.law_soundness.specs.Environment.{HasEnvironment}
-use Rattle.law_soundness.specs.Living.{IsLivingCell}
+use Rattle.law_soundness.specs.LivingReferences.{IsLivingCell}
 use Rattle.law_soundness.specs.LocalEffects.{LocalEffectsStay}
 use Rattle.law_soundness.specs.State.{IsFitObject, IsLivingElement, IsSoundMemory, last_own, most_owner}
 use Rattle.law_soundness.proofs.Transients.{names_object}

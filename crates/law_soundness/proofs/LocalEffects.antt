@@ -14,7 +14,7 @@ use Rattle.jc_frames.specs.Frames.{Caller}
 use Rattle.law_soundness.specs.State.{IsSteady, is_open, is_owner_up_to, most_owner}
 use Rattle.law_soundness.proofs.Frames.{cell_frames, object_frames, place_headers, places_headers, run_frames, run_headers, transient_frames, word_frames}
 use Rattle.law_soundness.proofs.References.{headers_keep, transient_keeps}
-use Rattle.law_soundness.specs.Living.{KeepsReferences}
+use Rattle.law_soundness.specs.LivingReferences.{KeepsReferences}
 use Rattle.law_soundness.specs.LocalEffects.{AreElsewhere, LocalEffectsStay, IsLocalEffect, IsElsewhere}
 use Rattle.law_soundness.specs.Machines.{KnowOwners}
 

@@ -10,8 +10,8 @@ use Rattle.jc_heap.proofs.Laws.{same_facts}
 use Rattle.jc_memory.specs.Owners.{at_reset, owner_number}
 use Rattle.jc_memory.specs.State.{MemoryState}
 use Rattle.jc_linker.specs.Values.{Packages}
-use Rattle.jc_card_checks.specs.Objects.{is_persistent_instance, is_object_address}
-use Rattle.jc_card_checks.specs.Sound.{IsSound}
+use Rattle.jc_packages.specs.Objects.{is_persistent_instance, is_object_address}
+use Rattle.jc_packages.specs.Sound.{IsSound}
 use Rattle.law_soundness.proofs.Frames.{same_object}
 use Rattle.law_soundness.proofs.Transients.{blank_lives}
 use Rattle.law_soundness.specs.State.{IsFitObject, IsSoundMemory, IsSoundUpTo, OutlastsLosses, is_home, is_open, is_owner_up_to, last_own, most_owner}

@@ -12,7 +12,7 @@ use Rattle.jc_frames.specs.declared.method.Origin.{Origin}
 use Rattle.jc_frames.specs.Frames.{Caller, Frame, Frames, Next, GoesOn, Throws, Ends, in_frame, with_stack}
 use Rattle.law_soundness.specs.Environment.{HasEnvironment, KeepsEnvironment}
 use Rattle.law_soundness.specs.Fit.{IsFit, KeepsSound}
-use Rattle.law_soundness.specs.Living.{AreLivingCallers, AreLivingCells, IsLivingFrame}
+use Rattle.law_soundness.specs.LivingReferences.{AreLivingCallers, AreLivingCells, IsLivingFrame}
 use Rattle.law_soundness.specs.State.{IsSoundMemory, IsSteady}
 use Rattle.law_soundness.specs.LocalEffects.{LocalEffectsStay, IsLocalEffect}
 use Rattle.law_soundness.specs.Machines.{IsSoundMachine, KnowOwners}
@@ -21,9 +21,9 @@ use Rattle.law_soundness.specs.Steps.{HasSoundCallers, InstructionsFit}
 use Rattle.law_soundness.specs.Calls.{NativesLeave}
 use Rattle.law_soundness.specs.Soundness.{IsSoundNext}
 use Rattle.jc_api.proofs.Due.{DueThen}
-use Rattle.law_isolation.proofs.Going.{IsPlainNext, StaysIn}
-use Rattle.law_isolation.proofs.Taking.{with_cells}
-use Rattle.law_soundness.proofs.Living.{callers_kept, plain_living}
+use Rattle.law_code.proofs.StepsInMethod.{IsPlainNext, StaysIn}
+use Rattle.law_code.proofs.StackCells.{with_cells}
+use Rattle.law_soundness.proofs.LivingReferences.{callers_kept, plain_living}
 use Rattle.law_soundness.proofs.Plain.{Keeps}
 use Rattle.law_soundness.proofs.Still.{IsStill, Lives}
 

@@ -16,9 +16,9 @@ use Rattle.jc_memory.specs.declared.registers.Registers.{Registers}
 use Rattle.jc_memory.specs.Owners.{owner_number}
 use Rattle.jc_memory.specs.State.{MemoryState, HeapMove, SetRegisters, apply_effect}
 use Rattle.jc_linker.specs.Values.{Packages}
-use Rattle.jc_card_checks.specs.Objects.{is_persistent_instance}
+use Rattle.jc_packages.specs.Objects.{is_persistent_instance}
 use Rattle.law_soundness.specs.State.{IsSoundMemory, IsSoundUpTo, TransientCells, is_applet, is_home, is_open, is_owner_up_to, last_own, most_in, most_new, most_owner}
-use Rattle.law_soundness.proofs.Kept.{more_owners, owner_more, owner_same}
+use Rattle.law_soundness.proofs.HeapChanges.{more_owners, owner_more, owner_same}
 use Rattle.law_soundness.proofs.Frames.{Frames, SameHeaders, same_object}
 use Rattle.law_soundness.proofs.Transients.{abort_carried, same_carried}
 

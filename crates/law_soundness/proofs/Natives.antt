@@ -22,7 +22,7 @@ use Rattle.jc_platform.specs.declared.names.AidsMethod.TheVariants.{AidInit}
 use Rattle.jc_platform.specs.declared.names.AppletsMethod.TheVariants.{AppletRegister, AppletRegisterBytes}
 use Rattle.jc_platform.specs.Distinct.{class_of}
 use Rattle.jc_platform.specs.Names.{aids_rows, applets_rows}
-use Rattle.jc_card_checks.specs.Objects.{is_instance}
+use Rattle.jc_packages.specs.Objects.{is_instance}
 use Rattle.jc_linker.specs.Classes.{is_a}
 use Rattle.jc_world.specs.Objects.{reference_argument}
 use Rattle.jc_world.specs.Arrays.{bytes_in}
@@ -31,7 +31,7 @@ use Rattle.jc_api_framework.specs.Aid.Cells.{cells_of_aid, is_aid_length}
 use Rattle.jc_interp.specs.Natives.{native_call}
 use Rattle.jc_world.specs.NativeCalls.{NativeProgram}
 use Rattle.jc_platform.specs.Signatures.{minds_receiver}
-use Rattle.law_isolation.proofs.Facts.{sets_minds}
+use Rattle.law_code.proofs.Facts.{sets_minds}
 use Rattle.jc_api.specs.Initializing.{word_given, words_given}
 use Rattle.jc_api.proofs.Due.{DueThen, due_of, due_then, results_of}
 use Rattle.jc_api.proofs.Standing.{facts_after_run, object-set_cell}
@@ -39,16 +39,16 @@ use Rattle.jc_api.proofs.Stretches.{HoldsNumbers, IsStretch, length_bytes}
 use Rattle.jc_api_framework.proofs.Passing.{AnswersSo, IsPinCall, MethodPasses, RegistersSo, turns_of}
 use Rattle.jc_api_pairs.proofs.PairForms.{of_forms}
 use Rattle.jc_interp.proofs.Calls.{IsPlainMethod, method_called, method_then}
-use Rattle.law_isolation.proofs.Bytes.{store_due}
-use Rattle.law_isolation.proofs.Natives.{nine}
+use Rattle.law_code.proofs.Bytes.{store_due}
+use Rattle.law_code.proofs.Natives.{nine}
 use Rattle.law_linking.specs.Classes.{HasAids, KnowsClasses}
 use Rattle.law_soundness.specs.Fit.{IsFit, IsPinObject, OfValue}
 use Rattle.law_soundness.specs.State.{IsSoundMemory, IsSteady}
 use Rattle.law_soundness.proofs.Effects.{keeps_sound}
 use Rattle.law_soundness.proofs.Engines.{engine_fits}
-use Rattle.law_soundness.specs.Living.{AreLivingCells}
+use Rattle.law_soundness.specs.LivingReferences.{AreLivingCells}
 use Rattle.law_soundness.specs.Natives.{IsReceiver, NativesFit}
-use Rattle.law_soundness.proofs.Initializing.{fields_fit}
+use Rattle.law_soundness.proofs.InitialCells.{fields_fit}
 use Rattle.law_soundness.proofs.Applets.{bytes_small, entry_named, open_home, registering_fits}
 use Rattle.law_soundness.proofs.Below.{reasoned}
 use Rattle.law_soundness.proofs.NativeArrays.{aid_fits, elements_fit, run_in}
@@ -56,16 +56,16 @@ use Rattle.law_soundness.proofs.RunObjects.{instance_no_array, one_fits, set_in}
 use Rattle.law_soundness.proofs.RunPins.{after_count, after_flag, pin_object, starts}
 use Rattle.law_soundness.proofs.Small.{reason_fits, transient_fits}
 use Rattle.law_soundness.proofs.Transients.{numbers_fit}
-use Rattle.law_soundness.proofs.Turning.{bears}
-use Rattle.law_soundness.proofs.Pairing.{forms_fit, forms_still}
+use Rattle.law_soundness.proofs.EffectsWithoutCells.{bears}
+use Rattle.law_soundness.proofs.Pairs.{forms_fit, forms_still}
 use Rattle.law_soundness.proofs.Receivers.{aid_minds}
 use Rattle.law_soundness.specs.Calls.{IsCallResult, NativesLeave}
 use Rattle.law_soundness.specs.Environment.{HasEnvironment}
-use Rattle.law_soundness.proofs.Leaving.{still_left}
+use Rattle.law_soundness.proofs.StillCalls.{still_left}
 use Rattle.law_soundness.proofs.LocalEffects.{calm_stays}
 use Rattle.law_soundness.proofs.NewObjects.{new_there}
 use Rattle.law_soundness.proofs.Register.{registered_again}
-use Rattle.law_soundness.proofs.Registered.{or_null_refers}
+use Rattle.law_soundness.proofs.RegistryEntries.{or_null_refers}
 use Rattle.law_soundness.proofs.Still.{IsStill, Lives, still_passes, still_turns}
 use Rattle.law_soundness.proofs.Transactions.{transactions_left}
 

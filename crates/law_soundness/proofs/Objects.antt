@@ -14,13 +14,13 @@ use Rattle.jc_heap.specs.Heap.{HeapState, IsObject, add_object, add_transient, a
 use Rattle.jc_heap.specs.Whole.{AreAllocated}
 use Rattle.jc_heap.proofs.Laws.{heap_item_at-add_object, heap_item_at-add_other, object_named}
 use Rattle.jc_linker.specs.Values.{Packages}
-use Rattle.jc_card_checks.specs.Objects.{fits_aid, fits_class, fits_pin, is_instance, is_reference, is_object_address}
+use Rattle.jc_packages.specs.Objects.{fits_aid, fits_class, fits_pin, is_instance, is_reference, is_object_address}
 use Rattle.jc_linker.specs.Classes.{is_a}
-use Rattle.jc_card_checks.specs.Sound.{entry_word}
+use Rattle.jc_packages.specs.Sound.{entry_word}
 use Rattle.law_soundness.specs.State.{is_owner_up_to}
 use Rattle.law_soundness.proofs.Lists.{zeros}
-use Rattle.law_soundness.proofs.Kept.{Carries, HoldsBut, IsFitBut, IsSoundBut, object_kept, owner_same, pin_same, records_kept, sound_kept}
-use Rattle.law_isolation.proofs.Standing.{applets-add_object}
+use Rattle.law_soundness.proofs.HeapChanges.{Carries, HoldsBut, IsFitBut, IsSoundBut, object_kept, owner_same, pin_same, records_kept, sound_kept}
+use Rattle.law_code.proofs.SparedObjects.{applets-add_object}
 
 pub packages-add_object : (h : HeapState) (o : Object) (n : ℕ) → (add_object h o n).packages ≡ h.packages
 unfolding add_object

@@ -22,12 +22,12 @@ use Rattle.jc_memory.specs.Programs.{Program, Finish, Perform, bind}
 use Rattle.jc_memory.specs.Cells.{header_at, cells_effect, cells_effect_in}
 use Rattle.jc_memory.specs.Reading.{AllDue, AllResults}
 use Rattle.jc_memory.proofs.ProgramLemmas.{due_bind, each_bind, each_did, each_more}
-use Rattle.jc_opcodes.specs.declared.header.Header.{Header}
+use Rattle.jc_frames.specs.declared.header.Header.{Header}
 use Rattle.jc_linker.specs.declared.target.Method.{Method}
 use Rattle.jc_linker.specs.declared.target.Method.TheVariants.{Code, Native}
 use Rattle.jc_linker.specs.Values.{Packages}
 use Rattle.jc_platform.specs.declared.names.PlatformMethod.{PlatformMethod}
-use Rattle.jc_interp_calls.specs.Entering.{first_frames_of, first_frames_with, first_frames}
+use Rattle.jc_instructions.specs.Enter.{first_frames_of, first_frames_with, first_frames}
 use Rattle.jc_interp.specs.Running.{run_methods}
 use Rattle.jc_interp.specs.declared.attacks.Budget.{Budget}
 use Rattle.jc_dispatch.specs.Buffer.{apdu_buffer, buffer_fill, buffer_fill_in, is_buffer, is_of_bytes, padded_bytes}
@@ -37,14 +37,14 @@ use Rattle.jc_api.proofs.Reaching.{header_is}
 use Rattle.law_soundness.specs.Environment.{HasEnvironment}
 use Rattle.law_soundness.specs.Fit.{FitsFill, FitsTurn, IsFit}
 use Rattle.law_soundness.specs.State.{IsSoundMemory, IsSteady, is_open, is_owner_up_to, most_owner}
-use Rattle.law_soundness.specs.Living.{AreLivingCallers, AreLivingCells, IsLivingFrame}
+use Rattle.law_soundness.specs.LivingReferences.{AreLivingCallers, AreLivingCells, IsLivingFrame}
 use Rattle.law_soundness.specs.Machines.{IsSoundMachine, KnowOwners}
-use Rattle.law_soundness.proofs.Living.{first_living}
+use Rattle.law_soundness.proofs.LivingReferences.{first_living}
 use Rattle.law_soundness.specs.Soundness.{AreKnown, RunsAreSound}
 use Rattle.law_soundness.specs.Commands.{IsServed}
-use Rattle.law_soundness.specs.Dispatched.{IsByEnvironment, IsDispatched, Stops, Does}
-use Rattle.law_soundness.proofs.Dispatched.{dispatched_more, dispatched_run, dispatched_then}
-use Rattle.law_soundness.proofs.Serving.{StandsBehind, all_served, behind_both, behind_each, behind_itself, behind_one, same_fits}
+use Rattle.law_soundness.specs.CommandParts.{IsByEnvironment, IsDispatched, Stops, Does}
+use Rattle.law_soundness.proofs.CommandParts.{dispatched_more, dispatched_run, dispatched_then}
+use Rattle.law_soundness.proofs.CommandEffects.{StandsBehind, all_served, behind_both, behind_each, behind_itself, behind_one, same_fits}
 use Rattle.law_soundness.proofs.Transients.{numbers_fit}
 
 -- all of it is served, however it ends this is so, and it is what the runtime environment does and runs of code

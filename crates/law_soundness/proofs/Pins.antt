@@ -16,13 +16,13 @@ use Rattle.jc_heap.proofs.Keeping.{object-header_only}
 use Rattle.jc_memory.specs.State.{MemoryState}
 use Rattle.jc_linker.specs.Classes.{reference_cell}
 use Rattle.jc_linker.specs.Values.{Packages}
-use Rattle.jc_pin.specs.PinInit.{first_record}
-use Rattle.jc_card_checks.specs.Objects.{fits_pin, has_value, is_byte_array, is_bytes, is_instance, is_persistent_instance, is_reference}
+use Rattle.jc_environment.specs.PinInit.{first_record}
+use Rattle.jc_packages.specs.Objects.{fits_pin, has_value, is_byte_array, is_bytes, is_instance, is_persistent_instance, is_reference}
 use Rattle.jc_linker.specs.Classes.{is_a}
-use Rattle.jc_card_checks.specs.Objects.{is_object_address}
+use Rattle.jc_packages.specs.Objects.{is_object_address}
 use Rattle.law_soundness.specs.State.{IsSoundUpTo}
 use Rattle.law_soundness.specs.Fit.{IsPinObject}
-use Rattle.law_soundness.proofs.Kept.{Carries, IsSoundBut, but_one, pin_kept, pin_same, value_kept, with_one}
+use Rattle.law_soundness.proofs.HeapChanges.{Carries, IsSoundBut, but_one, pin_kept, pin_same, value_kept, with_one}
 use Rattle.law_soundness.proofs.Cells.{CellFits, cell_carries, cell_kept, cells_set}
 use Rattle.law_soundness.proofs.Values.{bytes_other, kept_aid, value_kept as array_kept}
 use Rattle.law_soundness.proofs.Frames.{SameHeaders, places_headers}

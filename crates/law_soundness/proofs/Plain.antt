@@ -3,19 +3,19 @@ use Rattle.std.proofs.Common.{◌≡◌, ℕ, ◌++◌, Bool, true, false, inl, 
 use Rattle.std.proofs.lemmas.List.Elements.{All-append, All-drop, All-set, All-take}
 use Rattle.std.specs.Option.{option_and_then}
 use Rattle.std.specs.Prelude.{ℤ, pos, ◌+◌, ◌+ℤ◌, ◌&&◌, nat_le, nat_lt, slice_get}
-use Rattle.jc_opcodes.specs.declared.instr.ArithmeticOp.{ArithmeticOp}
-use Rattle.jc_opcodes.specs.declared.instr.ArithmeticOp.TheVariants.{Two, Negate, S2b}
-use Rattle.jc_opcodes.specs.declared.instr.BranchOp.{BranchOp}
-use Rattle.jc_opcodes.specs.declared.instr.BranchOp.TheVariants.{If, Goto, Jsr, Ret, Table, Lookup}
-use Rattle.jc_opcodes.specs.declared.instr.Condition.{Condition}
-use Rattle.jc_opcodes.specs.declared.instr.Condition.TheVariants.{Zero, IsNull, NotNull, SameReference, OtherReference, Shorts}
-use Rattle.jc_opcodes.specs.declared.instr.ConstantOp.{ConstantOp}
-use Rattle.jc_opcodes.specs.declared.instr.ConstantOp.TheVariants.{Null, Number}
-use Rattle.jc_opcodes.specs.declared.instr.LocalOp.{LocalOp}
-use Rattle.jc_opcodes.specs.declared.instr.LocalOp.TheVariants.{Aload, Sload, Astore, Sstore, Sinc}
-use Rattle.jc_opcodes.specs.declared.instr.StackOp.{StackOp}
-use Rattle.jc_opcodes.specs.declared.instr.StackOp.TheVariants.{Pop, Pop2, Dup, Dup2, DupX, SwapX}
-use Rattle.jc_opcodes.specs.Short.{answer_of, wrap}
+use Rattle.jc_frames.specs.declared.instr.ArithmeticOp.{ArithmeticOp}
+use Rattle.jc_frames.specs.declared.instr.ArithmeticOp.TheVariants.{Two, Negate, S2b}
+use Rattle.jc_frames.specs.declared.instr.BranchOp.{BranchOp}
+use Rattle.jc_frames.specs.declared.instr.BranchOp.TheVariants.{If, Goto, Jsr, Ret, Table, Lookup}
+use Rattle.jc_frames.specs.declared.instr.Condition.{Condition}
+use Rattle.jc_frames.specs.declared.instr.Condition.TheVariants.{Zero, IsNull, NotNull, SameReference, OtherReference, Shorts}
+use Rattle.jc_frames.specs.declared.instr.ConstantOp.{ConstantOp}
+use Rattle.jc_frames.specs.declared.instr.ConstantOp.TheVariants.{Null, Number}
+use Rattle.jc_frames.specs.declared.instr.LocalOp.{LocalOp}
+use Rattle.jc_frames.specs.declared.instr.LocalOp.TheVariants.{Aload, Sload, Astore, Sstore, Sinc}
+use Rattle.jc_frames.specs.declared.instr.StackOp.{StackOp}
+use Rattle.jc_frames.specs.declared.instr.StackOp.TheVariants.{Pop, Pop2, Dup, Dup2, DupX, SwapX}
+use Rattle.jc_frames.specs.Short.{answer_of, wrap}
 use Rattle.jc_frames.specs.declared.cell.Cell.{Cell}
 use Rattle.jc_frames.specs.declared.cell.Cell.TheVariants.{Short, Reference, ReturnAddress}
 use Rattle.jc_frames.specs.declared.method.Origin.{Origin}
@@ -28,10 +28,10 @@ use Rattle.jc_frames.specs.LocalOps.{local_instruction}
 use Rattle.jc_frames.specs.StackOps.{stack_instruction}
 use Rattle.jc_heap.specs.Heap.{HeapState}
 use Rattle.jc_heap.specs.Whole.{IsReference}
-use Rattle.law_soundness.specs.Living.{AreLivingCells, IsLivingCell, IsLivingFrame, IsLivingOutcome}
-use Rattle.law_isolation.proofs.Taking.{cell_taken, mapped_some, reference_taken, short_taken, storable_taken, two_references_taken, two_shorts_taken}
-use Rattle.law_isolation.proofs.Taking.{with_cells, without_cells}
-use Rattle.law_soundness.proofs.Living.{more_living, reference_living}
+use Rattle.law_soundness.specs.LivingReferences.{AreLivingCells, IsLivingCell, IsLivingFrame, IsLivingOutcome}
+use Rattle.law_code.proofs.StackCells.{cell_taken, mapped_some, reference_taken, short_taken, storable_taken, two_references_taken, two_shorts_taken}
+use Rattle.law_code.proofs.StackCells.{with_cells, without_cells}
+use Rattle.law_soundness.proofs.LivingReferences.{more_living, reference_living}
 
 -- its method stays, and each reference in it is null or names an object
 abbrev pub Keeps : HeapState → Origin → Next Frame → Type 0

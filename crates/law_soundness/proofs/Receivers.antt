@@ -24,11 +24,11 @@ use Rattle.jc_platform.specs.declared.names.PlatformMethod.{PlatformMethod}
 use Rattle.jc_platform.specs.declared.names.PlatformMethod.TheVariants.{Aids}
 use Rattle.jc_platform.specs.declared.names.AidsMethod.TheVariants.{AidInit}
 use Rattle.jc_platform.specs.Distinct.{class_of as class_of_method, class_word, kind_of_method}
-use Rattle.jc_opcodes.specs.declared.instr.InvokeOp.{InvokeOp}
+use Rattle.jc_frames.specs.declared.instr.InvokeOp.{InvokeOp}
 use Rattle.jc_firewall.specs.declared.decide.Decision.{Decision}
 use Rattle.jc_firewall.specs.declared.decide.Decision.TheVariants.{Allow, Switch, Deny}
 use Rattle.jc_firewall.specs.declared.subject.Context.TheVariants.{Jcre}
-use Rattle.jc_firewall.specs.Reach.{IsInReach}
+use Rattle.jc_firewall.specs.FirewallLaws.{IsInReach}
 use Rattle.jc_firewall.specs.declared.subject.Designation.TheVariants.{Ordinary, PermanentEntryPoint, TemporaryEntryPoint}
 use Rattle.jc_firewall.specs.Situation.{global_array}
 use Rattle.jc_frames.specs.declared.cell.Cell.{Cell}
@@ -36,19 +36,19 @@ use Rattle.jc_frames.specs.Frames.{Frames}
 use Rattle.jc_world.specs.Contexts.{context_of, firewall_decision, designation_of, own_designation, situation_of, subject_of}
 use Rattle.jc_world.specs.Objects.{object_at, some_or_fault}
 use Rattle.jc_world.specs.Objects as world
-use Rattle.jc_card_checks.specs.Objects.{is_instance}
+use Rattle.jc_packages.specs.Objects.{is_instance}
 use Rattle.jc_linker.specs.Classes.{is_a}
-use Rattle.jc_interp_calls.specs.declared.invoke.MethodCall.{MethodCall}
-use Rattle.jc_interp_calls.specs.Invoke.{call_decision, call_of, class_of, is_native_constructor, is_of_any, method_selection, receiver_of, receiver_on}
+use Rattle.jc_instructions.specs.declared.invoke.MethodCall.{MethodCall}
+use Rattle.jc_instructions.specs.Invoke.{call_decision, call_of, class_of, is_native_constructor, is_of_any, method_selection, receiver_of, receiver_on}
 use Rattle.jc_api.proofs.Reaching.{err_not_ok, object_is, same_Ok}
 use Rattle.jc_api.proofs.Stretches.{both_ok}
-use Rattle.law_isolation.proofs.Selecting.{Bare, Found, Named, Selected, is_there, selected}
+use Rattle.law_code.proofs.MethodSelection.{Bare, Found, Named, Selected, is_there, selected}
 use Rattle.law_linking.specs.Classes.{KnowsClasses}
 use Rattle.law_soundness.specs.State.{IsSoundMemory, is_owner_up_to, last_own, most_owner}
 use Rattle.jc_platform.specs.Names.{aids_rows}
 use Rattle.jc_platform.specs.Signatures.{minds_receiver}
 use Rattle.law_linking.specs.Methods.{IsMethodOf, KnowsMethods}
-use Rattle.law_isolation.proofs.Facts.{minds_below_object, static_minds_none}
+use Rattle.law_code.proofs.Facts.{minds_below_object, static_minds_none}
 use Rattle.law_soundness.proofs.Owners.{known_again, object_owner}
 
 -- ---- the code that runs is a package's

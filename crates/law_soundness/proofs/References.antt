@@ -5,7 +5,7 @@ use Rattle.jc_heap.specs.declared.object.Kind.{Kind}
 use Rattle.jc_heap.specs.Object.{new_transient, transient_size}
 use Rattle.jc_heap.specs.Heap.{HeapState, add_object, add_transient, area_end, heap_item_at, is_allocated}
 use Rattle.jc_heap.proofs.Keeping.{reference-add}
-use Rattle.law_soundness.specs.Living.{KeepsReferences}
+use Rattle.law_soundness.specs.LivingReferences.{KeepsReferences}
 use Rattle.law_soundness.proofs.Frames.{SameHeaders, end_headers, same_object}
 
 pub headers_keep : (h g : HeapState) → SameHeaders h g → KeepsReferences h g

@@ -16,12 +16,12 @@ use Rattle.jc_platform.specs.Distinct.{class_word}
 use Rattle.jc_api_framework.specs.Aid.Cells.{cells_of_aid}
 use Rattle.jc_api_framework.specs.Applet.Register.{with_installation}
 use Rattle.jc_heap.proofs.Keeping.{reference-add}
-use Rattle.law_soundness.specs.Living.{KeepsReferences}
+use Rattle.law_soundness.specs.LivingReferences.{KeepsReferences}
 use Rattle.law_soundness.specs.State.{IsSoundMemory, IsSteady, is_open, most_owner}
 use Rattle.law_soundness.proofs.Frames.{object_frames, places_headers, run_frames, run_headers}
 use Rattle.law_soundness.proofs.References.{headers_keep}
 use Rattle.law_soundness.specs.Calls.{IsReadyAgain}
-use Rattle.law_soundness.proofs.Leaving.{same_owners}
+use Rattle.law_soundness.proofs.StillCalls.{same_owners}
 
 module _ (p : Packages) (m : MemoryState) (sound : IsSoundMemory p m) (steady : IsSteady m) where
   module _ (aid : List ℕ) (instance : ℕ) (k : PackageNumber) (r : ℕ) where

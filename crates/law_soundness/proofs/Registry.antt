@@ -10,11 +10,11 @@ use Rattle.jc_heap.specs.Components.{words_of}
 use Rattle.jc_heap.specs.Heap.{HeapState, IsObject, cells, facts, heap_item_at}
 use Rattle.jc_heap.specs.Places.{applet_changes, set_places}
 use Rattle.jc_linker.specs.Values.{Packages}
-use Rattle.jc_card_checks.specs.Objects.{is_instance, is_object_address}
+use Rattle.jc_packages.specs.Objects.{is_instance, is_object_address}
 use Rattle.jc_linker.specs.Classes.{is_a}
-use Rattle.jc_card_checks.specs.Sound.{IsRegistered, aid_in, aid_of_entry, entry_word, holds_aid}
+use Rattle.jc_packages.specs.Sound.{IsRegistered, aid_in, aid_of_entry, entry_word, holds_aid}
 use Rattle.law_soundness.specs.State.{IsOwnAid}
-use Rattle.law_soundness.proofs.Kept.{Carries, IsSoundBut, object_kept, records_kept, registered_kept}
+use Rattle.law_soundness.proofs.HeapChanges.{Carries, IsSoundBut, object_kept, records_kept, registered_kept}
 
 -- an entry that the registry may have after the others
 pub record IsEntry (p : Packages) (h : HeapState) (own : ℕ) (entry : AppletEntry) : Type 0 where

@@ -9,8 +9,8 @@ use Rattle.std.specs.Prelude.{◌==◌, nat_le, slice_index}
 use Rattle.jc_heap.specs.Heap.{HeapState, cells, heap_item_at, set_cell, set_cells}
 use Rattle.jc_heap.specs.Packed.{packed_byte, bytes_of_packed}
 use Rattle.jc_heap.proofs.Laws.{cells-set_cell, heap_item_at-set_other, length-cells-set_cell}
-use Rattle.jc_card_checks.specs.Sound.{aid_in}
-use Rattle.jc_registry.specs.Aids.{aid_byte, aid_of_cells}
+use Rattle.jc_packages.specs.Sound.{aid_in}
+use Rattle.jc_environment.specs.Aid.{aid_byte, aid_of_cells}
 use Rattle.jc_api_framework.specs.Aid.Cells.{cells_of_aid}
 use Rattle.jc_api_framework.proofs.AidCalls.ReadBack.{read_back}
 

@@ -19,10 +19,10 @@ use Rattle.jc_platform.specs.Distinct.{class_word}
 use Rattle.jc_platform.specs.Hierarchy.{cells_of, is_interface}
 use Rattle.jc_platform.specs.Names.{classes}
 use Rattle.jc_heap.specs.declared.object.Kind.TheVariants.{Instance}
-use Rattle.jc_card_checks.specs.Objects.{fits_class, is_instance, is_persistent_instance, is_object_address}
-use Rattle.jc_card_checks.specs.Sound.{aid_in, aid_of_entry, entry_word, holds_aid}
-use Rattle.jc_registry.specs.Aids.{aid_at, aid_behind, aid_of_cells}
-use Rattle.jc_registry.specs.Registry.{applet_count, applet_entry, applet_with_aid, aid_of_applet, first_with_aid, has_aid, is_aid, is_applet}
+use Rattle.jc_packages.specs.Objects.{fits_class, is_instance, is_persistent_instance, is_object_address}
+use Rattle.jc_packages.specs.Sound.{aid_in, aid_of_entry, entry_word, holds_aid}
+use Rattle.jc_environment.specs.Aid.{aid_at, aid_behind, aid_of_cells}
+use Rattle.jc_environment.specs.Registry.{applet_count, applet_entry, applet_with_aid, aid_of_applet, first_with_aid, has_aid, is_aid, is_applet}
 use Rattle.law_linking.specs.Classes.{KnowsClasses}
 use Rattle.law_soundness.specs.State.{IsSoundMemory}
 use Rattle.law_soundness.proofs.RunObjects.{instance_kind, kept_behind}

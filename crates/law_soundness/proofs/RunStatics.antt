@@ -9,23 +9,23 @@ use Rattle.jc_transient.specs.declared.cell.CellValue.{CellValue}
 use Rattle.jc_heap.specs.Components.{record_of}
 use Rattle.jc_heap.specs.Heap.{HeapState, is_allocated}
 use Rattle.jc_heap.specs.Statics.{statics_of}
-use Rattle.jc_opcodes.specs.declared.instr.ValueType.{ValueType}
-use Rattle.jc_opcodes.specs.declared.instr.ValueType.TheVariants as types
+use Rattle.jc_frames.specs.declared.instr.ValueType.{ValueType}
+use Rattle.jc_frames.specs.declared.instr.ValueType.TheVariants as types
 use Rattle.jc_memory.specs.State.{MemoryState}
 use Rattle.jc_memory.specs.Cells.{word_of}
 use Rattle.jc_linker.specs.declared.target.Target.{Target}
 use Rattle.jc_linker.specs.declared.target.Target.TheVariants as targets
 use Rattle.jc_linker.specs.Lookups.{statics_at, target_at}
 use Rattle.jc_linker.specs.Values.{Packages}
-use Rattle.jc_card_checks.specs.Objects.{is_reference}
+use Rattle.jc_packages.specs.Objects.{is_reference}
 use Rattle.jc_world.specs.Values.{keepable}
-use Rattle.jc_interp_objects.specs.declared.static_images.ImageWord.{ImageWord}
-use Rattle.jc_interp_objects.specs.declared.field_names.FieldOfImage.{FieldOfImage}
-use Rattle.jc_interp_objects.specs.StaticImages.{package_record_or_none, image_word, next_word, place_of, record_at, word_behind, word_in}
-use Rattle.jc_interp_objects.specs.FieldNames.{has_field, static_named, static_of}
+use Rattle.jc_instructions.specs.declared.static_images.ImageWord.{ImageWord}
+use Rattle.jc_instructions.specs.declared.field_names.FieldOfImage.{FieldOfImage}
+use Rattle.jc_instructions.specs.StaticImages.{package_record_or_none, image_word, next_word, place_of, record_at, word_behind, word_in}
+use Rattle.jc_instructions.specs.FieldNames.{has_field, static_named, static_of}
 use Rattle.law_soundness.specs.Fit.{FitPlaces, FitsStatic}
 use Rattle.law_soundness.specs.State.{IsSoundMemory}
-use Rattle.law_isolation.proofs.Passing.{IsWordOf}
+use Rattle.law_code.proofs.EffectConditions.{IsWordOf}
 use Rattle.law_soundness.proofs.RunValues.{HasType, keepable_is}
 
 -- an entry names a static field, and the image has it

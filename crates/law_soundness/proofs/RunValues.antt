@@ -8,15 +8,15 @@ use Rattle.jc_transient.specs.declared.cell.CellValue.TheVariants as kept
 use Rattle.jc_heap.specs.declared.object.Facts.{Facts}
 use Rattle.jc_heap.specs.Object.{is_object}
 use Rattle.jc_heap.specs.Heap.{HeapState, facts, heap_item_at}
-use Rattle.jc_opcodes.specs.declared.instr.ValueType.{ValueType}
-use Rattle.jc_opcodes.specs.declared.instr.ValueType.TheVariants as types
+use Rattle.jc_frames.specs.declared.instr.ValueType.{ValueType}
+use Rattle.jc_frames.specs.declared.instr.ValueType.TheVariants as types
 use Rattle.jc_frames.specs.declared.cell.Cell.{Cell}
 use Rattle.jc_frames.specs.declared.outcome.FrameExit.{FrameExit}
 use Rattle.jc_frames.specs.Cells.{reference_on}
 use Rattle.jc_memory.specs.State.{MemoryState}
 use Rattle.jc_memory.specs.Cells.{word_of}
 use Rattle.jc_linker.specs.Values.{Packages}
-use Rattle.jc_card_checks.specs.Objects.{is_reference}
+use Rattle.jc_packages.specs.Objects.{is_reference}
 use Rattle.jc_world.specs.Objects.{storable_in, storable_of}
 use Rattle.jc_world.specs.Values.{keepable, value_if_allowed, value_on}
 use Rattle.jc_api.proofs.Reaching.{err_not_ok, same_Ok}

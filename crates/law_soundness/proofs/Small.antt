@@ -20,7 +20,7 @@ use Rattle.jc_platform.specs.declared.names.PlatformClass.TheVariants.{Object}
 use Rattle.jc_platform.specs.Distinct.{class_word}
 use Rattle.jc_platform.specs.Hierarchy.{is_interface}
 use Rattle.jc_platform.specs.Names.{classes}
-use Rattle.jc_card_checks.specs.Objects.{fits_class, is_instance}
+use Rattle.jc_packages.specs.Objects.{fits_class, is_instance}
 use Rattle.jc_linker.specs.Classes.{is_a}
 use Rattle.jc_world.specs.Instances.{IsInstanceWith}
 use Rattle.jc_api.specs.NewArrays.{class_for}

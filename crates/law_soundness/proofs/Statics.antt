@@ -15,11 +15,11 @@ use Rattle.jc_heap.proofs.StaticImages.{static_behind}
 use Rattle.jc_heap.proofs.Tables.{at_or-put_same, at_or-put_other}
 use Rattle.jc_linker.specs.Lookups.{statics_at}
 use Rattle.jc_linker.specs.Values.{Packages}
-use Rattle.jc_card_checks.specs.Objects.{is_reference}
-use Rattle.jc_card_checks.specs.Sound.{HoldsStatics, entry_word, package_record_at}
+use Rattle.jc_packages.specs.Objects.{is_reference}
+use Rattle.jc_packages.specs.Sound.{HoldsStatics, entry_word, package_record_at}
 use Rattle.law_soundness.specs.Fit.{FitsStatic}
-use Rattle.law_soundness.proofs.Kept.{Carries, IsSoundBut, object_kept, reference_kept, sound_kept, statics_kept}
-use Rattle.law_isolation.proofs.Standing.{applets-set_word}
+use Rattle.law_soundness.proofs.HeapChanges.{Carries, IsSoundBut, object_kept, reference_kept, sound_kept, statics_kept}
+use Rattle.law_code.proofs.SparedObjects.{applets-set_word}
 
 -- ---- where the image begins
 

@@ -6,7 +6,7 @@ use Rattle.law_soundness.proofs.LocalEffects.{calm_stays}
 use Rattle.law_soundness.proofs.Instructions.{instructions_are_fit}
 use Rattle.law_soundness.specs.Soundness.{RunsAreSound}
 use Rattle.law_soundness.proofs.Machines.{Given}
-use Rattle.law_soundness.proofs.Stepping.{runs_sound}
+use Rattle.law_soundness.proofs.StepsAndRuns.{runs_sound}
 
 pub given : Given
 given = record {

@@ -10,7 +10,7 @@ use Rattle.jc_memory.specs.State.{MemoryState, SetRegisters, apply_effect}
 use Rattle.jc_platform.specs.declared.names.PlatformMethod.{PlatformMethod}
 use Rattle.jc_linker.specs.declared.target.Method.TheVariants.{Code, Native}
 use Rattle.jc_linker.specs.Values.{Packages}
-use Rattle.jc_opcodes.specs.declared.instr.InvokeOp.{InvokeOp}
+use Rattle.jc_frames.specs.declared.instr.InvokeOp.{InvokeOp}
 use Rattle.jc_frames.specs.declared.cell.Cell.{Cell}
 use Rattle.jc_frames.specs.declared.cell.Cell.TheVariants.{Short, Reference}
 use Rattle.jc_frames.specs.declared.method.Entry.{Entry}
@@ -21,23 +21,23 @@ use Rattle.jc_frames.specs.Frames.{Caller, Frames, Next, GoesOn, Throws, Ends, w
 use Rattle.jc_world.specs.declared.native_result.NativeResult.{NativeResult}
 use Rattle.jc_world.specs.declared.native_result.NativeResult.TheVariants.{ReturnVoid, ReturnValue, CallServer, Aborted}
 use Rattle.jc_interp.specs.Natives.{native_call}
-use Rattle.jc_interp_calls.specs.declared.invoke.MethodCall.{MethodCall}
-use Rattle.jc_interp_calls.specs.Entering.{registers_in_callee}
-use Rattle.jc_interp_calls.specs.Invoke.{method_selection}
-use Rattle.jc_interp_calls.specs.ServerCalls.{with_local}
+use Rattle.jc_instructions.specs.declared.invoke.MethodCall.{MethodCall}
+use Rattle.jc_instructions.specs.Enter.{registers_in_callee}
+use Rattle.jc_instructions.specs.Invoke.{method_selection}
+use Rattle.jc_instructions.specs.ServerCall.{with_local}
 use Rattle.jc_api.proofs.Due.{DueThen}
-use Rattle.law_isolation.proofs.Taking.{frame_kept, with_cells}
-use Rattle.law_isolation.proofs.Walk.{EntersPass, IsAnswered, walked_of}
+use Rattle.law_code.proofs.StackCells.{frame_kept, with_cells}
+use Rattle.law_code.proofs.Walk.{EntersPass, IsAnswered, walked_of}
 use Rattle.law_soundness.specs.Calls.{IsCallResult, IsReadyAgain, IsSteadyAgain}
 use Rattle.law_soundness.specs.Environment.{HasEnvironment}
 use Rattle.law_soundness.specs.Fit.{FitsTurn, IsFit}
-use Rattle.law_soundness.specs.Living.{IsLivingCell}
+use Rattle.law_soundness.specs.LivingReferences.{IsLivingCell}
 use Rattle.law_soundness.specs.Machines.{IsSoundMachine, KnowOwners}
 use Rattle.law_soundness.specs.Soundness.{AreKnown, IsSoundNext}
 use Rattle.law_soundness.specs.State.{IsSoundMemory, is_owner_up_to, most_owner}
 use Rattle.law_soundness.specs.Steps.{IsSoundInvoke}
 use Rattle.law_soundness.proofs.Calls.{IsKnown, calls_are_fit, is_receiver, selected_fit}
-use Rattle.law_soundness.proofs.Living.{arguments_living, callers_kept, callers_nulled, first_living, frame_nulled, none_living, reverse_living}
+use Rattle.law_soundness.proofs.LivingReferences.{arguments_living, callers_kept, callers_nulled, first_living, frame_nulled, none_living, reverse_living}
 use Rattle.law_soundness.proofs.Machines.{Given, IsOthers, framed, machine_of, stacked, under_after, under_of}
 use Rattle.law_soundness.proofs.Owners.{turn_known}
 use Rattle.law_soundness.proofs.Plain.{keeps_pushed, keeps_stored}

@@ -15,15 +15,15 @@ use Rattle.jc_memory.specs.Making.{creation_move}
 use Rattle.jc_memory.specs.Reading.{AllDue}
 use Rattle.jc_memory.specs.State.{MemoryState, Effect, HeapMove, apply_effect}
 use Rattle.jc_linker.specs.Values.{Packages}
-use Rattle.jc_pin.specs.Pins.{record_of}
+use Rattle.jc_environment.specs.Pins.{record_of}
 use Rattle.jc_platform.specs.declared.names.PlatformMethod.{PlatformMethod}
 use Rattle.jc_api_framework.specs.Aid.Cells.{cells_of_aid}
-use Rattle.law_isolation.proofs.Bytes.{store_due}
+use Rattle.law_code.proofs.Bytes.{store_due}
 use Rattle.jc_api.specs.Factory.{state_array}
 use Rattle.jc_api.specs.Initializing.{words_given}
 use Rattle.jc_api.proofs.Passing.{Turns}
 use Rattle.jc_api_framework.proofs.Passing.{MethodPasses}
-use Rattle.law_isolation.proofs.Passing.{ArraysPass, FieldsPass, InstancesPass}
+use Rattle.law_code.proofs.EffectConditions.{ArraysPass, FieldsPass, InstancesPass}
 use Rattle.law_soundness.specs.LocalEffects.{AreElsewhere, IsLocalEffect}
 
 -- an effect is local, and after it code runs for the same owner

@@ -16,7 +16,7 @@ use Rattle.jc_linker.specs.declared.target.Target.TheVariants.{VirtualMethod}
 use Rattle.jc_linker.specs.Classes.{is_below}
 use Rattle.jc_linker.specs.Methods.{interface_method_at, method_at}
 use Rattle.jc_linker.specs.Values.{Packages}
-use Rattle.jc_opcodes.specs.declared.instr.InvokeOp.{InvokeOp}
+use Rattle.jc_frames.specs.declared.instr.InvokeOp.{InvokeOp}
 use Rattle.jc_firewall.specs.declared.decide.Decision.{Decision}
 use Rattle.jc_firewall.specs.declared.decide.Decision.TheVariants.{Allow, Switch, Deny}
 use Rattle.jc_frames.specs.declared.cell.Cell.{Cell}
@@ -24,12 +24,12 @@ use Rattle.jc_frames.specs.Frames.{Frames}
 use Rattle.jc_world.specs.Contexts.{firewall_decision}
 use Rattle.jc_world.specs.Objects.{object_at, some_or_fault}
 use Rattle.jc_world.specs.Objects as world
-use Rattle.jc_card_checks.specs.Objects.{is_instance}
-use Rattle.jc_interp_calls.specs.declared.invoke.MethodCall.{MethodCall}
-use Rattle.jc_interp_calls.specs.Invoke.{call_decision, call_of, class_of, method_selection, receiver_of, receiver_on}
+use Rattle.jc_packages.specs.Objects.{is_instance}
+use Rattle.jc_instructions.specs.declared.invoke.MethodCall.{MethodCall}
+use Rattle.jc_instructions.specs.Invoke.{call_decision, call_of, class_of, method_selection, receiver_of, receiver_on}
 use Rattle.jc_api.proofs.Reaching.{err_not_ok, object_is, same_Ok}
 use Rattle.jc_api.proofs.Stretches.{both_ok}
-use Rattle.law_isolation.proofs.Selecting.{Bare, Found, Named, Selected, selected}
+use Rattle.law_code.proofs.MethodSelection.{Bare, Found, Named, Selected, selected}
 use Rattle.law_soundness.specs.Environment.{HasEnvironment}
 use Rattle.law_soundness.specs.Fit.{IsPlatformClass}
 use Rattle.law_linking.specs.Platform.{KeepsPlatform}

@@ -13,11 +13,11 @@ use Rattle.jc_api_framework.specs.System.Transactions.{set_level}
 use Rattle.jc_api_framework.proofs.Passing.{EndsSo}
 use Rattle.law_soundness.specs.State.{IsSoundMemory, IsSteady, is_open}
 use Rattle.law_soundness.specs.Calls.{IsCallResult, IsReadyAgain, IsSteadyAgain}
-use Rattle.law_soundness.specs.Living.{KeepsReferencesBelow}
+use Rattle.law_soundness.specs.LivingReferences.{KeepsReferencesBelow}
 use Rattle.law_soundness.proofs.Memories.{choose}
 use Rattle.law_soundness.proofs.Transients.{left}
-use Rattle.law_soundness.proofs.Leaving.{exits_left, same_owners}
-use Rattle.law_soundness.proofs.Turning.{not_opened}
+use Rattle.law_soundness.proofs.StillCalls.{exits_left, same_owners}
+use Rattle.law_soundness.proofs.EffectsWithoutCells.{not_opened}
 
 module _ (p : Packages) (m : MemoryState) (sound : IsSoundMemory p m) (steady : IsSteady m) where
   -- a memory that is left so after an abort

@@ -24,8 +24,8 @@ use Rattle.jc_heap.specs.Whole.{IsConsistent, IsReference}
 use Rattle.jc_heap.proofs.Laws.{heap_item_at-absent, heap_item_at-add_object, heap_item_at-add_other, object_named, same_facts}
 use Rattle.jc_heap.proofs.OwnCells.{owns_cells}
 use Rattle.jc_memory.specs.State.{MemoryState, ram_after_set, ram_unflagged, ram_without_dead, zero_of}
-use Rattle.jc_card_checks.specs.Objects.{is_object_address, is_reference}
-use Rattle.law_isolation.proofs.Sparing.{area_long}
+use Rattle.jc_packages.specs.Objects.{is_object_address, is_reference}
+use Rattle.law_code.proofs.ObjectsOutside.{area_long}
 use Rattle.law_soundness.specs.Fit.{FitsFill}
 use Rattle.law_soundness.specs.State.{HasLivingElements, IsLivingElement, IsLivingValue, TransientCells}
 use Rattle.law_soundness.proofs.Frames.{same_object}

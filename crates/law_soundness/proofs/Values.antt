@@ -12,14 +12,14 @@ use Rattle.jc_heap.specs.Heap.{HeapState, facts, set_cell, set_cells}
 use Rattle.jc_heap.proofs.Laws.{facts-set_cell}
 use Rattle.jc_linker.specs.Classes.{is_below, reference_cell}
 use Rattle.jc_linker.specs.Values.{Packages}
-use Rattle.jc_card_checks.specs.Objects.{is_bytes, is_instance, is_persistent_instance, is_object_address}
+use Rattle.jc_packages.specs.Objects.{is_bytes, is_instance, is_persistent_instance, is_object_address}
 use Rattle.jc_linker.specs.Classes.{is_a}
-use Rattle.jc_card_checks.specs.Sound.{IsRegistered, entry_word}
+use Rattle.jc_packages.specs.Sound.{IsRegistered, entry_word}
 use Rattle.law_soundness.specs.State.{IsSoundUpTo}
 use Rattle.law_soundness.specs.Fit.{FitsCell}
-use Rattle.law_soundness.proofs.Kept.{Carries, IsSoundBut, but_one, reference_kept, with_one}
+use Rattle.law_soundness.proofs.HeapChanges.{Carries, IsSoundBut, but_one, reference_kept, with_one}
 use Rattle.law_soundness.proofs.Cells.{CellFits, cell_carries, cell_kept}
-use Rattle.law_isolation.proofs.Standing.{SameApplets, applets-set_cell}
+use Rattle.law_code.proofs.SparedObjects.{SameApplets, applets-set_cell}
 use Rattle.jc_world.proofs.Below.{below_itself}
 
 -- the object of a registered AID

@@ -12,7 +12,7 @@ use Rattle.jc_world.specs.declared.native_result.NativeResult.{NativeResult}
 use Rattle.jc_world.specs.declared.native_result.NativeResult.TheVariants.{ReturnVoid, ReturnValue, CallServer, Aborted}
 use Rattle.jc_interp.specs.Natives.{native_call}
 use Rattle.jc_heap.specs.Whole.{IsReference}
-use Rattle.law_soundness.specs.Living.{IsLivingCell, IsLivingOutcome, KeepsReferences, KeepsReferencesBelow}
+use Rattle.law_soundness.specs.LivingReferences.{IsLivingCell, IsLivingOutcome, KeepsReferences, KeepsReferencesBelow}
 use Rattle.law_soundness.specs.State.{IsSteady, is_owner_up_to, most_owner}
 use Rattle.law_soundness.specs.Natives.{IsSoundCall}
 use Rattle.law_soundness.specs.Machines.{KnowOwners}

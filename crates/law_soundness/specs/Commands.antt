@@ -7,10 +7,10 @@ use Rattle.jc_memory.specs.Programs.{Program}
 use Rattle.jc_memory.specs.Reading.{AllDue, AllResults}
 use Rattle.jc_linker.specs.Values.{Packages}
 use Rattle.jc_interp.specs.declared.attacks.Budget.{Budget}
-use Rattle.jc_dispatch.specs.Creating.{applet_creation}
+use Rattle.jc_dispatch.specs.Create.{applet_creation}
 use Rattle.jc_dispatch.specs.AdHocCode.{ad_hoc_run}
 use Rattle.jc_dispatch.specs.Selecting.{manager_selection, process_command, applet_selection}
-use Rattle.law_soundness.specs.Dispatched.{IsDispatched}
+use Rattle.law_soundness.specs.CommandParts.{IsDispatched}
 use Rattle.law_soundness.specs.Environment.{HasEnvironment}
 use Rattle.law_soundness.specs.Fit.{FitsTurn, IsFit}
 use Rattle.law_soundness.specs.State.{IsSoundMemory, is_applet, is_home, is_open}

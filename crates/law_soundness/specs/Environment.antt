@@ -4,7 +4,7 @@ use Rattle.jc_environment.specs.Objects.{last_of}
 use Rattle.jc_heap.specs.Heap.{HeapState, IsObject, facts}
 use Rattle.jc_memory.specs.State.{MemoryState, Effect, apply_effect}
 use Rattle.jc_linker.specs.Values.{Packages}
-use Rattle.jc_card_checks.specs.Objects.{is_instance, is_object_address}
+use Rattle.jc_packages.specs.Objects.{is_instance, is_object_address}
 use Rattle.law_soundness.specs.Fit.{IsFit, IsPlatformClass}
 use Rattle.law_soundness.specs.State.{IsSoundMemory}
 

@@ -25,14 +25,14 @@ use Rattle.jc_memory.specs.State.{apply_effect}
 use Rattle.jc_linker.specs.Classes.{reference_cell}
 use Rattle.jc_linker.specs.Lookups.{statics_at}
 use Rattle.jc_linker.specs.Values.{Packages}
-use Rattle.jc_pin.specs.Pins.{record_of as pin_of, counter}
-use Rattle.jc_pin.specs.PinInit.{first_record}
-use Rattle.jc_pin.specs.Updating.{changes_of_update}
-use Rattle.jc_card_checks.specs.Objects.{fits_class, is_byte_array, is_instance, is_persistent_instance, is_reference, is_object_address}
+use Rattle.jc_environment.specs.Pins.{record_of as pin_of, counter}
+use Rattle.jc_environment.specs.PinInit.{first_record}
+use Rattle.jc_environment.specs.PinUpdates.{changes_of_update}
+use Rattle.jc_packages.specs.Objects.{fits_class, is_byte_array, is_instance, is_persistent_instance, is_reference, is_object_address}
 use Rattle.jc_linker.specs.Classes.{is_a}
-use Rattle.jc_card_checks.specs.Sound.{aid_in, aid_of_entry, entry_word, holds_aid}
+use Rattle.jc_packages.specs.Sound.{aid_in, aid_of_entry, entry_word, holds_aid}
 use Rattle.jc_api_framework.specs.Aid.Cells.{cells_of_aid, is_aid_length}
-use Rattle.law_isolation.specs.Bytes.{IsByteElement}
+use Rattle.law_code.specs.Bytes.{IsByteElement}
 use Rattle.law_soundness.specs.State.{IsLivingElement, IsLivingValue, IsSoundMemory, is_applet, is_home, is_open, is_owner_up_to, last_own, most_in, most_new}
 
 -- a value fits a cell of a persistent instance that is none of an AID and none of a PIN: a reference where one is kept

@@ -1,17 +1,17 @@
 -- Instructions on fields, arrays and objects leave a memory sound: what they set fits the packages that are linked.
 use Rattle.std.specs.Prelude.{ℕ, ◌≡◌}
-use Rattle.jc_opcodes.specs.declared.instr.ArrayOp.{ArrayOp}
-use Rattle.jc_opcodes.specs.declared.instr.FieldOp.{FieldOp}
-use Rattle.jc_opcodes.specs.declared.instr.TestedType.{TestedType}
+use Rattle.jc_frames.specs.declared.instr.ArrayOp.{ArrayOp}
+use Rattle.jc_frames.specs.declared.instr.FieldOp.{FieldOp}
+use Rattle.jc_frames.specs.declared.instr.TestedType.{TestedType}
 use Rattle.jc_frames.specs.Frames.{Frames}
 use Rattle.jc_memory.specs.Owners.{owner_number}
 use Rattle.jc_memory.specs.State.{MemoryState}
 use Rattle.jc_memory.specs.Reading.{AllDue}
 use Rattle.jc_linker.specs.Values.{Packages}
-use Rattle.jc_interp_objects.specs.FieldOps.{field_instruction}
-use Rattle.jc_interp_objects.specs.ArrayOps.{array_instruction}
-use Rattle.jc_interp_objects.specs.TypeChecks.{checkcast, instanceof}
-use Rattle.jc_interp_objects.specs.ObjectCreation.{new_instance}
+use Rattle.jc_instructions.specs.FieldOps.{field_instruction}
+use Rattle.jc_instructions.specs.ArrayOps.{array_instruction}
+use Rattle.jc_instructions.specs.TypeChecks.{checkcast, instanceof}
+use Rattle.jc_instructions.specs.ObjectCreation.{new_instance}
 use Rattle.law_linking.specs.Classes.{KnowsClasses}
 use Rattle.law_soundness.specs.Fit.{IsFit}
 use Rattle.law_soundness.specs.State.{IsSoundMemory, IsSteady}

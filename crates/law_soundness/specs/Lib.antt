@@ -1,6 +1,6 @@
 pub mod State
 pub mod Fit
-pub mod Living
+pub mod LivingReferences
 pub mod Environment
 pub mod Groups
 pub mod Natives
@@ -10,6 +10,6 @@ pub mod Steps
 pub mod Calls
 pub mod Soundness
 pub mod References
-pub mod Dispatched
+pub mod CommandParts
 pub mod Commands
-pub mod Switching
+pub mod OwnerSwitches

@@ -6,7 +6,7 @@ use Rattle.jc_heap.specs.Moves.{Write, SetPlaces, WriteNonAtomic, AddPackage, Be
 use Rattle.jc_memory.specs.State.{MemoryState, Effect, HeapMove, SetRegisters, apply_effect}
 use Rattle.jc_frames.specs.Frames.{Caller}
 use Rattle.jc_heap.specs.Keeping.{IsConsistentHeap}
-use Rattle.law_soundness.specs.Living.{KeepsReferences}
+use Rattle.law_soundness.specs.LivingReferences.{KeepsReferences}
 use Rattle.law_soundness.specs.State.{IsSteady}
 use Rattle.law_soundness.specs.Machines.{KnowOwners}
 

@@ -5,7 +5,7 @@ use Rattle.jc_memory.specs.State.{MemoryState}
 use Rattle.jc_linker.specs.Values.{Packages}
 use Rattle.jc_frames.specs.Frames.{Caller, Frames}
 use Rattle.law_soundness.specs.Environment.{HasEnvironment}
-use Rattle.law_soundness.specs.Living.{AreLivingFrames}
+use Rattle.law_soundness.specs.LivingReferences.{AreLivingFrames}
 use Rattle.law_soundness.specs.State.{IsSoundMemory, IsSteady, is_owner_up_to, most_owner}
 
 -- for whom each caller ran is there, and was not the runtime environment

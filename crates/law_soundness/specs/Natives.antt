@@ -10,14 +10,14 @@ use Rattle.jc_platform.specs.declared.names.AidsMethod.TheVariants.{AidInit}
 use Rattle.jc_platform.specs.Distinct.{class_of}
 use Rattle.jc_platform.specs.Signatures.{minds_receiver}
 use Rattle.jc_linker.specs.Values.{Packages}
-use Rattle.jc_card_checks.specs.Objects.{is_instance}
+use Rattle.jc_packages.specs.Objects.{is_instance}
 use Rattle.jc_linker.specs.Classes.{is_a}
 use Rattle.jc_world.specs.Objects.{reference_argument}
 use Rattle.jc_interp.specs.Natives.{native_call}
 use Rattle.law_linking.specs.Classes.{HasAids, KnowsClasses}
 use Rattle.law_soundness.specs.Environment.{HasEnvironment}
 use Rattle.law_soundness.specs.Fit.{IsFit}
-use Rattle.law_soundness.specs.Living.{AreLivingCells}
+use Rattle.law_soundness.specs.LivingReferences.{AreLivingCells}
 use Rattle.law_soundness.specs.State.{IsSoundMemory, IsSteady}
 
 -- a method that sets cells of its receiver, or registers it as an applet, is called on an instance of its class, or of one below it; and the constructor of AID on no object of the runtime environment

@@ -14,11 +14,11 @@ use Rattle.jc_linker.specs.Lookups.{statics_at}
 use Rattle.jc_linker.specs.Values.{Packages}
 use Rattle.jc_interp.specs.declared.attacks.Attack.{Attack}
 use Rattle.jc_interp.specs.Attacks.{attacked_step}
-use Rattle.jc_card_checks.specs.Objects.{is_persistent_instance}
-use Rattle.jc_card_checks.specs.Sound.{HoldsStatics, package_record_at}
+use Rattle.jc_packages.specs.Objects.{is_persistent_instance}
+use Rattle.jc_packages.specs.Sound.{HoldsStatics, package_record_at}
 use Rattle.jc_dispatch.specs.Buffer.{apdu_buffer, apdu_object}
 use Rattle.jc_dispatch.specs.Phases.{instance_of}
-use Rattle.law_soundness.specs.Living.{IsLivingFrame, IsLivingOutcome}
+use Rattle.law_soundness.specs.LivingReferences.{IsLivingFrame, IsLivingOutcome}
 use Rattle.law_soundness.specs.State.{IsSteady}
 
 -- each reference in an array, persistent or transient, in a field and in a static field is null or names an object that is there

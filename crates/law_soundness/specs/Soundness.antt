@@ -10,7 +10,7 @@ use Rattle.jc_interp.specs.Attacks.{attacked, attacked_step, faulted}
 use Rattle.jc_interp.specs.Running.{run_of}
 use Rattle.law_linking.specs.Classes.{HasAids, KnowsClasses}
 use Rattle.law_soundness.specs.Fit.{IsFit}
-use Rattle.law_soundness.specs.Living.{IsLivingOutcome}
+use Rattle.law_soundness.specs.LivingReferences.{IsLivingOutcome}
 use Rattle.law_soundness.specs.Machines.{IsSoundMachine}
 use Rattle.law_linking.specs.Methods.{KnowsMethods}
 use Rattle.law_linking.specs.Platform.{KeepsPlatform}

@@ -19,8 +19,8 @@ use Rattle.jc_memory.specs.Owners.{at_reset, owner_number}
 use Rattle.jc_memory.specs.State.{MemoryState}
 use Rattle.jc_linker.specs.Values.{Packages}
 use Rattle.jc_linker.specs.Lookups.{statics_at}
-use Rattle.jc_card_checks.specs.Objects.{HoldsValues, fits_class, is_instance, is_persistent_instance, is_object_address}
-use Rattle.jc_card_checks.specs.Sound.{HasOwnAid, HoldsStatics, IsRegistered, IsSound, entry_word, package_record_at}
+use Rattle.jc_packages.specs.Objects.{HoldsValues, fits_class, is_instance, is_persistent_instance, is_object_address}
+use Rattle.jc_packages.specs.Sound.{HasOwnAid, HoldsStatics, IsRegistered, IsSound, entry_word, package_record_at}
 
 -- the runtime environment, an applet with a number up to this one, or a package
 abbrev pub is_owner_up_to : ℕ → HeapState → ℕ → Bool

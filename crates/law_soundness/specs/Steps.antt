@@ -1,9 +1,9 @@
 -- Instructions, calls, returns and exceptions leave a memory sound.
 use Rattle.std.specs.Prelude.{ℕ, ◌≡◌, ◌==◌, ◌||◌, not, Bool, true, false, List, Some, Ok}
-use Rattle.jc_opcodes.specs.declared.instr.Instr.{Instr}
-use Rattle.jc_opcodes.specs.declared.instr.Instr.TheVariants as instr
-use Rattle.jc_opcodes.specs.declared.instr.InvokeOp.{InvokeOp}
-use Rattle.jc_opcodes.specs.declared.instr.ReturnOp.{ReturnOp}
+use Rattle.jc_frames.specs.declared.instr.Instr.{Instr}
+use Rattle.jc_frames.specs.declared.instr.Instr.TheVariants as instr
+use Rattle.jc_frames.specs.declared.instr.InvokeOp.{InvokeOp}
+use Rattle.jc_frames.specs.declared.instr.ReturnOp.{ReturnOp}
 use Rattle.jc_frames.specs.declared.cell.Cell.{Cell}
 use Rattle.jc_frames.specs.declared.method.CallKind.TheVariants.{Instruction}
 use Rattle.jc_frames.specs.declared.outcome.Exception.{Exception}
@@ -15,13 +15,13 @@ use Rattle.jc_platform.specs.declared.names.PlatformMethod.{PlatformMethod}
 use Rattle.jc_linker.specs.declared.target.Method.TheVariants.{Code, Native}
 use Rattle.jc_linker.specs.Values.{Packages}
 use Rattle.jc_interp.specs.Natives.{native_call}
-use Rattle.jc_interp_calls.specs.declared.invoke.MethodCall.{MethodCall}
-use Rattle.jc_interp_calls.specs.declared.enter.Callee.{Callee}
-use Rattle.jc_interp_calls.specs.ServerCalls.{server_call}
-use Rattle.jc_interp_calls.specs.Invoke.{method_selection}
-use Rattle.jc_interp_calls.specs.Entering.{method_entry}
-use Rattle.jc_interp_calls.specs.MethodReturn.{method_return}
-use Rattle.jc_interp_calls.specs.Throwing.{athrow, exception_throw}
+use Rattle.jc_instructions.specs.declared.invoke.MethodCall.{MethodCall}
+use Rattle.jc_instructions.specs.declared.enter.Callee.{Callee}
+use Rattle.jc_instructions.specs.ServerCall.{server_call}
+use Rattle.jc_instructions.specs.Invoke.{method_selection}
+use Rattle.jc_instructions.specs.Enter.{method_entry}
+use Rattle.jc_instructions.specs.MethodReturn.{method_return}
+use Rattle.jc_instructions.specs.Throw.{athrow, exception_throw}
 use Rattle.jc_interp.specs.Stepping.{instruction_at, is_plain}
 use Rattle.jc_world.specs.declared.native_result.ServerCall.{ServerCall}
 use Rattle.law_linking.specs.Classes.{HasAids, KnowsClasses}

@@ -2,11 +2,11 @@
 ghost use Rattle.law_soundness.specs.Calls.{NativesLeave};
 ghost use Rattle.law_soundness.specs.LocalEffects.{LocalEffectsStay};
 ghost use Rattle.law_soundness.specs.Commands.{CommandsAreSound, ServingKeeps};
-ghost use Rattle.law_soundness.specs.Dispatched.{DispatchedAreRuns};
+ghost use Rattle.law_soundness.specs.CommandParts.{DispatchedAreRuns};
 ghost use Rattle.law_soundness.specs.Groups.{ArraysFit, FieldsFit, ObjectsFit};
 ghost use Rattle.law_soundness.specs.Natives.{NativesFit};
 ghost use Rattle.law_soundness.specs.Soundness.{FaultsAreSound, RunsAreSound, StepsAreSound};
-ghost use Rattle.law_soundness.specs.Switching.{SwitchesHaveCauses};
+ghost use Rattle.law_soundness.specs.OwnerSwitches.{SwitchesHaveCauses};
 ghost use Rattle.law_soundness.specs.Steps.{AsksFit, CallsFit, InstructionsFit, LeavesFit};
 
 /// Whatever an instruction on fields may do in a sound memory fits the packages that are linked.

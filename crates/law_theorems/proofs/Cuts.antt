@@ -10,26 +10,26 @@ use Rattle.jc_memory.specs.State.{MemoryState, Effect, HeapMove, apply_effects, 
 use Rattle.jc_memory.specs.Reading.{AllEffectsDue}
 use Rattle.jc_memory.proofs.ProgramLemmas.{due_before, lost_by}
 use Rattle.jc_platform.specs.Tokens.{Tokens}
-use Rattle.jc_pin.specs.Pins.{counter}
+use Rattle.jc_environment.specs.Pins.{counter}
 use Rattle.jc_card.specs.Answers.{exchange}
 use Rattle.jc_card.specs.CardState.{CardState}
-use Rattle.jc_card_checks.specs.Objects.{is_object_address}
-use Rattle.law_atomicity.specs.Changed.{IsChanged}
-use Rattle.law_atomicity.proofs.Torn.{due_begun}
+use Rattle.jc_packages.specs.Objects.{is_object_address}
+use Rattle.law_code.specs.PinChanges.{IsChanged}
+use Rattle.law_code.proofs.AtomicEffects.{due_begun}
 use Rattle.law_soundness.specs.Commands.{IsServed}
 use Rattle.law_soundness.specs.State.{IsSoundMemory}
 use Rattle.law_images.specs.Cards.{IsOwnCard}
 use Rattle.law_images.specs.Comes.{memory_at}
-use Rattle.law_images.specs.Loaded.{AreBytes}
+use Rattle.law_images.specs.LoadedPackages.{AreBytes}
 use Rattle.law_images.specs.Tries.{is_owner_pin, tries_in}
 use Rattle.law_images.proofs.Sessions.{linked_known}
 use Rattle.law_theorems.specs.Cuts.{IsBehind, IsHeapCutAt, KeepWhatWasDone, LeaveTheChangesBeforeThem, SetNoTries}
-use Rattle.law_theorems.proofs.Coming.{comes_own}
+use Rattle.law_theorems.proofs.CardsAtRest.{comes_own}
 use Rattle.law_theorems.proofs.Complete.{behind_complete}
-use Rattle.law_theorems.proofs.Counted.{HoldsInBoth, behind_all, counted_in_both, none_before, tries_of}
+use Rattle.law_theorems.proofs.CountedTries.{HoldsInBoth, behind_all, counted_in_both, none_before, tries_of}
 use Rattle.law_theorems.proofs.Fuse.{at_count, by_fuse}
 use Rattle.law_theorems.proofs.Prefixes.{behind_both, due_after}
-use Rattle.law_theorems.proofs.Served.{AddsPackage, IsFine, commands_fine, sound_behind}
+use Rattle.law_theorems.proofs.ServedEffects.{AddsPackage, IsFine, commands_fine, sound_behind}
 use Rattle.law_theorems.proofs.TakenBack.{left_of, resets}
 
 -- ---- a try that was counted

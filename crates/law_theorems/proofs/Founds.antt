@@ -14,9 +14,9 @@ use Rattle.jc_memory.proofs.ProgramLemmas.{due_before}
 use Rattle.jc_platform.specs.Tokens.{Tokens}
 use Rattle.jc_card.specs.Answers.{exchange}
 use Rattle.jc_card.specs.CardState.{CardState}
-use Rattle.law_atomicity.specs.Orderly.{KeepsTransactionOrder}
-use Rattle.law_atomicity.proofs.Same.{differ}
-use Rattle.law_atomicity.proofs.Torn.{saved_within, due_begun}
+use Rattle.law_code.specs.Orderly.{KeepsTransactionOrder}
+use Rattle.law_code.proofs.Same.{differ}
+use Rattle.law_code.proofs.AtomicEffects.{saved_within, due_begun}
 use Rattle.law_soundness.specs.State.{IsSoundMemory}
 use Rattle.law_soundness.specs.Commands.{IsServed}
 use Rattle.law_images.specs.Cards.{IsOwnCard}
@@ -24,23 +24,23 @@ use Rattle.law_images.proofs.Rest.{IsEmpty, empty_effect}
 use Rattle.law_images.proofs.Sessions.{linked_known}
 use Rattle.law_images.specs.Comes.{ComesWithin, memory_at}
 use Rattle.law_images.specs.Tries.{IsAsFound, PlaceStays, is_persistent_bytes}
-use Rattle.jc_card_checks.specs.Objects.{is_bytes, is_object_address}
+use Rattle.jc_packages.specs.Objects.{is_bytes, is_object_address}
 use Rattle.law_soundness.proofs.Effects.{event_none}
 use Rattle.law_soundness.proofs.Values.{none_of}
-use Rattle.law_theorems.proofs.Named.{cell_below}
-use Rattle.law_theorems.proofs.Placed.{beyond_stays, headers_behind, place_stays}
+use Rattle.law_theorems.proofs.EffectWords.{cell_below}
+use Rattle.law_theorems.proofs.RestoredCells.{beyond_stays, headers_behind, place_stays}
 use Rattle.law_theorems.proofs.Orders.{commands_orderly}
 use Rattle.law_theorems.proofs.Others.{others}
 use Rattle.law_theorems.proofs.Pins.{as_it_was}
 use Rattle.law_theorems.proofs.Prefixes.{behind_both, due_after, due_all}
-use Rattle.law_theorems.proofs.Served.{AddsPackage, IsFine, commands_fine}
+use Rattle.law_theorems.proofs.ServedEffects.{AddsPackage, IsFine, commands_fine}
 use Rattle.jc_heap.specs.Heap.{HeapView}
-use Rattle.jc_session.specs.Power.{Up}
+use Rattle.jc_card.specs.Power.{Up}
 use Rattle.law_images.specs.Comes.{ComesTo}
 use Rattle.law_images.specs.Tries.{tries_in}
-use Rattle.law_theorems.proofs.Coming.{comes_rests}
+use Rattle.law_theorems.proofs.CardsAtRest.{comes_rests}
 use Rattle.law_theorems.proofs.OwnerPins.{pin_in, pin_stands}
-use Rattle.law_theorems.proofs.Staying.{IsLaidOutAt, away_at_begin, laid_behind, pin_item, tries_stay}
+use Rattle.law_theorems.proofs.KeptTries.{IsLaidOutAt, away_at_begin, laid_behind, pin_item, tries_stay}
 
 module _ (t : Tokens) (card : CardState) (own : IsOwnCard t card) (bytes : List ℕ) (earlier during : List Effect) where
   abbrev all : List Effect

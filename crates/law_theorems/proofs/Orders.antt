@@ -13,21 +13,21 @@ use Rattle.jc_memory.specs.State.{MemoryState, Effect, HeapMove, apply_effect}
 use Rattle.jc_linker.specs.Values.{Packages}
 use Rattle.jc_platform.specs.Tokens.{Tokens}
 use Rattle.jc_platform.specs.declared.names.PlatformClass.TheVariants.{OwnerPin}
-use Rattle.jc_pin.specs.Pins.{has_value, is_persistent_with, is_pin, record_of as pin_of}
-use Rattle.jc_card_checks.specs.Objects.{is_bytes, is_instance}
+use Rattle.jc_environment.specs.Pins.{has_value, is_persistent_with, is_pin, record_of as pin_of}
+use Rattle.jc_packages.specs.Objects.{is_bytes, is_instance}
 use Rattle.jc_linker.specs.Classes.{is_a}
 use Rattle.jc_card.specs.Answers.{exchange}
 use Rattle.jc_card.specs.CardState.{CardState}
-use Rattle.law_atomicity.specs.Orderly.{KeepsTransactionOrder}
-use Rattle.law_atomicity.proofs.Torn.{due_begun}
+use Rattle.law_code.specs.Orderly.{KeepsTransactionOrder}
+use Rattle.law_code.proofs.AtomicEffects.{due_begun}
 use Rattle.law_soundness.specs.Commands.{IsServed}
 use Rattle.law_soundness.specs.Fit.{IsPinObject}
 use Rattle.law_soundness.specs.State.{IsSoundMemory}
-use Rattle.law_soundness.proofs.Serving.{serving_keeps}
-use Rattle.law_images.specs.Loaded.{AreBytes}
+use Rattle.law_soundness.proofs.CommandEffects.{serving_keeps}
+use Rattle.law_images.specs.LoadedPackages.{AreBytes}
 use Rattle.law_images.specs.Cards.{IsOwnCard}
-use Rattle.law_theorems.proofs.Named.{is_value, when_not, word_is}
-use Rattle.law_theorems.proofs.Served.{AddsPackage, IsFine, commands_fine}
+use Rattle.law_theorems.proofs.EffectWords.{is_value, when_not, word_is}
+use Rattle.law_theorems.proofs.ServedEffects.{AddsPackage, IsFine, commands_fine}
 
 -- ---- the object that fits is a PIN
 

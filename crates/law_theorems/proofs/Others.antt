@@ -15,15 +15,15 @@ use Rattle.jc_memory.specs.State.{apply_effect, apply_effects, moves_of}
 use Rattle.jc_memory.specs.Reading.{AllEffectsDue}
 use Rattle.jc_linker.specs.Values.{Packages}
 use Rattle.jc_platform.specs.declared.names.PlatformClass.TheVariants.{OwnerPin}
-use Rattle.jc_card_checks.specs.Objects.{is_bytes, is_persistent_instance, is_object_address}
+use Rattle.jc_packages.specs.Objects.{is_bytes, is_persistent_instance, is_object_address}
 use Rattle.jc_linker.specs.Classes.{is_a}
 use Rattle.law_soundness.specs.Fit.{IsPinObject}
 use Rattle.law_soundness.specs.State.{IsSoundMemory}
 use Rattle.law_soundness.specs.Commands.{IsServed}
 use Rattle.law_soundness.proofs.Frames.{same_object}
-use Rattle.law_soundness.proofs.Serving.{serving_keeps}
+use Rattle.law_soundness.proofs.CommandEffects.{serving_keeps}
 use Rattle.law_images.specs.Tries.{is_owner_pin, is_persistent_bytes}
-use Rattle.law_theorems.proofs.Placed.{IsDurableSet, IsSame, SetsCounter, SetsByte, durable_set, open_still, parted, set_beside}
+use Rattle.law_theorems.proofs.RestoredCells.{IsDurableSet, IsSame, SetsCounter, SetsByte, durable_set, open_still, parted, set_beside}
 
 -- what says that it is an array of bytes is an object
 a_kind : (t : Item) → (facts_of t).kind ≡ ByteArray → is_object t ≡ true

@@ -14,7 +14,7 @@ use Rattle.jc_linker.specs.Values.{Packages}
 use Rattle.jc_platform.specs.declared.names.PlatformClass.TheVariants.{OwnerPin}
 use Rattle.jc_platform.specs.Hierarchy.{cells_of as platform_cells, is_interface}
 use Rattle.jc_platform.specs.Names.{classes}
-use Rattle.jc_card_checks.specs.Objects.{fits_class, is_instance, is_persistent_instance, is_object_address}
+use Rattle.jc_packages.specs.Objects.{fits_class, is_instance, is_persistent_instance, is_object_address}
 use Rattle.jc_linker.specs.Classes.{is_a}
 use Rattle.law_soundness.specs.State.{IsSoundMemory}
 use Rattle.law_soundness.specs.Soundness.{AreKnown}
@@ -22,7 +22,7 @@ use Rattle.law_soundness.proofs.RunObjects.{instance_kind, kept_behind, kept_fit
 use Rattle.law_soundness.proofs.Effects.{event_none}
 use Rattle.law_images.specs.Tries.{is_owner_pin}
 use Rattle.law_theorems.proofs.Pins.{PinIn}
-use Rattle.law_theorems.proofs.Named.{PinStands}
+use Rattle.law_theorems.proofs.EffectWords.{PinStands}
 
 pub an_object : (t : Item) → is_object t ≡ true → (o : Object) × (t ≡ AnObject o)
 an_object (AnObject o) e = (o, refl)

@@ -19,26 +19,26 @@ use Rattle.jc_world.specs.Objects.{object_at, some_or_fault}
 use Rattle.jc_interp.specs.declared.attacks.Attack.{Attack}
 use Rattle.jc_interp.specs.Attacks.{attacked_step}
 use Rattle.jc_card.specs.CardState.{CardState}
-use Rattle.jc_session.specs.Power.{Up}
-use Rattle.law_isolation.specs.Runs.{RunSteps}
+use Rattle.jc_card.specs.Power.{Up}
+use Rattle.law_code.specs.Runs.{RunSteps}
 use Rattle.law_soundness.specs.Environment.{HasEnvironment}
-use Rattle.law_soundness.specs.Living.{AreLivingCallers, AreLivingFrames}
+use Rattle.law_soundness.specs.LivingReferences.{AreLivingCallers, AreLivingFrames}
 use Rattle.law_soundness.specs.Machines.{IsSoundMachine, KnowOwners}
 use Rattle.law_soundness.specs.Soundness.{AreKnown, IsSoundNext}
 use Rattle.law_soundness.specs.References.{EndsLiving, HandsObjects, MayBegin, NamesObjects}
 use Rattle.law_soundness.specs.State.{IsSoundMemory}
 use Rattle.law_soundness.proofs.Loads.{element_refers}
-use Rattle.law_soundness.proofs.Registered.{instance_refers}
+use Rattle.law_soundness.proofs.RegistryEntries.{instance_refers}
 use Rattle.law_soundness.proofs.RunObjects.{kept_behind}
 use Rattle.law_soundness.proofs.StepLaws.{given}
-use Rattle.law_soundness.proofs.Stepping.{steps_sound}
+use Rattle.law_soundness.proofs.StepsAndRuns.{steps_sound}
 use Rattle.law_soundness.proofs.Transients.{names_object}
 use Rattle.law_images.proofs.Sessions.{linked_known}
 use Rattle.law_images.specs.Comes.{AddNone, ComesWithin, memory_at}
 use Rattle.law_theorems.specs.References.{ReferencesNameObjects, RunsFrom}
-use Rattle.law_theorems.proofs.Coming.{comes_own}
-use Rattle.law_theorems.proofs.Living.{name_what_is_there}
-use Rattle.law_theorems.proofs.Isolated.{IsWell, is_well}
+use Rattle.law_theorems.proofs.CardsAtRest.{comes_own}
+use Rattle.law_theorems.proofs.TransientCells.{name_what_is_there}
+use Rattle.law_theorems.proofs.Isolation.{IsWell, is_well}
 
 named : (p : Packages) (m : MemoryState) → IsSoundMemory p m → NamesObjects p m
 named p m sound = record {

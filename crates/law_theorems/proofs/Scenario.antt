@@ -14,7 +14,7 @@ use Rattle.jc_image.specs.declared.laying.ImageRoom.{ImageRoom}
 use Rattle.jc_card.specs.CardState.{CardState}
 use Rattle.jc_card.specs.Dispatching.{usual_budget}
 use Rattle.jc_card.specs.Made.{new_card_heap}
-use Rattle.law_theorems.proofs.Restarting.{restarted}
+use Rattle.law_theorems.proofs.Restarts.{restarted}
 use Rattle.law_theorems.proofs.TableText.{table, table_text}
 use Rattle.law_theorems.proofs.Ways.{or_else}
 

@@ -6,19 +6,19 @@ use Rattle.jc_words.specs.Refusals.{Refusals, refused_once}
 use Rattle.jc_platform.specs.Tokens.{Tokens}
 use Rattle.jc_platform.proofs.OneAnswer.{one_table}
 use Rattle.jc_card.proofs.PoweredUp.{refused_made}
-use Rattle.jc_session.specs.declared.session.SessionFault.{SessionFault}
-use Rattle.jc_session.specs.declared.session.SessionFault.TheVariants.{NoMemory, PowerFault}
-use Rattle.jc_session.specs.Requests.{Request, Command, Reset, ArmFuse, PlanFault, Reply, Response, Ready, Down, Armed, Planned}
-use Rattle.jc_session.specs.Laws.{IsToldByReply, IsToldOfRefusal, refusals_before}
-use Rattle.jc_session.specs.Power.{PowerState, Up, Off, KeptState, StoreState, durable_state}
-use Rattle.jc_session.specs.Serving.{Serves}
-use Rattle.jc_session.specs.Sessions.{SessionEnds}
-use Rattle.jc_session.proofs.Refusals.{count_raised, done_refusals, one_more, planned_durable, powered_refusals}
-use Rattle.jc_session.proofs.WholeSessions.{are_whole, down_tells}
+use Rattle.jc_card.specs.declared.session.SessionFault.{SessionFault}
+use Rattle.jc_card.specs.declared.session.SessionFault.TheVariants.{NoMemory, PowerFault}
+use Rattle.jc_card.specs.Requests.{Request, Command, Reset, ArmFuse, PlanFault, Reply, Response, Ready, Down, Armed, Planned}
+use Rattle.jc_card.specs.SessionLaws.{IsToldByReply, IsToldOfRefusal, refusals_before}
+use Rattle.jc_card.specs.Power.{PowerState, Up, Off, KeptState, StoreState, durable_state}
+use Rattle.jc_card.specs.Serving.{Serves}
+use Rattle.jc_card.specs.Session.{SessionEnds}
+use Rattle.jc_card.proofs.Refusals.{count_raised, done_refusals, one_more, planned_durable, powered_refusals}
+use Rattle.jc_card.proofs.WholeSessions.{are_whole, down_tells}
 use Rattle.jcard_script.specs.declared.script.ScriptFault.TheVariants.{PowerFault as NotPoweredUp}
 use Rattle.law_images.specs.Cards.{AreOfBytes}
-use Rattle.law_images.specs.Faults.{IsOwnStore, SessionsEndWell}
-use Rattle.law_images.specs.Scripts.{state_of}
+use Rattle.law_images.specs.CardLaws.{IsOwnStore, SessionsEndWell}
+use Rattle.law_images.specs.ScriptLaws.{state_of}
 use Rattle.law_images.proofs.Faults.{end_well}
 use Rattle.law_images.proofs.Scripts.{end_as_sessions}
 use Rattle.law_theorems.specs.Images.{PowerUpAgain}

@@ -11,14 +11,14 @@ use Rattle.jc_dispatch.specs.Phases.{close, abort_if_open, then_with, registers_
 use Rattle.jc_card.specs.Answers.{exchange}
 use Rattle.jc_card.specs.CardState.{CardState}
 use Rattle.jc_card.specs.Dispatching.{with_response}
-use Rattle.jc_session.specs.Requests.{Request, Command, Reset, ArmFuse, PlanFault, Reply, Response, Ready, Down, Armed, Planned}
-use Rattle.jc_session.specs.Power.{PowerState, Up, Off, KeptState, armed, durable_state}
-use Rattle.jc_session.specs.Serving.{AnswersReset, Serves, SessionRun}
-use Rattle.jc_session.specs.Starting.{IsPoweredUp}
-use Rattle.law_atomicity.specs.Orderly.{KeepsTransactionOrder}
-use Rattle.law_atomicity.specs.Tears.{IsDurableOutside, TearLeavesAfter}
-use Rattle.law_atomicity.proofs.Torn.{begun_inside, behind, lost_at}
-use Rattle.law_images.specs.Loaded.{AreBytes}
+use Rattle.jc_card.specs.Requests.{Request, Command, Reset, ArmFuse, PlanFault, Reply, Response, Ready, Down, Armed, Planned}
+use Rattle.jc_card.specs.Power.{PowerState, Up, Off, KeptState, armed, durable_state}
+use Rattle.jc_card.specs.Serving.{AnswersReset, Serves, SessionRun}
+use Rattle.jc_card.specs.Starting.{IsPoweredUp}
+use Rattle.law_code.specs.Orderly.{KeepsTransactionOrder}
+use Rattle.law_code.specs.Tears.{IsDurableOutside, TearLeavesAfter}
+use Rattle.law_code.proofs.AtomicEffects.{begun_inside, behind, lost_at}
+use Rattle.law_images.specs.LoadedPackages.{AreBytes}
 use Rattle.law_images.specs.Cards.{IsOfBytes, IsOwnCard}
 use Rattle.law_images.proofs.Rest.{leave_at_rest, rests_so}
 use Rattle.law_images.specs.Comes.{AreDown, ComesTo, IsDown, memory_at}
@@ -28,7 +28,7 @@ use Rattle.law_images.specs.Tries.{IsAsFound}
 use Rattle.law_theorems.proofs.Founds.{is_found}
 use Rattle.law_theorems.proofs.Orders.{commands_orderly}
 use Rattle.law_theorems.proofs.Prefixes.{behind_both, due_after, front}
-use Rattle.law_theorems.proofs.Coming.{comes_own, comes_rests}
+use Rattle.law_theorems.proofs.CardsAtRest.{comes_own, comes_rests}
 
 -- ---- while all is answered down
 

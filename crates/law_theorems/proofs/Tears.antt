@@ -16,23 +16,23 @@ use Rattle.jc_platform.specs.Tokens.{Tokens}
 use Rattle.jc_card.specs.Answers.{exchange}
 use Rattle.jc_card.specs.CardState.{CardState}
 use Rattle.jc_card.specs.Dispatching.{with_response}
-use Rattle.jc_session.specs.Requests.{Request, Command, ArmFuse, Reply, Response, Ready, Down, Armed, Planned}
-use Rattle.jc_session.specs.Power.{PowerState, Up, Off, KeptState, armed, durable_state}
-use Rattle.jc_session.specs.Serving.{AnswersCommand, SessionRun}
-use Rattle.jc_session.specs.Starting.{Starts}
-use Rattle.jc_session.proofs.SessionRuns.{run_then}
+use Rattle.jc_card.specs.Requests.{Request, Command, ArmFuse, Reply, Response, Ready, Down, Armed, Planned}
+use Rattle.jc_card.specs.Power.{PowerState, Up, Off, KeptState, armed, durable_state}
+use Rattle.jc_card.specs.Serving.{AnswersCommand, SessionRun}
+use Rattle.jc_card.specs.Starting.{Starts}
+use Rattle.jc_card.proofs.SessionRuns.{run_then}
 use Rattle.jcard_script.specs.Script.{form_of}
 use Rattle.jcard_outcomes.specs.declared.standing.Left.{Left}
 use Rattle.jcard_tear.specs.declared.cuts.Command.{Command as CutCommand}
 use Rattle.jcard_tear.specs.Runs.{IsLeft, Runs, store_of}
 use Rattle.jcard_tear.specs.Sweeps.{cut_script}
 use Rattle.law_images.specs.Comes.{ComesTo}
-use Rattle.law_images.specs.Faults.{IsOwnStore}
-use Rattle.law_images.specs.Scripts.{asked_by, asked_by_form, state_of}
+use Rattle.law_images.specs.CardLaws.{IsOwnStore}
+use Rattle.law_images.specs.ScriptLaws.{asked_by, asked_by_form, state_of}
 use Rattle.law_images.proofs.Rest.{leave_at_rest}
 use Rattle.law_images.proofs.Scripts.{are_sessions, ask_bytes}
 use Rattle.law_theorems.specs.Tears.{CutsAreNamed, IsNamed, ReadsAsCut}
-use Rattle.law_theorems.proofs.Coming.{comes_rests, stores_come}
+use Rattle.law_theorems.proofs.CardsAtRest.{comes_rests, stores_come}
 use Rattle.law_theorems.proofs.Fuse.{at_count, by_fuse, faults_grow}
 
 -- ---- a session of two parts

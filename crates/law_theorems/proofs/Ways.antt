@@ -14,10 +14,10 @@ use Rattle.jc_linker.specs.Values.{Packages}
 use Rattle.jc_interp.specs.Stepping.{machine_step}
 use Rattle.jc_card.specs.Answers.{exchange}
 use Rattle.jc_card.specs.CardState.{CardState}
-use Rattle.jc_card.specs.Loads.{LoadResponse}
-use Rattle.jc_session.specs.Requests.{Command, Reply, Response}
-use Rattle.jc_session.specs.Power.{Up}
-use Rattle.jc_session.specs.Serving.{SessionRun}
+use Rattle.jc_card.specs.Loading.{LoadResponse}
+use Rattle.jc_card.specs.Requests.{Command, Reply, Response}
+use Rattle.jc_card.specs.Power.{Up}
+use Rattle.jc_card.specs.Serving.{SessionRun}
 use Rattle.law_theorems.proofs.Prefixes.{behind_both}
 
 -- ---- one program

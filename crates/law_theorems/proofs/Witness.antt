@@ -19,27 +19,27 @@ use Rattle.jc_platform.specs.Tokens.{Tokens}
 use Rattle.jc_platform.proofs.NamesTold.{names_told}
 use Rattle.jc_interp.specs.Running.{bare_frames, no_package}
 use Rattle.jc_interp.specs.Stepping.{instruction_step, machine_step}
-use Rattle.jc_card_load.specs.Loading.{empty_load}
+use Rattle.jc_packages.specs.Loading.{empty_load}
 use Rattle.jc_card.specs.Answers.{manager_command, exchange}
 use Rattle.jc_card.specs.CardState.{CardState}
 use Rattle.jc_card.specs.Dispatching.{dispatch}
 use Rattle.jc_card.specs.Made.{new_card_heap}
 use Rattle.jc_card.proofs.NewFronts.{sizes-new_card_heap}
-use Rattle.jc_session.specs.Requests.{Reset, Ready}
-use Rattle.jc_session.specs.Power.{KeptState, Up, Off, StoreState, durable_state, is_well_formed, with_refusal}
-use Rattle.jc_session.specs.Starting.{IsPoweredUp}
-use Rattle.jc_session.proofs.Laid.{if_laid}
+use Rattle.jc_card.specs.Requests.{Reset, Ready}
+use Rattle.jc_card.specs.Power.{KeptState, Up, Off, StoreState, durable_state, is_well_formed, with_refusal}
+use Rattle.jc_card.specs.Starting.{IsPoweredUp}
+use Rattle.jc_card.proofs.Laid.{if_laid}
 use Rattle.law_soundness.specs.References.{MayBegin}
-use Rattle.law_soundness.proofs.Living.{first_living, none_living}
+use Rattle.law_soundness.proofs.LivingReferences.{first_living, none_living}
 use Rattle.law_linking.proofs.Bytes.{have_bytes}
 use Rattle.law_images.specs.Cards.{IsOwnKept}
 use Rattle.law_images.specs.Comes.{ComesTo}
 use Rattle.law_images.specs.Heaps.{IsOwnHeap}
-use Rattle.law_images.specs.Loaded.{AreBytes}
+use Rattle.law_images.specs.LoadedPackages.{AreBytes}
 use Rattle.law_images.proofs.CardHeaps.{own_at}
 use Rattle.law_images.proofs.CardImages.{new_layout}
 use Rattle.law_images.proofs.NewImages.{new_images}
-use Rattle.law_theorems.proofs.Restarting.{powered, restarted}
+use Rattle.law_theorems.proofs.Restarts.{powered, restarted}
 use Rattle.law_theorems.specs.Witness.{HaveWitnesses, NewStoresServe, begin_load_bytes, new_blown, new_kept, select_bytes}
 
 module _ (budget n : ℕ) (room : ImageRoom) (text : List ℕ) (t : Tokens) (enough : least_size ≤ n) (sizes : AreSizes room.cells room.buffer) (reads : Reads text (Ok t)) where

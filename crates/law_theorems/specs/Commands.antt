@@ -4,7 +4,7 @@ use Rattle.jc_heap.specs.Moves.{Move, Commit, Abort}
 use Rattle.jc_memory.specs.State.{Effect, HeapMove, apply_effects}
 use Rattle.jc_platform.specs.Tokens.{Tokens}
 use Rattle.jc_card.specs.CardState.{CardState}
-use Rattle.law_soundness.specs.Dispatched.{IsByEnvironment, IsOfRun}
+use Rattle.law_soundness.specs.CommandParts.{IsByEnvironment, IsOfRun}
 use Rattle.law_images.specs.Comes.{ComesWithin, memory_at}
 use Rattle.law_theorems.specs.References.{RunsFrom}
 

@@ -5,17 +5,17 @@ use Rattle.jc_heap.specs.Losses.{durable_behind, writes_of_moves}
 use Rattle.jc_heap.specs.Moves.{Commit, WriteNonAtomic}
 use Rattle.jc_memory.specs.State.{MemoryState, Effect, HeapMove, apply_effect, moves_of}
 use Rattle.jc_memory.specs.Reading.{HasTracePrefix}
-use Rattle.jc_pin.specs.Pins.{counter}
+use Rattle.jc_environment.specs.Pins.{counter}
 use Rattle.jc_platform.specs.Tokens.{Tokens}
 use Rattle.jc_card.specs.Answers.{exchange}
 use Rattle.jc_card.specs.CardState.{CardState}
-use Rattle.jc_session.specs.Requests.{Request, Reset, Reply, Ready, Down}
-use Rattle.jc_session.specs.Power.{KeptState, Up, Off}
-use Rattle.jc_session.specs.Serving.{AnswersCommand, SessionRun}
-use Rattle.law_atomicity.specs.Changed.{IsChanged}
+use Rattle.jc_card.specs.Requests.{Request, Reset, Reply, Ready, Down}
+use Rattle.jc_card.specs.Power.{KeptState, Up, Off}
+use Rattle.jc_card.specs.Serving.{AnswersCommand, SessionRun}
+use Rattle.law_code.specs.PinChanges.{IsChanged}
 use Rattle.law_images.specs.Comes.{AreDown, ComesTo, memory_at}
 use Rattle.law_images.specs.Left.{IsLeft}
-use Rattle.law_images.specs.Loaded.{AreBytes}
+use Rattle.law_images.specs.LoadedPackages.{AreBytes}
 use Rattle.law_images.specs.Tries.{SetsAnew, is_owner_pin, tries_in}
 
 -- a command is cut when exactly k of its writes have passed: it began with these effects, the refused write is one of theirs, and this is the

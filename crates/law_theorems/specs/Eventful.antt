@@ -8,17 +8,17 @@ use Rattle.jc_heap.specs.Moves.{Write, SetPlaces, WriteNonAtomic, Commit, Abort}
 use Rattle.jc_frames.specs.Frames.{Frames}
 use Rattle.jc_memory.specs.Programs.{Completes}
 use Rattle.jc_memory.specs.State.{MemoryState, Effect, HeapMove, moves_of}
-use Rattle.jc_pin.specs.Pins.{counter}
+use Rattle.jc_environment.specs.Pins.{counter}
 use Rattle.jc_platform.specs.Tokens.{Tokens}
 use Rattle.jc_dispatch.specs.Phases.{close}
 use Rattle.jc_card.specs.CardState.{CardState}
-use Rattle.jc_session.specs.Requests.{Command, Reset, Response, Ready, Down}
-use Rattle.jc_session.specs.Power.{Up, Off, KeptState}
-use Rattle.jc_session.specs.Serving.{AnswersCommand, SessionRun}
-use Rattle.law_isolation.specs.Reach.{IsOutside}
-use Rattle.law_atomicity.specs.Changed.{IsChanged}
+use Rattle.jc_card.specs.Requests.{Command, Reset, Response, Ready, Down}
+use Rattle.jc_card.specs.Power.{Up, Off, KeptState}
+use Rattle.jc_card.specs.Serving.{AnswersCommand, SessionRun}
+use Rattle.law_code.specs.Reach.{IsOutside}
+use Rattle.law_code.specs.PinChanges.{IsChanged}
 use Rattle.law_images.specs.Comes.{ComesTo, ComesWithin, memory_at}
-use Rattle.law_images.specs.Loaded.{AreBytes}
+use Rattle.law_images.specs.LoadedPackages.{AreBytes}
 use Rattle.law_images.specs.Tries.{IsUpdate, is_owner_pin}
 use Rattle.law_theorems.specs.Cuts.{IsHeapCutAt, SetNoTries}
 use Rattle.law_theorems.specs.Isolation.{RunsApart}

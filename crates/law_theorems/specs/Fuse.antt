@@ -2,9 +2,9 @@
 use Rattle.std.specs.Prelude.{ℕ, ◌≡◌, ◌⊎◌, ◌<◌, ◌≤◌, List, None}
 use Rattle.jc_words.specs.Count.{saturating_count}
 use Rattle.jc_words.specs.Refusals.{IsWithinFuse, Refusals, with_fuse_at}
-use Rattle.jc_session.specs.Requests.{Request, Reply}
-use Rattle.jc_session.specs.Power.{PowerState, armed, durable_state}
-use Rattle.jc_session.specs.Serving.{SessionRun}
+use Rattle.jc_card.specs.Requests.{Request, Reply}
+use Rattle.jc_card.specs.Power.{PowerState, armed, durable_state}
+use Rattle.jc_card.specs.Serving.{SessionRun}
 use Rattle.law_theorems.specs.DownRuns.{ArmNone, RunWithDown}
 
 -- what is known of the writes that its store refused

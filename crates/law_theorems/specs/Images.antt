@@ -10,17 +10,17 @@ use Rattle.jc_card.specs.Made.{IsMade, new_card_heap}
 use Rattle.jc_card.specs.PowerUp.{PowerUpRefuses}
 use Rattle.jc_card.specs.declared.power_up.PowerFault.{PowerFault as Fault}
 use Rattle.jc_card.specs.declared.power_up.PowerFault.TheVariants.{NoMemory, StoreDown}
-use Rattle.jc_session.specs.declared.session.SessionFault.{SessionFault}
-use Rattle.jc_session.specs.declared.session.SessionFault.TheVariants.{PowerFault}
-use Rattle.jc_session.specs.Requests.{Request, Reply}
-use Rattle.jc_session.specs.Power.{StoreState}
-use Rattle.jc_session.specs.Sessions.{SessionEnds}
+use Rattle.jc_card.specs.declared.session.SessionFault.{SessionFault}
+use Rattle.jc_card.specs.declared.session.SessionFault.TheVariants.{PowerFault}
+use Rattle.jc_card.specs.Requests.{Request, Reply}
+use Rattle.jc_card.specs.Power.{StoreState}
+use Rattle.jc_card.specs.Session.{SessionEnds}
 use Rattle.jcard_script.specs.declared.script.ScriptFault.{ScriptFault}
 use Rattle.jcard_script.specs.declared.script.ScriptFault.TheVariants.{PowerFault as NotPoweredUp}
 use Rattle.jcard_script.specs.Script.{EndsWithin}
 use Rattle.law_images.specs.Cards.{AreOfBytes}
-use Rattle.law_images.specs.Faults.{IsOwnStore}
-use Rattle.law_images.specs.Scripts.{state_of}
+use Rattle.law_images.specs.CardLaws.{IsOwnStore}
+use Rattle.law_images.specs.ScriptLaws.{state_of}
 
 -- from the store of a new image sessions may go on, and each session, however it ends, leaves such a store; neither its first power up nor a
 -- reset in it finds a fault but want of memory, and no power up over such a store does, but that a write was refused

@@ -8,10 +8,10 @@ use Rattle.jc_linker.specs.Values.{Packages}
 use Rattle.jc_platform.specs.Tokens.{Tokens}
 use Rattle.jc_interp.specs.Stepping.{machine_step}
 use Rattle.jc_card.specs.CardState.{CardState}
-use Rattle.law_isolation.specs.Reach.{IsOutside, KeepsCells}
-use Rattle.law_isolation.specs.Runs.{MayBecome}
-use Rattle.law_isolation.specs.Steps.{Stays}
-use Rattle.law_soundness.specs.Switching.{Cause, SwitchesHaveCauses}
+use Rattle.law_code.specs.Reach.{IsOutside, KeepsCells}
+use Rattle.law_code.specs.Runs.{MayBecome}
+use Rattle.law_code.specs.Steps.{Stays}
+use Rattle.law_soundness.specs.OwnerSwitches.{Cause, SwitchesHaveCauses}
 use Rattle.law_images.specs.Comes.{AddNone, ComesWithin, memory_at}
 
 -- an effect of a step takes nothing back, and code goes on running for the same owner: where a method is called in another context, a server

@@ -9,8 +9,8 @@ use Rattle.jc_platform.specs.Tokens.{Tokens}
 use Rattle.jc_world.specs.Objects.{object_at}
 use Rattle.jc_interp.specs.declared.attacks.Attack.{Attack}
 use Rattle.jc_card.specs.CardState.{CardState}
-use Rattle.law_isolation.specs.Runs.{RunSteps}
-use Rattle.law_soundness.specs.Living.{AreLivingFrames}
+use Rattle.law_code.specs.Runs.{RunSteps}
+use Rattle.law_soundness.specs.LivingReferences.{AreLivingFrames}
 use Rattle.law_soundness.specs.References.{EndsLiving, HandsObjects, MayBegin, NamesObjects}
 use Rattle.law_soundness.specs.State.{TransientCells}
 use Rattle.law_images.specs.Comes.{AddNone, ComesWithin, memory_at}

@@ -1,9 +1,9 @@
 -- The answer down.
 use Rattle.std.specs.Prelude.{◌≡◌, ◌<◌, ◌↔◌}
-use Rattle.jc_session.specs.Requests.{Request, Reply, Down}
-use Rattle.jc_session.specs.Laws.{IsToldOfRefusal, refusals_before}
-use Rattle.jc_session.specs.Power.{PowerState, durable_state}
-use Rattle.jc_session.specs.Serving.{Serves}
+use Rattle.jc_card.specs.Requests.{Request, Reply, Down}
+use Rattle.jc_card.specs.SessionLaws.{IsToldOfRefusal, refusals_before}
+use Rattle.jc_card.specs.Power.{PowerState, durable_state}
+use Rattle.jc_card.specs.Serving.{Serves}
 
 -- However a request is served, while the count of refused writes has not come to its end: it is answered down exactly where the store
 -- refused one write, or the card was off and a command came; and where it is not, no write was refused

@@ -6,13 +6,13 @@ use Rattle.jc_memory.specs.Programs.{Completes}
 use Rattle.jc_platform.specs.Tokens.{Tokens}
 use Rattle.jc_card.specs.CardState.{CardState}
 use Rattle.jc_dispatch.specs.Phases.{close}
-use Rattle.jc_session.specs.Requests.{Request, Reset, Reply, Response, Ready, Down}
-use Rattle.jc_session.specs.Power.{Up}
-use Rattle.jc_session.specs.Serving.{AnswersCommand, SessionRun}
+use Rattle.jc_card.specs.Requests.{Request, Reset, Reply, Response, Ready, Down}
+use Rattle.jc_card.specs.Power.{Up}
+use Rattle.jc_card.specs.Serving.{AnswersCommand, SessionRun}
 use Rattle.law_images.specs.Cards.{IsOfBytes}
 use Rattle.law_images.specs.Comes.{AreDown, ComesTo, ComesWithin, memory_at}
 use Rattle.law_images.specs.Left.{IsLeftBy, IsWhatWasFound}
-use Rattle.law_images.specs.Loaded.{AreBytes}
+use Rattle.law_images.specs.LoadedPackages.{AreBytes}
 use Rattle.law_images.specs.Rest.{IsResting}
 
 pub record IsTakenBack : Type 0 where

@@ -6,16 +6,16 @@ use Rattle.jc_commit.specs.Image.{plain_of}
 use Rattle.jc_heap.specs.Heap.{HeapState, heap_of}
 use Rattle.jc_platform.specs.Tokens.{Tokens}
 use Rattle.jc_card.specs.CardState.{CardState}
-use Rattle.jc_session.specs.Requests.{Command, ArmFuse}
-use Rattle.jc_session.specs.Power.{Up, Off, KeptState}
+use Rattle.jc_card.specs.Requests.{Command, ArmFuse}
+use Rattle.jc_card.specs.Power.{Up, Off, KeptState}
 use Rattle.jcard_script.specs.Script.{Asks, form_of}
 use Rattle.jcard_outcomes.specs.declared.standing.Left.{Left}
 use Rattle.jcard_tear.specs.declared.cuts.Command.{Command as CutCommand}
 use Rattle.jcard_tear.specs.Runs.{IsLeft, Runs, store_of}
 use Rattle.jcard_tear.specs.Sweeps.{cut_script}
 use Rattle.law_images.specs.Comes.{ComesTo}
-use Rattle.law_images.specs.Faults.{IsOwnStore}
-use Rattle.law_images.specs.Scripts.{state_of}
+use Rattle.law_images.specs.CardLaws.{IsOwnStore}
+use Rattle.law_images.specs.ScriptLaws.{state_of}
 use Rattle.law_theorems.specs.Cuts.{IsHeapCutAt}
 
 -- so the script of a cut reads: some lines, one that arms the fuse k writes ahead, and last a command of these bytes

@@ -2,7 +2,7 @@
 use Rattle.std.specs.Prelude.{ℕ, ◌≡◌, true, List, [], ◌∷◌, ◌++◌}
 use Rattle.jc_heap.specs.Moves.{WriteNonAtomic, Abort}
 use Rattle.jc_memory.specs.State.{MemoryState, Effect, HeapMove}
-use Rattle.jc_pin.specs.Pins.{counter}
+use Rattle.jc_environment.specs.Pins.{counter}
 use Rattle.jc_platform.specs.Tokens.{Tokens}
 use Rattle.jc_card.specs.CardState.{CardState}
 use Rattle.law_images.specs.Comes.{ComesWithin, memory_at}

@@ -1,9 +1,9 @@
 -- Sessions whose store refused no write.
 use Rattle.std.specs.Prelude.{ℕ, List, Ok}
-use Rattle.jc_session.specs.Requests.{Request, Reply}
-use Rattle.jc_session.specs.Power.{StoreState}
-use Rattle.jc_session.specs.Sessions.{SessionEnds}
-use Rattle.jc_session.specs.WholeCopies.{IsWholeSession, RefusesNone}
+use Rattle.jc_card.specs.Requests.{Request, Reply}
+use Rattle.jc_card.specs.Power.{StoreState}
+use Rattle.jc_card.specs.Session.{SessionEnds}
+use Rattle.jc_card.specs.WholeCopies.{IsWholeSession, RefusesNone}
 
 -- a session over a store that refused no write is that of a card that keeps whole copies of its heap
 abbrev pub AreOfWholeCopies : Type 0

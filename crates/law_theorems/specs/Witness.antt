@@ -17,12 +17,12 @@ use Rattle.jc_interp.specs.Running.{bare_frames}
 use Rattle.jc_interp.specs.Stepping.{machine_step}
 use Rattle.jc_card.specs.CardState.{CardState}
 use Rattle.jc_card.specs.Made.{IsMade, new_card_heap}
-use Rattle.jc_session.specs.Requests.{Reset, Response, Ready, Down}
-use Rattle.jc_session.specs.Power.{PowerState, Up, Off, KeptState, StoreState, armed, durable_state, with_refusal}
-use Rattle.jc_session.specs.Serving.{AnswersCommand, Serves, SessionRun}
-use Rattle.jc_session.specs.Sessions.{SessionEnds}
+use Rattle.jc_card.specs.Requests.{Reset, Response, Ready, Down}
+use Rattle.jc_card.specs.Power.{PowerState, Up, Off, KeptState, StoreState, armed, durable_state, with_refusal}
+use Rattle.jc_card.specs.Serving.{AnswersCommand, Serves, SessionRun}
+use Rattle.jc_card.specs.Session.{SessionEnds}
 use Rattle.law_images.specs.Comes.{ComesTo, ComesWithin}
-use Rattle.law_images.specs.Loaded.{AreBytes}
+use Rattle.law_images.specs.LoadedPackages.{AreBytes}
 use Rattle.law_theorems.specs.DownRuns.{ArmNone}
 use Rattle.law_theorems.specs.Fuse.{refusals_of}
 use Rattle.law_theorems.specs.References.{RunsFrom}

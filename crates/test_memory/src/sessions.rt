@@ -1,10 +1,10 @@
 //! Sessions with enough memory and without. No program serves one, so that no row can ask it.
+use jc_card::event::Event;
+use jc_card::formatting::format;
+use jc_card::power_up::PowerFault;
+use jc_card::session::{SessionFault, session};
 use jc_image::ImageRoom;
 use jc_platform::example::EXAMPLE;
-use jc_session::card::formatting::format;
-use jc_session::card::power_up::PowerFault;
-use jc_session::event::Event;
-use jc_session::session::{SessionFault, session};
 use jc_words::layout::USUAL_CAPACITY;
 use jc_words::{MemStore, WordStore};
 use std::alloc::Global;

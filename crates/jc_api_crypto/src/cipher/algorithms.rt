@@ -2,9 +2,9 @@
 ghost use Rattle.std.specs.Prelude.{◌≡◌, Some};
 ghost use Rattle.jc_api_crypto.specs.CipherAlgorithms.{aes_named, algorithm_number, cipher_named, cipher_number, cipher_of, cipher_of_numbers, cipher_with, des_named, padding_named, padding_number};
 
-use jc_modes::kept::BlockAlgorithm;
-use jc_modes::kept::conversion::Chaining;
-use jc_modes::padding::Padding;
+use jc_ciphers::kept::BlockAlgorithm;
+use jc_ciphers::kept::conversion::Chaining;
+use jc_ciphers::padding::Padding;
 
 /// A cipher: a block algorithm, how its blocks are chained, and a padding.
 #[derive(Clone, Copy)]

@@ -1,6 +1,6 @@
 //! Ciphers of blocks: what their objects require, and their calls.
 ghost use Rattle.std.specs.Prelude.{◌≡◌, ◌≤◌, false, true, IfOk};
-ghost use Rattle.jc_modes.specs.Kept.{IsKeyLength};
+ghost use Rattle.jc_ciphers.specs.Kept.{IsKeyLength};
 ghost use Rattle.jc_memory.specs.Programs.{Executes};
 ghost use Rattle.jc_world.specs.Arrays.{IsInArray};
 ghost use Rattle.jc_world.specs.Instances.{IsInstanceWith};
@@ -19,11 +19,11 @@ use crate::initialized::{
 use jc_api::{counted_of, state_at};
 use jc_api_keys::exceptions::INVALID_INIT;
 use jc_api_keys::key_types::KeyAlgorithm;
+use jc_ciphers::kept::BlockAlgorithm;
+use jc_ciphers::kept::conversion::{Chaining, Conversion, Direction};
 use jc_frames::{Cell, FrameExit};
 use jc_linker::linked::Linked;
 use jc_memory::Memory;
-use jc_modes::kept::BlockAlgorithm;
-use jc_modes::kept::conversion::{Chaining, Conversion, Direction};
 use jc_platform::names::PlatformClass;
 use jc_transient::Ref;
 use jc_words::WordStore;

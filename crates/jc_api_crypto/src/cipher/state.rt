@@ -2,8 +2,8 @@
 ghost use Rattle.std.specs.Prelude.{◌≡◌, ◌≤◌, ◌<◌, ◌*◌, ◌+◌, ◌/◌, false, length, take, IfSome, Some};
 ghost use Rattle.std.specs.Option.{option_map};
 ghost use Rattle.jc_memory.specs.Programs.{Executes};
-ghost use Rattle.jc_modes.specs.Conversions.{conversion_after, conversion_end, conversion_output};
-ghost use Rattle.jc_modes.specs.Kept.{block_size};
+ghost use Rattle.jc_ciphers.specs.Conversions.{conversion_after, conversion_end, conversion_output};
+ghost use Rattle.jc_ciphers.specs.Kept.{block_size};
 ghost use Rattle.jc_world.specs.Arrays.{IsInArray, bytes_in};
 ghost use Rattle.jc_world.specs.NativeCalls.{after_call};
 ghost use Rattle.jc_api.specs.Changing.{changing_call};
@@ -19,11 +19,11 @@ use jc_api::{MOST_ELEMENTS, SMALL_PIECE};
 use jc_api_keys::exceptions::ILLEGAL_USE;
 use jc_api_keys::receivers::{read, read_state};
 use jc_api_keys::shorts::put_shorts_of;
+use jc_ciphers::kept::MOST_STATE;
+use jc_ciphers::kept::conversion::{finish_conversion, update_conversion};
 use jc_frames::Cell;
 use jc_linker::linked::Linked;
 use jc_memory::Memory;
-use jc_modes::kept::MOST_STATE;
-use jc_modes::kept::conversion::{finish_conversion, update_conversion};
 use jc_words::WordStore;
 use jc_world::{NativeResult, StepExit, Stretch};
 

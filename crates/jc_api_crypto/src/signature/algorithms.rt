@@ -3,10 +3,10 @@ ghost use Rattle.std.specs.Prelude.{◌≡◌, ◌≤◌, Some};
 ghost use Rattle.jc_digests.specs.Kept.{digest_size};
 ghost use Rattle.jc_api_crypto.specs.SignatureAlgorithms.{block_number, code_size, des_mac, des_mac_4, des_mac_8, des_mac_named, des_number, digest_number, further_named, hash_number, hmac_of_number, mac_number, mac_of_numbers, mac_padding_number, method_number, method_number_3, one_if, signature_cipher_number, signature_named, signature_of_numbers, signature_padding_number, signature_size};
 
+use jc_ciphers::kept::BlockAlgorithm;
+use jc_ciphers::kept::macs::MacAlgorithm;
+use jc_ciphers::padding::Padding;
 use jc_digests::kept::{HashAlgorithm, MOST_HASH};
-use jc_modes::kept::BlockAlgorithm;
-use jc_modes::kept::macs::MacAlgorithm;
-use jc_modes::padding::Padding;
 
 /// How many bytes of a code are the signature.
 #[derive(Clone, Copy)]

@@ -11,7 +11,7 @@ ghost use Rattle.jc_api.specs.Initializing.{initializing_call};
 ghost use Rattle.jc_api_crypto.specs.Initialized.{keyed_cells};
 ghost use Rattle.jc_api_keys.specs.KeyObjects.Contents.{most_key};
 ghost use Rattle.jc_api_crypto.specs.SignatureCodes.{FitsKey, IsRunning, code_get_length, code_init, code_init_with_vector, code_sign, code_update, code_verify, key_of_length, mac_takes_length, mac_vector, running_in, signature_key, signature_keys, signature_requirements, signature_shorts, taken_vector_size, takes_length, vector_size};
-ghost use Rattle.jc_modes.specs.KeptMacs.{IsMacKeyLength};
+ghost use Rattle.jc_ciphers.specs.KeptMacs.{IsMacKeyLength};
 
 use crate::cipher::block::{cipher_shorts, has_key_length, keys_of};
 use crate::initialized::{
@@ -27,11 +27,11 @@ use jc_api_keys::exceptions::ILLEGAL_VALUE;
 use jc_api_keys::key_objects::arguments::key_argument;
 use jc_api_keys::key_types::KeyAlgorithm;
 use jc_api_keys::receivers::output_of;
+use jc_ciphers::kept::BlockAlgorithm;
+use jc_ciphers::kept::macs::MacAlgorithm;
 use jc_frames::{Cell, FrameExit};
 use jc_linker::linked::Linked;
 use jc_memory::Memory;
-use jc_modes::kept::BlockAlgorithm;
-use jc_modes::kept::macs::MacAlgorithm;
 use jc_platform::names::PlatformClass;
 use jc_transient::Ref;
 use jc_words::WordStore;

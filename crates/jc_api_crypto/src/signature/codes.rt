@@ -1,15 +1,15 @@
 //! What becomes of the state of a message that is to be signed, by the bytes of its key and vector.
 ghost use Rattle.std.specs.Prelude.{◌≡◌, length, take, if◌then◌else◌, Some, None};
 ghost use Rattle.std.specs.Option.{option_map};
-ghost use Rattle.jc_modes.specs.Kept.{block_size, state_size};
-ghost use Rattle.jc_modes.specs.KeptMacs.{IsMacKeyLength, cipher_of, mac_of_state};
+ghost use Rattle.jc_ciphers.specs.Kept.{block_size, state_size};
+ghost use Rattle.jc_ciphers.specs.KeptMacs.{IsMacKeyLength, cipher_of, mac_of_state};
 ghost use Rattle.jc_api_crypto.specs.SignatureCodes.{FitsKey, signature_of_state, state_after, state_bytes, vector_size};
 ghost use Rattle.jc_api_crypto.specs.SignatureAlgorithms.{code_size, signature_size};
 
 use crate::signature::algorithms::{CodeLength, SignatureAlgorithm};
-use jc_modes::kept::MOST_BLOCK;
-use jc_modes::kept::hmac::{put_hmac_of, update_hmac};
-use jc_modes::kept::macs::{MacAlgorithm, put_mac_of, update_mac};
+use jc_ciphers::kept::MOST_BLOCK;
+use jc_ciphers::kept::hmac::{put_hmac_of, update_hmac};
+use jc_ciphers::kept::macs::{MacAlgorithm, put_mac_of, update_mac};
 
 /// Takes a piece into a state.
 pub(crate) fn take_in(

@@ -6,7 +6,7 @@ use Rattle.std.specs.List.{range_with_len}
 use Rattle.std.proofs.lemmas.Bool.{eqb-true, eqb-false, le-leb, leb-true, leb-false}
 use Rattle.std.proofs.lemmas.List.{get_or_past}
 use Rattle.std.proofs.lemmas.List.FromFn.{fill_by_all, get_or-map-range_with_len}
-use Rattle.jc_registry.specs.Aids.{aid_byte, aid_of_cells}
+use Rattle.jc_environment.specs.Aid.{aid_byte, aid_of_cells}
 use Rattle.jc_api_framework.specs.Aid.Cells.{aid_cell, cells_of_aid, AreReadBack}
 
 high : (x y : ℕ) → y < 256 → (256 * x + y) / 256 ≡ x

@@ -1,7 +1,7 @@
 -- Applet: what its checks give where a call does not go on.
 use Rattle.std.specs.Prelude.{ℕ, List, Option, Some, None}
 use Rattle.jc_heap.specs.declared.object.Kind.TheVariants.{Instance}
-use Rattle.jc_memory.specs.Room.{has_space, lacks_capacity}
+use Rattle.jc_memory.specs.CommitCapacity.{has_space, lacks_capacity}
 use Rattle.jc_memory.specs.State.{MemoryState}
 use Rattle.jc_memory.specs.declared.registers.PackageNumber.{PackageNumber}
 use Rattle.jc_api.proofs.Exits.{FaultsOnly, plain_if}

@@ -14,7 +14,7 @@ use Rattle.jc_memory.specs.State.{MemoryState, HeapMove, apply_effect, Effect, S
 use Rattle.jc_memory.specs.declared.registers.Installation.{Installation}
 use Rattle.jc_memory.specs.declared.registers.Installation.TheVariants.{Idle, Open, Registered}
 use Rattle.jc_memory.specs.declared.registers.PackageNumber.{PackageNumber}
-use Rattle.jc_registry.specs.Registry.{applet_with_aid}
+use Rattle.jc_environment.specs.Registry.{applet_with_aid}
 use Rattle.jc_platform.specs.Distinct.{class_word}
 use Rattle.jc_platform.specs.declared.names.PlatformClass.TheVariants.{Aid}
 use Rattle.jc_linker.specs.Values.{Packages}

@@ -6,7 +6,7 @@ use Rattle.jc_firewall.specs.Situation.{same_context}
 use Rattle.jc_memory.specs.Cells.{header_at}
 use Rattle.jc_memory.specs.Owners.{owner_of}
 use Rattle.jc_memory.specs.State.{MemoryState}
-use Rattle.jc_pin.specs.Pins.{record_of}
+use Rattle.jc_environment.specs.Pins.{record_of}
 use Rattle.jc_world.specs.Contexts.{context_of}
 use Rattle.jc_api.proofs.Exits.{FaultsOnly, plain_if}
 use Rattle.jc_api_framework.specs.OwnerPin.{at_least_1, is_in_context_of, is_own_value}

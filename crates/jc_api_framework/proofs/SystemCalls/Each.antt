@@ -10,8 +10,8 @@ use Rattle.jc_memory.specs.Cells.{header_at, cells_refusal}
 use Rattle.jc_memory.specs.Making.{creation_refusal}
 use Rattle.jc_memory.specs.State.{MemoryState, Effect}
 use Rattle.jc_memory.specs.declared.registers.AppletNumber.{AppletNumber}
-use Rattle.jc_registry.specs.Aids.{aid_at}
-use Rattle.jc_registry.specs.Registry.{applet_with_aid, instance_of_applet}
+use Rattle.jc_environment.specs.Aid.{aid_at}
+use Rattle.jc_environment.specs.Registry.{applet_with_aid, instance_of_applet}
 use Rattle.jc_platform.specs.Distinct.{class_word}
 use Rattle.jc_platform.specs.declared.names.PlatformClass.TheVariants.{Aid}
 use Rattle.jc_platform.specs.declared.names.PlatformMethod.{PlatformMethod}

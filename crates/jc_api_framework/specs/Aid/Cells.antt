@@ -1,7 +1,7 @@
 -- The cells of an AID object.
 use Rattle.std.specs.Prelude.{ℕ, ◌+◌, ◌*◌, ◌≡◌, ◌≤◌, ◌<◌, nat_le, ◌&&◌, Bool, Some, List, ◌∷◌, length, map, slice_index}
 use Rattle.std.specs.List.{range_with_len}
-use Rattle.jc_registry.specs.Aids.{aid_of_cells}
+use Rattle.jc_environment.specs.Aid.{aid_of_cells}
 
 -- this many bytes are an AID
 abbrev pub is_aid_length : ℕ → Bool

@@ -9,7 +9,7 @@ use Rattle.jc_memory.specs.declared.registers.Installation.TheVariants.{Idle, Op
 use Rattle.jc_memory.specs.State.{MemoryState}
 use Rattle.jc_memory.specs.Cells.{header_at}
 use Rattle.jc_memory.specs.Commands.{data_of}
-use Rattle.jc_registry.specs.Registry.{applet_with_aid}
+use Rattle.jc_environment.specs.Registry.{applet_with_aid}
 use Rattle.jc_world.specs.Contexts.{context_of, selected_context}
 
 -- the AID by which the manager is selected

@@ -17,8 +17,8 @@ use Rattle.jc_world.specs.declared.native_result.NativeResult.TheVariants.{Retur
 use Rattle.jc_world.specs.NativeCalls.{NativeProgram, return_value, code_fault, if_some, if_ok}
 use Rattle.jc_world.specs.Objects.{is_instance_of, short_argument, reference_argument}
 use Rattle.jc_world.specs.Answers.{returns_bool}
-use Rattle.jc_registry.specs.Aids.{aid_at}
-use Rattle.jc_registry.specs.Registry.{aid_of_applet, instance_of_applet, applet_with_aid}
+use Rattle.jc_environment.specs.Aid.{aid_at}
+use Rattle.jc_environment.specs.Registry.{aid_of_applet, instance_of_applet, applet_with_aid}
 use Rattle.jc_world.specs.declared.arrays.Stretch.{Stretch}
 use Rattle.jc_world.specs.Arrays.{bytes_in}
 use Rattle.jc_api.specs.Arguments.{counted_of}

@@ -7,10 +7,9 @@ ghost use Rattle.jc_api_framework.specs.Apdu.Current.{apdu_object, has_command, 
 ghost use Rattle.jc_api_framework.specs.Apdu.{apdu_get_current_apdu, apdu_get_current_apdu_buffer};
 
 use crate::apdu::buffer::buffer;
-use jc_environment::APDU_OBJECT;
+use jc_environment::{APDU_OBJECT, applet_with_aid};
 use jc_frames::{Cell, CodeFault, Exception};
 use jc_memory::{Installation, Memory, data_of};
-use jc_registry::applet_with_aid;
 use jc_transient::Ref;
 use jc_words::WordStore;
 use jc_world::contexts::{context_of, selected_context};

@@ -5,15 +5,16 @@ ghost use Rattle.jc_heap.specs.declared.object.Kind.TheVariants.{Instance};
 ghost use Rattle.jc_heap.specs.Heap.{facts, IsObject};
 ghost use Rattle.jc_memory.specs.Programs.{Executes};
 ghost use Rattle.jc_heap.specs.Completions.{after_step};
-ghost use Rattle.jc_memory.specs.Room.{has_space, lacks_capacity, cells_update, KeepsRest};
+ghost use Rattle.jc_memory.specs.CommitCapacity.{has_space, lacks_capacity, cells_update, KeepsRest};
 ghost use Rattle.jc_world.specs.NativeCalls.{after_call};
 ghost use Rattle.jc_api_framework.specs.Aid.Cells.{cells_of_aid};
 ghost use Rattle.jc_heap.specs.declared.touch.Touch.{Touch};
-ghost use Rattle.jc_heap.specs.Touches.{touched_cells};
+ghost use Rattle.jc_heap.specs.Touch.{touched_cells};
 ghost use Rattle.jc_api_framework.specs.Applet.Register.{aid_object_creation, registry_entry, registration, touched_by_entry, touched_by_registration};
 
 use crate::applet::register_checks::registration_package;
 use crate::cells_of_aid;
+use jc_environment::AID_CELLS;
 use jc_heap::{AppletEntry, Kind};
 use jc_linker::linked::Linked;
 use jc_memory::{
@@ -21,7 +22,6 @@ use jc_memory::{
     register_within_capacity, set_within_capacity,
 };
 use jc_platform::names::PlatformClass;
-use jc_registry::AID_CELLS;
 use jc_transient::Ref;
 use jc_words::{StoreDown, WordStore};
 use jc_world::{NativeResult, StepExit};

@@ -3,16 +3,16 @@ ghost use Rattle.std.specs.Prelude.{◌≡◌, ◌<◌, false, true, IfOk};
 ghost use Rattle.jc_words.specs.Layout.{most_applets};
 ghost use Rattle.jc_memory.specs.Cells.{header_at};
 ghost use Rattle.jc_heap.specs.declared.object.Kind.TheVariants.{Instance};
-ghost use Rattle.jc_memory.specs.Room.{has_space, lacks_capacity};
+ghost use Rattle.jc_memory.specs.CommitCapacity.{has_space, lacks_capacity};
 ghost use Rattle.jc_api_framework.specs.Applet.Register.{installation_in_transaction, is_inside, is_owned, may_be_added, open_installation, registration_package};
 ghost use Rattle.jc_api_framework.specs.Applet.Register.{touched_by_registration, unless_full};
 
+use jc_environment::{AID_CELLS, applet_with_aid};
 use jc_frames::FrameExit;
 use jc_frames::reasons::{BUFFER_FULL, ILLEGAL_AID, IN_PROGRESS, NO_RESOURCE};
 use jc_heap::registry_layout::{ENTRY_INSTANCE, ENTRY_PACKAGE, entry_start};
 use jc_heap::{Kind, Place, Touch};
 use jc_memory::{Depth, Installation, Memory, PackageNumber, has_space, lacks_capacity};
-use jc_registry::{AID_CELLS, applet_with_aid};
 use jc_transient::{OwnerWord, Ref};
 use jc_words::WordStore;
 use jc_words::layout::MOST_APPLETS;

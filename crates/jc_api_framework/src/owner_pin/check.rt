@@ -3,17 +3,17 @@ ghost use Rattle.std.specs.Prelude.{◌≡◌, ◌≤◌, false, Some, IfOk};
 ghost use Rattle.jc_memory.specs.Programs.{Executes};
 ghost use Rattle.jc_heap.specs.Completions.{after_step};
 ghost use Rattle.jc_world.specs.NativeCalls.{after_call};
-ghost use Rattle.jc_pin.specs.Checking.{pin_check};
-ghost use Rattle.jc_pin.specs.Pins.{IsPin};
+ghost use Rattle.jc_environment.specs.PinChecks.{pin_check};
+ghost use Rattle.jc_environment.specs.Pins.{IsPin};
 ghost use Rattle.jc_world.specs.Arrays.{IsInArray, bytes_in};
 ghost use Rattle.jc_api_framework.specs.OwnerPin.{pin_comparison, owner_pin_check};
 
 use crate::owner_pin::receiver;
 use jc_api::{MOST_ELEMENTS, SMALL_PIECE, argument_bytes, array_arguments};
+use jc_environment::pins::tries;
 use jc_frames::{Cell, FrameExit};
 use jc_linker::linked::Linked;
 use jc_memory::Memory;
-use jc_pin::tries;
 use jc_transient::Ref;
 use jc_words::{StoreDown, WordStore};
 use jc_world::{NativeResult, StepExit, Stretch};
@@ -36,7 +36,7 @@ fn compare_most<const MOST: usize, S: WordStore>(
     let mut buffer = [0; MOST];
     let guess = &mut buffer[..bytes.count as usize];
     memory.bytes(bytes.array, bytes.start, guess);
-    jc_pin::check(memory, pin, Some(guess))
+    jc_environment::pins::check(memory, pin, Some(guess))
 }
 
 // Compares bytes of an array with the value, once a try was counted.
@@ -81,7 +81,7 @@ fn pin_comparison<S: WordStore>(
             Ok(NativeResult::ReturnValue(Cell::Short(i16::from(same))))
         }
         Err(stop) => {
-            jc_pin::check(memory, pin, None)?;
+            jc_environment::pins::check(memory, pin, None)?;
             Err(StepExit::from(stop))
         }
     }

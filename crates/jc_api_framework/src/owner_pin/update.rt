@@ -2,19 +2,19 @@
 ghost use Rattle.std.specs.Prelude.{◌≡◌, ◌≤◌, false};
 ghost use Rattle.jc_memory.specs.Programs.{Executes};
 ghost use Rattle.jc_world.specs.NativeCalls.{after_call};
-ghost use Rattle.jc_pin.specs.Pins.{IsPin};
-ghost use Rattle.jc_pin.specs.PinInit.{pin_init};
-ghost use Rattle.jc_pin.specs.Updating.{after_pin, pin_update};
+ghost use Rattle.jc_environment.specs.Pins.{IsPin};
+ghost use Rattle.jc_environment.specs.PinInit.{pin_init};
+ghost use Rattle.jc_environment.specs.PinUpdates.{after_pin, pin_update};
 ghost use Rattle.jc_world.specs.Arrays.{IsInArray, bytes_in};
 ghost use Rattle.jc_api_framework.specs.OwnerPin.{answer_of, at_least_1, changed_or_thrown, is_own_value, owner_pin_init, owner_pin_update};
 
 use crate::owner_pin::receiver;
 use jc_api::{MOST_ELEMENTS, SMALL_PIECE, counted_of};
+use jc_environment::pins::{PinRefusal, init, record, update};
 use jc_frames::reasons::{BUFFER_FULL, ILLEGAL_PIN_VALUE, NO_RESOURCE};
 use jc_frames::{Cell, Exception, FrameExit};
 use jc_linker::linked::Linked;
 use jc_memory::{Memory, Owner};
-use jc_pin::{PinRefusal, init, record, update};
 use jc_transient::Ref;
 use jc_words::WordStore;
 use jc_world::arguments::short_argument;

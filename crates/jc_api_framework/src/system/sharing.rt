@@ -4,8 +4,8 @@ ghost use Rattle.std.specs.Option.{option_and_then};
 ghost use Rattle.jc_frames.specs.declared.cell.Cell.TheVariants.{Reference};
 ghost use Rattle.jc_memory.specs.Programs.{Executes};
 ghost use Rattle.jc_world.specs.declared.native_result.NativeResult.TheVariants.{ReturnValue};
-ghost use Rattle.jc_registry.specs.Aids.{aid_at};
-ghost use Rattle.jc_registry.specs.Registry.{applet_with_aid};
+ghost use Rattle.jc_environment.specs.Aid.{aid_at};
+ghost use Rattle.jc_environment.specs.Registry.{applet_with_aid};
 ghost use Rattle.jc_world.specs.NativeCalls.{after_call};
 ghost use Rattle.jc_world.specs.Arrays.{IsInArray};
 ghost use Rattle.jc_api_framework.specs.System.Sharing.{aid_or_null, applet_of, jc_system_get_aid, jc_system_get_previous_context_aid, aid_of_elements};
@@ -14,11 +14,11 @@ ghost use Rattle.jc_api_framework.specs.System.Sharing.{are_one, jc_system_is_ap
 
 use crate::aid::cells::is_aid_length;
 use jc_api::counted_of;
+use jc_environment::{MOST_AID, aid_at, aid_of_applet, applet_with_aid, instance_of_applet};
 use jc_frames::{Cell, Outcome};
 use jc_linker::linked::Linked;
 use jc_memory::{AppletNumber, Memory, Owner};
 use jc_platform::names::PlatformClass;
-use jc_registry::{MOST_AID, aid_at, aid_of_applet, applet_with_aid, instance_of_applet};
 use jc_transient::Ref;
 use jc_words::WordStore;
 use jc_world::arguments::{reference_argument, short_argument};

@@ -1,5 +1,5 @@
 use Rattle.std.proofs.Common.{◌≡◌, ◌+◌, All, [], ◌∷◌, true, subst, sym}
-use Rattle.jc_heap.specs.Touches.{CanTouch}
+use Rattle.jc_heap.specs.Touch.{CanTouch}
 use Rattle.jc_heap.specs.declared.touch.Touch.TheVariants as touch
 use Rattle.jc_platform.specs.Hierarchy.{cells_of}
 use Rattle.jc_api.specs.Factory.{has_space_after}

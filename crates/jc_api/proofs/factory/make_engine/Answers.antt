@@ -2,7 +2,7 @@ use Rattle.std.proofs.Common.{◌≡◌, ◌∙◌, true, false, [], ◌∷◌, 
 use Rattle.jc_heap.specs.declared.object.Kind.TheVariants.{Instance}
 use Rattle.jc_heap.specs.declared.touch.Touch.TheVariants as touch
 use Rattle.jc_memory.specs.Making.{creation_refusal}
-use Rattle.jc_memory.specs.Room.{has_space, lacks_capacity}
+use Rattle.jc_memory.specs.CommitCapacity.{has_space, lacks_capacity}
 use Rattle.jc_platform.specs.Hierarchy.{cells_of}
 use Rattle.jc_api.specs.Factory.{state_array}
 use Rattle.jc_api.proofs.EngineMaking.{after_made, cut_later}

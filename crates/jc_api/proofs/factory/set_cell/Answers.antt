@@ -6,7 +6,7 @@ use Rattle.jc_heap.specs.declared.place.Place.TheVariants as place
 use Rattle.jc_heap.specs.declared.touch.Touch.TheVariants as touch
 use Rattle.jc_heap.proofs.Laws.{facts-set_cell, top-set_cell}
 use Rattle.jc_memory.specs.Cells.{word_of}
-use Rattle.jc_memory.specs.Room.{lacks_capacity}
+use Rattle.jc_memory.specs.CommitCapacity.{lacks_capacity}
 use Rattle.jc_memory.proofs.Touched.{touches_left}
 use Rattle.jc_api.proofs.EngineMaking.{cut_set, did_set}
 use Rattle.jc_api.proofs.EngineRoom.{room_for_one}

@@ -1,9 +1,9 @@
 use Rattle.std.proofs.Common.{rules}
-use Rattle.jc_cap_linkage.specs.ComponentViews.{head}
-use Rattle.jc_cap_code.specs.MethodViews.{method_parts}
-use Rattle.jc_cap_code.specs.StaticViews.{static_parts}
+use Rattle.jc_cap.specs.ComponentViews.{head}
+use Rattle.jc_cap.specs.MethodViews.{method_parts}
+use Rattle.jc_cap.specs.StaticViews.{static_parts}
 use Rattle.jc_cap.specs.Contents as contents
-use Rattle.jc_cap.proofs.Again.{is_header, is_directory, is_applets, is_imports, is_pool, are_classes, are_methods, are_statics, is_exports}
+use Rattle.jc_cap.proofs.ReadAgain.{is_header, is_directory, is_applets, is_imports, is_pool, are_classes, are_methods, are_statics, is_exports}
 use Rattle.jc_cap.proofs.Taken.{unused_says}
 use Rattle.jc_cap.proofs.component.read_info.Goals as goal
 

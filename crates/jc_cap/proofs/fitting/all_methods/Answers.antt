@@ -1,8 +1,8 @@
 use Rattle.std.proofs.Common.{sym, arith}
-use Rattle.jc_cap_code.specs.MethodViews.{method_parts}
-use Rattle.jc_cap_code.specs.MethodReading.{has_room}
-use Rattle.jc_cap_code.specs.Tables.{all_of_list}
-use Rattle.jc_cap_code.proofs.Every.{every_goes_on, every_fails, every_ends}
+use Rattle.jc_cap.specs.MethodViews.{method_parts}
+use Rattle.jc_cap.specs.MethodReading.{has_room}
+use Rattle.jc_cap.specs.Tables.{all_of_list}
+use Rattle.jc_cap.proofs.Every.{every_goes_on, every_fails, every_ends}
 use Rattle.jc_cap.proofs.fitting.all_methods.Goals as goal
 
 pub loop-i-preserved : goal.loop-i-preserved

@@ -1,7 +1,7 @@
 use Rattle.std.proofs.Common.{◌≡◌, drop}
-use Rattle.jc_cap_code.specs.MethodViews.{method_parts}
-use Rattle.jc_cap_code.specs.MethodReading.{has_room}
-use Rattle.jc_cap_code.specs.Tables.{all_of_list}
+use Rattle.jc_cap.specs.MethodViews.{method_parts}
+use Rattle.jc_cap.specs.MethodReading.{has_room}
+use Rattle.jc_cap.specs.Tables.{all_of_list}
 use Rattle.jc_cap.proofs.fitting.all_methods.Given as goal
 
 abbrev pub invariant-loop-i : goal.invariant-loop-i

@@ -1,6 +1,6 @@
 use Rattle.std.proofs.Common.{◌≡◌, ◌∙◌, refl, ap, Some}
-use Rattle.jc_card_checks.specs.Sound.{IsSound}
-use Rattle.jc_card_load.specs.Reading.{packages_of}
+use Rattle.jc_packages.specs.Sound.{IsSound}
+use Rattle.jc_packages.specs.Reading.{packages_of}
 use Rattle.jc_card.specs.Fixed.{last_fixed}
 use Rattle.jc_card.proofs.AtReset.{is_at_reset}
 use Rattle.jc_card.proofs.MadeImages.{mapped_if}

@@ -1,6 +1,6 @@
 use Rattle.std.proofs.Common.{rules, ◌∙◌, ap, length, sym}
 use Rattle.jc_memory.specs.State.{MemoryState}
-use Rattle.jc_card_load.specs.Reading.{packages_of}
+use Rattle.jc_packages.specs.Reading.{packages_of}
 use Rattle.jc_card.proofs.Linked.{as_many}
 use Rattle.jc_card.proofs.PoweredUp.{fits_linked, unfit}
 use Rattle.jc_card.proofs.power_up.link_packages.Goals as goal

@@ -1,5 +1,5 @@
 use Rattle.std.proofs.Common.{◌∙◌, ℕ, slice_index, refl, sym, ap}
-use Rattle.jc_digests.specs.Remainders.{bits_in, generator_32, remainder}
+use Rattle.jc_digests.specs.Checksums.{bits_in, generator_32, remainder}
 use Rattle.jc_digests.proofs.Remainders.{remainder_more}
 use Rattle.jc_digests.proofs.checksums.update_32.Goals as goal
 

@@ -1,5 +1,5 @@
 use Rattle.std.proofs.Common.{◌≡◌, take}
-use Rattle.jc_digests.specs.Remainders.{generator_32, remainder}
+use Rattle.jc_digests.specs.Checksums.{generator_32, remainder}
 use Rattle.jc_digests.proofs.checksums.update_32.Given as goal
 
 abbrev pub invariant-loop-byte : goal.invariant-loop-byte

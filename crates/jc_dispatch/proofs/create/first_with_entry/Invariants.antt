@@ -1,5 +1,5 @@
 use Rattle.std.proofs.Common.{◌≡◌, ◌-◌, length}
-use Rattle.jc_dispatch.specs.Creating.{first_with_entry}
+use Rattle.jc_dispatch.specs.Create.{first_with_entry}
 use Rattle.jc_dispatch.proofs.create.first_with_entry.Given as goal
 
 abbrev pub invariant-loop-number : goal.invariant-loop-number

@@ -1,7 +1,7 @@
 use Rattle.std.proofs.Common.{◌≤◌, length, subst, sym}
 use Rattle.jc_transient.specs.State.{usual_cells}
 use Rattle.jc_environment.specs.Objects.{cells_of_all}
-use Rattle.jc_environment.proofs.Counts.{most_cells, most_count}
+use Rattle.jc_environment.proofs.ObjectCounts.{most_cells, most_count}
 use Rattle.jc_environment.proofs.objects.fixed_objects.Goals as goal
 
 pub returns-clause-cells : goal.returns-clause-cells

@@ -2,7 +2,7 @@ use Rattle.std.proofs.Common.{◌≡◌, ◌∙◌, ◌≤◌, ◌+◌, ◌++◌
 use Rattle.std.specs.Prelude.{map}
 use Rattle.jc_transient.specs.State.{usual_cells}
 use Rattle.jc_environment.specs.Objects.{cells_of_all, sized, sized_objects}
-use Rattle.jc_environment.proofs.Counts.{most_sized}
+use Rattle.jc_environment.proofs.ObjectCounts.{most_sized}
 use Rattle.jc_environment.proofs.objects.sized_objects.Goals as goal
 
 pub returns-clause-cells : goal.returns-clause-cells

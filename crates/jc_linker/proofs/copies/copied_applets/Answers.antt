@@ -1,6 +1,6 @@
 use Rattle.std.proofs.Common.{◌≡◌, ◌∙◌, ◌++◌, ◌+◌, ◌*◌, ◌≤◌, [], ◌∷◌}
 use Rattle.jc_linker.proofs.Walks.{taken_map}
-use Rattle.jc_cap_linkage.specs.ComponentViews.{applet_info}
+use Rattle.jc_cap.specs.ComponentViews.{applet_info}
 use Rattle.jc_linker.specs.Outlines.{applet_of}
 use Rattle.jc_linker.proofs.copies.copied_applets.Goals as goal
 

@@ -1,7 +1,7 @@
 use Rattle.std.proofs.Common.{◌≡◌, ◌∙◌, ◌++◌, ◌+◌, ◌*◌, ◌≤◌, [], ◌∷◌, ap, arith, length, length-append, map}
 use Rattle.jc_linker.proofs.Walks.{taken_map}
 use Rattle.std.proofs.lemmas.List.{take_all}
-use Rattle.jc_cap_code.specs.ClassValues.{offsets_of}
+use Rattle.jc_cap.specs.ClassValues.{offsets_of}
 use Rattle.jc_linker.specs.Outlines.{outline_of}
 use Rattle.jc_linker.proofs.Walks.{offsets-length}
 use Rattle.jc_linker.proofs.copies.outlines.Goals as goal

@@ -1,5 +1,5 @@
 use Rattle.std.proofs.Common.{◌≡◌, ◌≤◌, ◌++◌, ℕ, [], ◌∷◌, length, take, map}
-use Rattle.jc_cap_code.specs.ClassValues.{offsets_of}
+use Rattle.jc_cap.specs.ClassValues.{offsets_of}
 use Rattle.jc_linker.specs.Outlines.{outline_of}
 use Rattle.jc_linker.proofs.copies.outlines.Given as goal
 

@@ -1,5 +1,5 @@
 use Rattle.std.proofs.Common.{◌<◌, sym, subst, arith}
-use Rattle.jc_card_checks.proofs.Order.{Walks, walks}
+use Rattle.jc_packages.proofs.Order.{Walks, walks}
 use Rattle.jc_objects.proofs.CellWalk.{none_at_all, none_more, none_yet}
 use Rattle.jc_objects.proofs.cells.cell_in.Goals as goal
 

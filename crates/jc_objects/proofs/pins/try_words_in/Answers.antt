@@ -1,5 +1,5 @@
 use Rattle.std.proofs.Common.{◌<◌, sym, subst, arith}
-use Rattle.jc_card_checks.proofs.Order.{Walks, walks}
+use Rattle.jc_packages.proofs.Order.{Walks, walks}
 use Rattle.jc_objects.proofs.Walked.{found_all, found_more, found_none}
 use Rattle.jc_objects.proofs.pins.try_words_in.Goals as goal
 

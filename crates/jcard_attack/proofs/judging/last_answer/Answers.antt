@@ -1,5 +1,5 @@
 use Rattle.std.proofs.Common.{◌≢◌, List, ℕ, [], ◌∷◌, length, rules, refl}
-use Rattle.jcard_attack.specs.Judgements.{IsLastAnswer}
+use Rattle.jcard_attack.specs.Judging.{IsLastAnswer}
 use Rattle.jcard_tear.specs.Sweeps.{IsLastLine}
 use Rattle.jcard_attack.proofs.judging.last_answer.Goals as goal
 

@@ -1,7 +1,7 @@
 use Rattle.std.proofs.Common.{◌≡◌, ◌∙◌, subst, sym}
 use Rattle.std.specs.Prelude.{None}
 use Rattle.jc_interp.specs.declared.attacks.FaultModel.TheVariants.{Skip}
-use Rattle.jc_session.specs.declared.planned_fault.PlannedFault.{PlannedFault}
+use Rattle.jc_card.specs.declared.planned_fault.PlannedFault.{PlannedFault}
 use Rattle.jcard_tear.proofs.Uncut.{passed_on}
 use Rattle.jcard_attack.specs.Aftermaths.{IsUnfinished}
 use Rattle.jcard_attack.proofs.StruckLists.{struck_next, struck_none}

@@ -1,6 +1,6 @@
 use Rattle.std.proofs.Common.{subst}
-use Rattle.jcard_sweeps.specs.Attackings.{attack_asked_by}
-use Rattle.jcard_sweeps.specs.Tears.{IsTear}
+use Rattle.jcard_sweeps.specs.Attacking.{attack_asked_by}
+use Rattle.jcard_sweeps.specs.Tearing.{IsTear}
 use Rattle.jcard_commands.proofs.listed.list_plainly.Goals as goal
 
 pub returns-in-Objects : goal.returns-in-Objects

@@ -2,7 +2,7 @@ use Rattle.std.proofs.Common.{◌≡◌, ◌∙◌, inl, inr, List, [], ◌∷�
 use Rattle.jcard_script.proofs.Known.{appends_same}
 use Rattle.jc_words.specs.Stores.{below_fuse, store_value}
 use Rattle.jcard_files.specs.FileDeeds.{FileDeed, ClosesImage, OpensImage, ReadsText, fresh_store, untouched}
-use Rattle.jcard_commands.specs.Runs.{IsCarriedOut}
+use Rattle.jcard_commands.specs.ScriptRun.{IsCarriedOut}
 use Rattle.jcard_files.proofs.Stores.{fresh_under_fuse}
 use Rattle.jcard_files.proofs.Effects.{not_opened_to_write_unwritten, unfailed, unopened_unwritten}
 use Rattle.jcard_commands.proofs.script_run.run_file.Goals as goal

@@ -4,11 +4,11 @@ use Rattle.std.specs.Prelude.{codes}
 use Rattle.jcard_script.proofs.Known.{appends_same}
 use Rattle.jcard_files.specs.FileDeeds.{ReadsText, fresh_store}
 use Rattle.jcard_files.specs.Images.{IsUnopened}
-use Rattle.jcard_commands.specs.Runs.{IsCarriedOut}
+use Rattle.jcard_commands.specs.ScriptRun.{IsCarriedOut}
 use Rattle.jcard_files.proofs.Stores.{fresh_under_fuse}
 use Rattle.jcard_commands.proofs.Trials.{not_tried}
 use Rattle.jcard_files.proofs.Effects.{unfailed, unopened_unwritten}
-use Rattle.jcard_images.proofs.Unwritten.{in_memory_unwritten}
+use Rattle.jcard_files.proofs.Unwritten.{in_memory_unwritten}
 use Rattle.jcard_commands.proofs.trial.try_on.Goals as goal
 
 pub returns-in_err-file : goal.returns-in_err-file

@@ -3,11 +3,11 @@ use Rattle.std.proofs.lemmas.Grind.{common_steps}
 use Rattle.std.proofs.lemmas.Result.{err_from_is_err_and}
 use Rattle.jc_platform.specs.Table.{Reads}
 use Rattle.jcard_script.proofs.Known.{appends_same}
-use Rattle.jcard_images.specs.Extents.{IsNoExtent}
-use Rattle.jcard_images.specs.UsualTables.{IsNoPlatform, IsPlatform}
+use Rattle.jcard_files.specs.ImageSize.{IsNoExtent}
+use Rattle.jcard_files.specs.UsualTable.{IsNoPlatform, IsPlatform}
 use Rattle.jcard_arguments.specs.CommandLine.{text_of}
 use Rattle.jcard_files.proofs.Effects.{unfailed}
-use Rattle.jcard_images.proofs.Unwritten.{no_extent_unwritten, platform_unwritten}
+use Rattle.jcard_files.proofs.Unwritten.{no_extent_unwritten, platform_unwritten}
 use Rattle.jcard_commands.proofs.trial.try_script.Goals as goal
 
 pub returns-in_err-extent : goal.returns-in_err-extent

@@ -1,7 +1,7 @@
 use Rattle.std.proofs.Common.{◌≡◌, ◌∙◌, ◌++◌, [], Bool, List, ℕ, Option, ap, sym, if◌then◌else◌}
 use Rattle.std.proofs.lemmas.Result.{on_ok_weaker}
 use Rattle.jc_heap.specs.Object.{cells_of}
-use Rattle.jc_records.specs.Records.{item_at}
+use Rattle.jc_objects.specs.Records.{item_at}
 use Rattle.jcard_listing.specs.Images.{cells_in}
 use Rattle.jcard_listing.specs.Objects.{listed_text, object_text}
 use Rattle.jcard_listing.specs.declared.image.PlacedObject.{PlacedObject}

@@ -1,5 +1,5 @@
 use Rattle.std.proofs.Common.{◌≤◌, ◌-◌}
-use Rattle.jc_records.specs.Records.{record_words}
+use Rattle.jc_objects.specs.Records.{record_words}
 use Rattle.jcard_listing.specs.Packages.{parts_lines}
 use Rattle.jcard_listing.proofs.Listed.{IsTelling}
 use Rattle.jcard_listing.proofs.PartLines.{parts_from}

@@ -3,7 +3,7 @@ use Rattle.std.proofs.lemmas.List.{take_all, take_more}
 use Rattle.jc_words.specs.Layout.{text_length_address}
 use Rattle.jc_heap.specs.Image.{table_text, text_byte}
 use Rattle.jc_image.proofs.TextBytes.{length-table_text, table_text-byte}
-use Rattle.jc_records.proofs.HeapBounds.{Bounds, bounds}
+use Rattle.jc_objects.proofs.HeapBounds.{Bounds, bounds}
 use Rattle.jcard_listing.proofs.table.text_of.Goals as goal
 
 pub read-count-requires : goal.read-count-requires

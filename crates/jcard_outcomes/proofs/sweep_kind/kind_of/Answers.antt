@@ -1,6 +1,6 @@
 use Rattle.std.proofs.Common.{arith, ◌∙◌, ap, sym}
 use Rattle.std.proofs.lemmas.List.{drop_all}
-use Rattle.jcard_outcomes.specs.SweepKinds.{marked}
+use Rattle.jcard_outcomes.specs.SweepKind.{marked}
 use Rattle.jcard_outcomes.proofs.Splits.{take_rest}
 use Rattle.jcard_outcomes.proofs.sweep_kind.kind_of.Goals as goal
 

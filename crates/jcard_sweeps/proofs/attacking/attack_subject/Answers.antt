@@ -2,7 +2,7 @@ use Rattle.std.proofs.Common.{[], ◌++◌, refl, inl, inr, subst}
 use Rattle.std.proofs.lemmas.Result.{err_from_is_err_and}
 use Rattle.jcard_script.proofs.Known.{appends_same}
 use Rattle.jcard_sweeps.specs.SweepsAsked.{sweep_asked_by}
-use Rattle.jcard_sweeps.specs.Attackings.{IsToldBy, IsUntoldBy, attack_asked_by}
+use Rattle.jcard_sweeps.specs.Attacking.{IsToldBy, IsUntoldBy, attack_asked_by}
 use Rattle.jcard_sweeps.specs.Targets.{IsNoTarget, IsTarget}
 use Rattle.jcard_sweeps.specs.Writings.{IsAttackTold}
 use Rattle.jcard_sweeps.proofs.Attackings.{asked_after}

@@ -4,7 +4,7 @@ use Rattle.jcard_attack.specs.Reports.{any_accepted}
 use Rattle.jcard_outcomes.specs.CommandShares.{share_text}
 use Rattle.jcard_outcomes.specs.Parts.{head_text}
 use Rattle.jcard_tear.specs.ScriptLines.{line_of}
-use Rattle.jcard_sweeps.specs.Attackings.{attack_asked_by, faults_name}
+use Rattle.jcard_sweeps.specs.Attacking.{attack_asked_by, faults_name}
 use Rattle.jcard_sweeps.proofs.Cuttings.{passed_on}
 use Rattle.jcard_sweeps.proofs.attacking.told_part.Goals as goal
 

@@ -2,7 +2,7 @@ use Rattle.std.proofs.Common.{◌≡◌, [], ℕ, List, Err, ap, inl, inr, lengt
 use Rattle.std.specs.Borrow.{Bor}
 use Rattle.std.proofs.lemmas.List.{length-map}
 use Rattle.jcard_script.proofs.Known.{appends_same}
-use Rattle.jcard_sweeps.specs.Joinings.{AreLinesJoinedTo}
+use Rattle.jcard_sweeps.specs.Joining.{AreLinesJoinedTo}
 use Rattle.jcard_files.proofs.Effects.{unfailed}
 use Rattle.jcard_sweeps.proofs.joining.join_faults.Goals as goal
 

@@ -3,7 +3,7 @@ use Rattle.std.specs.Borrow.{Bor}
 use Rattle.std.proofs.lemmas.List.{length-map}
 use Rattle.std.proofs.lemmas.Result.{err_from_is_err_and}
 use Rattle.jcard_script.proofs.Known.{appends_same}
-use Rattle.jcard_sweeps.specs.Joinings.{IsJoinedTo}
+use Rattle.jcard_sweeps.specs.Joining.{IsJoinedTo}
 use Rattle.jcard_sweeps.specs.Texts.{texts_of}
 use Rattle.jcard_sweeps.proofs.Joinings.{read_lengths, unread_joining}
 use Rattle.jcard_files.proofs.Effects.{unfailed}

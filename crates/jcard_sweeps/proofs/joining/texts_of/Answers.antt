@@ -1,7 +1,7 @@
 use Rattle.std.proofs.Common.{[], ◌++◌, ◌∷◌, ◌+◌, drop, get_or, List, ℕ, map, refl, sym, subst, take, inl, inr}
 use Rattle.std.proofs.lemmas.Result.{err_from_is_err_and}
 use Rattle.std.specs.Borrow.{Bor}
-use Rattle.jcard_sweeps.specs.Joinings.{AreRead}
+use Rattle.jcard_sweeps.specs.Joining.{AreRead}
 use Rattle.jcard_sweeps.proofs.Joinings.{named, names_around, names_next, names_split, nothing, pushed, read_push, texts_next}
 use Rattle.jcard_sweeps.proofs.joining.texts_of.Goals as goal
 

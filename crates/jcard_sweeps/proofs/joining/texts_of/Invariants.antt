@@ -1,7 +1,7 @@
 use Rattle.std.proofs.Common.{List, ℕ, map, take}
 use Rattle.std.specs.Borrow.{Bor}
 use Rattle.jcard_files.specs.FileDeeds.{FileDeed}
-use Rattle.jcard_sweeps.specs.Joinings.{AreRead}
+use Rattle.jcard_sweeps.specs.Joining.{AreRead}
 use Rattle.jcard_sweeps.proofs.joining.texts_of.Given as goal
 
 abbrev pub invariant-loop-file : goal.invariant-loop-file

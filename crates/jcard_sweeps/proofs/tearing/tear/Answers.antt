@@ -2,7 +2,7 @@ use Rattle.std.proofs.Common.{[], ◌++◌, refl, inl, inr, subst, sym}
 use Rattle.std.proofs.lemmas.Result.{err_from_is_err_and}
 use Rattle.jcard_script.proofs.Known.{appends_same}
 use Rattle.jcard_sweeps.specs.SweepsAsked.{sweep_asked_by}
-use Rattle.jcard_sweeps.specs.Tears.{IsProbeRead}
+use Rattle.jcard_sweeps.specs.Tearing.{IsProbeRead}
 use Rattle.jcard_sweeps.specs.Texts.{text_of}
 use Rattle.jcard_sweeps.specs.Writings.{IsTold}
 use Rattle.jcard_sweeps.proofs.NamedParts.{among}

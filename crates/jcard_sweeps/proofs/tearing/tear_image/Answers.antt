@@ -2,7 +2,7 @@ use Rattle.std.proofs.Common.{◌∙◌, [], ◌++◌, ap, refl, inl, inr, map}
 use Rattle.std.proofs.lemmas.Result.{err_from_is_err_and}
 use Rattle.jcard_script.proofs.Known.{appends_same}
 use Rattle.jcard_tear.specs.ScriptLines.{commands_of, line_of}
-use Rattle.jcard_sweeps.specs.Tears.{IsSubject}
+use Rattle.jcard_sweeps.specs.Tearing.{IsSubject}
 use Rattle.jcard_sweeps.specs.declared.cutting.Subject.{Subject}
 use Rattle.jcard_files.proofs.Effects.{unfailed}
 use Rattle.jcard_sweeps.proofs.tearing.tear_image.Goals as goal

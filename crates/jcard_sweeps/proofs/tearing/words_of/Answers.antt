@@ -2,7 +2,7 @@ use Rattle.std.proofs.Common.{◌≡◌, ◌∙◌, List, [], ◌∷◌, Ok, Err
 use Rattle.std.proofs.lemmas.Result.{err_from_is_err_and}
 use Rattle.jc_words.specs.Stores.{store_value}
 use Rattle.jcard_files.specs.FileDeeds.{FileDeed, ClosesImage, ReadsImage, untouched}
-use Rattle.jcard_sweeps.specs.Tears.{IsImageRead}
+use Rattle.jcard_sweeps.specs.Tearing.{IsImageRead}
 use Rattle.jcard_files.proofs.Stores.{fresh_untouched}
 use Rattle.jcard_sweeps.proofs.tearing.words_of.Goals as goal
 

@@ -1,5 +1,5 @@
 use Rattle.std.proofs.Common.{◌≡◌, ◌++◌, drop, subst}
-use Rattle.jcard_tests.specs.Escapes.{escaped_behind}
+use Rattle.jcard_tests.specs.Escaping.{escaped_behind}
 use Rattle.jcard_tests.proofs.Items.{slice_rest}
 use Rattle.jcard_tests.proofs.Reports.{escaped_next, escaped_whole}
 use Rattle.jcard_tests.proofs.escaping.push_escaped.Goals as goal

@@ -1,5 +1,5 @@
 use Rattle.std.proofs.Common.{◌≡◌, ◌++◌, drop}
-use Rattle.jcard_tests.specs.Escapes.{escaped_behind}
+use Rattle.jcard_tests.specs.Escaping.{escaped_behind}
 use Rattle.jcard_tests.proofs.escaping.push_escaped.Given as goal
 
 abbrev pub invariant-loop-place : goal.invariant-loop-place

@@ -1,8 +1,8 @@
 use Rattle.std.proofs.Common.{[], refl, sym, subst, inl, inr}
 use Rattle.std.proofs.lemmas.Result.{err_from_is_err_and}
-use Rattle.jcard_images.specs.Extents.{IsNoExtent}
-use Rattle.jcard_images.specs.UsualTables.{IsNoPlatform}
-use Rattle.jcard_tests.specs.Plans.{buffer_asked, cells_asked, table_asked}
+use Rattle.jcard_files.specs.ImageSize.{IsNoExtent}
+use Rattle.jcard_files.specs.UsualTable.{IsNoPlatform}
+use Rattle.jcard_tests.specs.Planning.{buffer_asked, cells_asked, table_asked}
 use Rattle.jcard_tests.proofs.Planned.{no_platform_reading, platform_reading}
 use Rattle.jcard_tests.proofs.RowTests.{no_reading}
 use Rattle.jcard_tests.proofs.planning.plan_of.Goals as goal

@@ -1,5 +1,5 @@
 use Rattle.std.proofs.Common.{◌≡◌, ◌+◌, ◌≤◌, drop, min}
-use Rattle.jcard_tests.specs.Reports.{passed_of}
+use Rattle.jcard_tests.specs.Report.{passed_of}
 use Rattle.jcard_tests.proofs.report.passed.Given as goal
 
 abbrev pub invariant-loop-file : goal.invariant-loop-file

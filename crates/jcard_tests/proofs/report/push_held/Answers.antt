@@ -1,5 +1,5 @@
 use Rattle.std.proofs.Common.{codes}
-use Rattle.jcard_tests.specs.Reports.{rows_text}
+use Rattle.jcard_tests.specs.Report.{rows_text}
 use Rattle.jcard_tests.proofs.Items.{appended}
 use Rattle.jcard_tests.proofs.report.push_held.Goals as goal
 

@@ -1,4 +1,4 @@
-use Rattle.jcard_tests.specs.Reports.{lines_text, tested_text}
+use Rattle.jcard_tests.specs.Report.{lines_text, tested_text}
 use Rattle.jcard_tests.proofs.Items.{text_grows, text_whole}
 use Rattle.jcard_tests.proofs.Reports.{lines_more, lines_none}
 use Rattle.jcard_tests.proofs.report.push_lines.Goals as goal

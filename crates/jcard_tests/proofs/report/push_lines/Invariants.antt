@@ -1,5 +1,5 @@
 use Rattle.std.proofs.Common.{◌≡◌, ◌++◌, drop}
-use Rattle.jcard_tests.specs.Reports.{lines_text}
+use Rattle.jcard_tests.specs.Report.{lines_text}
 use Rattle.jcard_tests.proofs.report.push_lines.Given as goal
 
 abbrev pub invariant-loop-file : goal.invariant-loop-file

@@ -1,6 +1,6 @@
 use Rattle.std.proofs.Common.{[], subst}
 use Rattle.std.specs.String.{string_bytes}
-use Rattle.jcard_files.specs.Readings.{IsRead}
+use Rattle.jcard_files.specs.Reading.{IsRead}
 use Rattle.jcard_tests.proofs.RowTests.{nothing_noted}
 use Rattle.jcard_tests.proofs.rows_file.table_beside.Goals as goal
 

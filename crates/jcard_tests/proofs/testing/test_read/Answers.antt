@@ -1,6 +1,6 @@
 use Rattle.std.proofs.Common.{[], refl, subst, inl, inr}
 use Rattle.jcard_script.proofs.Known.{appends_same}
-use Rattle.jcard_tests.specs.Plans.{table_asked}
+use Rattle.jcard_tests.specs.Planning.{table_asked}
 use Rattle.jcard_tests.specs.Sources.{AreSpared, name_of, names_of, paths_of}
 use Rattle.jcard_tests.specs.Tests.{IsTestBeside}
 use Rattle.jcard_tests.proofs.testing.test_read.Goals as goal

@@ -1,4 +1,4 @@
-use Rattle.law_theorems.proofs.Coming.{stores_come}
+use Rattle.law_theorems.proofs.CardsAtRest.{stores_come}
 use Rattle.law_theorems.proofs.Eventful.{eventful}
 use Rattle.law_theorems.proofs.Witness.{new_stores_serve, witnesses}
 use Rattle.law_theorems.proofs.session_theorems.premises_can_be_met.Goals as goal

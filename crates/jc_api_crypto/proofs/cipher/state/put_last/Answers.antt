@@ -1,8 +1,8 @@
 use Rattle.std.proofs.Common.{◌≡◌, ◌∙◌, ◌≤◌, ℕ, List, replicate, subst, take, ap, arith}
 use Rattle.std.proofs.lemmas.List.{take-replicate}
 use Rattle.jc_memory.specs.Programs.{Executes}
-use Rattle.jc_modes.specs.declared.kept.BlockAlgorithm.{BlockAlgorithm}
-use Rattle.jc_modes.specs.declared.kept.BlockAlgorithm.TheVariants.{Aes, Des}
+use Rattle.jc_ciphers.specs.declared.kept.BlockAlgorithm.{BlockAlgorithm}
+use Rattle.jc_ciphers.specs.declared.kept.BlockAlgorithm.TheVariants.{Aes, Des}
 use Rattle.jc_world.specs.NativeCalls.{after_call}
 use Rattle.jc_api.specs.Changing.{changing_call}
 use Rattle.jc_api_crypto.specs.BlockCiphers.{cipher_shorts}

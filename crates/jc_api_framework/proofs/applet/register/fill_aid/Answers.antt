@@ -2,10 +2,10 @@ use Rattle.std.proofs.Common.{◌≡◌, ℕ, false, List, ◌++◌, length, OnO
 use Rattle.jc_heap.specs.Object.{has_bytes}
 use Rattle.jc_heap.specs.Heap.{facts}
 use Rattle.jc_heap.specs.declared.touch.Touch.{Touch}
-use Rattle.jc_heap.specs.Touches.{touched_cells}
+use Rattle.jc_heap.specs.Touch.{touched_cells}
 use Rattle.jc_memory.specs.Programs.{Executes}
 use Rattle.jc_heap.specs.Completions.{after_step}
-use Rattle.jc_memory.specs.Room.{lacks_capacity, cells_update}
+use Rattle.jc_memory.specs.CommitCapacity.{lacks_capacity, cells_update}
 use Rattle.jc_api_framework.proofs.applet.register.fill_aid.Goals as goal
 
 pub set_within_capacity-requires-clause-plain : goal.set_within_capacity-requires-clause-plain

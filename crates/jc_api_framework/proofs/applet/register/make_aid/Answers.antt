@@ -1,10 +1,10 @@
 use Rattle.std.proofs.Common.{ℕ, List, [], ◌∷◌, ◌++◌, refl}
 use Rattle.jc_heap.specs.declared.object.Kind.TheVariants.{Instance}
 use Rattle.jc_memory.specs.State.{MemoryState}
-use Rattle.jc_memory.specs.Room.{StayPut}
+use Rattle.jc_memory.specs.CommitCapacity.{StayPut}
 use Rattle.jc_heap.specs.declared.touch.Touch.{Touch}
 use Rattle.jc_heap.specs.declared.touch.Touch.TheVariants.{HeapEnd}
-use Rattle.jc_heap.specs.Touches.{touched_cells, touched_new_cells}
+use Rattle.jc_heap.specs.Touch.{touched_cells, touched_new_cells}
 use Rattle.jc_memory.proofs.Touched.{room_first}
 use Rattle.jc_api_framework.specs.Applet.Register.{aid_cells, touched_by_entry}
 use Rattle.jc_api_framework.proofs.applet.register.make_aid.Goals as goal

@@ -1,5 +1,5 @@
-use Rattle.jc_cap_linkage.specs.ComponentViews.{head}
-use Rattle.jc_cap.proofs.Again.{header_kept}
+use Rattle.jc_cap.specs.ComponentViews.{head}
+use Rattle.jc_cap.proofs.ReadAgain.{header_kept}
 use Rattle.jc_cap.proofs.texts.LoadedComponents.take_header.Goals as goal
 
 pub returns : goal.returns

@@ -1,5 +1,5 @@
 use Rattle.std.proofs.Common.{subst, sym}
-use Rattle.jc_commit.specs.Opening.{OpeningFails}
+use Rattle.jc_commit.specs.Journal.{OpeningFails}
 use Rattle.jc_commit.specs.declared.refusal.OpenRefusal.TheVariants.{BadLog, StoreDown}
 use Rattle.jc_card.specs.PowerUp.{fault_of}
 use Rattle.jc_card.specs.PoweringUp.{PowerUpFails}

@@ -1,5 +1,5 @@
 use Rattle.std.proofs.Common.{ℕ, List, ap, sym, ◌∙◌, length}
-use Rattle.jc_heap.specs.Touches.{touch_words}
+use Rattle.jc_heap.specs.Touch.{touch_words}
 use Rattle.jc_heap.proofs.Costs.{cost_inside, cost_outside}
 use Rattle.jc_heap.proofs.heap.Heap.cost.Goals as goal
 

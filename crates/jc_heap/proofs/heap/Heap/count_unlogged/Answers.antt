@@ -1,7 +1,7 @@
 use Rattle.std.proofs.Common.{◌≡◌, ◌+◌, ℕ, Bool, length, take, get_or, ap, sym, ◌∙◌, arith, if◌then◌else◌}
 use Rattle.jc_heap.specs.declared.touch.Touch.{Touch}
 use Rattle.jc_heap.specs.Heap.{goes_back}
-use Rattle.jc_heap.specs.Touches.{touch_word, touch_words}
+use Rattle.jc_heap.specs.Touch.{touch_word, touch_words}
 use Rattle.jc_heap.proofs.Costs.{staying, staying_more, told}
 use Rattle.jc_heap.proofs.heap.Heap.count_unlogged.Goals as goal
 use Rattle.jc_heap.proofs.heap.Heap.count_unlogged.Goals.{then-not-goes_back, else-not-goes_back}

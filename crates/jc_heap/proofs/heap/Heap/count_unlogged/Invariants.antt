@@ -1,6 +1,6 @@
 -- The words before the index are counted.
 use Rattle.std.proofs.Common.{◌≡◌, ◌≤◌, length, take}
-use Rattle.jc_heap.specs.Touches.{touch_words}
+use Rattle.jc_heap.specs.Touch.{touch_words}
 use Rattle.jc_heap.proofs.Costs.{staying}
 use Rattle.jc_heap.proofs.heap.Heap.count_unlogged.Given as goal
 

@@ -1,6 +1,6 @@
 use Rattle.std.proofs.Common.{ℕ, length, ap, sym, ◌∙◌, nat_le}
 use Rattle.std.proofs.lemmas.List.{length-map}
-use Rattle.jc_heap.specs.Touches.{touch_word, touch_words}
+use Rattle.jc_heap.specs.Touch.{touch_word, touch_words}
 use Rattle.jc_heap.proofs.Costs.{fits_inside, fits_outside}
 use Rattle.jc_heap.proofs.heap.Heap.fits.Goals as goal
 

@@ -1,6 +1,6 @@
 use Rattle.std.proofs.Common.{◌≡◌, ◌∙◌, ◌++◌, ◌+◌, ◌*◌, ◌≤◌, [], ◌∷◌, ap, sym, arith, length}
 use Rattle.std.proofs.Common.{drop}
-use Rattle.jc_cap_linkage.specs.FieldViews.{package_info}
+use Rattle.jc_cap.specs.FieldViews.{package_info}
 use Rattle.jc_linker.specs.Answers.{list_append}
 use Rattle.jc_linker.specs.Imports.{import_numbers}
 use Rattle.jc_linker.proofs.Ontos.{imports_end, imports_fault, imports_next, onto_nothing}

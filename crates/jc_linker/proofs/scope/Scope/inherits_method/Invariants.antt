@@ -1,6 +1,6 @@
 use Rattle.std.proofs.Common.{◌≡◌, length}
 use Rattle.jc_linker.specs.Classes.{lineage}
-use Rattle.jc_cap_linkage.specs.declared.pool.VirtualToken.TheVariants.{Public}
+use Rattle.jc_cap.specs.declared.pool.VirtualToken.TheVariants.{Public}
 use Rattle.jc_linker.specs.Methods.{leads_to}
 use Rattle.jc_linker.proofs.scope.Scope.inherits_method.Given as goal
 

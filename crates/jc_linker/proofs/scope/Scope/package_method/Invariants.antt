@@ -1,6 +1,6 @@
 use Rattle.std.proofs.Common.{◌≡◌, ℕ, length}
 use Rattle.jc_linker.specs.Classes.{lineage}
-use Rattle.jc_cap_linkage.specs.declared.pool.VirtualToken.TheVariants.{PackageVisible}
+use Rattle.jc_cap.specs.declared.pool.VirtualToken.TheVariants.{PackageVisible}
 use Rattle.jc_linker.specs.Methods.{lookup_classes, method_in, first_decided}
 use Rattle.jc_linker.proofs.scope.Scope.package_method.Given as goal
 

@@ -1,7 +1,7 @@
 use Rattle.std.proofs.Common.{◌≡◌, ◌/◌, ◌==◌, length, if◌then◌else◌}
 use Rattle.jc_linker.specs.declared.search.Search.TheVariants.{Found}
 use Rattle.jc_linker.specs.Classes.{lineage}
-use Rattle.jc_cap_linkage.specs.declared.pool.VirtualToken.TheVariants.{Public}
+use Rattle.jc_cap.specs.declared.pool.VirtualToken.TheVariants.{Public}
 use Rattle.jc_linker.specs.Methods.{lookup_classes, method_in, first_decided}
 use Rattle.jc_linker.proofs.scope.Scope.public_below.Given as goal
 

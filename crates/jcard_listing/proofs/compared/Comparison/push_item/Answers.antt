@@ -1,7 +1,7 @@
 use Rattle.std.proofs.Common.{◌≡◌, ◌∙◌, ◌++◌, [], Bool, List, ℕ, Option, ap, subst, sym, if◌then◌else◌}
 use Rattle.std.proofs.lemmas.Result.{on_ok_weaker}
-use Rattle.jc_records.specs.Places.{IsStanding, standing_at}
-use Rattle.jc_records.specs.declared.places.Standing.{Standing}
+use Rattle.jc_objects.specs.Places.{IsStanding, standing_at}
+use Rattle.jc_objects.specs.declared.places.Standing.{Standing}
 use Rattle.jcard_listing.specs.Compared.{beside_text, reported_text}
 use Rattle.jcard_listing.specs.declared.image.PlacedObject.{PlacedObject}
 use Rattle.jcard_listing.proofs.compared.Comparison.push_item.Goals as goal

@@ -1,5 +1,5 @@
 use Rattle.std.proofs.Common.{rules}
-use Rattle.jc_session.specs.SessionStates.{answer_of_power_up}
+use Rattle.jc_card.specs.SessionStates.{answer_of_power_up}
 use Rattle.jcard_script.specs.CardOrStore.{state_of_card, state_of_held}
 use Rattle.jcard_script.specs.ScriptStates.{IsReset}
 use Rattle.jcard_script.proofs.Kept.{reset_answered}

@@ -1,6 +1,0 @@
-use Rattle.std.proofs.Common.{arith}
-use Rattle.jc_aes.proofs.Tables.{slice_index-MULTIPLES_14}
-use Rattle.jc_aes.proofs.field.times_14.Goals as goal
-
-pub returns : goal.returns
-returns c = slice_index-MULTIPLES_14 c.args.b (omega arith)

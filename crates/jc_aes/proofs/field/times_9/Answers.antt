@@ -1,6 +1,0 @@
-use Rattle.std.proofs.Common.{arith}
-use Rattle.jc_aes.proofs.Tables.{slice_index-MULTIPLES_9}
-use Rattle.jc_aes.proofs.field.times_9.Goals as goal
-
-pub returns : goal.returns
-returns c = slice_index-MULTIPLES_9 c.args.b (omega arith)

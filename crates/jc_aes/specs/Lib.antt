@@ -1,5 +1,0 @@
-pub mod Field
-pub mod Aes
-pub mod Keys
-pub mod Laws
-pub mod Places

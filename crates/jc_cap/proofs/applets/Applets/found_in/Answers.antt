@@ -1,0 +1,16 @@
+use Rattle.jc_cap.specs.Reading.{u1_at}
+use Rattle.jc_cap.specs.Applets.{applets_at, applet_at}
+use Rattle.jc_cap.proofs.Again.{counted_again, never_counted}
+use Rattle.jc_cap.proofs.applets.Applets.found_in.Goals as goal
+
+pub invariant_of-result : goal.invariant_of-result
+unfolding applets_at
+invariant_of-result c = (counted_again applet_at (u1_at c.args.info.now) c.in-Ok.count c.in-Ok.bytes.now c.requires c.in-Ok.ensures).0
+
+pub unreachable-requires : goal.unreachable-requires
+unfolding applets_at
+unreachable-requires c = never_counted applet_at (u1_at c.args.info.now) c.in-Err.field-0 c.requires c.in-Err.ensures
+
+pub returns : goal.returns
+unfolding applets_at
+returns c = (counted_again applet_at (u1_at c.args.info.now) c.in-Ok.count c.in-Ok.bytes.now c.requires c.in-Ok.ensures).1

@@ -1,0 +1,6 @@
+use Rattle.jc_cap.specs.Reading.{u2_at}
+use Rattle.jc_cap.proofs.Lent.{count_is}
+use Rattle.jc_cap.proofs.lists.U2List.count.Goals as goal
+
+pub returns : goal.returns
+returns c = count_is u2_at c.self.inside.count c.self.inside.bytes.now c.args.self.now c.self.invariant c.self.view_is

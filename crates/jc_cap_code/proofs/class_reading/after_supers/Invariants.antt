@@ -1,9 +1,0 @@
-use Rattle.std.proofs.Common.{◌≡◌, ◌-◌}
-use Rattle.jc_cap_linkage.specs.Reading.{many_at, rest_after}
-use Rattle.jc_cap_code.specs.ClassReading.{super_at}
-use Rattle.jc_cap_code.specs.Known.{is_known_class}
-use Rattle.jc_cap_code.proofs.class_reading.after_supers.Given as goal
-
-abbrev pub invariant-loop : goal.invariant-loop
-invariant-loop l = rest_after (many_at (super_at (is_known_class l.known)) (l.count - l.counter) l.rest)
-    ≡ rest_after (many_at (super_at (is_known_class l.known)) l.count l.bytes)

@@ -1,6 +1,0 @@
-use Rattle.std.proofs.Common.{◌∙◌}
-use Rattle.jc_cap_code.proofs.Among.{any_among}
-use Rattle.jc_cap_code.proofs.class_reading.is_among.Goals as goal
-
-pub returns : goal.returns
-returns c = c.contains.ensures.value ∙ any_among c.args.offset c.args.before.now

@@ -1,6 +1,0 @@
-use Rattle.jc_cap_linkage.specs.Customs.{custom_at}
-use Rattle.jc_cap_linkage.proofs.Lent.{is_list}
-use Rattle.jc_cap_linkage.proofs.customs.custom_components.Goals as goal
-
-pub invariant_of-result : goal.invariant_of-result
-invariant_of-result c = is_list custom_at c.args.count c.args.bytes.now c.in_ok-rest.rest.now c.in_ok-rest.ensures

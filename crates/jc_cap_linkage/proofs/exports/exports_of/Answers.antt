@@ -1,6 +1,0 @@
-use Rattle.jc_cap_linkage.specs.Exports.{exported_class_at}
-use Rattle.jc_cap_linkage.proofs.Lent.{is_list}
-use Rattle.jc_cap_linkage.proofs.exports.exports_of.Goals as goal
-
-pub invariant_of-result : goal.invariant_of-result
-invariant_of-result c = is_list exported_class_at c.in_ok-count.count c.in_ok-count.bytes.now c.in_ok-rest.rest.now c.in_ok-rest.ensures

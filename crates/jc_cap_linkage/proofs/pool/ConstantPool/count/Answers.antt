@@ -1,6 +1,0 @@
-use Rattle.jc_cap_linkage.specs.Pool.{entry_at}
-use Rattle.jc_cap_linkage.proofs.Lent.{count_is}
-use Rattle.jc_cap_linkage.proofs.pool.ConstantPool.count.Goals as goal
-
-pub returns : goal.returns
-returns c = count_is entry_at c.self.inside.count c.self.inside.bytes.now c.args.self.now c.self.invariant c.self.view_is

@@ -1,6 +1,0 @@
-use Rattle.std.proofs.Common.{ℕ, ◌<◌}
-use Rattle.jc_card_checks.specs.Sound.{IsRegistered}
-use Rattle.jc_card_checks.proofs.entries.are_registered.Given as goal
-
-abbrev pub invariant-loop-a : goal.invariant-loop-a
-invariant-loop-a g l = (j : ℕ) → j < l.a → IsRegistered l.linked l.memory.heap.now j

@@ -1,7 +1,0 @@
-use Rattle.std.proofs.Common.{ℕ, ◌+◌, ◌<◌}
-use Rattle.jc_linker.specs.Lookups.{statics_at}
-use Rattle.jc_card_checks.specs.Sound.{HoldsStatics, package_record_at}
-use Rattle.jc_card_checks.proofs.statics.hold_statics.Given as goal
-
-abbrev pub invariant-loop-k : goal.invariant-loop-k
-invariant-loop-k g l = (j : ℕ) → j < l.k → HoldsStatics l.memory.heap.now (package_record_at l.memory.heap.now j) (statics_at l.linked (j + 1))

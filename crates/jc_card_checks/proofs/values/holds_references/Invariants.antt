@@ -1,9 +1,0 @@
-use Rattle.std.proofs.Common.{◌≡◌, ℕ, ◌<◌, true, slice_index}
-use Rattle.jc_heap.specs.Heap.{cells}
-use Rattle.jc_linker.specs.Classes.{reference_cell}
-use Rattle.jc_card_checks.specs.Objects.{is_reference}
-use Rattle.jc_card_checks.proofs.values.holds_references.Given as goal
-
-abbrev pub invariant-loop-i : goal.invariant-loop-i
-invariant-loop-i g l = (j : ℕ) → j < l.i → reference_cell l.linked l.class j ≡ true
-    → is_reference l.memory.heap.now (slice_index (cells l.memory.heap.now l.object) j) ≡ true

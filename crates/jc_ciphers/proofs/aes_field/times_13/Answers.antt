@@ -1,0 +1,6 @@
+use Rattle.std.proofs.Common.{arith}
+use Rattle.jc_ciphers.proofs.AesTables.{slice_index-MULTIPLES_13}
+use Rattle.jc_ciphers.proofs.aes_field.times_13.Goals as goal
+
+pub returns : goal.returns
+returns c = slice_index-MULTIPLES_13 c.args.b (omega arith)

@@ -1,7 +1,0 @@
-use Rattle.jc_des.specs.Des.{schedule, decrypted}
-use Rattle.jc_des.proofs.Halves.{IsBits-schedule}
-use Rattle.jc_des.proofs.des.Des.decrypt.Goals as goal
-
-pub returns : goal.returns
-unfolding decrypted
-returns c = c.crypted.ensures (schedule c.args.self.now.key 16) (IsBits-schedule c.args.self.now.key 16) c.args.self.now.scheduled

@@ -1,6 +1,0 @@
-use Rattle.std.proofs.Common.{◌∙◌}
-use Rattle.jc_des.proofs.Halves.{wide-is}
-use Rattle.jc_des.proofs.des.wide.Goals as goal
-
-pub returns : goal.returns
-returns c = λ f bits is. wide-is f c.from-right.result bits (c.from-right.ensures ∙ is)

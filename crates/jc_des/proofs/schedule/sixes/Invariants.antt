@@ -1,7 +1,0 @@
-use Rattle.std.proofs.Common.{◌≡◌, length, take}
-use Rattle.jc_des.specs.Des.{listed}
-use Rattle.jc_des.specs.Numbers.{six_of_bits}
-use Rattle.jc_des.proofs.schedule.sixes.Given as goal
-
-abbrev pub invariant-sixes : goal.invariant-sixes
-invariant-sixes l = (take l.i l.to ≡ listed (six_of_bits l.bits) l.i) × (length l.to ≡ 128)

@@ -1,0 +1,7 @@
+pub mod Behind
+pub mod Kept
+pub mod Pairs
+mod Few
+pub mod Handlers
+pub mod Implementing
+mod Same

@@ -1,0 +1,118 @@
+//! Reading and writing elements, and counting them.
+ghost use Rattle.std.specs.Prelude.{◌≡◌, ◌<◌, false, length};
+ghost use Rattle.jc_memory.specs.Programs.{Executes};
+ghost use Rattle.jc_world.specs.Instructions.{after_instruction};
+ghost use Rattle.jc_world.specs.Values.{IsValueOf};
+ghost use Rattle.jc_instructions.specs.ArrayAccess.{element_read, element_write, array_load, array_store, arraylength};
+
+use crate::array_elements::{array, element_at, element_value, with_index};
+use jc_frames::instr::ValueType;
+use jc_frames::{Cell, Frames};
+use jc_linker::linked::Linked;
+use jc_memory::Memory;
+use jc_transient::{CellValue, Ref};
+use jc_words::WordStore;
+use jc_world::StepExit;
+use jc_world::values::{keepable, pop_value, value_at};
+
+// The element with this index of this array comes on the stack.
+#[inline(always)]
+#[tactic(auto, unfolding(crate::specs::ArrayAccess::element_read))]
+fn element_read<S: WordStore>(
+    of_type: ValueType,
+    reference: Ref,
+    index: i16,
+    frames: &mut Frames,
+    memory: &Memory<S>,
+    linked: &Linked,
+) -> Result<(), StepExit>
+    requires up { memory.now.heap.down ≡ false }
+    requires room { length frames.old.current.stack < frames.old.current.limit }
+    ensures { Executes (element_read of_type reference index linked.now frames.old memory.now)
+        memory.now (after_instruction result frames.new memory.now) }
+{
+    let element = element_at(of_type, reference, index, memory, linked)?;
+    frames.push(value_at(of_type, memory, reference, element.index));
+    Ok(())
+}
+
+// Sets an element: the firewall is asked for the array and for what is stored, then the index and the value's
+// type are tested.
+#[inline(always)]
+#[tactic(auto, unfolding(crate::specs::ArrayAccess::element_write), using(crate::proofs::Kept::may_have))]
+fn element_write<S: WordStore>(
+    of_type: ValueType,
+    reference: Ref,
+    index: i16,
+    value: CellValue,
+    frames: &Frames,
+    memory: &mut Memory<S>,
+    linked: &Linked,
+) -> Result<(), StepExit>
+    requires up { memory.old.heap.down ≡ false }
+    requires value { IsValueOf of_type value }
+    ensures { Executes (element_write of_type reference index value linked.now frames.now
+        memory.old) memory.old (after_instruction result frames.now memory.new) }
+{
+    let facts = array(Some(of_type), reference, memory, linked)?;
+    let value = keepable(value, memory, linked)?;
+    let element = with_index(facts, index)?;
+    let value = element_value(element.class, value, memory, linked)?;
+    memory.set(reference, element.index, value)?;
+    Ok(())
+}
+
+/// `aaload`, `baload`, `saload`: pushes the element with the index on top, of the array below it.
+#[inline(always)]
+#[tactic(auto, unfolding(crate::specs::ArrayAccess::array_load))]
+pub(crate) fn array_load<S: WordStore>(
+    of_type: ValueType,
+    frames: &mut Frames,
+    memory: &Memory<S>,
+    linked: &Linked,
+) -> Result<(), StepExit>
+    requires { memory.now.heap.down ≡ false }
+    ensures { Executes (array_load of_type linked.now frames.old memory.now) memory.now
+        (after_instruction result frames.new memory.now) }
+{
+    let index = frames.pop_short()?;
+    let reference = frames.pop_reference()?;
+    element_read(of_type, reference, index, frames, memory, linked)
+}
+
+/// `aastore`, `bastore`, `sastore`: pops a value into an element.
+#[inline(always)]
+#[tactic(auto, unfolding(crate::specs::ArrayAccess::array_store))]
+pub(crate) fn array_store<S: WordStore>(
+    of_type: ValueType,
+    frames: &mut Frames,
+    memory: &mut Memory<S>,
+    linked: &Linked,
+) -> Result<(), StepExit>
+    requires { memory.old.heap.down ≡ false }
+    ensures { Executes (array_store of_type linked.now frames.old memory.old) memory.old
+        (after_instruction result frames.new memory.new) }
+{
+    let value = pop_value(of_type, frames)?;
+    let index = frames.pop_short()?;
+    let reference = frames.pop_reference()?;
+    element_write(of_type, reference, index, value, frames, memory, linked)
+}
+
+/// `arraylength`: pushes the number of elements of the array on top.
+#[inline(always)]
+#[tactic(auto, unfolding(crate::specs::ArrayAccess::arraylength))]
+pub(crate) fn arraylength<S: WordStore>(
+    frames: &mut Frames,
+    memory: &Memory<S>,
+    linked: &Linked,
+) -> Result<(), StepExit>
+    requires { memory.now.heap.down ≡ false }
+    ensures { Executes (arraylength linked.now frames.old memory.now) memory.now
+        (after_instruction result frames.new memory.now) }
+{
+    let reference = frames.pop_reference()?;
+    let facts = array(None, reference, memory, linked)?;
+    frames.push(Cell::Short(facts.length.cast_signed()));
+    Ok(())
+}

@@ -1,0 +1,33 @@
+//! The instructions that read and write fields: `getstatic`, `putstatic`, `getfield`, `putfield`.
+//! The instructions on arrays: `aaload` to `sastore`, `newarray`, `anewarray`, `arraylength`.
+//! The instructions that make and test objects: `new`, `checkcast`, `instanceof`.
+//! Calls, returns and exceptions: which method a call runs and for whom, how its frame begins and ends, and
+//! which handler catches what is thrown.
+#![tactic(auto)]
+
+mod array_access;
+mod array_creation;
+mod array_elements;
+mod array_ops;
+pub mod catch;
+pub mod enter;
+mod field_names;
+mod field_ops;
+mod fields;
+pub mod invoke;
+pub mod method_component;
+pub mod method_return;
+pub mod notes;
+mod object_creation;
+mod object_types;
+pub mod parameters;
+pub mod server_call;
+mod static_fields;
+mod static_images;
+pub mod throw;
+mod type_checks;
+
+pub use array_ops::array_instruction;
+pub use field_ops::field_instruction;
+pub use object_creation::new_instance;
+pub use type_checks::{checkcast, instanceof};

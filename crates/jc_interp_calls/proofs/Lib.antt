@@ -1,4 +1,0 @@
-mod Few
-pub mod Handlers
-pub mod Implementing
-mod Same

@@ -1,5 +1,0 @@
-use Rattle.jc_modes.proofs.WholeConversions.{of_the_whole}
-use Rattle.jc_modes.proofs.laws.conversions_are_of_the_whole.Goals as goal
-
-pub returns : goal.returns
-returns c = of_the_whole

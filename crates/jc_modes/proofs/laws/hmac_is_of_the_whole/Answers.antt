@@ -1,5 +1,0 @@
-use Rattle.jc_modes.proofs.HmacPieces.{hmac_of_the_whole}
-use Rattle.jc_modes.proofs.laws.hmac_is_of_the_whole.Goals as goal
-
-pub returns : goal.returns
-returns c = hmac_of_the_whole

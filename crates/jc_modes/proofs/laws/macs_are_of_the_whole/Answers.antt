@@ -1,5 +1,0 @@
-use Rattle.jc_modes.proofs.MacPieces.{macs_of_the_whole}
-use Rattle.jc_modes.proofs.laws.macs_are_of_the_whole.Goals as goal
-
-pub returns : goal.returns
-returns c = macs_of_the_whole

@@ -1,6 +1,0 @@
-use Rattle.std.proofs.Common.{◌<◌, ℕ}
-use Rattle.jc_modes.specs.Paddings.{EndsByPadding}
-use Rattle.jc_modes.proofs.padding.unpadded.Given as goal
-
-abbrev pub invariant-places : goal.invariant-places
-invariant-places l = (k : ℕ) → k < l.n → ¬ (EndsByPadding l.padding l.block k)

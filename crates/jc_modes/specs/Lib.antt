@@ -1,9 +1,0 @@
-pub mod Modes
-pub mod Paddings
-pub mod Macs
-pub mod Laws
-pub mod Kept
-pub mod KeptHmac
-pub mod KeptMacs
-pub mod Conversions
-pub mod ConversionsInPieces

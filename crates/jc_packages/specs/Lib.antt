@@ -1,0 +1,10 @@
+pub mod LinkerView
+pub mod PendingPackages
+pub mod RecordContents
+pub mod Reading
+pub mod Incoming
+pub mod Loading
+pub mod LoadEnd
+pub mod ImageTables
+pub mod Objects
+pub mod Sound

@@ -1,5 +1,0 @@
-pub mod Entries
-pub mod Lines
-pub mod Options
-pub mod Packed
-pub mod Places

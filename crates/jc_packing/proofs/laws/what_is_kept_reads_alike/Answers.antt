@@ -1,5 +1,0 @@
-use Rattle.jc_packing.proofs.Packed.{reads_alike}
-use Rattle.jc_packing.proofs.laws.what_is_kept_reads_alike.Goals as goal
-
-pub returns : goal.returns
-returns c = reads_alike

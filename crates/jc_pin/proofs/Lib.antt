@@ -1,4 +1,0 @@
-pub mod Comparing
-pub mod Kept
-pub mod Putting
-pub mod Updates

@@ -1,4 +1,0 @@
-use Rattle.jc_records.proofs.keys.key_at.Goals as goal
-
-pub standing_from-requires-clause-place : goal.standing_from-requires-clause-place
-standing_from-requires-clause-place g c = c.first_place-place.ensures c.args.address

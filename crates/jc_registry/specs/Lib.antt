@@ -1,2 +1,0 @@
-pub mod Aids
-pub mod Registry

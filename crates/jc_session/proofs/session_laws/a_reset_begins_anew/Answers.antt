@@ -1,5 +1,0 @@
-use Rattle.jc_session.proofs.WholeSessions.{begin_anew}
-use Rattle.jc_session.proofs.session_laws.a_reset_begins_anew.Goals as goal
-
-pub returns : goal.returns
-returns c = begin_anew

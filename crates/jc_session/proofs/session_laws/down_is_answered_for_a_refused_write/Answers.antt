@@ -1,5 +1,0 @@
-use Rattle.jc_session.proofs.WholeSessions.{down_tells}
-use Rattle.jc_session.proofs.session_laws.down_is_answered_for_a_refused_write.Goals as goal
-
-pub returns : goal.returns
-returns c = down_tells

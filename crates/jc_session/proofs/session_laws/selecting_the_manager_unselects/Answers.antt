@@ -1,5 +1,0 @@
-use Rattle.jc_session.proofs.Selections.{unselects}
-use Rattle.jc_session.proofs.session_laws.selecting_the_manager_unselects.Goals as goal
-
-pub returns : goal.returns
-returns c = unselects

@@ -1,5 +1,0 @@
-use Rattle.jc_session.proofs.WholeSessions.{are_whole}
-use Rattle.jc_session.proofs.session_laws.sessions_are_those_of_whole_copies.Goals as goal
-
-pub returns : goal.returns
-returns c = are_whole

@@ -1,4 +1,0 @@
-pub mod Listings
-pub mod NewImages
-pub mod Unwritten
-pub mod UsualTables

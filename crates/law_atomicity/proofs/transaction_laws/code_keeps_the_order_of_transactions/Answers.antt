@@ -1,5 +1,0 @@
-use Rattle.law_atomicity.proofs.Ordered.{step_orderly, run_orderly}
-use Rattle.law_atomicity.proofs.transaction_laws.code_keeps_the_order_of_transactions.Goals as goal
-
-pub returns : goal.returns
-returns c = record { step = step_orderly; run = run_orderly }

@@ -1,5 +1,0 @@
-use Rattle.law_atomicity.proofs.Same.{differ}
-use Rattle.law_atomicity.proofs.transaction_laws.heaps_after_a_loss_differ_in_what_was_set_for_good.Goals as goal
-
-pub returns : goal.returns
-returns c = differ

@@ -1,5 +1,0 @@
-use Rattle.law_isolation.proofs.Groups.{fields_spare}
-use Rattle.law_isolation.proofs.isolation_laws.field_instructions_leave_objects_out_of_reach.Goals as goal
-
-pub returns : goal.returns
-returns c = fields_spare

@@ -1,5 +1,0 @@
-use Rattle.law_isolation.proofs.Sparing.{are_sparing}
-use Rattle.law_isolation.proofs.isolation_laws.objects_left_alone_keep_their_cells.Goals as goal
-
-pub returns : goal.returns
-returns c = are_sparing

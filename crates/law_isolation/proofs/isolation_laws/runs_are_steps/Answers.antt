@@ -1,5 +1,0 @@
-use Rattle.law_isolation.proofs.Running.{runs_are_steps}
-use Rattle.law_isolation.proofs.isolation_laws.runs_are_steps.Goals as goal
-
-pub returns : goal.returns
-returns c = runs_are_steps

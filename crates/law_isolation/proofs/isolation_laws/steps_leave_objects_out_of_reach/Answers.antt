@@ -1,5 +1,0 @@
-use Rattle.law_isolation.proofs.Steps.{steps_spare}
-use Rattle.law_isolation.proofs.isolation_laws.steps_leave_objects_out_of_reach.Goals as goal
-
-pub returns : goal.returns
-returns c = steps_spare
