@@ -266,6 +266,12 @@ def share_record(found):
     return {"record": "share", "number": int(found[1]), "of": int(found[2]), "all_or_nothing": found[3] is None}
 
 
+def of_command(found, told):
+    """What is told of the command in a line of the script, by `--each`."""
+    answer = {"answer": found[3]} if found[3] else {}
+    return {**told, "line": int(found[1]), "command": found[2], **answer} if told else text_record(found[0])
+
+
 def torn_line(line):
     """The record of a line of `tear`."""
     part, sweep, share = PART.fullmatch(line), SWEEP.fullmatch(line), SHARE.fullmatch(line)
@@ -287,9 +293,7 @@ def torn_line(line):
         left = standing(cuts[3])
         return {"record": "cuts", "first": int(cuts[1]), "last": int(cuts[2] or cuts[1]), **left} if left else text_record(line)
     if of_line:
-        told = verdict(of_line[4])
-        answer = {"answer": of_line[3]} if of_line[3] else {}
-        return {**told, "line": int(of_line[1]), "command": of_line[2], **answer} if told else text_record(line)
+        return of_command(of_line, verdict(of_line[4]))
     return verdict(line) or text_record(line)
 
 
@@ -357,9 +361,7 @@ def struck_line(line):
         left = standing(unfaulted[2])
         return {"record": "no fault", "response": unfaulted[1], **left} if left else text_record(line)
     if of_line:
-        told = attack_verdict(of_line[4]) or verdict(of_line[4])
-        answer = {"answer": of_line[3]} if of_line[3] else {}
-        return {**told, "line": int(of_line[1]), "command": of_line[2], **answer} if told else text_record(line)
+        return of_command(of_line, attack_verdict(of_line[4]) or verdict(of_line[4]))
     return attack_verdict(line) or text_record(line)
 
 
