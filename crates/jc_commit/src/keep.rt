@@ -118,9 +118,7 @@ fn put_entry<S: WordStore>(store: &mut S, log: Log, k: u16, address: u16) -> Res
     ensures wrote { Wrote S.down S.passed S.refusals 2 (is_ok result) store.old store.new }
 {
     let old = store.read(address);
-    let slot = log.address_word(k);
-    store.write(slot, address)?;
-    store.write(slot + 1, old)?;
+    store.write_pair(log.address_word(k), address, old)?;
     Ok(())
 }
 
