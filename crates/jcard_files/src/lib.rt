@@ -1,15 +1,13 @@
 //! The files of the program: those of a runtime, and files in memory; and why it ends early, and how it says that.
-//! Images: made, made in memory, and listed.
+//! Images: made, and made in memory.
 #![tactic(auto)]
 
 pub mod closed_store;
 pub mod disk;
-pub mod dump;
 pub mod extent;
 pub mod fault;
 pub mod image_file;
 pub mod image_size;
-mod listing;
 pub mod mem_disk;
 pub mod memory_image;
 pub mod new_image;

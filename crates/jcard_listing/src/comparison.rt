@@ -1,7 +1,7 @@
 //! Printing what is not the same in two images.
 ghost use Rattle.std.specs.Prelude.{◌≡◌};
 ghost use Rattle.jc_words.specs.Image.{HasSize};
-ghost use Rattle.jcard_files.specs.Dump.{damage_of};
+ghost use Rattle.jcard_listing.specs.Inventory.{damage_of};
 ghost use Rattle.jcard_files.specs.Effects.{Does, Writes};
 ghost use Rattle.jcard_listing.specs.Comparison.{AreDifferencesTold, AreLinesOfBoth, AreToldBeside, IsBesideTold, IsComparison, IsRefusalTold};
 
