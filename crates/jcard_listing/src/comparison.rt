@@ -9,11 +9,11 @@ use crate::differences::differences_of;
 use crate::dump::write_listing;
 use crate::pairs::Side;
 use crate::shown::Shown;
+use jc_card::inventory::Inventory;
 use jc_words::{ImageFault, WordStore};
 use jcard_files::closed_store::ClosedStore;
 use jcard_files::disk::Disk;
 use jcard_files::fault::{Damage, Fault};
-use jcard_script::card::inventory::Inventory;
 use jcard_script::streams::{TextOut, write_all};
 use std::alloc::{AllocError, Global};
 

@@ -11,11 +11,11 @@ ghost use Rattle.jcard_listing.specs.InventoryLines.{is_not_written};
 
 use crate::inventory_lines::{ListingFault, write_applets, write_count, write_packages};
 use itoa::Buffer;
+use jc_card::inventory::Inventory;
 use jc_words::{ImageFault, WordStore};
 use jcard_files::closed_store::ClosedStore;
 use jcard_files::disk::Disk;
 use jcard_files::fault::{Damage, Fault};
-use jcard_script::card::inventory::Inventory;
 use jcard_script::streams::{TextOut, WriteFailed, write_parts};
 
 /// A count and what stands before it in its line.
