@@ -1,5 +1,4 @@
-//! The files of the program: those of a runtime, and files in memory; and why it ends early, and how it says that.
-//! Images: made, and made in memory.
+//! The files of the program, on disk and in memory, the images that it makes in them, and why and how it ends early.
 #![tactic(auto)]
 
 pub mod closed_store;
