@@ -1,6 +1,5 @@
-//! The calls of `java.lang` and `javacard.framework` (API specification), a room a class: `Object` and the exceptions, `Util`, `APDU`, `OwnerPIN`, `AID`,
-//! `JCSystem` and `Applet`.
-//! Arguments of API calls are read by the rows of their methods.
+//! The calls of `java.lang` and `javacard.framework` (API specification), a folder a class, with their arguments read by the rows of their
+//! methods.
 #![tactic(auto)]
 
 pub mod aid;

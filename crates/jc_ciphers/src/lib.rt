@@ -1,5 +1,5 @@
-//! The block ciphers AES of FIPS 197, with keys of 16, 24 and 32 bytes, DES of FIPS 46-3 and triple DES. Modes of block ciphers,
-//! paddings, and message authentication codes, over any block cipher and any digest.
+//! The block ciphers AES (FIPS 197), DES (FIPS 46-3) and triple DES, and modes, paddings and message authentication codes over any block cipher
+//! and digest.
 #![tactic(auto)]
 
 pub mod aes;

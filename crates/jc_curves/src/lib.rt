@@ -1,6 +1,4 @@
-//! Elliptic curves over a prime field (SEC 1): multiples of points, ECDSA and ECDH over byte slices.
-//!
-//! No function asks for memory.
+//! Elliptic curves over a prime field (SEC 1): multiples of points, ECDSA and ECDH over byte slices, without a request for memory.
 #![tactic(auto)]
 
 pub mod agreement;

@@ -1,5 +1,4 @@
-//! Digests over a state that the caller keeps as words: MD5 (RFC 1321), SHA-1, SHA-224, SHA-256, SHA-384 and SHA-512 (FIPS 180-4);
-//! and the checksums CRC-16 and CRC-32.
+//! Digests over a state that the caller keeps as words (MD5 of RFC 1321, SHA-1 and SHA-2 of FIPS 180-4), and the checksums CRC-16 and CRC-32.
 #![tactic(auto)]
 
 pub mod absorbing;

@@ -1,5 +1,5 @@
-//! What the runtime environment keeps in the heap of an image: its own objects, with which the heap begins, a list that follows the image's
-//! table; the registry, which applets there are, by number and by AID; and PINs.
+//! What the runtime environment keeps in the heap of an image: its own objects, by a list that follows the image's table, the registry of
+//! applets, and PINs.
 #![tactic(auto)]
 
 mod aid;

@@ -1,7 +1,4 @@
-//! The instructions of the virtual machine: their decoding, and the operations on shorts. Methods as the machine enters them: headers and
-//! exception handlers, read where they stand in a Method component.
-//! Frames: what a running method computes with, and the frames of the methods that called it. All their cells lie in one array, and a call
-//! moves none of them. The instructions that need nothing but frames: constants, locals, the stack's order, arithmetic, branches and returns.
+//! Instructions decoded, methods as a run enters them, and the frames of running methods, with the instructions that need nothing but frames.
 #![tactic(auto)]
 
 pub mod arithmetic_ops;

@@ -1,5 +1,4 @@
-//! Objects by reference over the words of a journal: what a card keeps without power.
-//! Laws of a heap: atomicity, what keeps it whole, and what is read back.
+//! Objects by reference over the words of a journal, which a card keeps without power, and the laws of such a heap.
 #![tactic(auto)]
 
 mod adding;

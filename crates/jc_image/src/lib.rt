@@ -1,5 +1,4 @@
-//! Whole images: laying and sealing one, opening one, and whether its heap is whole.
-//! The packages and the applets that an image lists, read from its words as they stand.
+//! Whole images: laid, sealed, opened and checked, and their packages and applets, read from the words as they stand.
 #![tactic(auto)]
 
 mod areas;

@@ -598,7 +598,7 @@ fn virtual_of_platform<S: WordStore>(
     }
 }
 
-/// The method of the platform that a virtual call by this entry runs, and how many cells its arguments have, where that can be told at once;
+/// The method of the platform that a virtual call by this entry runs, and how many cells its arguments have, where that is known at once;
 /// else, and of other entries, nothing.
 #[inline(always)]
 pub fn method_of_platform<S: WordStore>(

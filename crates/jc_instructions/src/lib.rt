@@ -1,8 +1,4 @@
-//! The instructions that read and write fields: `getstatic`, `putstatic`, `getfield`, `putfield`.
-//! The instructions on arrays: `aaload` to `sastore`, `newarray`, `anewarray`, `arraylength`.
-//! The instructions that make and test objects: `new`, `checkcast`, `instanceof`.
-//! Calls, returns and exceptions: which method a call runs and for whom, how its frame begins and ends, and
-//! which handler catches what is thrown.
+//! The instructions on fields, arrays and objects, and those that call, return and throw.
 #![tactic(auto)]
 
 mod array_access;

@@ -152,7 +152,7 @@ fn invoke_other<S: WordStore>(
     invoke_selected(chosen, place, frames, memory, linked)
 }
 
-// A virtual call by the instruction at a place whose entry names a method of the platform, out of line. Where the one that it runs can be told
+// A virtual call by the instruction at a place whose entry names a method of the platform, out of line. Where the one that it runs is known
 // at once, no more is asked.
 #[tactic(auto, unfolding(crate::specs::Calling::invoke_instruction, jc_instructions::specs::Invoke::method_selection))]
 #[inline(never)]

@@ -1,7 +1,4 @@
-//! Linked packages, as the machine reads them: what entries resolve to, and the words for look-ups. Types and
-//! definitions alone.
-//! Loaded packages as values, and what is copied of their components.
-//! Linked packages: classes, methods and entries by their numbers.
+//! Linked packages, as a run reads them: loaded packages as values, and the classes, methods and entries that they resolve to.
 #![tactic(auto)]
 
 pub mod class;

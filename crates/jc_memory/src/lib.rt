@@ -1,5 +1,5 @@
-//! The memory of a card that runs: what code may do to it, as data, and the calls that do it.
-//! Calls of several changes ask room for all of them before the first one. After that the store alone may refuse.
+//! The memory of a card that is up: what code may do to it, as data, and the calls that do it, which ask room for all their changes before the
+//! first one.
 #![tactic(auto)]
 
 mod adding;

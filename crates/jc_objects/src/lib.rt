@@ -1,6 +1,4 @@
-//! What stands in the heap of an image, read from its words as they are: nothing is recovered.
-//! What stands in the heap of an image: which cell of which object a word holds, which cells are references, the words with the tries that
-//! PINs have left; and texts about objects.
+//! What stands in the heap of an image: objects, their cells, keys and the tries of PINs, and texts about them.
 #![tactic(auto)]
 
 pub mod bounds;

@@ -1,6 +1,5 @@
-//! Packages between their components, the linker and the heap: put together and linked, as parts of a record, and read from a record again.
-//! Loading: the manager's commands that bring a package in, component by component.
-//! Whether a heap fits the packages that are linked of it: classes, owners and cells of objects, static references, and the registry's entries.
+//! Packages between their components, the linker and the heap: loaded, put together and linked, kept as records and read from them, and
+//! compared with the heap.
 #![tactic(auto)]
 
 mod entries;

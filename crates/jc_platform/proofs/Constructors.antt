@@ -1,4 +1,4 @@
--- A constructor is told by its kind and its receiver.
+-- A constructor is known by its kind and its receiver.
 use Rattle.std.proofs.Common.{◌≡◌, ◌==◌, ◌&&◌, ℕ, Bool, true, false, refl, subst, sym}
 use Rattle.std.proofs.lemmas.Bool.{false≢true}
 use Rattle.jc_platform.specs.declared.names.MethodKind.TheVariants.{Static}

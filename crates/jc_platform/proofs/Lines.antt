@@ -47,7 +47,7 @@ pub more_words : {P : Type 0} (a : Above) (line k r x s y z : List ℕ) (X : Typ
 more_words a line k r x s y z X f g None one two three four h = absurd (false≢true h)
 more_words a line k r x s y z X f g (Some p) one two three four h = five_words a line k r x s y z (f p) (g p) one two three four
 
--- a part behind which others stand is bad where it is no row
+-- a part that others follow is bad where it is no row
 pub bad_row : (text : List ℕ) (a : Above) (part : List ℕ) (parts : List (List ℕ)) → HasParts parts → row_in text a part ≡ None → IsBad text a part parts
 bad_row text a part parts s h = subst (λ (m : List (List ℕ)). IsBad text a part m) (sym s.are) h
 

@@ -1,5 +1,4 @@
-//! The platform's packages, classes and methods, and the tokens that a table gives them.
-//! The packed form of a platform table's text, which images keep.
+//! The platform's packages, classes and methods, the tokens that a table gives them, and the packed form in which images keep a table's text.
 #![tactic(auto)]
 
 mod entries;

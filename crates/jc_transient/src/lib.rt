@@ -1,6 +1,5 @@
-//! What a card keeps in memory: cells of transient objects, flags of objects, the APDU buffer. None
-//! of it outlives a loss of power, and no abort of a transaction changes it.
-//! Classes and owners, as the words of an image name them.
+//! What a card keeps in memory alone (cells of transient objects, flags of objects, the APDU buffer), and classes and owners as the words of an
+//! image name them.
 #![tactic(auto)]
 
 mod area;

@@ -1,8 +1,5 @@
-//! What instructions and calls of the platform's methods share: why code does not go on, the objects
-//! that references name, and the firewall's answer to an access.
-//! What instructions on fields, arrays and objects share: values on the stack and in cells, classes that code names,
-//! new objects.
-//! Arguments of the platform's methods, and what they return.
+//! What instructions and calls of the platform share: why code does not go on, the objects that references name, values and cells, arguments
+//! and results.
 #![tactic(auto)]
 
 pub mod answers;

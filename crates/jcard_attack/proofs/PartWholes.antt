@@ -36,7 +36,7 @@ lines_next f xs i x start so next h e is more =
 
 -- ---- the lines of one part
 
--- a fault can be told in a line
+-- a fault can be written in a line
 abbrev pub IsPlain : FaultTold → Type 0
 IsPlain f = IsFaultLine f (fault_line f) × (has 10 (fault_line f) ≡ false)
 

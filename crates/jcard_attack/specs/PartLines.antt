@@ -179,7 +179,7 @@ shares_text s n (suc k) = shares_text s n k ++ share_text s n k
 abbrev pub undisturbed_line : AttackSweep → List ℕ
 undisturbed_line s = codes "no fault, answer " ++ s.undisturbed.answer.items ++ codes ": " ++ (in_line s.undisturbed.left.answers.items ++ codes "as after")
 
--- a sweep can be told in lines: there are no tabs and no line feeds in its words
+-- a sweep can be written in lines: there are no tabs and no line feeds in its words
 pub record IsTellable (s : AttackSweep) : Type 0 where
   pub faults : All (λ f. IsFaultLine f (fault_line f) × (has 10 (fault_line f) ≡ false)) (faults_told s)
   pub undisturbed : has 9 (undisturbed_line s) ≡ false

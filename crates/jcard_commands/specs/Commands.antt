@@ -5,7 +5,7 @@ use Rattle.jcard_arguments.specs.CommandLine.{AskForHelp, AskForNothing, Command
 use Rattle.jcard_arguments.specs.CommandLine.{ToAttack, ToCompare, ToJoin, ToList, ToListObjects, ToMake, ToRun, ToTear, ToTest, ToTry}
 use Rattle.jcard_arguments.specs.declared.arguments.NoAction.{NoAction}
 use Rattle.jcard_arguments.specs.declared.arguments.NoAction.TheVariants.{Help, Refused, Misused, NoMemory as NoRoom}
-use Rattle.jcard_files.specs.Dump.{IsDump}
+use Rattle.jcard_listing.specs.Inventory.{IsDump}
 use Rattle.jcard_files.specs.Effects.{Says, Tells}
 use Rattle.jcard_files.specs.FileDeeds.{FileDeed}
 use Rattle.jcard_sweeps.specs.Joining.{IsJoining}

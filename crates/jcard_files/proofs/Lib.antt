@@ -1,6 +1,5 @@
 pub mod Effects
 pub mod Stores
-pub mod Listings
 pub mod NewImages
 pub mod Unwritten
 pub mod UsualTables

@@ -6,8 +6,6 @@ pub mod MemDisks
 pub mod Operands
 pub mod Reading
 pub mod ScriptFault
-pub mod Dump
 pub mod ImageSize
-pub mod Listings
 pub mod NewImages
 pub mod UsualTable

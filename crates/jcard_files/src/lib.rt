@@ -1,15 +1,12 @@
-//! The files of the program: those of a runtime, and files in memory; and why it ends early, and how it says that.
-//! Images: made, made in memory, and listed.
+//! The files of the program, on disk and in memory, the images that it makes in them, and why and how it ends early.
 #![tactic(auto)]
 
 pub mod closed_store;
 pub mod disk;
-pub mod dump;
 pub mod extent;
 pub mod fault;
 pub mod image_file;
 pub mod image_size;
-mod listing;
 pub mod mem_disk;
 pub mod memory_image;
 pub mod new_image;

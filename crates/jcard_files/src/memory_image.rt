@@ -8,9 +8,9 @@ ghost use Rattle.jcard_files.specs.NewImages.{IsLaidInMemory, IsNewImageInMemory
 use crate::extent::Extent;
 use crate::fault::Fault;
 use crate::new_image::format_fault;
+use jc_card::formatting::format;
 use jc_image::ImageRoom;
 use jc_words::MemStore;
-use jcard_script::card::formatting::format;
 use std::alloc::{AllocError, Global};
 
 /// A new image in memory, of this extent, with the platform table of this text.

@@ -17,11 +17,11 @@ use crate::image_size::{ImageSize, extent_of};
 use crate::remarks::Remarks;
 use crate::table_remarks::remark_on_table;
 use crate::usual_table::platform_of;
+use jc_card::formatting::{FormatFault, format};
 use jc_image::ImageRoom;
 use jc_platform::fault::TableFault;
 use jc_platform::read::read_table;
 use jc_words::WordStore;
-use jcard_script::card::formatting::{FormatFault, format};
 
 /// Makes an image with this name, as large as decimal numbers say, from the platform table in the file of the last name, or the
 /// usual one. A file that is there is replaced, but only where the numbers and the table are good and nobody has it open. What is

@@ -2,7 +2,7 @@
 ghost use Rattle.jcard_files.specs.ScriptFault.{IsScriptFault, IsUnpowered};
 
 use crate::fault::{Damage, Fault};
-use jcard_script::card::power_up::PowerFault;
+use jc_card::power_up::PowerFault;
 use jcard_script::script::ScriptFault;
 
 /// The names of an image and of a script.

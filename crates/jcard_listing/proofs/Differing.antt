@@ -3,7 +3,7 @@ use Rattle.std.proofs.Common.{◌≡◌, ◌∙◌, ◌&&◌, ◌++◌, ℕ, Boo
 use Rattle.std.proofs.lemmas.Bool.{cases_Bool, false≢true}
 use Rattle.jc_objects.specs.declared.legend.Legend.{Legend}
 use Rattle.jc_objects.specs.Bounds.{has_bounds}
-use Rattle.jcard_files.specs.Listings.{Lines, line, line_if, then_lines}
+use Rattle.jcard_listing.specs.InventoryLines.{Lines, line, line_if, then_lines}
 use Rattle.jcard_listing.specs.Areas.{areas_line}
 use Rattle.jcard_listing.specs.Differences.{AreToldTo, IsContent, IsContentTold, area_lines}
 use Rattle.jcard_listing.specs.Fault.{Lists}

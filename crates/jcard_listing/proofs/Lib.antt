@@ -5,6 +5,7 @@ pub mod Legends
 pub mod Listed
 pub mod Listings
 pub mod ListingEnds
+pub mod NumberedLines
 pub mod ObjectLines
 pub mod PackageRecords
 pub mod PartLines

@@ -2,7 +2,7 @@
 use Rattle.std.proofs.Common.{◌≡◌, ◌∙◌, ℕ, zero, suc, ◌+◌, ◌<◌, ◌≤◌, true, false, List, [], ◌++◌, Result, Ok, Err, refl, ap, subst, sym, arith, add-one}
 use Rattle.std.proofs.Common.{⊎_elim, append-nil, append_assoc}
 use Rattle.std.proofs.lemmas.Bool.{cases_lt}
-use Rattle.jcard_files.specs.Listings.{Lines, then_lines}
+use Rattle.jcard_listing.specs.InventoryLines.{Lines, then_lines}
 use Rattle.jcard_listing.specs.Fault.{Lists, each_line}
 use Rattle.jcard_listing.specs.declared.fault.ListFault.{ListFault}
 use Rattle.jcard_listing.specs.declared.fault.ListFault.TheVariants.{Unreadable, NoMemory}

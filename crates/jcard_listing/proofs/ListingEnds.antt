@@ -5,7 +5,7 @@ use Rattle.jcard_files.specs.Faults.{is_unwritten}
 use Rattle.jcard_files.specs.declared.fault.Fault.{Fault}
 use Rattle.jcard_files.specs.declared.fault.Fault.TheVariants.{BadImage}
 use Rattle.jcard_files.specs.declared.fault.Damage.TheVariants.{Package}
-use Rattle.jcard_files.specs.Listings.{Lines}
+use Rattle.jcard_listing.specs.InventoryLines.{Lines}
 use Rattle.jcard_listing.specs.Dump.{AreLinesTold, end_of}
 
 pub told_whole : (l : Lines) (r : Result Unit Fault) → r ≡ end_of l.readable → AreLinesTold l r l.text

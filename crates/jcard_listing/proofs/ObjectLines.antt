@@ -6,7 +6,7 @@ use Rattle.jc_commit.specs.Image.{top_of}
 use Rattle.jc_objects.specs.Bounds.{first_record, has_bounds}
 use Rattle.jc_objects.specs.Records.{are_whole, is_whole_from, item_at, items_from, record_size, standing_items}
 use Rattle.jc_objects.proofs.Standing.{items_end, items_first, items_short, items_step}
-use Rattle.jcard_files.specs.Listings.{Lines}
+use Rattle.jcard_listing.specs.InventoryLines.{Lines}
 
 abbrev both : List ℕ → Bool → Lines
 both text readable = record { text = text; readable = readable }

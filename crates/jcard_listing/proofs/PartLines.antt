@@ -9,7 +9,7 @@ use Rattle.jc_objects.specs.Bounds.{has_bounds}
 use Rattle.jc_objects.specs.Records.{IsRecord, are_whole_from, record_size, record_words, whole_from}
 use Rattle.jc_objects.proofs.ItemWords.{length-words, word_is, words_raw}
 use Rattle.jc_objects.proofs.Standing.{whole_end, whole_short, whole_step}
-use Rattle.jcard_files.specs.Listings.{Lines}
+use Rattle.jcard_listing.specs.InventoryLines.{Lines}
 use Rattle.jcard_listing.specs.Packages.{component_bytes, component_text, image_text, part_text, parts_lines}
 
 -- those of the words of a record from an offset on

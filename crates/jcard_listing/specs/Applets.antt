@@ -2,7 +2,7 @@
 use Rattle.std.specs.Prelude.{ℕ, ◌+◌, ◌-◌, ◌++◌, nat_lt, List, codes, slice_index, Option, Some, None, if◌then◌else◌}
 use Rattle.jc_words.specs.Layout.{most_applets, registry_start}
 use Rattle.jc_heap.specs.RegistryLayout.{entry_instance, entry_start}
-use Rattle.jcard_files.specs.Listings.{Lines, line_if}
+use Rattle.jcard_listing.specs.InventoryLines.{Lines, line_if}
 use Rattle.jcard_listing.specs.Texts.{labelled_text, reference_text}
 
 -- an applet by its number, from 1 on: where its AID object and its instance stand

@@ -9,8 +9,8 @@ use Rattle.jcard_files.specs.declared.fault.Fault.{Fault}
 use Rattle.jcard_files.specs.declared.fault.Fault.TheVariants.{BadImage, NoMemory, WriteFailed}
 use Rattle.jcard_files.specs.FileDeeds.{FileDeed, ClosesImage, ReadsImage, untouched}
 use Rattle.jcard_files.specs.Images.{IsNotOpened}
-use Rattle.jcard_files.specs.Dump.{damage_of}
-use Rattle.jcard_files.specs.Listings.{Lines}
+use Rattle.jcard_listing.specs.Inventory.{damage_of}
+use Rattle.jcard_listing.specs.InventoryLines.{Lines}
 use Rattle.jcard_listing.specs.Differences.{AreDifferences}
 use Rattle.jcard_listing.specs.Pairs.{unread_text}
 use Rattle.jcard_listing.specs.Dump.{AreLinesTold}

@@ -2,7 +2,7 @@
 use Rattle.std.specs.Prelude.{ℕ, ◌≡◌, ◌⊎◌, ◌&&◌, ◌++◌, true, false, Bool, List, Some, None, Ok, Err, Result}
 use Rattle.jc_objects.specs.declared.legend.Legend.{Legend}
 use Rattle.jc_objects.specs.Bounds.{has_bounds}
-use Rattle.jcard_files.specs.Listings.{Lines, line_if, then_lines}
+use Rattle.jcard_listing.specs.InventoryLines.{Lines, line_if, then_lines}
 use Rattle.jcard_listing.specs.Areas.{areas_line}
 use Rattle.jcard_listing.specs.Compared.{heap_lines}
 use Rattle.jcard_listing.specs.Fault.{Lists}

@@ -8,8 +8,8 @@ use Rattle.jcard_files.specs.declared.fault.Fault.{Fault}
 use Rattle.jcard_files.specs.declared.fault.Fault.TheVariants.{BadImage, NoMemory, WriteFailed}
 use Rattle.jcard_files.specs.FileDeeds.{ClosesImage, ReadsImage, untouched}
 use Rattle.jcard_files.specs.Images.{IsNotOpened}
-use Rattle.jcard_files.specs.Dump.{IsTold, dump_text}
-use Rattle.jcard_files.specs.Listings.{Lines}
+use Rattle.jcard_listing.specs.Inventory.{IsTold, dump_text}
+use Rattle.jcard_listing.specs.InventoryLines.{Lines}
 use Rattle.jcard_listing.specs.Listing.{IsListing}
 use Rattle.jcard_listing.specs.declared.shown.Shown.{Shown}
 

@@ -9,7 +9,7 @@ use Rattle.jc_objects.specs.Records.{standing_items}
 use Rattle.jc_objects.specs.declared.holders.Holder.{Holder}
 use Rattle.jc_objects.specs.Changes.{value_text}
 use Rattle.jc_objects.specs.ClassTexts.{kind_text}
-use Rattle.jcard_files.specs.Listings.{Lines, line_if}
+use Rattle.jcard_listing.specs.InventoryLines.{Lines, line_if}
 use Rattle.jcard_listing.specs.Texts.{labelled_text}
 
 -- the old value of a cell, and which it is: the object, its class, the cell

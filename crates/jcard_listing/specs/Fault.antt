@@ -1,6 +1,6 @@
 -- How far lines were reported.
 use Rattle.std.specs.Prelude.{ℕ, zero, suc, ◌≡◌, true, false, List, [], ◌++◌, Result, Ok, Err}
-use Rattle.jcard_files.specs.Listings.{Lines, line, then_lines}
+use Rattle.jcard_listing.specs.InventoryLines.{Lines, line, then_lines}
 use Rattle.jcard_listing.specs.declared.fault.ListFault.{ListFault}
 use Rattle.jcard_listing.specs.declared.fault.ListFault.TheVariants.{Unreadable, NoMemory}
 

@@ -6,6 +6,8 @@ pub mod Differences
 pub mod Entries
 pub mod Fault
 pub mod Images
+pub mod Inventory
+pub mod InventoryLines
 pub mod Keys
 pub mod Listing
 pub mod Objects

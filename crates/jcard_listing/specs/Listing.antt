@@ -8,7 +8,7 @@ use Rattle.jc_platform.specs.Tokens.{Tokens}
 use Rattle.jc_objects.specs.Legends.{IsLegend}
 use Rattle.jc_objects.specs.declared.legend.Legend.{Legend}
 use Rattle.jc_objects.specs.Bounds.{has_bounds}
-use Rattle.jcard_files.specs.Listings.{Lines, line_if, then_lines}
+use Rattle.jcard_listing.specs.InventoryLines.{Lines, line_if, then_lines}
 use Rattle.jcard_listing.specs.Applets.{applet_lines}
 use Rattle.jcard_listing.specs.Areas.{areas_line}
 use Rattle.jcard_listing.specs.Entries.{entry_lines}

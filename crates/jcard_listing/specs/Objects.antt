@@ -21,7 +21,7 @@ use Rattle.jc_objects.specs.declared.legend.Legend.{Legend}
 use Rattle.jc_platform.specs.declared.names.PlatformClass.{PlatformClass}
 use Rattle.jc_platform.specs.declared.names.PlatformClass.TheVariants.{Aid, OwnerPin}
 use Rattle.jc_objects.specs.Records.{are_whole, standing_items}
-use Rattle.jcard_files.specs.Listings.{Lines}
+use Rattle.jcard_listing.specs.InventoryLines.{Lines}
 use Rattle.jc_objects.specs.ClassTexts.{kind_text}
 use Rattle.jc_objects.specs.Keys.{is_key}
 use Rattle.jcard_listing.specs.Images.{ListedImage, is_hidden, is_listed, object_here}

@@ -9,7 +9,7 @@ use Rattle.jc_objects.specs.Legends.{static_references}
 use Rattle.jc_objects.specs.declared.legend.Legend.{Legend}
 use Rattle.jc_objects.specs.Bounds.{first_record}
 use Rattle.jc_objects.specs.Records.{record_words, whole_among, whole_size}
-use Rattle.jcard_files.specs.Listings.{Lines, line, line_if, then_lines}
+use Rattle.jcard_listing.specs.InventoryLines.{Lines, line, line_if, then_lines}
 use Rattle.jcard_listing.specs.Texts.{each_text, labelled_text, reference_text, word_text}
 use Rattle.jcard_listing.specs.declared.packages.Record.{Record}
 

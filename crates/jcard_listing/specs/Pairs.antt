@@ -1,7 +1,7 @@
 -- Lines of two images, compared.
 use Rattle.std.specs.Prelude.{ℕ, ◌++◌, ◌&&◌, ◌==◌, Bool, List, [], codes, length, if◌then◌else◌}
 use Rattle.std.specs.Str.{bytes_eq}
-use Rattle.jcard_files.specs.Listings.{Lines, line, then_lines}
+use Rattle.jcard_listing.specs.InventoryLines.{Lines, line, then_lines}
 use Rattle.jcard_listing.specs.declared.listing.Listing.{Listing}
 use Rattle.jcard_listing.specs.declared.pairs.Side.{Side}
 use Rattle.jcard_listing.specs.declared.pairs.Side.TheVariants.{One, Other}

@@ -2,7 +2,7 @@
 use Rattle.std.specs.Prelude.{ℕ, ◌==◌, nat_le, nat_lt, List, [], length, slice_index, codes, if◌then◌else◌}
 use Rattle.jc_words.specs.Layout.{applets_address, packages_address}
 use Rattle.jc_commit.specs.Image.{capacity_of, count_of}
-use Rattle.jcard_files.specs.Listings.{Lines, applet_text, count_line, journal_line, line, line_if, package_text}
+use Rattle.jcard_listing.specs.InventoryLines.{Lines, applet_text, count_line, journal_line, line, line_if, package_text}
 use Rattle.jcard_listing.specs.Applets.{applet_lines}
 use Rattle.jcard_listing.specs.Entries.{entry_lines}
 use Rattle.jcard_listing.specs.Fault.{each_line}

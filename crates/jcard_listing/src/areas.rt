@@ -2,7 +2,7 @@
 ghost use Rattle.std.specs.Prelude.{◌≡◌, ◌++◌, true, OnOk};
 ghost use Rattle.jc_words.specs.Image.{HasSize};
 ghost use Rattle.jc_objects.specs.Bounds.{has_bounds};
-ghost use Rattle.jcard_files.specs.Listings.{line_if};
+ghost use Rattle.jcard_listing.specs.InventoryLines.{line_if};
 ghost use Rattle.jcard_listing.specs.Areas.{areas_line, areas_text, space_text, taken_text};
 ghost use Rattle.jcard_listing.specs.Fault.{Lists};
 

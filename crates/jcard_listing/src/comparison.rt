@@ -1,7 +1,7 @@
 //! Printing what is not the same in two images.
 ghost use Rattle.std.specs.Prelude.{◌≡◌};
 ghost use Rattle.jc_words.specs.Image.{HasSize};
-ghost use Rattle.jcard_files.specs.Dump.{damage_of};
+ghost use Rattle.jcard_listing.specs.Inventory.{damage_of};
 ghost use Rattle.jcard_files.specs.Effects.{Does, Writes};
 ghost use Rattle.jcard_listing.specs.Comparison.{AreDifferencesTold, AreLinesOfBoth, AreToldBeside, IsBesideTold, IsComparison, IsRefusalTold};
 
@@ -9,11 +9,11 @@ use crate::differences::differences_of;
 use crate::dump::write_listing;
 use crate::pairs::Side;
 use crate::shown::Shown;
+use jc_card::inventory::Inventory;
 use jc_words::{ImageFault, WordStore};
 use jcard_files::closed_store::ClosedStore;
 use jcard_files::disk::Disk;
 use jcard_files::fault::{Damage, Fault};
-use jcard_script::card::inventory::Inventory;
 use jcard_script::streams::{TextOut, write_all};
 use std::alloc::{AllocError, Global};
 

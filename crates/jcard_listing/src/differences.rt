@@ -2,7 +2,7 @@
 ghost use Rattle.std.specs.Prelude.{◌≡◌, Err, Some, true, IfOk};
 ghost use Rattle.jc_words.specs.Image.{HasSize};
 ghost use Rattle.jc_objects.specs.Bounds.{has_bounds};
-ghost use Rattle.jcard_files.specs.Listings.{line_if};
+ghost use Rattle.jcard_listing.specs.InventoryLines.{line_if};
 ghost use Rattle.jcard_listing.specs.Areas.{areas_line};
 ghost use Rattle.jcard_listing.specs.Differences.{AreDifferences, AreToldTo, IsContentTold, area_lines, both_lines, content_lines, named_lines, placed_lines};
 ghost use Rattle.jcard_listing.specs.Fault.{Lists};

@@ -4,12 +4,12 @@ ghost use Rattle.jc_words.specs.Image.{HasSize};
 ghost use Rattle.jcard_files.specs.Effects.{Does, Writes};
 ghost use Rattle.jcard_listing.specs.Dump.{AreLinesTold, AreObjectsTold, IsListingTold, IsObjectsDump, end_of};
 
+use crate::inventory::dump_store;
 use crate::listing::{Listing, listing_of};
 use crate::shown::Shown;
 use jc_words::WordStore;
 use jcard_files::closed_store::ClosedStore;
 use jcard_files::disk::Disk;
-use jcard_files::dump::dump_store;
 use jcard_files::fault::{Damage, Fault};
 use jcard_script::streams::{TextOut, write_all};
 use std::alloc::{AllocError, Global};

@@ -1,4 +1,4 @@
-//! The commands `dump --objects` and `dump --against`: what is on a card, object by object, and what is not the same on two.
+//! The command `dump`: what an image holds in numbers, object by object, and what is not the same on two.
 #![tactic(auto)]
 
 mod applets;
@@ -10,6 +10,8 @@ pub mod dump;
 mod entries;
 pub mod fault;
 mod image;
+pub mod inventory;
+mod inventory_lines;
 mod keys;
 pub mod listing;
 mod names;

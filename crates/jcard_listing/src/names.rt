@@ -1,7 +1,7 @@
 //! The lines of packages and of applets by their AIDs.
 ghost use Rattle.std.specs.Prelude.{◌≡◌, ◌≤◌, ◌++◌, length, OnOk};
 ghost use Rattle.jc_words.specs.Layout.{text_start};
-ghost use Rattle.jcard_files.specs.Listings.{applet_line, applet_text, line_if, name_text, package_line, package_text, version_line};
+ghost use Rattle.jcard_listing.specs.InventoryLines.{applet_line, applet_text, line_if, name_text, package_line, package_text, version_line};
 ghost use Rattle.jcard_listing.specs.Fault.{Lists};
 
 use crate::fault::ListFault;

@@ -1,7 +1,7 @@
 //! Lines of two images, compared.
 ghost use Rattle.std.specs.Prelude.{◌≡◌, ◌++◌, [], IfOk, OnOk};
 ghost use Rattle.std.specs.Str.{bytes_eq};
-ghost use Rattle.jcard_files.specs.Listings.{Lines};
+ghost use Rattle.jcard_listing.specs.InventoryLines.{Lines};
 ghost use Rattle.jcard_listing.specs.Fault.{Lists};
 ghost use Rattle.jcard_listing.specs.Pairs.{end_lines, lines_of, pair_lines, pair_text, sign, signed, unread_text};
 

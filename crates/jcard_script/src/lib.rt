@@ -18,5 +18,3 @@ pub mod static_image;
 pub mod std_text;
 pub mod streams;
 mod word;
-
-pub use jc_card as card;

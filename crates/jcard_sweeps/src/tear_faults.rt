@@ -1,4 +1,4 @@
-//! What is told where commands were not cut.
+//! What is reported where commands were not cut.
 ghost use Rattle.std.specs.Prelude.{◌≡◌, Err, false};
 ghost use Rattle.jcard_files.specs.Faults.{is_unwritten};
 ghost use Rattle.jcard_sweeps.specs.TearFaults.{IsFaultInMemory, IsProbeFaultInMemory, IsTearFault};

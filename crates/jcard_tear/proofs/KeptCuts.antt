@@ -72,7 +72,7 @@ pub reported_at : (words : List ℕ) (c : Command) (s : Shared) (k : ℕ) (heap 
     → IsReportedAlike c s heap cut → IsReportedAt words c s k cut
 reported_at words c s k heap cut zero may t = (t.0.left, cut_alike words c k heap t.0.left cut.recoveries zero may t.1.0 t.2 t.1.1 t.4, t.3)
 
--- what is left, where its answers are known, and told so
+-- what is left, where its answers are known, and are said to be
 pub told_last_cut : (c : Command) (s : Shared) (left : Left) (reported : LastCut) → IsKnown c left → reported.left ≡ left
     → IsToldAs s.spared.now s.lenient.now s.objects.now s.before.now s.after.now left reported.cut → reported.cut.recoveries ≡ none_cut → IsLastCut c s reported
 told_last_cut c s left reported known same told none =

@@ -1,7 +1,4 @@
-//! What code that runs for an applet leaves as it is: effects, instructions, calls of the platform, and whole runs.
-//! The first law of atomicity, over what code does: what a transaction found is what stays of it, but for what was set for good.
-//! PINs and transactions: what is counted of their tries, and whether it outlasts the transaction. What code does keeps the order of
-//! transactions.
+//! Laws of code that runs for an applet: what it leaves as it is, what an open transaction takes back, and which tries of PINs outlast it.
 #![tactic(auto)]
 
 mod isolation_laws;

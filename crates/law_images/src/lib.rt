@@ -1,6 +1,4 @@
-//! Soundness of cards and of their sessions, and of the images that they leave.
-//! Packages that are read are linked well.
-//! Scripts of commands and resets as sessions.
+//! Laws of cards, sessions and scripts: they stay sound, and so do the images that they leave and the packages read from them.
 #![tactic(auto)]
 
 mod card_laws;

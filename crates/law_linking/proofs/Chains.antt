@@ -113,7 +113,7 @@ module _ (p : Packages) (ordered : IsOrdered p) where
     | inr held ↦ or_left (own p s k) (any_reference p k (lineage_from p n (superclass_in p s))) held
   ]
 
-  -- a cell of a class that is reached is not told by a class below alone
+  -- a cell of a class that is reached is not stated by a class below alone
   own_above : (n w x k : ℕ) → Fits p x → Reaches p w n (superclass_in p x) → k < size_of p w → own p x k ≡ true
       → any_reference p k (lineage_from p n (superclass_in p x)) ≡ true
   own_above n w x k fits reached less e = through_own n w k (superclass_in p x) reached

@@ -1,6 +1,5 @@
-//! Linked packages: what linking one more leaves of the others, and that all entries resolve.
-//! Classes of linked packages: cells of instances, and methods of the platform.
-//! Methods of linked packages: those of the platform are reached by their classes, and its classes reach no others.
+//! Laws of linked packages: what linking one more leaves of the others, that all entries resolve, and which methods of the platform classes
+//! reach.
 #![tactic(auto)]
 
 mod class_laws;

@@ -1,5 +1,4 @@
-//! Soundness: effects that leave the heap of a memory fitting the packages that are linked.
-//! Soundness of what code does: instructions, calls of the platform, steps, runs, and what serves a command.
+//! Laws of soundness: no effect, instruction, call, run or command leaves a heap that does not fit the packages that are linked.
 #![tactic(auto)]
 
 mod machine_laws;

@@ -37,7 +37,7 @@ AreRows read [] (row ∷ rows) = ⊥
 AreRows read (line ∷ lines) [] = ⊥
 AreRows read (line ∷ lines) (row ∷ rows) = (read rows line ≡ Some row) × AreRows read lines rows
 
--- lines behind others that stand from the last one up
+-- lines after others that stand from the last one up
 abbrev turned : List (List ℕ) → List (List ℕ) → List (List ℕ)
 turned [] lines = lines
 turned (line ∷ more) lines = turned more (line ∷ lines)

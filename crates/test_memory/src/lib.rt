@@ -1,5 +1,4 @@
-//! Tests of what neither a contract nor a row nor a call that fails can say: sessions, which no program serves, without memory. It has no
-//! code of its own.
+//! Tests of sessions without memory, which neither a contract nor a row nor a call that fails can state.
 #![tactic(auto)]
 
 #[cfg(test)]

@@ -85,7 +85,7 @@ pub(crate) fn apdu_set_outgoing_no_chaining<S: WordStore>(
     set_outgoing(most, memory)
 }
 
-// How many bytes are going to be sent, of which there may be at most so many.
+// How many bytes are going to be sent, of which there may be at most that number.
 fn length_of(most: u16, count: i16) -> Result<u16, FrameExit>
     ensures { result ≡ length_of most count }
 {

@@ -1,6 +1,6 @@
 use Rattle.std.proofs.Common.{[], inl, inr, refl}
 use Rattle.jcard_script.proofs.Known.{appends_same}
-use Rattle.jcard_files.specs.Listings.{Lines}
+use Rattle.jcard_listing.specs.InventoryLines.{Lines}
 use Rattle.jcard_listing.proofs.comparison.tell_lines.Goals as goal
 
 pub returns-in-Ok : goal.returns-in-Ok

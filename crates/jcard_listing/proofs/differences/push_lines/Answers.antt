@@ -1,6 +1,6 @@
 use Rattle.std.proofs.Common.{Err}
 use Rattle.std.proofs.lemmas.Result.{err_from_is_err_and}
-use Rattle.jcard_files.specs.Listings.{Lines, then_lines}
+use Rattle.jcard_listing.specs.InventoryLines.{Lines, then_lines}
 use Rattle.jcard_listing.specs.Compared.{heap_lines}
 use Rattle.jcard_listing.specs.Differences.{named_lines, placed_lines}
 use Rattle.jcard_listing.proofs.Listed.{lists_stopped, lists_then}

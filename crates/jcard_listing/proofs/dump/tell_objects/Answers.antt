@@ -3,7 +3,7 @@ use Rattle.std.specs.Io.KnownBytes.{Appends}
 use Rattle.jc_words.specs.Count.{failures_after}
 use Rattle.jcard_files.specs.Faults.{is_unwritten}
 use Rattle.jcard_script.proofs.Known.{appends_then_appends}
-use Rattle.jcard_files.specs.Dump.{dump_text}
+use Rattle.jcard_listing.specs.Inventory.{dump_text}
 use Rattle.jcard_listing.proofs.dump.tell_objects.Goals as goal
 
 pub tell_listing-requires : goal.tell_listing-requires

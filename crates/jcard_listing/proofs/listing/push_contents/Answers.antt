@@ -1,6 +1,6 @@
 use Rattle.std.proofs.Common.{ap₂, subst, Ok, Err}
 use Rattle.std.proofs.lemmas.Result.{err_from_is_err_and}
-use Rattle.jcard_files.specs.Listings.{Lines}
+use Rattle.jcard_listing.specs.InventoryLines.{Lines}
 use Rattle.jcard_listing.specs.Fault.{Lists}
 use Rattle.jcard_listing.specs.Listing.{tables_lines}
 use Rattle.jcard_listing.specs.Objects.{objects_lines}

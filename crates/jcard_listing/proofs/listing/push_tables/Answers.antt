@@ -3,7 +3,7 @@ use Rattle.std.proofs.lemmas.Result.{err_from_is_err_and}
 use Rattle.jc_words.specs.Layout.{applets_address, packages_address}
 use Rattle.std.specs.Prelude.{slice_index}
 use Rattle.jc_commit.specs.Image.{count_of}
-use Rattle.jcard_files.specs.Listings.{then_lines}
+use Rattle.jcard_listing.specs.InventoryLines.{then_lines}
 use Rattle.jcard_listing.specs.Applets.{applet_lines}
 use Rattle.jcard_listing.specs.Entries.{entry_lines}
 use Rattle.jcard_listing.specs.Fault.{each_line}

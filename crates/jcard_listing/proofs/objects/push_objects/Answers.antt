@@ -3,7 +3,7 @@ use Rattle.jc_commit.specs.Image.{top_of}
 use Rattle.jc_objects.specs.Records.{item_at, record_size}
 use Rattle.jc_objects.proofs.HeapBounds.{Bounds, bounds}
 use Rattle.jc_objects.proofs.Sizes.{size_none, size_some}
-use Rattle.jcard_files.specs.Listings.{Lines}
+use Rattle.jcard_listing.specs.InventoryLines.{Lines}
 use Rattle.jcard_listing.specs.Objects.{item_text, objects_lines}
 use Rattle.jcard_listing.specs.declared.fault.ListFault.TheVariants.{Unreadable}
 use Rattle.jcard_listing.proofs.Listed.{IsTelling, lists_none, lists_unread, telling_more, telling_none, telling_then}

@@ -1,5 +1,5 @@
 use Rattle.std.proofs.Common.{◌≡◌, ◌∙◌, ◌+◌, ◌-◌, List, ℕ, Option, Some, None, Err, ap, refl, sym, subst, arith}
-use Rattle.jcard_files.specs.Listings.{line_if}
+use Rattle.jcard_listing.specs.InventoryLines.{line_if}
 use Rattle.jcard_listing.specs.Fault.{Lists}
 use Rattle.jcard_listing.specs.Packages.{lines_if, record_at}
 use Rattle.jcard_listing.specs.declared.fault.ListFault.TheVariants.{Unreadable}

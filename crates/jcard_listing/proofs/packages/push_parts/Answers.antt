@@ -3,7 +3,7 @@ use Rattle.jc_heap.specs.Components.{words_for}
 use Rattle.jc_objects.specs.Records.{record_size, record_words}
 use Rattle.jc_objects.proofs.HeapBounds.{bounds}
 use Rattle.jc_objects.proofs.ItemWords.{length-words}
-use Rattle.jcard_files.specs.Listings.{Lines}
+use Rattle.jcard_listing.specs.InventoryLines.{Lines}
 use Rattle.jcard_listing.specs.Packages.{component_text, image_text, parts_lines}
 use Rattle.jcard_listing.specs.Fault.{Lists}
 use Rattle.jcard_listing.specs.declared.fault.ListFault.TheVariants.{Unreadable}
