@@ -152,8 +152,10 @@ sound_in_place {w = w} {numbers = numbers} {t = t} {d' = d'} {l = l} {born = bor
     subst (λ (v : List ℕ). IsSound v d' t l born numbers) (sym written)
     (sound_kept sound (IsGoodLog-set_place w a x sound.good place) (length-set w a x) (log-set w a x place)
     (λ outside still. count-set_place w a x place ∙ sound.closed outside up)
-    (λ inside still. (births_kept w a x born sound.good place (other inside) (sound.births inside up),
-    index_written l w a x numbers sound.stands sound.good place (sound.index inside up))))
+    (λ inside still. (
+      births_kept w a x born sound.good place (other inside) (sound.births inside up),
+      index_written l w a x numbers sound.stands sound.good place (sound.index inside up),
+    )))
 
 pub state_in_place : {w u numbers : List ℕ} {t d d' : Bool} {l : Log} {born p p' : ℕ} {r r' : Refusals} {s : State} (a x : ℕ) → IsSound w d t l born numbers
     → state_of w t d p r ≡ s → Spot w a → u ≡ set w a x → d ≡ false → d' ≡ false → p' ≡ saturating_count p 1 → r' ≡ r

@@ -24,6 +24,7 @@ use Rattle.jc_commit.proofs.Steps.{limit-same, IsGoodLog-set_place, entries-set_
 use Rattle.jc_commit.proofs.Entries.{HasEntries, same_after, target, places_beside}
 use Rattle.jc_commit.proofs.Counted.{entry_of, named_new, kept_before, Counted, counted}
 use Rattle.jc_commit.proofs.InPlace.{listed, unlisted, recovered-set_place, live_words-set}
+use Rattle.jc_commit.proofs.Views.{length-touched, length-addresses}
 use Rattle.jc_commit.proofs.Changing.{new_ones, state_of}
 use Rattle.jc_commit.proofs.Indexes.{get_or-named_by, length-named_by, IsIndexOf-same}
 
@@ -197,6 +198,7 @@ pub record Counting (l : Log) (w u : List ℕ) (first behind born : ℕ) (change
   pub done : Counted w (needing (touched_of w) born changes) u
   pub writes : (n : ℕ) → writes_inside n (length (needing (touched_of w) born changes))
       ≡ 2 * length (needing (named_by l w first) born changes) + (if first == behind then 0 else 1) + n
+  pub count : (x : List ℕ) → touched_of x ≡ touched_of w ++ addresses_of (needing (touched_of w) born changes) → count_of x ≡ behind
 
 pub counting : {l : Log} {w v : List ℕ} {first behind born : ℕ} (u : List ℕ) (changes : List (ℕ × ℕ)) → HasLog l w → ArePlaces (limit_of w) changes
     → count_of w + length (needing (touched_of w) born changes) ≤ l.capacity → first ≡ count_of w
@@ -217,6 +219,16 @@ counting {l = l} {w = w} {v = v} {first = first} {behind = behind} {born = born}
           (written ∙ ap (λ (n : ℕ). if first == n then v else set v count_address n) all);
       writes = λ n. inside_sum first behind n (length needed) all
           ∙ ap (λ (t : List ℕ). 2 * length (needing t born changes) + (if first == behind then 0 else 1) + n) (sym names);
+      count = λ x grown. omega (
+        arith,
+        length-touched x,
+        ap (λ (xs : List ℕ). length xs) grown,
+        length-append (touched_of w) (addresses_of needed),
+        length-addresses needed,
+        length-touched w,
+        all,
+        is,
+      );
     }
 
 -- ---- then each word goes back

@@ -59,8 +59,9 @@ pub record ArePut (log : Log) (k : ℕ) (changes : List (ℕ × ℕ)) (old new :
   pub next : n ≡ k + length changes
   pub words : new ≡ with_entries log old k changes
 
--- these words are written, and entries keep the old values that had to be kept
-pub record ChangesInside (born : ℕ) (changes : List (ℕ × ℕ)) (old new : List ℕ) : Type 0 where
+-- these words are written, entries keep the old values that had to be kept, and n count then
+pub record ChangesInside (born : ℕ) (changes : List (ℕ × ℕ)) (old new : List ℕ) (n : ℕ) : Type 0 where
+  pub count : count_of new ≡ n
   pub plain : plain_of new ≡ with_words (plain_of old) changes
   pub touched : touched_of new ≡ touched_of old ++ addresses_of (needing (touched_of old) born changes)
 

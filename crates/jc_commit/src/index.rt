@@ -119,6 +119,7 @@ pub(crate) fn is_named<S: WordStore>(
 }
 
 // Puts entry n into the index of those before it, none of which names its address.
+#[inline(always)]
 fn add_entry<S: WordStore>(store: &S, log: Log, n: u16, numbers: &mut EntryIndex)
     requires stands { IsIndexed log (S.words store.now) n numbers.old.items }
     requires room { n < log.capacity }

@@ -27,7 +27,10 @@ pub(crate) fn is_taken_back<S: WordStore>(
     requires index { IsIndexOf log (S.words store.now) n numbers.now }
     ensures { result ≡ is_taken_back (named_by log (S.words store.now) n) born address }
 {
-    is_named(store, log, n, numbers, address) || born <= address
+    if born <= address {
+        return true;
+    }
+    is_named(store, log, n, numbers, address)
 }
 
 // How many of these changes have an old value to keep.
@@ -105,6 +108,7 @@ pub(crate) fn count_new<S: WordStore>(
 }
 
 // Writes an entry: the address, and the word there as it is. The count stays.
+#[inline(always)]
 fn put_entry<S: WordStore>(store: &mut S, log: Log, k: u16, address: u16) -> Result<(), StoreDown>
     requires size { log.start + 2 * log.capacity ≤ length (S.words store.old) }
     requires small { log.start + 2 * log.capacity < 2 ^ 16 }
@@ -155,6 +159,7 @@ fn put_change<S: WordStore>(
 
 // Puts entries for the changes whose words' old values have to be kept, after the first ones, and answers
 // how many there are then.
+#[inline(always)]
 fn put_needing<S: WordStore, C: WordChanges>(
     store: &mut S,
     log: Log,
@@ -200,6 +205,7 @@ fn count_entries<S: WordStore>(store: &mut S, before: u16, behind: u16) -> Resul
 }
 
 // Writes words of which an abort takes each back.
+#[inline(always)]
 fn write_through<S: WordStore, C: WordChanges>(
     store: &mut S,
     born: u16,
@@ -224,14 +230,15 @@ fn write_through<S: WordStore, C: WordChanges>(
 }
 
 // A change: puts entries for the words whose old values have to be kept, counts them, and then writes the
-// words.
+// words. Answers how many entries count then.
+#[inline(always)]
 pub(crate) fn keep_and_write<S: WordStore, C: WordChanges>(
     store: &mut S,
     log: Log,
     numbers: &[u16],
     born: u16,
     changes: &C,
-) -> Result<(), StoreDown>
+) -> Result<u16, StoreDown>
     requires stands { HasLog log (S.words store.old) }
     requires index { IsIndexOf log (S.words store.old) (count_of (S.words store.old)) numbers.now }
     requires births { IsFreeFrom (S.words store.old) born }
@@ -240,8 +247,8 @@ pub(crate) fn keep_and_write<S: WordStore, C: WordChanges>(
         (C.changes changes.now)) ≤ log.capacity }
     // What a recovery leaves stays, below its top.
     ensures stays { KeepsTransaction (S.words store.old) (S.words store.new) }
-    ensures changed { OnOk result (ChangesInside born (C.changes changes.now) (S.words store.old)
-        (S.words store.new)) }
+    ensures changed { IfOk result (λ n. ChangesInside born (C.changes changes.now) (S.words store.old)
+        (S.words store.new) n) }
     ensures wrote { Wrote S.down S.passed S.refusals (writes_inside (length (C.changes changes.now))
         (length (needing (touched_of (S.words store.old)) born (C.changes changes.now))))
         (is_ok result) store.old store.new }
@@ -250,5 +257,5 @@ pub(crate) fn keep_and_write<S: WordStore, C: WordChanges>(
     let behind = put_needing(store, log, first, numbers, born, changes)?;
     count_entries(store, first, behind)?;
     write_through(store, born, changes)?;
-    Ok(())
+    Ok(behind)
 }

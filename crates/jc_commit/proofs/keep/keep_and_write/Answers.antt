@@ -93,11 +93,13 @@ returns g c =
     let changes = g.C.WordChanges.changes c.args.changes.now in
     let now = counting u changes c.requires.stands c.requires.places c.requires.room c.read-first.ensures c.in_ok-behind.ensures.put
     c.in_ok-count_entries.ensures.words in
+    let grown = touched_same u _ c.write_through.ensures.entries ∙ touched_counted w u _ now.done.entries in
     record {
       stays = stays_more (stays_counted now.done) c.write_through.ensures.stays;
       changed = record {
+        count = now.count _ grown;
         plain = c.in_ok-write_through.ensures.plain ∙ ap (λ (p : List ℕ). with_words p changes) now.done.plain;
-        touched = touched_same u _ c.write_through.ensures.entries ∙ touched_counted w u _ now.done.entries;
+        touched = grown;
       };
       wrote = more_writes (more_writes c.in_ok-behind.ensures.wrote c.in_ok-count_entries.ensures.wrote refl) c.in_ok-write_through.ensures.wrote
           (now.writes (length changes));
