@@ -1,5 +1,5 @@
 -- Changes of a state, inside a transaction and outside.
-use Rattle.std.specs.Prelude.{if◌then◌else◌, ◌&&◌, ◌==◌, Bool, true, false, MatchBool}
+use Rattle.std.specs.Prelude.{if◌then◌else◌, ◌&&◌, ◌==◌, Bool, true, false, MatchBool, nat_le}
 use Rattle.std.specs.List.{list_any}
 use Rattle.std.proofs.Common.{◌≡◌, ◌<◌, ◌≤◌, ℕ, suc, ◌+◌, ◌*◌, List, [], ◌∷◌, ◌++◌, length, max, filter, not, cond, set, get_or, refl, sym, ap, ◌∙◌, subst, arith}
 use Rattle.std.proofs.Common.{get_or-set_other}
@@ -11,10 +11,10 @@ use Rattle.jc_words.specs.Refusals.{Refusals, refused_once}
 use Rattle.jc_words.specs.Image.{log_of}
 use Rattle.jc_words.specs.Layout.{top_address, addresses_start}
 use Rattle.jc_words.specs.declared.log.Log.{Log}
-use Rattle.jc_commit.specs.Image.{plain_of, recovered_of, touched_of, top_of, count_of, address_at, with_words, IsGoodLog}
+use Rattle.jc_commit.specs.Image.{plain_of, recovered_of, touched_of, top_of, count_of, capacity_of, address_at, with_words, IsGoodLog}
 use Rattle.jc_commit.specs.Entries.{addresses_of}
 use Rattle.jc_commit.specs.EntryIndex.{needing, IsIndexOf}
-use Rattle.jc_commit.specs.Keeping.{goes_back, is_taken_back, unlogged_addresses, writes_for, writes_inside, writes_outside}
+use Rattle.jc_commit.specs.Keeping.{goes_back, is_taken_back, unlogged_addresses, has_room_for, writes_for, writes_inside, writes_outside}
 use Rattle.jc_commit.specs.State.{State, Changes, IsSound, IsTornWrite, after_write_in_place, born_of, keeping, live_words}
 use Rattle.jc_commit.specs.Writing.{Wrote, KeepsTransaction}
 use Rattle.jc_commit.proofs.Words.{Spot, log-set}
@@ -23,6 +23,7 @@ use Rattle.jc_commit.proofs.InPlace.{length-plain, length-recovered, recovered-s
 use Rattle.jc_commit.proofs.Entries.{target}
 use Rattle.jc_commit.proofs.Counted.{touched_same}
 use Rattle.jc_commit.proofs.Indexes.{IsIndexOf-same}
+use Rattle.jc_commit.proofs.WhatIsKept.{outside-added, room-inside}
 use Rattle.jc_commit.proofs.Views.{length-addresses, touched_none, above_all, same_state}
 
 pub match_true : (b : Bool) (A B : Type 0) → b ≡ true → A → MatchBool b A B
@@ -56,26 +57,23 @@ pub added_inside : (s : State) (addresses : List ℕ) → s.in_transaction ≡ t
 unfolding unlogged_addresses goes_back
 added_inside s addresses inside = ap (λ (b : Bool). new_if b s addresses) inside
 
-added_outside : (s : State) (addresses : List ℕ) → s.in_transaction ≡ false → unlogged_addresses (keeping s) addresses ≡ []
-unfolding unlogged_addresses goes_back
-added_outside s addresses outside = ap (λ (b : Bool). new_if b s addresses) outside
+pub room_inside : (s : State) (addresses : List ℕ) → s.in_transaction ≡ true
+    → has_room_for (keeping s) addresses ≡ nat_le (length s.touched + length (new_ones s addresses)) (capacity_of s.recovered)
+room_inside s addresses inside = room-inside (keeping s) addresses inside
+    ∙ ap (λ (xs : List ℕ). nat_le (length s.touched + length xs) (capacity_of s.recovered)) (added_inside s addresses inside)
 
 pub back_inside : (s : State) (a : ℕ) → s.in_transaction ≡ true → goes_back (keeping s) a ≡ is_taken_back s.touched (born_of s.recovered) a
 unfolding goes_back
 back_inside s a inside = ap (λ (b : Bool). b && is_taken_back s.touched (born_of s.recovered) a) inside
-
-pub back_outside : (s : State) (a : ℕ) → s.in_transaction ≡ false → goes_back (keeping s) a ≡ false
-unfolding goes_back
-back_outside s a outside = ap (λ (b : Bool). b && is_taken_back s.touched (born_of s.recovered) a) outside
 
 -- the state of a journal over these words
 abbrev pub state_of : List ℕ → Bool → Bool → ℕ → Refusals → State
 state_of w t d p r = record { plain = plain_of w; recovered = recovered_of w; in_transaction = t; touched = touched_of w; down = d; passed = p; refusals = r }
 
 -- what holds of a journal goes on to hold where its words change and say the same of where the entries stand
-pub sound_kept : {w u numbers : List ℕ} {t d t' d' : Bool} {l : Log} {born : ℕ} → IsSound w d t l born numbers → IsGoodLog u → length u ≡ length w → log_of u ≡ log_of w
+pub sound_kept : {w u numbers numbers' : List ℕ} {t d t' d' : Bool} {l : Log} {born born' : ℕ} → IsSound w d t l born numbers → IsGoodLog u → length u ≡ length w → log_of u ≡ log_of w
     → (t' ≡ false → d' ≡ false → count_of u ≡ 0)
-    → (t' ≡ true → d' ≡ false → (born ≡ max addresses_start (top_of (recovered_of u))) × IsIndexOf l u (count_of u) numbers) → IsSound u d' t' l born numbers
+    → (t' ≡ true → d' ≡ false → (born' ≡ max addresses_start (top_of (recovered_of u))) × IsIndexOf l u (count_of u) numbers') → IsSound u d' t' l born' numbers'
 sound_kept sound good long log closed inside = record {
   good = good;
   stands = sound.stands ∙ sym log;
@@ -194,7 +192,7 @@ pub changed_outside : {S : Type 0} {d : S → Bool} {p : S → ℕ} {r : S → R
     → plain_of u ≡ with_words (plain_of w) changes → count_of u ≡ 0 → writes_outside (length changes) ≡ n → Changes changes s (state_of u t (d y) (p y) (r y))
 changed_outside {w = w} {s = s} u changes wrote v shut outside long log plain none cost =
     changed w u changes wrote v long log plain (match_false s.in_transaction _ _ outside (recovered_plain u none))
-    (touched_none u none ∙ sym (λ i. shut.untouched i ++ added_outside s (addresses_of changes) outside i))
+    (touched_none u none ∙ sym (λ i. shut.untouched i ++ outside-added (keeping s) (addresses_of changes) outside i))
     (writes_for_outside s (addresses_of changes) outside ∙ ap writes_outside (length-addresses changes) ∙ cost)
 
 -- each word that lies below needs an entry there

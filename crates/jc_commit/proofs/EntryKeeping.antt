@@ -1,6 +1,6 @@
 -- What a change in a transaction keeps.
 use Rattle.std.proofs.Common.{◌≡◌, ℕ, zero, suc, ◌+◌, ◌*◌, ◌<◌, ◌≤◌, ◌||◌, ◌==◌, ◌⊎◌, Bool, true, false, cond, not, List, [], ◌∷◌, ◌++◌, Option, Some, IsSome}
-use Rattle.std.proofs.Common.{length, map, get_or, set, take, drop, slice_index, All, filter, refl, sym, ◌∙◌, ap, subst, arith, inl, inr, ⊎_elim}
+use Rattle.std.proofs.Common.{length, map, get_or, set, take, drop, slice_index, All, Contains, filter, refl, sym, ◌∙◌, ap, subst, arith, inl, inr, ⊎_elim}
 use Rattle.std.proofs.Common.{take-append-drop, ext_get_or, get_or-set_other, get_or-set_same, leb-true, eqb-true, eq-eqb, ne_eqb, is_some}
 use Rattle.std.specs.List.{list_any, range_with_len}
 use Rattle.std.specs.Prelude.{if◌then◌else◌, nat_le}
@@ -22,8 +22,9 @@ use Rattle.jc_commit.specs.EntryIndex.{named_by, needing, with_entries, IsIndexO
 use Rattle.jc_commit.proofs.Words.{bounds_of, place_spot, log-set}
 use Rattle.jc_commit.proofs.Steps.{limit-same, IsGoodLog-set_place, entries-set_place, plain-set_place}
 use Rattle.jc_commit.proofs.Entries.{HasEntries, same_after, target, places_beside}
-use Rattle.jc_commit.proofs.Counted.{entry_of, named_new, kept_before, Counted, counted}
+use Rattle.jc_commit.proofs.Counted.{entry_of, named_new, kept_before, Counted, counted_at}
 use Rattle.jc_commit.proofs.InPlace.{listed, unlisted, recovered-set_place, live_words-set}
+use Rattle.jc_commit.proofs.WhatIsKept.{contains_filter, true-not}
 use Rattle.jc_commit.proofs.Views.{length-touched, length-addresses}
 use Rattle.jc_commit.proofs.Changing.{new_ones, state_of}
 use Rattle.jc_commit.proofs.Indexes.{get_or-named_by, length-named_by, IsIndexOf-same}
@@ -153,7 +154,8 @@ counted_by : (w v u : List ℕ) (first : ℕ) (changes : List (ℕ × ℕ)) (b :
     → Counted w changes u
 counted_by w v u first changes true good places is room same has none written =
     subst (λ (cs : List (ℕ × ℕ)). Counted w cs u) (sym (none refl)) (subst (Counted w []) (sym written) (kept_before w v first good is same))
-counted_by w v u first changes false good places is room same has none written = counted w v u first changes good places is room same has written
+counted_by w v u first changes false good places is room same has none written =
+    subst (Counted w changes) (sym written) (counted_at w v first changes good places is room same has)
 
 -- no changes, where there are no more entries
 none_more : (first : ℕ) (changes : List (ℕ × ℕ)) → (first == first + length changes) ≡ true → changes ≡ []
@@ -241,29 +243,6 @@ some_append : (es more : List (ℕ × ℕ)) (a : ℕ) → IsSome (old_value es a
 some_append [] more a some = absurd (false≢true some)
 some_append (e ∷ es) more a some = some_step (e.0 == a) e.1 (old_value es a) (old_value (es ++ more) a) (some_append es more a) some
 
--- what passes is kept, at some place
-Placed : List (ℕ × ℕ) → ℕ × ℕ → Type 0
-Placed xs y = (j : ℕ) × (j < length xs) × (get_or xs j (0, 0) ≡ y)
-
-here : (b : Bool) (x : ℕ × ℕ) (us : List (ℕ × ℕ)) → b ≡ true → Placed (cond b (x ∷ us) us) x
-unfolding Placed
-here true x us is = (0, omega arith, refl)
-here false x us is = absurd (false≢true is)
-
-later : (b : Bool) (x y : ℕ × ℕ) (us : List (ℕ × ℕ)) → Placed us y → Placed (cond b (x ∷ us) us) y
-unfolding Placed
-later true x y us r = (suc r.0, omega (arith, r.1), r.2)
-later false x y us r = r
-
-placed : (p : ℕ × ℕ → Bool) (xs : List (ℕ × ℕ)) (k : ℕ) → k < length xs → p (get_or xs k (0, 0)) ≡ true → Placed (filter p xs) (get_or xs k (0, 0))
-placed p [] k within is = absurd (omega (arith, within))
-placed p (x ∷ xs) zero within is = here (p x) x (filter p xs) is
-placed p (x ∷ xs) (suc k) within is = later (p x) x (get_or xs k (0, 0)) (filter p xs) (placed p xs k (omega (arith, within)) is)
-
-negated : (b : Bool) → b ≡ false → not b ≡ true
-negated true is = absurd (false≢true (sym is))
-negated false is = refl
-
 or_cases : (a b : Bool) → (a || b) ≡ true → (a ≡ true) ⊎ (b ≡ true)
 or_cases true b is = inl refl
 or_cases false b is = inr is
@@ -271,10 +250,9 @@ or_cases false b is = inr is
 some_is : (o : Option ℕ) (y : ℕ) → o ≡ Some y → IsSome o
 some_is o y is = ap is_some is
 
-new_named : (w : List ℕ) (es changes : List (ℕ × ℕ)) (c : ℕ × ℕ) → Placed changes c → IsSome (old_value (es ++ map (entry_of w) changes) c.0)
-unfolding Placed
-new_named w es changes c r = subst (λ (b : ℕ). IsSome (old_value (es ++ map (entry_of w) changes) b)) (ap (λ (d : ℕ × ℕ). d.0) r.2)
-    (named_new w es changes r.0 r.1)
+new_named : (w : List ℕ) (es changes : List (ℕ × ℕ)) (c : ℕ × ℕ) → Contains changes c → IsSome (old_value (es ++ map (entry_of w) changes) c.0)
+new_named w es changes c r = subst (λ (b : ℕ). IsSome (old_value (es ++ map (entry_of w) changes) b))
+    (ap (λ (d : ℕ × ℕ). d.0) (get_or_default changes r.0 (0, 0) c r.1 ∙ r.2)) (named_new w es changes r.0 r.1)
 
 is_taken_back_one : (w : List ℕ) (es changes : List (ℕ × ℕ)) (born k : ℕ) → k < length changes →
     IsSome (old_value (es ++ map (entry_of w) (needing (map (λ (e : ℕ × ℕ). e.0) es) born changes)) (target changes k)) ⊎ (born ≤ target changes k)
@@ -287,7 +265,8 @@ is_taken_back_one w es changes born k within =
         | inr high ↦ inr (leb-true born a high)
       ]
       | inr needs ↦ inl (new_named w es (needing touched born changes) (get_or changes k (0, 0))
-          (placed (λ c. not (is_taken_back touched born c.0)) changes k within (negated (is_taken_back touched born a) needs)))
+          (contains_filter (λ c. not (is_taken_back touched born c.0)) changes k (get_or changes k (0, 0)) within
+          (get_or_default changes k (get_or changes k (0, 0)) (0, 0) within) (true-not (is_taken_back touched born a) needs)))
     ]
 
 pub all_go_back : (w u : List ℕ) (born : ℕ) (changes : List (ℕ × ℕ)) → entries u ≡ entries w ++ map (entry_of w) (needing (touched_of w) born changes)
@@ -312,9 +291,9 @@ same_live true p a x high = (refl, refl)
 same_live false p a x high =
     let h = high refl in (live_words-set p a x h.0 h.1, get_or-set_other p a top_address x 0 (λ same. absurd (omega (arith, h.1, same))))
 
-through_at : (w : List ℕ) (a x born : ℕ) → IsGoodLog w → IsPlace (limit_of w) a → IsFreeFrom w born → IsSome (old_value (entries w) a) ⊎ (born ≤ a) → Through w a x (set w a x)
+pub through : (w : List ℕ) (a x born : ℕ) → IsGoodLog w → IsPlace (limit_of w) a → IsFreeFrom w born → IsSome (old_value (entries w) a) ⊎ (born ≤ a) → Through w a x (set w a x)
 unfolding touched_of
-through_at w a x born good place free back =
+through w a x born good place free back =
     let read = place_spot w a good place in
     let named : Bool = list_any (λ b. b == a) (touched_of w) in
     let high : named ≡ false → (top_of (recovered_of w) ≤ a) × (log_end ≤ a) = λ unnamed. ⊎_elim
@@ -329,10 +308,6 @@ through_at w a x born good place free back =
       entries = entries-set_place w a x good read;
       plain = plain-set_place w a x good read;
     }
-
-pub through : (w v : List ℕ) (a x born : ℕ) → IsGoodLog w → IsPlace (limit_of w) a → IsFreeFrom w born → IsSome (old_value (entries w) a) ⊎ (born ≤ a) → v ≡ set w a x → Through w a x v
-through w v a x born good place free back written =
-    subst (λ (u : List ℕ). Through w a x u) (sym written) (through_at w a x born good place free back)
 
 -- ---- a state and its words
 

@@ -25,8 +25,8 @@ loop-i-preserved g c =
     let back : IsSome (old_value (entries w) a) ⊎ (c.args.born ≤ a) = subst (λ (es : List (ℕ × ℕ)). IsSome (old_value es a) ⊎ (c.args.born ≤ a)) (sym i.entries)
     (c.requires.kept k inside) in
     let e = c.in_ok-write.ensures in
-    let step : Through w a x v = through w v a x c.args.born i.stays.good place (free_kept i.stays c.requires.births) back
-    (e.written ∙ ap (λ (d : ℕ × ℕ). set w d.0 d.1) c.change-address.ensures) in
+    let step : Through w a x v = subst (Through w a x) (sym (e.written ∙ ap (λ (d : ℕ × ℕ). set w d.0 d.1) c.change-address.ensures))
+    (through w a x c.args.born i.stays.good place (free_kept i.stays c.requires.births) back) in
     record {
       stays = stays_more i.stays step.stays;
       entries = step.entries ∙ i.entries;
