@@ -1,31 +1,32 @@
 -- What a change in a transaction keeps.
 use Rattle.std.proofs.Common.{◌≡◌, ℕ, zero, suc, ◌+◌, ◌*◌, ◌<◌, ◌≤◌, ◌||◌, ◌==◌, ◌⊎◌, Bool, true, false, cond, not, List, [], ◌∷◌, ◌++◌, Option, Some, IsSome}
-use Rattle.std.proofs.Common.{length, map, get_or, set, take, drop, slice_index, All, filter, refl, sym, ◌∙◌, ap, subst, arith, inl, inr, ⊎_elim}
-use Rattle.std.proofs.Common.{take-append-drop, ext_get_or, get_or-set_other, get_or-set_same, leb-true, eqb-true, eq-eqb, ne_eqb, is_some, append-nil}
-use Rattle.std.proofs.Common.{append_assoc, max, length-take, get_or-take}
+use Rattle.std.proofs.Common.{length, map, get_or, set, take, drop, slice_index, All, Contains, filter, refl, sym, ◌∙◌, ap, subst, arith, inl, inr, ⊎_elim}
+use Rattle.std.proofs.Common.{take-append-drop, ext_get_or, get_or-set_other, get_or-set_same, leb-true, eqb-true, eq-eqb, ne_eqb, is_some}
 use Rattle.std.specs.List.{list_any, range_with_len}
 use Rattle.std.specs.Prelude.{if◌then◌else◌, nat_le}
 use Rattle.std.proofs.lemmas.Bool.{cases_Bool, cases_eq, false≢true}
 use Rattle.std.proofs.lemmas.List.{length-append, length-map, length-set, take_more, get_or_default}
-use Rattle.std.proofs.lemmas.List.Elements.{filter-append, All-filter, All-head, All-tail}
-use Rattle.std.proofs.lemmas.List.Folds.{list_any-append}
-use Rattle.std.proofs.lemmas.List.FromFn.{map-range_with_len_more}
-use Rattle.jc_words.specs.Layout.{log_start, log_end, top_address, count_address, addresses_start}
+use Rattle.std.proofs.lemmas.List.Filters.{length-filter_both}
+use Rattle.std.proofs.lemmas.List.Elements.{filter-append, All-filter}
+use Rattle.jc_words.specs.Layout.{log_end, top_address, count_address}
+use Rattle.jc_words.specs.Refusals.{Refusals}
 use Rattle.jc_words.specs.Image.{log_of}
 use Rattle.jc_words.specs.declared.log.Log.{Log}
 use Rattle.jc_commit.specs.Image.{address_at, old_at, entries, old_value, count_of, capacity_of, limit_of, plain_of, recovered_of, touched_of, top_of, IsPlace}
 use Rattle.jc_commit.specs.Image.{IsGoodLog}
-use Rattle.jc_commit.specs.Entries.{addresses_of, AreDistinct, ArePlaces, IsBeside, AreBeside, SameBefore, HasEntries}
+use Rattle.jc_commit.specs.Entries.{addresses_of, ArePlaces, IsBeside, AreBeside, SameBefore}
 use Rattle.jc_commit.specs.State.{State, IsSound, live_words, born_of}
-use Rattle.jc_commit.specs.Writing.{KeepsTransaction, KeepsEntries, ArePut}
+use Rattle.jc_commit.specs.Writing.{HasLog, IsFreeFrom, KeepsTransaction, ArePut}
 use Rattle.jc_commit.specs.Keeping.{writes_inside, is_taken_back}
-use Rattle.jc_commit.specs.EntryIndex.{named_by, needing, with_entries, IsIndexOf, IsGapFor, GoBack, KeepsAddresses}
-use Rattle.jc_commit.proofs.Words.{Spot, bounds_of, place_spot, log-set}
-use Rattle.jc_commit.proofs.Steps.{IsGoodLog-set_place, count-set_place, entries-set_place, plain-set_place}
-use Rattle.jc_commit.proofs.Entries.{same_after, target, target-take, places_beside}
-use Rattle.jc_commit.proofs.Counted.{entry_of, named_new, Kept, kept_before, Counted, counted}
+use Rattle.jc_commit.specs.EntryIndex.{named_by, needing, with_entries, IsIndexOf, GoBack}
+use Rattle.jc_commit.proofs.Words.{bounds_of, place_spot, log-set}
+use Rattle.jc_commit.proofs.Steps.{limit-same, IsGoodLog-set_place, entries-set_place, plain-set_place}
+use Rattle.jc_commit.proofs.Entries.{HasEntries, same_after, target, places_beside}
+use Rattle.jc_commit.proofs.Counted.{entry_of, named_new, kept_before, Counted, counted_at}
 use Rattle.jc_commit.proofs.InPlace.{listed, unlisted, recovered-set_place, live_words-set}
-use Rattle.jc_commit.proofs.Outside.{new_ones}
+use Rattle.jc_commit.proofs.WhatIsKept.{contains_filter, true-not}
+use Rattle.jc_commit.proofs.Views.{length-touched, length-addresses}
+use Rattle.jc_commit.proofs.Changing.{new_ones, state_of}
 use Rattle.jc_commit.proofs.Indexes.{get_or-named_by, length-named_by, IsIndexOf-same}
 
 -- ---- which changes need an entry
@@ -49,17 +50,16 @@ needing_part touched born changes i =
     ap (λ (l : List (ℕ × ℕ)). length l) parts ∙ length-append (filter p (take i changes)) (filter p (drop i changes)) in
     omega (arith, long)
 
+pub needing_few : (touched : List ℕ) (born : ℕ) (changes : List (ℕ × ℕ)) → length (needing touched born changes) ≤ length changes
+needing_few touched born changes =
+    let both = length-filter_both (λ (c : ℕ × ℕ). is_taken_back touched born c.0) (λ c. not (is_taken_back touched born c.0)) (λ c. refl) changes in omega (arith, both)
+
 all_places : (n : ℕ) (changes : List (ℕ × ℕ)) → ArePlaces n changes → All (λ (c : ℕ × ℕ). IsPlace n c.0) changes
 all_places n changes places k d within = subst (λ (c : ℕ × ℕ). IsPlace n c.0) (get_or_default changes k (0, 0) d within) (places k within)
 
 pub places_needing : (touched : List ℕ) (born n : ℕ) (changes : List (ℕ × ℕ)) → ArePlaces n changes → ArePlaces n (needing touched born changes)
 places_needing touched born n changes places k within =
     All-filter (λ c. not (is_taken_back touched born c.0)) (λ (c : ℕ × ℕ). IsPlace n c.0) changes (all_places n changes places) k (0, 0) within
-
-pub places_take : (n m : ℕ) (changes : List (ℕ × ℕ)) → ArePlaces n changes → ArePlaces n (take m changes)
-places_take n m changes places k within =
-    let long = length-take m changes in
-    subst (λ (a : ℕ). IsPlace n a) (sym (target-take changes m k (omega (arith, within, long)))) (places k (omega (arith, within, long)))
 
 -- ---- entries that are put
 
@@ -77,12 +77,6 @@ entry_same l w k change few =
 length-after : (l : Log) (w : List ℕ) (k : ℕ) (change : ℕ × ℕ) → length (after_entry l w k change) ≡ length w
 length-after l w k change = length-set (set w (l.start + 2 * k) change.0) (l.start + 2 * k + 1) (slice_index w change.0)
     ∙ length-set w (l.start + 2 * k) change.0
-
-pub entry_address : (l : Log) (w : List ℕ) (k : ℕ) (change : ℕ × ℕ) → k < l.capacity → l.start + 2 * l.capacity ≤ length w → address_at l (after_entry l w k change) k ≡ change.0
-entry_address l w k change few size =
-    get_or-set_other (set w (l.start + 2 * k) change.0) (l.start + 2 * k + 1) (l.start + 2 * k) (slice_index w change.0) 0
-    (λ same. absurd (omega (arith, same)))
-    ∙ get_or-set_same w (l.start + 2 * k) change.0 0 (omega (arith, few, size))
 
 pub with_entries-append : (l : Log) (w : List ℕ) (k : ℕ) (xs ys : List (ℕ × ℕ)) → with_entries l w k (xs ++ ys) ≡ with_entries l (with_entries l w k xs) (k + length xs) ys
 with_entries-append l w k [] ys = let e : k ≡ k + 0 = omega arith in ap (λ (j : ℕ). with_entries l w j ys) e
@@ -140,76 +134,6 @@ named_by_kept l w v n same =
 pub index_kept : (l : Log) (w v : List ℕ) (n : ℕ) (numbers : List ℕ) → SameBefore l n w v → IsIndexOf l w n numbers → IsIndexOf l v n numbers
 index_kept l w v n numbers same index = IsIndexOf-same l w v n numbers (named_by_same l w v n same) index
 
--- and a gap stays one
-pub gap_kept : (l : Log) (w v : List ℕ) (n : ℕ) (numbers : List ℕ) (a i : ℕ) → SameBefore l n w v → IsIndexOf l w n numbers → IsGapFor l w numbers a i → IsGapFor l v numbers a i
-gap_kept l w v n numbers a i same index gap = record {
-  within = gap.within;
-  lower = λ k less. let g = gap.lower k less in let s = named_by_same l w v n same (slice_index numbers k) (index.counted k (omega (arith, less, gap.within))) in omega (arith, g, s);
-  higher = λ k le within. let g = gap.higher k le within in let s = named_by_same l w v n same (slice_index numbers k) (index.counted k within) in omega (arith, g, s);
-}
-
--- one entry more names one address more
-named_by_more : (l : Log) (w : List ℕ) (k : ℕ) → named_by l w (k + 1) ≡ named_by l w k ++ address_at l w k ∷ []
-unfolding named_by
-named_by_more l w k = map-range_with_len_more (address_at l w) 0 k k (omega arith)
-
-pub names_with : (l : Log) (w : List ℕ) (k : ℕ) (changes : List (ℕ × ℕ)) → k + length changes ≤ l.capacity → l.start + 2 * l.capacity ≤ length w →
-    named_by l (with_entries l w k changes) (k + length changes) ≡ named_by l w k ++ addresses_of changes
-names_with l w k [] few size = let e : k + 0 ≡ k = omega arith in ap (named_by l w) e ∙ sym (append-nil (named_by l w k))
-names_with l w k (c ∷ cs) few size =
-    let v = after_entry l w k c in
-    let long = length-after l w k c in
-    let e : k + suc (length cs) ≡ k + 1 + length cs = omega arith in
-    let rest : named_by l (with_entries l v (k + 1) cs) (k + 1 + length cs) ≡ named_by l v (k + 1) ++ addresses_of cs =
-    names_with l v (k + 1) cs (omega (arith, few)) (omega (arith, size, long)) in
-    let one : address_at l v k ≡ c.0 =
-    get_or-set_other (set w (l.start + 2 * k) c.0) (l.start + 2 * k + 1) (l.start + 2 * k) (slice_index w c.0) 0 (λ same. absurd (omega (arith, same)))
-    ∙ get_or-set_same w (l.start + 2 * k) c.0 0 (omega (arith, few, size)) in
-    let front : named_by l v (k + 1) ≡ named_by l w k ++ c.0 ∷ [] =
-    named_by_more l v k ∙ ap (λ (ls : List ℕ). ls ++ address_at l v k ∷ []) (named_by_kept l w v k (entry_same l w k c (omega (arith, few))))
-    ∙ ap (λ (a : ℕ). named_by l w k ++ a ∷ []) one in
-    ap (named_by l (with_entries l v (k + 1) cs)) e ∙ rest ∙ ap (λ (ls : List ℕ). ls ++ addresses_of cs) front
-    ∙ append_assoc (named_by l w k) (c.0 ∷ []) (addresses_of cs)
-
--- what entries of other words name does not count
-unnamed : (a : ℕ) (xs : List (ℕ × ℕ)) → All (λ (c : ℕ × ℕ). c.0 ≡ a → ⊥) xs → list_any (λ x. x == a) (addresses_of xs) ≡ false
-unnamed a [] all = refl
-unnamed a (x ∷ xs) all = ap (λ (b : Bool). b || list_any (λ y. y == a) (addresses_of xs)) (ne_eqb x.0 a (All-head (λ (c : ℕ × ℕ). c.0 ≡ a → ⊥) x xs all))
-    ∙ unnamed a xs (All-tail (λ (c : ℕ × ℕ). c.0 ≡ a → ⊥) x xs all)
-
--- the changes before one are of other words
-others_before : (changes : List (ℕ × ℕ)) (i : ℕ) → i < length changes → AreDistinct (addresses_of changes)
-    → All (λ (c : ℕ × ℕ). c.0 ≡ target changes i → ⊥) (take i changes)
-others_before changes i within distinct k d below same =
-    let less : k < i = omega (arith, below, length-take i changes) in
-    let before : (get_or (take i changes) k d).0 ≡ target changes k = ap (λ (c : ℕ × ℕ). c.0) (get_or_default (take i changes) k d (0, 0) below
-    ∙ get_or-take i changes k (0, 0) less) in
-    distinct k i 0 less (omega (arith, within, length-map changes (λ (c : ℕ × ℕ). c.0)))
-    (get_or-map changes k (omega (arith, less, within)) ∙ sym before ∙ same ∙ sym (get_or-map changes i within))
-  where
-    get_or-map : (cs : List (ℕ × ℕ)) (j : ℕ) → j < length cs → get_or (addresses_of cs) j 0 ≡ target cs j
-    get_or-map [] j lt = absurd (omega (arith, lt))
-    get_or-map (c ∷ cs) zero lt = refl
-    get_or-map (c ∷ cs) (suc j) lt = get_or-map cs j (omega (arith, lt))
-
-or_false : (a b : Bool) → b ≡ false → (a || b) ≡ a
-or_false true b is = refl
-or_false false b is = is
-
--- so a change needs an entry after those of the changes before it exactly where it needs one at all
-pub needing_still : (touched : List ℕ) (born : ℕ) (changes : List (ℕ × ℕ)) (i : ℕ) → i < length changes → AreDistinct (addresses_of changes) →
-    needing (touched ++ addresses_of (needing touched born (take i changes))) born (get_or changes i (0, 0) ∷ [])
-    ≡ needing touched born (get_or changes i (0, 0) ∷ [])
-needing_still touched born changes i within distinct =
-    let c = get_or changes i (0, 0) in
-    let p : ℕ × ℕ → Bool = λ d. not (is_taken_back touched born d.0) in
-    let none : list_any (λ x. x == c.0) (addresses_of (needing touched born (take i changes))) ≡ false =
-    unnamed c.0 (needing touched born (take i changes)) (All-filter p (λ (d : ℕ × ℕ). d.0 ≡ c.0 → ⊥) (take i changes) (others_before changes i within distinct))
-    in
-    let same : list_any (λ x. x == c.0) (touched ++ addresses_of (needing touched born (take i changes))) ≡ list_any (λ x. x == c.0) touched =
-    list_any-append (λ x. x == c.0) touched (addresses_of (needing touched born (take i changes))) ∙ or_false (list_any (λ x. x == c.0) touched) _ none in
-    ap (λ (b : Bool). cond (not (b || nat_le born c.0)) (c ∷ []) []) same
-
 mapped_twice : (l : Log) (w : List ℕ) (ks : List ℕ) → map (address_at l w) ks ≡ map (λ (e : ℕ × ℕ). e.0) (map (λ (j : ℕ). (address_at l w j, old_at l w j)) ks)
 mapped_twice l w [] = refl
 mapped_twice l w (k ∷ ks) = ap (λ (ls : List ℕ). address_at l w k ∷ ls) (mapped_twice l w ks)
@@ -224,91 +148,19 @@ names_touched l w is = ap (λ (m : Log). named_by m w (count_of w)) is ∙ named
 
 -- ---- the entries are counted, where there are more
 
-pub record Ready (w : List ℕ) (changes : List (ℕ × ℕ)) (u : List ℕ) : Type 0 where
-  pub good : IsGoodLog u
-  pub size : length u ≡ length w
-  pub entries : entries u ≡ entries w ++ map (entry_of w) changes
-  pub plain : plain_of u ≡ plain_of w
-  pub recovered : recovered_of u ≡ recovered_of w
-  pub log : log_of u ≡ log_of w
-
-ready_none : (w v : List ℕ) → Kept w v → length v ≡ length w → Ready w [] v
-ready_none w v k size = record { good = k.good; size = size; entries = k.entries ∙ sym (nothing_more (entries w)); plain = k.plain; recovered = k.recovered; log = k.log }
-  where
-    nothing_more : (es : List (ℕ × ℕ)) → es ++ [] ≡ es
-    nothing_more [] = refl
-    nothing_more (e ∷ es) = ap (λ (l : List (ℕ × ℕ)). e ∷ l) (nothing_more es)
-
-ready_some : (w u : List ℕ) (changes : List (ℕ × ℕ)) → Counted w changes u → Ready w changes u
-ready_some w u changes c = record { good = c.good; size = c.size; entries = c.entries; plain = c.plain; recovered = c.recovered; log = c.log }
-
-ready_by : (w v u : List ℕ) (first : ℕ) (changes : List (ℕ × ℕ)) (b : Bool) → IsGoodLog w → ArePlaces (limit_of w) changes → first ≡ count_of w
+counted_by : (w v u : List ℕ) (first : ℕ) (changes : List (ℕ × ℕ)) (b : Bool) → IsGoodLog w → ArePlaces (limit_of w) changes → first ≡ count_of w
     → first + length changes ≤ capacity_of w →
     SameBefore (log_of w) first w v → HasEntries (log_of w) first changes w v → (b ≡ true → changes ≡ []) → u ≡ (if b then v else set v count_address (first + length changes))
-    → Ready w changes u
-ready_by w v u first changes true good places is room same has none written =
-    let k : Ready w [] v = ready_none w v (kept_before w v first good is same) same.0 in
-    subst (λ (cs : List (ℕ × ℕ)). Ready w cs u) (sym (none refl)) (subst (λ (t : List ℕ). Ready w [] t) (sym written) k)
-ready_by w v u first changes false good places is room same has none written =
-    ready_some w u changes (counted w v u first changes good places is room same has written)
+    → Counted w changes u
+counted_by w v u first changes true good places is room same has none written =
+    subst (λ (cs : List (ℕ × ℕ)). Counted w cs u) (sym (none refl)) (subst (Counted w []) (sym written) (kept_before w v first good is same))
+counted_by w v u first changes false good places is room same has none written =
+    subst (Counted w changes) (sym written) (counted_at w v first changes good places is room same has)
 
 -- no changes, where there are no more entries
 none_more : (first : ℕ) (changes : List (ℕ × ℕ)) → (first == first + length changes) ≡ true → changes ≡ []
 none_more first [] is = refl
 none_more first (c ∷ cs) is = absurd (omega (arith, eqb-true first (first + length (c ∷ cs)) is))
-
-pub ready : (w v u : List ℕ) (first behind : ℕ) (changes : List (ℕ × ℕ)) → IsGoodLog w → ArePlaces (limit_of w) changes → first ≡ count_of w
-    → first + length changes ≤ capacity_of w →
-    v ≡ with_entries (log_of w) w first changes → behind ≡ first + length changes → u ≡ (if first == behind then v else set v count_address behind) → Ready w changes u
-ready w v u first behind changes good places is room put all written =
-    let big = (bounds_of w good).within in
-    let same : SameBefore (log_of w) first w v = subst (λ (t : List ℕ). SameBefore (log_of w) first w t) (sym put) (same_with (log_of w) w first changes room) in
-    let has : HasEntries (log_of w) first changes w v = subst (λ (t : List ℕ). HasEntries (log_of w) first changes w t) (sym put) (has_with (log_of w) w first changes room big (places_beside w changes good places)) in
-    ready_by w v u first changes (first == first + length changes) good places is room same has (none_more first changes)
-    (written ∙ ap (λ (n : ℕ). if first == n then v else set v count_address n) all)
-
-pub ready_is : (w v u : List ℕ) (first behind born : ℕ) (changes : List (ℕ × ℕ)) → IsGoodLog w → ArePlaces (limit_of w) changes → first ≡ count_of w →
-    first + length (needing (named_by (log_of w) w first) born changes) ≤ capacity_of w → v ≡ with_entries (log_of w) w first (needing (named_by (log_of w) w first) born changes) →
-    behind ≡ first + length (needing (named_by (log_of w) w first) born changes) → u ≡ (if first == behind then v else set v count_address behind)
-    → Ready w (needing (touched_of w) born changes) u
-ready_is w v u first behind born changes good places is room put all written =
-    subst (λ (t : List ℕ). Ready w (needing t born changes) u) (ap (named_by (log_of w) w) is ∙ named_touched w)
-    (ready w v u first behind (needing (named_by (log_of w) w first) born changes) good (places_needing (named_by (log_of w) w first) born (limit_of w) changes places) is room put all
-    written)
-
-pub ready_by_log : (l : Log) (w v u : List ℕ) (first behind born : ℕ) (changes : List (ℕ × ℕ)) → l ≡ log_of w → IsGoodLog w → ArePlaces (limit_of w) changes
-    → first ≡ count_of w → first + length (needing (named_by l w first) born changes) ≤ l.capacity
-    → v ≡ with_entries l w first (needing (named_by l w first) born changes) → behind ≡ first + length (needing (named_by l w first) born changes)
-    → u ≡ (if first == behind then v else set v count_address behind) → Ready w (needing (touched_of w) born changes) u
-ready_by_log l w v u first behind born changes log good places is room put all written =
-    ready_is w v u first behind born changes good places is
-    (subst (λ (m : Log). first + length (needing (named_by m w first) born changes) ≤ m.capacity) log room)
-    (subst (λ (m : Log). v ≡ with_entries m w first (needing (named_by m w first) born changes)) log put)
-    (subst (λ (m : Log). behind ≡ first + length (needing (named_by m w first) born changes)) log all) written
-
--- the count, and the addresses that entries name, where the entries are counted
-pub count_by : (l : Log) (w v u : List ℕ) (first behind : ℕ) → log_start ≤ l.start → SameBefore l first w v → first ≡ count_of w → log_end ≤ length w → u
-    ≡ (if first == behind then v else set v count_address behind) →
-    (count_of u ≡ behind) × KeepsAddresses l v u
-count_by l w v u first behind low same is size written = elim (cases_Bool (first == behind)) [
-  | inl none ↦
-      let u_is : u ≡ v = written ∙ ap (λ (b : Bool). if b then v else set v count_address behind) none in (
-        ap count_of u_is ∙ same.1 count_address (λ h. absurd (omega (arith, low, h))) ∙ sym is ∙ eqb-true first behind none,
-        λ k few. ap (λ (t : List ℕ). address_at l t k) u_is,
-      )
-  | inr some ↦
-      let long = same.0 in
-      let u_is : u ≡ set v count_address behind = written ∙ ap (λ (b : Bool). if b then v else set v count_address behind) some in (
-        ap count_of u_is ∙ get_or-set_same v count_address behind 0 (omega (arith, size, long)),
-        λ k few. ap (λ (t : List ℕ). address_at l t k) u_is ∙ get_or-set_other v count_address (l.start + 2 * k) behind 0 (λ e. absurd (omega (arith, low, e))),
-      )
-]
-
-pub index_of_all : (l : Log) (v u x : List ℕ) (behind : ℕ) (numbers : List ℕ) → IsIndexOf l v behind numbers → behind ≤ l.capacity → KeepsAddresses l v u
-    → KeepsAddresses l u x → count_of x ≡ behind → IsIndexOf l x (count_of x) numbers
-index_of_all l v u x behind numbers index few first second count =
-    subst (λ (n : ℕ). IsIndexOf l x n numbers) (sym count)
-    (IsIndexOf-same l v x behind numbers (λ k below. second k (omega (arith, below, few)) ∙ first k (omega (arith, below, few))) index)
 
 -- how many writes that is
 pub inside_sum : (first behind n m : ℕ) → behind ≡ first + m → writes_inside n m ≡ 2 * m + (if first == behind then 0 else 1) + n
@@ -329,44 +181,56 @@ pub needing_names : (l : Log) (w : List ℕ) (first born : ℕ) (changes : List 
 needing_names l w first born changes log is =
     ap (λ (t : List ℕ). length (needing t born changes)) (ap (named_by l w) is ∙ names_touched l w log)
 
+pub stays_counted : {w u : List ℕ} {changes : List (ℕ × ℕ)} → Counted w changes u → KeepsTransaction w u
+stays_counted now = record { good = now.good; size = now.size; log = now.log; live = ap live_words now.recovered; top = ap top_of now.recovered }
+
 -- before the entries are counted
-pub stays_put : (l : Log) (w v : List ℕ) (first : ℕ) → l ≡ log_of w → IsGoodLog w → first ≡ count_of w → SameBefore l first w v → KeepsTransaction w v
-stays_put l w v first log good is same =
-    let kept = kept_before w v first good is (subst (λ (m : Log). SameBefore m first w v) log same) in record {
-      good = kept.good;
-      size = same.0;
-      log = kept.log;
-      live = ap live_words kept.recovered;
-      top = ap top_of kept.recovered;
-    }
+pub stays_put : {l : Log} {w v : List ℕ} {first : ℕ} → HasLog l w → first ≡ count_of w → SameBefore l first w v → KeepsTransaction w v
+stays_put {w = w} {v = v} {first = first} has is same =
+    stays_counted (kept_before w v first has.good is (subst (λ (m : Log). SameBefore m first w v) has.stands same))
 
-pub stays_ready : {w u : List ℕ} {changes : List (ℕ × ℕ)} → Ready w changes u → KeepsTransaction w u
-stays_ready now = record { good = now.good; size = now.size; log = now.log; live = ap live_words now.recovered; top = ap top_of now.recovered }
+-- what is free stays so
+pub free_kept : {w u : List ℕ} {born : ℕ} → KeepsTransaction w u → IsFreeFrom w born → IsFreeFrom u born
+free_kept {w = w} {u = u} stays free a high below =
+    let above = free a high (omega (arith, below, limit-same w u stays.size stays.log)) in
+    let top = stays.top in omega (arith, above, top)
 
--- and once they are: the words stand for the same, and numbers that are the entries' index stay it
-pub record Counting (l : Log) (w u : List ℕ) (first behind born : ℕ) (changes : List (ℕ × ℕ)) (numbers : List ℕ) : Type 0 where
-  pub ready : Ready w (needing (touched_of w) born changes) u
+-- and once they are: the words stand for the same
+pub record Counting (l : Log) (w u : List ℕ) (first behind born : ℕ) (changes : List (ℕ × ℕ)) : Type 0 where
+  pub done : Counted w (needing (touched_of w) born changes) u
   pub writes : (n : ℕ) → writes_inside n (length (needing (touched_of w) born changes))
       ≡ 2 * length (needing (named_by l w first) born changes) + (if first == behind then 0 else 1) + n
-  pub index : (x : List ℕ) → KeepsEntries u x → IsIndexOf l x (count_of x) numbers
+  pub count : (x : List ℕ) → touched_of x ≡ touched_of w ++ addresses_of (needing (touched_of w) born changes) → count_of x ≡ behind
 
-pub counting : {l : Log} {w v : List ℕ} {first behind born needed : ℕ} {old numbers : List ℕ} (u : List ℕ) (changes : List (ℕ × ℕ)) → IsSound w false true l born old
-    → ArePlaces (limit_of w) changes → needed ≡ length (needing (touched_of w) born changes) → count_of w + needed ≤ l.capacity → first ≡ count_of w
-    → ArePut l first (needing (named_by l w first) born changes) w v behind numbers → SameBefore l first w v
-    → u ≡ (if first == behind then v else set v count_address behind) → Counting l w u first behind born changes numbers
-counting {l = l} {w = w} {v = v} {first = first} {behind = behind} {born = born} {numbers = numbers} u changes sound places few room is put same written =
-    let big = sound.good.size.enough in
-    let long = needing_names l w first born changes sound.stands is in
-    let all : behind ≡ first + length (needing (touched_of w) born changes) = omega (arith, put.next, long) in
-    let ready : Ready w (needing (touched_of w) born changes) u = ready_by_log l w v u first behind born changes sound.stands sound.good places is
-    (omega (arith, long, is, few, room)) put.words put.next written in
-    let low : log_start ≤ l.start = subst (λ (m : Log). log_start ≤ m.start) (sym sound.stands) (bounds_of w sound.good).low in
-    let both = count_by l w v u first behind low same is (omega (arith, big)) written in record {
-      ready = ready;
-      writes = λ n. inside_sum first behind n (length (needing (touched_of w) born changes)) all
-          ∙ ap (λ (m : ℕ). 2 * m + (if first == behind then 0 else 1) + n) (sym long);
-      index = λ x kept. index_of_all l v u x behind numbers put.index (omega (arith, all, is, few, room)) both.1
-          (subst (λ (m : Log). KeepsAddresses m u x) (ready.log ∙ sym sound.stands) kept.addresses) (kept.count ∙ both.0);
+pub counting : {l : Log} {w v : List ℕ} {first behind born : ℕ} (u : List ℕ) (changes : List (ℕ × ℕ)) → HasLog l w → ArePlaces (limit_of w) changes
+    → count_of w + length (needing (touched_of w) born changes) ≤ l.capacity → first ≡ count_of w
+    → ArePut l first (needing (named_by l w first) born changes) w v behind → u ≡ (if first == behind then v else set v count_address behind)
+    → Counting l w u first behind born changes
+counting {l = l} {w = w} {v = v} {first = first} {behind = behind} {born = born} u changes has in_heap fits is put written =
+    let needed : List (ℕ × ℕ) = needing (touched_of w) born changes in
+    let names : named_by l w first ≡ touched_of w = ap (named_by l w) is ∙ names_touched l w has.stands in
+    let words : v ≡ with_entries (log_of w) w first needed = put.words ∙ (λ i. with_entries (has.stands i) w first (needing (names i) born changes)) in
+    let room : first + length needed ≤ capacity_of w = omega (arith, fits, is, ap (λ (m : Log). m.capacity) has.stands) in
+    let all : behind ≡ first + length needed = put.next ∙ ap (λ (t : List ℕ). first + length (needing t born changes)) names in
+    let places : ArePlaces (limit_of w) needed = places_needing (touched_of w) born (limit_of w) changes in_heap in
+    let same : SameBefore (log_of w) first w v = subst (SameBefore (log_of w) first w) (sym words) (same_with (log_of w) w first needed room) in
+    let entries : HasEntries (log_of w) first needed w v = subst (HasEntries (log_of w) first needed w) (sym words)
+    (has_with (log_of w) w first needed room (bounds_of w has.good).within (places_beside w needed has.good places)) in
+    record {
+      done = counted_by w v u first needed (first == first + length needed) has.good places is room same entries (none_more first needed)
+          (written ∙ ap (λ (n : ℕ). if first == n then v else set v count_address n) all);
+      writes = λ n. inside_sum first behind n (length needed) all
+          ∙ ap (λ (t : List ℕ). 2 * length (needing t born changes) + (if first == behind then 0 else 1) + n) (sym names);
+      count = λ x grown. omega (
+        arith,
+        length-touched x,
+        ap (λ (xs : List ℕ). length xs) grown,
+        length-append (touched_of w) (addresses_of needed),
+        length-addresses needed,
+        length-touched w,
+        all,
+        is,
+      );
     }
 
 -- ---- then each word goes back
@@ -379,29 +243,6 @@ some_append : (es more : List (ℕ × ℕ)) (a : ℕ) → IsSome (old_value es a
 some_append [] more a some = absurd (false≢true some)
 some_append (e ∷ es) more a some = some_step (e.0 == a) e.1 (old_value es a) (old_value (es ++ more) a) (some_append es more a) some
 
--- what passes is kept, at some place
-Placed : List (ℕ × ℕ) → ℕ × ℕ → Type 0
-Placed xs y = (j : ℕ) × (j < length xs) × (get_or xs j (0, 0) ≡ y)
-
-here : (b : Bool) (x : ℕ × ℕ) (us : List (ℕ × ℕ)) → b ≡ true → Placed (cond b (x ∷ us) us) x
-unfolding Placed
-here true x us is = (0, omega arith, refl)
-here false x us is = absurd (false≢true is)
-
-later : (b : Bool) (x y : ℕ × ℕ) (us : List (ℕ × ℕ)) → Placed us y → Placed (cond b (x ∷ us) us) y
-unfolding Placed
-later true x y us r = (suc r.0, omega (arith, r.1), r.2)
-later false x y us r = r
-
-placed : (p : ℕ × ℕ → Bool) (xs : List (ℕ × ℕ)) (k : ℕ) → k < length xs → p (get_or xs k (0, 0)) ≡ true → Placed (filter p xs) (get_or xs k (0, 0))
-placed p [] k within is = absurd (omega (arith, within))
-placed p (x ∷ xs) zero within is = here (p x) x (filter p xs) is
-placed p (x ∷ xs) (suc k) within is = later (p x) x (get_or xs k (0, 0)) (filter p xs) (placed p xs k (omega (arith, within)) is)
-
-negated : (b : Bool) → b ≡ false → not b ≡ true
-negated true is = absurd (false≢true (sym is))
-negated false is = refl
-
 or_cases : (a b : Bool) → (a || b) ≡ true → (a ≡ true) ⊎ (b ≡ true)
 or_cases true b is = inl refl
 or_cases false b is = inr is
@@ -409,10 +250,9 @@ or_cases false b is = inr is
 some_is : (o : Option ℕ) (y : ℕ) → o ≡ Some y → IsSome o
 some_is o y is = ap is_some is
 
-new_named : (w : List ℕ) (es changes : List (ℕ × ℕ)) (c : ℕ × ℕ) → Placed changes c → IsSome (old_value (es ++ map (entry_of w) changes) c.0)
-unfolding Placed
-new_named w es changes c r = subst (λ (b : ℕ). IsSome (old_value (es ++ map (entry_of w) changes) b)) (ap (λ (d : ℕ × ℕ). d.0) r.2)
-    (named_new w es changes r.0 r.1)
+new_named : (w : List ℕ) (es changes : List (ℕ × ℕ)) (c : ℕ × ℕ) → Contains changes c → IsSome (old_value (es ++ map (entry_of w) changes) c.0)
+new_named w es changes c r = subst (λ (b : ℕ). IsSome (old_value (es ++ map (entry_of w) changes) b))
+    (ap (λ (d : ℕ × ℕ). d.0) (get_or_default changes r.0 (0, 0) c r.1 ∙ r.2)) (named_new w es changes r.0 r.1)
 
 is_taken_back_one : (w : List ℕ) (es changes : List (ℕ × ℕ)) (born k : ℕ) → k < length changes →
     IsSome (old_value (es ++ map (entry_of w) (needing (map (λ (e : ℕ × ℕ). e.0) es) born changes)) (target changes k)) ⊎ (born ≤ target changes k)
@@ -425,7 +265,8 @@ is_taken_back_one w es changes born k within =
         | inr high ↦ inr (leb-true born a high)
       ]
       | inr needs ↦ inl (new_named w es (needing touched born changes) (get_or changes k (0, 0))
-          (placed (λ c. not (is_taken_back touched born c.0)) changes k within (negated (is_taken_back touched born a) needs)))
+          (contains_filter (λ c. not (is_taken_back touched born c.0)) changes k (get_or changes k (0, 0)) within
+          (get_or_default changes k (get_or changes k (0, 0)) (0, 0) within) (true-not (is_taken_back touched born a) needs)))
     ]
 
 pub all_go_back : (w u : List ℕ) (born : ℕ) (changes : List (ℕ × ℕ)) → entries u ≡ entries w ++ map (entry_of w) (needing (touched_of w) born changes)
@@ -439,7 +280,7 @@ all_go_back w u born changes is k within =
 
 pub record Through (w : List ℕ) (a x : ℕ) (v : List ℕ) : Type 0 where
   pub stays : KeepsTransaction w v
-  pub entries : KeepsEntries w v
+  pub entries : entries v ≡ entries w
   pub plain : plain_of v ≡ set (plain_of w) a x
 
 abbrev SameLive : List ℕ → List ℕ → Type 0
@@ -450,34 +291,23 @@ same_live true p a x high = (refl, refl)
 same_live false p a x high =
     let h = high refl in (live_words-set p a x h.0 h.1, get_or-set_other p a top_address x 0 (λ same. absurd (omega (arith, h.1, same))))
 
-through_at : (w : List ℕ) (a x born : ℕ) → IsGoodLog w → IsPlace (limit_of w) a → top_of (recovered_of w) ≤ born → log_end ≤ born
-    → IsSome (old_value (entries w) a) ⊎ (born ≤ a) → Through w a x (set w a x)
+pub through : (w : List ℕ) (a x born : ℕ) → IsGoodLog w → IsPlace (limit_of w) a → IsFreeFrom w born → IsSome (old_value (entries w) a) ⊎ (born ≤ a) → Through w a x (set w a x)
 unfolding touched_of
-through_at w a x born good place top low back =
+through w a x born good place free back =
     let read = place_spot w a good place in
     let named : Bool = list_any (λ b. b == a) (touched_of w) in
     let high : named ≡ false → (top_of (recovered_of w) ≤ a) × (log_end ≤ a) = λ unnamed. ⊎_elim
     (λ some. absurd (false≢true (sym (ap is_some (unlisted (entries w) a unnamed)) ∙ some)))
-    (λ le. (omega (arith, top, le), omega (arith, low, le)))
+    (λ le. let above = free a le place.below in (omega (arith, above), omega (arith, above)))
     back in
     let is : recovered_of (set w a x) ≡ (if named then recovered_of w else set (recovered_of w) a x) = recovered-set_place w a x good read in
     let both : SameLive (recovered_of w) (recovered_of (set w a x)) = subst (λ (r : List ℕ). SameLive (recovered_of w) r) (sym is)
     (same_live named (recovered_of w) a x high) in
     record {
       stays = record { good = IsGoodLog-set_place w a x good read; size = length-set w a x; log = log-set w a x read; live = both.0; top = both.1 };
-      entries = record {
-        entries = entries-set_place w a x good read;
-        count = count-set_place w a x read;
-        addresses = λ k few. get_or-set_other w a ((log_of w).start + 2 * k) x 0
-            (λ same. let far = read.beside (omega (arith, same)) in absurd (omega (arith, few, far, same)));
-      };
+      entries = entries-set_place w a x good read;
       plain = plain-set_place w a x good read;
     }
-
-pub through : (w v : List ℕ) (a x born : ℕ) → IsGoodLog w → IsPlace (limit_of w) a → top_of (recovered_of w) ≤ born → log_end ≤ born
-    → IsSome (old_value (entries w) a) ⊎ (born ≤ a) → v ≡ set w a x → Through w a x v
-through w v a x born good place top low back written =
-    subst (λ (u : List ℕ). Through w a x u) (sym written) (through_at w a x born good place top low back)
 
 -- ---- a state and its words
 
@@ -488,6 +318,13 @@ mapped_step false c us = refl
 pub mapped_filter : (q : ℕ → Bool) (cs : List (ℕ × ℕ)) → addresses_of (filter (λ c. q c.0) cs) ≡ filter q (addresses_of cs)
 mapped_filter q [] = refl
 mapped_filter q (c ∷ cs) = mapped_step (q c.0) c (filter (λ d. q d.0) cs) ∙ ap (λ (l : List ℕ). cond (q c.0) (c.0 ∷ l) l) (mapped_filter q cs)
+
+-- what goes back, by the index and the births of an open transaction
+pub back_by : {w numbers : List ℕ} {d t : Bool} {l : Log} {born n p : ℕ} {r : Refusals} {s : State} → IsSound w d t l born numbers → state_of w t d p r ≡ s
+    → s.down ≡ false → t ≡ true → n ≡ count_of w → (a : ℕ) → is_taken_back (named_by l w n) born a ≡ is_taken_back s.touched (born_of s.recovered) a
+back_by {w = w} {l = l} sound v up inside is a =
+    (λ i. is_taken_back (ap (named_by l w) is i) (sound.births inside (ap (λ (s : State). s.down) v ∙ up) i) a)
+    ∙ (λ i. is_taken_back (names_touched l w sound.stands i) (born_of (recovered_of w)) a) ∙ ap (λ (s : State). is_taken_back s.touched (born_of s.recovered) a) v
 
 -- the addresses of what needs an entry are those that a state adds
 pub needing_is : (w : List ℕ) (s : State) (born : ℕ) (changes : List (ℕ × ℕ)) → touched_of w ≡ s.touched → recovered_of w ≡ s.recovered → born
@@ -504,34 +341,6 @@ pub length-needing : (w : List ℕ) (s : State) (born : ℕ) (changes : List (�
 length-needing w s born changes touched recovered is =
     sym (length-map (needing (touched_of w) born changes) (λ (c : ℕ × ℕ). c.0)) ∙ ap (λ (l : List ℕ). length l)
     (needing_is w s born changes touched recovered is)
-
--- a word that may be read, and is not the top, is written: births and the index stay
-pub births_kept : (w : List ℕ) (a x born : ℕ) → IsGoodLog w → Spot w a → (a ≡ top_address → ⊥) → born ≡ born_of (recovered_of w) → born
-    ≡ born_of (recovered_of (set w a x))
-births_kept w a x born good read other is =
-    is ∙ sym (ap (λ (t : ℕ). max addresses_start t) (ap top_of (recovered-set_place w a x good read)
-    ∙ top_kept (list_any (λ b. b == a) (touched_of w)) (recovered_of w)))
-  where
-    top_kept : (b : Bool) (p : List ℕ) → top_of (if b then p else set p a x) ≡ top_of p
-    top_kept true p = refl
-    top_kept false p = get_or-set_other p a top_address x 0 (λ same. other (sym same))
-
-pub index_written : (w : List ℕ) (a x : ℕ) (numbers : List ℕ) → IsGoodLog w → Spot w a → IsIndexOf (log_of w) w (count_of w) numbers
-    → IsIndexOf (log_of (set w a x)) (set w a x) (count_of (set w a x)) numbers
-index_written w a x numbers good read index =
-    subst (λ (l : Log). IsIndexOf l (set w a x) (count_of (set w a x)) numbers) (sym (log-set w a x read))
-    (subst (λ (n : ℕ). IsIndexOf (log_of w) (set w a x) n numbers) (sym (count-set_place w a x read))
-    (IsIndexOf-same (log_of w) w (set w a x) (count_of w) numbers (λ k below. get_or-set_other w a ((log_of w).start + 2 * k) x 0
-    (λ same. let few = good.few in let far = read.beside (omega (arith, same)) in absurd (omega (arith, below, far, few, same)))) index))
-
--- with no entry there is nothing in the index
-pub index_none : (l : Log) (w : List ℕ) (n : ℕ) (numbers : List ℕ) → n ≡ 0 → numbers ≡ [] → IsIndexOf l w n numbers
-index_none l w n numbers none empty = subst (λ (ns : List ℕ). IsIndexOf l w n ns) (sym empty) (record {
-  long = sym none;
-  counted = λ i within. absurd (omega (arith, within));
-  rising = λ i j less within. absurd (omega (arith, within));
-  all = λ k below. absurd (omega (arith, below, none));
-})
 
 -- the entries are part of it
 pub most_kept : (n m : ℕ) → 2 * m ≤ writes_inside n m

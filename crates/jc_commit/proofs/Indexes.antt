@@ -1,6 +1,7 @@
 -- The index of entries: what is found in it, and one entry more.
-use Rattle.std.proofs.Common.{◌≡◌, ℕ, ◌+◌, ◌-◌, ◌<◌, ◌≤◌, ◌==◌, true, false, List, length, get_or, slice_index, is_ok, MatchResult, sym, ◌∙◌, ap, arith}
-use Rattle.std.proofs.Common.{Result, Ok, Err, inl, inr, insert, eq-eqb, ne_eqb}
+use Rattle.std.proofs.Common.{◌≡◌, ℕ, ◌+◌, ◌-◌, ◌<◌, ◌≤◌, ◌==◌, ◌++◌, true, false, List, [], length, get_or, slice_index, is_ok, MatchResult, sym, subst, ◌∙◌, ap, arith}
+use Rattle.std.proofs.Common.{Result, Ok, Err, inl, inr, insert, eq-eqb, ne_eqb, length-append}
+use Rattle.std.proofs.lemmas.List.{get_or_append_left}
 use Rattle.std.specs.List.{list_any}
 use Rattle.std.proofs.lemmas.Bool.{cases_eq, cases_lt}
 use Rattle.std.proofs.lemmas.List.Edits.{length-insert, get_or-insert_below, get_or-insert_at, get_or-insert_above}
@@ -8,6 +9,7 @@ use Rattle.std.proofs.lemmas.List.Folds.{list_any_none, list_any_at}
 use Rattle.std.proofs.lemmas.List.FromFn.{length-map-range_with_len, get_or-map-range_with_len}
 use Rattle.jc_commit.specs.Image.{address_at}
 use Rattle.jc_words.specs.declared.log.Log.{Log}
+use Rattle.jc_commit.specs.Entries.{AreDistinct}
 use Rattle.jc_commit.specs.EntryIndex.{named_by, IsIndexOf, StandsAt, IsGapFor}
 
 pub length-named_by : (l : Log) (w : List ℕ) (n : ℕ) → length (named_by l w n) ≡ n
@@ -58,6 +60,56 @@ IsIndexOf-same l w v n numbers same index = record {
       omega (arith, r, a, b);
   all = index.all;
 }
+
+-- and of words whose entries name more
+pub index_later : (l : Log) (w u : List ℕ) (n m : ℕ) (numbers more : List ℕ) → named_by l u m ≡ named_by l w n ++ more → IsIndexOf l w n numbers → IsIndexOf l u n numbers
+index_later l w u n m numbers more names index =
+    let long : m ≡ n + length more = sym (length-named_by l u m) ∙ ap (λ (xs : List ℕ). length xs) names ∙ length-append (named_by l w n) more
+    ∙ ap (λ (k : ℕ). k + length more) (length-named_by l w n) in
+    IsIndexOf-same l w u n numbers (λ k below. sym (get_or-named_by l u m k 0 (omega (arith, below, long))) ∙ ap (λ (xs : List ℕ). get_or xs k 0) names
+    ∙ get_or_append_left (named_by l w n) more 0 k (omega (arith, below, length-named_by l w n)) ∙ get_or-named_by l w n k 0 below) index
+
+-- what an index is of are different words
+pub index_distinct : (l : Log) (w : List ℕ) (n : ℕ) (numbers : List ℕ) → IsIndexOf l w n numbers → AreDistinct (named_by l w n)
+index_distinct l w n numbers index i j d less within same =
+    let below : j < n = omega (arith, within, length-named_by l w n) in
+    let x = index.all i (omega (arith, less, below)) in
+    let y = index.all j below in
+    let addresses : address_at l w (slice_index numbers x.0) ≡ address_at l w (slice_index numbers y.0) =
+    ap (address_at l w) x.2 ∙ sym (get_or-named_by l w n i d (omega (arith, less, below))) ∙ same ∙ get_or-named_by l w n j d below ∙ sym (ap (address_at l w) y.2) in
+    elim (cases_lt x.0 y.0) [
+      | inl before ↦ let r = index.rising x.0 y.0 before y.1 in omega (arith, r, addresses)
+      | inr behind ↦ elim (cases_eq x.0 y.0) [
+        | inl here ↦ let at = ap (slice_index numbers) here in omega (arith, at, x.2, y.2, less)
+        | inr other ↦ let r = index.rising y.0 x.0 (omega (arith, behind, other)) x.1 in omega (arith, r, addresses)
+      ]
+    ]
+
+-- of entries that name different words, so do the first
+pub distinct_first : (l : Log) (w : List ℕ) (k n : ℕ) → k ≤ n → AreDistinct (named_by l w n) → AreDistinct (named_by l w k)
+distinct_first l w k n few distinct i j d less within same =
+    let below : j < k = omega (arith, within, length-named_by l w k) in
+    distinct i j d less (omega (arith, below, few, length-named_by l w n))
+    (get_or-named_by l w n i d (omega (arith, less, below, few)) ∙ sym (get_or-named_by l w k i d (omega (arith, less, below))) ∙ same
+    ∙ get_or-named_by l w k j d below ∙ sym (get_or-named_by l w n j d (omega (arith, below, few))))
+
+-- and none before one names its address
+pub none_stands : (l : Log) (w numbers : List ℕ) (n a i : ℕ) → IsIndexOf l w n numbers → AreDistinct (named_by l w (n + 1)) → a ≡ address_at l w n
+    → StandsAt l w numbers a i → ⊥
+none_stands l w numbers n a i index distinct is found =
+    let k : ℕ = slice_index numbers i in
+    let below : k < n = index.counted i found.within in
+    distinct k n 0 below (omega (arith, length-named_by l w (n + 1)))
+    (get_or-named_by l w (n + 1) k 0 (omega (arith, below)) ∙ found.names ∙ is ∙ sym (get_or-named_by l w (n + 1) n 0 (omega arith)))
+
+-- with no entry there is nothing in the index
+pub index_none : (l : Log) (w : List ℕ) (n : ℕ) (numbers : List ℕ) → n ≡ 0 → numbers ≡ [] → IsIndexOf l w n numbers
+index_none l w n numbers none empty = subst (λ (ns : List ℕ). IsIndexOf l w n ns) (sym empty) (record {
+  long = sym none;
+  counted = λ i within. absurd (omega (arith, within));
+  rising = λ i j less within. absurd (omega (arith, within));
+  all = λ k below. absurd (omega (arith, below, none));
+})
 
 -- one entry more, in its gap
 module _ (l : Log) (w numbers : List ℕ) (n i : ℕ) (index : IsIndexOf l w n numbers) (gap : IsGapFor l w numbers (address_at l w n) i) where

@@ -5,7 +5,7 @@ pub mod Counted
 pub mod Views
 pub mod InPlace
 pub mod Refusals
-pub mod Outside
+pub mod Changing
 pub mod TornWrites
 pub mod Parts
 pub mod Indexes

@@ -4,7 +4,7 @@ use Rattle.std.specs.List.{range_with_len}
 use Rattle.std.proofs.Common.{◌≡◌, ◌≢◌, ◌<◌, ◌≤◌, ℕ, zero, suc, ◌+◌, ◌*◌, List, [], ◌∷◌, Option, length, map, take, set, slice_index, refl, sym, ap, ◌∙◌, subst}
 use Rattle.std.proofs.Common.{arith, inl, inr, unwrap_or, get_or-set_other, get_or-set_same, eq-eqb}
 use Rattle.std.proofs.lemmas.List.{length-set}
-use Rattle.std.proofs.lemmas.Bool.{cases_Bool, eqb-true, ne_eqb, false≢true}
+use Rattle.std.proofs.lemmas.Bool.{cases_Bool, eqb-true, false≢true}
 use Rattle.jc_words.specs.Layout.{first_version, version, version_address, size_address, count_address, capacity_address, journal_address, front_capacity}
 use Rattle.jc_words.specs.Layout.{log_start}
 use Rattle.jc_words.specs.Image.{log_of, heap_end, IsVersion}
@@ -257,10 +257,3 @@ version-migrated w good = elim (cases_Bool (slice_index w version_address == fir
       ∙ (let known = good.known in let ne : slice_index w version_address ≢ first_version = λ e. false≢true (sym other ∙ eq-eqb (slice_index w version_address) first_version e) in
       omega (arith, known.0, known.1, ne))
 ]
-
--- how many there are
-pub all_steps : (w : List ℕ) → slice_index w version_address ≡ first_version → length (migration w) ≡ 3
-all_steps w first = ap (λ (b : Bool). length (steps b)) (eq-eqb (slice_index w version_address) first_version first)
-
-pub no_steps : (w : List ℕ) → (slice_index w version_address ≡ first_version → ⊥) → length (migration w) ≡ 0
-no_steps w other = ap (λ (b : Bool). length (steps b)) (ne_eqb (slice_index w version_address) first_version other)

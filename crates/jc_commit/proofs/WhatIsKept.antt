@@ -9,6 +9,7 @@ use Rattle.std.proofs.lemmas.List.{length-append}
 use Rattle.std.proofs.lemmas.List.Elements.{filter-append, All-head, All-tail}
 use Rattle.std.proofs.lemmas.List.Folds.{list_any-append, list_any_at}
 use Rattle.std.proofs.lemmas.List.Quantifiers.{all_pairs_push}
+use Rattle.std.proofs.lemmas.Map.Views.{Contains-from_any}
 use Rattle.jc_commit.specs.Entries.{AreDistinct}
 use Rattle.jc_commit.specs.Keeping.{Keeping, goes_back, unlogged_addresses, with_kept, has_room_for, KeepsOldValues}
 
@@ -30,10 +31,6 @@ or_both : (a b b' : Bool) → (b ≡ true → b' ≡ true) → (a || b) ≡ true
 or_both true b b' more e = refl
 or_both false b b' more e = more e
 
-or_rest : (a b : Bool) → a ≡ false → (a || b) ≡ true → b ≡ true
-or_rest true b is e = absurd (false≢true (sym is))
-or_rest false b is e = e
-
 and-second : (a b b' : Bool) → (b ≡ true → b' ≡ true) → (a && b) ≡ true → (a && b') ≡ true
 and-second true b b' more e = more e
 and-second false b b' more e = absurd (false≢true e)
@@ -42,30 +39,25 @@ not-true : (b : Bool) → not b ≡ true → b ≡ false
 not-true true e = absurd (false≢true e)
 not-true false e = refl
 
-true-not : (b : Bool) → b ≡ false → not b ≡ true
+pub true-not : (b : Bool) → b ≡ false → not b ≡ true
 true-not true e = absurd (false≢true (sym e))
 true-not false e = refl
 
 -- ---- of a filter
 
-Placed : List ℕ → ℕ → Type 0
-Placed xs y = (j : ℕ) × (j < length xs) × (get_or xs j y ≡ y)
-
-here : (b : Bool) (x : ℕ) (us : List ℕ) → b ≡ true → Placed (cond b (x ∷ us) us) x
-unfolding Placed
+here : {X : Type 0} (b : Bool) (x : X) (us : List X) → b ≡ true → Contains (cond b (x ∷ us) us) x
 here true x us is = (0, omega arith, refl)
 here false x us is = absurd (false≢true is)
 
-later : (b : Bool) (x y : ℕ) (us : List ℕ) → Placed us y → Placed (cond b (x ∷ us) us) y
-unfolding Placed
+later : {X : Type 0} (b : Bool) (x y : X) (us : List X) → Contains us y → Contains (cond b (x ∷ us) us) y
 later true x y us r = (suc r.0, omega (arith, r.1), r.2)
 later false x y us r = r
 
-placed : (p : ℕ → Bool) (xs : List ℕ) (k a : ℕ) → k < length xs → get_or xs k a ≡ a → p a ≡ true → Placed (filter p xs) a
-placed p [] k a within is passes = absurd (omega (arith, within))
-placed p (x ∷ xs) zero a within is passes = subst (λ (y : ℕ). Placed (filter p (x ∷ xs)) y) is
-    (here (p x) x (filter p xs) (subst (λ (y : ℕ). p y ≡ true) (sym is) passes))
-placed p (x ∷ xs) (suc k) a within is passes = later (p x) x a (filter p xs) (placed p xs k a (omega (arith, within)) is passes)
+pub contains_filter : {X : Type 0} (p : X → Bool) (xs : List X) (k : ℕ) (y : X) → k < length xs → get_or xs k y ≡ y → p y ≡ true → Contains (filter p xs) y
+contains_filter p [] k y within is passes = absurd (omega (arith, within))
+contains_filter p (x ∷ xs) zero y within is passes = subst (Contains (filter p (x ∷ xs))) is
+    (here (p x) x (filter p xs) (subst (λ z. p z ≡ true) (sym is) passes))
+contains_filter p (x ∷ xs) (suc k) y within is passes = later (p x) x y (filter p xs) (contains_filter p xs k y (omega (arith, within)) is passes)
 
 less_step : (b c : Bool) (x : ℕ) (us vs : List ℕ) → (b ≡ true → c ≡ true) → length us ≤ length vs → length (cond b (x ∷ us) us) ≤ length (cond c (x ∷ vs) vs)
 less_step true true x us vs both le = omega (arith, le)
@@ -87,11 +79,11 @@ filter_none p (x ∷ xs) all = none_step (p x) x (filter p xs) (All-head (λ y. 
 
 -- ---- the laws
 
-outside-added : (k : Keeping) (xs : List ℕ) → k.begun ≡ false → unlogged_addresses k xs ≡ []
+pub outside-added : (k : Keeping) (xs : List ℕ) → k.begun ≡ false → unlogged_addresses k xs ≡ []
 unfolding unlogged_addresses
 outside-added k xs e = ap (λ (b : Bool). if b then filter (λ a. not (goes_back k a)) xs else []) e
 
-outside-back : (k : Keeping) (a : ℕ) → k.begun ≡ false → goes_back k a ≡ false
+pub outside-back : (k : Keeping) (a : ℕ) → k.begun ≡ false → goes_back k a ≡ false
 unfolding goes_back
 outside-back k a e = ap (λ (b : Bool). b && (list_any (λ x. x == a) k.touched || nat_le k.born a)) e
 
@@ -105,8 +97,8 @@ stays k xs a back =
     and-second k.begun _ _ (or-either (list_any (λ x. x == a) k.touched) _ (nat_le k.born a)
     (λ e. list_any-append (λ x. x == a) k.touched (unlogged_addresses k xs) ∙ or-first (list_any (λ x. x == a) k.touched) _ e)) back
 
-named : (k : Keeping) (xs : List ℕ) (a : ℕ) → k.begun ≡ true → Placed (unlogged_addresses k xs) a → goes_back (with_kept k xs) a ≡ true
-unfolding goes_back Placed
+named : (k : Keeping) (xs : List ℕ) (a : ℕ) → k.begun ≡ true → Contains (unlogged_addresses k xs) a → goes_back (with_kept k xs) a ≡ true
+unfolding goes_back
 named k xs a begun r =
     ap (λ (b : Bool). b && (list_any (λ x. x == a) (k.touched ++ unlogged_addresses k xs) || nat_le k.born a)) begun
     ∙ or-first (list_any (λ x. x == a) (k.touched ++ unlogged_addresses k xs)) _
@@ -116,18 +108,18 @@ named k xs a begun r =
 each : (k : Keeping) (xs : List ℕ) (a : ℕ) → k.begun ≡ true → Contains xs a → goes_back (with_kept k xs) a ≡ true
 each k xs a begun there = elim (cases_Bool (goes_back k a)) [
   | inl back ↦ stays k xs a back
-  | inr needs ↦ named k xs a begun (subst (λ (l : List ℕ). Placed l a) (sym (inside-added k xs begun))
-      (placed (λ x. not (goes_back k x)) xs there.0 a there.1 there.2 (true-not (goes_back k a) needs)))
+  | inr needs ↦ named k xs a begun (subst (λ (l : List ℕ). Contains l a) (sym (inside-added k xs begun))
+      (contains_filter (λ x. not (goes_back k x)) xs there.0 a there.1 there.2 (true-not (goes_back k a) needs)))
 ]
 
 free : (k : Keeping) (xs : List ℕ) → k.begun ≡ true → All (λ a. goes_back k a ≡ true) xs → unlogged_addresses k xs ≡ []
 free k xs begun all = inside-added k xs begun ∙ filter_none (λ a. not (goes_back k a)) xs (λ i d within. ap not (all i d within))
 
-room-inside : (k : Keeping) (xs : List ℕ) → k.begun ≡ true → has_room_for k xs ≡ nat_le (length k.touched + length (unlogged_addresses k xs)) k.capacity
+pub room-inside : (k : Keeping) (xs : List ℕ) → k.begun ≡ true → has_room_for k xs ≡ nat_le (length k.touched + length (unlogged_addresses k xs)) k.capacity
 unfolding has_room_for
 room-inside k xs e = ap (λ (b : Bool). if b then nat_le (length k.touched + length (unlogged_addresses k xs)) k.capacity else nat_le (length xs) k.capacity) e
 
-room-outside : (k : Keeping) (xs : List ℕ) → k.begun ≡ false → has_room_for k xs ≡ nat_le (length xs) k.capacity
+pub room-outside : (k : Keeping) (xs : List ℕ) → k.begun ≡ false → has_room_for k xs ≡ nat_le (length xs) k.capacity
 unfolding has_room_for
 room-outside k xs e = ap (λ (b : Bool). if b then nat_le (length k.touched + length (unlogged_addresses k xs)) k.capacity else nat_le (length xs) k.capacity) e
 
@@ -202,21 +194,6 @@ any_filter : (p : ℕ → Bool) (xs : List ℕ) (a : ℕ) → list_any (λ y. y 
 any_filter p [] a is = is
 any_filter p (x ∷ xs) a is = any_step (p x) a x (filter p xs) xs (any_filter p xs a) is
 
-there_first : (x a : ℕ) (xs : List ℕ) → (x == a) ≡ true → Placed (x ∷ xs) a
-unfolding Placed
-there_first x a xs is = (0, omega arith, eqb-true x a is)
-
-there_later : (x a : ℕ) (xs : List ℕ) → Placed xs a → Placed (x ∷ xs) a
-unfolding Placed
-there_later x a xs r = (suc r.0, omega (arith, r.1), r.2)
-
-any_there : (xs : List ℕ) (a : ℕ) → list_any (λ y. y == a) xs ≡ true → Placed xs a
-any_there [] a is = absurd (false≢true is)
-any_there (x ∷ xs) a is = elim (cases_Bool (x == a)) [
-  | inl same ↦ there_first x a xs same
-  | inr other ↦ there_later x a xs (any_there xs a (or_rest (x == a) (list_any (λ y. y == a) xs) other is))
-]
-
 -- what goes back then, and did not before, is among what the change adds
 added_any : (begun x y b : Bool) → (begun && ((x || y) || b)) ≡ true → (begun && (x || b)) ≡ false → y ≡ true
 added_any true true y b is not_before = absurd (false≢true (sym not_before))
@@ -238,10 +215,9 @@ new_back k xs a is before =
     (ap (λ (t : Bool). k.begun && (t || nat_le k.born a)) (sym (list_any-append (λ y. y == a) k.touched (unlogged_addresses k xs))) ∙ is) before
 
 only : (k : Keeping) (xs : List ℕ) (a : ℕ) → goes_back (with_kept k xs) a ≡ true → (goes_back k a ≡ true) ⊎ Contains xs a
-unfolding Placed
 only k xs a is = elim (cases_Bool (goes_back k a)) [
   | inl back ↦ inl back
-  | inr new ↦ inr (any_there xs a (added_there k xs a (new_back k xs a is new)))
+  | inr new ↦ inr (Contains-from_any {eq = λ x y. y == x} (λ x y same. sym (eqb-true y x same)) a xs (added_there k xs a (new_back k xs a is new)))
 ]
 
 -- ---- each is kept once

@@ -1,13 +1,10 @@
 -- Writes, one after the other.
 use Rattle.std.specs.Prelude.{◌<◌, ◌≤◌, Bool, true, false, Result, Ok, Err, is_ok, IsErr}
-use Rattle.std.proofs.Common.{◌≡◌, ℕ, zero, suc, ◌+◌, List, refl, sym, ap, subst, ◌∙◌, arith}
+use Rattle.std.proofs.Common.{◌≡◌, ℕ, zero, suc, ◌+◌, List, refl, sym, ap, ◌∙◌, arith}
 use Rattle.std.proofs.lemmas.Bool.{false≢true}
 use Rattle.jc_words.specs.Count.{saturating_count}
 use Rattle.jc_words.specs.Refusals.{Refusals, refused_once}
-use Rattle.jc_words.specs.Image.{log_of}
-use Rattle.jc_words.specs.declared.log.Log.{Log}
-use Rattle.jc_commit.specs.Image.{address_at}
-use Rattle.jc_commit.specs.Writing.{Wrote, KeepsJournal, KeepsTransaction, KeepsEntries}
+use Rattle.jc_commit.specs.Writing.{Wrote, KeepsJournal, KeepsTransaction}
 
 -- none
 pub no_write : {S : Type 0} {d : S → Bool} {p : S → ℕ} {r : S → Refusals} (x : S) → Wrote d p r 0 true x x
@@ -83,11 +80,4 @@ stays_more first second = record {
   log = second.log ∙ first.log;
   live = second.live ∙ first.live;
   top = second.top ∙ first.top;
-}
-
-pub entries_more : {u v w : List ℕ} → log_of v ≡ log_of u → KeepsEntries u v → KeepsEntries v w → KeepsEntries u w
-entries_more {u = u} {v = v} {w = w} log first second = record {
-  entries = second.entries ∙ first.entries;
-  count = second.count ∙ first.count;
-  addresses = λ k few. subst (λ (l : Log). k < l.capacity → address_at l w k ≡ address_at l v k) log (second.addresses k) few ∙ first.addresses k few;
 }

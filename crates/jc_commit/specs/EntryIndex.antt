@@ -1,4 +1,4 @@
--- The entries that a change in a transaction writes, and their index.
+-- The entries that a change writes, and their index.
 use Rattle.std.specs.Prelude.{◌≡◌, ℕ, ◌+◌, ◌*◌, ◌<◌, ◌≤◌, not, List, [], ◌∷◌, length, map, filter, slice_index, slice_index_or, slice_set, IsSome, ◌⊎◌}
 use Rattle.std.specs.List.{range_with_len}
 use Rattle.jc_commit.specs.Image.{address_at, entries, old_value}
@@ -42,7 +42,3 @@ with_entries l w k (change ∷ changes) = with_entries l (slice_set (slice_set w
 abbrev pub GoBack : List ℕ → ℕ → List (ℕ × ℕ) → Type 0
 GoBack w born changes = (k : ℕ) → k < length changes → IsSome (old_value (entries w) (slice_index_or changes k (0, 0)).0) ⊎
     (born ≤ (slice_index_or changes k (0, 0)).0)
-
--- each entry names the address that it named
-abbrev pub KeepsAddresses : Log → List ℕ → List ℕ → Type 0
-KeepsAddresses l old new = (k : ℕ) → k < l.capacity → address_at l new k ≡ address_at l old k

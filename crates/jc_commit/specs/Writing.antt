@@ -1,13 +1,13 @@
 -- What writing did to a store, and what it left of the journal.
-use Rattle.std.specs.Prelude.{◌≡◌, ◌<◌, ◌≤◌, ℕ, ◌+◌, ◌*◌, ◌^◌, Bool, true, false, List, ◌++◌, length, slice_index, if◌then◌else◌, MatchBool}
+use Rattle.std.specs.Prelude.{◌≡◌, ◌<◌, ◌≤◌, ℕ, ◌+◌, ◌*◌, ◌^◌, Bool, true, false, List, ◌++◌, length, max, slice_index, if◌then◌else◌, MatchBool}
 use Rattle.jc_words.specs.Count.{saturating_count}
 use Rattle.jc_words.specs.Refusals.{Refusals, refused_once}
-use Rattle.jc_words.specs.Layout.{most_capacity, version, version_address}
+use Rattle.jc_words.specs.Layout.{version, version_address, log_end}
 use Rattle.jc_words.specs.Image.{log_of}
 use Rattle.jc_words.specs.declared.log.Log.{Log}
-use Rattle.jc_commit.specs.Image.{plain_of, recovered_of, touched_of, count_of, top_of, entries, with_words, IsGoodLog}
+use Rattle.jc_commit.specs.Image.{plain_of, recovered_of, touched_of, count_of, limit_of, top_of, with_words, IsGoodLog}
 use Rattle.jc_commit.specs.Entries.{addresses_of}
-use Rattle.jc_commit.specs.EntryIndex.{needing, with_entries, IsIndexOf, KeepsAddresses}
+use Rattle.jc_commit.specs.EntryIndex.{needing, with_entries, IsIndexOf}
 use Rattle.jc_commit.specs.Migration.{migrated}
 use Rattle.jc_commit.specs.State.{State, live_words, IsShort}
 
@@ -32,7 +32,6 @@ pub record HasLog (log : Log) (w : List ℕ) : Type 0 where
 pub record IsIndexed (log : Log) (w : List ℕ) (n : ℕ) (numbers : List ℕ) : Type 0 where
   pub size : log.start + 2 * log.capacity ≤ length w
   pub small : log.start + 2 * log.capacity < 2 ^ 16
-  pub most : log.capacity ≤ most_capacity
   pub few : n ≤ log.capacity
   pub index : IsIndexOf log w n numbers
 
@@ -51,21 +50,18 @@ pub record KeepsTransaction (old new : List ℕ) : Type 0 where
   pub live : live_words (recovered_of new) ≡ live_words (recovered_of old)
   pub top : top_of (recovered_of new) ≡ top_of (recovered_of old)
 
--- the entries that count stay, and each entry names the address that it named
-pub record KeepsEntries (old new : List ℕ) : Type 0 where
-  pub entries : entries new ≡ entries old
-  pub count : count_of new ≡ count_of old
-  pub addresses : KeepsAddresses (log_of old) old new
+-- no word from this address on has a meaning in what a recovery leaves: it lies above the top
+abbrev pub IsFreeFrom : List ℕ → ℕ → Type 0
+IsFreeFrom w born = (a : ℕ) → born ≤ a → a < limit_of w → max log_end (top_of (recovered_of w)) ≤ a
 
--- entries of these words are written after the first k ones, and n are there then, whose index these numbers are
-pub record ArePut (log : Log) (k : ℕ) (changes : List (ℕ × ℕ)) (old new : List ℕ) (n : ℕ) (numbers : List ℕ) : Type 0 where
+-- entries of these words are written after the first k ones, and n are there then
+pub record ArePut (log : Log) (k : ℕ) (changes : List (ℕ × ℕ)) (old new : List ℕ) (n : ℕ) : Type 0 where
   pub next : n ≡ k + length changes
   pub words : new ≡ with_entries log old k changes
-  pub index : IsIndexOf log new n numbers
 
--- these words are written in a transaction, entries keep the old values that had to be kept, and these numbers are their index
-pub record ChangesInside (log : Log) (born : ℕ) (changes : List (ℕ × ℕ)) (old new numbers : List ℕ) : Type 0 where
-  pub index : IsIndexOf log new (count_of new) numbers
+-- these words are written, entries keep the old values that had to be kept, and n count then
+pub record ChangesInside (born : ℕ) (changes : List (ℕ × ℕ)) (old new : List ℕ) (n : ℕ) : Type 0 where
+  pub count : count_of new ≡ n
   pub plain : plain_of new ≡ with_words (plain_of old) changes
   pub touched : touched_of new ≡ touched_of old ++ addresses_of (needing (touched_of old) born changes)
 

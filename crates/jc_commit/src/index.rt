@@ -1,7 +1,10 @@
 //! The entries that count, in the order of the addresses that they name.
 ghost use Rattle.std.specs.Prelude.{◌≡◌, ◌<◌, ◌≤◌, ◌+◌, ◌*◌, ◌^◌, ◌==◌, length, IfSome, MatchResult};
 ghost use Rattle.std.specs.List.{list_any};
+ghost use Rattle.jc_words.specs.Layout.{most_capacity};
+ghost use Rattle.jc_commit.specs.Entries.{AreDistinct};
 ghost use Rattle.jc_commit.specs.EntryIndex.{named_by, IsIndexOf, StandsAt, IsGapFor};
+ghost use Rattle.jc_commit.specs.Writing.{IsIndexed};
 
 use arrayvec::ArrayVec;
 use jc_words::layout::MOST_CAPACITY;
@@ -64,7 +67,7 @@ fn find_at_end<S: WordStore>(
 
 // Where in the index of the first n entries one stands that names the address, or where one would
 // belong.
-pub(crate) fn find<S: WordStore>(
+fn find<S: WordStore>(
     store: &S,
     log: Log,
     n: u16,
@@ -113,4 +116,42 @@ pub(crate) fn is_named<S: WordStore>(
     ensures { result ≡ list_any (λ x. x == address) (named_by log (S.words store.now) n) }
 {
     find(store, log, n, numbers, address).is_ok()
+}
+
+// Puts entry n into the index of those before it, none of which names its address.
+#[inline(always)]
+fn add_entry<S: WordStore>(store: &S, log: Log, n: u16, numbers: &mut EntryIndex)
+    requires stands { IsIndexed log (S.words store.now) n numbers.old.items }
+    requires room { n < log.capacity }
+    requires most { log.capacity ≤ most_capacity }
+    requires distinct { AreDistinct (named_by log (S.words store.now) (n + 1)) }
+    ensures { IsIndexOf log (S.words store.now) (n + 1) numbers.new.items }
+{
+    let slot = log.address_word(n);
+    let address = store.read(slot);
+    match find(store, log, n, numbers.as_slice(), address) {
+        Ok(_) => unreachable!(),
+        Err(place) => numbers.insert(place, n),
+    }
+}
+
+// Puts the entries from `first` on, of n ones, into the index of those before them.
+#[inline(always)]
+pub(crate) fn add_entries<S: WordStore>(
+    store: &S,
+    log: Log,
+    first: u16,
+    n: u16,
+    numbers: &mut EntryIndex,
+)
+    requires stands { IsIndexed log (S.words store.now) first numbers.old.items }
+    requires order { first ≤ n }
+    requires few { n ≤ log.capacity }
+    requires most { log.capacity ≤ most_capacity }
+    requires distinct { AreDistinct (named_by log (S.words store.now) n) }
+    ensures { IsIndexOf log (S.words store.now) n numbers.new.items }
+{
+    for k in first..n {
+        add_entry(store, log, k, numbers);
+    }
 }

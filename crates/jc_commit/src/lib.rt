@@ -7,7 +7,6 @@ mod index;
 mod journal;
 mod keep;
 mod keeping_law;
-mod log;
 mod migration;
 mod recovery_law;
 mod refusal;

@@ -1,84 +1,73 @@
-use Rattle.std.proofs.Common.{◌≡◌, ◌<◌, ◌≤◌, ◌+◌, ◌++◌, ℕ, List, [], ◌∷◌, length, take, take_all, get_or, sym, ap, ◌∙◌, arith}
+use Rattle.std.proofs.Common.{◌≡◌, ◌<◌, ◌≤◌, ◌+◌, ◌++◌, ℕ, List, [], ◌∷◌, length, take, take_all, get_or, sym, ap, subst, ◌∙◌, arith}
 use Rattle.std.proofs.lemmas.List.{length-append}
-use Rattle.jc_commit.specs.Entries.{addresses_of, AreDistinct}
+use Rattle.jc_words.specs.declared.log.Log.{Log}
+use Rattle.jc_commit.specs.Entries.{SameBefore, IsBeside}
 use Rattle.jc_commit.specs.EntryIndex.{named_by, needing, with_entries}
-use Rattle.jc_commit.proofs.EntryKeeping.{needing_more, needing_part, needing_still, same_more, with_entries-append, names_with}
+use Rattle.jc_commit.proofs.EntryKeeping.{needing_more, needing_part, named_by_kept, index_kept, same_more, with_entries-append}
 use Rattle.jc_commit.proofs.Writes.{no_write, more_writes, refused_later, at_err}
 use Rattle.jc_commit.proofs.keep.put_needing.Goals as goal
 
--- what needs an entry up to a change, by what needs one before it
-with_next : (t names : List ℕ) (born : ℕ) (changes : List (ℕ × ℕ)) (j : ℕ) (change : ℕ × ℕ) → j < length changes → AreDistinct (addresses_of changes)
-    → names ≡ t ++ addresses_of (needing t born (take j changes)) → change ≡ get_or changes j (0, 0)
-    → needing t born (take (j + 1) changes) ≡ needing t born (take j changes) ++ needing names born (change ∷ [])
-with_next t names born changes j change within distinct are is =
-    needing_more t born changes j within ∙ sym (ap (λ (xs : List (ℕ × ℕ)). needing t born (take j changes) ++ xs)
-    ((λ i. needing (are i) born (is i ∷ [])) ∙ needing_still t born changes j within distinct))
+-- what needs an entry up to a change, by what needs one before it and whether that one does
+record Next (t names : List ℕ) (born : ℕ) (changes : List (ℕ × ℕ)) (j : ℕ) (change : ℕ × ℕ) : Type 0 where
+  all : needing t born (take (j + 1) changes) ≡ needing t born (take j changes) ++ needing names born (change ∷ [])
+  long : length (needing t born (take (j + 1) changes)) ≡ length (needing t born (take j changes)) + length (needing names born (change ∷ []))
+  within : length (needing t born (take (j + 1) changes)) ≤ length (needing t born changes)
 
-length-next : (t names : List ℕ) (born : ℕ) (changes : List (ℕ × ℕ)) (j : ℕ) (change : ℕ × ℕ) → j < length changes → AreDistinct (addresses_of changes)
-    → names ≡ t ++ addresses_of (needing t born (take j changes)) → change ≡ get_or changes j (0, 0)
-    → length (needing t born (take (j + 1) changes)) ≡ length (needing t born (take j changes)) + length (needing names born (change ∷ []))
-length-next t names born changes j change within distinct are is =
-    ap (λ (xs : List (ℕ × ℕ)). length xs) (with_next t names born changes j change within distinct are is)
-    ∙ length-append (needing t born (take j changes)) (needing names born (change ∷ []))
-
-pub put_change-requires-clause-stands : goal.put_change-requires-clause-stands
-put_change-requires-clause-stands g c =
-    let t = named_by c.args.log (g.S.WordStore.words c.args.store.now) c.args.first in
-    let i = c.loop-i.invariant in
-    let long = i.same.0 in record {
-      size = omega (arith, long, c.requires.stands.size);
-      small = c.requires.stands.small;
-      most = c.requires.stands.most;
-      few = omega (arith, i.k, needing_part t c.args.born (g.C.WordChanges.changes c.args.changes.now) c.loop-i.i, c.requires.room);
-      index = i.index;
+next_of : {j : ℕ} {change : ℕ × ℕ} (l : Log) (w v : List ℕ) (first born : ℕ) (changes : List (ℕ × ℕ)) → SameBefore l first w v → j < length changes
+    → change ≡ get_or changes j (0, 0) → Next (named_by l w first) (named_by l v first) born changes j change
+next_of {j = j} {change = change} l w v first born changes same below is =
+    let t = named_by l w first in
+    let more : needing t born (take (j + 1) changes) ≡ needing t born (take j changes) ++ needing (named_by l v first) born (change ∷ []) =
+    needing_more t born changes j below
+    ∙ (λ i. needing t born (take j changes) ++ needing (sym (named_by_kept l w v first same) i) born (sym is i ∷ [])) in record {
+      all = more;
+      long = ap (λ (xs : List (ℕ × ℕ)). length xs) more ∙ length-append (needing t born (take j changes)) (needing (named_by l v first) born (change ∷ []));
+      within = needing_part t born changes (j + 1);
     }
 
-pub put_change-requires-clause-room : goal.put_change-requires-clause-room
-put_change-requires-clause-room g c =
-    let t = named_by c.args.log (g.S.WordStore.words c.args.store.now) c.args.first in
+pub put_change-requires : goal.put_change-requires
+put_change-requires g c =
     let changes = g.C.WordChanges.changes c.args.changes.now in
     let i = c.loop-i.invariant in
-    let more = length-next t _ c.args.born changes c.loop-i.i c.change.result (omega arith) c.requires.distinct i.names c.change.ensures in
-    omega (arith, i.k, more, needing_part t c.args.born changes (c.loop-i.i + 1), c.requires.room)
+    let long = i.same.0 in
+    let s = c.requires.stands in
+    let v = g.S.WordStore.words c.loop-i.store in
+    let next = next_of c.args.log (g.S.WordStore.words c.args.store.now) v c.args.first c.args.born changes i.same (omega arith) c.change.ensures in record {
+      stands = record {
+        size = omega (arith, long, s.size);
+        small = s.small;
+        few = s.few;
+        index = index_kept c.args.log _ _ c.args.first _ i.same s.index;
+      };
+      place = subst (λ (d : ℕ × ℕ). IsBeside c.args.log (length v) d.0) (sym c.change.ensures)
+          (subst (λ (n : ℕ). IsBeside c.args.log n (get_or changes c.loop-i.i (0, 0)).0) (sym long) (c.requires.places c.loop-i.i (omega arith)));
+      room = omega (arith, i.k, next.long, next.within, c.requires.room);
+    }
 
 pub loop-i-preserved : goal.loop-i-preserved
 loop-i-preserved g c =
-    let initial = g.S.WordStore.words c.args.store.now in
-    let w = g.S.WordStore.words c.loop-i.store in
-    let v = g.S.WordStore.words c.put_change.new.store in
+    let w = g.S.WordStore.words c.args.store.now in
     let l = c.args.log in
     let first = c.args.first in
-    let t = named_by l initial first in
     let changes = g.C.WordChanges.changes c.args.changes.now in
-    let j = c.loop-i.i in
     let i = c.loop-i.invariant in
     let e = c.in_ok-k.ensures in
-    let done = needing t c.args.born (take j changes) in
-    let all = needing t c.args.born (take (j + 1) changes) in
-    let here = needing (named_by l w c.loop-i.k) c.args.born (c.change.result ∷ []) in
-    let more = length-next t (named_by l w c.loop-i.k) c.args.born changes j c.change.result (omega arith) c.requires.distinct i.names c.change.ensures in
-    let next : c.in_ok-k.k ≡ first + length all = omega (arith, e.put.next, i.k, more) in
-    let put : v ≡ with_entries l initial first all =
-    e.put.words ∙ (λ x. with_entries l (i.put x) (i.k x) here) ∙ sym (with_entries-append l initial first done here) ∙ ap (with_entries l initial first)
-    (sym (with_next t (named_by l w c.loop-i.k) c.args.born changes j c.change.result (omega arith) c.requires.distinct i.names c.change.ensures)) in
-    let room : first + length all ≤ l.capacity = omega (arith, needing_part t c.args.born changes (j + 1), c.requires.room) in
+    let next = next_of l w (g.S.WordStore.words c.loop-i.store) first c.args.born changes i.same (omega arith) c.change.ensures in
+    let done = needing (named_by l w first) c.args.born (take c.loop-i.i changes) in
+    let here = needing (named_by l (g.S.WordStore.words c.loop-i.store) first) c.args.born (c.change.result ∷ []) in
     record {
-      k = next;
-      put = put;
-      index = e.put.index;
-      names = (λ x. named_by l (put x) (next x)) ∙ names_with l initial first all room c.requires.stands.size;
-      same = same_more l first c.loop-i.k initial w v (omega (arith, i.k)) i.same c.put_change.ensures.same;
-      wrote = more_writes i.wrote e.wrote (omega (arith, more));
+      k = omega (arith, e.put.next, i.k, next.long);
+      put = e.put.words ∙ (λ x. with_entries l (i.put x) (i.k x) here) ∙ sym (with_entries-append l w first done here) ∙ ap (with_entries l w first) (sym next.all);
+      same = same_more l first c.loop-i.k w _ _ (omega (arith, i.k)) i.same c.put_change.ensures.same;
+      wrote = more_writes i.wrote e.wrote (omega (arith, next.long));
     }
 
 pub returns-in_err-k-clause-wrote : goal.returns-in_err-k-clause-wrote
 returns-in_err-k-clause-wrote g c =
-    let t = named_by c.args.log (g.S.WordStore.words c.args.store.now) c.args.first in
-    let changes = g.C.WordChanges.changes c.args.changes.now in
     let i = c.loop-i.invariant in
-    let more = length-next t _ c.args.born changes c.loop-i.i c.change.result (omega arith) c.requires.distinct i.names c.change.ensures in
-    at_err c.from_residual.result c.from_residual.ensures.0
-    (refused_later i.wrote c.in_err-k.ensures.wrote (omega (arith, more, needing_part t c.args.born changes (c.loop-i.i + 1))))
+    let next = next_of c.args.log (g.S.WordStore.words c.args.store.now) (g.S.WordStore.words c.loop-i.store) c.args.first c.args.born
+    (g.C.WordChanges.changes c.args.changes.now) i.same (omega arith) c.change.ensures in
+    at_err c.from_residual.result c.from_residual.ensures.0 (refused_later i.wrote c.in_err-k.ensures.wrote (omega (arith, next.long, next.within)))
 
 pub returns-clause-wrote : goal.returns-clause-wrote
 returns-clause-wrote g c =

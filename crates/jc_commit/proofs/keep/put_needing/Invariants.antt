@@ -1,6 +1,6 @@
-use Rattle.std.proofs.Common.{◌≡◌, ◌+◌, ◌*◌, ◌++◌, true, length, take}
-use Rattle.jc_commit.specs.Entries.{addresses_of, SameBefore}
-use Rattle.jc_commit.specs.EntryIndex.{named_by, needing, with_entries, IsIndexOf}
+use Rattle.std.proofs.Common.{◌≡◌, ◌+◌, ◌*◌, true, length, take}
+use Rattle.jc_commit.specs.Entries.{SameBefore}
+use Rattle.jc_commit.specs.EntryIndex.{named_by, needing, with_entries}
 use Rattle.jc_commit.specs.Writing.{Wrote}
 use Rattle.jc_commit.proofs.keep.put_needing.Given as goal
 
@@ -12,8 +12,6 @@ invariant-loop-i g l =
     record {
       k : l.k ≡ l.first + length done;
       put : words ≡ with_entries l.log initial l.first done;
-      index : IsIndexOf l.log words l.k l.numbers.items;
-      names : named_by l.log words l.k ≡ named_by l.log initial l.first ++ addresses_of done;
       same : SameBefore l.log l.first initial words;
       wrote : Wrote g.S.WordStore.down g.S.WordStore.passed g.S.WordStore.refusals (2 * length done) true l.initial.store l.store;
     }

@@ -1,13 +1,13 @@
 use Rattle.std.proofs.Common.{◌<◌, ◌≤◌, ◌⊎◌, ℕ, List, set, get_or, length, refl, sym, ap, subst, ◌∙◌, arith}
 use Rattle.std.specs.Prelude.{IsSome}
 use Rattle.jc_commit.specs.Image.{IsPlace, limit_of, entries, old_value}
-use Rattle.jc_commit.specs.Writing.{KeepsTransaction, KeepsEntries}
+use Rattle.jc_commit.specs.Writing.{KeepsTransaction}
 use Rattle.jc_commit.proofs.Words.{place_spot, spot_within}
 use Rattle.jc_commit.proofs.Steps.{limit-same}
 use Rattle.jc_commit.proofs.Entries.{target}
 use Rattle.jc_commit.proofs.Counted.{with_words_more}
-use Rattle.jc_commit.proofs.EntryKeeping.{Through, through}
-use Rattle.jc_commit.proofs.Writes.{one_write, more_writes, stays_more, entries_more}
+use Rattle.jc_commit.proofs.EntryKeeping.{Through, through, free_kept}
+use Rattle.jc_commit.proofs.Writes.{one_write, more_writes, stays_more}
 use Rattle.jc_commit.proofs.keep.write_through.Goals as goal
 
 pub loop-i-preserved : goal.loop-i-preserved
@@ -22,14 +22,14 @@ loop-i-preserved g c =
     let a = target changes k in
     let x = (get_or changes k (0, 0)).1 in
     let place : IsPlace (limit_of w) a = subst (λ (n : ℕ). IsPlace n a) (sym (limit-same initial w i.stays.size i.stays.log)) (c.requires.places k inside) in
-    let back : IsSome (old_value (entries w) a) ⊎ (c.args.born ≤ a) = subst (λ (es : List (ℕ × ℕ)). IsSome (old_value es a) ⊎ (c.args.born ≤ a)) (sym i.entries.entries)
+    let back : IsSome (old_value (entries w) a) ⊎ (c.args.born ≤ a) = subst (λ (es : List (ℕ × ℕ)). IsSome (old_value es a) ⊎ (c.args.born ≤ a)) (sym i.entries)
     (c.requires.kept k inside) in
     let e = c.in_ok-write.ensures in
-    let step : Through w a x v = through w v a x c.args.born i.stays.good place (omega (arith, i.stays.top, c.requires.births)) (omega (arith, c.requires.births)) back
-    (e.written ∙ ap (λ (d : ℕ × ℕ). set w d.0 d.1) c.change-address.ensures) in
+    let step : Through w a x v = subst (Through w a x) (sym (e.written ∙ ap (λ (d : ℕ × ℕ). set w d.0 d.1) c.change-address.ensures))
+    (through w a x c.args.born i.stays.good place (free_kept i.stays c.requires.births) back) in
     record {
       stays = stays_more i.stays step.stays;
-      entries = entries_more i.stays.log i.entries step.entries;
+      entries = step.entries ∙ i.entries;
       plain = step.plain ∙ ap (λ (p : List ℕ). set p a x) i.plain ∙ sym (with_words_more _ changes k inside);
       wrote = more_writes i.wrote (one_write e.was_up e.down e.passed e.refusals) refl;
     }
@@ -51,4 +51,4 @@ returns-in_err-write-clause-stays g c =
 
 pub returns-in_err-write-clause-entries : goal.returns-in_err-write-clause-entries
 returns-in_err-write-clause-entries g c =
-    subst (λ (u : List ℕ). KeepsEntries (g.S.WordStore.words c.args.store.now) u) (sym c.in_err-write.ensures.kept) c.loop-i.invariant.entries
+    ap entries c.in_err-write.ensures.kept ∙ c.loop-i.invariant.entries
