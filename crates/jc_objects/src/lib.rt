@@ -4,7 +4,6 @@
 #![tactic(auto)]
 
 pub mod bounds;
-pub mod cells;
 pub mod changes;
 pub mod class_texts;
 pub mod holders;
