@@ -37,9 +37,10 @@ use jc_image::OpenImage;
 use jc_interp::attacks::Budget;
 use jc_linker::linked::Linked;
 use jc_memory::{MOST_FIXED, Marks, Memory, Rooms, unset_flags};
-use jc_packages::reading::{RecordFault, read_packages};
+use jc_packages::fault::ReadFault;
+use jc_packages::reading::read_packages;
 use jc_packages::sound::is_sound;
-use jc_packages::tables::{ImageTableFault, table_of};
+use jc_packages::tables::table_of;
 use jc_platform::table::Table;
 use jc_transient::{MOST_BUFFER, Ram, Ref};
 use jc_words::{ImageFault, WordStore, check_image};
@@ -340,14 +341,14 @@ fn card_over<S: WordStore>(
 }
 
 // The fault of packages that are not read.
-fn fault_of(fault: RecordFault) -> PowerFault
-    ensures damaged { result ≡ PowerFault.BadPackage → fault ≡ RecordFault.Damaged }
-    ensures memory { result ≡ PowerFault.NoMemory → fault ≡ RecordFault.NoMemory }
+fn fault_of(fault: ReadFault) -> PowerFault
+    ensures damaged { result ≡ PowerFault.BadPackage → fault ≡ ReadFault.Damaged }
+    ensures memory { result ≡ PowerFault.NoMemory → fault ≡ ReadFault.NoMemory }
     ensures one { (result ≡ PowerFault.BadPackage) ⊎ (result ≡ PowerFault.NoMemory) }
 {
     match fault {
-        RecordFault::Damaged => PowerFault::BadPackage,
-        RecordFault::NoMemory => PowerFault::NoMemory,
+        ReadFault::Damaged => PowerFault::BadPackage,
+        ReadFault::NoMemory => PowerFault::NoMemory,
     }
 }
 
@@ -358,7 +359,7 @@ fn platform_of<S: WordStore>(alloc: Global, image: &OpenImage<S>) -> Result<Tabl
 {
     match table_of(alloc, image) {
         Ok(table) => Ok(table),
-        Err(ImageTableFault::Damaged) => Err(PowerFault::BadTable),
-        Err(ImageTableFault::NoMemory) => Err(PowerFault::NoMemory),
+        Err(ReadFault::Damaged) => Err(PowerFault::BadTable),
+        Err(ReadFault::NoMemory) => Err(PowerFault::NoMemory),
     }
 }

@@ -11,7 +11,9 @@ mod opening;
 mod package_table;
 mod references;
 mod steps;
+mod words;
 
 pub use laying::{ImageRoom, first_free, lay, seal};
 pub use listing::{AppletName, PackageName, applet_at, package_at};
 pub use opening::OpenImage;
+pub use words::ImageWords;

@@ -1,11 +1,11 @@
 //! Opening an image, and whether its heap is whole.
-ghost use Rattle.std.specs.Prelude.{ℕ, ◌+◌, ◌/◌, ◌≡◌, ◌<◌, ◌≤◌, ◌↔◌, IsTrue, IsOk, IfOk, IfErr, true, false, length, slice_index, slice_index_or};
-ghost use Rattle.jc_words.specs.Layout.{top_address, text_length_address, text_start, version, version_address};
+ghost use Rattle.std.specs.Prelude.{ℕ, ◌≡◌, ◌<◌, ◌≤◌, ◌↔◌, IsTrue, IsOk, IfOk, IfErr, true, false, length, slice_index, slice_index_or};
+ghost use Rattle.jc_words.specs.Layout.{top_address, text_start, version, version_address};
 ghost use Rattle.jc_commit.specs.Image.{IsGoodLog, count_of};
 ghost use Rattle.jc_commit.specs.Journal.{Opens};
 ghost use Rattle.jc_commit.specs.State.{resumed_journal};
 ghost use Rattle.jc_heap.specs.Object.{is_object};
-ghost use Rattle.jc_heap.specs.Image.{buffer_address, text_byte, table_text, IsWellFormed, image, package_addresses, is_package};
+ghost use Rattle.jc_heap.specs.Image.{buffer_address, IsWellFormed, image, package_addresses, is_package};
 ghost use Rattle.jc_heap.specs.Heap.{heap_view, heap_of, heap_item_at, is_allocated};
 ghost use Rattle.jc_heap.specs.Whole.{IsConsistent};
 ghost use Rattle.jc_image.specs.Beginning.{HeapBeginsWith};
@@ -16,6 +16,7 @@ use crate::beginning::begins_with;
 use crate::consistency::is_consistent;
 use crate::marks::no_marks;
 use crate::package_table::unmark_packages;
+use crate::words::ImageWords;
 use jc_commit::{Journal, OpenRefusal};
 use jc_heap::layout::BUFFER_WORD;
 use jc_heap::{Facts, Heap};
@@ -116,25 +117,6 @@ impl<S: WordStore> OpenImage<S> {
         OpenImage { journal, size }
     }
 
-    /// How many bytes the table text has, as the image says.
-    pub fn text_length(&self) -> u16
-        ensures { result ≡ slice_index self.now.plain text_length_address }
-    {
-        self.journal.read(TEXT_LENGTH)
-    }
-
-    /// A byte of the table text.
-    pub fn text_byte(&self, i: u16) -> u8
-        requires { text_start + i / 2 < length self.now.plain }
-        ensures { result ≡ text_byte self.now.plain i }
-    {
-        let word = self.journal.read((TEXT_START + u32::from(i / 2)) as u16);
-        if i % 2 == 0 {
-            return (word / 256) as u8;
-        }
-        (word % 256) as u8
-    }
-
     /// The word that says how many cells the APDU buffer has; 0 says as many as are usual.
     pub fn buffer_word(&self) -> u16
         ensures { result ≡ slice_index self.now.plain buffer_address }
@@ -142,31 +124,12 @@ impl<S: WordStore> OpenImage<S> {
         self.journal.read(BUFFER_WORD)
     }
 
-    /// Whether there are words for a table text of that length below the heap's end.
-    pub fn has_text(&self) -> bool
-        ensures { IsTrue result ↔ (text_start + (slice_index self.now.plain text_length_address + 1)
-            / 2 ≤ length self.now.plain) }
+    /// Whether the heap is whole.
+    pub fn is_whole(&self) -> bool
+        ensures { IsTrue result ↔ (IsWellFormed self.now.plain × IsConsistent (heap_of self.now.plain)) }
     {
-        let text = u32::from(self.text_length());
-        TEXT_START + (text + 1) / 2 <= u32::from(self.size)
-    }
-
-    /// The table text, into a slice that is as long.
-    pub fn read_text(&self, into: &mut [u8])
-        requires long { length into.old ≡ slice_index self.now.plain text_length_address }
-        requires there { text_start + (length into.old + 1) / 2 ≤ length self.now.plain }
-        ensures { into.new ≡ table_text self.now.plain }
-    {
-        for i in 0..self.text_length() {
-            into[i as usize] = self.text_byte(i);
-        }
-    }
-
-    /// Where the heap ends.
-    pub fn size(&self) -> u16
-        ensures { result ≡ length self.now.plain }
-    {
-        self.size
+        let mut marks = no_marks();
+        is_heap(&self.journal, self.size, &mut marks)
     }
 
     /// The store, with its recovered words.
@@ -218,5 +181,18 @@ impl<S: WordStore> OpenImage<S> {
         }
         unmark_packages(&journal, marks);
         Ok(Heap::of_journal(journal, size))
+    }
+}
+
+// The words that a completed recovery leaves.
+impl<S: WordStore> ImageWords for OpenImage<S> {
+    ghost words = { λ o. o.plain };
+
+    fn word_count(&self) -> u16 {
+        self.size
+    }
+
+    fn word(&self, address: u16) -> u16 {
+        self.journal.read(address)
     }
 }

@@ -13,11 +13,11 @@ use Rattle.jc_heap.specs.declared.object.Kind.{Kind}
 use Rattle.jc_heap.proofs.Images.{IsCell, cell_offset, cell_said, object_cell}
 use Rattle.jc_heap.proofs.Reading.{cells-object_of, persistent_of, said, said-object_of}
 use Rattle.jc_heap.proofs.Walks.{word_from}
-use Rattle.jc_objects.specs.Bounds.{has_bounds}
+use Rattle.jc_objects.specs.Bounds.{IsBounded}
 use Rattle.jc_objects.specs.Records.{IsRecord, item_at, object_in, record_size, record_words}
 use Rattle.jc_objects.proofs.HeapBounds.{Bounds, bounds}
 
-module _ (w : List ℕ) (at : ℕ) (h : has_bounds w ≡ true) (there : IsRecord w at) where
+module _ (w : List ℕ) (at : ℕ) (h : IsBounded w) (there : IsRecord w at) where
   abbrev words : List ℕ
   words = record_words w at
 

@@ -5,8 +5,5 @@ pub mod ItemWords
 pub mod PlaceSteps
 pub mod Sizes
 pub mod Standing
-mod CellWalk
-mod CellWords
 mod Opened
-mod ToldWords
 mod Walked

@@ -1,5 +1,5 @@
 -- What is answered about an image that is opened: if that migrated it, it stands for the same heap.
-use Rattle.std.proofs.Common.{◌≡◌, ◌∙◌, ◌+◌, ◌/◌, ◌≤◌, ℕ, List, Option, Some, None, Ok, ap, arith, get_or, length, subst, sym}
+use Rattle.std.proofs.Common.{◌≡◌, ◌∙◌, ◌+◌, ◌/◌, ◌≤◌, ℕ, List, Option, Some, None, Result, Ok, Err, ap, arith, get_or, length, refl, subst, sym}
 use Rattle.jc_words.specs.Layout.{text_length_address, text_start}
 use Rattle.jc_commit.specs.Image.{IsGoodLog, recovered_of}
 use Rattle.jc_commit.specs.Migration.{migrated}
@@ -13,11 +13,12 @@ use Rattle.jc_platform.specs.Table.{Reads}
 use Rattle.jc_platform.specs.Tokens.{Tokens}
 use Rattle.jc_platform.proofs.OneAnswer.{one_table}
 use Rattle.jc_linker.specs.Values.{Packages}
+use Rattle.jc_packages.specs.ImageTables.{IsNoTable}
 use Rattle.jc_packages.specs.Reading.{packages_of}
-use Rattle.jc_objects.specs.ImageObjects.{IsImage, IsNoImage, IsNoTable, IsNotWhole, IsWhole}
-use Rattle.jc_objects.specs.Legends.{ArePackagesIn, HasNoPackages, HasNoneLinked, IsNotLinked}
-use Rattle.jc_objects.specs.declared.image_objects.ImageFault.{ImageFault}
-use Rattle.jc_objects.specs.declared.image_objects.ImageFault.TheVariants.{NoMemory, Damaged}
+use Rattle.jc_objects.specs.ImageObjects.{IsImage, IsNoImage, IsNotWhole, IsWhole}
+use Rattle.jc_objects.specs.Legends.{ArePackagesIn, HasNoPackages, IsNotLinked}
+use Rattle.jc_packages.specs.declared.fault.ReadFault.{ReadFault}
+use Rattle.jc_packages.specs.declared.fault.ReadFault.TheVariants.{NoMemory, Damaged}
 
 -- the words that an opening leaves are whole where the recovered ones are
 pub whole_before : (w plain : List ℕ) (t : Tokens) → plain ≡ migrated 3 w → IsWhole plain t → IsWhole w t
@@ -57,23 +58,33 @@ text_there w formed =
     omega (arith, b, formed.based, formed.fits)
 
 -- why nothing is answered, from the table, the heap and the packages to the words
-pub whole_untold : (fault : ImageFault) (w : List ℕ) → IsNoTable w fault → IsNotWhole w fault
+pub whole_untold : (fault : ReadFault) (w : List ℕ) → IsNoTable w fault → IsNotWhole w fault
 whole_untold NoMemory w none = tt
 whole_untold Damaged w none = λ t whole. none t (text_there w whole.formed, whole.table)
 
-pub image_untold : (fault : ImageFault) (words plain : List ℕ) → plain ≡ migrated 3 (recovered_of words) → IsNotWhole plain fault → IsNoImage words fault
+pub image_untold : (fault : ReadFault) (words plain : List ℕ) → plain ≡ migrated 3 (recovered_of words) → IsNotWhole plain fault → IsNoImage words fault
 image_untold NoMemory words plain same none = tt
 image_untold Damaged words plain same none = no_image words plain same none
 
-pub packages_untold : (fault : ImageFault) (words plain : List ℕ) → plain ≡ migrated 3 (recovered_of words) → IsNotWhole plain fault
+pub packages_untold : (fault : ReadFault) (words plain : List ℕ) → plain ≡ migrated 3 (recovered_of words) → IsNotWhole plain fault
     → HasNoPackages words fault
 packages_untold NoMemory words plain same none = tt
 packages_untold Damaged words plain same none = λ t is. absurd (no_image words plain same none t is)
 
-pub legend_untold : (fault : ImageFault) (t : Tokens) (words plain : List ℕ) → plain ≡ migrated 3 (recovered_of words) → IsNotWhole plain fault
+pub legend_untold : (fault : ReadFault) (t : Tokens) (words plain : List ℕ) → plain ≡ migrated 3 (recovered_of words) → IsNotWhole plain fault
     → IsNotLinked t words fault
 legend_untold NoMemory t words plain same none = tt
 legend_untold Damaged t words plain same none = λ u is. absurd (no_image words plain same none u is)
+
+-- why a heap has no packages: memory was refused, or they do not link
+abbrev pub HasNoneLinked : Tokens → HeapState → ReadFault → Type 0
+HasNoneLinked t h NoMemory = Unit {0}
+HasNoneLinked t h Damaged = packages_of t h ≡ None
+
+pub unlinked : (fault : ReadFault) (t : Tokens) (h : HeapState) → ((let r : Result Packages ReadFault = Err fault in r ≡ Err Damaged) → packages_of t h ≡ None)
+    → HasNoneLinked t h fault
+unlinked NoMemory t h none = tt
+unlinked Damaged t h none = none refl
 
 -- the packages of a heap that an opened image is
 pub packages_behind : (t : Tokens) (words plain : List ℕ) (h : HeapState) (o : Option Packages) → plain ≡ migrated 3 (recovered_of words) → h ≡ heap_of plain
@@ -81,13 +92,13 @@ pub packages_behind : (t : Tokens) (words plain : List ℕ) (h : HeapState) (o :
 packages_behind t words plain h o same is told =
     ap (packages_of t) (sym (heap_behind (recovered_of words) plain same)) ∙ ap (packages_of t) (sym is) ∙ told
 
-pub none_linked : (fault : ImageFault) (t : Tokens) (words plain : List ℕ) (h : HeapState) → plain ≡ migrated 3 (recovered_of words) → h ≡ heap_of plain
+pub none_linked : (fault : ReadFault) (t : Tokens) (words plain : List ℕ) (h : HeapState) → plain ≡ migrated 3 (recovered_of words) → h ≡ heap_of plain
     → HasNoneLinked t h fault → IsNotLinked t words fault
 none_linked NoMemory t words plain h same is none = tt
 none_linked Damaged t words plain h same is none = λ u image. packages_behind t words plain h None same is none
 
 -- one image has one platform, so no packages after it are none after any
-pub none_packaged : (fault : ImageFault) (t : Tokens) (words plain : List ℕ) (h : HeapState) → plain ≡ migrated 3 (recovered_of words) → h ≡ heap_of plain
+pub none_packaged : (fault : ReadFault) (t : Tokens) (words plain : List ℕ) (h : HeapState) → plain ≡ migrated 3 (recovered_of words) → h ≡ heap_of plain
     → IsWhole plain t → HasNoneLinked t h fault → HasNoPackages words fault
 none_packaged NoMemory t words plain h same is whole none = tt
 none_packaged Damaged t words plain h same is whole none = λ u image.
@@ -95,5 +106,5 @@ none_packaged Damaged t words plain h same is whole none = λ u image.
     subst (λ (s : Tokens). packages_of s (heap_of (recovered_of words)) ≡ None) (one_table (table_text (recovered_of words)) t u mine.table image.whole.table)
     (packages_behind t words plain h None same is none)
 
-pub none_found : (fault : ImageFault) (t : Tokens) (words : List ℕ) → fault ≡ Damaged → IsNotLinked t words fault → ArePackagesIn t words None
-none_found fault t words is none = subst (λ (f : ImageFault). IsNotLinked t words f) is none
+pub none_found : (fault : ReadFault) (t : Tokens) (words : List ℕ) → fault ≡ Damaged → IsNotLinked t words fault → ArePackagesIn t words None
+none_found fault t words is none = subst (λ (f : ReadFault). IsNotLinked t words f) is none

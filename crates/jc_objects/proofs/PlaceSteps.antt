@@ -3,7 +3,7 @@ use Rattle.std.proofs.Common.{arith, ◌≡◌, ◌<◌, ◌≤◌, ◌+◌, ◌
 use Rattle.std.proofs.lemmas.Bool.{lt-leb}
 use Rattle.jc_heap.specs.Object.{Item}
 use Rattle.jc_commit.specs.Image.{top_of}
-use Rattle.jc_objects.specs.Bounds.{first_record, has_bounds}
+use Rattle.jc_objects.specs.Bounds.{first_record, IsBounded}
 use Rattle.jc_objects.specs.Records.{is_whole_from, item_at, items_from, record_size}
 use Rattle.jc_objects.specs.Places.{IsPlaceFor, standing_here, standing_in}
 use Rattle.jc_objects.specs.declared.places.Standing.{Standing}
@@ -11,7 +11,7 @@ use Rattle.jc_objects.proofs.HeapBounds.{Bounds, bounds}
 use Rattle.jc_objects.proofs.Standing.{items_first, items_step}
 
 -- where the first record begins is one for each address
-pub place_first : (w : List ℕ) (a : ℕ) → has_bounds w ≡ true → IsPlaceFor w (first_record w) a
+pub place_first : (w : List ℕ) (a : ℕ) → IsBounded w → IsPlaceFor w (first_record w) a
 place_first w a h =
     let b : Bounds w = bounds w h in
     let first = items_first w h in
@@ -22,7 +22,7 @@ place_first w a h =
     }
 
 -- so is where a record ends that begins before the address
-pub place_step : (w : List ℕ) (at a : ℕ) → has_bounds w ≡ true → at + record_size w at ≤ top_of w → at < a → IsPlaceFor w at a
+pub place_step : (w : List ℕ) (at a : ℕ) → IsBounded w → at + record_size w at ≤ top_of w → at < a → IsPlaceFor w at a
     → IsPlaceFor w (at + record_size w at) a
 place_step w at a h fits before p =
     let next : ℕ = at + record_size w at in

@@ -9,7 +9,7 @@ use Rattle.jc_heap.specs.Heap.{read_image}
 use Rattle.jc_heap.specs.Image.{base, image, item_entry, missing_words_of_image, package_addresses}
 use Rattle.jc_heap.proofs.Following.{records_from-step}
 use Rattle.jc_heap.proofs.Walks.{walk_short, walk_step}
-use Rattle.jc_objects.specs.Bounds.{first_record, has_bounds}
+use Rattle.jc_objects.specs.Bounds.{first_record, IsBounded}
 use Rattle.jc_objects.specs.Records.{are_whole, are_whole_from, is_whole_from, item_at, items_from, record_size, sizes_in, standing_items, whole_among, whole_from}
 use Rattle.jc_objects.proofs.HeapBounds.{Bounds, base-first, bounds}
 
@@ -61,7 +61,7 @@ pub whole_end : (more : Sizes) (at : ℕ) (ws : List ℕ) → length ws ≡ 0 �
 whole_end more at [] e = (refl, refl)
 whole_end more at (w ∷ ws) e = absurd (omega (arith, e))
 
-module _ (w : List ℕ) (h : has_bounds w ≡ true) where
+module _ (w : List ℕ) (h : IsBounded w) where
   b : Bounds w
   b = bounds w h
 

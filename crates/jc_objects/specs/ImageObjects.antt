@@ -9,9 +9,8 @@ use Rattle.jc_heap.specs.Image.{IsWellFormed, table_text}
 use Rattle.jc_heap.specs.Whole.{IsConsistent}
 use Rattle.jc_platform.specs.Table.{Reads}
 use Rattle.jc_platform.specs.Tokens.{Tokens}
-use Rattle.jc_packages.specs.ImageTables.{HasTable}
-use Rattle.jc_objects.specs.declared.image_objects.ImageFault.{ImageFault}
-use Rattle.jc_objects.specs.declared.image_objects.ImageFault.TheVariants.{NoMemory, Damaged}
+use Rattle.jc_packages.specs.declared.fault.ReadFault.{ReadFault}
+use Rattle.jc_packages.specs.declared.fault.ReadFault.TheVariants.{NoMemory, Damaged}
 use Rattle.jc_objects.specs.declared.image_objects.ImageObjects.{ImageObjects}
 
 -- recovered words are records up to the top, which stand for a whole heap, and their table text is this platform's
@@ -25,28 +24,23 @@ pub record IsImage (words : List ℕ) (t : Tokens) : Type 0 where
   pub good : IsGoodLog words
   pub whole : IsWhole (recovered_of words) t
 
--- the words of an image as they stand, the heap that they are once they are recovered, and the platform of its table text
+-- the words of an image as they stand, those that a completed recovery leaves, perhaps migrated, and the platform of its table text
 pub record AreObjectsOf (words : List ℕ) (o : ImageObjects) : Type 0 where
   pub stored : o.store.words ≡ words
   pub long : text_start ≤ length words
   pub image : IsImage words o.platform
-  pub heap : o.heap.now ≡ heap_of (recovered_of words)
-  pub up : o.heap.down ≡ false
+  pub heap : heap_of o.recovered.plain ≡ heap_of (recovered_of words)
+  pub formed : IsWellFormed o.recovered.plain
 
 -- why words have no such objects: memory was refused, or they are no image
-abbrev pub IsNoImage : List ℕ → ImageFault → Type 0
+abbrev pub IsNoImage : List ℕ → ReadFault → Type 0
 IsNoImage words NoMemory = Unit {0}
 IsNoImage words Damaged = (t : Tokens) → IsImage words t → ⊥
 
 -- nor of recovered words: memory was refused, or they are not whole
-abbrev pub IsNotWhole : List ℕ → ImageFault → Type 0
+abbrev pub IsNotWhole : List ℕ → ReadFault → Type 0
 IsNotWhole w NoMemory = Unit {0}
 IsNotWhole w Damaged = (t : Tokens) → IsWhole w t → ⊥
-
--- why they give no platform: memory was refused, or they have no table
-abbrev pub IsNoTable : List ℕ → ImageFault → Type 0
-IsNoTable w NoMemory = Unit {0}
-IsNoTable w Damaged = (t : Tokens) → HasTable w t → ⊥
 
 -- an image of these words was recovered, and perhaps migrated
 pub record IsOpenedImage (words : List ℕ) (image : State) : Type 0 where
@@ -56,6 +50,6 @@ pub record IsOpenedImage (words : List ℕ) (image : State) : Type 0 where
   pub up : image.down ≡ false
 
 -- or the log of the words is bad
-abbrev pub IsNotOpened : List ℕ → ImageFault → Type 0
+abbrev pub IsNotOpened : List ℕ → ReadFault → Type 0
 IsNotOpened words NoMemory = ⊥
 IsNotOpened words Damaged = IsGoodLog words → ⊥

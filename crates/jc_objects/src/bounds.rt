@@ -5,6 +5,7 @@ ghost use Rattle.jc_words.specs.Layout.{text_start};
 ghost use Rattle.jc_commit.specs.Image.{limit_of};
 ghost use Rattle.jc_objects.specs.Bounds.{first_record, has_bounds};
 
+use jc_image::ImageWords;
 use jc_words::layout::{TEXT_LENGTH, TEXT_START, TOP};
 use jc_words::{Log, WordStore};
 
@@ -17,11 +18,11 @@ pub fn heap_end<S: WordStore>(store: &S) -> u16
 }
 
 /// The first word after the table text.
-pub fn first_record<S: WordStore>(store: &S) -> u32
-    requires { text_start ≤ length (S.words store.now) }
-    ensures { result ≡ first_record (S.words store.now) }
+pub fn first_record<W: ImageWords>(words: &W) -> u32
+    requires { text_start ≤ length (W.words words.now) }
+    ensures { result ≡ first_record (W.words words.now) }
 {
-    TEXT_START + (u32::from(store.read(TEXT_LENGTH)) + 1) / 2
+    TEXT_START + (u32::from(words.word(TEXT_LENGTH)) + 1) / 2
 }
 
 /// Whether the heap lies between the table text and where a heap ends at the latest.

@@ -1,12 +1,13 @@
 //! What changed of the words of an image, by object and cell.
-ghost use Rattle.std.specs.Prelude.{ℕ, List, ◌≡◌, ◌≤◌, ◌<◌, ◌-◌, ◌++◌, decimal, false, length, slice_index, OnOk};
+ghost use Rattle.std.specs.Prelude.{◌≡◌, ◌≤◌, ◌<◌, ◌-◌, ◌++◌, decimal, length, slice_index, OnOk};
 ghost use Rattle.jc_words.specs.Layout.{text_start};
-ghost use Rattle.jc_heap.specs.Heap.{IsObject, facts, heap_of};
-ghost use Rattle.jc_objects.specs.Changes.{AreChangesTold, AreWordsTold, IsChangeTold, IsWordTold, cell_text, value_text, values_text, word_text};
+ghost use Rattle.jc_heap.specs.Image.{IsWellFormed};
+ghost use Rattle.jc_objects.specs.Changes.{cell_text, change_text, changed_text, changes_text, value_text, values_text, word_text, words_text};
 
-use crate::cells::{ObjectCell, cell_in, is_packed};
 use crate::class_texts::{push_kind, push_number};
+use crate::holders::{Holder, holder_of};
 use crate::image_objects::ImageObjects;
+use crate::records::is_packed;
 use jc_words::layout::{ADDRESSES, TEXT_LENGTH, TOP};
 use std::alloc::{AllocError, Global};
 
@@ -17,11 +18,9 @@ pub fn push_changes(
     objects: &ImageObjects,
     now: &[u16],
 ) -> Result<(), AllocError>
-    requires up { objects.now.heap.down ≡ false }
-    requires words { (w : List ℕ) × (objects.now.heap.now ≡ heap_of w) }
+    requires formed { IsWellFormed objects.now.recovered.plain }
     requires long { text_start ≤ length objects.now.store.words }
-    ensures { OnOk result ((told : List ℕ) × (text.new.items ≡ text.old.items ++ told)
-        × AreChangesTold objects.now now.now told) }
+    ensures { OnOk result (text.new.items ≡ text.old.items ++ changes_text objects.now now.now) }
 {
     let top = word_at(objects.store.words(), TOP);
     push_words(alloc, text, objects, now, TOP, TEXT_LENGTH)?;
@@ -37,11 +36,10 @@ fn push_words(
     first: u16,
     end: u16,
 ) -> Result<(), AllocError>
-    requires up { objects.now.heap.down ≡ false }
-    requires words { (w : List ℕ) × (objects.now.heap.now ≡ heap_of w) }
+    requires formed { IsWellFormed objects.now.recovered.plain }
     requires long { text_start ≤ length objects.now.store.words }
-    ensures { OnOk result ((told : List ℕ) × (text.new.items ≡ text.old.items ++ told)
-        × AreWordsTold objects.now now.now first (end - first) told) }
+    ensures { OnOk result (text.new.items ≡ text.old.items
+        ++ words_text objects.now now.now first (end - first)) }
 {
     for address in first..end {
         push_word(alloc, text, objects, now, address)?;
@@ -57,11 +55,10 @@ fn push_word(
     now: &[u16],
     address: u16,
 ) -> Result<(), AllocError>
-    requires up { objects.now.heap.down ≡ false }
-    requires words { (w : List ℕ) × (objects.now.heap.now ≡ heap_of w) }
+    requires formed { IsWellFormed objects.now.recovered.plain }
     requires long { text_start ≤ length objects.now.store.words }
-    ensures { OnOk result ((told : List ℕ) × (text.new.items ≡ text.old.items ++ told)
-        × IsWordTold objects.now now.now address told) }
+    ensures { OnOk result (text.new.items ≡ text.old.items
+        ++ changed_text objects.now now.now address) }
 {
     let old = word_at(objects.store.words(), address);
     let new = word_at(now, address);
@@ -80,13 +77,11 @@ fn push_change(
     old: u16,
     new: u16,
 ) -> Result<(), AllocError>
-    requires up { objects.now.heap.down ≡ false }
-    requires words { (w : List ℕ) × (objects.now.heap.now ≡ heap_of w) }
+    requires formed { IsWellFormed objects.now.recovered.plain }
     requires long { text_start ≤ length objects.now.store.words }
-    ensures { OnOk result ((told : List ℕ) × (text.new.items ≡ text.old.items ++ told)
-        × IsChangeTold objects.now address old new told) }
+    ensures { OnOk result (text.new.items ≡ text.old.items ++ change_text objects.now address old new) }
 {
-    match cell_in(&objects.heap, address) {
+    match holder_of(&objects.recovered, address) {
         Some(found) => push_cell(alloc, text, objects, found, old, new),
         None => push_bare_word(alloc, text, address, old, new),
     }
@@ -97,28 +92,25 @@ fn push_cell(
     alloc: Global,
     text: &mut Vec<u8>,
     objects: &ImageObjects,
-    found: ObjectCell,
+    found: Holder,
     old: u16,
     new: u16,
 ) -> Result<(), AllocError>
-    requires up { objects.now.heap.down ≡ false }
-    requires there { IsObject objects.now.heap.now found.object }
     requires long { text_start ≤ length objects.now.store.words }
     ensures { OnOk result (text.new.items ≡ text.old.items
-        ++ cell_text objects.now found.object found.cell old new) }
+        ++ cell_text objects.now found old new) }
 {
-    let facts = objects.heap.facts(found.object);
-    push_labelled(text, b"@", found.object.address(), b" ")?;
+    push_labelled(text, b"@", found.object, b" ")?;
     push_kind(
         alloc,
         text,
         &objects.platform,
         &objects.store,
-        facts.kind,
-        facts.class(),
+        found.facts.kind,
+        found.facts.class(),
     )?;
     push_labelled(text, b" [", found.cell, b"] ")?;
-    push_values(alloc, text, is_packed(facts), old, new)
+    push_values(alloc, text, is_packed(found.facts), old, new)
 }
 
 // Writes a word that holds no cell and that changed.

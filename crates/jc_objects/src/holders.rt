@@ -1,6 +1,6 @@
 //! Which cell of which object stands in a word.
-ghost use Rattle.std.specs.Prelude.{◌≡◌, ◌<◌, true};
-ghost use Rattle.jc_objects.specs.Bounds.{has_bounds};
+ghost use Rattle.std.specs.Prelude.{◌≡◌, ◌<◌};
+ghost use Rattle.jc_objects.specs.Bounds.{IsBounded};
 ghost use Rattle.jc_objects.specs.Holders.{cell_behind, holder_at, holder_in};
 ghost use Rattle.jc_objects.specs.Records.{IsRecord, item_at, standing_items};
 
@@ -8,7 +8,7 @@ use crate::bounds::first_record;
 use crate::records::{is_packed, object_at, whole_size};
 use jc_heap::Facts;
 use jc_heap::layout::HEADER;
-use jc_words::WordStore;
+use jc_image::ImageWords;
 use jc_words::layout::TOP;
 
 /// A cell of a persistent object, and what the object's header says. Of two elements that stand in a word it is the first.
@@ -21,18 +21,18 @@ pub struct Holder {
 }
 
 /// The cell of a persistent object that stands in the word at an address; none where no cell does.
-pub fn holder_of<S: WordStore>(store: &S, address: u16) -> Option<Holder>
-    requires { has_bounds (S.words store.now) ≡ true }
-    ensures { result ≡ holder_in (standing_items (S.words store.now)) address }
+pub fn holder_of<W: ImageWords>(words: &W, address: u16) -> Option<Holder>
+    requires { IsBounded (W.words words.now) }
+    ensures { result ≡ holder_in (standing_items (W.words words.now)) address }
 {
-    let _ = store.size(); // so that the proof knows that there are fewer than 65,536 words
-    let top = store.read(TOP);
-    let mut at = first_record(store) as u16;
+    let _ = words.word_count(); // so that the proof knows that there are fewer than 65,536 words
+    let top = words.word(TOP);
+    let mut at = first_record(words) as u16;
     while at < top {
-        let Some(size) = whole_size(store, at, top) else {
+        let Some(size) = whole_size(words, at, top) else {
             return None;
         };
-        if let Some(found) = holder_at(store, at, address) {
+        if let Some(found) = holder_at(words, at, address) {
             return Some(found);
         }
         at += size;
@@ -41,12 +41,12 @@ pub fn holder_of<S: WordStore>(store: &S, address: u16) -> Option<Holder>
 }
 
 // The cell that stands in the word at an address, of what stands at another address.
-fn holder_at<S: WordStore>(store: &S, at: u16, address: u16) -> Option<Holder>
-    requires bounds { has_bounds (S.words store.now) ≡ true }
-    requires record { IsRecord (S.words store.now) at }
-    ensures { result ≡ holder_at (at, item_at (S.words store.now) at) address }
+fn holder_at<W: ImageWords>(words: &W, at: u16, address: u16) -> Option<Holder>
+    requires bounds { IsBounded (W.words words.now) }
+    requires record { IsRecord (W.words words.now) at }
+    ensures { result ≡ holder_at (at, item_at (W.words words.now) at) address }
 {
-    let Some(facts) = object_at(store, at) else {
+    let Some(facts) = object_at(words, at) else {
         return None;
     };
     let first = u32::from(at) + u32::from(HEADER);

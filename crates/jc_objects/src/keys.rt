@@ -2,7 +2,7 @@
 ghost use Rattle.std.specs.Prelude.{◌≡◌, ◌++◌, ◌∷◌, [], None, Some, true, length, IfOk, OnOk};
 ghost use Rattle.jc_heap.specs.Object.{cells_of};
 ghost use Rattle.jc_objects.specs.Keys.{array_of_key, can_hold, is_key, is_key_class, is_set_by, key_arrays, key_at, key_by};
-ghost use Rattle.jc_objects.specs.Bounds.{has_bounds};
+ghost use Rattle.jc_objects.specs.Bounds.{IsBounded};
 ghost use Rattle.jc_objects.specs.Places.{IsStanding};
 ghost use Rattle.jc_objects.specs.Records.{IsRecord, item_at};
 
@@ -10,9 +10,9 @@ use crate::bounds::first_record;
 use crate::places::{Standing, first_place, standing_from};
 use crate::records::{cell_of, object_at, whole_size};
 use jc_heap::{Facts, Kind};
+use jc_image::ImageWords;
 use jc_platform::names::PlatformClass;
 use jc_platform::platform::Platform;
-use jc_words::WordStore;
 use jc_words::layout::TOP;
 use std::alloc::{AllocError, Global};
 
@@ -60,57 +60,57 @@ fn is_key_class(found: Option<PlatformClass>) -> bool
 }
 
 /// The addresses of the arrays of all keys, up to a record that lacks words.
-pub fn key_arrays<S: WordStore>(
+pub fn key_arrays<W: ImageWords>(
     alloc: Global,
     platform: &Platform,
-    store: &S,
+    words: &W,
 ) -> Result<Vec<u16>, AllocError>
-    requires { has_bounds (S.words store.now) ≡ true }
-    ensures { IfOk result (λ found. found.items ≡ key_arrays platform.now (S.words store.now)) }
+    requires { IsBounded (W.words words.now) }
+    ensures { IfOk result (λ found. found.items ≡ key_arrays platform.now (W.words words.now)) }
 {
     let mut found = Vec::new(alloc);
-    push_key_arrays(&mut found, platform, store)?;
+    push_key_arrays(&mut found, platform, words)?;
     Ok(found)
 }
 
 // Adds them.
-fn push_key_arrays<S: WordStore>(
+fn push_key_arrays<W: ImageWords>(
     found: &mut Vec<u16>,
     platform: &Platform,
-    store: &S,
+    words: &W,
 ) -> Result<(), AllocError>
-    requires { has_bounds (S.words store.now) ≡ true }
+    requires { IsBounded (W.words words.now) }
     ensures { OnOk result (found.new.items ≡ found.old.items
-        ++ key_arrays platform.now (S.words store.now)) }
+        ++ key_arrays platform.now (W.words words.now)) }
 {
-    let _ = store.size(); // so that the proof knows that there are fewer than 65,536 words
-    let top = store.read(TOP);
-    let mut at = first_record(store) as u16;
+    let _ = words.word_count(); // so that the proof knows that there are fewer than 65,536 words
+    let top = words.word(TOP);
+    let mut at = first_record(words) as u16;
     while at < top {
-        let Some(size) = whole_size(store, at, top) else {
+        let Some(size) = whole_size(words, at, top) else {
             return Ok(());
         };
-        push_key_array(found, platform, store, at)?;
+        push_key_array(found, platform, words, at)?;
         at += size;
     }
     Ok(())
 }
 
 // Adds the address of the array of what stands at an address, if that is a key.
-fn push_key_array<S: WordStore>(
+fn push_key_array<W: ImageWords>(
     found: &mut Vec<u16>,
     platform: &Platform,
-    store: &S,
+    words: &W,
     at: u16,
 ) -> Result<(), AllocError>
-    requires bounds { has_bounds (S.words store.now) ≡ true }
-    requires record { IsRecord (S.words store.now) at }
+    requires bounds { IsBounded (W.words words.now) }
+    requires record { IsRecord (W.words words.now) at }
     ensures { OnOk result (found.new.items ≡ found.old.items
-        ++ array_of_key platform.now (at, item_at (S.words store.now) at)) }
+        ++ array_of_key platform.now (at, item_at (W.words words.now) at)) }
 {
-    match object_at(store, at) {
+    match object_at(words, at) {
         Some(facts) if is_key(platform, facts) => {
-            push_address(found, cell_of(store, at, facts, 1))
+            push_address(found, cell_of(words, at, facts, 1))
         }
         _ => Ok(()),
     }
@@ -125,13 +125,13 @@ fn push_address(found: &mut Vec<u16>, address: u16) -> Result<(), AllocError>
 }
 
 /// The secret key that the array at an address holds; none where no such array stands there.
-pub fn key_at<S: WordStore>(store: &S, address: u16) -> Option<KeyFacts>
-    requires { has_bounds (S.words store.now) ≡ true }
-    ensures { result ≡ key_at (S.words store.now) address }
+pub fn key_at<W: ImageWords>(words: &W, address: u16) -> Option<KeyFacts>
+    requires { IsBounded (W.words words.now) }
+    ensures { result ≡ key_at (W.words words.now) address }
 {
-    let mut place = first_place(store);
-    match standing_from(store, &mut place, address) {
-        Standing::Object(facts) if can_hold(facts) => Some(key_by(store, address, facts)),
+    let mut place = first_place(words);
+    match standing_from(words, &mut place, address) {
+        Standing::Object(facts) if can_hold(facts) => Some(key_by(words, address, facts)),
         _ => None,
     }
 }
@@ -144,24 +144,24 @@ fn can_hold(facts: Facts) -> bool
 }
 
 // The key that such an array holds.
-fn key_by<S: WordStore>(store: &S, at: u16, facts: Facts) -> KeyFacts
-    requires bounds { has_bounds (S.words store.now) ≡ true }
-    requires object { IsStanding (S.words store.now) at (Standing.Object facts) }
+fn key_by<W: ImageWords>(words: &W, at: u16, facts: Facts) -> KeyFacts
+    requires bounds { IsBounded (W.words words.now) }
+    requires object { IsStanding (W.words words.now) at (Standing.Object facts) }
     requires can_hold { can_hold facts ≡ true }
-    ensures { result ≡ key_by facts (cells_of (item_at (S.words store.now) at)) }
+    ensures { result ≡ key_by facts (cells_of (item_at (W.words words.now) at)) }
 {
     KeyFacts {
         size: 8 * (facts.length - 1),
-        is_set: is_set(store, at, facts),
+        is_set: is_set(words, at, facts),
     }
 }
 
 // Whether it is set.
-fn is_set<S: WordStore>(store: &S, at: u16, facts: Facts) -> bool
-    requires bounds { has_bounds (S.words store.now) ≡ true }
-    requires object { IsStanding (S.words store.now) at (Standing.Object facts) }
+fn is_set<W: ImageWords>(words: &W, at: u16, facts: Facts) -> bool
+    requires bounds { IsBounded (W.words words.now) }
+    requires object { IsStanding (W.words words.now) at (Standing.Object facts) }
     requires can_hold { can_hold facts ≡ true }
-    ensures { result ≡ is_set_by facts.event (cells_of (item_at (S.words store.now) at)) }
+    ensures { result ≡ is_set_by facts.event (cells_of (item_at (W.words words.now) at)) }
 {
-    facts.event.is_none() && cell_of(store, at, facts, 0) != 0
+    facts.event.is_none() && cell_of(words, at, facts, 0) != 0
 }

@@ -1,16 +1,13 @@
 //! What the cells of an image's objects are read by: its platform, and its packages.
-ghost use Rattle.std.specs.Prelude.{◌≡◌, Some, None, IfOk, MatchResult, false};
-ghost use Rattle.jc_heap.specs.Whole.{IsConsistent};
-ghost use Rattle.jc_packages.specs.Reading.{packages_of};
-ghost use Rattle.jc_objects.specs.Legends.{ArePackagesIn, HasNoneLinked, IsLegend, IsNotLinked, holds_reference, static_references};
+ghost use Rattle.std.specs.Prelude.{◌≡◌, Some, None, IfOk, MatchResult};
+ghost use Rattle.jc_objects.specs.Legends.{ArePackagesIn, IsLegend, IsNotLinked, holds_reference, static_references};
 
-use crate::image_objects::{ImageFault, opened, whole_of};
-use jc_heap::Heap;
+use crate::image_objects::{opened, whole_of};
 use jc_linker::linked::Linked;
-use jc_packages::reading::{RecordFault, read_packages};
+use jc_packages::fault::ReadFault;
+use jc_packages::reading::read_packages;
 use jc_platform::platform::Platform;
 use jc_transient::ClassWord;
-use jc_words::WordStore;
 use std::alloc::{AllocError, Global};
 
 /// The platform of an image and, where it is whole and they link, the packages that it has once it is recovered.
@@ -34,46 +31,28 @@ pub fn legend_of(alloc: Global, platform: Platform, words: Vec<u16>) -> Result<L
 }
 
 // The legend of an image whose packages are not known, unless memory was refused for them.
-fn without_packages(platform: Platform, fault: ImageFault) -> Result<Legend, AllocError>
+fn without_packages(platform: Platform, fault: ReadFault) -> Result<Legend, AllocError>
     ensures { IfOk result (λ legend. (legend.platform ≡ platform) × (legend.packages ≡ None)
-        × (fault ≡ ImageFault.Damaged)) }
+        × (fault ≡ ReadFault.Damaged)) }
 {
     match fault {
-        ImageFault::Damaged => Ok(Legend {
+        ReadFault::Damaged => Ok(Legend {
             platform,
             packages: None,
         }),
-        ImageFault::NoMemory => Err(AllocError),
+        ReadFault::NoMemory => Err(AllocError),
     }
 }
 
 // The packages of an image of these words, linked after those of a platform.
-fn linked_in(alloc: Global, platform: Platform, words: Vec<u16>) -> Result<Linked, ImageFault>
+fn linked_in(alloc: Global, platform: Platform, words: Vec<u16>) -> Result<Linked, ReadFault>
     ensures { MatchResult result (λ linked. ArePackagesIn platform words.items (Some linked))
         (λ fault. IsNotLinked platform words.items fault) }
 {
     let image = opened(words)?;
     let (_, heap) = whole_of(alloc, image)?;
-    let linked = packages_in(alloc, platform, &heap)?;
+    let linked = read_packages(alloc, platform, &heap)?;
     Ok(linked)
-}
-
-/// The packages of a heap, linked after those of a platform.
-pub(crate) fn packages_in<S: WordStore>(
-    alloc: Global,
-    platform: Platform,
-    heap: &Heap<S>,
-) -> Result<Linked, ImageFault>
-    requires up { heap.now.down ≡ false }
-    requires whole { IsConsistent heap.now.now }
-    ensures { MatchResult result (λ linked. packages_of platform heap.now.now ≡ Some linked)
-        (λ fault. HasNoneLinked platform heap.now.now fault) }
-{
-    match read_packages(alloc, platform, heap) {
-        Ok(linked) => Ok(linked),
-        Err(RecordFault::NoMemory) => Err(ImageFault::NoMemory),
-        Err(RecordFault::Damaged) => Err(ImageFault::Damaged),
-    }
 }
 
 impl Legend {

@@ -2,7 +2,6 @@
 #![tactic(auto)]
 
 pub mod bounds;
-pub mod cells;
 pub mod changes;
 pub mod class_texts;
 pub mod holders;

@@ -5,10 +5,11 @@ ghost use Rattle.jc_objects.specs.Pins.{AreTriesIn, AreTryWords, is_pin, noted};
 ghost use Rattle.jc_objects.specs.Legends.{HasNoPackages};
 ghost use Rattle.jc_packages.specs.Objects.{is_persistent_instance};
 
-use crate::image_objects::{ImageFault, opened, whole_of};
-use crate::legend::packages_in;
+use crate::image_objects::{opened, whole_of};
 use jc_heap::{Facts, Heap, Kind};
 use jc_linker::linked::Linked;
+use jc_packages::fault::ReadFault;
+use jc_packages::reading::read_packages;
 use jc_platform::names::PlatformClass;
 use jc_transient::Ref;
 use jc_words::WordStore;
@@ -18,13 +19,13 @@ use std::alloc::{AllocError, Global};
 const TRIES: u32 = 6;
 
 /// The addresses of the words with the tries that are left of the OwnerPINs which stand in an image, once it is recovered.
-pub fn try_words(alloc: Global, words: Vec<u16>) -> Result<Vec<u16>, ImageFault>
+pub fn try_words(alloc: Global, words: Vec<u16>) -> Result<Vec<u16>, ReadFault>
     ensures { MatchResult result (λ found. AreTriesIn words.items found.items)
         (λ fault. HasNoPackages words.items fault) }
 {
     let image = opened(words)?;
     let (platform, heap) = whole_of(alloc, image)?;
-    let linked = packages_in(alloc, platform, &heap)?;
+    let linked = read_packages(alloc, platform, &heap)?;
     let found = try_words_in(alloc, &linked, &heap)?;
     Ok(found)
 }

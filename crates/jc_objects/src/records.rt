@@ -1,30 +1,30 @@
 //! The records of a heap, one after another: objects, and packages.
-ghost use Rattle.std.specs.Prelude.{◌≡◌, ◌<◌, ◌+◌, ◌/◌, ◌==◌, if◌then◌else◌, None, Some, false, true, length, slice_index, IfSome};
-ghost use Rattle.jc_words.specs.Layout.{top_address};
+ghost use Rattle.std.specs.Prelude.{◌≡◌, ◌<◌, ◌≤◌, ◌+◌, ◌/◌, ◌==◌, if◌then◌else◌, None, Some, false, true, length, slice_index, IfSome};
+ghost use Rattle.jc_words.specs.Layout.{text_start, top_address};
 ghost use Rattle.jc_heap.specs.Image.{image, is_package, package_addresses};
 ghost use Rattle.jc_heap.specs.Object.{cells_of, event_of, header_size, is_header, is_packed, is_packed_header, kind_of, words_of_cells};
 ghost use Rattle.jc_heap.specs.Packed.{byte_in};
-ghost use Rattle.jc_objects.specs.Bounds.{has_bounds};
+ghost use Rattle.jc_objects.specs.Bounds.{IsBounded};
 ghost use Rattle.jc_objects.specs.Records.{IsRecord, item_at, object_in, record_size, whole_size};
 
 use jc_heap::layout::{HEADER, LENGTH, TRANSIENT};
 use jc_heap::{Facts, Kind};
+use jc_image::ImageWords;
 use jc_transient::{ClassWord, ClearEvent, OwnerWord};
-use jc_words::WordStore;
 use jc_words::layout::{ADDRESSES, MOST_PACKAGES, PACKAGES};
 
 // The size of a record that begins with no header: no image has that many words.
 const NO_HEADER: u32 = 65540;
 
 /// Whether a package's record begins at the address.
-pub fn begins_package<S: WordStore>(store: &S, at: u16) -> bool
-    requires { has_bounds (S.words store.now) ≡ true }
-    ensures { result ≡ is_package (package_addresses (image (S.words store.now))) at }
+pub fn begins_package<W: ImageWords>(words: &W, at: u16) -> bool
+    requires { IsBounded (W.words words.now) }
+    ensures { result ≡ is_package (package_addresses (image (W.words words.now))) at }
 {
-    let _ = store.size(); // so that the proof knows that there are fewer than 65,536 words
-    let count = store.read(PACKAGES).min(MOST_PACKAGES);
+    let _ = words.word_count(); // so that the proof knows that there are fewer than 65,536 words
+    let count = words.word(PACKAGES).min(MOST_PACKAGES);
     for k in 0..count {
-        if store.read(ADDRESSES + k) == at {
+        if words.word(ADDRESSES + k) == at {
             return true;
         }
     }
@@ -81,14 +81,15 @@ fn words_of_cells(packed: bool, length: u16) -> u32
 }
 
 // How many words the record at an address has: more than there can be, where it begins with no header.
-fn record_size<S: WordStore>(store: &S, at: u16, top: u16) -> u32
-    requires bounds { has_bounds (S.words store.now) ≡ true }
+fn record_size<W: ImageWords>(words: &W, at: u16, top: u16) -> u32
+    requires bounds { IsBounded (W.words words.now) }
+    requires low { text_start ≤ at }
     requires inside { at < top }
-    requires is_top { top ≡ slice_index (S.words store.now) top_address }
-    ensures { result ≡ record_size (S.words store.now) at }
+    requires is_top { top ≡ slice_index (W.words words.now) top_address }
+    ensures { result ≡ record_size (W.words words.now) at }
 {
-    let word = store.read(at);
-    if begins_package(store, at) {
+    let word = words.word(at);
+    if begins_package(words, at) {
         return u32::from(word).max(1);
     }
     if !begins_header(word) {
@@ -100,17 +101,18 @@ fn record_size<S: WordStore>(store: &S, at: u16, top: u16) -> u32
     if top - at < HEADER {
         return u32::from(HEADER);
     }
-    u32::from(HEADER) + words_of_cells(is_packed_header(word), store.read(at + LENGTH))
+    u32::from(HEADER) + words_of_cells(is_packed_header(word), words.word(at + LENGTH))
 }
 
-/// How many words the record at an address below the top has, where they lie below the top.
-pub fn whole_size<S: WordStore>(store: &S, at: u16, top: u16) -> Option<u16>
-    requires bounds { has_bounds (S.words store.now) ≡ true }
+/// How many words the record has that begins at an address after the first words; none where they do not all lie below the top.
+pub fn whole_size<W: ImageWords>(words: &W, at: u16, top: u16) -> Option<u16>
+    requires bounds { IsBounded (W.words words.now) }
+    requires low { text_start ≤ at }
     requires inside { at < top }
-    requires is_top { top ≡ slice_index (S.words store.now) top_address }
-    ensures { result ≡ whole_size (S.words store.now) at }
+    requires is_top { top ≡ slice_index (W.words words.now) top_address }
+    ensures { result ≡ whole_size (W.words words.now) at }
 {
-    let size = record_size(store, at, top);
+    let size = record_size(words, at, top);
     if size > u32::from(top - at) {
         return None;
     }
@@ -118,48 +120,49 @@ pub fn whole_size<S: WordStore>(store: &S, at: u16, top: u16) -> Option<u16>
 }
 
 // The word after a transient object's header, 0 where there is none.
-fn area_place<S: WordStore>(store: &S, at: u16, word: u16) -> u16
-    requires { (word / 256 ≡ 0 → ⊥) → at + header_size < length (S.words store.now) }
-    ensures { result ≡ (if word / 256 == 0 then 0 else slice_index (S.words store.now) (at + header_size)) }
+fn area_place<W: ImageWords>(words: &W, at: u16, word: u16) -> u16
+    requires low { text_start ≤ at }
+    requires there { (word / 256 ≡ 0 → ⊥) → at + header_size < length (W.words words.now) }
+    ensures { result ≡ (if word / 256 == 0 then 0 else slice_index (W.words words.now) (at + header_size)) }
 {
-    let _ = store.size(); // so that the proof knows that there are fewer than 65,536 words
+    let _ = words.word_count(); // so that the proof knows that there are fewer than 65,536 words
     if word / 256 == 0 {
         return 0;
     }
-    store.read(at + HEADER)
+    words.word(at + HEADER)
 }
 
 /// What the header of the object says whose record begins at an address; none, where it is a package's.
-pub fn object_at<S: WordStore>(store: &S, at: u16) -> Option<Facts>
-    requires bounds { has_bounds (S.words store.now) ≡ true }
-    requires record { IsRecord (S.words store.now) at }
-    ensures facts { result ≡ object_in (item_at (S.words store.now) at) }
+pub fn object_at<W: ImageWords>(words: &W, at: u16) -> Option<Facts>
+    requires bounds { IsBounded (W.words words.now) }
+    requires record { IsRecord (W.words words.now) at }
+    ensures facts { result ≡ object_in (item_at (W.words words.now) at) }
     ensures cells { IfSome result (λ f. f.event ≡ None
-        → length (cells_of (item_at (S.words store.now) at)) ≡ f.length) }
+        → length (cells_of (item_at (W.words words.now) at)) ≡ f.length) }
 {
-    let _ = store.size(); // so that the proof knows that there are fewer than 65,536 words
-    if begins_package(store, at) {
+    let _ = words.word_count(); // so that the proof knows that there are fewer than 65,536 words
+    if begins_package(words, at) {
         return None;
     }
-    Some(facts_at(store, at))
+    Some(facts_at(words, at))
 }
 
 // The same, where it is no package's.
-fn facts_at<S: WordStore>(store: &S, at: u16) -> Facts
-    requires bounds { has_bounds (S.words store.now) ≡ true }
-    requires record { IsRecord (S.words store.now) at }
-    requires object { is_package (package_addresses (image (S.words store.now))) at ≡ false }
-    ensures { Some result ≡ object_in (item_at (S.words store.now) at) }
+fn facts_at<W: ImageWords>(words: &W, at: u16) -> Facts
+    requires bounds { IsBounded (W.words words.now) }
+    requires record { IsRecord (W.words words.now) at }
+    requires object { is_package (package_addresses (image (W.words words.now))) at ≡ false }
+    ensures { Some result ≡ object_in (item_at (W.words words.now) at) }
 {
-    let _ = store.size(); // so that the proof knows that there are fewer than 65,536 words
-    let word = store.read(at);
-    let place = area_place(store, at, word);
+    let _ = words.word_count(); // so that the proof knows that there are fewer than 65,536 words
+    let word = words.word(at);
+    let place = area_place(words, at, word);
     let mut facts = Facts::new(
         kind_of(word % 256),
         event_of(word / 256),
-        ClassWord(store.read(at + 1)),
-        OwnerWord(store.read(at + 2)),
-        store.read(at + LENGTH),
+        ClassWord(words.word(at + 1)),
+        OwnerWord(words.word(at + 2)),
+        words.word(at + LENGTH),
         place,
     );
     facts.packed = is_packed_header(word);
@@ -184,16 +187,16 @@ pub fn is_packed(facts: Facts) -> bool
 }
 
 /// A cell of the persistent object with this header whose record begins at an address.
-pub fn cell_of<S: WordStore>(store: &S, at: u16, facts: Facts, i: u16) -> u16
-    requires bounds { has_bounds (S.words store.now) ≡ true }
-    requires record { IsRecord (S.words store.now) at }
-    requires object { object_in (item_at (S.words store.now) at) ≡ Some facts }
-    requires cell { i < length (cells_of (item_at (S.words store.now) at)) }
-    ensures { result ≡ slice_index (cells_of (item_at (S.words store.now) at)) i }
+pub fn cell_of<W: ImageWords>(words: &W, at: u16, facts: Facts, i: u16) -> u16
+    requires bounds { IsBounded (W.words words.now) }
+    requires record { IsRecord (W.words words.now) at }
+    requires object { object_in (item_at (W.words words.now) at) ≡ Some facts }
+    requires cell { i < length (cells_of (item_at (W.words words.now) at)) }
+    ensures { result ≡ slice_index (cells_of (item_at (W.words words.now) at)) i }
 {
-    let _ = store.size(); // so that the proof knows that there are fewer than 65,536 words
+    let _ = words.word_count(); // so that the proof knows that there are fewer than 65,536 words
     if is_packed(facts) {
-        return byte_in(store.read(at + HEADER + i / 2), i);
+        return byte_in(words.word(at + HEADER + i / 2), i);
     }
-    store.read(at + HEADER + i)
+    words.word(at + HEADER + i)
 }

@@ -17,8 +17,8 @@ use Rattle.jc_linker.specs.Linking.{with_package}
 use Rattle.jc_linker.specs.declared.fault.LinkFault.TheVariants as link
 use Rattle.jc_packages.specs.declared.load_refusal.LoadRefusal.{LoadRefusal}
 use Rattle.jc_packages.specs.declared.load_refusal.LoadRefusal.TheVariants.{OutOfSequence, UnknownTag, BadComponents, AidTaken, Full, LinkFailed, HeapFull}
-use Rattle.jc_packages.specs.declared.reading.RecordFault.{RecordFault}
-use Rattle.jc_packages.specs.declared.reading.RecordFault.TheVariants.{Damaged, NoMemory}
+use Rattle.jc_packages.specs.declared.fault.ReadFault.{ReadFault}
+use Rattle.jc_packages.specs.declared.fault.ReadFault.TheVariants.{Damaged, NoMemory}
 use Rattle.jc_packages.specs.PendingPackages.{PendingPackageValue, linked_components}
 
 -- the bytes of a component whose info stands there in a record, with its tag and its size in front
@@ -56,7 +56,7 @@ CannotBeTaken told tag (Some text) = (fault : CapFault) × (content_in told tag 
 CannotBeTaken told tag None = ⊥
 
 -- why a package that was refused is not read: the only refusal of it for want of memory is that of linking
-abbrev pub fault_of : LoadRefusal → RecordFault
+abbrev pub fault_of : LoadRefusal → ReadFault
 fault_of (LinkFailed link.NoMemory) = NoMemory
 fault_of (LinkFailed link.ImportMissing) = Damaged
 fault_of (LinkFailed link.ImportVersion) = Damaged

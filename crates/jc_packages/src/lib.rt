@@ -3,6 +3,7 @@
 #![tactic(auto)]
 
 mod entries;
+pub mod fault;
 mod incoming;
 mod infos;
 mod linking;

@@ -8,6 +8,7 @@ ghost use Rattle.jc_packages.specs.Reading.{CannotBeTaken, IsNoPackage, fault_of
 ghost use Rattle.jc_packages.specs.Reading.{with_prepared};
 ghost use Rattle.jc_packages.specs.PendingPackages.{linked_components, linked_texts};
 
+use crate::fault::ReadFault;
 use crate::linking::link_package;
 use crate::load::take_in;
 use crate::load_refusal::LoadRefusal;
@@ -22,15 +23,6 @@ use jc_platform::platform::Platform;
 use jc_transient::Ref;
 use jc_words::WordStore;
 use std::alloc::{AllocError, Global};
-
-/// Why packages are not read.
-#[derive(Clone, Copy)]
-pub enum RecordFault {
-    /// A record holds no package that links.
-    Damaged,
-    /// Memory was refused.
-    NoMemory,
-}
 
 fn push_byte(bytes: &mut Vec<u8>, byte: u8) -> Result<(), AllocError>
     ensures { OnOk result (bytes.new.items ≡ bytes.old.items ++ byte ∷ []) }
@@ -78,13 +70,13 @@ fn take_text<S: WordStore>(
     told: Option<Format>,
     tag: u8,
     load: &mut LoadedComponents,
-) -> Result<Option<Format>, RecordFault>
+) -> Result<Option<Format>, ReadFault>
     requires up { heap.now.down ≡ false }
     requires there { 0 < length (record_of heap.now.now at) }
     requires tag { 0 < tag }
     ensures took { IfOk result (λ format. taken (Ok format) load.new
         ≡ text_taken told load.old tag (text_in (record_of heap.now.now at) tag)) }
-    ensures damaged { result ≡ Err RecordFault.Damaged
+    ensures damaged { result ≡ Err ReadFault.Damaged
         → CannotBeTaken told tag (text_in (record_of heap.now.now at) tag) }
 {
     let Some(span) = heap.component(at, tag) else {
@@ -92,11 +84,11 @@ fn take_text<S: WordStore>(
     };
     let _size = size_of(span);
     let Ok(bytes) = read_text(alloc, heap, at, tag, span) else {
-        return Err(RecordFault::NoMemory);
+        return Err(ReadFault::NoMemory);
     };
     match take_in(told, load, tag, bytes) {
         Ok(format) => Ok(format),
-        Err(_) => Err(RecordFault::Damaged),
+        Err(_) => Err(ReadFault::Damaged),
     }
 }
 
@@ -106,12 +98,12 @@ fn take_texts<S: WordStore>(
     heap: &Heap<S>,
     at: Ref,
     load: &mut LoadedComponents,
-) -> Result<(), RecordFault>
+) -> Result<(), ReadFault>
     requires up { heap.now.down ≡ false }
     requires there { 0 < length (record_of heap.now.now at) }
     requires none { load.old ≡ no_components }
     ensures taken { OnOk result (load.new ≡ load_of (record_of heap.now.now at)) }
-    ensures damaged { result ≡ Err RecordFault.Damaged
+    ensures damaged { result ≡ Err ReadFault.Damaged
         → IsNoPackage (load_of (record_of heap.now.now at)) }
 {
     let told = take_text(alloc, heap, at, None, tags::HEADER, load)?;
@@ -131,11 +123,11 @@ fn load_of<S: WordStore>(
     alloc: Global,
     heap: &Heap<S>,
     at: Ref,
-) -> Result<LoadedComponents, RecordFault>
+) -> Result<LoadedComponents, ReadFault>
     requires up { heap.now.down ≡ false }
     requires there { 0 < length (record_of heap.now.now at) }
     ensures taken { IfOk result (λ load. load ≡ load_of (record_of heap.now.now at)) }
-    ensures damaged { result ≡ Err RecordFault.Damaged
+    ensures damaged { result ≡ Err ReadFault.Damaged
         → IsNoPackage (load_of (record_of heap.now.now at)) }
 {
     let mut load = LoadedComponents::new();
@@ -144,20 +136,20 @@ fn load_of<S: WordStore>(
 }
 
 // Why a package that was refused is not read.
-fn fault_of(refusal: LoadRefusal) -> RecordFault
+fn fault_of(refusal: LoadRefusal) -> ReadFault
     ensures { result ≡ fault_of refusal }
 {
     match refusal {
-        LoadRefusal::LinkFailed(LinkFault::NoMemory) => RecordFault::NoMemory,
-        _ => RecordFault::Damaged,
+        LoadRefusal::LinkFailed(LinkFault::NoMemory) => ReadFault::NoMemory,
+        _ => ReadFault::Damaged,
     }
 }
 
 // Links a package, and adds it.
-fn link_and_add(alloc: Global, linked: &mut Linked, whole: &Package) -> Result<(), RecordFault>
+fn link_and_add(alloc: Global, linked: &mut Linked, whole: &Package) -> Result<(), ReadFault>
     ensures added { OnOk result (with_prepared linked.old
         (linked_texts linked.old whole.now) ≡ Some linked.new) }
-    ensures damaged { result ≡ Err RecordFault.Damaged
+    ensures damaged { result ≡ Err ReadFault.Damaged
         → with_prepared linked.old (linked_texts linked.old whole.now) ≡ None }
 {
     match link_package(alloc, linked, whole) {
@@ -175,19 +167,19 @@ fn add_record<S: WordStore>(
     linked: &mut Linked,
     heap: &Heap<S>,
     at: Ref,
-) -> Result<(), RecordFault>
+) -> Result<(), ReadFault>
     requires up { heap.now.down ≡ false }
     requires there { 0 < length (record_of heap.now.now at) }
     ensures added { OnOk result (with_prepared linked.old
         (linked_components linked.old (load_of (record_of heap.now.now at))) ≡ Some linked.new) }
-    ensures damaged { result ≡ Err RecordFault.Damaged
+    ensures damaged { result ≡ Err ReadFault.Damaged
         → with_prepared linked.old (linked_components linked.old
         (load_of (record_of heap.now.now at))) ≡ None }
 {
     let load = load_of(alloc, heap, at)?;
     match Package::of(load) {
         Ok(whole) => link_and_add(alloc, linked, &whole),
-        Err(_) => Err(RecordFault::Damaged),
+        Err(_) => Err(ReadFault::Damaged),
     }
 }
 
@@ -197,14 +189,14 @@ pub fn read_packages<S: WordStore>(
     alloc: Global,
     platform: Platform,
     heap: &Heap<S>,
-) -> Result<Linked, RecordFault>
+) -> Result<Linked, ReadFault>
     requires up { heap.now.down ≡ false }
     requires whole { IsConsistent heap.now.now }
     ensures linked { IfOk result (λ linked. packages_of platform heap.now.now ≡ Some linked) }
-    ensures damaged { result ≡ Err RecordFault.Damaged → packages_of platform heap.now.now ≡ None }
+    ensures damaged { result ≡ Err ReadFault.Damaged → packages_of platform heap.now.now ≡ None }
 {
     let Ok(mut linked) = Linked::new(alloc, platform) else {
-        return Err(RecordFault::NoMemory);
+        return Err(ReadFault::NoMemory);
     };
     for k in 0..heap.packages() {
         let at = record_at(heap, k);

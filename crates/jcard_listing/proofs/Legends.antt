@@ -1,14 +1,17 @@
 -- What the cells of an image are read by.
-use Rattle.std.proofs.Common.{◌≡◌, List, ℕ, Some, Ok, Err, refl, subst, sym}
+use Rattle.std.proofs.Common.{◌≡◌, List, ℕ, Some, Ok, Err, arith, refl, subst, sym}
 use Rattle.jc_heap.specs.Image.{table_text}
+use Rattle.jc_objects.specs.Bounds.{IsBounded}
 use Rattle.jc_objects.specs.Legends.{ArePackagesIn, IsLegend}
 use Rattle.jc_objects.specs.declared.legend.Legend.{Legend}
+use Rattle.jc_packages.specs.ImageTables.{IsNoTable}
+use Rattle.jc_packages.specs.declared.fault.ReadFault.{ReadFault}
+use Rattle.jc_packages.specs.declared.fault.ReadFault.TheVariants.{Damaged, NoMemory}
 use Rattle.jc_platform.specs.Table.{Reads}
 use Rattle.jc_platform.specs.Tokens.{Tokens}
 use Rattle.jcard_listing.specs.Listing.{IsLegendOf}
-use Rattle.jcard_listing.specs.Table.{IsLegendFor, IsPlatformOf}
-use Rattle.jcard_listing.specs.declared.fault.ListFault.{ListFault}
-use Rattle.jcard_listing.specs.declared.fault.ListFault.TheVariants.{Unreadable, NoMemory}
+use Rattle.jcard_listing.specs.Fault.{list_fault}
+use Rattle.jcard_listing.specs.Table.{IsLegendFor}
 
 -- the legend of the words by their platform
 pub legend_told : (w items : List ℕ) (t : Tokens) (l : Legend) → items ≡ w → Reads (table_text w) (Ok t) → IsLegend t items l → IsLegendOf w (Some l)
@@ -17,7 +20,7 @@ legend_told w items t l same reads is = (
   (refl, subst (λ (u : Tokens). ArePackagesIn u w l.packages) (sym is.0) (subst (λ (v : List ℕ). ArePackagesIn t v l.packages) same is.1)),
 )
 
--- none, where they have no platform
-pub legend_untold : (fault : ListFault) (w : List ℕ) → IsPlatformOf w (Err fault) → IsLegendFor w (Err fault)
-legend_untold Unreadable w none = none
-legend_untold NoMemory w none = tt
+-- none, where they have no table
+pub legend_untold : (fault : ReadFault) (w : List ℕ) → IsBounded w → IsNoTable w fault → IsLegendFor w (Err (list_fault fault))
+legend_untold Damaged w b none = λ t reads. none t (omega (arith, b.first, b.fits), reads)
+legend_untold NoMemory w b none = tt

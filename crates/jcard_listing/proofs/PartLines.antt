@@ -5,7 +5,7 @@ use Rattle.std.specs.Prelude.{nat_lt, unwrap_or}
 use Rattle.std.proofs.lemmas.Bool.{cases_lt, eq-eqb, false≢true, le-ltb, ne_eqb}
 use Rattle.std.proofs.lemmas.List.{drop-drop, drop-take, get_or-drop, get_or-take, length-drop, take_all}
 use Rattle.jc_heap.specs.Components.{part_sizes, words_for}
-use Rattle.jc_objects.specs.Bounds.{has_bounds}
+use Rattle.jc_objects.specs.Bounds.{IsBounded}
 use Rattle.jc_objects.specs.Records.{IsRecord, are_whole_from, record_size, record_words, whole_from}
 use Rattle.jc_objects.proofs.ItemWords.{length-words, word_is, words_raw}
 use Rattle.jc_objects.proofs.Standing.{whole_end, whole_short, whole_step}
@@ -89,7 +89,7 @@ image_step k words at below first =
     ∙ ap₂ both (ap₂ (λ (l m : List ℕ). l ++ m) text last.0 ∙ append-nil (image_text k (drop 1 ws))) last.1
 
 -- its words
-pub image_words : (w : List ℕ) (at o left : ℕ) → has_bounds w ≡ true → IsRecord w at → o + (1 + left) ≡ record_size w at
+pub image_words : (w : List ℕ) (at o left : ℕ) → IsBounded w → IsRecord w at → o + (1 + left) ≡ record_size w at
     → drop 1 (drop o (record_words w at)) ≡ take left (drop (at + o + 1) w)
 image_words w at o left h there e =
     let size : record_size w at ≡ (o + 1) + left = omega (arith, e) in
@@ -101,7 +101,7 @@ image_words w at o left h there e =
     ∙ ap (take left) (drop-drop (o + 1) at w ∙ ap (λ (n : ℕ). drop n w) place)
 
 -- a word of a record
-pub part_word : (w : List ℕ) (at o k : ℕ) → has_bounds w ≡ true → IsRecord w at → o + k < record_size w at
+pub part_word : (w : List ℕ) (at o k : ℕ) → IsBounded w → IsRecord w at → o + k < record_size w at
     → get_or (drop o (record_words w at)) k 0 ≡ get_or w (at + o + k) 0
 part_word w at o k h there near =
     let place : at + (o + k) ≡ at + o + k = omega arith in
@@ -140,7 +140,7 @@ bytes_some w a left n e = elim (cases_lt left 2) [
 ]
 
 -- so the part is the last, and lacks words
-pub lacks_words : (w : List ℕ) (at o left : ℕ) → has_bounds w ≡ true → IsRecord w at → o + left ≡ record_size w at → 0 < left
+pub lacks_words : (w : List ℕ) (at o left : ℕ) → IsBounded w → IsRecord w at → o + left ≡ record_size w at → 0 < left
     → (get_or w (at + o) 0 ≡ 0 → ⊥) → None ≡ component_bytes w (at + o) left
     → length (record_words w at) - o ≤ part_sizes o (drop o (record_words w at))
 lacks_words w at o left h there e some other none =

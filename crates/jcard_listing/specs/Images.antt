@@ -1,10 +1,10 @@
 -- An image as it is listed, and the objects in it.
-use Rattle.std.specs.Prelude.{ℕ, ◌≡◌, ◌==◌, ◌&&◌, ◌||◌, not, true, Bool, List, [], Option, Some, None, if◌then◌else◌}
+use Rattle.std.specs.Prelude.{ℕ, ◌==◌, ◌&&◌, ◌||◌, not, Bool, List, [], Option, Some, None, if◌then◌else◌}
 use Rattle.std.specs.List.{list_any}
 use Rattle.jc_words.specs.Image.{HasSize}
 use Rattle.jc_heap.specs.Object.{Item, AnObject, APackage, cells_of}
 use Rattle.jc_objects.specs.declared.legend.Legend.{Legend}
-use Rattle.jc_objects.specs.Bounds.{has_bounds}
+use Rattle.jc_objects.specs.Bounds.{IsBounded}
 use Rattle.jc_objects.specs.Keys.{is_bytes, key_arrays}
 use Rattle.jc_objects.specs.Places.{IsStanding}
 use Rattle.jc_objects.specs.Records.{item_at}
@@ -30,10 +30,10 @@ hiding i hidden = record { legend = i.legend; words = i.words; hidden = hidden; 
 abbrev pub keys_in : ListedImage → Bool → List ℕ
 keys_in i secrets = if secrets then [] else key_arrays i.legend.platform i.words
 
--- the words are an image's, and its heap lies within its bounds
+-- the words are an image's, and its heap lies among them
 pub record IsWithinBounds (w : List ℕ) : Type 0 where
   pub size : HasSize w
-  pub bounds : has_bounds w ≡ true
+  pub bounds : IsBounded w
 
 -- an object with this header stands at this address and, if it is persistent, has as many cells as that says
 abbrev pub IsObjectIn : List ℕ → PlacedObject → Type 0

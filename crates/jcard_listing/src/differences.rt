@@ -1,7 +1,7 @@
 //! All that is not the same in two images.
 ghost use Rattle.std.specs.Prelude.{◌≡◌, Err, Some, true, IfOk};
 ghost use Rattle.jc_words.specs.Image.{HasSize};
-ghost use Rattle.jc_objects.specs.Bounds.{has_bounds};
+ghost use Rattle.jc_objects.specs.Bounds.{IsBounded};
 ghost use Rattle.jcard_listing.specs.InventoryLines.{line_if};
 ghost use Rattle.jcard_listing.specs.Areas.{areas_line};
 ghost use Rattle.jcard_listing.specs.Differences.{AreDifferences, AreToldTo, IsContentTold, area_lines, both_lines, content_lines, named_lines, placed_lines};
@@ -95,9 +95,9 @@ fn push_content<S: WordStore>(
     shown: Shown,
 ) -> Result<(), ListFault>
     requires size { HasSize (S.words store.now) }
-    requires bounds { has_bounds (S.words store.now) ≡ true }
+    requires bounds { IsBounded (S.words store.now) }
     requires other_size { HasSize (S.words other.now) }
-    requires other_bounds { has_bounds (S.words other.now) ≡ true }
+    requires other_bounds { IsBounded (S.words other.now) }
     ensures { IsContentTold (S.words store.now) (S.words other.now) shown text.old.items
         text.new.items result }
 {
@@ -119,7 +119,7 @@ fn push_beside_image<S: WordStore>(
 ) -> Result<(), ListFault>
     requires legend { IsLegendOf image.now.words (Some image.now.legend) }
     requires other_size { HasSize (S.words other.now) }
-    requires other_bounds { has_bounds (S.words other.now) ≡ true }
+    requires other_bounds { IsBounded (S.words other.now) }
     ensures { IsContentTold image.now.words (S.words other.now)
         (record { all = image.now.all; secrets = secrets }) text.old.items text.new.items result }
 {

@@ -1,9 +1,9 @@
 //! The lines of the journal's entries that count.
-ghost use Rattle.std.specs.Prelude.{◌≡◌, ◌<◌, ◌≤◌, ◌+◌, ◌-◌, ◌++◌, true, length, Option, OnOk};
+ghost use Rattle.std.specs.Prelude.{◌≡◌, ◌<◌, ◌≤◌, ◌+◌, ◌-◌, ◌++◌, length, Option, OnOk};
 ghost use Rattle.jc_words.specs.Image.{HasSize, log_of};
 ghost use Rattle.jc_words.specs.Layout.{text_start};
 ghost use Rattle.jc_commit.specs.Image.{capacity_of, count_of};
-ghost use Rattle.jc_objects.specs.Bounds.{has_bounds};
+ghost use Rattle.jc_objects.specs.Bounds.{IsBounded};
 ghost use Rattle.jcard_listing.specs.Entries.{cell_text, entry_lines, entry_text, found_text};
 ghost use Rattle.jcard_listing.specs.Fault.{Lists, each_line};
 ghost use Rattle.jc_objects.specs.Changes.{value_text};
@@ -25,7 +25,7 @@ pub(crate) fn push_entries<S: WordStore>(
     store: &S,
 ) -> Result<(), ListFault>
     requires size { HasSize (S.words store.now) }
-    requires bounds { has_bounds (S.words store.now) ≡ true }
+    requires bounds { IsBounded (S.words store.now) }
     ensures { Lists text.old.items text.new.items (each_line
         (entry_lines platform.now (S.words store.now)) (count_of (S.words store.now))) result }
 {
@@ -44,7 +44,7 @@ pub(crate) fn push_entry_at<S: WordStore>(
     before: u16,
 ) -> Result<(), ListFault>
     requires size { HasSize (S.words store.now) }
-    requires bounds { has_bounds (S.words store.now) ≡ true }
+    requires bounds { IsBounded (S.words store.now) }
     requires number { before < 65535 }
     ensures { Lists text.old.items text.new.items
         (entry_lines platform.now (S.words store.now) (before + 1)) result }
@@ -66,7 +66,7 @@ fn push_entry<S: WordStore>(
     before: u16,
 ) -> Result<(), AllocError>
     requires size { HasSize (S.words store.now) }
-    requires bounds { has_bounds (S.words store.now) ≡ true }
+    requires bounds { IsBounded (S.words store.now) }
     requires log { log ≡ log_of (S.words store.now) }
     requires entry { before < capacity_of (S.words store.now) }
     ensures { OnOk result (text.new.items ≡ text.old.items

@@ -1,7 +1,9 @@
 //! Why a listing ends early.
 ghost use Rattle.std.specs.Prelude.{◌≡◌};
+ghost use Rattle.jcard_listing.specs.Fault.{list_fault};
 ghost use Rattle.jcard_listing.specs.declared.fault.ListFault.TheVariants.{NoMemory};
 
+use jc_packages::fault::ReadFault;
 use std::alloc::AllocError;
 
 /// Why a listing ends early.
@@ -18,5 +20,16 @@ impl From<AllocError> for ListFault {
 
     fn from(_: AllocError) -> Self {
         ListFault::NoMemory
+    }
+}
+
+impl From<ReadFault> for ListFault {
+    ghost from_gives = { λ cause fault. fault ≡ list_fault cause };
+
+    fn from(cause: ReadFault) -> Self {
+        match cause {
+            ReadFault::Damaged => ListFault::Unreadable,
+            ReadFault::NoMemory => ListFault::NoMemory,
+        }
     }
 }

@@ -1,9 +1,10 @@
 //! An image as it is listed, and the objects in it.
-ghost use Rattle.std.specs.Prelude.{ℕ, ◌≡◌, ◌<◌, ◌++◌, true, length, slice_index, IfOk, IfSome, OnOk};
+ghost use Rattle.std.specs.Prelude.{ℕ, ◌≡◌, ◌<◌, ◌≤◌, ◌++◌, length, slice_index, IfOk, IfSome, OnOk};
 ghost use Rattle.jc_words.specs.Image.{HasSize};
+ghost use Rattle.jc_words.specs.Layout.{text_start};
 ghost use Rattle.jc_commit.specs.Image.{top_of};
 ghost use Rattle.jc_objects.specs.ClassTexts.{kind_text};
-ghost use Rattle.jc_objects.specs.Bounds.{first_record, has_bounds};
+ghost use Rattle.jc_objects.specs.Bounds.{IsBounded, first_record};
 ghost use Rattle.jc_objects.specs.Places.{IsPlaceFor, IsStanding, standing_at};
 ghost use Rattle.jc_objects.specs.Records.{IsRecord, item_at, whole_size};
 ghost use Rattle.jcard_listing.specs.Images.{IsObjectIn, cells_in, hiding, image_of, is_hidden, is_listed, keys_in, object_here};
@@ -58,7 +59,7 @@ impl<'a, S: WordStore> Image<'a, S> {
     /// The image of these words, all of whose bytes are shown.
     pub(crate) fn new(legend: &'a Legend, store: &'a S, all: bool) -> Image<'a, S>
         requires size { HasSize (S.words store.now) }
-        requires bounds { has_bounds (S.words store.now) ≡ true }
+        requires bounds { IsBounded (S.words store.now) }
         ensures { result ≡ image_of legend.now (S.words store.now) all }
     {
         Image {
@@ -92,7 +93,7 @@ impl<'a, S: WordStore> Image<'a, S> {
     pub(crate) fn store(&self) -> &'a S
         ensures words { S.words result.now ≡ self.now.words }
         ensures size { HasSize (S.words result.now) }
-        ensures bounds { has_bounds (S.words result.now) ≡ true }
+        ensures bounds { IsBounded (S.words result.now) }
     {
         self.store
     }
@@ -125,14 +126,15 @@ impl<'a, S: WordStore> Image<'a, S> {
     /// The first address after its heap.
     pub(crate) fn top(&self) -> u16
         ensures top { result ≡ top_of self.now.words }
-        ensures bounds { has_bounds self.now.words ≡ true }
+        ensures bounds { IsBounded self.now.words }
     {
         self.store.read(TOP)
     }
 
     /// How many words the record at an address has, where they lie below the top.
     pub(crate) fn record_size(&self, at: u16) -> Option<u16>
-        requires { at < top_of self.now.words }
+        requires low { text_start ≤ at }
+        requires inside { at < top_of self.now.words }
         ensures { result ≡ whole_size self.now.words at }
     {
         whole_size(self.store, at, self.store.read(TOP))

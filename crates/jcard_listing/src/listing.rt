@@ -1,7 +1,7 @@
 //! All that is listed of an image.
-ghost use Rattle.std.specs.Prelude.{◌≡◌, true, IfOk};
+ghost use Rattle.std.specs.Prelude.{IfOk};
 ghost use Rattle.jc_words.specs.Image.{HasSize};
-ghost use Rattle.jc_objects.specs.Bounds.{has_bounds};
+ghost use Rattle.jc_objects.specs.Bounds.{IsBounded};
 ghost use Rattle.jcard_listing.specs.Fault.{Lists};
 ghost use Rattle.jcard_listing.specs.Listing.{IsListed, IsListing, image_lines, shown_lines, tables_lines};
 
@@ -89,7 +89,7 @@ fn push_tables<S: WordStore>(
     store: &S,
 ) -> Result<(), ListFault>
     requires size { HasSize (S.words store.now) }
-    requires bounds { has_bounds (S.words store.now) ≡ true }
+    requires bounds { IsBounded (S.words store.now) }
     ensures { Lists text.old.items text.new.items
         (tables_lines legend.now (S.words store.now)) result }
 {

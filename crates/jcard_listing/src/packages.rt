@@ -1,8 +1,8 @@
 //! The lines of the packages' records.
-ghost use Rattle.std.specs.Prelude.{◌≡◌, ◌<◌, ◌≤◌, ◌+◌, ◌++◌, true, drop, length, slice_index, take, OnOk};
+ghost use Rattle.std.specs.Prelude.{◌≡◌, ◌<◌, ◌≤◌, ◌+◌, ◌++◌, drop, length, slice_index, take, OnOk};
 ghost use Rattle.jc_words.specs.Layout.{packages_address};
 ghost use Rattle.jc_heap.specs.Components.{words_for};
-ghost use Rattle.jc_objects.specs.Bounds.{has_bounds};
+ghost use Rattle.jc_objects.specs.Bounds.{IsBounded};
 ghost use Rattle.jc_objects.specs.Records.{IsRecord, record_size, record_words};
 ghost use Rattle.jcard_listing.specs.Fault.{Lists, each_line};
 ghost use Rattle.jcard_listing.specs.Packages.{component_bytes, component_text, head_text, image_text, package_lines, parts_lines, record_at, record_from, record_lines, static_text};
@@ -30,7 +30,7 @@ pub(crate) fn push_packages<S: WordStore>(
     legend: &Legend,
     store: &S,
 ) -> Result<(), ListFault>
-    requires { has_bounds (S.words store.now) ≡ true }
+    requires { IsBounded (S.words store.now) }
     ensures { Lists text.old.items text.new.items (each_line
         (package_lines legend.now (S.words store.now))
         (slice_index (S.words store.now) packages_address)) result }
@@ -49,7 +49,7 @@ pub(crate) fn push_package<S: WordStore>(
     store: &S,
     before: u16,
 ) -> Result<(), ListFault>
-    requires bounds { has_bounds (S.words store.now) ≡ true }
+    requires bounds { IsBounded (S.words store.now) }
     requires number { before < 65535 }
     ensures { Lists text.old.items text.new.items
         (package_lines legend.now (S.words store.now) (before + 1)) result }
@@ -62,7 +62,7 @@ pub(crate) fn push_package<S: WordStore>(
 
 // Where the record of the package after this many others stands, if its words lie in the heap.
 fn record_at<S: WordStore>(store: &S, before: u16) -> Option<Record>
-    requires { has_bounds (S.words store.now) ≡ true }
+    requires { IsBounded (S.words store.now) }
     ensures { result ≡ record_at (S.words store.now) before }
 {
     if before >= MOST_PACKAGES {
@@ -73,7 +73,7 @@ fn record_at<S: WordStore>(store: &S, before: u16) -> Option<Record>
 
 // The record at an address.
 fn record_from<S: WordStore>(store: &S, at: u16) -> Option<Record>
-    requires { has_bounds (S.words store.now) ≡ true }
+    requires { IsBounded (S.words store.now) }
     ensures { result ≡ record_from (S.words store.now) at }
 {
     let top = store.read(TOP);
@@ -94,7 +94,7 @@ fn push_record<S: WordStore>(
     number: u16,
     found: Record,
 ) -> Result<(), ListFault>
-    requires bounds { has_bounds (S.words store.now) ≡ true }
+    requires bounds { IsBounded (S.words store.now) }
     requires record { IsRecord (S.words store.now) found.at }
     requires size { found.size ≡ record_size (S.words store.now) found.at }
     ensures { Lists text.old.items text.new.items (record_lines legend.now (S.words store.now) number found) result }
@@ -121,7 +121,7 @@ fn push_parts<S: WordStore>(
     store: &S,
     found: Record,
 ) -> Result<(), ListFault>
-    requires bounds { has_bounds (S.words store.now) ≡ true }
+    requires bounds { IsBounded (S.words store.now) }
     requires record { IsRecord (S.words store.now) found.at }
     requires size { found.size ≡ record_size (S.words store.now) found.at }
     ensures { Lists text.old.items text.new.items

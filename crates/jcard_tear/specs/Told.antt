@@ -2,7 +2,7 @@
 use Rattle.std.specs.Prelude.{ℕ, ◌≡◌, ◌++◌, Bool, true, false, List, Option, Some, None}
 use Rattle.jc_objects.specs.ImageObjects.{AreObjectsOf}
 use Rattle.jc_objects.specs.declared.image_objects.ImageObjects.{ImageObjects}
-use Rattle.jc_objects.specs.Changes.{AreChangesTold}
+use Rattle.jc_objects.specs.Changes.{changes_text}
 use Rattle.jcard_outcomes.specs.declared.standing.Left.{Left}
 
 -- these objects, if any, are those of an image
@@ -18,4 +18,4 @@ AreObjectsAsked true before objects = (o : ImageObjects) × (objects ≡ Some o)
 -- the answers, and after them what changed since these objects stood
 abbrev pub IsTold : Option ImageObjects → Left → List ℕ → Type 0
 IsTold None left text = text ≡ left.answers.items
-IsTold (Some o) left text = (changes : List ℕ) × AreChangesTold o left.words.items changes × (text ≡ left.answers.items ++ changes)
+IsTold (Some o) left text = text ≡ left.answers.items ++ changes_text o left.words.items

@@ -13,8 +13,8 @@ use crate::recoveries::are_equal;
 use crate::runs::{RunFault, answers_over, left, recovered, run_copy, run_told};
 use crate::told::{left_told, objects_asked};
 use jc_card::power_up::PowerFault;
-use jc_objects::image_objects::ImageFault;
 use jc_objects::pins::try_words;
+use jc_packages::fault::ReadFault;
 use jcard_outcomes::report::Sweep;
 use jcard_outcomes::standing::Left;
 use jcard_script::script::ScriptFault;
@@ -205,8 +205,8 @@ pub(crate) fn tries_in(alloc: Global, left: &Left) -> Result<Vec<u16>, TearFault
     let copy = Vec::from_slice(alloc, &left.words)?;
     match try_words(alloc, copy) {
         Ok(tries) => Ok(tries),
-        Err(ImageFault::NoMemory) => Err(TearFault::NoMemory),
-        Err(ImageFault::Damaged) => Err(DAMAGED),
+        Err(ReadFault::NoMemory) => Err(TearFault::NoMemory),
+        Err(ReadFault::Damaged) => Err(DAMAGED),
     }
 }
 

@@ -6,7 +6,8 @@ ghost use Rattle.jcard_tear.specs.Told.{AreObjectsAsked, AreOfImage, IsTold};
 
 use crate::tearing::{DAMAGED, TearFault};
 use jc_objects::changes::push_changes;
-use jc_objects::image_objects::{ImageFault, ImageObjects, objects_of};
+use jc_objects::image_objects::{ImageObjects, objects_of};
+use jc_packages::fault::ReadFault;
 use jcard_outcomes::standing::Left;
 use std::alloc::{AllocError, Global};
 
@@ -25,8 +26,8 @@ pub fn objects_asked(
     }
     match objects_of(alloc, &before.words) {
         Ok(objects) => Ok(Some(objects)),
-        Err(ImageFault::NoMemory) => Err(TearFault::NoMemory),
-        Err(ImageFault::Damaged) => Err(DAMAGED),
+        Err(ReadFault::NoMemory) => Err(TearFault::NoMemory),
+        Err(ReadFault::Damaged) => Err(DAMAGED),
     }
 }
 

@@ -7,7 +7,7 @@ use Rattle.jc_objects.proofs.holders.holder_at.Goals.{then-is_some-via-then-is_s
 
 pub returns-then-is_some : goal.returns-then-is_some
 returns-then-is_some g c =
-    let w : List ℕ = g.S.WordStore.words c.args.store.now in
+    let w : List ℕ = g.W.ImageWords.words c.args.words.now in
     let f = c.in-Some.facts in
     elim c.then-is_some.branch [
       | then-is_some-via-then-is_some v ↦ not_there f (item_at w c.args.at) c.args.at c.args.address c.in-Some.ensures.facts
@@ -18,7 +18,7 @@ returns-then-is_some g c =
 
 pub returns-then-cell-from : goal.returns-then-cell-from
 returns-then-cell-from g c =
-    let w : List ℕ = g.S.WordStore.words c.args.store.now in
+    let w : List ℕ = g.W.ImageWords.words c.args.words.now in
     let f = c.in-Some.facts in
     let words : c.from-3.result - (c.from.result + c.from-2.result) ≡ c.args.address - (c.args.at + 4) = omega arith in
     not_there f (item_at w c.args.at) c.args.at c.args.address c.in-Some.ensures.facts
@@ -26,7 +26,7 @@ returns-then-cell-from g c =
 
 pub returns : goal.returns
 returns g c =
-    let w : List ℕ = g.S.WordStore.words c.args.store.now in
+    let w : List ℕ = g.W.ImageWords.words c.args.words.now in
     let f = c.in-Some.facts in
     let words : c.from-3.result - (c.from.result + c.from-2.result) ≡ c.args.address - (c.args.at + 4) = omega arith in
     let same : c.cell_behind-cell.result ≡ cell_behind f (c.args.address - (c.args.at + 4)) = c.cell_behind-cell.ensures ∙ ap (cell_behind f) words in

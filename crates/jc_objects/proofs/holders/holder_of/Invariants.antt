@@ -7,7 +7,7 @@ use Rattle.jc_objects.proofs.holders.holder_of.Given as goal
 -- what is left of the walk has the answer
 abbrev pub invariant-loop-at : goal.invariant-loop-at
 invariant-loop-at g l =
-    let w = g.S.WordStore.words l.store in
+    let w = g.W.ImageWords.words l.words in
     record {
       low : text_start ≤ l.at;
       high : l.at ≤ l.top;

@@ -12,39 +12,39 @@ use Rattle.jc_objects.proofs.keys.push_key_arrays.Goals as goal
 
 pub loop-at-init : goal.loop-at-init
 loop-at-init g c =
-    let w : List ℕ = g.S.WordStore.words c.args.store.now in
+    let w : List ℕ = g.W.ImageWords.words c.args.words.now in
     let t = c.args.platform.now in
     let b : Bounds w = bounds w c.requires in
     record {
       low = omega (arith, c.first_record-at.ensures);
-      high = omega (arith, b.first, c.first_record-at.ensures, c.read-top.ensures);
+      high = omega (arith, b.first, c.first_record-at.ensures, c.word-top.ensures);
       left = ap (λ (l : List ℕ). c.args.found.now.items ++ l)
           (sym (ap (arrays_from t w) c.first_record-at.ensures ∙ ap (flat_map (array_of_key t)) (items_first w c.requires).0));
     }
 
 pub returns-in_default : goal.returns-in_default
 returns-in_default g c =
-    let w : List ℕ = g.S.WordStore.words c.args.store.now in
+    let w : List ℕ = g.W.ImageWords.words c.args.words.now in
     let t = c.args.platform.now in
     let at : ℕ = c.loop-at.at in
     let items : List ℕ = c.loop-at.found.items in
     let short : top_of w - at < record_size w at = size_none w at c.in_default.ensures in
-    let none = items_short w c.requires at (omega (arith, c.read-top.ensures)) (omega (arith, short)) in
+    let none = items_short w c.requires at (omega (arith, c.word-top.ensures)) (omega (arith, short)) in
     sym (c.loop-at.invariant.left ∙ ap (λ (l : List (ℕ × Item)). items ++ flat_map (array_of_key t) l) none.0 ∙ append-nil items)
 
 pub loop-at-preserved : goal.loop-at-preserved
 loop-at-preserved g c =
-    let w : List ℕ = g.S.WordStore.words c.args.store.now in
+    let w : List ℕ = g.W.ImageWords.words c.args.words.now in
     let t = c.args.platform.now in
     let at : ℕ = c.loop-at.at in
     let items : List ℕ = c.loop-at.found.items in
     let size = size_some w at c.in-Some.size c.in-Some.ensures in
     let one : List ℕ = array_of_key t (at, item_at w at) in
     let rest : List ℕ = arrays_from t w (at + record_size w at) in
-    let step = items_step w c.requires at (omega (arith, size.1, c.read-top.ensures)) in
+    let step = items_step w c.requires at (omega (arith, size.1, c.word-top.ensures)) in
     record {
       low = omega (arith, c.loop-at.invariant.low);
-      high = omega (arith, size.0, size.1, c.read-top.ensures);
+      high = omega (arith, size.0, size.1, c.word-top.ensures);
       left = c.loop-at.invariant.left
           ∙ ap (λ (l : List (ℕ × Item)). items ++ flat_map (array_of_key t) l) step.0
           ∙ sym (append_assoc items one rest)
@@ -53,8 +53,8 @@ loop-at-preserved g c =
 
 pub returns : goal.returns
 returns g c =
-    let w : List ℕ = g.S.WordStore.words c.args.store.now in
+    let w : List ℕ = g.W.ImageWords.words c.args.words.now in
     let t = c.args.platform.now in
     let items : List ℕ = c.loop-at.found.items in
-    let none = items_end w c.requires c.loop-at.at (omega (arith, c.read-top.ensures)) in
+    let none = items_end w c.requires c.loop-at.at (omega (arith, c.word-top.ensures)) in
     sym (c.loop-at.invariant.left ∙ ap (λ (l : List (ℕ × Item)). items ++ flat_map (array_of_key t) l) none.0 ∙ append-nil items)

@@ -6,7 +6,7 @@ use Rattle.jc_objects.proofs.keys.push_key_arrays.Given as goal
 
 abbrev pub invariant-loop-at : goal.invariant-loop-at
 invariant-loop-at g l =
-    let w = g.S.WordStore.words l.store in
+    let w = g.W.ImageWords.words l.words in
     record {
       low : text_start ≤ l.at;
       high : l.at ≤ l.top;

@@ -6,10 +6,10 @@ use Rattle.jc_objects.proofs.places.first_place.Goals as goal
 
 pub overflow_cast-result : goal.overflow_cast-result
 overflow_cast-result g c =
-    let b : Bounds (g.S.WordStore.words c.args.store.now) = bounds (g.S.WordStore.words c.args.store.now) c.requires in
-    omega (arith, b.first, b.fits, c.first_record.ensures, c.size.ensures)
+    let b : Bounds (g.W.ImageWords.words c.args.words.now) = bounds (g.W.ImageWords.words c.args.words.now) c.requires in
+    omega (arith, b.first, b.fits, c.first_record.ensures, c.word_count.ensures)
 
 pub returns : goal.returns
 returns g c =
-    let w : List ℕ = g.S.WordStore.words c.args.store.now in
+    let w : List ℕ = g.W.ImageWords.words c.args.words.now in
     λ (a : ℕ). subst (λ (n : ℕ). IsPlaceFor w n a) (sym c.first_record.ensures) (place_first w a c.requires)

@@ -4,7 +4,7 @@ use Rattle.jc_objects.proofs.places.standing_from.Given as goal
 
 -- what is left of the walk has the answer
 abbrev pub invariant-loop-place : goal.invariant-loop-place
-invariant-loop-place g l = record { place : IsPlaceFor (g.S.WordStore.words l.store) l.place l.address }
+invariant-loop-place g l = record { place : IsPlaceFor (g.W.ImageWords.words l.words) l.place l.address }
 
 abbrev pub decreases-loop-place : goal.decreases-loop-place
 decreases-loop-place g l = l.top - l.place

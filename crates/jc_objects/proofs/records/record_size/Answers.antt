@@ -1,34 +1,35 @@
-use Rattle.std.proofs.Common.{arith, refl, ◌+◌, ◌≡◌, ◌/◌, ◌∙◌, ◌==◌, ap, sym, get_or, true, false, drop, Bool, List, ℕ}
+use Rattle.std.proofs.Common.{arith, length, refl, ◌+◌, ◌≡◌, ◌/◌, ◌∙◌, ◌==◌, ap, sym, get_or, true, false, drop, Bool, List, ℕ}
 use Rattle.std.proofs.lemmas.Bool.{ne_eqb, eq-eqb}
 use Rattle.std.proofs.lemmas.List.{length-drop, length-take, get_or_past}
 use Rattle.jc_words.specs.Layout.{top_address}
 use Rattle.jc_heap.specs.Object.{is_header, is_packed_header, words_of_cells}
 use Rattle.jc_heap.specs.Image.{image, package_addresses, is_package}
+use Rattle.jc_heap.proofs.Views.{readable}
 use Rattle.jc_heap.proofs.Walks.{word_at, word_from}
 use Rattle.jc_objects.proofs.HeapBounds.{Bounds, bounds}
 use Rattle.jc_objects.proofs.records.record_size.Goals as goal
 
-pub read-word-requires : goal.read-word-requires
-read-word-requires g c =
-    let b : Bounds (g.S.WordStore.words c.args.store.now) = bounds (g.S.WordStore.words c.args.store.now) c.requires.bounds in
-    omega (arith, b.fits, c.requires.is_top)
+pub word-word-requires : goal.word-word-requires
+word-word-requires g c =
+    let b : Bounds (g.W.ImageWords.words c.args.words.now) = bounds (g.W.ImageWords.words c.args.words.now) c.requires.bounds in
+    readable (length (g.W.ImageWords.words c.args.words.now)) c.args.at (omega (arith, b.fits, c.requires.is_top)) c.requires.low
 
-pub read-requires : goal.read-requires
-read-requires g c =
-    let b : Bounds (g.S.WordStore.words c.args.store.now) = bounds (g.S.WordStore.words c.args.store.now) c.requires.bounds in
-    omega (arith, b.fits, c.requires.is_top)
+pub word-requires : goal.word-requires
+word-requires g c =
+    let b : Bounds (g.W.ImageWords.words c.args.words.now) = bounds (g.W.ImageWords.words c.args.words.now) c.requires.bounds in
+    readable (length (g.W.ImageWords.words c.args.words.now)) (c.args.at + 3) (omega (arith, b.fits, c.requires.is_top)) (omega (arith, c.requires.low))
 
 pub returns-then-begins_package : goal.returns-then-begins_package
 returns-then-begins_package g c =
-    let w : List ℕ = g.S.WordStore.words c.args.store.now in
+    let w : List ℕ = g.W.ImageWords.words c.args.words.now in
     let is : is_package (package_addresses (image w)) c.args.at ≡ true = sym c.begins_package.ensures ∙ c.if-begins_package.true in
     rw is (omega (arith, word_at w c.args.at (omega arith)))
 
 pub returns-then-not-begins_header : goal.returns-then-not-begins_header
 returns-then-not-begins_header g c =
-    let w : List ℕ = g.S.WordStore.words c.args.store.now in
+    let w : List ℕ = g.W.ImageWords.words c.args.words.now in
     let is : is_package (package_addresses (image w)) c.args.at ≡ false = sym c.begins_package.ensures ∙ c.if-begins_package.false in
-    let word : c.read-word.result ≡ get_or (drop c.args.at (image w)) 0 0 = c.read-word.ensures
+    let word : c.word-word.result ≡ get_or (drop c.args.at (image w)) 0 0 = c.word-word.ensures
     ∙ sym (word_at w c.args.at (omega arith)) in
     let none : is_header (get_or (drop c.args.at (image w)) 0 0) ≡ false = ap is_header (sym word) ∙ sym c.begins_header.ensures
     ∙ c.if-not-begins_header.true in
@@ -36,9 +37,9 @@ returns-then-not-begins_header g c =
 
 pub returns-then-word-ne0 : goal.returns-then-word-ne0
 returns-then-word-ne0 g c =
-    let w : List ℕ = g.S.WordStore.words c.args.store.now in
+    let w : List ℕ = g.W.ImageWords.words c.args.words.now in
     let is : is_package (package_addresses (image w)) c.args.at ≡ false = sym c.begins_package.ensures ∙ c.if-begins_package.false in
-    let word : c.read-word.result ≡ get_or (drop c.args.at (image w)) 0 0 = c.read-word.ensures
+    let word : c.word-word.result ≡ get_or (drop c.args.at (image w)) 0 0 = c.word-word.ensures
     ∙ sym (word_at w c.args.at (omega arith)) in
     let header : is_header (get_or (drop c.args.at (image w)) 0 0) ≡ true = ap is_header (sym word) ∙ sym c.begins_header.ensures
     ∙ c.if-not-begins_header.false in
@@ -48,9 +49,9 @@ returns-then-word-ne0 g c =
 
 pub returns-then-top-at-lt-HEADER : goal.returns-then-top-at-lt-HEADER
 returns-then-top-at-lt-HEADER g c =
-    let w : List ℕ = g.S.WordStore.words c.args.store.now in
+    let w : List ℕ = g.W.ImageWords.words c.args.words.now in
     let is : is_package (package_addresses (image w)) c.args.at ≡ false = sym c.begins_package.ensures ∙ c.if-begins_package.false in
-    let word : c.read-word.result ≡ get_or (drop c.args.at (image w)) 0 0 = c.read-word.ensures
+    let word : c.word-word.result ≡ get_or (drop c.args.at (image w)) 0 0 = c.word-word.ensures
     ∙ sym (word_at w c.args.at (omega arith)) in
     let header : is_header (get_or (drop c.args.at (image w)) 0 0) ≡ true = ap is_header (sym word) ∙ sym c.begins_header.ensures
     ∙ c.if-not-begins_header.false in
@@ -67,9 +68,9 @@ returns-then-top-at-lt-HEADER g c =
 
 pub returns : goal.returns
 returns g c =
-    let w : List ℕ = g.S.WordStore.words c.args.store.now in
+    let w : List ℕ = g.W.ImageWords.words c.args.words.now in
     let is : is_package (package_addresses (image w)) c.args.at ≡ false = sym c.begins_package.ensures ∙ c.if-begins_package.false in
-    let word : c.read-word.result ≡ get_or (drop c.args.at (image w)) 0 0 = c.read-word.ensures
+    let word : c.word-word.result ≡ get_or (drop c.args.at (image w)) 0 0 = c.word-word.ensures
     ∙ sym (word_at w c.args.at (omega arith)) in
     let header : is_header (get_or (drop c.args.at (image w)) 0 0) ≡ true = ap is_header (sym word) ∙ sym c.begins_header.ensures
     ∙ c.if-not-begins_header.false in
@@ -80,5 +81,5 @@ returns g c =
     let cells : c.words_of_cells.result ≡ words_of_cells (is_packed_header (get_or (drop c.args.at (image w)) 0 0))
     (get_or w (c.args.at + 3) 0) =
     c.words_of_cells.ensures
-    ∙ (λ i. words_of_cells ((c.is_packed_header.ensures ∙ ap is_packed_header word) i) (c.read.ensures i)) in
+    ∙ (λ i. words_of_cells ((c.is_packed_header.ensures ∙ ap is_packed_header word) i) (c.word.ensures i)) in
     rw (is, header, persistent, fourth) (omega (arith, cells))

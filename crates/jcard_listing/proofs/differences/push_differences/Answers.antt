@@ -1,15 +1,18 @@
 use Rattle.std.proofs.Common.{List, ℕ}
 use Rattle.std.proofs.lemmas.Result.{err_from_is_err_and}
+use Rattle.jc_objects.proofs.HeapBounds.{bounded}
 use Rattle.jcard_listing.proofs.Differing.{areas_untold, content_told, first_bounds, other_bounds}
 use Rattle.jcard_listing.proofs.differences.push_differences.Goals as goal
 
 pub push_content-requires-clause-bounds : goal.push_content-requires-clause-bounds
 push_content-requires-clause-bounds g c =
-    first_bounds (g.S.WordStore.words c.args.store.now) (g.S.WordStore.words c.args.other.now) _ _ c.in_ok-push_area_pair.ensures
+    let w : List ℕ = g.S.WordStore.words c.args.store.now in
+    bounded w (first_bounds w (g.S.WordStore.words c.args.other.now) _ _ c.in_ok-push_area_pair.ensures)
 
 pub push_content-requires-clause-other_bounds : goal.push_content-requires-clause-other_bounds
 push_content-requires-clause-other_bounds g c =
-    other_bounds (g.S.WordStore.words c.args.store.now) (g.S.WordStore.words c.args.other.now) _ _ c.in_ok-push_area_pair.ensures
+    let v : List ℕ = g.S.WordStore.words c.args.other.now in
+    bounded v (other_bounds (g.S.WordStore.words c.args.store.now) v _ _ c.in_ok-push_area_pair.ensures)
 
 pub returns-in_err-push_area_pair : goal.returns-in_err-push_area_pair
 returns-in_err-push_area_pair g c =

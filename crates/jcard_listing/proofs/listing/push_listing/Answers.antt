@@ -1,5 +1,6 @@
 use Rattle.std.proofs.Common.{subst}
 use Rattle.std.proofs.lemmas.Result.{err_from_is_err_and}
+use Rattle.jc_objects.proofs.HeapBounds.{bounded}
 use Rattle.jcard_listing.specs.Fault.{Lists}
 use Rattle.jcard_listing.specs.Images.{ListedImage}
 use Rattle.jcard_listing.specs.Listing.{shown_lines}
@@ -7,7 +8,8 @@ use Rattle.jcard_listing.proofs.Listings.{areas_told, areas_untold, contents_tol
 use Rattle.jcard_listing.proofs.listing.push_listing.Goals as goal
 
 pub new-image-requires-clause-bounds : goal.new-image-requires-clause-bounds
-new-image-requires-clause-bounds g c = areas_told (g.S.WordStore.words c.args.store.now) _ _ c.in_ok-push_areas.ensures
+new-image-requires-clause-bounds g c =
+    bounded (g.S.WordStore.words c.args.store.now) (areas_told (g.S.WordStore.words c.args.store.now) _ _ c.in_ok-push_areas.ensures)
 
 pub returns-in_err-push_areas : goal.returns-in_err-push_areas
 returns-in_err-push_areas g c =

@@ -1,5 +1,0 @@
-use Rattle.jc_platform.proofs.OneAnswer.{no_fault}
-use Rattle.jcard_listing.proofs.table.platform_in.Goals as goal
-
-pub returns-in-Err : goal.returns-in-Err
-returns-in-Err c = λ t reads. no_fault c.args.text.now t c.in-Err.field-0 reads c.in-Err.ensures
