@@ -1,6 +1,7 @@
 //! What is left of a step where frames alone do not go on, and the exception that it throws.
 ghost use Rattle.std.specs.Prelude.{◌≡◌, ◌<◌, ◌^◌, ◌==◌, false, length, if◌then◌else◌, Ok, Err};
-ghost use Rattle.jc_frames.specs.declared.instr.Instr.TheVariants.{Array};
+ghost use Rattle.jc_frames.specs.declared.instr.Instr.TheVariants.{Array, Return};
+ghost use Rattle.jc_instructions.specs.MethodReturn.{method_return};
 ghost use Rattle.jc_frames.specs.declared.outcome.Outcome.TheVariants.{Fault};
 ghost use Rattle.jc_instructions.specs.ArrayOps.{array_instruction};
 ghost use Rattle.jc_world.specs.declared.step_exit.StepExit.TheVariants.{End};
@@ -67,6 +68,25 @@ fn in_package(frames: &Frames) -> Result<(), StepExit>
     Ok(())
 }
 
+// Ends the method, if the code has the instruction: code that was lent returns no reference.
+#[inline(always)]
+fn return_if_had<S: WordStore>(
+    how: ReturnOp,
+    frames: &mut Frames,
+    memory: &mut Memory<S>,
+) -> Result<(), StepExit>
+    ensures { Executes (if_had (Return how) frames.old (method_return how frames.old memory.old))
+        memory.old (after_instruction result frames.new memory.new) }
+{
+    match how {
+        ReturnOp::Areturn => {
+            in_package(frames)?;
+            return_to_caller(how, frames, memory)
+        }
+        ReturnOp::Sreturn | ReturnOp::Return => return_to_caller(how, frames, memory),
+    }
+}
+
 // Makes an array, or reads or writes its elements, if the code is a package's.
 #[inline(always)]
 fn array_of_package<S: WordStore>(
@@ -100,11 +120,7 @@ fn execute<S: WordStore>(
         frames.old memory.old)) memory.old (after_instruction result frames.new memory.new) }
 {
     match instr {
-        Instr::Return(ReturnOp::Areturn) => {
-            in_package(frames)?;
-            return_to_caller(ReturnOp::Areturn, frames, memory)
-        }
-        Instr::Return(how) => return_to_caller(*how, frames, memory),
+        Instr::Return(how) => return_if_had(*how, frames, memory),
         Instr::Field(field) => field_instruction(*field, frames, memory, linked),
         Instr::Array(ArrayOp::Load(of_type)) => {
             array_of_package(ArrayOp::Load(*of_type), frames, memory, linked)
