@@ -4,6 +4,7 @@ use Rattle.std.proofs.lemmas.Bool.{eqb-true}
 use Rattle.jc_memory.specs.State.{MemoryState}
 use Rattle.jc_memory.specs.Programs.{Program, Finish}
 use Rattle.jc_linker.specs.Values.{Packages}
+use Rattle.jc_linker.specs.Classes.{package_in}
 use Rattle.jc_linker.specs.Lookups.{target_at}
 use Rattle.jc_frames.specs.declared.instr.FieldOp.{FieldOp}
 use Rattle.jc_frames.specs.declared.instr.FieldOp.TheVariants.{GetStatic, PutStatic, GetField, PutField, GetFieldThis, PutFieldThis}
@@ -26,7 +27,7 @@ use Rattle.jc_interp.specs.Calling.{invoke_instruction}
 use Rattle.jc_interp.specs.Stepping.{if_had}
 
 no_target : (p : Packages) (index : ℕ) → target_at p 0 index ≡ None
-unfolding target_at
+unfolding target_at package_in
 no_target p index = refl
 
 no_field : (t : ValueType) (p : Packages) (index : ℕ) → field_named t p 0 index ≡ None
