@@ -38,6 +38,8 @@ use Rattle.jc_world.specs.Objects.{object_at, some_or_fault, check_or_fault, is_
 use Rattle.jc_api.specs.Kinds.{is_present_and}
 use Rattle.jc_instructions.specs.declared.invoke.MethodCall.{MethodCall}
 use Rattle.jc_instructions.specs.declared.invoke.SelectedCall.{SelectedCall}
+use Rattle.jc_instructions.specs.declared.invoke.CodeMethod.{CodeMethod}
+use Rattle.jc_instructions.specs.declared.enter.Callee.{Callee}
 use Rattle.jc_instructions.specs.Parameters.{fits}
 use Rattle.jc_platform.specs.Signatures.{argument_cells, is_constructor}
 use Rattle.jc_instructions.specs.MethodComponent.{method_component_of}
@@ -169,6 +171,20 @@ method_selection (Interface n index token) p s m = interface_by (target_at p s.c
 abbrev pub IsFoundAt : Packages → ℕ → ℕ → VirtualToken → PlatformMethod → PlatformMethod → Type 0
 IsFoundAt p own class token method found = (is_below p own class ≡ true) × (method_below p own class token (Native method) ≡ Some (Native found))
     × (argument_cells found ≡ argument_cells method)
+
+-- a virtual call that names this class and this method finds one in bytecode on instances of a class, with this header
+abbrev pub IsFoundCode : Packages → ℕ → ℕ → VirtualToken → Method → CodeMethod → Type 0
+IsFoundCode p own class token method found = (is_below p own class ≡ true)
+    × (method_below p own class token method ≡ Some (Code found.package_number found.offset))
+    × (header_of p (Code found.package_number found.offset) ≡ Some found.header)
+
+-- no rule refuses a call on an object, and the method that it runs runs for this owner, or for the caller's
+abbrev pub IsSwitchedTo : Access → Packages → MemoryState → Facts → Option Owner → Type 0
+IsSwitchedTo access p m f owner = (method : Method) (n : ℕ) → call_decision (firewall_decision access p m f) f method n ≡ Ok (call_of method n owner)
+
+-- the call of a method in bytecode
+abbrev pub call_of_code : Callee → MethodCall
+call_of_code c = call_of (Code c.package_number c.offset) c.arguments c.switches_to
 
 -- a call of a method of the platform was chosen, with as many cells as arguments as it takes
 abbrev pub ChoosesOfPlatform : Result MethodCall FrameExit → PlatformMethod → Type 0

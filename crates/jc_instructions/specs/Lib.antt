@@ -14,6 +14,7 @@ pub mod ObjectCreation
 pub mod MethodComponent
 pub mod Parameters
 pub mod Invoke
+pub mod KnownValues
 pub mod Enter
 pub mod Catch
 pub mod MethodReturn

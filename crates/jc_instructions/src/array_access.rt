@@ -5,7 +5,8 @@ ghost use Rattle.jc_world.specs.Instructions.{after_instruction};
 ghost use Rattle.jc_world.specs.Values.{IsValueOf};
 ghost use Rattle.jc_instructions.specs.ArrayAccess.{element_read, element_write, array_load, array_store, arraylength};
 
-use crate::array_elements::{array, element_at, element_value, with_index};
+use crate::array_elements::{array, element_value, with_index};
+use crate::known_values::known_value;
 use jc_frames::instr::ValueType;
 use jc_frames::{Cell, Frames};
 use jc_linker::linked::Linked;
@@ -13,11 +14,11 @@ use jc_memory::Memory;
 use jc_transient::{CellValue, Ref};
 use jc_words::WordStore;
 use jc_world::StepExit;
-use jc_world::values::{keepable, pop_value, value_at};
+use jc_world::values::{keepable, pop_value};
 
 // The element with this index of this array comes on the stack.
 #[inline(always)]
-#[tactic(auto, unfolding(crate::specs::ArrayAccess::element_read))]
+#[tactic(auto, unfolding(crate::specs::ArrayAccess::element_read, crate::specs::ArrayElements::element_at))]
 fn element_read<S: WordStore>(
     of_type: ValueType,
     reference: Ref,
@@ -31,8 +32,9 @@ fn element_read<S: WordStore>(
     ensures { Executes (element_read of_type reference index linked.now frames.old memory.now)
         memory.now (after_instruction result frames.new memory.now) }
 {
-    let element = element_at(of_type, reference, index, memory, linked)?;
-    frames.push(value_at(of_type, memory, reference, element.index));
+    let header = array(Some(of_type), reference, memory, linked)?;
+    let element = with_index(header, index)?;
+    frames.push(known_value(of_type, header, memory, reference, element.index));
     Ok(())
 }
 

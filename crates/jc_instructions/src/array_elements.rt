@@ -1,8 +1,9 @@
 //! Elements of arrays, as the code that runs may reach them.
 ghost use Rattle.std.specs.Prelude.{◌≡◌, ◌<◌, false, true, Some, IfOk, OnOk};
-ghost use Rattle.jc_heap.specs.Heap.{IsObject, facts};
+ghost use Rattle.jc_heap.specs.Heap.{IsObject};
+ghost use Rattle.jc_memory.specs.Cells.{IsHeaderOf};
 ghost use Rattle.jc_heap.specs.Whole.{IsReference};
-ghost use Rattle.jc_instructions.specs.ArrayElements.{has_elements, is_array, array_at, with_index, element_at, assignable_or_null, element_value, Refers};
+ghost use Rattle.jc_instructions.specs.ArrayElements.{has_elements, is_array, array_at, with_index, assignable_or_null, element_value, Refers};
 
 use jc_firewall::access::Access;
 use jc_frames::instr::ValueType;
@@ -70,7 +71,7 @@ pub(crate) fn array<S: WordStore>(
     requires { memory.now.heap.down ≡ false }
     ensures exact { result ≡ array_at of_type linked.now memory.now reference }
     ensures there { IfOk result (λ f. IsObject memory.now.heap.now reference
-        × (f ≡ facts memory.now.heap.now reference) × (is_array of_type f.kind ≡ true)) }
+        × IsHeaderOf memory.now reference f × (is_array of_type f.kind ≡ true)) }
 {
     let facts = object(reference, memory)?;
     if !is_array(of_type, facts.kind) {
@@ -94,26 +95,6 @@ pub(crate) fn with_index(facts: Facts, index: i16) -> Result<Element, FrameExit>
         index: index.cast_unsigned(),
         class: facts.class(),
     })
-}
-
-/// The element with an index of the array that a reference names.
-#[inline(always)]
-#[tactic(auto, unfolding(crate::specs::ArrayElements::element_at))]
-pub(crate) fn element_at<S: WordStore>(
-    of_type: ValueType,
-    reference: Ref,
-    index: i16,
-    memory: &Memory<S>,
-    linked: &Linked,
-) -> Result<Element, FrameExit>
-    requires { memory.now.heap.down ≡ false }
-    ensures exact { result ≡ element_at of_type linked.now memory.now reference index }
-    ensures there { IfOk result (λ e. IsObject memory.now.heap.now reference
-        × (e.index < (facts memory.now.heap.now reference).length)
-        × (has_elements of_type (facts memory.now.heap.now reference).kind ≡ true)) }
-{
-    let facts = array(Some(of_type), reference, memory, linked)?;
-    with_index(facts, index)
 }
 
 // Whether an object may be an element of an array of a class's instances: null may.

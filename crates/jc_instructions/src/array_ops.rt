@@ -18,6 +18,7 @@ use jc_world::StepExit;
 /// has another type, where a length is negative, and where there is no space or no room; a code fault where the stack's
 /// cells have other kinds, where the object is no such array, and where the pool's entry names no class.
 #[tactic(auto, unfolding(crate::specs::ArrayOps::array_instruction))]
+#[inline(always)]
 pub fn array_instruction<S: WordStore>(
     operation: ArrayOp,
     frames: &mut Frames,

@@ -1,23 +1,57 @@
 //! Fields of objects: `getfield`, `putfield` and their other forms.
-ghost use Rattle.std.specs.Prelude.{◌≡◌, ◌<◌, false, length, IfOk};
+ghost use Rattle.std.specs.Prelude.{◌≡◌, ◌<◌, false, length, IfOk, MatchResult, Ok, Err};
 ghost use Rattle.jc_heap.specs.declared.object.Kind.TheVariants.{Instance};
 ghost use Rattle.jc_heap.specs.Heap.{IsObject, facts};
+ghost use Rattle.jc_firewall.specs.declared.access.Access.TheVariants.{InstanceField};
+ghost use Rattle.jc_world.specs.Contexts.{firewall_check};
+ghost use Rattle.jc_memory.specs.Cells.{IsHeaderOf};
 ghost use Rattle.jc_memory.specs.Programs.{Executes};
 ghost use Rattle.jc_world.specs.Instructions.{after_instruction};
 ghost use Rattle.jc_instructions.specs.Fields.{field_cell, field_read, field_write, getfield, putfield, getfield_this, putfield_this};
 
 use crate::field_names::{FieldOfClass, field_named};
+use crate::known_values::known_value;
 use jc_firewall::access::Access;
 use jc_frames::instr::ValueType;
 use jc_frames::{CodeFault, FrameExit, Frames, Outcome};
+use jc_heap::Facts;
 use jc_linker::linked::Linked;
 use jc_memory::{FaultKind, Memory};
 use jc_transient::{CellValue, Ref};
 use jc_words::WordStore;
 use jc_world::StepExit;
-use jc_world::contexts::allow;
+use jc_world::contexts::{allow, is_own};
 use jc_world::objects::{is_instance_of, object};
-use jc_world::values::{keepable, pop_value, value_at};
+use jc_world::values::{keepable, pop_value};
+
+// Whether a field of an object may be reached; a refused access throws. It reads the header again, so that nobody has to keep it for it.
+#[inline(never)]
+fn allow_field<S: WordStore>(
+    reference: Ref,
+    memory: &Memory<S>,
+    linked: &Linked,
+) -> Result<(), FrameExit>
+    requires up { memory.now.heap.down ≡ false }
+    requires there { IsObject memory.now.heap.now reference }
+    ensures { result ≡ firewall_check InstanceField linked.now memory.now
+        (facts memory.now.heap.now reference) }
+{
+    allow(
+        Access::InstanceField,
+        memory.facts(reference),
+        memory,
+        linked,
+    )
+}
+
+// A cell of a field.
+#[derive(Clone, Copy)]
+struct FieldCell {
+    // The header of its object.
+    header: Facts,
+    // Its index.
+    index: u16,
+}
 
 // The cell of a field in the object that a reference names, as the code that runs may reach it.
 #[inline(always)]
@@ -27,12 +61,14 @@ fn field_cell<S: WordStore>(
     reference: Ref,
     memory: &Memory<S>,
     linked: &Linked,
-) -> Result<u16, FrameExit>
+) -> Result<FieldCell, FrameExit>
     requires { memory.now.heap.down ≡ false }
-    ensures exact { result ≡ field_cell field linked.now memory.now reference }
-    ensures there { IfOk result (λ i. IsObject memory.now.heap.now reference
-        × (i < (facts memory.now.heap.now reference).length)
-        × ((facts memory.now.heap.now reference).kind ≡ Instance)) }
+    ensures exact { MatchResult result
+        (λ cell. field_cell field linked.now memory.now reference ≡ Ok cell.index)
+        (λ stop. field_cell field linked.now memory.now reference ≡ Err stop) }
+    ensures there { IfOk result (λ cell. IsObject memory.now.heap.now reference
+        × IsHeaderOf memory.now reference cell.header × (cell.index < cell.header.length)
+        × (cell.header.kind ≡ Instance)) }
 {
     let facts = object(reference, memory)?;
     let here = is_instance_of(facts, field.class, linked);
@@ -40,8 +76,13 @@ fn field_cell<S: WordStore>(
         memory.notes().fault(FaultKind::WrongClass);
         return Err(FrameExit::End(Outcome::Fault));
     }
-    allow(Access::InstanceField, facts, memory, linked)?;
-    Ok(field.cell as u16)
+    if !is_own(facts, memory) {
+        allow_field(reference, memory, linked)?;
+    }
+    Ok(FieldCell {
+        header: facts,
+        index: field.cell as u16,
+    })
 }
 
 // The field of this object comes on the stack.
@@ -63,7 +104,7 @@ fn field_read<S: WordStore>(
     let package_number = frames.origin().package_number;
     let field = field_named(of_type, linked, package_number, index).ok_or(CodeFault)?;
     let cell = field_cell(field, reference, memory, linked)?;
-    frames.push(value_at(of_type, memory, reference, cell));
+    frames.push(known_value(of_type, cell.header, memory, reference, cell.index));
     Ok(())
 }
 
@@ -87,7 +128,7 @@ fn field_write<S: WordStore>(
     let field = field_named(of_type, linked, package_number, index).ok_or(CodeFault)?;
     let cell = field_cell(field, reference, memory, linked)?;
     let value = keepable(value, memory, linked)?;
-    memory.set(reference, cell, value)?;
+    memory.set(reference, cell.index, value)?;
     Ok(())
 }
 

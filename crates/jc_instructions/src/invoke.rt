@@ -1,18 +1,20 @@
 //! Which method a call runs, and for whom.
-ghost use Rattle.std.specs.Prelude.{◌≡◌, false, true, IfSome, Some, None, option_copied};
+ghost use Rattle.std.specs.Prelude.{◌≡◌, false, true, IfSome, Some, None, Ok, option_copied};
 ghost use Rattle.std.specs.Option.{option_map};
+ghost use Rattle.jc_heap.specs.Heap.{IsObject, facts};
 ghost use Rattle.jc_linker.specs.Classes.{is_below};
 ghost use Rattle.jc_linker.specs.Methods.{interface_method_at, method_below};
-ghost use Rattle.jc_linker.specs.declared.target.Method.TheVariants.{Native};
+ghost use Rattle.jc_linker.specs.declared.target.Method.TheVariants.{Code, Native};
 ghost use Rattle.jc_cap.specs.declared.pool.VirtualToken.{VirtualToken};
 ghost use Rattle.jc_world.specs.Answers.{and_then};
 ghost use Rattle.jc_world.specs.Contexts.{firewall_decision};
 ghost use Rattle.jc_world.specs.Objects.{check_or_fault, some_or_fault};
 ghost use Rattle.jc_platform.specs.Signatures.{argument_cells};
-ghost use Rattle.jc_instructions.specs.Invoke.{ChoosesOfPlatform, IsFoundAt, arguments_of, invokeinterface, invokespecial, invokestatic, invokevirtual, call_of, method_selection};
+ghost use Rattle.jc_instructions.specs.Invoke.{ChoosesOfPlatform, IsFoundAt, IsFoundCode, IsSwitchedTo, arguments_of, call_of_code, invokeinterface, invokespecial, invokestatic, invokevirtual, call_of, method_selection};
 ghost use Rattle.jc_instructions.specs.Invoke.{static_selection, class_of, fits_at_null, header_of, interface_access, interface_by, is_native_constructor};
 ghost use Rattle.jc_instructions.specs.Invoke.{is_null_on, is_of_any, call_decision, receiver_of, receiver_on, special_by, virtual_by, virtual_selection, with_header};
 
+use crate::enter::Callee;
 use crate::method_component::method_component_of;
 use crate::parameters::{fits, native_fits};
 use jc_cap::pool::VirtualToken;
@@ -414,9 +416,9 @@ fn invokeinterface<S: WordStore>(
     Ok(SelectedCall { call, header })
 }
 
-/// Which method a static call runs, as `select_method` says it, and what the method's header says.
+// Which method a static call runs, and what its header says.
 #[inline(always)]
-pub fn select_static_method(
+fn select_static_method(
     index: u16,
     frames: &Frames,
     linked: &Linked,
@@ -499,10 +501,9 @@ fn interface_by<S: WordStore>(
     }
 }
 
-/// Which method a virtual call runs, as `select_method` says it, and what the method's header says. `C` says whose
-/// copy it is, as there.
+// Which method a virtual call runs, and what its header says. `C` says whose copy it is.
 #[inline(always)]
-pub fn select_virtual_method<C, S: WordStore>(
+fn select_virtual_method<C, S: WordStore>(
     index: u16,
     frames: &Frames,
     memory: &Memory<S>,
@@ -626,6 +627,202 @@ pub fn method_of_platform<S: WordStore>(
         }
         _ => None,
     }
+}
+
+/// A virtual call of a method in bytecode, and what the header of the method says that it runs.
+#[derive(Clone, Copy)]
+pub struct CodeCall {
+    pub callee: Callee,
+    pub header: Header,
+}
+
+/// A method in bytecode, and what its header says.
+#[derive(Clone, Copy)]
+pub struct CodeMethod {
+    pub package_number: u8,
+    pub offset: u16,
+    pub header: Header,
+}
+
+// The method in bytecode that a virtual call finds on an instance of a class below the one that its entry names with this method, if it is
+// one whose header is not cut.
+#[tactic(auto, unfolding(crate::specs::Invoke::header_of))]
+#[inline(never)]
+fn overriding(
+    own: ClassWord,
+    class: ClassWord,
+    token: VirtualToken,
+    method: Method,
+    linked: &Linked,
+) -> Option<CodeMethod>
+    ensures { IfSome result (IsFoundCode linked.now own class token method) }
+{
+    if !linked.is_below(own, class) {
+        return None;
+    }
+    match linked.method_below(own, class, token, method) {
+        Some(
+            Method::Code {
+                package_number,
+                offset,
+            },
+        ) => {
+            let header = header_at(method_component_of(package_number, linked), offset)?;
+            Some(CodeMethod {
+                package_number,
+                offset,
+                header,
+            })
+        }
+        _ => None,
+    }
+}
+
+// The same where the class may be the one that the entry names, whose method is this one.
+#[tactic(auto, using(crate::proofs::Same::method_itself, jc_world::proofs::Below::below_same), unfolding(crate::specs::Invoke::header_of))]
+#[inline(always)]
+fn overriding_or_own(
+    own: ClassWord,
+    class: ClassWord,
+    token: VirtualToken,
+    method: CodeMethod,
+    linked: &Linked,
+) -> Option<CodeMethod>
+    requires { header_of linked.now (Code method.package_number method.offset)
+        ≡ Some method.header }
+    ensures { IfSome result (IsFoundCode linked.now own class token
+        (Code method.package_number method.offset)) }
+{
+    if class == own {
+        return Some(method);
+    }
+    let named = Method::Code {
+        package_number: method.package_number,
+        offset: method.offset,
+    };
+    overriding(own, class, token, named, linked)
+}
+
+// The owner for whom a method runs that an access calls on an object, where that is another one than the caller's; nothing where a rule refuses the
+// call. It reads the header again, so that nobody has to keep it for it.
+#[inline(never)]
+fn switched_owner<S: WordStore>(
+    access: Access,
+    receiver: Ref,
+    memory: &Memory<S>,
+    linked: &Linked,
+) -> Option<Option<Owner>>
+    requires up { memory.now.heap.down ≡ false }
+    requires there { IsObject memory.now.heap.now receiver }
+    ensures { IfSome result (IsSwitchedTo access linked.now memory.now
+        (facts memory.now.heap.now receiver)) }
+{
+    let facts = memory.facts(receiver);
+    match firewall_decision(access, facts, memory, linked) {
+        Decision::Allow => Some(None),
+        Decision::Switch(_) => Some(Some(Owner::of(facts.owner()))),
+        _ => None,
+    }
+}
+
+/// The method in bytecode that a virtual call runs whose entry names this one in bytecode, with how many arguments, and for whom, where that can be
+/// told at once: no receiver is null, no rule refuses the call, and no header is cut. Else nothing.
+#[tactic(auto, unfolding(crate::specs::Invoke::invokevirtual, crate::specs::Invoke::arguments_of, crate::specs::Invoke::receiver_of, crate::specs::Invoke::header_of, crate::specs::Parameters::fits))]
+#[inline(always)]
+pub fn select_code<S: WordStore>(
+    class: ClassWord,
+    token: VirtualToken,
+    package_number: u8,
+    offset: u16,
+    frames: &Frames,
+    memory: &Memory<S>,
+    linked: &Linked,
+) -> Option<CodeCall>
+    requires up { memory.now.heap.down ≡ false }
+    ensures chosen { IfSome result (λ r. invokevirtual class token (Code package_number offset)
+        linked.now frames.now.current.stack memory.now ≡ Ok (call_of_code r.callee)) }
+    ensures header { IfSome result (λ r. header_of linked.now
+        (Code r.callee.package_number r.callee.offset) ≡ Some r.header) }
+{
+    let header = header_at(method_component_of(package_number, linked), offset)?;
+    let arguments = header.arguments;
+    let receiver = receiver_on(arguments, frames)?;
+    if receiver.is_null() {
+        return None;
+    }
+    let facts = object(receiver, memory).ok()?;
+    let named = CodeMethod {
+        package_number,
+        offset,
+        header,
+    };
+    let found = overriding_or_own(class_of(facts, linked), class, token, named, linked)?;
+    let switches_to = if is_own(facts, memory) {
+        None
+    } else {
+        switched_owner(Access::VirtualCall, receiver, memory, linked)?
+    };
+    Some(CodeCall {
+        callee: Callee {
+            package_number: found.package_number,
+            offset: found.offset,
+            arguments,
+            switches_to,
+        },
+        header: found.header,
+    })
+}
+
+/// The same of a call of an interface's method by token.
+#[tactic(auto, unfolding(crate::specs::Invoke::invokeinterface, crate::specs::Invoke::receiver_of, crate::specs::Invoke::header_of, crate::specs::Parameters::fits))]
+#[inline(always)]
+pub fn select_interface_code<S: WordStore>(
+    interface: ClassWord,
+    arguments: u8,
+    token: u8,
+    frames: &Frames,
+    memory: &Memory<S>,
+    linked: &Linked,
+) -> Option<CodeCall>
+    requires up { memory.now.heap.down ≡ false }
+    ensures chosen { IfSome result (λ r. invokeinterface interface arguments token linked.now
+        frames.now.current.stack memory.now ≡ Ok (call_of_code r.callee)) }
+    ensures header { IfSome result (λ r. header_of linked.now
+        (Code r.callee.package_number r.callee.offset) ≡ Some r.header) }
+{
+    let receiver = receiver_on(arguments, frames)?;
+    if receiver.is_null() {
+        return None;
+    }
+    let facts = object(receiver, memory).ok()?;
+    let found = implementation(class_of(facts, linked), interface, token, linked).ok()?;
+    let Method::Code {
+        package_number,
+        offset,
+    } = found
+    else {
+        return None;
+    };
+    let header = header_at(method_component_of(package_number, linked), offset)?;
+    let switches_to = if is_own(facts, memory) {
+        None
+    } else {
+        switched_owner(
+            interface_access(interface, linked),
+            receiver,
+            memory,
+            linked,
+        )?
+    };
+    Some(CodeCall {
+        callee: Callee {
+            package_number,
+            offset,
+            arguments,
+            switches_to,
+        },
+        header,
+    })
 }
 
 /// Which method a call runs, with how many arguments, and for whom; and what the method's header says.

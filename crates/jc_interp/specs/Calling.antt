@@ -17,7 +17,7 @@ use Rattle.jc_world.specs.declared.native_result.NativeResult.TheVariants.{Retur
 use Rattle.jc_world.specs.Instructions.{continue_with, if_ok, if_some, exit_of}
 use Rattle.jc_instructions.specs.declared.invoke.MethodCall.{MethodCall}
 use Rattle.jc_instructions.specs.ServerCall.{server_call}
-use Rattle.jc_instructions.specs.Invoke.{method_selection}
+use Rattle.jc_instructions.specs.Invoke.{invokestatic, method_selection}
 use Rattle.jc_instructions.specs.Enter.{method_entry}
 use Rattle.jc_platform.specs.Signatures.{argument_cells}
 use Rattle.jc_interp.specs.Natives.{native_call}
@@ -50,6 +50,10 @@ invoke_selected (Code number offset) c place p s m = method_entry (record {
   switches_to = c.switches_to;
 }) (record { place = place; kind = Instruction }) p s m
 invoke_selected (Native method) c place p s m = native_invoke method c.arguments place p s m
+
+-- a static call of this method by the instruction at a place
+abbrev pub static_invoke : Method → ℕ → Packages → Frames → MemoryState → Program (Next Frames)
+static_invoke method place p s m = if_ok s (invokestatic method p) (λ c. invoke_selected c.method c place p s m)
 
 -- a call by the instruction at a place
 unfoldable pub invoke_instruction : InvokeOp → ℕ → Packages → Frames → MemoryState → Program (Next Frames)

@@ -17,7 +17,7 @@ use Rattle.jc_interp.specs.declared.frames_only.PausedStep.{PausedStep}
 use Rattle.jc_interp.specs.declared.frames_only.FramesExit.{FramesExit}
 use Rattle.jc_interp.specs.declared.frames_only.FramesExit.TheVariants.{Exit, Needs}
 use Rattle.jc_interp.specs.Calling.{invoke_instruction}
-use Rattle.jc_interp.specs.Stepping.{throw_from, object_instruction}
+use Rattle.jc_interp.specs.Stepping.{if_had, throw_from, object_instruction}
 use Rattle.jc_interp.specs.Running.{or_end, run_of}
 
 -- what an instruction at a place may do that needs more than frames, with the next instruction after it; any other is no such one
@@ -29,10 +29,10 @@ memory_instruction (Object operation) place p s m = object_instruction operation
 memory_instruction (Invoke method) place p s m = invoke_instruction method place p s m
 memory_instruction other place p s m = Finish (Ends Fault)
 
--- what is left of an instruction at a place
+-- what is left of an instruction at a place, if the code has it
 abbrev pub paused_rest : FramesExit → ℕ → Packages → Frames → MemoryState → Program (Next Frames)
 paused_rest (Exit stop) place p s m = exit_of s stop
-paused_rest (Needs instr) place p s m = memory_instruction instr place p s m
+paused_rest (Needs instr) place p s m = if_had instr s (memory_instruction instr place p s m)
 
 -- an instruction at a place, of which frames did what they can
 abbrev pub after_part : Result (Unit {0}) FramesExit → ℕ → Packages → Frames → MemoryState → Program (Next Frames)

@@ -41,6 +41,10 @@ is_plain (Object operation) = false
 is_plain (Invoke method) = false
 is_plain _ = true
 
+-- what an instruction may do, where the code has it; code that was lent ends by a code fault at any other
+abbrev pub if_had : Instr → Frames → Program (Next Frames) → Program (Next Frames)
+if_had instr s program = if is_plain instr || not (s.current.origin.package_number == 0) then program else Finish (Ends Fault)
+
 -- the frames with the next instruction at a place
 abbrev pub at_place : Frames → ℕ → Frames
 at_place s place = record s { current = record s.current { place = place } }
@@ -69,8 +73,7 @@ instruction_at (Invoke method) code place p s m = invoke_instruction method plac
 -- the instruction that was decoded at the frame's place, or a code fault where there is none
 abbrev pub fetch : Option (Instr × ℕ) → List ℕ → Packages → Frames → MemoryState → Program (Next Frames)
 fetch None code p s m = Finish (Ends Fault)
-fetch (Some i) code p s m =
-    if is_plain i.0 || not (s.current.origin.package_number == 0) then instruction_at i.0 code s.current.place p (at_place s i.1) m else Finish (Ends Fault)
+fetch (Some i) code p s m = if_had i.0 s (instruction_at i.0 code s.current.place p (at_place s i.1) m)
 
 -- what the instruction at the frame's place may do
 unfoldable pub instruction_step : List ℕ → Packages → Frames → MemoryState → Program (Next Frames)

@@ -1,20 +1,23 @@
 //! Calls: methods of the platform are carried out at once, those in bytecode get a frame.
-ghost use Rattle.std.specs.Prelude.{◌≡◌, false, IfSome, Some, option_copied};
-ghost use Rattle.jc_frames.specs.declared.instr.InvokeOp.TheVariants.{Virtual};
+ghost use Rattle.std.specs.Prelude.{◌≡◌, false, IfSome, Some, Ok};
+ghost use Rattle.jc_frames.specs.declared.instr.InvokeOp.TheVariants.{Static, Virtual};
+ghost use Rattle.jc_frames.specs.declared.method.CallKind.TheVariants.{Instruction};
+ghost use Rattle.jc_linker.specs.declared.target.Method.TheVariants.{Code, Native};
 ghost use Rattle.jc_linker.specs.Lookups.{target_at};
 ghost use Rattle.jc_memory.specs.Programs.{Executes};
 ghost use Rattle.jc_world.specs.Instructions.{after_instruction};
-ghost use Rattle.jc_instructions.specs.Invoke.{header_of, method_selection, with_header};
+ghost use Rattle.jc_instructions.specs.Invoke.{call_of_code, header_of, method_selection};
 ghost use Rattle.jc_platform.specs.Signatures.{argument_cells};
-ghost use Rattle.jc_interp.specs.Calling.{after_native_return, invoke_instruction, invoke_selected, native_invoke};
+ghost use Rattle.jc_interp.specs.Calling.{after_native_return, invoke_instruction, invoke_selected, native_invoke, static_invoke};
 
 use crate::natives::call_native;
 use jc_frames::instr::InvokeOp;
-use jc_frames::{CallKind, FrameExit, Frames, Outcome};
+use jc_frames::{CallKind, Frames, Outcome, header_at};
 use jc_instructions::enter::{CallSite, Callee, enter};
 use jc_instructions::invoke::{
-    SelectedCall, method_of_platform, select_method, select_static_method, select_virtual_method,
+    CodeCall, SelectedCall, method_of_platform, select_code, select_interface_code, select_method,
 };
+use jc_instructions::method_component::method_component_of;
 use jc_instructions::server_call::call_server;
 use jc_linker::linked::Linked;
 use jc_linker::target::{Method, Target};
@@ -23,9 +26,9 @@ use jc_platform::names::PlatformMethod;
 use jc_words::WordStore;
 use jc_world::{NativeResult, StepExit};
 
-// The frames go on with what a method of the platform answered, whose arguments were taken.
-#[inline(always)]
-fn answer<S: WordStore>(
+// The frames go on with what a method of the platform answered, whose arguments were taken, out of line.
+#[inline(never)]
+fn rare_answer<S: WordStore>(
     answer: NativeResult,
     place: u16,
     frames: &mut Frames,
@@ -47,6 +50,29 @@ fn answer<S: WordStore>(
             frames.null_dead(memory.top());
             Ok(())
         }
+    }
+}
+
+// The same, where what most methods answer stays in line.
+#[inline(always)]
+fn answer<S: WordStore>(
+    answer: NativeResult,
+    place: u16,
+    frames: &mut Frames,
+    memory: &mut Memory<S>,
+    linked: &Linked,
+) -> Result<(), StepExit>
+    requires up { memory.old.heap.down ≡ false }
+    ensures { Executes (after_native_return answer place linked.now frames.old memory.old)
+        memory.old (after_instruction result frames.new memory.new) }
+{
+    match answer {
+        NativeResult::ReturnVoid => Ok(()),
+        NativeResult::ReturnValue(cell) => {
+            frames.try_push(cell)?;
+            Ok(())
+        }
+        other => rare_answer(other, place, frames, memory, linked),
     }
 }
 
@@ -95,6 +121,17 @@ fn invoke_native<S: WordStore>(
     carry_out_native(method, count, place, frames, memory, linked)
 }
 
+// Where a call by the instruction at a place comes from.
+#[inline(always)]
+const fn called_at(place: u16) -> CallSite
+    ensures { result ≡ record { place = place; kind = Instruction } }
+{
+    CallSite {
+        place,
+        kind: CallKind::Instruction,
+    }
+}
+
 // A call by the instruction at a place, whose method was chosen.
 #[tactic(auto, unfolding(jc_instructions::specs::Invoke::header_of, jc_instructions::specs::Enter::method_entry))]
 #[inline(always)]
@@ -122,11 +159,7 @@ fn invoke_selected<S: WordStore>(
                 arguments: call.arguments,
                 switches_to: call.switches_to,
             };
-            let site = CallSite {
-                place,
-                kind: CallKind::Instruction,
-            };
-            enter(header, callee, site, frames, memory)
+            enter(header, callee, called_at(place), frames, memory)
         }
         Method::Native(method) => {
             invoke_native(method, call.arguments, place, frames, memory, linked)
@@ -134,8 +167,39 @@ fn invoke_selected<S: WordStore>(
     }
 }
 
+// The method in bytecode that a call of an interface's method runs, where it can be told at once; nothing of other calls.
+#[tactic(auto, unfolding(jc_instructions::specs::Invoke::method_selection))]
+#[inline(always)]
+fn select_by_interface<S: WordStore>(
+    invoke: InvokeOp,
+    frames: &Frames,
+    memory: &Memory<S>,
+    linked: &Linked,
+) -> Option<CodeCall>
+    requires up { memory.now.heap.down ≡ false }
+    ensures chosen { IfSome result (λ r. method_selection invoke linked.now frames.now memory.now
+        ≡ Ok (call_of_code r.callee)) }
+    ensures header { IfSome result (λ r. header_of linked.now
+        (Code r.callee.package_number r.callee.offset) ≡ Some r.header) }
+{
+    let InvokeOp::Interface {
+        arguments,
+        index,
+        token,
+    } = invoke
+    else {
+        return None;
+    };
+    match linked.target_at(frames.origin().package_number, index) {
+        Some(Target::Class(interface)) => {
+            select_interface_code(*interface, arguments, token, frames, memory, linked)
+        }
+        _ => None,
+    }
+}
+
 // A call by the instruction at a place, out of line: it needs memory for what the choice of its method hands over.
-#[tactic(auto, unfolding(crate::specs::Calling::invoke_instruction))]
+#[tactic(auto, unfolding(crate::specs::Calling::invoke_instruction, jc_instructions::specs::Invoke::header_of, jc_instructions::specs::Enter::method_entry))]
 #[inline(never)]
 fn invoke_other<S: WordStore>(
     invoke: InvokeOp,
@@ -148,6 +212,15 @@ fn invoke_other<S: WordStore>(
     ensures { Executes (invoke_instruction invoke place linked.now frames.old memory.old) memory.old
         (after_instruction result frames.new memory.new) }
 {
+    if let Some(call) = select_by_interface(invoke, frames, memory, linked) {
+        return enter(
+            Some(call.header),
+            call.callee,
+            called_at(place),
+            frames,
+            memory,
+        );
+    }
     let chosen = select_method::<InvokeOp, S>(invoke, frames, memory, linked)?;
     invoke_selected(chosen, place, frames, memory, linked)
 }
@@ -176,50 +249,170 @@ fn invoke_of_platform<S: WordStore>(
     }
 }
 
-// The entry of a virtual call, where it names a method of the platform.
+// A static call of a method in bytecode by the instruction at a place.
+#[tactic(auto, unfolding(jc_instructions::specs::Invoke::invokestatic, jc_instructions::specs::Invoke::arguments_of, jc_instructions::specs::Enter::method_entry))]
 #[inline(always)]
-fn platform_entry<'a>(index: u16, frames: &Frames, linked: &'a Linked) -> Option<&'a Target>
-    ensures { IfSome (option_copied result) (λ entry. Some entry
-        ≡ target_at linked.entry.now frames.now.current.origin.package_number index) }
+fn invoke_static_code<S: WordStore>(
+    package_number: u8,
+    offset: u16,
+    place: u16,
+    frames: &mut Frames,
+    memory: &mut Memory<S>,
+    linked: &Linked,
+) -> Result<(), StepExit>
+    ensures { Executes (static_invoke (Code package_number offset) place linked.now frames.old
+        memory.old) memory.old (after_instruction result frames.new memory.new) }
 {
-    let entry = linked.target_at(frames.origin().package_number, index)?;
+    let Some(header) = header_at(method_component_of(package_number, linked), offset) else {
+        return Err(StepExit::End(Outcome::Fault));
+    };
+    let callee = Callee {
+        package_number,
+        offset,
+        arguments: header.arguments,
+        switches_to: None,
+    };
+    enter(Some(header), callee, called_at(place), frames, memory)
+}
+
+// A static call of a method of the platform, out of line.
+#[tactic(auto, unfolding(jc_instructions::specs::Invoke::invokestatic, jc_instructions::specs::Invoke::arguments_of))]
+#[inline(never)]
+fn invoke_static_native<S: WordStore>(
+    method: PlatformMethod,
+    place: u16,
+    frames: &mut Frames,
+    memory: &mut Memory<S>,
+    linked: &Linked,
+) -> Result<(), StepExit>
+    requires up { memory.old.heap.down ≡ false }
+    ensures { Executes (static_invoke (Native method) place linked.now frames.old memory.old)
+        memory.old (after_instruction result frames.new memory.new) }
+{
+    if method.is_constructor() {
+        return Err(StepExit::End(Outcome::Fault));
+    }
+    carry_out_native(
+        method,
+        method.argument_cells(),
+        place,
+        frames,
+        memory,
+        linked,
+    )
+}
+
+// A static call by the instruction at a place.
+#[tactic(auto, unfolding(crate::specs::Calling::invoke_instruction, jc_instructions::specs::Invoke::method_selection))]
+#[inline(always)]
+fn invoke_static<S: WordStore>(
+    index: u16,
+    place: u16,
+    frames: &mut Frames,
+    memory: &mut Memory<S>,
+    linked: &Linked,
+) -> Result<(), StepExit>
+    requires up { memory.old.heap.down ≡ false }
+    ensures { Executes (invoke_instruction (Static index) place linked.now frames.old memory.old)
+        memory.old (after_instruction result frames.new memory.new) }
+{
+    match linked.target_at(frames.origin().package_number, index) {
+        Some(
+            Target::StaticMethod {
+                class: _,
+                method: Method::Code {
+                    package_number,
+                    offset,
+                },
+            },
+        ) => invoke_static_code(*package_number, *offset, place, frames, memory, linked),
+        Some(
+            Target::StaticMethod {
+                class: _,
+                method: Method::Native(method),
+            },
+        ) => invoke_static_native(*method, place, frames, memory, linked),
+        _ => Err(StepExit::End(Outcome::Fault)),
+    }
+}
+
+// A virtual call by the instruction at a place whose entry names a method in bytecode, out of line. Where the one that it runs can be told
+// at once, no more is asked.
+#[tactic(auto, unfolding(crate::specs::Calling::invoke_instruction, jc_instructions::specs::Invoke::method_selection, jc_instructions::specs::Invoke::header_of, jc_instructions::specs::Enter::method_entry))]
+#[inline(never)]
+fn invoke_virtual_code<S: WordStore>(
+    entry: &Target,
+    index: u16,
+    place: u16,
+    frames: &mut Frames,
+    memory: &mut Memory<S>,
+    linked: &Linked,
+) -> Result<(), StepExit>
+    requires up { memory.old.heap.down ≡ false }
+    requires entry { Some entry.now ≡ target_at linked.now frames.old.current.origin.package_number
+        index }
+    ensures { Executes (invoke_instruction (Virtual index) place linked.now frames.old memory.old)
+        memory.old (after_instruction result frames.new memory.new) }
+{
+    if let Target::VirtualMethod {
+        class,
+        token,
+        method: Method::Code {
+            package_number,
+            offset,
+        },
+    } = entry
+    {
+        let chosen = select_code(
+            *class,
+            *token,
+            *package_number,
+            *offset,
+            frames,
+            memory,
+            linked,
+        );
+        if let Some(call) = chosen {
+            return enter(
+                Some(call.header),
+                call.callee,
+                called_at(place),
+                frames,
+                memory,
+            );
+        }
+    }
+    invoke_other(InvokeOp::Virtual(index), place, frames, memory, linked)
+}
+
+// A virtual call by the instruction at a place.
+#[tactic(auto, unfolding(crate::specs::Calling::invoke_instruction, jc_instructions::specs::Invoke::method_selection))]
+#[inline(always)]
+fn invoke_virtual<S: WordStore>(
+    index: u16,
+    place: u16,
+    frames: &mut Frames,
+    memory: &mut Memory<S>,
+    linked: &Linked,
+) -> Result<(), StepExit>
+    requires up { memory.old.heap.down ≡ false }
+    ensures { Executes (invoke_instruction (Virtual index) place linked.now frames.old memory.old)
+        memory.old (after_instruction result frames.new memory.new) }
+{
+    let Some(entry) = linked.target_at(frames.origin().package_number, index) else {
+        return Err(StepExit::End(Outcome::Fault));
+    };
     match entry {
         Target::VirtualMethod {
             method: Method::Native(_),
             ..
-        } => Some(entry),
-        _ => None,
+        } => invoke_of_platform(entry, index, place, frames, memory, linked),
+        _ => invoke_virtual_code(entry, index, place, frames, memory, linked),
     }
 }
 
-// Which method a virtual or a static call runs; nothing of other calls, and where the entry of a virtual one names a method of the platform.
-#[tactic(auto, unfolding(jc_instructions::specs::Invoke::method_selection))]
-#[inline(always)]
-fn select_in_line<S: WordStore>(
-    invoke: InvokeOp,
-    frames: &Frames,
-    memory: &Memory<S>,
-    linked: &Linked,
-) -> Option<Result<SelectedCall, FrameExit>>
-    requires up { memory.now.heap.down ≡ false }
-    ensures { IfSome result (λ chosen. chosen ≡ with_header linked.now
-        (method_selection invoke linked.now frames.now memory.now)) }
-{
-    match invoke {
-        InvokeOp::Virtual(index) => {
-            if platform_entry(index, frames, linked).is_some() {
-                return None;
-            }
-            Some(select_virtual_method::<S, S>(index, frames, memory, linked))
-        }
-        InvokeOp::Static(index) => Some(select_static_method(index, frames, linked)),
-        _ => None,
-    }
-}
-
-/// A call by the instruction at a place. Static calls, and virtual ones of methods in bytecode, stay in line, with one copy of what comes
-/// after the choice of their method: the loop of all instructions has to stay small enough to stand in one function.
-#[tactic(auto, unfolding(crate::specs::Calling::invoke_instruction))]
+/// A call by the instruction at a place. Static calls of methods in bytecode stay in line; what comes after the choice of any other method needs
+/// memory for what the choice hands over, and stands out of line: the loop of all instructions has to stay small enough to stand in one function.
 #[inline(always)]
 pub(crate) fn invoke_instruction<S: WordStore>(
     invoke: InvokeOp,
@@ -232,13 +425,9 @@ pub(crate) fn invoke_instruction<S: WordStore>(
     ensures { Executes (invoke_instruction invoke place linked.now frames.old memory.old) memory.old
         (after_instruction result frames.new memory.new) }
 {
-    if let Some(chosen) = select_in_line(invoke, frames, memory, linked) {
-        return invoke_selected(chosen?, place, frames, memory, linked);
+    match invoke {
+        InvokeOp::Static(index) => invoke_static(index, place, frames, memory, linked),
+        InvokeOp::Virtual(index) => invoke_virtual(index, place, frames, memory, linked),
+        _ => invoke_other(invoke, place, frames, memory, linked),
     }
-    if let InvokeOp::Virtual(index) = invoke {
-        if let Some(entry) = platform_entry(index, frames, linked) {
-            return invoke_of_platform(entry, index, place, frames, memory, linked);
-        }
-    }
-    invoke_other(invoke, place, frames, memory, linked)
 }

@@ -6,7 +6,7 @@ ghost use Rattle.jc_linker.specs.Values.{Packages};
 ghost use Rattle.jc_memory.specs.State.{MemoryState};
 ghost use Rattle.jc_interp.specs.declared.attacks.Attack.{Attack};
 ghost use Rattle.jc_interp.specs.Attacks.{IsAway};
-ghost use Rattle.jc_interp.specs.Stepping.{code_of, instruction_at, instruction_step, is_plain};
+ghost use Rattle.jc_interp.specs.Stepping.{code_of, if_had, instruction_at, instruction_step, is_plain};
 ghost use Rattle.jc_interp.specs.Running.{run_of};
 ghost use Rattle.jc_interp.specs.PausedSteps.{after_part, after_frames_step, run_behind};
 
@@ -24,7 +24,7 @@ use jc_frames::{CodeFault, FrameExit, Frames, Outcome};
 pub(crate) enum FramesExit {
     /// The runtime environment throws, or the run ends.
     Exit(FrameExit),
-    /// This instruction needs more than frames.
+    /// This instruction needs more than frames, or is one that code that was lent has not.
     Needs(Instr),
 }
 
@@ -89,7 +89,7 @@ fn carry_out<C>(
     requires at { place < length code.now }
     requires listed { HasListedOperands instr }
     ensures same { (p : Packages) (m : MemoryState) → after_part result place p frames.new m
-        ≡ instruction_at instr code.now place p frames.old m }
+        ≡ if_had instr frames.old (instruction_at instr code.now place p frames.old m) }
     ensures origin { OnOk result (frames.new.current.origin ≡ frames.old.current.origin) }
 {
     match instr {
@@ -125,12 +125,6 @@ fn step_in_frames<C>(code: &[u8], frames: &mut Frames) -> Result<(), PausedStep>
             why: FramesExit::from(CodeFault),
         });
     };
-    if !is_plain(instr) && frames.origin().package_number == 0 {
-        return Err(PausedStep {
-            place,
-            why: FramesExit::from(CodeFault),
-        });
-    }
     frames.set_place(next as u16);
     match carry_out::<C>(instr, code, place, frames) {
         Ok(()) => Ok(()),

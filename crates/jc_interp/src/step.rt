@@ -1,13 +1,18 @@
 //! What is left of a step where frames alone do not go on, and the exception that it throws.
-ghost use Rattle.std.specs.Prelude.{◌≡◌, ◌<◌, ◌^◌, false, length};
+ghost use Rattle.std.specs.Prelude.{◌≡◌, ◌<◌, ◌^◌, ◌==◌, false, length, if◌then◌else◌, Ok, Err};
+ghost use Rattle.jc_frames.specs.declared.instr.Instr.TheVariants.{Array, Return};
+ghost use Rattle.jc_instructions.specs.MethodReturn.{method_return};
+ghost use Rattle.jc_frames.specs.declared.outcome.Outcome.TheVariants.{Fault};
+ghost use Rattle.jc_instructions.specs.ArrayOps.{array_instruction};
+ghost use Rattle.jc_world.specs.declared.step_exit.StepExit.TheVariants.{End};
 ghost use Rattle.jc_memory.specs.Programs.{Executes};
 ghost use Rattle.jc_world.specs.Instructions.{after_instruction};
-ghost use Rattle.jc_interp.specs.Stepping.{code_of, object_instruction};
+ghost use Rattle.jc_interp.specs.Stepping.{code_of, if_had, object_instruction};
 ghost use Rattle.jc_interp.specs.PausedSteps.{step_rest, memory_instruction, paused_rest};
 
 use crate::calling::invoke_instruction;
 use crate::frames_only::{FramesExit, PausedStep};
-use jc_frames::instr::{Instr, ObjectOp};
+use jc_frames::instr::{ArrayOp, Instr, ObjectOp, ReturnOp};
 use jc_frames::{Frames, Outcome};
 use jc_instructions::method_component::method_component_of;
 use jc_instructions::method_return::return_to_caller;
@@ -51,7 +56,56 @@ fn object_instruction<S: WordStore>(
     }
 }
 
-// Carries out an instruction at a place, after which the next one stands. What frames alone carry out does not come here.
+// Code that was lent has no such instruction.
+#[inline(always)]
+fn in_package(frames: &Frames) -> Result<(), StepExit>
+    ensures { result ≡ (if frames.now.current.origin.package_number == 0 then Err (End Fault) else
+        Ok tt) }
+{
+    if frames.origin().package_number == 0 {
+        return Err(StepExit::End(Outcome::Fault));
+    }
+    Ok(())
+}
+
+// Ends the method, if the code has the instruction: code that was lent returns no reference.
+#[inline(always)]
+fn return_if_had<S: WordStore>(
+    how: ReturnOp,
+    frames: &mut Frames,
+    memory: &mut Memory<S>,
+) -> Result<(), StepExit>
+    ensures { Executes (if_had (Return how) frames.old (method_return how frames.old memory.old))
+        memory.old (after_instruction result frames.new memory.new) }
+{
+    match how {
+        ReturnOp::Areturn => {
+            in_package(frames)?;
+            return_to_caller(how, frames, memory)
+        }
+        ReturnOp::Sreturn | ReturnOp::Return => return_to_caller(how, frames, memory),
+    }
+}
+
+// Makes an array, or reads or writes its elements, if the code is a package's.
+#[inline(always)]
+fn array_of_package<S: WordStore>(
+    operation: ArrayOp,
+    frames: &mut Frames,
+    memory: &mut Memory<S>,
+    linked: &Linked,
+) -> Result<(), StepExit>
+    requires up { memory.old.heap.down ≡ false }
+    ensures { Executes (if_had (Array operation) frames.old (array_instruction operation linked.now
+        frames.old memory.old)) memory.old (after_instruction result frames.new memory.new) }
+{
+    in_package(frames)?;
+    array_instruction(operation, frames, memory, linked)
+}
+
+// Carries out an instruction at a place, after which the next one stands, if the code has it. What frames alone carry out does not come here.
+// A package has what fields and calls name, so of those in code that was lent there is nothing to ask; to read and to write elements are arms
+// of their own, so that each instruction is told from the others once.
 #[inline(always)]
 fn execute<S: WordStore>(
     instr: &Instr,
@@ -61,14 +115,23 @@ fn execute<S: WordStore>(
     linked: &Linked,
 ) -> Result<(), StepExit>
     requires up { memory.old.heap.down ≡ false }
-    ensures { Executes (memory_instruction instr.now place linked.now frames.old memory.old)
-        memory.old (after_instruction result frames.new memory.new) }
+    ensures { Executes (if_had instr.now frames.old (memory_instruction instr.now place linked.now
+        frames.old memory.old)) memory.old (after_instruction result frames.new memory.new) }
 {
     match instr {
-        Instr::Return(how) => return_to_caller(*how, frames, memory),
+        Instr::Return(how) => return_if_had(*how, frames, memory),
         Instr::Field(field) => field_instruction(*field, frames, memory, linked),
-        Instr::Array(operation) => array_instruction(*operation, frames, memory, linked),
-        Instr::Object(operation) => object_instruction(*operation, place, frames, memory, linked),
+        Instr::Array(ArrayOp::Load(of_type)) => {
+            array_of_package(ArrayOp::Load(*of_type), frames, memory, linked)
+        }
+        Instr::Array(ArrayOp::Store(of_type)) => {
+            array_of_package(ArrayOp::Store(*of_type), frames, memory, linked)
+        }
+        Instr::Array(operation) => array_of_package(*operation, frames, memory, linked),
+        Instr::Object(operation) => {
+            in_package(frames)?;
+            object_instruction(*operation, place, frames, memory, linked)
+        }
         Instr::Invoke(call) => invoke_instruction(*call, place, frames, memory, linked),
         _ => Err(StepExit::End(Outcome::Fault)),
     }

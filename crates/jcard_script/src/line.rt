@@ -270,13 +270,13 @@ fn command_in(line: &[u8], room: &mut ArrayVec<u8, 65545>) -> bool
     decode(line, room)
 }
 
-// The room holds this many zeros.
-fn make_zeros(room: &mut ArrayVec<u8, 65545>, count: usize)
+// The room holds this many bytes. Those that it held stay, since its callers write over all of them.
+fn resize(room: &mut ArrayVec<u8, 65545>, count: usize)
     requires { count ≤ 65545 }
     ensures { length room.new.items ≡ count }
 {
-    room.clear();
-    for _k in 0..count {
+    room.truncate(count);
+    for _k in room.len()..count {
         room.push(0);
     }
 }
@@ -286,7 +286,7 @@ fn decode(digits: &[u8], room: &mut ArrayVec<u8, 65545>) -> bool
     requires { length digits.now ≤ 131090 }
     ensures { result ≡ true → decode_of digits.now ≡ Ok room.new.items }
 {
-    make_zeros(room, digits.len() / 2);
+    resize(room, digits.len() / 2);
     hex::decode_to_slice(digits, room.as_mut_slice()).is_ok()
 }
 
@@ -302,7 +302,7 @@ fn command_of<'a>(digits: &[u8], room: &'a mut ArrayVec<u8, 65545>) -> Option<&'
     ensures { MatchOption result (IsErr (decode_of digits.now))
         (λ command. decode_of digits.now ≡ Ok command.now) }
 {
-    make_zeros(room, digits.len() / 2);
+    resize(room, digits.len() / 2);
     hex::decode_to_slice(digits, room.as_mut_slice()).ok()?;
     Some(room.as_slice())
 }

@@ -1,7 +1,7 @@
 //! What is written for a line.
 ghost use Rattle.std.specs.Prelude.{◌≡◌, ◌<◌, ◌≤◌, ◌*◌, Some, length, is_err, MatchResult};
 ghost use Rattle.std.specs.Io.KnownBytes.{Appends};
-ghost use Rattle.hex.specs.Hex.{encode_upper};
+ghost use Rattle.hex.specs.Hex.{encode_upper, encode_with};
 ghost use Rattle.jc_words.specs.Count.{failures_after};
 ghost use Rattle.jcard_script.specs.Texts.{AppendsCut};
 ghost use Rattle.jcard_script.specs.Script.{text_of, armed_text, faults_text, planned_text, second_text};
@@ -46,6 +46,9 @@ const AT_ONCE: usize = 258;
 
 // How many bytes the response to most commands has at most.
 const FEW: usize = 16;
+
+// The sixteen digits, with upper case letters.
+const UPPER_DIGITS: &[u8; 16] = b"0123456789ABCDEF";
 
 /// The text of a reply without its line feed, as much as the room has place for, at its front; nothing for a silent one.
 pub(crate) fn reply_text<'a>(
@@ -263,11 +266,23 @@ fn write_few<W: TextOut>(bytes: &[u8], writer: &mut W) -> Result<(), WriteFailed
     write_in(bytes, &mut text, writer)
 }
 
+// Each byte as two digits of this table, the high four bits first.
+#[inline(always)]
+fn encode_by(digits: &[u8; 16], bytes: &[u8], text: &mut [u8])
+    requires { length text.old ≡ 2 * length bytes.now }
+    ensures { text.new ≡ encode_with digits.now bytes.now }
+{
+    for i in 0..bytes.len() {
+        let byte = bytes[i];
+        text[2 * i] = digits[(byte >> 4) as usize];
+        text[2 * i + 1] = digits[(byte & 0x0f) as usize];
+    }
+}
+
 // The bytes in hexadecimal, in upper case.
 fn encode(bytes: &[u8], text: &mut [u8])
     requires { length text.old ≡ 2 * length bytes.now }
     ensures { text.new ≡ encode_upper bytes.now }
 {
-    let _ = hex::encode_to_slice(bytes, text);
-    text.make_ascii_uppercase();
+    encode_by(UPPER_DIGITS, bytes, text);
 }
