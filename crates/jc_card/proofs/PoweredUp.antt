@@ -3,7 +3,7 @@ use Rattle.std.proofs.Common.{◌≡◌, ℕ, ◌+◌, ◌/◌, ◌≤◌, ◌�
 use Rattle.std.specs.Prelude.{Result, IsOk, Some}
 use Rattle.jc_words.specs.Image.{HasSize, IsVersion}
 use Rattle.jc_words.specs.declared.image.ImageFault.{ImageFault}
-use Rattle.jc_words.specs.Layout.{magic_address, version_address, size_address, text_length_address, text_start, magic}
+use Rattle.jc_words.specs.Layout.{magic_address, version_address, text_length_address, text_start, magic}
 use Rattle.jc_commit.specs.Image.{IsGoodLog, limit_of, recovered_of}
 use Rattle.jc_commit.specs.Migration.{migrated, StillOpens}
 use Rattle.jc_commit.proofs.InPlace.{length-recovered}
@@ -134,9 +134,6 @@ recovered_alike w = migrated_alike (recovered_of w) 3
 
 pub long_image : (w : List ℕ) → length (migrated 3 (recovered_of w)) ≡ limit_of w
 long_image w = (recovered_alike w).size ∙ length-recovered w
-
-pub told_image : (w : List ℕ) → IsGoodLog w → get_or (migrated 3 (recovered_of w)) size_address 0 ≡ length w
-told_image w good = ap (λ (h : ℕ × ℕ). h.1) ((recovered_alike w).head ∙ recovered-head w good) ∙ good.size.told
 
 -- an opening that a refused write stops leaves the heap's end where it is
 pub limit_still : (old new : List ℕ) → StillOpens old new → limit_of new ≡ limit_of old

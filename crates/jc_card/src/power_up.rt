@@ -1,5 +1,5 @@
 //! Powering a card up over the words of its image.
-ghost use Rattle.std.specs.Prelude.{ℕ, List, ◌≡◌, ◌⊎◌, ◌+◌, ◌/◌, ◌↔◌, length, slice_index, [], Ok, IsOk, IfOk, IfErr, OnOk, false, MatchResult};
+ghost use Rattle.std.specs.Prelude.{ℕ, List, ◌≡◌, ◌⊎◌, ◌+◌, ◌↔◌, length, slice_index, [], Ok, IsOk, IfOk, IfErr, OnOk, false, MatchResult};
 ghost use Rattle.jc_words.specs.Layout.{version, version_address};
 ghost use Rattle.jc_transient.specs.State.{IsCleared};
 ghost use Rattle.jc_heap.specs.Heap.{area_sizes, heap_of, heap_view};

@@ -1,6 +1,5 @@
-use Rattle.std.proofs.Common.{◌≡◌, ◌∙◌, Ok, ap, refl, subst, sym}
+use Rattle.std.proofs.Common.{Ok, ap, refl, subst, sym}
 use Rattle.jc_heap.proofs.RawWords.{text_is}
-use Rattle.jc_heap.specs.Heap.{heap_of}
 use Rattle.jc_packages.specs.Objects.{MarksObjects}
 use Rattle.jc_platform.specs.Table.{Reads}
 use Rattle.jc_card.proofs.power_up.read_parts.Goals as goal

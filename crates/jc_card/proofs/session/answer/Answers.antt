@@ -22,7 +22,7 @@ returns g c =
     let store = c.into_store-store.result in
     record {
       good = log_left S.words S.down S.passed S.refusals c.exchange.result before after store c.args.command.now c.exchange.new.response c.if-exchange.false
-          c.requires c.exchange.ensures.answer c.into_store-store.ensures;
+          c.requires.good c.exchange.ensures.answer c.into_store-store.ensures;
       answer = command_refused S.words S.down S.passed S.refusals c.exchange.result before after store c.args.command.now c.exchange.new.response
-          c.if-exchange.false c.requires c.exchange.ensures.answer c.into_store-store.ensures;
+          c.if-exchange.false c.requires.good c.exchange.ensures.answer c.into_store-store.ensures;
     }

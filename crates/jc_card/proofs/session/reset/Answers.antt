@@ -1,5 +1,4 @@
 use Rattle.std.proofs.Common.{◌≡◌, ◌∙◌, subst, sym}
-use Rattle.jc_card.specs.Power.{StoreState}
 use Rattle.jc_card.specs.Requests.{Reply, reply_of}
 use Rattle.jc_card.specs.Serving.{AnswersReset}
 use Rattle.jc_card.specs.SessionStates.{answer_of_power_up, kept_power, power_of}
@@ -18,11 +17,11 @@ returns-in-Ok-clause-reset g c =
     ∙ same_answer S.words S.down S.passed S.refusals after in
     subst (λ (r : Reply). AnswersReset kept r next) (sym told)
     (reset_answered kept next _ c.budget-budget.result (c.budget-budget.ensures ∙ same_budget S.words S.down S.passed S.refusals before)
-    (store_held S.words S.down S.passed S.refusals before c.into_store-store.result c.requires c.into_store-store.ensures) c.in-Ok.ensures.powered)
+    (store_held S.words S.down S.passed S.refusals before c.into_store-store.result c.requires.good c.into_store-store.ensures) c.in-Ok.ensures.powered)
 
 pub returns-in-Err-clause-fault : goal.returns-in-Err-clause-fault
 returns-in-Err-clause-fault g c =
     let S = g.S.WordStore in
     let before = power_of c.args.held in
     start_fails c.in-Err.fault.0 (kept_power S.words S.down S.passed S.refusals before) _ _
-    (store_held S.words S.down S.passed S.refusals before c.into_store-store.result c.requires c.into_store-store.ensures) c.in-Err.ensures.fault
+    (store_held S.words S.down S.passed S.refusals before c.into_store-store.result c.requires.good c.into_store-store.ensures) c.in-Err.ensures.fault
