@@ -1,7 +1,6 @@
 //! A card that is up, or the store of a card that is down: the machine of each session.
 ghost use Rattle.std.specs.Prelude.{◌≡◌, IfErr, OnOk};
 ghost use Rattle.std.specs.Bool.{OnTrue};
-ghost use Rattle.jc_card.specs.declared.power_up.PowerFault.TheVariants.{StoreDown as NoPower};
 ghost use Rattle.jc_card.specs.PoweringUp.{PowerUpFails};
 ghost use Rattle.jc_card.specs.Power.{Off, budget_of, planned};
 ghost use Rattle.jc_card.specs.SessionStates.{AnswersInPlace, IsHeldIn, IsUp, PowersUpTo, power_of, with_fuse};
@@ -33,7 +32,7 @@ impl<S: WordStore> SessionState<S> {
         ensures up { IsUp (power_of result.0) }
         ensures powered { OnOk result.1 (PowersUpTo S.words S.down S.passed S.refusals store budget
             (power_of result.0)) }
-        ensures fault { IfErr result.1 (λ fault. (fault ≡ NoPower → ⊥) × (after : S)
+        ensures fault { IfErr result.1 (λ fault. (fault ≡ PowerFault.StoreDown → ⊥) × (after : S)
             × PowerUpFails S.words S.down S.passed S.refusals store fault after
             × (power_of result.0 ≡ Off budget after)) }
     {
