@@ -42,18 +42,18 @@ module _ {S : Type 0} (words : S → List ℕ) (down : S → Bool) (passed : S �
   same_budget (Off budget store) = refl
 
   -- a power up over a store whose power is back
-  pub held_starts : (budget : ℕ) (before mid : S) (s : PowerOver S) → words mid ≡ words before → refusals mid ≡ refusals before → down mid ≡ false
-      → PowersUpTo words down passed refusals mid budget s → Starts budget (state before) (kept s)
-  held_starts budget before mid (Up card) same is up powers =
-      card_starts budget (state before) (words mid) (passed mid) (refusals mid) card card same is refl powers.made powers.heap powers.reset powers.budget
-  held_starts budget before mid (Off b after) same is up powers =
-      subst (λ (n : ℕ). Starts budget (state before) (Off n (durable_state_in_store (state after)))) (sym powers.1)
-      (store_starts budget (state before) (state after) (words mid) (refusals mid) (durable_state_in_store (state after)) same is refl powers.0.0
-      powers.0.1.still powers.0.1.is_down (powers.0.1.was_up up))
-
-  pub good_started : (budget : ℕ) (mid : S) (s : PowerOver S) → IsUp s → PowersUpTo words down passed refusals mid budget s → IsGood words s
-  good_started budget mid (Up card) up powers = up
-  good_started budget mid (Off b after) up powers = powers.0.1.still.good
+  pub held_starts : (budget : ℕ) (before mid : S) (s : PowerOver S) → words mid ≡ words before → refusals mid ≡ refusals before → down mid ≡ false → IsUp s
+      → PowersUpTo words down passed refusals mid budget s → IsGood words s × Starts budget (state before) (kept s)
+  held_starts budget before mid (Up card) same is up held powers = (
+    held,
+    card_starts budget (state before) (words mid) (passed mid) (refusals mid) card card same is refl powers.made powers.heap powers.reset powers.budget,
+  )
+  held_starts budget before mid (Off b after) same is up held powers = (
+    powers.0.1.still.good,
+    subst (λ (n : ℕ). Starts budget (state before) (Off n (durable_state_in_store (state after)))) (sym powers.1)
+        (store_starts budget (state before) (state after) (words mid) (refusals mid) (durable_state_in_store (state after)) same is refl powers.0.0
+        powers.0.1.still powers.0.1.is_down (powers.0.1.was_up up)),
+  )
 
   -- or a fault was found, and its store is what a session holds
   pub fault_held : (budget : ℕ) (before mid after store : S) (s : PowerOver S) (fault : Fault) → words mid ≡ words before → refusals mid ≡ refusals before
@@ -83,42 +83,35 @@ module _ {S : Type 0} (words : S → List ℕ) (down : S → Bool) (passed : S �
   }
 
   -- a command that was carried out
-  pub command_answered : (b : Bool) (s t : PowerOver S) (bytes response : List ℕ) → b ≡ true → AnswersInPlace b s bytes response t
-      → AnswersCommand (kept s) bytes (Response response) (kept t)
-  command_answered true (Up card) (Up next) bytes response is h = h
-  command_answered true (Up card) (Off budget left) bytes response is h = absurd h
-  command_answered true (Off budget left) t bytes response is h = absurd h
-  command_answered false s t bytes response is h = absurd (false≢true is)
-
-  pub still_good : (b : Bool) (s t : PowerOver S) (bytes response : List ℕ) → b ≡ true → AnswersInPlace b s bytes response t → IsUp t → IsGood words t
-  still_good true (Up card) (Up next) bytes response is h up = up
-  still_good true (Up card) (Off budget left) bytes response is h up = absurd h
-  still_good true (Off budget left) t bytes response is h up = absurd h
-  still_good false s t bytes response is h up = absurd (false≢true is)
+  pub command_answered : (b : Bool) (s t : PowerOver S) (bytes response : List ℕ) → b ≡ true → AnswersInPlace b s bytes response t → IsUp t
+      → IsGood words t × AnswersCommand (kept s) bytes (Response response) (kept t)
+  command_answered true (Up card) (Up next) bytes response is h up = (up, h)
+  command_answered true (Up card) (Off budget left) bytes response is h up = absurd h
+  command_answered true (Off budget left) t bytes response is h up = absurd h
+  command_answered false s t bytes response is h up = absurd (false≢true is)
 
   -- and one that was not, whose store is all that is left
   pub command_refused : (b : Bool) (s t : PowerOver S) (store : S) (bytes response : List ℕ) → b ≡ false → IsGood words s → AnswersInPlace b s bytes response t
-      → IsHeldIn words down passed refusals t store → AnswersCommand (kept s) bytes Down (kept (Off (budget_of s) store))
+      → IsHeldIn words down passed refusals t store
+      → IsGoodLog (words store) × AnswersCommand (kept s) bytes Down (kept (Off (budget_of s) store))
   command_refused true s t store bytes response is good h held = absurd (true≢false is)
   command_refused false (Up card) (Up next) store bytes response is up h held =
       let May : ℕ → HeapState → Type 0 = TearLeaves (exchange bytes card) card.memory in (
-        refl,
-        subst (λ (p : ℕ). May p (durable_state_in_store (state store)).durable) (sym held.passed)
-            (subst (λ (d : HeapState). May next.memory.heap.passed d) (sym held.durable) h.left),
-        held.down ∙ h.down,
-        held.refusals ∙ h.refusals ∙ (λ i. refused_once (up i) (sym held.passed i) card.memory.heap.refusals),
-        held.size ∙ h.size,
-        if_laid (recovered_of (words store)) held.laid,
+        held.good,
+        (
+          refl,
+          subst (λ (p : ℕ). May p (durable_state_in_store (state store)).durable) (sym held.passed)
+              (subst (λ (d : HeapState). May next.memory.heap.passed d) (sym held.durable) h.left),
+          held.down ∙ h.down,
+          held.refusals ∙ h.refusals ∙ (λ i. refused_once (up i) (sym held.passed i) card.memory.heap.refusals),
+          held.size ∙ h.size,
+          if_laid (recovered_of (words store)) held.laid,
+        ),
       )
   command_refused false (Up card) (Off budget left) store bytes response is good h held = absurd h
   command_refused false (Off budget left) (Off after next) store bytes response is good h held =
-      (ap (λ (x : S). durable_state_in_store (state x)) (held ∙ h.0), refl)
+      let same = held ∙ h.0 in (
+        subst (λ (x : S). IsGoodLog (words x)) (sym same) good,
+        (ap (λ (x : S). durable_state_in_store (state x)) same, refl),
+      )
   command_refused false (Off budget left) (Up next) store bytes response is good h held = absurd h
-
-  pub log_left : (b : Bool) (s t : PowerOver S) (store : S) (bytes response : List ℕ) → b ≡ false → IsGood words s → AnswersInPlace b s bytes response t
-      → IsHeldIn words down passed refusals t store → IsGoodLog (words store)
-  log_left true s t store bytes response is good h held = absurd (true≢false is)
-  log_left false (Up card) (Up next) store bytes response is good h held = held.good
-  log_left false (Up card) (Off budget left) store bytes response is good h held = absurd h
-  log_left false (Off budget left) (Off after next) store bytes response is good h held = subst (λ (x : S). IsGoodLog (words x)) (sym (held ∙ h.0)) good
-  log_left false (Off budget left) (Up next) store bytes response is good h held = absurd h
