@@ -136,13 +136,13 @@ fn serve<S: WordStore>(
         (record { words = S.words e.1; down = S.down e.1; passed = S.passed e.1; refusals = S.refusals e.1 })) }
 {
     match event {
-        Event::Command(bytes) => Ok(answer(held, bytes)),
+        Event::Command(bytes) => Ok(carry_out(held, bytes)),
         Event::Reset => reset(alloc, held),
     }
 }
 
 // Carries a command out, where there is power. Where the store refuses a write, it is all that is left.
-fn answer<S: WordStore>(mut held: SessionState<S>, command: &[u8]) -> (SessionState<S>, Answer)
+fn carry_out<S: WordStore>(mut held: SessionState<S>, command: &[u8]) -> (SessionState<S>, Answer)
     requires good { IsGood S.words (power_of held) }
     ensures good { IsGood S.words (power_of result.0) }
     ensures answer { AnswersCommand (kept_power S.words S.down S.passed S.refusals (power_of held))

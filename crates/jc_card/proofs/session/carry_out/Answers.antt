@@ -1,6 +1,6 @@
 use Rattle.jc_card.specs.SessionStates.{power_of}
 use Rattle.jc_card.proofs.HeldStates.{command_answered, command_refused}
-use Rattle.jc_card.proofs.session.answer.Goals as goal
+use Rattle.jc_card.proofs.session.carry_out.Goals as goal
 
 pub returns-then-exchange : goal.returns-then-exchange
 returns-then-exchange g c =
