@@ -100,12 +100,14 @@ module _ {S : Type 0} (words : S → List ℕ) (down : S → Bool) (passed : S �
         held.good,
         (
           refl,
-          subst (λ (p : ℕ). May p (durable_state_in_store (state store)).durable) (sym held.passed)
-              (subst (λ (d : HeapState). May next.memory.heap.passed d) (sym held.durable) h.left),
-          held.down ∙ h.down,
-          held.refusals ∙ h.refusals ∙ (λ i. refused_once (up i) (sym held.passed i) card.memory.heap.refusals),
-          held.size ∙ h.size,
-          if_laid (recovered_of (words store)) held.laid,
+          (
+            subst (λ (p : ℕ). May p (durable_state_in_store (state store)).durable) (sym held.passed)
+                (subst (λ (d : HeapState). May next.memory.heap.passed d) (sym held.durable) h.left),
+            held.down ∙ h.down,
+            held.refusals ∙ h.refusals ∙ (λ i. refused_once (up i) (sym held.passed i) card.memory.heap.refusals),
+            held.size ∙ h.size,
+            if_laid (recovered_of (words store)) held.laid,
+          ),
         ),
       )
   command_refused false (Up card) (Off budget left) store bytes response is good h held = absurd h
