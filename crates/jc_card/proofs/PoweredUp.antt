@@ -1,9 +1,9 @@
 -- What power up finds.
 use Rattle.std.proofs.Common.{◌≡◌, ℕ, ◌+◌, ◌/◌, ◌≤◌, ◌⊎◌, inl, inr, List, length, get_or, refl, sym, ◌∙◌, ap, subst, arith, Ok, Err}
-use Rattle.std.specs.Prelude.{Result, IsOk, IfOk, IfErr, OnOk, None, Some}
+use Rattle.std.specs.Prelude.{Result, IsOk, Some}
 use Rattle.jc_words.specs.Image.{HasSize, IsVersion}
 use Rattle.jc_words.specs.declared.image.ImageFault.{ImageFault}
-use Rattle.jc_words.specs.Layout.{magic_address, version_address, size_address, text_length_address, text_start, magic}
+use Rattle.jc_words.specs.Layout.{magic_address, version_address, text_length_address, text_start, magic}
 use Rattle.jc_commit.specs.Image.{IsGoodLog, limit_of, recovered_of}
 use Rattle.jc_commit.specs.Migration.{migrated, StillOpens}
 use Rattle.jc_commit.proofs.InPlace.{length-recovered}
@@ -21,13 +21,9 @@ use Rattle.jc_linker.specs.Values.{Packages}
 use Rattle.jc_platform.specs.Tokens.{Tokens}
 use Rattle.jc_platform.specs.Table.{Reads}
 use Rattle.jc_platform.proofs.OneAnswer.{one_table}
-use Rattle.jc_memory.specs.State.{MemoryState}
-use Rattle.jc_card.specs.CardState.{CardState}
-use Rattle.jc_interp.specs.Attacks.{undisturbed}
-use Rattle.jc_card.specs.Dispatching.{usual_budget}
 use Rattle.jc_card.specs.Fixed.{BeginsWithFixed, last_fixed}
 use Rattle.jc_card.specs.Made.{IsMade}
-use Rattle.jc_card.specs.PowerUp.{HasHead, HasHeap, PowerUpRefuses, RecoveredWordsFail, FailsToLink, HasPackages}
+use Rattle.jc_card.specs.PowerUp.{HasHead, HasHeap, PowerUpRefuses, RecoveredWordsFail, HasPackages}
 use Rattle.jc_card.specs.declared.power_up.PowerFault.{PowerFault}
 use Rattle.jc_card.specs.declared.power_up.PowerFault.TheVariants.{BadMagic, BadVersion, BadSize, BadLog, BadTable, BadPackage, NoMemory, StoreDown}
 
@@ -139,36 +135,19 @@ recovered_alike w = migrated_alike (recovered_of w) 3
 pub long_image : (w : List ℕ) → length (migrated 3 (recovered_of w)) ≡ limit_of w
 long_image w = (recovered_alike w).size ∙ length-recovered w
 
-pub told_image : (w : List ℕ) → IsGoodLog w → get_or (migrated 3 (recovered_of w)) size_address 0 ≡ length w
-told_image w good = ap (λ (h : ℕ × ℕ). h.1) ((recovered_alike w).head ∙ recovered-head w good) ∙ good.size.told
-
 -- an opening that a refused write stops leaves the heap's end where it is
 pub limit_still : (old new : List ℕ) → StillOpens old new → limit_of new ≡ limit_of old
 limit_still old new still =
     sym (length-recovered new) ∙ ap (λ (l : List ℕ). length l) still.recovered ∙ (migrated_alike (recovered_of old) still.done).size ∙ length-recovered old
 
 -- what does not fit the packages that are linked of it fits none
-pub none_fit : (t : Tokens) (h : HeapState) (p : Packages) → packages_of t h ≡ Some p → (IsSound p h (last_fixed t h) → ⊥) → HasPackages t h → ⊥
-none_fit t h p linked misfit has =
+pub none_fit : (t : Tokens) (h : HeapState) (p : Packages) (own : ℕ) → packages_of t h ≡ Some p → own ≡ last_fixed t h → (IsSound p h own → ⊥)
+    → HasPackages t h → ⊥
+none_fit t h p own linked at misfit has =
     let both : Some has.0 ≡ Some p = sym has.1 ∙ linked in
     let same : has.0 ≡ p = cc in
-    misfit (subst (λ q. IsSound q h (last_fixed t h)) same has.2)
+    misfit (subst (λ (o : ℕ). IsSound p h o) (sym at) (subst (λ q. IsSound q h (last_fixed t h)) same has.2))
 
--- the card of packages that a heap fits
-pub fits_linked : {E : Type 0} (r : Result CardState E) (m : MemoryState) (p : Packages) (t : Tokens) (h : HeapState) (own : ℕ)
-    → IfOk r (λ card. card ≡ record { memory = m; packages = p; load = None; budget = undisturbed usual_budget }) → OnOk r (IsSound p m.heap.now own)
-    → m.heap.now ≡ h → own ≡ last_fixed t h
-    → packages_of t h ≡ Some p → IfOk r (λ card. (packages_of t h ≡ Some card.packages) × IsSound card.packages h (last_fixed t h))
-fits_linked (Err e) m p t h own is sound same at linked = tt
-fits_linked (Ok card) m p t h own is sound same at linked =
-    let packages : p ≡ card.packages = ap (λ (c : CardState). c.packages) (sym is) in
-    let here : IsSound p h (last_fixed t h) = subst (λ (o : ℕ). IsSound p h o) at (subst (λ (x : HeapState). IsSound p x own) same sound) in
-    (linked ∙ ap Some packages, subst (λ (q : Packages). IsSound q h (last_fixed t h)) packages here)
-
--- it does not fit them
-pub unfit : {A : Type 0} (r : Result A PowerFault) (m : MemoryState) (p : Packages) (t : Tokens) (h : HeapState) (own : ℕ)
-    → IfErr r (λ e. (e ≡ BadPackage) × (IsSound p m.heap.now own → ⊥)) → m.heap.now ≡ h → own ≡ last_fixed t h → packages_of t h ≡ Some p
-    → IfErr r (λ e. FailsToLink e t h)
-unfit (Ok card) m p t h own cause same at linked = tt
-unfit (Err e) m p t h own cause same at linked = subst (λ (f : PowerFault). FailsToLink f t h) (sym cause.0) (none_fit t h p linked
-    (λ (fit : IsSound p h (last_fixed t h)). cause.1 (subst (λ (x : HeapState). IsSound p x own) (sym same) (subst (λ (o : ℕ). IsSound p h o) (sym at) fit))))
+-- packages that the heap fits
+pub has_packages : (t : Tokens) (h : HeapState) (p : Packages) (own : ℕ) → packages_of t h ≡ Some p → own ≡ last_fixed t h → IsSound p h own → HasPackages t h
+has_packages t h p own linked at sound = (p, linked, subst (λ (o : ℕ). IsSound p h o) at sound)

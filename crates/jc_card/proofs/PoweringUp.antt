@@ -1,30 +1,27 @@
 -- What comes of powering up, from its parts; and what a fault leaves of the store, one by one.
 use Rattle.std.proofs.Common.{◌≡◌, ℕ, List, length, refl, sym, ◌∙◌, ap, subst, Ok, Err}
-use Rattle.std.specs.Prelude.{Bool, true, false, Result, IfOk, IfErr, OnOk, slice_index}
-use Rattle.std.proofs.lemmas.Bool.{false≢true}
+use Rattle.std.specs.Prelude.{Bool, false, Result, IfOk, IfErr, OnOk}
 use Rattle.jc_words.specs.declared.image.ImageFault.{ImageFault}
 use Rattle.jc_words.specs.declared.image.ImageFault.TheVariants as image
-use Rattle.jc_words.specs.Layout.{size_address}
 use Rattle.jc_words.specs.Refusals.{Refusals}
-use Rattle.jc_commit.specs.Image.{IsGoodLog, limit_of, recovered_of}
+use Rattle.jc_commit.specs.Image.{limit_of, recovered_of}
 use Rattle.jc_commit.specs.Migration.{migrated}
 use Rattle.jc_commit.specs.Journal.{IsOpened}
 use Rattle.jc_commit.specs.State.{State}
 use Rattle.jc_commit.proofs.InPlace.{length-recovered}
 use Rattle.jc_heap.specs.Heap.{heap_at_rest, heap_of}
 use Rattle.jc_heap.specs.Stored.{heap_of_store_at_rest}
-use Rattle.jc_heap.proofs.RawWords.{recovered-head}
 use Rattle.jc_image.specs.Opening.{HoldsImage}
 use Rattle.jc_platform.specs.Tokens.{Tokens}
 use Rattle.jc_interp.specs.Attacks.{undisturbed}
 use Rattle.jc_card.specs.CardState.{CardState}
 use Rattle.jc_packages.specs.ImageTables.{HasTable}
-use Rattle.jc_card.specs.PowerUp.{HasHead, HasHeap, IsFoundAfter, IsFoundFirst, PowerUpRefuses, RecoveredWordsFail, RefusalLeaves, fault_of}
+use Rattle.jc_card.specs.PowerUp.{HasHead, HasHeap, PowerUpRefuses, RecoveredWordsFail, RefusalLeaves, fault_of}
 use Rattle.jc_card.specs.PoweringUp.{FaultLeaves, IsLeftRecovered, IsPoweredOver, PowerUpFails, PowersUpOver}
 use Rattle.jc_card.specs.Reset.{IsAtReset}
 use Rattle.jc_card.specs.declared.power_up.PowerFault.{PowerFault}
 use Rattle.jc_card.specs.declared.power_up.PowerFault.TheVariants.{BadMagic, BadVersion, BadSize, BadLog, BadTable, BadPackage, NoMemory, StoreDown}
-use Rattle.jc_card.proofs.PoweredUp.{fails_back, heap_back, limit_still, long_image, made_found, recovered_alike, refuses_from, table_back, told_image}
+use Rattle.jc_card.proofs.PoweredUp.{fails_back, heap_back, limit_still, long_image, made_found, recovered_alike, refuses_from, table_back}
 
 -- the first words' fault
 pub image_refuses : (r : Result (Unit {0}) ImageFault) (f : ImageFault) (w : List ℕ) → r ≡ Err f
@@ -55,40 +52,6 @@ module _ {S : Type 0} (words : S → List ℕ) (down : S → Bool) (passed : S �
     leaves_recovered NoMemory w fail left = left
     leaves_recovered StoreDown w fail left = absurd fail
 
-    -- a fault that is found first leaves the store as it was
-    pub store_kept : (fault : PowerFault) → IsFoundFirst fault → FaultLeaves words down passed refusals old fault new → new ≡ old
-    store_kept BadMagic first leaves = leaves
-    store_kept BadVersion first leaves = leaves
-    store_kept BadSize first leaves = leaves
-    store_kept BadLog first leaves = leaves
-    store_kept BadTable first leaves = absurd first
-    store_kept BadPackage first leaves = absurd first
-    store_kept NoMemory first leaves = absurd first
-    store_kept StoreDown first leaves = absurd first
-
-    -- one that is found later leaves it as the recovery and the migration do
-    pub store_recovered : (fault : PowerFault) → IsFoundAfter fault → FaultLeaves words down passed refusals old fault new
-        → IsLeftRecovered words down passed refusals old new
-    store_recovered BadMagic late leaves = absurd late
-    store_recovered BadVersion late leaves = absurd late
-    store_recovered BadSize late leaves = absurd late
-    store_recovered BadLog late leaves = absurd late
-    store_recovered BadTable late leaves = leaves
-    store_recovered BadPackage late leaves = leaves
-    store_recovered NoMemory late leaves = leaves
-    store_recovered StoreDown late leaves = absurd late
-
-    -- a store that was down stays as it was
-    pub down_kept : (fault : PowerFault) → down old ≡ true → FaultLeaves words down passed refusals old fault new → new ≡ old
-    down_kept BadMagic was leaves = leaves
-    down_kept BadVersion was leaves = leaves
-    down_kept BadSize was leaves = leaves
-    down_kept BadLog was leaves = leaves
-    down_kept BadTable was leaves = absurd (false≢true (sym leaves.was_up ∙ was))
-    down_kept BadPackage was leaves = absurd (false≢true (sym leaves.was_up ∙ was))
-    down_kept NoMemory was leaves = absurd (false≢true (sym leaves.was_up ∙ was))
-    down_kept StoreDown was leaves = leaves.was_down was
-
     -- unless a write was refused, a store that was up is up, and has refused none
     pub still_up : (fault : PowerFault) → (fault ≡ StoreDown → ⊥) → down old ≡ false → FaultLeaves words down passed refusals old fault new
         → down new ≡ false
@@ -112,17 +75,6 @@ module _ {S : Type 0} (words : S → List ℕ) (down : S → Bool) (passed : S �
     none_refused NoMemory other leaves = leaves.none_refused
     none_refused StoreDown other leaves = absurd (other refl)
 
-    -- a good log stays good
-    pub good_left : (fault : PowerFault) → IsGoodLog (words old) → FaultLeaves words down passed refusals old fault new → IsGoodLog (words new)
-    good_left BadMagic good leaves = subst (λ (s : S). IsGoodLog (words s)) (sym leaves) good
-    good_left BadVersion good leaves = subst (λ (s : S). IsGoodLog (words s)) (sym leaves) good
-    good_left BadSize good leaves = subst (λ (s : S). IsGoodLog (words s)) (sym leaves) good
-    good_left BadLog good leaves = subst (λ (s : S). IsGoodLog (words s)) (sym leaves) good
-    good_left BadTable good leaves = leaves.left.good
-    good_left BadPackage good leaves = leaves.left.good
-    good_left NoMemory good leaves = leaves.left.good
-    good_left StoreDown good leaves = leaves.still.good
-
     -- what is left of the words
     pub words_left : (fault : PowerFault) → FaultLeaves words down passed refusals old fault new → RefusalLeaves fault (words old) (words new)
     words_left BadMagic leaves = ap words leaves
@@ -133,21 +85,6 @@ module _ {S : Type 0} (words : S → List ℕ) (down : S → Bool) (passed : S �
     words_left BadPackage leaves = leaves.left
     words_left NoMemory leaves = leaves.left
     words_left StoreDown leaves = leaves.still
-
-    -- there are as many of them
-    as_long : IsGoodLog (words old) → IsLeftRecovered words down passed refusals old new → length (words new) ≡ length (words old)
-    as_long good leaves = sym leaves.left.good.size.told ∙ ap (λ (h : ℕ × ℕ). h.1) (sym (recovered-head (words new) leaves.left.good))
-        ∙ ap (λ (l : List ℕ). slice_index l size_address) leaves.left.recovered ∙ told_image (words old) good
-
-    pub size_left : (fault : PowerFault) → PowerUpFails words down passed refusals old fault new → length (words new) ≡ length (words old)
-    size_left BadMagic fails = ap (λ (s : S). length (words s)) fails.1
-    size_left BadVersion fails = ap (λ (s : S). length (words s)) fails.1
-    size_left BadSize fails = ap (λ (s : S). length (words s)) fails.1
-    size_left BadLog fails = ap (λ (s : S). length (words s)) fails.1
-    size_left BadTable fails = as_long fails.0.1 fails.1
-    size_left BadPackage fails = as_long fails.0.1 fails.1
-    size_left NoMemory fails = as_long fails.0.1 fails.1
-    size_left StoreDown fails = fails.1.still.size
 
     -- and the heap ends where it did
     same_end : IsLeftRecovered words down passed refusals old new → limit_of (words new) ≡ limit_of (words old)

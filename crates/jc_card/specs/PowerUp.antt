@@ -83,25 +83,3 @@ RefusalLeaves BadTable old new = IsRecovered (migrated 3 (recovered_of old)) new
 RefusalLeaves BadPackage old new = IsRecovered (migrated 3 (recovered_of old)) new
 RefusalLeaves NoMemory old new = IsRecovered (migrated 3 (recovered_of old)) new
 RefusalLeaves StoreDown old new = StillOpens old new
-
--- the faults that are found before a recovery, by reading alone
-abbrev pub IsFoundFirst : PowerFault → Type 0
-IsFoundFirst BadMagic = Unit {0}
-IsFoundFirst BadVersion = Unit {0}
-IsFoundFirst BadSize = Unit {0}
-IsFoundFirst BadLog = Unit {0}
-IsFoundFirst BadTable = ⊥
-IsFoundFirst BadPackage = ⊥
-IsFoundFirst NoMemory = ⊥
-IsFoundFirst StoreDown = ⊥
-
--- the faults that are found after it, by reading alone
-abbrev pub IsFoundAfter : PowerFault → Type 0
-IsFoundAfter BadMagic = ⊥
-IsFoundAfter BadVersion = ⊥
-IsFoundAfter BadSize = ⊥
-IsFoundAfter BadLog = ⊥
-IsFoundAfter BadTable = Unit {0}
-IsFoundAfter BadPackage = Unit {0}
-IsFoundAfter NoMemory = Unit {0}
-IsFoundAfter StoreDown = ⊥

@@ -1,8 +1,11 @@
 //! Faults that are planned for the commands of a session.
 ghost use Rattle.std.specs.Prelude.{◌≡◌, ◌+◌, ◌-◌};
 ghost use Rattle.jc_card.specs.PlannedFault.{attack_of, instructions_before, later_of};
+ghost use Rattle.jc_card.specs.Power.{planned_card};
 
+use crate::card::Card;
 use jc_interp::attacks::{Attack, FaultModel, LaterFault};
+use jc_words::WordStore;
 
 /// A fault at an instruction of a command, which is counted from 0 over all code that the command carries out: it is skipped, it is a
 /// conditional branch that goes the other way, or the value that it leaves on top of the stack becomes 0, a reference null. A second fault may
@@ -49,6 +52,21 @@ impl SecondFault {
                 FaultModel::Zero => before + 1,
             },
             model: self.model,
+        }
+    }
+}
+
+impl<S: WordStore> Card<S> {
+    /// From now on this fault comes in each command, or none.
+    pub fn plan_fault(&mut self, fault: Option<PlannedFault>)
+        ensures { self.new ≡ planned_card fault self.old }
+    {
+        match fault {
+            None => self.plan(None),
+            Some(fault) => {
+                let attack = fault.attack(self.budget());
+                self.plan(Some(attack));
+            }
         }
     }
 }

@@ -1,30 +1,26 @@
 //! Powering a card up over the words of its image.
-ghost use Rattle.std.specs.Prelude.{ℕ, List, ◌≡◌, ◌⊎◌, ◌+◌, ◌/◌, ◌↔◌, [], length, slice_index, None, Some, Ok, IsOk, IfOk, IfErr, OnOk, false, MatchResult};
+ghost use Rattle.std.specs.Prelude.{ℕ, List, ◌≡◌, ◌⊎◌, ◌+◌, ◌↔◌, length, slice_index, [], Ok, IsOk, IfOk, IfErr, OnOk, false, MatchResult};
 ghost use Rattle.jc_words.specs.Layout.{version, version_address};
-ghost use Rattle.jc_heap.specs.Heap.{heap_view};
-ghost use Rattle.jc_heap.specs.Image.{IsWellFormed};
-ghost use Rattle.jc_image.specs.Beginning.{HeapBeginsWith};
 ghost use Rattle.jc_transient.specs.State.{IsCleared};
-ghost use Rattle.jc_platform.specs.Tokens.{Tokens};
-ghost use Rattle.jc_heap.specs.Whole.{IsConsistent};
-ghost use Rattle.jc_heap.specs.Heap.{IsObject, area_sizes, heap_of};
+ghost use Rattle.jc_heap.specs.Heap.{area_sizes, heap_of, heap_view};
+ghost use Rattle.jc_heap.specs.Image.{IsWellFormed};
 ghost use Rattle.jc_heap.specs.Stored.{IsAtRest, heap_of_store_at_rest};
+ghost use Rattle.jc_heap.specs.Whole.{IsConsistent};
+ghost use Rattle.jc_image.specs.Beginning.{HeapBeginsWith};
 ghost use Rattle.jc_commit.specs.Image.{IsGoodLog, count_of, recovered_of};
-ghost use Rattle.jc_transient.specs.State.{HasSizes};
-ghost use Rattle.jc_memory.specs.Marks.{AreNone, AreObjects, mark_count};
-ghost use Rattle.jc_memory.specs.Owners.{at_reset};
-ghost use Rattle.jc_packages.specs.Reading.{packages_of};
+ghost use Rattle.jc_memory.specs.Marks.{AreNone, mark_count};
+ghost use Rattle.jc_platform.specs.Table.{Reads};
+ghost use Rattle.jc_platform.specs.Tokens.{Tokens};
 ghost use Rattle.jc_packages.specs.ImageTables.{HasTable};
-ghost use Rattle.jc_packages.specs.Sound.{IsSound};
+ghost use Rattle.jc_packages.specs.Objects.{MarksObjects};
 ghost use Rattle.jc_interp.specs.Attacks.{undisturbed};
-ghost use Rattle.jc_card.specs.Dispatching.{usual_budget};
-ghost use Rattle.jc_card.specs.Fixed.{buffer_cells, fixed_facts, fixed_of, last_fixed};
 ghost use Rattle.jc_environment.specs.Objects.{sized_objects};
-ghost use Rattle.jc_card.specs.Reset.{IsAtReset};
-ghost use Rattle.jc_card.specs.PowerUp.{FailsToLink, HasHeap, RecoveredWordsFail, fault_of};
+ghost use Rattle.jc_card.specs.Fixed.{buffer_cells, fixed_facts};
+ghost use Rattle.jc_card.specs.Reset.{ArePartsOf, IsAtReset};
+ghost use Rattle.jc_card.specs.PowerUp.{FailsToLink, HasHeap, HasPackages, RecoveredWordsFail, fault_of};
 ghost use Rattle.jc_card.specs.PoweringUp.{PowersUpOver};
 
-use crate::card::{Card, USUAL_BUDGET};
+use crate::card::Card;
 use crate::fixed::{buffer_told, first_objects, fixed_headers};
 use crate::lent::LentStore;
 use crate::packages::CardPackages;
@@ -84,6 +80,14 @@ impl From<ImageFault> for PowerFault {
     }
 }
 
+// What is read of an image for a card, beside the marks.
+struct CardParts {
+    linked: Linked,
+    ram: Ram,
+    fixed: ArrayVec<u16, MOST_FIXED>,
+    rooms: Rooms,
+}
+
 impl<S: WordStore> Card<S> {
     /// The card of a store, after a reset, with a budget of instructions a command: first takes back what a loss of power left open and makes the
     /// image one of the version that is written, then asks for memory. Where it refuses, it gives the store back.
@@ -120,39 +124,25 @@ fn start<S: WordStore>(alloc: Global, store: S, budget: u32) -> Result<Card<S>, 
         return Err((PowerFault::NoMemory, store));
     };
     let image = OpenImage::resume(LentStore::of(&store));
-    match lent_card(alloc, image, marks.as_mut_slice()) {
-        Ok(card) => {
-            let (linked, ram, fixed, rooms) = parts_of(card);
-            Ok(card_over(
-                alloc,
-                store,
-                linked,
-                ram,
-                fixed,
-                Marks::of_flags(marks),
-                rooms,
-                budget,
-            ))
-        }
+    match read_parts(alloc, image, marks.as_mut_slice()) {
+        Ok(parts) => Ok(card_over(alloc, store, parts, Marks::of_flags(marks), budget)),
         Err(fault) => Err((fault, store)),
     }
 }
 
-// The card of a recovered image whose words are lent; and marks where its objects stand.
-fn lent_card<S: WordStore + Drop>(
+// What a recovered image says of a card; and marks where its objects stand. Its words are lent.
+fn read_parts<S: WordStore + Drop>(
     alloc: Global,
     image: OpenImage<S>,
     marks: &mut [bool],
-) -> Result<Card<S>, PowerFault>
+) -> Result<CardParts, PowerFault>
     requires up { image.down ≡ false }
     requires long { length marks.old ≡ mark_count }
     requires unset { AreNone marks.old }
     ensures long { length marks.new ≡ mark_count }
-    ensures marked { IfOk result (λ card. AreObjects marks.new card.memory.heap) }
+    ensures marked { OnOk result (MarksObjects marks.new (heap_of image.plain)) }
     ensures ok { OnOk result ((t : Tokens) × HasTable image.plain t × HasHeap t image.plain) }
-    ensures blank { IfOk result (λ card. IsCleared card.memory.ram) }
-    ensures reset { IfOk result (λ card. IsAtReset (heap_of image.plain) card) }
-    ensures heap { IfOk result (λ card. card.memory.heap ≡ heap_view image (length image.plain)) }
+    ensures parts { IfOk result (ArePartsOf (heap_of image.plain)) }
     ensures cause { IfErr result (λ fault. RecoveredWordsFail fault image.plain) }
 {
     let table = match platform_of(alloc, &image) {
@@ -167,10 +157,7 @@ fn lent_card<S: WordStore + Drop>(
             let Ok(rooms) = Rooms::new(alloc) else {
                 return Err(PowerFault::NoMemory);
             };
-            let Ok(copy) = Vec::from_slice(alloc, marks) else {
-                return Err(PowerFault::NoMemory);
-            };
-            link_packages(alloc, &table, heap, ram, Marks::of_flags(copy), rooms)
+            link_packages(alloc, &table, &heap, marks, ram, rooms)
         }
         Err(fault) => Err(fault),
     }
@@ -187,7 +174,7 @@ fn whole_heap<S: WordStore + Drop>(
     requires long { length marks.old ≡ mark_count }
     requires unset { AreNone marks.old }
     ensures long { length marks.new ≡ mark_count }
-    ensures marked { IfOk result (AreObjects marks.new) }
+    ensures marked { OnOk result (MarksObjects marks.new (heap_of image.plain)) }
     ensures exact { IsOk result ↔ (IsWellFormed image.plain × IsConsistent (heap_of image.plain)
         × HeapBeginsWith (heap_of image.plain) (fixed_facts table.now 0
         (sized_objects table.now (buffer_cells (heap_of image.plain))))) }
@@ -205,135 +192,73 @@ fn whole_heap<S: WordStore + Drop>(
     }
 }
 
-// The card of a whole heap, whose packages are read and linked, and which has to fit them.
-fn link_packages<S: WordStore + Drop>(
+// The parts of a card over a whole heap: its packages are read and linked, and it has to fit them.
+fn link_packages<S: WordStore>(
     alloc: Global,
     table: &Table,
-    heap: Heap<S>,
+    heap: &Heap<S>,
+    marks: &[bool],
     ram: Ram,
-    marks: Marks,
     rooms: Rooms,
-) -> Result<Card<S>, PowerFault>
-    requires up { heap.down ≡ false }
-    requires marked { AreObjects marks heap }
-    requires rests { heap.begun ≡ false }
-    requires whole { IsConsistent heap.now }
-    requires words { (w : List ℕ) × (heap.now ≡ heap_of w) }
-    requires sizes { HasSizes ram }
-    requires fits { ram.sizes ≡ area_sizes heap.now }
+) -> Result<CardParts, PowerFault>
+    requires up { heap.now.down ≡ false }
+    requires long { length marks.now ≡ mark_count }
+    requires marked { MarksObjects marks.now heap.now.now }
+    requires whole { IsConsistent heap.now.now }
+    requires words { (w : List ℕ) × (heap.now.now ≡ heap_of w) }
+    requires reads { Reads heap.now.now.text (Ok table.now) }
+    requires cleared { IsCleared ram }
+    requires sizes { ram.sizes ≡ area_sizes heap.now.now }
     requires command { rooms.command ≡ [] }
     requires sent { rooms.sent ≡ [] }
-    ensures packages { IfOk result (λ card. (packages_of table.now heap.now ≡ Some card.packages)
-        × IsSound card.packages heap.now (last_fixed table.now heap.now)) }
-    ensures memory { IfOk result (λ card. card.memory
-        ≡ record {
-          heap = heap;
-          ram = ram;
-          fixed = fixed_of table.now heap.now;
-          registers = at_reset;
-          command = [];
-          sent = [];
-        }) }
-    ensures load { IfOk result (λ card. card.load ≡ None) }
-    ensures cause { IfErr result (λ fault. FailsToLink fault table.now heap.now) }
+    ensures fit { OnOk result (HasPackages table.now heap.now.now) }
+    ensures parts { IfOk result (ArePartsOf heap.now.now) }
+    ensures cause { IfErr result (λ fault. FailsToLink fault table.now heap.now.now) }
 {
-    let count = fixed_objects(table).len();
-    match read_packages(alloc, table.platform(), &heap) {
-        Ok(linked) => {
-            let (fixed, own) = first_objects(&heap, count);
-            let memory = Memory::new(heap, ram, fixed, marks, rooms);
-            sound_card(alloc, memory, linked, own)
-        }
-        Err(fault) => Err(fault_of(fault)),
-    }
-}
-
-// The card of this memory and these packages, where what stands after the last object of the runtime environment fits
-// them. No memory is asked for.
-fn sound_card<S: WordStore + Drop>(
-    alloc: Global,
-    memory: Memory<S>,
-    linked: Linked,
-    own: Ref,
-) -> Result<Card<S>, PowerFault>
-    requires up { memory.heap.down ≡ false }
-    requires rests { memory.heap.begun ≡ false }
-    requires whole { IsConsistent memory.heap.now }
-    requires words { (w : List ℕ) × (memory.heap.now ≡ heap_of w) }
-    requires linked { length linked.loaded ≡ length memory.heap.now.packages }
-    requires own { (own ≡ 0 → ⊥) → IsObject memory.heap.now own }
-    ensures card { IfOk result (λ card. card
-        ≡ record { memory = memory; packages = linked; load = None; budget = undisturbed usual_budget }) }
-    ensures sound { OnOk result (IsSound linked memory.heap.now own) }
-    ensures cause { IfErr result (λ fault. (fault ≡ PowerFault.BadPackage)
-        × (IsSound linked memory.heap.now own → ⊥)) }
-{
-    if !is_sound(&memory, &linked, own) {
+    let linked = match read_packages(alloc, table.platform(), heap) {
+        Ok(linked) => linked,
+        Err(fault) => return Err(fault_of(fault)),
+    };
+    let (fixed, own) = first_objects(heap, fixed_objects(table).len());
+    if !is_sound(heap, marks, &linked, own) {
         return Err(PowerFault::BadPackage);
     }
-    Ok(Card {
-        alloc,
-        memory,
-        linked: CardPackages::own(linked),
-        load: None,
-        budget: Budget::undisturbed(USUAL_BUDGET),
-        frames: Frames::empty(),
+    Ok(CardParts {
+        linked,
+        ram,
+        fixed,
+        rooms,
     })
 }
 
-// The packages of a card, its transient contents, the addresses of the objects of the runtime environment, and its rooms.
-fn parts_of<S: WordStore + Drop>(
-    card: Card<S>,
-) -> (CardPackages, Ram, ArrayVec<u16, MOST_FIXED>, Rooms)
-    ensures packages { result.0 ≡ card.packages }
-    ensures ram { result.1 ≡ card.memory.ram }
-    ensures fixed { result.2.items ≡ card.memory.fixed }
-    ensures command { result.3.command ≡ card.memory.command }
-    ensures sent { result.3.sent ≡ card.memory.sent }
-{
-    let Card { memory, linked, .. } = card;
-    let (_, ram, fixed, rooms) = memory.into_parts();
-    (linked, ram, fixed, rooms)
-}
-
-// The card over a store at rest, with packages, transient contents and objects of the runtime environment that were found.
-// No memory is asked for.
+// The card over a store at rest, of what was read of its words. No memory is asked for.
 fn card_over<S: WordStore>(
     alloc: Global,
     store: S,
-    linked: CardPackages,
-    ram: Ram,
-    fixed: ArrayVec<u16, MOST_FIXED>,
+    parts: CardParts,
     marks: Marks,
-    rooms: Rooms,
     budget: u32,
 ) -> Card<S>
     requires rests { IsAtRest (S.words store) (S.down store) }
     requires whole { IsConsistent (heap_of (recovered_of (S.words store))) }
-    requires marked { AreObjects marks (heap_of_store_at_rest (S.words store) (S.passed store)
-        (S.refusals store)) }
-    requires sizes { HasSizes ram }
-    requires fits { ram.sizes ≡ area_sizes (heap_of (recovered_of (S.words store))) }
-    requires command { rooms.command ≡ [] }
-    requires sent { rooms.sent ≡ [] }
-    ensures memory { result.memory
-        ≡ record {
-          heap = heap_of_store_at_rest (S.words store) (S.passed store) (S.refusals store);
-          ram = ram;
-          fixed = fixed.items;
-          registers = at_reset;
-          command = [];
-          sent = [];
-        } }
-    ensures packages { result.packages ≡ linked }
-    ensures load { result.load ≡ None }
+    requires marked { MarksObjects marks (heap_of (recovered_of (S.words store))) }
+    requires parts { ArePartsOf (heap_of (recovered_of (S.words store))) parts }
+    ensures heap { result.memory.heap
+        ≡ heap_of_store_at_rest (S.words store) (S.passed store) (S.refusals store) }
+    ensures reset { IsAtReset (heap_of (recovered_of (S.words store))) result }
     ensures budget { result.budget ≡ undisturbed budget }
 {
+    let CardParts {
+        linked,
+        ram,
+        fixed,
+        rooms,
+    } = parts;
     let heap = Heap::resume(store);
     Card {
         alloc,
         memory: Memory::new(heap, ram, fixed, marks, rooms),
-        linked,
+        linked: CardPackages::own(linked),
         load: None,
         budget: Budget::undisturbed(budget),
         frames: Frames::empty(),

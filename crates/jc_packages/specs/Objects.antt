@@ -6,6 +6,7 @@ use Rattle.jc_heap.specs.declared.object.Kind.{Kind}
 use Rattle.jc_heap.specs.declared.object.Kind.TheVariants.{Instance, ByteArray, ReferenceArray}
 use Rattle.jc_heap.specs.Object.{is_object}
 use Rattle.jc_heap.specs.Heap.{HeapState, heap_item_at, facts, cells}
+use Rattle.jc_memory.specs.Marks.{is_marked}
 use Rattle.jc_linker.specs.Values.{Packages}
 use Rattle.jc_linker.specs.Classes.{is_a, is_class, reference_cell, size_of}
 use Rattle.jc_linker.specs.Resolves.{names_interface}
@@ -13,6 +14,10 @@ use Rattle.jc_linker.specs.Resolves.{names_interface}
 -- an object stands at this address
 abbrev pub is_object_address : HeapState → ℕ → Bool
 is_object_address h r = is_object (heap_item_at h r)
+
+-- the addresses at which objects stand are marked, and no others
+abbrev pub MarksObjects : List Bool → HeapState → Type 0
+MarksObjects marks h = (r : ℕ) → is_marked marks r ≡ is_object_address h r
 
 -- null or an object
 abbrev pub is_reference : HeapState → ℕ → Bool

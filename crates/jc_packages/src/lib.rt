@@ -10,6 +10,7 @@ mod linking;
 mod load;
 mod load_end;
 mod load_refusal;
+mod marked_heap;
 mod objects;
 pub mod reading;
 pub mod record_contents;

@@ -3,10 +3,10 @@ ghost use Rattle.std.specs.Prelude.{ℕ, List, ◌≡◌, ◌<◌, ◌↔◌, If
 ghost use Rattle.jc_heap.specs.Heap.{heap_of, next_object, IsObject};
 ghost use Rattle.jc_packages.specs.Objects.{IsSoundObject, fits_class, is_persistent_instance, is_owner};
 
+use crate::marked_heap::MarkedHeap;
 use crate::values::holds_values;
 use jc_heap::{Facts, Kind};
 use jc_linker::linked::Linked;
-use jc_memory::Memory;
 use jc_transient::{ClassWord, OwnerWord, Ref};
 use jc_words::WordStore;
 
@@ -29,14 +29,14 @@ fn fits_class(linked: &Linked, kind: Kind, class: ClassWord, long: u16) -> bool
 }
 
 // The owner is there.
-fn is_owner<S: WordStore>(memory: &Memory<S>, owner: OwnerWord) -> bool
-    requires up { memory.now.heap.down ≡ false }
-    ensures { result ≡ is_owner memory.now.heap.now owner }
+fn is_owner<S: WordStore>(marked: &MarkedHeap<'_, S>, owner: OwnerWord) -> bool
+    requires up { marked.now.down ≡ false }
+    ensures { result ≡ is_owner marked.now.now owner }
 {
     let number = owner.0;
     number == 0
-        || number <= memory.heap().applets()
-        || number > PACKAGES && number - PACKAGES <= memory.heap().packages()
+        || number <= marked.heap().applets()
+        || number > PACKAGES && number - PACKAGES <= marked.heap().packages()
 }
 
 /// The header says that it is a persistent instance.
@@ -47,45 +47,45 @@ pub(crate) fn is_persistent_instance(facts: Facts) -> bool
 }
 
 // The class, the owner and the cells of an object are there.
-fn is_sound_object<S: WordStore>(memory: &Memory<S>, linked: &Linked, object: Ref) -> bool
-    requires up { memory.now.heap.down ≡ false }
-    requires there { IsObject memory.now.heap.now object }
-    ensures { IsTrue result ↔ IsSoundObject linked.now memory.now.heap.now object }
+fn is_sound_object<S: WordStore>(marked: &MarkedHeap<'_, S>, linked: &Linked, object: Ref) -> bool
+    requires up { marked.now.down ≡ false }
+    requires there { IsObject marked.now.now object }
+    ensures { IsTrue result ↔ IsSoundObject linked.now marked.now.now object }
 {
-    let facts = memory.heap().facts(object);
+    let facts = marked.heap().facts(object);
     if !fits_class(linked, facts.kind, facts.class(), facts.length) {
         return false;
     }
-    if !is_owner(memory, facts.owner()) {
+    if !is_owner(marked, facts.owner()) {
         return false;
     }
     if !is_persistent_instance(facts) {
         return true;
     }
-    holds_values(memory, linked, object, facts.class(), facts.length)
+    holds_values(marked, linked, object, facts.class(), facts.length)
 }
 
 // The object after this one, or the first one of all after null.
-fn next_of<S: WordStore>(memory: &Memory<S>, at: Ref) -> Option<Ref>
-    requires up { memory.now.heap.down ≡ false }
-    requires there { (at ≡ 0 → ⊥) → IsObject memory.now.heap.now at }
-    ensures next { result ≡ next_object memory.now.heap.now at }
-    ensures object { IfSome result (IsObject memory.now.heap.now) }
+fn next_of<S: WordStore>(marked: &MarkedHeap<'_, S>, at: Ref) -> Option<Ref>
+    requires up { marked.now.down ≡ false }
+    requires there { (at ≡ 0 → ⊥) → IsObject marked.now.now at }
+    ensures next { result ≡ next_object marked.now.now at }
+    ensures object { IfSome result (IsObject marked.now.now) }
 {
-    memory.heap().next(at)
+    marked.heap().next(at)
 }
 
 /// The class, the owner and the cells of each object after this one are there.
-pub(crate) fn are_sound<S: WordStore>(memory: &Memory<S>, linked: &Linked, own: Ref) -> bool
-    requires up { memory.now.heap.down ≡ false }
-    requires words { (w : List ℕ) × (memory.now.heap.now ≡ heap_of w) }
-    requires own { (own ≡ 0 → ⊥) → IsObject memory.now.heap.now own }
-    ensures { IsTrue result ↔ ((r : ℕ) → own < r → IsObject memory.now.heap.now r
-        → IsSoundObject linked.now memory.now.heap.now r) }
+pub(crate) fn are_sound<S: WordStore>(marked: &MarkedHeap<'_, S>, linked: &Linked, own: Ref) -> bool
+    requires up { marked.now.down ≡ false }
+    requires words { (w : List ℕ) × (marked.now.now ≡ heap_of w) }
+    requires own { (own ≡ 0 → ⊥) → IsObject marked.now.now own }
+    ensures { IsTrue result ↔ ((r : ℕ) → own < r → IsObject marked.now.now r
+        → IsSoundObject linked.now marked.now.now r) }
 {
     let mut at = own;
-    while let Some(object) = next_of(memory, at) {
-        if !is_sound_object(memory, linked, object) {
+    while let Some(object) = next_of(marked, at) {
+        if !is_sound_object(marked, linked, object) {
             return false;
         }
         at = object;

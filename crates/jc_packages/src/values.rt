@@ -3,11 +3,10 @@ ghost use Rattle.std.specs.Prelude.{◌≡◌, ◌<◌, ◌↔◌, IsTrue, false
 ghost use Rattle.jc_heap.specs.Heap.{cells, facts};
 ghost use Rattle.jc_packages.specs.Objects.{HoldsReferences, HoldsValues, fits_aid, fits_pin, has_value, is_byte_array, is_reference};
 ghost use Rattle.jc_linker.specs.Classes.{is_a};
-ghost use Rattle.jc_packages.specs.Objects.{is_object_address};
 
+use crate::marked_heap::MarkedHeap;
 use jc_heap::{Facts, Kind};
 use jc_linker::linked::Linked;
-use jc_memory::Memory;
 use jc_platform::names::PlatformClass;
 use jc_transient::{ClassWord, Ref};
 use jc_words::WordStore;
@@ -22,30 +21,26 @@ pub(crate) fn is_a(linked: &Linked, class: ClassWord, of: PlatformClass) -> bool
     linked.is_below(class, linked.platform().class_word(of))
 }
 
-/// An object stands at this address.
-pub(crate) fn is_object_address<S: WordStore>(memory: &Memory<S>, word: u16) -> bool
-    requires up { memory.now.heap.down ≡ false }
-    ensures { result ≡ is_object_address memory.now.heap.now word }
-{
-    memory.header(Ref::at(word)).is_some()
-}
-
 /// The word is null or the address of an object.
-pub(crate) fn is_reference<S: WordStore>(memory: &Memory<S>, word: u16) -> bool
-    requires up { memory.now.heap.down ≡ false }
-    ensures { result ≡ is_reference memory.now.heap.now word }
+pub(crate) fn is_reference<S: WordStore>(marked: &MarkedHeap<'_, S>, word: u16) -> bool
+    ensures { result ≡ is_reference marked.now.now word }
 {
-    word == 0 || is_object_address(memory, word)
+    word == 0 || marked.is_object(word)
 }
 
 /// A cell of a persistent object with this many cells; 0 after the last one.
-pub(crate) fn cell_of<S: WordStore>(memory: &Memory<S>, object: Ref, long: u16, i: u16) -> u16
-    requires up { memory.now.heap.down ≡ false }
-    requires long { length (cells memory.now.heap.now object) ≡ long }
-    ensures { result ≡ slice_index (cells memory.now.heap.now object) i }
+pub(crate) fn cell_of<S: WordStore>(
+    marked: &MarkedHeap<'_, S>,
+    object: Ref,
+    long: u16,
+    i: u16,
+) -> u16
+    requires up { marked.now.down ≡ false }
+    requires long { length (cells marked.now.now object) ≡ long }
+    ensures { result ≡ slice_index (cells marked.now.now object) i }
 {
     if i < long {
-        memory.heap().get(object, i)
+        marked.heap().get(object, i)
     } else {
         0
     }
@@ -59,72 +54,72 @@ fn is_byte_array(facts: Facts, n: u16) -> bool
 }
 
 // There is no value where the maximum is 0, or else an array of this many bytes.
-fn has_value<S: WordStore>(memory: &Memory<S>, pin: Ref, long: u16) -> bool
-    requires up { memory.now.heap.down ≡ false }
-    requires long { length (cells memory.now.heap.now pin) ≡ long }
-    ensures { result ≡ has_value memory.now.heap.now (cells memory.now.heap.now pin) }
+fn has_value<S: WordStore>(marked: &MarkedHeap<'_, S>, pin: Ref, long: u16) -> bool
+    requires up { marked.now.down ≡ false }
+    requires long { length (cells marked.now.now pin) ≡ long }
+    ensures { result ≡ has_value marked.now.now (cells marked.now.now pin) }
 {
-    let maximum = cell_of(memory, pin, long, 1);
-    let value = cell_of(memory, pin, long, 4);
+    let maximum = cell_of(marked, pin, long, 1);
+    let value = cell_of(marked, pin, long, 4);
     if value == 0 {
         return maximum == 0;
     }
-    if !is_object_address(memory, value) {
+    if !marked.is_object(value) {
         return false;
     }
-    is_byte_array(memory.heap().facts(Ref::at(value)), maximum)
+    is_byte_array(marked.heap().facts(Ref::at(value)), maximum)
 }
 
 // An OwnerPIN has its value, which is not longer than the maximum.
 fn fits_pin<S: WordStore>(
-    memory: &Memory<S>,
+    marked: &MarkedHeap<'_, S>,
     linked: &Linked,
     object: Ref,
     class: ClassWord,
     long: u16,
 ) -> bool
-    requires up { memory.now.heap.down ≡ false }
-    requires long { length (cells memory.now.heap.now object) ≡ long }
-    ensures { result ≡ fits_pin linked.now memory.now.heap.now class
-        (cells memory.now.heap.now object) }
+    requires up { marked.now.down ≡ false }
+    requires long { length (cells marked.now.now object) ≡ long }
+    ensures { result ≡ fits_pin linked.now marked.now.now class
+        (cells marked.now.now object) }
 {
     if !is_a(linked, class, PlatformClass::OwnerPin) {
         return true;
     }
-    cell_of(memory, object, long, 3) <= cell_of(memory, object, long, 1)
-        && has_value(memory, object, long)
+    cell_of(marked, object, long, 3) <= cell_of(marked, object, long, 1)
+        && has_value(marked, object, long)
 }
 
 // An AID is not too long.
 fn fits_aid<S: WordStore>(
-    memory: &Memory<S>,
+    marked: &MarkedHeap<'_, S>,
     linked: &Linked,
     object: Ref,
     class: ClassWord,
     long: u16,
 ) -> bool
-    requires up { memory.now.heap.down ≡ false }
-    requires long { length (cells memory.now.heap.now object) ≡ long }
-    ensures { result ≡ fits_aid linked.now class (cells memory.now.heap.now object) }
+    requires up { marked.now.down ≡ false }
+    requires long { length (cells marked.now.now object) ≡ long }
+    ensures { result ≡ fits_aid linked.now class (cells marked.now.now object) }
 {
-    !is_a(linked, class, PlatformClass::Aid) || cell_of(memory, object, long, 0) <= MOST_AID
+    !is_a(linked, class, PlatformClass::Aid) || cell_of(marked, object, long, 0) <= MOST_AID
 }
 
 // The cells that hold references hold null or objects.
 fn holds_references<S: WordStore>(
-    memory: &Memory<S>,
+    marked: &MarkedHeap<'_, S>,
     linked: &Linked,
     object: Ref,
     class: ClassWord,
     long: u16,
 ) -> bool
-    requires up { memory.now.heap.down ≡ false }
-    requires class { (facts memory.now.heap.now object).class ≡ class }
-    requires long { length (cells memory.now.heap.now object) ≡ long }
-    ensures { IsTrue result ↔ HoldsReferences linked.now memory.now.heap.now object }
+    requires up { marked.now.down ≡ false }
+    requires class { (facts marked.now.now object).class ≡ class }
+    requires long { length (cells marked.now.now object) ≡ long }
+    ensures { IsTrue result ↔ HoldsReferences linked.now marked.now.now object }
 {
     for i in 0..long {
-        if linked.reference_cell(class, i) && !is_reference(memory, memory.heap().get(object, i)) {
+        if linked.reference_cell(class, i) && !is_reference(marked, marked.heap().get(object, i)) {
             return false;
         }
     }
@@ -133,18 +128,18 @@ fn holds_references<S: WordStore>(
 
 /// What a persistent instance holds fits its class.
 pub(crate) fn holds_values<S: WordStore>(
-    memory: &Memory<S>,
+    marked: &MarkedHeap<'_, S>,
     linked: &Linked,
     object: Ref,
     class: ClassWord,
     long: u16,
 ) -> bool
-    requires up { memory.now.heap.down ≡ false }
-    requires class { (facts memory.now.heap.now object).class ≡ class }
-    requires long { length (cells memory.now.heap.now object) ≡ long }
-    ensures { IsTrue result ↔ HoldsValues linked.now memory.now.heap.now object }
+    requires up { marked.now.down ≡ false }
+    requires class { (facts marked.now.now object).class ≡ class }
+    requires long { length (cells marked.now.now object) ≡ long }
+    ensures { IsTrue result ↔ HoldsValues linked.now marked.now.now object }
 {
-    holds_references(memory, linked, object, class, long)
-        && fits_aid(memory, linked, object, class, long)
-        && fits_pin(memory, linked, object, class, long)
+    holds_references(marked, linked, object, class, long)
+        && fits_aid(marked, linked, object, class, long)
+        && fits_pin(marked, linked, object, class, long)
 }

@@ -17,7 +17,8 @@ use Rattle.jc_card.specs.Power.{Up, Off, armed_card}
 use Rattle.jc_card.specs.Requests.{Armed, ArmFuse, Down, Response}
 use Rattle.jcard_script.specs.Begun.{AnswersLeaving, EndsLeaving, ForEachAlike, HasBegun, IsCommandLine, IsStopLine, LeavesCut}
 use Rattle.jcard_script.specs.Script.{AreCarriedOut, Asks, EndsWithin, IsWrittenFor, armed_text, ended_lines, form_of, text_of_reply}
-use Rattle.jcard_script.specs.ScriptStates.{IsStoreOf, ScriptState, with_fuse}
+use Rattle.jc_card.specs.SessionStates.{with_fuse}
+use Rattle.jcard_script.specs.ScriptStates.{IsStoreOf, ScriptState}
 use Rattle.jcard_script.specs.Session.{unfinished_line}
 use Rattle.jcard_script.proofs.Carried.{carried_more}
 use Rattle.jcard_script.proofs.LongCommands.{answered_line}

@@ -1,5 +1,5 @@
 pub mod Begun
-pub mod CardOrStore
+pub mod HeldCard
 pub mod Line
 pub mod Reply
 pub mod Script

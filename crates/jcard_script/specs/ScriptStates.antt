@@ -1,10 +1,8 @@
 -- How the session of a script stands, and what a power up makes of it.
 use Rattle.std.specs.Prelude.{ℕ, ◌≡◌, false, List, Option, None}
-use Rattle.jc_words.specs.Count.{saturating_count}
-use Rattle.jc_words.specs.Refusals.{with_fuse_at}
-use Rattle.jc_words.specs.Stores.{FuseStoreValue, with_fuse_armed}
+use Rattle.jc_words.specs.Stores.{FuseStoreValue}
 use Rattle.jc_commit.specs.Image.{IsGoodLog, limit_of, recovered_of}
-use Rattle.jc_heap.specs.Heap.{HeapState, HeapView, heap_of, heap_at_rest}
+use Rattle.jc_heap.specs.Heap.{HeapState, HeapView, heap_of}
 use Rattle.jc_heap.specs.Image.{IsWellFormed}
 use Rattle.jc_heap.specs.Moves.{IsTorn}
 use Rattle.jc_card.specs.CardState.{selected_aid}
@@ -13,6 +11,7 @@ use Rattle.jc_card.specs.declared.power_up.PowerFault.{PowerFault as Fault}
 use Rattle.jc_card.specs.declared.power_up.PowerFault.TheVariants.{StoreDown}
 use Rattle.jc_card.specs.Power.{PowerOver, Up, Off, budget_of}
 use Rattle.jc_card.specs.Serving.{StoreKind}
+use Rattle.jc_card.specs.SessionStates.{with_fuse}
 
 -- a session that keeps the store of a card that is off as it is
 abbrev pub ScriptState : Type 0
@@ -58,16 +57,6 @@ IsReset s t = (store : FuseStoreValue) × IsSessionStore s store × PowersUp (bu
 -- a reset that finds a fault
 abbrev pub FailsReset : Fault → ScriptState → ScriptState → Type 0
 FailsReset fault s t = (before after : FuseStoreValue) × IsSessionStore s before × FailsUp before fault after × (t ≡ Off (budget_of s) after)
-
--- the fuse is armed: k further writes pass. A card that is up is as it was, at rest
-abbrev pub with_fuse : ℕ → ScriptState → ScriptState
-with_fuse k (Up card) = Up (record card {
-  memory = record card.memory {
-    heap = heap_at_rest card.memory.heap.durable card.memory.heap.passed
-        (with_fuse_at (saturating_count card.memory.heap.passed k) card.memory.heap.refusals) card.memory.heap.size;
-  };
-})
-with_fuse k (Off budget store) = Off budget (with_fuse_armed k store)
 
 -- the store of a heap that such a loss of power leaves
 abbrev pub IsStoreLeft : (ℕ → HeapState → Type 0) → HeapView → FuseStoreValue → Type 0

@@ -8,7 +8,6 @@ ghost use Rattle.jcard_script.specs.Script.{IsWholeScript};
 ghost use Rattle.jcard_script.specs.ScriptStates.{IsSessionStore};
 ghost use Rattle.jcard_script.specs.Session.{IsUnbroken, unfinished_line};
 
-use crate::card_or_store::plan_in;
 use crate::explainer::Unasked;
 use crate::line::{Line, LineRequest};
 use crate::script::BOUND;
@@ -205,10 +204,10 @@ fn glitched<S: WordStore + Drop>(
     ensures up { IfSome result (λ next. next.memory.heap.down ≡ false) }
     ensures answers { IfSome result (λ next. AnswersWith fault card command.now response.new next) }
 {
-    plan_in(&mut card, fault);
+    card.plan_fault(fault);
     match card.exchange(command, response) {
         Ok(()) => {
-            plan_in(&mut card, None);
+            card.plan_fault(None);
             Some(card)
         }
         Err(StoreDown) => None,

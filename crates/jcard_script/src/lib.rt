@@ -2,10 +2,10 @@
 #![tactic(auto)]
 
 pub mod begun;
-mod card_or_store;
 pub mod expectations;
 pub mod explainer;
 mod glitch;
+mod held_card;
 mod line;
 mod line_text;
 pub mod mem_text;

@@ -6,19 +6,23 @@ ghost use Rattle.std.specs.Str.Lines.{lines};
 ghost use Rattle.jc_words.specs.Stores.{FuseStoreValue};
 ghost use Rattle.jc_words.specs.Count.{failures_after};
 ghost use Rattle.jc_words.specs.Refusals.{IsWithinFuse};
-ghost use Rattle.jcard_script.specs.CardOrStore.{IsState, state_of_held};
+ghost use Rattle.jcard_script.specs.HeldCard.{IsState, state_of_held};
 ghost use Rattle.jcard_script.specs.Line.{AsksFor, IsCommandOf};
 ghost use Rattle.jcard_script.specs.Reply.{text_for_line};
 ghost use Rattle.jcard_script.specs.Script.{EndsFrom, IsAnswered, IsWholeScript, IsWrittenFor, armed_text, down_text, form_of, is_read_failed, planned_text};
 ghost use Rattle.jcard_script.specs.Script.{is_write_failed, ended_lines};
 ghost use Rattle.jc_card.specs.Power.{Off, Up, budget_of, planned};
 ghost use Rattle.jc_card.specs.Requests.{Command, Reset};
-ghost use Rattle.jcard_script.specs.ScriptStates.{ScriptState, IsSessionStore, PowersUp, FailsUp, FailsReset, selected_in, with_fuse};
+ghost use Rattle.jc_card.specs.SessionStates.{with_fuse};
+ghost use Rattle.jcard_script.specs.ScriptStates.{ScriptState, IsSessionStore, PowersUp, FailsUp, FailsReset, selected_in};
 ghost use Rattle.jcard_script.specs.Session.{EndsLine, StandsAt, IsUnbroken, IsWrittenOut, LineEnds, LineFails, LinesEnd};
 
-use crate::card_or_store::{CardOrStore, ToldOf};
 use crate::expectations::Expectations;
 use crate::explainer::Explainer;
+use crate::held_card::{
+    ToldOf, cut_told, exchange, explain, into_store, passed_writes, power_up, power_up_reply,
+    selected_aid, statics, tell,
+};
 use crate::line::{Line, LineRequest};
 use crate::refused_line::remark_of;
 use crate::reply::{MOST_TEXT, Reply, reply_text, status_of, write_reply};
@@ -30,6 +34,7 @@ use jc_card::card::Card;
 use jc_card::planned_fault::PlannedFault;
 use jc_card::power_up::PowerFault;
 use jc_card::response::Response;
+use jc_card::state::SessionState;
 use jc_environment::Aid;
 use jc_memory::Notes;
 use jc_words::{FuseStore, WordStore};
@@ -47,7 +52,7 @@ const PIECE: usize = 16_384;
 pub(crate) struct Session<S: WordStore> {
     alloc: Global,
     // Nothing only while a reset is carried out or the fuse is armed.
-    held: Option<CardOrStore<S>>,
+    held: Option<SessionState<FuseStore<S>>>,
     line: Line,
     number: u32,
     notes: Notes,
@@ -78,8 +83,8 @@ impl<S: WordStore + Drop> Session<S> {
         ensures fault { IfErr result.1 (λ fault. (after : FuseStoreValue) × FailsUp fuse fault after
             × (state_of_held result.0.held ≡ Off budget after)) }
     {
-        let (mut held, started) = CardOrStore::power_up(alloc, fuse, budget);
-        held.explain(&notes);
+        let (mut held, started) = power_up(alloc, fuse, budget);
+        explain(&mut held, &notes);
         let session = Session {
             alloc,
             held: Some(held),
@@ -105,7 +110,7 @@ impl<S: WordStore + Drop> Session<S> {
     {
         Session {
             alloc,
-            held: Some(CardOrStore::Card(card)),
+            held: Some(SessionState::Card(card)),
             line: Line::empty(),
             number: 0,
             notes: Notes::nowhere(),
@@ -124,7 +129,7 @@ impl<S: WordStore + Drop> Session<S> {
         ensures { result ≡ selected_in (state_of_held self.now.held) }
     {
         match &self.held {
-            Some(held) => held.selected_aid(),
+            Some(held) => selected_aid(held),
             None => None,
         }
     }
@@ -148,7 +153,7 @@ impl<S: WordStore + Drop> Session<S> {
             cut: _,
             cut_number: _,
         } = self;
-        let store = held.unwrap().into_store();
+        let store = into_store(held.unwrap());
         let _within = store.passed_writes();
         store
     }
@@ -173,7 +178,7 @@ impl<S: WordStore + Drop> Session<S> {
             cut_number: _,
         } = self;
         match held {
-            Some(CardOrStore::Card(card)) => Some(card),
+            Some(SessionState::Card(card)) => Some(card),
             _ => None,
         }
     }
@@ -426,7 +431,7 @@ impl<S: WordStore + Drop> Session<S> {
                 lent_code: code_of(&self.command),
                 statics: &self.statics,
             };
-            held.tell(self.alloc, &told, explainer);
+            tell(self.alloc, held, &told, explainer);
         }
     }
 
@@ -500,8 +505,8 @@ impl<S: WordStore + Drop> Session<S> {
         self.keep_statics(explainer);
         let budget = self.budget();
         if let Some(held) = &mut self.held {
-            self.passed_before = held.passed_writes();
-            if held.exchange(command, &mut self.response) {
+            self.passed_before = passed_writes(held);
+            if exchange(held, command, &mut self.response) {
                 return Reply::Answer;
             }
         }
@@ -555,8 +560,8 @@ impl<S: WordStore + Drop> Session<S> {
             explainer,
         );
         self.cut_number = self.number;
-        let left = held.into_store();
-        self.held = Some(CardOrStore::Store(left, budget));
+        let left = into_store(held);
+        self.held = Some(SessionState::Store(left, budget));
         Reply::Down
     }
 
@@ -582,10 +587,10 @@ impl<S: WordStore + Drop> Session<S> {
             (state_of_held self.new.held)) }
     {
         let budget = self.budget();
-        let store = self.held.take().unwrap().into_store();
-        let (mut held, result) = CardOrStore::power_up(self.alloc, store, budget);
-        held.explain(&self.notes);
-        let reply = held.power_up_answer();
+        let store = into_store(self.held.take().unwrap());
+        let (mut held, result) = power_up(self.alloc, store, budget);
+        explain(&mut held, &self.notes);
+        let reply = power_up_reply(&held);
         self.held = Some(held);
         match result {
             Ok(()) => Ok(reply),
@@ -625,7 +630,7 @@ impl<S: WordStore + Drop> Session<S> {
 // What is to be reported of the command in a line within which the power was cut.
 fn cut_text<S: WordStore, E: Explainer>(
     alloc: Global,
-    held: &CardOrStore<S>,
+    held: &SessionState<FuseStore<S>>,
     notes: &Notes,
     line: u32,
     statics: &[StaticImage],
@@ -640,15 +645,18 @@ fn cut_text<S: WordStore, E: Explainer>(
         lent_code: b"",
         statics,
     };
-    held.told_of_cut(alloc, &told, explainer)
+    cut_told(alloc, held, &told, explainer)
 }
 
 // The static images of a card that is up, where there is memory for them.
-fn statics_of<S: WordStore>(alloc: Global, held: &Option<CardOrStore<S>>) -> Vec<StaticImage>
+fn statics_of<S: WordStore>(
+    alloc: Global,
+    held: &Option<SessionState<FuseStore<S>>>,
+) -> Vec<StaticImage>
     requires { IsState held.now }
 {
     match held {
-        Some(held) => held.statics(alloc).unwrap_or(Vec::new(alloc)),
+        Some(held) => statics(alloc, held).unwrap_or(Vec::new(alloc)),
         None => Vec::new(alloc),
     }
 }

@@ -29,7 +29,8 @@ use Rattle.jc_card.proofs.WholeSessions.{are_whole}
 use Rattle.jcard_script.specs.declared.script.ScriptFault.{ScriptFault}
 use Rattle.jcard_script.specs.declared.script.ScriptFault.TheVariants.{ReadFailed, WriteFailed, BadLine, TooLong, PowerFault}
 use Rattle.jcard_script.specs.ScriptStates.{ScriptState, FailsReset, FailsUp, IsReset as IsResetOf, IsStoreOf as IsStoreOfHeap, IsSessionStore}
-use Rattle.jcard_script.specs.ScriptStates.{PowersUp, fuse_kind, with_fuse, with_power}
+use Rattle.jc_card.specs.SessionStates.{with_fuse}
+use Rattle.jcard_script.specs.ScriptStates.{PowersUp, fuse_kind, with_power}
 use Rattle.jcard_script.specs.Script.{AreCarriedOut, Form, Skipped, Asks, Bad, IsWrittenFor, form_of, lines_so_far, text_of_reply}
 use Rattle.jcard_script.specs.Texts.{IsCutOf}
 use Rattle.jcard_script.proofs.Decoding.{command_bytes}

@@ -1,22 +1,38 @@
-use Rattle.std.proofs.Common.{rules, ◌∙◌, ap, length, sym}
-use Rattle.jc_memory.specs.State.{MemoryState}
+use Rattle.std.proofs.Common.{rules, ◌≡◌, ◌∙◌, Some, ap, sym}
+use Rattle.std.proofs.lemmas.Bool.{false≢true}
 use Rattle.jc_packages.specs.Reading.{packages_of}
 use Rattle.jc_card.proofs.Linked.{as_many}
-use Rattle.jc_card.proofs.PoweredUp.{fits_linked, unfit}
+use Rattle.jc_card.proofs.PoweredUp.{has_packages, none_fit}
 use Rattle.jc_card.proofs.power_up.link_packages.Goals as goal
 
-pub sound_card-requires-clause-linked : goal.sound_card-requires-clause-linked
-sound_card-requires-clause-linked g c = as_many c.args.table.now c.args.heap.now c.in-Ok.linked (ap (λ u. packages_of u c.args.heap.now) (sym c.platform.ensures) ∙ c.in-Ok.ensures.linked)
-    ∙ ap (λ (m : MemoryState). length m.heap.now.packages) (sym c.new-memory.ensures)
+pub is_sound-requires-clause-linked : goal.is_sound-requires-clause-linked
+is_sound-requires-clause-linked g c =
+    as_many c.args.table.now c.args.heap.now.now c.in-Ok.linked (ap (λ u. packages_of u c.args.heap.now.now) (sym c.platform.ensures) ∙ c.in-Ok.ensures.linked)
 
-pub returns-in-Ok-clause-packages : goal.returns-in-Ok-clause-packages
-returns-in-Ok-clause-packages g c =
-    fits_linked c.sound_card.result c.new-memory.result c.in-Ok.linked c.args.table.now c.args.heap.now _
-    c.sound_card.ensures.card c.sound_card.ensures.sound (ap (λ (m : MemoryState). m.heap.now) c.new-memory.ensures) (search rules)
-    (ap (λ u. packages_of u c.args.heap.now) (sym c.platform.ensures) ∙ c.in-Ok.ensures.linked)
+pub returns-then-not-is_sound-clause-cause : goal.returns-then-not-is_sound-clause-cause
+returns-then-not-is_sound-clause-cause g c =
+    let h = c.args.heap.now.now in
+    let linked : packages_of c.args.table.now h ≡ Some c.in-Ok.linked = ap (λ u. packages_of u h) (sym c.platform.ensures) ∙ c.in-Ok.ensures.linked in
+    none_fit c.args.table.now h c.in-Ok.linked _ linked (search rules) (λ fit. absurd (false≢true (sym c.if-not-is_sound.true ∙ c.is_sound.ensures.1 fit)))
 
-pub returns-in-Ok-clause-cause : goal.returns-in-Ok-clause-cause
-returns-in-Ok-clause-cause g c =
-    unfit c.sound_card.result c.new-memory.result c.in-Ok.linked c.args.table.now c.args.heap.now _
-    c.sound_card.ensures.cause (ap (λ (m : MemoryState). m.heap.now) c.new-memory.ensures) (search rules)
-    (ap (λ u. packages_of u c.args.heap.now) (sym c.platform.ensures) ∙ c.in-Ok.ensures.linked)
+pub returns-clause-fit : goal.returns-clause-fit
+returns-clause-fit g c =
+    let h = c.args.heap.now.now in
+    let linked : packages_of c.args.table.now h ≡ Some c.in-Ok.linked = ap (λ u. packages_of u h) (sym c.platform.ensures) ∙ c.in-Ok.ensures.linked in
+    has_packages c.args.table.now h c.in-Ok.linked _ linked (search rules) (c.is_sound.ensures.0 c.if-not-is_sound.false)
+
+pub returns-clause-parts : goal.returns-clause-parts
+returns-clause-parts g c =
+    let h = c.args.heap.now.now in
+    record {
+      ram = c.requires.cleared;
+      sizes = c.requires.sizes;
+      packages = (
+        c.args.table.now,
+        c.requires.reads,
+        ap (λ u. packages_of u h) (sym c.platform.ensures) ∙ c.in-Ok.ensures.linked,
+        search rules,
+      );
+      command = c.requires.command;
+      sent = c.requires.sent;
+    }

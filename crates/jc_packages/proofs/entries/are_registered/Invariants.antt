@@ -3,4 +3,4 @@ use Rattle.jc_packages.specs.Sound.{IsRegistered}
 use Rattle.jc_packages.proofs.entries.are_registered.Given as goal
 
 abbrev pub invariant-loop-a : goal.invariant-loop-a
-invariant-loop-a g l = (j : ℕ) → j < l.a → IsRegistered l.linked l.memory.heap.now j
+invariant-loop-a g l = (j : ℕ) → j < l.a → IsRegistered l.linked l.marked.now j

@@ -5,9 +5,9 @@ use Rattle.jc_packages.proofs.objects.are_sound.Given as goal
 
 abbrev pub invariant-loop-object : goal.invariant-loop-object
 invariant-loop-object g l = record {
-  there : (l.at ≡ 0 → ⊥) → IsObject l.memory.heap.now l.at;
+  there : (l.at ≡ 0 → ⊥) → IsObject l.marked.now l.at;
   behind : l.fn.own ≤ l.at;
-  sound : (r : ℕ) → l.fn.own < r → r ≤ l.at → IsObject l.memory.heap.now r → IsSoundObject l.linked l.memory.heap.now r;
+  sound : (r : ℕ) → l.fn.own < r → r ≤ l.at → IsObject l.marked.now r → IsSoundObject l.linked l.marked.now r;
 }
 
 abbrev pub decreases-loop-object : goal.decreases-loop-object

@@ -4,4 +4,4 @@ use Rattle.jc_packages.specs.Objects.{is_reference}
 use Rattle.jc_packages.proofs.statics.are_references.Given as goal
 
 abbrev pub invariant-loop-i : goal.invariant-loop-i
-invariant-loop-i g l = (j : ℕ) → j < l.i → is_reference l.memory.heap.now (slice_index (record_of l.memory.heap.now l.at) (l.begin + j)) ≡ true
+invariant-loop-i g l = (j : ℕ) → j < l.i → is_reference l.marked.now (slice_index (record_of l.marked.now l.at) (l.begin + j)) ≡ true

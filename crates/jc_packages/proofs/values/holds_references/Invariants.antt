@@ -6,4 +6,4 @@ use Rattle.jc_packages.proofs.values.holds_references.Given as goal
 
 abbrev pub invariant-loop-i : goal.invariant-loop-i
 invariant-loop-i g l = (j : ℕ) → j < l.i → reference_cell l.linked l.class j ≡ true
-    → is_reference l.memory.heap.now (slice_index (cells l.memory.heap.now l.object) j) ≡ true
+    → is_reference l.marked.now (slice_index (cells l.marked.now l.object) j) ≡ true

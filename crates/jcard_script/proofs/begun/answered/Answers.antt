@@ -1,7 +1,7 @@
 use Rattle.std.proofs.Common.{Bool, true, false, IsTrue, rules, subst}
 use Rattle.std.specs.Bool.{OnTrue}
 use Rattle.std.specs.Str.Lines.{lines}
-use Rattle.jcard_script.specs.CardOrStore.{state_of_held}
+use Rattle.jcard_script.specs.HeldCard.{state_of_held}
 use Rattle.jcard_script.specs.Script.{AreCarriedOut}
 use Rattle.jcard_script.specs.ScriptStates.{ScriptState}
 use Rattle.jcard_script.proofs.begun.answered.Goals as goal

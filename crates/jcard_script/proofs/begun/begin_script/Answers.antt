@@ -1,7 +1,7 @@
 use Rattle.std.proofs.Common.{[], subst, sym}
 use Rattle.jc_card.specs.CardState.{CardState}
 use Rattle.jcard_script.specs.Begun.{HasBegun}
-use Rattle.jcard_script.specs.CardOrStore.{state_of_held}
+use Rattle.jcard_script.specs.HeldCard.{state_of_held}
 use Rattle.jcard_script.specs.Script.{AreCarriedOut, ended_lines}
 use Rattle.jcard_script.specs.ScriptStates.{ScriptState}
 use Rattle.jcard_script.proofs.begun.begin_script.Goals as goal

@@ -8,14 +8,14 @@ use Rattle.jcard_script.proofs.begun.glitched.Goals as goal
 
 pub returns-in-Ok-clause-up : goal.returns-in-Ok-clause-up
 returns-in-Ok-clause-up g c =
-    let planned : CardState = c.plan_in.new.card in
-    let up = ap (λ (x : CardState). x.memory.heap.down) c.plan_in.ensures ∙ c.requires in
-    ap (λ (x : CardState). x.memory.heap.down) c.plan_in-in-Ok.ensures
+    let planned : CardState = c.plan_fault.new.self in
+    let up = ap (λ (x : CardState). x.memory.heap.down) c.plan_fault.ensures ∙ c.requires in
+    ap (λ (x : CardState). x.memory.heap.down) c.plan_fault-in-Ok.ensures
     ∙ (down_did (exchange c.args.command.now planned) planned.memory c.exchange.new.self.memory _ c.in-Ok.ensures.executes ∙ up)
 
 pub returns-in-Ok-clause-answers : goal.returns-in-Ok-clause-answers
 returns-in-Ok-clause-answers g c =
     let next : CardState = c.exchange.new.self in
     let did = subst (λ (x : CardState). Completes (exchange c.args.command.now x) x.memory (with_response next c.exchange.new.response) next.memory)
-    c.plan_in.ensures c.in-Ok.ensures.executes in
-    (next, did, c.plan_in-in-Ok.ensures)
+    c.plan_fault.ensures c.in-Ok.ensures.executes in
+    (next, did, c.plan_fault-in-Ok.ensures)

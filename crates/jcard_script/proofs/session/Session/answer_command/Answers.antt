@@ -1,4 +1,4 @@
-use Rattle.jcard_script.specs.CardOrStore.{state_of_held}
+use Rattle.jcard_script.specs.HeldCard.{state_of_held}
 use Rattle.jcard_script.specs.Reply.{text_for_line}
 use Rattle.jcard_script.specs.Script.{form_of}
 use Rattle.jcard_script.proofs.Ending.{written_line}

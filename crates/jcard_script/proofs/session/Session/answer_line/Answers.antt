@@ -1,5 +1,5 @@
 use Rattle.std.proofs.Common.{[]}
-use Rattle.jcard_script.specs.CardOrStore.{state_of_held}
+use Rattle.jcard_script.specs.HeldCard.{state_of_held}
 use Rattle.jcard_script.specs.Reply.{text_for_line}
 use Rattle.jcard_script.specs.Script.{form_of}
 use Rattle.jcard_script.proofs.Known.{appends_same}

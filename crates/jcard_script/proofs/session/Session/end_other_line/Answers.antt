@@ -1,7 +1,7 @@
 use Rattle.std.proofs.Common.{◌+◌, ◌∙◌, sym, ap, subst, [], ◌∷◌, ◌++◌, length, length-append}
 use Rattle.std.specs.Str.Lines.{strip_carriage_return}
 use Rattle.jcard_script.specs.Script.{ended_lines}
-use Rattle.jcard_script.specs.CardOrStore.{state_of_held}
+use Rattle.jcard_script.specs.HeldCard.{state_of_held}
 use Rattle.jcard_script.specs.Session.{LinesEnd, IsKeptOf, unfinished_line}
 use Rattle.jcard_script.proofs.Parts.{line_ended}
 use Rattle.jcard_script.proofs.Ending.{line_done, if_carried}

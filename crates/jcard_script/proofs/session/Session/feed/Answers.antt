@@ -1,6 +1,6 @@
 use Rattle.std.proofs.Common.{arith, rules, ◌≡◌, ◌+◌, ◌∙◌, ◌++◌, [], ◌∷◌, take, drop, length, refl, sym, ap, subst, append-nil, append_assoc, length-drop}
 use Rattle.jcard_script.specs.Script.{ended_lines, AreCarriedOut}
-use Rattle.jcard_script.specs.CardOrStore.{state_of_held}
+use Rattle.jcard_script.specs.HeldCard.{state_of_held}
 use Rattle.jcard_script.specs.Session.{StandsAt, IsKeptOf, unfinished_line}
 use Rattle.std.proofs.lemmas.Result.{err_from_is_err_and}
 use Rattle.jcard_script.proofs.Known.{appends_same, appends_then_appends, whole_rest}

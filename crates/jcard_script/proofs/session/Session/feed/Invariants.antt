@@ -1,5 +1,5 @@
 use Rattle.std.proofs.Common.{◌≡◌, ◌+◌, ◌≤◌, ℕ, List, ◌++◌, length}
-use Rattle.jcard_script.specs.CardOrStore.{IsState}
+use Rattle.jcard_script.specs.HeldCard.{IsState}
 use Rattle.std.specs.Io.KnownBytes.{Appends}
 use Rattle.jcard_script.specs.ScriptStates.{ScriptState}
 use Rattle.jcard_script.specs.Session.{StandsAt}

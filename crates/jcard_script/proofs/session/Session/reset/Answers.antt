@@ -1,6 +1,6 @@
 use Rattle.std.proofs.Common.{rules}
-use Rattle.jc_card.specs.SessionStates.{answer_of_power_up}
-use Rattle.jcard_script.specs.CardOrStore.{state_of_card, state_of_held}
+use Rattle.jc_card.specs.SessionStates.{answer_of_power_up, power_of}
+use Rattle.jcard_script.specs.HeldCard.{state_of_held}
 use Rattle.jcard_script.specs.ScriptStates.{IsReset}
 use Rattle.jcard_script.proofs.Kept.{reset_answered}
 use Rattle.jcard_script.proofs.session.Session.reset.Goals as goal
@@ -8,6 +8,6 @@ use Rattle.jcard_script.proofs.session.Session.reset.Goals as goal
 pub returns-in-Ok-clause-powered : goal.returns-in-Ok-clause-powered
 returns-in-Ok-clause-powered g c =
     let before = state_of_held c.args.self.now.held in
-    let after = state_of_card c.explain.new.self in
+    let after = power_of c.explain.new.held in
     let powered : IsReset before after = search rules in
-    (answer_of_power_up after, reset_answered before after powered, c.power_up_answer-reply.ensures c.args.self.now.response)
+    (answer_of_power_up after, reset_answered before after powered, c.power_up_reply-reply.ensures c.args.self.now.response)

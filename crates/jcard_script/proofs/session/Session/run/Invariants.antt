@@ -1,7 +1,7 @@
 use Rattle.std.proofs.Common.{◌≡◌, ◌+◌, ℕ, List, length}
-use Rattle.jcard_script.specs.CardOrStore.{IsState}
+use Rattle.jcard_script.specs.HeldCard.{IsState}
 use Rattle.std.specs.Io.KnownBytes.{Appends, Consumes}
-use Rattle.jcard_script.specs.CardOrStore.{state_of_held}
+use Rattle.jcard_script.specs.HeldCard.{state_of_held}
 use Rattle.jcard_script.specs.Session.{StandsAt}
 use Rattle.jcard_script.proofs.session.Session.run.Given as goal
 

@@ -1,7 +1,7 @@
 use Rattle.std.proofs.Common.{◌∙◌}
 use Rattle.jc_memory.proofs.ProgramLemmas.{down_did}
 use Rattle.jc_card.specs.Answers.{exchange}
-use Rattle.jcard_script.proofs.card_or_store.CardOrStore.exchange.Goals as goal
+use Rattle.jc_card.proofs.state.SessionState.exchange.Goals as goal
 
 pub returns-in-Ok-clause-up : goal.returns-in-Ok-clause-up
 returns-in-Ok-clause-up g c =

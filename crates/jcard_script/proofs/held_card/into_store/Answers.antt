@@ -1,0 +1,6 @@
+use Rattle.jc_card.specs.SessionStates.{power_of}
+use Rattle.jcard_script.proofs.Kept.{store_held}
+use Rattle.jcard_script.proofs.held_card.into_store.Goals as goal
+
+pub returns : goal.returns
+returns g c = store_held (power_of c.args.held) c.into_store.result c.into_store.ensures
