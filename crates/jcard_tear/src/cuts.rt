@@ -47,11 +47,12 @@ impl Behind {
     }
 }
 
-/// What follows each cut of a command in a line of a script: these lines of a probe; or, where none are given, the SELECT of the applet that is
-/// selected before the command; and what else comes.
+/// What follows each cut of a command in a line of a script.
 #[derive(Clone, Copy, Drop)]
 pub struct FollowUp<'a> {
+    /// The lines of a probe; where none are given, the SELECT of the applet that is selected before the command.
     pub probe: Option<&'a [u8]>,
+    /// What else comes.
     pub behind: Behind,
 }
 
@@ -87,9 +88,11 @@ pub(crate) struct Baseline<'a> {
 pub(crate) struct Shared<'a> {
     /// The words of the image.
     pub(crate) words: &'a [u16],
+    /// The command that is cut.
     pub(crate) command: Command<'a>,
     /// The card at the command, where it is kept.
     pub(crate) card: Option<AtCommand>,
+    /// What they are compared with.
     pub(crate) baseline: Baseline<'a>,
 }
 
