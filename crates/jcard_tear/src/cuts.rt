@@ -137,7 +137,7 @@ fn push_cuts<P: Progress>(
 ) -> Result<(), TearFault>
     requires short { length shared.now.words.now < 65536 }
     requires whole { AreOfImage shared.now.baseline.objects.now }
-    requires card { IfSome shared.now.card (IsKeptFor shared.now.words.now shared.now.command) }
+    requires card { IfSome shared.now.card (λ card. IsKeptFor shared.now.words.now shared.now.command card) }
     requires known { shared.now.baseline.is_known ≡ true
         → IsKnown shared.now.command shared.now.baseline.before.now }
     requires first { last.old ≡ None }
@@ -173,11 +173,11 @@ fn next_cut(
 ) -> Result<Option<Cut>, TearFault>
     requires short { length shared.now.words.now < 65536 }
     requires whole { AreOfImage shared.now.baseline.objects.now }
-    requires card { IfSome shared.now.card (IsKeptFor shared.now.words.now shared.now.command) }
+    requires card { IfSome shared.now.card (λ card. IsKeptFor shared.now.words.now shared.now.command card) }
     requires known { shared.now.baseline.is_known ≡ true
         → IsKnown shared.now.command shared.now.baseline.before.now }
-    requires last { IfSome last.old (IsLastCut shared.now) }
-    ensures last { IfSome last.new (IsLastCut shared.now) }
+    requires last { IfSome last.old (λ reported. IsLastCut shared.now reported) }
+    ensures last { IfSome last.new (λ reported. IsLastCut shared.now reported) }
     ensures cut { MatchResult result
         (λ cut. MatchOption cut (IsUncutAt shared.now.words.now shared.now.command number)
         (λ cut. IsReportedAt shared.now number cut))
@@ -229,7 +229,7 @@ pub(crate) fn told_cut(
     recoveries: Recoveries,
 ) -> Result<Cut, AllocError>
     requires { AreOfImage baseline.now.objects.now }
-    ensures told { IfOk result (IsToldAs baseline.now left.now) }
+    ensures told { IfOk result (λ cut. IsToldAs baseline.now left.now cut) }
     ensures recoveries { IfOk result (λ cut. cut.recoveries ≡ recoveries) }
 {
     let answers = told(alloc, baseline.objects, left)?;
