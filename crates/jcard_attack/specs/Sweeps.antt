@@ -2,7 +2,6 @@
 use Rattle.std.specs.Prelude.{ℕ, ◌≡◌, ◌⊎◌, List, [], ◌∷◌, length, codes, Bool, Option, Some, None}
 use Rattle.std.specs.Bool.{MatchBool}
 use Rattle.jc_card.specs.declared.planned_fault.PlannedFault.{PlannedFault}
-use Rattle.jc_objects.specs.declared.image_objects.ImageObjects.{ImageObjects}
 use Rattle.jcard_outcomes.specs.declared.part.Share.{Share}
 use Rattle.jcard_outcomes.specs.declared.standing.Left.{Left}
 use Rattle.jcard_tear.specs.Told.{AreObjectsAsked, IsTold}
@@ -17,28 +16,28 @@ use Rattle.jcard_attack.specs.declared.aftermaths.Attacked.{Attacked}
 use Rattle.jcard_attack.specs.declared.outcomes.Aftermath.{Aftermath}
 use Rattle.jcard_attack.specs.declared.outcomes.AttackSweep.{AttackSweep}
 use Rattle.jcard_attack.specs.declared.outcomes.Struck.{Struck}
+use Rattle.jcard_attack.specs.declared.sweeping.Baseline.{Baseline}
 use Rattle.jcard_attack.specs.declared.sweeping.Sought.{Sought}
 
--- a fault came to this, is judged so beside the command without a fault, and is reported with what changed since these objects stood, if any
-pub record IsStruck (words : List ℕ) (c : Attacked) (accepted : List ℕ) (objects : Option ImageObjects) (before : Left) (undisturbed : Aftermath) (s : Struck) : Type 0 where
+-- a fault came to this, is judged so beside the command without a fault, and is reported with what changed since the objects before it stood, if any
+pub record IsStruck (words : List ℕ) (c : Attacked) (b : Baseline) (s : Struck) : Type 0 where
   pub left : Left
   pub same : Bool
   pub last : List ℕ
   pub undisturbed_last : List ℕ
   pub comes : IsAftermath words c (Some s.fault) (record { answer = s.answer; left = left })
-  pub told : IsTold objects left s.answers.items
-  pub compared : MatchBool same (IsSameAs undisturbed.left left) (IsSameAs undisturbed.left left → ⊥)
+  pub told : IsTold b.objects.now left s.answers.items
+  pub compared : MatchBool same (IsSameAs b.undisturbed.now.left left) (IsSameAs b.undisturbed.now.left left → ⊥)
   pub last_is : IsLastAnswer s.answer.items left.answers.items last
-  pub undisturbed_is : IsLastAnswer undisturbed.answer.items undisturbed.left.answers.items undisturbed_last
-  pub judged_so : s.outcome ≡ judged accepted undisturbed.answer.items s.answer.items (gives_access accepted undisturbed_last last) same
-  pub stands : IsStanding before undisturbed.left left s.standing
+  pub undisturbed_is : IsLastAnswer b.undisturbed.now.answer.items b.undisturbed.now.left.answers.items undisturbed_last
+  pub judged_so : s.outcome ≡ judged b.accepted.now b.undisturbed.now.answer.items s.answer.items (gives_access b.accepted.now undisturbed_last last) same
+  pub stands : IsStanding b.before.now b.undisturbed.now.left left s.standing
 
 -- so did these faults, one after the other
-unfoldable pub AreStruckBy : List ℕ → Attacked → List ℕ → Option ImageObjects → Left → Aftermath → List PlannedFault → List Struck → Type 0
-AreStruckBy words c accepted objects before undisturbed [] [] = Unit {0}
-AreStruckBy words c accepted objects before undisturbed (fault ∷ faults) (s ∷ strikes) = ((s.fault ≡ fault) × IsStruck words c accepted objects before undisturbed s)
-    × AreStruckBy words c accepted objects before undisturbed faults strikes
-AreStruckBy words c accepted objects before undisturbed faults strikes = ⊥
+unfoldable pub AreStruckBy : List ℕ → Attacked → Baseline → List PlannedFault → List Struck → Type 0
+AreStruckBy words c b [] [] = Unit {0}
+AreStruckBy words c b (fault ∷ faults) (s ∷ strikes) = ((s.fault ≡ fault) × IsStruck words c b s) × AreStruckBy words c b faults strikes
+AreStruckBy words c b faults strikes = ⊥
 
 -- the faults that are tried of a command of n instructions: all, or those of a part
 abbrev pub faults_of : Sought → Option Share → ℕ → List PlannedFault
@@ -47,13 +46,14 @@ faults_of sought part n = asked_in part (faults_tried (kinds_tried sought.models
 -- what was before a command, what it comes to without a fault, and what faults of these kinds, or those of them in a part, come to at each instruction
 -- of which something is reported
 pub record IsSwept (words : List ℕ) (c : Attacked) (sought : Sought) (part : Option Share) (s : AttackSweep) : Type 0 where
-  pub undisturbed : Aftermath
-  pub objects : Option ImageObjects
+  pub baseline : Baseline
+  pub accepted : baseline.accepted.now ≡ sought.accepted.now
+  pub before : baseline.before.now ≡ s.before
   pub begun : IsBegun words c s.before
-  pub comes : IsAftermath words c None undisturbed
-  pub asked : AreObjectsAsked sought.objects s.before objects
-  pub told : IsAftermathTold objects undisturbed s.undisturbed
-  pub strikes : AreStruckBy words c sought.accepted.now objects s.before undisturbed (faults_of sought part (length s.instructions.items)) s.strikes.items
+  pub comes : IsAftermath words c None baseline.undisturbed.now
+  pub asked : AreObjectsAsked sought.objects s.before baseline.objects.now
+  pub told : IsAftermathTold baseline.objects.now baseline.undisturbed.now s.undisturbed
+  pub strikes : AreStruckBy words c baseline (faults_of sought part (length s.instructions.items)) s.strikes.items
 
 -- what keeps the instructions of a command from being reported, though it was carried out: memory is refused, or there are too many
 abbrev pub IsTraceFault : AttackFault → Type 0

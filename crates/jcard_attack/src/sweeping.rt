@@ -4,7 +4,7 @@ ghost use Rattle.jcard_attack.specs.Aftermaths.{IsAftermath, IsUnfinished};
 ghost use Rattle.jcard_attack.specs.Kept.{IsKeptFor};
 ghost use Rattle.jcard_attack.specs.Models.{faults_tried, kinds_tried};
 ghost use Rattle.jcard_attack.specs.Shares.{asked_in};
-ghost use Rattle.jcard_attack.specs.Sweeps.{AreStruckBy, IsStruck, IsSwept, IsTraceFault, IsUnswept, faults_of};
+ghost use Rattle.jcard_attack.specs.Sweeps.{AreStruckBy, IsStruck, IsSwept, IsTraceFault, IsUnswept};
 ghost use Rattle.jcard_attack.specs.declared.aftermaths.Attacked.{Attacked as AnAttacked};
 ghost use Rattle.jcard_attack.specs.declared.aftermaths.AttackFault.TheVariants.{NoMemory};
 ghost use Rattle.jcard_tear.specs.Told.{AreOfImage};
@@ -41,15 +41,30 @@ pub struct Sought<'a> {
     pub names: &'a [u8],
 }
 
-/// What all faults of a command share: the card at it, where that is kept, the end of an answer that none may get, the objects that stood before
-/// the command, where it is reported which of their cells changed, what was before it, and what it comes to without a fault.
+/// What a command with a fault is judged beside.
+#[derive(Clone, Copy, Drop)]
+pub(crate) struct Baseline<'a> {
+    /// The end of an answer that no fault may get.
+    pub(crate) accepted: &'a [u8],
+    /// The objects that stood before the command, where it is reported which of their cells changed.
+    pub(crate) objects: &'a Option<ImageObjects>,
+    /// What was before the command.
+    pub(crate) before: &'a Left,
+    /// What the command comes to without a fault.
+    pub(crate) undisturbed: &'a Aftermath,
+}
+
+/// What all faults of a command share.
 #[derive(Drop)]
 pub(crate) struct Shared<'a> {
+    /// The words of the image.
+    pub(crate) words: &'a [u16],
+    /// The command that is attacked.
+    pub(crate) attacked: Attacked<'a>,
+    /// The card at the command, where it is kept.
     pub(crate) card: Option<AtCommand>,
-    pub(crate) accepted: &'a [u8],
-    pub(crate) objects: &'a Option<ImageObjects>,
-    pub(crate) before: &'a Left,
-    pub(crate) undisturbed: &'a Aftermath,
+    /// What they are judged beside.
+    pub(crate) baseline: Baseline<'a>,
 }
 
 /// Carries out the command on cards of copies of these words: once without a fault, and once with a fault of each kind that is tried at each
@@ -75,17 +90,14 @@ pub fn attack(
     let before = begun(alloc, words, attacked)?;
     let objects = objects_before(alloc, sought.objects, &before)?;
     let instructions = instructions_of(alloc, words, attacked, sought.names)?;
-    let strikes = strikes_of(
-        alloc,
-        words,
-        attacked,
-        sought,
-        part,
-        &objects,
-        &before,
-        &undisturbed,
-        instructions.len(),
-    )?;
+    let faults = faults_at(alloc, sought, instructions.len())?;
+    let baseline = Baseline {
+        accepted: sought.accepted,
+        objects: &objects,
+        before: &before,
+        undisturbed: &undisturbed,
+    };
+    let strikes = strikes_of(alloc, words, attacked, baseline, asked_in(&faults, part))?;
     let undisturbed = aftermath_told(alloc, &objects, undisturbed)?;
     Ok(AttackSweep {
         before,
@@ -95,36 +107,28 @@ pub fn attack(
     })
 }
 
-// What the faults that are tried came to, at this many instructions.
+// What these faults came to.
 fn strikes_of(
     alloc: Global,
     words: &[u16],
     attacked: Attacked,
-    sought: Sought,
-    part: Option<Share>,
-    objects: &Option<ImageObjects>,
-    before: &Left,
-    undisturbed: &Aftermath,
-    count: usize,
+    baseline: Baseline,
+    faults: &[PlannedFault],
 ) -> Result<Vec<Struck>, AttackFault>
     requires short { length words.now < 65536 }
-    requires among { IfSome part (λ share. share.first < share.step) }
-    requires whole { AreOfImage objects.now }
+    requires whole { AreOfImage baseline.objects.now }
     ensures { MatchResult result
-        (λ strikes. AreStruckBy words.now attacked.entry sought.entry.accepted.now objects.now before.now undisturbed.now
-        (faults_of sought.entry part count) strikes.items)
-        (λ fault. IsUnswept words.now attacked.entry fault) }
+        (λ strikes. AreStruckBy words.now attacked.entry baseline.entry faults.now strikes.items)
+        (λ fault. IsUnfinished words.now attacked.entry fault) }
 {
-    let faults = faults_at(alloc, sought, count)?;
     keep_room(alloc);
     let shared = Shared {
+        words,
+        attacked,
         card: kept_for(alloc, words, attacked),
-        accepted: sought.accepted,
-        objects,
-        before,
-        undisturbed,
+        baseline,
     };
-    strike_each(alloc, words, attacked, &shared, asked_in(&faults, part))
+    strike_each(alloc, &shared, faults)
 }
 
 // The faults that are tried at this many instructions.
@@ -158,79 +162,71 @@ fn keep_room(alloc: Global) {
     drop(room);
 }
 
-// What these faults came to.
+// What each of these faults came to.
 fn strike_each(
     alloc: Global,
-    words: &[u16],
-    attacked: Attacked,
     shared: &Shared<'_>,
     faults: &[PlannedFault],
 ) -> Result<Vec<Struck>, AttackFault>
-    requires short { length words.now < 65536 }
-    requires whole { AreOfImage shared.now.objects.now }
-    requires card { IfSome shared.now.card (λ card. IsKeptFor words.now attacked card) }
+    requires short { length shared.now.words.now < 65536 }
+    requires whole { AreOfImage shared.now.baseline.objects.now }
+    requires card { IfSome shared.now.card (IsKeptFor shared.now.words.now shared.now.attacked) }
     ensures { MatchResult result
-        (λ strikes. AreStruckBy words.now attacked.entry shared.now.accepted.now shared.now.objects.now shared.now.before.now
-        shared.now.undisturbed.now faults.now strikes.items)
-        (λ fault. IsUnfinished words.now attacked.entry fault) }
+        (λ strikes. AreStruckBy shared.now.words.now shared.now.attacked shared.now.baseline faults.now strikes.items)
+        (λ fault. IsUnfinished shared.now.words.now shared.now.attacked fault) }
 {
     let mut strikes = Vec::new(alloc);
     for fault in faults {
-        let struck = struck_by(alloc, words, attacked, shared, *fault)?;
+        let struck = struck_by(alloc, shared, *fault)?;
         push_struck(&mut strikes, struck)?;
     }
     Ok(strikes)
 }
 
 // What a fault came to.
-fn struck_by(
-    alloc: Global,
-    words: &[u16],
-    attacked: Attacked,
-    shared: &Shared<'_>,
-    fault: PlannedFault,
-) -> Result<Struck, AttackFault>
-    requires short { length words.now < 65536 }
-    requires whole { AreOfImage shared.now.objects.now }
-    requires card { IfSome shared.now.card (λ card. IsKeptFor words.now attacked card) }
+fn struck_by(alloc: Global, shared: &Shared<'_>, fault: PlannedFault) -> Result<Struck, AttackFault>
+    requires short { length shared.now.words.now < 65536 }
+    requires whole { AreOfImage shared.now.baseline.objects.now }
+    requires card { IfSome shared.now.card (IsKeptFor shared.now.words.now shared.now.attacked) }
     ensures { MatchResult result
-        (λ struck. (struck.fault ≡ fault) × IsStruck words.now attacked.entry shared.now.accepted.now shared.now.objects.now
-        shared.now.before.now shared.now.undisturbed.now struck)
-        (λ cause. IsUnfinished words.now attacked.entry cause) }
+        (λ struck. (struck.fault ≡ fault)
+        × IsStruck shared.now.words.now shared.now.attacked shared.now.baseline struck)
+        (λ cause. IsUnfinished shared.now.words.now shared.now.attacked cause) }
 {
-    let aftermath = aftermath_of(alloc, words, attacked, shared, fault)?;
-    let struck = judged_by(alloc, shared, fault, aftermath)?;
+    let aftermath = aftermath_of(alloc, shared, fault)?;
+    let struck = judged_by(alloc, &shared.baseline, fault, aftermath)?;
     Ok(struck)
 }
 
 // A fault that came to this, judged beside the command without one.
 fn judged_by(
     alloc: Global,
-    shared: &Shared<'_>,
+    baseline: &Baseline<'_>,
     fault: PlannedFault,
     aftermath: Aftermath,
 ) -> Result<Struck, AllocError>
-    requires { AreOfImage shared.now.objects.now }
+    requires { AreOfImage baseline.now.objects.now }
     ensures fault { IfOk result (λ struck. struck.fault ≡ fault) }
-    ensures judged { IfOk result (λ struck. (words : List ℕ) (c : AnAttacked) → IsAftermath words c (Some fault) aftermath
-        → IsStruck words c shared.now.accepted.now shared.now.objects.now shared.now.before.now shared.now.undisturbed.now struck) }
+    ensures judged { IfOk result (λ struck. (words : List ℕ) (c : AnAttacked)
+        → IsAftermath words c (Some fault) aftermath → IsStruck words c baseline.now struck) }
 {
     let Aftermath { answer, left } = aftermath;
-    let is_unchanged = is_same_as(&shared.undisturbed.left, &left);
+    let undisturbed = baseline.undisturbed;
+    let is_unchanged = is_same_as(&undisturbed.left, &left);
     let gives_access = gives_access(
-        shared.accepted,
-        last_answer(&shared.undisturbed.answer, &shared.undisturbed.left.answers),
+        baseline.accepted,
+        last_answer(&undisturbed.answer, &undisturbed.left.answers),
         last_answer(&answer, &left.answers),
     );
     let outcome = judged(
-        shared.accepted,
-        &shared.undisturbed.answer,
+        baseline.accepted,
+        &undisturbed.answer,
         &answer,
         gives_access,
         is_unchanged,
     );
-    let standing = compared(shared.before, shared.undisturbed, &left);
-    let answers = told(alloc, shared.objects, &left)?;
+    let standing = compared(baseline.before, undisturbed, &left);
+    let answers = told(alloc, baseline.objects, &left)?;
     Ok(Struck {
         fault,
         outcome,
@@ -243,35 +239,29 @@ fn judged_by(
 // What the command comes to with a fault: on a copy of the card that is kept, or else by a script.
 fn aftermath_of(
     alloc: Global,
-    words: &[u16],
-    attacked: Attacked,
     shared: &Shared<'_>,
     fault: PlannedFault,
 ) -> Result<Aftermath, AttackFault>
-    requires short { length words.now < 65536 }
-    requires card { IfSome shared.now.card (λ card. IsKeptFor words.now attacked card) }
+    requires short { length shared.now.words.now < 65536 }
+    requires card { IfSome shared.now.card (IsKeptFor shared.now.words.now shared.now.attacked) }
     ensures { MatchResult result
-        (λ found. IsAftermath words.now attacked.entry (Some fault) found)
-        (λ cause. IsUnfinished words.now attacked.entry cause) }
+        (λ found. IsAftermath shared.now.words.now shared.now.attacked (Some fault) found)
+        (λ cause. IsUnfinished shared.now.words.now shared.now.attacked cause) }
 {
-    match aftermath_on_card(alloc, shared, attacked.probe, fault) {
+    match aftermath_on_card(alloc, shared, fault) {
         Some(found) => Ok(found),
-        None => aftermath(alloc, words, attacked, Some(fault)),
+        None => aftermath(alloc, shared.words, shared.attacked, Some(fault)),
     }
 }
 
 // The same on a copy of the card that is kept, if it is and can be copied.
-fn aftermath_on_card(
-    alloc: Global,
-    shared: &Shared<'_>,
-    probe: &[u8],
-    fault: PlannedFault,
-) -> Option<Aftermath>
-    ensures { IfSome result (λ a. (words : List ℕ) (c : AnAttacked)
-        → IfSome shared.now.card (IsKeptFor words c) → c.probe.now ≡ probe.now → IsAftermath words c (Some fault) a) }
+fn aftermath_on_card(alloc: Global, shared: &Shared<'_>, fault: PlannedFault) -> Option<Aftermath>
+    requires { IfSome shared.now.card (IsKeptFor shared.now.words.now shared.now.attacked) }
+    ensures { IfSome result (λ found. IsAftermath shared.now.words.now shared.now.attacked
+        (Some fault) found) }
 {
     match &shared.card {
-        Some(card) => card.aftermath(alloc, Some(fault), probe),
+        Some(card) => card.aftermath(alloc, Some(fault), shared.attacked.probe),
         None => None,
     }
 }

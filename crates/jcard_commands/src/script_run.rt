@@ -1,16 +1,18 @@
 //! Carrying out a script on the card of an image.
 ghost use Rattle.std.specs.Prelude.{◌≡◌};
 ghost use Rattle.jcard_arguments.specs.CommandLine.{run_asked_by};
-ghost use Rattle.jcard_files.specs.Effects.{Does, Writes};
+ghost use Rattle.jcard_files.specs.Effects.{Does};
 ghost use Rattle.jcard_files.specs.Faults.{is_unwritten};
+ghost use Rattle.jcard_files.specs.ScriptFault.{IsOutcomeOf};
+ghost use Rattle.jcard_script.specs.Script.{is_write_failed};
 ghost use Rattle.jcard_commands.specs.Commands.{IsRunWith};
 ghost use Rattle.jcard_commands.specs.RunOptions.{IsCompared};
-ghost use Rattle.jcard_commands.specs.ScriptRun.{IsCarriedOut, IsRun};
+ghost use Rattle.jcard_commands.specs.ScriptRun.{IsRun};
 
 use crate::run_files::{begin_cover, keep_cover, names_of, operands_of};
 use crate::told::{Listener, Told};
 use jc_card::card::USUAL_BUDGET;
-use jc_words::{FuseStore, WordStore};
+use jc_words::FuseStore;
 use jcard_arguments::options::RunOptions;
 use jcard_breaks::points::{Point, points_of};
 use jcard_files::closed_store::ClosedStore;
@@ -20,9 +22,9 @@ use jcard_files::remarks::Remarks;
 use jcard_files::script_fault::{Names, script_fault};
 use jcard_script::expectations::Expectations;
 use jcard_script::explainer::Explainer;
-use jcard_script::script::run_script_explained;
+use jcard_script::script::{ScriptFault, run_script_explained};
 use jcard_script::std_text::StdText;
-use jcard_script::streams::{TextIn, TextOut};
+use jcard_script::streams::TextOut;
 use jcard_why::map_remarks::remark_on_map;
 use std::alloc::{AllocError, Global};
 
@@ -125,9 +127,8 @@ fn run_file<'n, D: Disk, W: TextOut, E: Explainer>(
         Ok(file) => {
             let names = Names { image, script };
             let mut reader = StdText::new(file);
-            let (store, ended) = run_named(
+            let (store, carried) = run_script_explained(
                 disk.alloc(),
-                names,
                 store,
                 budget,
                 &mut reader,
@@ -135,7 +136,7 @@ fn run_file<'n, D: Disk, W: TextOut, E: Explainer>(
                 explainer,
             );
             disk.close_image(image, ClosedStore::new(store.into_store()));
-            ended
+            outcome_of(names, carried)
         }
         Err(fault) => {
             disk.close_image(image, ClosedStore::new(store.into_store()));
@@ -144,23 +145,16 @@ fn run_file<'n, D: Disk, W: TextOut, E: Explainer>(
     }
 }
 
-/// Carries out the script on the card of this store, and gives the store back.
-pub(crate) fn run_named<'a, S: WordStore + Drop, I: TextIn, W: TextOut, E: Explainer>(
-    alloc: Global,
+/// What is reported of a script that came to this end, where it and the image have these names.
+pub(crate) fn outcome_of<'a>(
     names: Names<'a>,
-    store: FuseStore<S>,
-    budget: u32,
-    script: &mut I,
-    out: &mut W,
-    explainer: &mut E,
-) -> (FuseStore<S>, Result<(), Fault<'a>>)
-    ensures { Writes W.contents W.failures out.old out.new result.1
-        (IsCarriedOut budget names.entry.image.now names.entry.script.now (I.remaining script.old)
-        (I.remaining script.new) store result.0) }
+    carried: Result<(), ScriptFault>,
+) -> Result<(), Fault<'a>>
+    ensures outcome { IsOutcomeOf names.entry.image.now names.entry.script.now carried result }
+    ensures unwritten { is_unwritten result ≡ is_write_failed carried }
 {
-    let (store, ended) = run_script_explained(alloc, store, budget, script, out, explainer);
-    match ended {
-        Ok(()) => (store, Ok(())),
-        Err(cause) => (store, Err(script_fault(names, cause))),
+    match carried {
+        Ok(()) => Ok(()),
+        Err(cause) => Err(script_fault(names, cause)),
     }
 }

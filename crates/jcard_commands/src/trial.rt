@@ -4,7 +4,7 @@ ghost use Rattle.jcard_commands.specs.Trial.{IsTrial, IsTriedOn};
 ghost use Rattle.jcard_files.specs.Effects.{Does};
 ghost use Rattle.jcard_files.specs.NewImages.{IsTable};
 
-use crate::script_run::run_named;
+use crate::script_run::outcome_of;
 use crate::told::OnlyRemarks;
 use jc_platform::fault::TableFault;
 use jc_platform::read::read_table;
@@ -18,6 +18,7 @@ use jcard_files::remarks::Remarks;
 use jcard_files::script_fault::Names;
 use jcard_files::table_remarks::remark_on_table;
 use jcard_files::usual_table::platform_of;
+use jcard_script::script::run_script_explained;
 use jcard_script::std_text::StdText;
 use jcard_script::streams::TextOut;
 
@@ -86,14 +87,13 @@ fn try_on<'n, D: Disk, W: TextOut, M: Remarks>(
         script: asked.script,
     };
     let mut reader = StdText::new(file);
-    let (_, ended) = run_named(
+    let (_, carried) = run_script_explained(
         disk.alloc(),
-        names,
         FuseStore::new(store),
         asked.budget,
         &mut reader,
         out,
         &mut OnlyRemarks::new(remarks),
     );
-    ended
+    outcome_of(names, carried)
 }

@@ -33,6 +33,7 @@ use Rattle.jcard_sweeps.specs.Texts.{text_of}
 use Rattle.jcard_files.specs.Effects.{FindsThen, ReadsThen, Tells, WithNoFile}
 use Rattle.jcard_sweeps.specs.Writings.{IsAttackTold}
 use Rattle.jcard_sweeps.specs.declared.attacking.AskedAttack.{AskedAttack}
+use Rattle.jcard_sweeps.specs.declared.attacking.Attacking.{Attacking}
 use Rattle.jcard_sweeps.specs.declared.attacking.ToldAttack.{ToldAttack}
 use Rattle.jcard_sweeps.specs.declared.cutting.Subject.{Subject}
 use Rattle.jcard_sweeps.specs.declared.targets.Target.{Target}
@@ -86,12 +87,12 @@ abbrev pub faults_text : Sought → List ℕ
 faults_text sought = codes "attack " ++ (models_text sought.models ++ (sought.accepted.now ++ (codes " " ++ (decimal sought.within ++ codes "\n"))))
 
 -- the name of a sweep over this script in this many parts: as of a sweep of cuts whose script says first which faults are tried
-abbrev pub attack_name : Subject → List ℕ → List ℕ → AttackAsked → ℕ → List ℕ
-attack_name subject script probe asked parts = commands_name subject.words.now (faults_text asked.sought ++ script) (Some probe) (behind_of asked) parts
+abbrev pub attack_name : Attacking → List ℕ → ℕ → List ℕ
+attack_name a script parts = commands_name a.subject.words.now (faults_text a.asked.sought ++ script) (Some a.probe.now) (behind_of (attack_asked_by a.asked)) parts
 
 -- the name of the sweep of the command in a line: the checksum of the sweep over the script up to it, and that parts have its faults
-abbrev pub faults_name : Subject → Line → List ℕ → AttackAsked → ℕ → List ℕ
-faults_name subject l probe asked parts = take 40 (attack_name subject (l.before ++ l.text) probe asked parts) ++ faults_mark
+abbrev pub faults_name : Attacking → Line → ℕ → List ℕ
+faults_name a l parts = take 40 (attack_name a (l.before ++ l.text) parts) ++ faults_mark
 
 -- what faults of a command came to is reported, and whether one was accepted
 abbrev pub IsStruck : List ℕ → Attacked → Sought → ToldAttack → Type 0
@@ -102,49 +103,49 @@ IsStruck words c sought told = (s : AttackSweep) × IsSwept words c sought None 
 abbrev pub IsUnstruck : List ℕ → Attacked → AttackFault → Type 0
 IsUnstruck words c cause = IsUnswept words c cause
 
--- the same of each command, after each fault of which these lines of a probe come
-abbrev pub AreToldEach : Subject → List ℕ → AttackAsked → ToldAttack → Type 0
-AreToldEach subject probe asked told = (attacks : List LineAttack)
-    × AreStruck subject.words.now probe asked.instructions asked.sought (map line_of subject.commands.now) attacks
-    × (told.text.items ≡ verdicts_text asked.sought.objects attacks) × (told.is_accepted ≡ any_line_accepted attacks)
+-- the same of each command, after each fault of which the lines of the probe come
+abbrev pub AreToldEach : Attacking → ToldAttack → Type 0
+AreToldEach a told = (attacks : List LineAttack)
+    × AreStruck a.subject.words.now a.probe.now a.asked.instructions a.asked.sought (map line_of a.subject.commands.now) attacks
+    × (told.text.items ≡ verdicts_text a.asked.sought.objects attacks) × (told.is_accepted ≡ any_line_accepted attacks)
 
 -- of the commands in a part, which says whether one was accepted, and does not end by that
-abbrev pub AreToldIn : Subject → Share → List ℕ → AttackAsked → ToldAttack → Type 0
-AreToldIn subject share probe asked told = (attacks : List LineAttack)
-    × AreStruck subject.words.now probe asked.instructions asked.sought (map line_of (share_in share subject.commands.now)) attacks
-    × (told.text.items ≡ head_text (attack_name subject subject.script.now probe asked share.step)
-    ++ share_text share.first share.step (not (any_line_accepted attacks)) (verdicts_text asked.sought.objects attacks)) × (told.is_accepted ≡ false)
+abbrev pub AreToldIn : Attacking → Share → ToldAttack → Type 0
+AreToldIn a share told = (attacks : List LineAttack)
+    × AreStruck a.subject.words.now a.probe.now a.asked.instructions a.asked.sought (map line_of (share_in share a.subject.commands.now)) attacks
+    × (told.text.items ≡ head_text (attack_name a a.subject.script.now share.step)
+    ++ share_text share.first share.step (not (any_line_accepted attacks)) (verdicts_text a.asked.sought.objects attacks)) × (told.is_accepted ≡ false)
 
 -- of the faults of a command in a part of them, which says whether one was accepted, and does not end by that
-abbrev pub IsToldPart : Subject → Line → Share → List ℕ → AttackAsked → ToldAttack → Type 0
-IsToldPart subject l share probe asked told = (c : Attacked) × (s : AttackSweep) × IsAttackedIn probe asked.instructions l c
-    × IsSwept subject.words.now c asked.sought (Some share) s
-    × (told.text.items ≡ head_text (faults_name subject l probe asked share.step)
+abbrev pub IsToldPart : Attacking → Line → Share → ToldAttack → Type 0
+IsToldPart a l share told = (c : Attacked) × (s : AttackSweep) × IsAttackedIn a.probe.now a.asked.instructions l c
+    × IsSwept a.subject.words.now c a.asked.sought (Some share) s
+    × (told.text.items ≡ head_text (faults_name a l share.step)
     ++ share_text share.first share.step (not (any_accepted s.strikes.items)) (part_text s)) × (told.is_accepted ≡ false)
 
 -- of what is attacked
-abbrev pub IsToldBy : Subject → Target → List ℕ → AttackAsked → ToldAttack → Type 0
-IsToldBy subject (Command line) probe asked told = (c : Attacked) × IsAttackedIn probe asked.instructions (line_of line) c
-    × IsStruck subject.words.now c asked.sought told
-IsToldBy subject (CommandPart line share) probe asked told = IsToldPart subject (line_of line) share probe asked told
-IsToldBy subject Each probe asked told = AreToldEach subject probe asked told
-IsToldBy subject (EachPart share) probe asked told = AreToldIn subject share probe asked told
+abbrev pub IsToldBy : Attacking → Target → ToldAttack → Type 0
+IsToldBy a (Command line) told = (c : Attacked) × IsAttackedIn a.probe.now a.asked.instructions (line_of line) c
+    × IsStruck a.subject.words.now c a.asked.sought told
+IsToldBy a (CommandPart line share) told = IsToldPart a (line_of line) share told
+IsToldBy a Each told = AreToldEach a told
+IsToldBy a (EachPart share) told = AreToldIn a share told
 
 -- why not
-abbrev pub AreUntoldEach : Subject → List ℕ → AttackAsked → AttackFault → Type 0
-AreUntoldEach subject probe asked cause = IsOneUnswept subject.words.now probe asked.instructions (map line_of subject.commands.now) cause
+abbrev pub AreUntoldEach : Attacking → AttackFault → Type 0
+AreUntoldEach a cause = IsOneUnswept a.subject.words.now a.probe.now a.asked.instructions (map line_of a.subject.commands.now) cause
 
-abbrev pub AreUntoldIn : Subject → Share → List ℕ → AttackAsked → AttackFault → Type 0
-AreUntoldIn subject share probe asked cause = IsOneUnswept subject.words.now probe asked.instructions
-    (map line_of (share_in share subject.commands.now)) cause
+abbrev pub AreUntoldIn : Attacking → Share → AttackFault → Type 0
+AreUntoldIn a share cause = IsOneUnswept a.subject.words.now a.probe.now a.asked.instructions
+    (map line_of (share_in share a.subject.commands.now)) cause
 
-abbrev pub IsUntoldBy : Subject → Target → List ℕ → AttackAsked → AttackFault → Type 0
-IsUntoldBy subject (Command line) probe asked cause = (c : Attacked) × IsAttackedIn probe asked.instructions (line_of line) c
-    × IsUnstruck subject.words.now c cause
-IsUntoldBy subject (CommandPart line share) probe asked cause = (c : Attacked) × IsAttackedIn probe asked.instructions (line_of line) c
-    × IsUnstruck subject.words.now c cause
-IsUntoldBy subject Each probe asked cause = AreUntoldEach subject probe asked cause
-IsUntoldBy subject (EachPart share) probe asked cause = AreUntoldIn subject share probe asked cause
+abbrev pub IsUntoldBy : Attacking → Target → AttackFault → Type 0
+IsUntoldBy a (Command line) cause = (c : Attacked) × IsAttackedIn a.probe.now a.asked.instructions (line_of line) c
+    × IsUnstruck a.subject.words.now c cause
+IsUntoldBy a (CommandPart line share) cause = (c : Attacked) × IsAttackedIn a.probe.now a.asked.instructions (line_of line) c
+    × IsUnstruck a.subject.words.now c cause
+IsUntoldBy a Each cause = AreUntoldEach a cause
+IsUntoldBy a (EachPart share) cause = AreUntoldIn a share cause
 
 -- what is reported where a command was not attacked over the image with this name
 abbrev pub IsAttackFault : List ℕ → AttackFault → Fault → Type 0
@@ -155,16 +156,20 @@ IsAttackFault image attack.Down fault = fault ≡ Down
 IsAttackFault image attack.TooManyInstructions fault = fault ≡ TooManyInstructions
 
 -- that was not attacked, which is reported
-abbrev pub IsUntoldTold : Subject → Target → List ℕ → AttackAsked → Fault → Type 0
-IsUntoldTold subject target probe asked fault = (cause : AttackFault) × IsUntoldBy subject target probe asked cause
-    × IsAttackFault subject.names.image.now cause fault
+abbrev pub IsUntoldTold : Attacking → Target → Fault → Type 0
+IsUntoldTold a target fault = (cause : AttackFault) × IsUntoldBy a target cause × IsAttackFault a.subject.names.image.now cause fault
+
+-- how its commands are attacked: as it is asked for, with the lines of the probe, which were read, or with none
+abbrev pub IsAttackingRead : Subject → AttackAsked → Attacking → List FileDeed → Type 0
+IsAttackingRead subject asked a deeds = (a.subject ≡ subject) × (attack_asked_by a.asked ≡ asked) × (given : Option (List ℕ)) × IsProbeRead asked.probe given deeds
+    × (a.probe.now ≡ unwrap_or given [])
 
 -- what is meant of the commands was found, the probe was read, its faults were tried, and the report was written
 abbrev pub IsAttacked : Subject → AttackAsked → Tells
 IsAttacked subject asked =
     FindsThen (IsTarget (sweep_of asked) subject.commands.now) (IsNoTarget (sweep_of asked) subject.commands.now) (λ target.
-    ReadsThen (IsProbeRead asked.probe) (IsProbeUnread asked.probe) (λ probe.
-    FindsThen (IsToldBy subject target (unwrap_or probe []) asked) (IsUntoldTold subject target (unwrap_or probe []) asked) (λ told.
+    ReadsThen (IsAttackingRead subject asked) (IsProbeUnread asked.probe) (λ attacking.
+    FindsThen (IsToldBy attacking target) (IsUntoldTold attacking target) (λ told.
     WithNoFile (IsAttackTold told.text.items told.is_accepted))))
 
 -- the words of the image and the script were read, the whole script was carried out over these words, and the command that is meant was attacked,

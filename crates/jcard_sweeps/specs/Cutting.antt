@@ -12,9 +12,8 @@ use Rattle.jcard_tear.specs.Faults.{IsLineUncut, IsOneUncut}
 use Rattle.jcard_tear.specs.Names.{commands_name}
 use Rattle.jcard_tear.specs.Parts.{IsLinePart}
 use Rattle.jcard_tear.specs.ScriptLines.{line_of}
-use Rattle.jcard_tear.specs.Sweeps.{AreSwept, IsLineSwept}
+use Rattle.jcard_tear.specs.Sweeps.{AreSwept, IsLineSwept, given_of}
 use Rattle.jcard_tear.specs.declared.tearing.TearFault.{TearFault}
-use Rattle.jcard_sweeps.specs.Texts.{text_of}
 use Rattle.jcard_sweeps.specs.declared.cutting.Cutting.{Cutting}
 use Rattle.jcard_sweeps.specs.declared.cutting.Told.{Told}
 use Rattle.jcard_sweeps.specs.declared.targets.Target.{Target}
@@ -32,22 +31,23 @@ AreAllWhole sweeps whole = IsTrue whole ↔ All (λ s. is_whole_outcome s.outcom
 -- and what else comes after each; the lines of a part of that; the verdicts over each command, with objects the rows too; or those over the commands
 -- in a part, and whether each was all or nothing, by which a part does not end
 abbrev pub IsCut : Cutting → Target → Told → Type 0
-IsCut c (Command l) told = (s : Sweep) × IsLineSwept c.subject.words.now (text_of c.probe) c.behind (line_of l) s
+IsCut c (Command l) told = (s : Sweep) × IsLineSwept c.subject.words.now (given_of c.follow_up) c.follow_up.behind (line_of l) s
     × IsToldAs (report_text s) (are_whole s.cuts.items) told
-IsCut c (CommandPart l share) told = (p : Part) × IsLinePart c.subject.words.now (text_of c.probe) c.behind (line_of l) share.first share.step p
+IsCut c (CommandPart l share) told = (p : Part) × IsLinePart c.subject.words.now (given_of c.follow_up) c.follow_up.behind (line_of l) share.first share.step p
     × IsToldAs (part_text p) true told
 IsCut c Each told = (sweeps : List LineSweep) × (whole : Bool)
-    × AreSwept c.subject.words.now (text_of c.probe) c.behind (map line_of c.subject.commands.now) sweeps
-    × AreAllWhole sweeps whole × IsToldAs (verdicts_text c.behind.objects sweeps) whole told
+    × AreSwept c.subject.words.now (given_of c.follow_up) c.follow_up.behind (map line_of c.subject.commands.now) sweeps
+    × AreAllWhole sweeps whole × IsToldAs (verdicts_text c.follow_up.behind.objects sweeps) whole told
 IsCut c (EachPart share) told = (sweeps : List LineSweep) × (whole : Bool)
-    × AreSwept c.subject.words.now (text_of c.probe) c.behind (map line_of (share_in share c.subject.commands.now)) sweeps
+    × AreSwept c.subject.words.now (given_of c.follow_up) c.follow_up.behind (map line_of (share_in share c.subject.commands.now)) sweeps
     × AreAllWhole sweeps whole
-    × IsToldAs (head_text (commands_name c.subject.words.now c.subject.script.now (text_of c.probe) c.behind share.step)
-    ++ share_text share.first share.step whole (verdicts_text c.behind.objects sweeps)) true told
+    × IsToldAs (head_text (commands_name c.subject.words.now c.subject.script.now (given_of c.follow_up) c.follow_up.behind share.step)
+    ++ share_text share.first share.step whole (verdicts_text c.follow_up.behind.objects sweeps)) true told
 
 -- why it was not cut, or one of the commands was not; memory may be refused for what is reported too
 abbrev pub IsUncut : Cutting → Target → TearFault → Type 0
-IsUncut c (Command l) cause = IsLineUncut c.subject.words.now (text_of c.probe) c.behind (line_of l) 1 cause
-IsUncut c (CommandPart l share) cause = IsLineUncut c.subject.words.now (text_of c.probe) c.behind (line_of l) share.step cause
-IsUncut c Each cause = IsOneUncut c.subject.words.now (text_of c.probe) c.behind (map line_of c.subject.commands.now) cause
-IsUncut c (EachPart share) cause = IsOneUncut c.subject.words.now (text_of c.probe) c.behind (map line_of (share_in share c.subject.commands.now)) cause
+IsUncut c (Command l) cause = IsLineUncut c.subject.words.now (given_of c.follow_up) c.follow_up.behind (line_of l) 1 cause
+IsUncut c (CommandPart l share) cause = IsLineUncut c.subject.words.now (given_of c.follow_up) c.follow_up.behind (line_of l) share.step cause
+IsUncut c Each cause = IsOneUncut c.subject.words.now (given_of c.follow_up) c.follow_up.behind (map line_of c.subject.commands.now) cause
+IsUncut c (EachPart share) cause =
+    IsOneUncut c.subject.words.now (given_of c.follow_up) c.follow_up.behind (map line_of (share_in share c.subject.commands.now)) cause

@@ -60,7 +60,8 @@ IsUncarried budget subject fault = (cause : RunFault) × IsRunFault budget subje
 
 -- the probe was read with which this script is cut as is asked, if one is named
 abbrev pub IsCuttingRead : Subject → SweepAsked → Cutting → List FileDeed → Type 0
-IsCuttingRead subject asked cutting deeds = (cutting.subject ≡ subject) × (cutting.behind ≡ asked.behind) × IsProbeRead asked.probe (text_of cutting.probe) deeds
+IsCuttingRead subject asked cutting deeds = (cutting.subject ≡ subject) × (cutting.follow_up.behind ≡ asked.behind)
+    × IsProbeRead asked.probe (text_of cutting.follow_up.probe) deeds
 
 -- that was not cut, which is reported
 abbrev pub IsUncutTold : Cutting → Target → Fault → Type 0

@@ -58,6 +58,17 @@ pub struct AskedAttack<'n, 'a> {
     pub instructions: u32,
 }
 
+/// How commands of a script are attacked.
+#[derive(Clone, Copy, Drop)]
+pub(crate) struct Attacking<'n, 'a> {
+    /// Whose commands are attacked.
+    pub(crate) subject: Subject<'n, 'a>,
+    /// The lines of a probe, which come after each fault.
+    pub(crate) probe: &'a [u8],
+    /// What is asked for.
+    pub(crate) asked: AskedAttack<'n, 'a>,
+}
+
 /// What is reported of faults, and whether one was accepted.
 #[derive(Drop)]
 pub(crate) struct ToldAttack {
@@ -111,7 +122,12 @@ fn attack_subject<'n, D: Disk, W: TextOut, P: Progress + Remarks>(
     let target = target_of(subject.commands, sweep_of(asked))?;
     let probe = probe_of(disk, asked.probe)?;
     let asked_after = lent(&probe).unwrap_or(b"");
-    match told_by(disk.alloc(), subject, target, asked_after, asked, progress) {
+    let attacking = Attacking {
+        subject,
+        probe: asked_after,
+        asked,
+    };
+    match told_by(disk.alloc(), attacking, target, progress) {
         Ok(told) => write_attack(&told.text, told.is_accepted, out),
         Err(cause) => {
             remark_on(disk.alloc(), lent(&probe), cause, progress);
@@ -152,56 +168,51 @@ fn remark_on<M: Remarks>(alloc: Global, probe: Option<&[u8]>, cause: AttackFault
     }
 }
 
-// What is reported of the faults of this, after each of which these lines of a probe come.
+// What is reported of the faults of this.
 fn told_by<P: Progress>(
     alloc: Global,
-    subject: Subject<'_, '_>,
+    attacking: Attacking<'_, '_>,
     target: Target,
-    probe: &[u8],
-    asked: AskedAttack<'_, '_>,
     progress: &mut P,
 ) -> Result<ToldAttack, AttackFault>
-    requires short { length subject.words.now < 65536 }
+    requires short { length attacking.subject.words.now < 65536 }
     requires among { IsAmong target }
-    ensures { MatchResult result
-        (IsToldBy subject.entry target.entry probe.now (attack_asked_by asked.entry))
-        (IsUntoldBy subject.entry target.entry probe.now (attack_asked_by asked.entry)) }
+    ensures { MatchResult result (IsToldBy attacking.entry target.entry) (IsUntoldBy attacking.entry target.entry) }
 {
     match target {
         Target::Command(line) => {
+            let Attacking {
+                subject,
+                probe,
+                asked,
+            } = attacking;
             let attacked = attacked_in(line, probe, asked.instructions);
             told_attack(alloc, subject.words, attacked, asked.sought, progress)
         }
-        Target::CommandPart(line, share) => {
-            told_part(alloc, subject, line, share, probe, asked, progress)
-        }
-        Target::Each => told_each(alloc, subject, probe, asked, progress),
-        Target::EachPart(share) => told_in(alloc, subject, share, probe, asked, progress),
+        Target::CommandPart(line, share) => told_part(alloc, attacking, line, share, progress),
+        Target::Each => told_each(alloc, attacking, progress),
+        Target::EachPart(share) => told_in(alloc, attacking, share, progress),
     }
 }
 
 // What is reported of the faults of each command.
 fn told_each<P: Progress>(
     alloc: Global,
-    subject: Subject<'_, '_>,
-    probe: &[u8],
-    asked: AskedAttack<'_, '_>,
+    attacking: Attacking<'_, '_>,
     progress: &mut P,
 ) -> Result<ToldAttack, AttackFault>
-    requires { length subject.words.now < 65536 }
-    ensures { MatchResult result
-        (AreToldEach subject.entry probe.now (attack_asked_by asked.entry))
-        (AreUntoldEach subject.entry probe.now (attack_asked_by asked.entry)) }
+    requires { length attacking.subject.words.now < 65536 }
+    ensures { MatchResult result (AreToldEach attacking.entry) (AreUntoldEach attacking.entry) }
 {
-    let Subject {
-        words,
-        commands,
-        ..
-    } = subject;
+    let Attacking {
+        subject,
+        probe,
+        asked,
+    } = attacking;
     let attacks = attack_each(
         alloc,
-        words,
-        commands,
+        subject.words,
+        subject.commands,
         probe,
         asked.instructions,
         asked.sought,
@@ -217,19 +228,20 @@ fn told_each<P: Progress>(
 // What is reported of the faults of each command in this part of them, which ends as if none was accepted.
 fn told_in<P: Progress>(
     alloc: Global,
-    subject: Subject<'_, '_>,
+    attacking: Attacking<'_, '_>,
     share: Share,
-    probe: &[u8],
-    asked: AskedAttack<'_, '_>,
     progress: &mut P,
 ) -> Result<ToldAttack, AttackFault>
-    requires short { length subject.words.now < 65536 }
+    requires short { length attacking.subject.words.now < 65536 }
     requires among { share.first < share.step }
-    ensures { MatchResult result
-        (AreToldIn subject.entry share probe.now (attack_asked_by asked.entry))
-        (AreUntoldIn subject.entry share probe.now (attack_asked_by asked.entry)) }
+    ensures { MatchResult result (AreToldIn attacking.entry share) (AreUntoldIn attacking.entry share) }
 {
-    let name = attack_name(alloc, subject, subject.script, probe, asked, share.step)?;
+    let Attacking {
+        subject,
+        probe,
+        asked,
+    } = attacking;
+    let name = attack_name(alloc, attacking, subject.script, share.step)?;
     let attacks = attack_each(
         alloc,
         subject.words,
@@ -260,21 +272,24 @@ fn tell_images<P: Progress>(attacks: &[LineAttack], progress: &mut P) {
 // What is reported of the faults of a command in this part of them, which ends as if none was accepted.
 fn told_part<P: Progress>(
     alloc: Global,
-    subject: Subject<'_, '_>,
+    attacking: Attacking<'_, '_>,
     line: ScriptLine,
     share: Share,
-    probe: &[u8],
-    asked: AskedAttack<'_, '_>,
     progress: &mut P,
 ) -> Result<ToldAttack, AttackFault>
-    requires short { length subject.words.now < 65536 }
+    requires short { length attacking.subject.words.now < 65536 }
     requires among { share.first < share.step }
     ensures { MatchResult result
-        (IsToldPart subject.entry (line_of line.entry) share probe.now (attack_asked_by asked.entry))
-        (IsUntoldBy subject.entry (Target.CommandPart line.entry share) probe.now (attack_asked_by asked.entry)) }
+        (IsToldPart attacking.entry (line_of line.entry) share)
+        (IsUntoldBy attacking.entry (Target.CommandPart line.entry share)) }
 {
+    let Attacking {
+        subject,
+        probe,
+        asked,
+    } = attacking;
     let attacked = attacked_in(line, probe, asked.instructions);
-    let name = faults_name(alloc, subject, line, probe, asked, share.step)?;
+    let name = faults_name(alloc, attacking, line, share.step)?;
     let sweep = attack(alloc, subject.words, attacked, asked.sought, Some(share))?;
     progress.tell_image(&sweep.before.words);
     let lines = part_lines(alloc, &sweep)?;
@@ -290,19 +305,17 @@ fn told_part<P: Progress>(
 // faults.
 fn faults_name(
     alloc: Global,
-    subject: Subject<'_, '_>,
+    attacking: Attacking<'_, '_>,
     line: ScriptLine,
-    probe: &[u8],
-    asked: AskedAttack<'_, '_>,
     parts: u16,
 ) -> Result<Vec<u8>, AllocError>
-    requires { length subject.words.now < 65536 }
+    requires { length attacking.subject.words.now < 65536 }
     ensures { IfOk result (λ name. name.items
-        ≡ faults_name subject.entry (line_of line.entry) probe.now (attack_asked_by asked.entry) parts) }
+        ≡ faults_name attacking.entry (line_of line.entry) parts) }
 {
     let mut script = Vec::from_slice(alloc, line.before)?;
     script.extend_from_slice(line.line)?;
-    let mut name = attack_name(alloc, subject, &script, probe, asked, parts)?;
+    let mut name = attack_name(alloc, attacking, &script, parts)?;
     name.truncate(CHECKSUM_DIGITS);
     name.extend_from_slice(b" faults")?;
     Ok(name)
@@ -311,16 +324,19 @@ fn faults_name(
 // The name of a sweep over this script in this many parts, as of a sweep of cuts whose script says first which faults are tried.
 fn attack_name(
     alloc: Global,
-    subject: Subject<'_, '_>,
+    attacking: Attacking<'_, '_>,
     script: &[u8],
-    probe: &[u8],
-    asked: AskedAttack<'_, '_>,
     parts: u16,
 ) -> Result<Vec<u8>, AllocError>
-    requires { length subject.words.now < 65536 }
+    requires { length attacking.subject.words.now < 65536 }
     ensures { IfOk result (λ name. name.items
-        ≡ attack_name subject.entry script.now probe.now (attack_asked_by asked.entry) parts) }
+        ≡ attack_name attacking.entry script.now parts) }
 {
+    let Attacking {
+        subject,
+        probe,
+        asked,
+    } = attacking;
     let mut swept = Vec::new(alloc);
     push_faults(&mut swept, asked.sought)?;
     swept.extend_from_slice(script)?;

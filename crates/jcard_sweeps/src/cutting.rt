@@ -11,7 +11,7 @@ use jcard_outcomes::each::{are_all_or_nothing, verdicts};
 use jcard_outcomes::part::{Share, part_lines};
 use jcard_outcomes::report::report;
 use jcard_outcomes::verdict::is_all_or_nothing;
-use jcard_tear::cuts::Behind;
+use jcard_tear::cuts::FollowUp;
 use jcard_tear::each::{tear_each, tear_line};
 use jcard_tear::names::commands_name;
 use jcard_tear::parts::tear_line_part;
@@ -29,12 +29,13 @@ pub(crate) struct Subject<'n, 'a> {
     pub(crate) commands: &'a [ScriptLine<'a>],
 }
 
-/// How commands of a script are cut: the lines of a probe that follow each cut, if there are any, and what else follows it.
+/// How commands of a script are cut.
 #[derive(Clone, Copy, Drop)]
 pub(crate) struct Cutting<'n, 'a> {
+    /// Whose commands are cut.
     pub(crate) subject: Subject<'n, 'a>,
-    pub(crate) probe: Option<&'a [u8]>,
-    pub(crate) behind: Behind,
+    /// What follows each cut.
+    pub(crate) follow_up: FollowUp<'a>,
 }
 
 /// What is reported of cuts, and whether it ends as whole: each of them was all or nothing, and no recovery made a difference. A part does.
@@ -76,7 +77,7 @@ fn cut_command<P: Progress>(
         (IsUncut cutting.entry (Target.Command line.entry)) }
 {
     let words = cutting.subject.words;
-    let sweep = tear_line(alloc, words, line, cutting.probe, cutting.behind, progress)?;
+    let sweep = tear_line(alloc, words, line, cutting.follow_up, progress)?;
     let text = report(alloc, &sweep)?;
     Ok(Told {
         text,
@@ -100,10 +101,8 @@ fn cut_part<P: Progress>(
         alloc,
         cutting.subject.words,
         line,
-        cutting.probe,
-        cutting.behind,
-        share.first,
-        share.step,
+        cutting.follow_up,
+        share,
         progress,
     )?;
     let text = part_lines(alloc, &part)?;
@@ -127,15 +126,8 @@ fn cut_each<P: Progress>(
         commands,
         ..
     } = cutting.subject;
-    let sweeps = tear_each(
-        alloc,
-        words,
-        commands,
-        cutting.probe,
-        cutting.behind,
-        progress,
-    )?;
-    let text = verdicts(alloc, &sweeps, cutting.behind.objects)?;
+    let sweeps = tear_each(alloc, words, commands, cutting.follow_up, progress)?;
+    let text = verdicts(alloc, &sweeps, cutting.follow_up.behind.objects)?;
     Ok(Told {
         text,
         is_whole: are_all_or_nothing(&sweeps),
@@ -154,15 +146,12 @@ fn cut_each_in<P: Progress>(
     ensures { MatchResult result (IsCut cutting.entry (Target.EachPart share))
         (IsUncut cutting.entry (Target.EachPart share)) }
 {
-    let Cutting {
-        subject,
-        probe,
-        behind,
-    } = cutting;
+    let Cutting { subject, follow_up } = cutting;
+    let FollowUp { probe, behind } = follow_up;
     let words = subject.words;
     let name = commands_name(alloc, words, subject.script, probe, behind, share.step)?;
     let commands = share_in(subject.commands, share);
-    let sweeps = tear_each(alloc, words, commands, probe, behind, progress)?;
+    let sweeps = tear_each(alloc, words, commands, follow_up, progress)?;
     let verdicts = verdicts(alloc, &sweeps, behind.objects)?;
     let is_whole = are_all_or_nothing(&sweeps);
     let text = share_lines(alloc, &name, share, is_whole, &verdicts)?;

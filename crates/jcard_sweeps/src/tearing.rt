@@ -18,7 +18,7 @@ use jcard_files::reading::script_of;
 use jcard_files::remarks::Remarks;
 use jcard_files::script_fault::Names;
 use jcard_script::streams::TextOut;
-use jcard_tear::cuts::Behind;
+use jcard_tear::cuts::{Behind, FollowUp};
 use jcard_tear::progress::Progress;
 use jcard_tear::runs::{carried_through, copied};
 use jcard_tear::script_lines::commands;
@@ -120,13 +120,15 @@ fn tear<'n, D: Disk, W: TextOut, P: Progress + Remarks>(
     let probe = probe_of(disk, asked.probe)?;
     let cutting = Cutting {
         subject,
-        probe: lent(&probe),
-        behind: asked.behind,
+        follow_up: FollowUp {
+            probe: lent(&probe),
+            behind: asked.behind,
+        },
     };
     match cut(disk.alloc(), cutting, target, progress) {
         Ok(told) => write_report(&told.text, told.is_whole, out),
         Err(cause) => {
-            remark_on_probe(disk.alloc(), cutting.probe, cause, progress);
+            remark_on_probe(disk.alloc(), cutting.follow_up.probe, cause, progress);
             Err(tear_fault(subject.names, cause))
         }
     }

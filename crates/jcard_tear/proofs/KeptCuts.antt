@@ -24,6 +24,7 @@ use Rattle.jcard_tear.specs.Kept.{GivesAnswers, HasAnswered, IsKeptFor, IsKnown,
 use Rattle.jcard_tear.specs.Recoveries.{AreRecoveries}
 use Rattle.jcard_tear.specs.Runs.{IsLeft, IsRecovered, Runs, store_of}
 use Rattle.jcard_tear.specs.Sweeps.{IsCutAt, IsToldAs, IsUncutAt, cut_script}
+use Rattle.jcard_tear.specs.declared.cuts.Baseline.{Baseline}
 use Rattle.jcard_tear.specs.declared.cuts.Command.{Command}
 use Rattle.jcard_tear.specs.declared.cuts.Shared.{Shared}
 use Rattle.jcard_tear.specs.Told.{IsTold}
@@ -68,37 +69,34 @@ cut_alike words c k heap left r zero may is same has none =
     )
 
 -- so what was reported of it is reported of this cut
-pub reported_at : (words : List ℕ) (c : Command) (s : Shared) (k : ℕ) (heap : List ℕ) (cut : Cut) → c.behind.depth ≡ Zero → MayLeave words c k heap
-    → IsReportedAlike c s heap cut → IsReportedAt words c s k cut
-reported_at words c s k heap cut zero may t = (t.0.left, cut_alike words c k heap t.0.left cut.recoveries zero may t.1.0 t.2 t.1.1 t.4, t.3)
+pub reported_at : (s : Shared) (k : ℕ) (heap : List ℕ) (cut : Cut) → s.command.behind.depth ≡ Zero → MayLeave s.words.now s.command k heap
+    → IsReportedAlike s heap cut → IsReportedAt s k cut
+reported_at s k heap cut zero may t = (t.0.left, cut_alike s.words.now s.command k heap t.0.left cut.recoveries zero may t.1.0 t.2 t.1.1 t.4, t.3)
 
 -- what is left, where its answers are known, and are said to be
-pub told_last_cut : (c : Command) (s : Shared) (left : Left) (reported : LastCut) → IsKnown c left → reported.left ≡ left
-    → IsToldAs s.spared.now s.lenient.now s.objects.now s.before.now s.after.now left reported.cut → reported.cut.recoveries ≡ none_cut → IsLastCut c s reported
-told_last_cut c s left reported known same told none =
-    let is = subst (λ (l : Left). IsKnown c l) (sym same) known in (
-      is.0,
-      is.1,
-      subst (λ (l : Left). IsToldAs s.spared.now s.lenient.now s.objects.now s.before.now s.after.now l reported.cut) (sym same) told,
-      none,
-    )
+pub told_last_cut : (s : Shared) (left : Left) (reported : LastCut) → IsKnown s.command left → reported.left ≡ left → IsToldAs s.baseline left reported.cut
+    → reported.cut.recoveries ≡ none_cut → IsLastCut s reported
+told_last_cut s left reported known same told none =
+    let is = subst (λ (l : Left). IsKnown s.command l) (sym same) known in
+    (is.0, is.1, subst (λ (l : Left). IsToldAs s.baseline l reported.cut) (sym same) told, none)
 
 -- a copy of what was reported last reports the same
-pub copied_alike : (c : Command) (s : Shared) (reported : LastCut) (heap : List ℕ) (cut : Cut) → IsLastCut c s reported → plain_of reported.left.words.items ≡ heap
+pub copied_alike : (s : Shared) (reported : LastCut) (heap : List ℕ) (cut : Cut) → IsLastCut s reported → plain_of reported.left.words.items ≡ heap
     → cut.standing ≡ reported.cut.standing → cut.lost ≡ reported.cut.lost → cut.answers.items ≡ reported.cut.answers.items → cut.recoveries ≡ reported.cut.recoveries
-    → IsReportedAlike c s heap cut
-copied_alike c s reported heap cut is same standing lost answers recoveries = (
-  reported,
-  is,
-  same,
-  (
-    subst (λ (t : List ℕ). IsTold s.objects.now reported.left t) (sym answers) is.2.0,
-    subst (λ (x : Standing). IsStanding s.spared.now s.lenient.now s.before.now s.after.now reported.left.words.items reported.left.answers.items x) (sym standing)
-        is.2.1,
-    lost ∙ is.2.2 ∙ ap (λ (x : Standing). lost_of x s.before.now.words.items reported.left.words.items) (sym standing),
-  ),
-  recoveries ∙ is.3,
-)
+    → IsReportedAlike s heap cut
+copied_alike s reported heap cut is same standing lost answers recoveries =
+    let b : Baseline = s.baseline in (
+      reported,
+      is,
+      same,
+      (
+        subst (λ (t : List ℕ). IsTold b.objects.now reported.left t) (sym answers) is.2.0,
+        subst (λ (x : Standing). IsStanding b.spared.now b.lenient.now b.before.now b.after.now reported.left.words.items reported.left.answers.items x) (sym standing)
+            is.2.1,
+        lost ∙ is.2.2 ∙ ap (λ (x : Standing). lost_of x b.before.now.words.items reported.left.words.items) (sym standing),
+      ),
+      recoveries ∙ is.3,
+    )
 
 -- a script was carried out to its end
 pub kept_carried : (words : List ℕ) (c : Command) (k : ℕ) (found : List ℕ) → IsRecovered found → MayLeave words c k (plain_of found) → IsCarriedOut words c

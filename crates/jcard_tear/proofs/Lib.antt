@@ -5,7 +5,6 @@ pub mod Lines
 pub mod CutRecoveries
 pub mod Powers
 pub mod Fuses
-pub mod EveryLists
 pub mod Uncut
 pub mod SameHeaps
 pub mod KeptCuts

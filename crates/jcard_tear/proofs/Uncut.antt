@@ -1,14 +1,13 @@
 -- Why a command was not cut.
 use Rattle.std.proofs.Common.{◌≡◌, ◌⊎◌, ◌++◌, ◌+◌, ◌*◌, ◌<◌, ◌≤◌, ℕ, zero, suc, true, List, [], ◌∷◌, Option, Result, Ok, Err, IfErr, IsErrAnd, MatchResult, length, refl, sym, subst, inl, inr, arith}
 use Rattle.std.proofs.Math.Nat.{mul-suc, suc-mul}
-use Rattle.jc_objects.specs.declared.image_objects.ImageObjects.{ImageObjects}
 use Rattle.jcard_outcomes.specs.declared.standing.Cut.{Cut}
 use Rattle.jcard_outcomes.specs.declared.standing.Left.{Left}
 use Rattle.jcard_tear.specs.Faults.{IsCarriedOut, IsCutPast, IsImageFault, IsLeftFault, IsLogFault, IsProbeFault, IsScriptFor, IsUnbegun, IsUncutFor, told_probe_fault, told_run_fault}
-use Rattle.jcard_tear.specs.Parts.{AreEvery}
 use Rattle.jc_words.specs.Stores.{FuseStoreValue}
 use Rattle.jcard_tear.specs.Runs.{IsRunFault, Runs}
 use Rattle.jcard_tear.specs.Sweeps.{AreCuts, IsDone}
+use Rattle.jcard_tear.specs.declared.cuts.Baseline.{Baseline}
 use Rattle.jcard_tear.specs.declared.cuts.Command.{Command}
 use Rattle.jcard_tear.specs.declared.runs.RunFault.{RunFault}
 use Rattle.jcard_tear.specs.declared.runs.RunFault.TheVariants as run
@@ -99,26 +98,16 @@ memory_probed budget probe fault e = subst (IsProbeFault budget probe) (sym e) t
 
 -- ---- too many cuts
 
--- of all cuts up to the most the last is past them
-pub cuts_past : (words : List ℕ) (c : Command) (spared lenient : List ℕ) (objects : Option ImageObjects) (before after : Left) (k : ℕ) (cuts : List Cut)
-    → AreCuts words c spared lenient objects before after k cuts → 0 < length cuts → 65535 ≤ k + length cuts → IsCutPast words c 1
-unfolding AreCuts
-cuts_past words c spared lenient objects before after k [] a some most = absurd (omega (arith, some))
-cuts_past words c spared lenient objects before after k (x ∷ []) a some most = (k, a.0.0, x.recoveries, a.0.1, inl (omega (arith, most)))
-cuts_past words c spared lenient objects before after k (x ∷ y ∷ ys) a some most =
-    cuts_past words c spared lenient objects before after (k + 1) (y ∷ ys) a.1 (omega arith) (omega (arith, most))
-
 -- the last of each n-th cut is past the most, if the next one would be
-pub every_past : (words : List ℕ) (c : Command) (spared lenient : List ℕ) (objects : Option ImageObjects) (before after : Left) (k n : ℕ) (cuts : List Cut)
-    → AreEvery words c spared lenient objects before after k n cuts → 0 < length cuts → (65535 ≤ k + n * length cuts) ⊎ (n ≡ 0) → IsCutPast words c n
-unfolding AreEvery
-every_past words c spared lenient objects before after k n [] a some most = absurd (omega (arith, some))
-every_past words c spared lenient objects before after k n (x ∷ []) a some (inl most) = (k, a.0.0, x.recoveries, a.0.1, inl (omega (arith, most)))
-every_past words c spared lenient objects before after k n (x ∷ []) a some (inr none) = (k, a.0.0, x.recoveries, a.0.1, inr none)
-every_past words c spared lenient objects before after k n (x ∷ y ∷ ys) a some (inl most) =
-    every_past words c spared lenient objects before after (k + n) n (y ∷ ys) a.1 (omega arith) (inl (omega (arith, mul-suc n (length (y ∷ ys)), most)))
-every_past words c spared lenient objects before after k n (x ∷ y ∷ ys) a some (inr none) =
-    every_past words c spared lenient objects before after (k + n) n (y ∷ ys) a.1 (omega arith) (inr none)
+pub cuts_past : (words : List ℕ) (c : Command) (b : Baseline) (k n : ℕ) (cuts : List Cut) → AreCuts words c b k n cuts → 0 < length cuts
+    → (65535 ≤ k + n * length cuts) ⊎ (n ≡ 0) → IsCutPast words c n
+unfolding AreCuts
+cuts_past words c b k n [] a some most = absurd (omega (arith, some))
+cuts_past words c b k n (x ∷ []) a some (inl most) = (k, a.0.0, x.recoveries, a.0.1, inl (omega (arith, most)))
+cuts_past words c b k n (x ∷ []) a some (inr none) = (k, a.0.0, x.recoveries, a.0.1, inr none)
+cuts_past words c b k n (x ∷ y ∷ ys) a some (inl most) =
+    cuts_past words c b (k + n) n (y ∷ ys) a.1 (omega arith) (inl (omega (arith, mul-suc n (length (y ∷ ys)), most)))
+cuts_past words c b k n (x ∷ y ∷ ys) a some (inr none) = cuts_past words c b (k + n) n (y ∷ ys) a.1 (omega arith) (inr none)
 
 -- a step as often as cuts are counted comes past them, if it is one
 pub steps_past : (first n m : ℕ) → 65535 ≤ m → (65535 ≤ first + n * m) ⊎ (n ≡ 0)

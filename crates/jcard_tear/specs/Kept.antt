@@ -62,18 +62,18 @@ abbrev pub none_cut : Recoveries
 none_cut = record { ways = 1; difference = None }
 
 -- what is left after a recovery was asked for, and a cut that left it is reported so
-abbrev pub IsLastCut : Command → Shared → LastCut → Type 0
-IsLastCut c s reported = IsRecovered reported.left.words.items × HasAnswered c.behind.instructions c.probe.now reported.left
-    × IsToldAs s.spared.now s.lenient.now s.objects.now s.before.now s.after.now reported.left reported.cut × (reported.cut.recoveries ≡ none_cut)
+abbrev pub IsLastCut : Shared → LastCut → Type 0
+IsLastCut s reported = IsRecovered reported.left.words.items × HasAnswered s.command.behind.instructions s.command.probe.now reported.left
+    × IsToldAs s.baseline reported.left reported.cut × (reported.cut.recoveries ≡ none_cut)
 
 -- what a cut left is reported so
-abbrev pub IsReportedAt : List ℕ → Command → Shared → ℕ → Cut → Type 0
-IsReportedAt words c s k cut = IsToldCut words c s.spared.now s.lenient.now s.objects.now s.before.now s.after.now k cut
+abbrev pub IsReportedAt : Shared → ℕ → Cut → Type 0
+IsReportedAt s k cut = IsToldCut s.words.now s.command s.baseline k cut
 
 -- the same heap as was left is reported so
-abbrev pub IsReportedAlike : Command → Shared → List ℕ → Cut → Type 0
-IsReportedAlike c s heap cut = (reported : LastCut) × IsLastCut c s reported × (plain_of reported.left.words.items ≡ heap)
-    × IsToldAs s.spared.now s.lenient.now s.objects.now s.before.now s.after.now reported.left cut × (cut.recoveries ≡ none_cut)
+abbrev pub IsReportedAlike : Shared → List ℕ → Cut → Type 0
+IsReportedAlike s heap cut = (reported : LastCut) × IsLastCut s reported × (plain_of reported.left.words.items ≡ heap)
+    × IsToldAs s.baseline reported.left cut × (cut.recoveries ≡ none_cut)
 
 -- fewer words than addresses are left
 abbrev pub IsShort : KeptCut → Type 0

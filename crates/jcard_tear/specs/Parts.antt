@@ -1,19 +1,11 @@
 -- A part of the cuts of a command.
-use Rattle.std.specs.Prelude.{ℕ, ◌≡◌, ◌+◌, ◌*◌, Bool, List, [], ◌∷◌, ◌++◌, Option, length}
-use Rattle.jc_objects.specs.declared.image_objects.ImageObjects.{ImageObjects}
+use Rattle.std.specs.Prelude.{ℕ, ◌≡◌, List, Option}
 use Rattle.jcard_outcomes.specs.declared.part.Part.{Part}
-use Rattle.jcard_outcomes.specs.declared.standing.Cut.{Cut}
-use Rattle.jcard_outcomes.specs.declared.standing.Left.{Left}
 use Rattle.jcard_tear.specs.Names.{sweep_name}
 use Rattle.jcard_tear.specs.ScriptLines.{Line}
-use Rattle.jcard_tear.specs.Sweeps.{IsBegun, IsMeasured, IsProbe, IsToldCut, IsUncutAt}
+use Rattle.jcard_tear.specs.Sweeps.{IsProbe, IsSweptBy}
 use Rattle.jcard_tear.specs.declared.cuts.Behind.{Behind}
 use Rattle.jcard_tear.specs.declared.cuts.Command.{Command}
-
--- what the cuts after k, k + n, k + 2 n, .. writes left is reported so
-unfoldable pub AreEvery : List ℕ → Command → List ℕ → List ℕ → Option ImageObjects → Left → Left → ℕ → ℕ → List Cut → Type 0
-AreEvery words c spared lenient objects before after k n [] = Unit {0}
-AreEvery words c spared lenient objects before after k n (cut ∷ cuts) = IsToldCut words c spared lenient objects before after k cut × AreEvery words c spared lenient objects before after (k + n) n cuts
 
 -- part i of n has the cuts after k writes for which k mod n = i - 1: after i - 1 writes and each n-th number after it, up to the first
 -- of these that does not cut the command; what was before the command, its answer and what it leaves are those of the whole sweep
@@ -21,11 +13,7 @@ pub record IsPartSwept (words : List ℕ) (c : Command) (first n : ℕ) (p : Par
   pub first_is : p.first ≡ first
   pub step_is : p.step ≡ n
   pub name : p.name.items ≡ sweep_name words c n
-  pub begun : IsBegun words c p.sweep.before
-  pub cuts : (spared by_calls : List ℕ) × (objects : Option ImageObjects) × (after : Left) × IsMeasured words c spared objects after p.sweep
-      × AreEvery words c spared (spared ++ by_calls) objects p.sweep.before after first n p.sweep.cuts.items
-  pub uncut : IsUncutAt words c (first + n * length p.sweep.cuts.items)
-  pub depth : p.sweep.depth ≡ c.behind.depth
+  pub swept : IsSweptBy words c first n p.sweep
 
 -- a part of the cuts of the command in this line, after which this was to come
 abbrev pub IsLinePart : List ℕ → Option (List ℕ) → Behind → Line → ℕ → ℕ → Part → Type 0

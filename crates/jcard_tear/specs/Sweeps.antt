@@ -1,9 +1,9 @@
 -- A command of a script that is cut after each number of its word writes.
-use Rattle.std.specs.Prelude.{ℕ, ◌≡◌, ◌+◌, ◌-◌, ◌<◌, ◌≤◌, ◌≢◌, ◌⊎◌, true, false, List, [], ◌∷◌, ◌++◌, codes, decimal, drop, take, length, slice_index, Option, Some, None}
+use Rattle.std.specs.Prelude.{ℕ, ◌≡◌, ◌+◌, ◌-◌, ◌*◌, ◌<◌, ◌≤◌, ◌≢◌, ◌⊎◌, true, false, List, [], ◌∷◌, ◌++◌, codes, decimal, drop, take, length, option_map, slice_index, Option, Some, None}
+use Rattle.std.specs.Borrow.{Bor}
 use Rattle.hex.specs.Hex.{encode_upper}
 use Rattle.jc_words.specs.Stores.{FuseStoreValue}
 use Rattle.jc_objects.specs.Pins.{AreTriesIn}
-use Rattle.jc_objects.specs.declared.image_objects.ImageObjects.{ImageObjects}
 use Rattle.jcard_outcomes.specs.Standing.{IsStanding, lost_of}
 use Rattle.jcard_outcomes.specs.declared.recoveries.Depth.TheVariants.{Zero}
 use Rattle.jcard_outcomes.specs.declared.recoveries.Recoveries.{Recoveries}
@@ -17,8 +17,10 @@ use Rattle.jcard_tear.specs.Recoveries.{AreRecoveries}
 use Rattle.jcard_tear.specs.Runs.{IsLeft, IsSelectedBy, Runs}
 use Rattle.jcard_tear.specs.ScriptLines.{Line, command_text}
 use Rattle.jcard_tear.specs.Told.{AreObjectsAsked, IsTold}
+use Rattle.jcard_tear.specs.declared.cuts.Baseline.{Baseline}
 use Rattle.jcard_tear.specs.declared.cuts.Behind.{Behind}
 use Rattle.jcard_tear.specs.declared.cuts.Command.{Command}
+use Rattle.jcard_tear.specs.declared.cuts.FollowUp.{FollowUp}
 
 -- nothing but the answers of the probe, with at most this many instructions a command
 abbrev pub nothing_more : ℕ → Behind
@@ -38,18 +40,19 @@ abbrev pub IsUncutAt : List ℕ → Command → ℕ → Type 0
 IsUncutAt words c k = (text : List ℕ) × (after : FuseStoreValue) × Runs c.behind.instructions words (cut_script c k) text after × (after.down ≡ false)
 
 -- a cut that left this is reported so
-abbrev pub IsToldAs : List ℕ → List ℕ → Option ImageObjects → Left → Left → Left → Cut → Type 0
-IsToldAs spared lenient objects before after left cut = IsTold objects left cut.answers.items
-    × IsStanding spared lenient before after left.words.items left.answers.items cut.standing × (cut.lost ≡ lost_of cut.standing before.words.items left.words.items)
+abbrev pub IsToldAs : Baseline → Left → Cut → Type 0
+IsToldAs b left cut = IsTold b.objects.now left cut.answers.items
+    × IsStanding b.spared.now b.lenient.now b.before.now b.after.now left.words.items left.answers.items cut.standing
+    × (cut.lost ≡ lost_of cut.standing b.before.now.words.items left.words.items)
 
 -- what a cut left is reported so
-abbrev pub IsToldCut : List ℕ → Command → List ℕ → List ℕ → Option ImageObjects → Left → Left → ℕ → Cut → Type 0
-IsToldCut words c spared lenient objects before after k cut = (left : Left) × IsCutAt words c k left cut.recoveries × IsToldAs spared lenient objects before after left cut
+abbrev pub IsToldCut : List ℕ → Command → Baseline → ℕ → Cut → Type 0
+IsToldCut words c b k cut = (left : Left) × IsCutAt words c k left cut.recoveries × IsToldAs b left cut
 
--- what the cuts after k, k + 1, .. writes left is reported so
-unfoldable pub AreCuts : List ℕ → Command → List ℕ → List ℕ → Option ImageObjects → Left → Left → ℕ → List Cut → Type 0
-AreCuts words c spared lenient objects before after k [] = Unit {0}
-AreCuts words c spared lenient objects before after k (cut ∷ cuts) = IsToldCut words c spared lenient objects before after k cut × AreCuts words c spared lenient objects before after (k + 1) cuts
+-- what the cuts after k, k + n, k + 2 n, .. writes left is reported so
+unfoldable pub AreCuts : List ℕ → Command → Baseline → ℕ → ℕ → List Cut → Type 0
+AreCuts words c b k n [] = Unit {0}
+AreCuts words c b k n (cut ∷ cuts) = IsToldCut words c b k cut × AreCuts words c b (k + n) n cuts
 
 -- the last line of a text, without its line feed
 abbrev pub IsLastLine : List ℕ → List ℕ → Type 0
@@ -65,21 +68,28 @@ IsDone words c answer left = (text : List ℕ) × (after : FuseStoreValue) × Ru
 abbrev pub IsBegun : List ℕ → Command → Left → Type 0
 IsBegun words c left = (text : List ℕ) × (after : FuseStoreValue) × Runs c.behind.instructions words c.before.now text after × IsLeft c.behind.instructions after.words c.probe.now left
 
--- a command that is not cut has this answer and leaves this, of which the report is with these objects, and with which cuts are compared that
--- spare these words
-abbrev pub IsMeasured : List ℕ → Command → List ℕ → Option ImageObjects → Left → Sweep → Type 0
-IsMeasured words c spared objects after s = IsDone words c s.answer.items after × (s.after.words.items ≡ after.words.items)
-    × IsTold objects after s.after.answers.items × AreTriesIn after.words.items spared × AreObjectsAsked c.behind.objects s.before objects
+-- what cuts are compared with, and what a sweep reports of a command that is not cut, are the same. The words with the tries left of the OwnerPINs
+-- that stand after the command are spared in each comparison. Words are reported as written by non-atomic calls: no clause says which
+pub record IsMeasured (words : List ℕ) (c : Command) (b : Baseline) (s : Sweep) : Type 0 where
+  pub before : b.before.now ≡ s.before
+  pub done : IsDone words c s.answer.items b.after.now
+  pub after : s.after.words.items ≡ b.after.now.words.items
+  pub told : IsTold b.objects.now b.after.now s.after.answers.items
+  pub spared : AreTriesIn b.after.now.words.items b.spared.now
+  pub lenient : (by_calls : List ℕ) × (b.lenient.now ≡ b.spared.now ++ by_calls)
+  pub objects : AreObjectsAsked c.behind.objects s.before b.objects.now
 
--- what was before a command and what it leaves, its answer, and what is left of it after each number of its writes, up to the first
--- that does not cut it. The words with the tries left of the OwnerPINs that stand after it are spared in each comparison. Words are reported as
--- written by non-atomic calls: no clause says which
-pub record IsSwept (words : List ℕ) (c : Command) (s : Sweep) : Type 0 where
+-- what was before a command and what it leaves, its answer, and what is left of it after k, k + n, k + 2 n, .. of its writes, up to the first of
+-- these numbers that does not cut it
+pub record IsSweptBy (words : List ℕ) (c : Command) (k n : ℕ) (s : Sweep) : Type 0 where
   pub begun : IsBegun words c s.before
-  pub cuts : (spared by_calls : List ℕ) × (objects : Option ImageObjects) × (after : Left) × IsMeasured words c spared objects after s
-      × AreCuts words c spared (spared ++ by_calls) objects s.before after 0 s.cuts.items
-  pub uncut : IsUncutAt words c (length s.cuts.items)
+  pub cuts : (b : Baseline) × IsMeasured words c b s × AreCuts words c b k n s.cuts.items
+  pub uncut : IsUncutAt words c (k + n * length s.cuts.items)
   pub depth : s.depth ≡ c.behind.depth
+
+-- the same after each number of its writes
+abbrev pub IsSwept : List ℕ → Command → Sweep → Type 0
+IsSwept words c s = IsSweptBy words c 0 1 s
 
 -- ---- the commands of a script
 
@@ -87,6 +97,10 @@ pub record IsSwept (words : List ℕ) (c : Command) (s : Sweep) : Type 0 where
 abbrev pub select_line : Option (List ℕ) → List ℕ
 select_line None = []
 select_line (Some aid) = codes "00A40400" ++ encode_upper (length aid ∷ []) ++ encode_upper aid ++ codes "\n"
+
+-- the lines of a probe that are given to follow each cut, if any are
+abbrev pub given_of : FollowUp → Option (List ℕ)
+given_of f = option_map (λ (lines : Bor (List ℕ)). lines.now) f.probe
 
 -- the lines of a probe: those that are given, or else the SELECT of the applet that is selected before the command
 abbrev pub IsProbe : ℕ → List ℕ → Option (List ℕ) → List ℕ → List ℕ → Type 0

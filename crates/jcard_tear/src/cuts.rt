@@ -1,8 +1,8 @@
 //! Cutting the power within a command, after each number of its word writes.
-ghost use Rattle.std.specs.Prelude.{◌≡◌, ◌<◌, ◌++◌, ◌∷◌, ℕ, true, List, [], None, length, IfOk, IfSome, MatchOption, MatchResult};
+ghost use Rattle.std.specs.Prelude.{◌≡◌, ◌<◌, ◌+◌, ◌*◌, ◌++◌, ◌∷◌, ℕ, true, List, [], None, length, IfOk, IfSome, MatchOption, MatchResult};
 ghost use Rattle.jcard_tear.specs.declared.tearing.TearFault.TheVariants.{NoMemory};
 ghost use Rattle.jcard_tear.specs.Faults.{IsUncutFor};
-ghost use Rattle.jcard_tear.specs.Kept.{IsKeptCut, IsKeptFor, IsKnown, IsShort, IsLastCut, IsReportedAt};
+ghost use Rattle.jcard_tear.specs.Kept.{IsKeptCut, IsKeptFor, IsKnown, IsLastCut, IsReportedAt, IsShort};
 ghost use Rattle.jcard_tear.specs.declared.cuts.Command.{Command as CommandText};
 ghost use Rattle.jcard_tear.specs.Sweeps.{AreCuts, IsCutAt, IsToldAs, IsUncutAt, cut_script, nothing_more};
 ghost use Rattle.jcard_tear.specs.Told.{AreOfImage};
@@ -16,12 +16,13 @@ use crate::tearing::{TearFault, left_by_probe, probe_fault};
 use crate::told::told;
 use itoa::Buffer;
 use jc_objects::image_objects::ImageObjects;
+use jcard_outcomes::part::Share;
 use jcard_outcomes::recoveries::{Depth, Recoveries};
 use jcard_outcomes::standing::{Cut, Left, lost_of, standing_of};
 use std::alloc::{AllocError, Global};
 
 /// The most cuts of a command.
-pub(crate) const MOST: u16 = 65_535;
+const MOST: u16 = 65_535;
 
 /// What comes after each cut of a command: how many recoveries are cut, whether the cells that changed are reported, and with how many
 /// instructions a command may run.
@@ -46,6 +47,15 @@ impl Behind {
     }
 }
 
+/// What follows each cut of a command in a line of a script.
+#[derive(Clone, Copy, Drop)]
+pub struct FollowUp<'a> {
+    /// The lines of a probe; where none are given, the SELECT of the applet that is selected before the command.
+    pub probe: Option<&'a [u8]>,
+    /// What else comes.
+    pub behind: Behind,
+}
+
 /// A command of a script: the text before its line, its line, what is asked after a reset, and what else comes after each of its
 /// cuts.
 #[derive(Clone, Copy, Drop)]
@@ -56,116 +66,130 @@ pub struct Command<'a> {
     pub behind: Behind,
 }
 
-/// What all cuts of a command share: the card at it, where that is kept, and what they are compared with and reported by.
-#[derive(Drop)]
-pub(crate) struct Shared<'a> {
-    pub(crate) card: Option<AtCommand>,
-    pub(crate) spared: &'a [u16],
-    pub(crate) lenient: &'a [u16],
-    pub(crate) objects: &'a Option<ImageObjects>,
+/// What the cuts of a command are compared with, and by which objects they are reported.
+#[derive(Clone, Copy, Drop)]
+pub(crate) struct Baseline<'a> {
+    /// What was before the command.
     pub(crate) before: &'a Left,
     /// Whether it is known of a card that powers up over the words of before that it gives the answers of before.
     pub(crate) is_known: bool,
+    /// What the command leaves where it is not cut.
     pub(crate) after: &'a Left,
+    /// The words with the tries of OwnerPINs, which no comparison looks at.
+    pub(crate) spared: &'a [u16],
+    /// Those words, and the ones that non-atomic calls of the command write.
+    pub(crate) lenient: &'a [u16],
+    /// The objects that stood before the command, where it is reported which of their cells changed.
+    pub(crate) objects: &'a Option<ImageObjects>,
 }
 
-/// What each cut of a command left, from the one on that no write passes, up to the number with which it is not cut.
+/// What all cuts of a command share.
+#[derive(Drop)]
+pub(crate) struct Shared<'a> {
+    /// The words of the image.
+    pub(crate) words: &'a [u16],
+    /// The command that is cut.
+    pub(crate) command: Command<'a>,
+    /// The card at the command, where it is kept.
+    pub(crate) card: Option<AtCommand>,
+    /// What they are compared with.
+    pub(crate) baseline: Baseline<'a>,
+}
+
+/// What the cuts in a part left, from its first on, up to the number of writes with which the command is not cut.
 pub(crate) fn cut_all<P: Progress>(
     alloc: Global,
     words: &[u16],
     command: Command,
-    spared: &[u16],
-    lenient: &[u16],
-    objects: &Option<ImageObjects>,
-    before: &Left,
-    is_known: bool,
-    after: &Left,
+    baseline: Baseline,
+    share: Share,
     progress: &mut P,
 ) -> Result<Vec<Cut>, TearFault>
     requires short { length words.now < 65536 }
-    requires whole { AreOfImage objects.now }
-    requires known { is_known ≡ true → IsKnown command before.now }
-    ensures { MatchResult result
-        (λ cuts. AreCuts words.now command.entry spared.now lenient.now objects.now before.now after.now 0 cuts.items
-        × IsUncutAt words.now command.entry (length cuts.items))
-        (λ fault. IsUncutFor words.now command.entry 1 fault) }
+    requires whole { AreOfImage baseline.objects.now }
+    requires known { baseline.is_known ≡ true → IsKnown command baseline.before.now }
+    ensures cut { MatchResult result
+        (λ cuts. AreCuts words.now command.entry baseline.entry share.first share.step cuts.items
+        × IsUncutAt words.now command.entry (share.first + share.step * length cuts.items))
+        (λ fault. IsUncutFor words.now command.entry share.step fault) }
+    ensures below { IfOk result (λ cuts. share.first + share.step * length cuts.items < 65536) }
 {
     let shared = Shared {
+        words,
+        command,
         card: kept_for(alloc, words, command),
-        spared,
-        lenient,
-        objects,
-        before,
-        is_known,
-        after,
+        baseline,
     };
     let mut last = None;
     let mut cuts = Vec::new(alloc);
-    push_cuts(
-        alloc, words, command, &shared, &mut last, &mut cuts, progress,
-    )?;
+    push_cuts(alloc, &shared, share, &mut last, &mut cuts, progress)?;
     Ok(cuts)
 }
 
-// Adds what each cut of the command left. What is let go at the end is the caller's, so that this has nothing to let go.
+// Adds what these cuts left. What is let go at the end is the caller's, so that this has nothing to let go.
 fn push_cuts<P: Progress>(
     alloc: Global,
-    words: &[u16],
-    command: Command,
     shared: &Shared<'_>,
+    share: Share,
     last: &mut Option<LastCut>,
     cuts: &mut Vec<Cut>,
     progress: &mut P,
 ) -> Result<(), TearFault>
-    requires short { length words.now < 65536 }
-    requires whole { AreOfImage shared.now.objects.now }
-    requires card { IfSome shared.now.card (λ card. IsKeptFor words.now command card) }
-    requires known { shared.now.is_known ≡ true → IsKnown command shared.now.before.now }
+    requires short { length shared.now.words.now < 65536 }
+    requires whole { AreOfImage shared.now.baseline.objects.now }
+    requires card { IfSome shared.now.card (λ card. IsKeptFor shared.now.words.now shared.now.command card) }
+    requires known { shared.now.baseline.is_known ≡ true
+        → IsKnown shared.now.command shared.now.baseline.before.now }
     requires first { last.old ≡ None }
     requires none { cuts.old.items ≡ [] }
-    ensures { MatchResult result
-        (λ _. AreCuts words.now command.entry shared.now.spared.now shared.now.lenient.now shared.now.objects.now
-        shared.now.before.now shared.now.after.now 0 cuts.new.items
-        × IsUncutAt words.now command.entry (length cuts.new.items))
-        (λ fault. IsUncutFor words.now command.entry 1 fault) }
+    ensures cut { MatchResult result
+        (λ _. AreCuts shared.now.words.now shared.now.command shared.now.baseline share.first share.step cuts.new.items
+        × IsUncutAt shared.now.words.now shared.now.command (share.first + share.step * length cuts.new.items))
+        (λ fault. IsUncutFor shared.now.words.now shared.now.command share.step fault) }
+    ensures below { IfOk result (λ _. share.first + share.step * length cuts.new.items < 65536) }
 {
-    for number in 0..MOST {
+    let mut number = share.first;
+    for _place in 0..MOST {
         progress.tell_cut(number);
-        let Some(cut) = next_cut(alloc, words, command, number, shared, last)? else {
+        let Some(cut) = next_cut(alloc, number, shared, last)? else {
             return Ok(());
         };
         push_cut(cuts, cut)?;
+        let Some(next) = number.checked_add(share.step) else {
+            return Err(TearFault::TooManyCuts);
+        };
+        number = next;
     }
     Err(TearFault::TooManyCuts)
 }
 
-/// What is reported of a cut of the command after this many writes; none where it is not cut. What was reported last may be reported
-/// again.
-pub(crate) fn next_cut(
+// What is reported of a cut of the command after this many writes; none where it is not cut. What was reported last may be reported
+// again.
+fn next_cut(
     alloc: Global,
-    words: &[u16],
-    command: Command,
     number: u16,
     shared: &Shared<'_>,
     last: &mut Option<LastCut>,
 ) -> Result<Option<Cut>, TearFault>
-    requires short { length words.now < 65536 }
-    requires whole { AreOfImage shared.now.objects.now }
-    requires card { IfSome shared.now.card (λ card. IsKeptFor words.now command card) }
-    requires known { shared.now.is_known ≡ true → IsKnown command shared.now.before.now }
-    requires last { IfSome last.old (λ reported. IsLastCut command shared.now reported) }
-    ensures last { IfSome last.new (λ reported. IsLastCut command.entry shared.now reported) }
-    ensures cut { MatchResult result (λ cut. MatchOption cut (IsUncutAt words.now command.entry number)
-        (λ cut. IsReportedAt words.now command.entry shared.now number cut))
-        (λ fault. (step : ℕ) → IsUncutFor words.now command.entry step fault) }
+    requires short { length shared.now.words.now < 65536 }
+    requires whole { AreOfImage shared.now.baseline.objects.now }
+    requires card { IfSome shared.now.card (λ card. IsKeptFor shared.now.words.now shared.now.command card) }
+    requires known { shared.now.baseline.is_known ≡ true
+        → IsKnown shared.now.command shared.now.baseline.before.now }
+    requires last { IfSome last.old (λ reported. IsLastCut shared.now reported) }
+    ensures last { IfSome last.new (λ reported. IsLastCut shared.now reported) }
+    ensures cut { MatchResult result
+        (λ cut. MatchOption cut (IsUncutAt shared.now.words.now shared.now.command number)
+        (λ cut. IsReportedAt shared.now number cut))
+        (λ fault. (step : ℕ) → IsUncutFor shared.now.words.now shared.now.command step fault) }
 {
     match cut_of_card(alloc, number, shared) {
         Some(KeptCut::Uncut) => Ok(None),
-        Some(KeptCut::Left(found)) => match reported_cut(alloc, command, shared, found, last) {
+        Some(KeptCut::Left(found)) => match reported_cut(alloc, shared, found, last) {
             Ok(cut) => Ok(Some(cut)),
             Err(fault) => Err(fault),
         },
-        None => cut_anew(alloc, words, command, number, shared),
+        None => cut_anew(alloc, number, shared),
     }
 }
 
@@ -182,48 +206,42 @@ fn cut_of_card(alloc: Global, number: u16, shared: &Shared<'_>) -> Option<KeptCu
 }
 
 // What is reported of a cut for which the script is carried out from its first line on; none where the command is not cut.
-fn cut_anew(
-    alloc: Global,
-    words: &[u16],
-    command: Command,
-    number: u16,
-    shared: &Shared<'_>,
-) -> Result<Option<Cut>, TearFault>
-    requires short { length words.now < 65536 }
-    requires whole { AreOfImage shared.now.objects.now }
-    ensures { MatchResult result (λ cut. MatchOption cut (IsUncutAt words.now command.entry number)
-        (λ cut. IsReportedAt words.now command.entry shared.now number cut))
-        (λ fault. (step : ℕ) → IsUncutFor words.now command.entry step fault) }
+fn cut_anew(alloc: Global, number: u16, shared: &Shared<'_>) -> Result<Option<Cut>, TearFault>
+    requires short { length shared.now.words.now < 65536 }
+    requires whole { AreOfImage shared.now.baseline.objects.now }
+    ensures { MatchResult result
+        (λ cut. MatchOption cut (IsUncutAt shared.now.words.now shared.now.command number)
+        (λ cut. IsReportedAt shared.now number cut))
+        (λ fault. (step : ℕ) → IsUncutFor shared.now.words.now shared.now.command step fault) }
 {
-    let Some((left, recoveries)) = cut_at(alloc, words, command, number)? else {
+    let Some((left, recoveries)) = cut_at(alloc, shared.words, shared.command, number)? else {
         return Ok(None);
     };
-    let cut = told_cut(alloc, shared, &left, recoveries)?;
+    let cut = told_cut(alloc, &shared.baseline, &left, recoveries)?;
     Ok(Some(cut))
 }
 
 /// What is reported of a cut that left this, and after which recoveries were like this.
 pub(crate) fn told_cut(
     alloc: Global,
-    shared: &Shared<'_>,
+    baseline: &Baseline<'_>,
     left: &Left,
     recoveries: Recoveries,
 ) -> Result<Cut, AllocError>
-    requires { AreOfImage shared.now.objects.now }
-    ensures told { IfOk result (λ cut. IsToldAs shared.now.spared.now shared.now.lenient.now
-        shared.now.objects.now shared.now.before.now shared.now.after.now left.now cut) }
+    requires { AreOfImage baseline.now.objects.now }
+    ensures told { IfOk result (λ cut. IsToldAs baseline.now left.now cut) }
     ensures recoveries { IfOk result (λ cut. cut.recoveries ≡ recoveries) }
 {
-    let answers = told(alloc, shared.objects, left)?;
+    let answers = told(alloc, baseline.objects, left)?;
     let standing = standing_of(
-        shared.spared,
-        shared.lenient,
-        shared.before,
-        shared.after,
+        baseline.spared,
+        baseline.lenient,
+        baseline.before,
+        baseline.after,
         &left.words,
         &left.answers,
     );
-    let lost = lost_of(standing, shared.before, &left.words);
+    let lost = lost_of(standing, baseline.before, &left.words);
     Ok(Cut {
         standing,
         lost,
@@ -232,7 +250,7 @@ pub(crate) fn told_cut(
     })
 }
 
-pub(crate) fn push_cut(cuts: &mut Vec<Cut>, cut: Cut) -> Result<(), TearFault>
+fn push_cut(cuts: &mut Vec<Cut>, cut: Cut) -> Result<(), TearFault>
     ensures { MatchResult result (λ _. cuts.new.items ≡ cuts.old.items ++ cut ∷ [])
         (λ fault. fault ≡ NoMemory) }
 {

@@ -1,12 +1,11 @@
 //! The commands of a script, each cut after each number of its writes.
-ghost use Rattle.std.specs.Prelude.{◌≡◌, ◌<◌, ◌++◌, ◌∷◌, ℕ, List, [], length, map, option_map, IfOk, MatchResult};
-ghost use Rattle.std.specs.Borrow.{Bor};
+ghost use Rattle.std.specs.Prelude.{◌≡◌, ◌<◌, ◌++◌, ◌∷◌, [], length, map, IfOk, MatchResult};
 ghost use Rattle.jcard_tear.specs.declared.tearing.TearFault.TheVariants.{NoMemory};
 ghost use Rattle.jcard_tear.specs.Faults.{IsLineUncut, IsOneUncut};
 ghost use Rattle.jcard_tear.specs.ScriptLines.{command_text, is_blank, line_of};
-ghost use Rattle.jcard_tear.specs.Sweeps.{AreSwept, IsLineOutcome, IsLineSwept, IsLineTold};
+ghost use Rattle.jcard_tear.specs.Sweeps.{AreSwept, IsLineOutcome, IsLineSwept, IsLineTold, given_of};
 
-use crate::cuts::{Behind, Command};
+use crate::cuts::{Command, FollowUp};
 use crate::probes::probe_for;
 use crate::progress::Progress;
 use crate::script_lines::ScriptLine;
@@ -15,24 +14,27 @@ use jcard_outcomes::each::{LineOutcome, LineSweep};
 use jcard_outcomes::report::Sweep;
 use std::alloc::{AllocError, Global};
 
-/// Cuts the command in a line, with these lines of a probe after each cut; or, where none are given, with the SELECT of the applet
-/// that is selected before it, and what else is to come after a cut.
+/// Cuts the command in a line after each number of its writes. After each cut comes what is to follow it.
 pub fn tear_line<P: Progress>(
     alloc: Global,
     words: &[u16],
     line: ScriptLine,
-    probe: Option<&[u8]>,
-    behind: Behind,
+    follow_up: FollowUp,
     progress: &mut P,
 ) -> Result<Sweep, TearFault>
     requires { length words.now < 65536 }
-    ensures { MatchResult result (λ sweep. IsLineSwept words.now
-        (option_map (λ (text : Bor (List ℕ)). text.now) probe.entry) behind
-        (line_of line.entry) sweep) (λ fault. IsLineUncut words.now
-        (option_map (λ (text : Bor (List ℕ)). text.now) probe.entry) behind (line_of line.entry) 1
-        fault) }
+    ensures { MatchResult result
+        (IsLineSwept words.now (given_of follow_up.entry) follow_up.entry.behind (line_of line.entry))
+        (IsLineUncut words.now (given_of follow_up.entry) follow_up.entry.behind (line_of line.entry) 1) }
 {
-    let probe = probe_for(alloc, words, probe, line.before, behind.instructions)?;
+    let behind = follow_up.behind;
+    let probe = probe_for(
+        alloc,
+        words,
+        follow_up.probe,
+        line.before,
+        behind.instructions,
+    )?;
     let command = Command {
         before: line.before,
         line: line.line,
@@ -47,20 +49,17 @@ pub fn tear_each<P: Progress>(
     alloc: Global,
     words: &[u16],
     lines: &[ScriptLine],
-    probe: Option<&[u8]>,
-    behind: Behind,
+    follow_up: FollowUp,
     progress: &mut P,
 ) -> Result<Vec<LineSweep>, TearFault>
     requires { length words.now < 65536 }
     ensures { MatchResult result (λ sweeps. AreSwept words.now
-        (option_map (λ (text : Bor (List ℕ)). text.now) probe.entry) behind
-        (map line_of lines.now) sweeps.items) (λ fault. IsOneUncut words.now
-        (option_map (λ (text : Bor (List ℕ)). text.now) probe.entry) behind (map line_of lines.now)
-        fault) }
+        (given_of follow_up.entry) follow_up.entry.behind (map line_of lines.now) sweeps.items)
+        (IsOneUncut words.now (given_of follow_up.entry) follow_up.entry.behind (map line_of lines.now)) }
 {
     let mut sweeps = Vec::new(alloc);
     for line in lines {
-        let sweep = line_told(alloc, words, *line, probe, behind, progress)?;
+        let sweep = line_told(alloc, words, *line, follow_up, progress)?;
         push_sweep(&mut sweeps, sweep)?;
     }
     Ok(sweeps)
@@ -71,18 +70,15 @@ fn line_told<P: Progress>(
     alloc: Global,
     words: &[u16],
     line: ScriptLine,
-    probe: Option<&[u8]>,
-    behind: Behind,
+    follow_up: FollowUp,
     progress: &mut P,
 ) -> Result<LineSweep, TearFault>
     requires { length words.now < 65536 }
-    ensures { MatchResult result (λ sweep. IsLineTold words.now
-        (option_map (λ (text : Bor (List ℕ)). text.now) probe.entry) behind
-        (line_of line.entry) sweep) (λ fault. IsLineUncut words.now
-        (option_map (λ (text : Bor (List ℕ)). text.now) probe.entry) behind (line_of line.entry) 1
-        fault) }
+    ensures { MatchResult result
+        (IsLineTold words.now (given_of follow_up.entry) follow_up.entry.behind (line_of line.entry))
+        (IsLineUncut words.now (given_of follow_up.entry) follow_up.entry.behind (line_of line.entry) 1) }
 {
-    let outcome = line_outcome(alloc, words, line, probe, behind, progress)?;
+    let outcome = line_outcome(alloc, words, line, follow_up, progress)?;
     let command = command_text(alloc, line.line)?;
     let number = line.number;
     Ok(LineSweep {
@@ -97,18 +93,15 @@ fn line_outcome<P: Progress>(
     alloc: Global,
     words: &[u16],
     line: ScriptLine,
-    probe: Option<&[u8]>,
-    behind: Behind,
+    follow_up: FollowUp,
     progress: &mut P,
 ) -> Result<LineOutcome, TearFault>
     requires { length words.now < 65536 }
-    ensures { MatchResult result (λ outcome. IsLineOutcome words.now
-        (option_map (λ (text : Bor (List ℕ)). text.now) probe.entry) behind
-        (line_of line.entry) outcome) (λ fault. IsLineUncut words.now
-        (option_map (λ (text : Bor (List ℕ)). text.now) probe.entry) behind (line_of line.entry) 1
-        fault) }
+    ensures { MatchResult result
+        (IsLineOutcome words.now (given_of follow_up.entry) follow_up.entry.behind (line_of line.entry))
+        (IsLineUncut words.now (given_of follow_up.entry) follow_up.entry.behind (line_of line.entry) 1) }
 {
-    match tear_line(alloc, words, line, probe, behind, progress) {
+    match tear_line(alloc, words, line, follow_up, progress) {
         Ok(sweep) => Ok(LineOutcome::Swept(sweep)),
         Err(TearFault::Down) => Ok(LineOutcome::Down),
         Err(fault) => Err(fault),

@@ -8,7 +8,7 @@ ghost use Rattle.jcard_tear.specs.Runs.{IsRecovered};
 ghost use Rattle.jcard_tear.specs.Told.{AreOfImage};
 
 use crate::alike::{are_alike, hold_one_heap};
-use crate::cuts::{Command, Shared, told_cut};
+use crate::cuts::{Baseline, Shared, told_cut};
 use crate::runs::{answers_over, run_copy};
 use crate::tearing::{TearFault, probe_fault};
 use jcard_outcomes::recoveries::Recoveries;
@@ -25,21 +25,21 @@ pub(crate) struct LastCut {
 /// What is reported of a cut after which a recovery left these words: the same as of the cut before it, if they hold the same heap.
 pub(crate) fn reported_cut(
     alloc: Global,
-    command: Command,
     shared: &Shared<'_>,
     found: Vec<u16>,
     last: &mut Option<LastCut>,
 ) -> Result<Cut, TearFault>
-    requires whole { AreOfImage shared.now.objects.now }
+    requires whole { AreOfImage shared.now.baseline.objects.now }
     requires short { vec_len found < 65536 }
     requires recovered { IsRecovered found.items }
-    requires known { shared.now.is_known ≡ true → IsKnown command shared.now.before.now }
-    requires last { IfSome last.old (λ reported. IsLastCut command shared.now reported) }
-    ensures last { IfSome last.new (λ reported. IsLastCut command.entry shared.now reported) }
-    ensures cut { MatchResult result (λ cut. IsReportedAlike command.entry shared.now (plain_of found.items) cut)
-        (λ fault. IsProbeFault command.entry.behind.instructions command.entry.probe.now fault) }
+    requires known { shared.now.baseline.is_known ≡ true
+        → IsKnown shared.now.command shared.now.baseline.before.now }
+    requires last { IfSome last.old (λ reported. IsLastCut shared.now reported) }
+    ensures last { IfSome last.new (λ reported. IsLastCut shared.now reported) }
+    ensures cut { MatchResult result (λ cut. IsReportedAlike shared.now (plain_of found.items) cut)
+        (λ fault. IsProbeFault shared.now.command.behind.instructions shared.now.command.probe.now fault) }
 {
-    let reported = next_reported(alloc, command, shared, found, last.take())?;
+    let reported = next_reported(alloc, shared, found, last.take())?;
     let cut = copy_of_cut(alloc, &reported.cut)?;
     *last = Some(reported);
     Ok(cut)
@@ -49,125 +49,120 @@ pub(crate) fn reported_cut(
 // word is another, the whole report is the same.
 fn next_reported(
     alloc: Global,
-    command: Command,
     shared: &Shared<'_>,
     found: Vec<u16>,
     last: Option<LastCut>,
 ) -> Result<LastCut, TearFault>
-    requires whole { AreOfImage shared.now.objects.now }
+    requires whole { AreOfImage shared.now.baseline.objects.now }
     requires short { vec_len found < 65536 }
     requires recovered { IsRecovered found.items }
-    requires known { shared.now.is_known ≡ true → IsKnown command shared.now.before.now }
-    requires last { IfSome last (λ reported. IsLastCut command shared.now reported) }
-    ensures { MatchResult result (λ reported. IsLastCut command.entry shared.now reported
+    requires known { shared.now.baseline.is_known ≡ true
+        → IsKnown shared.now.command shared.now.baseline.before.now }
+    requires last { IfSome last (λ reported. IsLastCut shared.now reported) }
+    ensures { MatchResult result (λ reported. IsLastCut shared.now reported
         × (plain_of reported.left.words.items ≡ plain_of found.items))
-        (λ fault. IsProbeFault command.entry.behind.instructions command.entry.probe.now fault) }
+        (λ fault. IsProbeFault shared.now.command.behind.instructions shared.now.command.probe.now fault) }
 {
     let Some(reported) = last else {
-        return first_reported(alloc, command, shared, found);
+        return first_reported(alloc, shared, found);
     };
-    if shared.objects.is_some() && are_alike(&reported.left.words, &found) {
+    if shared.baseline.objects.is_some() && are_alike(&reported.left.words, &found) {
         return Ok(reported);
     }
     if hold_one_heap(&reported.left.words, &found) {
         let LastCut { left, cut: _ } = reported;
-        return answered_again(alloc, command, shared, found, left);
+        return answered_again(alloc, shared, found, left);
     }
-    first_reported(alloc, command, shared, found)
+    first_reported(alloc, shared, found)
 }
 
 // What is left, and what is reported of it, where it holds the heap of these words, which a recovery leaves as they are, so that their answers are
 // its own.
 fn answered_again(
     alloc: Global,
-    command: Command,
     shared: &Shared<'_>,
     found: Vec<u16>,
     last: Left,
 ) -> Result<LastCut, TearFault>
-    requires whole { AreOfImage shared.now.objects.now }
+    requires whole { AreOfImage shared.now.baseline.objects.now }
     requires recovered { IsRecovered found.items }
-    requires last { IsKnown command last }
+    requires last { IsKnown shared.now.command last }
     requires one { HoldOneHeap last.words.items found.items }
-    ensures { MatchResult result (λ reported. IsLastCut command.entry shared.now reported
+    ensures { MatchResult result (λ reported. IsLastCut shared.now reported
         × (plain_of reported.left.words.items ≡ plain_of found.items))
-        (λ fault. IsProbeFault command.entry.behind.instructions command.entry.probe.now fault) }
+        (λ fault. IsProbeFault shared.now.command.behind.instructions shared.now.command.probe.now fault) }
 {
     let left = Left {
         words: found,
         answers: last.answers,
     };
-    let reported = reported_of(alloc, shared, left)?;
+    let reported = reported_of(alloc, &shared.baseline, left)?;
     Ok(reported)
 }
 
 // What is left, and what is reported of it, where that is not as of the cut before.
-fn first_reported(
-    alloc: Global,
-    command: Command,
-    shared: &Shared<'_>,
-    found: Vec<u16>,
-) -> Result<LastCut, TearFault>
-    requires whole { AreOfImage shared.now.objects.now }
+fn first_reported(alloc: Global, shared: &Shared<'_>, found: Vec<u16>) -> Result<LastCut, TearFault>
+    requires whole { AreOfImage shared.now.baseline.objects.now }
     requires short { vec_len found < 65536 }
     requires recovered { IsRecovered found.items }
-    requires known { shared.now.is_known ≡ true → IsKnown command shared.now.before.now }
-    ensures { MatchResult result (λ reported. IsLastCut command.entry shared.now reported
+    requires known { shared.now.baseline.is_known ≡ true
+        → IsKnown shared.now.command shared.now.baseline.before.now }
+    ensures { MatchResult result (λ reported. IsLastCut shared.now reported
         × (plain_of reported.left.words.items ≡ plain_of found.items))
-        (λ fault. IsProbeFault command.entry.behind.instructions command.entry.probe.now fault) }
+        (λ fault. IsProbeFault shared.now.command.behind.instructions shared.now.command.probe.now fault) }
 {
-    let left = first_left(alloc, command, shared, found)?;
-    let reported = reported_of(alloc, shared, left)?;
+    let left = first_left(alloc, shared, found)?;
+    let reported = reported_of(alloc, &shared.baseline, left)?;
     Ok(reported)
 }
 
 // What is left, and what is reported of it.
-fn reported_of(alloc: Global, shared: &Shared<'_>, left: Left) -> Result<LastCut, AllocError>
-    requires { AreOfImage shared.now.objects.now }
+fn reported_of(alloc: Global, baseline: &Baseline<'_>, left: Left) -> Result<LastCut, AllocError>
+    requires { AreOfImage baseline.now.objects.now }
     ensures left { IfOk result (λ reported. reported.left ≡ left) }
-    ensures told { IfOk result (λ reported. IsToldAs shared.now.spared.now shared.now.lenient.now
-        shared.now.objects.now shared.now.before.now shared.now.after.now left reported.cut) }
+    ensures told { IfOk result (λ reported. IsToldAs baseline.now left reported.cut) }
     ensures recoveries { IfOk result (λ reported. reported.cut.recoveries ≡ none_cut) }
 {
     let none_cut = Recoveries {
         ways: 1,
         difference: None,
     };
-    let cut = told_cut(alloc, shared, &left, none_cut)?;
+    let cut = told_cut(alloc, baseline, &left, none_cut)?;
     Ok(LastCut { left, cut })
 }
 
 // What is left, and its answers: those of before the command, if they are known and it holds the same heap; else the probe is asked.
-fn first_left(
-    alloc: Global,
-    command: Command,
-    shared: &Shared<'_>,
-    found: Vec<u16>,
-) -> Result<Left, TearFault>
+fn first_left(alloc: Global, shared: &Shared<'_>, found: Vec<u16>) -> Result<Left, TearFault>
     requires short { vec_len found < 65536 }
     requires recovered { IsRecovered found.items }
-    requires known { shared.now.is_known ≡ true → IsKnown command shared.now.before.now }
-    ensures { MatchResult result (λ left. IsKnown command.entry left
+    requires known { shared.now.baseline.is_known ≡ true
+        → IsKnown shared.now.command shared.now.baseline.before.now }
+    ensures { MatchResult result (λ left. IsKnown shared.now.command left
         × (left.words.items ≡ found.items))
-        (λ fault. IsProbeFault command.entry.behind.instructions command.entry.probe.now fault) }
+        (λ fault. IsProbeFault shared.now.command.behind.instructions shared.now.command.probe.now fault) }
 {
-    if is_as_before(shared, &found) {
-        let answers = Vec::from_slice(alloc, &shared.before.answers)?;
+    if is_as_before(&shared.baseline, &found) {
+        let answers = Vec::from_slice(alloc, &shared.baseline.before.answers)?;
         return Ok(Left {
             words: found,
             answers,
         });
     }
-    answered(alloc, found, command.probe, command.behind.instructions)
+    answered(
+        alloc,
+        found,
+        shared.command.probe,
+        shared.command.behind.instructions,
+    )
 }
 
 // Whether these words hold the heap from before the command, whose answers are known.
-fn is_as_before(shared: &Shared<'_>, found: &[u16]) -> bool
+fn is_as_before(baseline: &Baseline<'_>, found: &[u16]) -> bool
     requires { length found.now < 65536 }
-    ensures known { IsTrue result → shared.now.is_known ≡ true }
-    ensures one { IsTrue result → HoldOneHeap shared.now.before.now.words.items found.now }
+    ensures known { IsTrue result → baseline.now.is_known ≡ true }
+    ensures one { IsTrue result → HoldOneHeap baseline.now.before.now.words.items found.now }
 {
-    shared.is_known && hold_one_heap(&shared.before.words, found)
+    baseline.is_known && hold_one_heap(&baseline.before.words, found)
 }
 
 // What a card that powers up over these words, which a recovery leaves as they are, answers to the lines of a probe.

@@ -1,13 +1,13 @@
 //! A command that is cut after each number of its writes, beside what was before it and what it leaves.
-ghost use Rattle.std.specs.Prelude.{◌≡◌, ◌<◌, ◌++◌, ℕ, length, vec_len, IfOk, IfSome, IsTrue, MatchResult};
+ghost use Rattle.std.specs.Prelude.{◌≡◌, ◌<◌, ◌+◌, ◌*◌, ◌++◌, ℕ, length, vec_len, IfOk, IfSome, IsTrue, MatchResult};
 ghost use Rattle.jcard_tear.specs.declared.tearing.TearFault.TheVariants.{NoMemory};
 ghost use Rattle.jcard_tear.specs.Kept.{HasAnswered, IsKnown};
-ghost use Rattle.jcard_tear.specs.Sweeps.{IsBegun, IsDone, IsLastLine, IsSwept};
+ghost use Rattle.jcard_tear.specs.Sweeps.{IsBegun, IsDone, IsLastLine, IsSwept, IsSweptBy};
 ghost use Rattle.jcard_tear.specs.Runs.{IsLeft, IsRecovered};
 ghost use Rattle.jcard_tear.specs.Faults.{IsImageFault, IsProbeFault, IsUncutFor, told_probe_fault, told_run_fault};
 ghost use Rattle.jc_objects.specs.Pins.{AreTriesIn};
 
-use crate::cuts::{Command, cut_all};
+use crate::cuts::{Baseline, Command, cut_all};
 use crate::progress::Progress;
 use crate::recoveries::are_equal;
 use crate::runs::{RunFault, answers_over, left, recovered, run_copy, run_told};
@@ -15,6 +15,7 @@ use crate::told::{left_told, objects_asked};
 use jc_card::power_up::PowerFault;
 use jc_objects::pins::try_words;
 use jc_packages::fault::ReadFault;
+use jcard_outcomes::part::Share;
 use jcard_outcomes::report::Sweep;
 use jcard_outcomes::standing::Left;
 use jcard_script::script::ScriptFault;
@@ -50,8 +51,25 @@ pub fn tear<P: Progress>(
     progress: &mut P,
 ) -> Result<Sweep, TearFault>
     requires { length words.now < 65536 }
-    ensures { MatchResult result (λ sweep. IsSwept words.now command.entry sweep)
-        (λ fault. IsUncutFor words.now command.entry 1 fault) }
+    ensures { MatchResult result (IsSwept words.now command.entry)
+        (IsUncutFor words.now command.entry 1) }
+{
+    let whole = Share { first: 0, step: 1 };
+    tear_share(alloc, words, command, whole, progress)
+}
+
+/// The same with the cuts in a part of them alone.
+pub(crate) fn tear_share<P: Progress>(
+    alloc: Global,
+    words: &[u16],
+    command: Command,
+    share: Share,
+    progress: &mut P,
+) -> Result<Sweep, TearFault>
+    requires { length words.now < 65536 }
+    ensures swept { MatchResult result (IsSweptBy words.now command.entry share.first share.step)
+        (IsUncutFor words.now command.entry share.step) }
+    ensures below { IfOk result (λ sweep. share.first + share.step * length sweep.cuts.items < 65536) }
 {
     let (answer, after, by_calls) = done(alloc, words, command, progress)?;
     let (before, is_known) = begun(alloc, words, command)?;
@@ -59,9 +77,15 @@ pub fn tear<P: Progress>(
     let spared = tries_in(alloc, &after)?;
     let lenient = joined(alloc, &spared, &by_calls)?;
     let objects = objects_asked(alloc, command.behind.objects, &before)?;
-    let cuts = cut_all(
-        alloc, words, command, &spared, &lenient, &objects, &before, is_known, &after, progress,
-    )?;
+    let baseline = Baseline {
+        before: &before,
+        is_known,
+        after: &after,
+        spared: &spared,
+        lenient: &lenient,
+        objects: &objects,
+    };
+    let cuts = cut_all(alloc, words, command, baseline, share, progress)?;
     let after = left_told(alloc, &objects, after)?;
     Ok(Sweep {
         before,
@@ -73,7 +97,7 @@ pub fn tear<P: Progress>(
 }
 
 // These words, and those.
-pub(crate) fn joined(alloc: Global, these: &[u16], those: &[u16]) -> Result<Vec<u16>, AllocError>
+fn joined(alloc: Global, these: &[u16], those: &[u16]) -> Result<Vec<u16>, AllocError>
     ensures { IfOk result (λ joined. joined.items ≡ these.now ++ those.now) }
 {
     let mut joined = Vec::from_slice(alloc, these)?;
@@ -82,7 +106,7 @@ pub(crate) fn joined(alloc: Global, these: &[u16], those: &[u16]) -> Result<Vec<
 }
 
 // The answer of a command that is not cut, what it leaves, and which words its non-atomic calls write. What makes its writes is reported.
-pub(crate) fn done<P: Progress>(
+fn done<P: Progress>(
     alloc: Global,
     words: &[u16],
     command: Command,
@@ -113,11 +137,7 @@ pub(crate) fn done<P: Progress>(
 
 // What is left by the lines before a command; and whether a reset then finds the words as they were left, so that the answers are known of a
 // card that powers up over them.
-pub(crate) fn begun(
-    alloc: Global,
-    words: &[u16],
-    command: Command,
-) -> Result<(Left, bool), TearFault>
+fn begun(alloc: Global, words: &[u16], command: Command) -> Result<(Left, bool), TearFault>
     requires { length words.now < 65536 }
     ensures { MatchResult result (λ r. IsBegun words.now command.entry r.0
         × (IsTrue r.1 → IsKnown command.entry r.0))
@@ -198,7 +218,7 @@ pub(crate) fn probe_fault(fault: RunFault) -> TearFault
 }
 
 // The words with the tries of the OwnerPINs in what is left.
-pub(crate) fn tries_in(alloc: Global, left: &Left) -> Result<Vec<u16>, TearFault>
+fn tries_in(alloc: Global, left: &Left) -> Result<Vec<u16>, TearFault>
     ensures { MatchResult result (λ tries. AreTriesIn left.now.words.items tries.items)
         (λ fault. IsImageFault fault) }
 {

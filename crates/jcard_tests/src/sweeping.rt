@@ -12,7 +12,7 @@ use jcard_attack::report::accepted;
 use jcard_attack::sweeping::{Sought, attack};
 use jcard_outcomes::models::Models;
 use jcard_outcomes::verdict::broken;
-use jcard_tear::cuts::Behind;
+use jcard_tear::cuts::{Behind, FollowUp};
 use jcard_tear::each::tear_line;
 use jcard_tear::progress::Nobody;
 use jcard_tear::script_lines::ScriptLine;
@@ -71,7 +71,11 @@ fn told_of_line(
         (option_map (λ told. told.items) found)) }
 {
     let behind = Behind::nothing_more(budget);
-    match tear_line(alloc, words, command, None, behind, &mut Nobody) {
+    let follow_up = FollowUp {
+        probe: None,
+        behind,
+    };
+    match tear_line(alloc, words, command, follow_up, &mut Nobody) {
         Ok(sweep) => broken(alloc, &sweep.cuts),
         Err(TearFault::NoMemory) => Err(AllocError),
         Err(_) => Ok(Some(Vec::from_slice(alloc, b"not cut")?)),

@@ -1,25 +1,31 @@
-use Rattle.std.proofs.Common.{◌∙◌, ℕ, ap, inl, inr, length, refl, subst, sym}
+use Rattle.std.proofs.Common.{◌∙◌, List, ap, inl, inr, refl, subst, sym}
 use Rattle.std.specs.Prelude.{codes}
 use Rattle.std.proofs.lemmas.Slice.Eq.{bytes_eq-Decides}
+use Rattle.jc_card.specs.declared.planned_fault.PlannedFault.{PlannedFault}
 use Rattle.jcard_tear.proofs.Uncut.{passed_on}
 use Rattle.jcard_attack.specs.Aftermaths.{IsUnfinished}
+use Rattle.jcard_attack.specs.Models.{faults_tried, kinds_tried}
 use Rattle.jcard_attack.specs.Objects.{IsObjectsFault}
-use Rattle.jcard_attack.specs.Sweeps.{AreStruckBy, IsUnswept, faults_of}
-use Rattle.jcard_attack.proofs.Unswept.{memory_unswept}
+use Rattle.jcard_attack.specs.Shares.{asked_in}
+use Rattle.jcard_attack.specs.Sweeps.{AreStruckBy, IsUnswept}
+use Rattle.jcard_attack.proofs.Unswept.{trace_unswept}
 use Rattle.jcard_attack.proofs.sweeping.attack.Goals as goal
 
 pub returns : goal.returns
 returns c =
     let sought = c.args.sought in
+    let tried = c.in_ok-faults.ensures
+    ∙ ap (faults_tried (kinds_tried sought.models sought.within)) (c.len.ensures ∙ c.in_ok-instructions.instructions.ok.0) in
     record {
-      undisturbed = c.in_ok-undisturbed.undisturbed;
-      objects = c.in_ok-objects.objects;
+      baseline = _;
+      accepted = refl;
+      before = refl;
       begun = c.in_ok-before.ensures;
       comes = c.in_ok-undisturbed.ensures;
       asked = c.in_ok-objects.ensures.asked;
       told = c.in_ok-undisturbed-2.ensures;
-      strikes = subst (λ (n : ℕ). AreStruckBy c.args.words.now c.args.attacked sought.accepted.now c.in_ok-objects.objects c.in_ok-before.before
-          c.in_ok-undisturbed.undisturbed (faults_of sought c.args.part n) c.in_ok-strikes.strikes.items) (c.len.ensures ∙ c.in_ok-instructions.instructions.ok.0) c.in_ok-strikes.ensures;
+      strikes = subst (λ (fs : List PlannedFault). AreStruckBy c.args.words.now c.args.attacked _ fs c.in_ok-strikes.strikes.items)
+          (c.asked_in.ensures ∙ ap (asked_in c.args.part) (c.deref-2.ensures.value ∙ tried)) c.in_ok-strikes.ensures;
     }
 
 pub returns-then-is_same : goal.returns-then-is_same
@@ -43,6 +49,10 @@ pub returns-in_err-instructions : goal.returns-in_err-instructions
 returns-in_err-instructions c = passed_on _ _ c.from_residual-in_err-instructions.result c.from_residual-in_err-instructions.ensures.1
     (λ fault e. subst (IsUnswept c.args.words.now c.args.attacked) (sym e) c.in_err-instructions.ensures)
 
+pub returns-in_err-faults : goal.returns-in_err-faults
+returns-in_err-faults c = passed_on _ _ c.from_residual-in_err-faults.result c.from_residual-in_err-faults.ensures.1
+    (λ fault e. subst (IsUnswept c.args.words.now c.args.attacked) (sym e) (trace_unswept c.args.words.now c.args.attacked _ c.in_err-faults.ensures))
+
 pub returns-in_err-strikes : goal.returns-in_err-strikes
 returns-in_err-strikes c = passed_on _ _ c.from_residual-in_err-strikes.result c.from_residual-in_err-strikes.ensures.1
-    (λ fault e. subst (IsUnswept c.args.words.now c.args.attacked) (sym e) c.in_err-strikes.ensures)
+    (λ fault e. inl (subst (IsUnfinished c.args.words.now c.args.attacked) (sym e) c.in_err-strikes.ensures))

@@ -1,5 +1,6 @@
-use Rattle.std.proofs.Common.{◌≡◌, ◌∙◌, inl, inr, List, [], ◌∷◌, Ok, Err, refl, ap, subst}
+use Rattle.std.proofs.Common.{◌≡◌, ◌∙◌, inl, inr, List, [], ◌∷◌, Ok, Err, refl, ap, subst, sym}
 use Rattle.jcard_script.proofs.Known.{appends_same}
+use Rattle.jc_words.specs.Count.{failures_after}
 use Rattle.jc_words.specs.Stores.{below_fuse, store_value}
 use Rattle.jcard_files.specs.FileDeeds.{FileDeed, ClosesImage, OpensImage, ReadsText, fresh_store, untouched}
 use Rattle.jcard_commands.specs.ScriptRun.{IsCarriedOut}
@@ -25,15 +26,17 @@ returns-in-Ok-open_text g c =
     let script = c.args.script.now in
     let words = g.D.Image.WordStore.words c.in-Ok.store in
     let unread = g.D.Text.Read.remaining in
-    let after = c.run_named-store.result.0 in
-    let ended = c.run_named-store.result.1 in
-    let left = unread c.run_named-store.new.script.inner in
+    let after = c.run_script_explained-store.result.0 in
+    let carried = c.run_script_explained-store.result.1 in
+    let ended = c.outcome_of.result in
+    let left = unread c.run_script_explained-store.new.reader.inner in
     let fresh : c.new-store.result ≡ fresh_store words = c.new-store.ensures
     ∙ fresh_under_fuse words _ _ _ c.in-Ok.ensures.up c.in-Ok.ensures.none_passed c.in-Ok.ensures.none_refused in
-    let done = c.run_named-store.ensures.0 in
+    let done = c.run_script_explained-store.ensures.script in
     let known = unread c.in-Ok-open_text.file in
-    let over = subst (λ f. IsCarriedOut c.args.budget image script (unread f) left c.new-store.result after ended done.0) c.new-reader.ensures.inner done.2 in
-    let carried = subst (λ s. IsCarriedOut c.args.budget image script known left s after ended done.0) fresh over in
+    let over = subst (λ f. IsCarriedOut c.args.budget image script (unread f) left c.new-store.result after ended done.1) c.new-reader.ensures.inner
+    (done.0, done.2, carried, done.3, done.5, done.6, c.outcome_of.ensures.outcome) in
+    let run = subst (λ s. IsCarriedOut c.args.budget image script known left s after ended done.1) fresh over in
     let I = g.D.Image.WordStore in
     let value = store_value I.words I.down I.passed I.refusals in
     let below : value c.new.result.store ≡ below_fuse after = ap value c.new.ensures ∙ c.into_store.ensures in
@@ -41,13 +44,13 @@ returns-in-Ok-open_text g c =
     let opens : List FileDeed = OpensImage image (Ok words) ∷ [] in
     let reads : List FileDeed = ReadsText script (Ok known) ∷ [] in (
       (
-        done.0,
-        OpensImage image (Ok words) ∷ ReadsText script (Ok known) ∷ ClosesImage image (below_fuse after) ∷ [],
         done.1,
-        inr (inr (words, known, left, after, c.in-Ok.ensures.size, carried, refl)),
+        OpensImage image (Ok words) ∷ ReadsText script (Ok known) ∷ ClosesImage image (below_fuse after) ∷ [],
+        done.4,
+        inr (inr (words, known, left, after, c.in-Ok.ensures.size, run, refl)),
         g.met.D.Disk.then _ _ _ opens _ c.in-Ok.ensures.does (g.met.D.Disk.then _ _ _ reads _ c.in-Ok-open_text.ensures.does closed),
       ),
-      c.run_named-store.ensures.1,
+      c.run_script_explained-store.ensures.writes ∙ ap (failures_after (g.W.TextOut.failures c.args.out.now)) (sym c.outcome_of.ensures.unwritten),
     )
 
 pub returns-in-Err-open_text : goal.returns-in-Err-open_text

@@ -2,7 +2,6 @@ use Rattle.std.proofs.Common.{[], ◌++◌, refl, inl, inr, subst}
 use Rattle.std.proofs.lemmas.Result.{err_from_is_err_and}
 use Rattle.jcard_script.proofs.Known.{appends_same}
 use Rattle.jcard_sweeps.specs.SweepsAsked.{sweep_asked_by}
-use Rattle.jcard_sweeps.specs.Attacking.{IsToldBy, IsUntoldBy, attack_asked_by}
 use Rattle.jcard_sweeps.specs.Targets.{IsNoTarget, IsTarget}
 use Rattle.jcard_sweeps.specs.Writings.{IsAttackTold}
 use Rattle.jcard_sweeps.proofs.Attackings.{asked_after}
@@ -42,13 +41,12 @@ returns-in-Ok g c =
     let found = subst (λ a. IsTarget a c.args.subject.commands.now target) c.sweep_of.ensures c.in_ok-target.ensures.found in
     let written = c.write_attack.ensures.0 in
     let report = subst (λ t. IsAttackTold t c.in-Ok.told.is_accepted c.write_attack.result written.0) c.deref.ensures.value written.2 in
-    let lines = asked_after c.lent.result _ c.unwrap_or-asked_after.result _ c.lent.ensures c.unwrap_or-asked_after.ensures refl in
-    let told = subst (λ probe. IsToldBy c.args.subject target probe (attack_asked_by c.args.asked) c.in-Ok.told) lines c.in-Ok.ensures in (
+    let lines = asked_after c.lent.result _ c.unwrap_or-asked_after.result _ c.lent.ensures c.unwrap_or-asked_after.ensures refl in (
       (
         written.0,
         read.0 ++ [],
         written.1,
-        inr (target, found, inr (_, read.0, [], read.2, refl, inr (c.in-Ok.told, told, (report, refl)))),
+        inr (target, found, inr (_, read.0, [], (refl, refl, _, read.2, lines), refl, inr (c.in-Ok.told, c.in-Ok.ensures, (report, refl)))),
         g.met.D.Disk.then _ _ _ read.0 [] read.1 (g.met.D.Disk.none _),
       ),
       c.write_attack.ensures.1,
@@ -60,13 +58,16 @@ returns g c =
     let target = c.in_ok-target.target in
     let found = subst (λ a. IsTarget a c.args.subject.commands.now target) c.sweep_of.ensures c.in_ok-target.ensures.found in
     let fault = c.attack_fault.result in
-    let lines = asked_after c.lent.result _ c.unwrap_or-asked_after.result _ c.lent.ensures c.unwrap_or-asked_after.ensures refl in
-    let untold = subst (λ probe. IsUntoldBy c.args.subject target probe (attack_asked_by c.args.asked) c.in-Err.cause) lines c.in-Err.ensures in (
+    let lines = asked_after c.lent.result _ c.unwrap_or-asked_after.result _ c.lent.ensures c.unwrap_or-asked_after.ensures refl in (
       (
         [],
         read.0 ++ [],
         appends_same _,
-        inr (target, found, inr (_, read.0, [], read.2, refl, inl (fault, refl, refl, refl, (c.in-Err.cause, untold, c.attack_fault.ensures.told)))),
+        inr (
+          target,
+          found,
+          inr (_, read.0, [], (refl, refl, _, read.2, lines), refl, inl (fault, refl, refl, refl, (c.in-Err.cause, c.in-Err.ensures, c.attack_fault.ensures.told))),
+        ),
         g.met.D.Disk.then _ _ _ read.0 [] read.1 (g.met.D.Disk.none _),
       ),
       unfailed _ fault c.attack_fault.ensures.unwritten,

@@ -4,7 +4,7 @@ use Rattle.jcard_attack.specs.Reports.{any_accepted}
 use Rattle.jcard_outcomes.specs.CommandShares.{share_text}
 use Rattle.jcard_outcomes.specs.Parts.{head_text}
 use Rattle.jcard_tear.specs.ScriptLines.{line_of}
-use Rattle.jcard_sweeps.specs.Attacking.{attack_asked_by, faults_name}
+use Rattle.jcard_sweeps.specs.Attacking.{faults_name}
 use Rattle.jcard_sweeps.proofs.Cuttings.{passed_on}
 use Rattle.jcard_sweeps.proofs.attacking.told_part.Goals as goal
 
@@ -14,11 +14,23 @@ returns-in_err-name g c =
     passed_on _ _ c.from_residual.result _ c.from_residual.ensures.1
     (c.attacked_in-attacked.result, (is.before, is.line, is.probe, is.instructions), inl tt)
 
+pub returns-in_err-lines : goal.returns-in_err-lines
+returns-in_err-lines g c =
+    let is = c.attacked_in-attacked.ensures in
+    passed_on _ _ c.from_residual-in_err-lines.result _ c.from_residual-in_err-lines.ensures.1
+    (c.attacked_in-attacked.result, (is.before, is.line, is.probe, is.instructions), inl tt)
+
+pub returns-in_err-text : goal.returns-in_err-text
+returns-in_err-text g c =
+    let is = c.attacked_in-attacked.ensures in
+    passed_on _ _ c.from_residual-in_err-text.result _ c.from_residual-in_err-text.ensures.1
+    (c.attacked_in-attacked.result, (is.before, is.line, is.probe, is.instructions), inl tt)
+
 pub returns : goal.returns
 returns g c =
     let is = c.attacked_in-attacked.ensures in
     let share = c.args.share in
-    let own = faults_name c.args.subject (line_of c.args.line) c.args.probe.now (attack_asked_by c.args.asked) share.step in
+    let own = faults_name c.args.attacking (line_of c.args.line) share.step in
     let name = c.deref-3.ensures.value ∙ c.in_ok-name.ensures in
     let lines = c.deref-4.ensures.value ∙ c.in_ok-lines.ensures in
     let accepted = c.is_any_accepted-is_whole.ensures ∙ ap any_accepted c.deref-2.ensures.value in (

@@ -15,5 +15,5 @@ returns g c = (
   c.are_all_or_nothing.result,
   c.in_ok-sweeps.ensures,
   rw c.deref-2.ensures.value at c.are_all_or_nothing.ensures,
-  (c.in_ok-text.ensures ∙ ap (verdicts_text c.args.cutting.behind.objects) c.deref.ensures.value, refl),
+  (c.in_ok-text.ensures ∙ ap (verdicts_text c.args.cutting.follow_up.behind.objects) c.deref.ensures.value, refl),
 )

@@ -8,13 +8,13 @@ use Rattle.jcard_tear.proofs.cuts.cut_anew.Goals as goal
 pub returns : goal.returns
 returns c =
     let is = rw c.in-Some.is at c.in_ok-left.ensures in
-    let cut = subst (λ (r : Recoveries). IsCutAt c.args.words.now c.args.command c.args.number c.in-Some.left r) (sym c.in_ok-cut.ensures.recoveries) is in
+    let cut = subst (λ (r : Recoveries). IsCutAt c.args.shared.now.words.now c.args.shared.now.command c.args.number c.in-Some.left r) (sym c.in_ok-cut.ensures.recoveries) is in
     (c.in-Some.left, cut, c.in_ok-cut.ensures.told)
 
 pub returns-in_err-left : goal.returns-in_err-left
 returns-in_err-left c = passed_on _ _ c.from_residual.result c.from_residual.ensures.1
-    (λ fault e step. subst (IsUncutFor c.args.words.now c.args.command step) (sym e) (c.in_err-left.ensures step))
+    (λ fault e step. subst (IsUncutFor c.args.shared.now.words.now c.args.shared.now.command step) (sym e) (c.in_err-left.ensures step))
 
 pub returns-in_err-cut : goal.returns-in_err-cut
 returns-in_err-cut c = passed_on _ _ c.from_residual-in_err-cut.result c.from_residual-in_err-cut.ensures.1
-    (λ fault e step. memory_uncut c.args.words.now c.args.command step fault e)
+    (λ fault e step. memory_uncut c.args.shared.now.words.now c.args.shared.now.command step fault e)

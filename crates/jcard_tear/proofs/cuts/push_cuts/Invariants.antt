@@ -1,12 +1,14 @@
-use Rattle.std.proofs.Common.{◌≡◌, length}
+use Rattle.std.proofs.Common.{◌≡◌, ◌+◌, ◌*◌, ◌<◌, length}
 use Rattle.std.specs.Prelude.{IfSome}
 use Rattle.jcard_tear.specs.Kept.{IsLastCut}
 use Rattle.jcard_tear.specs.Sweeps.{AreCuts}
 use Rattle.jcard_tear.proofs.cuts.push_cuts.Given as goal
 
-abbrev pub invariant-loop-number : goal.invariant-loop-number
-invariant-loop-number g l = record {
-  cuts : AreCuts l.words l.command l.shared.spared.now l.shared.lenient.now l.shared.objects.now l.shared.before.now l.shared.after.now 0 l.cuts.items;
-  count : length l.cuts.items ≡ l.number;
-  last : IfSome l.last (λ reported. IsLastCut l.command l.shared reported);
+abbrev pub invariant-loop-place : goal.invariant-loop-place
+invariant-loop-place g l = record {
+  cuts : AreCuts l.shared.words.now l.shared.command l.shared.baseline l.share.first l.share.step l.cuts.items;
+  count : l.number ≡ l.share.first + l.share.step * length l.cuts.items;
+  fits : l.number < 65536;
+  places : length l.cuts.items ≡ l._place;
+  last : IfSome l.last (λ reported. IsLastCut l.shared reported);
 }

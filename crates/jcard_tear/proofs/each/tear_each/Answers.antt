@@ -4,6 +4,7 @@ use Rattle.std.specs.Prelude.{option_map}
 use Rattle.jcard_tear.specs.Faults.{IsLineUncut}
 use Rattle.jcard_tear.specs.ScriptLines.{line_of}
 use Rattle.jcard_tear.specs.declared.script_lines.ScriptLine.{ScriptLine}
+use Rattle.jcard_tear.specs.Sweeps.{given_of}
 use Rattle.jcard_tear.proofs.EachSwept.{swept_next, swept_none}
 use Rattle.jcard_tear.proofs.Uncut.{passed_on}
 use Rattle.jcard_tear.proofs.each.tear_each.Goals as goal
@@ -14,7 +15,7 @@ loop-line-init g c = rw c.new-sweeps.ensures.items (swept_none _ _ _)
 pub loop-line-preserved : goal.loop-line-preserved
 loop-line-preserved g c =
     let none : ScriptLine = record { number = 0; before = record { ref_ptr = (0, 0); now = [] }; line = record { ref_ptr = (0, 0); now = [] } } in
-    swept_next c.args.words.now (option_map (λ text. text.now) c.args.probe) c.args.behind c.args.lines.now c.loop-line.line-index none
+    swept_next c.args.words.now (given_of c.args.follow_up) c.args.follow_up.behind c.args.lines.now c.loop-line.line-index none
     c.loop-line.sweeps.items c.push_sweep.new.sweeps.items c.in_ok-sweep.sweep c.loop-line-test.true c.loop-line.invariant c.in_ok-sweep.ensures
     c.in_ok-push_sweep.ensures
 
@@ -30,7 +31,7 @@ returns-in_err-sweep g c =
       line_of line,
       i,
       at,
-      subst (IsLineUncut c.args.words.now (option_map (λ text. text.now) c.args.probe) c.args.behind (line_of line) 1) (sym e)
+      subst (IsLineUncut c.args.words.now (given_of c.args.follow_up) c.args.follow_up.behind (line_of line) 1) (sym e)
           c.in_err-sweep.ensures,
     ))
 

@@ -1,19 +1,18 @@
 use Rattle.std.proofs.Common.{refl, inl, inr, subst, sym}
 use Rattle.std.proofs.lemmas.Result.{MatchResult-weaker}
-use Rattle.std.specs.Prelude.{option_map}
-use Rattle.jcard_tear.specs.Sweeps.{IsProbe}
+use Rattle.jcard_tear.specs.Sweeps.{IsProbe, given_of}
 use Rattle.jcard_tear.specs.declared.cuts.Command.{Command}
 use Rattle.jcard_tear.proofs.Uncut.{passed_on, run_unbegun}
 use Rattle.jcard_tear.proofs.each.tear_line.Goals as goal
 
 pub returns : goal.returns
 returns g c =
-    let command : Command = record { before = c.args.line.before; line = c.args.line.line; probe = c.deref.result; behind = c.args.behind } in
-    let probe = subst (IsProbe c.args.behind.instructions c.args.words.now (option_map (λ text. text.now) c.args.probe) c.args.line.before.now)
+    let command : Command = record { before = c.args.line.before; line = c.args.line.line; probe = c.deref.result; behind = c.args.follow_up.behind } in
+    let probe = subst (IsProbe c.args.follow_up.behind.instructions c.args.words.now (given_of c.args.follow_up) c.args.line.before.now)
     (sym c.deref.ensures.value) c.in_ok-probe.ensures in
     MatchResult-weaker c.tear.result c.tear.ensures (λ sweep is. (command, refl, refl, refl, probe, is))
     (λ fault is. inr (command, refl, refl, refl, probe, is))
 
 pub returns-in_err-probe : goal.returns-in_err-probe
 returns-in_err-probe g c = passed_on _ _ c.from_residual.result c.from_residual.ensures.1
-    (λ fault e. inl (run_unbegun c.args.behind.instructions c.args.words.now c.args.line.before.now c.in_err-probe.field-0.0 fault c.in_err-probe.ensures e))
+    (λ fault e. inl (run_unbegun c.args.follow_up.behind.instructions c.args.words.now c.args.line.before.now c.in_err-probe.field-0.0 fault c.in_err-probe.ensures e))

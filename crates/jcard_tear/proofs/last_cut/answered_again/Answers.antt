@@ -8,15 +8,15 @@ use Rattle.jcard_tear.proofs.last_cut.answered_again.Goals as goal
 
 pub returns : goal.returns
 returns c =
-    let command = c.args.command in
+    let command = c.args.shared.now.command in
     let left : Left = record { words = c.args.found; answers = c.args.last.answers } in
     let gives = gives_alike c.args.last.words.items c.args.found.items c.requires.one c.requires.last.0 c.requires.recovered command.behind.instructions
     command.probe.now c.args.last.answers.items c.requires.last.1 in
     let told = c.in_ok-reported.ensures in (
-      told_last_cut command c.args.shared.now left c.in_ok-reported.reported (c.requires.recovered, gives) told.left told.told told.recoveries,
+      told_last_cut c.args.shared.now left c.in_ok-reported.reported (c.requires.recovered, gives) told.left told.told told.recoveries,
       ap (λ (l : Left). plain_of l.words.items) told.left,
     )
 
 pub returns-in_err-reported : goal.returns-in_err-reported
 returns-in_err-reported c = passed_on _ _ c.from_residual.result c.from_residual.ensures.1
-    (λ fault e. memory_probed c.args.command.behind.instructions c.args.command.probe.now fault e)
+    (λ fault e. memory_probed c.args.shared.now.command.behind.instructions c.args.shared.now.command.probe.now fault e)
