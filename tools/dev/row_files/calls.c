@@ -1,4 +1,4 @@
-/* The calls of the C library by which the program reads and writes: word writes to the file IMAGE are counted, and the one behind the first
+/* The calls of the C library by which the program reads and writes: word writes to the file IMAGE are counted, and the one after the first
  * FUSE of them is refused; reads of the file SCRIPT and writes to standard output come in the manners READS and WRITES, and no more than ROOM
  * bytes are written there. The number of word writes stands in the file with the descriptor COUNT, as text.
  *
@@ -88,8 +88,19 @@ static ssize_t write_word(int file, const void *bytes, off_t place) {
     return moved;
 }
 
+/* One word after another; as many as come before one that is refused. */
+static ssize_t write_words(int file, const char *bytes, size_t size, off_t place) {
+    size_t moved = 0;
+    while (moved < size) {
+        ssize_t now = write_word(file, bytes + moved, place + (off_t)moved);
+        if (now != WORD) return moved ? (ssize_t)moved : now;
+        moved += WORD;
+    }
+    return (ssize_t)moved;
+}
+
 ssize_t pwrite(int file, const void *bytes, size_t size, off_t place) {
-    return file == image && size == WORD ? write_word(file, bytes, place) : put(file, bytes, size, place);
+    return file == image && size % WORD == 0 ? write_words(file, bytes, size, place) : put(file, bytes, size, place);
 }
 ssize_t pwrite64(int file, const void *bytes, size_t size, off_t place) __attribute__((alias("pwrite")));
 
