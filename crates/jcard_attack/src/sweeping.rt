@@ -59,9 +59,11 @@ pub(crate) struct Baseline<'a> {
 pub(crate) struct Shared<'a> {
     /// The words of the image.
     pub(crate) words: &'a [u16],
+    /// The command that is attacked.
     pub(crate) attacked: Attacked<'a>,
     /// The card at the command, where it is kept.
     pub(crate) card: Option<AtCommand>,
+    /// What they are judged beside.
     pub(crate) baseline: Baseline<'a>,
 }
 

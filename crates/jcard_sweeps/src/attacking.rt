@@ -58,11 +58,14 @@ pub struct AskedAttack<'n, 'a> {
     pub instructions: u32,
 }
 
-/// How commands of a script are attacked: as it is asked for, with these lines of a probe after each fault.
+/// How commands of a script are attacked.
 #[derive(Clone, Copy, Drop)]
 pub(crate) struct Attacking<'n, 'a> {
+    /// Whose commands are attacked.
     pub(crate) subject: Subject<'n, 'a>,
+    /// The lines of a probe, which come after each fault.
     pub(crate) probe: &'a [u8],
+    /// What is asked for.
     pub(crate) asked: AskedAttack<'n, 'a>,
 }
 

@@ -29,10 +29,12 @@ pub(crate) struct Subject<'n, 'a> {
     pub(crate) commands: &'a [ScriptLine<'a>],
 }
 
-/// Whose commands are cut, and what follows each cut.
+/// How commands of a script are cut.
 #[derive(Clone, Copy, Drop)]
 pub(crate) struct Cutting<'n, 'a> {
+    /// Whose commands are cut.
     pub(crate) subject: Subject<'n, 'a>,
+    /// What follows each cut.
     pub(crate) follow_up: FollowUp<'a>,
 }
 

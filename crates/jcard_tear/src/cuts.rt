@@ -47,11 +47,12 @@ impl Behind {
     }
 }
 
-/// What follows each cut of a command in a line of a script: these lines of a probe; or, where none are given, the SELECT of the applet that is
-/// selected before the command; and what else comes.
+/// What follows each cut of a command in a line of a script.
 #[derive(Clone, Copy, Drop)]
 pub struct FollowUp<'a> {
+    /// The lines of a probe; where none are given, the SELECT of the applet that is selected before the command.
     pub probe: Option<&'a [u8]>,
+    /// What else comes.
     pub behind: Behind,
 }
 
@@ -87,9 +88,11 @@ pub(crate) struct Baseline<'a> {
 pub(crate) struct Shared<'a> {
     /// The words of the image.
     pub(crate) words: &'a [u16],
+    /// The command that is cut.
     pub(crate) command: Command<'a>,
     /// The card at the command, where it is kept.
     pub(crate) card: Option<AtCommand>,
+    /// What they are compared with.
     pub(crate) baseline: Baseline<'a>,
 }
 
@@ -134,7 +137,7 @@ fn push_cuts<P: Progress>(
 ) -> Result<(), TearFault>
     requires short { length shared.now.words.now < 65536 }
     requires whole { AreOfImage shared.now.baseline.objects.now }
-    requires card { IfSome shared.now.card (IsKeptFor shared.now.words.now shared.now.command) }
+    requires card { IfSome shared.now.card (λ card. IsKeptFor shared.now.words.now shared.now.command card) }
     requires known { shared.now.baseline.is_known ≡ true
         → IsKnown shared.now.command shared.now.baseline.before.now }
     requires first { last.old ≡ None }
@@ -170,11 +173,11 @@ fn next_cut(
 ) -> Result<Option<Cut>, TearFault>
     requires short { length shared.now.words.now < 65536 }
     requires whole { AreOfImage shared.now.baseline.objects.now }
-    requires card { IfSome shared.now.card (IsKeptFor shared.now.words.now shared.now.command) }
+    requires card { IfSome shared.now.card (λ card. IsKeptFor shared.now.words.now shared.now.command card) }
     requires known { shared.now.baseline.is_known ≡ true
         → IsKnown shared.now.command shared.now.baseline.before.now }
-    requires last { IfSome last.old (IsLastCut shared.now) }
-    ensures last { IfSome last.new (IsLastCut shared.now) }
+    requires last { IfSome last.old (λ reported. IsLastCut shared.now reported) }
+    ensures last { IfSome last.new (λ reported. IsLastCut shared.now reported) }
     ensures cut { MatchResult result
         (λ cut. MatchOption cut (IsUncutAt shared.now.words.now shared.now.command number)
         (λ cut. IsReportedAt shared.now number cut))
@@ -226,7 +229,7 @@ pub(crate) fn told_cut(
     recoveries: Recoveries,
 ) -> Result<Cut, AllocError>
     requires { AreOfImage baseline.now.objects.now }
-    ensures told { IfOk result (IsToldAs baseline.now left.now) }
+    ensures told { IfOk result (λ cut. IsToldAs baseline.now left.now cut) }
     ensures recoveries { IfOk result (λ cut. cut.recoveries ≡ recoveries) }
 {
     let answers = told(alloc, baseline.objects, left)?;

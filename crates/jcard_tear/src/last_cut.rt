@@ -34,10 +34,10 @@ pub(crate) fn reported_cut(
     requires recovered { IsRecovered found.items }
     requires known { shared.now.baseline.is_known ≡ true
         → IsKnown shared.now.command shared.now.baseline.before.now }
-    requires last { IfSome last.old (IsLastCut shared.now) }
-    ensures last { IfSome last.new (IsLastCut shared.now) }
-    ensures cut { MatchResult result (IsReportedAlike shared.now (plain_of found.items))
-        (IsProbeFault shared.now.command.behind.instructions shared.now.command.probe.now) }
+    requires last { IfSome last.old (λ reported. IsLastCut shared.now reported) }
+    ensures last { IfSome last.new (λ reported. IsLastCut shared.now reported) }
+    ensures cut { MatchResult result (λ cut. IsReportedAlike shared.now (plain_of found.items) cut)
+        (λ fault. IsProbeFault shared.now.command.behind.instructions shared.now.command.probe.now fault) }
 {
     let reported = next_reported(alloc, shared, found, last.take())?;
     let cut = copy_of_cut(alloc, &reported.cut)?;
@@ -58,10 +58,10 @@ fn next_reported(
     requires recovered { IsRecovered found.items }
     requires known { shared.now.baseline.is_known ≡ true
         → IsKnown shared.now.command shared.now.baseline.before.now }
-    requires last { IfSome last (IsLastCut shared.now) }
+    requires last { IfSome last (λ reported. IsLastCut shared.now reported) }
     ensures { MatchResult result (λ reported. IsLastCut shared.now reported
         × (plain_of reported.left.words.items ≡ plain_of found.items))
-        (IsProbeFault shared.now.command.behind.instructions shared.now.command.probe.now) }
+        (λ fault. IsProbeFault shared.now.command.behind.instructions shared.now.command.probe.now fault) }
 {
     let Some(reported) = last else {
         return first_reported(alloc, shared, found);
@@ -90,7 +90,7 @@ fn answered_again(
     requires one { HoldOneHeap last.words.items found.items }
     ensures { MatchResult result (λ reported. IsLastCut shared.now reported
         × (plain_of reported.left.words.items ≡ plain_of found.items))
-        (IsProbeFault shared.now.command.behind.instructions shared.now.command.probe.now) }
+        (λ fault. IsProbeFault shared.now.command.behind.instructions shared.now.command.probe.now fault) }
 {
     let left = Left {
         words: found,
@@ -109,7 +109,7 @@ fn first_reported(alloc: Global, shared: &Shared<'_>, found: Vec<u16>) -> Result
         → IsKnown shared.now.command shared.now.baseline.before.now }
     ensures { MatchResult result (λ reported. IsLastCut shared.now reported
         × (plain_of reported.left.words.items ≡ plain_of found.items))
-        (IsProbeFault shared.now.command.behind.instructions shared.now.command.probe.now) }
+        (λ fault. IsProbeFault shared.now.command.behind.instructions shared.now.command.probe.now fault) }
 {
     let left = first_left(alloc, shared, found)?;
     let reported = reported_of(alloc, &shared.baseline, left)?;
@@ -139,7 +139,7 @@ fn first_left(alloc: Global, shared: &Shared<'_>, found: Vec<u16>) -> Result<Lef
         → IsKnown shared.now.command shared.now.baseline.before.now }
     ensures { MatchResult result (λ left. IsKnown shared.now.command left
         × (left.words.items ≡ found.items))
-        (IsProbeFault shared.now.command.behind.instructions shared.now.command.probe.now) }
+        (λ fault. IsProbeFault shared.now.command.behind.instructions shared.now.command.probe.now fault) }
 {
     if is_as_before(&shared.baseline, &found) {
         let answers = Vec::from_slice(alloc, &shared.baseline.before.answers)?;

@@ -14,6 +14,18 @@ returns-in_err-name g c =
     passed_on _ _ c.from_residual.result _ c.from_residual.ensures.1
     (c.attacked_in-attacked.result, (is.before, is.line, is.probe, is.instructions), inl tt)
 
+pub returns-in_err-lines : goal.returns-in_err-lines
+returns-in_err-lines g c =
+    let is = c.attacked_in-attacked.ensures in
+    passed_on _ _ c.from_residual-in_err-lines.result _ c.from_residual-in_err-lines.ensures.1
+    (c.attacked_in-attacked.result, (is.before, is.line, is.probe, is.instructions), inl tt)
+
+pub returns-in_err-text : goal.returns-in_err-text
+returns-in_err-text g c =
+    let is = c.attacked_in-attacked.ensures in
+    passed_on _ _ c.from_residual-in_err-text.result _ c.from_residual-in_err-text.ensures.1
+    (c.attacked_in-attacked.result, (is.before, is.line, is.probe, is.instructions), inl tt)
+
 pub returns : goal.returns
 returns g c =
     let is = c.attacked_in-attacked.ensures in

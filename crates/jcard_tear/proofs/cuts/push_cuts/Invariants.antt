@@ -10,5 +10,5 @@ invariant-loop-place g l = record {
   count : l.number ≡ l.share.first + l.share.step * length l.cuts.items;
   fits : l.number < 65536;
   places : length l.cuts.items ≡ l._place;
-  last : IfSome l.last (IsLastCut l.shared);
+  last : IfSome l.last (λ reported. IsLastCut l.shared reported);
 }
