@@ -63,13 +63,12 @@ pub struct KeyedEngine {
     pub mode: i16,
 }
 
-/// To what an object with an algorithm and a key is initialized.
+/// To what an object with an algorithm and a key is initialized, besides its mode.
 #[derive(Clone, Copy)]
 pub(crate) struct Setup<'a> {
     pub(crate) class: PlatformClass,
     /// How many shorts its state has.
     pub(crate) shorts: u16,
-    pub(crate) mode: i16,
     pub(crate) vector: &'a [u8],
 }
 
@@ -274,6 +273,7 @@ fn put_values(mode: i16, words: &[u16], values: &mut [FieldValue])
 /// Sets key, mode and vector, then the state to that of no message.
 pub(crate) fn set_up<S: WordStore>(
     own: &KeyedEngine,
+    mode: i16,
     setup: Setup<'_>,
     args: &[Cell],
     memory: &mut Memory<S>,
@@ -283,13 +283,12 @@ pub(crate) fn set_up<S: WordStore>(
     requires few { length setup.vector.now ≤ MOST_VECTOR }
     requires state { setup.shorts ≤ MOST_SHORTS }
     ensures { Executes (initializing_call (Ok (initializes setup.entry.class setup.entry.shorts
-        own.now setup.entry.mode setup.entry.vector.now)) args.now linked.now memory.old)
+        own.now mode setup.entry.vector.now)) args.now linked.now memory.old)
         memory.old (after_call result memory.new) }
 {
     let Setup {
         class,
         shorts,
-        mode,
         vector,
     } = setup;
     let mut words = [0; VECTOR_CELLS];
@@ -327,10 +326,9 @@ pub(crate) fn init<S: WordStore>(
     let setup = Setup {
         class,
         shorts: needs.state,
-        mode,
         vector: &[],
     };
-    set_up(own, setup, args, memory, linked)
+    set_up(own, mode, setup, args, memory, linked)
 }
 
 /// The same with a vector.
@@ -358,10 +356,9 @@ pub(crate) fn init_with_vector<S: WordStore>(
     let setup = Setup {
         class,
         shorts: needs.state,
-        mode,
         vector: bytes,
     };
-    set_up(own, setup, args, memory, linked)
+    set_up(own, mode, setup, args, memory, linked)
 }
 
 /// It is so, or a code fault.

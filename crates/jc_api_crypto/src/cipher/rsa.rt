@@ -179,10 +179,9 @@ pub(crate) fn init_rsa<S: WordStore>(
     let setup = Setup {
         class: PlatformClass::Cipher,
         shorts: RSA_SHORTS as u16,
-        mode,
         vector: &[],
     };
-    set_up(own, setup, args, memory, linked)
+    set_up(own, mode, setup, args, memory, linked)
 }
 
 /// `init` with a vector, which RSA does not take: it throws ILLEGAL_VALUE after the key, the mode and the vector's elements.

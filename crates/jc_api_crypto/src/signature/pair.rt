@@ -76,10 +76,9 @@ pub(crate) fn init_pair<S: WordStore>(
     let setup = Setup {
         class: PlatformClass::Signature,
         shorts: algorithm.shorts(),
-        mode,
         vector: &[],
     };
-    set_up(own, setup, args, memory, linked)
+    set_up(own, mode, setup, args, memory, linked)
 }
 
 /// `init` with a vector, which no such signature takes: it throws ILLEGAL_VALUE after the key, the mode and the vector's elements.

@@ -14,8 +14,8 @@ pub returns : goal.returns
 returns g c =
     let m = c.args.memory.now in
     let n = c.args.setup.shorts in
-    let mode = to_z-of_z w16 c.args.setup.mode c.ranges.setup.mode in
-    let values : c.put_values.new.values ≡ values_given c.args.setup.mode c.args.setup.vector.now =
+    let mode = to_z-of_z w16 c.args.mode c.ranges.mode in
+    let values : c.put_values.new.values ≡ values_given c.args.mode c.args.setup.vector.now =
     c.put_values.ensures ∙ (λ j. Argument 1 ∷ Word (cast_unsigned w16 (mode j)) ∷ map Word (c.put_vector.ensures j)) in
     let zeros : take {A = ℕ} n (replicate 303 0) ≡ replicate n 0 = take-replicate n 303 0 c.requires.state in
     subst (λ (a : FieldsAnswer). Executes (initializing_call (Ok a) c.args.args.now c.args.linked.now m) m
