@@ -20,6 +20,15 @@ use jc_words::WordStore;
 use jc_world::contexts::allow;
 use jc_world::{NativeResult, StepExit, Stretch, put, short};
 
+/// Words for cells of the transient array of shorts in which an object of the platform keeps its state.
+#[derive(Clone, Copy)]
+pub struct StateWords<'a> {
+    pub array: Ref,
+    /// The first cell.
+    pub start: u16,
+    pub words: &'a [u16],
+}
+
 // A header is that of a transient array of shorts with this many cells, which the code that runs may use.
 #[inline(always)]
 fn holds_state<S: WordStore>(end: u32, facts: Facts, memory: &Memory<S>, linked: &Linked) -> bool
@@ -87,33 +96,35 @@ fn result_value(number: Option<i16>) -> NativeResult
     }
 }
 
-/// Sets cells of a state, from one on, and returns a number or nothing.
+/// Sets cells of a state, and returns a number or nothing.
 #[inline(always)]
 pub fn change_state<S: WordStore>(
-    array: Ref,
-    start: u16,
-    words: &[u16],
+    state: StateWords<'_>,
     number: Option<i16>,
     memory: &mut Memory<S>,
     linked: &Linked,
 ) -> Result<NativeResult, StepExit>
     requires up { memory.old.heap.down ≡ false }
-    requires few { length words.now < 65536 }
-    ensures { Executes (changing_call (Ok (changes array start words.now number)) linked.now memory.old)
+    requires few { length state.words.now < 65536 }
+    ensures { Executes (changing_call (Ok (changes state.entry.array state.entry.start
+        state.entry.words.now number)) linked.now memory.old)
         memory.old (after_call result memory.new) }
 {
+    let StateWords {
+        array,
+        start,
+        words,
+    } = state;
     let state = state_at(array, start, words.len() as u16, memory, linked)?;
     set_state(memory, state, words);
     Ok(result_value(number))
 }
 
-/// Puts bytes into elements of an array of the caller, which were asked for, as one change; then sets cells of a state, from one on, and
-/// returns a number or nothing. Where the transaction has no room for the bytes it throws, and the state stays.
+/// Puts bytes into elements of an array of the caller, which were asked for, as one change; then sets cells of a state, and returns a number or
+/// nothing. Where the transaction has no room for the bytes it throws, and the state stays.
 #[inline(always)]
 pub fn change_state_and_put<S: WordStore>(
-    array: Ref,
-    start: u16,
-    words: &[u16],
+    state: StateWords<'_>,
     to: Stretch,
     bytes: &[u8],
     number: Option<i16>,
@@ -121,13 +132,19 @@ pub fn change_state_and_put<S: WordStore>(
     linked: &Linked,
 ) -> Result<NativeResult, StepExit>
     requires up { memory.old.heap.down ≡ false }
-    requires few { length words.now < 65536 }
+    requires few { length state.words.now < 65536 }
     requires asked { AreAsked linked.now memory.old to }
     requires there { IsInArray memory.old to }
     requires all { length bytes.now ≡ to.count }
-    ensures { Executes (changing_call (Ok (changes_and_puts array start words.now to bytes.now number))
-        linked.now memory.old) memory.old (after_call result memory.new) }
+    ensures { Executes (changing_call (Ok (changes_and_puts state.entry.array state.entry.start
+        state.entry.words.now to bytes.now number)) linked.now memory.old)
+        memory.old (after_call result memory.new) }
 {
+    let StateWords {
+        array,
+        start,
+        words,
+    } = state;
     let state = state_at(array, start, words.len() as u16, memory, linked)?;
     put(memory, to, bytes)?;
     set_state(memory, state, words);

@@ -25,6 +25,19 @@ pub enum FieldValue {
     Argument(u8),
 }
 
+/// What such a call sets: cells of the receiver, and then the first cells of its state.
+#[derive(Clone, Copy)]
+pub struct Fields<'a> {
+    /// The class of the receiver.
+    pub class: PlatformClass,
+    /// The first of its cells that is set.
+    pub start: u16,
+    pub values: &'a [FieldValue],
+    /// The array of its state.
+    pub array: Ref,
+    pub words: &'a [u16],
+}
+
 /// How many cells such a call sets at most.
 pub const MOST_FIELDS: usize = 10;
 
@@ -74,31 +87,35 @@ pub(crate) fn instance_called<S: WordStore>(
     }
 }
 
-/// Sets cells of the receiver of a call, from one on, as one change; then the first cells of a state. Null throws; a receiver that is no
+/// Sets cells of the receiver of a call as one change; then the first cells of a state. Null throws; a receiver that is no
 /// instance of the class with such cells, and a state that is none, are code faults. Where the transaction has no room for the cells it
 /// throws, and nothing is done.
 pub fn initialize<S: WordStore>(
-    class: PlatformClass,
-    start: u16,
-    values: &[FieldValue],
-    array: Ref,
-    words: &[u16],
+    fields: Fields<'_>,
     args: &[Cell],
     memory: &mut Memory<S>,
     linked: &Linked,
 ) -> Result<NativeResult, StepExit>
     requires up { memory.old.heap.down ≡ false }
-    requires few { length values.now ≤ MOST_FIELDS }
-    requires end { start + length values.now < 65536 }
-    requires words { length words.now < 65536 }
-    ensures { Executes (initializing_call (Ok (sets_fields class start values.now array words.now))
+    requires few { length fields.values.now ≤ MOST_FIELDS }
+    requires end { fields.start + length fields.values.now < 65536 }
+    requires words { length fields.words.now < 65536 }
+    ensures { Executes (initializing_call (Ok (sets_fields fields.entry.class fields.entry.start
+        fields.entry.values.now fields.entry.array fields.entry.words.now))
         args.now linked.now memory.old) memory.old (after_call result memory.new) }
 {
+    let Fields {
+        class,
+        start,
+        values,
+        array,
+        words,
+    } = fields;
     let own = instance_called(class, start + values.len() as u16, args, memory, linked)?;
     let state = state_at(array, 0, words.len() as u16, memory, linked)?;
-    let mut fields = [0; MOST_FIELDS];
-    put_words(values, args, &mut fields[..values.len()]);
-    memory.set_run(own, start, &fields[..values.len()])?;
+    let mut cells = [0; MOST_FIELDS];
+    put_words(values, args, &mut cells[..values.len()]);
+    memory.set_run(own, start, &cells[..values.len()])?;
     set_state(memory, state, words);
     Ok(NativeResult::ReturnVoid)
 }

@@ -15,9 +15,9 @@ pub use arguments::{
     ArrayArguments, MOST_ELEMENTS, Pair, PairArguments, SMALL_PIECE, argument_bytes,
     array_arguments, counted_of, elements_at, given_elements, pair_arguments, pair_of, two_of,
 };
-pub use changing::{change_state, change_state_and_put, state_at};
+pub use changing::{StateWords, change_state, change_state_and_put, state_at};
 pub use factory::{NewEngine, StateKind, make_engine};
-pub use initializing::{FieldValue, MOST_FIELDS, initialize};
+pub use initializing::{FieldValue, Fields, MOST_FIELDS, initialize};
 pub use keeping::{kept_reference, persistent_called};
 pub use kinds::have_kinds;
 pub use pairing::{NamedObject, NewPair, make_pair};

@@ -6,14 +6,14 @@ ghost use Rattle.jc_world.specs.NativeCalls.{after_call};
 ghost use Rattle.jc_world.specs.Objects.{check_or_fault};
 ghost use Rattle.jc_api.specs.Initializing.{initializing_call};
 ghost use Rattle.jc_api.specs.declared.initializing.FieldValue.TheVariants.{Argument, Word};
-ghost use Rattle.jc_world.specs.Arrays.{IsInArray, bytes_in};
+ghost use Rattle.jc_world.specs.Arrays.{IsInArray};
 ghost use Rattle.jc_world.specs.Instances.{IsInstanceWith, instance_at};
 ghost use Rattle.jc_api.specs.Exits.{plainly};
 ghost use Rattle.jc_api_crypto.specs.Initialized.{engine_of, initializes, is_for, is_mode, kept_key, key_init, keyed_cells, taken_key, taken_mode, taken_vector, takes_kind, takes_type, takes_vector, values_given, vector_at, vector_init, vector_words};
 ghost use Rattle.jc_api_keys.specs.KeyTypes.{key_type_named};
 ghost use Rattle.jc_api_keys.specs.KeyObjects.Contents.{IsKey};
 
-use jc_api::{FieldValue, MOST_FIELDS, counted_of, initialize};
+use jc_api::{FieldValue, Fields, MOST_FIELDS, counted_of, initialize};
 use jc_api_keys::exceptions::ILLEGAL_VALUE;
 use jc_api_keys::key_objects::arguments::{key_argument, key_at};
 use jc_api_keys::key_objects::contents::{Key, MOST_KEY, key_elements};
@@ -61,6 +61,15 @@ pub struct KeyedEngine {
     pub key: Ref,
     /// Its mode, 0 before it is initialized.
     pub mode: i16,
+}
+
+/// To what an object with an algorithm and a key is initialized, besides its mode.
+#[derive(Clone, Copy)]
+pub(crate) struct Setup<'a> {
+    pub(crate) class: PlatformClass,
+    /// How many shorts its state has.
+    pub(crate) shorts: u16,
+    pub(crate) vector: &'a [u8],
 }
 
 /// What an algorithm requires.
@@ -261,32 +270,40 @@ fn put_values(mode: i16, words: &[u16], values: &mut [FieldValue])
     }
 }
 
-/// Sets key, mode and vector, then the state (`shorts` shorts of it), to that of no message.
+/// Sets key, mode and vector, then the state to that of no message.
 pub(crate) fn set_up<S: WordStore>(
-    class: PlatformClass,
-    shorts: u16,
     own: &KeyedEngine,
     mode: i16,
-    vector: &[u8],
+    setup: Setup<'_>,
     args: &[Cell],
     memory: &mut Memory<S>,
     linked: &Linked,
 ) -> Result<NativeResult, StepExit>
     requires up { memory.old.heap.down ≡ false }
-    requires few { length vector.now ≤ MOST_VECTOR }
-    requires state { shorts ≤ MOST_SHORTS }
-    ensures { Executes (initializing_call (Ok (initializes class shorts own.now mode vector.now)) args.now
-        linked.now memory.old) memory.old (after_call result memory.new) }
+    requires few { length setup.vector.now ≤ MOST_VECTOR }
+    requires state { setup.shorts ≤ MOST_SHORTS }
+    ensures { Executes (initializing_call (Ok (initializes setup.entry.class setup.entry.shorts
+        own.now mode setup.entry.vector.now)) args.now linked.now memory.old)
+        memory.old (after_call result memory.new) }
 {
+    let Setup {
+        class,
+        shorts,
+        vector,
+    } = setup;
     let mut words = [0; VECTOR_CELLS];
     put_vector(vector, &mut words);
     let mut values = [FieldValue::Word(0); MOST_FIELDS];
     put_values(mode, &words, &mut values);
     let zeros = [0; MOST_SHORTS];
-    let state = &zeros[..shorts as usize];
-    initialize(
-        class, KEY_CELL, &values, own.array, state, args, memory, linked,
-    )
+    let fields = Fields {
+        class,
+        start: KEY_CELL,
+        values: &values,
+        array: own.array,
+        words: &zeros[..shorts as usize],
+    };
+    initialize(fields, args, memory, linked)
 }
 
 /// Initializes an object of a class, of which this is what its cells say, by a key and a mode; its vector is zeros.
@@ -306,31 +323,12 @@ pub(crate) fn init<S: WordStore>(
     let key = taken_key(needs, args, memory, linked)?;
     let mode = taken_mode(args)?;
     let _elements = key_elements(&key, memory)?;
-    set_up(class, needs.state, own, mode, &[], args, memory, linked)
-}
-
-// Sets key, mode and vector, which is elements of an array.
-fn set_up_with<S: WordStore>(
-    class: PlatformClass,
-    needs: Requirements,
-    own: &KeyedEngine,
-    mode: i16,
-    vector: Stretch,
-    args: &[Cell],
-    memory: &mut Memory<S>,
-    linked: &Linked,
-) -> Result<NativeResult, StepExit>
-    requires up { memory.old.heap.down ≡ false }
-    requires vector { IsInArray memory.old vector }
-    requires few { vector.count ≤ MOST_VECTOR }
-    requires state { needs.state ≤ MOST_SHORTS }
-    ensures { Executes (initializing_call (Ok (initializes class needs.state own.now mode (bytes_in memory.old vector))) args.now
-        linked.now memory.old) memory.old (after_call result memory.new) }
-{
-    let mut buffer = [0; MOST_VECTOR];
-    let bytes = &mut buffer[..vector.count as usize];
-    read(vector, memory, bytes);
-    set_up(class, needs.state, own, mode, bytes, args, memory, linked)
+    let setup = Setup {
+        class,
+        shorts: needs.state,
+        vector: &[],
+    };
+    set_up(own, mode, setup, args, memory, linked)
 }
 
 /// The same with a vector.
@@ -352,7 +350,15 @@ pub(crate) fn init_with_vector<S: WordStore>(
     let mode = taken_mode(args)?;
     let vector = taken_vector(needs, args, memory, linked)?;
     let _elements = key_elements(&key, memory)?;
-    set_up_with(class, needs, own, mode, vector, args, memory, linked)
+    let mut buffer = [0; MOST_VECTOR];
+    let bytes = &mut buffer[..vector.count as usize];
+    read(vector, memory, bytes);
+    let setup = Setup {
+        class,
+        shorts: needs.state,
+        vector: bytes,
+    };
+    set_up(own, mode, setup, args, memory, linked)
 }
 
 /// It is so, or a code fault.

@@ -5,7 +5,7 @@ ghost use Rattle.jc_world.specs.NativeCalls.{after_call};
 ghost use Rattle.jc_api.specs.Changing.{changing_call};
 ghost use Rattle.jc_api_crypto.specs.Outputs.{puts_output};
 
-use jc_api::{MOST_ELEMENTS, change_state_and_put};
+use jc_api::{MOST_ELEMENTS, StateWords, change_state_and_put};
 use jc_api_keys::receivers::output_for;
 use jc_frames::Cell;
 use jc_linker::linked::Linked;
@@ -40,5 +40,10 @@ pub(crate) fn put_output<S: WordStore>(
 {
     let to = output_for(4, bytes.len() as u16, args, memory, linked)?;
     let answer = count_of(bytes);
-    change_state_and_put(state, 0, words, to, bytes, answer, memory, linked)
+    let state = StateWords {
+        array: state,
+        start: 0,
+        words,
+    };
+    change_state_and_put(state, to, bytes, answer, memory, linked)
 }

@@ -21,7 +21,7 @@ use crate::curve_parts::MOST_NUMBER;
 use crate::key_agreement::algorithms::{Secret, agreement_named};
 use crate::key_agreement::keys::{PrivateParts, factor_of, kept_key, key_given, private_parts};
 use crate::key_agreement::secrets::{are_short, put_of, put_shared_x};
-use jc_api::{FieldValue, NewEngine, StateKind, counted_of, initialize, make_engine};
+use jc_api::{FieldValue, Fields, NewEngine, StateKind, counted_of, initialize, make_engine};
 use jc_api_keys::exceptions::{ILLEGAL_VALUE, NO_SUCH_ALGORITHM};
 use jc_frames::{Cell, FrameExit, Outcome};
 use jc_heap::Facts;
@@ -158,16 +158,14 @@ pub(crate) fn key_agreement_init<S: WordStore>(
         return Err(StepExit::End(Outcome::Fault));
     };
     key_given(algorithm, args, memory, linked)?;
-    initialize(
-        PlatformClass::KeyAgreement,
-        KEY_CELL,
-        &[FieldValue::Argument(1)],
-        own.array,
-        &[],
-        args,
-        memory,
-        linked,
-    )
+    let fields = Fields {
+        class: PlatformClass::KeyAgreement,
+        start: KEY_CELL,
+        values: &[FieldValue::Argument(1)],
+        array: own.array,
+        words: &[],
+    };
+    initialize(fields, args, memory, linked)
 }
 
 // Puts what is made of the x that a key shares with the holder of a public one; where there is none it throws ILLEGAL_VALUE.

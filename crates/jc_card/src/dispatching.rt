@@ -14,7 +14,7 @@ use crate::status::StatusWord;
 use jc_dispatch::applet_result::AppletResult;
 use jc_dispatch::create::create;
 use jc_dispatch::extended_length::implements_extended_length;
-use jc_dispatch::process::process;
+use jc_dispatch::process::{AppletCommand, process};
 use jc_dispatch::select::{select, select_manager};
 use jc_environment::applet_with_aid;
 use jc_frames::Frames;
@@ -157,7 +157,14 @@ fn to_selected<S: WordStore>(
     ensures outside { OnOk result (memory.new.heap.begun ≡ false) }
 {
     match memory.registers().selected {
-        Some(applet) => process(budget, applet, false, expected, frames, memory, linked),
+        Some(applet) => {
+            let command = AppletCommand {
+                applet,
+                selecting: false,
+                expected,
+            };
+            process(budget, command, frames, memory, linked)
+        }
         None => Ok(AppletResult::NotSelected),
     }
 }

@@ -8,7 +8,7 @@ ghost use Rattle.jc_dispatch.specs.Create.{has_aid_length, instance_named, third
 ghost use Rattle.jc_dispatch.specs.Slices.{slice_pair_bytes, slice_bytes};
 
 use crate::applet_result::AppletResult;
-use crate::install::install;
+use crate::install::{NewApplet, install};
 use jc_interp::attacks::Budget;
 use jc_linker::linked::Linked;
 use jc_memory::{Memory, PackageNumber};
@@ -133,6 +133,11 @@ pub fn create<S: WordStore>(
     let Some(offset) = linked.install_at(number, entry) else {
         return Ok(AppletResult::NoApplet);
     };
-    let home = PackageNumber(number);
-    install(budget, home, entry, offset, parameters, memory, linked)
+    let applet = NewApplet {
+        home: PackageNumber(number),
+        entry,
+        offset,
+        parameters,
+    };
+    install(budget, applet, memory, linked)
 }

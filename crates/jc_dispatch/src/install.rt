@@ -8,7 +8,7 @@ ghost use Rattle.jc_dispatch.specs.Install.{applet_installation, installation_en
 use crate::applet_result::{AppletResult, result_of_run};
 use crate::buffer::{apdu_buffer, fill};
 use crate::closing::close;
-use crate::phase::run_for;
+use crate::phase::{CodeCall, run_for};
 use jc_frames::{Cell, Frames, Outcome};
 use jc_interp::attacks::Budget;
 use jc_linker::linked::Linked;
@@ -18,6 +18,19 @@ use jc_memory::{
 };
 use jc_transient::ClearEvent;
 use jc_words::{StoreDown, WordStore};
+
+/// An applet that is to be installed.
+#[derive(Clone, Copy)]
+pub struct NewApplet<'a> {
+    /// Its package.
+    pub home: PackageNumber,
+    /// The number of its entry in the package's Applet component.
+    pub entry: u8,
+    /// The place of its `install` method.
+    pub offset: u16,
+    /// What that method gets, from the first byte of the buffer on.
+    pub parameters: &'a [u8],
+}
 
 fn with_installation(installation: Installation, registers: Registers) -> Registers
     ensures { result ≡ with_installation installation registers }
@@ -64,26 +77,29 @@ fn installed_by<S: WordStore>(
     }
 }
 
-/// Installs an applet of a package, by the entry of its Applet component with this number and the
-/// place of its `install` method. The parameters lie in the buffer from its first byte on.
+/// Installs an applet of a package.
 #[tactic(auto, unfolding(crate::specs::Install::applet_installation), using(jc_memory::proofs::ProgramLemmas::in_two_steps))]
 pub fn install<S: WordStore>(
     budget: Budget,
-    home: PackageNumber,
-    entry: u8,
-    offset: u16,
-    parameters: &[u8],
+    applet: NewApplet<'_>,
     memory: &mut Memory<S>,
     linked: &Linked,
 ) -> Result<AppletResult, StoreDown>
     requires up { memory.old.heap.down ≡ false }
     requires outside { memory.old.heap.begun ≡ false }
     requires few { memory.old.heap.now.counts.1 < most_applets }
-    requires short { length parameters.now ≤ 127 }
-    ensures does { Executes (applet_installation budget linked.now home entry offset parameters.now
-        memory.old) memory.old (after_step result memory.new) }
+    requires short { length applet.parameters.now ≤ 127 }
+    ensures does { Executes (applet_installation budget linked.now applet.entry.home applet.entry.entry
+        applet.entry.offset applet.entry.parameters.now memory.old) memory.old
+        (after_step result memory.new) }
     ensures outside { OnOk result (memory.new.heap.begun ≡ false) }
 {
+    let NewApplet {
+        home,
+        entry,
+        offset,
+        parameters,
+    } = applet;
     memory.notes().phase(Phase::Install);
     let owner = Owner::Applet(next_applet(memory));
     memory.begin();
@@ -96,16 +112,13 @@ pub fn install<S: WordStore>(
         Cell::Short(parameters.len() as i16),
     ];
     let mut frames = Frames::empty();
-    let (_, outcome) = run_for(
-        budget,
-        home.0,
+    let call = CodeCall {
+        package_number: home.0,
         offset,
-        &arguments,
+        arguments: &arguments,
         owner,
-        &mut frames,
-        memory,
-        linked,
-    )?;
+    };
+    let (_, outcome) = run_for(budget, call, &mut frames, memory, linked)?;
     let installation = memory.registers().installation;
     let ending = installed_by(installation, outcome, memory, linked);
     close(memory)?;

@@ -17,6 +17,24 @@ use jc_platform::names::{AppletsMethod, PlatformMethod};
 use jc_transient::Ref;
 use jc_words::{StoreDown, WordStore};
 
+/// Code that the runtime environment calls: its place in a package, its arguments, and for whom it runs.
+#[derive(Clone, Copy)]
+pub(crate) struct CodeCall<'a> {
+    pub(crate) package_number: u8,
+    pub(crate) offset: u16,
+    pub(crate) arguments: &'a [Cell],
+    pub(crate) owner: Owner,
+}
+
+/// A method of an applet that it calls: its name, the applet's instance, its arguments, and for whom it runs.
+#[derive(Clone, Copy)]
+pub(crate) struct AppletCall<'a> {
+    pub(crate) name: PlatformMethod,
+    pub(crate) instance: Ref,
+    pub(crate) arguments: &'a [Cell],
+    pub(crate) owner: Owner,
+}
+
 // Code runs for an owner, at the runtime environment's call.
 fn registers_for(owner: Owner, registers: Registers) -> Registers
     ensures { result ≡ registers_for owner registers }
@@ -45,18 +63,22 @@ fn registers_idle(registers: Registers) -> Registers
 #[inline(always)]
 pub(crate) fn run_for<S: WordStore>(
     budget: Budget,
-    package_number: u8,
-    offset: u16,
-    arguments: &[Cell],
-    owner: Owner,
+    call: CodeCall<'_>,
     frames: &mut Frames,
     memory: &mut Memory<S>,
     linked: &Linked,
 ) -> Result<(u32, Outcome), StoreDown>
     requires up { memory.old.heap.down ≡ false }
-    ensures { Executes (method_run budget linked.now package_number offset arguments.now owner
-        memory.old) memory.old (after_step result memory.new) }
+    ensures { Executes (method_run budget linked.now call.entry.package_number call.entry.offset
+        call.entry.arguments.now call.entry.owner memory.old) memory.old
+        (after_step result memory.new) }
 {
+    let CodeCall {
+        package_number,
+        offset,
+        arguments,
+        owner,
+    } = call;
     let begun = begin(
         linked,
         package_number,
@@ -130,20 +152,24 @@ fn default_of(name: PlatformMethod) -> Outcome
 #[inline(always)]
 pub(crate) fn call_applet_method<S: WordStore>(
     budget: Budget,
-    name: PlatformMethod,
-    applet: Ref,
-    arguments: &[Cell],
-    owner: Owner,
+    call: AppletCall<'_>,
     frames: &mut Frames,
     memory: &mut Memory<S>,
     linked: &Linked,
 ) -> Result<(u32, Outcome), StoreDown>
     requires up { memory.old.heap.down ≡ false }
-    ensures { Executes (applet_method_call budget linked.now name applet arguments.now owner
-        memory.old) memory.old (after_step result memory.new) }
+    ensures { Executes (applet_method_call budget linked.now call.entry.name call.entry.instance
+        call.entry.arguments.now call.entry.owner memory.old) memory.old
+        (after_step result memory.new) }
 {
+    let AppletCall {
+        name,
+        instance,
+        arguments,
+        owner,
+    } = call;
     note_phase(name, memory.notes());
-    match method_named(name, applet, memory, linked) {
+    match method_named(name, instance, memory, linked) {
         None => Ok((budget.left, Outcome::Fault)),
         Some(Method::Native(native)) => Ok((budget.left, default_of(native))),
         Some(
@@ -151,15 +177,14 @@ pub(crate) fn call_applet_method<S: WordStore>(
                 package_number,
                 offset,
             },
-        ) => run_for(
-            budget,
-            package_number,
-            offset,
-            arguments,
-            owner,
-            frames,
-            memory,
-            linked,
-        ),
+        ) => {
+            let call = CodeCall {
+                package_number,
+                offset,
+                arguments,
+                owner,
+            };
+            run_for(budget, call, frames, memory, linked)
+        }
     }
 }

@@ -7,7 +7,7 @@ ghost use Rattle.jc_dispatch.specs.Selecting.{header_of, process_command, with_c
 use crate::applet_result::{AppletResult, result_of_run};
 use crate::buffer::{apdu_object, fill};
 use crate::closing::close;
-use crate::phase::{call_applet_method, instance_of};
+use crate::phase::{AppletCall, call_applet_method, instance_of};
 use arrayvec::ArrayVec;
 use jc_frames::{Cell, Frames};
 use jc_interp::attacks::Budget;
@@ -15,6 +15,16 @@ use jc_linker::linked::Linked;
 use jc_memory::{ApduPhase, ApduState, AppletNumber, Memory, Owner, Registers, header_length};
 use jc_platform::names::{AppletsMethod, PlatformMethod};
 use jc_words::{StoreDown, WordStore};
+
+/// A command for an applet, which begins to answer it.
+#[derive(Clone, Copy)]
+pub struct AppletCommand {
+    pub applet: AppletNumber,
+    /// Whether it is the command that selected the applet.
+    pub selecting: bool,
+    /// How many bytes it expects.
+    pub expected: u16,
+}
 
 fn with_command(expected: u16, selecting: bool, registers: Registers) -> Registers
     ensures { result ≡ with_command expected selecting registers }
@@ -40,24 +50,26 @@ fn header_of(bytes: &[u8]) -> ArrayVec<u8, 7>
     header
 }
 
-/// An applet answers the command that was begun, which expects this many bytes, in frames that may be those of an earlier run. It may be the
-/// command that selected it.
+/// An applet answers the command that was begun, in frames that may be those of an earlier run.
 #[tactic(auto, unfolding(crate::specs::Selecting::process_command), using(jc_memory::proofs::ProgramLemmas::in_two_steps))]
 #[inline(always)]
 pub fn process<S: WordStore>(
     budget: Budget,
-    applet: AppletNumber,
-    selecting: bool,
-    expected: u16,
+    command: AppletCommand,
     frames: &mut Frames,
     memory: &mut Memory<S>,
     linked: &Linked,
 ) -> Result<AppletResult, StoreDown>
     requires up { memory.old.heap.down ≡ false }
-    ensures does { Executes (process_command budget linked.now applet selecting expected memory.old)
-        memory.old (after_step result memory.new) }
+    ensures does { Executes (process_command budget linked.now command.applet command.selecting
+        command.expected memory.old) memory.old (after_step result memory.new) }
     ensures outside { OnOk result (memory.new.heap.begun ≡ false) }
 {
+    let AppletCommand {
+        applet,
+        selecting,
+        expected,
+    } = command;
     let registers = memory.registers();
     memory.set_registers(with_command(expected, selecting, registers));
     let header = header_of(memory.command());
@@ -67,11 +79,13 @@ pub fn process<S: WordStore>(
         Cell::Reference(instance),
         Cell::Reference(apdu_object(memory)),
     ];
-    let name = PlatformMethod::Applets(AppletsMethod::AppletProcess);
-    let owner = Owner::Applet(applet);
-    let (_, outcome) = call_applet_method(
-        budget, name, instance, &arguments, owner, frames, memory, linked,
-    )?;
+    let call = AppletCall {
+        name: PlatformMethod::Applets(AppletsMethod::AppletProcess),
+        instance,
+        arguments: &arguments,
+        owner: Owner::Applet(applet),
+    };
+    let (_, outcome) = call_applet_method(budget, call, frames, memory, linked)?;
     let ending = result_of_run(outcome, memory, linked);
     close(memory)?;
     Ok(ending)

@@ -6,8 +6,8 @@ ghost use Rattle.jc_dispatch.specs.Selecting.{applet_left, deselection, is_same_
 
 use crate::applet_result::{AppletResult, is_select_accepted};
 use crate::closing::close;
-use crate::phase::{call_applet_method, instance_of};
-use crate::process::process;
+use crate::phase::{AppletCall, call_applet_method, instance_of};
+use crate::process::{AppletCommand, process};
 use jc_frames::{Cell, Frames};
 use jc_interp::attacks::Budget;
 use jc_linker::linked::Linked;
@@ -55,12 +55,13 @@ fn leave_applet<S: WordStore>(
         return Ok(budget.left);
     };
     let instance = instance_of(applet, memory);
-    let arguments = [Cell::Reference(instance)];
-    let name = PlatformMethod::Applets(AppletsMethod::AppletDeselect);
-    let owner = Owner::Applet(applet);
-    let (rest, _) = call_applet_method(
-        budget, name, instance, &arguments, owner, frames, memory, linked,
-    )?;
+    let call = AppletCall {
+        name: PlatformMethod::Applets(AppletsMethod::AppletDeselect),
+        instance,
+        arguments: &[Cell::Reference(instance)],
+        owner: Owner::Applet(applet),
+    };
+    let (rest, _) = call_applet_method(budget, call, frames, memory, linked)?;
     close(memory)?;
     memory.clear(ClearEvent::Deselect);
     Ok(rest)
@@ -111,24 +112,22 @@ pub fn select<S: WordStore>(
         ..registers
     });
     let instance = instance_of(applet, memory);
-    let arguments = [Cell::Reference(instance)];
-    let name = PlatformMethod::Applets(AppletsMethod::AppletSelect);
-    let owner = Owner::Applet(applet);
+    let call = AppletCall {
+        name: PlatformMethod::Applets(AppletsMethod::AppletSelect),
+        instance,
+        arguments: &[Cell::Reference(instance)],
+        owner: Owner::Applet(applet),
+    };
     let budget = budget.with_left(rest);
-    let (rest, outcome) = call_applet_method(
-        budget, name, instance, &arguments, owner, frames, memory, linked,
-    )?;
+    let (rest, outcome) = call_applet_method(budget, call, frames, memory, linked)?;
     close(memory)?;
     if is_select_accepted(outcome) {
-        return process(
-            budget.with_left(rest),
+        let command = AppletCommand {
             applet,
-            true,
+            selecting: true,
             expected,
-            frames,
-            memory,
-            linked,
-        );
+        };
+        return process(budget.with_left(rest), command, frames, memory, linked);
     }
     let registers = memory.registers();
     memory.set_registers(Registers {

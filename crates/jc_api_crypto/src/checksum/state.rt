@@ -10,7 +10,7 @@ ghost use Rattle.jc_api_crypto.specs.Checksum.{IsRunning, begins_with, checksum_
 ghost use Rattle.jc_api_keys.specs.Shorts.{bytes_of_shorts};
 
 use crate::checksum::{ChecksumAlgorithm, RunningChecksum, checksum_shorts};
-use jc_api::{MOST_ELEMENTS, SMALL_PIECE, change_state, change_state_and_put};
+use jc_api::{MOST_ELEMENTS, SMALL_PIECE, StateWords, change_state, change_state_and_put};
 use jc_api_keys::exceptions::ILLEGAL_VALUE;
 use jc_api_keys::receivers::read;
 use jc_api_keys::shorts::{put_bytes_of, put_shorts_of};
@@ -124,7 +124,12 @@ pub(crate) fn update<S: WordStore>(
 {
     let next = words_after(own, piece, memory);
     let words = &next[..usize::from(checksum_shorts(own.algorithm))];
-    change_state(own.state.array, 0, words, None, memory, linked)
+    let state = StateWords {
+        array: own.state.array,
+        start: 0,
+        words,
+    };
+    change_state(state, None, memory, linked)
 }
 
 // What `doFinal` returns.
@@ -164,16 +169,12 @@ pub(crate) fn finish<S: WordStore>(
     put_bytes_of(&last[..count], bytes);
     let zeros = [0; MOST_SHORTS];
     let answer = checksum_answer(own.algorithm);
-    change_state_and_put(
-        own.state.array,
-        0,
-        &zeros[..count],
-        to,
-        bytes,
-        answer,
-        memory,
-        linked,
-    )
+    let state = StateWords {
+        array: own.state.array,
+        start: 0,
+        words: &zeros[..count],
+    };
+    change_state_and_put(state, to, bytes, answer, memory, linked)
 }
 
 /// The checksum is set to that of elements, of which there are as many as it has bytes.
@@ -198,5 +199,10 @@ pub(crate) fn begin<S: WordStore>(
     let mut shorts = [0; MOST_SHORTS];
     let words = &mut shorts[..count];
     put_shorts_of(bytes, words);
-    change_state(own.state.array, 0, words, None, memory, linked)
+    let state = StateWords {
+        array: own.state.array,
+        start: 0,
+        words,
+    };
+    change_state(state, None, memory, linked)
 }

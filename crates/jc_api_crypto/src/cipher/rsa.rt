@@ -15,7 +15,7 @@ ghost use Rattle.jc_api_crypto.specs.RsaCiphers.{IsRunningRsa, kept_rsa_key, rsa
 
 use crate::cipher::kinds::{RSA_SHORTS, RsaPadding};
 use crate::cipher::rsa::messages::{end, gather};
-use crate::initialized::{KeyedEngine, set_up, taken_mode};
+use crate::initialized::{KeyedEngine, Setup, set_up, taken_mode};
 use crate::signature::pair::keys::{SizedKey, pair_parts, sized_key};
 use crate::signature::pair::parts::Parts;
 use crate::signature::purpose::{Purpose, initialized_for};
@@ -176,16 +176,12 @@ pub(crate) fn init_rsa<S: WordStore>(
     let mode = taken_mode(args)?;
     let key = taken_rsa_key(padding, mode, args, memory, linked)?;
     let _parts = pair_parts(&key.key, memory)?;
-    set_up(
-        PlatformClass::Cipher,
-        RSA_SHORTS as u16,
-        own,
-        mode,
-        &[],
-        args,
-        memory,
-        linked,
-    )
+    let setup = Setup {
+        class: PlatformClass::Cipher,
+        shorts: RSA_SHORTS as u16,
+        vector: &[],
+    };
+    set_up(own, mode, setup, args, memory, linked)
 }
 
 /// `init` with a vector, which RSA does not take: it throws ILLEGAL_VALUE after the key, the mode and the vector's elements.

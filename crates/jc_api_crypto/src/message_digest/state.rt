@@ -11,7 +11,7 @@ ghost use Rattle.jc_api_keys.specs.Receivers.{bytes_of_state};
 ghost use Rattle.jc_api_keys.specs.Shorts.{first_shorts, shorts_of};
 
 use crate::message_digest::{RunningDigest, digest_length, digest_shorts};
-use jc_api::{MOST_ELEMENTS, SMALL_PIECE, change_state, change_state_and_put};
+use jc_api::{MOST_ELEMENTS, SMALL_PIECE, StateWords, change_state, change_state_and_put};
 use jc_api_keys::receivers::{read, read_state};
 use jc_api_keys::shorts::put_shorts_of;
 use jc_digests::kept::{HashAlgorithm, MOST_HASH, MOST_STATE, put_digest_of, update_state};
@@ -51,7 +51,12 @@ pub(crate) fn set_bytes<S: WordStore>(
     let mut buffer = [0; MOST_SHORTS];
     let words = &mut buffer[..bytes.len() / 2];
     put_shorts_of(bytes, words);
-    change_state(own.state.array, 0, words, None, memory, linked)
+    let state = StateWords {
+        array: own.state.array,
+        start: 0,
+        words,
+    };
+    change_state(state, None, memory, linked)
 }
 
 // The bytes of the state once elements follow, at most this many.
@@ -178,16 +183,12 @@ fn put_and_forget<S: WordStore>(
     let answer = digest_answer(own.algorithm);
     let zeros = [0; MOST_SHORTS];
     let words = &zeros[..digest_shorts(own.algorithm) as usize];
-    change_state_and_put(
-        own.state.array,
-        0,
+    let state = StateWords {
+        array: own.state.array,
+        start: 0,
         words,
-        to,
-        digest,
-        answer,
-        memory,
-        linked,
-    )
+    };
+    change_state_and_put(state, to, digest, answer, memory, linked)
 }
 
 /// The digest of the message with these elements is put, and what came is forgotten.
@@ -228,5 +229,10 @@ pub(crate) fn forget<S: WordStore>(
 {
     let zeros = [0; MOST_SHORTS];
     let words = &zeros[..digest_shorts(own.algorithm) as usize];
-    change_state(own.state.array, 0, words, None, memory, linked)
+    let state = StateWords {
+        array: own.state.array,
+        start: 0,
+        words,
+    };
+    change_state(state, None, memory, linked)
 }

@@ -11,7 +11,7 @@ ghost use Rattle.jc_api_keys.specs.Shorts.{first_shorts};
 
 use crate::random_data::RunningRandom;
 use crate::random_data::source::{MIXED_SIZE, Source, put_random};
-use jc_api::{MOST_ELEMENTS, SMALL_PIECE, change_state, change_state_and_put};
+use jc_api::{MOST_ELEMENTS, SMALL_PIECE, StateWords, change_state, change_state_and_put};
 use jc_api_keys::exceptions::ILLEGAL_VALUE;
 use jc_api_keys::receivers::read;
 use jc_api_keys::shorts::{put_bytes_of, put_shorts_of};
@@ -98,7 +98,12 @@ fn draw_most<const MOST: usize, S: WordStore>(
     put_random(&source, number, bytes);
     let next = next_number(number, e.count);
     let words = [(next / 65536) as u16, (next % 65536) as u16];
-    change_state_and_put(own.state.array, 0, &words, e, bytes, answer, memory, linked)
+    let state = StateWords {
+        array: own.state.array,
+        start: 0,
+        words: &words,
+    };
+    change_state_and_put(state, e, bytes, answer, memory, linked)
 }
 
 /// Fills elements with random bytes, and returns a number or nothing.
@@ -151,14 +156,12 @@ fn mix_most<const MOST: usize, S: WordStore>(
     digest_of_pieces::<Sha256>(&mixed, given, &mut digest);
     let mut words = [0; MIXED_SHORTS];
     put_shorts_of(&digest, &mut words);
-    change_state(
-        own.state.array,
-        COUNTER_SHORTS as u16,
-        &words,
-        None,
-        memory,
-        linked,
-    )
+    let state = StateWords {
+        array: own.state.array,
+        start: COUNTER_SHORTS as u16,
+        words: &words,
+    };
+    change_state(state, None, memory, linked)
 }
 
 /// Mixes in elements.

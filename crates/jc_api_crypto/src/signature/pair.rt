@@ -20,7 +20,7 @@ ghost use Rattle.jc_api_crypto.specs.KeptBytes.{first_bytes};
 ghost use Rattle.jc_api_crypto.specs.PairSigning.{IsRunningPair, is_signature_of, signature_of};
 ghost use Rattle.jc_api_crypto.specs.SignaturePairs.{digest_with, goes_on, longest_signature, pair_get_length, pair_init, pair_init_with_vector, pair_sign, pair_update, pair_verify, puts_signature, running_pair, signs, tells_if_signed, verifies};
 
-use crate::initialized::{KeyedEngine, MOST_SHORTS, set_up, taken_mode};
+use crate::initialized::{KeyedEngine, MOST_SHORTS, Setup, set_up, taken_mode};
 use crate::message_digest::state::{digest, put_next_words};
 use crate::message_digest::{RunningDigest, digest_shorts};
 use crate::outputs::put_output;
@@ -30,7 +30,7 @@ use crate::signature::pair::parts::Parts;
 use crate::signature::pair::signing::{MOST_SIGNATURE, is_signature, put_signature};
 use crate::signature::pair_algorithms::PairSignature;
 use crate::signature::purpose::{Purpose, initialized_for};
-use jc_api::{MOST_ELEMENTS, change_state, counted_of, state_at};
+use jc_api::{MOST_ELEMENTS, StateWords, change_state, counted_of, state_at};
 use jc_api_keys::exceptions::ILLEGAL_VALUE;
 use jc_digests::kept::MOST_HASH;
 use jc_frames::{Cell, FrameExit};
@@ -73,16 +73,12 @@ pub(crate) fn init_pair<S: WordStore>(
     let mode = taken_mode(args)?;
     let key = taken_pair_key(algorithm, mode, args, memory, linked)?;
     let _parts = pair_parts(&key, memory)?;
-    set_up(
-        PlatformClass::Signature,
-        algorithm.shorts(),
-        own,
-        mode,
-        &[],
-        args,
-        memory,
-        linked,
-    )
+    let setup = Setup {
+        class: PlatformClass::Signature,
+        shorts: algorithm.shorts(),
+        vector: &[],
+    };
+    set_up(own, mode, setup, args, memory, linked)
 }
 
 /// `init` with a vector, which no such signature takes: it throws ILLEGAL_VALUE after the key, the mode and the vector's elements.
@@ -191,7 +187,12 @@ fn go_on<S: WordStore>(
     let (first, rest) = words.split_at_mut(digest_shorts(own.digest.algorithm) as usize);
     put_kept_words(own, &piece, memory, rest);
     put_next_words(&own.digest, piece, memory, first);
-    change_state(own.digest.state.array, 0, words, None, memory, linked)
+    let state = StateWords {
+        array: own.digest.state.array,
+        start: 0,
+        words,
+    };
+    change_state(state, None, memory, linked)
 }
 
 /// `update`: the bytes follow the message.
@@ -339,14 +340,12 @@ fn forget_and_tell<S: WordStore>(
 {
     let zeros = [0; MOST_SHORTS];
     let words = &zeros[..own.algorithm.shorts() as usize];
-    change_state(
-        own.digest.state.array,
-        0,
+    let state = StateWords {
+        array: own.digest.state.array,
+        start: 0,
         words,
-        Some(i16::from(signed)),
-        memory,
-        linked,
-    )
+    };
+    change_state(state, Some(i16::from(signed)), memory, linked)
 }
 
 // The message ends with these elements: whether others are a signature of it is returned, and what came is forgotten.

@@ -15,7 +15,7 @@ use crate::message_digest::state::MOST_SHORTS;
 use crate::signature::algorithms::SignatureAlgorithm;
 use crate::signature::code::{RunningSignature, signature_shorts, vector_size};
 use crate::signature::codes::{put_signature_of, take_in};
-use jc_api::{MOST_ELEMENTS, SMALL_PIECE, change_state, change_state_and_put};
+use jc_api::{MOST_ELEMENTS, SMALL_PIECE, StateWords, change_state, change_state_and_put};
 use jc_api_keys::exceptions::ILLEGAL_USE;
 use jc_api_keys::key_objects::contents::MOST_KEY;
 use jc_api_keys::receivers::{read, read_state};
@@ -113,7 +113,12 @@ fn set_bytes<S: WordStore>(
     let mut buffer = [0; MOST_SHORTS];
     let words = &mut buffer[..bytes.len() / 2];
     put_shorts_of(bytes, words);
-    change_state(own.state.array, 0, words, None, memory, linked)
+    let state = StateWords {
+        array: own.state.array,
+        start: 0,
+        words,
+    };
+    change_state(state, None, memory, linked)
 }
 
 // A piece follows, of at most this many bytes.
@@ -228,16 +233,12 @@ fn put_and_forget<S: WordStore>(
     let answer = signature_answer(own.algorithm);
     let zeros = [0; MOST_SHORTS];
     let words = &zeros[..signature_shorts(own.algorithm) as usize];
-    change_state_and_put(
-        own.state.array,
-        0,
+    let state = StateWords {
+        array: own.state.array,
+        start: 0,
         words,
-        to,
-        signature,
-        answer,
-        memory,
-        linked,
-    )
+    };
+    change_state_and_put(state, to, signature, answer, memory, linked)
 }
 
 /// The message ends with these elements: its signature is put, and what came is forgotten. ILLEGAL_USE where it cannot end so.
@@ -304,14 +305,12 @@ fn forget_and_tell<S: WordStore>(
 {
     let zeros = [0; MOST_SHORTS];
     let words = &zeros[..signature_shorts(own.algorithm) as usize];
-    change_state(
-        own.state.array,
-        0,
+    let state = StateWords {
+        array: own.state.array,
+        start: 0,
         words,
-        Some(i16::from(same)),
-        memory,
-        linked,
-    )
+    };
+    change_state(state, Some(i16::from(same)), memory, linked)
 }
 
 /// The message ends with these elements: whether others are its signature is returned, and what came is forgotten. ILLEGAL_USE where it

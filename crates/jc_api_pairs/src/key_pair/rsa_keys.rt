@@ -38,6 +38,15 @@ const MOST_PARTS: usize = 9 * MOST_OF_PRIME;
 // How many bytes the data of a public key have at most.
 const MOST_PUBLIC: usize = 2 * (2 + MOST_SIZE);
 
+// New keys of RSA: how the private one is kept, how many bytes a prime has, the public exponent, and the parts of the key pair.
+#[derive(Clone, Copy)]
+struct RsaKeys<'a> {
+    form: PrivateForm,
+    size: usize,
+    exponent: &'a [u8],
+    parts: &'a [u8],
+}
+
 // Where the exponent of a public key stands, if it is set.
 fn exponent_place<S: WordStore>(key: &Key, memory: &Memory<S>) -> Result<Option<Stretch>, FrameExit>
     requires up { memory.now.heap.down ≡ false }
@@ -142,22 +151,26 @@ fn put_private(form: PrivateForm, parts: &[u8], size: usize, to: &mut [u8])
 
 // Sets both keys to a key pair.
 fn set_keys<S: WordStore>(
-    form: PrivateForm,
     pair: &KeysOfPair,
-    size: usize,
-    exponent: &[u8],
-    parts: &[u8],
+    keys: RsaKeys<'_>,
     args: &[Cell],
     memory: &mut Memory<S>,
     linked: &Linked,
 ) -> Result<NativeResult, StepExit>
     requires up { memory.old.heap.down ≡ false }
-    requires few { size ≤ MOST_OF_PRIME }
-    requires exponent { length exponent.now ≤ MOST_SIZE }
-    requires parts { length parts.now ≡ 9 * size }
-    ensures { Executes (generating_call (Ok (sets_keys_of pair.now (rsa_keys form exponent.now
-        (parts_in size parts.now)))) args.now linked.now memory.old) memory.old (after_call result memory.new) }
+    requires few { keys.size ≤ MOST_OF_PRIME }
+    requires exponent { length keys.exponent.now ≤ MOST_SIZE }
+    requires parts { length keys.parts.now ≡ 9 * keys.size }
+    ensures { Executes (generating_call (Ok (sets_keys_of pair.now (rsa_keys keys.entry.form
+        keys.entry.exponent.now (parts_in keys.entry.size keys.entry.parts.now)))) args.now
+        linked.now memory.old) memory.old (after_call result memory.new) }
 {
+    let RsaKeys {
+        form,
+        size,
+        exponent,
+        parts,
+    } = keys;
     let modulus = part_of(parts, 5 * size, 2 * size);
     let mut public_buffer = [0; MOST_PUBLIC];
     let public = &mut public_buffer[..(2 + modulus.len()) + (2 + exponent.len())];
@@ -194,7 +207,13 @@ fn generate_for<S: WordStore>(
     if !put_rsa_pair(&seed, exponent, size, parts) {
         return Err(StepExit::Throw(ILLEGAL_VALUE));
     }
-    set_keys(form, pair, size, exponent, parts, args, memory, linked)
+    let keys = RsaKeys {
+        form,
+        size,
+        exponent,
+        parts,
+    };
+    set_keys(pair, keys, args, memory, linked)
 }
 
 // Sets both keys to new ones for the exponent that stands in some elements, or for 65537.

@@ -13,11 +13,11 @@ use Rattle.jc_api_crypto.proofs.initialized.set_up.Goals as goal
 pub returns : goal.returns
 returns g c =
     let m = c.args.memory.now in
-    let n = c.args.shorts in
+    let n = c.args.setup.shorts in
     let mode = to_z-of_z w16 c.args.mode c.ranges.mode in
-    let values : c.put_values.new.values ≡ values_given c.args.mode c.args.vector.now =
+    let values : c.put_values.new.values ≡ values_given c.args.mode c.args.setup.vector.now =
     c.put_values.ensures ∙ (λ j. Argument 1 ∷ Word (cast_unsigned w16 (mode j)) ∷ map Word (c.put_vector.ensures j)) in
     let zeros : take {A = ℕ} n (replicate 303 0) ≡ replicate n 0 = take-replicate n 303 0 c.requires.state in
     subst (λ (a : FieldsAnswer). Executes (initializing_call (Ok a) c.args.args.now c.args.linked.now m) m
     (after_call c.initialize.result c.initialize.new.memory))
-    (λ j. sets_fields c.args.class key_cell (values j) c.args.own.now.array (zeros j)) c.initialize.ensures
+    (λ j. sets_fields c.args.setup.class key_cell (values j) c.args.own.now.array (zeros j)) c.initialize.ensures

@@ -4,6 +4,7 @@ use Rattle.jcard_script.proofs.Known.{appends_same}
 use Rattle.jcard_sweeps.specs.SweepsAsked.{sweep_asked_by}
 use Rattle.jcard_sweeps.specs.Targets.{IsNoTarget, IsTarget}
 use Rattle.jcard_sweeps.specs.Writings.{IsAttackTold}
+use Rattle.jcard_sweeps.specs.declared.attacking.Attacking.{Attacking}
 use Rattle.jcard_sweeps.proofs.Attackings.{asked_after}
 use Rattle.jcard_sweeps.proofs.NamedParts.{among}
 use Rattle.jcard_files.proofs.Effects.{unfailed}
@@ -41,12 +42,13 @@ returns-in-Ok g c =
     let found = subst (λ a. IsTarget a c.args.subject.commands.now target) c.sweep_of.ensures c.in_ok-target.ensures.found in
     let written = c.write_attack.ensures.0 in
     let report = subst (λ t. IsAttackTold t c.in-Ok.told.is_accepted c.write_attack.result written.0) c.deref.ensures.value written.2 in
-    let lines = asked_after c.lent.result _ c.unwrap_or-asked_after.result _ c.lent.ensures c.unwrap_or-asked_after.ensures refl in (
+    let lines = asked_after c.lent.result _ c.unwrap_or-asked_after.result _ c.lent.ensures c.unwrap_or-asked_after.ensures refl in
+    let attacking : Attacking = record { subject = c.args.subject; probe = c.unwrap_or-asked_after.result; asked = c.args.asked } in (
       (
         written.0,
         read.0 ++ [],
         written.1,
-        inr (target, found, inr (_, read.0, [], (refl, refl, _, read.2, lines), refl, inr (c.in-Ok.told, c.in-Ok.ensures, (report, refl)))),
+        inr (target, found, inr (attacking, read.0, [], (refl, refl, _, read.2, lines), refl, inr (c.in-Ok.told, c.in-Ok.ensures, (report, refl)))),
         g.met.D.Disk.then _ _ _ read.0 [] read.1 (g.met.D.Disk.none _),
       ),
       c.write_attack.ensures.1,
@@ -58,7 +60,8 @@ returns g c =
     let target = c.in_ok-target.target in
     let found = subst (λ a. IsTarget a c.args.subject.commands.now target) c.sweep_of.ensures c.in_ok-target.ensures.found in
     let fault = c.attack_fault.result in
-    let lines = asked_after c.lent.result _ c.unwrap_or-asked_after.result _ c.lent.ensures c.unwrap_or-asked_after.ensures refl in (
+    let lines = asked_after c.lent.result _ c.unwrap_or-asked_after.result _ c.lent.ensures c.unwrap_or-asked_after.ensures refl in
+    let attacking : Attacking = record { subject = c.args.subject; probe = c.unwrap_or-asked_after.result; asked = c.args.asked } in (
       (
         [],
         read.0 ++ [],
@@ -66,7 +69,7 @@ returns g c =
         inr (
           target,
           found,
-          inr (_, read.0, [], (refl, refl, _, read.2, lines), refl, inl (fault, refl, refl, refl, (c.in-Err.cause, c.in-Err.ensures, c.attack_fault.ensures.told))),
+          inr (attacking, read.0, [], (refl, refl, _, read.2, lines), refl, inl (fault, refl, refl, refl, (c.in-Err.cause, c.in-Err.ensures, c.attack_fault.ensures.told))),
         ),
         g.met.D.Disk.then _ _ _ read.0 [] read.1 (g.met.D.Disk.none _),
       ),
