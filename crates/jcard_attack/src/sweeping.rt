@@ -91,12 +91,7 @@ pub fn attack(
     let objects = objects_before(alloc, sought.objects, &before)?;
     let instructions = instructions_of(alloc, words, attacked, sought.names)?;
     let faults = faults_at(alloc, sought, instructions.len())?;
-    let baseline = Baseline {
-        accepted: sought.accepted,
-        objects: &objects,
-        before: &before,
-        undisturbed: &undisturbed,
-    };
+    let baseline = baseline_of(sought, &objects, &before, &undisturbed);
     let strikes = strikes_of(alloc, words, attacked, baseline, asked_in(&faults, part))?;
     let undisturbed = aftermath_told(alloc, &objects, undisturbed)?;
     Ok(AttackSweep {
@@ -105,6 +100,26 @@ pub fn attack(
         instructions,
         strikes,
     })
+}
+
+// What a command with one of these faults is judged beside.
+fn baseline_of<'a>(
+    sought: Sought<'a>,
+    objects: &'a Option<ImageObjects>,
+    before: &'a Left,
+    undisturbed: &'a Aftermath,
+) -> Baseline<'a>
+    ensures accepted { result.accepted.now ≡ sought.entry.accepted.now }
+    ensures objects { result.objects.now ≡ objects.now }
+    ensures before { result.before.now ≡ before.now }
+    ensures undisturbed { result.undisturbed.now ≡ undisturbed.now }
+{
+    Baseline {
+        accepted: sought.accepted,
+        objects,
+        before,
+        undisturbed,
+    }
 }
 
 // What these faults came to.

@@ -177,6 +177,7 @@ fn next_cut(
     requires known { shared.now.baseline.is_known ≡ true
         → IsKnown shared.now.command shared.now.baseline.before.now }
     requires last { IfSome last.old (λ reported. IsLastCut shared.now reported) }
+    ensures small { number < 65536 }
     ensures last { IfSome last.new (λ reported. IsLastCut shared.now reported) }
     ensures cut { MatchResult result
         (λ cut. MatchOption cut (IsUncutAt shared.now.words.now shared.now.command number)

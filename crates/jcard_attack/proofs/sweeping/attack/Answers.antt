@@ -1,4 +1,4 @@
-use Rattle.std.proofs.Common.{◌∙◌, List, ap, inl, inr, refl, subst, sym}
+use Rattle.std.proofs.Common.{◌∙◌, List, ap, inl, inr, refl, rules, subst, sym}
 use Rattle.std.specs.Prelude.{codes}
 use Rattle.std.proofs.lemmas.Slice.Eq.{bytes_eq-Decides}
 use Rattle.jc_card.specs.declared.planned_fault.PlannedFault.{PlannedFault}
@@ -17,14 +17,14 @@ returns c =
     let tried = c.in_ok-faults.ensures
     ∙ ap (faults_tried (kinds_tried sought.models sought.within)) (c.len.ensures ∙ c.in_ok-instructions.instructions.ok.0) in
     record {
-      baseline = _;
-      accepted = refl;
-      before = refl;
+      baseline = c.baseline_of-baseline.result;
+      accepted = c.baseline_of-baseline.ensures.accepted;
+      before = c.baseline_of-baseline.ensures.before;
       begun = c.in_ok-before.ensures;
-      comes = c.in_ok-undisturbed.ensures;
-      asked = c.in_ok-objects.ensures.asked;
-      told = c.in_ok-undisturbed-2.ensures;
-      strikes = subst (λ (fs : List PlannedFault). AreStruckBy c.args.words.now c.args.attacked _ fs c.in_ok-strikes.strikes.items)
+      comes = rw c.baseline_of-baseline.ensures.undisturbed c.in_ok-undisturbed.ensures;
+      asked = rw c.baseline_of-baseline.ensures.objects c.in_ok-objects.ensures.asked;
+      told = rw c.baseline_of-baseline.ensures.objects (rw c.baseline_of-baseline.ensures.undisturbed c.in_ok-undisturbed-2.ensures);
+      strikes = subst (λ (fs : List PlannedFault). AreStruckBy c.args.words.now c.args.attacked c.baseline_of-baseline.result fs c.in_ok-strikes.strikes.items)
           (c.asked_in.ensures ∙ ap (asked_in c.args.part) (c.deref-2.ensures.value ∙ tried)) c.in_ok-strikes.ensures;
     }
 

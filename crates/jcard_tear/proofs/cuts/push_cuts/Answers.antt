@@ -10,7 +10,6 @@ pub loop-place-init : goal.loop-place-init
 loop-place-init g c = record {
   cuts = rw c.requires.none (cuts_none _ _ _ _ _);
   count = rw c.requires.none (omega arith);
-  fits = omega (arith, c.ranges.share.first.fits);
   places = rw c.requires.none refl;
   last = rw c.requires.first tt;
 }
@@ -21,7 +20,7 @@ returns-in_default-clause-cut g c =
     (c.loop-place.invariant.cuts, subst (λ n. IsUncutAt c.args.shared.now.words.now c.args.shared.now.command n) c.loop-place.invariant.count uncut)
 
 pub returns-in_default-clause-below : goal.returns-in_default-clause-below
-returns-in_default-clause-below g c = omega (arith, c.loop-place.invariant.count, c.loop-place.invariant.fits)
+returns-in_default-clause-below g c = omega (arith, c.loop-place.invariant.count, c.next_cut.ensures.small)
 
 pub loop-place-preserved : goal.loop-place-preserved
 loop-place-preserved g c =
@@ -36,7 +35,6 @@ loop-place-preserved g c =
           cuts cut c.loop-place.invariant.cuts here);
       count = number_more c.args.share.first c.args.share.step (length cuts) c.loop-place.number c.in-Some-checked_add.next c.loop-place.invariant.count next
           ∙ ap (λ n. c.args.share.first + c.args.share.step * n) (sym (ap length c.in_ok-push_cut.ensures ∙ length-append cuts (cut ∷ [])));
-      fits = search rules;
       places = rw c.in_ok-push_cut.ensures (omega (arith, length-append cuts (cut ∷ []), c.loop-place.invariant.places));
       last = c.next_cut.ensures.last;
     }
