@@ -10,7 +10,7 @@ use crate::words::{bytes, pieces};
 use crate::{long_loops, loops};
 use jc_ciphers::aes::Aes;
 use jc_ciphers::des::Des;
-use jc_ciphers::triple::TripleDes;
+use jc_ciphers::triple_des::TripleDes;
 use jc_digests::checksums::{update_16, update_32};
 use jc_digests::digest::Digest;
 use jc_digests::md_5::Md5;

@@ -2,7 +2,7 @@
 
 use jc_ciphers::aes::Aes;
 use jc_ciphers::des::Des;
-use jc_ciphers::triple::TripleDes;
+use jc_ciphers::triple_des::TripleDes;
 use jc_digests::absorbing::Compression;
 use jc_digests::checksums::{update_16, update_32};
 use jc_digests::md_5::Words128;

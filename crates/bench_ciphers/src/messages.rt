@@ -11,7 +11,7 @@ use jc_ciphers::hmac::Hmac;
 use jc_ciphers::macs::{finish_3, finish_cmac};
 use jc_ciphers::padding::{Padding, unpadded};
 use jc_ciphers::steps::{CbcDecryption, CbcEncryption, EcbDecryption, EcbEncryption, Step};
-use jc_ciphers::triple::TripleDes;
+use jc_ciphers::triple_des::TripleDes;
 use jc_digests::digest::Digest;
 use std::alloc::{AllocError, Global};
 

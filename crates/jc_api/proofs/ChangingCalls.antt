@@ -3,7 +3,7 @@
 use Rattle.std.proofs.Common.{◌≡◌, ◌∙◌, ℕ, List, length, map, Option, Some, None, Result, ap, subst}
 use Rattle.std.proofs.lemmas.Option.{same_Some}
 use Rattle.std.specs.Prelude.{ℤ, pos}
-use Rattle.jc_transient.specs.Cells.{number_of}
+use Rattle.jc_transient.specs.Cell.{number_of}
 use Rattle.jc_heap.specs.Heap.{facts}
 use Rattle.jc_memory.specs.Cells.{cells_effect_in, cells_refusal}
 use Rattle.jc_memory.specs.State.{MemoryState, Effect, SetTransient}

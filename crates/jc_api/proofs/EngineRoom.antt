@@ -4,7 +4,7 @@ use Rattle.std.proofs.lemmas.Bool.{cases_Bool, eqb-true, leb-true, le-leb}
 use Rattle.std.proofs.lemmas.List.{append-nil}
 use Rattle.std.proofs.lemmas.Option.{none-some}
 use Rattle.std.specs.Prelude.{◌&&◌, ◌==◌, nat_le, nat_lt}
-use Rattle.jc_commit.specs.Keeping.{has_room_for as journal_room, unlogged_addresses}
+use Rattle.jc_commit.specs.Keep.{has_room_for as journal_room, unlogged_addresses}
 use Rattle.jc_commit.proofs.WhatIsKept.{keeps_old_values}
 use Rattle.jc_transient.specs.declared.cell.ClearEvent.{ClearEvent}
 use Rattle.jc_transient.specs.declared.cell.ClearEvent.TheVariants.{Deselect, Reset}
@@ -13,7 +13,7 @@ use Rattle.jc_heap.specs.Heap.{heap_after_change, keeping, limit, unlogged_place
 use Rattle.jc_heap.specs.Moves.{refusal_of_places}
 use Rattle.jc_heap.specs.Object.{object_size, transient_size}
 use Rattle.jc_heap.specs.declared.object.Kind.TheVariants.{Instance}
-use Rattle.jc_heap.specs.Places.{place_at}
+use Rattle.jc_heap.specs.Place.{place_at}
 use Rattle.jc_heap.specs.declared.place.Place.TheVariants as place
 use Rattle.jc_heap.specs.declared.refusal.HeapRefusal.{HeapRefusal}
 use Rattle.jc_heap.specs.declared.refusal.HeapRefusal.TheVariants.{CommitFull, HeapFull, NoTransientSpace}

@@ -5,7 +5,7 @@ use Rattle.std.specs.Prelude.{ℤ, pos}
 use Rattle.jc_heap.specs.Heap.{facts}
 use Rattle.jc_heap.specs.declared.object.Kind.TheVariants.{ByteArray}
 use Rattle.jc_memory.specs.Cells.{cells_refusal}
-use Rattle.jc_memory.specs.Changing.{nonatomic_store}
+use Rattle.jc_memory.specs.Changes.{nonatomic_store}
 use Rattle.jc_memory.specs.State.{MemoryState, Effect}
 use Rattle.jc_platform.specs.declared.names.PlatformMethod.{PlatformMethod}
 use Rattle.jc_linker.specs.Values.{Packages}

@@ -9,7 +9,7 @@ use Rattle.jc_heap.specs.declared.object.Kind.{Kind}
 use Rattle.jc_heap.specs.declared.object.Kind.TheVariants.{Instance}
 use Rattle.jc_memory.specs.Cells.{cells_refusal}
 use Rattle.jc_memory.specs.State.{MemoryState, Effect}
-use Rattle.jc_platform.specs.Distinct.{class_word}
+use Rattle.jc_platform.specs.NamePlaces.{class_word}
 use Rattle.jc_platform.specs.Signatures.{sets_receiver}
 use Rattle.jc_platform.specs.declared.names.PlatformClass.{PlatformClass}
 use Rattle.jc_platform.specs.declared.names.PlatformMethod.{PlatformMethod}

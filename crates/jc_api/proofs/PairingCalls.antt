@@ -9,7 +9,7 @@ use Rattle.jc_memory.specs.Making.{creation_refusal}
 use Rattle.jc_memory.specs.Programs.{Program, Finish, Perform, Choose, Either, bind}
 use Rattle.jc_memory.specs.Reading.{AllDue, AllResults}
 use Rattle.jc_memory.specs.State.{MemoryState, Effect, apply_effect}
-use Rattle.jc_platform.specs.Distinct.{class_word}
+use Rattle.jc_platform.specs.NamePlaces.{class_word}
 use Rattle.jc_platform.specs.declared.names.PlatformClass.{PlatformClass}
 use Rattle.jc_linker.specs.Values.{Packages}
 use Rattle.jc_frames.specs.declared.cell.Cell.{Cell}

@@ -2,7 +2,7 @@
 -- calls have, after the checks that precede them.
 use Rattle.std.specs.Prelude.{ℤ}
 use Rattle.std.proofs.Common.{◌≡◌, ◌+◌, ℕ, List, true, length, map, Some, None}
-use Rattle.jc_transient.specs.Cells.{number_of}
+use Rattle.jc_transient.specs.Cell.{number_of}
 use Rattle.jc_transient.specs.declared.cell.CellValue.TheVariants.{Short}
 use Rattle.jc_transient.specs.declared.cell.ClearEvent.{ClearEvent}
 use Rattle.jc_heap.specs.Heap.{facts}
@@ -10,13 +10,13 @@ use Rattle.jc_heap.specs.Moves.{Write}
 use Rattle.jc_heap.specs.declared.object.Kind.TheVariants.{Instance, ByteArray}
 use Rattle.jc_heap.specs.declared.place.Place.TheVariants as place
 use Rattle.jc_memory.specs.Cells.{cells_effect, cell_effect}
-use Rattle.jc_memory.specs.Changing.{nonatomic_store}
+use Rattle.jc_memory.specs.Changes.{nonatomic_store}
 use Rattle.jc_memory.specs.Making.{creation_move, creation_refusal}
 use Rattle.jc_memory.specs.Reading.{AllDue}
 use Rattle.jc_memory.specs.State.{MemoryState, Effect, HeapMove, IsNew, SetRegisters, SendBytes, SetTransient, apply_effect}
 use Rattle.jc_memory.specs.declared.making.NewObject.{NewObject}
 use Rattle.jc_memory.specs.declared.registers.Registers.{Registers}
-use Rattle.jc_platform.specs.Distinct.{class_of, class_word}
+use Rattle.jc_platform.specs.NamePlaces.{class_of, class_word}
 use Rattle.jc_platform.specs.Hierarchy.{carries_reason}
 use Rattle.jc_platform.specs.Signatures.{sets_receiver}
 use Rattle.jc_platform.specs.declared.names.PlatformMethod.{PlatformMethod}

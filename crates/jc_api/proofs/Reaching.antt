@@ -20,7 +20,7 @@ use Rattle.jc_firewall.proofs.Finds.{all_allow}
 use Rattle.jc_memory.specs.Cells.{header_at}
 use Rattle.jc_memory.specs.State.{MemoryState}
 use Rattle.jc_linker.specs.Values.{Packages}
-use Rattle.jc_frames.specs.declared.outcome.Exception.TheVariants.{NullPointerException}
+use Rattle.jc_frames.specs.declared.exceptions.Exception.TheVariants.{NullPointerException}
 use Rattle.jc_frames.specs.declared.outcome.FrameExit.{FrameExit}
 use Rattle.jc_frames.specs.declared.outcome.FrameExit.TheVariants.{Throw}
 use Rattle.jc_world.specs.Contexts.{unless_denied, firewall_check, firewall_decision, situation_of}

@@ -16,7 +16,7 @@ use Rattle.jc_firewall.specs.declared.access.Access.TheVariants.{ArrayElement}
 use Rattle.jc_memory.specs.Cells.{header_at, byte_at}
 use Rattle.jc_memory.specs.State.{MemoryState}
 use Rattle.jc_linker.specs.Values.{Packages}
-use Rattle.jc_frames.specs.declared.outcome.Exception.TheVariants.{ArrayIndexOutOfBoundsException}
+use Rattle.jc_frames.specs.declared.exceptions.Exception.TheVariants.{ArrayIndexOutOfBoundsException}
 use Rattle.jc_frames.specs.declared.outcome.FrameExit.{FrameExit}
 use Rattle.jc_frames.specs.declared.outcome.FrameExit.TheVariants.{Throw, End}
 use Rattle.jc_frames.specs.declared.outcome.Outcome.TheVariants.{Fault}

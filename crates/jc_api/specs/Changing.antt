@@ -1,6 +1,6 @@
 -- Form 2 of calls: a call that reads, and then puts bytes into an array of its caller and sets the state of an object of the platform.
 use Rattle.std.specs.Prelude.{ℕ, ℤ, pos, ◌+◌, ◌≡◌, ◌≤◌, ◌<◌, ◌&&◌, nat_le, is_ok, is_some, Bool, List, length, map, Option, Some, None, Result, Ok, Err, if◌then◌else◌}
-use Rattle.jc_transient.specs.Cells.{number_of}
+use Rattle.jc_transient.specs.Cell.{number_of}
 use Rattle.jc_transient.specs.declared.cell.ClearEvent.{ClearEvent}
 use Rattle.jc_heap.specs.Heap.{IsObject, facts}
 use Rattle.jc_heap.specs.declared.object.Facts.{Facts}

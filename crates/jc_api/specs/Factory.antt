@@ -18,7 +18,7 @@ use Rattle.jc_memory.specs.Making.{creation_refusal, object_creation}
 use Rattle.jc_memory.specs.Programs.{Finish, Perform, Program, bind}
 use Rattle.jc_memory.specs.State.{HeapMove, MemoryState}
 use Rattle.jc_memory.specs.declared.making.NewObject.{NewObject}
-use Rattle.jc_platform.specs.Distinct.{class_word}
+use Rattle.jc_platform.specs.NamePlaces.{class_word}
 use Rattle.jc_platform.specs.Tokens.{token_of_class}
 use Rattle.jc_platform.specs.Hierarchy.{cells_of, holds_reference, is_interface}
 use Rattle.jc_platform.specs.declared.names.PlatformClass.{PlatformClass}

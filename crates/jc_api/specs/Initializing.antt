@@ -1,6 +1,6 @@
 -- Form 4 of calls: a call that sets cells of the object that it is called on, and then its state.
 use Rattle.std.specs.Prelude.{ℕ, suc, ◌+◌, ◌≡◌, ◌≤◌, false, List, [], ◌∷◌, length, map, unwrap_or, Result, Ok, Err, if◌then◌else◌}
-use Rattle.jc_transient.specs.Cells.{number_of}
+use Rattle.jc_transient.specs.Cell.{number_of}
 use Rattle.jc_heap.specs.declared.object.Facts.{Facts}
 use Rattle.jc_frames.specs.declared.cell.Cell.{Cell}
 use Rattle.jc_frames.specs.declared.outcome.FrameExit.{FrameExit}
@@ -9,7 +9,7 @@ use Rattle.jc_frames.specs.declared.outcome.Outcome.TheVariants.{Fault}
 use Rattle.jc_memory.specs.Cells.{cells_effect, cells_refusal}
 use Rattle.jc_memory.specs.Programs.{Perform}
 use Rattle.jc_memory.specs.State.{MemoryState, SetTransient}
-use Rattle.jc_platform.specs.Distinct.{class_word}
+use Rattle.jc_platform.specs.NamePlaces.{class_word}
 use Rattle.jc_platform.specs.Hierarchy.{cells_of, holds_reference}
 use Rattle.jc_platform.specs.declared.names.PlatformClass.{PlatformClass}
 use Rattle.jc_linker.specs.Values.{Packages}

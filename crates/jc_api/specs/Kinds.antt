@@ -9,7 +9,7 @@ use Rattle.jc_frames.specs.declared.cell.Cell.{Cell}
 use Rattle.jc_frames.specs.declared.cell.Cell.TheVariants as cell
 use Rattle.jc_platform.specs.declared.kinds.ParameterKind.{ParameterKind}
 use Rattle.jc_platform.specs.declared.kinds.ParameterKind.TheVariants as parameter
-use Rattle.jc_platform.specs.Distinct.{class_word}
+use Rattle.jc_platform.specs.NamePlaces.{class_word}
 use Rattle.jc_linker.specs.Values.{Packages}
 use Rattle.jc_world.specs.Objects.{is_instance_of}
 

@@ -1,6 +1,6 @@
 //! Form 2 of calls: the state of an object of the platform is set, and bytes are put into an array of the caller.
 ghost use Rattle.std.specs.Prelude.{◌≡◌, ◌<◌, false, length, map, IfOk, Ok};
-ghost use Rattle.jc_transient.specs.Cells.{number_of};
+ghost use Rattle.jc_transient.specs.Cell.{number_of};
 ghost use Rattle.jc_memory.specs.Programs.{Executes};
 ghost use Rattle.jc_memory.specs.State.{SetTransient, apply_effect};
 ghost use Rattle.jc_world.specs.Arrays.{IsInArray};

@@ -14,12 +14,12 @@ use Rattle.jc_api.specs.Initializing.{FieldsAnswer, FitsFields}
 use Rattle.jc_api.specs.declared.factory.NewEngine.{NewEngine}
 use Rattle.jc_api.proofs.Reaching.{err_not_ok, same_Ok}
 use Rattle.jc_api.proofs.Stretches.{both_ok}
-use Rattle.jc_api_crypto.specs.BlockCiphers.{block_init, block_init_with_vector, cipher_requirements}
+use Rattle.jc_api_crypto.specs.Cipher.Block.{block_init, block_init_with_vector, cipher_requirements}
 use Rattle.jc_api_crypto.specs.Cipher.{cipher_get_instance, cipher_get_instance_of_cipher_and_padding, cipher_init, cipher_init_with_vector, init_of}
 use Rattle.jc_api_crypto.specs.Cipher.{init_with_vector_of, new_cipher, own_cipher}
-use Rattle.jc_api_crypto.specs.CipherKinds.{kind_named, kind_number, kind_of_numbers, rsa_shorts}
-use Rattle.jc_api_crypto.specs.PairKeys.{pair_parts}
-use Rattle.jc_api_crypto.specs.RsaCiphers.{rsa_init, rsa_init_with_vector, taken_rsa_key}
+use Rattle.jc_api_crypto.specs.Cipher.Kinds.{kind_named, kind_number, kind_of_numbers, rsa_shorts}
+use Rattle.jc_api_crypto.specs.Signature.Pair.Keys.{pair_parts}
+use Rattle.jc_api_crypto.specs.Cipher.Rsa.{rsa_init, rsa_init_with_vector, taken_rsa_key}
 use Rattle.jc_api_crypto.specs.Initialized.{initializes, key_init, taken_key, taken_mode, taken_vector, vector_init}
 use Rattle.jc_api_keys.specs.KeyObjects.Contents.{key_elements}
 use Rattle.jc_api_keys.specs.Receivers.{named_or_throw}

@@ -4,10 +4,9 @@ use Rattle.std.specs.Prelude.{fold}
 use Rattle.std.specs.List.{concat}
 use Rattle.jc_digests.specs.Kept.{form_of, initial_of, state_after, state_size}
 use Rattle.jc_digests.specs.declared.kept.HashAlgorithm.{HashAlgorithm}
-use Rattle.jc_ciphers.specs.KeptHmac.{DigestsTheWhole}
+use Rattle.jc_ciphers.specs.Kept.Hmac.{DigestsTheWhole}
 use Rattle.jc_ciphers.proofs.HmacPieces.{hmac_of_the_whole}
-use Rattle.jc_api_crypto.specs.MessagesInPieces.{HoldsMessage, hash_of}
-use Rattle.jc_api_crypto.specs.SignaturesInPieces.{HmacsAreOfTheWhole}
+use Rattle.jc_api_crypto.specs.MessagesInPieces.{HoldsMessage, hash_of, HmacsAreOfTheWhole}
 use Rattle.jc_api_crypto.proofs.Whole.{of_the_whole}
 
 -- once pieces follow a message, a state holds it and them

@@ -11,7 +11,7 @@ use Rattle.jc_rsa.specs.EmeOaep.{IsDataBlock, IsOaep, data_block, oaep}
 use Rattle.jc_rsa.specs.Hashing.{digest_of}
 use Rattle.jc_rsa.proofs.Digests.{length-digest_of}
 use Rattle.jc_rsa.proofs.OaepBlocks as blocks
-use Rattle.jc_api_crypto.specs.RsaOaep.{after_zeros, block_in, last_in, oaep_message, seed_in}
+use Rattle.jc_api_crypto.specs.Cipher.Rsa.Oaep.{after_zeros, block_in, last_in, oaep_message, seed_in}
 
 zeros_passed : (k : ℕ) (m : List ℕ) → after_zeros (replicate k 0 ++ 1 ∷ m) ≡ m
 unfolding after_zeros

@@ -2,7 +2,7 @@
 use Rattle.std.proofs.Common.{◌≡◌, ◌+◌, ◌*◌, ◌≤◌, ◌++◌, ℕ, Bool, true, false, List, drop, length, arith}
 use Rattle.std.proofs.lemmas.List.{length-append, length-drop, length-take}
 use Rattle.std.specs.Prelude.{slice_index}
-use Rattle.jc_ciphers.specs.Conversions.{holds_back, released, size_of}
+use Rattle.jc_ciphers.specs.Kept.Conversion.{holds_back, released, size_of}
 use Rattle.jc_ciphers.specs.Kept.{block_size, open_in, ready_blocks, state_size}
 use Rattle.jc_ciphers.specs.declared.kept.BlockAlgorithm.{BlockAlgorithm}
 use Rattle.jc_ciphers.specs.declared.kept.BlockAlgorithm.TheVariants.{Aes, Des}

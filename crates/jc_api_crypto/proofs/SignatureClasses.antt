@@ -18,13 +18,13 @@ use Rattle.jc_api_crypto.specs.Initialized.{initializes, key_init, taken_key, ta
 use Rattle.jc_api_keys.specs.KeyObjects.Contents.{key_elements}
 use Rattle.jc_api_keys.specs.Receivers.{named_or_throw}
 use Rattle.jc_api_keys.specs.Shorts.{first_shorts}
-use Rattle.jc_api_crypto.specs.PairAlgorithms.{pair_shorts}
+use Rattle.jc_api_crypto.specs.Signature.PairAlgorithms.{pair_shorts}
 use Rattle.jc_api_crypto.specs.Signature.{init_of, init_with_vector_of, new_signature, own_signature, signature_get_instance}
 use Rattle.jc_api_crypto.specs.Signature.{signature_get_instance_of_digest_cipher_and_padding, signature_init, signature_init_with_vector, signature_of_one}
-use Rattle.jc_api_crypto.specs.SignatureCodes.{code_init, code_init_with_vector, key_of_length, signature_requirements}
-use Rattle.jc_api_crypto.specs.SignatureKinds.{kind_named, kind_of_numbers}
-use Rattle.jc_api_crypto.specs.SignaturePairs.{pair_init, pair_init_with_vector}
-use Rattle.jc_api_crypto.specs.PairKeys.{pair_parts, taken_pair_key}
+use Rattle.jc_api_crypto.specs.Signature.Codes.{code_init, code_init_with_vector, key_of_length, signature_requirements}
+use Rattle.jc_api_crypto.specs.Signature.Kinds.{kind_named, kind_of_numbers}
+use Rattle.jc_api_crypto.specs.Signature.Pair.{pair_init, pair_init_with_vector}
+use Rattle.jc_api_crypto.specs.Signature.Pair.Keys.{pair_parts, taken_pair_key}
 use Rattle.jc_api_crypto.specs.declared.initialized.KeyedEngine.{KeyedEngine}
 use Rattle.jc_api_crypto.specs.declared.initialized.Requirements.{Requirements}
 use Rattle.jc_api_crypto.specs.declared.signature.algorithms.SignatureAlgorithm.{SignatureAlgorithm}

@@ -1,4 +1,8 @@
 -- Cipher (API specification, javacardx.crypto).
+pub mod Algorithms
+pub mod Block
+pub mod Kinds
+pub mod Rsa
 use Rattle.std.specs.Prelude.{ℤ, List, Some, Result, Ok}
 use Rattle.jc_transient.specs.declared.cell.ClearEvent.TheVariants.{Reset}
 use Rattle.jc_frames.specs.declared.cell.Cell.{Cell}
@@ -13,10 +17,10 @@ use Rattle.jc_api.specs.Forms.{CallAnswer, tells}
 use Rattle.jc_api.specs.Initializing.{FieldsAnswer}
 use Rattle.jc_api.specs.declared.factory.NewEngine.{NewEngine}
 use Rattle.jc_api.specs.declared.factory.StateKind.TheVariants.{Shorts}
-use Rattle.jc_api_crypto.specs.BlockCiphers.{block_do_final, block_init, block_init_with_vector, block_update}
-use Rattle.jc_api_crypto.specs.CipherKinds.{kind_cipher_number, kind_named, kind_number, kind_of_numbers, kind_padding_number, kind_shorts}
+use Rattle.jc_api_crypto.specs.Cipher.Block.{block_do_final, block_init, block_init_with_vector, block_update}
+use Rattle.jc_api_crypto.specs.Cipher.Kinds.{kind_cipher_number, kind_named, kind_number, kind_of_numbers, kind_padding_number, kind_shorts}
 use Rattle.jc_api_crypto.specs.Initialized.{engine_of}
-use Rattle.jc_api_crypto.specs.RsaCiphers.{rsa_do_final, rsa_init, rsa_init_with_vector, rsa_update}
+use Rattle.jc_api_crypto.specs.Cipher.Rsa.{rsa_do_final, rsa_init, rsa_init_with_vector, rsa_update}
 use Rattle.jc_api_crypto.specs.declared.cipher.OwnCipher.{OwnCipher}
 use Rattle.jc_api_crypto.specs.declared.cipher.kinds.CipherKind.{CipherKind}
 use Rattle.jc_api_crypto.specs.declared.cipher.kinds.CipherKind.TheVariants.{Block, Rsa}

@@ -10,7 +10,7 @@ use Rattle.jc_frames.specs.declared.outcome.FrameExit.TheVariants.{End, Throw}
 use Rattle.jc_frames.specs.declared.outcome.Outcome.TheVariants.{Fault}
 use Rattle.jc_memory.specs.Cells.{short_at, word_at, words_at}
 use Rattle.jc_memory.specs.State.{MemoryState}
-use Rattle.jc_platform.specs.Distinct.{class_word}
+use Rattle.jc_platform.specs.NamePlaces.{class_word}
 use Rattle.jc_platform.specs.declared.names.PlatformClass.{PlatformClass}
 use Rattle.jc_linker.specs.Values.{Packages}
 use Rattle.jc_world.specs.Answers.{and_then}

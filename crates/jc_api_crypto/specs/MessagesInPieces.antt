@@ -1,13 +1,16 @@
 -- A message that comes in pieces, and the states that its hash function keeps between them.
-use Rattle.std.specs.Prelude.{ℕ, ◌≡◌, ◌<◌, ◌^◌, List, [], ◌++◌, length, replicate}
+use Rattle.std.specs.Prelude.{ℕ, ◌≡◌, ◌<◌, ◌^◌, List, [], ◌++◌, length, replicate, ◌+◌, fold}
 use Rattle.md5.specs.Md5.{md5}
 use Rattle.sha1.specs.Sha1.{sha1}
 use Rattle.sha2.specs.Sha256.{sha224, sha256}
 use Rattle.sha2.specs.Sha512.{sha384, sha512}
 use Rattle.jc_digests.specs.Kept.{after_blocks, digest_of_state, form_of, hash_in, initial_of, length_in, open_in, state_after, state_size, whole_blocks}
-use Rattle.jc_digests.specs.Kept.{HashForm}
+use Rattle.jc_digests.specs.Kept.{HashForm, block_size}
 use Rattle.jc_digests.specs.declared.kept.HashAlgorithm.{HashAlgorithm}
 use Rattle.jc_digests.specs.declared.kept.HashAlgorithm.TheVariants.{Md5, Sha1, Sha224, Sha256, Sha384, Sha512}
+use Rattle.std.specs.List.{concat}
+use Rattle.jc_ciphers.specs.Kept.Hmac.{hmac_of_state, hmac_state_after}
+use Rattle.jc_ciphers.specs.Macs.{hmac}
 
 -- the hash functions of the standards
 abbrev pub hash_of : HashAlgorithm → List ℕ → List ℕ
@@ -31,3 +34,12 @@ pub record AreOfTheWhole (a : HashAlgorithm) : Type 0 where
   pub longer : (m piece state : List ℕ) → length (m ++ piece) < 2 ^ 64 → HoldsMessage (form_of a) (initial_of a) m state
       → HoldsMessage (form_of a) (initial_of a) (m ++ piece) (state_after a state piece)
   pub digest : (m state : List ℕ) → HoldsMessage (form_of a) (initial_of a) m state → digest_of_state a state ≡ hash_of a m
+
+-- ---- codes by HMAC of a message that comes in pieces
+
+-- under a key, the code of any pieces and a last one is HMAC (RFC 2104) of the whole, over the hash function of the standard
+abbrev pub HmacsAreOfTheWhole : Type 0
+HmacsAreOfTheWhole =
+    (a : HashAlgorithm) (key last : List ℕ) (pieces : List (List ℕ)) → length key < 2 ^ 64 → block_size a + length (concat pieces ++ last) < 2 ^ 64
+    → hmac_of_state a key (fold (hmac_state_after a key) (replicate (state_size a) 0) pieces) last
+    ≡ hmac (hash_of a) (block_size a) key (concat pieces ++ last)

@@ -1,4 +1,10 @@
 -- Signature (API specification, javacard.security).
+pub mod Algorithms
+pub mod Codes
+pub mod Kinds
+pub mod Purpose
+pub mod PairAlgorithms
+pub mod Pair
 use Rattle.std.specs.Prelude.{ℤ, List, Some, Result, Ok}
 use Rattle.jc_transient.specs.declared.cell.ClearEvent.TheVariants.{Reset}
 use Rattle.jc_frames.specs.declared.cell.Cell.{Cell}
@@ -14,9 +20,9 @@ use Rattle.jc_api.specs.Initializing.{FieldsAnswer}
 use Rattle.jc_api.specs.declared.factory.NewEngine.{NewEngine}
 use Rattle.jc_api.specs.declared.factory.StateKind.TheVariants.{Shorts}
 use Rattle.jc_api_crypto.specs.Initialized.{engine_of}
-use Rattle.jc_api_crypto.specs.SignatureCodes.{code_get_length, code_init, code_init_with_vector, code_sign, code_update, code_verify}
-use Rattle.jc_api_crypto.specs.SignatureKinds.{kind_cipher_number, kind_digest_number, kind_named, kind_of_numbers, kind_padding_number, kind_shorts}
-use Rattle.jc_api_crypto.specs.SignaturePairs.{pair_get_length, pair_init, pair_init_with_vector, pair_sign, pair_update, pair_verify}
+use Rattle.jc_api_crypto.specs.Signature.Codes.{code_get_length, code_init, code_init_with_vector, code_sign, code_update, code_verify}
+use Rattle.jc_api_crypto.specs.Signature.Kinds.{kind_cipher_number, kind_digest_number, kind_named, kind_of_numbers, kind_padding_number, kind_shorts}
+use Rattle.jc_api_crypto.specs.Signature.Pair.{pair_get_length, pair_init, pair_init_with_vector, pair_sign, pair_update, pair_verify}
 use Rattle.jc_api_crypto.specs.declared.initialized.KeyedEngine.{KeyedEngine}
 use Rattle.jc_api_crypto.specs.declared.signature.OwnSignature.{OwnSignature}
 use Rattle.jc_api_crypto.specs.declared.signature.kinds.SignatureKind.{SignatureKind}

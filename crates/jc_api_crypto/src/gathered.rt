@@ -2,7 +2,7 @@
 ghost use Rattle.std.specs.Prelude.{◌≡◌, ◌≤◌, ◌+◌, ◌++◌, false, length, take};
 ghost use Rattle.jc_world.specs.Arrays.{IsInArray, bytes_in};
 ghost use Rattle.jc_api.specs.Changing.{IsState};
-ghost use Rattle.jc_api_crypto.specs.CipherKinds.{rsa_shorts};
+ghost use Rattle.jc_api_crypto.specs.Cipher.Kinds.{rsa_shorts};
 ghost use Rattle.jc_api_crypto.specs.Gathered.{gathered, gathered_in, state_of};
 ghost use Rattle.jc_api_keys.specs.Shorts.{shorts_of};
 

@@ -3,7 +3,7 @@ use Rattle.std.specs.Prelude.{pos}
 use Rattle.std.proofs.Common.{◌≡◌, ℕ, Bool, true, false, List, ap, refl}
 use Rattle.jc_memory.specs.Cells.{cell_refusal}
 use Rattle.jc_memory.specs.State.{MemoryState, Effect}
-use Rattle.jc_platform.specs.Distinct.{class_of}
+use Rattle.jc_platform.specs.NamePlaces.{class_of}
 use Rattle.jc_platform.specs.Hierarchy.{carries_reason, cells_of, is_throwable}
 use Rattle.jc_platform.specs.Names.{classes, exceptions_rows}
 use Rattle.jc_platform.specs.Signatures.{is_changed, receiver_of, sets_receiver}

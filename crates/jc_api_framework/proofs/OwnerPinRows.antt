@@ -3,7 +3,7 @@ use Rattle.std.proofs.Common.{◌≡◌, ◌∙◌, ℕ, Bool, true, false, List
 use Rattle.std.proofs.lemmas.Bool.{false≢true}
 use Rattle.jc_memory.specs.State.{MemoryState}
 use Rattle.jc_environment.specs.Pins.{is_pin}
-use Rattle.jc_environment.specs.PinUpdates.{pin_update}
+use Rattle.jc_environment.specs.Pins.Updates.{pin_update}
 use Rattle.jc_platform.specs.Names.{pins_rows}
 use Rattle.jc_platform.specs.Signatures.{parameters_of, receiver_of}
 use Rattle.jc_platform.specs.declared.kinds.ParameterKind.{ParameterKind}

@@ -13,11 +13,11 @@ use Rattle.jc_memory.specs.declared.registers.Depth.{Depth}
 use Rattle.jc_memory.specs.declared.registers.Depth.TheVariants.{Outside, Inside}
 use Rattle.jc_memory.specs.declared.registers.PackageNumber.{PackageNumber}
 use Rattle.jc_memory.specs.declared.registers.Registers.{Registers}
-use Rattle.jc_environment.specs.PinInit.{first_record, value_array}
+use Rattle.jc_environment.specs.Pins.PinInit.{first_record, value_array}
 use Rattle.jc_environment.specs.Pins.{is_pin, counter, record_of}
-use Rattle.jc_environment.specs.PinUpdates.{changes_of_update}
-use Rattle.jc_environment.specs.declared.pins.updating.PinRefusal.{PinRefusal}
-use Rattle.jc_platform.specs.Distinct.{class_of}
+use Rattle.jc_environment.specs.Pins.Updates.{changes_of_update}
+use Rattle.jc_environment.specs.declared.pins.updates.PinRefusal.{PinRefusal}
+use Rattle.jc_platform.specs.NamePlaces.{class_of}
 use Rattle.jc_platform.specs.Signatures.{sets_receiver}
 use Rattle.jc_platform.specs.declared.names.AidsMethod.TheVariants.{AidInit}
 use Rattle.jc_platform.specs.declared.names.AppletsMethod.TheVariants.{AppletRegister, AppletRegisterBytes}

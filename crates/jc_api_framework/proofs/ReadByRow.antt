@@ -12,7 +12,7 @@ use Rattle.jc_memory.specs.State.{MemoryState}
 use Rattle.jc_platform.specs.declared.kinds.ParameterKind.{ParameterKind}
 use Rattle.jc_platform.specs.declared.kinds.ParameterKind.TheVariants.{Bytes, Shorts}
 use Rattle.jc_linker.specs.Values.{Packages}
-use Rattle.jc_frames.specs.Cells.{as_reference, as_short}
+use Rattle.jc_frames.specs.Cell.{as_reference, as_short}
 use Rattle.jc_frames.specs.declared.cell.Cell.{Cell}
 use Rattle.jc_frames.specs.declared.cell.Cell.TheVariants.{Short, Reference, ReturnAddress}
 use Rattle.jc_frames.specs.declared.outcome.FrameExit.{FrameExit}

@@ -7,7 +7,7 @@ use Rattle.jc_heap.specs.declared.object.Kind.{Kind}
 use Rattle.jc_memory.specs.Cells.{header_at, cells_effect, cells_refusal}
 use Rattle.jc_memory.specs.Programs.{Perform}
 use Rattle.jc_memory.specs.State.{MemoryState}
-use Rattle.jc_platform.specs.Distinct.{class_word}
+use Rattle.jc_platform.specs.NamePlaces.{class_word}
 use Rattle.jc_platform.specs.Names.{system_rows}
 use Rattle.jc_platform.specs.Signatures.{parameters_of, receiver_of}
 use Rattle.jc_platform.specs.declared.kinds.ParameterKind.{ParameterKind}

@@ -8,7 +8,7 @@ use Rattle.std.specs.Int.{w16, cast_signed}
 use Rattle.jc_frames.specs.declared.cell.Cell.{Cell}
 use Rattle.jc_frames.specs.declared.cell.Cell.TheVariants.{Reference}
 use Rattle.jc_frames.specs.Reasons.{bad_length, buffer_bounds, illegal_use}
-use Rattle.jc_frames.specs.declared.outcome.Exception.TheVariants.{SecurityException}
+use Rattle.jc_frames.specs.declared.exceptions.Exception.TheVariants.{SecurityException}
 use Rattle.jc_frames.specs.declared.outcome.FrameExit.{FrameExit}
 use Rattle.jc_frames.specs.declared.outcome.FrameExit.TheVariants.{Throw}
 use Rattle.jc_memory.specs.declared.registers.ApduPhase.{ApduPhase}

@@ -1,13 +1,13 @@
 -- Exceptions that carry a reason (API specification), in the first cell of their instances.
 use Rattle.std.specs.Prelude.{ℤ, pos, ◌==◌, Bool, true, false, List}
 use Rattle.jc_frames.specs.declared.cell.Cell.{Cell}
-use Rattle.jc_frames.specs.declared.outcome.Exception.{Exception}
-use Rattle.jc_frames.specs.declared.outcome.Exception.TheVariants as exception
+use Rattle.jc_frames.specs.declared.exceptions.Exception.{Exception}
+use Rattle.jc_frames.specs.declared.exceptions.Exception.TheVariants as exception
 use Rattle.jc_transient.specs.declared.cell.CellValue.TheVariants as cell
 use Rattle.jc_memory.specs.State.{MemoryState}
 use Rattle.jc_memory.specs.Programs.{Perform}
 use Rattle.jc_memory.specs.Cells.{short_at, cell_refusal, cell_effect}
-use Rattle.jc_platform.specs.Distinct.{class_of}
+use Rattle.jc_platform.specs.NamePlaces.{class_of}
 use Rattle.jc_platform.specs.Signatures.{argument_cells, receiver_of}
 use Rattle.jc_platform.specs.declared.kinds.Receiver.{Receiver}
 use Rattle.jc_platform.specs.declared.kinds.Receiver.TheVariants.{Absent, Kept, Registered, Changed}

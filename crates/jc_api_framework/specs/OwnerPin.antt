@@ -9,8 +9,8 @@ use Rattle.jc_heap.specs.Heap.{facts}
 use Rattle.jc_firewall.specs.Situation.{same_context}
 use Rattle.jc_frames.specs.declared.cell.Cell.{Cell}
 use Rattle.jc_frames.specs.declared.cell.Cell.TheVariants.{Short}
-use Rattle.jc_frames.specs.declared.outcome.Exception.{Exception}
-use Rattle.jc_frames.specs.declared.outcome.Exception.TheVariants.{SecurityException}
+use Rattle.jc_frames.specs.declared.exceptions.Exception.{Exception}
+use Rattle.jc_frames.specs.declared.exceptions.Exception.TheVariants.{SecurityException}
 use Rattle.jc_frames.specs.Reasons.{buffer_full, illegal_pin_value, no_resource}
 use Rattle.jc_frames.specs.declared.outcome.FrameExit.{FrameExit}
 use Rattle.jc_frames.specs.declared.outcome.FrameExit.TheVariants as stop
@@ -24,13 +24,13 @@ use Rattle.jc_platform.specs.declared.names.PinsMethod.TheVariants.{PinCheck, Pi
 use Rattle.jc_platform.specs.declared.names.PinsMethod.TheVariants.{OwnerPinInit, OwnerPinCheck, OwnerPinGetTriesRemaining, OwnerPinIsValidated}
 use Rattle.jc_platform.specs.declared.names.PinsMethod.TheVariants.{OwnerPinReset, OwnerPinResetAndUnblock, OwnerPinUpdate}
 use Rattle.jc_platform.specs.declared.names.PinsMethod.TheVariants.{OwnerPinGetValidatedFlag, OwnerPinSetValidatedFlag}
-use Rattle.jc_environment.specs.declared.pins.updating.PinRefusal.{PinRefusal}
-use Rattle.jc_environment.specs.declared.pins.updating.PinRefusal.TheVariants.{StoreDown, CommitFull, IllegalValue, HeapFull}
+use Rattle.jc_environment.specs.declared.pins.updates.PinRefusal.{PinRefusal}
+use Rattle.jc_environment.specs.declared.pins.updates.PinRefusal.TheVariants.{StoreDown, CommitFull, IllegalValue, HeapFull}
 use Rattle.jc_environment.specs.Pins.{is_pin, record_of}
-use Rattle.jc_environment.specs.PinChecks.{pin_check}
-use Rattle.jc_environment.specs.PinResets.{pin_unblock, pin_reset}
-use Rattle.jc_environment.specs.PinUpdates.{pin_update}
-use Rattle.jc_environment.specs.PinInit.{pin_init}
+use Rattle.jc_environment.specs.Pins.Checks.{pin_check}
+use Rattle.jc_environment.specs.Pins.Resets.{pin_unblock, pin_reset}
+use Rattle.jc_environment.specs.Pins.Updates.{pin_update}
+use Rattle.jc_environment.specs.Pins.PinInit.{pin_init}
 use Rattle.jc_world.specs.declared.native_result.NativeResult.{NativeResult}
 use Rattle.jc_world.specs.declared.native_result.NativeResult.TheVariants.{ReturnVoid, ReturnValue}
 use Rattle.jc_world.specs.declared.step_exit.StepExit.{StepExit}

@@ -18,8 +18,8 @@ use Rattle.jc_platform.specs.declared.names.SystemMethod.TheVariants.{JcSystemMa
 use Rattle.jc_platform.specs.declared.names.SystemMethod.TheVariants.{JcSystemGetVersion, JcSystemIsObjectDeletionSupported}
 use Rattle.jc_platform.specs.declared.names.SystemMethod.TheVariants.{JcSystemRequestObjectDeletion, JcSystemIsAppletActive, JcSystemGetAssignedChannel}
 use Rattle.jc_platform.specs.declared.names.SystemMethod.TheVariants.{JcSystemGetAvailableMemory, JcSystemGetAvailableMemoryShorts}
-use Rattle.jc_frames.specs.declared.outcome.Exception.{Exception}
-use Rattle.jc_frames.specs.declared.outcome.Exception.TheVariants.{SystemException}
+use Rattle.jc_frames.specs.declared.exceptions.Exception.{Exception}
+use Rattle.jc_frames.specs.declared.exceptions.Exception.TheVariants.{SystemException}
 use Rattle.jc_world.specs.NativeCalls.{NativeProgram, throw_exception}
 use Rattle.jc_world.specs.Answers.{returns_bool, returns_short}
 use Rattle.jc_api_framework.specs.System.Transactions.{jc_system_begin_transaction, jc_system_commit_transaction, jc_system_abort_transaction}

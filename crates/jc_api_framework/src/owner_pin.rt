@@ -4,7 +4,7 @@ pub(crate) mod check;
 pub(crate) mod update;
 
 ghost use Rattle.std.specs.Prelude.{◌≡◌, false, IfOk};
-ghost use Rattle.jc_frames.specs.Cells.{result_or_none};
+ghost use Rattle.jc_frames.specs.Cell.{result_or_none};
 ghost use Rattle.jc_memory.specs.Programs.{Executes};
 ghost use Rattle.jc_environment.specs.Pins.{IsPin};
 ghost use Rattle.jc_world.specs.NativeCalls.{after_call};

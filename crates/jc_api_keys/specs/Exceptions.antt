@@ -1,7 +1,7 @@
 -- CryptoException with the reasons that the API specification names.
 use Rattle.std.specs.Prelude.{pos}
-use Rattle.jc_frames.specs.declared.outcome.Exception.{Exception}
-use Rattle.jc_frames.specs.declared.outcome.Exception.TheVariants.{Further}
+use Rattle.jc_frames.specs.declared.exceptions.Exception.{Exception}
+use Rattle.jc_frames.specs.declared.exceptions.Exception.TheVariants.{Further}
 use Rattle.jc_platform.specs.declared.names.PlatformClass.TheVariants.{CryptoException}
 
 -- CryptoException.ILLEGAL_VALUE: an argument is not allowed

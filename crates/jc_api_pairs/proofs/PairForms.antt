@@ -1,18 +1,18 @@
 -- The forms of calls on a pair, of any class whose objects are pairs: what is to be shown of them, and that the calls of KeyPair have these forms.
 use Rattle.std.proofs.Common.{◌≡◌, ◌+◌, ◌≤◌, ◌<◌, inl, inr, ℕ, zero, suc, pos, true, false, List, [], ◌∷◌, ◌++◌, length, map, None, Some, refl, arith}
 use Rattle.std.specs.Prelude.{◌⊎◌}
-use Rattle.jc_transient.specs.Cells.{number_of}
+use Rattle.jc_transient.specs.Cell.{number_of}
 use Rattle.jc_transient.specs.declared.cell.ClearEvent.{ClearEvent}
 use Rattle.jc_heap.specs.Heap.{facts}
 use Rattle.jc_heap.specs.Moves.{SetPlaces}
-use Rattle.jc_heap.specs.Places.{cell_changes}
+use Rattle.jc_heap.specs.Place.{cell_changes}
 use Rattle.jc_heap.specs.declared.object.Kind.TheVariants.{ByteArray}
 use Rattle.jc_heap.specs.declared.place.Place.{Place}
 use Rattle.jc_heap.specs.declared.place.Place.TheVariants as place
 use Rattle.jc_firewall.specs.FirewallLaws.{IsInReach}
 use Rattle.jc_memory.specs.Cells.{word_at}
 use Rattle.jc_memory.specs.State.{Effect, HeapMove, MemoryState, SetTransient, apply_effect}
-use Rattle.jc_platform.specs.Distinct.{class_word}
+use Rattle.jc_platform.specs.NamePlaces.{class_word}
 use Rattle.jc_platform.specs.Hierarchy.{cells_of, holds_reference}
 use Rattle.jc_platform.specs.Names.{classes}
 use Rattle.jc_platform.specs.Signatures.{sets_receiver}

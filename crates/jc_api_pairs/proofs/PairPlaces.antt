@@ -11,10 +11,10 @@ use Rattle.jc_heap.specs.declared.place.Place.{Place}
 use Rattle.jc_heap.specs.declared.place.Place.TheVariants.{Cell}
 use Rattle.jc_heap.specs.declared.refusal.HeapRefusal.{HeapRefusal}
 use Rattle.jc_heap.specs.Heap.{HeapState, IsObject, cells, facts, heap_item_at}
-use Rattle.jc_heap.specs.Keeping.{AreLegalValues}
+use Rattle.jc_heap.specs.HeapLaws.{AreLegalValues}
 use Rattle.jc_heap.specs.Moves.{SetPlaces}
 use Rattle.jc_heap.specs.Object.{has_bytes, is_object}
-use Rattle.jc_heap.specs.Places.{AreApart, ArePlain, AreThere, IsBeside, cell_changes, places_of, set_place, set_places}
+use Rattle.jc_heap.specs.Place.{AreApart, ArePlain, AreThere, IsBeside, cell_changes, places_of, set_place, set_places}
 use Rattle.jc_heap.proofs.Keeping.{object-header_only}
 use Rattle.jc_heap.proofs.Places.{bare_stays}
 use Rattle.jc_memory.specs.Cells.{IsHeaderOf}

@@ -1,8 +1,7 @@
 -- Lists that are found again in an info that was read before.
 use Rattle.std.proofs.Common.{◌≡◌, ℕ, List, [], Result, Ok, Err, sym, ap, ◌∙◌}
 use Rattle.jc_cap.specs.declared.fault.CapFault.{CapFault}
-use Rattle.jc_cap.specs.Reading.{◌>>=◌, Field, many_at, list_or_empty, value_of_whole}
-use Rattle.jc_cap.specs.Again.{IsReadable}
+use Rattle.jc_cap.specs.Reading.{◌>>=◌, Field, many_at, list_or_empty, value_of_whole, IsReadable}
 use Rattle.jc_cap.specs.Places.{IsList}
 use Rattle.jc_cap.proofs.Many.{listed_as}
 use Rattle.jc_cap.proofs.Wholes.{whole_reads}

@@ -1,19 +1,18 @@
 -- Each component of a package that is put together can be read.
 use Rattle.std.proofs.Common.{◌≡◌, ℕ, Bool, true, false, List, Option, Some, None, Result, Ok, Err, sym, ap, subst, ◌∙◌}
 use Rattle.jc_cap.specs.declared.fault.CapFault.{CapFault}
-use Rattle.jc_cap.specs.Again.{IsReadable}
+use Rattle.jc_cap.specs.Reading.{IsReadable, ◌>>=◌, value_of_whole}
 use Rattle.jc_cap.specs.Header.{HeaderValue}
 use Rattle.jc_cap.specs.Applets.{applets_at}
 use Rattle.jc_cap.specs.Envelope.{info_at}
 use Rattle.jc_cap.specs.Exports.{exports_at}
-use Rattle.jc_cap.specs.Reading.{◌>>=◌, value_of_whole}
 use Rattle.jc_cap.proofs.Many.{bind_ok, ok_is}
 use Rattle.jc_cap.specs.declared.texts.LoadedComponents.{LoadedComponents}
 use Rattle.jc_cap.specs.declared.texts.PackageBytes.{PackageBytes}
 use Rattle.jc_cap.specs.Assembling.{assembly_of, checked_package, flagged_component, flags_in, required_component, required_components}
 use Rattle.jc_cap.specs.ComponentReading.{applets_in, classes_in, directory_in, exports_in, header_in, imports_in, methods_in, pool_in, statics_in}
 use Rattle.jc_cap.specs.Contents.{PackageContents}
-use Rattle.jc_cap.specs.Kept.{applets_told, exports_told}
+use Rattle.jc_cap.specs.KeptComponents.{applets_told, exports_told}
 use Rattle.jc_cap.specs.PackageReading.{contents_of}
 
 -- a component that came can be read, where it is one of these

@@ -7,11 +7,10 @@ use Rattle.jc_cap.specs.declared.fault.CapFault.TheVariants.{BadOffset, Remote}
 use Rattle.jc_cap.specs.declared.class_refs.ClassRef.{ClassRef}
 use Rattle.jc_cap.specs.Reading.{◌>>=◌, Field, u1_at, u2_at, run_at, many_at}
 use Rattle.jc_cap.specs.ClassRefs.{class_ref_at}
-use Rattle.jc_cap.specs.Grammar.{AreEncodedInTurn, IsU2, IsClassRef}
-use Rattle.jc_cap.specs.Telling.{IsPrefixEncoding, ReadsEncodings}
+use Rattle.jc_cap.specs.Grammar.{AreEncodedInTurn, IsU2, IsClassRef, IsPrefixEncoding, ReadsEncodings}
 use Rattle.jc_cap.proofs.Many.{bind_ok, ok_is}
 use Rattle.jc_cap.proofs.Telling.{guard_ok, chosen, u1_takes, u2_tells, run_takes, run_again, class_ref_tells, many_takes, many_again}
-use Rattle.jc_cap.specs.Implemented.{Implemented, implemented_at}
+use Rattle.jc_cap.specs.ClassLists.{Implemented, implemented_at}
 use Rattle.jc_cap.specs.declared.class_records.RecordFlags.{RecordFlags}
 use Rattle.jc_cap.specs.declared.class_records.ReferenceFields.{ReferenceFields}
 use Rattle.jc_cap.specs.declared.class_reading.TableSizes.{TableSizes}

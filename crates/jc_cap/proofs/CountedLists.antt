@@ -1,8 +1,7 @@
 -- Lists after a byte of count.
 use Rattle.std.proofs.Common.{◌≡◌, ℕ, List, ◌∷◌, ◌++◌, length, Ok, sym, ap, ◌∙◌, append_assoc}
 use Rattle.jc_cap.specs.Reading.{◌>>=◌, Field, u1_at, many_at}
-use Rattle.jc_cap.specs.Grammar.{AreEncodedInTurn}
-use Rattle.jc_cap.specs.Telling.{ReadsEncodings}
+use Rattle.jc_cap.specs.Grammar.{AreEncodedInTurn, ReadsEncodings}
 use Rattle.jc_cap.proofs.Many.{bind_ok}
 use Rattle.jc_cap.proofs.Telling.{u1_takes, many_takes}
 

@@ -9,7 +9,7 @@ use Rattle.jc_cap.proofs.Telling.{class_ref_tells}
 use Rattle.jc_cap.proofs.Walk.{HasSize}
 use Rattle.jc_cap.specs.declared.handlers.Handler.{Handler}
 use Rattle.jc_cap.specs.MethodReading.{handler_at}
-use Rattle.jc_cap.specs.MethodGrammar.{IsActiveLength, IsHandler}
+use Rattle.jc_cap.specs.Methods.{IsActiveLength, IsHandler}
 use Rattle.jc_cap.proofs.MethodTelling.{handler_tells}
 
 -- what is read has the size of its text

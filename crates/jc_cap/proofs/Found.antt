@@ -2,8 +2,7 @@
 use Rattle.std.proofs.Common.{◌≡◌, ℕ, zero, suc, ◌+◌, ◌*◌, ◌≤◌, List, [], ◌∷◌, length, drop, Result, Ok, Err, refl, sym, ap, ◌∙◌, arith}
 use Rattle.std.proofs.lemmas.List.{drop-drop, length-drop}
 use Rattle.jc_cap.specs.declared.fault.CapFault.{CapFault}
-use Rattle.jc_cap.specs.Reading.{◌>>=◌, Field, u1_at, many_at, list_or_empty}
-use Rattle.jc_cap.specs.Again.{IsReadable}
+use Rattle.jc_cap.specs.Reading.{◌>>=◌, Field, u1_at, many_at, list_or_empty, IsReadable}
 use Rattle.jc_cap.specs.Places.{IsList}
 use Rattle.jc_cap.proofs.Many.{bind_ok, ok_is, listed_as}
 use Rattle.jc_cap.proofs.Walk.{HasSize}

@@ -5,11 +5,10 @@ use Rattle.std.proofs.lemmas.List.{take_all}
 use Rattle.jc_cap.specs.declared.formats.Format.{Format}
 use Rattle.jc_cap.specs.declared.directory.Directory.{Directory}
 use Rattle.jc_cap.specs.declared.directory.StaticFieldSize.{StaticFieldSize}
-use Rattle.jc_cap.specs.Again.{IsReadable}
+use Rattle.jc_cap.specs.Reading.{IsReadable, many_at, list_or_empty, u1_at, u2_at, value_of_whole}
 use Rattle.jc_cap.specs.Customs.{custom_at}
 use Rattle.jc_cap.specs.Directory.{directory_at, sizes_of, static_field_size_at}
 use Rattle.jc_cap.specs.Places.{IsList}
-use Rattle.jc_cap.specs.Reading.{many_at, list_or_empty, u1_at, u2_at, value_of_whole}
 use Rattle.jc_cap.proofs.FoundHeader.{back_of}
 use Rattle.jc_cap.proofs.Many.{bind_ok, listed_as, ok_is}
 use Rattle.jc_cap.proofs.Telling.{u1_takes, u2_takes}

@@ -4,8 +4,7 @@ use Rattle.std.proofs.Common.{arith, length-append}
 use Rattle.std.proofs.lemmas.List.{append-nil, take_all}
 use Rattle.jc_cap.specs.declared.formats.Format.{Format}
 use Rattle.jc_cap.specs.declared.formats.Format.TheVariants.{V2_1, V2_2}
-use Rattle.jc_cap.specs.Again.{IsReadable}
-use Rattle.jc_cap.specs.Reading.{value_of_whole}
+use Rattle.jc_cap.specs.Reading.{IsReadable, value_of_whole}
 use Rattle.jc_cap.specs.Header.{HeaderValue, IsName, IsHeader, flags_byte, format_of, header_at, minor_of, name_at}
 use Rattle.jc_cap.proofs.Many.{ok_is}
 use Rattle.jc_cap.proofs.ToldHeader.{header_tells, name_again, name_takes}

@@ -5,13 +5,12 @@ use Rattle.std.specs.Prelude.{IfOk}
 use Rattle.std.proofs.lemmas.Bool.{ltb-false, ltb-true, le-ltb, lt-ltb}
 use Rattle.jc_cap.specs.declared.fault.CapFault.{CapFault}
 use Rattle.jc_cap.specs.Reading.{ParsesAs, u1_at, u2_at, many_at}
-use Rattle.jc_cap.specs.Telling.{IsPrefixEncoding, ReadsEncodings}
+use Rattle.jc_cap.specs.Grammar.{IsPrefixEncoding, ReadsEncodings}
 use Rattle.jc_cap.proofs.Many.{bind_ok, ok_is}
 use Rattle.jc_cap.proofs.Telling.{chosen, u1_takes, u2_takes, u2_again, many_takes, many_again}
 use Rattle.jc_cap.specs.declared.handlers.Handler.{Handler}
-use Rattle.jc_cap.specs.MethodValues.{MethodParts}
+use Rattle.jc_cap.specs.Methods.{MethodParts, IsActiveLength, IsHandler, AreMethods}
 use Rattle.jc_cap.specs.MethodReading.{active_at, handler_at, methods_of}
-use Rattle.jc_cap.specs.MethodGrammar.{IsActiveLength, IsHandler, AreMethods}
 use Rattle.jc_cap.proofs.AdjacentTexts.{joined}
 
 abbrev IsActive : Bool × ℕ → List ℕ → Type 0

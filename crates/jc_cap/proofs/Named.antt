@@ -24,7 +24,7 @@ use Rattle.jc_cap.specs.Classes.{AreClasses}
 use Rattle.jc_cap.specs.ClassReading.{is_among, classes_of}
 use Rattle.jc_cap.specs.StaticReading.{statics_at}
 use Rattle.jc_cap.specs.Statics.{AreStatics}
-use Rattle.jc_cap.specs.MethodValues.{MethodParts}
+use Rattle.jc_cap.specs.Methods.{MethodParts}
 use Rattle.jc_cap.specs.MethodReading.{method_at, has_room}
 use Rattle.jc_cap.specs.Tables as tables
 use Rattle.jc_cap.specs.Tables.{all_of_list, tables_fit}
@@ -38,8 +38,8 @@ use Rattle.jc_cap.specs.PackageReading as reading
 use Rattle.jc_cap.specs.ComponentReading.{header_in, directory_in, applets_in, imports_in, pool_in, classes_in, methods_in, statics_in, exports_in}
 use Rattle.jc_cap.specs.Sizes.{sizes_agree}
 use Rattle.jc_cap.specs.Fitting.{class_fits, method_fits, entry_fits, applet_fits, export_fits, all_if_present, offsets_fit}
-use Rattle.jc_cap.specs.Assembling.{required_components, checked_package, assembly_of}
-use Rattle.jc_cap.specs.KnownPackages.{NamesMethod, ClassNamed, MethodNamed, EntryNamed, PublicNamed, RecordNamed, AppletNames, ExportNames, AllIfPresent, IsPackage}
+use Rattle.jc_cap.specs.Assembling.{required_components, checked_package, assembly_of, NamesMethod, ClassNamed, MethodNamed, EntryNamed, PublicNamed}
+use Rattle.jc_cap.specs.Assembling.{RecordNamed, AppletNames, ExportNames, AllIfPresent, IsPackage}
 
 both : (a b : Bool) → a && b ≡ true → (a ≡ true) × (b ≡ true)
 both true true e = (refl, refl)

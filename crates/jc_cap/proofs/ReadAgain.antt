@@ -2,8 +2,7 @@
 use Rattle.std.proofs.Common.{◌≡◌, ℕ, eqb, true, false, List, Option, Some, None, Result, Ok, Err, refl, sym, ap, subst, ◌∙◌}
 use Rattle.jc_cap.specs.declared.fault.CapFault.{CapFault}
 use Rattle.jc_cap.specs.declared.formats.Format.{Format}
-use Rattle.jc_cap.specs.Again.{IsReadable}
-use Rattle.jc_cap.specs.Reading.{◌>>=◌, value_of_whole}
+use Rattle.jc_cap.specs.Reading.{IsReadable, ◌>>=◌, value_of_whole}
 use Rattle.jc_cap.specs.Envelope.{info_at}
 use Rattle.jc_cap.specs.Header.{HeaderValue, header_at}
 use Rattle.jc_cap.specs.declared.directory.Directory.{Directory}
@@ -18,7 +17,7 @@ use Rattle.jc_cap.specs.Exports.{exports_at}
 use Rattle.jc_cap.proofs.Many.{bind_ok, ok_is}
 use Rattle.jc_cap.specs.ClassValues.{RecordAt}
 use Rattle.jc_cap.specs.ClassReading.{classes_of}
-use Rattle.jc_cap.specs.MethodValues.{MethodParts}
+use Rattle.jc_cap.specs.Methods.{MethodParts}
 use Rattle.jc_cap.specs.MethodReading.{methods_of}
 use Rattle.jc_cap.specs.StaticValues.{StaticParts}
 use Rattle.jc_cap.specs.StaticReading.{statics_at}
@@ -26,13 +25,12 @@ use Rattle.jc_cap.specs.StaticViews.{TellsCounts, counts_or_none, static_counts}
 use Rattle.jc_cap.specs.declared.statics.StaticCounts.{StaticCounts}
 use Rattle.jc_cap.specs.declared.texts.LoadedComponents.{LoadedComponents}
 use Rattle.jc_cap.specs.ComponentReading.{header_in, classes_in, statics_in}
-use Rattle.jc_cap.specs.Taking.{taken, taken_with, told_by}
-use Rattle.jc_cap.specs.Texts.{with_component}
+use Rattle.jc_cap.specs.Texts.{taken, taken_with, told_by, with_component}
 use Rattle.jc_cap.proofs.Taken.{classes_are, header_is}
 use Rattle.jc_cap.proofs.Told.{component_takes}
 use Rattle.jc_cap.specs.Contents.{Content}
 use Rattle.jc_cap.specs.Contents as contents
-use Rattle.jc_cap.specs.Components.{IsContent, content_at, component_at, content_result}
+use Rattle.jc_cap.specs.Component.{IsContent, content_at, component_at, content_result}
 
 unwrapped : {A : Type 0} (wrap : A → Content) (r : Result A CapFault) → IsReadable (content_result wrap r) → IsReadable r
 unwrapped wrap r given = let x = bind_ok r _ given.0 given.1 in (x.0, x.1)

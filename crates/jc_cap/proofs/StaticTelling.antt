@@ -3,8 +3,7 @@ use Rattle.std.proofs.Common.{◌≡◌, ℕ, ◌+◌, ◌*◌, ◌%◌, ◌≤�
 use Rattle.std.proofs.lemmas.Bool.{ltb-false, le-ltb, eqb-true, eq-eqb}
 use Rattle.jc_cap.specs.declared.fault.CapFault.TheVariants.{BadOffset, SizesDisagree}
 use Rattle.jc_cap.specs.Reading.{u1_at, u2_at, run_at}
-use Rattle.jc_cap.specs.Grammar.{IsU2}
-use Rattle.jc_cap.specs.Telling.{IsPrefixEncoding, ReadsEncodings}
+use Rattle.jc_cap.specs.Grammar.{IsU2, IsPrefixEncoding, ReadsEncodings}
 use Rattle.jc_cap.proofs.Many.{bind_ok, ok_is}
 use Rattle.jc_cap.proofs.Telling.{guard_ok, wanted_ok, chosen, u1_takes, u2_takes, u2_again, run_takes, run_again, many_takes, many_again}
 use Rattle.jc_cap.specs.declared.static_arrays.ElementType.{ElementType}

@@ -17,11 +17,10 @@ use Rattle.jc_cap.specs.StaticReading.{statics_at}
 use Rattle.jc_cap.specs.declared.texts.LoadedComponents.{LoadedComponents}
 use Rattle.jc_cap.specs.Contents.{Content}
 use Rattle.jc_cap.specs.Contents as contents
-use Rattle.jc_cap.specs.Components.{content_result, content_at, component_at}
-use Rattle.jc_cap.specs.Kept.{applets_told, exports_told}
+use Rattle.jc_cap.specs.Component.{content_result, content_at, component_at}
+use Rattle.jc_cap.specs.KeptComponents.{applets_told, exports_told}
 use Rattle.jc_cap.specs.ComponentReading.{header_in, directory_in, imports_in, pool_in, classes_in, methods_in, statics_in}
-use Rattle.jc_cap.specs.Taking.{taken_with, with_size, unused_taken}
-use Rattle.jc_cap.specs.Texts.{with_component}
+use Rattle.jc_cap.specs.Texts.{taken_with, with_size, unused_taken, with_component}
 
 -- what is read of an info is wrapped in the end
 wrapped : {A : Type 0} (wrap : A → Content) (i : Result (List ℕ) CapFault) (r : List ℕ → Result A CapFault)

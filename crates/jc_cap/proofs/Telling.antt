@@ -10,8 +10,7 @@ use Rattle.jc_cap.specs.declared.class_refs.ClassRef.TheVariants.{Internal, Exte
 use Rattle.jc_cap.specs.Reading.{Field, u1_at, u2_at, run_at, aid_at, many_at}
 use Rattle.jc_cap.specs.ClassRefs.{class_ref_at}
 use Rattle.jc_cap.specs.Packages.{NamedPackage, package_at}
-use Rattle.jc_cap.specs.Grammar.{AreEncodedInTurn, IsU2, IsAid, IsPackageInfo, IsClassRef}
-use Rattle.jc_cap.specs.Telling.{IsPrefixEncoding, ReadsEncodings}
+use Rattle.jc_cap.specs.Grammar.{AreEncodedInTurn, IsU2, IsAid, IsPackageInfo, IsClassRef, IsPrefixEncoding, ReadsEncodings}
 use Rattle.jc_cap.proofs.Many.{bind_ok, ok_is}
 
 -- a test that did not fail

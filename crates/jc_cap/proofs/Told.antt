@@ -5,7 +5,7 @@ use Rattle.std.proofs.lemmas.Bool.{eqb-true, eqb-false, ne_eqb}
 use Rattle.jc_cap.specs.declared.fault.CapFault.{CapFault}
 use Rattle.jc_cap.specs.declared.formats.Format.{Format}
 use Rattle.jc_cap.specs.Reading.{Field, ParsesAs, value_of_whole}
-use Rattle.jc_cap.specs.Telling.{ReadsEncodings}
+use Rattle.jc_cap.specs.Grammar.{ReadsEncodings}
 use Rattle.jc_cap.proofs.Many.{bind_ok, ok_is}
 use Rattle.jc_cap.proofs.Telling.{chosen}
 use Rattle.jc_cap.proofs.Wholes.{whole_takes, whole_again}
@@ -31,10 +31,10 @@ use Rattle.jc_cap.proofs.RecordWalk.{classes_found, classes_only}
 use Rattle.jc_cap.proofs.MethodTelling.{methods_take, methods_again}
 use Rattle.jc_cap.proofs.StaticTelling.{statics_tells}
 use Rattle.jc_cap.specs.declared.texts.LoadedComponents.{LoadedComponents}
-use Rattle.jc_cap.specs.Taking.{Taken, taken, taken_with}
+use Rattle.jc_cap.specs.Texts.{Taken, taken, taken_with}
 use Rattle.jc_cap.specs.Contents.{Content}
 use Rattle.jc_cap.specs.Contents as contents
-use Rattle.jc_cap.specs.Components.{content_result, content_at, component_at, IsContent, IsComponent}
+use Rattle.jc_cap.specs.Component.{content_result, content_at, component_at, IsContent, IsComponent}
 
 -- ---- classes
 

@@ -4,8 +4,7 @@ use Rattle.std.proofs.lemmas.Bool.{ltb-false, le-ltb}
 use Rattle.jc_cap.specs.declared.fault.CapFault.TheVariants.{BadOffset}
 use Rattle.jc_cap.specs.declared.formats.Format.{Format}
 use Rattle.jc_cap.specs.Reading.{u1_at, u2_at, aid_at, many_at}
-use Rattle.jc_cap.specs.Grammar.{IsU2}
-use Rattle.jc_cap.specs.Telling.{IsPrefixEncoding, ReadsEncodings}
+use Rattle.jc_cap.specs.Grammar.{IsU2, IsPrefixEncoding, ReadsEncodings}
 use Rattle.jc_cap.proofs.Many.{bind_ok, ok_is}
 use Rattle.jc_cap.proofs.Telling.{guard_ok, u1_takes, u2_tells, aid_tells, many_takes, many_again}
 use Rattle.jc_cap.specs.declared.directory.Directory.{Directory}

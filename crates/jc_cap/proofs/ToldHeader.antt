@@ -7,7 +7,7 @@ use Rattle.jc_cap.specs.declared.formats.Format.{Format}
 use Rattle.jc_cap.specs.declared.formats.Format.TheVariants.{V2_1, V2_2}
 use Rattle.jc_cap.specs.Reading.{u1_at}
 use Rattle.jc_cap.specs.Packages.{package_at}
-use Rattle.jc_cap.specs.Telling.{IsPrefixEncoding, ReadsEncodings}
+use Rattle.jc_cap.specs.Grammar.{IsPrefixEncoding, ReadsEncodings}
 use Rattle.jc_cap.proofs.Many.{bind_ok, ok_is}
 use Rattle.jc_cap.proofs.Telling.{guard_ok, wanted_ok, chosen, u1_takes, run_takes, run_again, package_tells}
 use Rattle.jc_cap.specs.Header.{HeaderValue, magic_at, minor_of, format_of, version_at, flags_at, name_at, header_at, flags_byte, IsName, IsHeader}

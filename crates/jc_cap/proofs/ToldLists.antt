@@ -2,8 +2,7 @@
 use Rattle.std.proofs.Common.{◌≡◌, ℕ, List, ◌∷◌, ◌++◌, length, Ok, refl, sym, ap, subst, ◌∙◌, append_assoc}
 use Rattle.jc_cap.specs.Reading.{u1_at, u2_at, aid_at, many_at}
 use Rattle.jc_cap.specs.Packages.{NamedPackage, package_at}
-use Rattle.jc_cap.specs.Grammar.{IsU2, IsPackageInfo}
-use Rattle.jc_cap.specs.Telling.{IsPrefixEncoding, ReadsEncodings}
+use Rattle.jc_cap.specs.Grammar.{IsU2, IsPackageInfo, IsPrefixEncoding, ReadsEncodings}
 use Rattle.jc_cap.proofs.Many.{bind_ok, ok_is}
 use Rattle.jc_cap.proofs.Telling.{u1_takes, u2_tells, aid_tells, package_tells, many_takes, many_again}
 use Rattle.jc_cap.specs.declared.exports.ExportedClass.{ExportedClass}

@@ -8,8 +8,7 @@ use Rattle.jc_cap.specs.declared.class_refs.ClassRef.{ClassRef}
 use Rattle.jc_cap.specs.declared.class_refs.ClassRef.TheVariants as classes
 use Rattle.jc_cap.specs.Reading.{u1_at, u2_at}
 use Rattle.jc_cap.specs.ClassRefs.{class_ref_at}
-use Rattle.jc_cap.specs.Grammar.{IsU2, IsClassRef}
-use Rattle.jc_cap.specs.Telling.{IsPrefixEncoding, ReadsEncodings}
+use Rattle.jc_cap.specs.Grammar.{IsU2, IsClassRef, IsPrefixEncoding, ReadsEncodings}
 use Rattle.jc_cap.proofs.Many.{bind_ok, ok_is}
 use Rattle.jc_cap.proofs.Telling.{guard_ok, wanted_ok, chosen, u1_takes, u2_tells, class_ref_tells, many_takes, many_again}
 use Rattle.jc_cap.proofs.Walk.{HasSize}

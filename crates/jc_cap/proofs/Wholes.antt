@@ -6,7 +6,7 @@ use Rattle.std.proofs.lemmas.List.{append-nil, nil_from_length}
 use Rattle.jc_cap.specs.declared.fault.CapFault.{CapFault}
 use Rattle.jc_cap.specs.declared.fault.CapFault.TheVariants.{Trailing}
 use Rattle.jc_cap.specs.Reading.{Field, ParsesAs, value_of_whole}
-use Rattle.jc_cap.specs.Telling.{IsPrefixEncoding, ReadsEncodings}
+use Rattle.jc_cap.specs.Grammar.{IsPrefixEncoding, ReadsEncodings}
 use Rattle.jc_cap.proofs.Many.{bind_ok, ok_is}
 use Rattle.jc_cap.proofs.Telling.{wanted_ok}
 

@@ -16,9 +16,11 @@ use Rattle.jc_cap.specs.declared.class_records.MethodTables.{MethodTables}
 use Rattle.jc_cap.specs.declared.class_records.InterfaceInfo.{InterfaceInfo}
 use Rattle.jc_cap.specs.declared.class_records.ClassInfo.{ClassInfo}
 use Rattle.jc_cap.specs.declared.class_records.ClassRecord.{ClassRecord}
-use Rattle.jc_cap.specs.declared.class_records.ClassRecord.TheVariants as records
-use Rattle.jc_cap.specs.Implemented.{implemented_at}
+use Rattle.jc_cap.specs.ClassLists.{implemented_at}
 use Rattle.jc_cap.specs.ClassValues.{RecordAt, offsets_of}
+use Rattle.jc_cap.specs.declared.class_reading.Known.{Known}
+use Rattle.jc_cap.specs.declared.class_reading.Known.TheVariants.{Earlier, Any}
+use Rattle.jc_cap.specs.declared.class_records.ClassRecord.TheVariants as records
 
 abbrev pub is_among : ℕ → List ℕ → Bool
 is_among n [] = false
@@ -145,3 +147,9 @@ records_or_none (Err f) = []
 abbrev pub record_offsets_or_none : Result (List RecordAt) CapFault → Result (List ℕ) CapFault
 record_offsets_or_none (Ok rs) = Ok (offsets_of rs)
 record_offsets_or_none (Err f) = Err f
+
+-- ---- which classes may be named as a superclass or a superinterface
+
+abbrev pub is_known_class : Known → ClassRef → Bool
+is_known_class (Earlier before) = is_earlier before.now
+is_known_class Any = any_class

@@ -11,7 +11,7 @@ use Rattle.jc_cap.specs.declared.class_records.InterfaceInfo.{InterfaceInfo}
 use Rattle.jc_cap.specs.declared.class_records.ClassInfo.{ClassInfo}
 use Rattle.jc_cap.specs.declared.class_records.ClassRecord.{ClassRecord}
 use Rattle.jc_cap.specs.declared.class_records.ClassRecord.TheVariants as records
-use Rattle.jc_cap.specs.Implemented.{Implemented}
+use Rattle.jc_cap.specs.ClassLists.{Implemented}
 use Rattle.jc_cap.specs.ClassValues.{RecordAt}
 
 -- the interface, the number of its methods, and a token for each

@@ -17,7 +17,7 @@ use Rattle.jc_cap.specs.Exports.{exports_at}
 use Rattle.jc_cap.specs.Tags.{header_tag, directory_tag, applet_tag, import_tag, constant_pool_tag, class_tag, method_tag, static_field_tag, export_tag}
 use Rattle.jc_cap.specs.ClassValues.{RecordAt}
 use Rattle.jc_cap.specs.ClassReading.{classes_of}
-use Rattle.jc_cap.specs.MethodValues.{MethodParts}
+use Rattle.jc_cap.specs.Methods.{MethodParts}
 use Rattle.jc_cap.specs.MethodReading.{methods_of}
 use Rattle.jc_cap.specs.StaticValues.{StaticParts}
 use Rattle.jc_cap.specs.StaticReading.{statics_at}

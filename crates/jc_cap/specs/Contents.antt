@@ -7,7 +7,7 @@ use Rattle.jc_cap.specs.declared.directory.Directory.{Directory}
 use Rattle.jc_cap.specs.declared.pool.Entry.{Entry}
 use Rattle.jc_cap.specs.declared.exports.ExportedClass.{ExportedClass}
 use Rattle.jc_cap.specs.ClassValues.{RecordAt}
-use Rattle.jc_cap.specs.MethodValues.{MethodParts}
+use Rattle.jc_cap.specs.Methods.{MethodParts}
 use Rattle.jc_cap.specs.StaticValues.{StaticParts}
 
 pub data Content : Type 0 where

@@ -10,7 +10,7 @@ use Rattle.jc_cap.specs.declared.pool.Entry.{Entry}
 use Rattle.jc_cap.specs.declared.pool.Entry.TheVariants as entries
 use Rattle.jc_cap.specs.ClassValues.{RecordAt, offsets_of}
 use Rattle.jc_cap.specs.ClassReading.{is_among}
-use Rattle.jc_cap.specs.MethodValues.{MethodParts}
+use Rattle.jc_cap.specs.Methods.{MethodParts}
 use Rattle.jc_cap.specs.MethodReading.{has_room}
 use Rattle.jc_cap.specs.Tables.{all_of_list, tables_fit}
 use Rattle.jc_cap.specs.Contents.{PackageContents}

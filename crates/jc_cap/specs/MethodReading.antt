@@ -4,7 +4,7 @@ use Rattle.std.specs.Prelude.{if◌then◌else◌}
 use Rattle.jc_cap.specs.declared.fault.CapFault.{CapFault}
 use Rattle.jc_cap.specs.declared.handlers.Handler.{Handler}
 use Rattle.jc_cap.specs.declared.methods.MethodHeader.{MethodHeader}
-use Rattle.jc_cap.specs.MethodValues.{MethodParts, MethodText}
+use Rattle.jc_cap.specs.Methods.{MethodParts, MethodText}
 use Rattle.jc_cap.specs.Reading.{◌>>=◌, Field, u1_at, u2_at, many_at}
 
 -- two bytes: the stop bit, and a length in the other 15 bits

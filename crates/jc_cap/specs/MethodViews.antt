@@ -2,7 +2,7 @@
 use Rattle.std.specs.Prelude.{Option, Some, None}
 use Rattle.jc_cap.specs.declared.methods.Method.{Method}
 use Rattle.jc_cap.specs.declared.methods.Methods.{Methods}
-use Rattle.jc_cap.specs.MethodValues.{MethodParts, MethodText}
+use Rattle.jc_cap.specs.Methods.{MethodParts, MethodText}
 
 abbrev pub method_parts : Methods → MethodParts
 method_parts m = record { handlers = m.handlers; code = m.code.now }

@@ -63,3 +63,9 @@ list_or_empty (Err f) = []
 -- The bytes begin with n of them, and xs are those.
 abbrev pub BeginsWithList : {A : Type 0} → (List ℕ → Field A) → ℕ → List ℕ → List A → Type 0
 BeginsWithList read n bytes xs = (rest : List ℕ) × (many_at read n bytes ≡ Ok (xs, rest))
+
+-- ---- infos that were read before
+
+-- reading finds no fault
+abbrev pub IsReadable : {A : Type 0} → Result A CapFault → Type 0
+IsReadable read = (x : _) × (read ≡ Ok x)

@@ -2,7 +2,7 @@
 use Rattle.std.specs.Prelude.{ℕ, Bool, true, false, ◌&&◌, ◌||◌, List, [], ◌∷◌, ◌==◌}
 use Rattle.jc_cap.specs.declared.class_records.ClassRecord.{ClassRecord}
 use Rattle.jc_cap.specs.declared.class_records.ClassRecord.TheVariants as records
-use Rattle.jc_cap.specs.MethodValues.{MethodParts}
+use Rattle.jc_cap.specs.Methods.{MethodParts}
 use Rattle.jc_cap.specs.MethodReading.{has_room}
 use Rattle.jc_cap.specs.ClassValues.{RecordAt, contents_of}
 

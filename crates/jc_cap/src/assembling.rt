@@ -1,8 +1,7 @@
 //! A package is put together of the components that came.
 ghost use Rattle.std.specs.Prelude.{◌≡◌, Ok, IfOk};
 ghost use Rattle.jc_cap.specs.Reading.{ParsesAs};
-ghost use Rattle.jc_cap.specs.Assembling.{required_component, flagged_component, flags_in, required_components, checked_package, assembly_of};
-ghost use Rattle.jc_cap.specs.KnownPackages.{IsPackage};
+ghost use Rattle.jc_cap.specs.Assembling.{required_component, flagged_component, flags_in, required_components, checked_package, assembly_of, IsPackage};
 ghost use Rattle.jc_cap.specs.PackageReading.{contents_of};
 ghost use Rattle.jc_cap.specs.Views.{package_contents};
 

@@ -3,7 +3,7 @@ ghost use Rattle.std.specs.Prelude.{◌≡◌};
 ghost use Rattle.jc_cap.specs.Reading.{ParsesAs};
 ghost use Rattle.jc_cap.specs.ClassReading.{record_offsets_or_none};
 ghost use Rattle.jc_cap.specs.ComponentReading.{classes_in};
-ghost use Rattle.jc_cap.specs.Kept.{Keeps};
+ghost use Rattle.jc_cap.specs.KeptComponents.{Keeps};
 
 use crate::classes::{Classes, read_class};
 use crate::envelope::{info_found_in, info_of};
@@ -38,7 +38,7 @@ pub struct ClassComponent {
 
 impl Model for ClassComponent {
     ghost use Rattle.std.specs.Prelude.{◌≡◌, ℕ, List};
-    ghost use Rattle.jc_cap.specs.Again.{IsReadable};
+    ghost use Rattle.jc_cap.specs.Reading.{IsReadable};
     ghost use Rattle.jc_cap.specs.ClassValues.{offsets_of};
     ghost use Rattle.jc_cap.specs.ClassReading.{records_or_none};
     ghost use Rattle.jc_cap.specs.ComponentReading.{classes_in};

@@ -3,8 +3,7 @@ ghost use Rattle.std.specs.Prelude.{◌≡◌, ◌∷◌, [], ◌<◌, length, S
 ghost use Rattle.jc_cap.specs.Reading.{ParsesAs, many_at, list_or_empty, rest_after};
 ghost use Rattle.jc_cap.specs.Places.{IsList};
 ghost use Rattle.jc_cap.specs.ClassRefs.{class_ref_at};
-ghost use Rattle.jc_cap.specs.Implemented.{implemented_at};
-ghost use Rattle.jc_cap.specs.ImplementedViews.{implemented_value};
+ghost use Rattle.jc_cap.specs.ClassLists.{implemented_at, implemented_value};
 
 use crate::class_refs::{ClassRef, class_ref};
 use crate::counted::{Part, skip_many};
@@ -70,7 +69,7 @@ pub struct ImplementedInterface<'a> {
     pub tokens: &'a [u8],
 }
 
-#[tactic(auto, unfolding(crate::specs::Implemented::implemented_at))]
+#[tactic(auto, unfolding(crate::specs::ClassLists::implemented_at))]
 fn read_implemented(bytes: &[u8]) -> Result<(ImplementedInterface<'_>, &[u8]), CapFault>
     ensures { ParsesAs (λ x. (implemented_value x.0, x.1.now)) result (implemented_at bytes.now) }
 {
@@ -83,7 +82,7 @@ fn read_implemented(bytes: &[u8]) -> Result<(ImplementedInterface<'_>, &[u8]), C
 struct ImplementedPart;
 
 impl Part for ImplementedPart {
-    ghost use Rattle.jc_cap.specs.Implemented.{Implemented, implemented_at};
+    ghost use Rattle.jc_cap.specs.ClassLists.{Implemented, implemented_at};
 
     ghost Said = { Implemented };
 
@@ -104,7 +103,7 @@ pub struct ImplementedInterfaces<'a> {
 
 impl<'a> Model for ImplementedInterfaces<'a> {
     ghost use Rattle.std.specs.Prelude.{List};
-    ghost use Rattle.jc_cap.specs.Implemented.{Implemented, implemented_at};
+    ghost use Rattle.jc_cap.specs.ClassLists.{Implemented, implemented_at};
     ghost use Rattle.jc_cap.specs.Reading.{many_at, list_or_empty};
     ghost use Rattle.jc_cap.specs.Places.{IsList};
 

@@ -2,8 +2,7 @@
 ghost use Rattle.std.specs.Prelude.{◌≡◌};
 ghost use Rattle.jc_cap.specs.Reading.{ParsesAs, rest_after, many_at};
 ghost use Rattle.jc_cap.specs.ClassReading.{is_among, is_earlier, super_at, references_at, table_sizes_at, tables_at, class_at, interface_at, flags_of};
-ghost use Rattle.jc_cap.specs.ClassReading.{record_at};
-ghost use Rattle.jc_cap.specs.Known.{is_known_class};
+ghost use Rattle.jc_cap.specs.ClassReading.{record_at, is_known_class};
 
 use crate::class_lists::{ClassRefs, read_interfaces};
 use crate::class_records::{

@@ -1,7 +1,6 @@
 //! The Class component.
 ghost use Rattle.std.specs.Prelude.{◌≡◌, ◌<◌, ◌^◌, List, length, false, Some, Ok, IfOk, MatchOption, slice_get, take};
-ghost use Rattle.jc_cap.specs.Reading.{ParsesAs};
-ghost use Rattle.jc_cap.specs.Again.{IsReadable};
+ghost use Rattle.jc_cap.specs.Reading.{ParsesAs, IsReadable};
 ghost use Rattle.jc_cap.specs.ClassValues.{RecordAt, offsets_of, contents_of};
 ghost use Rattle.jc_cap.specs.ClassReading.{is_among, records_start, classes_of, record_offsets_or_none, records_or_none};
 ghost use Rattle.jc_cap.specs.Classes.{LooksBack, AreClasses};

@@ -1,14 +1,13 @@
 //! Components that came and were read.
 ghost use Rattle.std.specs.Prelude.{◌≡◌, ◌<◌, ◌^◌, length, Ok};
 ghost use Rattle.jc_cap.specs.declared.formats.Format.{Format};
-ghost use Rattle.jc_cap.specs.Again.{IsReadable};
+ghost use Rattle.jc_cap.specs.Reading.{IsReadable, ParsesAs};
 ghost use Rattle.jc_cap.specs.Envelope.{info_at};
-ghost use Rattle.jc_cap.specs.Reading.{ParsesAs};
 ghost use Rattle.jc_cap.specs.ComponentViews.{head};
 ghost use Rattle.jc_cap.specs.MethodViews.{method_parts};
 ghost use Rattle.jc_cap.specs.ComponentReading.{header_in, directory_in, imports_in, pool_in, methods_in};
-ghost use Rattle.jc_cap.specs.Components.{component_at, content_at};
-ghost use Rattle.jc_cap.specs.Kept.{IsReadAs, Keeps, applets_told, exports_told};
+ghost use Rattle.jc_cap.specs.Component.{component_at, content_at};
+ghost use Rattle.jc_cap.specs.KeptComponents.{IsReadAs, Keeps, applets_told, exports_told};
 
 use crate::applets::{Applets, read_applets};
 use crate::classes::read_class;
@@ -28,7 +27,7 @@ use crate::tags::{
 use std::marker::Model;
 
 // Reads the info of the component with this tag.
-#[tactic(auto, unfolding(crate::specs::Components::content_at))]
+#[tactic(auto, unfolding(crate::specs::Component::content_at))]
 fn read_info(format: Format, tag: u8, info: &[u8]) -> Result<(), CapFault>
     requires { length info.now < 2 ^ 16 }
     ensures { IsReadAs result (content_at format tag info.now) }
@@ -75,7 +74,7 @@ fn read_info(format: Format, tag: u8, info: &[u8]) -> Result<(), CapFault>
 }
 
 // Reads the component with this tag that the bytes are.
-#[tactic(auto, unfolding(crate::specs::Components::component_at))]
+#[tactic(auto, unfolding(crate::specs::Component::component_at))]
 fn read_whole(format: Format, tag: u8, bytes: &[u8]) -> Result<(), CapFault>
     ensures { IsReadAs result (component_at format tag bytes.now) }
 {
@@ -92,8 +91,8 @@ pub struct Component<const TAG: u8> {
 
 impl<const TAG: u8> Model for Component<TAG> {
     ghost use Rattle.std.specs.Prelude.{ℕ, List};
-    ghost use Rattle.jc_cap.specs.Again.{IsReadable};
-    ghost use Rattle.jc_cap.specs.Components.{component_at};
+    ghost use Rattle.jc_cap.specs.Reading.{IsReadable};
+    ghost use Rattle.jc_cap.specs.Component.{component_at};
 
     ghost Value = { List ℕ };
 

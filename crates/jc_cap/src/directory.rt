@@ -1,7 +1,6 @@
 //! The Directory component.
 ghost use Rattle.std.specs.Prelude.{◌≡◌, ◌+◌, ◌*◌, Ok, IfOk};
-ghost use Rattle.jc_cap.specs.Reading.{ParsesAs, value_of_whole};
-ghost use Rattle.jc_cap.specs.Again.{IsReadable};
+ghost use Rattle.jc_cap.specs.Reading.{ParsesAs, value_of_whole, IsReadable};
 ghost use Rattle.jc_cap.specs.declared.directory.Directory.{Directory};
 ghost use Rattle.jc_cap.specs.Directory.{sizes_of, static_field_size_at, directory_at, IsDirectory};
 

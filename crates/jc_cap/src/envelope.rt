@@ -1,8 +1,7 @@
 //! The tag and the size that stand before each component's info.
 ghost use Rattle.std.specs.Prelude.{◌≡◌, ◌<◌, ◌^◌, length, Ok, IfOk};
-ghost use Rattle.jc_cap.specs.Reading.{ParsesAs};
+ghost use Rattle.jc_cap.specs.Reading.{ParsesAs, IsReadable};
 ghost use Rattle.jc_cap.specs.Envelope.{info_at};
-ghost use Rattle.jc_cap.specs.Again.{IsReadable};
 
 use crate::fault::CapFault;
 use crate::fields::u2;

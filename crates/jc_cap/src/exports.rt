@@ -1,7 +1,6 @@
 //! The Export component.
 ghost use Rattle.std.specs.Prelude.{◌≡◌, ◌∷◌, [], ◌<◌, List, length, Some, None, Ok, IfOk, MatchOption, slice_get};
-ghost use Rattle.jc_cap.specs.Reading.{ParsesAs, rest_after, many_at, value_of_whole};
-ghost use Rattle.jc_cap.specs.Again.{IsReadable};
+ghost use Rattle.jc_cap.specs.Reading.{ParsesAs, rest_after, many_at, value_of_whole, IsReadable};
 ghost use Rattle.jc_cap.specs.declared.exports.ExportedClass.{ExportedClass};
 ghost use Rattle.jc_cap.specs.Exports.{exported_class_at, exports_at, IsExports};
 

@@ -1,7 +1,6 @@
 //! The exception handlers of a Method component.
 ghost use Rattle.std.specs.Prelude.{◌≡◌, ◌<◌, length, Some, Ok, slice_get};
-ghost use Rattle.jc_cap.specs.Reading.{ParsesAs, many_at, rest_after};
-ghost use Rattle.jc_cap.specs.Again.{IsReadable};
+ghost use Rattle.jc_cap.specs.Reading.{ParsesAs, many_at, rest_after, IsReadable};
 ghost use Rattle.jc_cap.specs.MethodReading.{active_at, handler_at};
 
 use crate::counted::{Part, skip_many};

@@ -1,7 +1,6 @@
 //! The Header component.
 ghost use Rattle.std.specs.Prelude.{◌≡◌, Ok, IfOk};
-ghost use Rattle.jc_cap.specs.Reading.{ParsesAs, value_of_whole};
-ghost use Rattle.jc_cap.specs.Again.{IsReadable};
+ghost use Rattle.jc_cap.specs.Reading.{ParsesAs, value_of_whole, IsReadable};
 ghost use Rattle.jc_cap.specs.Header.{HeaderValue, magic_at, format_of, version_at, flags_at, name_at, header_at, IsHeader};
 ghost use Rattle.jc_cap.specs.ComponentViews.{head};
 

@@ -1,7 +1,6 @@
 //! The Import component.
 ghost use Rattle.std.specs.Prelude.{◌≡◌, ◌∷◌, [], ◌<◌, List, length, Some, None, Ok, IfOk, MatchOption, slice_get};
-ghost use Rattle.jc_cap.specs.Reading.{ParsesAs, many_at, value_of_whole};
-ghost use Rattle.jc_cap.specs.Again.{IsReadable};
+ghost use Rattle.jc_cap.specs.Reading.{ParsesAs, many_at, value_of_whole, IsReadable};
 ghost use Rattle.jc_cap.specs.Packages.{NamedPackage, package_at};
 ghost use Rattle.jc_cap.specs.FieldViews.{package_info};
 ghost use Rattle.jc_cap.specs.Imports.{imports_at, IsImports};

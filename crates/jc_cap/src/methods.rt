@@ -1,10 +1,8 @@
 //! The Method component.
 ghost use Rattle.std.specs.Prelude.{◌≡◌, Ok, IfOk};
-ghost use Rattle.jc_cap.specs.Reading.{ParsesAs};
-ghost use Rattle.jc_cap.specs.Again.{IsReadable};
-ghost use Rattle.jc_cap.specs.MethodValues.{MethodParts};
+ghost use Rattle.jc_cap.specs.Reading.{ParsesAs, IsReadable};
+ghost use Rattle.jc_cap.specs.Methods.{MethodParts, AreMethods};
 ghost use Rattle.jc_cap.specs.MethodReading.{methods_of, methods_start, short_header, extended_header, header_of, method_at, has_room};
-ghost use Rattle.jc_cap.specs.MethodGrammar.{AreMethods};
 ghost use Rattle.jc_cap.specs.MethodViews.{method_parts, method_value};
 
 use crate::fault::CapFault;

@@ -1,7 +1,6 @@
 //! The ConstantPool component.
 ghost use Rattle.std.specs.Prelude.{◌≡◌, ◌<◌, List, length, Some, Ok, IfOk, slice_get};
-ghost use Rattle.jc_cap.specs.Reading.{ParsesAs, rest_after, many_at, value_of_whole};
-ghost use Rattle.jc_cap.specs.Again.{IsReadable};
+ghost use Rattle.jc_cap.specs.Reading.{ParsesAs, rest_after, many_at, value_of_whole, IsReadable};
 ghost use Rattle.jc_cap.specs.declared.pool.Entry.{Entry};
 ghost use Rattle.jc_cap.specs.Pool.{virtual_token_at, static_ref_at, entry_at, pool_at, IsPool};
 

@@ -3,7 +3,7 @@ ghost use Rattle.std.specs.Prelude.{◌≡◌, Ok};
 ghost use Rattle.jc_cap.specs.Reading.{ParsesAs};
 ghost use Rattle.jc_cap.specs.StaticViews.{counts_or_none, static_parts};
 ghost use Rattle.jc_cap.specs.ComponentReading.{statics_in};
-ghost use Rattle.jc_cap.specs.Kept.{Keeps};
+ghost use Rattle.jc_cap.specs.KeptComponents.{Keeps};
 
 use crate::envelope::{info_found_in, info_of};
 use crate::fault::CapFault;

@@ -1,11 +1,10 @@
 //! The components of a package as they came, each of them read.
 ghost use Rattle.std.specs.Prelude.{◌≡◌, ◌<◌, ◌-◌, length, IfOk, Ok};
-ghost use Rattle.jc_cap.specs.Texts.{no_components};
+ghost use Rattle.jc_cap.specs.Texts.{no_components, taken, taken_with, unused_taken};
 ghost use Rattle.jc_cap.specs.Contents.{Content};
 ghost use Rattle.jc_cap.specs.Contents as contents;
-ghost use Rattle.jc_cap.specs.Components.{component_at, content_result, IsComponent};
+ghost use Rattle.jc_cap.specs.Component.{component_at, content_result, IsComponent};
 ghost use Rattle.jc_cap.specs.ComponentReading.{classes_in, statics_in};
-ghost use Rattle.jc_cap.specs.Taking.{taken, taken_with, unused_taken};
 ghost use Rattle.jc_cap.specs.Envelope.{info_at};
 ghost use Rattle.jc_cap.specs.Tags.{header_tag, class_tag, static_field_tag};
 
@@ -141,7 +140,7 @@ impl LoadedComponents {
     }
 
     // A component whose info is not looked at.
-    #[tactic(auto, unfolding(crate::specs::Taking::with_size))]
+    #[tactic(auto, unfolding(crate::specs::Texts::with_size))]
     fn take_unused(&mut self, tag: u8, bytes: Vec<u8>) -> Result<Option<Format>, CapFault>
         requires small { length bytes.items < 65539 }
         ensures { taken result self.new ≡ unused_taken self.old tag bytes.items (info_at tag bytes.items) }

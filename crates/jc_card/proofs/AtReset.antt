@@ -5,9 +5,9 @@ use Rattle.jc_transient.specs.State.{IsCleared}
 use Rattle.jc_memory.specs.Cells.{word_in, word_of}
 use Rattle.jc_memory.specs.Owners.{at_reset}
 use Rattle.jc_memory.specs.State.{MemoryState}
-use Rattle.jc_card.specs.CardState.{CardState}
+use Rattle.jc_card.specs.Card.{CardState}
 use Rattle.jc_card.specs.declared.power_up.CardParts.{CardParts}
-use Rattle.jc_card.specs.Reset.{ArePartsOf, IsAtReset, ReadsAsZero}
+use Rattle.jc_card.specs.PowerUp.Reset.{ArePartsOf, IsAtReset, ReadsAsZero}
 
 zero_blank : (s : MemoryState) → IsCleared s.ram → ReadsAsZero s
 zero_blank s blank r i event e = ap (λ o. word_in o s r i) e ∙ ap word_of (blank.cells event ((facts s.heap.now r).place + i))

@@ -4,9 +4,9 @@ use Rattle.std.specs.Prelude.{unwrap_or}
 use Rattle.std.proofs.lemmas.Bool.{false≢true}
 use Rattle.std.proofs.lemmas.List.{append_assoc}
 use Rattle.jc_transient.specs.declared.cell.ClearEvent.TheVariants.{Reset}
-use Rattle.jc_heap.specs.Components.{record_of}
+use Rattle.jc_heap.specs.Component.{record_of}
 use Rattle.jc_heap.specs.Object.{AnObject, Item, new_transient}
-use Rattle.jc_heap.specs.Table.{has_entry}
+use Rattle.jc_heap.specs.Walk.{has_entry}
 use Rattle.jc_heap.specs.Heap.{HeapState, IsObject, add_object, add_transient, area_end, first_above, heap_item_at, is_allocated, next_object}
 use Rattle.jc_heap.proofs.Laws.{object_named}
 use Rattle.jc_image.specs.declared.laying.ImageRoom.{ImageRoom}
@@ -18,7 +18,7 @@ use Rattle.jc_environment.specs.Objects.{fixed_count}
 use Rattle.jc_environment.proofs.ObjectCounts.{count_sized, least_count}
 use Rattle.jc_transient.specs.State.{buffer_told}
 use Rattle.jc_card.specs.Fixed.{class_number_of, last_fixed, next_or_null, object_number, with_objects}
-use Rattle.jc_card.specs.Made.{new_card_heap, objects_in}
+use Rattle.jc_card.specs.ProductImages.{new_card_heap, objects_in}
 use Rattle.jc_card.specs.PowerUp.{HasPackages}
 use Rattle.jc_card.proofs.FixedObjects.{IsBelow, below-one, found-first, has_entry-push, items-all, items-one, next_is, next_sealed, none-push, top-add}
 use Rattle.jc_card.proofs.FixedObjects.{with_one}

@@ -10,7 +10,7 @@ use Rattle.jc_transient.specs.State.{AreSizes, buffer_told, ram_sizes}
 use Rattle.jc_transient.specs.declared.cell.ClearEvent.{ClearEvent}
 use Rattle.jc_transient.specs.declared.cell.ClearEvent.TheVariants.{Reset, Deselect}
 use Rattle.jc_heap.specs.declared.object.Kind.{Kind}
-use Rattle.jc_heap.specs.Table.{entry_or, has_entry}
+use Rattle.jc_heap.specs.Walk.{entry_or, has_entry}
 use Rattle.jc_commit.proofs.WhatIsKept.{keeps_old_values}
 use Rattle.jc_heap.specs.Completions.{after_making}
 use Rattle.jc_heap.specs.Moves.{Move, AreTornMoves, PerformsMovesUnless, refusal_of_transient}
@@ -19,7 +19,7 @@ use Rattle.jc_heap.specs.declared.refusal.HeapRefusal.TheVariants as refusal
 use Rattle.jc_heap.specs.Object.{Item, AnObject, APackage, is_object, facts_of, new_transient, transient_size}
 use Rattle.jc_heap.specs.Heap.{HeapState, HeapView, add_transient, add_object, area_end, area_limit, first_above, next_object, heap_item_at, facts, is_allocated}
 use Rattle.jc_heap.specs.Heap.{area_end_address, end_address, keeping, limit}
-use Rattle.jc_heap.specs.Whole.{IsConsistent, IsFilledArea}
+use Rattle.jc_heap.specs.WholeHeap.{IsConsistent, IsFilledArea}
 use Rattle.jc_heap.proofs.Calls.{has_some_cells, object_fits}
 use Rattle.jc_heap.proofs.Keeping.{empty_whole, transient_whole}
 use Rattle.jc_image.specs.declared.laying.ImageRoom.{ImageRoom}
@@ -31,7 +31,7 @@ use Rattle.jc_environment.specs.declared.objects.FixedObject.{FixedObject}
 use Rattle.jc_environment.specs.Objects.{cells_of_all, sized_objects}
 use Rattle.jc_environment.proofs.ObjectCounts.{cells_sized, most_cells}
 use Rattle.jc_card.specs.Fixed.{buffer_cells, class_number_of, fixed_facts, BeginsWithFixed, with_objects}
-use Rattle.jc_card.specs.Made.{new_card_heap, objects_in}
+use Rattle.jc_card.specs.ProductImages.{new_card_heap, objects_in}
 
 -- what a new transient object changes
 pub head-add : (h : HeapState) (kind : Kind) (class owner n : ℕ) → (add_transient h kind Reset class owner n).head ≡ h.head

@@ -6,12 +6,12 @@ use Rattle.jc_commit.specs.Image.{IsGoodLog, recovered_of}
 use Rattle.jc_heap.specs.Heap.{HeapState}
 use Rattle.jc_memory.specs.Programs.{TearLeaves}
 use Rattle.jc_card.specs.Answers.{exchange}
-use Rattle.jc_card.specs.PoweringUp.{PowerUpFails}
-use Rattle.jc_card.specs.Power.{IsStoreOf, KeptState, Off, PowerOver, PowerState, StoreState, Up, budget_of, durable_state_in_store, with_refusal}
-use Rattle.jc_card.specs.Requests.{Down, Response}
-use Rattle.jc_card.specs.Serving.{AnswersCommand, AnswersReset}
-use Rattle.jc_card.specs.SessionStates.{AnswersInPlace, IsGood, IsHeldIn, IsUp, PowersUpTo, answer_of_power_up, kept_power}
-use Rattle.jc_card.specs.Starting.{FailsToStart, IsPoweredUp, Starts}
+use Rattle.jc_card.specs.PowerUp.Outcome.{PowerUpFails}
+use Rattle.jc_card.specs.State.Power.{IsStoreOf, KeptState, Off, PowerOver, PowerState, StoreState, Up, budget_of, durable_state_in_store, with_refusal}
+use Rattle.jc_card.specs.Session.Requests.{Down, Response}
+use Rattle.jc_card.specs.Session.Serving.{AnswersCommand, AnswersReset}
+use Rattle.jc_card.specs.State.{AnswersInPlace, IsGood, IsHeldIn, IsUp, PowersUpTo, answer_of_power_up, kept_power}
+use Rattle.jc_card.specs.Session.Starting.{FailsToStart, IsPoweredUp, Starts}
 use Rattle.jc_card.specs.declared.power_up.PowerFault.{PowerFault as Fault}
 use Rattle.jc_card.specs.declared.power_up.PowerFault.TheVariants.{StoreDown}
 use Rattle.jc_card.proofs.Laid.{if_laid}

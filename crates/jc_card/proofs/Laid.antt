@@ -12,7 +12,7 @@ use Rattle.jc_heap.proofs.Migrated.{migrated_alike}
 use Rattle.jc_card.specs.PowerUp.{RefusalLeaves}
 use Rattle.jc_card.specs.declared.power_up.PowerFault.{PowerFault as Fault}
 use Rattle.jc_card.specs.declared.power_up.PowerFault.TheVariants.{BadMagic, BadVersion, BadSize, BadLog, BadTable, BadPackage, NoMemory, StoreDown}
-use Rattle.jc_card.specs.Power.{is_well_formed}
+use Rattle.jc_card.specs.State.Power.{is_well_formed}
 
 none_above : (top : ℕ) (ps : List ℕ) → list_all (λ p. nat_lt p top) ps ≡ true → (a : ℕ) → top ≤ a → is_package ps a ≡ false
 none_above top [] below a le = refl

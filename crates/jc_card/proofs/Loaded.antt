@@ -17,7 +17,7 @@ use Rattle.jc_packages.specs.PendingPackages.{PendingPackageValue, linked_compon
 use Rattle.jc_packages.specs.RecordContents.{arrays_of, image_of, parts_of, statics_of}
 use Rattle.jc_packages.specs.declared.load_refusal.LoadRefusal.{LoadRefusal}
 use Rattle.jc_packages.specs.declared.load.OpenLoad.{OpenLoad}
-use Rattle.jc_packages.specs.Loading.{CommandResult}
+use Rattle.jc_packages.specs.Load.{CommandResult}
 use Rattle.jc_packages.specs.LoadEnd.{LoadResult, after_end, assembly_result, after_addition, after_preparation, end_of_load}
 use Rattle.jc_card.specs.Loading.{answer_of_left, response_of_end}
 use Rattle.jc_card.specs.Answers.{after_exchange}

@@ -7,11 +7,11 @@ use Rattle.jc_commit.specs.Image.{IsGoodLog, recovered_of}
 use Rattle.jc_transient.specs.State.{AreSizes}
 use Rattle.jc_heap.specs.Image.{IsWellFormed}
 use Rattle.jc_heap.specs.Heap.{HeapState, HeapView, heap_of}
-use Rattle.jc_heap.specs.Stored.{HoldsHeap}
+use Rattle.jc_heap.specs.Heap.Store.{HoldsHeap}
 use Rattle.jc_image.specs.declared.laying.ImageRoom.{ImageRoom}
 use Rattle.jc_platform.specs.Tokens.{Tokens}
 use Rattle.jc_platform.specs.Table.{Reads}
-use Rattle.jc_card.specs.Made.{IsCardHeap, IsMade, new_card_heap}
+use Rattle.jc_card.specs.ProductImages.{IsCardHeap, IsMade, new_card_heap}
 use Rattle.jc_card.proofs.FittingImages.{fits-new_card_heap}
 use Rattle.jc_card.proofs.FixedObjects.{begins-new_card_heap, head-new_card_heap, text-new_card_heap, whole-new_card_heap}
 

@@ -6,14 +6,14 @@ use Rattle.jc_transient.specs.State.{AreSizes}
 use Rattle.jc_transient.specs.declared.cell.ClearEvent.TheVariants.{Reset}
 use Rattle.jc_heap.specs.declared.object.Kind.{Kind}
 use Rattle.jc_heap.specs.Heap.{HeapState, add_object, add_transient}
-use Rattle.jc_heap.specs.Whole.{IsConsistent}
+use Rattle.jc_heap.specs.WholeHeap.{IsConsistent}
 use Rattle.jc_image.specs.declared.laying.ImageRoom.{ImageRoom}
 use Rattle.jc_image.specs.Laying.{first_free, first_words_of, unsealed_heap}
 use Rattle.jc_platform.specs.Tokens.{Tokens}
 use Rattle.jc_environment.specs.declared.objects.FixedObject.{FixedObject}
 use Rattle.jc_environment.specs.Objects.{cells_of_all, fixed_size}
 use Rattle.jc_card.specs.Fixed.{class_number_of, with_objects}
-use Rattle.jc_card.specs.Made.{new_card_heap, new_front, objects_in}
+use Rattle.jc_card.specs.ProductImages.{new_card_heap, new_front, objects_in}
 use Rattle.jc_card.proofs.FixedObjects.{end-add, head-new_card_heap, lasting-all, text-new_card_heap, top-add}
 use Rattle.jc_environment.proofs.ObjectCounts.{count_sized}
 use Rattle.jc_transient.specs.State.{buffer_told}

@@ -7,14 +7,14 @@ use Rattle.jc_words.specs.Layout.{magic_address, version_address, text_length_ad
 use Rattle.jc_commit.specs.Image.{IsGoodLog, limit_of, recovered_of}
 use Rattle.jc_commit.specs.Migration.{migrated, StillOpens}
 use Rattle.jc_commit.proofs.InPlace.{length-recovered}
-use Rattle.jc_heap.specs.Whole.{IsConsistent}
-use Rattle.jc_heap.specs.Alike.{StandAlike}
+use Rattle.jc_heap.specs.WholeHeap.{IsConsistent}
+use Rattle.jc_heap.specs.HeapLaws.{StandAlike}
 use Rattle.jc_heap.proofs.Migrated.{migrated_alike}
 use Rattle.jc_heap.specs.Image.{IsWellFormed, base, image}
 use Rattle.jc_heap.specs.Heap.{HeapState, head_of, heap_of}
 use Rattle.jc_packages.specs.Sound.{IsSound}
 use Rattle.jc_packages.specs.Reading.{packages_of}
-use Rattle.jc_packages.specs.ImageTables.{HasTable}
+use Rattle.jc_packages.specs.Tables.{HasTable}
 use Rattle.jc_heap.proofs.RawWords.{recovered-head, head_is, text_is}
 use Rattle.jc_heap.proofs.Following.{base_is}
 use Rattle.jc_linker.specs.Values.{Packages}
@@ -22,7 +22,7 @@ use Rattle.jc_platform.specs.Tokens.{Tokens}
 use Rattle.jc_platform.specs.Table.{Reads}
 use Rattle.jc_platform.proofs.OneAnswer.{one_table}
 use Rattle.jc_card.specs.Fixed.{BeginsWithFixed, last_fixed}
-use Rattle.jc_card.specs.Made.{IsMade}
+use Rattle.jc_card.specs.ProductImages.{IsMade}
 use Rattle.jc_card.specs.PowerUp.{HasHead, HasHeap, PowerUpRefuses, RecoveredWordsFail, HasPackages}
 use Rattle.jc_card.specs.declared.power_up.PowerFault.{PowerFault}
 use Rattle.jc_card.specs.declared.power_up.PowerFault.TheVariants.{BadMagic, BadVersion, BadSize, BadLog, BadTable, BadPackage, NoMemory, StoreDown}

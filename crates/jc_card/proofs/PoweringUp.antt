@@ -10,15 +10,15 @@ use Rattle.jc_commit.specs.Journal.{IsOpened}
 use Rattle.jc_commit.specs.State.{State}
 use Rattle.jc_commit.proofs.InPlace.{length-recovered}
 use Rattle.jc_heap.specs.Heap.{heap_at_rest, heap_of}
-use Rattle.jc_heap.specs.Stored.{heap_of_store_at_rest}
+use Rattle.jc_heap.specs.Heap.Store.{heap_of_store_at_rest}
 use Rattle.jc_image.specs.Opening.{HoldsImage}
 use Rattle.jc_platform.specs.Tokens.{Tokens}
 use Rattle.jc_interp.specs.Attacks.{undisturbed}
-use Rattle.jc_card.specs.CardState.{CardState}
-use Rattle.jc_packages.specs.ImageTables.{HasTable}
+use Rattle.jc_card.specs.Card.{CardState}
+use Rattle.jc_packages.specs.Tables.{HasTable}
 use Rattle.jc_card.specs.PowerUp.{HasHead, HasHeap, PowerUpRefuses, RecoveredWordsFail, RefusalLeaves, fault_of}
-use Rattle.jc_card.specs.PoweringUp.{FaultLeaves, IsLeftRecovered, IsPoweredOver, PowerUpFails, PowersUpOver}
-use Rattle.jc_card.specs.Reset.{IsAtReset}
+use Rattle.jc_card.specs.PowerUp.Outcome.{FaultLeaves, IsLeftRecovered, IsPoweredOver, PowerUpFails, PowersUpOver}
+use Rattle.jc_card.specs.PowerUp.Reset.{IsAtReset}
 use Rattle.jc_card.specs.declared.power_up.PowerFault.{PowerFault}
 use Rattle.jc_card.specs.declared.power_up.PowerFault.TheVariants.{BadMagic, BadVersion, BadSize, BadLog, BadTable, BadPackage, NoMemory, StoreDown}
 use Rattle.jc_card.proofs.PoweredUp.{fails_back, heap_back, limit_still, long_image, made_found, recovered_alike, refuses_from, table_back}

@@ -7,13 +7,13 @@ use Rattle.jc_heap.specs.Heap.{HeapView}
 use Rattle.jc_memory.specs.Programs.{Completes}
 use Rattle.jc_memory.proofs.ProgramLemmas.{refusals_did}
 use Rattle.jc_card.specs.Answers.{exchange}
-use Rattle.jc_card.specs.CardState.{CardState}
+use Rattle.jc_card.specs.Card.{CardState}
 use Rattle.jc_card.specs.Dispatching.{with_response}
-use Rattle.jc_card.specs.Requests.{Request, Command, Reset, ArmFuse, PlanFault, Reply, Response, Ready, Down}
-use Rattle.jc_card.specs.Power.{PowerState, Up, Off, KeptState, armed, budget_of, durable_state, planned}
+use Rattle.jc_card.specs.Session.Requests.{Request, Command, Reset, ArmFuse, PlanFault, Reply, Response, Ready, Down}
+use Rattle.jc_card.specs.State.Power.{PowerState, Up, Off, KeptState, armed, budget_of, durable_state, planned}
 use Rattle.jc_card.specs.declared.planned_fault.PlannedFault.{PlannedFault}
-use Rattle.jc_card.specs.Starting.{IsPoweredUp}
-use Rattle.jc_card.specs.Serving.{AnswersCommand, AnswersReset, Serves, SessionRun}
+use Rattle.jc_card.specs.Session.Starting.{IsPoweredUp}
+use Rattle.jc_card.specs.Session.Serving.{AnswersCommand, AnswersReset, Serves, SessionRun}
 
 -- a count of refusals of one more
 pub one_more : (n : ℕ) → n < 18446744073709551615 → saturating_count n 1 ≡ n + 1

@@ -6,8 +6,8 @@ use Rattle.jc_heap.proofs.Migrated.{migrated_alike}
 use Rattle.jc_card.specs.PowerUp.{PowerUpRefuses, RefusalLeaves}
 use Rattle.jc_card.specs.declared.power_up.PowerFault.{PowerFault as Fault}
 use Rattle.jc_card.specs.declared.power_up.PowerFault.TheVariants.{BadMagic, BadVersion, BadSize, BadLog, BadTable, BadPackage, NoMemory, StoreDown}
-use Rattle.jc_card.specs.Power.{KeptState, PowerState, StoreState, IsStoreOf}
-use Rattle.jc_card.specs.Starting.{FailsToReset, FailsToStart}
+use Rattle.jc_card.specs.State.Power.{KeptState, PowerState, StoreState, IsStoreOf}
+use Rattle.jc_card.specs.Session.Starting.{FailsToReset, FailsToStart}
 use Rattle.jc_card.proofs.Laid.{laid_still}
 
 -- what a power up that found a fault leaves: its log is good, and it recovers to the same heap

@@ -11,11 +11,11 @@ use Rattle.jc_environment.specs.Registry.{applet_with_aid}
 use Rattle.jc_interp.specs.declared.attacks.Budget.{Budget}
 use Rattle.jc_dispatch.specs.declared.applet_result.AppletResult.{AppletResult}
 use Rattle.jc_dispatch.specs.declared.applet_result.AppletResult.TheVariants.{Done}
-use Rattle.jc_dispatch.specs.Selecting.{deselection, manager_selection, with_selected}
+use Rattle.jc_dispatch.specs.Select.{deselection, manager_selection, with_selected}
 use Rattle.jc_card.specs.Answers.{exchange, exchange_extended, exchange_of_apdu, exchange_short, is_dispatched}
 use Rattle.jc_card.specs.Answers.{manager_response as to_manager}
-use Rattle.jc_card.specs.Apdu.{Apdu}
-use Rattle.jc_card.specs.CardState.{CardState}
+use Rattle.jc_card.specs.Command.{Apdu}
+use Rattle.jc_card.specs.Card.{CardState}
 use Rattle.jc_card.specs.Dispatching.{with_response, dispatch, expected_by, is_select, manager_aid, route, status_of_ending, to_named}
 use Rattle.jc_card.specs.Dispatching.{to_selected}
 use Rattle.jc_card.specs.Loading.{LoadResponse}

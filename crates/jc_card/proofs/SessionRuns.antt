@@ -6,10 +6,10 @@ use Rattle.std.proofs.lemmas.Option.{slice_get-map, slice_get_read}
 use Rattle.jc_card.specs.declared.power_up.PowerFault.{PowerFault}
 use Rattle.jc_card.specs.declared.event.Answer.{Answer}
 use Rattle.jc_card.specs.declared.event.Event.{Event}
-use Rattle.jc_card.specs.Requests.{Request, Reset, Reply, reply_of, request_of}
-use Rattle.jc_card.specs.Power.{PowerState, StoreState}
-use Rattle.jc_card.specs.Serving.{Serves, SessionRun}
-use Rattle.jc_card.specs.Starting.{FailsToReset}
+use Rattle.jc_card.specs.Session.Requests.{Request, Reset, Reply, reply_of, request_of}
+use Rattle.jc_card.specs.State.Power.{PowerState, StoreState}
+use Rattle.jc_card.specs.Session.Serving.{Serves, SessionRun}
+use Rattle.jc_card.specs.Session.Starting.{FailsToReset}
 use Rattle.jc_card.specs.Session.{IsSession, FailsAtReset, requests_of}
 
 -- one run after another

@@ -7,17 +7,17 @@ use Rattle.jc_commit.specs.State.{recovered_journal}
 use Rattle.jc_heap.specs.Heap.{HeapView, heap_at_rest, heap_of, heap_view}
 use Rattle.jc_heap.proofs.Migrated.{migrated_alike}
 use Rattle.jc_interp.specs.Attacks.{undisturbed}
-use Rattle.jc_card.specs.CardState.{CardState}
-use Rattle.jc_card.specs.Made.{IsCardHeap, IsMade}
+use Rattle.jc_card.specs.Card.{CardState}
+use Rattle.jc_card.specs.ProductImages.{IsCardHeap, IsMade}
 use Rattle.jc_card.specs.PowerUp.{PowerUpRefuses, RefusalLeaves}
-use Rattle.jc_card.specs.PoweringUp.{PowerUpFails}
-use Rattle.jc_card.specs.Reset.{IsAtReset}
+use Rattle.jc_card.specs.PowerUp.Outcome.{PowerUpFails}
+use Rattle.jc_card.specs.PowerUp.Reset.{IsAtReset}
 use Rattle.jc_card.specs.declared.power_up.PowerFault.{PowerFault as Fault}
 use Rattle.jc_card.specs.declared.power_up.PowerFault.TheVariants.{StoreDown}
 use Rattle.jc_card.proofs.PoweredUp.{limit_still}
 use Rattle.jc_card.proofs.PoweringUp.{limit_left, none_refused, still_up, words_left}
-use Rattle.jc_card.specs.Power.{KeptState, Off, StoreState, Up, durable_state_in_store, is_well_formed}
-use Rattle.jc_card.specs.Starting.{FailsToStart, Starts}
+use Rattle.jc_card.specs.State.Power.{KeptState, Off, StoreState, Up, durable_state_in_store, is_well_formed}
+use Rattle.jc_card.specs.Session.Starting.{FailsToStart, Starts}
 use Rattle.jc_card.proofs.Laid.{same_answer}
 
 -- what an opening leaves stands for the heap of the recovered words

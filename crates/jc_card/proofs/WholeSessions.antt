@@ -2,12 +2,12 @@
 use Rattle.std.proofs.Common.{◌≡◌, ℕ, ◌+◌, ◌<◌, ◌≤◌, List, [], ◌∷◌, false, refl, sym, ◌∙◌, ap, subst, arith}
 use Rattle.jc_words.specs.Count.{saturating_count}
 use Rattle.jc_words.specs.Refusals.{Refusals, refused_once}
-use Rattle.jc_card.specs.CardState.{CardState}
-use Rattle.jc_card.specs.Requests.{Request, Command, Reset, ArmFuse, PlanFault, Reply, Response, Ready, Down}
-use Rattle.jc_card.specs.Power.{PowerState, Up, Off, KeptState, StoreState, IsStoreOf, armed_card, budget_of, durable_state, durable_state_in_store, planned_card}
-use Rattle.jc_card.specs.Starting.{Starts, IsPoweredUp}
-use Rattle.jc_card.specs.Serving.{Serves, SessionRun}
-use Rattle.jc_card.specs.WholeCopies.{ServesWhole, RunsWhole}
+use Rattle.jc_card.specs.Card.{CardState}
+use Rattle.jc_card.specs.Session.Requests.{Request, Command, Reset, ArmFuse, PlanFault, Reply, Response, Ready, Down}
+use Rattle.jc_card.specs.State.Power.{PowerState, Up, Off, KeptState, StoreState, IsStoreOf, armed_card, budget_of, durable_state, durable_state_in_store, planned_card}
+use Rattle.jc_card.specs.Session.Starting.{Starts, IsPoweredUp}
+use Rattle.jc_card.specs.Session.Serving.{Serves, SessionRun}
+use Rattle.jc_card.specs.Session.{ServesWhole, RunsWhole}
 use Rattle.jc_card.specs.SessionLaws.{AreWholeSessions, ResetsBeginAnew, DownTellsRefusals, IsToldByReply, IsToldOfRefusal}
 use Rattle.jc_card.proofs.Refusals.{one_more, count_raised, powered_refusals, done_refusals, served_grows, run_grows}
 

@@ -15,11 +15,11 @@ use Rattle.jc_dispatch.specs.declared.applet_result.AppletResult.{AppletResult}
 use Rattle.jc_dispatch.specs.declared.applet_result.AppletResult.TheVariants.{Done, Reason, Unknown, NotSelected, NotRegistered, Malformed, NoApplet}
 use Rattle.jc_dispatch.specs.declared.applet_result.AppletResult.TheVariants.{RegistryFull}
 use Rattle.jc_dispatch.specs.ExtendedLength.{implements_extended_length}
-use Rattle.jc_dispatch.specs.Phases.{then_with}
-use Rattle.jc_dispatch.specs.Selecting.{manager_selection, process_command, applet_selection}
+use Rattle.jc_dispatch.specs.Phase.{then_with}
+use Rattle.jc_dispatch.specs.Select.{manager_selection, process_command, applet_selection}
 use Rattle.jc_dispatch.specs.Create.{applet_creation}
-use Rattle.jc_card.specs.Apdu.{Apdu}
-use Rattle.jc_card.specs.CardState.{CardState}
+use Rattle.jc_card.specs.Command.{Apdu}
+use Rattle.jc_card.specs.Card.{CardState}
 use Rattle.jc_card.specs.Loading.{LoadResponse}
 use Rattle.jc_card.specs.StatusWord.{status_bytes, no_error, wrong_length, wrong_data, unknown, full, conditions_not_satisfied, no_applet, not_selected}
 

@@ -7,7 +7,7 @@ use Rattle.jc_transient.specs.State.{buffer_told}
 use Rattle.jc_heap.specs.Heap.{HeapState, add_transient, buffer_word, next_object}
 use Rattle.jc_image.specs.Beginning.{HeapBeginsWith}
 use Rattle.jc_platform.specs.Tokens.{Tokens}
-use Rattle.jc_platform.specs.Distinct.{class_word}
+use Rattle.jc_platform.specs.NamePlaces.{class_word}
 use Rattle.jc_platform.specs.declared.names.PlatformClass.{PlatformClass}
 use Rattle.jc_environment.specs.declared.objects.FixedObject.{FixedObject}
 use Rattle.jc_environment.specs.Objects.{fixed_count, sized_objects}

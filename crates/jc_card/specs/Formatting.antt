@@ -12,7 +12,7 @@ use Rattle.jc_environment.specs.Objects.{fixed_size}
 use Rattle.jc_platform.specs.Tokens.{Tokens}
 use Rattle.jc_platform.specs.Table.{Reads}
 use Rattle.jc_platform.specs.declared.fault.TableFault.TheVariants.{BadTable as BadLine}
-use Rattle.jc_card.specs.Made.{IsMade, new_card_heap, new_front}
+use Rattle.jc_card.specs.ProductImages.{IsMade, new_card_heap, new_front}
 use Rattle.jc_card.specs.declared.formatting.FormatFault.{FormatFault}
 use Rattle.jc_card.specs.declared.formatting.FormatFault.TheVariants.{StoreDown, BadSize, BadCapacity, BadCells, BadTable, TooSmall}
 

@@ -10,9 +10,9 @@ use Rattle.jc_words.specs.declared.store.StoreDown.{StoreDown}
 use Rattle.jc_packages.specs.declared.load.OpenLoad.{OpenLoad}
 use Rattle.jc_packages.specs.declared.load_refusal.LoadRefusal.{LoadRefusal}
 use Rattle.jc_packages.specs.declared.load_refusal.LoadRefusal.TheVariants.{OutOfSequence, UnknownTag, BadComponents, AidTaken, Full, LinkFailed, HeapFull}
-use Rattle.jc_packages.specs.Loading.{CommandResult, empty_load, component_begin, component_end, component_append, without_memory}
+use Rattle.jc_packages.specs.Load.{CommandResult, empty_load, component_begin, component_end, component_append, without_memory}
 use Rattle.jc_packages.specs.LoadEnd.{LoadResult, end_of_load}
-use Rattle.jc_card.specs.CardState.{CardState}
+use Rattle.jc_card.specs.Card.{CardState}
 use Rattle.jc_card.specs.StatusWord.{status_bytes, no_error, wrong_length, conditions_not_satisfied, wrong_data, no_space, aid_taken, full}
 
 -- the response to a command; the packages, the load and the budget that it leaves

@@ -1,4 +1,6 @@
 -- Powering up: why words don't, and what a refusal leaves.
+pub mod Outcome
+pub mod Reset
 use Rattle.std.specs.Prelude.{ℕ, ◌≡◌, ◌≢◌, List, slice_index, Some}
 use Rattle.jc_words.specs.Image.{HasSize, IsVersion}
 use Rattle.jc_words.specs.declared.image.ImageFault.{ImageFault}
@@ -8,11 +10,11 @@ use Rattle.jc_commit.specs.Image.{IsGoodLog, plain_of, recovered_of, count_of}
 use Rattle.jc_commit.specs.Migration.{migrated, StillOpens}
 use Rattle.jc_heap.specs.Image.{IsWellFormed}
 use Rattle.jc_heap.specs.Heap.{HeapState, heap_of}
-use Rattle.jc_heap.specs.Whole.{IsConsistent}
+use Rattle.jc_heap.specs.WholeHeap.{IsConsistent}
 use Rattle.jc_platform.specs.Tokens.{Tokens}
 use Rattle.jc_linker.specs.Values.{Packages}
 use Rattle.jc_packages.specs.Reading.{packages_of}
-use Rattle.jc_packages.specs.ImageTables.{HasTable}
+use Rattle.jc_packages.specs.Tables.{HasTable}
 use Rattle.jc_packages.specs.Sound.{IsSound}
 use Rattle.jc_card.specs.Fixed.{BeginsWithFixed, last_fixed}
 use Rattle.jc_card.specs.declared.power_up.PowerFault.{PowerFault}

@@ -4,14 +4,13 @@ use Rattle.jc_words.specs.Refusals.{Refusals, refused_once}
 use Rattle.jc_transient.specs.State.{IsCleared}
 use Rattle.jc_interp.specs.Attacks.{undisturbed}
 use Rattle.jc_memory.specs.Commands.{has_extended_length}
-use Rattle.jc_card.specs.Apdu.{Apdu, apdu_of}
-use Rattle.jc_card.specs.CardState.{CardState}
+use Rattle.jc_card.specs.Command.{Apdu, apdu_of}
+use Rattle.jc_card.specs.Card.{CardState}
 use Rattle.jc_card.specs.Dispatching.{is_select, manager_aid}
-use Rattle.jc_card.specs.Requests.{Request, Command, Reset, ArmFuse, PlanFault, Reply, Response, Ready, Down, Armed, Planned}
-use Rattle.jc_card.specs.Power.{PowerState, Up, Off, StoreState, IsStoreOf, armed, durable_state, planned}
-use Rattle.jc_card.specs.Serving.{AnswersCommand, Serves}
-use Rattle.jc_card.specs.Session.{IsSession}
-use Rattle.jc_card.specs.WholeCopies.{IsWholeSession, RefusesNone}
+use Rattle.jc_card.specs.Session.Requests.{Request, Command, Reset, ArmFuse, PlanFault, Reply, Response, Ready, Down, Armed, Planned}
+use Rattle.jc_card.specs.State.Power.{PowerState, Up, Off, StoreState, IsStoreOf, armed, durable_state, planned}
+use Rattle.jc_card.specs.Session.Serving.{AnswersCommand, Serves}
+use Rattle.jc_card.specs.Session.{IsSession, IsWholeSession, RefusesNone}
 
 -- over a store that refuses no write a session is that of a card that keeps whole copies of its heap
 abbrev pub AreWholeSessions : Type 0

@@ -2,8 +2,7 @@
 ghost use Rattle.std.specs.Prelude.{◌≡◌, ◌<◌, ◌≤◌, IfSome, IsTrue, false, length};
 ghost use Rattle.std.specs.Option.{option_map};
 ghost use Rattle.jc_memory.specs.Commands.{has_extended_length, most_command};
-ghost use Rattle.jc_card.specs.Apdu.{apdu_of, has_extended_form, has_short_form};
-ghost use Rattle.jc_card.specs.Commands.{apdu_value};
+ghost use Rattle.jc_card.specs.Command.{apdu_of, has_extended_form, has_short_form, apdu_value};
 
 use jc_memory::{data_of, has_extended_length, two_bytes};
 

@@ -4,13 +4,13 @@ ghost use Rattle.jc_memory.specs.Commands.{most_command};
 ghost use Rattle.jc_memory.specs.Programs.{Executes};
 ghost use Rattle.jc_heap.specs.Completions.{after_step};
 ghost use Rattle.jc_card.specs.Answers.{after_exchange, answered};
-ghost use Rattle.jc_card.specs.Commands.{apdu_value};
+ghost use Rattle.jc_card.specs.Command.{apdu_value};
 ghost use Rattle.jc_card.specs.Dispatching.{answering, create_applet, dispatch, expected_by, expected_by_extended, expected_by_short, is_select, named_or_selected, route, status_of_ending, takes_extended, to_selected};
 
 use crate::card::Card;
 use crate::command::Command;
 use crate::response::{Response, StatusResponse};
-use crate::status::StatusWord;
+use crate::status_word::StatusWord;
 use jc_dispatch::applet_result::AppletResult;
 use jc_dispatch::create::create;
 use jc_dispatch::extended_length::implements_extended_length;

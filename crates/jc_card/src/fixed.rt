@@ -6,7 +6,7 @@ ghost use Rattle.jc_transient.specs.declared.cell.ClearEvent.TheVariants.{Reset}
 ghost use Rattle.jc_heap.specs.Object.{transient_size};
 ghost use Rattle.jc_heap.specs.Heap.{IsObject, area_end, area_limit, limit};
 ghost use Rattle.jc_environment.specs.Objects.{cells_of_all, fixed_size, sized_objects};
-ghost use Rattle.jc_card.specs.Made.{objects_in};
+ghost use Rattle.jc_card.specs.ProductImages.{objects_in};
 ghost use Rattle.jc_card.specs.Fixed.{class_number_of, facts_of_fixed, fixed_facts, next_or_null, numbered, object_number, with_objects};
 
 use arrayvec::ArrayVec;

@@ -10,7 +10,7 @@ ghost use Rattle.jc_commit.specs.Image.{recovered_of};
 ghost use Rattle.jc_platform.specs.Table.{Reads};
 ghost use Rattle.jc_environment.specs.Objects.{fixed_size};
 ghost use Rattle.jc_card.specs.Formatting.{Formats};
-ghost use Rattle.jc_card.specs.Made.{IsMade, new_card_heap, new_front};
+ghost use Rattle.jc_card.specs.ProductImages.{IsMade, new_card_heap, new_front};
 
 use crate::fixed::{fixed_size, make_fixed};
 use jc_heap::Heap;

@@ -8,7 +8,7 @@ ghost use Rattle.jc_card.specs.Loading.{status_of};
 use crate::card::Card;
 use crate::packages::end_load_of;
 use crate::response::StatusResponse;
-use crate::status::StatusWord;
+use crate::status_word::StatusWord;
 use jc_linker::fault::LinkFault;
 use jc_packages::{LoadRefusal, OpenLoad};
 use jc_words::{StoreDown, WordStore};

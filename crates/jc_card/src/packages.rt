@@ -31,7 +31,7 @@ pub(crate) struct CardPackages {
 
 impl Model for CardPackages {
     ghost use Rattle.jc_linker.specs.Values.{Packages};
-    ghost use Rattle.jc_card.specs.Sharing.{held_packages};
+    ghost use Rattle.jc_card.specs.Packages.{held_packages};
 
     ghost Value = { Packages };
 

@@ -1,7 +1,7 @@
 //! Faults that are planned for the commands of a session.
 ghost use Rattle.std.specs.Prelude.{◌≡◌, ◌+◌, ◌-◌};
 ghost use Rattle.jc_card.specs.PlannedFault.{attack_of, instructions_before, later_of};
-ghost use Rattle.jc_card.specs.Power.{planned_card};
+ghost use Rattle.jc_card.specs.State.Power.{planned_card};
 
 use crate::card::Card;
 use jc_interp::attacks::{Attack, FaultModel, LaterFault};

@@ -6,7 +6,7 @@ ghost use Rattle.jc_card.specs.Answers.{after_exchange, answer_of, run_code};
 
 use crate::card::Card;
 use crate::response::StatusResponse;
-use crate::status::StatusWord;
+use crate::status_word::StatusWord;
 use jc_dispatch::ad_hoc_code;
 use jc_frames::Outcome;
 use jc_words::{StoreDown, WordStore};

@@ -2,12 +2,11 @@
 ghost use Rattle.std.specs.Prelude.{◌≡◌, ◌<◌, length, Err, IfErr, IfOk};
 ghost use Rattle.jc_words.specs.Refusals.{IsWithinFuse};
 ghost use Rattle.jc_card.specs.Dispatching.{usual_budget};
-ghost use Rattle.jc_card.specs.Requests.{Reset, reply_of, request_of};
-ghost use Rattle.jc_card.specs.Starting.{FailsToReset, FailsToStart, Starts};
-ghost use Rattle.jc_card.specs.Serving.{AnswersCommand, AnswersReset, Serves};
-ghost use Rattle.jc_card.specs.Session.{SessionEnds, replies_of, requests_of};
-ghost use Rattle.jc_card.specs.SessionStates.{IsGood, answer_of_power_up, kept_power, power_of};
-ghost use Rattle.jc_card.specs.WholeCopies.{IsWholeSession, RefusesNone};
+ghost use Rattle.jc_card.specs.Session.Requests.{Reset, reply_of, request_of};
+ghost use Rattle.jc_card.specs.Session.Starting.{FailsToReset, FailsToStart, Starts};
+ghost use Rattle.jc_card.specs.Session.Serving.{AnswersCommand, AnswersReset, Serves};
+ghost use Rattle.jc_card.specs.Session.{SessionEnds, replies_of, requests_of, IsWholeSession, RefusesNone};
+ghost use Rattle.jc_card.specs.State.{IsGood, answer_of_power_up, kept_power, power_of};
 
 use crate::card::USUAL_BUDGET;
 use crate::event::{Answer, Event};

@@ -1,9 +1,9 @@
 //! A card that is up, or the store of a card that is down: the machine of each session.
 ghost use Rattle.std.specs.Prelude.{◌≡◌, IfErr, OnOk};
 ghost use Rattle.std.specs.Bool.{OnTrue};
-ghost use Rattle.jc_card.specs.PoweringUp.{PowerUpFails};
-ghost use Rattle.jc_card.specs.Power.{Off, budget_of, planned};
-ghost use Rattle.jc_card.specs.SessionStates.{AnswersInPlace, IsHeldIn, IsUp, PowersUpTo, power_of, with_fuse};
+ghost use Rattle.jc_card.specs.PowerUp.Outcome.{PowerUpFails};
+ghost use Rattle.jc_card.specs.State.Power.{Off, budget_of, planned};
+ghost use Rattle.jc_card.specs.State.{AnswersInPlace, IsHeldIn, IsUp, PowersUpTo, power_of, with_fuse};
 
 use crate::card::Card;
 use crate::planned_fault::PlannedFault;

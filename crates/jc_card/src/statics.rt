@@ -1,7 +1,7 @@
 //! The static images of a card's packages.
 ghost use Rattle.std.specs.Prelude.{◌≡◌, ◌<◌, false, length, IfSome};
 ghost use Rattle.std.specs.Option.{option_map};
-ghost use Rattle.jc_heap.specs.Components.{record_of};
+ghost use Rattle.jc_heap.specs.Component.{record_of};
 ghost use Rattle.jc_instructions.specs.StaticImages.{image_word, record_at, word_value};
 
 use crate::card::Card;

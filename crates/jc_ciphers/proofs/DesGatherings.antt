@@ -3,8 +3,7 @@ use Rattle.std.proofs.Common.{◌≡◌, ℕ, ◌+◌, ◌-◌, ◌*◌, ◌/◌
 use Rattle.std.proofs.lemmas.List.FromFn.{get_or-map-range_with_len}
 use Rattle.std.proofs.lemmas.Bool.Decides.{nat_tests}
 use Rattle.jc_ciphers.specs.Des.{substitute, substituted_bit, bit}
-use Rattle.jc_ciphers.specs.DesNumbers.{AreBits, number_of}
-use Rattle.jc_ciphers.specs.DesGathering.{box, box_entry, box_table, nibble_bit, nibble_entry, nibble_table, source}
+use Rattle.jc_ciphers.specs.DesNumbers.{AreBits, number_of, box, box_entry, box_table, nibble_bit, nibble_entry, nibble_table, source}
 use Rattle.jc_ciphers.specs.DesTables.{final_permutation, initial_permutation, permutation, substitutions}
 use Rattle.jc_ciphers.specs.declared.des_tables.TheConstants.{FINAL, INITIAL, SUBSTITUTED}
 use Rattle.jc_ciphers.proofs.DesNumbers.{group_bit, number_of-bit, number_of-lt, number_of-same, number_of-window}

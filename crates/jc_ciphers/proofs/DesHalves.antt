@@ -7,8 +7,7 @@ use Rattle.std.proofs.lemmas.List.{get_or_append_left, get_or-append_right}
 use Rattle.std.proofs.lemmas.Nat.{xor_mod}
 use Rattle.jc_ciphers.specs.Des.{bit, bit_of_bytes, bits_of, byte_of_bits, bytes_of, halves, keyed, keyed_bit, listed, mangled, place_of, right_bit, right_of, round, round_bit, rounds, schedule, select, selected_bit, substituted, substituted_bit, swapped, swapped_bit}
 use Rattle.jc_ciphers.specs.DesTables.{expansion, final_permutation, initial_permutation, key_choice_1, key_choice_2, permutation}
-use Rattle.jc_ciphers.specs.DesNumbers.{AreBits, IsBits, number_of, six_of_bits, sixes}
-use Rattle.jc_ciphers.specs.DesGathering.{IsHalves, source, wide_bit}
+use Rattle.jc_ciphers.specs.DesNumbers.{AreBits, IsBits, number_of, six_of_bits, sixes, IsHalves, source, wide_bit}
 use Rattle.jc_ciphers.proofs.DesLists.{IsBits-listed, listed-at}
 use Rattle.jc_ciphers.proofs.DesNumbers.{AreBits-xor, all_below, lt_below, number_of-append, number_of-bit, number_of-lt, number_of-one, number_of-same, number_of-window, number_of-xor, same_below}
 

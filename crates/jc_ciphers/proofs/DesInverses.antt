@@ -7,8 +7,7 @@ use Rattle.std.proofs.lemmas.List.{get_or_past, take_all}
 use Rattle.jc_ciphers.specs.Des.{bit_of_bytes, bits_of, byte_of_bits, bytes_of, crypted, decrypted, encrypted, listed, mangled, place_of, right_bit, right_of, round, round_bit, rounds, schedule, select, selected_bit, swapped, swapped_bit}
 use Rattle.jc_ciphers.specs.TripleDes.{triple_decrypted, triple_encrypted}
 use Rattle.jc_ciphers.specs.DesTables.{final_permutation, initial_permutation}
-use Rattle.jc_ciphers.specs.DesNumbers.{IsBits, number_of}
-use Rattle.jc_ciphers.specs.DesGathering.{source}
+use Rattle.jc_ciphers.specs.DesNumbers.{IsBits, number_of, source}
 use Rattle.jc_ciphers.specs.DesLaws.{DecipheringUndoesEnciphering, EncipheringUndoesDeciphering, IsBlock, TripleDecipheringUndoesEnciphering}
 use Rattle.jc_ciphers.proofs.DesLists.{length-listed, listed-at, listed-same}
 use Rattle.jc_ciphers.proofs.DesNumbers.{all_below, number_of-bit, same_below}

@@ -5,10 +5,10 @@ use Rattle.std.specs.Option.{option_and_then, option_map}
 use Rattle.std.proofs.Math.Seq.{drop-append-add, take-append-add}
 use Rattle.std.proofs.lemmas.Bool.{cases_lt, eqb-true}
 use Rattle.jc_ciphers.specs.declared.padding.Padding.{Padding}
-use Rattle.jc_ciphers.specs.Conversions.{ended_output, last_size, next_end, padded, unpadded, unpadded_size, whole_output}
+use Rattle.jc_ciphers.specs.Kept.Conversion.{ended_output, last_size, next_end, padded, unpadded, unpadded_size, whole_output}
 use Rattle.jc_ciphers.specs.Kept.{chain_in, open_in, ready_blocks}
 use Rattle.jc_ciphers.specs.Modes.{block_at, chain_after, output}
-use Rattle.jc_ciphers.specs.Paddings.{padding_of}
+use Rattle.jc_ciphers.specs.Padding.{padding_of}
 use Rattle.jc_ciphers.proofs.InPieces.{Holds, KeepsBlocks, length-chain_after, length_tail, output_later, ready_within, rows_sum, tail_of}
 use Rattle.jc_ciphers.proofs.Pieces.{chain_after-append, output-append, rows_more}
 use Rattle.jc_ciphers.proofs.Ready.{block_there, left_over, whole_before}

@@ -9,7 +9,7 @@ use Rattle.std.proofs.lemmas.List.Sums.{fold-append}
 use Rattle.jc_digests.specs.Kept.{block_size, digest_of_state, digest_size, form_of, last_hash, initial_of, length_in, state_after, state_size}
 use Rattle.jc_digests.specs.declared.kept.HashAlgorithm.{HashAlgorithm}
 use Rattle.jc_ciphers.specs.Macs.{hmac, key_block, listed, marked}
-use Rattle.jc_ciphers.specs.KeptHmac.{DigestsTheWhole, HmacIsOfTheWhole, digest_of_whole, hmac_of_state, hmac_state_after, inner_state, keyed_state}
+use Rattle.jc_ciphers.specs.Kept.Hmac.{DigestsTheWhole, HmacIsOfTheWhole, digest_of_whole, hmac_of_state, hmac_state_after, inner_state, keyed_state}
 use Rattle.jc_ciphers.proofs.DigestSizes.{block_few, block_some, digest_fits}
 
 length-listed : (f : ℕ → ℕ) (n : ℕ) → length (listed f n) ≡ n

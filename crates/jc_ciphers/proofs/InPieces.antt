@@ -7,10 +7,10 @@ use Rattle.std.proofs.Math.Seq.{drop-append-add, drop-append_seam, take-append-a
 use Rattle.std.proofs.lemmas.Bool.{cases_lt}
 use Rattle.std.proofs.lemmas.List.{drop-append-le, nil_from_length}
 use Rattle.jc_ciphers.specs.declared.padding.Padding.{Padding}
-use Rattle.jc_ciphers.specs.Conversions.{ended_output, last_size, next_end, padded, unpadded, unpadded_size, whole_output}
+use Rattle.jc_ciphers.specs.Kept.Conversion.{ended_output, last_size, next_end, padded, unpadded, unpadded_size, whole_output}
 use Rattle.jc_ciphers.specs.Kept.{chain_in, next_output, next_state, open_in, ready_blocks, state_of}
 use Rattle.jc_ciphers.specs.Modes.{block_at, chain_after, output}
-use Rattle.jc_ciphers.specs.Paddings.{padding_of}
+use Rattle.jc_ciphers.specs.Padding.{padding_of}
 use Rattle.jc_ciphers.proofs.Pieces.{chain_after-append, output-append, rows_more}
 use Rattle.jc_ciphers.proofs.Ready.{block_there, left_over, nothing_kept, nothing_out, whole_before}
 

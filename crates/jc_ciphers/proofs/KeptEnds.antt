@@ -6,10 +6,10 @@ use Rattle.std.proofs.lemmas.List.{length-replicate, take_all}
 use Rattle.std.proofs.lemmas.Nat.{mod-mul-add}
 use Rattle.jc_ciphers.specs.declared.padding.Padding.{Padding}
 use Rattle.jc_ciphers.specs.declared.padding.Padding.TheVariants.{NoPadding, Method1, Method2, Pkcs5}
-use Rattle.jc_ciphers.specs.KeptMacs.{is_closed}
+use Rattle.jc_ciphers.specs.Kept.Macs.{is_closed}
 use Rattle.jc_ciphers.specs.Macs.{cmac_end, first_subkey, last_block, second_subkey}
 use Rattle.jc_ciphers.specs.Modes.{xor_first}
-use Rattle.jc_ciphers.specs.Paddings.{IsWhole, padding_of, space}
+use Rattle.jc_ciphers.specs.Padding.{IsWhole, padding_of, space}
 
 rows : (k size n : ℕ) → 1 ≤ size → n ≡ k * size + 0 → n % size ≡ 0
 rows k size n some same = ap (λ (m : ℕ). m % size) same ∙ mod-mul-add k size 0 some

@@ -15,10 +15,10 @@ use Rattle.jc_ciphers.specs.declared.kept.macs.MacAlgorithm.{MacAlgorithm}
 use Rattle.jc_ciphers.specs.declared.kept.macs.MacAlgorithm.TheVariants.{Cbc, Algorithm3, Cmac}
 use Rattle.jc_ciphers.specs.declared.padding.Padding.{Padding}
 use Rattle.jc_ciphers.specs.Kept.{block_size, chain_in, encrypted_under, next_state, open_in, ready_blocks, state_of, state_size}
-use Rattle.jc_ciphers.specs.KeptMacs.{HoldsBlocks, MacsAreOfTheWhole, MacsInPieces, blocks_after, blocks_key, cbc_chained, chain_before, cipher_of, closed_mac, finished_by, is_closed, last_chain, last_of, mac_1, mac_from, mac_of, mac_of_state, mac_state_after}
+use Rattle.jc_ciphers.specs.Kept.Macs.{HoldsBlocks, MacsAreOfTheWhole, MacsInPieces, blocks_after, blocks_key, cbc_chained, chain_before, cipher_of, closed_mac, finished_by, is_closed, last_chain, last_of, mac_1, mac_from, mac_of, mac_of_state, mac_state_after}
 use Rattle.jc_ciphers.specs.Macs.{cmac_end}
 use Rattle.jc_ciphers.specs.Modes.{block_at, chain_after, xor_first}
-use Rattle.jc_ciphers.specs.Paddings.{padding_of}
+use Rattle.jc_ciphers.specs.Padding.{padding_of}
 use Rattle.jc_ciphers.proofs.KeptBlocks.{nothing_next, something_next}
 use Rattle.jc_ciphers.proofs.Pieces.{chain_after-append}
 

@@ -8,10 +8,10 @@ use Rattle.std.proofs.lemmas.List.{take-append-drop, take-append-le}
 use Rattle.std.proofs.lemmas.Nat.{div-mul-add, mod-mul-add}
 use Rattle.std.proofs.lemmas.Slice.Eq.{bytes_eq-Decides}
 use Rattle.jc_ciphers.specs.declared.padding.Padding.{Padding}
-use Rattle.jc_ciphers.specs.Conversions.{last_size, unpadded_from, whole_output}
+use Rattle.jc_ciphers.specs.Kept.Conversion.{last_size, unpadded_from, whole_output}
 use Rattle.jc_ciphers.specs.Kept.{chain_in, next_output, next_state, open_in, ready_blocks, state_of}
 use Rattle.jc_ciphers.specs.Modes.{IsUnderWay, chain_after, output}
-use Rattle.jc_ciphers.specs.Paddings.{EndsByPadding, padding_of, space}
+use Rattle.jc_ciphers.specs.Padding.{EndsByPadding, padding_of, space}
 use Rattle.jc_ciphers.proofs.Pieces.{rows_more}
 
 -- ---- how many blocks

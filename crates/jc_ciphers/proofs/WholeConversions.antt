@@ -11,8 +11,8 @@ use Rattle.jc_ciphers.specs.declared.kept.conversion.Chaining.TheVariants.{Cbc, 
 use Rattle.jc_ciphers.specs.declared.kept.conversion.Conversion.{Conversion}
 use Rattle.jc_ciphers.specs.declared.kept.conversion.Direction.{Direction}
 use Rattle.jc_ciphers.specs.declared.kept.conversion.Direction.TheVariants.{Decrypt, Encrypt}
-use Rattle.jc_ciphers.specs.Conversions.{chained_by, chained_of, holds_back, size_of, written_by, written_of}
-use Rattle.jc_ciphers.specs.ConversionsInPieces.{AreOfTheWhole, ConversionsAreOfTheWhole, HoldsMessage}
+use Rattle.jc_ciphers.specs.Kept.Conversion.{chained_by, chained_of, holds_back, size_of, written_by, written_of}
+use Rattle.jc_ciphers.specs.Laws.{AreOfTheWhole, ConversionsAreOfTheWhole, HoldsMessage}
 use Rattle.jc_ciphers.specs.Kept.{block_size, chain_in, decrypted_under, encrypted_under, open_in, ready_blocks, state_size}
 use Rattle.jc_ciphers.specs.Modes.{chain_after, output, xor_first}
 use Rattle.jc_ciphers.proofs.InPieces.{Holds, KeepsBlocks, longer_held}

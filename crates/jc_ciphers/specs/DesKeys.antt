@@ -1,7 +1,7 @@
 -- The keys that code keeps with their schedules.
 use Rattle.std.specs.Prelude.{ℕ, List}
 use Rattle.jc_ciphers.specs.declared.des.Des.{Des}
-use Rattle.jc_ciphers.specs.declared.triple.TripleDes.{TripleDes}
+use Rattle.jc_ciphers.specs.declared.triple_des.TripleDes.{TripleDes}
 use Rattle.jc_ciphers.specs.TripleDes.{Parts}
 
 -- the key under which this enciphers

@@ -1,5 +1,8 @@
 -- Messages under block ciphers, whose state stands as bytes between two pieces: 1 once anything came, how many bytes of the open block are
 -- filled, the chaining block, and the open block. Zeros are the state of no message.
+pub mod Conversion
+pub mod Hmac
+pub mod Macs
 use Rattle.std.specs.Prelude.{◌≡◌, ℕ, ◌+◌, ◌-◌, ◌*◌, ◌/◌, ◌⊎◌, Bool, List, ◌∷◌, ◌++◌, length, replicate, take, drop, nat_eq, slice_index, if◌then◌else◌}
 use Rattle.jc_ciphers.specs.Aes as Aes
 use Rattle.jc_ciphers.specs.Des as Des

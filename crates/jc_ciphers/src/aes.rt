@@ -1,7 +1,7 @@
 //! AES on a block, with the key's schedule made once.
 
 ghost use Rattle.std.specs.Prelude.{◌≡◌, ◌≤◌, ◌<◌, ◌+◌, ◌-◌, ◌*◌, ◌/◌, ◌^◌, length, take, ◌++◌};
-ghost use Rattle.jc_ciphers.specs.AesPlaces.{IsPlace};
+ghost use Rattle.jc_ciphers.specs.AesPlace.{IsPlace};
 ghost use Rattle.jc_ciphers.specs.Aes.{IsKeyLength, IsRoundCount, cipher_with, decrypted, encrypted, inv_cipher_with, mixed_word, next_word, schedule, word_before};
 
 use crate::aes_field::sub_byte;

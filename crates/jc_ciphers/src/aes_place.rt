@@ -1,7 +1,7 @@
 //! Places of words in the schedule, counted without dividing.
 
 ghost use Rattle.std.specs.Prelude.{◌≤◌, ◌<◌, ◌+◌, ◌^◌};
-ghost use Rattle.jc_ciphers.specs.AesPlaces.{IsPlace};
+ghost use Rattle.jc_ciphers.specs.AesPlace.{IsPlace};
 
 /// Where a word stands: `turn` times as many words as the key has come before it, and `rest` more.
 #[derive(Drop)]

@@ -9,7 +9,7 @@ ghost use Rattle.jc_ciphers.specs.TripleDes as Triple;
 
 use crate::aes::Aes;
 use crate::des::Des;
-use crate::triple::TripleDes;
+use crate::triple_des::TripleDes;
 
 /// A block cipher under a key.
 pub trait BlockCipher: Drop {

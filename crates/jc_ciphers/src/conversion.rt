@@ -1,7 +1,7 @@
 //! A message through a mode, in pieces of any lengths.
 
 ghost use Rattle.std.specs.Prelude.{◌≡◌, ◌≤◌, ◌<◌, ◌+◌, ◌*◌, ◌++◌, ℕ, List, length, take, IfNone, IfSome};
-ghost use Rattle.jc_ciphers.specs.Paddings.{IsWhole, padding_of};
+ghost use Rattle.jc_ciphers.specs.Padding.{IsWhole, padding_of};
 ghost use Rattle.jc_ciphers.specs.Modes.{IsUnderWay};
 
 use crate::bytes::put;

@@ -2,9 +2,8 @@
 
 ghost use Rattle.std.specs.Prelude.{◌≡◌, ◌<◌, ◌+◌, ◌*◌, List, ℕ, slice_index};
 ghost use Rattle.jc_ciphers.specs.Des.{crypted, decrypted, encrypted, mangled, place_of, schedule};
-ghost use Rattle.jc_ciphers.specs.DesNumbers.{AreBits, IsBits, number_of, sixes};
+ghost use Rattle.jc_ciphers.specs.DesNumbers.{AreBits, IsBits, number_of, sixes, box_entry, nibble_table, source, wide_bit};
 ghost use Rattle.jc_ciphers.specs.DesTables.{final_permutation, initial_permutation};
-ghost use Rattle.jc_ciphers.specs.DesGathering.{box_entry, nibble_table, source, wide_bit};
 
 use crate::des_schedule::round_keys;
 use crate::des_tables::{FINAL, INITIAL, SUBSTITUTED};

@@ -1,9 +1,8 @@
 //! What holds of the definitions.
 
-ghost use Rattle.jc_ciphers.specs.ConversionsInPieces.{ConversionsAreOfTheWhole};
-ghost use Rattle.jc_ciphers.specs.KeptHmac.{HmacIsOfTheWhole};
-ghost use Rattle.jc_ciphers.specs.KeptMacs.{MacsInPieces};
-ghost use Rattle.jc_ciphers.specs.Laws.{CbcIsUndone, EcbIsUndone};
+ghost use Rattle.jc_ciphers.specs.Laws.{ConversionsAreOfTheWhole, CbcIsUndone, EcbIsUndone};
+ghost use Rattle.jc_ciphers.specs.Kept.Hmac.{HmacIsOfTheWhole};
+ghost use Rattle.jc_ciphers.specs.Kept.Macs.{MacsInPieces};
 
 /// Where a cipher is undone by its inverse, so is ECB.
 pub fn ecb_is_undone()

@@ -21,4 +21,4 @@ pub mod laws;
 pub mod macs;
 pub mod padding;
 pub mod steps;
-pub mod triple;
+pub mod triple_des;

@@ -1,7 +1,7 @@
 //! Paddings of a message to whole blocks.
 
 ghost use Rattle.std.specs.Prelude.{◌≡◌, ◌≤◌, ◌<◌, ◌-◌, ◌∷◌, ◌↔◌, ℕ, length, replicate, take, IfNone, IfSome, IsTrue};
-ghost use Rattle.jc_ciphers.specs.Paddings.{EndsByPadding, padding_of, space};
+ghost use Rattle.jc_ciphers.specs.Padding.{EndsByPadding, padding_of, space};
 
 /// How a message becomes whole blocks.
 #[derive(Clone, Copy)]

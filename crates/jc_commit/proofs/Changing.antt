@@ -14,7 +14,7 @@ use Rattle.jc_words.specs.declared.log.Log.{Log}
 use Rattle.jc_commit.specs.Image.{plain_of, recovered_of, touched_of, top_of, count_of, capacity_of, address_at, with_words, IsGoodLog}
 use Rattle.jc_commit.specs.Entries.{addresses_of}
 use Rattle.jc_commit.specs.EntryIndex.{needing, IsIndexOf}
-use Rattle.jc_commit.specs.Keeping.{goes_back, is_taken_back, unlogged_addresses, has_room_for, writes_for, writes_inside, writes_outside}
+use Rattle.jc_commit.specs.Keep.{goes_back, is_taken_back, unlogged_addresses, has_room_for, writes_for, writes_inside, writes_outside}
 use Rattle.jc_commit.specs.State.{State, Changes, IsSound, IsTornWrite, after_write_in_place, born_of, keeping, live_words}
 use Rattle.jc_commit.specs.Writing.{Wrote, KeepsTransaction}
 use Rattle.jc_commit.proofs.Words.{Spot, log-set}

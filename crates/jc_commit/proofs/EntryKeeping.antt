@@ -17,7 +17,7 @@ use Rattle.jc_commit.specs.Image.{IsGoodLog}
 use Rattle.jc_commit.specs.Entries.{addresses_of, ArePlaces, IsBeside, AreBeside, SameBefore}
 use Rattle.jc_commit.specs.State.{State, IsSound, live_words, born_of}
 use Rattle.jc_commit.specs.Writing.{HasLog, IsFreeFrom, KeepsTransaction, ArePut}
-use Rattle.jc_commit.specs.Keeping.{writes_inside, is_taken_back}
+use Rattle.jc_commit.specs.Keep.{writes_inside, is_taken_back}
 use Rattle.jc_commit.specs.EntryIndex.{named_by, needing, with_entries, IsIndexOf, GoBack}
 use Rattle.jc_commit.proofs.Words.{bounds_of, place_spot, log-set}
 use Rattle.jc_commit.proofs.Steps.{limit-same, IsGoodLog-set_place, entries-set_place, plain-set_place}

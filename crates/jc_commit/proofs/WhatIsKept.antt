@@ -11,7 +11,7 @@ use Rattle.std.proofs.lemmas.List.Folds.{list_any-append, list_any_at}
 use Rattle.std.proofs.lemmas.List.Quantifiers.{all_pairs_push}
 use Rattle.std.proofs.lemmas.Map.Views.{Contains-from_any}
 use Rattle.jc_commit.specs.Entries.{AreDistinct}
-use Rattle.jc_commit.specs.Keeping.{Keeping, goes_back, unlogged_addresses, with_kept, has_room_for, KeepsOldValues}
+use Rattle.jc_commit.specs.Keep.{Keeping, goes_back, unlogged_addresses, with_kept, has_room_for, KeepsOldValues}
 
 -- ---- of two tests
 

@@ -2,7 +2,7 @@
 use Rattle.std.specs.Prelude.{◌≡◌, ℕ, ◌+◌, ◌*◌, ◌<◌, ◌≤◌, not, List, [], ◌∷◌, length, map, filter, slice_index, slice_index_or, slice_set, IsSome, ◌⊎◌}
 use Rattle.std.specs.List.{range_with_len}
 use Rattle.jc_commit.specs.Image.{address_at, entries, old_value}
-use Rattle.jc_commit.specs.Keeping.{is_taken_back}
+use Rattle.jc_commit.specs.Keep.{is_taken_back}
 use Rattle.jc_words.specs.declared.log.Log.{Log}
 
 -- the addresses that the first n entries name

@@ -2,7 +2,7 @@ pub mod Image
 pub mod Replay
 pub mod Migration
 pub mod Entries
-pub mod Keeping
+pub mod Keep
 pub mod EntryIndex
 pub mod State
 pub mod Journal

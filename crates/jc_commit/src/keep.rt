@@ -3,7 +3,7 @@ ghost use Rattle.std.specs.Prelude.{◌≡◌, ◌<◌, ◌≤◌, ◌+◌, ◌*
 ghost use Rattle.jc_words.specs.Layout.{count_address, log_end};
 ghost use Rattle.jc_commit.specs.Image.{count_of, entries, limit_of, plain_of, touched_of, with_words, IsGoodLog};
 ghost use Rattle.jc_commit.specs.Entries.{ArePlaces, IsBeside, AreBeside, SameBefore};
-ghost use Rattle.jc_commit.specs.Keeping.{is_taken_back, writes_inside};
+ghost use Rattle.jc_commit.specs.Keep.{is_taken_back, writes_inside};
 ghost use Rattle.jc_commit.specs.EntryIndex.{named_by, needing, with_entries, IsIndexOf, GoBack};
 ghost use Rattle.jc_commit.specs.Writing.{Wrote, HasLog, IsIndexed, IsFreeFrom, KeepsTransaction, ArePut, ChangesInside};
 

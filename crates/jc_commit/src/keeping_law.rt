@@ -1,5 +1,5 @@
 //! What the layers above a journal rest on.
-ghost use Rattle.jc_commit.specs.Keeping.{KeepsOldValues};
+ghost use Rattle.jc_commit.specs.Keep.{KeepsOldValues};
 
 /// What a change keeps of the words that it writes, for every state of a transaction: what goes back goes
 /// on going back, and costs nothing; what a change touches goes back from then on, and nothing else does;

@@ -5,7 +5,7 @@ use Rattle.std.proofs.lemmas.Nat.{shr-shr}
 use Rattle.jc_numbers.specs.Numbers.{IsBitLength}
 use Rattle.jc_curves.specs.Points.{Point, Infinity, At, IsMultiple, IsMultipleByBits, IsSum, IsSumWithBit, IsTheMultiple, IsTheSum}
 use Rattle.jc_curves.specs.Jacobian.{AddsPoint, Coordinates, Doubles, IsAtInfinity, StandsFor}
-use Rattle.jc_curves.specs.Standing.{StandsForMultiple, TakesBit}
+use Rattle.jc_curves.specs.PointValues.{StandsForMultiple, TakesBit}
 use Rattle.jc_curves.proofs.Standing.{one_x, one_y, true_false}
 
 -- coordinates stand for one point

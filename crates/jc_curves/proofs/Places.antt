@@ -6,7 +6,7 @@ use Rattle.jc_curves.specs.Elements.{residue_of}
 use Rattle.jc_curves.specs.declared.multiples.CurvePoint.{CurvePoint}
 use Rattle.jc_curves.specs.Jacobian.{AddsPoint, Coordinates, IsMadeInfinite, StandsFor}
 use Rattle.jc_curves.specs.Points.{Infinity, IsMultiple, IsSum, IsTheMultiple, IsTheSum, Point}
-use Rattle.jc_curves.specs.Standing.{StandsForMultiple, coordinates, point_of}
+use Rattle.jc_curves.specs.PointValues.{StandsForMultiple, coordinates, point_of}
 use Rattle.jc_curves.proofs.BinaryMethod.{no_multiple, no_sum, the_multiple, the_sum}
 use Rattle.jc_curves.proofs.Congruences.{sums}
 use Rattle.jc_curves.proofs.Standing.{true_false}

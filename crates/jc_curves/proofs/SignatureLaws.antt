@@ -13,7 +13,7 @@ use Rattle.jc_curves.specs.declared.points.PointRefusal.TheVariants as refusal
 use Rattle.jc_curves.specs.Calls.{AreFactors, AreVerifiable, HasNoCoordinates, HasX, IsBelowOrder, IsPointOf, IsSignature, IsSumOfMultiples, IsTheSumOfMultiples, IsVerified, digest_number}
 use Rattle.jc_curves.specs.Curves.{CurveNumbers}
 use Rattle.jc_curves.specs.Points.{At, Infinity, IsMultiple, IsSum, IsTheMultiple, IsTheSum, Point}
-use Rattle.jc_curves.specs.Standing.{point_of}
+use Rattle.jc_curves.specs.PointValues.{point_of}
 use Rattle.jc_curves.proofs.Congruences.{sums, products, equals, inverse_of_same}
 
 -- ---- digests

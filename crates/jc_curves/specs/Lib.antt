@@ -4,5 +4,4 @@ pub mod Der
 pub mod Elements
 pub mod Jacobian
 pub mod Points
-pub mod Prepared
-pub mod Standing
+pub mod PointValues

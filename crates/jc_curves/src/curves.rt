@@ -62,8 +62,7 @@ pub struct Curve {
 }
 
 impl Model for Curve {
-    ghost use Rattle.jc_curves.specs.Curves.{CurveNumbers};
-    ghost use Rattle.jc_curves.specs.Prepared.{IsPreparedCurve, numbers_of};
+    ghost use Rattle.jc_curves.specs.Curves.{CurveNumbers, IsPreparedCurve, numbers_of};
 
     ghost Value = { CurveNumbers };
 

@@ -5,7 +5,7 @@ ghost use Rattle.jc_numbers.specs.Numbers.{value};
 ghost use Rattle.jc_curves.specs.Curves.{IsEncodedPoint, IsPoint};
 ghost use Rattle.jc_curves.specs.Elements.{IsElement, residue_of};
 ghost use Rattle.jc_curves.specs.Points.{IsOnCurve};
-ghost use Rattle.jc_curves.specs.Standing.{AreAffine};
+ghost use Rattle.jc_curves.specs.PointValues.{AreAffine};
 
 use crate::curves::element_of_bytes;
 use crate::elements::{Element, difference, is_zero, product, residue, sum};

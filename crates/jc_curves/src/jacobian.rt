@@ -4,7 +4,7 @@ ghost use Rattle.std.specs.Prelude.{◌≡◌, ◌+◌, ◌*◌, ◌%◌, false,
 ghost use Rattle.jc_numbers.specs.Numbers.{value};
 ghost use Rattle.jc_curves.specs.Elements.{IsElement, residue_of};
 ghost use Rattle.jc_curves.specs.Jacobian.{AddsPoint, AreDifferences, Doubles, IsAdded, IsDoubled, IsPlaced, IsTangentSlope};
-ghost use Rattle.jc_curves.specs.Standing.{AreAffine, AreElements, coordinates, point_at};
+ghost use Rattle.jc_curves.specs.PointValues.{AreAffine, AreElements, coordinates, point_at};
 
 use crate::elements::{Element, difference, is_zero, product, sum, twice};
 use jc_numbers::moduli::Modulus;

@@ -6,7 +6,7 @@ ghost use Rattle.jc_numbers.specs.Numbers.{IsBitLength, value};
 ghost use Rattle.jc_curves.specs.Elements.{IsElement, residue_of};
 ghost use Rattle.jc_curves.specs.Jacobian.{IsAtInfinity, StandsFor};
 ghost use Rattle.jc_curves.specs.Points.{IsMultiple, IsSum, IsTheMultiple, IsTheSum, Point};
-ghost use Rattle.jc_curves.specs.Standing.{AreAffine, AreElements, AreOfCurve, StandsForMultiple, TakesBit, coordinates, point_at, point_of};
+ghost use Rattle.jc_curves.specs.PointValues.{AreAffine, AreElements, AreOfCurve, StandsForMultiple, TakesBit, coordinates, point_at, point_of};
 
 use crate::elements::{Element, element_of, inverse, product};
 use crate::jacobian::{Affine, Jacobian, add, double};

@@ -6,7 +6,7 @@ ghost use Rattle.jc_curves.specs.Calls.{HasNoCoordinates, IsBelowOrder, IsPublic
 ghost use Rattle.jc_curves.specs.Curves.{IsEncodedPoint, octets};
 ghost use Rattle.jc_curves.specs.Elements.{IsElement, residue_of};
 ghost use Rattle.jc_curves.specs.Points.{At, IsTheMultiple};
-ghost use Rattle.jc_curves.specs.Standing.{AreAffine, point_at};
+ghost use Rattle.jc_curves.specs.PointValues.{AreAffine, point_at};
 
 use crate::curves::Curve;
 use crate::elements::Element;

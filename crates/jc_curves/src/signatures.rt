@@ -8,7 +8,7 @@ ghost use Rattle.jc_curves.specs.Calls.{AreFactors, AreVerifiable, HasX, IsBelow
 ghost use Rattle.jc_curves.specs.Curves.{octets};
 ghost use Rattle.jc_curves.specs.Elements.{IsElement, residue_of};
 ghost use Rattle.jc_curves.specs.Points.{At, IsMultiple, IsTheMultiple, Point};
-ghost use Rattle.jc_curves.specs.Standing.{AreAffine, AreOfCurve, point_at, point_of};
+ghost use Rattle.jc_curves.specs.PointValues.{AreAffine, AreOfCurve, point_at, point_of};
 
 use crate::curves::Curve;
 use crate::elements::{Element, element_of, inverse, product, residue, sum};

@@ -8,7 +8,7 @@ use Rattle.jc_memory.specs.State.{MemoryState}
 use Rattle.jc_memory.specs.Cells.{header_at, short_at}
 use Rattle.jc_linker.specs.Values.{Packages}
 use Rattle.jc_platform.specs.declared.names.PlatformClass.TheVariants.{IsoException}
-use Rattle.jc_platform.specs.Distinct.{class_word}
+use Rattle.jc_platform.specs.NamePlaces.{class_word}
 use Rattle.jc_world.specs.Objects.{is_instance_of}
 use Rattle.jc_dispatch.specs.declared.applet_result.AppletResult.{AppletResult}
 use Rattle.jc_dispatch.specs.declared.applet_result.AppletResult.TheVariants.{Done, Reason, Unknown}

@@ -1,5 +1,6 @@
 -- "Create applet": what its data say, and what it does.
-use Rattle.std.specs.Prelude.{ℕ, ◌==◌, ◌&&◌, ◌||◌, nat_le, nat_lt, Bool, List, [], ◌∷◌, length, take, drop, find, is_some, Option, Some, None, if◌then◌else◌}
+use Rattle.std.specs.Prelude.{ℕ, ◌==◌, ◌&&◌, ◌||◌, nat_le, nat_lt, Bool, List, [], ◌∷◌, length, take, drop, find, is_some, Option, Some, None}
+use Rattle.std.specs.Prelude.{if◌then◌else◌}
 use Rattle.std.specs.List.{range_with_len}
 use Rattle.std.specs.Option.{option_map, option_and_then}
 use Rattle.jc_words.specs.Layout.{most_applets}
@@ -11,6 +12,7 @@ use Rattle.jc_interp.specs.declared.attacks.Budget.{Budget}
 use Rattle.jc_dispatch.specs.declared.applet_result.AppletResult.{AppletResult}
 use Rattle.jc_dispatch.specs.declared.applet_result.AppletResult.TheVariants.{Malformed, NoApplet, RegistryFull}
 use Rattle.jc_dispatch.specs.Install.{applet_installation}
+use Rattle.std.specs.Borrow.{Bor}
 
 -- a field after its length, and what follows it
 abbrev pub field_of : List ℕ → Option (List ℕ × List ℕ)
@@ -74,3 +76,13 @@ creation_by_data budget p (Some c) m = creation_in_registry budget p (applet_nam
 -- malformed data first, then an AID that no package has, then a registry without a place
 unfoldable pub applet_creation : Budget → Packages → List ℕ → MemoryState → Program AppletResult
 applet_creation budget p bytes m = creation_by_data budget p (creation_of bytes) m
+
+-- ---- what slices lend
+
+-- the bytes that a slice lends
+abbrev pub slice_bytes : Bor (List ℕ) → List ℕ
+slice_bytes s = s.now
+
+-- and those of two
+abbrev pub slice_pair_bytes : Bor (List ℕ) × Bor (List ℕ) → List ℕ × List ℕ
+slice_pair_bytes s = (s.0.now, s.1.now)

@@ -7,7 +7,7 @@ use Rattle.jc_memory.specs.State.{MemoryState}
 use Rattle.jc_platform.specs.declared.names.PlatformClass.TheVariants.{ExtendedLength}
 use Rattle.jc_linker.specs.Classes.{is_a}
 use Rattle.jc_linker.specs.Values.{Packages}
-use Rattle.jc_dispatch.specs.Phases.{instance_of}
+use Rattle.jc_dispatch.specs.Phase.{instance_of}
 
 -- the class of an object, or one above it, implements the interface
 abbrev pub class_implements : Packages → Option Facts → Bool

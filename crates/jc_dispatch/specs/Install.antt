@@ -21,7 +21,7 @@ use Rattle.jc_dispatch.specs.declared.applet_result.AppletResult.{AppletResult}
 use Rattle.jc_dispatch.specs.declared.applet_result.AppletResult.TheVariants.{Done, NotRegistered}
 use Rattle.jc_dispatch.specs.Buffer.{apdu_buffer, buffer_fill}
 use Rattle.jc_dispatch.specs.AppletResult.{result_of_run}
-use Rattle.jc_dispatch.specs.Phases.{then_with, close, method_run}
+use Rattle.jc_dispatch.specs.Phase.{then_with, close, method_run}
 
 -- an applet of a package is being installed, by the entry of its Applet component with this number
 abbrev pub with_installation : Installation → Registers → Registers

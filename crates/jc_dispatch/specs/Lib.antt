@@ -1,9 +1,8 @@
-pub mod Slices
 pub mod AppletResult
 pub mod Buffer
-pub mod Phases
+pub mod Phase
 pub mod ExtendedLength
-pub mod Selecting
+pub mod Select
 pub mod Install
 pub mod Create
 pub mod AdHocCode

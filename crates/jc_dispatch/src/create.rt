@@ -4,8 +4,7 @@ ghost use Rattle.std.specs.Option.{option_map};
 ghost use Rattle.jc_memory.specs.Programs.{Executes};
 ghost use Rattle.jc_heap.specs.Completions.{after_step};
 ghost use Rattle.jc_dispatch.specs.Create.{applet_named, are_parameters, applet_creation, creation_of, ends_with_data, field_of, first_with_entry};
-ghost use Rattle.jc_dispatch.specs.Create.{has_aid_length, instance_named, third_field};
-ghost use Rattle.jc_dispatch.specs.Slices.{slice_pair_bytes, slice_bytes};
+ghost use Rattle.jc_dispatch.specs.Create.{has_aid_length, instance_named, third_field, slice_pair_bytes, slice_bytes};
 
 use crate::applet_result::AppletResult;
 use crate::install::{NewApplet, install};

@@ -2,7 +2,7 @@
 ghost use Rattle.std.specs.Prelude.{◌≡◌, false};
 ghost use Rattle.jc_memory.specs.Programs.{Executes};
 ghost use Rattle.jc_heap.specs.Completions.{after_step};
-ghost use Rattle.jc_dispatch.specs.Phases.{applet_method_call, default_of, instance_of, method_named, registers_idle, method_run, registers_for};
+ghost use Rattle.jc_dispatch.specs.Phase.{applet_method_call, default_of, instance_of, method_named, registers_idle, method_run, registers_for};
 
 use jc_cap::pool::VirtualToken;
 use jc_environment::instance_of_applet;
@@ -59,7 +59,7 @@ fn registers_idle(registers: Registers) -> Registers
 
 /// Runs a method for an owner, in frames that may be those of an earlier run. The answer is what is left of the command's instructions, and
 /// how the method ended.
-#[tactic(auto, unfolding(crate::specs::Phases::method_run), using(jc_memory::proofs::ProgramLemmas::in_two_steps))]
+#[tactic(auto, unfolding(crate::specs::Phase::method_run), using(jc_memory::proofs::ProgramLemmas::in_two_steps))]
 #[inline(always)]
 pub(crate) fn run_for<S: WordStore>(
     budget: Budget,
@@ -110,7 +110,7 @@ pub(crate) fn instance_of<S: WordStore>(applet: AppletNumber, memory: &Memory<S>
 }
 
 // The method that an applet's class has under a name of the platform's class Applet.
-#[tactic(auto, unfolding(crate::specs::Phases::method_named))]
+#[tactic(auto, unfolding(crate::specs::Phase::method_named))]
 fn method_named<S: WordStore>(
     name: PlatformMethod,
     applet: Ref,
@@ -148,7 +148,7 @@ fn default_of(name: PlatformMethod) -> Outcome
 }
 
 /// Calls a method of an applet by its name, in frames that may be those of an earlier run.
-#[tactic(auto, unfolding(crate::specs::Phases::applet_method_call))]
+#[tactic(auto, unfolding(crate::specs::Phase::applet_method_call))]
 #[inline(always)]
 pub(crate) fn call_applet_method<S: WordStore>(
     budget: Budget,

@@ -2,7 +2,7 @@
 ghost use Rattle.std.specs.Prelude.{OnOk, ◌≡◌, ◌≤◌, false, length};
 ghost use Rattle.jc_memory.specs.Programs.{Executes};
 ghost use Rattle.jc_heap.specs.Completions.{after_step};
-ghost use Rattle.jc_dispatch.specs.Selecting.{header_of, process_command, with_command};
+ghost use Rattle.jc_dispatch.specs.Select.{header_of, process_command, with_command};
 
 use crate::applet_result::{AppletResult, result_of_run};
 use crate::buffer::{apdu_object, fill};
@@ -51,7 +51,7 @@ fn header_of(bytes: &[u8]) -> ArrayVec<u8, 7>
 }
 
 /// An applet answers the command that was begun, in frames that may be those of an earlier run.
-#[tactic(auto, unfolding(crate::specs::Selecting::process_command), using(jc_memory::proofs::ProgramLemmas::in_two_steps))]
+#[tactic(auto, unfolding(crate::specs::Select::process_command), using(jc_memory::proofs::ProgramLemmas::in_two_steps))]
 #[inline(always)]
 pub fn process<S: WordStore>(
     budget: Budget,

@@ -2,7 +2,7 @@
 ghost use Rattle.std.specs.Prelude.{OnOk, ◌≡◌, false};
 ghost use Rattle.jc_memory.specs.Programs.{Executes};
 ghost use Rattle.jc_heap.specs.Completions.{after_step};
-ghost use Rattle.jc_dispatch.specs.Selecting.{applet_left, deselection, is_same_applet, manager_selection, applet_selection, with_next};
+ghost use Rattle.jc_dispatch.specs.Select.{applet_left, deselection, is_same_applet, manager_selection, applet_selection, with_next};
 
 use crate::applet_result::{AppletResult, is_select_accepted};
 use crate::closing::close;
@@ -36,7 +36,7 @@ fn with_next(next: Option<AppletNumber>, registers: Registers) -> Registers
 
 // An applet is left: its `deselect` runs, and what is cleared at a deselection is. The answer is what is left of the
 // command's instructions.
-#[tactic(auto, unfolding(crate::specs::Selecting::applet_left), using(jc_memory::proofs::ProgramLemmas::in_two_steps))]
+#[tactic(auto, unfolding(crate::specs::Select::applet_left), using(jc_memory::proofs::ProgramLemmas::in_two_steps))]
 fn leave_applet<S: WordStore>(
     budget: Budget,
     applet: Option<AppletNumber>,
@@ -69,7 +69,7 @@ fn leave_applet<S: WordStore>(
 
 // The selected applet is left for the next one, or for the manager. The answer is what is left of the command's
 // instructions.
-#[tactic(auto, unfolding(crate::specs::Selecting::deselection))]
+#[tactic(auto, unfolding(crate::specs::Select::deselection))]
 fn leave<S: WordStore>(
     budget: Budget,
     next: Option<AppletNumber>,
@@ -90,7 +90,7 @@ fn leave<S: WordStore>(
 
 /// SELECT of an applet by a command that expects this many bytes: the selected one is deselected, the new one's
 /// `select` runs, and where it accepts, it answers the command.
-#[tactic(auto, unfolding(crate::specs::Selecting::applet_selection), using(jc_memory::proofs::ProgramLemmas::in_two_steps))]
+#[tactic(auto, unfolding(crate::specs::Select::applet_selection), using(jc_memory::proofs::ProgramLemmas::in_two_steps))]
 pub fn select<S: WordStore>(
     budget: Budget,
     applet: AppletNumber,
@@ -138,7 +138,7 @@ pub fn select<S: WordStore>(
 }
 
 /// Selects the manager: the selected applet is left, and none is selected.
-#[tactic(auto, unfolding(crate::specs::Selecting::manager_selection), using(jc_memory::proofs::ProgramLemmas::in_two_steps))]
+#[tactic(auto, unfolding(crate::specs::Select::manager_selection), using(jc_memory::proofs::ProgramLemmas::in_two_steps))]
 pub fn select_manager<S: WordStore>(
     budget: Budget,
     frames: &mut Frames,

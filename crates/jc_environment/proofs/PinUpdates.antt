@@ -7,12 +7,12 @@ use Rattle.jc_heap.specs.declared.place.Place.{Place}
 use Rattle.jc_heap.specs.declared.place.Place.TheVariants.{Cell}
 use Rattle.jc_heap.specs.Object.{has_bytes, is_packed}
 use Rattle.jc_heap.specs.Heap.{cells, facts}
-use Rattle.jc_heap.specs.Places.{AreThere, AreApart, ArePlain, IsBeside, places_of}
-use Rattle.jc_heap.specs.Keeping.{AreLegalValues}
+use Rattle.jc_heap.specs.Place.{AreThere, AreApart, ArePlain, IsBeside, places_of}
+use Rattle.jc_heap.specs.HeapLaws.{AreLegalValues}
 use Rattle.jc_memory.specs.State.{MemoryState}
 use Rattle.jc_memory.specs.Cells.{word_at}
 use Rattle.jc_environment.specs.Pins.{IsPersistentWith, IsPin, record_of}
-use Rattle.jc_environment.specs.PinUpdates.{changes_of_update}
+use Rattle.jc_environment.specs.Pins.Updates.{changes_of_update}
 use Rattle.jc_environment.proofs.PinWrites.{puts_stand, puts_apart}
 
 no_bytes : (k : Kind) → k ≡ Instance → has_bytes k ≡ true → ⊥

@@ -5,8 +5,8 @@ use Rattle.jc_heap.specs.declared.place.Place.TheVariants.{Cell}
 use Rattle.jc_heap.specs.declared.object.Kind.{Kind}
 use Rattle.jc_heap.specs.declared.object.Kind.TheVariants.{ByteArray, ReferenceArray}
 use Rattle.jc_heap.specs.Heap.{HeapState, facts}
-use Rattle.jc_heap.specs.Places.{AreApart, IsBeside, places_of, cell_changes}
-use Rattle.jc_heap.specs.Keeping.{AreLegalValues}
+use Rattle.jc_heap.specs.Place.{AreApart, IsBeside, places_of, cell_changes}
+use Rattle.jc_heap.specs.HeapLaws.{AreLegalValues}
 
 -- in whatever stands after them
 module _ (h : HeapState) (array : ℕ) (is : (facts h array).kind ≡ ByteArray) (more : List (Place × ℕ)) where

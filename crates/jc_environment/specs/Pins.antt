@@ -1,4 +1,8 @@
 -- The record of a PIN.
+pub mod Checks
+pub mod Resets
+pub mod Updates
+pub mod PinInit
 use Rattle.std.specs.Prelude.{ℕ, ◌≡◌, ◌<◌, ◌≤◌, ◌==◌, ◌&&◌, Bool, true, false, nat_le, is_none, length, if◌then◌else◌, Option, Some, None}
 use Rattle.jc_heap.specs.declared.object.Facts.{Facts}
 use Rattle.jc_heap.specs.declared.object.Kind.{Kind}

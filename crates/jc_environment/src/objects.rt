@@ -4,7 +4,7 @@ ghost use Rattle.std.specs.Prelude.{◌≡◌, ◌≤◌, ◌+◌, ◌++◌, len
 ghost use Rattle.jc_transient.specs.State.{usual_cells};
 ghost use Rattle.jc_environment.specs.Objects.{cells_of_all, first_objects, fixed_objects, is_first, is_further, is_of, own_instance, own_instances, own_place, place_among, sized, sized_objects};
 ghost use Rattle.jc_platform.specs.Names.{classes};
-ghost use Rattle.jc_platform.specs.Seen.{class_value};
+ghost use Rattle.jc_platform.specs.RowValues.{class_value};
 
 use arrayvec::ArrayVec;
 use jc_heap::Kind;

@@ -5,9 +5,8 @@ use Rattle.std.proofs.lemmas.List.{take-take, drop-drop, take_all, length-revers
 use Rattle.jc_frames.specs.declared.cell.Cell.{Cell}
 use Rattle.jc_frames.specs.declared.frames.Region.{Region}
 use Rattle.jc_frames.specs.declared.frames.SavedFrame.{SavedFrame}
-use Rattle.jc_frames.specs.Frames.{Frame, Caller, Frames, with_stack}
+use Rattle.jc_frames.specs.Frames.{Frame, Caller, Frames, with_stack, callers_in, frames_of}
 use Rattle.jc_frames.specs.Calls.{arguments_on}
-use Rattle.jc_frames.specs.Layout.{callers_in, frames_of}
 use Rattle.jc_frames.proofs.Entered.{top_cells, caller_is, is_le}
 
 stack_length : (xs : List Cell) (r : Region) → length (reverse (drop r.bottom xs)) ≡ length xs - r.bottom

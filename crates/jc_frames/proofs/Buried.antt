@@ -6,10 +6,9 @@ use Rattle.std.proofs.lemmas.List.{take-map, drop-map, map-append, reverse-appen
 use Rattle.jc_frames.specs.declared.cell.Cell.{Cell}
 use Rattle.jc_frames.specs.declared.frames.Region.{Region}
 use Rattle.jc_frames.specs.declared.frames.SavedFrame.{SavedFrame}
-use Rattle.jc_frames.specs.Cells.{without_dead}
-use Rattle.jc_frames.specs.Frames.{Frame, Caller, Frames}
+use Rattle.jc_frames.specs.Cell.{without_dead}
+use Rattle.jc_frames.specs.Frames.{Frame, Caller, Frames, frame_of_region, frame_in, caller_of, callers_in, frames_of}
 use Rattle.jc_frames.specs.Calls.{frame_without_dead, caller_without_dead, frames_without_dead}
-use Rattle.jc_frames.specs.Layout.{frame_of_region, frame_in, caller_of, callers_in, frames_of}
 use Rattle.jc_frames.proofs.Stores.{refill_same}
 
 reverse-map : (f : Cell → Cell) (xs : List Cell) → reverse (map f xs) ≡ map f (reverse xs)

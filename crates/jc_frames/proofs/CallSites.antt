@@ -5,7 +5,7 @@ use Rattle.std.proofs.lemmas.List.{get_or-reverse, length-reverse}
 use Rattle.jc_frames.specs.declared.cell.Cell.{Cell}
 use Rattle.jc_frames.specs.declared.call_sites.CallSite.{CallSite}
 use Rattle.jc_frames.specs.declared.frames.SavedFrame.{SavedFrame}
-use Rattle.jc_frames.specs.Layout.{callers_in}
+use Rattle.jc_frames.specs.Frames.{callers_in}
 use Rattle.jc_frames.specs.CallSites.{call_site_at}
 
 -- that of a frame that is kept

@@ -13,9 +13,8 @@ use Rattle.jc_frames.specs.declared.frames.SavedFrame.{SavedFrame}
 use Rattle.jc_frames.specs.declared.method.Entry.{Entry}
 use Rattle.jc_frames.specs.declared.method.Origin.{Origin}
 use Rattle.jc_frames.specs.declared.outcome.Outcome.TheVariants.{Fault}
-use Rattle.jc_frames.specs.Frames.{Frame, Caller, Frames, GoesOn, Ends}
+use Rattle.jc_frames.specs.Frames.{Frame, Caller, Frames, GoesOn, Ends, frame_of_region, frame_in, caller_of, callers_in, frames_of, AreStacked}
 use Rattle.jc_frames.specs.Calls.{first_frame, calling_cells, counted_cells, frames_in_callee, call_or_fault}
-use Rattle.jc_frames.specs.Layout.{frame_of_region, frame_in, caller_of, callers_in, frames_of, AreStacked}
 
 -- ---- the top cells of a stack, seen from the array
 

@@ -5,7 +5,7 @@ use Rattle.std.specs.Option.{option_and_then, ok_or}
 use Rattle.std.specs.Ordering.{int_eq}
 use Rattle.std.proofs.lemmas.Bool.Decides.{nat_tests}
 use Rattle.jc_frames.specs.Operands.{s2}
-use Rattle.jc_frames.specs.Cells.{result_or_none}
+use Rattle.jc_frames.specs.Cell.{result_or_none}
 use Rattle.jc_frames.specs.BranchOps.{pair_offset}
 use Rattle.jc_frames.specs.declared.outcome.CodeFault.{CodeFault}
 

@@ -9,8 +9,7 @@ use Rattle.std.proofs.lemmas.Bool.Decides.{nat_tests}
 use Rattle.jc_frames.specs.declared.cell.Cell.{Cell}
 use Rattle.jc_frames.specs.declared.frames.Region.{Region}
 use Rattle.jc_frames.specs.declared.frames.SavedFrame.{SavedFrame}
-use Rattle.jc_frames.specs.Frames.{Frames, GoesOn, in_frame, store_local}
-use Rattle.jc_frames.specs.Layout.{frame_in, frames_of}
+use Rattle.jc_frames.specs.Frames.{Frames, GoesOn, in_frame, store_local, frame_in, frames_of}
 
 take_whole : (xs ys : List Cell) → take (length xs) (xs ++ ys) ≡ xs
 take_whole [] ys = refl

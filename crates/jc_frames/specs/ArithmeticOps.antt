@@ -5,8 +5,8 @@ use Rattle.jc_frames.specs.declared.instr.ArithmeticOp.TheVariants.{Two, Negate,
 use Rattle.jc_frames.specs.Short.{answer_of, negate, low_byte}
 use Rattle.jc_frames.specs.declared.cell.Cell.{Cell}
 use Rattle.jc_frames.specs.declared.cell.Cell.TheVariants.{Short}
-use Rattle.jc_frames.specs.declared.outcome.Exception.TheVariants.{ArithmeticException}
-use Rattle.jc_frames.specs.Cells.{short_on, two_shorts_on}
+use Rattle.jc_frames.specs.declared.exceptions.Exception.TheVariants.{ArithmeticException}
+use Rattle.jc_frames.specs.Cell.{short_on, two_shorts_on}
 use Rattle.jc_frames.specs.Frames.{Frame, Next, GoesOn, if_some, thrown_at}
 
 -- the answer on top of what is left; without one, a division by 0 was asked

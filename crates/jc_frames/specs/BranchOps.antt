@@ -12,7 +12,7 @@ use Rattle.jc_frames.specs.Short.{compare}
 use Rattle.jc_frames.specs.declared.cell.Cell.{Cell}
 use Rattle.jc_frames.specs.declared.cell.Cell.TheVariants.{ReturnAddress}
 use Rattle.jc_frames.specs.declared.outcome.Outcome.TheVariants.{Fault}
-use Rattle.jc_frames.specs.Cells.{as_address, short_on, reference_on, two_shorts_on, two_references_on}
+use Rattle.jc_frames.specs.Cell.{as_address, short_on, reference_on, two_shorts_on, two_references_on}
 use Rattle.jc_frames.specs.Frames.{Frame, Next, GoesOn, Throws, Ends, if_some, push}
 
 -- a place of the method whose header begins at this one: from there to the end of the code

@@ -9,7 +9,7 @@ use Rattle.jc_frames.specs.declared.method.Origin.{Origin}
 use Rattle.jc_frames.specs.declared.method.ReturnPoint.{ReturnPoint}
 use Rattle.jc_frames.specs.declared.outcome.Outcome.{Outcome}
 use Rattle.jc_frames.specs.declared.outcome.Outcome.TheVariants.{Void, Short as ShortReturned, Reference as ReferenceReturned, Fault}
-use Rattle.jc_frames.specs.Cells.{without_dead}
+use Rattle.jc_frames.specs.Cell.{without_dead}
 use Rattle.jc_frames.specs.Frames.{Frame, Caller, Frames, Next, GoesOn, Ends, push}
 
 -- a frame as its method begins: the arguments are its first locals, the others are short 0

@@ -2,11 +2,11 @@
 use Rattle.std.specs.Prelude.{ℤ, Option, Some, None}
 use Rattle.jc_platform.specs.declared.names.PlatformClass.{PlatformClass}
 use Rattle.jc_platform.specs.declared.names.PlatformClass.TheVariants as class
-use Rattle.jc_frames.specs.declared.outcome.Exception.{Exception}
-use Rattle.jc_frames.specs.declared.outcome.Exception.TheVariants.{ArithmeticException, ArrayIndexOutOfBoundsException, ArrayStoreException, ClassCastException}
-use Rattle.jc_frames.specs.declared.outcome.Exception.TheVariants.{NegativeArraySizeException, NullPointerException, SecurityException, CardException}
-use Rattle.jc_frames.specs.declared.outcome.Exception.TheVariants.{CardRuntimeException, ISOException, PINException, SystemException, TransactionException}
-use Rattle.jc_frames.specs.declared.outcome.Exception.TheVariants.{APDUException, UserException, Further}
+use Rattle.jc_frames.specs.declared.exceptions.Exception.{Exception}
+use Rattle.jc_frames.specs.declared.exceptions.Exception.TheVariants.{ArithmeticException, ArrayIndexOutOfBoundsException, ArrayStoreException, ClassCastException}
+use Rattle.jc_frames.specs.declared.exceptions.Exception.TheVariants.{NegativeArraySizeException, NullPointerException, SecurityException, CardException}
+use Rattle.jc_frames.specs.declared.exceptions.Exception.TheVariants.{CardRuntimeException, ISOException, PINException, SystemException, TransactionException}
+use Rattle.jc_frames.specs.declared.exceptions.Exception.TheVariants.{APDUException, UserException, Further}
 
 -- the class whose instance is thrown
 abbrev pub class_of_exception : Exception → PlatformClass

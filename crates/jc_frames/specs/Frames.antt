@@ -1,16 +1,18 @@
 -- Frames: the locals and the operand stack of a method (virtual machine specification, frames), and the
 -- frames of its callers.
-use Rattle.std.specs.Prelude.{◌+◌, ◌&&◌, Bool, nat_lt, nat_le, if◌then◌else◌, length, slice_set, take, drop, ℕ, List, [], ◌∷◌, ◌++◌, Option, Some, None, Result}
-use Rattle.std.specs.Prelude.{Ok, Err}
+use Rattle.std.specs.Prelude.{◌+◌, ◌&&◌, Bool, nat_lt, nat_le, if◌then◌else◌, length, slice_set, take, drop, ℕ, List, [], ◌∷◌, ◌++◌, Option, Some, None}
+use Rattle.std.specs.Prelude.{Result, Ok, Err, ◌-◌, ◌≤◌, ◌≡◌, reverse}
 use Rattle.jc_frames.specs.declared.cell.Cell.{Cell}
 use Rattle.jc_frames.specs.declared.method.Origin.{Origin}
 use Rattle.jc_frames.specs.declared.method.ReturnPoint.{ReturnPoint}
 use Rattle.jc_frames.specs.declared.outcome.CodeFault.{CodeFault}
-use Rattle.jc_frames.specs.declared.outcome.Exception.{Exception}
+use Rattle.jc_frames.specs.declared.exceptions.Exception.{Exception}
 use Rattle.jc_frames.specs.declared.outcome.Outcome.{Outcome}
 use Rattle.jc_frames.specs.declared.outcome.Outcome.TheVariants.{Fault}
 use Rattle.jc_frames.specs.declared.outcome.FrameExit.{FrameExit}
 use Rattle.jc_frames.specs.declared.outcome.FrameExit.TheVariants.{Throw, End}
+use Rattle.jc_frames.specs.declared.frames.Region.{Region}
+use Rattle.jc_frames.specs.declared.frames.SavedFrame.{SavedFrame}
 
 -- the locals; the stack with its top first, which holds at most this many cells; the place of the next
 -- instruction; and the method
@@ -107,3 +109,32 @@ abbrev pub next_of : Result (Unit {0}) FrameExit → Frames → Next Frames
 next_of (Ok u) s = GoesOn s
 next_of (Err (Throw e)) s = Throws e (with_stack s [])
 next_of (Err (End o)) s = Ends o
+
+-- ---- how the cells of all frames lie in one array: each frame's locals, then its stack with its top last,
+-- and the next frame begins where the stack of its caller ends.
+
+-- a frame with these cells, where a region says the rest
+abbrev pub frame_of_region : List Cell → List Cell → Region → Frame
+frame_of_region locals stack r = record { locals = locals; stack = stack; limit = r.ceiling - r.bottom; place = r.place; origin = r.origin }
+
+-- the frame whose cells end an array
+abbrev pub frame_in : List Cell → Region → Frame
+frame_in cells r = frame_of_region (drop r.base (take r.bottom cells)) (reverse (drop r.bottom cells)) r
+
+abbrev pub caller_of : Frame → ReturnPoint → Caller
+caller_of frame resume = record { frame = frame; resume = resume }
+
+-- the callers whose cells end an array, the nearest first
+abbrev pub callers_in : List Cell → List SavedFrame → List Caller
+callers_in cells [] = []
+callers_in cells (s ∷ rest) = caller_of (frame_in cells s.region) s.resume ∷ callers_in (take s.region.base cells) rest
+
+-- the frames whose cells an array holds
+abbrev pub frames_of : List Cell → Region → List SavedFrame → Frames
+frames_of cells r saved = record { current = frame_in cells r; callers = callers_in (take r.base cells) saved }
+
+-- the callers' cells reach to a place, each from where the one below ends, and the lowest from 0
+abbrev pub AreStacked : ℕ → List SavedFrame → Type 0
+AreStacked top [] = top ≡ 0
+AreStacked top (s ∷ rest) = (s.region.base ≤ s.region.bottom) × (s.region.bottom ≤ top) × (top ≤ s.region.ceiling) × (s.region.ceiling ≤ 512)
+    × AreStacked s.region.base rest

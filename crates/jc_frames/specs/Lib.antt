@@ -5,10 +5,9 @@ pub mod Rows
 pub mod Header
 pub mod Handlers
 pub mod Fields
-pub mod Cells
+pub mod Cell
 pub mod Exceptions
 pub mod Frames
-pub mod Layout
 pub mod Calls
 pub mod CallSites
 pub mod CallLaw

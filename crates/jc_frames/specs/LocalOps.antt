@@ -5,7 +5,7 @@ use Rattle.jc_frames.specs.declared.instr.LocalOp.{LocalOp}
 use Rattle.jc_frames.specs.declared.instr.LocalOp.TheVariants.{Aload, Sload, Astore, Sstore, Sinc}
 use Rattle.jc_frames.specs.Short.{wrap}
 use Rattle.jc_frames.specs.declared.cell.Cell.TheVariants.{Short, Reference}
-use Rattle.jc_frames.specs.Cells.{as_short, as_reference, short_on, storable_on}
+use Rattle.jc_frames.specs.Cell.{as_short, as_reference, short_on, storable_on}
 use Rattle.jc_frames.specs.Frames.{Frame, Next, if_some, push, store_local}
 
 -- aload, sload, aload_0, aload_1, aload_2, aload_3, sload_0, sload_1, sload_2, sload_3, astore, sstore,

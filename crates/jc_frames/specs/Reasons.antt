@@ -1,7 +1,7 @@
 -- Exceptions of the card's framework with the reasons that its API specification names.
 use Rattle.std.specs.Prelude.{pos}
-use Rattle.jc_frames.specs.declared.outcome.Exception.{Exception}
-use Rattle.jc_frames.specs.declared.outcome.Exception.TheVariants.{APDUException, PINException, SystemException, TransactionException}
+use Rattle.jc_frames.specs.declared.exceptions.Exception.{Exception}
+use Rattle.jc_frames.specs.declared.exceptions.Exception.TheVariants.{APDUException, PINException, SystemException, TransactionException}
 
 -- SystemException: an argument is not allowed
 abbrev pub illegal_value : Exception

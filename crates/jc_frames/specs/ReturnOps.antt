@@ -6,7 +6,7 @@ use Rattle.jc_frames.specs.declared.instr.ReturnOp.TheVariants.{Areturn, Sreturn
 use Rattle.jc_frames.specs.declared.cell.Cell.{Cell}
 use Rattle.jc_frames.specs.declared.cell.Cell.TheVariants.{Short, Reference}
 use Rattle.jc_frames.specs.declared.method.ReturnPoint.{ReturnPoint}
-use Rattle.jc_frames.specs.Cells.{short_on, reference_on}
+use Rattle.jc_frames.specs.Cell.{short_on, reference_on}
 use Rattle.jc_frames.specs.Frames.{Frames, Next, Ends, if_some, in_frame}
 use Rattle.jc_frames.specs.Calls.{frames_after_return, outcome_of, frames_with_result}
 

@@ -1,7 +1,7 @@
 -- The stack's order. Cells of any kind may be moved.
 use Rattle.jc_frames.specs.declared.instr.StackOp.{StackOp}
 use Rattle.jc_frames.specs.declared.instr.StackOp.TheVariants.{Pop, Pop2, Dup, Dup2, DupX, SwapX}
-use Rattle.jc_frames.specs.Cells.{cell_on}
+use Rattle.jc_frames.specs.Cell.{cell_on}
 use Rattle.jc_frames.specs.Frames.{Frame, Next, GoesOn, if_some, copy_below, exchange_cells}
 
 -- pop, pop2, dup, dup2, dup_x, swap_x: the stack reordered

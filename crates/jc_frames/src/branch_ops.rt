@@ -1,6 +1,6 @@
 //! Branches: the conditional ones, `goto`, `jsr`, `ret`, `stableswitch`, `slookupswitch`.
 ghost use Rattle.std.specs.Prelude.{◌≡◌, ◌+◌, ◌<◌, ◌^◌, length};
-ghost use Rattle.jc_frames.specs.Cells.{result_or_none, popped};
+ghost use Rattle.jc_frames.specs.Cell.{result_or_none, popped};
 ghost use Rattle.jc_frames.specs.Frames.{in_frame, unless_fault, with_stack};
 ghost use Rattle.jc_frames.specs.BranchOps.{branch_instruction, branch_target, condition_on, table_offset, pair_offset};
 

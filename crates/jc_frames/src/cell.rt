@@ -1,6 +1,6 @@
 //! What methods compute with.
 ghost use Rattle.std.specs.Prelude.{◌≡◌};
-ghost use Rattle.jc_frames.specs.Cells.{without_dead};
+ghost use Rattle.jc_frames.specs.Cell.{without_dead};
 
 use jc_transient::Ref;
 

@@ -1,6 +1,6 @@
 //! Dead references.
 ghost use Rattle.std.specs.Prelude.{◌≡◌, map};
-ghost use Rattle.jc_frames.specs.Cells.{without_dead};
+ghost use Rattle.jc_frames.specs.Cell.{without_dead};
 ghost use Rattle.jc_frames.specs.Calls.{frames_without_dead};
 
 use crate::cell::Cell;

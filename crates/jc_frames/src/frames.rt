@@ -43,8 +43,7 @@ pub struct Frames {
 
 impl Model for Frames {
     ghost use Rattle.std.specs.Prelude.{◌≤◌, length, reverse};
-    ghost use Rattle.jc_frames.specs.Frames.{Frames};
-    ghost use Rattle.jc_frames.specs.Layout.{frames_of, AreStacked};
+    ghost use Rattle.jc_frames.specs.Frames.{Frames, frames_of, AreStacked};
 
     ghost Value = { Frames };
 

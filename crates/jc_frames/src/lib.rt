@@ -10,6 +10,7 @@ pub mod cell;
 pub mod constant_ops;
 mod dead_references;
 pub mod decode;
+pub mod exceptions;
 pub mod frames;
 pub mod handlers;
 pub mod header;
@@ -27,8 +28,9 @@ pub mod stack_ops;
 
 pub use call_sites::CallSite;
 pub use cell::Cell;
+pub use exceptions::Exception;
 pub use frames::{Frames, MOST_CELLS, MOST_FRAMES};
 pub use handlers::{Handler, handler_at};
 pub use header::{Header, header_at};
 pub use method::{CallKind, Entry, Origin, ReturnPoint};
-pub use outcome::{CodeFault, Exception, FrameExit, Outcome};
+pub use outcome::{CodeFault, FrameExit, Outcome};

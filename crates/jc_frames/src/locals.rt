@@ -1,7 +1,7 @@
 //! The locals of the frame that runs.
 ghost use Rattle.std.specs.Prelude.{◌≡◌, slice_get};
 ghost use Rattle.std.specs.Option.{option_and_then};
-ghost use Rattle.jc_frames.specs.Cells.{as_short, as_reference, as_address, result_or_none};
+ghost use Rattle.jc_frames.specs.Cell.{as_short, as_reference, as_address, result_or_none};
 ghost use Rattle.jc_frames.specs.Frames.{in_frame, unless_fault, store_local};
 
 use crate::cell::Cell;

@@ -1,5 +1,5 @@
 //! Exceptions of the card's framework with the reasons that its API specification names.
-use crate::outcome::Exception;
+use crate::exceptions::Exception;
 
 /// `SystemException.ILLEGAL_VALUE`: an argument is not allowed.
 pub const ILLEGAL_VALUE: Exception = Exception::SystemException(1);

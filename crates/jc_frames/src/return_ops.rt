@@ -1,6 +1,6 @@
 //! Returns: `areturn`, `sreturn`, `return`.
 ghost use Rattle.std.specs.Prelude.{◌≡◌};
-ghost use Rattle.jc_frames.specs.Cells.{result_or_none};
+ghost use Rattle.jc_frames.specs.Cell.{result_or_none};
 ghost use Rattle.jc_frames.specs.Frames.{next_of, with_stack};
 ghost use Rattle.jc_frames.specs.ReturnOps.{returned_cell, return_instruction};
 

@@ -1,7 +1,7 @@
 //! The stack of the frame that runs.
 ghost use Rattle.std.specs.Prelude.{IsTrue, ◌≡◌, ◌+◌, ◌<◌, ◌≤◌, [], ◌∷◌, ◌++◌, ◌-◌, drop, take, length, option_copied, slice_get, OnOk, OnErr, IfOk};
 ghost use Rattle.jc_frames.specs.Table.{can_duplicate_below, can_swap};
-ghost use Rattle.jc_frames.specs.Cells.{cell_on, short_on, two_shorts_on, reference_on, storable_on, popped, popped_two};
+ghost use Rattle.jc_frames.specs.Cell.{cell_on, short_on, two_shorts_on, reference_on, storable_on, popped, popped_two};
 ghost use Rattle.jc_frames.specs.Calls.{arguments_on};
 ghost use Rattle.jc_frames.specs.Frames.{in_frame, with_stack, unless_fault, has_room, push, copy_below, exchange_cells};
 

@@ -5,7 +5,7 @@ use Rattle.jc_words.specs.Layout.{top_address, packages_address, applets_address
 use Rattle.jc_words.specs.Layout.{registry_start, registry_length, text_start}
 use Rattle.jc_transient.specs.declared.cell.ClearEvent.{ClearEvent}
 use Rattle.jc_transient.specs.declared.cell.ClearEvent.TheVariants.{Reset, Deselect}
-use Rattle.jc_heap.specs.Cut.{records_from, missing_words}
+use Rattle.jc_heap.specs.Walk.{records_from, missing_words}
 use Rattle.jc_heap.specs.Image.{image, base, package_addresses, is_package, sizes, item_entry, records, missing_words_of_image, table_text, IsWellFormed}
 use Rattle.jc_heap.specs.Heap.{HeapState, head_of, read_image, heap_of, area_end, with_area_end, area_end_address, SameShape, heap_item_at, is_allocated}
 use Rattle.jc_heap.proofs.Images.{image-set, head-same, text-same}

@@ -3,7 +3,7 @@ use Rattle.std.proofs.Common.{◌≡◌, ℕ, ◌+◌, ◌≤◌, true, List, []
 use Rattle.jc_transient.specs.declared.cell.ClearEvent.{ClearEvent}
 use Rattle.jc_heap.specs.Object.{Item, facts_of}
 use Rattle.jc_heap.specs.Heap.{HeapState, area_end, area_limit}
-use Rattle.jc_heap.specs.Whole.{lies_in, cells_in, all_cells_in, FitsAt, IsFilledArea}
+use Rattle.jc_heap.specs.WholeHeap.{lies_in, cells_in, all_cells_in, FitsAt, IsFilledArea}
 
 -- the items fit one after another from a place on, up to the end, in an area of this size
 abbrev pub Run : ClearEvent → ℕ → ℕ → List (ℕ × Item) → ℕ → Type 0

@@ -4,7 +4,7 @@ use Rattle.std.proofs.Common.{Some, None, Ok, Err}
 use Rattle.std.specs.Prelude.{is_ok, Result, IsErrAnd}
 use Rattle.std.proofs.lemmas.Bool.{lt-ltb, le-ltb, true≢false}
 use Rattle.jc_words.specs.Layout.{top_address}
-use Rattle.jc_commit.specs.Keeping.{has_room_for as journal_room, writes_for as journal_writes}
+use Rattle.jc_commit.specs.Keep.{has_room_for as journal_room, writes_for as journal_writes}
 use Rattle.jc_commit.specs.State.{State, keeping as journal_keeping, IsTornWrite as JournalStopped}
 use Rattle.jc_transient.specs.declared.cell.ClearEvent.{ClearEvent}
 use Rattle.jc_heap.specs.declared.refusal.HeapRefusal.{HeapRefusal}

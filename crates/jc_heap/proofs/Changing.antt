@@ -9,7 +9,7 @@ use Rattle.jc_words.specs.Refusals.{refused_once}
 use Rattle.jc_words.specs.Layout.{top_address, text_start}
 use Rattle.jc_commit.specs.Image.{with_words, top_of}
 use Rattle.jc_commit.specs.Entries.{addresses_of}
-use Rattle.jc_commit.specs.Keeping.{Keeping, unlogged_addresses, writes_for as journal_writes}
+use Rattle.jc_commit.specs.Keep.{Keeping, unlogged_addresses, writes_for as journal_writes}
 use Rattle.jc_commit.specs.State.{State, keeping as journal_keeping, live_words, Changes, IsShort, IsTornWrite as JournalStopped}
 use Rattle.jc_commit.specs.declared.refusal.WriteRefusal.{WriteRefusal}
 use Rattle.jc_commit.specs.declared.refusal.WriteRefusal.TheVariants.{StoreDown, Full}

@@ -3,7 +3,7 @@ use Rattle.std.proofs.Common.{◌≡◌, ℕ, zero, suc, ◌+◌, ◌<◌, Bool,
 use Rattle.std.proofs.Common.{◌∙◌, ap, arith, add-one, nat_le}
 use Rattle.std.specs.Prelude.{if◌then◌else◌}
 use Rattle.std.proofs.lemmas.Bool.Decides.{nat_tests}
-use Rattle.jc_commit.specs.Keeping.{Keeping, goes_back as journal_goes_back, unlogged_addresses, has_room_for as journal_room}
+use Rattle.jc_commit.specs.Keep.{Keeping, goes_back as journal_goes_back, unlogged_addresses, has_room_for as journal_room}
 use Rattle.jc_commit.specs.State.{State, keeping as journal_keeping}
 use Rattle.jc_heap.specs.declared.touch.Touch.{Touch}
 use Rattle.jc_heap.specs.Image.{IsWellFormed}

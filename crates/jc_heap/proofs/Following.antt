@@ -4,8 +4,7 @@ use Rattle.std.proofs.Common.{drop, map, refl, sym, ◌∙◌, ap, arith, add-ze
 use Rattle.std.proofs.lemmas.List.{length-drop, length-take-le, get_or-take, drop-drop}
 use Rattle.std.proofs.lemmas.Bool.{cases_lt, cases_Bool, ne_eqb, le-ltb, lt-ltb, false≢true}
 use Rattle.jc_words.specs.Layout.{top_address, text_length_address, text_start}
-use Rattle.jc_heap.specs.Cut.{Sizes, records_from, missing_words}
-use Rattle.jc_heap.specs.Table.{has_entry}
+use Rattle.jc_heap.specs.Walk.{Sizes, records_from, missing_words, has_entry}
 use Rattle.jc_heap.specs.Object.{Item, AnObject, APackage, object_of, is_object}
 use Rattle.jc_heap.specs.Image.{item_entry, item, image, package_addresses, is_package, sizes, base, missing_words_of_image, IsWellFormed}
 use Rattle.jc_heap.specs.Heap.{first_above, next_object, heap_of, read_image, IsObject}

@@ -6,7 +6,7 @@ use Rattle.jc_commit.specs.Image.{count_of, limit_of, plain_of, recovered_of, Is
 use Rattle.jc_commit.specs.State.{State}
 use Rattle.jc_heap.specs.Image.{IsWellFormed}
 use Rattle.jc_heap.specs.Heap.{heap_of, heap_view}
-use Rattle.jc_heap.specs.Stored.{HoldsHeap}
+use Rattle.jc_heap.specs.Heap.Store.{HoldsHeap}
 use Rattle.jc_heap.proofs.RawWords.{recovered-head, head_is}
 
 -- a store with these words is that of a journal

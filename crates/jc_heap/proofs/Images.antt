@@ -8,8 +8,7 @@ use Rattle.std.proofs.Math.Bool.{and-false}
 use Rattle.std.proofs.Math.Nat.{min-le_right}
 use Rattle.jc_words.specs.Layout.{magic_address, size_address, top_address, packages_address, applets_address, reset_end_address, deselect_end_address}
 use Rattle.jc_words.specs.Layout.{text_length_address, addresses_start, most_packages, registry_start, registry_length, text_start}
-use Rattle.jc_heap.specs.Cut.{Sizes, records_from, missing_words}
-use Rattle.jc_heap.specs.Table.{entry_or, has_entry, with_entry}
+use Rattle.jc_heap.specs.Walk.{Sizes, records_from, missing_words, entry_or, has_entry, with_entry}
 use Rattle.jc_heap.specs.Object.{Object, Item, AnObject, APackage, object_of, cells_of, cells_of_words, facts_of, with_cell, payload, kind_of, event_of, has_bytes}
 use Rattle.jc_heap.specs.Object.{is_object, is_packed, is_packed_header}
 use Rattle.jc_heap.specs.Packed.{byte_in, with_byte, bytes_of_packed}

@@ -3,7 +3,7 @@ use Rattle.std.proofs.Common.{◌≡◌, ℕ, get_or, max}
 use Rattle.std.proofs.lemmas.List.{length-take-le}
 use Rattle.jc_words.specs.Layout.{top_address, addresses_start}
 use Rattle.jc_commit.specs.Image.{capacity_of}
-use Rattle.jc_commit.specs.Keeping.{Keeping}
+use Rattle.jc_commit.specs.Keep.{Keeping}
 use Rattle.jc_commit.specs.State.{State, keeping as journal_keeping}
 use Rattle.jc_heap.proofs.RawWords.{capacity_is}
 use Rattle.jc_heap.specs.Image.{IsWellFormed}

@@ -9,13 +9,13 @@ use Rattle.jc_transient.specs.declared.cell.ClearEvent.TheVariants.{Reset, Desel
 use Rattle.jc_transient.specs.State.{AreSizes}
 use Rattle.jc_heap.specs.declared.object.Kind.{Kind}
 use Rattle.jc_heap.specs.declared.object.Kind.TheVariants.{ReferenceArray}
-use Rattle.jc_heap.specs.Table.{entry_or, with_entry}
+use Rattle.jc_heap.specs.Walk.{entry_or, with_entry}
 use Rattle.jc_heap.specs.Object.{Object, Item, AnObject, APackage, facts_of, cells_of, is_object, with_cell, header_only, new_transient, transient_size}
 use Rattle.jc_heap.specs.Object.{event_number}
 use Rattle.jc_heap.specs.Heap.{HeapState, heap_item_at, is_allocated, cells, facts, area_end, area_limit, with_area_end, set_cell, set_cells, add_object, add_transient}
 use Rattle.jc_heap.specs.Heap.{LacksCells, buffer_word, cells_word}
-use Rattle.jc_heap.specs.Components.{words_of, record_of}
-use Rattle.jc_heap.specs.Whole.{lies_in, cells_in, FitsAt, IsFilledArea, IsReference, HoldsReferences, AreAllocated, AreRecords, AreDistinct, IsConsistent}
+use Rattle.jc_heap.specs.Component.{words_of, record_of}
+use Rattle.jc_heap.specs.WholeHeap.{lies_in, cells_in, FitsAt, IsFilledArea, IsReference, HoldsReferences, AreAllocated, AreRecords, AreDistinct, IsConsistent}
 use Rattle.jc_heap.proofs.Laws.{heap_item_at-add_object, heap_item_at-add_other, is_allocated-add_other, is_allocated-set_cell, heap_item_at-set_cell}
 use Rattle.jc_heap.proofs.Laws.{cells-with_cell, set_cell-absent, facts-set_cell, length-cells-set_cell, cells-set_other, header_only-set_cell}
 use Rattle.jc_heap.proofs.RecordWords.{same_words}

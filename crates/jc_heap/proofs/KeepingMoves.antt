@@ -5,17 +5,17 @@ use Rattle.jc_transient.specs.declared.cell.ClearEvent.TheVariants.{Reset, Desel
 use Rattle.jc_heap.specs.declared.object.Kind.{Kind}
 use Rattle.jc_heap.specs.declared.place.Place.{Place}
 use Rattle.jc_heap.specs.declared.place.Place.TheVariants.{Cell, Static, Registry, AppletCount}
-use Rattle.jc_heap.specs.Table.{has_entry}
+use Rattle.jc_heap.specs.Walk.{has_entry}
 use Rattle.jc_heap.specs.Object.{is_object, new_transient, transient_size}
 use Rattle.jc_heap.specs.Heap.{HeapState, HeapView, SameShape, heap_item_at, is_allocated, area_end, with_area_end, set_cell, set_cells, add_object}
 use Rattle.jc_heap.specs.Heap.{add_transient, HasEnd, heap_after_change, goes_back}
-use Rattle.jc_heap.specs.Packages.{add_package}
+use Rattle.jc_heap.specs.Package.{add_package}
 use Rattle.jc_heap.specs.Statics.{set_word}
-use Rattle.jc_heap.specs.Places.{place_at, set_place, set_places}
+use Rattle.jc_heap.specs.Place.{place_at, set_place, set_places}
 use Rattle.jc_heap.specs.Moves.{Move, Write, SetPlaces, WriteNonAtomic, SetCells, AddObject, AddTransient, AddPackage, Begin, Commit, Abort, apply_move}
 use Rattle.jc_heap.specs.Moves.{apply_moves, TornMovesLeave}
-use Rattle.jc_heap.specs.Whole.{IsConsistent, IsReference}
-use Rattle.jc_heap.specs.Keeping.{IsLegalValue, AreLegalValues, MoveIsLegal, MovesAreLegal, IsConsistentHeap, AreConsistent, KeepsConsistent}
+use Rattle.jc_heap.specs.WholeHeap.{IsConsistent, IsReference}
+use Rattle.jc_heap.specs.HeapLaws.{IsLegalValue, AreLegalValues, MoveIsLegal, MovesAreLegal, IsConsistentHeap, AreConsistent, KeepsConsistent}
 use Rattle.jc_heap.proofs.Laws.{is_allocated-set_cell, top-set_cell, top-add_object, same_facts, shape-add}
 use Rattle.jc_heap.proofs.RecordWords.{is_allocated-set_word, top_after-set_word}
 use Rattle.jc_heap.proofs.Keeping.{object-header_only, empty_whole, object_whole, transient_whole, cell_whole, run_whole}

@@ -9,14 +9,14 @@ use Rattle.jc_transient.specs.declared.cell.ClearEvent.{ClearEvent}
 use Rattle.jc_transient.specs.declared.cell.ClearEvent.TheVariants.{Reset, Deselect}
 use Rattle.jc_heap.specs.declared.object.Kind.{Kind}
 use Rattle.jc_heap.specs.declared.object.Kind.TheVariants.{Instance, ReferenceArray}
-use Rattle.jc_heap.specs.Table.{entry_or, has_entry}
+use Rattle.jc_heap.specs.Walk.{entry_or, has_entry}
 use Rattle.jc_heap.specs.Object.{Item, AnObject, APackage, facts_of, cells_of, is_object}
 use Rattle.jc_heap.specs.Heap.{HeapState, heap_item_at, is_allocated, facts, area_end, area_limit, add_object, HasEnd}
-use Rattle.jc_heap.specs.Packages.{AreArrays, is_array_init, array_object, array_size, components_words, image_words, record_size, package_record}
-use Rattle.jc_heap.specs.Packages.{package_owner, push_package, add_arrays, add_package}
+use Rattle.jc_heap.specs.Package.{AreArrays, is_array_init, array_object, array_size, components_words, image_words, record_size, package_record}
+use Rattle.jc_heap.specs.Package.{package_owner, push_package, add_arrays, add_package}
 use Rattle.jc_heap.specs.Statics.{with_word, set_word}
-use Rattle.jc_heap.specs.Components.{words_of, record_of}
-use Rattle.jc_heap.specs.Whole.{cells_in, FitsAt, IsFilledArea, IsReference, HoldsReferences, AreAllocated, AreRecords, AreDistinct, IsConsistent}
+use Rattle.jc_heap.specs.Component.{words_of, record_of}
+use Rattle.jc_heap.specs.WholeHeap.{cells_in, FitsAt, IsFilledArea, IsReference, HoldsReferences, AreAllocated, AreRecords, AreDistinct, IsConsistent}
 use Rattle.jc_heap.proofs.Tables.{at_or-push_same, at_or-push_other, has-push}
 use Rattle.jc_heap.proofs.Laws.{is_allocated-add_other}
 use Rattle.jc_heap.proofs.AreaRuns.{Run, filled_of, run_of}

@@ -2,11 +2,11 @@
 use Rattle.std.proofs.Common.{◌≡◌, ℕ, Bool, true, false, List, [], ◌++◌, refl, sym, ◌∙◌, ap, inl, inr, max, Contains, if◌then◌else◌}
 use Rattle.std.proofs.lemmas.Bool.{cases_Bool, false≢true}
 use Rattle.jc_words.specs.Layout.{addresses_start}
-use Rattle.jc_commit.specs.Keeping.{Keeping, unlogged_addresses, with_kept, goes_back as journal_goes_back, has_room_for as journal_room}
+use Rattle.jc_commit.specs.Keep.{Keeping, unlogged_addresses, with_kept, goes_back as journal_goes_back, has_room_for as journal_room}
 use Rattle.jc_commit.proofs.WhatIsKept.{keeps_old_values}
 use Rattle.jc_heap.specs.declared.place.Place.{Place}
 use Rattle.jc_heap.specs.Heap.{HeapState, HeapView, keeping, goes_back, has_room_for, heap_after_change}
-use Rattle.jc_heap.specs.Places.{place_at, set_place, write_nonatomic}
+use Rattle.jc_heap.specs.Place.{place_at, set_place, write_nonatomic}
 use Rattle.jc_heap.proofs.KeepingMoves.{top-place, capacity-place}
 
 pub outside_none_goes_back : (v : HeapView) (a : ℕ) → v.begun ≡ false → goes_back v a ≡ false

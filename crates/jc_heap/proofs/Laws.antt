@@ -3,7 +3,7 @@ use Rattle.std.proofs.Common.{◌≡◌, ℕ, ◌+◌, ◌<◌, ◌≤◌, true,
 use Rattle.std.proofs.Common.{if◌then◌else◌}
 use Rattle.std.proofs.lemmas.List.{length-set, length-replicate, length-drop}
 use Rattle.std.proofs.lemmas.Bool.{cases_Bool, cases_eq, cases_lt, lt-ltb, le-ltb, false≢true}
-use Rattle.jc_heap.specs.Table.{entry_or, has_entry}
+use Rattle.jc_heap.specs.Walk.{entry_or, has_entry}
 use Rattle.jc_heap.specs.Object.{Object, Item, AnObject, APackage, is_object, cells_of, with_cell, header_only, facts_of}
 use Rattle.jc_heap.specs.Image.{image, base, package_addresses, sizes, records, item}
 use Rattle.jc_heap.specs.Heap.{HeapState, IsObject, read_image, heap_of, heap_item_at, cells, facts, is_allocated, set_cell, add_object, SameShape}

@@ -6,7 +6,7 @@ use Rattle.jc_words.specs.Count.{saturating_count}
 use Rattle.jc_heap.specs.Heap.{HeapState, HeapView}
 use Rattle.jc_heap.specs.Moves.{Move, Write, SetPlaces, WriteNonAtomic, SetCells, AddObject, AddTransient, AddPackage, Begin, Commit, Abort}
 use Rattle.jc_heap.specs.Moves.{TornMovesLeave, apply_move, apply_moves, writes_of}
-use Rattle.jc_heap.specs.Losses.{IsBehindFirst, IsExactCut, LeaveWhatIsComplete, durable_behind, writes_of_moves}
+use Rattle.jc_heap.specs.HeapLaws.{IsBehindFirst, IsExactCut, LeaveWhatIsComplete, durable_behind, writes_of_moves}
 
 none_more : (p : ℕ) → p ≡ saturating_count p 0
 none_more p = omega arith

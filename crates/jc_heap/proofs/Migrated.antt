@@ -11,7 +11,7 @@ use Rattle.jc_commit.specs.Migration.{migrated}
 use Rattle.jc_commit.proofs.Migrations.{log_first, log_second, moved_log, steps}
 use Rattle.jc_commit.proofs.TornWrites.{ended}
 use Rattle.jc_heap.specs.Image.{image, capacity_in, IsWellFormed}
-use Rattle.jc_heap.specs.Alike.{StandAlike}
+use Rattle.jc_heap.specs.HeapLaws.{StandAlike}
 use Rattle.jc_heap.proofs.RawWords.{capacity-image}
 use Rattle.jc_heap.proofs.AreaEnds.{IsJournals, image-aside, laid-aside, heap-journals}
 use Rattle.jc_heap.proofs.Images.{head-same, text-same}

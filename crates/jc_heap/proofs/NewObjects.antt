@@ -10,7 +10,7 @@ use Rattle.jc_words.specs.Refusals.{refused_once}
 use Rattle.jc_words.specs.Layout.{top_address}
 use Rattle.jc_commit.specs.Image.{with_words}
 use Rattle.jc_commit.specs.Entries.{addresses_of}
-use Rattle.jc_commit.specs.Keeping.{Keeping, unlogged_addresses, writes_for, has_room_for as journal_room}
+use Rattle.jc_commit.specs.Keep.{Keeping, unlogged_addresses, writes_for, has_room_for as journal_room}
 use Rattle.jc_commit.specs.State.{State, keeping as journal_keeping, live_words, Changes, IsTornWrite as JournalStopped}
 use Rattle.jc_heap.proofs.RawWords.{capacity_is}
 use Rattle.jc_heap.proofs.JournalViews.{keeping_view, keeping_same}

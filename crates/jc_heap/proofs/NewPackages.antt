@@ -3,7 +3,7 @@ use Rattle.std.proofs.Common.{◌≡◌, ℕ, zero, suc, ◌+◌, ◌<◌, ◌�
 use Rattle.std.proofs.lemmas.List.{length-append, length-take-le, get_or-take}
 use Rattle.jc_words.specs.Layout.{top_address, packages_address, addresses_start, most_packages, text_start}
 use Rattle.jc_commit.specs.Image.{with_words, IsPlace}
-use Rattle.jc_commit.specs.Keeping.{has_room_for as journal_room}
+use Rattle.jc_commit.specs.Keep.{has_room_for as journal_room}
 use Rattle.jc_commit.specs.State.{State, Changes, keeping as journal_keeping}
 use Rattle.jc_heap.proofs.JournalViews.{keeping_view}
 use Rattle.jc_heap.specs.declared.object.Kind.{Kind}
@@ -12,8 +12,8 @@ use Rattle.jc_heap.specs.Image.{IsWellFormed}
 use Rattle.jc_heap.specs.Fresh.{KeepsBelow, Fills}
 use Rattle.jc_heap.specs.Heap.{HeapState, HeapView, heap_view, read_image, heap_of, add_object, end_address, heap_after_change, has_room_for, IsSound}
 use Rattle.jc_heap.specs.Heap.{SameShape, is_allocated, heap_item_at}
-use Rattle.jc_heap.specs.Packages.{components_words, image_words, record_size, package_record, package_size, package_owner, package_words, addresses_of_package}
-use Rattle.jc_heap.specs.Packages.{push_package, add_arrays, add_package, array_object, array_size, arrays_words, array_addresses, AreArraysOfBytes}
+use Rattle.jc_heap.specs.Package.{components_words, image_words, record_size, package_record, package_size, package_owner, package_words, addresses_of_package}
+use Rattle.jc_heap.specs.Package.{push_package, add_arrays, add_package, array_object, array_size, arrays_words, array_addresses, AreArraysOfBytes}
 use Rattle.jc_heap.specs.Packed.{packed_words}
 use Rattle.jc_heap.proofs.Tables.{at_or-push_same, at_or-push_other, has-push}
 use Rattle.jc_heap.proofs.Laws.{shape-add, heap_item_at-add_other, top-add_object}

@@ -4,8 +4,7 @@ use Rattle.std.proofs.Common.{subst, arith, Option, Some, None, if◌then◌else
 use Rattle.std.specs.Prelude.{IfSome, unwrap_or}
 use Rattle.std.proofs.lemmas.Option.{none-some}
 use Rattle.std.proofs.lemmas.Bool.{cases_Bool, ne_eqb, eq-eqb, false≢true}
-use Rattle.jc_heap.specs.Cut.{Sizes, records_from}
-use Rattle.jc_heap.specs.Table.{entry_or}
+use Rattle.jc_heap.specs.Walk.{Sizes, records_from, entry_or}
 use Rattle.jc_heap.specs.Object.{APackage, is_object}
 use Rattle.jc_heap.specs.Image.{item, item_entry, image, package_addresses, sizes, base}
 use Rattle.jc_heap.specs.Heap.{first_above, next_object, heap_of, read_image, heap_item_at, IsObject}

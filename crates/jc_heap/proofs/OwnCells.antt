@@ -3,10 +3,10 @@ use Rattle.std.proofs.Common.{◌≡◌, ℕ, ◌+◌, ◌≤◌, ◌==◌, ◌�
 use Rattle.std.proofs.lemmas.Bool.{cases_eq, eq-eqb, ne_eqb, false≢true}
 use Rattle.jc_transient.specs.declared.cell.ClearEvent.{ClearEvent}
 use Rattle.jc_transient.specs.declared.cell.ClearEvent.TheVariants.{Reset, Deselect}
-use Rattle.jc_heap.specs.Table.{entry_or}
+use Rattle.jc_heap.specs.Walk.{entry_or}
 use Rattle.jc_heap.specs.Object.{Item, APackage, facts_of, event_number}
 use Rattle.jc_heap.specs.Heap.{HeapState, heap_item_at, area_end, area_limit}
-use Rattle.jc_heap.specs.Whole.{lies_in, cells_in, all_cells_in, IsConsistent, OwnsCells}
+use Rattle.jc_heap.specs.WholeHeap.{lies_in, cells_in, all_cells_in, IsConsistent, OwnsCells}
 use Rattle.jc_heap.proofs.AreaRuns.{Run, run_end, run_of}
 
 -- the item at an address

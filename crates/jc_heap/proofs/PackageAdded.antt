@@ -12,7 +12,7 @@ use Rattle.jc_heap.specs.declared.object.Kind.TheVariants.{Instance, BooleanArra
 use Rattle.jc_heap.specs.Object.{AnObject, APackage, object_of, payload, cells_of_words}
 use Rattle.jc_heap.specs.Image.{image, base, package_addresses, is_package, sizes, item, missing_words_of_image, IsWellFormed}
 use Rattle.jc_heap.specs.Heap.{read_image, heap_of, add_object}
-use Rattle.jc_heap.specs.Packages.{push_package, add_arrays, array_object, array_words, arrays_words, array_size, AreArraysOfBytes}
+use Rattle.jc_heap.specs.Package.{push_package, add_arrays, array_object, array_words, arrays_words, array_size, AreArraysOfBytes}
 use Rattle.jc_heap.specs.Packed.{packed_words}
 use Rattle.jc_heap.proofs.Records.{take-set_comm}
 use Rattle.jc_heap.proofs.Packing.{length-packed_words}

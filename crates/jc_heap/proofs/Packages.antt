@@ -6,7 +6,7 @@ use Rattle.std.proofs.lemmas.List.{take_more_set}
 use Rattle.std.proofs.lemmas.Bool.{ne_eqb}
 use Rattle.jc_words.specs.Layout.{magic_address, size_address, packages_address, applets_address, reset_end_address, deselect_end_address}
 use Rattle.jc_words.specs.Layout.{text_length_address, addresses_start, most_packages, registry_start, registry_length, text_start}
-use Rattle.jc_heap.specs.Cut.{Sizes, records_from, missing_words}
+use Rattle.jc_heap.specs.Walk.{Sizes, records_from, missing_words}
 use Rattle.jc_heap.specs.Object.{AnObject, APackage, object_of, payload}
 use Rattle.jc_heap.specs.Image.{table_text, base, package_addresses, is_package, sizes, item, item_entry, records, missing_words_of_image}
 use Rattle.jc_heap.specs.Heap.{head_of, read_image}

@@ -7,8 +7,8 @@ use Rattle.jc_heap.specs.declared.object.Kind.TheVariants.{Instance}
 use Rattle.jc_heap.specs.declared.package.RecordComponent.{RecordComponent}
 use Rattle.jc_heap.specs.declared.package.StaticArray.{StaticArray}
 use Rattle.jc_heap.specs.Object.{has_bytes}
-use Rattle.jc_heap.specs.Packages.{part, parts, array_init, array_inits, component_words, components_words, elements, array_words, arrays_words, array_size}
-use Rattle.jc_heap.specs.Packages.{AreComponents, AreArrays, AreArraysOfBytes, arrays_size, array_addresses}
+use Rattle.jc_heap.specs.Package.{part, parts, array_init, array_inits, component_words, components_words, elements, array_words, arrays_words, array_size}
+use Rattle.jc_heap.specs.Package.{AreComponents, AreArrays, AreArraysOfBytes, arrays_size, array_addresses}
 use Rattle.jc_heap.specs.Packed.{packed_words}
 
 pub length-packed_words : (bs : List ℕ) → length (packed_words bs) ≡ length bs / 2 + length bs % 2

@@ -7,20 +7,20 @@ use Rattle.std.proofs.lemmas.Bool.{false≢true, cases_lt, and_parts}
 use Rattle.jc_words.specs.Count.{saturating_count}
 use Rattle.jc_words.specs.Layout.{top_address, applets_address, registry_start, registry_length, text_start}
 use Rattle.jc_commit.specs.Image.{IsPlace, IsReadable, IsUnlogged}
-use Rattle.jc_commit.specs.Keeping.{goes_back}
+use Rattle.jc_commit.specs.Keep.{goes_back}
 use Rattle.jc_commit.specs.State.{State, Changes, after_write_in_place, born_of, keeping as journal_keeping, is_touched as is_kept}
 use Rattle.jc_heap.specs.declared.place.Place.{Place}
 use Rattle.jc_heap.specs.declared.place.Place.TheVariants.{Cell, Static, Registry, AppletCount}
-use Rattle.jc_heap.specs.Cut.{missing_words}
+use Rattle.jc_heap.specs.Walk.{missing_words}
 use Rattle.jc_heap.specs.Object.{header_only, is_packed, has_bytes, IsElement}
 use Rattle.jc_heap.specs.Image.{IsWellFormed, image, base, package_addresses, is_package, sizes, missing_words_of_image}
 use Rattle.jc_heap.specs.Heap.{HeapState, HeapView, heap_view, heap_of, cells, cell_address, keeping, IsSound, SameShape, read_image, heap_item_at, set_cell}
 use Rattle.jc_heap.specs.Heap.{is_allocated, facts}
-use Rattle.jc_heap.specs.Places.{place_word, place_at, cell_at, HasPlace, MayHold, IsPlain, set_place, write_place, write_nonatomic}
+use Rattle.jc_heap.specs.Place.{place_word, place_at, cell_at, HasPlace, MayHold, IsPlain, set_place, write_place, write_nonatomic}
 use Rattle.jc_heap.specs.Elements.{word_for}
 use Rattle.jc_heap.specs.Packed.{with_byte}
 use Rattle.jc_heap.specs.declared.object.Facts.{Facts}
-use Rattle.jc_heap.specs.Components.{record_of}
+use Rattle.jc_heap.specs.Component.{record_of}
 use Rattle.jc_heap.specs.Statics.{set_word}
 use Rattle.jc_heap.proofs.Laws.{shape-set, shape-set_both, is_allocated-heap_of, header_only-set_cell, same_length, same_facts, set_cell-absent}
 use Rattle.jc_heap.proofs.Images.{image-set, set_cell-heap_of, IsWellFormed-set, top-set, package_addresses-set, base-set, cell_at_of, cell_set_of, cell_set, cell_offset}

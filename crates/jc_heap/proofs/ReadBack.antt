@@ -5,10 +5,10 @@ use Rattle.std.proofs.lemmas.List.{length-append, drop-drop}
 use Rattle.std.proofs.lemmas.Bool.{cases_eq, eq-eqb, ne_eqb}
 use Rattle.jc_heap.specs.declared.object.Kind.{Kind}
 use Rattle.jc_heap.specs.declared.component.Span.{Span}
-use Rattle.jc_heap.specs.Cut.{records_from}
+use Rattle.jc_heap.specs.Walk.{records_from}
 use Rattle.jc_heap.specs.Packed.{packed_byte, packed_words}
-use Rattle.jc_heap.specs.Packages.{component_words, components_words, image_words, record_size, package_record, AreComponents}
-use Rattle.jc_heap.specs.Components.{words_for, part_sizes, info_span, info_of, ReadsBack}
+use Rattle.jc_heap.specs.Package.{component_words, components_words, image_words, record_size, package_record, AreComponents}
+use Rattle.jc_heap.specs.Component.{words_for, part_sizes, info_span, info_of, ReadsBack}
 use Rattle.jc_heap.proofs.Packing.{length-packed_words}
 use Rattle.jc_heap.proofs.PackedBytes.{packed_byte-is}
 use Rattle.jc_heap.proofs.RecordReading.{info-here, info-next, info-image, span-whole}

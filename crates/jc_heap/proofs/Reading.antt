@@ -9,7 +9,7 @@ use Rattle.std.proofs.lemmas.Bool.{cases_Bool, cases_eq, false≢true, eq-eqb, n
 use Rattle.jc_words.specs.Layout.{top_address, text_start}
 use Rattle.jc_commit.specs.State.{State}
 use Rattle.jc_heap.specs.declared.object.Facts.{Facts}
-use Rattle.jc_heap.specs.Table.{entry_or, has_entry}
+use Rattle.jc_heap.specs.Walk.{entry_or, has_entry}
 use Rattle.jc_heap.specs.Object.{AnObject, APackage, object_of, cells_of, facts_of, is_object, is_header, is_packed, is_packed_header, payload, kind_of, event_of}
 use Rattle.jc_heap.specs.Object.{words_of_cells, cells_of_words}
 use Rattle.jc_heap.proofs.Images.{packed_of}

@@ -3,13 +3,12 @@ use Rattle.std.proofs.Common.{◌≡◌, ℕ, zero, suc, ◌+◌, ◌-◌, ◌||
 use Rattle.std.proofs.Common.{◌∙◌, ap, subst, arith, add-zero, max, min, map, Some, None, IfSome, if◌then◌else◌}
 use Rattle.std.proofs.lemmas.List.{length-drop, length-take, length-take-le, get_or-take, get_or-drop, drop-drop, drop-take, take-take}
 use Rattle.std.proofs.lemmas.Bool.{cases_Bool, cases_eq, cases_lt, eq-eqb, ne_eqb, lt-ltb, le-ltb, false≢true}
-use Rattle.jc_heap.specs.Cut.{Sizes, records_from}
-use Rattle.jc_heap.specs.Table.{entry_or, has_entry}
+use Rattle.jc_heap.specs.Walk.{Sizes, records_from, entry_or, has_entry}
 use Rattle.jc_heap.specs.Object.{AnObject, APackage, object_of, payload}
 use Rattle.jc_heap.specs.Image.{image, base, package_addresses, is_package, sizes, item, item_entry, records, missing_words_of_image, IsWellFormed}
 use Rattle.jc_commit.specs.State.{State}
 use Rattle.jc_heap.specs.Heap.{HeapView, heap_view, heap_of, read_image, heap_item_at, is_allocated}
-use Rattle.jc_heap.specs.Components.{words_of, record_of, words_for, part_sizes, span_in, info_span, info_of, IsWithin}
+use Rattle.jc_heap.specs.Component.{words_of, record_of, words_for, part_sizes, span_in, info_span, info_of, IsWithin}
 use Rattle.jc_heap.proofs.Records.{has_behind, length-record}
 use Rattle.jc_heap.proofs.Tables.{at_or-map, at_or-map_absent, has-map}
 use Rattle.jc_heap.proofs.Following.{records_from-step}

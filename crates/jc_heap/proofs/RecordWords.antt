@@ -4,11 +4,11 @@ use Rattle.std.proofs.Common.{subst, arith, if◌then◌else◌}
 use Rattle.std.proofs.lemmas.List.{length-set, length-replicate}
 use Rattle.std.proofs.lemmas.Bool.{cases_Bool, cases_eq}
 use Rattle.jc_words.specs.Layout.{top_address, registry_start}
-use Rattle.jc_heap.specs.Table.{entry_or, with_entry}
+use Rattle.jc_heap.specs.Walk.{entry_or, with_entry}
 use Rattle.jc_heap.specs.Object.{Item, AnObject, APackage, object_of, header_only}
 use Rattle.jc_heap.specs.Image.{image, base, package_addresses, is_package, item, records, missing_words_of_image, IsWellFormed}
 use Rattle.jc_heap.specs.Heap.{HeapState, heap_of, read_image, heap_item_at, is_allocated, SameShape}
-use Rattle.jc_heap.specs.Components.{words_of, record_of}
+use Rattle.jc_heap.specs.Component.{words_of, record_of}
 use Rattle.jc_heap.specs.Statics.{with_word, set_word}
 use Rattle.jc_heap.proofs.Tables.{at_or-put_same, at_or-put_other, has-put, put-absent}
 use Rattle.jc_heap.proofs.Images.{image-set, get_or_front, package_addresses-set, base-set, read-set, missing-set}

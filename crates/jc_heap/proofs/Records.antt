@@ -3,8 +3,7 @@ use Rattle.std.proofs.Common.{true, false, ◌≡◌, ℕ, zero, suc, ◌+◌, �
 use Rattle.std.proofs.Common.{arith, add-zero}
 use Rattle.std.proofs.lemmas.List.{take-append-le, take-set-le, length-take, length-take-le, get_or-take}
 use Rattle.std.proofs.lemmas.Bool.{cases_eq, eq-eqb, ne_eqb, false≢true}
-use Rattle.jc_heap.specs.Cut.{Sizes, records_from, missing_words}
-use Rattle.jc_heap.specs.Table.{entry_or, has_entry, with_entry}
+use Rattle.jc_heap.specs.Walk.{Sizes, records_from, missing_words, entry_or, has_entry, with_entry}
 
 -- words before the next record don't matter to the cut
 pub records_from-set_skipped : (more : Sizes) (s at : ℕ) (ws : List ℕ) (k v : ℕ) → k < s → records_from more s at (set ws k v) ≡ records_from more s at ws

@@ -10,7 +10,7 @@ use Rattle.jc_heap.specs.declared.place.Place.TheVariants.{Cell}
 use Rattle.jc_heap.specs.Image.{IsWellFormed}
 use Rattle.jc_heap.specs.Heap.{HeapState, HeapView, heap_view, heap_of, cells, set_cell, set_cells, IsSound}
 use Rattle.jc_heap.proofs.Changing.{up_is}
-use Rattle.jc_heap.specs.Places.{place_at, ArePlain, share_word, words_at, cells_from, cell_changes, set_places, places_of, words_of, AreThere, IsBeside, AreApart}
+use Rattle.jc_heap.specs.Place.{place_at, ArePlain, share_word, words_at, cells_from, cell_changes, set_places, places_of, words_of, AreThere, IsBeside, AreApart}
 use Rattle.jc_heap.specs.Elements.{run_for}
 use Rattle.jc_heap.proofs.Places.{HasWord}
 use Rattle.jc_heap.proofs.WordsAt.{shares_none, words_at-after, Each, each_word, places_of-cells}

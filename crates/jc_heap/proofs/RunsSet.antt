@@ -11,7 +11,7 @@ use Rattle.jc_heap.specs.Object.{is_packed, IsElement}
 use Rattle.jc_heap.specs.Packed.{packed_words}
 use Rattle.jc_heap.specs.Image.{IsWellFormed}
 use Rattle.jc_heap.specs.Heap.{HeapState, HeapView, heap_view, heap_of, heap_item_at, facts, cells, set_cell, set_cells, cell_address, run_words, IsSound}
-use Rattle.jc_heap.specs.Places.{place_at, words_at, cells_from}
+use Rattle.jc_heap.specs.Place.{place_at, words_at, cells_from}
 use Rattle.jc_heap.specs.Elements.{bytes_with, byte_before, byte_behind, run_for}
 use Rattle.jc_heap.proofs.Laws.{length-cells-set_cell, header_only-set_cell, same_facts}
 use Rattle.jc_heap.proofs.Views.{spot_of_cell, packed_spot, single_spot, is_place}

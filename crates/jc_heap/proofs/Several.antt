@@ -9,16 +9,15 @@ use Rattle.jc_commit.specs.Entries.{addresses_of, ArePlaces, AreDistinct}
 use Rattle.jc_commit.specs.State.{State}
 use Rattle.jc_heap.specs.declared.place.Place.{Place}
 use Rattle.jc_heap.specs.declared.place.Place.TheVariants.{Cell, Static, Registry, AppletCount}
-use Rattle.jc_heap.specs.Cut.{Sizes, records_from}
-use Rattle.jc_heap.specs.Table.{entry_or, has_entry}
+use Rattle.jc_heap.specs.Walk.{Sizes, records_from, entry_or, has_entry}
 use Rattle.jc_heap.specs.Object.{AnObject, APackage, object_of, cells_of, facts_of, is_packed}
 use Rattle.jc_heap.specs.Image.{IsWellFormed, image, base, package_addresses, is_package, sizes, records, item}
 use Rattle.jc_heap.specs.Heap.{HeapState, HeapView, heap_view, heap_of, read_image, heap_item_at, is_allocated, cells, facts, cell_address}
 use Rattle.jc_heap.specs.Heap.{SameShape, IsSound}
 use Rattle.jc_heap.proofs.Changing.{up_is}
-use Rattle.jc_heap.specs.Places.{place_word, place_at, IsPlain, ArePlain, share_word, words_at, set_place, set_places, places_of, words_of}
-use Rattle.jc_heap.specs.Places.{AreThere, IsBeside, AreApart}
-use Rattle.jc_heap.specs.Components.{record_of}
+use Rattle.jc_heap.specs.Place.{place_word, place_at, IsPlain, ArePlain, share_word, words_at, set_place, set_places, places_of, words_of, AreThere}
+use Rattle.jc_heap.specs.Place.{IsBeside, AreApart}
+use Rattle.jc_heap.specs.Component.{record_of}
 use Rattle.jc_heap.proofs.Records.{has_behind}
 use Rattle.jc_heap.proofs.Places.{place_spot, place_logged, plain_at, plain_word_set, place_shape, bare_stays, HasWord, has_word, word_stays}
 use Rattle.jc_heap.proofs.Tables.{at_or-map, has-map}

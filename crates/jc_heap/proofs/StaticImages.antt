@@ -3,8 +3,8 @@ use Rattle.std.proofs.Common.{◌≡◌, ℕ, zero, suc, ◌+◌, ◌-◌, ◌<�
 use Rattle.std.proofs.Common.{Option, Some, None, IfSome, if◌then◌else◌}
 use Rattle.std.proofs.lemmas.List.{length-drop, get_or-take, get_or-drop, get_or_past}
 use Rattle.std.proofs.lemmas.Bool.{cases_eq, cases_lt, eq-eqb, ne_eqb}
-use Rattle.jc_heap.specs.Cut.{records_from}
-use Rattle.jc_heap.specs.Components.{words_for, part_sizes, record_parts}
+use Rattle.jc_heap.specs.Walk.{records_from}
+use Rattle.jc_heap.specs.Component.{words_for, part_sizes, record_parts}
 use Rattle.jc_heap.specs.Statics.{image_from, statics_of, IsStatic}
 use Rattle.jc_heap.proofs.Following.{records_from-step}
 

@@ -1,7 +1,7 @@
 -- Look-ups in a table after a change.
 use Rattle.std.proofs.Common.{◌≡◌, ℕ, true, false, eqb, ◌||◌, inl, inr, List, [], ◌∷◌, ◌++◌, map, refl, sym, ◌∙◌, ap}
 use Rattle.std.proofs.lemmas.Bool.{cases_eq, eq-eqb, ne_eqb, true≢false, false≢true}
-use Rattle.jc_heap.specs.Table.{entry_or, has_entry, with_entry}
+use Rattle.jc_heap.specs.Walk.{entry_or, has_entry, with_entry}
 
 module _ {X : Type 0} where
   pub at_or-put_same : (d : X) (es : List (ℕ × X)) (q : ℕ) (x : X) → has_entry es q ≡ true → entry_or d (with_entry es q x) q ≡ x

@@ -10,7 +10,7 @@ use Rattle.jc_heap.specs.Heap.{HeapView, heap_view, heap_of, cells, set_cell, ce
 use Rattle.jc_heap.specs.Heap.{is_allocated, facts}
 use Rattle.jc_heap.specs.Object.{is_packed}
 use Rattle.jc_heap.specs.Packed.{byte_in}
-use Rattle.jc_heap.specs.Places.{cell_at}
+use Rattle.jc_heap.specs.Place.{cell_at}
 use Rattle.jc_heap.proofs.Laws.{same_length, same_facts, set_cell-absent, is_allocated-heap_of, keeps_below_top}
 use Rattle.jc_heap.proofs.Images.{cell_within-heap_of, cell_behind-heap_of, cell-heap_of, set_cell-heap_of, IsWellFormed-set, top-set, cell_at_of, cell_set_of, cell_set, cell_said, cell_offset}
 use Rattle.jc_heap.proofs.Added.{image-same_below, top-same_below, IsWellFormed-same_below}

@@ -2,7 +2,7 @@
 use Rattle.std.proofs.Common.{◌≡◌, ℕ, zero, suc, ◌+◌, ◌-◌, ◌<◌, ◌≤◌, List, [], ◌∷◌, length, take, drop, get_or, sym, ◌∙◌, ap, arith, add-zero, min, ◌==◌, ◌||◌}
 use Rattle.std.proofs.lemmas.List.{drop_more, length-drop, length-take, length-take-le, get_or-take, get_or-drop}
 use Rattle.jc_words.specs.Layout.{top_address, packages_address, addresses_start, most_packages, text_start}
-use Rattle.jc_heap.specs.Cut.{Sizes, missing_words}
+use Rattle.jc_heap.specs.Walk.{Sizes, missing_words}
 use Rattle.jc_heap.specs.Image.{image, package_addresses, is_package}
 
 pub missing_words-skip : (more : Sizes) (s at : ℕ) (ws : List ℕ) → s ≤ length ws → missing_words more s at ws ≡ missing_words more 0 (at + s) (drop s ws)

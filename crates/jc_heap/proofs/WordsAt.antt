@@ -9,7 +9,7 @@ use Rattle.jc_heap.specs.declared.place.Place.TheVariants.{Cell, Static, Registr
 use Rattle.jc_heap.specs.Object.{is_packed}
 use Rattle.jc_heap.specs.Heap.{HeapState, facts, cell_address}
 use Rattle.jc_heap.proofs.Places.{plain_at}
-use Rattle.jc_heap.specs.Places.{place_word, place_at, IsPlain, ArePlain, share_word, words_at, cells_from, cell_changes, places_of}
+use Rattle.jc_heap.specs.Place.{place_word, place_at, IsPlain, ArePlain, share_word, words_at, cells_from, cell_changes, places_of}
 
 -- a place with a word of its own shares it with none
 pub shares_none : (h : HeapState) (p q : Place) → IsPlain h q → share_word h p q ≡ false

@@ -5,7 +5,7 @@ use Rattle.std.proofs.lemmas.List.{length-append, map-append, get_or_append_left
 use Rattle.jc_words.specs.Layout.{top_address}
 use Rattle.jc_commit.specs.Image.{with_words, IsPlace}
 use Rattle.jc_commit.specs.Entries.{addresses_of, ArePlaces, AreDistinct}
-use Rattle.jc_commit.specs.Keeping.{has_room_for as journal_room, writes_for as journal_writes}
+use Rattle.jc_commit.specs.Keep.{has_room_for as journal_room, writes_for as journal_writes}
 use Rattle.jc_commit.specs.State.{State, Changes, keeping as journal_keeping, IsTornWrite as JournalStopped}
 use Rattle.jc_heap.specs.Image.{IsWellFormed}
 use Rattle.jc_heap.specs.Heap.{HeapState, HeapView, heap_view, heap_of, heap_after_change, has_room_for, writes_for, SameShape, IsSound}

@@ -9,7 +9,7 @@ use Rattle.jc_heap.specs.Object.{is_packed}
 use Rattle.jc_heap.specs.Heap.{heap_of, facts, cell_address, run_words}
 use Rattle.jc_heap.specs.declared.place.Place.{Place}
 use Rattle.jc_heap.specs.declared.place.Place.TheVariants.{Cell}
-use Rattle.jc_heap.specs.Places.{cell_at}
+use Rattle.jc_heap.specs.Place.{cell_at}
 
 -- the values, one after another
 abbrev pub elements_of : Elements → List ℕ

@@ -1,4 +1,5 @@
 -- The heap that words stand for, and the changes of a heap.
+pub mod Store
 use Rattle.std.specs.Prelude.{ℕ, suc, ◌+◌, ◌-◌, ◌≡◌, ◌<◌, ◌≤◌, ◌==◌, Bool, true, false, List, [], ◌∷◌, ◌++◌, map, take, drop, length, slice_index, Option, Some}
 use Rattle.std.specs.Prelude.{None, if◌then◌else◌, ◌&&◌, nat_lt, max}
 use Rattle.jc_words.specs.Count.{saturating_count}
@@ -7,7 +8,7 @@ use Rattle.jc_words.specs.Layout.{magic_address, size_address, top_address, pack
 use Rattle.jc_words.specs.Layout.{registry_start, registry_length, addresses_start}
 use Rattle.jc_commit.specs.Image.{top_of}
 use Rattle.jc_commit.specs.State.{State, IsShort, undo_writes}
-use Rattle.jc_commit.specs.Keeping as journal
+use Rattle.jc_commit.specs.Keep as journal
 use Rattle.jc_heap.specs.declared.object.Facts.{Facts}
 use Rattle.jc_transient.specs.declared.cell.ClearEvent.{ClearEvent}
 use Rattle.jc_transient.specs.declared.cell.ClearEvent.TheVariants.{Reset, Deselect}
@@ -16,7 +17,7 @@ use Rattle.jc_transient.specs.State.{ram_sizes, size_in}
 use Rattle.jc_heap.specs.declared.object.Kind.{Kind}
 use Rattle.jc_heap.specs.Object.{Object, header_size, new_transient, transient_size, Item, AnObject, APackage, cells_of, with_cell, header_only, facts_of}
 use Rattle.jc_heap.specs.Object.{is_object}
-use Rattle.jc_heap.specs.Table.{entry_or, has_entry, with_entry}
+use Rattle.jc_heap.specs.Walk.{entry_or, has_entry, with_entry}
 use Rattle.jc_heap.specs.Image.{image, package_addresses, item_entry, records, table_text, lasting_words, capacity_in, IsWellFormed}
 
 -- the magic word and the number of words, as words hold them

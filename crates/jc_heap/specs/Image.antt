@@ -4,7 +4,7 @@ use Rattle.std.specs.List.{list_any}
 use Rattle.jc_words.specs.Layout.{top_address, packages_address, text_length_address, addresses_start, most_packages, text_start}
 use Rattle.jc_words.specs.Layout.{journal_address, front_capacity}
 use Rattle.jc_commit.specs.Image.{capacity_of}
-use Rattle.jc_heap.specs.Cut.{Sizes, records_from, missing_words}
+use Rattle.jc_heap.specs.Walk.{Sizes, records_from, missing_words}
 use Rattle.jc_heap.specs.Object.{Item, AnObject, APackage, object_of, payload}
 use Rattle.jc_heap.specs.Packed.{bytes_of_packed}
 

@@ -9,8 +9,8 @@ use Rattle.jc_heap.specs.Heap.{HeapState, HeapView, limit, set_cells, add_object
 use Rattle.jc_heap.specs.Heap.{heap_after_change, heap_after_begin, heap_after_commit, heap_after_abort, end_address}
 use Rattle.jc_heap.specs.declared.place.Place.{Place}
 use Rattle.jc_heap.specs.declared.place.AppletEntry.{AppletEntry}
-use Rattle.jc_heap.specs.Places.{place_at, words_at, cells_from, set_place, write_place, write_nonatomic, places_of, set_places, applet_changes}
-use Rattle.jc_heap.specs.Packages.{add_package, addresses_of_package, package_size}
+use Rattle.jc_heap.specs.Place.{place_at, words_at, cells_from, set_place, write_place, write_nonatomic, places_of, set_places, applet_changes}
+use Rattle.jc_heap.specs.Package.{add_package, addresses_of_package, package_size}
 use Rattle.jc_heap.specs.Completions.{Completion, Completed, Torn, Attempt, Done, Refused}
 use Rattle.jc_heap.specs.declared.refusal.HeapRefusal.{HeapRefusal}
 use Rattle.jc_heap.specs.declared.refusal.HeapRefusal.TheVariants.{CommitFull, HeapFull, NoTransientSpace}

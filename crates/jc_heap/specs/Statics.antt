@@ -1,9 +1,9 @@
 -- The static image of a package, and a word of its record changed.
 use Rattle.std.specs.Prelude.{ℕ, ◌+◌, ◌==◌, ◌≡◌, ◌<◌, ◌≤◌, List, [], ◌∷◌, length, set, slice_index, Option, Some, None, if◌then◌else◌}
-use Rattle.jc_heap.specs.Table.{with_entry}
+use Rattle.jc_heap.specs.Walk.{with_entry}
 use Rattle.jc_heap.specs.Object.{Item, AnObject, APackage}
 use Rattle.jc_heap.specs.Heap.{HeapState, heap_item_at}
-use Rattle.jc_heap.specs.Components.{record_parts}
+use Rattle.jc_heap.specs.Component.{record_parts}
 
 abbrev pub with_word : Item → ℕ → ℕ → Item
 with_word (AnObject o) j v = AnObject o

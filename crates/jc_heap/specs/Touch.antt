@@ -6,7 +6,7 @@ use Rattle.jc_heap.specs.declared.place.Place.TheVariants.{Cell}
 use Rattle.jc_heap.specs.declared.touch.Touch.{Touch}
 use Rattle.jc_heap.specs.declared.touch.Touch.TheVariants as touch
 use Rattle.jc_heap.specs.Heap.{HeapState, HeapView, limit, cell_address, end_address}
-use Rattle.jc_heap.specs.Places.{place_at, cells_from, HasPlace}
+use Rattle.jc_heap.specs.Place.{place_at, cells_from, HasPlace}
 
 -- the address of a word that is touched
 abbrev pub touch_word : HeapState → Touch → ℕ

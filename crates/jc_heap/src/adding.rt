@@ -6,8 +6,8 @@ ghost use Rattle.jc_heap.specs.Object.{APackage};
 ghost use Rattle.jc_heap.specs.Moves.{AddPackage, PerformsMovesUnless, refusal_of_package};
 ghost use Rattle.jc_heap.specs.Completions.{after_making};
 ghost use Rattle.jc_heap.specs.Heap.{is_allocated, heap_item_at};
-ghost use Rattle.jc_heap.specs.Packages.{parts, array_inits, AreComponents, AreArrays, ArePackageParts, image_size, record_size, package_record, package_size, package_words};
-ghost use Rattle.jc_heap.specs.Packages.{add_package, AreArraysOfBytes};
+ghost use Rattle.jc_heap.specs.Package.{parts, array_inits, AreComponents, AreArrays, ArePackageParts, image_size, record_size, package_record, package_size, package_words};
+ghost use Rattle.jc_heap.specs.Package.{add_package, AreArraysOfBytes};
 
 use crate::heap::Heap;
 use crate::package::{RecordComponent, StaticArray, size_of_arrays, size_of_record};

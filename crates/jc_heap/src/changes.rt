@@ -1,7 +1,7 @@
 //! Changes of several words, made up as they are read.
 ghost use Rattle.std.specs.Prelude.{◌≡◌, ◌<◌, ◌≤◌, ◌+◌, ◌-◌, ◌^◌, ◌++◌, ℕ, List, length, drop, slice_index, slice_index_or, IfOk, IfErr, IfSome};
 ghost use Rattle.jc_heap.specs.Heap.{run_words};
-ghost use Rattle.jc_heap.specs.Places.{place_word, words_of};
+ghost use Rattle.jc_heap.specs.Place.{place_word, words_of};
 ghost use Rattle.jc_heap.specs.Changes.{AreWords};
 ghost use Rattle.jc_heap.specs.Elements.{elements_of, byte_or_none, bytes_with, FitPacking, packing_words};
 
@@ -366,7 +366,7 @@ pub(crate) struct PlaceWords<'a> {
 
 impl<'a> Model for PlaceWords<'a> {
     ghost use Rattle.std.specs.Prelude.{List, ℕ};
-    ghost use Rattle.jc_heap.specs.Places.{words_of};
+    ghost use Rattle.jc_heap.specs.Place.{words_of};
     ghost use Rattle.jc_heap.specs.Changes.{AreWords};
 
     ghost Value = { List (ℕ × ℕ) };

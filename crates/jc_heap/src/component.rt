@@ -2,7 +2,7 @@
 ghost use Rattle.std.specs.Prelude.{◌≡◌, ◌<◌, ◌≤◌, ◌+◌, ◌/◌, false, length, slice_index, take, drop, IfSome, Some, None};
 ghost use Rattle.jc_words.specs.Layout.{text_start};
 ghost use Rattle.jc_heap.specs.Packed.{packed_byte};
-ghost use Rattle.jc_heap.specs.Components.{record_of, info_of, span_in, IsWithin, words_for};
+ghost use Rattle.jc_heap.specs.Component.{record_of, info_of, span_in, IsWithin, words_for};
 
 use crate::heap::Heap;
 use jc_commit::Journal;

@@ -1,13 +1,13 @@
 //! The cells of persistent objects in words: one in a word, or two in a word of a packed array.
 ghost use Rattle.std.specs.Prelude.{ℕ, ◌≡◌, ◌<◌, ◌≤◌, ◌+◌, ◌↔◌, true, false, length, slice_index, Err, OnOk};
 ghost use Rattle.jc_commit.specs.Entries.{addresses_of, AreDistinct, ArePlaces};
-ghost use Rattle.jc_commit.specs.Keeping.{has_room_for, writes_for};
+ghost use Rattle.jc_commit.specs.Keep.{has_room_for, writes_for};
 ghost use Rattle.jc_commit.specs.State.{keeping, Changes, IsTornWrite};
 ghost use Rattle.jc_heap.specs.Object.{IsElement, is_packed};
 ghost use Rattle.jc_heap.specs.Image.{IsWellFormed};
 ghost use Rattle.jc_heap.specs.Heap.{heap_of, cells, facts, cell_address};
 ghost use Rattle.jc_heap.specs.Packed.{byte_in, with_byte, low_bytes};
-ghost use Rattle.jc_heap.specs.Places.{cell_at, HasPlace, MayHold};
+ghost use Rattle.jc_heap.specs.Place.{cell_at, HasPlace, MayHold};
 ghost use Rattle.jc_heap.specs.Elements.{elements_of, word_for, byte_before, byte_behind, run_for};
 
 use crate::changes::{CellRun, Elements, Packing};

@@ -9,7 +9,7 @@ ghost use Rattle.jc_heap.specs.Heap.{HeapView, heap_view, IsSound, cells, facts,
 ghost use Rattle.jc_heap.specs.Heap.{KeepsBelowTop};
 ghost use Rattle.jc_heap.specs.Packed.{low_bytes};
 ghost use Rattle.jc_heap.specs.Elements.{elements_of};
-ghost use Rattle.jc_heap.specs.Stored.{HoldsHeap, IsAtRest, heap_of_store_at_rest};
+ghost use Rattle.jc_heap.specs.Heap.Store.{HoldsHeap, IsAtRest, heap_of_store_at_rest};
 ghost use Rattle.jc_heap.specs.declared.place.Place.TheVariants.{Cell};
 ghost use Rattle.jc_heap.specs.Moves.{Write, SetCells, Begin, Commit, Abort, PerformsMoves, PerformsMovesUnless, refusal_of_places, refusal_of_cells};
 ghost use Rattle.jc_heap.specs.Completions.{Completed, after_change, after_step};

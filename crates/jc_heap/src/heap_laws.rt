@@ -1,12 +1,10 @@
 //! Laws of the definitions: the first law of atomicity, and what keeps a heap whole.
-ghost use Rattle.jc_heap.specs.Alike.{MigrationsKeepHeaps};
-ghost use Rattle.jc_heap.specs.Components.{ReadsBack};
+ghost use Rattle.jc_heap.specs.HeapLaws.{MigrationsKeepHeaps, KeepsConsistent, LeaveWhatIsComplete};
+ghost use Rattle.jc_heap.specs.Component.{ReadsBack};
 ghost use Rattle.jc_heap.specs.Heap.{HeapState};
-ghost use Rattle.jc_heap.specs.Keeping.{KeepsConsistent};
-ghost use Rattle.jc_heap.specs.Losses.{LeaveWhatIsComplete};
 ghost use Rattle.jc_heap.specs.Moves.{KeepsDurable};
-ghost use Rattle.jc_heap.specs.Places.{HaveOwnWords};
-ghost use Rattle.jc_heap.specs.Whole.{IsConsistent, OwnsCells};
+ghost use Rattle.jc_heap.specs.Place.{HaveOwnWords};
+ghost use Rattle.jc_heap.specs.WholeHeap.{IsConsistent, OwnsCells};
 
 /// While a transaction is open, what a loss of power leaves is the heap as the transaction found it, but for
 /// the places that were set for good and that no earlier change of it had touched.

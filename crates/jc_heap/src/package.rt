@@ -1,7 +1,7 @@
 //! What a package is made from, and how many words it takes.
 ghost use Rattle.std.specs.Prelude.{◌≡◌, ◌<◌, length};
-ghost use Rattle.jc_heap.specs.Packages.{parts, array_init, array_inits, elements, components_words, arrays_size, AreComponents};
-ghost use Rattle.jc_heap.specs.Packages.{AreArrays, record_size, image_size};
+ghost use Rattle.jc_heap.specs.Package.{parts, array_init, array_inits, elements, components_words, arrays_size, AreComponents};
+ghost use Rattle.jc_heap.specs.Package.{AreArrays, record_size, image_size};
 
 use crate::layout::HEADER;
 use crate::object::Kind;

@@ -6,8 +6,7 @@ ghost use Rattle.jc_heap.specs.Completions.{after_change, after_step};
 ghost use Rattle.jc_heap.specs.Object.{IsElement};
 ghost use Rattle.jc_heap.specs.Heap.{cells, facts};
 ghost use Rattle.jc_heap.specs.Elements.{elements_of};
-ghost use Rattle.jc_heap.specs.Places.{HasPlace, MayHold, AreThere, AreApart, ArePlain, place_at, places_of, words_of, cell_changes};
-ghost use Rattle.jc_heap.specs.ByteRuns.{run_changes};
+ghost use Rattle.jc_heap.specs.Place.{HasPlace, MayHold, AreThere, AreApart, ArePlain, place_at, places_of, words_of, cell_changes, run_changes};
 
 use crate::changes::{Both, ByteRun, Elements, PlaceWords};
 use crate::elements::{byte_run_for, cell_word, run_for, word_for};

@@ -1,8 +1,8 @@
 //! The words of a package above the top: its record and its initialised arrays.
 ghost use Rattle.std.specs.Prelude.{ℕ, ◌≡◌, ◌<◌, ◌+◌, length, slice_index, OnOk, OnErr, IfOk};
 ghost use Rattle.jc_heap.specs.Fresh.{IsFree, KeepsBelow, Fills, IsTornFresh};
-ghost use Rattle.jc_heap.specs.Packages.{part, parts, array_init, array_inits, AreArrays, AreArraysOfBytes, component_words, components_words, array_addresses, arrays_size};
-ghost use Rattle.jc_heap.specs.Packages.{image_words, record_size, package_record, AreComponents, array_words, arrays_words};
+ghost use Rattle.jc_heap.specs.Package.{part, parts, array_init, array_inits, AreArrays, AreArraysOfBytes, component_words, components_words, array_addresses, arrays_size};
+ghost use Rattle.jc_heap.specs.Package.{image_words, record_size, package_record, AreComponents, array_words, arrays_words};
 ghost use Rattle.jc_heap.specs.Packed.{packed_words};
 
 use crate::fresh::write_run;

@@ -2,8 +2,8 @@
 ghost use Rattle.std.specs.Prelude.{◌≡◌, ◌<◌, false, true, length, slice_index};
 ghost use Rattle.jc_words.specs.Layout.{most_packages};
 ghost use Rattle.jc_heap.specs.Heap.{is_allocated};
-ghost use Rattle.jc_heap.specs.Components.{record_of};
-ghost use Rattle.jc_heap.specs.Whole.{IsConsistent};
+ghost use Rattle.jc_heap.specs.Component.{record_of};
+ghost use Rattle.jc_heap.specs.WholeHeap.{IsConsistent};
 
 use crate::heap::Heap;
 use jc_transient::Ref;

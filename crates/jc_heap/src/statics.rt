@@ -1,7 +1,7 @@
 //! The words of a package's record, whose last ones are its static image.
 ghost use Rattle.std.specs.Prelude.{ℕ, ◌≡◌, ◌<◌, ◌≤◌, ◌+◌, false, length, slice_index, take, drop, IfSome};
 ghost use Rattle.jc_words.specs.Layout.{text_start};
-ghost use Rattle.jc_heap.specs.Components.{record_of, record_parts};
+ghost use Rattle.jc_heap.specs.Component.{record_of, record_parts};
 ghost use Rattle.jc_heap.specs.Statics.{image_from, statics_of, IsStatic};
 
 use crate::component::words_for;

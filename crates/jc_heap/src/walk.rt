@@ -2,8 +2,7 @@
 ghost use Rattle.std.specs.Prelude.{◌≡◌, ◌<◌, ◌&&◌, nat_lt, not, map, ◌≤◌, ◌+◌, length, slice_index, drop};
 ghost use Rattle.jc_words.specs.Layout.{top_address, text_start};
 ghost use Rattle.jc_heap.specs.Image.{IsWellFormed, image, package_addresses, is_package, sizes};
-ghost use Rattle.jc_heap.specs.Cut.{records_from, missing_words};
-ghost use Rattle.jc_heap.specs.Table.{has_entry};
+ghost use Rattle.jc_heap.specs.Walk.{records_from, missing_words, has_entry};
 ghost use Rattle.jc_heap.specs.Image.{item_entry};
 ghost use Rattle.jc_heap.specs.Heap.{first_above};
 

@@ -9,7 +9,7 @@ use Rattle.jc_heap.proofs.Images.{no_event}
 use Rattle.jc_heap.specs.Object.{APackage, facts_of, is_header, is_packed_header, event_of, event_number}
 use Rattle.jc_heap.specs.Image.{image, package_addresses, is_package}
 use Rattle.jc_image.specs.Steps.{HasRecord, size_from, item_from}
-use Rattle.jc_heap.specs.Whole.{lies_in, cells_in, FitsAt}
+use Rattle.jc_heap.specs.WholeHeap.{lies_in, cells_in, FitsAt}
 use Rattle.jc_image.proofs.Stepping.{header_here, facts_here, package_here, place_within}
 
 -- a header's event is its number

@@ -14,7 +14,7 @@ use Rattle.jc_commit.proofs.Words.{log_told}
 use Rattle.jc_heap.specs.Image.{lasting_words, capacity_in}
 use Rattle.jc_commit.specs.Image.{count_of, capacity_of, limit_of, plain_of, IsGoodLog}
 use Rattle.jc_commit.proofs.InPlace.{length-plain, plain_word}
-use Rattle.jc_heap.specs.Cut.{records_from, missing_words}
+use Rattle.jc_heap.specs.Walk.{records_from, missing_words}
 use Rattle.jc_heap.specs.Heap.{head_of, read_image, heap_of}
 use Rattle.jc_heap.proofs.RawWords.{plain_zero}
 use Rattle.jc_heap.specs.Image.{image, base, package_addresses, is_package, sizes, item_entry, records, missing_words_of_image}

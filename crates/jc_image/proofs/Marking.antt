@@ -3,7 +3,7 @@ use Rattle.std.proofs.Common.{ℕ, zero, suc, ◌≡◌, ◌<◌, ◌||◌, Bool
 use Rattle.std.proofs.lemmas.List.{get_or-set_same, get_or-set_other}
 use Rattle.std.proofs.lemmas.Bool.{cases_eq, eq-eqb, ne_eqb}
 use Rattle.jc_heap.specs.Object.{Item}
-use Rattle.jc_heap.specs.Table.{has_entry}
+use Rattle.jc_heap.specs.Walk.{has_entry}
 use Rattle.jc_heap.specs.Heap.{heap_of, is_allocated}
 
 pub none_marked : (n k : ℕ) → get_or (replicate n false) k false ≡ false

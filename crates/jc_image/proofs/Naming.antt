@@ -3,12 +3,11 @@ use Rattle.std.proofs.Common.{◌≡◌, ℕ, zero, suc, ◌+◌, ◌<◌, ◌�
 use Rattle.std.proofs.lemmas.Bool.{cases_Bool, cases_eq, cases_lt, eq-eqb, ne_eqb, false≢true}
 use Rattle.std.proofs.lemmas.List.{get_or-set_same, get_or-set_other, length-set, length-take-le, drop_all}
 use Rattle.jc_words.specs.Layout.{top_address}
-use Rattle.jc_heap.specs.Cut.{records_from}
-use Rattle.jc_heap.specs.Table.{has_entry}
+use Rattle.jc_heap.specs.Walk.{records_from, has_entry}
 use Rattle.jc_heap.specs.Object.{Item, is_object}
 use Rattle.jc_heap.specs.Image.{image, base, package_addresses, is_package, sizes, item, IsWellFormed}
 use Rattle.jc_heap.specs.Heap.{HeapState, heap_of, heap_item_at, read_image, is_allocated}
-use Rattle.jc_heap.specs.Whole.{IsReference, HoldsReferences}
+use Rattle.jc_heap.specs.WholeHeap.{IsReference, HoldsReferences}
 use Rattle.jc_heap.proofs.Following.{base_is}
 use Rattle.jc_heap.proofs.Laws.{is_allocated-heap_of, object_named}
 use Rattle.jc_heap.proofs.Reading.{no_package, object_at}

@@ -4,7 +4,7 @@ use Rattle.std.proofs.lemmas.Bool.{cases_eq}
 use Rattle.jc_words.specs.Layout.{packages_address, addresses_start, most_packages, text_start}
 use Rattle.jc_commit.specs.Image.{IsReadable}
 use Rattle.jc_heap.specs.Image.{IsWellFormed}
-use Rattle.jc_heap.specs.Components.{record_of}
+use Rattle.jc_heap.specs.Component.{record_of}
 use Rattle.jc_commit.specs.State.{State}
 use Rattle.jc_heap.specs.Heap.{heap_of, heap_view, is_allocated, read_image}
 use Rattle.jc_heap.proofs.RecordReading.{length_record, package_there, record_low, record_within}

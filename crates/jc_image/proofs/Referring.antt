@@ -4,13 +4,12 @@ use Rattle.std.proofs.Common.{refl, sym, ◌∙◌, ap, subst, arith}
 use Rattle.std.proofs.lemmas.Bool.{cases_eq, cases_Bool, eqb-true, eq-eqb, ne_eqb, false≢true}
 use Rattle.jc_words.specs.Layout.{top_address}
 use Rattle.jc_heap.specs.declared.object.Kind.TheVariants.{Instance, BooleanArray, ByteArray, ShortArray, ReferenceArray}
-use Rattle.jc_heap.specs.Cut.{Sizes, records_from}
-use Rattle.jc_heap.specs.Table.{entry_or, has_entry}
+use Rattle.jc_heap.specs.Walk.{Sizes, records_from, entry_or, has_entry}
 use Rattle.jc_heap.specs.Object.{Item, APackage, facts_of, cells_of, kind_of, is_packed_header}
 use Rattle.jc_heap.specs.Image.{image, base, package_addresses, is_package, sizes, item, item_entry}
 use Rattle.jc_heap.specs.Heap.{HeapState, heap_of, read_image, heap_item_at}
 use Rattle.jc_image.specs.Steps.{HasRecord, item_from}
-use Rattle.jc_heap.specs.Whole.{IsReference, HoldsReferences}
+use Rattle.jc_heap.specs.WholeHeap.{IsReference, HoldsReferences}
 use Rattle.jc_heap.proofs.Tables.{has-map}
 use Rattle.jc_heap.proofs.Records.{has_behind}
 use Rattle.jc_image.proofs.Stepping.{package_here, facts_here, cells_long, cell_here, transient_cells}

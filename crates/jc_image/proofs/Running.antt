@@ -4,7 +4,7 @@ use Rattle.jc_transient.specs.declared.cell.ClearEvent.{ClearEvent}
 use Rattle.jc_transient.specs.declared.cell.ClearEvent.TheVariants.{Reset, Deselect}
 use Rattle.jc_heap.specs.Object.{Item}
 use Rattle.jc_heap.specs.Heap.{HeapState, area_end, area_limit}
-use Rattle.jc_heap.specs.Whole.{cells_in, FitsAt, IsFilledArea}
+use Rattle.jc_heap.specs.WholeHeap.{cells_in, FitsAt, IsFilledArea}
 use Rattle.jc_heap.proofs.AreaRuns.{Run, filled_of, run_of}
 
 -- where nothing is left, the area is filled just if it ends here

@@ -7,10 +7,10 @@ use Rattle.jc_words.specs.Refusals.{Refusals}
 use Rattle.jc_words.specs.Layout.{size_address, top_address, packages_address, applets_address, reset_end_address, deselect_end_address, text_length_address}
 use Rattle.jc_words.specs.Layout.{addresses_start, registry_start, registry_length, text_start, magic}
 use Rattle.jc_commit.specs.State.{State, after_refusal, after_write_in_place, is_touched}
-use Rattle.jc_heap.specs.Cut.{records_from, missing_words}
+use Rattle.jc_heap.specs.Walk.{records_from, missing_words}
 use Rattle.jc_heap.specs.Image.{image, base, package_addresses, is_package, sizes, item_entry, records, missing_words_of_image, table_text, IsWellFormed}
 use Rattle.jc_heap.specs.Heap.{HeapView, heap_of, heap_view, read_image, IsSound}
-use Rattle.jc_heap.specs.Stored.{HoldsHeap}
+use Rattle.jc_heap.specs.Heap.Store.{HoldsHeap}
 use Rattle.jc_image.specs.Laying.{sealed_heap, sealed_view, heap_after_refused_seal}
 use Rattle.jc_heap.proofs.Holding.{IsStoreOf, holds}
 use Rattle.jc_heap.proofs.Images.{text-same}

@@ -4,7 +4,7 @@ use Rattle.std.proofs.Common.{◌∙◌, ap, subst, arith, if◌then◌else◌, 
 use Rattle.std.proofs.lemmas.List.{length-drop, length-take, length-take-le, get_or-take, drop-drop, drop_all}
 use Rattle.std.proofs.lemmas.Bool.{cases_Bool, cases_eq, eq-eqb, ne_eqb}
 use Rattle.jc_words.specs.Layout.{top_address, text_length_address, text_start}
-use Rattle.jc_heap.specs.Cut.{records_from, missing_words}
+use Rattle.jc_heap.specs.Walk.{records_from, missing_words}
 use Rattle.jc_heap.specs.Object.{AnObject, APackage, object_of, facts_of, cells_of, is_header, is_packed, is_packed_header, words_of_cells, payload}
 use Rattle.jc_heap.specs.Image.{image, base, missing_words_of_image, package_addresses, is_package, sizes, item_entry, IsWellFormed}
 use Rattle.jc_heap.specs.Heap.{heap_of, read_image}

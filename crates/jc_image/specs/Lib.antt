@@ -2,5 +2,4 @@ pub mod Laying
 pub mod Beginning
 pub mod Steps
 pub mod Opening
-pub mod Listed
 pub mod Listing

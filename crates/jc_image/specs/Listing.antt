@@ -1,5 +1,5 @@
--- What the words of an image say of its packages and applets, as they stand.
-use Rattle.std.specs.Prelude.{ℕ, ◌+◌, ◌-◌, ◌/◌, ◌%◌, ◌==◌, ◌&&◌, nat_lt, nat_le, List, map, length, slice_index, Option, Some, None, Result, Ok, Err}
+-- An applet as an image lists it.
+use Rattle.std.specs.Prelude.{ℕ, List, ◌+◌, ◌-◌, ◌/◌, ◌%◌, ◌==◌, ◌&&◌, nat_lt, nat_le, map, length, slice_index, Option, Some, None, Result, Ok, Err}
 use Rattle.std.specs.Prelude.{if◌then◌else◌}
 use Rattle.std.specs.List.{range_with_len}
 use Rattle.jc_words.specs.Layout.{addresses_start, most_packages, most_applets, registry_start}
@@ -10,7 +10,13 @@ use Rattle.jc_cap.specs.declared.fault.CapFault.{CapFault}
 use Rattle.jc_cap.specs.Packages.{NamedPackage}
 use Rattle.jc_cap.specs.Reading.{value_of_whole}
 use Rattle.jc_cap.specs.Header.{HeaderValue, header_at}
-use Rattle.jc_image.specs.Listed.{NamedApplet}
+
+-- its AID, and the number of its package
+pub record NamedApplet : Type 0 where
+  pub aid : List ℕ
+  pub package_number : ℕ
+
+-- ---- what the words of an image say of its packages and applets, as they stand
 
 -- a byte of words from a place on, two a word, the high one first
 abbrev pub byte_in : List ℕ → ℕ → ℕ → ℕ

@@ -1,11 +1,11 @@
 -- Steps over the records of a heap's words.
 use Rattle.std.specs.Prelude.{ℕ, ◌+◌, ◌≡◌, ◌<◌, ◌≤◌, Bool, true, false, List, length, map, take, drop, slice_index, slice_index_or}
 use Rattle.jc_words.specs.Layout.{top_address, text_start}
-use Rattle.jc_heap.specs.Cut.{records_from}
+use Rattle.jc_heap.specs.Walk.{records_from}
 use Rattle.jc_heap.specs.Object.{Item}
 use Rattle.jc_heap.specs.Image.{image, base, package_addresses, is_package, sizes, item, item_entry}
 use Rattle.jc_heap.specs.Heap.{HeapState}
-use Rattle.jc_heap.specs.Whole.{IsReference}
+use Rattle.jc_heap.specs.WholeHeap.{IsReference}
 
 -- the top lies between the table's begin and the words' end, and no package begins at or above it
 pub record HasBounds (words : List ℕ) : Type 0 where

@@ -5,7 +5,7 @@ ghost use Rattle.jc_heap.specs.Object.{event_number};
 ghost use Rattle.jc_heap.specs.Image.{IsWellFormed, image, package_addresses, is_package};
 ghost use Rattle.jc_heap.specs.Heap.{heap_of, area_end, area_limit, area_sizes};
 ghost use Rattle.jc_image.specs.Steps.{HasBounds, HasRecord, item_from};
-ghost use Rattle.jc_heap.specs.Whole.{lies_in, cells_in, FitsAt};
+ghost use Rattle.jc_heap.specs.WholeHeap.{lies_in, cells_in, FitsAt};
 
 use jc_commit::Journal;
 use jc_heap::layout::{HEADER, LENGTH, area_word};

@@ -3,7 +3,7 @@ ghost use Rattle.std.specs.Prelude.{ℕ, ◌≡◌, ◌≤◌, ◌<◌, ◌↔�
 ghost use Rattle.jc_words.specs.Layout.{most_packages, most_applets};
 ghost use Rattle.jc_heap.specs.Image.{IsWellFormed};
 ghost use Rattle.jc_heap.specs.Heap.{heap_of, is_allocated};
-ghost use Rattle.jc_heap.specs.Whole.{IsConsistent};
+ghost use Rattle.jc_heap.specs.WholeHeap.{IsConsistent};
 ghost use Rattle.jc_image.specs.Steps.{HasBounds};
 
 use crate::marks::{mark_records, no_marks};

@@ -5,7 +5,7 @@ ghost use Rattle.jc_words.specs.Count.{saturating_count};
 ghost use Rattle.jc_words.specs.Refusals.{refused_once};
 ghost use Rattle.jc_words.specs.Layout.{front_length, least_size, magic_address, text_start};
 ghost use Rattle.jc_words.specs.Image.{IsCapacity, heap_end};
-ghost use Rattle.jc_heap.specs.Stored.{HoldsHeap};
+ghost use Rattle.jc_heap.specs.Heap.Store.{HoldsHeap};
 ghost use Rattle.jc_image.specs.Laying.{IsOfBytes, IsPartlyWritten, first_free, image_front, written_image_prefix, unsealed_view, new_image_words, sealed_view};
 ghost use Rattle.jc_image.specs.Laying.{first_words_of, heap_after_refused_seal, sealed_heap};
 

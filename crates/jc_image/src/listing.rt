@@ -94,7 +94,7 @@ pub struct AppletName {
 }
 
 impl Model for AppletName {
-    ghost use Rattle.jc_image.specs.Listed.{NamedApplet};
+    ghost use Rattle.jc_image.specs.Listing.{NamedApplet};
 
     ghost Value = { NamedApplet };
 

@@ -5,7 +5,7 @@ ghost use Rattle.jc_transient.specs.declared.cell.ClearEvent.{ClearEvent};
 ghost use Rattle.jc_transient.specs.declared.cell.ClearEvent.TheVariants.{Reset, Deselect};
 ghost use Rattle.jc_heap.specs.Image.{IsWellFormed};
 ghost use Rattle.jc_heap.specs.Heap.{heap_of, heap_item_at, is_allocated, area_limit, area_sizes};
-ghost use Rattle.jc_heap.specs.Whole.{FitsAt, HoldsReferences, IsFilledArea, cells_in};
+ghost use Rattle.jc_heap.specs.WholeHeap.{FitsAt, HoldsReferences, IsFilledArea, cells_in};
 ghost use Rattle.jc_image.specs.Steps.{HasBounds, HasRecord, item_from, AreReferences};
 
 use crate::areas::{Places, ends_at, places_behind};

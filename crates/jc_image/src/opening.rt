@@ -7,7 +7,7 @@ ghost use Rattle.jc_commit.specs.State.{resumed_journal};
 ghost use Rattle.jc_heap.specs.Object.{is_object};
 ghost use Rattle.jc_heap.specs.Image.{buffer_address, IsWellFormed, image, package_addresses, is_package};
 ghost use Rattle.jc_heap.specs.Heap.{heap_view, heap_of, heap_item_at, is_allocated};
-ghost use Rattle.jc_heap.specs.Whole.{IsConsistent};
+ghost use Rattle.jc_heap.specs.WholeHeap.{IsConsistent};
 ghost use Rattle.jc_image.specs.Beginning.{HeapBeginsWith};
 ghost use Rattle.jc_image.specs.Opening.{HoldsImage};
 ghost use Rattle.jc_image.specs.Steps.{HasBounds};

@@ -4,7 +4,7 @@ ghost use Rattle.jc_words.specs.Layout.{most_packages};
 ghost use Rattle.jc_heap.specs.Image.{IsWellFormed};
 ghost use Rattle.jc_heap.specs.Heap.{heap_of, heap_item_at, is_allocated};
 ghost use Rattle.jc_heap.specs.Object.{is_object};
-ghost use Rattle.jc_heap.specs.Whole.{AreAllocated, AreRecords, AreDistinct};
+ghost use Rattle.jc_heap.specs.WholeHeap.{AreAllocated, AreRecords, AreDistinct};
 
 use jc_commit::Journal;
 use jc_words::WordStore;

@@ -6,7 +6,7 @@ ghost use Rattle.jc_heap.specs.Heap.{heap_of, is_allocated};
 ghost use Rattle.jc_image.specs.Steps.{HasBounds, HasRecord, item_from, AreReferences};
 ghost use Rattle.jc_heap.specs.Object.{kind_number};
 ghost use Rattle.jc_heap.specs.declared.object.Kind.TheVariants.{ReferenceArray};
-ghost use Rattle.jc_heap.specs.Whole.{AreAllocated, HoldsReferences};
+ghost use Rattle.jc_heap.specs.WholeHeap.{AreAllocated, HoldsReferences};
 
 use crate::marks::ALL;
 use jc_commit::Journal;

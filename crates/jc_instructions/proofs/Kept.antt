@@ -6,7 +6,7 @@ use Rattle.jc_heap.specs.declared.object.Kind.{Kind}
 use Rattle.jc_heap.specs.declared.object.Kind.TheVariants.{Instance, BooleanArray, ByteArray, ShortArray, ReferenceArray}
 use Rattle.jc_heap.specs.Heap.{facts}
 use Rattle.jc_heap.specs.Object.{IsElement}
-use Rattle.jc_heap.specs.Whole.{IsReference}
+use Rattle.jc_heap.specs.WholeHeap.{IsReference}
 use Rattle.jc_frames.specs.declared.instr.ValueType.{ValueType}
 use Rattle.jc_frames.specs.declared.instr.ValueType.TheVariants as types
 use Rattle.jc_memory.specs.State.{MemoryState}

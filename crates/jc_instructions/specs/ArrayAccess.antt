@@ -4,7 +4,7 @@ use Rattle.std.specs.Int.{w16, cast_signed}
 use Rattle.jc_transient.specs.declared.cell.CellValue.{CellValue}
 use Rattle.jc_frames.specs.declared.instr.ValueType.{ValueType}
 use Rattle.jc_frames.specs.declared.cell.Cell.TheVariants.{Short}
-use Rattle.jc_frames.specs.Cells.{reference_on, short_on}
+use Rattle.jc_frames.specs.Cell.{reference_on, short_on}
 use Rattle.jc_frames.specs.Frames.{Frames, Next, with_stack}
 use Rattle.jc_memory.specs.State.{MemoryState}
 use Rattle.jc_memory.specs.Cells.{cell_refusal, cell_effect}

@@ -4,8 +4,8 @@ use Rattle.jc_heap.specs.declared.object.Kind.{Kind}
 use Rattle.jc_heap.specs.declared.object.Kind.TheVariants.{BooleanArray, ByteArray, ShortArray, ReferenceArray}
 use Rattle.jc_frames.specs.declared.instr.PrimitiveArray.{PrimitiveArray}
 use Rattle.jc_frames.specs.declared.instr.PrimitiveArray.TheVariants.{Booleans, Bytes, Shorts}
-use Rattle.jc_frames.specs.declared.outcome.Exception.TheVariants.{NegativeArraySizeException}
-use Rattle.jc_frames.specs.Cells.{short_on}
+use Rattle.jc_frames.specs.declared.exceptions.Exception.TheVariants.{NegativeArraySizeException}
+use Rattle.jc_frames.specs.Cell.{short_on}
 use Rattle.jc_frames.specs.Frames.{Frames, Next, with_stack}
 use Rattle.jc_frames.specs.declared.outcome.FrameExit.TheVariants.{Throw}
 use Rattle.jc_memory.specs.State.{MemoryState}

@@ -5,10 +5,10 @@ use Rattle.jc_transient.specs.declared.cell.CellValue.TheVariants as kept
 use Rattle.jc_heap.specs.declared.object.Facts.{Facts}
 use Rattle.jc_heap.specs.declared.object.Kind.{Kind}
 use Rattle.jc_heap.specs.declared.object.Kind.TheVariants.{BooleanArray, ByteArray, ShortArray, ReferenceArray}
-use Rattle.jc_heap.specs.Whole.{IsReference}
+use Rattle.jc_heap.specs.WholeHeap.{IsReference}
 use Rattle.jc_frames.specs.declared.instr.ValueType.{ValueType}
 use Rattle.jc_frames.specs.declared.instr.ValueType.TheVariants as types
-use Rattle.jc_frames.specs.declared.outcome.Exception.TheVariants.{ArrayIndexOutOfBoundsException, ArrayStoreException}
+use Rattle.jc_frames.specs.declared.exceptions.Exception.TheVariants.{ArrayIndexOutOfBoundsException, ArrayStoreException}
 use Rattle.jc_frames.specs.declared.outcome.Outcome.TheVariants.{Fault}
 use Rattle.jc_frames.specs.declared.outcome.FrameExit.{FrameExit}
 use Rattle.jc_frames.specs.declared.outcome.FrameExit.TheVariants.{Throw, End}

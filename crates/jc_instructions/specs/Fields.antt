@@ -7,7 +7,7 @@ use Rattle.jc_frames.specs.declared.instr.ValueType.{ValueType}
 use Rattle.jc_frames.specs.declared.outcome.Outcome.TheVariants.{Fault}
 use Rattle.jc_frames.specs.declared.outcome.FrameExit.{FrameExit}
 use Rattle.jc_frames.specs.declared.outcome.FrameExit.TheVariants.{End}
-use Rattle.jc_frames.specs.Cells.{as_reference, reference_on}
+use Rattle.jc_frames.specs.Cell.{as_reference, reference_on}
 use Rattle.jc_frames.specs.Frames.{Frames, Next, has_room, with_stack}
 use Rattle.jc_memory.specs.State.{MemoryState}
 use Rattle.jc_memory.specs.Cells.{cell_refusal, cell_effect}

@@ -8,7 +8,7 @@ use Rattle.jc_memory.specs.State.{MemoryState}
 use Rattle.jc_cap.specs.declared.pool.VirtualToken.{VirtualToken}
 use Rattle.jc_platform.specs.declared.names.PlatformClass.TheVariants.{Object}
 use Rattle.jc_platform.specs.declared.names.PlatformMethod.{PlatformMethod}
-use Rattle.jc_platform.specs.Distinct.{class_word}
+use Rattle.jc_platform.specs.NamePlaces.{class_word}
 use Rattle.jc_linker.specs.declared.target.Method.{Method}
 use Rattle.jc_linker.specs.declared.target.Method.TheVariants.{Code, Native}
 use Rattle.jc_linker.specs.declared.target.Target.{Target}
@@ -24,11 +24,11 @@ use Rattle.jc_firewall.specs.declared.decide.Decision.TheVariants.{Allow, Switch
 use Rattle.jc_frames.specs.declared.instr.InvokeOp.{InvokeOp}
 use Rattle.jc_frames.specs.declared.instr.InvokeOp.TheVariants.{Virtual, Special, Static, Interface}
 use Rattle.jc_frames.specs.declared.cell.Cell.{Cell}
-use Rattle.jc_frames.specs.declared.outcome.Exception.TheVariants.{SecurityException}
+use Rattle.jc_frames.specs.declared.exceptions.Exception.TheVariants.{SecurityException}
 use Rattle.jc_frames.specs.declared.outcome.Outcome.TheVariants.{Fault}
 use Rattle.jc_frames.specs.declared.outcome.FrameExit.{FrameExit}
 use Rattle.jc_frames.specs.declared.outcome.FrameExit.TheVariants.{Throw, End}
-use Rattle.jc_frames.specs.Cells.{as_reference}
+use Rattle.jc_frames.specs.Cell.{as_reference}
 use Rattle.jc_frames.specs.Frames.{Frames}
 use Rattle.jc_frames.specs.declared.header.Header.{Header}
 use Rattle.jc_frames.specs.Header.{header_in}

@@ -9,7 +9,7 @@ use Rattle.jc_frames.specs.declared.instr.PrimitiveArray.TheVariants.{Booleans, 
 use Rattle.jc_frames.specs.declared.instr.TestedType.{TestedType}
 use Rattle.jc_frames.specs.declared.instr.TestedType.TheVariants.{OfClass, OfPrimitives, OfReferences}
 use Rattle.jc_linker.specs.Classes.{is_below, is_shareable}
-use Rattle.jc_linker.specs.Resolves.{names_interface}
+use Rattle.jc_linker.specs.Resolve.{names_interface}
 use Rattle.jc_linker.specs.Values.{Packages}
 use Rattle.jc_firewall.specs.declared.access.Access.{Access}
 use Rattle.jc_firewall.specs.declared.access.Access.TheVariants.{CastToClass, CastToStandardInterface, CastToShareableInterface}

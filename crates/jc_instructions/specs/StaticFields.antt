@@ -5,7 +5,7 @@ use Rattle.std.specs.Int.{w16, cast_signed}
 use Rattle.jc_heap.specs.declared.place.Place.{Place}
 use Rattle.jc_heap.specs.Heap.{HeapState}
 use Rattle.jc_heap.specs.Moves.{Write, SetPlaces, refusal_of_places}
-use Rattle.jc_heap.specs.Places.{places_of}
+use Rattle.jc_heap.specs.Place.{places_of}
 use Rattle.jc_frames.specs.declared.instr.ValueType.{ValueType}
 use Rattle.jc_frames.specs.declared.instr.ValueType.TheVariants as types
 use Rattle.jc_frames.specs.declared.cell.Cell.{Cell}

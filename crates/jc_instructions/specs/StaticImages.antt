@@ -3,7 +3,7 @@ use Rattle.std.specs.Prelude.{ℕ, ◌+◌, ◌-◌, ◌*◌, ◌/◌, ◌%◌, 
 use Rattle.std.specs.Option.{option_map, option_and_then}
 use Rattle.jc_heap.specs.declared.place.Place.{Place}
 use Rattle.jc_heap.specs.declared.place.Place.TheVariants.{Static}
-use Rattle.jc_heap.specs.Components.{record_of}
+use Rattle.jc_heap.specs.Component.{record_of}
 use Rattle.jc_heap.specs.Heap.{HeapState, is_allocated}
 use Rattle.jc_heap.specs.Statics.{statics_of, IsStatic}
 use Rattle.jc_instructions.specs.declared.static_images.ImageWord.{ImageWord}

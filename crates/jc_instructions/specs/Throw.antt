@@ -6,17 +6,17 @@ use Rattle.jc_memory.specs.State.{MemoryState, SetTransient, SetRegisters, apply
 use Rattle.jc_memory.specs.Programs.{Program, Finish, Perform}
 use Rattle.jc_memory.specs.Cells.{header_at}
 use Rattle.jc_platform.specs.declared.names.PlatformClass.TheVariants.{Throwable}
-use Rattle.jc_platform.specs.Distinct.{class_word}
+use Rattle.jc_platform.specs.NamePlaces.{class_word}
 use Rattle.jc_linker.specs.Values.{Packages}
 use Rattle.jc_firewall.specs.declared.access.Access.TheVariants.{Throw}
 use Rattle.jc_frames.specs.declared.cell.Cell.TheVariants.{Reference}
 use Rattle.jc_frames.specs.declared.method.CallKind.{CallKind}
 use Rattle.jc_frames.specs.declared.method.CallKind.TheVariants.{Instruction, ShareableRequest}
-use Rattle.jc_frames.specs.declared.outcome.Exception.{Exception}
+use Rattle.jc_frames.specs.declared.exceptions.Exception.{Exception}
 use Rattle.jc_frames.specs.Exceptions.{class_of_exception, reason_of}
 use Rattle.jc_environment.specs.Objects.{own_place}
 use Rattle.jc_frames.specs.declared.outcome.Outcome.TheVariants.{Fault, Thrown}
-use Rattle.jc_frames.specs.Cells.{reference_on}
+use Rattle.jc_frames.specs.Cell.{reference_on}
 use Rattle.jc_frames.specs.Frames.{Frame, Caller, Frames, Next, Ends, in_frame, push, with_stack}
 use Rattle.jc_world.specs.Contexts.{firewall_check}
 use Rattle.jc_world.specs.Instructions.{if_ok, if_some}

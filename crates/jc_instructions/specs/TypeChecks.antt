@@ -3,10 +3,10 @@ use Rattle.std.specs.Prelude.{ℕ, ℤ, pos, ◌==◌, Bool, true, false, Option
 use Rattle.jc_heap.specs.declared.object.Facts.{Facts}
 use Rattle.jc_frames.specs.declared.instr.TestedType.{TestedType}
 use Rattle.jc_frames.specs.declared.cell.Cell.TheVariants.{Short, Reference}
-use Rattle.jc_frames.specs.declared.outcome.Exception.TheVariants.{ClassCastException}
+use Rattle.jc_frames.specs.declared.exceptions.Exception.TheVariants.{ClassCastException}
 use Rattle.jc_frames.specs.declared.outcome.FrameExit.{FrameExit}
 use Rattle.jc_frames.specs.declared.outcome.FrameExit.TheVariants.{Throw}
-use Rattle.jc_frames.specs.Cells.{reference_on}
+use Rattle.jc_frames.specs.Cell.{reference_on}
 use Rattle.jc_frames.specs.Frames.{Frames, Next, with_stack}
 use Rattle.jc_memory.specs.State.{MemoryState}
 use Rattle.jc_memory.specs.Programs.{Program}

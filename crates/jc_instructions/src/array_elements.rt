@@ -2,7 +2,7 @@
 ghost use Rattle.std.specs.Prelude.{◌≡◌, ◌<◌, false, true, Some, IfOk, OnOk};
 ghost use Rattle.jc_heap.specs.Heap.{IsObject};
 ghost use Rattle.jc_memory.specs.Cells.{IsHeaderOf};
-ghost use Rattle.jc_heap.specs.Whole.{IsReference};
+ghost use Rattle.jc_heap.specs.WholeHeap.{IsReference};
 ghost use Rattle.jc_instructions.specs.ArrayElements.{has_elements, is_array, array_at, with_index, assignable_or_null, element_value, Refers};
 
 use jc_firewall::access::Access;

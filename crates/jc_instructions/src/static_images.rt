@@ -1,7 +1,7 @@
 //! Static images: where their words stand, and what these hold.
 ghost use Rattle.std.specs.Prelude.{◌≡◌, ◌<◌, ◌≤◌, false, length, IfSome};
 ghost use Rattle.std.specs.Option.{option_map};
-ghost use Rattle.jc_heap.specs.Components.{record_of};
+ghost use Rattle.jc_heap.specs.Component.{record_of};
 ghost use Rattle.jc_instructions.specs.StaticImages.{record_at, image_word, next_word, place_of, word_value, byte_of, with_byte, image_byte, image_pair};
 ghost use Rattle.jc_instructions.specs.StaticImages.{IsImageWord};
 

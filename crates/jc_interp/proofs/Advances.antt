@@ -7,8 +7,8 @@ use Rattle.jc_world.specs.Instructions.{continue_with}
 use Rattle.jc_interp.specs.declared.attacks.Attack.{Attack}
 use Rattle.jc_interp.specs.declared.frames_only.PausedStep.{PausedStep}
 use Rattle.jc_interp.specs.Attacks.{IsAway, attacked}
-use Rattle.jc_interp.specs.Stepping.{code_of, instruction_step, machine_step}
-use Rattle.jc_interp.specs.Running.{run_of}
+use Rattle.jc_interp.specs.Step.{code_of, instruction_step, machine_step}
+use Rattle.jc_interp.specs.Run.{run_of}
 use Rattle.jc_interp.specs.PausedSteps.{run_behind, run_rest, paused_rest}
 
 -- where no attack is planned, none comes

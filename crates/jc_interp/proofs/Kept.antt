@@ -7,7 +7,7 @@ use Rattle.jc_interp.specs.declared.attacks.Attack.{Attack}
 use Rattle.jc_interp.specs.declared.attacks.FaultModel.{FaultModel}
 use Rattle.jc_interp.specs.declared.attacks.LaterFault.{LaterFault}
 use Rattle.jc_interp.specs.Attacks.{attacked, faulted, faulted_if, faulted_later, then_later}
-use Rattle.jc_interp.specs.Stepping.{code_of}
+use Rattle.jc_interp.specs.Step.{code_of}
 
 module _ (K : Next Frames → Type 0) (lent : List ℕ) (p : Packages)
     (kept : (s : Frames) → K (GoesOn s) → (model : FaultModel) (code : List ℕ) → K (faulted model code s)) where

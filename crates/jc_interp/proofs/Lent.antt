@@ -14,7 +14,7 @@ use Rattle.jc_frames.specs.declared.instr.InvokeOp.TheVariants.{Virtual, Special
 use Rattle.jc_frames.specs.declared.instr.Instr.TheVariants.{Field, Invoke}
 use Rattle.jc_frames.specs.declared.outcome.Outcome.TheVariants.{Fault}
 use Rattle.jc_frames.specs.Frames.{Frames, Next, Ends, with_stack}
-use Rattle.jc_frames.specs.Cells.{reference_on}
+use Rattle.jc_frames.specs.Cell.{reference_on}
 use Rattle.jc_transient.specs.declared.cell.CellValue.{CellValue}
 use Rattle.jc_world.specs.Instructions.{if_some}
 use Rattle.jc_world.specs.Values.{value_on}
@@ -24,7 +24,7 @@ use Rattle.jc_instructions.specs.Fields.{field_read, field_write, getfield, putf
 use Rattle.jc_instructions.specs.StaticFields.{getstatic, putstatic}
 use Rattle.jc_instructions.specs.Invoke.{method_selection}
 use Rattle.jc_interp.specs.Calling.{invoke_instruction}
-use Rattle.jc_interp.specs.Stepping.{if_had}
+use Rattle.jc_interp.specs.Step.{if_had}
 
 no_target : (p : Packages) (index : ℕ) → target_at p 0 index ≡ None
 unfolding target_at package_in

@@ -8,7 +8,7 @@ use Rattle.jc_frames.specs.declared.instr.Comparison.TheVariants.{Equal, NotEqua
 use Rattle.jc_frames.specs.declared.instr.Condition.TheVariants.{Zero, IsNull, NotNull, SameReference, OtherReference, Shorts}
 use Rattle.jc_frames.specs.Short.{compare}
 use Rattle.jc_frames.specs.declared.cell.Cell.{Cell}
-use Rattle.jc_frames.specs.Cells.{reference_on, short_on, two_references_on, two_shorts_on}
+use Rattle.jc_frames.specs.Cell.{reference_on, short_on, two_references_on, two_shorts_on}
 use Rattle.jc_interp.specs.Attacks.{OppositesDiffer, opposite_comparison}
 
 not_twice : (b : Bool) → b ≡ not (not b)

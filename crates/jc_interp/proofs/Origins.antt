@@ -15,11 +15,11 @@ use Rattle.jc_frames.specs.declared.instr.BranchOp.TheVariants.{If, Goto, Jsr, R
 use Rattle.jc_frames.specs.Short.{wrap, answer_of, negate, low_byte}
 use Rattle.jc_frames.specs.declared.cell.Cell.{Cell}
 use Rattle.jc_frames.specs.declared.cell.Cell.TheVariants.{Short, Reference, ReturnAddress}
-use Rattle.jc_frames.specs.declared.outcome.Exception.{Exception}
-use Rattle.jc_frames.specs.declared.outcome.Exception.TheVariants.{ArithmeticException}
+use Rattle.jc_frames.specs.declared.exceptions.Exception.{Exception}
+use Rattle.jc_frames.specs.declared.exceptions.Exception.TheVariants.{ArithmeticException}
 use Rattle.jc_frames.specs.declared.outcome.Outcome.{Outcome}
 use Rattle.jc_frames.specs.declared.outcome.Outcome.TheVariants.{Fault}
-use Rattle.jc_frames.specs.Cells.{as_short, as_reference, as_address, cell_on, short_on, storable_on, two_shorts_on}
+use Rattle.jc_frames.specs.Cell.{as_short, as_reference, as_address, cell_on, short_on, storable_on, two_shorts_on}
 use Rattle.jc_frames.specs.Frames.{Frame, Frames, Next, GoesOn, Throws, Ends, if_some, in_frame, push, store_local, copy_below, exchange_cells}
 use Rattle.jc_frames.specs.ConstantOps.{constant_instruction}
 use Rattle.jc_frames.specs.LocalOps.{local_instruction}

@@ -5,13 +5,13 @@ use Rattle.jc_memory.specs.Programs.{Completes, IsTornIn, Executes}
 use Rattle.jc_heap.specs.Completions.{Completion, Completed, Torn}
 use Rattle.jc_memory.proofs.ProgramLemmas.{bind_cut, bind_made}
 use Rattle.jc_linker.specs.Values.{Packages}
-use Rattle.jc_frames.specs.declared.outcome.Exception.{Exception}
+use Rattle.jc_frames.specs.declared.exceptions.Exception.{Exception}
 use Rattle.jc_frames.specs.declared.outcome.Outcome.{Outcome}
 use Rattle.jc_frames.specs.declared.outcome.Outcome.TheVariants.{Fault}
 use Rattle.jc_frames.specs.Frames.{Frames, GoesOn, Throws, Ends}
 use Rattle.jc_interp.specs.declared.attacks.Attack.{Attack}
 use Rattle.jc_interp.specs.declared.frames_only.PausedStep.{PausedStep}
-use Rattle.jc_interp.specs.Running.{or_end, run_of, Continues, IsPartOfRun}
+use Rattle.jc_interp.specs.Run.{or_end, run_of, Continues, IsPartOfRun}
 use Rattle.jc_interp.specs.PausedSteps.{step_rest, run_rest}
 
 -- a run that this many steps are left of after a pause

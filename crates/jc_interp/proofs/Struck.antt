@@ -13,8 +13,8 @@ use Rattle.jc_frames.specs.Frames.{Frames, Next, GoesOn, Throws, Ends}
 use Rattle.jc_interp.specs.declared.attacks.Attack.{Attack}
 use Rattle.jc_interp.specs.declared.attacks.LaterFault.{LaterFault}
 use Rattle.jc_interp.specs.Attacks.{IsAway, attacked, attacked_step, faulted, faulted_if, faulted_later, later_attack, one_fault, then_later}
-use Rattle.jc_interp.specs.Running.{Continues, IsPartOfRun, or_end, run_of}
-use Rattle.jc_interp.specs.Stepping.{code_of}
+use Rattle.jc_interp.specs.Run.{Continues, IsPartOfRun, or_end, run_of}
+use Rattle.jc_interp.specs.Step.{code_of}
 
 -- a later fault comes as an attack of its own would
 on_alone : (next : Next Frames) (first left : ℕ) (lent : List ℕ) (p : Packages) → then_later next None first left lent p ≡ next

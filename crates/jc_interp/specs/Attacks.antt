@@ -22,7 +22,7 @@ use Rattle.jc_interp.specs.declared.attacks.Budget.{Budget}
 use Rattle.jc_interp.specs.declared.attacks.FaultModel.{FaultModel}
 use Rattle.jc_interp.specs.declared.attacks.FaultModel.TheVariants.{Skip, Turn, Zero}
 use Rattle.jc_interp.specs.declared.attacks.LaterFault.{LaterFault}
-use Rattle.jc_interp.specs.Stepping.{at_place, code_of, machine_step}
+use Rattle.jc_interp.specs.Step.{at_place, code_of, machine_step}
 
 -- this many instructions, and no attack
 abbrev pub undisturbed : ℕ → Budget

@@ -17,8 +17,8 @@ use Rattle.jc_interp.specs.declared.frames_only.PausedStep.{PausedStep}
 use Rattle.jc_interp.specs.declared.frames_only.FramesExit.{FramesExit}
 use Rattle.jc_interp.specs.declared.frames_only.FramesExit.TheVariants.{Exit, Needs}
 use Rattle.jc_interp.specs.Calling.{invoke_instruction}
-use Rattle.jc_interp.specs.Stepping.{if_had, throw_from, object_instruction}
-use Rattle.jc_interp.specs.Running.{or_end, run_of}
+use Rattle.jc_interp.specs.Step.{if_had, throw_from, object_instruction}
+use Rattle.jc_interp.specs.Run.{or_end, run_of}
 
 -- what an instruction at a place may do that needs more than frames, with the next instruction after it; any other is no such one
 abbrev pub memory_instruction : Instr → ℕ → Packages → Frames → MemoryState → Program (Next Frames)

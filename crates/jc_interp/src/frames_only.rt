@@ -6,8 +6,8 @@ ghost use Rattle.jc_linker.specs.Values.{Packages};
 ghost use Rattle.jc_memory.specs.State.{MemoryState};
 ghost use Rattle.jc_interp.specs.declared.attacks.Attack.{Attack};
 ghost use Rattle.jc_interp.specs.Attacks.{IsAway};
-ghost use Rattle.jc_interp.specs.Stepping.{code_of, if_had, instruction_at, instruction_step, is_plain};
-ghost use Rattle.jc_interp.specs.Running.{run_of};
+ghost use Rattle.jc_interp.specs.Step.{code_of, if_had, instruction_at, instruction_step, is_plain};
+ghost use Rattle.jc_interp.specs.Run.{run_of};
 ghost use Rattle.jc_interp.specs.PausedSteps.{after_part, after_frames_step, run_behind};
 
 use jc_frames::arithmetic_ops::arithmetic_instruction;
@@ -77,7 +77,7 @@ pub(crate) const fn is_plain(instr: Instr) -> bool
 
 // `nop`: goes on. An instruction at a place, with the next one after it, is carried out here if it needs
 // nothing but frames; else the exit says what it needs.
-#[tactic(auto, unfolding(crate::specs::Stepping::instruction_at))]
+#[tactic(auto, unfolding(crate::specs::Step::instruction_at))]
 #[inline(always)]
 fn carry_out<C>(
     instr: Instr,
@@ -109,7 +109,7 @@ fn carry_out<C>(
 }
 
 // Carries out the instruction at the frame's place, if it needs nothing but frames.
-#[tactic(auto, unfolding(crate::specs::Stepping::instruction_step))]
+#[tactic(auto, unfolding(crate::specs::Step::instruction_step))]
 #[inline(always)]
 fn step_in_frames<C>(code: &[u8], frames: &mut Frames) -> Result<(), PausedStep>
     requires short { length code.now < 2 ^ 16 }

@@ -4,7 +4,7 @@ ghost use Rattle.jc_memory.specs.Programs.{Executes};
 ghost use Rattle.jc_heap.specs.Completions.{after_step};
 ghost use Rattle.jc_interp.specs.declared.attacks.Attack.{Attack};
 ghost use Rattle.jc_interp.specs.Attacks.{IsAway, later_attack};
-ghost use Rattle.jc_interp.specs.Running.{IsPartOfRun, run_methods, run_of, run_ad_hoc};
+ghost use Rattle.jc_interp.specs.Run.{IsPartOfRun, run_methods, run_of, run_ad_hoc};
 
 use crate::attacks::{Attack, Budget, strike};
 use crate::explain::{note_budget, note_cut, note_end, note_step};

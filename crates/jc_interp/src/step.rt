@@ -7,7 +7,7 @@ ghost use Rattle.jc_instructions.specs.ArrayOps.{array_instruction};
 ghost use Rattle.jc_world.specs.declared.step_exit.StepExit.TheVariants.{End};
 ghost use Rattle.jc_memory.specs.Programs.{Executes};
 ghost use Rattle.jc_world.specs.Instructions.{after_instruction};
-ghost use Rattle.jc_interp.specs.Stepping.{code_of, if_had, object_instruction};
+ghost use Rattle.jc_interp.specs.Step.{code_of, if_had, object_instruction};
 ghost use Rattle.jc_interp.specs.PausedSteps.{step_rest, memory_instruction, paused_rest};
 
 use crate::calling::invoke_instruction;

@@ -5,7 +5,7 @@ use Rattle.std.proofs.lemmas.List.{append-nil, drop_all}
 use Rattle.jc_cap.specs.Packages.{NamedPackage}
 use Rattle.jc_cap.specs.declared.pool.Entry.{Entry}
 use Rattle.jc_linker.specs.declared.target.Target.{Target}
-use Rattle.jc_linker.specs.Resolves.{resolution}
+use Rattle.jc_linker.specs.Resolve.{resolution}
 use Rattle.jc_linker.specs.Lookups.{package_with_aid}
 use Rattle.jc_linker.specs.Values.{Packages}
 use Rattle.jc_linker.specs.declared.fault.LinkFault.{LinkFault}

@@ -5,7 +5,7 @@ use Rattle.std.specs.List.{list_any}
 use Rattle.std.specs.Option.{option_map, option_and_then}
 use Rattle.jc_platform.specs.declared.names.PlatformClass.{PlatformClass}
 use Rattle.jc_platform.specs.declared.names.PlatformClass.TheVariants.{Shareable}
-use Rattle.jc_platform.specs.Distinct.{class_word}
+use Rattle.jc_platform.specs.NamePlaces.{class_word}
 use Rattle.jc_platform.specs.Hierarchy.{cells_of, holds_reference, interfaces_of, is_instantiable, superclass_of}
 use Rattle.jc_platform.specs.Platform.{class_by_word}
 use Rattle.jc_linker.specs.Values.{ClassValue, Implementation, PackageValue, Packages}
@@ -154,3 +154,9 @@ reference_cell p class cell = any_reference p cell (lineage p class)
 -- a class of the platform, or one below it
 abbrev pub is_a : Packages → ℕ → PlatformClass → Bool
 is_a p class of = is_below p class (class_word p.platform of)
+
+-- ---- interfaces by what a table says of others
+
+-- the interface lists the other one, or one of which the table says that it extends it
+abbrev pub extends_by : Packages → ℕ → List Bool → ℕ → Bool
+extends_by p of table interface = list_any (λ i. i.interface == of || is_told table i.interface interface) (interfaces_in p interface)

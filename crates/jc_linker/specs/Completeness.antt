@@ -4,7 +4,7 @@ use Rattle.std.specs.List.{list_all}
 use Rattle.jc_cap.specs.declared.pool.VirtualToken.TheVariants.{Public}
 use Rattle.jc_linker.specs.Classes.{is_class}
 use Rattle.jc_linker.specs.Methods.{method_at}
-use Rattle.jc_linker.specs.Resolves.{names_interface}
+use Rattle.jc_linker.specs.Resolve.{names_interface}
 use Rattle.jc_linker.specs.Values.{ClassValue, Implementation, Packages}
 
 -- a class has a public method with this token

@@ -2,11 +2,10 @@ pub mod Values
 pub mod Classes
 pub mod Methods
 pub mod Lookups
-pub mod Resolves
+pub mod Resolve
 pub mod Outlines
 pub mod Answers
 pub mod Imports
 pub mod Linking
 pub mod Lineage
-pub mod Tables
 pub mod Completeness

@@ -7,10 +7,10 @@ use Rattle.jc_cap.specs.declared.class_records.ClassRecord.{ClassRecord}
 use Rattle.jc_cap.specs.declared.class_records.ClassRecord.TheVariants as records
 use Rattle.jc_cap.specs.declared.class_records.ClassInfo.{ClassInfo}
 use Rattle.jc_cap.specs.ClassValues.{RecordAt}
-use Rattle.jc_cap.specs.Implemented.{Implemented}
+use Rattle.jc_cap.specs.ClassLists.{Implemented}
 use Rattle.jc_linker.specs.declared.target.Target.{Target}
 use Rattle.jc_linker.specs.Classes.{size_of}
-use Rattle.jc_linker.specs.Resolves.{class_named, resolution}
+use Rattle.jc_linker.specs.Resolve.{class_named, resolution}
 use Rattle.jc_linker.specs.Values.{ClassValue, Implementation, LinkerComponents, PackageValue, Packages}
 use Rattle.jc_linker.specs.Outlines.{outline_of, package_outline}
 use Rattle.jc_linker.specs.declared.fault.LinkFault.{LinkFault}

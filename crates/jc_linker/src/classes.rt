@@ -1,9 +1,9 @@
 //! Classes by their words.
 ghost use Rattle.std.specs.Prelude.{◌≡◌, ◌<◌, ◌==◌, ◌||◌, ◌&&◌, nat_lt};
 ghost use Rattle.std.specs.List.{list_any};
-ghost use Rattle.jc_linker.specs.Classes.{extends, implements, interfaces_in, platform_interfaces, is_among, is_below, is_class, is_deep, is_listed, is_instantiable_class};
-ghost use Rattle.jc_linker.specs.Classes.{is_shareable, is_told, lineage, lists_some, own_reference, class_in, reference_cell, size_of, superclass_in};
-ghost use Rattle.jc_linker.specs.Tables.{extends_by};
+ghost use Rattle.jc_linker.specs.Classes.{extends, implements, interfaces_in, platform_interfaces, is_among, is_below, is_class, is_deep, is_listed};
+ghost use Rattle.jc_linker.specs.Classes.{is_instantiable_class, is_shareable, is_told, lineage, lists_some, own_reference, class_in, reference_cell};
+ghost use Rattle.jc_linker.specs.Classes.{size_of, superclass_in, extends_by};
 ghost use Rattle.jc_platform.specs.Platform.{class_by_word};
 
 use crate::lineage::MOST_CLASSES;

@@ -1,6 +1,6 @@
 //! The classes of a package, linked.
 ghost use Rattle.std.specs.Prelude.{◌≡◌, ◌+◌, ◌≤◌, ◌<◌, [], length, map, IfOk};
-ghost use Rattle.jc_cap.specs.ImplementedViews.{implemented_value};
+ghost use Rattle.jc_cap.specs.ClassLists.{implemented_value};
 ghost use Rattle.jc_linker.specs.Linking.{cells_above, class_by_record, class_of, classes_behind, implementation_of, superinterface_of, word_of};
 
 use crate::class::{LinkedClass, LinkedInterface, TokenTable};

@@ -3,7 +3,7 @@ ghost use Rattle.std.specs.Prelude.{◌≡◌, ◌<◌, ◌≤◌, ◌++◌, [],
 ghost use Rattle.jc_linker.specs.Classes.{is_below, is_class, is_instantiable_class, is_shareable, package_in, reference_cell, size_of, superclass_in};
 ghost use Rattle.jc_linker.specs.Linking.{with_package};
 ghost use Rattle.jc_linker.specs.Methods.{inherits_method, interface_method_at, method_at, method_below};
-ghost use Rattle.jc_linker.specs.Resolves.{names_interface};
+ghost use Rattle.jc_linker.specs.Resolve.{names_interface};
 
 use crate::package::LinkedPackage;
 use crate::scope::Scope;

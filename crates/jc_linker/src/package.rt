@@ -1,6 +1,6 @@
 //! Loaded packages.
 ghost use Rattle.std.specs.Prelude.{◌≡◌, ◌<◌, ◌==◌, IfSome, find, option_copied, position};
-ghost use Rattle.jc_linker.specs.Resolves.{class_index};
+ghost use Rattle.jc_linker.specs.Resolve.{class_index};
 ghost use Rattle.std.specs.Option.{option_map};
 ghost use Rattle.std.specs.Str.{bytes_eq};
 
@@ -104,7 +104,7 @@ impl Model for LinkedPackage {
 
 impl LinkedPackage {
     /// The number of the class whose record stands at an offset.
-    #[tactic(auto, unfolding(crate::specs::Resolves::class_index))]
+    #[tactic(auto, unfolding(crate::specs::Resolve::class_index))]
     pub fn class_index(&self, offset: u16) -> Option<u8>
         ensures { result ≡ class_index offset self.now.classes }
     {

@@ -1,8 +1,8 @@
 //! What the entries of constant pools resolve to.
 ghost use Rattle.std.specs.Prelude.{◌≡◌, option_copied};
 ghost use Rattle.jc_linker.specs.Classes.{class_in};
-ghost use Rattle.jc_linker.specs.Resolves.{class_at_offset, class_named, class_with_token, export_of, field_target, foreign_field, foreign_method};
-ghost use Rattle.jc_linker.specs.Resolves.{import_by_token, names_interface, resolution, static_method_by, super_target, virtual_target};
+ghost use Rattle.jc_linker.specs.Resolve.{class_at_offset, class_named, class_with_token, export_of, field_target, foreign_field, foreign_method};
+ghost use Rattle.jc_linker.specs.Resolve.{import_by_token, names_interface, resolution, static_method_by, super_target, virtual_target};
 
 use crate::package::ExportedClass;
 use crate::scope::Scope;
@@ -14,7 +14,7 @@ use jc_transient::ClassWord;
 
 impl Scope<'_> {
     /// What an entry in the package with this number resolves to.
-    #[tactic(auto, unfolding(crate::specs::Resolves::resolution))]
+    #[tactic(auto, unfolding(crate::specs::Resolve::resolution))]
     pub(crate) fn resolution(&self, number: u8, entry: Entry) -> Option<Target>
         ensures { result ≡ resolution self.now number entry }
     {
@@ -66,7 +66,7 @@ impl Scope<'_> {
     }
 
     /// The class that a reference in the package with this number names.
-    #[tactic(auto, unfolding(crate::specs::Resolves::class_named))]
+    #[tactic(auto, unfolding(crate::specs::Resolve::class_named))]
     pub(crate) fn class_named(&self, number: u8, class: ClassRef) -> Option<ClassWord>
         ensures { result ≡ class_named self.now number class }
     {
@@ -79,7 +79,7 @@ impl Scope<'_> {
         }
     }
 
-    #[tactic(auto, unfolding(crate::specs::Resolves::class_at_offset))]
+    #[tactic(auto, unfolding(crate::specs::Resolve::class_at_offset))]
     fn class_at_offset(&self, number: u8, offset: u16) -> Option<ClassWord>
         ensures { result ≡ class_at_offset self.now number offset }
     {
@@ -88,14 +88,14 @@ impl Scope<'_> {
     }
 
     // The number of the package that a package imports by a token.
-    #[tactic(auto, unfolding(crate::specs::Resolves::import_by_token))]
+    #[tactic(auto, unfolding(crate::specs::Resolve::import_by_token))]
     fn import_by_token(&self, number: u8, token: u8) -> Option<u8>
         ensures { result ≡ import_by_token self.now number token }
     {
         self.package(number)?.imports.get(token as usize).copied()
     }
 
-    #[tactic(auto, unfolding(crate::specs::Resolves::class_with_token))]
+    #[tactic(auto, unfolding(crate::specs::Resolve::class_with_token))]
     fn class_with_token(&self, number: u8, token: u8) -> Option<ClassWord>
         ensures { result ≡ class_with_token self.now number token }
     {
@@ -109,7 +109,7 @@ impl Scope<'_> {
     }
 
     /// The class is an interface.
-    #[tactic(auto, unfolding(crate::specs::Resolves::names_interface))]
+    #[tactic(auto, unfolding(crate::specs::Resolve::names_interface))]
     pub(crate) fn names_interface(&self, class: ClassWord) -> bool
         ensures { result ≡ names_interface self.now class }
     {
@@ -122,7 +122,7 @@ impl Scope<'_> {
         }
     }
 
-    #[tactic(auto, unfolding(crate::specs::Resolves::field_target))]
+    #[tactic(auto, unfolding(crate::specs::Resolve::field_target))]
     fn field_target(&self, token: u8, class: ClassWord) -> Option<Target>
         ensures { result ≡ field_target self.now token class }
     {
@@ -137,7 +137,7 @@ impl Scope<'_> {
         })
     }
 
-    #[tactic(auto, unfolding(crate::specs::Resolves::virtual_target))]
+    #[tactic(auto, unfolding(crate::specs::Resolve::virtual_target))]
     fn virtual_target(&self, token: VirtualToken, class: ClassWord) -> Option<Target>
         ensures { result ≡ virtual_target self.now token class }
     {
@@ -152,7 +152,7 @@ impl Scope<'_> {
         })
     }
 
-    #[tactic(auto, unfolding(crate::specs::Resolves::super_target))]
+    #[tactic(auto, unfolding(crate::specs::Resolve::super_target))]
     fn super_target(&self, token: VirtualToken, class: ClassWord) -> Option<Target>
         ensures { result ≡ super_target self.now token class }
     {
@@ -161,14 +161,14 @@ impl Scope<'_> {
         Some(Target::SuperMethod { class, method })
     }
 
-    #[tactic(auto, unfolding(crate::specs::Resolves::export_of))]
+    #[tactic(auto, unfolding(crate::specs::Resolve::export_of))]
     fn export_of(&self, number: u8, class_token: u8) -> Option<&ExportedClass>
         ensures { option_copied result ≡ export_of self.now number class_token }
     {
         self.package(number)?.exports.get(class_token as usize)
     }
 
-    #[tactic(auto, unfolding(crate::specs::Resolves::foreign_field))]
+    #[tactic(auto, unfolding(crate::specs::Resolve::foreign_field))]
     fn foreign_field(&self, class_token: u8, token: u8, number: u8) -> Option<Target>
         ensures { result ≡ foreign_field self.now class_token token number }
     {
@@ -180,7 +180,7 @@ impl Scope<'_> {
         })
     }
 
-    #[tactic(auto, unfolding(crate::specs::Resolves::foreign_method))]
+    #[tactic(auto, unfolding(crate::specs::Resolve::foreign_method))]
     fn foreign_method(&self, class_token: u8, token: u8, number: u8) -> Option<Target>
         ensures { result ≡ foreign_method self.now class_token token number }
     {

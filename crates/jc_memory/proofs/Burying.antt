@@ -6,14 +6,14 @@ use Rattle.std.specs.Prelude.{nat_lt, pos}
 use Rattle.jc_transient.specs.declared.cell.CellValue.TheVariants.{Reference, Short}
 use Rattle.jc_transient.specs.declared.cell.ClearEvent.{ClearEvent}
 use Rattle.jc_transient.specs.declared.cell.ClearEvent.TheVariants.{Reset, Deselect}
-use Rattle.jc_transient.specs.Cells.{without_dead}
+use Rattle.jc_transient.specs.Cell.{without_dead}
 use Rattle.jc_transient.specs.State.{RamState, cell_at}
 use Rattle.jc_heap.specs.Heap.{HeapState, IsObject, is_allocated, SameShape, KeepsBelowTop}
-use Rattle.jc_heap.specs.Whole.{IsReference}
-use Rattle.jc_heap.specs.Keeping.{IsConsistentHeap}
+use Rattle.jc_heap.specs.WholeHeap.{IsReference}
+use Rattle.jc_heap.specs.HeapLaws.{IsConsistentHeap}
 use Rattle.jc_heap.specs.Object.{is_object}
 use Rattle.jc_heap.proofs.Laws.{heap_item_at-absent}
-use Rattle.jc_memory.specs.Dead.{live_or_null, NullsDeadReferences}
+use Rattle.jc_memory.specs.ProgramLaws.{live_or_null, NullsDeadReferences}
 use Rattle.jc_memory.specs.State.{ram_without_dead}
 
 -- where an object stands something stands

@@ -14,7 +14,7 @@ use Rattle.jc_heap.specs.Heap.{HeapState, HeapView, SameShape, HasEnd, IsObject,
 use Rattle.jc_heap.specs.Moves.{Move, Write, SetPlaces, WriteNonAtomic, SetCells, AddObject, AddTransient, AddPackage, Begin, Commit, Abort, apply_move}
 use Rattle.jc_heap.specs.Moves.{PerformsMovesUnless, PerformsMoves}
 use Rattle.jc_heap.specs.Completions.{after_making, after_change, after_step}
-use Rattle.jc_heap.specs.Keeping.{MoveIsLegal, AreConsistent}
+use Rattle.jc_heap.specs.HeapLaws.{MoveIsLegal, AreConsistent}
 use Rattle.jc_heap.proofs.Laws.{heap_item_at-absent, shape-add}
 use Rattle.jc_heap.proofs.Keeping.{object-header_only}
 use Rattle.jc_heap.proofs.KeepingMoves.{keeps}

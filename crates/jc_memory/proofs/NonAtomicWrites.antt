@@ -7,12 +7,12 @@ use Rattle.jc_heap.specs.declared.object.Kind.{Kind}
 use Rattle.jc_heap.specs.Completions.{Completion, Completed, Torn}
 use Rattle.jc_heap.specs.Heap.{cells, facts, heap_item_at}
 use Rattle.jc_heap.specs.Moves.{WriteNonAtomic}
-use Rattle.jc_heap.specs.Places.{set_place}
+use Rattle.jc_heap.specs.Place.{set_place}
 use Rattle.jc_heap.proofs.Laws.{same_facts, same_length}
 use Rattle.jc_heap.proofs.Places.{bare_stays}
 use Rattle.jc_memory.specs.State.{MemoryState, HeapMove, apply_effect}
 use Rattle.jc_memory.specs.Programs.{Executes, IsTornIn}
-use Rattle.jc_memory.specs.Changing.{nonatomic_write, nonatomic_writes}
+use Rattle.jc_memory.specs.Changes.{nonatomic_write, nonatomic_writes}
 
 -- the first of them is set, and then the others
 stepped : (r i v : ℕ) (vs : List ℕ) (s : MemoryState) (after : Completion MemoryState (Unit {0}))

@@ -19,7 +19,7 @@ use Rattle.jc_heap.specs.Heap.{HeapState, HeapView, heap_item_at, is_allocated, 
 use Rattle.jc_heap.specs.Heap.{end_address, keeping, limit, has_room_for}
 use Rattle.jc_heap.specs.Moves.{Move, SetPlaces, SetCells, refusal_of_places, refusal_of_cells}
 use Rattle.jc_heap.specs.Completions.{Attempt, Done, Refused, after_change, after_making}
-use Rattle.jc_heap.specs.Places.{ArePlain, places_of, place_word, words_at, cells_from, set_place, set_places}
+use Rattle.jc_heap.specs.Place.{ArePlain, places_of, place_word, words_at, cells_from, set_place, set_places}
 use Rattle.jc_heap.specs.declared.place.Place.TheVariants.{Cell}
 use Rattle.jc_heap.specs.Touch.{touch_words, touched_places, touched_cells, once_made}
 use Rattle.jc_commit.proofs.WhatIsKept.{keeps_old_values}

@@ -10,7 +10,7 @@ use Rattle.jc_transient.specs.declared.cell.CellValue.{CellValue}
 use Rattle.jc_transient.specs.declared.cell.CellValue.TheVariants.{Short}
 use Rattle.jc_transient.specs.declared.cell.ClearEvent.{ClearEvent}
 use Rattle.jc_transient.specs.declared.cell.ClearEvent.TheVariants.{Reset, Deselect}
-use Rattle.jc_transient.specs.Cells.{number_of}
+use Rattle.jc_transient.specs.Cell.{number_of}
 use Rattle.jc_transient.specs.State.{RamState, HasSizes, area, area_size, with_area, with_cells, cell_at}
 use Rattle.jc_heap.specs.Heap.{facts}
 use Rattle.jc_memory.specs.Cells.{word_of, word_in, word_at, bytes_at, words_at}

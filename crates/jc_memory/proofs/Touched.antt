@@ -11,7 +11,7 @@ use Rattle.jc_heap.specs.Heap.{HeapState, HeapView, heap_after_change, heap_item
 use Rattle.jc_heap.specs.declared.object.Facts.{Facts}
 use Rattle.jc_heap.specs.declared.object.Kind.{Kind}
 use Rattle.jc_heap.specs.Object.{Object, AnObject, facts_of, has_bytes, is_packed}
-use Rattle.jc_heap.specs.Places.{place_word, place_at, cell_at, words_at, cells_from, ArePlain}
+use Rattle.jc_heap.specs.Place.{place_word, place_at, cell_at, words_at, cells_from, ArePlain}
 use Rattle.jc_heap.specs.declared.place.Place.TheVariants.{Cell, Static, Registry, AppletCount}
 use Rattle.jc_heap.specs.Touch.{touch_word, touch_words, touched_places, touched_cells, once_made}
 use Rattle.jc_heap.proofs.KeptWords.{room_behind}

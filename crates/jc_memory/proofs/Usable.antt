@@ -21,10 +21,10 @@ use Rattle.jc_heap.specs.declared.refusal.HeapRefusal.{HeapRefusal}
 use Rattle.jc_heap.specs.declared.refusal.HeapRefusal.TheVariants as making
 use Rattle.jc_heap.specs.Object.{facts_of}
 use Rattle.jc_heap.specs.Heap.{HeapState, HeapView, SameShape, HasEnd, heap_item_at, cells, facts, area_end, area_limit, area_sizes, buffer_word, cells_word}
-use Rattle.jc_heap.specs.Whole.{IsConsistent}
+use Rattle.jc_heap.specs.WholeHeap.{IsConsistent}
 use Rattle.jc_heap.specs.Moves.{Move, WriteNonAtomic, AddTransient, PerformsMoves, PerformsMovesUnless, apply_move, new_move, refusal_of_transient, applet_move}
 use Rattle.jc_heap.specs.Completions.{Completion, Completed, Torn, Attempt, Done, Refused, after_making, after_change, after_step}
-use Rattle.jc_heap.specs.Keeping.{MoveIsLegal, IsConsistentHeap, AreConsistent}
+use Rattle.jc_heap.specs.HeapLaws.{MoveIsLegal, IsConsistentHeap, AreConsistent}
 use Rattle.jc_heap.proofs.Laws.{heap_item_at-absent, same_facts}
 use Rattle.jc_heap.proofs.OwnCells.{owns_cells}
 use Rattle.jc_memory.specs.State.{MemoryState}

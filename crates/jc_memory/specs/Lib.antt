@@ -7,7 +7,6 @@ pub mod ProgramLaws
 pub mod Cells
 pub mod Commands
 pub mod Making
-pub mod Changing
-pub mod Dead
+pub mod Changes
 pub mod Marks
 pub mod CommitCapacity

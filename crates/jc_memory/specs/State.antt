@@ -3,12 +3,12 @@ use Rattle.std.specs.Prelude.{ℕ, ◌+◌, ◌≡◌, Bool, false, List, [], �
 use Rattle.jc_transient.specs.declared.cell.CellValue.{CellValue}
 use Rattle.jc_transient.specs.declared.cell.CellValue.TheVariants.{Short, Reference}
 use Rattle.jc_transient.specs.declared.cell.ClearEvent.{ClearEvent}
-use Rattle.jc_transient.specs.Cells.{default_value, without_dead}
+use Rattle.jc_transient.specs.Cell.{default_value, without_dead}
 use Rattle.jc_transient.specs.State.{RamState, HasSizes, area, with_area, with_cells}
 use Rattle.jc_heap.specs.declared.object.Kind.{Kind}
 use Rattle.jc_heap.specs.declared.object.Kind.TheVariants.{ReferenceArray}
 use Rattle.jc_heap.specs.Heap.{HeapState, HeapView, area_end, area_sizes, facts, is_allocated}
-use Rattle.jc_heap.specs.Keeping.{AreConsistent}
+use Rattle.jc_heap.specs.HeapLaws.{AreConsistent}
 use Rattle.jc_heap.specs.Moves.{Move, AddObject, AddTransient, Abort, apply_move}
 use Rattle.jc_memory.specs.declared.registers.Registers.{Registers}
 

@@ -2,11 +2,11 @@
 ghost use Rattle.std.specs.Prelude.{◌≡◌, ◌<◌, false, true, length, slice_index};
 ghost use Rattle.jc_words.specs.Layout.{most_packages, most_applets};
 ghost use Rattle.jc_heap.specs.Heap.{is_allocated};
-ghost use Rattle.jc_heap.specs.Components.{record_of};
-ghost use Rattle.jc_heap.specs.Packages.{AreArrays, AreComponents, image_size, array_inits, parts};
+ghost use Rattle.jc_heap.specs.Component.{record_of};
+ghost use Rattle.jc_heap.specs.Package.{AreArrays, AreComponents, image_size, array_inits, parts};
 ghost use Rattle.jc_memory.specs.Programs.{Executes};
 ghost use Rattle.jc_heap.specs.Completions.{after_change, after_making};
-ghost use Rattle.jc_memory.specs.Changing.{package_addition, applet_addition};
+ghost use Rattle.jc_memory.specs.Changes.{package_addition, applet_addition};
 
 use crate::memory::Memory;
 use jc_heap::{AppletEntry, ChangeRefusal, HeapRefusal, RecordComponent, StaticArray};

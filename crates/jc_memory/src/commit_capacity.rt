@@ -4,8 +4,8 @@ ghost use Rattle.std.specs.Prelude.{◌≡◌, ◌+◌, ◌<◌, ◌≤◌, fals
 ghost use Rattle.jc_words.specs.Layout.{least_capacity};
 ghost use Rattle.jc_heap.specs.Object.{AnObject, new_object, is_packed};
 ghost use Rattle.jc_heap.specs.Heap.{heap_item_at, facts, IsObject};
-ghost use Rattle.jc_heap.specs.Keeping.{AreLegalValues};
-ghost use Rattle.jc_heap.specs.Places.{AreThere, AreApart, ArePlain, places_of, applet_places};
+ghost use Rattle.jc_heap.specs.HeapLaws.{AreLegalValues};
+ghost use Rattle.jc_heap.specs.Place.{AreThere, AreApart, ArePlain, places_of, applet_places};
 ghost use Rattle.jc_heap.specs.declared.touch.Touch.{Touch};
 ghost use Rattle.jc_heap.specs.declared.touch.Touch.TheVariants.{HeapEnd};
 ghost use Rattle.jc_heap.specs.Touch.{CanTouch, touched_places, touched_cells, once_made};

@@ -1,6 +1,6 @@
 //! The first cells of a transient object, filled with bytes and zeros.
 ghost use Rattle.std.specs.Prelude.{◌≡◌, ◌+◌, ◌≤◌, ◌++◌, false, length, map, replicate, Some};
-ghost use Rattle.jc_transient.specs.Cells.{number_of};
+ghost use Rattle.jc_transient.specs.Cell.{number_of};
 ghost use Rattle.jc_heap.specs.Heap.{IsObject, facts};
 ghost use Rattle.jc_memory.specs.State.{SetTransient, apply_effect};
 

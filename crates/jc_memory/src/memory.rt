@@ -1,7 +1,7 @@
 //! A memory: its parts, and what headers say.
 ghost use Rattle.std.specs.Prelude.{◌≡◌, ◌<◌, [], false, IfOk, IfSome, slice_index};
 ghost use Rattle.jc_heap.specs.Heap.{IsObject, area_sizes};
-ghost use Rattle.jc_heap.specs.Whole.{IsConsistent};
+ghost use Rattle.jc_heap.specs.WholeHeap.{IsConsistent};
 ghost use Rattle.jc_transient.specs.State.{HasSizes};
 ghost use Rattle.jc_memory.specs.Owners.{at_reset};
 ghost use Rattle.jc_memory.specs.Cells.{IsHeaderOf, header_at};

@@ -2,8 +2,8 @@
 ghost use Rattle.std.specs.Prelude.{◌≡◌, false};
 ghost use Rattle.jc_commit.specs.Image.{recovered_of};
 ghost use Rattle.jc_heap.specs.Heap.{area_sizes, heap_of};
-ghost use Rattle.jc_heap.specs.Stored.{HoldsHeap, IsAtRest, heap_of_store_at_rest};
-ghost use Rattle.jc_heap.specs.Whole.{IsConsistent};
+ghost use Rattle.jc_heap.specs.Heap.Store.{HoldsHeap, IsAtRest, heap_of_store_at_rest};
+ghost use Rattle.jc_heap.specs.WholeHeap.{IsConsistent};
 ghost use Rattle.jc_memory.specs.Power.{resumed_memory, volatile_of};
 
 use crate::kept::Kept;

@@ -1,6 +1,5 @@
 //! Laws of the definitions, for answers of any types.
-ghost use Rattle.jc_memory.specs.Dead.{NullsDeadReferences};
-ghost use Rattle.jc_memory.specs.ProgramLaws.{IsSequence, IsByEffects, IsFresh};
+ghost use Rattle.jc_memory.specs.ProgramLaws.{NullsDeadReferences, IsSequence, IsByEffects, IsFresh};
 
 /// Two in a row are done where the first and then the second is; a loss of power within them falls within the
 /// first, or within the second after the first was done.

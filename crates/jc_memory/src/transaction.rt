@@ -3,14 +3,13 @@ ghost use Rattle.std.specs.Prelude.{◌≡◌, ◌≢◌, ◌<◌, ◌≤◌, �
 ghost use Rattle.jc_words.specs.Layout.{least_capacity, most_capacity};
 ghost use Rattle.jc_heap.specs.declared.object.Kind.TheVariants.{Instance, ByteArray};
 ghost use Rattle.jc_heap.specs.Heap.{IsObject, cells, facts};
-ghost use Rattle.jc_heap.specs.Keeping.{IsLegalValue, AreLegalValues};
-ghost use Rattle.jc_heap.specs.Places.{HasPlace, MayHold, AreThere, AreApart, ArePlain, places_of, cell_changes};
-ghost use Rattle.jc_heap.specs.ByteRuns.{run_changes};
+ghost use Rattle.jc_heap.specs.HeapLaws.{IsLegalValue, AreLegalValues};
+ghost use Rattle.jc_heap.specs.Place.{HasPlace, MayHold, AreThere, AreApart, ArePlain, places_of, cell_changes, run_changes};
 ghost use Rattle.jc_heap.specs.Moves.{Begin};
 ghost use Rattle.jc_memory.specs.State.{HeapMove, apply_effect};
 ghost use Rattle.jc_memory.specs.Programs.{Executes};
 ghost use Rattle.jc_heap.specs.Completions.{after_change, after_step};
-ghost use Rattle.jc_memory.specs.Changing.{place_write, places_write, nonatomic_write, nonatomic_writes, nonatomic_store, commit, abort};
+ghost use Rattle.jc_memory.specs.Changes.{place_write, places_write, nonatomic_write, nonatomic_writes, nonatomic_store, commit, abort};
 
 use crate::memory::Memory;
 use jc_heap::{ByteRun, ChangeRefusal, Elements, Place};

@@ -3,20 +3,20 @@ use Rattle.std.proofs.Common.{◌≡◌, ◌∙◌, ◌+◌, ◌/◌, ◌≤◌,
 use Rattle.jc_words.specs.Layout.{text_length_address, text_start}
 use Rattle.jc_commit.specs.Image.{IsGoodLog, recovered_of}
 use Rattle.jc_commit.specs.Migration.{migrated}
-use Rattle.jc_heap.specs.Alike.{StandAlike}
+use Rattle.jc_heap.specs.HeapLaws.{StandAlike}
 use Rattle.jc_heap.specs.Heap.{HeapState, heap_of}
 use Rattle.jc_heap.specs.Image.{IsWellFormed, base, image, table_text}
 use Rattle.jc_heap.proofs.Following.{base_is}
-use Rattle.jc_heap.specs.Whole.{IsConsistent}
+use Rattle.jc_heap.specs.WholeHeap.{IsConsistent}
 use Rattle.jc_heap.proofs.Migrated.{migrated_alike}
 use Rattle.jc_platform.specs.Table.{Reads}
 use Rattle.jc_platform.specs.Tokens.{Tokens}
 use Rattle.jc_platform.proofs.OneAnswer.{one_table}
 use Rattle.jc_linker.specs.Values.{Packages}
-use Rattle.jc_packages.specs.ImageTables.{IsNoTable}
+use Rattle.jc_packages.specs.Tables.{IsNoTable}
 use Rattle.jc_packages.specs.Reading.{packages_of}
 use Rattle.jc_objects.specs.ImageObjects.{IsImage, IsNoImage, IsNotWhole, IsWhole}
-use Rattle.jc_objects.specs.Legends.{ArePackagesIn, HasNoPackages, IsNotLinked}
+use Rattle.jc_objects.specs.Legend.{ArePackagesIn, HasNoPackages, IsNotLinked}
 use Rattle.jc_packages.specs.declared.fault.ReadFault.{ReadFault}
 use Rattle.jc_packages.specs.declared.fault.ReadFault.TheVariants.{NoMemory, Damaged}
 

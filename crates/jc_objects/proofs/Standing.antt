@@ -4,7 +4,7 @@ use Rattle.std.proofs.Common.{ap, ap₂, refl, sym, arith}
 use Rattle.std.proofs.lemmas.Bool.{false≢true, ne_eqb}
 use Rattle.std.proofs.lemmas.List.{drop-drop, drop_all, length-drop, length-take-le, length-map, take-map}
 use Rattle.jc_commit.specs.Image.{top_of}
-use Rattle.jc_heap.specs.Cut.{Sizes, missing_words, records_from}
+use Rattle.jc_heap.specs.Walk.{Sizes, missing_words, records_from}
 use Rattle.jc_heap.specs.Heap.{read_image}
 use Rattle.jc_heap.specs.Image.{base, image, item_entry, missing_words_of_image, package_addresses}
 use Rattle.jc_heap.proofs.Following.{records_from-step}

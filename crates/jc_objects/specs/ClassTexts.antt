@@ -5,7 +5,7 @@ use Rattle.jc_heap.specs.declared.object.Kind.{Kind}
 use Rattle.jc_heap.specs.declared.object.Kind.TheVariants.{Instance, BooleanArray, ByteArray, ShortArray, ReferenceArray}
 use Rattle.jc_cap.specs.Packages.{NamedPackage}
 use Rattle.jc_image.specs.Listing.{package_at}
-use Rattle.jc_platform.specs.Distinct.{name_of_class}
+use Rattle.jc_platform.specs.NamePlaces.{name_of_class}
 use Rattle.jc_platform.specs.Platform.{class_by_word}
 use Rattle.jc_platform.specs.Tokens.{Tokens}
 use Rattle.jc_platform.specs.declared.names.PlatformClass.{PlatformClass}

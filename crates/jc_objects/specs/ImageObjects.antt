@@ -6,7 +6,7 @@ use Rattle.jc_commit.specs.Migration.{migrated}
 use Rattle.jc_commit.specs.State.{State}
 use Rattle.jc_heap.specs.Heap.{heap_of}
 use Rattle.jc_heap.specs.Image.{IsWellFormed, table_text}
-use Rattle.jc_heap.specs.Whole.{IsConsistent}
+use Rattle.jc_heap.specs.WholeHeap.{IsConsistent}
 use Rattle.jc_platform.specs.Table.{Reads}
 use Rattle.jc_platform.specs.Tokens.{Tokens}
 use Rattle.jc_packages.specs.declared.fault.ReadFault.{ReadFault}

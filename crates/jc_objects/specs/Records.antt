@@ -2,7 +2,7 @@
 use Rattle.std.specs.Prelude.{ℕ, ◌+◌, ◌-◌, ◌≤◌, ◌==◌, nat_le, Bool, List, take, drop, map, length, Option, Some, None, if◌then◌else◌}
 use Rattle.jc_words.specs.Layout.{text_start}
 use Rattle.jc_commit.specs.Image.{top_of}
-use Rattle.jc_heap.specs.Cut.{Sizes, missing_words, records_from}
+use Rattle.jc_heap.specs.Walk.{Sizes, missing_words, records_from}
 use Rattle.jc_heap.specs.Heap.{heap_of}
 use Rattle.jc_heap.specs.Image.{image, item, item_entry, missing_words_of_image, package_addresses, sizes}
 use Rattle.jc_heap.specs.Object.{Item, AnObject, APackage}

@@ -1,6 +1,6 @@
 //! What the cells of an image's objects are read by: its platform, and its packages.
 ghost use Rattle.std.specs.Prelude.{◌≡◌, Some, None, IfOk, MatchResult};
-ghost use Rattle.jc_objects.specs.Legends.{ArePackagesIn, IsLegend, IsNotLinked, holds_reference, static_references};
+ghost use Rattle.jc_objects.specs.Legend.{ArePackagesIn, IsLegend, IsNotLinked, holds_reference, static_references};
 
 use crate::image_objects::{opened, whole_of};
 use jc_linker::linked::Linked;

@@ -2,7 +2,7 @@
 ghost use Rattle.std.specs.Prelude.{ℕ, List, ◌≡◌, IfOk, IfSome, OnOk, MatchResult, false};
 ghost use Rattle.jc_heap.specs.Heap.{IsObject, heap_of, next_object};
 ghost use Rattle.jc_objects.specs.Pins.{AreTriesIn, AreTryWords, is_pin, noted};
-ghost use Rattle.jc_objects.specs.Legends.{HasNoPackages};
+ghost use Rattle.jc_objects.specs.Legend.{HasNoPackages};
 ghost use Rattle.jc_packages.specs.Objects.{is_persistent_instance};
 
 use crate::image_objects::{opened, whole_of};

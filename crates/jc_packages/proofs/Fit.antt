@@ -5,7 +5,7 @@ use Rattle.std.proofs.lemmas.List.{length-take}
 use Rattle.std.specs.Result.{result_unwrap_or}
 use Rattle.jc_cap.specs.Envelope.{info_at}
 use Rattle.jc_cap.specs.declared.texts.PackageBytes.{PackageBytes}
-use Rattle.jc_heap.specs.Packages.{AreComponents, IsTag}
+use Rattle.jc_heap.specs.Package.{AreComponents, IsTag}
 use Rattle.jc_packages.specs.LinkerView.{info_of_component}
 use Rattle.jc_packages.specs.RecordContents.{part, component_if_present, parts_of}
 

@@ -6,7 +6,7 @@ use Rattle.jc_heap.specs.Image.{table_text}
 use Rattle.jc_image.proofs.TextBytes.{length-table_text}
 use Rattle.jc_platform.specs.Tokens.{Tokens}
 use Rattle.jc_platform.specs.Table.{Reads}
-use Rattle.jc_packages.specs.ImageTables.{HasTable, IsNoTable}
+use Rattle.jc_packages.specs.Tables.{HasTable, IsNoTable}
 use Rattle.jc_packages.specs.declared.fault.ReadFault.{ReadFault}
 use Rattle.jc_packages.specs.declared.fault.ReadFault.TheVariants.{Damaged}
 

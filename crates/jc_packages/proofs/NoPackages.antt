@@ -3,21 +3,21 @@ use Rattle.std.proofs.Common.{◌≡◌, ℕ, List, Option, Some, None, Result, 
 use Rattle.jc_cap.specs.declared.fault.CapFault.{CapFault}
 use Rattle.jc_cap.specs.declared.formats.Format.{Format}
 use Rattle.jc_cap.specs.declared.formats.Format.TheVariants.{V2_1}
-use Rattle.jc_cap.specs.Again.{IsReadable}
+use Rattle.jc_cap.specs.Reading.{IsReadable}
 use Rattle.jc_cap.specs.Header.{HeaderValue}
 use Rattle.jc_cap.proofs.Many.{ok_is}
 use Rattle.jc_cap.specs.declared.texts.LoadedComponents.{LoadedComponents}
 use Rattle.jc_cap.specs.declared.texts.PackageBytes.{PackageBytes}
 use Rattle.jc_cap.specs.Assembling.{assembly_of}
 use Rattle.jc_cap.specs.ComponentReading.{classes_in, directory_in, header_in, imports_in, methods_in, pool_in, statics_in}
-use Rattle.jc_cap.specs.Components.{component_at, content_result}
+use Rattle.jc_cap.specs.Component.{component_at, content_result}
 use Rattle.jc_cap.specs.Contents.{Content}
 use Rattle.jc_cap.specs.Contents as contents
-use Rattle.jc_cap.specs.Kept.{applets_told, exports_told}
+use Rattle.jc_cap.specs.KeptComponents.{applets_told, exports_told}
 use Rattle.jc_cap.proofs.AreRead.{AreRead, are_read}
 use Rattle.jc_cap.proofs.Taken.{header_is, directory_is, applets_are, imports_are, pool_is, classes_are, methods_are, statics_are, exports_are}
 use Rattle.jc_linker.specs.Values.{Packages}
-use Rattle.jc_packages.specs.Loading.{content_in}
+use Rattle.jc_packages.specs.Load.{content_in}
 use Rattle.jc_packages.specs.PendingPackages.{if_read, linked_components, linked_package}
 use Rattle.jc_packages.specs.Reading.{CannotBeTaken, IsNoPackage, load_of, text_in, with_prepared}
 use Rattle.jc_cap.specs.PackageReading.{contents_of}

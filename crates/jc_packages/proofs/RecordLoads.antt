@@ -7,13 +7,12 @@ use Rattle.jc_cap.specs.Header.{HeaderValue}
 use Rattle.jc_cap.proofs.Many.{ok_is}
 use Rattle.jc_cap.specs.declared.texts.LoadedComponents.{LoadedComponents}
 use Rattle.jc_cap.specs.ComponentReading.{header_in}
-use Rattle.jc_cap.specs.Components.{content_result}
+use Rattle.jc_cap.specs.Component.{content_result}
 use Rattle.jc_cap.specs.Contents.{Content}
 use Rattle.jc_cap.specs.Contents as contents
-use Rattle.jc_cap.specs.Taking.{Taken, taken}
-use Rattle.jc_cap.specs.Texts.{no_components, with_component}
+use Rattle.jc_cap.specs.Texts.{Taken, taken, no_components, with_component}
 use Rattle.jc_cap.proofs.Taken.{header_is}
-use Rattle.jc_packages.specs.Loading.{content_in, taken_behind}
+use Rattle.jc_packages.specs.Load.{content_in, taken_behind}
 use Rattle.jc_packages.specs.Reading.{load_of, text_in, text_taken}
 use Rattle.jc_packages.proofs.NoPackages.{IsTold}
 

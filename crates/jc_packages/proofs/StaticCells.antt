@@ -3,7 +3,7 @@ use Rattle.std.proofs.Common.{◌≡◌, ℕ, ◌+◌, ◌*◌, ◌≤◌, List,
 use Rattle.jc_cap.specs.Statics.{AreStatics}
 use Rattle.jc_cap.specs.declared.texts.PackageBytes.{PackageBytes}
 use Rattle.jc_cap.specs.Contents.{PackageContents}
-use Rattle.jc_cap.specs.KnownPackages.{IsPackage}
+use Rattle.jc_cap.specs.Assembling.{IsPackage}
 use Rattle.jc_cap.specs.PackageReading.{contents_of}
 use Rattle.jc_packages.specs.RecordContents.{statics_if_present, statics_of, zeros_of}
 

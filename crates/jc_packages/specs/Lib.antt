@@ -3,8 +3,8 @@ pub mod PendingPackages
 pub mod RecordContents
 pub mod Reading
 pub mod Incoming
-pub mod Loading
+pub mod Load
 pub mod LoadEnd
-pub mod ImageTables
+pub mod Tables
 pub mod Objects
 pub mod Sound

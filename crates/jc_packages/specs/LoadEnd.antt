@@ -11,13 +11,13 @@ use Rattle.jc_linker.specs.declared.fault.LinkFault.TheVariants as link
 use Rattle.jc_linker.specs.Linking.{with_package}
 use Rattle.jc_memory.specs.State.{MemoryState}
 use Rattle.jc_memory.specs.Programs.{Program, Finish, Either, bind}
-use Rattle.jc_memory.specs.Changing.{package_addition}
+use Rattle.jc_memory.specs.Changes.{package_addition}
 use Rattle.jc_packages.specs.PendingPackages.{PendingPackageValue, linked_components, linked_texts}
 use Rattle.jc_packages.specs.RecordContents.{arrays_of, image_of, parts_of, statics_of}
 use Rattle.jc_packages.specs.declared.load.OpenLoad.{OpenLoad}
 use Rattle.jc_packages.specs.declared.load_refusal.LoadRefusal.{LoadRefusal}
 use Rattle.jc_packages.specs.declared.load_refusal.LoadRefusal.TheVariants.{OutOfSequence, Full, LinkFailed, HeapFull}
-use Rattle.jc_packages.specs.Loading.{CommandResult}
+use Rattle.jc_packages.specs.Load.{CommandResult}
 
 -- how the end of a load ends, the packages and the load that it leaves
 pub record LoadResult : Type 0 where

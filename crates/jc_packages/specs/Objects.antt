@@ -9,7 +9,7 @@ use Rattle.jc_heap.specs.Heap.{HeapState, heap_item_at, facts, cells}
 use Rattle.jc_memory.specs.Marks.{is_marked}
 use Rattle.jc_linker.specs.Values.{Packages}
 use Rattle.jc_linker.specs.Classes.{is_a, is_class, reference_cell, size_of}
-use Rattle.jc_linker.specs.Resolves.{names_interface}
+use Rattle.jc_linker.specs.Resolve.{names_interface}
 
 -- an object stands at this address
 abbrev pub is_object_address : HeapState → ℕ → Bool

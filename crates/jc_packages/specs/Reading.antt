@@ -5,10 +5,10 @@ use Rattle.jc_cap.specs.Tags.{header_tag, directory_tag, applet_tag, import_tag,
 use Rattle.jc_cap.specs.declared.fault.CapFault.{CapFault}
 use Rattle.jc_cap.specs.declared.formats.Format.{Format}
 use Rattle.jc_cap.specs.declared.texts.LoadedComponents.{LoadedComponents}
-use Rattle.jc_cap.specs.Taking.{Taken}
-use Rattle.jc_packages.specs.Loading.{content_in, taken_behind}
+use Rattle.jc_cap.specs.Texts.{Taken}
+use Rattle.jc_packages.specs.Load.{content_in, taken_behind}
 use Rattle.jc_heap.specs.declared.component.Span.{Span}
-use Rattle.jc_heap.specs.Components.{info_of, record_of}
+use Rattle.jc_heap.specs.Component.{info_of, record_of}
 use Rattle.jc_heap.specs.Heap.{HeapState}
 use Rattle.jc_heap.specs.Packed.{bytes_of_packed}
 use Rattle.jc_linker.specs.Values.{Packages}

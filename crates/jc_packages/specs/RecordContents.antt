@@ -10,7 +10,7 @@ use Rattle.jc_cap.specs.Contents.{PackageContents}
 use Rattle.jc_cap.specs.PackageReading.{contents_of}
 use Rattle.jc_heap.specs.declared.object.Kind.{Kind}
 use Rattle.jc_heap.specs.declared.object.Kind.TheVariants.{BooleanArray, ByteArray, ShortArray}
-use Rattle.jc_heap.specs.Packages.{AreArrays, AreComponents, image_size, array_inits, parts}
+use Rattle.jc_heap.specs.Package.{AreArrays, AreComponents, image_size, array_inits, parts}
 use Rattle.jc_packages.specs.LinkerView.{info_of_component}
 use Rattle.jc_packages.specs.declared.record_contents.RecordContents.{RecordContents}
 

@@ -2,9 +2,9 @@
 use Rattle.std.specs.Prelude.{ℕ, ◌≡◌, ◌<◌, ◌+◌, ◌==◌, ◌&&◌, nat_lt, nat_le, Bool, true, List, drop, length, slice_index, Some}
 use Rattle.jc_heap.specs.RegistryLayout.{entry_start, entry_aid, entry_package, entry_instance}
 use Rattle.jc_platform.specs.declared.names.PlatformClass.TheVariants.{Aid, Applet}
-use Rattle.jc_platform.specs.Distinct.{class_word}
+use Rattle.jc_platform.specs.NamePlaces.{class_word}
 use Rattle.jc_heap.specs.declared.object.Facts.{Facts}
-use Rattle.jc_heap.specs.Components.{record_of, words_for}
+use Rattle.jc_heap.specs.Component.{record_of, words_for}
 use Rattle.jc_heap.specs.Heap.{HeapState, facts, cells, IsObject}
 use Rattle.jc_heap.specs.Packed.{bytes_of_packed}
 use Rattle.jc_heap.specs.Statics.{statics_of}

@@ -6,7 +6,7 @@ ghost use Rattle.jc_words.specs.Layout.{most_applets};
 ghost use Rattle.jc_heap.specs.RegistryLayout.{entry_length};
 ghost use Rattle.jc_heap.specs.Heap.{cells, facts};
 ghost use Rattle.jc_heap.specs.Packed.{packed_byte};
-ghost use Rattle.jc_heap.specs.Whole.{IsConsistent};
+ghost use Rattle.jc_heap.specs.WholeHeap.{IsConsistent};
 ghost use Rattle.jc_packages.specs.Objects.{is_instance, is_object_address};
 ghost use Rattle.jc_linker.specs.Classes.{is_a};
 ghost use Rattle.jc_packages.specs.Sound.{HasOwnAid, IsRegistered, aid_in, aid_of_entry, entry_word, holds_aid};

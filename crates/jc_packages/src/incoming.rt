@@ -1,6 +1,6 @@
 //! A component that is coming.
 ghost use Rattle.std.specs.Prelude.{◌≡◌, ◌⊎◌, ◌<◌, length};
-ghost use Rattle.jc_packages.specs.Loading.{empty_component, component_with_bytes, without_memory, command_result};
+ghost use Rattle.jc_packages.specs.Load.{empty_component, component_with_bytes, without_memory, command_result};
 
 use crate::load_refusal::LoadRefusal;
 use jc_cap::fault::CapFault;

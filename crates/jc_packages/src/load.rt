@@ -1,9 +1,9 @@
 //! An open load.
 ghost use Rattle.std.specs.Prelude.{◌≡◌, ◌⊎◌, ◌<◌, length};
-ghost use Rattle.jc_cap.specs.Taking.{taken};
+ghost use Rattle.jc_cap.specs.Texts.{taken};
 ghost use Rattle.jc_cap.specs.Reading.{ParsesAs};
-ghost use Rattle.jc_packages.specs.Loading.{empty_load, component_begin, component_end, component_append, is_tag, without_memory, command_result};
-ghost use Rattle.jc_packages.specs.Loading.{content_in, format_for, taken_behind};
+ghost use Rattle.jc_packages.specs.Load.{empty_load, component_begin, component_end, component_append, is_tag, without_memory, command_result};
+ghost use Rattle.jc_packages.specs.Load.{content_in, format_for, taken_behind};
 
 use crate::incoming::IncomingComponent;
 use crate::load_refusal::LoadRefusal;
@@ -28,7 +28,7 @@ pub struct OpenLoad {
 
 impl OpenLoad {
     /// No component has come yet.
-    #[tactic(auto, unfolding(crate::specs::Loading::empty_load))]
+    #[tactic(auto, unfolding(crate::specs::Load::empty_load))]
     pub fn new() -> OpenLoad
         ensures { result ≡ empty_load }
     {

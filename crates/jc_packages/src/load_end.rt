@@ -4,7 +4,7 @@ ghost use Rattle.jc_memory.specs.Programs.{Executes, Either};
 ghost use Rattle.jc_linker.specs.declared.fault.LinkFault.TheVariants.{NoMemory};
 ghost use Rattle.jc_packages.specs.declared.load_refusal.LoadRefusal.TheVariants.{LinkFailed};
 ghost use Rattle.jc_words.specs.Layout.{most_packages};
-ghost use Rattle.jc_heap.specs.Packages.{AreArrays, AreComponents, array_inits, image_size, parts};
+ghost use Rattle.jc_heap.specs.Package.{AreArrays, AreComponents, array_inits, image_size, parts};
 ghost use Rattle.jc_packages.specs.PendingPackages.{linked_as};
 ghost use Rattle.jc_packages.specs.LoadEnd.{package_entry, record_entry, after_end, assembly_result, texts_result, with_dropped_load, end_of_load};
 

@@ -1,9 +1,8 @@
 //! Packages read from the records of a heap.
 ghost use Rattle.std.specs.Prelude.{◌≡◌, ◌<◌, ◌++◌, [], ◌∷◌, false, length, slice_index, IfOk, OnOk, Some, Ok, None, Err};
-ghost use Rattle.jc_cap.specs.Taking.{taken};
-ghost use Rattle.jc_cap.specs.Texts.{no_components};
-ghost use Rattle.jc_heap.specs.Whole.{IsConsistent};
-ghost use Rattle.jc_heap.specs.Components.{record_of, IsWithin};
+ghost use Rattle.jc_cap.specs.Texts.{taken, no_components};
+ghost use Rattle.jc_heap.specs.WholeHeap.{IsConsistent};
+ghost use Rattle.jc_heap.specs.Component.{record_of, IsWithin};
 ghost use Rattle.jc_packages.specs.Reading.{CannotBeTaken, IsNoPackage, fault_of, load_of, packages_of, text_at, text_in, text_taken};
 ghost use Rattle.jc_packages.specs.Reading.{with_prepared};
 ghost use Rattle.jc_packages.specs.PendingPackages.{linked_components, linked_texts};

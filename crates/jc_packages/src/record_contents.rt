@@ -1,9 +1,9 @@
 //! What a package's record is made of.
 ghost use Rattle.std.specs.Prelude.{◌≡◌, ◌+◌, ◌*◌, ◌≤◌, ◌<◌, ◌++◌, [], ◌∷◌, length, map, replicate, Ok, IfOk, OnOk};
-ghost use Rattle.jc_cap.specs.KnownPackages.{IsPackage};
+ghost use Rattle.jc_cap.specs.Assembling.{IsPackage};
 ghost use Rattle.jc_cap.specs.StaticViews.{static_array, static_parts};
-ghost use Rattle.jc_heap.specs.Packages.{AreArrays, array_init, array_inits, parts};
-ghost use Rattle.jc_heap.specs.Packages.{part as component_part};
+ghost use Rattle.jc_heap.specs.Package.{AreArrays, array_init, array_inits, parts};
+ghost use Rattle.jc_heap.specs.Package.{part as component_part};
 ghost use Rattle.jc_packages.specs.RecordContents.{AreRecordContents, array_of, kind_of, part, parts_of, statics_of, zeros_of};
 
 use crate::infos::info_in;

@@ -1,7 +1,7 @@
 //! Whether a heap fits the packages that are linked of it.
 ghost use Rattle.std.specs.Prelude.{ℕ, List, ◌≡◌, ◌↔◌, IsTrue, false, length};
 ghost use Rattle.jc_heap.specs.Heap.{heap_of, IsObject};
-ghost use Rattle.jc_heap.specs.Whole.{IsConsistent};
+ghost use Rattle.jc_heap.specs.WholeHeap.{IsConsistent};
 ghost use Rattle.jc_memory.specs.Marks.{mark_count};
 ghost use Rattle.jc_packages.specs.Objects.{MarksObjects};
 ghost use Rattle.jc_packages.specs.Sound.{IsSound};

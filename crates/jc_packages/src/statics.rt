@@ -1,7 +1,7 @@
 //! Whether each package's record ends with its static image, whose references are null or objects.
 ghost use Rattle.std.specs.Prelude.{ℕ, ◌≡◌, ◌<◌, ◌+◌, ◌↔◌, IsTrue, true, false, length, slice_index};
-ghost use Rattle.jc_heap.specs.Components.{record_of};
-ghost use Rattle.jc_heap.specs.Whole.{IsConsistent};
+ghost use Rattle.jc_heap.specs.Component.{record_of};
+ghost use Rattle.jc_heap.specs.WholeHeap.{IsConsistent};
 ghost use Rattle.jc_linker.specs.Lookups.{statics_at};
 ghost use Rattle.jc_packages.specs.Objects.{is_reference};
 ghost use Rattle.jc_packages.specs.Sound.{HoldsStatics, package_record_at};

@@ -4,7 +4,7 @@ ghost use Rattle.jc_words.specs.Layout.{text_start};
 ghost use Rattle.jc_heap.specs.Image.{table_text, text_byte};
 ghost use Rattle.jc_platform.specs.Table.{Reads};
 ghost use Rattle.jc_platform.specs.Tokens.{Tokens};
-ghost use Rattle.jc_packages.specs.ImageTables.{HasTable, HasText, IsNoTable};
+ghost use Rattle.jc_packages.specs.Tables.{HasTable, HasText, IsNoTable};
 
 use crate::fault::ReadFault;
 use jc_image::ImageWords;

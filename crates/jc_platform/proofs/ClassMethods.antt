@@ -13,9 +13,9 @@ use Rattle.jc_platform.specs.Names.{objects_rows, exceptions_rows, utilities_row
 use Rattle.jc_platform.specs.Names.{keys_rows, key_interfaces_rows, ciphers_rows}
 use Rattle.jc_platform.specs.Names.{rsa_keys_rows, ec_keys_rows, rsa_interfaces_rows, ec_interfaces_rows, key_pairs_rows}
 use Rattle.jc_platform.specs.Numbers.{class_number}
-use Rattle.jc_platform.specs.Rooms.{rows_of}
+use Rattle.jc_platform.specs.Lookup.{rows_of}
 use Rattle.jc_platform.specs.Rows.{methods_of}
-use Rattle.jc_platform.specs.Seen.{method_value}
+use Rattle.jc_platform.specs.RowValues.{method_value}
 use Rattle.jc_platform.proofs.Lists.{shown_between}
 
 pub any-filter : {X : Type 0} (p q r : X → Bool) (xs : List X) → list_any (λ x. p x && q x && r x) xs ≡ list_any (λ x. q x && r x) (filter p xs)

@@ -3,7 +3,7 @@ use Rattle.std.proofs.Common.{◌≡◌, ◌==◌, ◌&&◌, ℕ, Bool, true, fa
 use Rattle.std.proofs.lemmas.Bool.{false≢true}
 use Rattle.jc_platform.specs.declared.names.MethodKind.TheVariants.{Static}
 use Rattle.jc_platform.specs.declared.names.PlatformMethod.{PlatformMethod}
-use Rattle.jc_platform.specs.Distinct.{entry_of_method}
+use Rattle.jc_platform.specs.NamePlaces.{entry_of_method}
 use Rattle.jc_platform.specs.Names.{MethodEntry}
 use Rattle.jc_platform.specs.Numbers.{same_kind}
 use Rattle.jc_platform.specs.Signatures.{is_constructor, is_constructor_name, receiver_cells}

@@ -13,7 +13,7 @@ use Rattle.jc_platform.specs.declared.names.PlatformMethod.{PlatformMethod}
 use Rattle.jc_platform.specs.declared.names.PlatformPackage.{PlatformPackage}
 use Rattle.jc_platform.specs.declared.row.Row.{Row}
 use Rattle.jc_platform.specs.declared.row.Row.TheVariants.{Extended, Random, Package, Class, Method}
-use Rattle.jc_platform.specs.Distinct.{AreDistinct, class_of, entry_of_class, home_of, entry_of_method, kind_of_method}
+use Rattle.jc_platform.specs.NamePlaces.{AreDistinct, class_of, entry_of_class, home_of, entry_of_method, kind_of_method}
 use Rattle.jc_platform.specs.Names.{MethodEntry, classes, methods, no_class, no_method}
 use Rattle.jc_platform.specs.Numbers.{class_number, kind_number, method_number, package_number, same_class, same_kind, same_package}
 use Rattle.jc_platform.specs.Rows.{Above, above, class_token_in, has_class_token, has_method_token, has_supertypes, is_package, is_token, largest_token, method_token_in}

@@ -3,7 +3,7 @@ use Rattle.std.proofs.Common.{◌≡◌, ◌∙◌, ap, sym, true, Bool, arith}
 use Rattle.std.specs.List.{list_all}
 use Rattle.jc_platform.specs.declared.names.PlatformClass.{PlatformClass}
 use Rattle.jc_platform.specs.declared.names.PlatformMethod.{PlatformMethod}
-use Rattle.jc_platform.specs.Distinct.{entry_of_class, entry_of_method}
+use Rattle.jc_platform.specs.NamePlaces.{entry_of_class, entry_of_method}
 use Rattle.jc_platform.specs.Names.{ClassEntry, MethodEntry, classes, methods, no_class, no_method}
 use Rattle.jc_platform.specs.Numbers.{class_number, method_number}
 use Rattle.jc_platform.proofs.Facts.{at_number, class_places, method_places}

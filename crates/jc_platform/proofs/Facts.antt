@@ -31,7 +31,7 @@ use Rattle.jc_platform.specs.declared.names.EcKeysMethod.TheVariants.{EcKeyObjec
 use Rattle.jc_platform.specs.declared.names.RsaInterfacesMethod.TheVariants.{PrivateKeyClearKey}
 use Rattle.jc_platform.specs.declared.names.EcInterfacesMethod.TheVariants.{EcKeySetFieldFp}
 use Rattle.jc_platform.specs.declared.names.KeyPairsMethod.TheVariants.{KeyPairInit}
-use Rattle.jc_platform.specs.Distinct.{class_of, entry_of_class, entry_of_method, home_of, kind_of_method, name_of_method}
+use Rattle.jc_platform.specs.NamePlaces.{class_of, entry_of_class, entry_of_method, home_of, kind_of_method, name_of_method}
 use Rattle.jc_platform.specs.Hierarchy.{is_exception_form, is_interface_form}
 use Rattle.jc_platform.specs.Names.{MethodEntry, classes, methods, no_method}
 use Rattle.jc_platform.specs.Names.{objects_rows, exceptions_rows, utilities_rows, system_rows, aids_rows, pins_rows, applets_rows, apdus_rows, events_rows, engines_rows}

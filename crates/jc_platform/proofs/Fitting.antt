@@ -8,10 +8,10 @@ use Rattle.jc_platform.specs.declared.names.PlatformPackage.{PlatformPackage}
 use Rattle.jc_platform.specs.declared.names.MethodKind.{MethodKind}
 use Rattle.jc_platform.specs.declared.row.Row.{Row}
 use Rattle.jc_platform.specs.declared.row.Row.TheVariants.{Extended, Random, Package, Class, Method}
-use Rattle.jc_platform.specs.Distinct.{class_of, entry_of_class, entry_of_method}
+use Rattle.jc_platform.specs.NamePlaces.{class_of, entry_of_class, entry_of_method}
 use Rattle.jc_platform.specs.Names.{PackageEntry, ClassEntry, MethodEntry, packages, classes, methods}
 use Rattle.jc_platform.specs.Numbers.{same_class, same_kind, same_package}
-use Rattle.jc_platform.specs.Packed.{class_entry, is_packed, method_entry, package_entry, row_in, row_of_entry, row_of_kind}
+use Rattle.jc_platform.specs.PackedEntry.{class_entry, is_packed, method_entry, package_entry, row_in, row_of_entry, row_of_kind}
 use Rattle.jc_platform.specs.Rows.{Above, class_row, kind_of, may_be_class, may_be_method, may_be_package, method_named, method_row, number_of, package_row}
 use Rattle.jc_platform.specs.Rows.{bytes_of, classes_of, extended_row, may_be_extended, may_be_random, methods_of, parts_at, random_row, row_of, row_of_line}
 use Rattle.jc_platform.proofs.Lists.{and_true}

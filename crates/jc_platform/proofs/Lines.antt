@@ -6,7 +6,7 @@ use Rattle.std.specs.Option.{MatchOption, is_some}
 use Rattle.std.proofs.lemmas.Bool.{false≢true}
 use Rattle.std.proofs.lemmas.List.{reverse-append}
 use Rattle.jc_platform.specs.declared.row.Row.{Row}
-use Rattle.jc_platform.specs.Packed.{entries, is_packed, parts_of, row_in, row_of_entry}
+use Rattle.jc_platform.specs.PackedEntry.{entries, is_packed, parts_of, row_in, row_of_entry}
 use Rattle.jc_platform.specs.Rows.{Above, above, parts_at, row_of, row_of_line}
 use Rattle.jc_platform.specs.Table.{Say, IsBad, IsFirstBad}
 

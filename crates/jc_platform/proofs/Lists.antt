@@ -9,7 +9,7 @@ use Rattle.std.proofs.lemmas.List.{drop-map, get_or-set_other, length-drop, take
 use Rattle.std.proofs.lemmas.Grind.{get_or-set_at}
 use Rattle.std.proofs.lemmas.List.Splits.{slice_split_first, slice_split_none}
 use Rattle.std.proofs.lemmas.List.Sums.{fails_before_first}
-use Rattle.jc_platform.specs.Packed.{entries}
+use Rattle.jc_platform.specs.PackedEntry.{entries}
 use Rattle.jc_platform.specs.Rows.{parts_at}
 
 -- the first element that passes, of a list that f shows

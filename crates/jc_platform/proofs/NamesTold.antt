@@ -11,8 +11,8 @@ use Rattle.jc_platform.specs.declared.names.MethodKind.TheVariants.{Static, Virt
 use Rattle.jc_platform.specs.declared.names.PlatformMethod.{PlatformMethod}
 use Rattle.jc_platform.specs.declared.names.PlatformPackage.{PlatformPackage}
 use Rattle.jc_platform.specs.declared.names.PlatformPackage.TheVariants.{JavaLang, JavacardFramework, JavacardxApdu, JavacardSecurity, JavacardxCrypto}
-use Rattle.jc_platform.specs.Distinct.{AreDistinct, class_of, entry_of_class, entry_of_method, home_of, is_needed_class, is_needed_method}
-use Rattle.jc_platform.specs.Distinct.{kind_of_method}
+use Rattle.jc_platform.specs.NamePlaces.{AreDistinct, class_of, entry_of_class, entry_of_method, home_of, is_needed_class, is_needed_method}
+use Rattle.jc_platform.specs.NamePlaces.{kind_of_method}
 use Rattle.jc_platform.specs.Names.{ClassEntry, MethodEntry, classes, methods, no_class, no_method}
 use Rattle.jc_platform.specs.Numbers.{class_number, is_needed_package, method_number, package_number, same_class, same_kind, same_package}
 use Rattle.jc_platform.specs.Platform.{TellNames, class_by_token, method_by_token, package_by_number}

@@ -11,7 +11,7 @@ use Rattle.jc_platform.specs.declared.names.PlatformPackage.{PlatformPackage}
 use Rattle.jc_platform.specs.declared.row.Row.{Row}
 use Rattle.jc_platform.specs.declared.row.Version.{Version}
 use Rattle.jc_platform.specs.Numbers.{class_count, class_number, method_count, method_number, package_count, package_number}
-use Rattle.jc_platform.specs.Packed.{row_in}
+use Rattle.jc_platform.specs.PackedEntry.{row_in}
 use Rattle.jc_platform.specs.Rows.{Above, above}
 use Rattle.jc_platform.specs.Table.{AreThoseOf, IsBad, IsFirstBad, IsMissing, Reads, Say, Spells, largest_text}
 use Rattle.jc_platform.specs.Tokens.{Tokens}

@@ -4,7 +4,7 @@ use Rattle.std.specs.Prelude.{find, slice_get}
 use Rattle.std.specs.List.{filter}
 use Rattle.std.proofs.lemmas.Bool.Decides.{Decides-eqb}
 use Rattle.jc_platform.specs.declared.names.PlatformClass.{PlatformClass}
-use Rattle.jc_platform.specs.Distinct.{class_of, entry_of_class, entry_of_method}
+use Rattle.jc_platform.specs.NamePlaces.{class_of, entry_of_class, entry_of_method}
 use Rattle.jc_platform.specs.Names.{ClassEntry, MethodEntry, classes, methods, no_class, no_method}
 use Rattle.jc_platform.specs.Names.{objects_rows, exceptions_rows, utilities_rows, system_rows, aids_rows, pins_rows, applets_rows, apdus_rows, events_rows, engines_rows}
 use Rattle.jc_platform.specs.Names.{keys_rows, key_interfaces_rows, ciphers_rows}

@@ -6,7 +6,7 @@ use Rattle.jc_platform.specs.declared.names.PlatformPackage.TheVariants.{JavaLan
 use Rattle.jc_platform.specs.Names.{classes}
 use Rattle.jc_platform.specs.Numbers.{class_count, package_number}
 use Rattle.jc_platform.specs.Rows.{classes_of}
-use Rattle.jc_platform.specs.Seen.{class_value}
+use Rattle.jc_platform.specs.RowValues.{class_value}
 use Rattle.jc_platform.proofs.Lists.{shown_between}
 
 -- the places of the packages' first classes, and after them how many classes there are

@@ -7,7 +7,7 @@ use Rattle.std.proofs.lemmas.List.{reverse-append, reverse-reverse}
 use Rattle.jc_platform.specs.declared.fault.TableFault.{TableFault}
 use Rattle.jc_platform.specs.declared.fault.TableFault.TheVariants.{BadTable}
 use Rattle.jc_platform.specs.declared.row.Row.{Row}
-use Rattle.jc_platform.specs.Packed.{entries, is_packed, row_in, row_of_entry}
+use Rattle.jc_platform.specs.PackedEntry.{entries, is_packed, row_in, row_of_entry}
 use Rattle.jc_platform.specs.Rows.{above, row_of_line}
 use Rattle.jc_platform.specs.Table.{IsFirstBad, Reads, Say, Spells}
 use Rattle.jc_platform.specs.Tokens.{Tokens}

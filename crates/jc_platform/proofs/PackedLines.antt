@@ -2,7 +2,7 @@
 use Rattle.std.proofs.Common.{◌≡◌, ◌+◌, ℕ, false, List, [], ◌∷◌, ◌++◌, Option, Some, None, length, reverse, refl, ap, sym, subst, ◌∙◌}
 use Rattle.std.specs.Option.{MatchOption}
 use Rattle.jc_platform.specs.declared.row.Row.{Row}
-use Rattle.jc_platform.specs.Packed.{is_packed, parts_of, row_in}
+use Rattle.jc_platform.specs.PackedEntry.{is_packed, parts_of, row_in}
 use Rattle.jc_platform.specs.Rows.{Above, above, parts_at, row_of_line}
 use Rattle.jc_platform.specs.Table.{IsBad, IsFirstBad, Say, Spells}
 use Rattle.jc_platform.proofs.Lines.{are_lines, bad_row, has_parts, read_as_line, reverse-cons}

@@ -13,10 +13,10 @@ use Rattle.jc_platform.specs.declared.names.PlatformPackage.TheVariants.{JavaLan
 use Rattle.jc_platform.specs.declared.row.Row.{Row}
 use Rattle.jc_platform.specs.declared.row.Row.TheVariants.{Extended, Random, Package, Class, Method}
 use Rattle.jc_platform.specs.declared.row.Version.{Version}
-use Rattle.jc_platform.specs.Distinct.{class_of, entry_of_class, entry_of_method, home_of}
+use Rattle.jc_platform.specs.NamePlaces.{class_of, entry_of_class, entry_of_method, home_of}
 use Rattle.jc_platform.specs.Names.{ClassEntry, MethodEntry, PackageEntry, classes, methods, packages}
 use Rattle.jc_platform.specs.Numbers.{method_number, package_number, same_class, same_method, same_package}
-use Rattle.jc_platform.specs.Packed.{class_entry, method_entry, package_entry, row_of_entry}
+use Rattle.jc_platform.specs.PackedEntry.{class_entry, method_entry, package_entry, row_of_entry}
 use Rattle.jc_platform.specs.Rows.{Above, allows, bytes_of, class_row, classes_of, has_class_token, has_supertypes, is_package, kind_of}
 use Rattle.jc_platform.specs.Rows.{may_be_class, may_be_extended, may_be_method, may_be_package, may_be_random, method_named, method_row, methods_of, number_of}
 use Rattle.jc_platform.specs.Rows.{package_row, parts_at, random_row, row_of, row_of_line}

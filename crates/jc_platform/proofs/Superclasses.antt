@@ -7,7 +7,7 @@ use Rattle.std.proofs.lemmas.Bool.Decides.{Decides-eqb}
 use Rattle.jc_platform.specs.declared.names.PlatformClass.{PlatformClass}
 use Rattle.jc_platform.specs.declared.row.Row.{Row}
 use Rattle.jc_platform.specs.declared.row.Row.TheVariants.{Extended, Random, Package, Class, Method}
-use Rattle.jc_platform.specs.Distinct.{entry_of_class, is_needed_class}
+use Rattle.jc_platform.specs.NamePlaces.{entry_of_class, is_needed_class}
 use Rattle.jc_platform.specs.Hierarchy.{interfaces_of, superclass_of}
 use Rattle.jc_platform.specs.Numbers.{class_number, same_class}
 use Rattle.jc_platform.specs.Rows.{above, allows, class_token_in, has_class_token, has_superclass, has_supertypes, is_package}

@@ -9,7 +9,7 @@ use Rattle.jc_platform.specs.declared.names.PlatformPackage.{PlatformPackage}
 use Rattle.jc_platform.specs.declared.names.PlatformPackage.TheVariants.{JavaLang, JavacardFramework}
 use Rattle.jc_platform.specs.declared.row.Row.{Row}
 use Rattle.jc_platform.specs.declared.row.Row.TheVariants.{Extended, Random, Package, Class, Method}
-use Rattle.jc_platform.specs.Distinct.{entry_of_class, entry_of_method, is_needed_class, is_needed_method}
+use Rattle.jc_platform.specs.NamePlaces.{entry_of_class, entry_of_method, is_needed_class, is_needed_method}
 use Rattle.jc_platform.specs.Numbers.{is_needed_package}
 use Rattle.jc_platform.specs.Rows.{Above, above, first_package, has_needed_packages, is_extended, may_be_package, version_in}
 use Rattle.jc_platform.specs.Table.{Say, has_needed_classes, has_needed_methods}

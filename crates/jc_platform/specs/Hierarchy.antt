@@ -6,7 +6,7 @@ use Rattle.jc_platform.specs.declared.kinds.ClassForm.{ClassForm}
 use Rattle.jc_platform.specs.declared.kinds.ClassForm.TheVariants as form
 use Rattle.jc_platform.specs.declared.names.PlatformClass.{PlatformClass}
 use Rattle.jc_platform.specs.declared.names.PlatformMethod.{PlatformMethod}
-use Rattle.jc_platform.specs.Distinct.{entry_of_class, entry_of_method}
+use Rattle.jc_platform.specs.NamePlaces.{entry_of_class, entry_of_method}
 
 -- the superclass; Object and the interfaces have none
 unfoldable pub superclass_of : PlatformClass → Option PlatformClass

@@ -1,13 +1,13 @@
 pub mod Names
-pub mod Rooms
+pub mod Lookup
 pub mod Numbers
-pub mod Packed
+pub mod PackedEntry
 pub mod Reading
 pub mod Rows
-pub mod Seen
+pub mod RowValues
 pub mod Table
 pub mod Tokens
-pub mod Distinct
+pub mod NamePlaces
 pub mod Signatures
 pub mod Hierarchy
 pub mod Platform

@@ -6,9 +6,9 @@ use Rattle.jc_platform.specs.declared.names.PlatformClass.{PlatformClass}
 use Rattle.jc_platform.specs.declared.names.PlatformMethod.{PlatformMethod}
 use Rattle.jc_platform.specs.declared.row.Row.{Row}
 use Rattle.jc_platform.specs.declared.row.Row.TheVariants.{Extended, Random, Package, Class, Method}
-use Rattle.jc_platform.specs.Distinct.{class_of, home_of}
+use Rattle.jc_platform.specs.NamePlaces.{class_of, home_of}
 use Rattle.jc_platform.specs.Numbers.{package_number, same_class, same_method}
-use Rattle.jc_platform.specs.Packed.{is_packed}
+use Rattle.jc_platform.specs.PackedEntry.{is_packed}
 use Rattle.jc_platform.specs.Rows.{classes_of, methods_of}
 use Rattle.jc_platform.specs.Table.{Reads, Spells, largest_text}
 use Rattle.jc_platform.specs.Tokens.{Tokens}

@@ -8,7 +8,7 @@ use Rattle.jc_platform.specs.declared.names.PlatformPackage.TheVariants.{JavaLan
 use Rattle.jc_platform.specs.declared.names.PlatformClass.{PlatformClass}
 use Rattle.jc_platform.specs.declared.names.MethodKind.{MethodKind}
 use Rattle.jc_platform.specs.declared.names.PlatformMethod.{PlatformMethod}
-use Rattle.jc_platform.specs.Distinct.{class_of, home_of, is_needed_class, is_needed_method, kind_of_method}
+use Rattle.jc_platform.specs.NamePlaces.{class_of, home_of, is_needed_class, is_needed_method, kind_of_method}
 use Rattle.jc_platform.specs.Hierarchy.{interfaces_of, superclass_of}
 use Rattle.jc_platform.specs.Names.{classes, methods}
 use Rattle.jc_platform.specs.Numbers.{same_class, same_kind, same_package}

@@ -17,7 +17,7 @@ use Rattle.jc_platform.specs.declared.row.Version.{Version}
 use Rattle.jc_platform.specs.declared.row.Row.{Row}
 use Rattle.jc_platform.specs.declared.row.Row.TheVariants.{Extended, Random, Package, Class, Method}
 use Rattle.jc_platform.specs.Names.{ClassEntry, MethodEntry, packages, classes, methods}
-use Rattle.jc_platform.specs.Distinct.{is_needed_class}
+use Rattle.jc_platform.specs.NamePlaces.{is_needed_class}
 use Rattle.jc_platform.specs.Hierarchy.{interfaces_of, superclass_of}
 use Rattle.jc_platform.specs.Numbers.{is_needed_package, same_package, same_class, same_kind, same_method}
 

@@ -6,7 +6,7 @@ use Rattle.jc_platform.specs.declared.kinds.ParameterKind.{ParameterKind}
 use Rattle.jc_platform.specs.declared.kinds.Receiver.{Receiver}
 use Rattle.jc_platform.specs.declared.kinds.Receiver.TheVariants.{Absent, Kept, Registered, Changed}
 use Rattle.jc_platform.specs.declared.names.PlatformMethod.{PlatformMethod}
-use Rattle.jc_platform.specs.Distinct.{entry_of_method}
+use Rattle.jc_platform.specs.NamePlaces.{entry_of_method}
 
 -- its parameters after its receiver
 unfoldable pub parameters_of : PlatformMethod → List ParameterKind

@@ -10,7 +10,7 @@ use Rattle.jc_platform.specs.declared.fault.TableFault.{TableFault}
 use Rattle.jc_platform.specs.declared.fault.TableFault.TheVariants.{BadTable}
 use Rattle.jc_platform.specs.Names.{MethodEntry, classes, methods}
 use Rattle.jc_platform.specs.Numbers.{class_count, method_count, package_count}
-use Rattle.jc_platform.specs.Packed.{parts_of, row_in}
+use Rattle.jc_platform.specs.PackedEntry.{parts_of, row_in}
 use Rattle.jc_platform.specs.Rows.{Above, above, has_needed_packages}
 use Rattle.jc_platform.specs.Tokens.{Tokens, token_of_class, token_of_method, version_of_package}
 

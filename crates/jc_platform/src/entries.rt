@@ -1,7 +1,7 @@
 //! The entries of a packed table.
 
 ghost use Rattle.std.specs.Prelude.{◌≡◌, ◌<◌, [], ◌∷◌, length, MatchOption, IfSome};
-ghost use Rattle.jc_platform.specs.Packed.{entries};
+ghost use Rattle.jc_platform.specs.PackedEntry.{entries};
 
 /// How many bytes an entry has: its kind, and three more by the kind.
 const ENTRY_SIZE: usize = 4;

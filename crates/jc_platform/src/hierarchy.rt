@@ -1,7 +1,7 @@
 //! What the rows of the platform's classes say of each.
 
 ghost use Rattle.std.specs.Prelude.{◌≡◌};
-ghost use Rattle.jc_platform.specs.Distinct.{home_of, name_of_class};
+ghost use Rattle.jc_platform.specs.NamePlaces.{home_of, name_of_class};
 ghost use Rattle.jc_platform.specs.Hierarchy.{carries_reason, cells_of, holds_reference, implementation_of, interfaces_of, is_instantiable, is_interface};
 ghost use Rattle.jc_platform.specs.Hierarchy.{is_throwable, is_thrown, superclass_of};
 

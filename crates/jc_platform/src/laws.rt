@@ -1,7 +1,7 @@
 //! What holds of every table.
 
 ghost use Rattle.std.specs.Prelude.{List, ℕ, ◌≡◌};
-ghost use Rattle.jc_platform.specs.Distinct.{AreDistinct, class_word};
+ghost use Rattle.jc_platform.specs.NamePlaces.{AreDistinct, class_word};
 ghost use Rattle.jc_platform.specs.Platform.{TellNames};
 ghost use Rattle.jc_platform.specs.Table.{Reads};
 ghost use Rattle.jc_platform.specs.Tokens.{Tokens};

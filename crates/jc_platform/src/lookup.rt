@@ -3,14 +3,14 @@
 ghost use Rattle.std.specs.Prelude.{◌≡◌, ◌<◌, ◌&&◌, find, length, map};
 ghost use Rattle.std.specs.Option.{option_map};
 ghost use Rattle.std.specs.Str.{bytes_eq};
-ghost use Rattle.jc_platform.specs.Distinct.{entry_of_class, entry_of_method, room_place, room_rows};
+ghost use Rattle.jc_platform.specs.NamePlaces.{entry_of_class, entry_of_method, room_place, room_rows};
 ghost use Rattle.jc_platform.specs.Names.{classes, packages};
 ghost use Rattle.jc_platform.specs.Names.{objects_rows, exceptions_rows, utilities_rows, system_rows, aids_rows, pins_rows, applets_rows, apdus_rows, events_rows, engines_rows};
 ghost use Rattle.jc_platform.specs.Names.{keys_rows, key_interfaces_rows, ciphers_rows};
 ghost use Rattle.jc_platform.specs.Names.{rsa_keys_rows, ec_keys_rows, rsa_interfaces_rows, ec_interfaces_rows, key_pairs_rows};
-ghost use Rattle.jc_platform.specs.Rooms.{rows_of};
+ghost use Rattle.jc_platform.specs.Lookup.{rows_of};
 ghost use Rattle.jc_platform.specs.Rows.{classes_of, method_named, methods_of};
-ghost use Rattle.jc_platform.specs.Seen.{class_value, method_value, package_value};
+ghost use Rattle.jc_platform.specs.RowValues.{class_value, method_value, package_value};
 
 use crate::names::{MethodKind, PlatformClass, PlatformMethod, PlatformPackage};
 use crate::rows::{

@@ -2,7 +2,7 @@
 
 ghost use Rattle.std.specs.Prelude.{◌≡◌, false, List, ℕ, IfOk, MatchOption, option_map, reverse};
 ghost use Rattle.jc_platform.specs.Packing.{IsKept, IsPacking, entries_of};
-ghost use Rattle.jc_platform.specs.Packed.{is_packed};
+ghost use Rattle.jc_platform.specs.PackedEntry.{is_packed};
 ghost use Rattle.jc_platform.specs.Table.{IsFirstBad, Spells};
 
 use crate::packed_entry::entry_of;

@@ -2,12 +2,12 @@
 
 ghost use Rattle.std.specs.Prelude.{◌≡◌, ◌&&◌, find};
 ghost use Rattle.std.specs.Option.{option_map};
-ghost use Rattle.jc_platform.specs.Distinct.{class_word};
+ghost use Rattle.jc_platform.specs.NamePlaces.{class_word};
 ghost use Rattle.jc_platform.specs.Names.{classes, methods};
 ghost use Rattle.jc_platform.specs.Numbers.{same_class, same_kind, same_package};
 ghost use Rattle.jc_platform.specs.Platform.{aid_of, class_by_token, class_by_word, method_by_token, package_by_aid, package_by_number};
 ghost use Rattle.jc_platform.specs.Rows.{is_token};
-ghost use Rattle.jc_platform.specs.Seen.{class_value, method_value};
+ghost use Rattle.jc_platform.specs.RowValues.{class_value, method_value};
 ghost use Rattle.jc_platform.specs.Tokens.{method_token, number_in, token_of_class, token_of_method, version_of_package};
 
 use crate::lookup::{classes_of, methods_of};

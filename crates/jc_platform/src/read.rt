@@ -1,7 +1,7 @@
 //! Reading a platform table.
 
 ghost use Rattle.std.specs.Prelude.{◌≡◌, ◌≤◌, length, List, MatchResult, MatchBool, slice_get, slice_index, ℕ, ◌<◌, Some, None, true, false};
-ghost use Rattle.jc_platform.specs.Packed.{is_packed};
+ghost use Rattle.jc_platform.specs.PackedEntry.{is_packed};
 ghost use Rattle.jc_platform.specs.Table.{IsFirstBad, IsFault, Reads, Spells};
 ghost use Rattle.jc_platform.specs.Rows.{above};
 ghost use Rattle.jc_platform.specs.Reading.{above_of};

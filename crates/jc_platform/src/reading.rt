@@ -6,10 +6,10 @@ ghost use Rattle.std.specs.List.{list_all};
 ghost use Rattle.jc_platform.specs.Rows.{has_class, has_needed_packages, has_superclass, has_supertypes, may_be_package};
 ghost use Rattle.jc_platform.specs.Rows.{allows, bytes_of, extended_row, may_be_random, package_row, random_row, row_of_line};
 ghost use Rattle.jc_platform.specs.Numbers.{package_number};
-ghost use Rattle.jc_platform.specs.Packed.{class_entry, method_entry, package_entry, row_of_entry, row_of_kind};
+ghost use Rattle.jc_platform.specs.PackedEntry.{class_entry, method_entry, package_entry, row_of_entry, row_of_kind};
 ghost use Rattle.jc_platform.specs.Table.{AreThoseOf, IsMissing, has_needed_classes, has_needed_methods, has_needed_of};
 ghost use Rattle.jc_platform.specs.Reading.{above_of};
-ghost use Rattle.jc_platform.specs.Seen.{class_value, method_value};
+ghost use Rattle.jc_platform.specs.RowValues.{class_value, method_value};
 ghost use Rattle.jc_platform.specs.declared.row.Row.{Row};
 
 use crate::lookup::{

@@ -1,7 +1,7 @@
 //! What the rows of the platform's methods say of each.
 
 ghost use Rattle.std.specs.Prelude.{◌≡◌};
-ghost use Rattle.jc_platform.specs.Distinct.{class_of, kind_of_method, name_of_method};
+ghost use Rattle.jc_platform.specs.NamePlaces.{class_of, kind_of_method, name_of_method};
 ghost use Rattle.jc_platform.specs.Signatures.{answer_of, argument_cells, is_constructor, parameters_of, receiver_cells, receiver_of};
 
 use crate::kinds::{Answer, ParameterKind, Receiver};

@@ -1,7 +1,7 @@
 //! The platform table.
 
 ghost use Rattle.std.specs.Prelude.{◌≡◌};
-ghost use Rattle.jc_platform.specs.Distinct.{class_word};
+ghost use Rattle.jc_platform.specs.NamePlaces.{class_word};
 ghost use Rattle.jc_platform.specs.Tokens.{Tokens, class_token, method_token, number_in, token_of_class, token_of_method, version_of_package};
 
 use crate::names::{

@@ -8,9 +8,9 @@ use Rattle.std.specs.Str.{bytes_eq}
 use Rattle.jc_numbers.specs.Numbers.{number_of_bytes}
 use Rattle.jc_numbers.proofs.NumbersOfBytes.{byte_first}
 use Rattle.jc_curves.specs.Der.{IsHead, IsInteger, IsMinimal, IsSequence, IsSignatureEncoding}
-use Rattle.jc_public_keys.specs.Ecdsa.{Numbers}
+use Rattle.jc_public_keys.specs.Ecdsa.{Numbers, contents_start, der_if, der_numbers, der_of, first_number, integer_contents, integer_of, is_short}
+use Rattle.jc_public_keys.specs.Ecdsa.{not_negative, second_number, sequence_of, significant}
 use Rattle.jc_public_keys.specs.Rsa.{bytes_of_number}
-use Rattle.jc_public_keys.specs.DerSignatures.{contents_start, der_if, der_numbers, der_of, first_number, integer_contents, integer_of, is_short, not_negative, second_number, sequence_of, significant}
 use Rattle.jc_public_keys.proofs.BytesOfNumbers.{bytes_from}
 
 -- ---- bytes of parts

@@ -13,8 +13,7 @@ use Rattle.jc_curves.specs.declared.signatures.SignatureRefusal.{SignatureRefusa
 use Rattle.jc_curves.specs.declared.signatures.SignatureRefusal.TheVariants as unsigned
 use Rattle.jc_curves.proofs.PointBytes.{held}
 use Rattle.jc_public_keys.specs.CurveBytes.{point_in}
-use Rattle.jc_public_keys.specs.Ecdsa.{Numbers, is_verified}
-use Rattle.jc_public_keys.specs.EcdsaSignatures.{encoded, signed_by, verified_at, verified_numbers, verified_on}
+use Rattle.jc_public_keys.specs.Ecdsa.{Numbers, is_verified, encoded, signed_by, verified_at, verified_numbers, verified_on}
 use Rattle.jc_public_keys.proofs.CurvesFound.{point_is, point_read}
 use Rattle.jc_public_keys.proofs.DerSignatures.{der_is, der_told, der_untold}
 use Rattle.jc_public_keys.proofs.EcdsaFound.{in_order_is, found_signature, no_signature_found, verified_is}

@@ -7,8 +7,6 @@ pub mod CurveSums
 pub mod CurveBytes
 pub mod SharedSecrets
 pub mod Ecdsa
-pub mod DerSignatures
 pub mod RandomNumbers
-pub mod EcdsaSignatures
 pub mod CurveKeys
 pub mod RsaKeys

@@ -3,7 +3,7 @@ ghost use Rattle.std.specs.Prelude.{◌≡◌, ◌≤◌, ◌<◌, IfSome, optio
 ghost use Rattle.jc_numbers.specs.Numbers.{IsBitLength, number_of_bytes};
 ghost use Rattle.jc_curves.specs.Curves.{AreShort, octets};
 ghost use Rattle.jc_public_keys.specs.CurveBytes.{AreNumbersOf, bytes_of};
-ghost use Rattle.jc_public_keys.specs.EcdsaSignatures.{ecdsa_signature, is_ecdsa_signature, signed_at, signed_by, verified_on};
+ghost use Rattle.jc_public_keys.specs.Ecdsa.{ecdsa_signature, is_ecdsa_signature, signed_at, signed_by, verified_on};
 ghost use Rattle.jc_public_keys.specs.RandomNumbers.{first_try};
 
 use crate::curves::{bits_of, curve_with_numbers};

@@ -5,7 +5,7 @@ use Rattle.jc_digests.specs.declared.kept.HashAlgorithm.TheVariants.{Sha1}
 use Rattle.jc_rsa.specs.Bytes.{xor}
 use Rattle.jc_rsa.specs.EmeOaep.{data_block, masked, oaep}
 use Rattle.jc_rsa.specs.EmsaPss.{cleared, pss, salt_block, salted_digest, sealed}
-use Rattle.jc_rsa.specs.Examples.{digest, message, oaep_encoding, pss_encoding, salt, seed}
+use Rattle.jc_rsa.specs.Laws.{digest, message, oaep_encoding, pss_encoding, salt, seed}
 use Rattle.jc_rsa.specs.Hashing.{digest_of}
 use Rattle.jc_rsa.specs.Mgf1.{mask_blocks, mgf1}
 

@@ -6,7 +6,6 @@ pub mod Mgf1
 pub mod EmeOaep
 pub mod EmsaPss
 pub mod Iso9796
-pub mod Examples
 pub mod Power
 pub mod Crt
 pub mod Primes

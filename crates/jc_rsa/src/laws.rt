@@ -1,7 +1,6 @@
 //! What holds of the definitions.
 
-ghost use Rattle.jc_rsa.specs.Examples.{PublishedExamples};
-ghost use Rattle.jc_rsa.specs.Laws.{DecodedIsEncoded, ModuliAreWhole};
+ghost use Rattle.jc_rsa.specs.Laws.{PublishedExamples, DecodedIsEncoded, ModuliAreWhole};
 
 /// What is encoded is an encoding of its message, and of no other: so decoding gives back the message.
 pub fn decoded_is_encoded()

@@ -6,7 +6,7 @@ use Rattle.std.proofs.lemmas.List.{drop-set-lt, length-set, length-map}
 use Rattle.std.specs.Prelude.{Bool, true, false, nat_lt, if◌then◌else◌}
 use Rattle.jc_transient.specs.declared.cell.CellValue.{CellValue}
 use Rattle.jc_transient.specs.declared.cell.CellValue.TheVariants.{Short, Reference}
-use Rattle.jc_transient.specs.Cells.{AreClearedFrom, default_value, without_dead}
+use Rattle.jc_transient.specs.Cell.{AreClearedFrom, default_value, without_dead}
 use Rattle.jc_transient.specs.State.{with_cells}
 
 -- a function that changes no cleared cell

@@ -3,7 +3,7 @@ use Rattle.std.proofs.Common.{◌≡◌, ℕ, zero, suc, ◌+◌, List, [], ◌�
 use Rattle.std.specs.Prelude.{false}
 use Rattle.jc_transient.specs.declared.cell.CellValue.{CellValue}
 use Rattle.jc_transient.specs.declared.cell.CellValue.TheVariants.{Short, Reference}
-use Rattle.jc_transient.specs.Cells.{AreNumbers, default_value, is_reference, number_of, without_dead}
+use Rattle.jc_transient.specs.Cell.{AreNumbers, default_value, is_reference, number_of, without_dead}
 use Rattle.jc_transient.specs.State.{with_cells}
 use Rattle.jc_transient.proofs.Clearing.{lent_back}
 

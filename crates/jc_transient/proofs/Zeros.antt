@@ -6,7 +6,7 @@ use Rattle.std.proofs.lemmas.List.{replicate-append-replicate}
 use Rattle.std.proofs.Math.ListN.{get_or, get_or-map}
 use Rattle.jc_transient.specs.declared.cell.CellValue.{CellValue}
 use Rattle.jc_transient.specs.declared.cell.CellValue.TheVariants.{Short}
-use Rattle.jc_transient.specs.Cells.{AreAmong, AreZeros}
+use Rattle.jc_transient.specs.Cell.{AreAmong, AreZeros}
 use Rattle.jc_transient.specs.State.{with_cells}
 use Rattle.jc_transient.proofs.Clearing.{lent_back}
 

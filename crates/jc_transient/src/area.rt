@@ -1,6 +1,6 @@
 //! The cells of one area.
 ghost use Rattle.std.specs.Prelude.{◌≡◌, ◌<◌, ◌≤◌, ◌+◌, ℕ, ◌++◌, length, map, replicate, take, drop, pos, IfOk, vec_len, slice_index_or, slice_set};
-ghost use Rattle.jc_transient.specs.Cells.{default_value, without_dead, number_of, AreAmong};
+ghost use Rattle.jc_transient.specs.Cell.{default_value, without_dead, number_of, AreAmong};
 ghost use Rattle.jc_transient.specs.State.{with_cells};
 
 use crate::cell::CellValue;
@@ -56,7 +56,7 @@ pub(crate) struct Area {
 impl Model for Area {
     ghost use Rattle.std.specs.Prelude.{List, ◌≡◌, ◌≤◌, false, length};
     ghost use Rattle.jc_transient.specs.declared.cell.CellValue.{CellValue};
-    ghost use Rattle.jc_transient.specs.Cells.{AreClearedFrom, AreNumbers, AreZeros};
+    ghost use Rattle.jc_transient.specs.Cell.{AreClearedFrom, AreNumbers, AreZeros};
 
     ghost Value = { List CellValue };
 

@@ -1,6 +1,6 @@
 //! Values of cells.
 ghost use Rattle.std.specs.Prelude.{◌≡◌};
-ghost use Rattle.jc_transient.specs.Cells.{default_value, is_reference, without_dead, number_of, low_byte};
+ghost use Rattle.jc_transient.specs.Cell.{default_value, is_reference, without_dead, number_of, low_byte};
 
 use crate::Ref;
 

@@ -1,7 +1,7 @@
 //! The contents of memory.
 ghost use Rattle.std.specs.Prelude.{◌≡◌, ◌<◌, ◌≤◌, ◌+◌, Bool, ℕ, List, false, length, map, replicate, take, drop, ◌++◌, pos, IfOk, vec_len, slice_index_or};
 ghost use Rattle.std.specs.Prelude.{slice_set};
-ghost use Rattle.jc_transient.specs.Cells.{default_value, without_dead, number_of};
+ghost use Rattle.jc_transient.specs.Cell.{default_value, without_dead, number_of};
 ghost use Rattle.jc_transient.specs.State.{area_size, HasSizes, IsCleared, area, with_area, cell_at, flag_of, with_cells};
 
 use crate::area::Area;

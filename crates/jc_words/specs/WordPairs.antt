@@ -2,8 +2,8 @@
 use Rattle.std.specs.Prelude.{ℕ, ◌≡◌, ◌≢◌, ◌+◌, ◌*◌, ◌<◌, ◌⊎◌, List, Bool, true, false, Option, Some, Result, Ok, Err, IfSome, MatchResult, length, slice_index, slice_set}
 use Rattle.jc_words.specs.Count.{saturating_count}
 use Rattle.jc_words.specs.Refusals.{Refusals, refused_once}
-use Rattle.jc_words.specs.Files.{with_word}
-use Rattle.jc_words.specs.Stores.{FuseStoreValue, store_after_refusal, fuse_burnt, store_below_refused, write_passed}
+use Rattle.jc_words.specs.File.{with_word}
+use Rattle.jc_words.specs.Store.{FuseStoreValue, store_after_refusal, fuse_burnt, store_below_refused, write_passed}
 use Rattle.jc_words.specs.declared.store.PairRefusal.{PairRefusal}
 use Rattle.jc_words.specs.declared.store.PairRefusal.TheVariants.{First, Second}
 

@@ -1,6 +1,6 @@
 //! Files that are written anew.
 ghost use Rattle.std.specs.Prelude.{◌≡◌, ◌↔◌, [], IsTrue, IfOk, IfSome, take};
-ghost use Rattle.jc_words.specs.Files.{IsEmptied, IsReplaced, image_head};
+ghost use Rattle.jc_words.specs.File.{IsEmptied, IsReplaced, image_head};
 
 use crate::emptying::EmptyFile;
 use crate::file::{FileLockFault, locked_file};

@@ -1,7 +1,7 @@
 //! Words as bytes: each is two of them, the high one first.
 ghost use Rattle.std.specs.Prelude.{◌≡◌, ◌*◌, ◌%◌, length, IfOk, flat_map};
 ghost use Rattle.byteorder.specs.Endian.{big_bytes};
-ghost use Rattle.jc_words.specs.Files.{AreWordsOf};
+ghost use Rattle.jc_words.specs.File.{AreWordsOf};
 
 use byteorder::{BigEndian, ByteOrder};
 use std::alloc::{AllocError, Global};

@@ -10,7 +10,7 @@ use Rattle.jc_memory.specs.declared.registers.Owner.TheVariants as owner
 use Rattle.jc_memory.specs.State.{MemoryState}
 use Rattle.jc_linker.specs.Values.{Packages}
 use Rattle.jc_platform.specs.declared.names.PlatformClass.TheVariants.{Aid}
-use Rattle.jc_platform.specs.Distinct.{class_word}
+use Rattle.jc_platform.specs.NamePlaces.{class_word}
 use Rattle.jc_firewall.specs.declared.access.Access.TheVariants.{VirtualCall}
 use Rattle.jc_firewall.specs.declared.decide.Decision.TheVariants.{Switch}
 use Rattle.jc_firewall.specs.declared.subject.Context.{Context}

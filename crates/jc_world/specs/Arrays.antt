@@ -8,7 +8,7 @@ use Rattle.jc_memory.specs.State.{MemoryState}
 use Rattle.jc_memory.specs.Cells.{bytes_at, header_at}
 use Rattle.jc_linker.specs.Values.{Packages}
 use Rattle.jc_firewall.specs.declared.access.Access.TheVariants.{ArrayElement}
-use Rattle.jc_frames.specs.declared.outcome.Exception.TheVariants.{NullPointerException, ArrayIndexOutOfBoundsException}
+use Rattle.jc_frames.specs.declared.exceptions.Exception.TheVariants.{NullPointerException, ArrayIndexOutOfBoundsException}
 use Rattle.jc_frames.specs.declared.outcome.Outcome.TheVariants.{Fault}
 use Rattle.jc_frames.specs.declared.outcome.FrameExit.{FrameExit}
 use Rattle.jc_frames.specs.declared.outcome.FrameExit.TheVariants.{Throw, End}

@@ -17,7 +17,7 @@ use Rattle.jc_memory.specs.declared.registers.Registers.{Registers}
 use Rattle.jc_memory.specs.Owners.{owner_number, owner_of}
 use Rattle.jc_memory.specs.State.{MemoryState}
 use Rattle.jc_platform.specs.declared.names.PlatformClass.TheVariants.{Aid}
-use Rattle.jc_platform.specs.Distinct.{class_word}
+use Rattle.jc_platform.specs.NamePlaces.{class_word}
 use Rattle.jc_linker.specs.Values.{Packages}
 use Rattle.jc_linker.specs.Classes.{is_shareable}
 use Rattle.jc_firewall.specs.declared.access.Access.{Access}
@@ -31,7 +31,7 @@ use Rattle.jc_firewall.specs.declared.subject.Designation.TheVariants.{Ordinary,
 use Rattle.jc_firewall.specs.declared.subject.Subject.{Subject}
 use Rattle.jc_firewall.specs.declared.subject.Situation.{Situation}
 use Rattle.jc_firewall.specs.Table.{decision}
-use Rattle.jc_frames.specs.declared.outcome.Exception.TheVariants.{SecurityException}
+use Rattle.jc_frames.specs.declared.exceptions.Exception.TheVariants.{SecurityException}
 use Rattle.jc_frames.specs.declared.outcome.FrameExit.{FrameExit}
 use Rattle.jc_frames.specs.declared.outcome.FrameExit.TheVariants.{Throw}
 

@@ -1,7 +1,7 @@
 -- How calls of the platform's methods are defined: what they may do, and what they answer.
 use Rattle.std.specs.Prelude.{Option, Result, Ok, Err}
 use Rattle.jc_heap.specs.declared.refusal.HeapRefusal.{HeapRefusal}
-use Rattle.jc_frames.specs.declared.outcome.Exception.{Exception}
+use Rattle.jc_frames.specs.declared.exceptions.Exception.{Exception}
 use Rattle.jc_frames.specs.declared.outcome.Outcome.TheVariants.{Fault}
 use Rattle.jc_frames.specs.declared.outcome.FrameExit.{FrameExit}
 use Rattle.jc_frames.specs.declared.outcome.FrameExit.TheVariants as stop

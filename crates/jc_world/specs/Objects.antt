@@ -10,11 +10,11 @@ use Rattle.jc_linker.specs.Values.{Packages}
 use Rattle.jc_linker.specs.Classes.{is_below}
 use Rattle.jc_firewall.specs.declared.access.Access.TheVariants.{StoreReference}
 use Rattle.jc_frames.specs.declared.cell.Cell.{Cell}
-use Rattle.jc_frames.specs.declared.outcome.Exception.TheVariants.{NullPointerException}
+use Rattle.jc_frames.specs.declared.exceptions.Exception.TheVariants.{NullPointerException}
 use Rattle.jc_frames.specs.declared.outcome.Outcome.TheVariants.{Fault}
 use Rattle.jc_frames.specs.declared.outcome.FrameExit.{FrameExit}
 use Rattle.jc_frames.specs.declared.outcome.FrameExit.TheVariants.{Throw, End}
-use Rattle.jc_frames.specs.Cells.{as_short, as_reference}
+use Rattle.jc_frames.specs.Cell.{as_short, as_reference}
 use Rattle.jc_world.specs.Contexts.{firewall_check}
 
 -- what is there, or a code fault

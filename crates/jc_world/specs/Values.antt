@@ -9,7 +9,7 @@ use Rattle.jc_frames.specs.declared.instr.ValueType.TheVariants as types
 use Rattle.jc_frames.specs.declared.cell.Cell.{Cell}
 use Rattle.jc_frames.specs.declared.cell.Cell.TheVariants.{Short, Reference}
 use Rattle.jc_frames.specs.declared.outcome.FrameExit.{FrameExit}
-use Rattle.jc_frames.specs.Cells.{short_on, reference_on}
+use Rattle.jc_frames.specs.Cell.{short_on, reference_on}
 use Rattle.jc_frames.specs.Frames.{Frames, with_stack}
 use Rattle.jc_memory.specs.State.{MemoryState}
 use Rattle.jc_memory.specs.Cells.{word_at, short_at, byte_at}

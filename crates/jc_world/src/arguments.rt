@@ -1,6 +1,6 @@
 //! Arguments of a call.
 ghost use Rattle.std.specs.Prelude.{◌≡◌};
-ghost use Rattle.jc_frames.specs.Cells.{result_or_none};
+ghost use Rattle.jc_frames.specs.Cell.{result_or_none};
 ghost use Rattle.jc_world.specs.Objects.{short_argument, reference_argument};
 
 use jc_frames::{Cell, CodeFault};

@@ -1,7 +1,7 @@
 //! Values of fields and of elements of arrays.
 ghost use Rattle.std.specs.Prelude.{◌≡◌, ◌<◌, false, length, IfOk};
 ghost use Rattle.jc_heap.specs.Heap.{IsObject, facts};
-ghost use Rattle.jc_frames.specs.Cells.{popped};
+ghost use Rattle.jc_frames.specs.Cell.{popped};
 ghost use Rattle.jc_frames.specs.Frames.{with_stack};
 ghost use Rattle.jc_memory.specs.Cells.{word_of};
 ghost use Rattle.jc_world.specs.Values.{IsValueOf, value_on, value_at, keepable};

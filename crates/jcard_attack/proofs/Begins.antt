@@ -1,14 +1,14 @@
 -- Scripts that begin with the lines that have led to a card.
 use Rattle.std.proofs.Common.{◌≡◌, ◌∙◌, ℕ, true, List, [], ◌∷◌, ◌++◌, Ok, ap, append_assoc, append-nil, inr, refl, subst, sym}
 use Rattle.std.specs.Str.Lines.{lines, strip_carriage_return}
-use Rattle.jc_words.specs.Stores.{FuseStoreValue}
-use Rattle.jc_card.specs.CardState.{CardState}
-use Rattle.jc_card.specs.Power.{Up}
+use Rattle.jc_words.specs.Store.{FuseStoreValue}
+use Rattle.jc_card.specs.Card.{CardState}
+use Rattle.jc_card.specs.State.Power.{Up}
 use Rattle.jcard_script.specs.Begun.{AnswersLines, HasBegun}
 use Rattle.jcard_script.specs.Script.{AreCarriedOut, EndsWithin, IsWrittenFor, ended_lines, form_of}
 use Rattle.jcard_script.specs.ScriptStates.{IsSessionStore, ScriptState}
 use Rattle.jcard_script.specs.Session.{IsUnbroken, unfinished_line}
-use Rattle.jcard_script.proofs.Carried.{carried_more}
+use Rattle.jcard_script.proofs.LineRuns.{carried_more}
 use Rattle.jcard_script.proofs.Parts.{last_line, line_ended, lines_whole}
 use Rattle.jcard_attack.proofs.Joins.{lines_joined}
 

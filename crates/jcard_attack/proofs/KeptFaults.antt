@@ -3,10 +3,10 @@ use Rattle.std.proofs.Common.{◌≡◌, ◌∙◌, ℕ, ◌+◌, ◌-◌, ◌==
 use Rattle.std.specs.Prelude.{codes, slice_index}
 use Rattle.std.proofs.lemmas.List.{drop_at, get_or_at, same_from_push}
 use Rattle.hex.specs.Hex.{encode_upper}
-use Rattle.jc_words.specs.Stores.{FuseStoreValue}
-use Rattle.jc_card.specs.CardState.{CardState}
-use Rattle.jc_card.specs.Power.{Up, planned_card}
-use Rattle.jc_card.specs.Requests.{Planned, Response}
+use Rattle.jc_words.specs.Store.{FuseStoreValue}
+use Rattle.jc_card.specs.Card.{CardState}
+use Rattle.jc_card.specs.State.Power.{Up, planned_card}
+use Rattle.jc_card.specs.Session.Requests.{Planned, Response}
 use Rattle.jc_card.specs.declared.planned_fault.PlannedFault.{PlannedFault}
 use Rattle.jcard_script.specs.Begun.{AnswersGlitched, AnswersLines}
 use Rattle.jcard_script.specs.Script.{Form, IsWrittenFor, faults_text, planned_text, text_of}
@@ -15,11 +15,11 @@ use Rattle.jcard_script.specs.Session.{IsUnbroken}
 use Rattle.std.specs.Str.Lines.{strip_carriage_return}
 use Rattle.jcard_script.proofs.LongCommands.{answered_line}
 use Rattle.jcard_tear.specs.Runs.{Runs, store_of}
-use Rattle.jcard_tear.specs.Sweeps.{IsLastLine}
+use Rattle.jcard_tear.specs.Sweep.{IsLastLine}
 use Rattle.jcard_attack.specs.Aftermaths.{IsAftermath, attacked_script, ended_line, glitch_line, probed_script}
-use Rattle.jcard_attack.specs.Kept.{HasStruck, IsKeptFor, Leaves}
+use Rattle.jcard_attack.specs.KeptCard.{HasStruck, IsKeptFor, Leaves}
 use Rattle.jcard_attack.specs.declared.aftermaths.Attacked.{Attacked}
-use Rattle.jcard_attack.specs.declared.kept.AtCommand.{AtCommand}
+use Rattle.jcard_attack.specs.declared.kept_card.AtCommand.{AtCommand}
 use Rattle.jcard_attack.specs.declared.outcomes.Aftermath.{Aftermath}
 use Rattle.jcard_attack.proofs.Begins.{HasPrinted, begun_ended, begun_ends, begun_more}
 use Rattle.jcard_attack.proofs.LastLines.{IsFree, free_test, free_unbroken, hex_free, last_line_is}

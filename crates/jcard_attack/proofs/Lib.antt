@@ -1,5 +1,5 @@
 pub mod Begins
-pub mod EachStruck
+pub mod AttackedCommands
 pub mod Joins
 pub mod KeptFaults
 pub mod KindLists
@@ -10,6 +10,6 @@ pub mod PartWholes
 pub mod RowSteps
 pub mod Strikes
 pub mod StruckLists
-pub mod Unswept
+pub mod AttackFaults
 pub mod VerdictSteps
 pub mod Verdicts

@@ -4,15 +4,15 @@ use Rattle.std.proofs.lemmas.Bool.{true≢false}
 use Rattle.std.specs.Borrow.{Bor}
 use Rattle.std.specs.Prelude.{MatchResult, Ok, Err, Result, if◌then◌else◌, is_ok, map}
 use Rattle.std.proofs.lemmas.List.{map-append}
-use Rattle.jcard_outcomes.specs.Parts.{has}
+use Rattle.jcard_outcomes.specs.Part.{has}
 use Rattle.jcard_outcomes.specs.declared.join_fault.JoinFault.{JoinFault}
 use Rattle.jcard_outcomes.specs.declared.join_fault.JoinFault.TheVariants as joining
 use Rattle.jcard_outcomes.proofs.Splits.{cut_again, cut_unique, not_lacking}
 use Rattle.jcard_attack.specs.PartLines.{AFault, AnEnd, AreLinesTo, AreNoLines, AreOfParts, AreReadTo, IsFaultLine, IsJoined, IsMore, IsNoMore, IsNoReport, IsReport, IsReportOf, IsUnjoined, PartLine, States, ends_in, ends_read, faults_in, faults_read}
-use Rattle.jcard_attack.specs.Reports.{FaultTold, told_by}
-use Rattle.jcard_attack.specs.declared.joining.JoinedAttack.{JoinedAttack}
-use Rattle.jcard_attack.specs.declared.joining.ReadLines.{ReadLines}
-use Rattle.jcard_attack.specs.declared.told_faults.ToldFault.{ToldFault}
+use Rattle.jcard_attack.specs.Report.{FaultTold, told_by}
+use Rattle.jcard_attack.specs.declared.join.JoinedAttack.{JoinedAttack}
+use Rattle.jcard_attack.specs.declared.join.ReadLines.{ReadLines}
+use Rattle.jcard_attack.specs.declared.fault_text.ToldFault.{ToldFault}
 
 -- ---- the words of a line
 

@@ -8,14 +8,14 @@ use Rattle.std.proofs.lemmas.List.{length-map, map-append, take_all, take_more}
 use Rattle.std.proofs.lemmas.List.Concat.{flat_map-append}
 use Rattle.std.proofs.lemmas.List.Elements.{All-drop, All-head, All-tail, All-take}
 use Rattle.jc_card.specs.declared.planned_fault.PlannedFault.{PlannedFault}
-use Rattle.jcard_outcomes.specs.Parts.{has}
-use Rattle.jcard_outcomes.specs.Reports.{in_line}
+use Rattle.jcard_outcomes.specs.Part.{has}
+use Rattle.jcard_outcomes.specs.Report.{in_line}
 use Rattle.jcard_outcomes.specs.declared.join_fault.JoinFault.{JoinFault}
 use Rattle.jcard_outcomes.specs.declared.join_fault.JoinFault.TheVariants as joining
 use Rattle.jcard_attack.specs.PartLines.{AFault, AnEnd, AreLinesTo, AreOfParts, IsFaultLine, IsJoined, IsTellable, IsUnjoined, PartLine, ends_in, fault_line, fault_lines, faults_in, faults_told, first_name, joined_text, share_text, shares_text, tells, told_accepted, told_as, told_silent, undisturbed_line, verdict_told}
-use Rattle.jcard_attack.specs.Reports.{FaultTold, accepted_line, any_accepted, count_of, fault_name, fault_told, first_of, instruction_lines, is_outcome, outcome_text, report_text, rows_text, silence_line, undisturbed_text, verdict_text}
+use Rattle.jcard_attack.specs.Report.{FaultTold, accepted_line, any_accepted, count_of, fault_name, fault_told, first_of, instruction_lines, is_outcome, outcome_text, report_text, rows_text, silence_line, undisturbed_text, verdict_text}
 use Rattle.jcard_attack.specs.Shares.{share_in, share_size}
-use Rattle.jcard_attack.specs.declared.joining.JoinedAttack.{JoinedAttack}
+use Rattle.jcard_attack.specs.declared.join.JoinedAttack.{JoinedAttack}
 use Rattle.jcard_attack.specs.declared.outcomes.AttackSweep.{AttackSweep}
 use Rattle.jcard_attack.specs.declared.outcomes.Outcome.{Outcome}
 use Rattle.jcard_attack.specs.declared.outcomes.Outcome.TheVariants.{Undisturbed, Silent, Accepted, Other, BrokenOff, Refused, Cut}

@@ -2,10 +2,10 @@
 use Rattle.std.proofs.Common.{◌≡◌, ℕ, ◌+◌, ◌<◌, List, [], ◌∷◌, ◌++◌, length, get_or, take, subst, sym}
 use Rattle.std.proofs.lemmas.List.{take_more}
 use Rattle.jc_card.specs.declared.planned_fault.PlannedFault.{PlannedFault}
-use Rattle.jcard_attack.specs.Sweeps.{AreStruckBy, IsStruck}
+use Rattle.jcard_attack.specs.Sweep.{AreStruckBy, IsStruck}
 use Rattle.jcard_attack.specs.declared.aftermaths.Attacked.{Attacked}
 use Rattle.jcard_attack.specs.declared.outcomes.Struck.{Struck}
-use Rattle.jcard_attack.specs.declared.sweeping.Baseline.{Baseline}
+use Rattle.jcard_attack.specs.declared.sweep.Baseline.{Baseline}
 
 module _ (words : List ℕ) (c : Attacked) (b : Baseline) where
   -- none yet

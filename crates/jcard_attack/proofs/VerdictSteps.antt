@@ -3,8 +3,8 @@ use Rattle.std.proofs.Common.{◌≡◌, ◌∙◌, ℕ, List, [], ◌∷◌, �
 use Rattle.std.specs.Prelude.{is_some, option_map, slice_get}
 use Rattle.std.proofs.lemmas.List.{length-map}
 use Rattle.jcard_attack.specs.PartLines.{first_name, told_accepted, told_silent, verdict_told}
-use Rattle.jcard_attack.specs.Reports.{FaultTold, accepted_line, silence_line, told_by}
-use Rattle.jcard_attack.specs.declared.told_faults.ToldFault.{ToldFault}
+use Rattle.jcard_attack.specs.Report.{FaultTold, accepted_line, silence_line, told_by}
+use Rattle.jcard_attack.specs.declared.fault_text.ToldFault.{ToldFault}
 
 count_is : (fs : List ToldFault) (n : ℕ) (all : List FaultTold) → n ≡ length fs → map told_by fs ≡ all → n ≡ length all
 count_is fs n all e m = e ∙ sym (length-map fs told_by) ∙ ap length m

@@ -1,6 +1,6 @@
 -- What a command comes to with a fault at one of its instructions, or without one.
 use Rattle.std.specs.Prelude.{ℕ, ◌≡◌, ◌⊎◌, ◌+◌, ◌-◌, ◌==◌, if◌then◌else◌, List, ◌++◌, codes, drop, filter, length, min, slice_index, Option, Some, None}
-use Rattle.jc_words.specs.Stores.{FuseStoreValue}
+use Rattle.jc_words.specs.Store.{FuseStoreValue}
 use Rattle.jc_commit.specs.Image.{plain_of, recovered_of}
 use Rattle.jc_commit.specs.Migration.{migrated}
 use Rattle.jc_card.specs.declared.power_up.PowerFault.TheVariants.{BadLog}
@@ -10,7 +10,7 @@ use Rattle.jcard_script.specs.Script.{faults_text}
 use Rattle.jcard_script.specs.declared.script.ScriptFault.{ScriptFault}
 use Rattle.jcard_script.specs.declared.script.ScriptFault.TheVariants.{BadLine, PowerFault}
 use Rattle.jcard_tear.specs.Runs.{IsRunFault, Runs}
-use Rattle.jcard_tear.specs.Sweeps.{IsLastLine}
+use Rattle.jcard_tear.specs.Sweep.{IsLastLine}
 use Rattle.jcard_tear.specs.declared.runs.RunFault.{RunFault}
 use Rattle.jcard_tear.specs.declared.runs.RunFault.TheVariants as run
 use Rattle.jcard_attack.specs.declared.aftermaths.AttackFault.{AttackFault}

@@ -1,10 +1,10 @@
 -- The commands of a script, each with a fault at each of its instructions.
 use Rattle.std.specs.Prelude.{ℕ, ◌≡◌, ◌⊎◌, Bool, true, false, List, [], ◌∷◌, ◌++◌, codes, None, Some, slice_get}
 use Rattle.std.specs.List.{flat_map, list_any}
-use Rattle.jcard_outcomes.specs.Reports.{line_answer_text, line_command_text}
+use Rattle.jcard_outcomes.specs.Report.{line_answer_text, line_command_text}
 use Rattle.jcard_tear.specs.ScriptLines.{Line, command_text}
-use Rattle.jcard_attack.specs.Reports.{any_accepted, told_rows, verdict_text}
-use Rattle.jcard_attack.specs.Sweeps.{IsDownAt, IsSwept, IsUnswept}
+use Rattle.jcard_attack.specs.Report.{any_accepted, told_rows, verdict_text}
+use Rattle.jcard_attack.specs.Sweep.{IsDownAt, IsSwept, IsUnswept}
 use Rattle.jcard_attack.specs.declared.aftermaths.AttackFault.{AttackFault}
 use Rattle.jcard_attack.specs.declared.aftermaths.AttackFault.TheVariants.{NoMemory}
 use Rattle.jcard_attack.specs.declared.aftermaths.Attacked.{Attacked}
@@ -12,7 +12,7 @@ use Rattle.jcard_attack.specs.declared.each.LineAttack.{LineAttack}
 use Rattle.jcard_attack.specs.declared.each.LineOutcome.{LineOutcome}
 use Rattle.jcard_attack.specs.declared.each.LineOutcome.TheVariants.{Struck, Down}
 use Rattle.jcard_attack.specs.declared.outcomes.AttackSweep.{AttackSweep}
-use Rattle.jcard_attack.specs.declared.sweeping.Sought.{Sought}
+use Rattle.jcard_attack.specs.declared.sweep.Sought.{Sought}
 
 -- faults of the command were tried, or the card is down at it without a fault
 abbrev pub IsOutcome : List ℕ → Attacked → Sought → LineOutcome → Type 0

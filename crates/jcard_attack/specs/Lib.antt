@@ -1,10 +1,10 @@
 pub mod Aftermaths
 pub mod Each
-pub mod Judging
-pub mod Kept
+pub mod Judgement
+pub mod KeptCard
 pub mod Models
 pub mod Objects
 pub mod PartLines
-pub mod Reports
+pub mod Report
 pub mod Shares
-pub mod Sweeps
+pub mod Sweep

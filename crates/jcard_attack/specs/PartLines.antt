@@ -3,15 +3,15 @@ use Rattle.std.specs.Prelude.{ℕ, zero, suc, ◌≡◌, ◌≤◌, Bool, false,
 use Rattle.std.specs.Borrow.{Bor}
 use Rattle.std.specs.List.{flat_map}
 use Rattle.std.specs.Str.{bytes_eq}
-use Rattle.jcard_outcomes.specs.Parts.{has}
-use Rattle.jcard_outcomes.specs.Reports.{in_line}
+use Rattle.jcard_outcomes.specs.Part.{has}
+use Rattle.jcard_outcomes.specs.Report.{in_line}
 use Rattle.jcard_outcomes.specs.declared.join_fault.JoinFault.{JoinFault}
 use Rattle.jcard_outcomes.specs.declared.join_fault.JoinFault.TheVariants.{BadLine, NoMemory}
 use Rattle.jcard_outcomes.specs.declared.part.Share.{Share}
-use Rattle.jcard_attack.specs.Reports.{FaultTold, accepted_line, any_accepted, fault_told, instruction_lines, report_text, rows_text, silence_line, told_by, undisturbed_text}
+use Rattle.jcard_attack.specs.Report.{FaultTold, accepted_line, any_accepted, fault_told, instruction_lines, report_text, rows_text, silence_line, told_by, undisturbed_text}
 use Rattle.jcard_attack.specs.Shares.{share_in}
-use Rattle.jcard_attack.specs.declared.joining.JoinedAttack.{JoinedAttack}
-use Rattle.jcard_attack.specs.declared.joining.ReadLines.{ReadLines}
+use Rattle.jcard_attack.specs.declared.join.JoinedAttack.{JoinedAttack}
+use Rattle.jcard_attack.specs.declared.join.ReadLines.{ReadLines}
 use Rattle.jcard_attack.specs.declared.outcomes.AttackSweep.{AttackSweep}
 
 -- ---- one line

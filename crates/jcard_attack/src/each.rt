@@ -1,15 +1,15 @@
 //! The commands of a script, each with a fault at each of its instructions.
 ghost use Rattle.std.specs.Prelude.{◌≡◌, ◌<◌, ◌++◌, ◌∷◌, [], length, map, MatchResult, IfOk, OnOk};
 ghost use Rattle.jcard_attack.specs.Each.{AreStruck, IsLineStruck, IsLineUnswept, IsOneUnswept, any_line_accepted, is_accepted_in, line_rows_text, line_text, verdicts_text};
-ghost use Rattle.jcard_attack.specs.Reports.{verdict_text};
+ghost use Rattle.jcard_attack.specs.Report.{verdict_text};
 ghost use Rattle.jcard_attack.specs.declared.aftermaths.AttackFault.TheVariants.{NoMemory};
-ghost use Rattle.jcard_outcomes.specs.Reports.{line_answer_text};
+ghost use Rattle.jcard_outcomes.specs.Report.{line_answer_text};
 ghost use Rattle.jcard_tear.specs.ScriptLines.{line_of};
 
 use crate::aftermaths::{AttackFault, Attacked};
 use crate::outcomes::AttackSweep;
 use crate::report::push_told;
-use crate::sweeping::{Sought, attack};
+use crate::sweep::{Sought, attack};
 use crate::verdict::{is_any_accepted, push_verdict};
 use jcard_outcomes::each::{line_head, push_down_line};
 use jcard_tear::each::command_text;

@@ -3,9 +3,10 @@
 
 pub mod aftermaths;
 pub mod each;
-pub mod joining;
-mod judging;
-mod kept;
+mod fault_text;
+pub mod join;
+mod judgement;
+mod kept_card;
 mod models;
 mod objects;
 pub mod outcomes;
@@ -14,7 +15,6 @@ pub mod parts;
 pub mod report;
 mod rows;
 pub mod shares;
-pub mod sweeping;
-mod told_faults;
-mod traced;
+pub mod sweep;
+mod trace;
 mod verdict;

@@ -2,14 +2,14 @@
 ghost use Rattle.std.specs.Prelude.{◌≡◌, IfOk, MatchResult};
 ghost use Rattle.jcard_attack.specs.Objects.{IsAftermathTold, IsObjectsFault};
 ghost use Rattle.jcard_tear.specs.Faults.{IsImageFault};
-ghost use Rattle.jcard_tear.specs.Told.{AreObjectsAsked, AreOfImage};
+ghost use Rattle.jcard_tear.specs.Report.{AreObjectsAsked, AreOfImage};
 
 use crate::aftermaths::AttackFault;
 use crate::outcomes::Aftermath;
 use jc_objects::image_objects::ImageObjects;
 use jcard_outcomes::standing::Left;
-use jcard_tear::tearing::TearFault;
-use jcard_tear::told::{left_told, objects_asked};
+use jcard_tear::report::{left_told, objects_asked};
+use jcard_tear::sweep::TearFault;
 use std::alloc::{AllocError, Global};
 
 /// The objects that stood before a command, where it is asked which of their cells changed.

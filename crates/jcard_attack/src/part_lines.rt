@@ -1,11 +1,11 @@
 //! The lines of a part of the faults of a command, from which all parts are joined to the report.
 ghost use Rattle.std.specs.Prelude.{◌≡◌, ◌++◌, ◌∷◌, [], MatchOption, OnOk, map, false};
 ghost use Rattle.jcard_attack.specs.PartLines.{IsFaultLine, fault_line, fault_lines};
-ghost use Rattle.jcard_attack.specs.Reports.{FaultTold, fault_told, told_by};
-ghost use Rattle.jcard_outcomes.specs.Parts.{has};
+ghost use Rattle.jcard_attack.specs.Report.{FaultTold, fault_told, told_by};
+ghost use Rattle.jcard_outcomes.specs.Part.{has};
 
+use crate::fault_text::{ToldFault, lent, texts_of};
 use crate::outcomes::Struck;
-use crate::told_faults::{ToldFault, lent, texts_of};
 use std::alloc::{AllocError, Global};
 
 /// Writes a line for each fault of a command of whose instructions this is reported.

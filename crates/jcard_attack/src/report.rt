@@ -1,6 +1,6 @@
 //! The report: rows, the command without a fault, and the verdict.
 ghost use Rattle.std.specs.Prelude.{◌≡◌, ◌++◌, IfOk, OnOk};
-ghost use Rattle.jcard_attack.specs.Reports.{report_text, told_rows, undisturbed_text};
+ghost use Rattle.jcard_attack.specs.Report.{report_text, told_rows, undisturbed_text};
 
 use crate::outcomes::{Aftermath, AttackSweep};
 use crate::rows::push_rows;

@@ -1,10 +1,10 @@
 //! The rows: what faults came to, one row for those of one kind that follow one another and came to the same.
 ghost use Rattle.std.specs.Prelude.{◌≡◌, ◌++◌, ◌∷◌, ◌&&◌, List, IfOk, OnOk, Some, map, option_map};
 ghost use Rattle.std.specs.Str.{bytes_eq};
-ghost use Rattle.jcard_attack.specs.Reports.{FaultTold, fault_told, is_alike, longer_row, new_row, open_text, place_text, row_by, row_numbers, row_text, rows_after, rows_text, told_by};
+ghost use Rattle.jcard_attack.specs.Report.{FaultTold, fault_told, is_alike, longer_row, new_row, open_text, place_text, row_by, row_numbers, row_text, rows_after, rows_text, told_by};
 
+use crate::fault_text::{ToldFault, lent, texts_of};
 use crate::outcomes::Struck;
-use crate::told_faults::{ToldFault, lent, texts_of};
 use jcard_outcomes::rows::{is_same, push_ended};
 use std::alloc::{AllocError, Global};
 

@@ -1,11 +1,11 @@
 //! The verdict over all faults of a command.
 ghost use Rattle.std.specs.Prelude.{◌≡◌, ◌++◌, ◌==◌, ℕ, List, IfOk, OnOk, Some, option_map};
 ghost use Rattle.std.specs.Borrow.{Bor};
-ghost use Rattle.jcard_attack.specs.Reports.{accepted_line, accepted_text, any_accepted, count_of, fault_name, faults_text, first_of, is_outcome, silence_line, verdict_text};
+ghost use Rattle.jcard_attack.specs.Report.{accepted_line, accepted_text, any_accepted, count_of, fault_name, faults_text, first_of, is_outcome, silence_line, verdict_text};
 ghost use Rattle.jcard_attack.specs.declared.outcomes.Outcome.TheVariants.{Accepted};
 
+use crate::fault_text::{model_name, second_text};
 use crate::outcomes::{Outcome, Struck};
-use crate::told_faults::{model_name, second_text};
 use jc_card::planned_fault::PlannedFault;
 use jcard_outcomes::rows::push_number;
 use jcard_outcomes::verdict::push_either;

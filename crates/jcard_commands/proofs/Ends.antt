@@ -3,7 +3,7 @@ use Rattle.std.proofs.Common.{◌≡◌, ℕ, Bool, List, [], ◌++◌, Option, 
 use Rattle.std.specs.Io.KnownBytes.{Appends}
 use Rattle.jc_words.specs.Count.{failures_after}
 use Rattle.jcard_files.specs.FileDeeds.{FileDeed}
-use Rattle.jcard_files.specs.Faults.{failures_of, is_unwritten, status_of, IsLastLine}
+use Rattle.jcard_files.specs.Fault.{failures_of, is_unwritten, status_of, IsLastLine}
 use Rattle.jcard_arguments.specs.CommandLine.{IsTakenAs}
 use Rattle.jcard_arguments.specs.declared.arguments.NoAction.{NoAction}
 use Rattle.jcard_arguments.specs.declared.arguments.NoAction.TheVariants.{Help, Refused, Misused, NoMemory as NoRoom}

@@ -1,4 +1,4 @@
 pub mod Ends
 pub mod Joins
 pub mod Trials
-pub mod Unwritten
+pub mod WriteFaults

@@ -2,7 +2,7 @@
 use Rattle.std.proofs.Common.{ℕ, List, [], ◌∷◌, Option, Ok, Err, refl, inl, inr}
 use Rattle.jc_image.specs.declared.laying.ImageRoom.{ImageRoom}
 use Rattle.jcard_commands.specs.Trial.{IsTriedOn}
-use Rattle.jcard_files.specs.NewImages.{IsNewImageInMemory}
+use Rattle.jcard_files.specs.NewImage.{IsNewImageInMemory}
 use Rattle.jcard_files.specs.FileDeeds.{ReadsText}
 use Rattle.jcard_files.specs.declared.fault.Fault.{Fault}
 use Rattle.jcard_files.specs.declared.fault.Fault.TheVariants.{ImageTooSmall, NoMemory}

@@ -8,17 +8,17 @@ use Rattle.jcard_arguments.specs.declared.arguments.NoAction.TheVariants.{Help, 
 use Rattle.jcard_listing.specs.Inventory.{IsDump}
 use Rattle.jcard_files.specs.Effects.{Says, Tells}
 use Rattle.jcard_files.specs.FileDeeds.{FileDeed}
-use Rattle.jcard_sweeps.specs.Joining.{IsJoining}
+use Rattle.jcard_sweeps.specs.Join.{IsJoining}
 use Rattle.jc_card.specs.Dispatching.{usual_budget}
-use Rattle.jcard_files.specs.NewImages.{IsNew}
+use Rattle.jcard_files.specs.NewImage.{IsNew}
 use Rattle.jcard_files.specs.declared.image_size.ImageSize.{ImageSize}
 use Rattle.jcard_listing.specs.Comparison.{IsComparison}
 use Rattle.jcard_listing.specs.Dump.{IsObjectsDump}
 use Rattle.jcard_tests.specs.Tests.{IsTest}
-use Rattle.jcard_tests.specs.declared.asked.Asked.{Asked}
+use Rattle.jcard_tests.specs.declared.request.Asked.{Asked}
 use Rattle.jcard_files.specs.declared.fault.Fault.{Fault}
 use Rattle.jcard_files.specs.declared.fault.Fault.TheVariants.{BadCommandLine, NoMemory, CannotRead, WriteFailed}
-use Rattle.jcard_commands.specs.Listed.{IsAttackWith, IsTearWith, IsToldBy}
+use Rattle.jcard_commands.specs.Listing.{IsAttackWith, IsTearWith, IsToldBy}
 use Rattle.jcard_commands.specs.ScriptRun.{IsRun}
 use Rattle.jcard_commands.specs.RunOptions.{AreNamesRead, AreNamesUnread, AreOperands, IsCompared, IsCoverBegun, IsCovered}
 use Rattle.jcard_files.specs.declared.operand.Operand.{Operand}

@@ -1,5 +1,5 @@
 pub mod Commands
-pub mod Listed
+pub mod Listing
 pub mod RunOptions
 pub mod ScriptRun
 pub mod Trial

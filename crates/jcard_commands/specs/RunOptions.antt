@@ -2,7 +2,7 @@
 use Rattle.std.specs.Prelude.{ℕ, Bool, true, ◌≡◌, ◌⊎◌, List, [], ◌∷◌, map, Result, Ok, Err, Option, Some, None}
 use Rattle.jcard_files.specs.FileDeeds.{FileDeed, WritesText}
 use Rattle.jcard_files.specs.Images.{IsUnwritten}
-use Rattle.jcard_files.specs.Operands.{IsNoOperand}
+use Rattle.jcard_files.specs.Operand.{IsNoOperand}
 use Rattle.jcard_files.specs.Reading.{IsScriptRead, IsUnread}
 use Rattle.jcard_files.specs.declared.operand.Operand.{Operand}
 use Rattle.jcard_files.specs.declared.fault.FileKind.{FileKind}

@@ -3,8 +3,8 @@ use Rattle.std.specs.Prelude.{ℕ, Bool, ◌≡◌, ◌⊎◌, ◌*◌, List, []
 use Rattle.std.specs.Prelude.{◌∷◌}
 use Rattle.std.specs.Bool.{OnTrue}
 use Rattle.std.specs.Io.KnownBytes.{Consumes}
-use Rattle.jc_words.specs.Files.{IsImageSize}
-use Rattle.jc_words.specs.Stores.{FuseStoreValue, below_fuse}
+use Rattle.jc_words.specs.File.{IsImageSize}
+use Rattle.jc_words.specs.Store.{FuseStoreValue, below_fuse}
 use Rattle.jcard_script.specs.Script.{EndsWithin, IsWholeScript}
 use Rattle.jcard_script.specs.declared.script.ScriptFault.{ScriptFault}
 use Rattle.jcard_files.specs.Effects.{Says, Tells}

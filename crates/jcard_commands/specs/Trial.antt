@@ -1,6 +1,6 @@
 -- `jcard try`: what is read, what is done with it, and what is reported.
 use Rattle.std.specs.Prelude.{ℕ, ◌≡◌, ◌⊎◌, List, [], ◌∷◌, ◌++◌, codes, Ok, Err, Option}
-use Rattle.jc_words.specs.Stores.{FuseStoreValue}
+use Rattle.jc_words.specs.Store.{FuseStoreValue}
 use Rattle.jc_image.specs.declared.laying.ImageRoom.{ImageRoom}
 use Rattle.jc_platform.specs.Table.{Reads}
 use Rattle.jc_platform.specs.declared.fault.TableFault.TheVariants.{BadTable as BadLine}
@@ -10,7 +10,7 @@ use Rattle.jcard_files.specs.FileDeeds.{FileDeed, ReadsText, fresh_store}
 use Rattle.jcard_files.specs.Images.{IsUnopened}
 use Rattle.jcard_files.specs.declared.extent.Extent.{Extent}
 use Rattle.jcard_files.specs.ImageSize.{IsExtent, IsNoExtent}
-use Rattle.jcard_files.specs.NewImages.{IsNewImageOf, IsTable}
+use Rattle.jcard_files.specs.NewImage.{IsNewImageOf, IsTable}
 use Rattle.jcard_files.specs.UsualTable.{IsNoPlatform, IsPlatform}
 use Rattle.jcard_files.specs.declared.fault.Fault.{Fault}
 use Rattle.jcard_files.specs.declared.fault.Fault.TheVariants.{NoMemory, BadTable, ImageTooSmall}

@@ -2,7 +2,7 @@
 ghost use Rattle.std.specs.Prelude.{◌≡◌, ◌++◌, ℕ, List, Bool, Result, Err};
 ghost use Rattle.std.specs.Io.KnownBytes.{Appends};
 ghost use Rattle.jcard_files.specs.FileDeeds.{FileDeed};
-ghost use Rattle.jcard_files.specs.Faults.{failures_of, status_of, IsLastLine};
+ghost use Rattle.jcard_files.specs.Fault.{failures_of, status_of, IsLastLine};
 ghost use Rattle.jcard_commands.specs.Commands.{IsStarted, IsUnbegun};
 ghost use Rattle.jcard_files.specs.declared.fault.Fault.{Fault};
 

@@ -1,6 +1,6 @@
 //! What is written to standard error: how far a sweep has come, what commands of a run did, and what is wrong.
 
-use crate::told::Listener;
+use crate::listener::Listener;
 use jcard_files::remarks::Remarks;
 use jcard_tear::progress::Progress;
 use jcard_tests::timer::Timer;

@@ -2,7 +2,7 @@
 ghost use Rattle.std.specs.Prelude.{◌≡◌, Err, false, IfErr};
 ghost use Rattle.jcard_arguments.specs.CommandLine.{text_of};
 ghost use Rattle.jcard_files.specs.Effects.{ReadsFiles, UsesFiles};
-ghost use Rattle.jcard_files.specs.Faults.{is_unwritten};
+ghost use Rattle.jcard_files.specs.Fault.{is_unwritten};
 ghost use Rattle.jcard_commands.specs.RunOptions.{AreNamesRead, AreNamesUnread, AreOperands, IsCoverBegun, IsCovered, IsCoverWritten, ended_by};
 
 use jcard_files::disk::Disk;

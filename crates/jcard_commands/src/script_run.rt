@@ -2,15 +2,15 @@
 ghost use Rattle.std.specs.Prelude.{◌≡◌};
 ghost use Rattle.jcard_arguments.specs.CommandLine.{run_asked_by};
 ghost use Rattle.jcard_files.specs.Effects.{Does};
-ghost use Rattle.jcard_files.specs.Faults.{is_unwritten};
+ghost use Rattle.jcard_files.specs.Fault.{is_unwritten};
 ghost use Rattle.jcard_files.specs.ScriptFault.{IsOutcomeOf};
 ghost use Rattle.jcard_script.specs.Script.{is_write_failed};
 ghost use Rattle.jcard_commands.specs.Commands.{IsRunWith};
 ghost use Rattle.jcard_commands.specs.RunOptions.{IsCompared};
 ghost use Rattle.jcard_commands.specs.ScriptRun.{IsRun};
 
+use crate::listener::{Listener, Told};
 use crate::run_files::{begin_cover, keep_cover, names_of, operands_of};
-use crate::told::{Listener, Told};
 use jc_card::card::USUAL_BUDGET;
 use jc_words::FuseStore;
 use jcard_arguments::options::RunOptions;

@@ -2,10 +2,10 @@
 ghost use Rattle.jcard_arguments.specs.CommandLine.{text_of};
 ghost use Rattle.jcard_commands.specs.Trial.{IsTrial, IsTriedOn};
 ghost use Rattle.jcard_files.specs.Effects.{Does};
-ghost use Rattle.jcard_files.specs.NewImages.{IsTable};
+ghost use Rattle.jcard_files.specs.NewImage.{IsTable};
 
+use crate::listener::OnlyRemarks;
 use crate::script_run::outcome_of;
-use crate::told::OnlyRemarks;
 use jc_platform::fault::TableFault;
 use jc_platform::read::read_table;
 use jc_words::FuseStore;

@@ -1,6 +1,6 @@
 //! What is reported of a sweep beside its text: which instruction makes the word write that a cut refuses, as the cut is made, and the words of the image.
 
-use crate::told::Listener;
+use crate::listener::Listener;
 use jcard_files::remarks::Remarks;
 use jcard_tear::progress::Progress;
 use std::alloc::Global;

@@ -1,7 +1,7 @@
 -- What is written, where nothing is.
 use Rattle.std.proofs.Common.{◌≡◌, ℕ, List, false, Err, ap, refl, sym, inl, inr}
 use Rattle.jc_words.specs.Count.{failures_after}
-use Rattle.jcard_files.specs.Faults.{is_unwritten}
+use Rattle.jcard_files.specs.Fault.{is_unwritten}
 use Rattle.jcard_files.specs.FileDeeds.{FileDeed}
 use Rattle.jcard_files.specs.Images.{IsNotMade, IsNotOpened, IsNotOpenedToWrite, IsNotRead, IsUnopened}
 use Rattle.jcard_files.specs.Reading.{IsUnread}

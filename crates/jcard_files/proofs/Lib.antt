@@ -1,5 +1,5 @@
 pub mod Effects
 pub mod Stores
 pub mod NewImages
-pub mod Unwritten
+pub mod ImageEnds
 pub mod UsualTables

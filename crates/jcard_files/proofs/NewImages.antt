@@ -5,7 +5,7 @@ use Rattle.std.specs.Prelude.{◌<◌, ◌≤◌, ◌≢◌, length, replicate, 
 use Rattle.jc_words.specs.Image.{IsCapacity}
 use Rattle.jc_words.specs.Layout.{least_size, magic, magic_address}
 use Rattle.jc_words.specs.Refusals.{Refusals}
-use Rattle.jc_words.specs.Stores.{MemStoreValue, StoreValue}
+use Rattle.jc_words.specs.Store.{MemStoreValue, StoreValue}
 use Rattle.jc_transient.specs.State.{AreSizes, buffer_size, buffer_told, cells_told, most_buffer, most_cells, told_or, usual_cells}
 use Rattle.jc_image.specs.declared.laying.ImageRoom.{ImageRoom}
 use Rattle.jc_platform.specs.declared.fault.TableFault.TheVariants.{BadTable as BadLine}
@@ -15,7 +15,7 @@ use Rattle.jc_card.specs.declared.formatting.FormatFault.{FormatFault}
 use Rattle.jc_card.specs.declared.formatting.FormatFault.TheVariants.{StoreDown, BadSize, BadCapacity, BadCells, BadTable, TooSmall}
 use Rattle.jcard_files.specs.FileDeeds.{untouched}
 use Rattle.jcard_files.specs.ImageSize.{IsBufferLength, IsCellCount}
-use Rattle.jcard_files.specs.NewImages.{IsFormatFault, IsLaid, IsLaidInMemory, IsNewImageInMemory, IsNewImageOf, IsTable}
+use Rattle.jcard_files.specs.NewImage.{IsFormatFault, IsLaid, IsLaidInMemory, IsNewImageInMemory, IsNewImageOf, IsTable}
 use Rattle.jcard_files.specs.declared.fault.Fault.{Fault}
 use Rattle.jcard_files.specs.declared.fault.Fault.TheVariants.{ImageTooSmall}
 

@@ -1,7 +1,7 @@
 -- The stores of images.
 use Rattle.std.proofs.Common.{◌≡◌, ℕ, Bool, false, List, None}
 use Rattle.jc_words.specs.Refusals.{Refusals, no_refusals}
-use Rattle.jc_words.specs.Stores.{FuseStoreValue, StoreValue}
+use Rattle.jc_words.specs.Store.{FuseStoreValue, StoreValue}
 use Rattle.jcard_files.specs.FileDeeds.{fresh_store, untouched}
 
 -- a store under a fuse that is not armed

@@ -2,7 +2,7 @@
 use Rattle.std.specs.Prelude.{ℕ, ◌≡◌, ◌⊎◌, List, [], ◌++◌, MatchResult, Option, Result, Err}
 use Rattle.std.specs.Io.KnownBytes.{Appends}
 use Rattle.jc_words.specs.Count.{failures_after}
-use Rattle.jcard_files.specs.Faults.{is_unwritten}
+use Rattle.jcard_files.specs.Fault.{is_unwritten}
 use Rattle.jcard_files.specs.FileDeeds.{FileDeed}
 use Rattle.jcard_files.specs.declared.fault.Fault.{Fault}
 

@@ -1,7 +1,7 @@
 -- What is done with the files of a disk.
 use Rattle.std.specs.Prelude.{ℕ, List, false, Option, Result, Ok, Err}
 use Rattle.jc_words.specs.Refusals.{no_refusals}
-use Rattle.jc_words.specs.Stores.{FuseStoreValue, StoreValue}
+use Rattle.jc_words.specs.Store.{FuseStoreValue, StoreValue}
 use Rattle.jcard_files.specs.declared.fault.Fault.{Fault}
 
 -- one thing that is done with a file, by its name. What was not done holds its fault

@@ -2,8 +2,8 @@
 use Rattle.std.specs.Prelude.{ℕ, ◌≡◌, ◌⊎◌, List, Option, Result, Ok, Err}
 use Rattle.std.specs.Io.KnownBytes.{Appends}
 use Rattle.std.specs.Borrow.{Bor}
-use Rattle.jc_words.specs.Files.{IsCreated, IsOpened, IsReplaced}
-use Rattle.jc_words.specs.Stores.{FileStoreValue}
+use Rattle.jc_words.specs.File.{IsCreated, IsOpened, IsReplaced}
+use Rattle.jc_words.specs.Store.{FileStoreValue}
 use Rattle.jc_words.specs.declared.file.FileOpenFault.{FileOpenFault}
 use Rattle.jc_words.specs.declared.file.FileOpenFault.TheVariants as opening
 use Rattle.jc_words.specs.declared.file.FileCreateFault.{FileCreateFault}

@@ -1,11 +1,11 @@
 pub mod Effects
-pub mod Faults
+pub mod Fault
 pub mod FileDeeds
 pub mod Images
-pub mod MemDisks
-pub mod Operands
+pub mod MemDisk
+pub mod Operand
 pub mod Reading
 pub mod ScriptFault
 pub mod ImageSize
-pub mod NewImages
+pub mod NewImage
 pub mod UsualTable

@@ -1,11 +1,11 @@
 //! The files that the program uses.
 ghost use Rattle.std.specs.Prelude.{◌≡◌, ◌⊎◌, ◌++◌, ◌*◌, ◌∷◌, [], List, Any, false, IfOk, IfErr, IfSome, length, replicate};
-ghost use Rattle.jc_words.specs.Files.{IsImageSize};
+ghost use Rattle.jc_words.specs.File.{IsImageSize};
 ghost use Rattle.jc_words.specs.Refusals.{no_refusals};
-ghost use Rattle.jc_words.specs.Stores.{refusals_of_file, store_value};
+ghost use Rattle.jc_words.specs.Store.{refusals_of_file, store_value};
 ghost use Rattle.jcard_files.specs.FileDeeds.{FileDeed, ClosesImage, MakesImage, OpensImage, ReadsImage, ReadsText, WritesText, told_of};
 ghost use Rattle.jcard_files.specs.Images.{IsCreateFault, IsCreatedAs, IsFilled, IsHeldFault, IsNotMade, IsNotOpened, IsNotOpenedToWrite, IsNotWritten, IsOpenedAs, IsOpenFault, IsReadFault, IsReplaceFault, IsUnopened, IsUnwritten, IsWrittenAnew};
-ghost use Rattle.jcard_files.specs.Operands.{IsNoOperand};
+ghost use Rattle.jcard_files.specs.Operand.{IsNoOperand};
 
 use crate::closed_store::ClosedStore;
 use crate::fault::{Damage, Fault, FileKind};

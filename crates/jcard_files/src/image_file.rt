@@ -1,7 +1,7 @@
 //! An image of a disk in memory.
 ghost use Rattle.std.specs.Prelude.{◌≡◌, ◌*◌, ◌⊎◌, false, length, IfOk, IfErr};
-ghost use Rattle.jc_words.specs.Files.{AreWordsOf, IsImageSize};
-ghost use Rattle.jcard_files.specs.MemDisks.{image_after, zero_image};
+ghost use Rattle.jc_words.specs.File.{AreWordsOf, IsImageSize};
+ghost use Rattle.jcard_files.specs.MemDisk.{image_after, zero_image};
 
 use crate::closed_store::ClosedStore;
 use crate::fault::{Damage, Fault};
@@ -19,7 +19,7 @@ pub struct ImageFile {
 
 impl Model for ImageFile {
     ghost use Rattle.std.specs.String.{string_bytes};
-    ghost use Rattle.jcard_files.specs.MemDisks.{ImageFileValue};
+    ghost use Rattle.jcard_files.specs.MemDisk.{ImageFileValue};
 
     ghost Value = { ImageFileValue };
 

@@ -1,12 +1,12 @@
 //! A disk in memory, of which all is known that is done with its files.
 ghost use Rattle.std.specs.String.{string_bytes};
 ghost use Rattle.std.specs.Prelude.{◌≡◌, ◌<◌, ◌*◌, ◌∷◌, ◌++◌, [], false, length, refl, replicate, IfErr, IfOk, IfSome, OnErr};
-ghost use Rattle.jc_words.specs.Files.{IsImageSize};
+ghost use Rattle.jc_words.specs.File.{IsImageSize};
 ghost use Rattle.jc_words.specs.Refusals.{no_refusals};
 ghost use Rattle.jcard_files.specs.FileDeeds.{ClosesImage, MakesImage, OpensImage, ReadsImage, ReadsText, WritesText, told_of};
 ghost use Rattle.jcard_files.specs.Images.{IsNotMade, IsNotOpened, IsNotOpenedToWrite, IsUnopened, IsUnwritten};
-ghost use Rattle.jcard_files.specs.Operands.{IsNoOperand};
-ghost use Rattle.jcard_files.specs.MemDisks.{AreDeeds, deeds_then, image_place, images_with, text_place};
+ghost use Rattle.jcard_files.specs.Operand.{IsNoOperand};
+ghost use Rattle.jcard_files.specs.MemDisk.{AreDeeds, deeds_then, image_place, images_with, text_place};
 
 use crate::closed_store::ClosedStore;
 use crate::disk::Disk;
@@ -28,7 +28,7 @@ pub struct MemDisk<'a> {
 }
 
 impl<'a> Model for MemDisk<'a> {
-    ghost use Rattle.jcard_files.specs.MemDisks.{MemDiskValue};
+    ghost use Rattle.jcard_files.specs.MemDisk.{MemDiskValue};
 
     ghost Value = { MemDiskValue };
 

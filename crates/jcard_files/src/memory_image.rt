@@ -3,7 +3,7 @@ ghost use Rattle.std.specs.Prelude.{◌≡◌, ◌≤◌, length, replicate};
 ghost use Rattle.jc_words.specs.Image.{IsCapacity};
 ghost use Rattle.jc_words.specs.Layout.{least_size};
 ghost use Rattle.jc_transient.specs.State.{AreSizes};
-ghost use Rattle.jcard_files.specs.NewImages.{IsLaidInMemory, IsNewImageInMemory, IsTable};
+ghost use Rattle.jcard_files.specs.NewImage.{IsLaidInMemory, IsNewImageInMemory, IsTable};
 
 use crate::extent::Extent;
 use crate::fault::Fault;

@@ -5,9 +5,9 @@ ghost use Rattle.jc_words.specs.Layout.{least_size};
 ghost use Rattle.jc_words.specs.Image.{IsCapacity};
 ghost use Rattle.jc_words.specs.Refusals.{no_refusals};
 ghost use Rattle.jc_transient.specs.State.{AreSizes};
-ghost use Rattle.jc_words.specs.Stores.{store_value};
+ghost use Rattle.jc_words.specs.Store.{store_value};
 ghost use Rattle.jcard_files.specs.Effects.{UsesFiles};
-ghost use Rattle.jcard_files.specs.NewImages.{IsFormatFault, IsLaid, IsMadeFrom, IsNew, IsTable};
+ghost use Rattle.jcard_files.specs.NewImage.{IsFormatFault, IsLaid, IsMadeFrom, IsNew, IsTable};
 
 use crate::closed_store::ClosedStore;
 use crate::disk::Disk;

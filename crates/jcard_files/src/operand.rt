@@ -1,6 +1,6 @@
 //! The files that a command names.
 ghost use Rattle.std.specs.Prelude.{◌≡◌, ◌<◌, length, IfSome, MatchOption};
-ghost use Rattle.jcard_files.specs.Operands.{IsNoOperand, IsOperand, operand_place};
+ghost use Rattle.jcard_files.specs.Operand.{IsNoOperand, IsOperand, operand_place};
 
 use crate::fault::FileKind;
 

@@ -3,7 +3,7 @@ ghost use Rattle.std.specs.Prelude.{◌≡◌, [], false, IfOk, IfErr, IfSome, O
 ghost use Rattle.jcard_files.specs.Effects.{ReadsFiles};
 ghost use Rattle.jcard_files.specs.Images.{IsNotRead, IsUnopened};
 ghost use Rattle.jcard_files.specs.Reading.{IsRead, IsUnread, IsUnreadFault, IsScriptRead};
-ghost use Rattle.jcard_files.specs.Faults.{is_unwritten};
+ghost use Rattle.jcard_files.specs.Fault.{is_unwritten};
 
 use crate::disk::Disk;
 use crate::fault::Fault;

@@ -2,9 +2,9 @@
 use Rattle.std.proofs.Common.{◌≡◌, List, ℕ, Some, Ok, Err, arith, refl, subst, sym}
 use Rattle.jc_heap.specs.Image.{table_text}
 use Rattle.jc_objects.specs.Bounds.{IsBounded}
-use Rattle.jc_objects.specs.Legends.{ArePackagesIn, IsLegend}
+use Rattle.jc_objects.specs.Legend.{ArePackagesIn, IsLegend}
 use Rattle.jc_objects.specs.declared.legend.Legend.{Legend}
-use Rattle.jc_packages.specs.ImageTables.{IsNoTable}
+use Rattle.jc_packages.specs.Tables.{IsNoTable}
 use Rattle.jc_packages.specs.declared.fault.ReadFault.{ReadFault}
 use Rattle.jc_packages.specs.declared.fault.ReadFault.TheVariants.{Damaged, NoMemory}
 use Rattle.jc_platform.specs.Table.{Reads}

@@ -1,8 +1,8 @@
 pub mod Chains
-pub mod Differing
+pub mod ImageDifferences
 pub mod EachText
 pub mod Legends
-pub mod Listed
+pub mod LineLists
 pub mod Listings
 pub mod ListingEnds
 pub mod NumberedLines

@@ -1,7 +1,7 @@
 -- How lines were reported that were all written.
 use Rattle.std.proofs.Common.{◌≡◌, Bool, true, false, Result, Ok, Err, inl, inr, refl, sym, subst, ap, ◌∙◌}
 use Rattle.std.proofs.lemmas.Bool.{cases_Bool}
-use Rattle.jcard_files.specs.Faults.{is_unwritten}
+use Rattle.jcard_files.specs.Fault.{is_unwritten}
 use Rattle.jcard_files.specs.declared.fault.Fault.{Fault}
 use Rattle.jcard_files.specs.declared.fault.Fault.TheVariants.{BadImage}
 use Rattle.jcard_files.specs.declared.fault.Damage.TheVariants.{Package}

@@ -10,7 +10,7 @@ use Rattle.jcard_listing.specs.Listing.{IsListed, IsListing, contents_lines}
 use Rattle.jcard_listing.specs.Table.{IsLegendFor}
 use Rattle.jcard_listing.specs.declared.fault.ListFault.{ListFault}
 use Rattle.jcard_listing.specs.declared.fault.ListFault.TheVariants.{Unreadable, NoMemory}
-use Rattle.jcard_listing.proofs.Listed.{lists_then, lists_unread}
+use Rattle.jcard_listing.proofs.LineLists.{lists_then, lists_unread}
 use Rattle.jcard_listing.specs.declared.shown.Shown.{Shown}
 
 listed_by : (r : Result Unit ListFault) (w : List ℕ) (shown : Shown) (old new : List ℕ) (l : Lines) → IsListing w shown l → Lists old new l r

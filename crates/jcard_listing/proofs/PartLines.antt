@@ -4,7 +4,7 @@ use Rattle.std.specs.List.{flat_map}
 use Rattle.std.specs.Prelude.{nat_lt, unwrap_or}
 use Rattle.std.proofs.lemmas.Bool.{cases_lt, eq-eqb, false≢true, le-ltb, ne_eqb}
 use Rattle.std.proofs.lemmas.List.{drop-drop, drop-take, get_or-drop, get_or-take, length-drop, take_all}
-use Rattle.jc_heap.specs.Components.{part_sizes, words_for}
+use Rattle.jc_heap.specs.Component.{part_sizes, words_for}
 use Rattle.jc_objects.specs.Bounds.{IsBounded}
 use Rattle.jc_objects.specs.Records.{IsRecord, are_whole_from, record_size, record_words, whole_from}
 use Rattle.jc_objects.proofs.ItemWords.{length-words, word_is, words_raw}

@@ -10,7 +10,7 @@ use Rattle.jc_objects.specs.declared.places.Standing.{Standing}
 use Rattle.jc_objects.specs.declared.places.Standing.TheVariants.{Object, Nothing, Unread}
 use Rattle.jcard_listing.specs.InventoryLines.{Lines, line, then_lines}
 use Rattle.jc_objects.specs.ClassTexts.{kind_text}
-use Rattle.jcard_listing.specs.Images.{ListedImage, cells_in, is_hidden, is_listed, object_here}
+use Rattle.jcard_listing.specs.Image.{ListedImage, cells_in, is_hidden, is_listed, object_here}
 use Rattle.jcard_listing.specs.Objects.{object_text, value_text}
 use Rattle.jcard_listing.specs.Pairs.{end_lines, sign}
 use Rattle.jcard_listing.specs.Texts.{each_text, labelled_text}

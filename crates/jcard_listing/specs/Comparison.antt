@@ -1,6 +1,6 @@
 -- What is reported of two images that are compared.
 use Rattle.std.specs.Prelude.{ℕ, ◌≡◌, ◌⊎◌, ◌*◌, ◌∷◌, ◌++◌, List, [], length, Ok, Err}
-use Rattle.jc_words.specs.Files.{IsImageSize}
+use Rattle.jc_words.specs.File.{IsImageSize}
 use Rattle.jc_words.specs.declared.image.ImageFault.{ImageFault}
 use Rattle.jc_card.specs.PowerUp.{HasHead, PowerUpRefuses, fault_of}
 use Rattle.jcard_script.specs.Texts.{IsCutOf}

@@ -6,7 +6,7 @@ use Rattle.jcard_listing.specs.InventoryLines.{Lines, line_if, then_lines}
 use Rattle.jcard_listing.specs.Areas.{areas_line}
 use Rattle.jcard_listing.specs.Compared.{heap_lines}
 use Rattle.jcard_listing.specs.Fault.{Lists}
-use Rattle.jcard_listing.specs.Images.{ListedImage, hiding, image_of, keys_in}
+use Rattle.jcard_listing.specs.Image.{ListedImage, hiding, image_of, keys_in}
 use Rattle.jcard_listing.specs.Listing.{IsLegendOf}
 use Rattle.jcard_listing.specs.Pairs.{end_lines, pair_lines}
 use Rattle.jcard_listing.specs.Parts.{part_lines}

@@ -1,6 +1,6 @@
 -- What is reported of an image and of its objects.
 use Rattle.std.specs.Prelude.{ℕ, ◌≡◌, ◌⊎◌, ◌*◌, ◌∷◌, ◌++◌, true, false, Bool, List, [], length, Result, Ok, Err, if◌then◌else◌}
-use Rattle.jc_words.specs.Files.{IsImageSize}
+use Rattle.jc_words.specs.File.{IsImageSize}
 use Rattle.jcard_script.specs.Texts.{IsCutOf}
 use Rattle.jcard_files.specs.Effects.{Says, Tells}
 use Rattle.jcard_files.specs.declared.fault.Damage.TheVariants.{Package}

@@ -1,6 +1,6 @@
 -- What is reported of an image.
 use Rattle.std.specs.Prelude.{ℕ, ◌≡◌, ◌⊎◌, ◌*◌, true, false, List, [], ◌∷◌, ◌++◌, codes, length, Ok, Err}
-use Rattle.jc_words.specs.Files.{IsImageSize}
+use Rattle.jc_words.specs.File.{IsImageSize}
 use Rattle.jc_words.specs.declared.image.ImageFault.{ImageFault}
 use Rattle.jc_card.specs.Inventory.{inventory_of}
 use Rattle.jc_card.specs.PowerUp.{HasHead, PowerUpRefuses, fault_of}

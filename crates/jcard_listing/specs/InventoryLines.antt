@@ -6,8 +6,7 @@ use Rattle.std.specs.Io.KnownBytes.{Appends}
 use Rattle.hex.specs.Hex.{encode_upper}
 use Rattle.jc_words.specs.Layout.{packages_address, applets_address}
 use Rattle.jc_cap.specs.Packages.{NamedPackage}
-use Rattle.jc_image.specs.Listed.{NamedApplet}
-use Rattle.jc_image.specs.Listing.{package_at, applet_at}
+use Rattle.jc_image.specs.Listing.{NamedApplet, package_at, applet_at}
 use Rattle.jcard_script.specs.Texts.{AppendsCut}
 use Rattle.jcard_listing.specs.declared.inventory_lines.ListingFault.{ListingFault}
 use Rattle.jcard_listing.specs.declared.inventory_lines.ListingFault.TheVariants.{Unreadable, NotWritten}

@@ -5,7 +5,7 @@ pub mod Comparison
 pub mod Differences
 pub mod Entries
 pub mod Fault
-pub mod Images
+pub mod Image
 pub mod Inventory
 pub mod InventoryLines
 pub mod Keys

@@ -5,7 +5,7 @@ use Rattle.jc_commit.specs.Image.{count_of}
 use Rattle.jc_heap.specs.Image.{table_text}
 use Rattle.jc_platform.specs.Table.{Reads}
 use Rattle.jc_platform.specs.Tokens.{Tokens}
-use Rattle.jc_objects.specs.Legends.{IsLegend}
+use Rattle.jc_objects.specs.Legend.{IsLegend}
 use Rattle.jc_objects.specs.declared.legend.Legend.{Legend}
 use Rattle.jc_objects.specs.Bounds.{has_bounds}
 use Rattle.jcard_listing.specs.InventoryLines.{Lines, line_if, then_lines}
@@ -13,7 +13,7 @@ use Rattle.jcard_listing.specs.Applets.{applet_lines}
 use Rattle.jcard_listing.specs.Areas.{areas_line}
 use Rattle.jcard_listing.specs.Entries.{entry_lines}
 use Rattle.jcard_listing.specs.Fault.{Lists, each_line}
-use Rattle.jcard_listing.specs.Images.{ListedImage, hiding, image_of, keys_in}
+use Rattle.jcard_listing.specs.Image.{ListedImage, hiding, image_of, keys_in}
 use Rattle.jcard_listing.specs.Objects.{objects_lines}
 use Rattle.jcard_listing.specs.Packages.{package_lines}
 use Rattle.jcard_listing.specs.declared.fault.ListFault.{ListFault}

@@ -10,13 +10,12 @@ use Rattle.jc_heap.specs.declared.object.Facts.{Facts}
 use Rattle.jc_heap.specs.declared.object.Kind.{Kind}
 use Rattle.jc_heap.specs.declared.object.Kind.TheVariants.{Instance, BooleanArray, ByteArray, ShortArray, ReferenceArray}
 use Rattle.jc_cap.specs.Packages.{NamedPackage}
-use Rattle.jc_image.specs.Listed.{NamedApplet}
-use Rattle.jc_image.specs.Listing.{applet_at, package_at}
-use Rattle.jc_platform.specs.Distinct.{class_word}
+use Rattle.jc_image.specs.Listing.{NamedApplet, applet_at, package_at}
+use Rattle.jc_platform.specs.NamePlaces.{class_word}
 use Rattle.jc_platform.specs.Hierarchy.{cells_of}
 use Rattle.jc_platform.specs.Hierarchy.{holds_reference as class_holds_reference}
 use Rattle.jc_platform.specs.Platform.{class_by_word}
-use Rattle.jc_objects.specs.Legends.{holds_reference}
+use Rattle.jc_objects.specs.Legend.{holds_reference}
 use Rattle.jc_objects.specs.declared.legend.Legend.{Legend}
 use Rattle.jc_platform.specs.declared.names.PlatformClass.{PlatformClass}
 use Rattle.jc_platform.specs.declared.names.PlatformClass.TheVariants.{Aid, OwnerPin}
@@ -24,7 +23,7 @@ use Rattle.jc_objects.specs.Records.{are_whole, standing_items}
 use Rattle.jcard_listing.specs.InventoryLines.{Lines}
 use Rattle.jc_objects.specs.ClassTexts.{kind_text}
 use Rattle.jc_objects.specs.Keys.{is_key}
-use Rattle.jcard_listing.specs.Images.{ListedImage, is_hidden, is_listed, object_here}
+use Rattle.jcard_listing.specs.Image.{ListedImage, is_hidden, is_listed, object_here}
 use Rattle.jcard_listing.specs.Keys.{key_text}
 use Rattle.jcard_listing.specs.Texts.{each_text, labelled_text, reference_text, short_text}
 use Rattle.jcard_listing.specs.declared.image.PlacedObject.{PlacedObject}

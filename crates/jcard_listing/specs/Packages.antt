@@ -3,9 +3,9 @@ use Rattle.std.specs.Prelude.{ℕ, ◌+◌, ◌-◌, ◌++◌, ◌==◌, ◌&&�
 use Rattle.std.specs.List.{flat_map}
 use Rattle.jc_words.specs.Layout.{addresses_start, most_packages}
 use Rattle.jc_commit.specs.Image.{top_of}
-use Rattle.jc_heap.specs.Components.{part_sizes, record_parts, words_for}
-use Rattle.jc_heap.specs.Cut.{missing_words}
-use Rattle.jc_objects.specs.Legends.{static_references}
+use Rattle.jc_heap.specs.Component.{part_sizes, record_parts, words_for}
+use Rattle.jc_heap.specs.Walk.{missing_words}
+use Rattle.jc_objects.specs.Legend.{static_references}
 use Rattle.jc_objects.specs.declared.legend.Legend.{Legend}
 use Rattle.jc_objects.specs.Bounds.{first_record}
 use Rattle.jc_objects.specs.Records.{record_words, whole_among, whole_size}

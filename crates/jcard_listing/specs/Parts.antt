@@ -6,7 +6,7 @@ use Rattle.jcard_listing.specs.InventoryLines.{Lines, applet_text, count_line, j
 use Rattle.jcard_listing.specs.Applets.{applet_lines}
 use Rattle.jcard_listing.specs.Entries.{entry_lines}
 use Rattle.jcard_listing.specs.Fault.{each_line}
-use Rattle.jcard_listing.specs.Images.{ListedImage}
+use Rattle.jcard_listing.specs.Image.{ListedImage}
 use Rattle.jcard_listing.specs.Packages.{package_lines}
 use Rattle.jcard_listing.specs.Pairs.{pair_lines}
 use Rattle.jcard_listing.specs.declared.parts.Part.{Part}

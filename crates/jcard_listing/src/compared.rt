@@ -5,7 +5,7 @@ ghost use Rattle.jc_objects.specs.Places.{IsPlaceFor, IsStanding};
 ghost use Rattle.jc_objects.specs.Records.{IsRecord, item_at};
 ghost use Rattle.jcard_listing.specs.Compared.{alone_text, beside_text, change_line, change_text, changes_text, compared_lines, compared_text, heap_lines, is_same, kept_text, values_text};
 ghost use Rattle.jcard_listing.specs.Fault.{Lists};
-ghost use Rattle.jcard_listing.specs.Images.{IsObjectIn};
+ghost use Rattle.jcard_listing.specs.Image.{IsObjectIn};
 ghost use Rattle.jcard_listing.specs.Pairs.{lines_of};
 
 use crate::fault::ListFault;

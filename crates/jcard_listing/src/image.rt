@@ -7,7 +7,7 @@ ghost use Rattle.jc_objects.specs.ClassTexts.{kind_text};
 ghost use Rattle.jc_objects.specs.Bounds.{IsBounded, first_record};
 ghost use Rattle.jc_objects.specs.Places.{IsPlaceFor, IsStanding, standing_at};
 ghost use Rattle.jc_objects.specs.Records.{IsRecord, item_at, whole_size};
-ghost use Rattle.jcard_listing.specs.Images.{IsObjectIn, cells_in, hiding, image_of, is_hidden, is_listed, keys_in, object_here};
+ghost use Rattle.jcard_listing.specs.Image.{IsObjectIn, cells_in, hiding, image_of, is_hidden, is_listed, keys_in, object_here};
 
 use jc_heap::{Facts, Kind};
 use jc_objects::bounds::first_record;
@@ -41,7 +41,7 @@ pub(crate) struct Image<'a, S: WordStore> {
 }
 
 impl<'a, S: WordStore> Model for Image<'a, S> {
-    ghost use Rattle.jcard_listing.specs.Images.{IsWithinBounds, ListedImage};
+    ghost use Rattle.jcard_listing.specs.Image.{IsWithinBounds, ListedImage};
 
     ghost Value = { ListedImage };
 

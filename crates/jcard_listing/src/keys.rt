@@ -1,6 +1,6 @@
 //! The lines of keys.
 ghost use Rattle.std.specs.Prelude.{◌≡◌, ◌++◌, codes, length, OnOk};
-ghost use Rattle.jcard_listing.specs.Images.{IsObjectIn, cells_in};
+ghost use Rattle.jcard_listing.specs.Image.{IsObjectIn, cells_in};
 ghost use Rattle.jcard_listing.specs.Keys.{found_text, is_pair_type, key_text, pair_text, set_text, size_text, type_text};
 
 use crate::image::{Image, PlacedObject};

@@ -3,7 +3,7 @@ ghost use Rattle.std.specs.Prelude.{◌≡◌, ◌<◌, ◌≤◌, ◌++◌, Non
 ghost use Rattle.jc_words.specs.Layout.{text_start};
 ghost use Rattle.jc_objects.specs.Records.{IsRecord, item_at};
 ghost use Rattle.jcard_listing.specs.Fault.{Lists};
-ghost use Rattle.jcard_listing.specs.Images.{IsObjectIn, cells_in};
+ghost use Rattle.jcard_listing.specs.Image.{IsObjectIn, cells_in};
 ghost use Rattle.jcard_listing.specs.Objects.{aid_length, aid_text, applet_name, area_text, byte_text, cell_text, cells_text, contents_text, engine_text, field_text, header_text, is_aid, is_engine, is_engine_class, is_pin, item_text, keyed_engine_text, object_text, objects_lines, owner_text, package_name, pin_text, rest_text, value_text};
 
 use crate::fault::ListFault;

@@ -1,7 +1,7 @@
 //! The lines of the packages' records.
 ghost use Rattle.std.specs.Prelude.{◌≡◌, ◌<◌, ◌≤◌, ◌+◌, ◌++◌, drop, length, slice_index, take, OnOk};
 ghost use Rattle.jc_words.specs.Layout.{packages_address};
-ghost use Rattle.jc_heap.specs.Components.{words_for};
+ghost use Rattle.jc_heap.specs.Component.{words_for};
 ghost use Rattle.jc_objects.specs.Bounds.{IsBounded};
 ghost use Rattle.jc_objects.specs.Records.{IsRecord, record_size, record_words};
 ghost use Rattle.jcard_listing.specs.Fault.{Lists, each_line};

@@ -1,7 +1,7 @@
 -- Steps of the counts over all cuts.
 use Rattle.std.proofs.Common.{◌≡◌, ◌∙◌, ℕ, ◌+◌, ◌<◌, ◌≤◌, ◌||◌, if◌then◌else◌, true, false, List, length, get_or, drop, ap, Some, None}
 use Rattle.std.proofs.lemmas.List.{drop_all}
-use Rattle.jcard_outcomes.specs.Reports.{any_but_tries, broken_by_calls, count_before, first_broken, is_after, is_before, is_but_tries, is_by_calls}
+use Rattle.jcard_outcomes.specs.Report.{any_but_tries, broken_by_calls, count_before, first_broken, is_after, is_before, is_but_tries, is_by_calls}
 use Rattle.jcard_outcomes.specs.declared.standing.Cut.{Cut}
 use Rattle.jcard_outcomes.proofs.Items.{drop_at}
 

@@ -7,9 +7,9 @@ use Rattle.std.proofs.lemmas.Bool.{cases_lt}
 use Rattle.std.proofs.lemmas.List.{length-map, map-append, take-append-drop, take_more}
 use Rattle.std.proofs.lemmas.List.Elements.{All-push}
 use Rattle.jcard_outcomes.specs.Join.{AreTold, IsBadLine, IsUncutTold, TellCuts}
-use Rattle.jcard_outcomes.specs.Parts.{IsCutOfWords, IsReadCut, has, told_cut}
+use Rattle.jcard_outcomes.specs.Part.{IsCutOfWords, IsReadCut, has, told_cut}
 use Rattle.jcard_outcomes.specs.declared.standing.Cut.{Cut}
-use Rattle.jcard_outcomes.proofs.Dealt.{from_next}
+use Rattle.jcard_outcomes.proofs.LineOrder.{from_next}
 use Rattle.jcard_outcomes.proofs.Ends.{lent, lent_at, lent_length, nothing}
 use Rattle.jcard_outcomes.proofs.SweepLines.{cut_is_no_end, cut_line, end_line}
 

@@ -2,7 +2,7 @@
 use Rattle.std.proofs.Common.{◌≡◌, ◌∙◌, ℕ, ◌+◌, ◌<◌, ◌≤◌, List, length, get_or, drop, max, min, ap, Option, Some, None}
 use Rattle.std.proofs.lemmas.List.{drop_all}
 use Rattle.jcard_outcomes.specs.Recoveries.{difference_or, first_difference, ways_from}
-use Rattle.jcard_outcomes.specs.Reports.{most_lost_from}
+use Rattle.jcard_outcomes.specs.Report.{most_lost_from}
 use Rattle.jcard_outcomes.specs.declared.standing.Cut.{Cut}
 use Rattle.jcard_outcomes.proofs.Items.{drop_at}
 

@@ -4,10 +4,10 @@ use Rattle.std.specs.Prelude.{MatchOption}
 use Rattle.std.specs.Borrow.{Bor}
 use Rattle.std.proofs.lemmas.Bool.{eqb-true, eq-eqb, false≢true}
 use Rattle.jcard_outcomes.specs.Join.{IsHeadFault, IsNextLine}
-use Rattle.jcard_outcomes.specs.Parts.{has, line_start, line_text}
+use Rattle.jcard_outcomes.specs.Part.{has, line_start, line_text}
 use Rattle.jcard_outcomes.specs.declared.join_fault.JoinFault.{JoinFault}
 use Rattle.jcard_outcomes.specs.declared.join_fault.JoinFault.TheVariants.{BadLine, Missing, NoMemory, OtherSweep, Twice}
-use Rattle.jcard_outcomes.proofs.Dealt.{line_read}
+use Rattle.jcard_outcomes.proofs.LineOrder.{line_read}
 use Rattle.jcard_outcomes.proofs.Ends.{lent, lent_length}
 use Rattle.jcard_outcomes.proofs.Splits.{not_lacking, rest_again}
 

@@ -6,20 +6,20 @@ use Rattle.std.proofs.lemmas.List.{get_or-drop, get_or-replicate, length-append,
 use Rattle.std.proofs.lemmas.List.Elements.{All-append, All-cons, All-head, All-nil, All-replicate, All-tail}
 use Rattle.jcard_outcomes.specs.Join.{AreBodiesInOrder, AreJoinedInOrder, AreOrdered, AreTold, IsAnswerTold, IsJoinOf, IsJoinOfCuts, IsLinesFault, IsNoCut, IsNoEnd, IsNoReport}
 use Rattle.jcard_outcomes.specs.Join.{IsReportOf, IsTellable, IsUncutTold, IsUnjoined, TellCuts}
-use Rattle.jcard_outcomes.specs.Parts.{AreDealt, IsCutOfWords, has, told_cut, told_sweep, told_uncut}
-use Rattle.jcard_outcomes.specs.Reports.{are_whole, in_line, report_text}
+use Rattle.jcard_outcomes.specs.Part.{AreDealt, IsCutOfWords, has, told_cut, told_sweep, told_uncut}
+use Rattle.jcard_outcomes.specs.Report.{are_whole, in_line, report_text}
 use Rattle.jcard_outcomes.specs.declared.join_fault.JoinFault.{JoinFault}
 use Rattle.jcard_outcomes.specs.declared.join_fault.JoinFault.TheVariants.{BadLine, Missing, NoMemory, OtherSweep, Twice}
 use Rattle.jcard_outcomes.specs.declared.join.Joined.{Joined}
 use Rattle.jcard_outcomes.specs.declared.recoveries.Depth.{Depth}
 use Rattle.jcard_outcomes.specs.declared.report.Sweep.{Sweep}
 use Rattle.jcard_outcomes.specs.declared.standing.Cut.{Cut}
-use Rattle.jcard_outcomes.proofs.Joined.{behind_cuts, joined_read, joined_whole, same_lengths, uncut_is, uncut_stands, uncut_told}
-use Rattle.jcard_outcomes.proofs.Dealt.{from_next}
+use Rattle.jcard_outcomes.proofs.EqualReports.{behind_cuts, joined_read, joined_whole, same_lengths, uncut_is, uncut_stands, uncut_told}
+use Rattle.jcard_outcomes.proofs.LineOrder.{from_next}
 use Rattle.jcard_outcomes.proofs.SweepLines.{cut_is_no_end}
-use Rattle.jcard_outcomes.proofs.PartsDealt.{parts_dealt}
-use Rattle.jcard_outcomes.proofs.Recovered.{cut_in_one_line}
-use Rattle.jcard_outcomes.proofs.Told.{answer_of_uncut, in_line_has_none, lacks_both}
+use Rattle.jcard_outcomes.proofs.PartTexts.{parts_dealt}
+use Rattle.jcard_outcomes.proofs.RecoveryReports.{cut_in_one_line}
+use Rattle.jcard_outcomes.proofs.CutReports.{answer_of_uncut, in_line_has_none, lacks_both}
 
 -- ---- the report of cuts
 

@@ -6,12 +6,12 @@ pub mod Differences
 pub mod PartSteps
 pub mod Splits
 pub mod Orders
-pub mod Told
-pub mod Recovered
-pub mod Dealt
-pub mod Joined
+pub mod CutReports
+pub mod RecoveryReports
+pub mod LineOrder
+pub mod EqualReports
 pub mod SweepLines
-pub mod PartsDealt
+pub mod PartTexts
 pub mod Ends
 pub mod Heads
 pub mod CutLines

@@ -6,10 +6,10 @@ use Rattle.std.specs.List.{All}
 use Rattle.std.proofs.lemmas.List.{get_or-map}
 use Rattle.std.proofs.Math.Nat.{mod-lt}
 use Rattle.jcard_outcomes.specs.Join.{AreOrdered, IsHeadFault, IsNextFault, IsNextLine, IsReadTo}
-use Rattle.jcard_outcomes.specs.Parts.{line_text}
+use Rattle.jcard_outcomes.specs.Part.{line_text}
 use Rattle.jcard_outcomes.specs.declared.join_fault.JoinFault.{JoinFault}
 use Rattle.jcard_outcomes.specs.declared.join_fault.JoinFault.TheVariants.{BadLine, Missing, NoMemory, OtherSweep, Twice}
-use Rattle.jcard_outcomes.proofs.Dealt.{Reading, begun, line_some, next, none_left, read_whole, stuck}
+use Rattle.jcard_outcomes.proofs.LineOrder.{Reading, begun, line_some, next, none_left, read_whole, stuck}
 use Rattle.jcard_outcomes.proofs.Ends.{lent, lent_at, lent_length, nothing}
 
 pub reads_begun : (texts : List (List ℕ)) (lines rests : List (Bor (List ℕ))) → lines ≡ [] → lent rests ≡ texts → Reading texts (lent lines) (lent rests) 0

@@ -9,7 +9,7 @@ use Rattle.std.proofs.lemmas.List.{append_cancel_left, get_or_append_left, lengt
 use Rattle.jcard_outcomes.specs.Join.{AreBodiesInOrder, AreBodiesOf, AreJoined, AreJoinedInOrder, IsJoinFault, IsPartOf, IsUnjoined}
 use Rattle.jcard_outcomes.specs.declared.join.Joined.{Joined}
 use Rattle.jcard_outcomes.specs.Order.{AreInOrder, ArePlaces, AreUnplaced, BeginsAt, IsOnlyAt, IsUnplaced}
-use Rattle.jcard_outcomes.specs.Parts.{body_text, cut_label, line_start, numbered, lines_text, told_cut, told_uncut}
+use Rattle.jcard_outcomes.specs.Part.{body_text, cut_label, line_start, numbered, lines_text, told_cut, told_uncut}
 use Rattle.jcard_outcomes.specs.declared.join_fault.JoinFault.{JoinFault}
 use Rattle.jcard_outcomes.specs.declared.join_fault.JoinFault.TheVariants.{BadLine, Missing, NoMemory, OtherSweep, Twice}
 use Rattle.jcard_outcomes.specs.declared.part.Part.{Part}

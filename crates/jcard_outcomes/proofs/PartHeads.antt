@@ -7,7 +7,7 @@ use Rattle.std.proofs.lemmas.Bool.{cases_lt}
 use Rattle.std.proofs.lemmas.List.{append_cancel_left, get_or-map, get_or_append_left}
 use Rattle.jcard_outcomes.specs.Join.{AreBodiesOf, ArePartsOf, IsPartOf}
 use Rattle.jcard_outcomes.specs.Order.{ArePlaces}
-use Rattle.jcard_outcomes.specs.Parts.{body_text, has, head_text, part_text}
+use Rattle.jcard_outcomes.specs.Part.{body_text, has, head_text, part_text}
 use Rattle.jcard_outcomes.specs.SweepHead.{AreBehindHeads, AreOfOthers, IsBehindHead, IsOfOther}
 use Rattle.jcard_outcomes.specs.declared.part.Part.{Part}
 use Rattle.jcard_outcomes.specs.declared.report.Sweep.{Sweep}

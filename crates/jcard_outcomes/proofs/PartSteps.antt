@@ -2,7 +2,7 @@
 use Rattle.std.proofs.Common.{arith, ◌≡◌, ◌∙◌, ℕ, ◌+◌, ◌*◌, ◌<◌, ◌≤◌, ◌++◌, List, length, get_or, drop, ap, sym, add-one, append_assoc}
 use Rattle.std.proofs.Math.Nat.{mul-le-mul_left, mul-suc}
 use Rattle.std.proofs.lemmas.List.{drop_all}
-use Rattle.jcard_outcomes.specs.Parts.{line_text, lines_text, told_cut}
+use Rattle.jcard_outcomes.specs.Part.{line_text, lines_text, told_cut}
 use Rattle.jcard_outcomes.specs.declared.standing.Cut.{Cut}
 use Rattle.jcard_outcomes.proofs.Items.{drop_at}
 

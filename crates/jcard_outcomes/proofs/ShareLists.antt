@@ -5,7 +5,7 @@ use Rattle.std.specs.Borrow.{Bor}
 use Rattle.std.proofs.lemmas.Fmt.{decimal_injective}
 use Rattle.std.proofs.lemmas.List.{length-take-le, map-append, take_more}
 use Rattle.jcard_outcomes.specs.CommandShares.{AreShares, IsOfMore, share_label, share_text, whole_told}
-use Rattle.jcard_outcomes.specs.Parts.{has, numbered}
+use Rattle.jcard_outcomes.specs.Part.{has, numbered}
 use Rattle.jcard_outcomes.proofs.Ends.{lent, lent_length, nothing}
 use Rattle.jcard_outcomes.proofs.Splits.{cut_again, decimal_lacks, rest_again}
 

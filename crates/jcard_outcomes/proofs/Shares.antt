@@ -1,7 +1,7 @@
 -- The names of parts.
 use Rattle.std.proofs.Common.{arith, ◌≡◌, inl, ◌∙◌, ℕ, ◌+◌, ◌<◌, List, ◌∷◌, ◌++◌, ap, sym, decimal, false}
 use Rattle.std.proofs.lemmas.Fmt.{decimal_injective}
-use Rattle.jcard_outcomes.specs.Parts.{IsShareText, has}
+use Rattle.jcard_outcomes.specs.Part.{IsShareText, has}
 use Rattle.jcard_outcomes.specs.declared.part.Share.{Share}
 use Rattle.jcard_outcomes.proofs.Splits.{cut_again, decimal_lacks, not_lacking}
 

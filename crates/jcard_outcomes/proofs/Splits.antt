@@ -9,7 +9,7 @@ use Rattle.std.proofs.lemmas.List.{append_cancel_left, take-append-drop, length-
 use Rattle.std.proofs.lemmas.List.Folds.{list_any_more}
 use Rattle.std.proofs.lemmas.Slice.Eq.{bytes_eq-Decides}
 use Rattle.std.proofs.lemmas.Str.Parse.{digit_from_value}
-use Rattle.jcard_outcomes.specs.Parts.{has}
+use Rattle.jcard_outcomes.specs.Part.{has}
 
 -- texts that are the same
 pub same : (a b : List ℕ) (r : Bool) → r ≡ bytes_eq a b → r ≡ true → a ≡ b

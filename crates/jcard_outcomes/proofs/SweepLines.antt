@@ -5,11 +5,11 @@ use Rattle.std.specs.List.{All}
 use Rattle.std.proofs.lemmas.List.{get_or-replicate, length-append, length-map, length-replicate}
 use Rattle.std.proofs.lemmas.List.Elements.{All-head, All-tail}
 use Rattle.jcard_outcomes.specs.Join.{AreTold, IsUncutTold}
-use Rattle.jcard_outcomes.specs.Parts.{IsCutOfWords, cut_tail, is_one_way, told_cut, told_left, told_sweep}
-use Rattle.jcard_outcomes.specs.Reports.{in_line, standing_text}
+use Rattle.jcard_outcomes.specs.Part.{IsCutOfWords, cut_tail, is_one_way, told_cut, told_left, told_sweep}
+use Rattle.jcard_outcomes.specs.Report.{in_line, standing_text}
 use Rattle.jcard_outcomes.specs.declared.standing.Cut.{Cut}
-use Rattle.jcard_outcomes.proofs.Recovered.{all_told, nothing_told}
-use Rattle.jcard_outcomes.proofs.Told.{told_parts}
+use Rattle.jcard_outcomes.proofs.RecoveryReports.{all_told, nothing_told}
+use Rattle.jcard_outcomes.proofs.CutReports.{told_parts}
 use Rattle.jcard_outcomes.specs.declared.standing.Standing.{Standing}
 use Rattle.jcard_outcomes.specs.declared.standing.Standing.TheVariants.{Before, BeforeButTries, After, AfterButTries, Answers, Changed, ChangedByCalls}
 

@@ -1,7 +1,7 @@
 -- Steps of the verdicts of all commands.
 use Rattle.std.proofs.Common.{◌≡◌, ◌∙◌, ℕ, ◌+◌, ◌<◌, ◌≤◌, ◌++◌, Bool, List, length, get_or, drop, ap, sym, append_assoc, append-nil}
 use Rattle.std.proofs.lemmas.List.{drop_all}
-use Rattle.jcard_outcomes.specs.Reports.{line_verdict_text, verdicts_text}
+use Rattle.jcard_outcomes.specs.Report.{line_verdict_text, verdicts_text}
 use Rattle.jcard_outcomes.specs.declared.each.LineSweep.{LineSweep}
 use Rattle.jcard_outcomes.proofs.Items.{drop_at}
 

@@ -2,7 +2,7 @@
 use Rattle.std.specs.Prelude.{ℕ, ◌≡◌, ◌⊎◌, ◌+◌, ◌<◌, ◌&&◌, Bool, true, false, List, [], ◌∷◌, ◌++◌, codes, decimal, length}
 use Rattle.std.specs.List.{slice_index_or}
 use Rattle.jcard_outcomes.specs.Order.{AreInOrder, AreUnplaced}
-use Rattle.jcard_outcomes.specs.Parts.{numbered}
+use Rattle.jcard_outcomes.specs.Part.{numbered}
 use Rattle.jcard_outcomes.specs.declared.join_fault.JoinFault.{JoinFault}
 use Rattle.jcard_outcomes.specs.declared.join_fault.JoinFault.TheVariants.{BadLine, Missing, NoMemory}
 use Rattle.jcard_outcomes.specs.declared.join.Joined.{Joined}

@@ -3,8 +3,8 @@ use Rattle.std.specs.Prelude.{ℕ, ◌≡◌, ◌⊎◌, ◌+◌, ◌*◌, ◌%�
 use Rattle.std.specs.List.{slice_index_or}
 use Rattle.std.specs.Borrow.{Bor}
 use Rattle.jcard_outcomes.specs.Order.{AreInOrder, ArePlaces, AreUnplaced}
-use Rattle.jcard_outcomes.specs.Parts.{AreDealt, IsCutOfWords, IsReadCut, body_text, cut_label, dealt, has, line_text, part_text, told_cut, told_sweep, told_uncut}
-use Rattle.jcard_outcomes.specs.Reports.{are_whole, report_text, rows_text, verdict_text}
+use Rattle.jcard_outcomes.specs.Part.{AreDealt, IsCutOfWords, IsReadCut, body_text, cut_label, dealt, has, line_text, part_text, told_cut, told_sweep, told_uncut}
+use Rattle.jcard_outcomes.specs.Report.{are_whole, report_text, rows_text, verdict_text}
 use Rattle.jcard_outcomes.specs.declared.join_fault.JoinFault.{JoinFault}
 use Rattle.jcard_outcomes.specs.declared.join_fault.JoinFault.TheVariants.{BadLine, Missing, NoMemory, OtherSweep, Twice}
 use Rattle.jcard_outcomes.specs.declared.join.Joined.{Joined}

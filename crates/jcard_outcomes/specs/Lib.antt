@@ -1,10 +1,10 @@
 pub mod Heaps
 pub mod Standing
 pub mod Recoveries
-pub mod Reports
+pub mod Report
 pub mod Models
 pub mod Order
-pub mod Parts
+pub mod Part
 pub mod Join
 pub mod SweepHead
 pub mod CommandShares

@@ -1,7 +1,7 @@
 -- Texts in the order of the numbers with which their first lines begin, after a label.
 use Rattle.std.specs.Prelude.{ℕ, ◌≡◌, ◌<◌, List, [], ◌++◌, length}
 use Rattle.std.specs.List.{slice_index_or}
-use Rattle.jcard_outcomes.specs.Parts.{numbered}
+use Rattle.jcard_outcomes.specs.Part.{numbered}
 use Rattle.jcard_outcomes.specs.declared.join_fault.JoinFault.{JoinFault}
 use Rattle.jcard_outcomes.specs.declared.join_fault.JoinFault.TheVariants.{Missing, NoMemory, Twice}
 

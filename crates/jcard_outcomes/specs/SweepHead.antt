@@ -1,7 +1,7 @@
 -- Of which sweep the text of a part is.
 use Rattle.std.specs.Prelude.{ℕ, ◌≡◌, ◌<◌, false, List, [], ◌++◌, length}
 use Rattle.std.specs.List.{slice_index_or}
-use Rattle.jcard_outcomes.specs.Parts.{has, head_text}
+use Rattle.jcard_outcomes.specs.Part.{has, head_text}
 use Rattle.jcard_outcomes.specs.declared.sweep_head.HeadFault.{HeadFault}
 use Rattle.jcard_outcomes.specs.declared.sweep_head.HeadFault.TheVariants.{NoMemory, OtherSweep}
 

@@ -3,7 +3,7 @@ ghost use Rattle.std.specs.Prelude.{◌≡◌, ◌++◌, ◌∷◌, ◌<◌, ◌
 ghost use Rattle.std.specs.Bool.{MatchBool};
 ghost use Rattle.std.specs.Borrow.{Bor};
 ghost use Rattle.jcard_outcomes.specs.CommandShares.{AreNoShares, AreShares, AreSharesJoined, IsNoShare, IsOfMore, share_start, share_text, whole_told};
-ghost use Rattle.jcard_outcomes.specs.Parts.{head_text};
+ghost use Rattle.jcard_outcomes.specs.Part.{head_text};
 
 use crate::join::Joined;
 use crate::join_fault::JoinFault;

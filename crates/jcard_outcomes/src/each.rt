@@ -1,7 +1,7 @@
 //! The commands of a script, each with the verdict over its cuts.
 ghost use Rattle.std.specs.Prelude.{◌≡◌, ◌++◌, ◌↔◌, true, All, IsTrue, IfOk, OnOk, codes};
-ghost use Rattle.jcard_outcomes.specs.Reports.{is_whole_outcome, line_answer_text, line_command_text, line_recoveries_text, line_rows_text};
-ghost use Rattle.jcard_outcomes.specs.Reports.{line_verdict_text, swept_text, verdicts_text};
+ghost use Rattle.jcard_outcomes.specs.Report.{is_whole_outcome, line_answer_text, line_command_text, line_recoveries_text, line_rows_text};
+ghost use Rattle.jcard_outcomes.specs.Report.{line_verdict_text, swept_text, verdicts_text};
 
 use crate::recoveries::{Depth, push_recoveries};
 use crate::report::{Sweep, push_told_rows};
@@ -54,7 +54,7 @@ fn is_whole(outcome: &LineOutcome) -> bool
     }
 }
 
-#[tactic(auto, unfolding(crate::specs::Reports::line_verdict_text))]
+#[tactic(auto, unfolding(crate::specs::Report::line_verdict_text))]
 fn push_line_verdict(
     alloc: Global,
     text: &mut Vec<u8>,

@@ -4,8 +4,8 @@ ghost use Rattle.std.specs.Bool.{MatchBool};
 ghost use Rattle.std.specs.Borrow.{Bor};
 ghost use Rattle.jcard_outcomes.specs.Join.{AreBodiesInOrder, AreBodiesOf, AreJoined, AreJoinedInOrder, AreOrdered, AreTold, IsAnswerTold, IsHeadFault};
 ghost use Rattle.jcard_outcomes.specs.Join.{IsJoinFault, IsJoinOf, IsJoinOfCuts, IsNextFault, IsNextLine, IsNoCut, IsNoEnd, IsNoReport, IsReportOf, IsTellable, IsUncutTold, IsUnjoined, TellCuts, joined_text};
-ghost use Rattle.jcard_outcomes.specs.Parts.{has, line_start, told_cut};
-ghost use Rattle.jcard_outcomes.specs.Reports.{are_whole, report_text};
+ghost use Rattle.jcard_outcomes.specs.Part.{has, line_start, told_cut};
+ghost use Rattle.jcard_outcomes.specs.Report.{are_whole, report_text};
 ghost use Rattle.jcard_outcomes.specs.declared.report.Sweep.{Sweep as ASweep};
 ghost use Rattle.jcard_outcomes.specs.declared.standing.Cut.{Cut as ACut};
 

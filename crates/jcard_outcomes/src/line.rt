@@ -1,9 +1,9 @@
 //! Reading back what the line of a part reports of a cut.
 ghost use Rattle.std.specs.Prelude.{◌≡◌, ◌++◌, ◌∷◌, ◌<◌, ◌^◌, ℕ, List, Some, false, codes, decimal, IfSome, MatchOption, IfOk};
 ghost use Rattle.std.specs.Str.{bytes_eq};
-ghost use Rattle.jcard_outcomes.specs.Parts.{AreCounted, AreWords, IsCutOfWords, IsLeftOfWords, IsOfWords, IsReadCut, IsUnrecovered, cut_tail, difference_told};
-ghost use Rattle.jcard_outcomes.specs.Parts.{has, is_one_way, recovered_told, told_cut, told_left};
-ghost use Rattle.jcard_outcomes.specs.Reports.{changed_text, standing_text};
+ghost use Rattle.jcard_outcomes.specs.Part.{AreCounted, AreWords, IsCutOfWords, IsLeftOfWords, IsOfWords, IsReadCut, IsUnrecovered, cut_tail, difference_told};
+ghost use Rattle.jcard_outcomes.specs.Part.{has, is_one_way, recovered_told, told_cut, told_left};
+ghost use Rattle.jcard_outcomes.specs.Report.{changed_text, standing_text};
 ghost use Rattle.jcard_outcomes.specs.declared.heaps.Difference.{Difference as ADifference};
 ghost use Rattle.jcard_outcomes.specs.declared.recoveries.Recoveries.{Recoveries as ARecoveries};
 ghost use Rattle.jcard_outcomes.specs.declared.standing.Cut.{Cut as ACut};

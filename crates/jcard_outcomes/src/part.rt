@@ -1,6 +1,6 @@
 //! The text of a part of a sweep, with a line for each of its cuts.
 ghost use Rattle.std.specs.Prelude.{◌≡◌, ◌++◌, ◌∷◌, ◌+◌, ◌*◌, ◌<◌, ◌^◌, codes, decimal, length, IfOk, MatchOption, OnOk};
-ghost use Rattle.jcard_outcomes.specs.Parts.{IsShareText, difference_told, head_text, is_one_way, line_start, line_text, lines_text, numbered, part_text, recovered_told, told_cut, told_left, told_uncut};
+ghost use Rattle.jcard_outcomes.specs.Part.{IsShareText, difference_told, head_text, is_one_way, line_start, line_text, lines_text, numbered, part_text, recovered_told, told_cut, told_left, told_uncut};
 ghost use Rattle.jcard_outcomes.specs.declared.part.Share.{Share as AShare};
 
 use crate::line::{cut_once, word_of};
@@ -56,7 +56,7 @@ pub fn share_of(text: &[u8]) -> Option<Share>
 }
 
 /// The lines that say of which sweep a part is, what its cuts left, and where they end.
-#[tactic(auto, unfolding(crate::specs::Parts::part_text))]
+#[tactic(auto, unfolding(crate::specs::Part::part_text))]
 pub fn part_lines(alloc: Global, part: &Part) -> Result<Vec<u8>, AllocError>
     requires { part.now.first + part.now.step * length part.now.sweep.cuts.items < 2 ^ 64 }
     ensures { IfOk result (λ text. text.items ≡ part_text part.now) }
@@ -116,7 +116,7 @@ pub(crate) fn push_line_start(text: &mut Vec<u8>, number: usize) -> Result<(), A
 }
 
 /// Writes how a line begins about this number of what the label says.
-#[tactic(auto, unfolding(crate::specs::Parts::numbered))]
+#[tactic(auto, unfolding(crate::specs::Part::numbered))]
 pub(crate) fn push_numbered(
     text: &mut Vec<u8>,
     label: &[u8],
@@ -190,7 +190,7 @@ fn push_difference(text: &mut Vec<u8>, difference: Option<u16>) -> Result<(), Al
     }
 }
 
-#[tactic(auto, unfolding(crate::specs::Parts::told_left))]
+#[tactic(auto, unfolding(crate::specs::Part::told_left))]
 fn push_left(text: &mut Vec<u8>, cut: &Cut) -> Result<(), AllocError>
     ensures { OnOk result (text.new.items ≡ text.old.items ++ told_left cut.now) }
 {
@@ -201,7 +201,7 @@ fn push_left(text: &mut Vec<u8>, cut: &Cut) -> Result<(), AllocError>
     push_in_line(text, &cut.answers)
 }
 
-#[tactic(auto, unfolding(crate::specs::Parts::told_uncut))]
+#[tactic(auto, unfolding(crate::specs::Part::told_uncut))]
 fn uncut_told(alloc: Global, answer: &[u8], answers: &[u8]) -> Result<Vec<u8>, AllocError>
     ensures { IfOk result (λ text. text.items ≡ told_uncut answer.now answers.now) }
 {

@@ -1,6 +1,6 @@
 //! The report: rows, the command that is not cut, and the verdict.
 ghost use Rattle.std.specs.Prelude.{◌≡◌, ◌++◌, codes, IfOk, OnOk};
-ghost use Rattle.jcard_outcomes.specs.Reports.{ended, in_line, report_text, rows_text, uncut_text};
+ghost use Rattle.jcard_outcomes.specs.Report.{ended, in_line, report_text, rows_text, uncut_text};
 
 use crate::recoveries::{Depth, push_recoveries};
 use crate::rows::{push_ended, push_in_line, push_rows};

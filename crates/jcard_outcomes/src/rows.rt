@@ -1,7 +1,7 @@
 //! The rows: what cuts left, one row for those that follow one another and left the same.
 ghost use Rattle.std.specs.Prelude.{◌≡◌, ◌++◌, IfOk, OnOk, ◌==◌, codes, decimal};
 ghost use Rattle.std.specs.Str.{bytes_eq};
-ghost use Rattle.jcard_outcomes.specs.Reports.{changed_text, ended, in_line, labelled, lost_text, numbers_text, outcome_text, row_text, rows_from, rows_text, standing_text, words_lost_text};
+ghost use Rattle.jcard_outcomes.specs.Report.{changed_text, ended, in_line, labelled, lost_text, numbers_text, outcome_text, row_text, rows_from, rows_text, standing_text, words_lost_text};
 
 use crate::heaps::Difference;
 use crate::standing::{Cut, Standing};
@@ -51,7 +51,7 @@ pub fn is_same(outcome: &[u8], next: &[u8]) -> bool
 }
 
 // What a row reports of a cut.
-#[tactic(auto, unfolding(crate::specs::Reports::outcome_text))]
+#[tactic(auto, unfolding(crate::specs::Report::outcome_text))]
 fn outcome_of(alloc: Global, cut: &Cut) -> Result<Vec<u8>, AllocError>
     ensures { IfOk result (λ text. text.items ≡ outcome_text cut.now) }
 {

@@ -3,7 +3,7 @@ ghost use Rattle.std.specs.Prelude.{◌≡◌, ◌++◌, ◌∷◌, ◌<◌, [],
 ghost use Rattle.std.specs.Borrow.{Bor};
 ghost use Rattle.std.specs.List.{slice_index_or};
 ghost use Rattle.jcard_outcomes.specs.SweepHead.{AreBehindHeads, AreOfOthers, IsBehindHead};
-ghost use Rattle.jcard_outcomes.specs.Parts.{has, head_text};
+ghost use Rattle.jcard_outcomes.specs.Part.{has, head_text};
 ghost use Rattle.jcard_outcomes.specs.declared.sweep_head.HeadFault.TheVariants.{NoMemory};
 
 use crate::line::{after, cut_once};

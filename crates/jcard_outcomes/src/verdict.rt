@@ -1,7 +1,7 @@
 //! The verdict over all cuts of a command.
 ghost use Rattle.std.specs.Prelude.{◌≡◌, ◌++◌, ◌==◌, ◌||◌, IfOk, OnOk, is_none, max, option_map, if◌then◌else◌};
-ghost use Rattle.jcard_outcomes.specs.Reports.{any_but_tries, are_whole, broken_by_calls, broken_told, broken_text, claim_text, count_before, cuts_text, first_broken, is_after, is_before, is_but_tries, is_by_calls};
-ghost use Rattle.jcard_outcomes.specs.Reports.{is_refused, is_refused_at_once, most_lost_from, most_lost_text, no_write_text, shares_text, verdict_text, whole_text};
+ghost use Rattle.jcard_outcomes.specs.Report.{any_but_tries, are_whole, broken_by_calls, broken_told, broken_text, claim_text, count_before, cuts_text, first_broken, is_after, is_before, is_but_tries, is_by_calls};
+ghost use Rattle.jcard_outcomes.specs.Report.{is_refused, is_refused_at_once, most_lost_from, most_lost_text, no_write_text, shares_text, verdict_text, whole_text};
 
 use crate::recoveries::first_difference;
 use crate::rows::{is_same, push_ending, push_number, push_words_lost};

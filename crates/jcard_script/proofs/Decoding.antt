@@ -8,7 +8,7 @@ use Rattle.std.proofs.lemmas.Bool.{eqb-false}
 use Rattle.hex.specs.Hex.{decode_of, decode_pairs, is_hex_digit, pair_value, IsBytes, ◌>>=◌}
 use Rattle.hex.specs.declared.error.FromHexError.{FromHexError}
 use Rattle.hex.proofs.HexLemmas.{decode_of-ok, decode_of-even, decode_of-digits, decode_of-same}
-use Rattle.jc_card.specs.Requests.{Command}
+use Rattle.jc_card.specs.Session.Requests.{Command}
 use Rattle.jcard_script.specs.Script.{Asks, Skipped, Bad, plain_form_of, form_of_decoded, without_spaces}
 use Rattle.jcard_script.specs.Line.{IsPlain}
 

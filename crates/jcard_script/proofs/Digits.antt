@@ -9,7 +9,7 @@ use Rattle.std.proofs.lemmas.List.Sums.{list_all-from_AllPass}
 use Rattle.std.proofs.lemmas.List.{take_all}
 use Rattle.hex.specs.Hex.{decode_of, is_hex_digit}
 use Rattle.hex.proofs.HexLemmas.{decode_of-ok}
-use Rattle.jc_card.specs.Requests.{Command}
+use Rattle.jc_card.specs.Session.Requests.{Command}
 use Rattle.jcard_script.specs.Script.{Asks, form_of, plain_form_of, form_of_decoded, without_spaces}
 use Rattle.jcard_script.specs.Line.{IsPlain}
 use Rattle.jcard_script.proofs.Decoding.{form_plain}

@@ -1,6 +1,6 @@
 -- Lines that have a form.
 use Rattle.std.proofs.Common.{◌≡◌, ◌∙◌, sym, subst}
-use Rattle.jc_card.specs.Requests.{Command, Reset as Resets, ArmFuse as ArmsFuse, PlanFault as PlansFault}
+use Rattle.jc_card.specs.Session.Requests.{Command, Reset as Resets, ArmFuse as ArmsFuse, PlanFault as PlansFault}
 use Rattle.jcard_script.specs.Line.{IsAsked}
 use Rattle.jcard_script.specs.Script.{Form, Skipped, Asks, Bad}
 use Rattle.jcard_script.specs.declared.line.LineRequest.{LineRequest}

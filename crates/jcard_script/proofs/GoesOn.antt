@@ -3,24 +3,24 @@ use Rattle.std.proofs.Common.{◌≡◌, ◌∙◌, ℕ, true, false, List, [], 
 use Rattle.std.specs.Str.Lines.{lines, strip_carriage_return}
 use Rattle.jc_words.specs.Count.{saturating_count}
 use Rattle.jc_words.specs.Refusals.{with_fuse_at}
-use Rattle.jc_words.specs.Stores.{FuseStoreValue}
+use Rattle.jc_words.specs.Store.{FuseStoreValue}
 use Rattle.jc_words.specs.declared.store.StoreDown.{StoreDown}
 use Rattle.jc_commit.specs.Image.{IsGoodLog, recovered_of}
 use Rattle.jc_commit.proofs.InPlace.{length-recovered}
 use Rattle.jc_heap.specs.Heap.{HeapView, heap_of}
 use Rattle.jc_heap.specs.Image.{IsWellFormed}
-use Rattle.jc_heap.specs.Stored.{HoldsHeap}
+use Rattle.jc_heap.specs.Heap.Store.{HoldsHeap}
 use Rattle.jc_memory.specs.Programs.{Executes}
 use Rattle.jc_card.specs.Answers.{after_exchange, answered, exchange}
-use Rattle.jc_card.specs.CardState.{CardState}
-use Rattle.jc_card.specs.Power.{Up, Off, armed_card}
-use Rattle.jc_card.specs.Requests.{Armed, ArmFuse, Down, Response}
+use Rattle.jc_card.specs.Card.{CardState}
+use Rattle.jc_card.specs.State.Power.{Up, Off, armed_card}
+use Rattle.jc_card.specs.Session.Requests.{Armed, ArmFuse, Down, Response}
 use Rattle.jcard_script.specs.Begun.{AnswersLeaving, EndsLeaving, ForEachAlike, HasBegun, IsCommandLine, IsStopLine, LeavesCut}
 use Rattle.jcard_script.specs.Script.{AreCarriedOut, Asks, EndsWithin, IsWrittenFor, armed_text, ended_lines, form_of, text_of_reply}
-use Rattle.jc_card.specs.SessionStates.{with_fuse}
+use Rattle.jc_card.specs.State.{with_fuse}
 use Rattle.jcard_script.specs.ScriptStates.{IsStoreOf, ScriptState}
 use Rattle.jcard_script.specs.Session.{unfinished_line}
-use Rattle.jcard_script.proofs.Carried.{carried_more}
+use Rattle.jcard_script.proofs.LineRuns.{carried_more}
 use Rattle.jcard_script.proofs.LongCommands.{answered_line}
 use Rattle.jcard_script.proofs.Parts.{last_line, line_ended, lines_whole}
 

@@ -1,9 +1,9 @@
-pub mod Carried
+pub mod LineRuns
 pub mod Decoding
 pub mod Digits
-pub mod Ending
+pub mod ScriptEnds
 pub mod Forms
-pub mod Kept
+pub mod PowerUps
 pub mod Known
 pub mod LineSteps
 pub mod LongCommands

@@ -7,14 +7,14 @@ use Rattle.std.proofs.lemmas.List.{take_all}
 use Rattle.std.proofs.lemmas.Grind.{common_steps}
 use Rattle.jc_memory.specs.Commands.{has_extended_length, most_command, two_bytes}
 use Rattle.hex.specs.Hex.{IsBytes}
-use Rattle.jc_card.specs.Apdu.{apdu_of, has_extended_form, has_short_form}
+use Rattle.jc_card.specs.Command.{apdu_of, has_extended_form, has_short_form}
 use Rattle.jc_memory.specs.Programs.{Completes, TearLeaves}
-use Rattle.jc_card.specs.CardState.{CardState}
+use Rattle.jc_card.specs.Card.{CardState}
 use Rattle.jc_card.specs.Answers.{exchange, exchange_of_apdu}
 use Rattle.jc_card.specs.Dispatching.{with_response}
-use Rattle.jc_card.specs.Power.{Up, Off}
-use Rattle.jc_card.specs.Requests.{Command, Reply, Response, Down}
-use Rattle.jc_card.specs.Serving.{AnswersCommandOver}
+use Rattle.jc_card.specs.State.Power.{Up, Off}
+use Rattle.jc_card.specs.Session.Requests.{Command, Reply, Response, Down}
+use Rattle.jc_card.specs.Session.Serving.{AnswersCommandOver}
 use Rattle.jcard_script.specs.Line.{IsCommandOf}
 use Rattle.jcard_script.specs.Script.{IsAnswered, IsWrittenFor, form_of}
 use Rattle.jcard_script.specs.ScriptStates.{ScriptState, IsStoreLeft, fuse_kind}

@@ -13,7 +13,7 @@ use Rattle.std.proofs.lemmas.Grind.{common_steps}
 use Rattle.std.proofs.lemmas.Int.Digits.{digits_value_push}
 use Rattle.std.proofs.lemmas.List.{take_all}
 use Rattle.jc_interp.specs.declared.attacks.FaultModel.{FaultModel}
-use Rattle.jc_card.specs.Requests.{Command, Reset, ArmFuse, PlanFault}
+use Rattle.jc_card.specs.Session.Requests.{Command, Reset, ArmFuse, PlanFault}
 use Rattle.jc_card.specs.declared.planned_fault.PlannedFault.{PlannedFault}
 use Rattle.jc_card.specs.declared.planned_fault.SecondFault.{SecondFault}
 use Rattle.jcard_script.specs.Script.{Form, Asks, Bad, both_named, counted, fault_named, faults_named, first_length, form_of, fuse_form_of, glitch_form_of, is_instruction_number, is_number}

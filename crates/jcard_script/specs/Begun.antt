@@ -1,13 +1,13 @@
 -- A card that has carried out the first lines of a script, from which copies of it go on.
 use Rattle.std.specs.Prelude.{ℕ, ◌≡◌, true, List, [], ◌∷◌, ◌++◌, Option, None, Ok}
 use Rattle.std.specs.Str.Lines.{strip_carriage_return}
-use Rattle.jc_words.specs.Stores.{FuseStoreValue}
+use Rattle.jc_words.specs.Store.{FuseStoreValue}
 use Rattle.jc_commit.specs.Image.{IsGoodLog, recovered_of}
-use Rattle.jc_card.specs.CardState.{CardState}
-use Rattle.jc_card.specs.Power.{Up, planned_card}
-use Rattle.jc_card.specs.Requests.{ArmFuse, PlanFault, Reply, Response}
+use Rattle.jc_card.specs.Card.{CardState}
+use Rattle.jc_card.specs.State.Power.{Up, planned_card}
+use Rattle.jc_card.specs.Session.Requests.{ArmFuse, PlanFault, Reply, Response}
 use Rattle.jc_card.specs.declared.planned_fault.PlannedFault.{PlannedFault}
-use Rattle.jc_card.specs.Serving.{AnswersCommandOver}
+use Rattle.jc_card.specs.Session.Serving.{AnswersCommandOver}
 use Rattle.jcard_script.specs.Line.{IsCommandOf}
 use Rattle.jcard_script.specs.Script.{AreCarriedOut, Asks, EndsFrom, EndsWithin, ended_lines, form_of}
 use Rattle.jcard_script.specs.ScriptStates.{PowersUp, ScriptState, IsSessionStore, fuse_kind}

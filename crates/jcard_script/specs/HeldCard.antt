@@ -2,9 +2,9 @@
 use Rattle.std.specs.Prelude.{[], true, Option, Some, None}
 use Rattle.jc_card.specs.Dispatching.{usual_budget}
 use Rattle.jc_words.specs.Refusals.{no_refusals}
-use Rattle.jc_words.specs.Stores.{FuseStoreValue}
-use Rattle.jc_card.specs.Power.{Off}
-use Rattle.jc_card.specs.SessionStates.{IsUp, power_of}
+use Rattle.jc_words.specs.Store.{FuseStoreValue}
+use Rattle.jc_card.specs.State.Power.{Off}
+use Rattle.jc_card.specs.State.{IsUp, power_of}
 use Rattle.jc_card.specs.declared.state.SessionState.{SessionState}
 use Rattle.jcard_script.specs.ScriptStates.{ScriptState}
 

@@ -2,7 +2,7 @@
 use Rattle.std.specs.Prelude.{ℕ, ◌≡◌, ◌==◌, ◌-◌, ◌%◌, Bool, true, false, List, [], ◌∷◌, length, take, slice_index}
 use Rattle.std.specs.List.{list_all}
 use Rattle.hex.specs.Hex.{is_hex_digit}
-use Rattle.jc_card.specs.Requests.{Command, Reset as Resets, ArmFuse as ArmsFuse, PlanFault as PlansFault}
+use Rattle.jc_card.specs.Session.Requests.{Command, Reset as Resets, ArmFuse as ArmsFuse, PlanFault as PlansFault}
 use Rattle.jcard_script.specs.Script.{Form, Skipped, Asks, Bad, form_of, plain_form_of, without_spaces}
 use Rattle.jcard_script.specs.declared.line.Kind.{Kind}
 use Rattle.jcard_script.specs.declared.line.Kind.TheVariants.{Empty, Comment, Digits, Nonsense}

@@ -1,17 +1,17 @@
 -- How the session of a script stands, and what a power up makes of it.
 use Rattle.std.specs.Prelude.{ℕ, ◌≡◌, false, List, Option, None}
-use Rattle.jc_words.specs.Stores.{FuseStoreValue}
+use Rattle.jc_words.specs.Store.{FuseStoreValue}
 use Rattle.jc_commit.specs.Image.{IsGoodLog, limit_of, recovered_of}
 use Rattle.jc_heap.specs.Heap.{HeapState, HeapView, heap_of}
 use Rattle.jc_heap.specs.Image.{IsWellFormed}
 use Rattle.jc_heap.specs.Moves.{IsTorn}
-use Rattle.jc_card.specs.CardState.{selected_aid}
-use Rattle.jc_card.specs.PoweringUp.{IsPoweredOver, PowerUpFails}
+use Rattle.jc_card.specs.Card.{selected_aid}
+use Rattle.jc_card.specs.PowerUp.Outcome.{IsPoweredOver, PowerUpFails}
 use Rattle.jc_card.specs.declared.power_up.PowerFault.{PowerFault as Fault}
 use Rattle.jc_card.specs.declared.power_up.PowerFault.TheVariants.{StoreDown}
-use Rattle.jc_card.specs.Power.{PowerOver, Up, Off, budget_of}
-use Rattle.jc_card.specs.Serving.{StoreKind}
-use Rattle.jc_card.specs.SessionStates.{with_fuse}
+use Rattle.jc_card.specs.State.Power.{PowerOver, Up, Off, budget_of}
+use Rattle.jc_card.specs.Session.Serving.{StoreKind}
+use Rattle.jc_card.specs.State.{with_fuse}
 
 -- a session that keeps the store of a card that is off as it is
 abbrev pub ScriptState : Type 0

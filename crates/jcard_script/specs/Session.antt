@@ -3,7 +3,7 @@ use Rattle.std.specs.Prelude.{ℕ, ◌≡◌, ◌<◌, ◌==◌, false, List, []
 use Rattle.std.specs.List.{slice_split}
 use Rattle.std.specs.Io.KnownBytes.{Appends}
 use Rattle.std.specs.Str.Lines.{strip_carriage_return}
-use Rattle.jc_card.specs.Requests.{Reset}
+use Rattle.jc_card.specs.Session.Requests.{Reset}
 use Rattle.jcard_script.specs.HeldCard.{state_of_held}
 use Rattle.jcard_script.specs.Line.{IsLineOf, ends_in_return}
 use Rattle.jcard_script.specs.ScriptStates.{ScriptState, FailsReset}

@@ -3,7 +3,7 @@ ghost use Rattle.std.specs.Prelude.{◌≡◌, ℕ, List, [], false, None, IfSom
 ghost use Rattle.jc_commit.specs.Image.{IsGoodLog};
 ghost use Rattle.jcard_script.specs.Begun.{AnswersGlitched, AnswersLeaving, AnswersLines, AnswersWith, ForEachAlike, HasBegun, IsCommandLine, IsGlitchLine, IsStopLine, LeavesCut};
 ghost use Rattle.std.specs.Io.KnownBytes.{Appends, Consumes};
-ghost use Rattle.jc_card.specs.Power.{Up};
+ghost use Rattle.jc_card.specs.State.Power.{Up};
 ghost use Rattle.jcard_script.specs.Script.{IsWholeScript};
 ghost use Rattle.jcard_script.specs.ScriptStates.{IsSessionStore};
 ghost use Rattle.jcard_script.specs.Session.{IsUnbroken, unfinished_line};
@@ -32,7 +32,7 @@ pub struct BegunScript<S: WordStore> {
 
 impl<S: WordStore> Model for BegunScript<S> {
     ghost use Rattle.std.specs.Prelude.{◌≡◌, false, None};
-    ghost use Rattle.jc_card.specs.CardState.{CardState};
+    ghost use Rattle.jc_card.specs.Card.{CardState};
 
     ghost Value = { CardState };
 

@@ -1,11 +1,11 @@
 //! What a session of lines does with the card, or the store, that it holds.
 ghost use Rattle.std.specs.Prelude.{◌≡◌, ℕ, List, false, OnOk, IfErr};
 ghost use Rattle.std.specs.Bool.{OnTrue};
-ghost use Rattle.jc_words.specs.Stores.{FuseStoreValue};
-ghost use Rattle.jc_card.specs.Power.{Off, budget_of};
-ghost use Rattle.jc_card.specs.Requests.{Down, Response as Responds};
-ghost use Rattle.jc_card.specs.Serving.{AnswersCommandOver};
-ghost use Rattle.jc_card.specs.SessionStates.{IsUp, answer_of_power_up, power_of};
+ghost use Rattle.jc_words.specs.Store.{FuseStoreValue};
+ghost use Rattle.jc_card.specs.State.Power.{Off, budget_of};
+ghost use Rattle.jc_card.specs.Session.Requests.{Down, Response as Responds};
+ghost use Rattle.jc_card.specs.Session.Serving.{AnswersCommandOver};
+ghost use Rattle.jc_card.specs.State.{IsUp, answer_of_power_up, power_of};
 ghost use Rattle.jcard_script.specs.ScriptStates.{IsSessionStore, PowersUp, FailsUp, fuse_kind, selected_in};
 ghost use Rattle.jcard_script.specs.Reply.{text_for_line};
 ghost use Rattle.jcard_script.specs.Script.{text_of_reply};

@@ -3,7 +3,7 @@ ghost use Rattle.std.specs.Prelude.{◌≡◌, ◌+◌, ◌-◌, ◌^◌, ◌<�
 ghost use Rattle.std.specs.Bool.{OnTrue};
 ghost use Rattle.std.specs.Io.KnownBytes.{Appends, Consumes};
 ghost use Rattle.std.specs.Str.Lines.{lines};
-ghost use Rattle.jc_words.specs.Stores.{FuseStoreValue};
+ghost use Rattle.jc_words.specs.Store.{FuseStoreValue};
 ghost use Rattle.jc_words.specs.Count.{failures_after};
 ghost use Rattle.jc_words.specs.Refusals.{IsWithinFuse};
 ghost use Rattle.jcard_script.specs.HeldCard.{IsState, state_of_held};
@@ -11,9 +11,9 @@ ghost use Rattle.jcard_script.specs.Line.{AsksFor, IsCommandOf};
 ghost use Rattle.jcard_script.specs.Reply.{text_for_line};
 ghost use Rattle.jcard_script.specs.Script.{EndsFrom, IsAnswered, IsWholeScript, IsWrittenFor, armed_text, down_text, form_of, is_read_failed, planned_text};
 ghost use Rattle.jcard_script.specs.Script.{is_write_failed, ended_lines};
-ghost use Rattle.jc_card.specs.Power.{Off, Up, budget_of, planned};
-ghost use Rattle.jc_card.specs.Requests.{Command, Reset};
-ghost use Rattle.jc_card.specs.SessionStates.{with_fuse};
+ghost use Rattle.jc_card.specs.State.Power.{Off, Up, budget_of, planned};
+ghost use Rattle.jc_card.specs.Session.Requests.{Command, Reset};
+ghost use Rattle.jc_card.specs.State.{with_fuse};
 ghost use Rattle.jcard_script.specs.ScriptStates.{ScriptState, IsSessionStore, PowersUp, FailsUp, FailsReset, selected_in};
 ghost use Rattle.jcard_script.specs.Session.{EndsLine, StandsAt, IsUnbroken, IsWrittenOut, LineEnds, LineFails, LinesEnd};
 

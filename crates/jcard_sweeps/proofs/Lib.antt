@@ -1,5 +1,5 @@
-pub mod Attackings
-pub mod Cuttings
-pub mod Joinings
+pub mod AskedLines
+pub mod CutFaults
+pub mod PartJoins
 pub mod NamedParts
 pub mod Tears

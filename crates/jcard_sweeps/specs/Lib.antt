@@ -1,9 +1,9 @@
-pub mod Attacking
-pub mod Cutting
-pub mod Joining
+pub mod Attack
+pub mod Cuts
+pub mod Join
 pub mod SweepsAsked
 pub mod Targets
 pub mod TearFaults
-pub mod Tearing
+pub mod Tear
 pub mod Texts
-pub mod Writings
+pub mod Report

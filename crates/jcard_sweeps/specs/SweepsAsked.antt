@@ -2,7 +2,7 @@
 use Rattle.std.specs.Prelude.{ℕ, Bool, List, Option}
 use Rattle.jcard_tear.specs.declared.cuts.Behind.{Behind}
 use Rattle.jcard_sweeps.specs.Texts.{text_of}
-use Rattle.jcard_sweeps.specs.declared.tearing.Asked.{Asked}
+use Rattle.jcard_sweeps.specs.declared.tear.Asked.{Asked}
 
 -- the names of the script and of the probe, the number of the line, whether each command is cut, what comes after each cut, and the part
 pub record SweepAsked : Type 0 where

@@ -3,7 +3,7 @@ use Rattle.std.specs.Prelude.{ℕ, ◌≡◌, ◌⊎◌, ◌<◌, true, false, L
 use Rattle.std.specs.Str.Parse.{IsNumeral, digits_value}
 use Rattle.jcard_files.specs.declared.fault.Fault.{Fault}
 use Rattle.jcard_files.specs.declared.fault.Fault.TheVariants.{BadPart, NoCommand}
-use Rattle.jcard_outcomes.specs.Parts.{IsShareText}
+use Rattle.jcard_outcomes.specs.Part.{IsShareText}
 use Rattle.jcard_outcomes.specs.declared.part.Share.{Share}
 use Rattle.jcard_tear.specs.ScriptLines.{chosen}
 use Rattle.jcard_tear.specs.declared.script_lines.ScriptLine.{ScriptLine}

@@ -1,11 +1,11 @@
 //! Cutting and attacking commands of a script over an image, and joining what parts report of cuts.
 #![tactic(auto)]
 
-pub mod attacking;
-mod cutting;
-pub mod joining;
-mod remarking;
+pub mod attack;
+mod cuts;
+pub mod join;
+mod remarks;
+mod report;
 mod targets;
+pub mod tear;
 mod tear_faults;
-pub mod tearing;
-mod writing;

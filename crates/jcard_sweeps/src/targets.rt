@@ -1,11 +1,11 @@
 //! Which commands of a script are to be cut, and in which parts.
 ghost use Rattle.std.specs.Prelude.{◌≡◌, Err, false, IfErr, MatchResult};
-ghost use Rattle.jcard_files.specs.Faults.{is_unwritten};
+ghost use Rattle.jcard_files.specs.Fault.{is_unwritten};
 ghost use Rattle.jcard_sweeps.specs.SweepsAsked.{sweep_asked_by};
 ghost use Rattle.jcard_sweeps.specs.Targets.{IsLineNumber, IsMeantBy, IsNoShare, IsNoTarget, IsShareNamed, IsTarget};
 ghost use Rattle.jcard_sweeps.specs.Texts.{text_of};
 
-use crate::tearing::Asked;
+use crate::tear::Asked;
 use jcard_files::fault::Fault;
 use jcard_outcomes::part::{Share, share_of};
 use jcard_tear::script_lines::{ScriptLine, chosen};

@@ -1,6 +1,6 @@
 //! What is reported where commands were not cut.
 ghost use Rattle.std.specs.Prelude.{◌≡◌, Err, false};
-ghost use Rattle.jcard_files.specs.Faults.{is_unwritten};
+ghost use Rattle.jcard_files.specs.Fault.{is_unwritten};
 ghost use Rattle.jcard_sweeps.specs.TearFaults.{IsFaultInMemory, IsProbeFaultInMemory, IsTearFault};
 ghost use Rattle.jcard_tear.specs.Faults.{told_run_fault};
 
@@ -8,7 +8,7 @@ use jcard_files::fault::Fault;
 use jcard_files::script_fault::{Names, power_up_fault};
 use jcard_script::script::ScriptFault;
 use jcard_tear::runs::RunFault;
-use jcard_tear::tearing::TearFault;
+use jcard_tear::sweep::TearFault;
 
 /// What it means that a command was not cut.
 pub(crate) fn tear_fault<'n>(names: Names<'n>, cause: TearFault) -> Fault<'n>

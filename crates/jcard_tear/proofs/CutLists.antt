@@ -2,7 +2,7 @@
 use Rattle.std.proofs.Common.{◌≡◌, ℕ, add-one, ◌+◌, ◌*◌, List, [], ◌∷◌, ◌++◌, length, subst, arith}
 use Rattle.std.proofs.Math.Nat.{mul-suc}
 use Rattle.jcard_outcomes.specs.declared.standing.Cut.{Cut}
-use Rattle.jcard_tear.specs.Sweeps.{AreCuts, IsToldCut}
+use Rattle.jcard_tear.specs.Sweep.{AreCuts, IsToldCut}
 use Rattle.jcard_tear.specs.declared.cuts.Baseline.{Baseline}
 use Rattle.jcard_tear.specs.declared.cuts.Command.{Command}
 

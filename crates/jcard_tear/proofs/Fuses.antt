@@ -5,7 +5,7 @@ use Rattle.std.proofs.lemmas.Bool.{eqb-true, ne_eqb}
 use Rattle.std.proofs.lemmas.List.{append-nil}
 use Rattle.jc_words.specs.Count.{saturating_count}
 use Rattle.jc_words.specs.Refusals.{Refusals, refused_once}
-use Rattle.jc_words.specs.Stores.{FuseStoreValue, with_fuse_armed}
+use Rattle.jc_words.specs.Store.{FuseStoreValue, with_fuse_armed}
 use Rattle.jc_words.specs.Layout.{capacity_address, first_version, front_capacity, journal_address, log_start, version, version_address}
 use Rattle.jc_commit.specs.Image.{with_words}
 use Rattle.jc_commit.specs.Migration.{IsPartOfOpening, opening_writes}

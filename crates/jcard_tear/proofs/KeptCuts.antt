@@ -4,12 +4,12 @@ use Rattle.std.specs.Prelude.{codes, decimal, slice_index}
 use Rattle.std.proofs.Math.Nat.{pow-zero}
 use Rattle.std.proofs.lemmas.Bool.{ne_eqb}
 use Rattle.jc_words.specs.Layout.{first_version, version_address}
-use Rattle.jc_words.specs.Stores.{FuseStoreValue}
+use Rattle.jc_words.specs.Store.{FuseStoreValue}
 use Rattle.jc_commit.specs.Image.{IsGoodLog, plain_of, recovered_of, with_words}
 use Rattle.jc_commit.specs.Migration.{migrated, migration}
 use Rattle.jc_commit.specs.Replay.{replay_writes}
 use Rattle.jc_commit.proofs.Migrations.{migration-recovered}
-use Rattle.jc_card.specs.Power.{Up}
+use Rattle.jc_card.specs.State.Power.{Up}
 use Rattle.jcard_script.specs.Begun.{LeavesCut}
 use Rattle.jcard_script.specs.Script.{EndsWithin}
 use Rattle.jcard_outcomes.specs.declared.recoveries.Depth.{Depth}
@@ -20,15 +20,15 @@ use Rattle.jcard_outcomes.specs.declared.standing.Left.{Left}
 use Rattle.jcard_outcomes.specs.declared.standing.Standing.{Standing}
 use Rattle.jcard_outcomes.specs.Standing.{IsStanding, lost_of}
 use Rattle.jcard_tear.specs.Faults.{IsCarriedOut}
-use Rattle.jcard_tear.specs.Kept.{GivesAnswers, HasAnswered, IsKeptFor, IsKnown, IsLastCut, IsReportedAlike, IsReportedAt, MayLeave, none_cut}
+use Rattle.jcard_tear.specs.KeptCard.{GivesAnswers, HasAnswered, IsKeptFor, IsKnown, IsLastCut, IsReportedAlike, IsReportedAt, MayLeave, none_cut}
 use Rattle.jcard_tear.specs.Recoveries.{AreRecoveries}
 use Rattle.jcard_tear.specs.Runs.{IsLeft, IsRecovered, Runs, store_of}
-use Rattle.jcard_tear.specs.Sweeps.{IsCutAt, IsToldAs, IsUncutAt, cut_script}
+use Rattle.jcard_tear.specs.Sweep.{IsCutAt, IsToldAs, IsUncutAt, cut_script}
 use Rattle.jcard_tear.specs.declared.cuts.Baseline.{Baseline}
 use Rattle.jcard_tear.specs.declared.cuts.Command.{Command}
 use Rattle.jcard_tear.specs.declared.cuts.Shared.{Shared}
-use Rattle.jcard_tear.specs.Told.{IsTold}
-use Rattle.jcard_tear.specs.declared.kept.AtCommand.{AtCommand}
+use Rattle.jcard_tear.specs.Report.{IsTold}
+use Rattle.jcard_tear.specs.declared.kept_card.AtCommand.{AtCommand}
 use Rattle.jcard_tear.specs.declared.last_cut.LastCut.{LastCut}
 use Rattle.jcard_tear.proofs.CutRecoveries as recoveries
 

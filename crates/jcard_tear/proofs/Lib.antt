@@ -1,11 +1,11 @@
 pub mod WholeRuns
 pub mod CutLists
-pub mod EachSwept
+pub mod CutCommands
 pub mod Lines
 pub mod CutRecoveries
 pub mod Powers
 pub mod Fuses
-pub mod Uncut
+pub mod CutFaults
 pub mod SameHeaps
 pub mod KeptCuts
 pub mod OneHeaps

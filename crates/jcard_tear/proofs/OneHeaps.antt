@@ -18,11 +18,11 @@ use Rattle.jc_commit.proofs.Views.{length-touched}
 use Rattle.jc_commit.proofs.Words.{bounds, length-words_by, log-same, not_entry}
 use Rattle.jc_heap.specs.Heap.{HeapState, heap_of, heap_view, read_image}
 use Rattle.jc_heap.specs.Image.{IsWellFormed, base, image, is_package, missing_words_of_image, package_addresses}
-use Rattle.jc_card.specs.CardState.{CardState}
-use Rattle.jc_card.specs.Made.{IsCardHeap}
-use Rattle.jc_card.specs.PoweringUp.{IsPoweredOver}
-use Rattle.jc_card.specs.Reset.{IsAtReset}
-use Rattle.jcard_tear.specs.Kept.{GivesAnswers, HoldOneHeap}
+use Rattle.jc_card.specs.Card.{CardState}
+use Rattle.jc_card.specs.ProductImages.{IsCardHeap}
+use Rattle.jc_card.specs.PowerUp.Outcome.{IsPoweredOver}
+use Rattle.jc_card.specs.PowerUp.Reset.{IsAtReset}
+use Rattle.jcard_tear.specs.KeptCard.{GivesAnswers, HoldOneHeap}
 use Rattle.jcard_tear.specs.Runs.{IsRecovered}
 use Rattle.jcard_tear.proofs.KeptCuts.{migrated_none}
 use Rattle.jcard_outcomes.proofs.Blocks.{agree_between}

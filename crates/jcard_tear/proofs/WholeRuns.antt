@@ -2,7 +2,7 @@
 use Rattle.std.proofs.Common.{◌≡◌, ◌∙◌, inl, inr, ℕ, Bool, true, false, List, ◌++◌, Option, Some, None, Ok, ap, refl, sym, subst, append-nil}
 use Rattle.std.specs.Bool.{OnTrue}
 use Rattle.std.specs.Io.KnownBytes.{Consumes}
-use Rattle.jc_words.specs.Stores.{FuseStoreValue, MemStoreValue}
+use Rattle.jc_words.specs.Store.{FuseStoreValue, MemStoreValue}
 use Rattle.jcard_script.specs.Script.{EndsSelecting, EndsWithin, IsWholeScript}
 
 -- a script that came to its end was read whole

@@ -1,19 +1,19 @@
 -- Why a command was not cut after each number of its writes.
 use Rattle.std.specs.Prelude.{ℕ, ◌≡◌, ◌⊎◌, ◌+◌, ◌≤◌, true, List, ◌++◌, Option, Some, slice_get}
-use Rattle.jc_words.specs.Stores.{FuseStoreValue}
+use Rattle.jc_words.specs.Store.{FuseStoreValue}
 use Rattle.jcard_outcomes.specs.declared.recoveries.Recoveries.{Recoveries}
 use Rattle.jcard_outcomes.specs.declared.standing.Left.{Left}
 use Rattle.jcard_tear.specs.Runs.{IsRunFault, Runs}
 use Rattle.jcard_tear.specs.ScriptLines.{Line}
-use Rattle.jcard_tear.specs.Sweeps.{IsCutAt, IsProbe, cut_script}
+use Rattle.jcard_tear.specs.Sweep.{IsCutAt, IsProbe, cut_script}
 use Rattle.jc_card.specs.declared.power_up.PowerFault.TheVariants.{BadLog, BadPackage}
 use Rattle.jcard_script.specs.declared.script.ScriptFault.TheVariants.{PowerFault}
 use Rattle.jcard_tear.specs.declared.cuts.Behind.{Behind}
 use Rattle.jcard_tear.specs.declared.cuts.Command.{Command}
 use Rattle.jcard_tear.specs.declared.runs.RunFault.{RunFault}
 use Rattle.jcard_tear.specs.declared.runs.RunFault.TheVariants as run
-use Rattle.jcard_tear.specs.declared.tearing.TearFault.{TearFault}
-use Rattle.jcard_tear.specs.declared.tearing.TearFault.TheVariants.{NoMemory, Script, Probe, Down, TooManyCuts}
+use Rattle.jcard_tear.specs.declared.sweep.TearFault.{TearFault}
+use Rattle.jcard_tear.specs.declared.sweep.TearFault.TheVariants.{NoMemory, Script, Probe, Down, TooManyCuts}
 
 -- what is reported where a script was not carried out to its end
 abbrev pub told_run_fault : RunFault → TearFault

@@ -1,9 +1,9 @@
 pub mod Runs
 pub mod Recoveries
-pub mod Sweeps
-pub mod Told
+pub mod Sweep
+pub mod Report
 pub mod Faults
 pub mod ScriptLines
 pub mod Names
 pub mod Parts
-pub mod Kept
+pub mod KeptCard

@@ -2,7 +2,7 @@
 use Rattle.std.specs.Prelude.{ℕ, ◌≡◌, ◌≢◌, Bool, true, false, List, ◌++◌, Option, Ok, Err, slice_index}
 use Rattle.jc_words.specs.Layout.{first_version, version_address}
 use Rattle.jc_words.specs.Refusals.{no_refusals}
-use Rattle.jc_words.specs.Stores.{FuseStoreValue}
+use Rattle.jc_words.specs.Store.{FuseStoreValue}
 use Rattle.jc_commit.specs.Image.{IsGoodLog, plain_of, recovered_of}
 use Rattle.jc_commit.specs.Migration.{migrated}
 use Rattle.jcard_outcomes.specs.declared.standing.Left.{Left}

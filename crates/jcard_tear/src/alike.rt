@@ -2,7 +2,7 @@
 ghost use Rattle.std.specs.Prelude.{◌≡◌, ◌<◌, ◌≤◌, ◌-◌, ◌⊎◌, length, take, drop, IsTrue};
 ghost use Rattle.jc_words.specs.Layout.{front_length};
 ghost use Rattle.jc_commit.specs.Image.{plain_of};
-ghost use Rattle.jcard_tear.specs.Kept.{HoldOneHeap};
+ghost use Rattle.jcard_tear.specs.KeptCard.{HoldOneHeap};
 
 use crate::recoveries::{are_equal, journal_of};
 use jc_words::layout::{FRONT_LENGTH, TOP};

@@ -1,19 +1,19 @@
 //! Cutting the power within a command, after each number of its word writes.
 ghost use Rattle.std.specs.Prelude.{◌≡◌, ◌<◌, ◌+◌, ◌*◌, ◌++◌, ◌∷◌, ℕ, true, List, [], None, length, IfOk, IfSome, MatchOption, MatchResult};
-ghost use Rattle.jcard_tear.specs.declared.tearing.TearFault.TheVariants.{NoMemory};
+ghost use Rattle.jcard_tear.specs.declared.sweep.TearFault.TheVariants.{NoMemory};
 ghost use Rattle.jcard_tear.specs.Faults.{IsUncutFor};
-ghost use Rattle.jcard_tear.specs.Kept.{IsKeptCut, IsKeptFor, IsKnown, IsLastCut, IsReportedAt, IsShort};
+ghost use Rattle.jcard_tear.specs.KeptCard.{IsKeptCut, IsKeptFor, IsKnown, IsLastCut, IsReportedAt, IsShort};
 ghost use Rattle.jcard_tear.specs.declared.cuts.Command.{Command as CommandText};
-ghost use Rattle.jcard_tear.specs.Sweeps.{AreCuts, IsCutAt, IsToldAs, IsUncutAt, cut_script, nothing_more};
-ghost use Rattle.jcard_tear.specs.Told.{AreOfImage};
+ghost use Rattle.jcard_tear.specs.Sweep.{AreCuts, IsCutAt, IsToldAs, IsUncutAt, cut_script, nothing_more};
+ghost use Rattle.jcard_tear.specs.Report.{AreOfImage};
 
-use crate::kept::{AtCommand, KeptCut, kept_for};
+use crate::kept_card::{AtCommand, KeptCut, kept_for};
 use crate::last_cut::{LastCut, reported_cut};
 use crate::progress::Progress;
 use crate::recoveries::recoveries;
+use crate::report::told;
 use crate::runs::run_copy;
-use crate::tearing::{TearFault, left_by_probe, probe_fault};
-use crate::told::told;
+use crate::sweep::{TearFault, left_by_probe, probe_fault};
 use itoa::Buffer;
 use jc_objects::image_objects::ImageObjects;
 use jcard_outcomes::part::Share;

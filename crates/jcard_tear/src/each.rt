@@ -1,15 +1,15 @@
 //! The commands of a script, each cut after each number of its writes.
 ghost use Rattle.std.specs.Prelude.{◌≡◌, ◌<◌, ◌++◌, ◌∷◌, [], length, map, IfOk, MatchResult};
-ghost use Rattle.jcard_tear.specs.declared.tearing.TearFault.TheVariants.{NoMemory};
+ghost use Rattle.jcard_tear.specs.declared.sweep.TearFault.TheVariants.{NoMemory};
 ghost use Rattle.jcard_tear.specs.Faults.{IsLineUncut, IsOneUncut};
 ghost use Rattle.jcard_tear.specs.ScriptLines.{command_text, is_blank, line_of};
-ghost use Rattle.jcard_tear.specs.Sweeps.{AreSwept, IsLineOutcome, IsLineSwept, IsLineTold, given_of};
+ghost use Rattle.jcard_tear.specs.Sweep.{AreSwept, IsLineOutcome, IsLineSwept, IsLineTold, given_of};
 
 use crate::cuts::{Command, FollowUp};
 use crate::probes::probe_for;
 use crate::progress::Progress;
 use crate::script_lines::ScriptLine;
-use crate::tearing::{TearFault, tear};
+use crate::sweep::{TearFault, tear};
 use jcard_outcomes::each::{LineOutcome, LineSweep};
 use jcard_outcomes::report::Sweep;
 use std::alloc::{AllocError, Global};

@@ -2,15 +2,15 @@
 ghost use Rattle.std.specs.Prelude.{◌≡◌, ◌<◌, true, length, vec_len, IsTrue, IfOk, IfSome, MatchResult};
 ghost use Rattle.jc_commit.specs.Image.{plain_of};
 ghost use Rattle.jcard_tear.specs.Faults.{IsProbeFault};
-ghost use Rattle.jcard_tear.specs.Kept.{HasAnswered, HoldOneHeap, IsKnown, IsLastCut, IsReportedAlike, none_cut};
-ghost use Rattle.jcard_tear.specs.Sweeps.{IsToldAs};
+ghost use Rattle.jcard_tear.specs.KeptCard.{HasAnswered, HoldOneHeap, IsKnown, IsLastCut, IsReportedAlike, none_cut};
+ghost use Rattle.jcard_tear.specs.Sweep.{IsToldAs};
 ghost use Rattle.jcard_tear.specs.Runs.{IsRecovered};
-ghost use Rattle.jcard_tear.specs.Told.{AreOfImage};
+ghost use Rattle.jcard_tear.specs.Report.{AreOfImage};
 
 use crate::alike::{are_alike, hold_one_heap};
 use crate::cuts::{Baseline, Shared, told_cut};
 use crate::runs::{answers_over, run_copy};
-use crate::tearing::{TearFault, probe_fault};
+use crate::sweep::{TearFault, probe_fault};
 use jcard_outcomes::recoveries::Recoveries;
 use jcard_outcomes::standing::{Cut, Left};
 use std::alloc::{AllocError, Global};

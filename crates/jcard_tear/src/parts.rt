@@ -3,14 +3,14 @@ ghost use Rattle.std.specs.Prelude.{◌<◌, ◌+◌, ◌*◌, length, IfOk, Mat
 ghost use Rattle.jcard_tear.specs.Faults.{IsLineUncut, IsUncutFor};
 ghost use Rattle.jcard_tear.specs.Parts.{IsLinePart, IsPartSwept};
 ghost use Rattle.jcard_tear.specs.ScriptLines.{line_of};
-ghost use Rattle.jcard_tear.specs.Sweeps.{given_of};
+ghost use Rattle.jcard_tear.specs.Sweep.{given_of};
 
 use crate::cuts::{Command, FollowUp};
 use crate::names::sweep_name;
 use crate::probes::probe_for;
 use crate::progress::Progress;
 use crate::script_lines::ScriptLine;
-use crate::tearing::{TearFault, tear_share};
+use crate::sweep::{TearFault, tear_share};
 use jcard_outcomes::part::{Part, Share};
 use std::alloc::Global;
 

@@ -3,7 +3,7 @@ ghost use Rattle.std.specs.Prelude.{◌≡◌, ◌<◌, ◌++◌, ℕ, List, len
 ghost use Rattle.std.specs.Borrow.{Bor};
 ghost use Rattle.hex.specs.Hex.{encode_upper};
 ghost use Rattle.jcard_tear.specs.Runs.{IsRunFault};
-ghost use Rattle.jcard_tear.specs.Sweeps.{IsProbe, select_line};
+ghost use Rattle.jcard_tear.specs.Sweep.{IsProbe, select_line};
 
 use crate::runs::{RunFault, selected_by};
 use jc_environment::Aid;

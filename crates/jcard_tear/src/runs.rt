@@ -1,8 +1,8 @@
 //! Running a script on a card in memory, and what a reset finds then.
 ghost use Rattle.std.specs.Prelude.{◌≡◌, ◌<◌, length, vec_len, IfOk, IfSome, MatchResult, OnOk};
-ghost use Rattle.jc_words.specs.Stores.{FuseStoreValue};
+ghost use Rattle.jc_words.specs.Store.{FuseStoreValue};
 ghost use Rattle.jcard_script.specs.Begun.{AnswersLines};
-ghost use Rattle.jcard_tear.specs.Kept.{GivesAnswers};
+ghost use Rattle.jcard_tear.specs.KeptCard.{GivesAnswers};
 ghost use Rattle.jcard_tear.specs.declared.runs.RunFault.TheVariants.{NoMemory};
 ghost use Rattle.jcard_tear.specs.Faults.{IsLeftFault, IsLogFault};
 ghost use Rattle.jcard_tear.specs.Runs.{HasRun, IsCarriedThrough, IsLeft, IsRecovered, IsRunFault, IsSelectedBy};
@@ -10,7 +10,7 @@ ghost use Rattle.jc_commit.specs.Image.{IsGoodLog, plain_of, recovered_of};
 ghost use Rattle.jc_commit.specs.Migration.{migrated};
 
 use crate::kept_text::KeptText;
-use crate::watched::{WatchedStore, Watcher};
+use crate::watched_store::{WatchedStore, Watcher};
 use jc_card::power_up::PowerFault;
 use jc_commit::Journal;
 use jc_environment::Aid;

@@ -6,7 +6,7 @@ use Rattle.std.proofs.lemmas.Bool.{false≢true}
 use Rattle.std.proofs.lemmas.List.{drop_all}
 use Rattle.jcard_tests.specs.Cards.{AddsRow, AreCards, IsNewCard, IsRowOfLine, IsSweep}
 use Rattle.jcard_tests.specs.declared.card_rows.CardRows.{CardRows}
-use Rattle.jcard_tests.specs.declared.numbered.Numbered.{Numbered}
+use Rattle.jcard_tests.specs.declared.numbered_line.Numbered.{Numbered}
 use Rattle.jcard_tests.specs.declared.row.Row.{Row}
 use Rattle.jcard_tests.proofs.Items.{drop_at}
 

@@ -8,7 +8,7 @@ use Rattle.jcard_tests.specs.Lines.{Says}
 use Rattle.jcard_tests.specs.NamedTable.{IsUnnamed, Names, NamesNone, SaysNothing}
 use Rattle.jcard_tests.specs.declared.line.Line.{Line}
 use Rattle.jcard_tests.specs.declared.line.Line.TheVariants.{Nothing}
-use Rattle.jcard_tests.specs.declared.numbered.Numbered.{Numbered}
+use Rattle.jcard_tests.specs.declared.numbered_line.Numbered.{Numbered}
 use Rattle.jcard_tests.proofs.Items.{drop_at}
 
 pub none_yet : (lines : List Numbered) → All SaysNothing (take 0 lines)

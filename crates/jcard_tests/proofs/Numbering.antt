@@ -6,10 +6,10 @@ use Rattle.std.specs.Str.Lines.{lines}
 use Rattle.std.specs.Borrow.{Bor}
 use Rattle.std.proofs.lemmas.List.{length-map, length-take-le, map-append, take_more}
 use Rattle.jcard_tests.specs.Lines.{Says}
-use Rattle.jcard_tests.specs.Unrolled.{AreAllNumbered, AreCopies, AreRepeated, AreTaken, IsCopy, IsEnded, IsLineOf, IsOneMore, IsTakenIn, IsUnrolled}
+use Rattle.jcard_tests.specs.TextLines.{AreAllNumbered, AreCopies, AreRepeated, AreTaken, IsCopy, IsEnded, IsLineOf, IsOneMore, IsTakenIn, IsUnrolled}
 use Rattle.jcard_tests.specs.declared.line.Line.{Line}
 use Rattle.jcard_tests.specs.declared.loops.Loop.{Loop}
-use Rattle.jcard_tests.specs.declared.numbered.Numbered.{Numbered}
+use Rattle.jcard_tests.specs.declared.numbered_line.Numbered.{Numbered}
 
 -- the texts of lines
 abbrev pub texts_of : List (Bor (List ℕ)) → List (List ℕ)

@@ -4,7 +4,7 @@ use Rattle.std.specs.Str.{NoCharPasses}
 use Rattle.std.specs.Str.Pattern.{RFindsChar, SplitsAroundMatch}
 use Rattle.std.proofs.lemmas.List.{take-append-drop}
 use Rattle.std.proofs.lemmas.Str.Pattern.{drop_at_char}
-use Rattle.jcard_tests.specs.Unrolled.{IsBeside}
+use Rattle.jcard_tests.specs.TextLines.{IsBeside}
 
 -- the folder is what stands up to the last slash
 pub beside_slash : (path front back name text : List ℕ) → SplitsAroundMatch (RFindsChar 47) path front back → text ≡ (front ++ 47 ∷ []) ++ name

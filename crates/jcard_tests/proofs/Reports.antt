@@ -2,10 +2,10 @@
 use Rattle.std.proofs.Common.{Bool, true, false, ◌≡◌, ◌∙◌, ℕ, zero, suc, ◌+◌, ◌-◌, ◌<◌, ◌≤◌, List, [], ◌∷◌, ◌++◌, length, get_or, drop, min, refl, ap, ap₂, sym, append-nil, append_assoc, arith}
 use Rattle.std.specs.Prelude.{codes, if◌then◌else◌}
 use Rattle.std.proofs.lemmas.List.{drop_all, get_or_default}
-use Rattle.jcard_tests.specs.Escaping.{begins_outside, escape, escaped_behind}
+use Rattle.jcard_tests.specs.Escapes.{begins_outside, escape, escaped_behind}
 use Rattle.jcard_tests.specs.Junit.{cards_cases, case_text, rows_cases, suite_text, suites_text}
 use Rattle.jcard_tests.specs.Report.{lines_text, passed_in, passed_of, tested_text}
-use Rattle.jcard_tests.specs.Rows.{line_text, script_text}
+use Rattle.jcard_tests.specs.Row.{line_text, script_text}
 use Rattle.jcard_tests.specs.declared.card_rows.CardRows.{CardRows}
 use Rattle.jcard_tests.specs.declared.outcome.Tested.{Tested}
 use Rattle.jcard_tests.specs.declared.row.Row.{Row}

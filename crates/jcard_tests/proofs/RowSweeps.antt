@@ -2,14 +2,14 @@
 use Rattle.std.proofs.Common.{◌≡◌, ℕ, List, Option, Some, None, Result, Ok, Err, refl, sym, subst, inl}
 use Rattle.std.specs.Prelude.{IfOk, is_some, option_map}
 use Rattle.std.specs.declared.alloc.AllocError.{AllocError}
-use Rattle.jcard_attack.specs.Reports.{accepted_text, any_accepted, first_of}
+use Rattle.jcard_attack.specs.Report.{accepted_text, any_accepted, first_of}
 use Rattle.jcard_attack.specs.declared.outcomes.AttackSweep.{AttackSweep}
 use Rattle.jcard_attack.specs.declared.outcomes.Outcome.TheVariants.{Accepted}
-use Rattle.jcard_outcomes.specs.Reports.{broken_by_calls, broken_told, first_broken}
+use Rattle.jcard_outcomes.specs.Report.{broken_by_calls, broken_told, first_broken}
 use Rattle.jcard_outcomes.specs.declared.report.Sweep.{Sweep}
 use Rattle.jcard_tear.specs.ScriptLines.{Line}
-use Rattle.jcard_tear.specs.Sweeps.{IsLineSwept, nothing_more}
-use Rattle.jcard_tests.specs.Sweeping.{IsStruckLine, IsToldOfFaults, IsToldOfLine, IsToldOfSweptLine}
+use Rattle.jcard_tear.specs.Sweep.{IsLineSwept, nothing_more}
+use Rattle.jcard_tests.specs.RowSweep.{IsStruckLine, IsToldOfFaults, IsToldOfLine, IsToldOfSweptLine}
 
 -- what is reported of the cuts of a line
 told_by : (budget : ℕ) (w : List ℕ) (l : Line) (sweep : Sweep) (found : Option (List ℕ)) (first : Option ℕ) → IsLineSwept w None (nothing_more budget) l sweep

@@ -10,13 +10,13 @@ use Rattle.std.proofs.lemmas.Bool.{cases_lt}
 use Rattle.jcard_tests.proofs.Items.{drop_at}
 use Rattle.std.specs.String.{string_bytes}
 use Rattle.jcard_tests.specs.Lines.{Says}
-use Rattle.jcard_tests.specs.Unrolled.{IsLineOf, IsUnrolled}
+use Rattle.jcard_tests.specs.TextLines.{IsLineOf, IsUnrolled}
 use Rattle.jcard_tests.specs.declared.line.Line.{Line}
 use Rattle.jcard_tests.specs.declared.line.Line.TheVariants.{Include}
-use Rattle.jcard_tests.specs.Outcomes.{AllAnswered}
-use Rattle.jcard_tests.specs.Rows.{script_text}
+use Rattle.jcard_tests.specs.Outcome.{AllAnswered}
+use Rattle.jcard_tests.specs.Row.{script_text}
 use Rattle.jcard_tests.specs.declared.card_rows.CardRows.{CardRows}
-use Rattle.jcard_tests.specs.declared.numbered.Numbered.{Numbered}
+use Rattle.jcard_tests.specs.declared.numbered_line.Numbered.{Numbered}
 use Rattle.jcard_tests.specs.declared.outcome.Failure.{Failure}
 use Rattle.jcard_tests.specs.declared.outcome.Outcome.{Outcome}
 use Rattle.jcard_tests.specs.declared.outcome.Outcome.TheVariants.{Held, Failed}
@@ -27,11 +27,11 @@ use Rattle.jcard_tests.specs.declared.rows_file.NamedFile.{NamedFile}
 use Rattle.jcard_tests.specs.declared.sources.Source.{Source}
 use Rattle.jcard_tests.specs.declared.table_line.TableLine.{TableLine}
 use Rattle.jcard_files.specs.declared.operand.Operand.{Operand}
-use Rattle.jc_words.specs.Stores.{MemStoreValue}
-use Rattle.jcard_files.specs.Faults.{is_unwritten}
+use Rattle.jc_words.specs.Store.{MemStoreValue}
+use Rattle.jcard_files.specs.Fault.{is_unwritten}
 use Rattle.jcard_files.proofs.Effects.{unread_unwritten}
 use Rattle.jcard_files.specs.FileDeeds.{FileDeed, ReadsText}
-use Rattle.jcard_files.specs.NewImages.{IsNewImageInMemory}
+use Rattle.jcard_files.specs.NewImage.{IsNewImageInMemory}
 use Rattle.jcard_files.specs.Reading.{IsRead, IsUnread, IsScriptRead}
 use Rattle.jcard_tests.specs.Sources.{AreNoted, IsReading, files_named, name_of, names_in, names_of, path_read, paths_of, paths_read}
 use Rattle.jcard_tests.specs.Tests.{AreAnsweredOn, AreSwept, AreSweptWell, AreFilesRead, EndsOn, IsFile, IsFileBehind, IsFileOf, IsFileRead, IsNewCard, IsSweptWell, IsToldOf, IsSweptFailure, AreIncluded, AreTested, IsFilePlace, IsPlace, IsPrinted, AreNoFileLines, IsNoRowsText, IsNoText, IsNotIncluded, IsOneUnread, IsRowsText, IsTested, IsUnanswered, IsUntested, operands_named, rows_operand}

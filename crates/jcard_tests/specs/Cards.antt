@@ -8,7 +8,7 @@ use Rattle.jcard_tests.specs.declared.cards.SaidSweep.{SaidSweep}
 use Rattle.jcard_tests.specs.declared.cards.Sweep.{Sweep}
 use Rattle.jcard_tests.specs.declared.line.Line.{Line}
 use Rattle.jcard_tests.specs.declared.line.Line.TheVariants.{Nothing, Row as SaysRow}
-use Rattle.jcard_tests.specs.declared.numbered.Numbered.{Numbered}
+use Rattle.jcard_tests.specs.declared.numbered_line.Numbered.{Numbered}
 use Rattle.jcard_tests.specs.declared.row.Row.{Row}
 
 -- a row of this number, command and answer, which is not swept

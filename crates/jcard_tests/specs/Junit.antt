@@ -1,7 +1,7 @@
 -- The report over files of rows that build servers read.
 use Rattle.std.specs.Prelude.{ℕ, ◌==◌, ◌+◌, Bool, false, nat_lt, List, [], ◌∷◌, ◌++◌, codes, decimal, length, min, slice_index, if◌then◌else◌}
 use Rattle.std.specs.String.{string_bytes}
-use Rattle.jcard_tests.specs.Escaping.{escaped}
+use Rattle.jcard_tests.specs.Escapes.{escaped}
 use Rattle.jcard_tests.specs.Seconds.{seconds_text}
 use Rattle.jcard_tests.specs.declared.card_rows.CardRows.{CardRows}
 use Rattle.jcard_tests.specs.declared.outcome.Failure.{Failure}

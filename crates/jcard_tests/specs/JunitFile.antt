@@ -2,7 +2,7 @@
 use Rattle.std.specs.Prelude.{ℕ, ◌≡◌, ◌==◌, if◌then◌else◌, ◌⊎◌, List, [], ◌∷◌, Option, Some, None, Result, Ok, Err}
 use Rattle.jcard_files.specs.FileDeeds.{FileDeed, WritesText}
 use Rattle.jcard_files.specs.Images.{IsUnwritten}
-use Rattle.jcard_files.specs.Operands.{IsNoOperand}
+use Rattle.jcard_files.specs.Operand.{IsNoOperand}
 use Rattle.jcard_files.specs.declared.fault.Fault.{Fault}
 use Rattle.jcard_files.specs.declared.fault.Fault.TheVariants.{NoMemory, RowsFailed}
 use Rattle.jcard_files.specs.declared.operand.Operand.{Operand}

@@ -4,7 +4,7 @@ use Rattle.std.specs.String.{string_bytes}
 use Rattle.jcard_tests.specs.Lines.{Says}
 use Rattle.jcard_tests.specs.declared.line.Line.{Line}
 use Rattle.jcard_tests.specs.declared.line.Line.TheVariants.{Nothing, Row}
-use Rattle.jcard_tests.specs.declared.numbered.Numbered.{Numbered}
+use Rattle.jcard_tests.specs.declared.numbered_line.Numbered.{Numbered}
 use Rattle.jcard_tests.specs.declared.table_line.TableLine.{TableLine}
 
 -- a line says nothing

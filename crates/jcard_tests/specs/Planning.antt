@@ -5,7 +5,7 @@ use Rattle.jcard_files.specs.FileDeeds.{FileDeed}
 use Rattle.jcard_files.specs.ImageSize.{IsExtent, IsNoExtent}
 use Rattle.jcard_files.specs.UsualTable.{IsNoPlatform, IsPlatform}
 use Rattle.jcard_files.specs.declared.fault.Fault.{Fault}
-use Rattle.jcard_tests.specs.declared.asked.Asked.{Asked}
+use Rattle.jcard_tests.specs.declared.request.Asked.{Asked}
 use Rattle.jcard_tests.specs.declared.plan.Plan.{Plan}
 
 -- the name of the platform table that was asked for, and the texts of the cells for the transient objects of each event and of the bytes of the APDU buffer

@@ -7,7 +7,7 @@ use Rattle.std.specs.Borrow.{Bor}
 use Rattle.jc_platform.specs.Table.{Reads}
 use Rattle.jc_platform.specs.declared.fault.TableFault.TheVariants.{BadTable as BadLine}
 use Rattle.jc_card.specs.declared.power_up.PowerFault.TheVariants as power
-use Rattle.jc_words.specs.Stores.{FuseStoreValue}
+use Rattle.jc_words.specs.Store.{FuseStoreValue}
 use Rattle.jcard_script.specs.Script.{EndsWithin}
 use Rattle.jcard_script.specs.Texts.{IsCutOf}
 use Rattle.jcard_script.specs.declared.script.ScriptFault.{ScriptFault}
@@ -15,17 +15,17 @@ use Rattle.jcard_script.specs.declared.script.ScriptFault.TheVariants.{PowerFaul
 use Rattle.jcard_tests.specs.Cards.{AreCardsOf}
 use Rattle.jcard_tests.specs.JunitFile.{IsBegun, IsKept}
 use Rattle.jcard_tests.specs.Lines.{Says}
-use Rattle.jcard_tests.specs.Outcomes.{AllAnswered, IsFirstFailure}
+use Rattle.jcard_tests.specs.Outcome.{AllAnswered, IsFirstFailure}
 use Rattle.jcard_tests.specs.Report.{report_text}
 use Rattle.jcard_tests.specs.Sources.{AreSpared, IsReading, name_of, paths_read}
-use Rattle.jcard_tests.specs.Rows.{script_text}
-use Rattle.jcard_tests.specs.Sweeping.{IsToldOfSweep}
+use Rattle.jcard_tests.specs.Row.{script_text}
+use Rattle.jcard_tests.specs.RowSweep.{IsToldOfSweep}
 use Rattle.jcard_tests.specs.NamedTable.{IsNamed, IsUnnamed}
-use Rattle.jcard_tests.specs.Unrolled.{AreLinesOf, IsBeside, IsLineOf, IsUnrolled}
+use Rattle.jcard_tests.specs.TextLines.{AreLinesOf, IsBeside, IsLineOf, IsUnrolled}
 use Rattle.jcard_tests.specs.declared.card_rows.CardRows.{CardRows}
 use Rattle.jcard_tests.specs.declared.line.Line.{Line as RowLine}
 use Rattle.jcard_tests.specs.declared.line.Line.TheVariants.{Include}
-use Rattle.jcard_tests.specs.declared.numbered.Numbered.{Numbered}
+use Rattle.jcard_tests.specs.declared.numbered_line.Numbered.{Numbered}
 use Rattle.jcard_tests.specs.declared.outcome.Failure.{Failure}
 use Rattle.jcard_tests.specs.declared.outcome.Outcome.{Outcome}
 use Rattle.jcard_tests.specs.declared.outcome.Outcome.TheVariants.{NoRow, Held, Failed}
@@ -38,11 +38,11 @@ use Rattle.jcard_files.specs.Effects.{Tells}
 use Rattle.jcard_files.specs.declared.operand.Operand.{Operand}
 use Rattle.jcard_files.specs.FileDeeds.{FileDeed, ReadsText, fresh_store}
 use Rattle.jcard_files.specs.Reading.{IsRead, IsScriptRead, IsUnread}
-use Rattle.jcard_files.specs.NewImages.{IsNewImageOf}
+use Rattle.jcard_files.specs.NewImage.{IsNewImageOf}
 use Rattle.jcard_files.specs.declared.fault.FileKind.TheVariants.{Rows, Table}
 use Rattle.jcard_files.specs.declared.fault.Fault.{Fault}
 use Rattle.jcard_tests.specs.Planning.{IsPlanned, IsUnplanned, table_asked}
-use Rattle.jcard_tests.specs.declared.asked.Asked.{Asked}
+use Rattle.jcard_tests.specs.declared.request.Asked.{Asked}
 use Rattle.jcard_tests.specs.declared.plan.Plan.{Plan}
 use Rattle.jcard_files.specs.declared.fault.Fault.TheVariants.{BadTable, CannotInclude, CannotRead, ImageTooSmall, NoMemory, ScriptTooLong}
 use Rattle.jcard_files.specs.declared.fault.Fault.TheVariants.{WriteFailed}

@@ -1,20 +1,20 @@
 //! Rows that are answered by new cards in memory.
 ghost use Rattle.std.specs.Prelude.{◌≡◌, ◌≤◌, ◌<◌, ◌++◌, length, ℕ, List, Bool, Result, MatchResult, IfOk, IsSomeAnd, option_map, false};
-ghost use Rattle.jc_words.specs.Stores.{FuseStoreValue};
+ghost use Rattle.jc_words.specs.Store.{FuseStoreValue};
 ghost use Rattle.jcard_script.specs.Script.{EndsWithin};
 ghost use Rattle.jcard_script.specs.declared.script.ScriptFault.{ScriptFault};
-ghost use Rattle.jcard_tests.specs.Outcomes.{IsCompared};
-ghost use Rattle.jcard_tests.specs.Rows.{script_text};
+ghost use Rattle.jcard_tests.specs.Outcome.{IsCompared};
+ghost use Rattle.jcard_tests.specs.Row.{script_text};
 ghost use Rattle.jcard_files.specs.FileDeeds.{fresh_store};
-ghost use Rattle.jcard_files.specs.NewImages.{IsNewImageOf};
+ghost use Rattle.jcard_files.specs.NewImage.{IsNewImageOf};
 ghost use Rattle.jcard_tests.specs.Tests.{AreAnsweredOn, AreSwept, EndsOn, IsOutcome, IsPrinted, IsSweptFailure, IsToldOf, IsUnanswered, lacked_memory, wanted_of, with_a_row};
 
 use crate::card_rows::CardRows;
-use crate::failing::first_failure;
+use crate::failure::first_failure;
 use crate::outcome::{Failure, Outcome};
 use crate::plan::Plan;
 use crate::row::{Row, script};
-use crate::sweeping::told_of_sweep;
+use crate::row_sweep::told_of_sweep;
 use crate::timed_text::{Printed, TimedText};
 use crate::timer::Timer;
 use jc_card::power_up::PowerFault;

@@ -5,7 +5,7 @@ ghost use Rattle.jcard_tests.specs.Cards.{AddsRow, AreCardsOf, IsNewCard, IsRow,
 
 use crate::card_rows::CardRows;
 use crate::line::{Line, read_line};
-use crate::numbered::Numbered;
+use crate::numbered_line::Numbered;
 use crate::row::Row;
 use std::alloc::{AllocError, Global};
 

@@ -2,7 +2,7 @@
 ghost use Rattle.std.specs.Prelude.{◌≡◌, ◌++◌, IfOk, OnOk};
 ghost use Rattle.jcard_tests.specs.Junit.{cards_cases, case_text, cases_text, failed_in, failure_text, head_text, is_behind, junit_text, name_text, no_row_text, row_case, row_text, rows_cases, suite_text, suites_text, test_count, time_at, told_text, verdict_text};
 
-use crate::escaping::push_escaped;
+use crate::escapes::push_escaped;
 use crate::outcome::{Failure, Outcome, Tested};
 use crate::report::is_failed;
 use crate::row::Row;

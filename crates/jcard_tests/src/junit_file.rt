@@ -1,7 +1,7 @@
 //! The file of the report for build servers.
 ghost use Rattle.std.specs.Prelude.{◌≡◌, false};
 ghost use Rattle.jcard_files.specs.Effects.{UsesFiles};
-ghost use Rattle.jcard_files.specs.Faults.{is_unwritten};
+ghost use Rattle.jcard_files.specs.Fault.{is_unwritten};
 ghost use Rattle.jcard_tests.specs.JunitFile.{IsBegun, IsKept, IsReportWritten, ended_by, verdict};
 ghost use Rattle.jcard_tests.specs.Sources.{name_of};
 

@@ -4,13 +4,13 @@ ghost use Rattle.std.specs.Borrow.{Bor};
 ghost use Rattle.std.specs.Str.Lines.{lines};
 ghost use Rattle.std.specs.String.{string_bytes};
 ghost use Rattle.jcard_tests.specs.Lines.{Says};
-ghost use Rattle.jcard_tests.specs.Unrolled.{AreAllNumbered, AreCopies, AreLinesOf, AreRepeated, AreTaken, IsBeside, IsEnded, IsLineOf, IsOneMore, IsReplaced, IsTakenIn, IsUnrolled, IsHexOf, IsShortened};
+ghost use Rattle.jcard_tests.specs.TextLines.{AreAllNumbered, AreCopies, AreLinesOf, AreRepeated, AreTaken, IsBeside, IsEnded, IsLineOf, IsOneMore, IsReplaced, IsTakenIn, IsUnrolled, IsHexOf, IsShortened};
 ghost use Rattle.jcard_tests.specs.declared.line.Line.{Line};
-ghost use Rattle.jcard_tests.specs.declared.numbered.Numbered.{Numbered};
+ghost use Rattle.jcard_tests.specs.declared.numbered_line.Numbered.{Numbered};
 
 use crate::line::{Line, read_line};
 use crate::loops::Loop;
-use crate::numbered::Numbered;
+use crate::numbered_line::Numbered;
 use std::alloc::{AllocError, Global};
 use std::mem;
 

@@ -1,7 +1,7 @@
 //! A loop over lines of a file of rows.
 ghost use Rattle.std.specs.Prelude.{◌<◌};
 
-use crate::numbered::Numbered;
+use crate::numbered_line::Numbered;
 
 /// A loop whose end has not come yet: the number of its line, the name of its number, its numbers, and the lines before it.
 #[derive(Drop)]

@@ -3,7 +3,7 @@ ghost use Rattle.std.specs.Prelude.{MatchOption};
 ghost use Rattle.jcard_tests.specs.NamedTable.{IsNamed, IsUnnamed, Names, NamesNone};
 
 use crate::line::{Line, read_line};
-use crate::numbered::Numbered;
+use crate::numbered_line::Numbered;
 use crate::table_line::TableLine;
 
 /// The platform table that lines name: the first that says something can be `table FILE`.

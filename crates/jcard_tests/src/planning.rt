@@ -4,8 +4,8 @@ ghost use Rattle.jcard_files.specs.FileDeeds.{FileDeed};
 ghost use Rattle.jcard_tests.specs.Planning.{IsPlanned, IsUnplanned};
 ghost use Rattle.jcard_tests.specs.Sources.{IsReading};
 
-use crate::asked::Asked;
 use crate::plan::Plan;
+use crate::request::Asked;
 use jcard_files::disk::Disk;
 use jcard_files::fault::Fault;
 use jcard_files::image_size::extent_of;

@@ -1,6 +1,6 @@
 //! Rows, and the script of their lines.
 ghost use Rattle.std.specs.Prelude.{◌≡◌, ◌++◌, IfOk, OnOk};
-ghost use Rattle.jcard_tests.specs.Rows.{line_text, script_text};
+ghost use Rattle.jcard_tests.specs.Row.{line_text, script_text};
 
 use std::alloc::{AllocError, Global};
 

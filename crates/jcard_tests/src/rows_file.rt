@@ -6,13 +6,13 @@ ghost use Rattle.jcard_files.specs.FileDeeds.{FileDeed};
 ghost use Rattle.jcard_files.specs.Reading.{IsRead};
 ghost use Rattle.jcard_tests.specs.Sources.{AreNoted, ReadsNoted};
 ghost use Rattle.jcard_tests.specs.Tests.{AreIncluded, AreNoFileLines, IsFile, IsFileBehind, IsFileOf, IsFilePlace, IsIncludeFault, IsNoRowsText, IsNoText, IsNotIncluded, IsPlace, IsRowsText, IsTableBeside, table_of};
-ghost use Rattle.jcard_tests.specs.Unrolled.{IsLineOf, IsUnrolled};
-ghost use Rattle.jcard_tests.specs.declared.numbered.Numbered.{Numbered};
+ghost use Rattle.jcard_tests.specs.TextLines.{IsLineOf, IsUnrolled};
+ghost use Rattle.jcard_tests.specs.declared.numbered_line.Numbered.{Numbered};
 
 use crate::line::{Line, read_line};
 use crate::lines::{add_lines, beside, unroll};
 use crate::named_table::named_table;
-use crate::numbered::Numbered;
+use crate::numbered_line::Numbered;
 use crate::sources::{Source, note};
 use crate::table_line::TableLine;
 use jcard_files::disk::Disk;

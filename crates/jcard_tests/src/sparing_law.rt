@@ -4,7 +4,7 @@ ghost use Rattle.jcard_files.specs.FileDeeds.{FileDeed};
 ghost use Rattle.jcard_files.specs.declared.fault.Fault.{Fault};
 ghost use Rattle.jcard_tests.specs.Sources.{SparesTexts};
 ghost use Rattle.jcard_tests.specs.Tests.{IsTest};
-ghost use Rattle.jcard_tests.specs.declared.asked.Asked.{Asked};
+ghost use Rattle.jcard_tests.specs.declared.request.Asked.{Asked};
 
 /// No file is written whose text is asked for: no file of rows, no file that one includes, and no platform table.
 pub fn no_text_is_written_over()

@@ -1,7 +1,7 @@
 //! The line of a file of rows that names its platform table.
 ghost use Rattle.std.specs.Prelude.{◌<◌};
 
-use crate::numbered::Numbered;
+use crate::numbered_line::Numbered;
 
 /// The line that names the file of a platform table: its number, the file's name, and the lines after it.
 #[derive(Drop)]

@@ -6,17 +6,17 @@ ghost use Rattle.jcard_tests.specs.Tests.{AreAnswered, AreTested, IsOutcome, IsP
 ghost use Rattle.jcard_tests.specs.declared.outcome.Tested.{Tested};
 
 use crate::answering::outcome_of;
-use crate::asked::Asked;
 use crate::card_rows::CardRows;
 use crate::cards::cards_of;
 use crate::files_read::files_read;
 use crate::junit_file::{JunitFile, begin_junit, keep_junit};
-use crate::numbered::Numbered;
+use crate::numbered_line::Numbered;
 use crate::outcome::Tested;
 use crate::plan::Plan;
 use crate::planning::plan_of;
-use crate::remarking::remark_on;
+use crate::remarks::remark_on;
 use crate::report::report;
+use crate::request::Asked;
 use crate::rows_file::{NamedFile, RowFile};
 use crate::sources::spared;
 use crate::timer::Timer;

@@ -1,7 +1,7 @@
 -- Names that are put into a text, piece by piece.
 use Rattle.std.proofs.Common.{◌≡◌, ◌∙◌, ◌++◌, ◌∷◌, [], ℕ, List, ap, sym, subst, refl, append-nil, append_assoc}
 use Rattle.std.proofs.lemmas.List.{flat_map_more}
-use Rattle.jcard_why.specs.Named.{HasNames, Piece, shown}
+use Rattle.jcard_why.specs.NamedText.{HasNames, Piece, shown}
 
 -- one piece more, with its name
 pub named_more : (plain text word name : List ℕ) → HasNames plain text → HasNames (plain ++ word) (text ++ (word ++ shown name))

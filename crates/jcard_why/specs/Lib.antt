@@ -1,4 +1,4 @@
 pub mod Maps
 pub mod Mnemonics
-pub mod Named
+pub mod NamedText
 pub mod Explanation

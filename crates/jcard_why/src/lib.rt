@@ -9,7 +9,7 @@ pub mod explanation;
 pub mod map_remarks;
 pub mod maps;
 pub mod mnemonics;
-pub mod named;
+pub mod named_text;
 mod naming;
 mod operands;
 pub mod places;

@@ -9,7 +9,7 @@ use Rattle.jc_heap.specs.declared.object.Kind.{Kind}
 use Rattle.jc_heap.specs.declared.object.Kind.TheVariants.{Instance}
 use Rattle.jc_heap.specs.Heap.{IsObject, facts}
 use Rattle.jc_frames.specs.declared.instr.ValueType.{ValueType}
-use Rattle.jc_frames.specs.declared.outcome.Exception.TheVariants.{ArrayIndexOutOfBoundsException}
+use Rattle.jc_frames.specs.declared.exceptions.Exception.TheVariants.{ArrayIndexOutOfBoundsException}
 use Rattle.jc_frames.specs.declared.outcome.Outcome.TheVariants.{Fault}
 use Rattle.jc_frames.specs.declared.outcome.FrameExit.{FrameExit}
 use Rattle.jc_frames.specs.declared.outcome.FrameExit.TheVariants.{Throw, End}

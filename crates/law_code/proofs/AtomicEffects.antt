@@ -3,7 +3,7 @@ use Rattle.std.proofs.Common.{◌≡◌, Bool, true, false, List, [], ◌∷◌,
 use Rattle.std.specs.Prelude.{ℕ, ◌⊎◌}
 use Rattle.std.proofs.lemmas.Bool.{true≢false, cases_Bool}
 use Rattle.jc_heap.specs.Heap.{HeapState, goes_back}
-use Rattle.jc_heap.specs.Places.{place_at, set_place}
+use Rattle.jc_heap.specs.Place.{place_at, set_place}
 use Rattle.jc_heap.proofs.KeptWords.{outside_none_goes_back}
 use Rattle.jc_heap.specs.Moves.{Write, SetPlaces, WriteNonAtomic, SetCells, AddObject, AddTransient, AddPackage, Begin, Commit, Abort, IsInside}
 use Rattle.jc_memory.specs.State.{MemoryState, Effect, HeapMove, SetTransient, SetFlag, ClearTransient, SetRegisters, BeginCommand, SendBytes}
@@ -13,7 +13,7 @@ use Rattle.jc_memory.specs.Reading.{AllDue, AllEffectsDue, HasTracePrefix}
 use Rattle.jc_memory.specs.State.{IsNew}
 use Rattle.jc_memory.proofs.ProgramLemmas.{took, due_taken}
 use Rattle.law_code.specs.Orderly.{KeepsTransactionOrder}
-use Rattle.law_code.specs.Tears.{SavedHeapAfter, IsHeapFound, IsHeapSaved, TearLeavesAfter, IsDurableOutside, TransactionsAreAtomic}
+use Rattle.law_code.specs.TransactionLaws.{SavedHeapAfter, IsHeapFound, IsHeapSaved, TearLeavesAfter, IsDurableOutside, TransactionsAreAtomic}
 
 -- ---- where no transaction is open a loss leaves the heap as it is
 

@@ -1,7 +1,7 @@
 -- Elements of an array of bytes that are set one after another, each for good.
 use Rattle.std.proofs.Common.{◌≡◌, ℕ, suc, ◌+◌, ◌≤◌, List, [], ◌∷◌, length, map, Option, Some, None, refl, ◌∙◌, ap, arith}
 use Rattle.jc_transient.specs.declared.cell.ClearEvent.{ClearEvent}
-use Rattle.jc_transient.specs.Cells.{number_of}
+use Rattle.jc_transient.specs.Cell.{number_of}
 use Rattle.jc_heap.specs.declared.object.Facts.{Facts}
 use Rattle.jc_heap.specs.declared.object.Kind.TheVariants.{ByteArray}
 use Rattle.jc_heap.specs.declared.place.Place.TheVariants.{Cell}
@@ -9,7 +9,7 @@ use Rattle.jc_heap.specs.Heap.{facts}
 use Rattle.jc_heap.specs.Moves.{WriteNonAtomic}
 use Rattle.jc_heap.proofs.Laws.{facts-set_cell}
 use Rattle.jc_memory.specs.State.{MemoryState, Effect, HeapMove, SetTransient, apply_effect}
-use Rattle.jc_memory.specs.Changing.{nonatomic_store, nonatomic_store_in, nonatomic_writes}
+use Rattle.jc_memory.specs.Changes.{nonatomic_store, nonatomic_store_in, nonatomic_writes}
 use Rattle.jc_memory.specs.Reading.{AllDue}
 use Rattle.law_code.specs.Bytes.{IsByteElement}
 

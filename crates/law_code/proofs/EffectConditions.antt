@@ -42,7 +42,7 @@ use Rattle.jc_instructions.specs.declared.static_images.ImageWord.{ImageWord}
 use Rattle.jc_instructions.specs.declared.invoke.MethodCall.{MethodCall}
 use Rattle.jc_interp.specs.Natives.{native_call}
 use Rattle.law_code.specs.Reach.{IsEnvironmentObject}
-use Rattle.law_code.specs.Steps.{IsCalled}
+use Rattle.law_code.specs.IsolationLaws.Steps.{IsCalled}
 use Rattle.law_code.proofs.AccessChecks.{IsArray, IsCell, Names}
 
 -- ---- instructions

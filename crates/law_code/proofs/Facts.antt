@@ -5,7 +5,7 @@ use Rattle.std.proofs.lemmas.Bool.{and_parts, false≢true, true≢false}
 use Rattle.jc_platform.specs.declared.names.MethodKind.TheVariants.{Static}
 use Rattle.jc_platform.specs.declared.names.PlatformClass.TheVariants.{Object}
 use Rattle.jc_platform.specs.declared.names.PlatformMethod.{PlatformMethod}
-use Rattle.jc_platform.specs.Distinct.{class_of, kind_of_method}
+use Rattle.jc_platform.specs.NamePlaces.{class_of, kind_of_method}
 use Rattle.jc_platform.specs.Names.{apdus_rows, aids_rows, applets_rows, engines_rows, events_rows, exceptions_rows, methods, objects_rows, pins_rows, system_rows}
 use Rattle.jc_platform.specs.Names.{utilities_rows, keys_rows, key_interfaces_rows, ciphers_rows}
 use Rattle.jc_platform.specs.Names.{rsa_keys_rows, ec_keys_rows, rsa_interfaces_rows, ec_interfaces_rows, key_pairs_rows}

@@ -7,9 +7,9 @@ use Rattle.jc_linker.specs.Values.{Packages}
 use Rattle.jc_firewall.specs.FirewallLaws.{IsInReach}
 use Rattle.jc_world.specs.Contexts.{situation_of}
 use Rattle.jc_instructions.specs.ArrayCreation.{kind_of}
-use Rattle.law_code.specs.Groups.{ArraysSpare, FieldsSpare, ObjectsSpare}
+use Rattle.law_code.specs.IsolationLaws.Groups.{ArraysSpare, FieldsSpare, ObjectsSpare}
 use Rattle.law_code.specs.Reach.{IsOutside}
-use Rattle.law_code.specs.SparingEffects.{LeavesObject}
+use Rattle.law_code.specs.IsolationLaws.SparingEffects.{LeavesObject}
 use Rattle.law_code.proofs.Instructions.{arrays_due, checked_due, examined_due, fields_due, made_due}
 use Rattle.law_code.proofs.EffectConditions.{ArraysPass, FieldsPass, InstancesPass, new_for}
 use Rattle.law_code.proofs.ObjectsInReach.{not_outside}

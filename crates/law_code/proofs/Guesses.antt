@@ -3,13 +3,13 @@ use Rattle.std.proofs.Common.{◌≡◌, ℕ, ◌-◌, ◌==◌, Bool, true, fal
 use Rattle.std.proofs.lemmas.Bool.{false≢true, cases_Bool, eqb-true}
 use Rattle.jc_heap.specs.declared.place.Place.TheVariants.{Cell}
 use Rattle.jc_heap.specs.Heap.{goes_back, set_cell}
-use Rattle.jc_heap.specs.Places.{place_at}
+use Rattle.jc_heap.specs.Place.{place_at}
 use Rattle.jc_heap.specs.Moves.{WriteNonAtomic}
 use Rattle.jc_memory.specs.State.{MemoryState, HeapMove, SetFlag, apply_effect}
 use Rattle.jc_memory.specs.Programs.{Finish, Perform, Completes, bind}
-use Rattle.jc_memory.specs.Changing.{nonatomic_write}
+use Rattle.jc_memory.specs.Changes.{nonatomic_write}
 use Rattle.jc_environment.specs.Pins.{counter, record_of, tries_refill}
-use Rattle.jc_environment.specs.PinChecks.{pin_check, is_value, comparison}
+use Rattle.jc_environment.specs.Pins.Checks.{pin_check, is_value, comparison}
 use Rattle.law_code.specs.PinChanges.{IsChanged}
 use Rattle.law_code.specs.PinUpdateLaws.{TakeATry}
 

@@ -7,7 +7,7 @@ use Rattle.jc_heap.specs.declared.object.Kind.{Kind}
 use Rattle.jc_heap.specs.declared.object.Kind.TheVariants.{Instance, ReferenceArray}
 use Rattle.jc_heap.specs.declared.refusal.HeapRefusal.{HeapRefusal}
 use Rattle.jc_heap.specs.Moves.{refusal_of_places}
-use Rattle.jc_heap.specs.Places.{places_of}
+use Rattle.jc_heap.specs.Place.{places_of}
 use Rattle.jc_frames.specs.declared.instr.ArrayOp.{ArrayOp}
 use Rattle.jc_frames.specs.declared.instr.ArrayOp.TheVariants.{Load, Store, NewArray, ANewArray, ArrayLength}
 use Rattle.jc_frames.specs.declared.instr.FieldOp.{FieldOp}
@@ -18,9 +18,9 @@ use Rattle.jc_frames.specs.declared.instr.ValueType.{ValueType}
 use Rattle.jc_frames.specs.declared.instr.ValueType.TheVariants as types
 use Rattle.jc_frames.specs.declared.cell.Cell.{Cell}
 use Rattle.jc_frames.specs.declared.cell.Cell.TheVariants.{Short, Reference, ReturnAddress}
-use Rattle.jc_frames.specs.declared.outcome.Exception.TheVariants.{ClassCastException, NegativeArraySizeException}
+use Rattle.jc_frames.specs.declared.exceptions.Exception.TheVariants.{ClassCastException, NegativeArraySizeException}
 use Rattle.jc_frames.specs.declared.outcome.FrameExit.TheVariants.{Throw}
-use Rattle.jc_frames.specs.Cells.{reference_on, short_on}
+use Rattle.jc_frames.specs.Cell.{reference_on, short_on}
 use Rattle.jc_frames.specs.Frames.{Frame, Frames, has_room, with_stack}
 use Rattle.jc_memory.specs.declared.making.NewObject.{NewObject}
 use Rattle.jc_memory.specs.State.{MemoryState, Effect, HeapMove, apply_effect}

@@ -6,7 +6,7 @@ use Rattle.std.specs.List.{range_with_len}
 use Rattle.std.specs.Prelude.{ℤ}
 use Rattle.jc_words.specs.Layout.{most_applets}
 use Rattle.jc_transient.specs.declared.cell.CellValue.TheVariants.{Short}
-use Rattle.jc_transient.specs.Cells.{number_of}
+use Rattle.jc_transient.specs.Cell.{number_of}
 use Rattle.jc_transient.specs.declared.cell.ClearEvent.{ClearEvent}
 use Rattle.jc_heap.specs.declared.object.Kind.TheVariants.{ByteArray}
 use Rattle.jc_heap.specs.Object.{is_object}
@@ -17,7 +17,7 @@ use Rattle.jc_memory.specs.Making.{creation_move}
 use Rattle.jc_memory.specs.Owners.{owner_number}
 use Rattle.jc_memory.specs.State.{HeapMove, IsNew, MemoryState, SetTransient, apply_effect}
 use Rattle.jc_memory.specs.declared.making.NewObject.{NewObject}
-use Rattle.jc_memory.specs.Changing.{nonatomic_store}
+use Rattle.jc_memory.specs.Changes.{nonatomic_store}
 use Rattle.jc_memory.specs.Reading.{AllDue, AllResults}
 use Rattle.jc_memory.specs.Cells.{cells_effect, header_at, word_of}
 use Rattle.jc_heap.specs.Moves.{Write}
@@ -28,8 +28,8 @@ use Rattle.jc_platform.specs.declared.names.PlatformMethod.{PlatformMethod}
 use Rattle.jc_platform.specs.declared.names.PlatformMethod.TheVariants.{Aids}
 use Rattle.jc_platform.specs.declared.names.AidsMethod.TheVariants.{AidInit}
 use Rattle.jc_environment.specs.Pins.{record_of}
-use Rattle.jc_environment.specs.PinInit.{value_array}
-use Rattle.jc_heap.specs.Places.{cell_changes}
+use Rattle.jc_environment.specs.Pins.PinInit.{value_array}
+use Rattle.jc_heap.specs.Place.{cell_changes}
 use Rattle.jc_memory.proofs.Room.{facts-places}
 use Rattle.jc_memory.proofs.ProgramLemmas.{each_always, each_more}
 use Rattle.jc_world.specs.Answers.{and_then}
@@ -41,9 +41,9 @@ use Rattle.jc_api_framework.specs.Applet.Register.{aid_object}
 use Rattle.jc_api_framework.specs.OwnerPin.{is_own_value}
 use Rattle.jc_platform.specs.Names.{aids_rows}
 use Rattle.jc_platform.specs.Signatures.{sets_receiver}
-use Rattle.law_code.specs.Natives.{NativesSpare, ReachesCalled}
+use Rattle.law_code.specs.IsolationLaws.Natives.{NativesSpare, ReachesCalled}
 use Rattle.law_code.specs.Reach.{IsOutside}
-use Rattle.law_code.specs.SparingEffects.{AreBeside, IsBeside, LeavesObject}
+use Rattle.law_code.specs.IsolationLaws.SparingEffects.{AreBeside, IsBeside, LeavesObject}
 use Rattle.jc_api.specs.Factory.{engine_creation, engine_object, number_cell, state_array, state_cell}
 use Rattle.jc_api.specs.Pairing.{named_in, pair_words}
 use Rattle.jc_api.specs.declared.factory.NewEngine.{NewEngine}

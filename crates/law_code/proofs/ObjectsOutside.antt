@@ -20,7 +20,7 @@ use Rattle.jc_firewall.specs.FirewallLaws.{IsInReach}
 use Rattle.jc_firewall.specs.Situation.{global_array}
 use Rattle.jc_world.specs.Contexts.{context_of, package_of_applet, designation_of, situation_of, subject_of}
 use Rattle.law_code.specs.Reach.{IsOutside, KeepsCells}
-use Rattle.law_code.specs.SparingEffects.{LeavesObject, AreQuiet, IsSet, LeaveObjects}
+use Rattle.law_code.specs.IsolationLaws.SparingEffects.{LeavesObject, AreQuiet, IsSet, LeaveObjects}
 use Rattle.law_code.proofs.SparedObjects.{Stands, HasCells, keeps}
 
 is_an_object : (t : Item) → is_object t ≡ true → (o : Object) × (t ≡ AnObject o)

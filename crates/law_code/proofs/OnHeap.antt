@@ -11,11 +11,11 @@ use Rattle.jc_heap.specs.declared.place.Place.TheVariants.{Cell, Static, Registr
 use Rattle.jc_heap.specs.Object.{Object, Item, AnObject, APackage, facts_of, is_object, new_transient}
 use Rattle.jc_heap.specs.Statics.{with_word, set_word}
 use Rattle.jc_heap.specs.Heap.{HeapState, heap_item_at, facts, is_allocated, set_cell, set_cells, add_object, add_transient, area_end, with_area_end}
-use Rattle.jc_heap.specs.Places.{set_place, set_places}
+use Rattle.jc_heap.specs.Place.{set_place, set_places}
 use Rattle.jc_heap.proofs.Laws.{heap_item_at-set_other, heap_item_at-add_object, heap_item_at-add_other, same_facts, object_named}
 use Rattle.jc_heap.proofs.RecordWords.{of_item-set_word}
 use Rattle.jc_heap.proofs.Places.{bare_stays}
-use Rattle.law_code.specs.SparingEffects.{IsBeside, AreBeside}
+use Rattle.law_code.specs.IsolationLaws.SparingEffects.{IsBeside, AreBeside}
 
 -- the cells of two transient objects of an event lie apart
 abbrev pub LieApart : Facts → Facts → Type 0

@@ -2,7 +2,7 @@
 use Rattle.std.proofs.Common.{◌≡◌, ℕ, ◌+◌, ◌<◌, ◌≤◌, false, List, length, Option, Some, None, refl, sym, ◌∙◌, ap, subst, arith}
 use Rattle.std.proofs.lemmas.Bool.{true≢false}
 use Rattle.std.proofs.lemmas.List.{length-map}
-use Rattle.jc_transient.specs.Cells.{number_of}
+use Rattle.jc_transient.specs.Cell.{number_of}
 use Rattle.jc_transient.specs.declared.cell.CellValue.{CellValue}
 use Rattle.jc_transient.specs.declared.cell.ClearEvent.{ClearEvent}
 use Rattle.jc_heap.specs.Heap.{IsObject, facts, is_allocated}
@@ -13,7 +13,7 @@ use Rattle.jc_memory.specs.Programs.{Program}
 use Rattle.jc_memory.specs.Reading.{AllDue}
 use Rattle.jc_memory.specs.Cells.{cell_effect, cell_effect_in, cells_effect, cells_effect_in}
 use Rattle.jc_memory.specs.Making.{object_creation, creation_move}
-use Rattle.law_code.specs.SparingEffects.{LeavesObject}
+use Rattle.law_code.specs.IsolationLaws.SparingEffects.{LeavesObject}
 use Rattle.jc_api.proofs.Passing.{Makes}
 
 module _ (q : ℕ) (m : MemoryState) where

@@ -10,7 +10,7 @@ use Rattle.jc_heap.specs.declared.object.Kind.TheVariants.{Instance, BooleanArra
 use Rattle.jc_heap.specs.declared.place.Place.{Place}
 use Rattle.jc_heap.specs.Object.{is_object, kind_number}
 use Rattle.jc_heap.specs.Heap.{IsObject, facts, heap_item_at}
-use Rattle.jc_frames.specs.declared.outcome.Exception.TheVariants.{SecurityException}
+use Rattle.jc_frames.specs.declared.exceptions.Exception.TheVariants.{SecurityException}
 use Rattle.jc_frames.specs.declared.outcome.FrameExit.{FrameExit}
 use Rattle.jc_frames.specs.declared.outcome.FrameExit.TheVariants.{Throw}
 use Rattle.jc_firewall.specs.declared.subject.Designation.TheVariants.{Ordinary, PermanentEntryPoint, TemporaryEntryPoint}
@@ -21,13 +21,13 @@ use Rattle.jc_memory.specs.Cells.{header_at}
 use Rattle.jc_memory.specs.Owners.{owner_of}
 use Rattle.jc_linker.specs.Values.{Packages}
 use Rattle.jc_environment.specs.Pins.{is_persistent_with, has_value, is_pin, record_of}
-use Rattle.jc_heap.specs.Places.{cell_changes}
+use Rattle.jc_heap.specs.Place.{cell_changes}
 use Rattle.jc_platform.specs.declared.names.PlatformClass.TheVariants.{Aid}
-use Rattle.jc_platform.specs.Distinct.{class_word}
+use Rattle.jc_platform.specs.NamePlaces.{class_word}
 use Rattle.jc_world.specs.Contexts.{context_of, own_designation, situation_of, subject_of}
 use Rattle.jc_api_framework.specs.OwnerPin.{is_in_context_of}
 use Rattle.law_code.specs.Reach.{IsOutside}
-use Rattle.law_code.specs.SparingEffects.{AreBeside}
+use Rattle.law_code.specs.IsolationLaws.SparingEffects.{AreBeside}
 use Rattle.jc_api.proofs.Reaching.{err_not_ok, header_is, one_context}
 use Rattle.law_code.proofs.ObjectsInReach.{not_outside}
 

@@ -17,7 +17,7 @@ use Rattle.jc_linker.specs.Classes.{is_shareable}
 use Rattle.jc_linker.specs.Values.{Packages}
 use Rattle.jc_platform.specs.declared.names.MethodKind.TheVariants.{Static}
 use Rattle.jc_platform.specs.declared.names.PlatformMethod.{PlatformMethod}
-use Rattle.jc_platform.specs.Distinct.{kind_of_method}
+use Rattle.jc_platform.specs.NamePlaces.{kind_of_method}
 use Rattle.jc_frames.specs.declared.instr.InvokeOp.{InvokeOp}
 use Rattle.jc_firewall.specs.declared.access.Access.{Access}
 use Rattle.jc_firewall.specs.declared.access.Access.TheVariants as access
@@ -34,7 +34,7 @@ use Rattle.jc_firewall.specs.Table as table
 use Rattle.jc_firewall.proofs.Finds.{all_allow}
 use Rattle.jc_frames.specs.declared.cell.Cell.{Cell}
 use Rattle.jc_frames.specs.Calls.{arguments_on}
-use Rattle.jc_frames.specs.Cells.{as_reference}
+use Rattle.jc_frames.specs.Cell.{as_reference}
 use Rattle.jc_frames.specs.Frames.{Frames}
 use Rattle.jc_world.specs.Contexts.{firewall_decision, situation_of}
 use Rattle.jc_world.specs.Objects.{object_at, some_or_fault, reference_argument}
@@ -43,7 +43,7 @@ use Rattle.jc_instructions.specs.Invoke.{call_decision, call_of, class_of, is_na
 use Rattle.jc_api.proofs.Reaching.{err_not_ok, object_is, one_context, own_reach, same_Ok}
 use Rattle.jc_api.proofs.Stretches.{both_ok}
 use Rattle.law_code.proofs.MethodSelection.{Bare, Found, IsSought, Named, Selected, is_there, selected}
-use Rattle.law_code.specs.Steps.{NamesStatics}
+use Rattle.law_code.specs.IsolationLaws.Steps.{NamesStatics}
 
 -- ---- what the firewall allows without a switch
 

@@ -7,13 +7,13 @@ use Rattle.jc_memory.specs.Reading.{AllEffectsDue, HasTrace}
 use Rattle.jc_memory.proofs.ProgramLemmas.{due_before, due_taken}
 use Rattle.jc_linker.specs.Values.{Packages}
 use Rattle.jc_frames.specs.Frames.{Frames, Next, GoesOn}
-use Rattle.jc_interp.specs.Stepping.{machine_step}
+use Rattle.jc_interp.specs.Step.{machine_step}
 use Rattle.law_code.specs.Reach.{IsOutside}
-use Rattle.law_code.specs.SparingEffects.{IsSet, LeavesObject}
+use Rattle.law_code.specs.IsolationLaws.SparingEffects.{IsSet, LeavesObject}
 use Rattle.law_code.proofs.ObjectsOutside.{behind, keeps_cells, outside_still, stands_after, stands_first}
 use Rattle.law_code.proofs.SparedObjects.{Stands}
-use Rattle.law_code.specs.Runs.{AreIsolated, RunStepsWithin}
-use Rattle.law_code.specs.Steps.{NamesStatics, Stays}
+use Rattle.law_code.specs.IsolationLaws.Runs.{AreIsolated, RunStepsWithin}
+use Rattle.law_code.specs.IsolationLaws.Steps.{NamesStatics, Stays}
 use Rattle.law_code.proofs.Steps.{steps_spare}
 
 -- an object stands as it stood when the run began

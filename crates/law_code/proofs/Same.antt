@@ -6,14 +6,13 @@ use Rattle.jc_heap.specs.declared.place.Place.{Place}
 use Rattle.jc_heap.specs.declared.place.Place.TheVariants.{Cell}
 use Rattle.jc_heap.specs.Object.{Item, AnObject, APackage, cells_of, header_only, with_cell}
 use Rattle.jc_heap.specs.Heap.{HeapState, heap_item_at, goes_back, is_allocated, set_cell}
-use Rattle.jc_heap.specs.Places.{place_at, set_place}
+use Rattle.jc_heap.specs.Place.{place_at, set_place}
 use Rattle.jc_heap.specs.Moves.{Write, SetPlaces, WriteNonAtomic, SetCells, AddObject, AddTransient, AddPackage, Begin, Commit, Abort}
 use Rattle.jc_heap.proofs.Laws.{set_cell-absent, heap_item_at-set_cell, heap_item_at-set_other, header_only-set_cell, is_allocated-set_cell}
 use Rattle.jc_memory.specs.State.{MemoryState, Effect, HeapMove, SetTransient, SetFlag, ClearTransient, SetRegisters, BeginCommand, SendBytes}
 use Rattle.jc_memory.specs.State.{apply_effect}
 use Rattle.law_code.specs.Orderly.{MayBeSetForGood}
-use Rattle.law_code.specs.Tears.{SavedHeapAfter}
-use Rattle.law_code.specs.Same.{IsSameButSet, SameButSet, SetForGood}
+use Rattle.law_code.specs.TransactionLaws.{SavedHeapAfter, IsSameButSet, SameButSet, SetForGood}
 
 -- ---- a cell is set
 

@@ -20,11 +20,11 @@ use Rattle.jc_heap.proofs.Laws.{object_named}
 use Rattle.jc_heap.specs.Statics.{set_word}
 use Rattle.jc_heap.specs.Heap.{HeapState, facts, heap_item_at, is_allocated, set_cell, set_cells, add_object, add_transient, area_end, with_area_end}
 use Rattle.jc_heap.specs.Moves.{Move, Write, SetPlaces, WriteNonAtomic, SetCells, AddObject, AddTransient, AddPackage, Begin, Commit, Abort}
-use Rattle.jc_heap.specs.Places.{set_place, set_places, applet_changes}
+use Rattle.jc_heap.specs.Place.{set_place, set_places, applet_changes}
 use Rattle.jc_memory.specs.State.{MemoryState, Effect, HeapMove, SetTransient, SetFlag, ClearTransient, SetRegisters, BeginCommand, SendBytes}
 use Rattle.jc_memory.specs.State.{apply_effect, ram_after_move, ram_after_set, ram_unflagged, zero_of}
 use Rattle.jc_world.specs.Contexts.{installed_package, package_of_applet}
-use Rattle.law_code.specs.SparingEffects.{IsBeside, AreBeside, MoveLeavesObject, LeavesObject, IsQuiet}
+use Rattle.law_code.specs.IsolationLaws.SparingEffects.{IsBeside, AreBeside, MoveLeavesObject, LeavesObject, IsQuiet}
 use Rattle.law_code.proofs.OnHeap.{StandsBeside, place_set, places_set, cells_set, object_added, transient_added, registry_set, count_set}
 use Rattle.law_code.proofs.InAreas.{below_set, above_set, as_long}
 

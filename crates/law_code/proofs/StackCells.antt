@@ -10,7 +10,7 @@ use Rattle.jc_frames.specs.declared.instr.ValueType.{ValueType}
 use Rattle.jc_frames.specs.declared.instr.ValueType.TheVariants as types
 use Rattle.jc_frames.specs.declared.cell.Cell.{Cell}
 use Rattle.jc_frames.specs.declared.cell.Cell.TheVariants.{Short, Reference, ReturnAddress}
-use Rattle.jc_frames.specs.Cells.{cell_on, reference_on, short_on, storable_on, two_references_on, two_shorts_on}
+use Rattle.jc_frames.specs.Cell.{cell_on, reference_on, short_on, storable_on, two_references_on, two_shorts_on}
 use Rattle.jc_frames.specs.Frames.{Frame, Frames}
 use Rattle.jc_world.specs.Values.{value_on, with_top}
 use Rattle.jc_api.specs.Referring.{CellRefersSo}

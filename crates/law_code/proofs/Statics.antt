@@ -11,7 +11,7 @@ use Rattle.jc_platform.specs.declared.names.MethodKind.{MethodKind}
 use Rattle.jc_platform.specs.declared.names.MethodKind.TheVariants.{Static, Virtual, Interface}
 use Rattle.jc_platform.specs.declared.names.PlatformClass.{PlatformClass}
 use Rattle.jc_platform.specs.declared.names.PlatformMethod.{PlatformMethod}
-use Rattle.jc_platform.specs.Distinct.{class_of, kind_of_method}
+use Rattle.jc_platform.specs.NamePlaces.{class_of, kind_of_method}
 use Rattle.jc_platform.specs.Names.{MethodEntry, methods}
 use Rattle.jc_platform.specs.Numbers.{same_class, same_kind}
 use Rattle.jc_platform.specs.Platform.{class_by_word, method_by_token}
@@ -25,10 +25,10 @@ use Rattle.jc_linker.specs.declared.target.Target.{Target}
 use Rattle.jc_linker.specs.declared.target.Target.TheVariants as targets
 use Rattle.jc_linker.specs.Classes.{class_in, declares_reference, superclass_in}
 use Rattle.jc_linker.specs.Methods.{method_at}
-use Rattle.jc_linker.specs.Resolves.{class_named, class_with_token, export_of, field_of, field_target, foreign_field, foreign_method, import_by_token}
-use Rattle.jc_linker.specs.Resolves.{names_interface, resolution, static_method_by, super_target, virtual_target}
+use Rattle.jc_linker.specs.Resolve.{class_named, class_with_token, export_of, field_of, field_target, foreign_field, foreign_method, import_by_token}
+use Rattle.jc_linker.specs.Resolve.{names_interface, resolution, static_method_by, super_target, virtual_target}
 use Rattle.jc_linker.specs.Values.{Export, Packages}
-use Rattle.law_code.specs.Steps.{ResolveStatics}
+use Rattle.law_code.specs.IsolationLaws.Steps.{ResolveStatics}
 
 kind_is : (k : MethodKind) → same_kind k Static ≡ true → k ≡ Static
 kind_is Static e = refl

@@ -12,11 +12,11 @@ use Rattle.jc_frames.specs.Calls.{arguments_on}
 use Rattle.jc_firewall.specs.FirewallLaws.{IsInReach}
 use Rattle.jc_world.specs.Contexts.{situation_of}
 use Rattle.jc_instructions.specs.declared.invoke.MethodCall.{MethodCall}
-use Rattle.jc_interp.specs.Stepping.{at_place}
+use Rattle.jc_interp.specs.Step.{at_place}
 use Rattle.jc_platform.specs.Signatures.{sets_receiver}
-use Rattle.law_code.specs.Natives.{ReachesCalled}
-use Rattle.law_code.specs.SparingEffects.{LeavesObject}
-use Rattle.law_code.specs.Steps.{StepsSpare}
+use Rattle.law_code.specs.IsolationLaws.Natives.{ReachesCalled}
+use Rattle.law_code.specs.IsolationLaws.SparingEffects.{LeavesObject}
+use Rattle.law_code.specs.IsolationLaws.Steps.{StepsSpare}
 use Rattle.law_code.proofs.Facts.{sets_minds, static_minds_none}
 use Rattle.law_code.proofs.Groups.{arrays_pass, fields_pass, instances_pass}
 use Rattle.law_code.proofs.Natives.{natives_spare}

@@ -9,8 +9,8 @@ use Rattle.jc_frames.specs.declared.outcome.Outcome.{Outcome}
 use Rattle.jc_frames.specs.Frames.{Frames, Next, GoesOn, Throws, Ends}
 use Rattle.jc_interp.specs.declared.attacks.Attack.{Attack}
 use Rattle.jc_interp.specs.Attacks.{attacked_step}
-use Rattle.jc_interp.specs.Running.{or_end, run_of}
-use Rattle.law_code.specs.Runs.{IsRunTrace, RunsAreSteps}
+use Rattle.jc_interp.specs.Run.{or_end, run_of}
+use Rattle.law_code.specs.IsolationLaws.Runs.{IsRunTrace, RunsAreSteps}
 
 module _ (attack : Option Attack) (lent : List ℕ) (p : Packages) where
   -- the first step ends the run

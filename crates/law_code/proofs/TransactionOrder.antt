@@ -7,7 +7,7 @@ use Rattle.jc_heap.specs.Heap.{facts}
 use Rattle.jc_memory.specs.declared.making.NewObject.{NewObject}
 use Rattle.jc_memory.specs.declared.registers.PackageNumber.{PackageNumber}
 use Rattle.jc_memory.specs.Cells.{cell_effect_in, cells_effect_in}
-use Rattle.jc_memory.specs.Changing.{nonatomic_store}
+use Rattle.jc_memory.specs.Changes.{nonatomic_store}
 use Rattle.jc_memory.specs.Making.{creation_move}
 use Rattle.jc_memory.specs.Programs.{Program}
 use Rattle.jc_memory.specs.Reading.{AllDue}
@@ -21,8 +21,8 @@ use Rattle.jc_frames.specs.Frames.{Frames, Next, GoesOn, Throws, Ends}
 use Rattle.jc_api_framework.specs.Aid.Cells.{cells_of_aid}
 use Rattle.jc_interp.specs.declared.attacks.Attack.{Attack}
 use Rattle.jc_interp.specs.Attacks.{attacked, attacked_step, step_from}
-use Rattle.jc_interp.specs.Running.{or_end, run_of}
-use Rattle.jc_interp.specs.Stepping.{machine_step}
+use Rattle.jc_interp.specs.Run.{or_end, run_of}
+use Rattle.jc_interp.specs.Step.{machine_step}
 use Rattle.jc_api_framework.proofs.AppletCalls.Registering.{Registering}
 use Rattle.jc_api_framework.proofs.Passing.{Bears, MethodPasses, RegistersSo}
 use Rattle.jc_world.specs.Answers.{and_then}

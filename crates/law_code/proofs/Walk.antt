@@ -17,7 +17,7 @@ use Rattle.jc_memory.specs.Reading.{AllDue, AllResults}
 use Rattle.jc_memory.proofs.ProgramLemmas.{each_always}
 use Rattle.jc_platform.specs.declared.names.PlatformClass.TheVariants.{Throwable}
 use Rattle.jc_platform.specs.declared.names.PlatformMethod.{PlatformMethod}
-use Rattle.jc_platform.specs.Distinct.{class_word}
+use Rattle.jc_platform.specs.NamePlaces.{class_word}
 use Rattle.jc_platform.specs.Signatures.{argument_cells}
 use Rattle.jc_linker.specs.declared.target.Method.{Method}
 use Rattle.jc_linker.specs.declared.target.Method.TheVariants.{Code, Native}
@@ -36,12 +36,12 @@ use Rattle.jc_frames.specs.declared.cell.Cell.TheVariants as cells
 use Rattle.jc_frames.specs.declared.method.CallKind.{CallKind}
 use Rattle.jc_frames.specs.declared.method.CallKind.TheVariants.{Instruction, ShareableRequest}
 use Rattle.jc_frames.specs.declared.method.Entry.{Entry}
-use Rattle.jc_frames.specs.declared.outcome.Exception.{Exception}
+use Rattle.jc_frames.specs.declared.exceptions.Exception.{Exception}
 use Rattle.jc_frames.specs.declared.outcome.FrameExit.{FrameExit}
 use Rattle.jc_frames.specs.declared.outcome.FrameExit.TheVariants as stop
 use Rattle.jc_frames.specs.declared.outcome.Outcome.TheVariants.{Fault, Thrown}
 use Rattle.jc_frames.specs.Calls.{arguments_on, call_or_fault, frames_after_return, frames_with_result, frames_without_dead, outcome_of}
-use Rattle.jc_frames.specs.Cells.{reference_on}
+use Rattle.jc_frames.specs.Cell.{reference_on}
 use Rattle.jc_environment.specs.Objects.{own_place}
 use Rattle.jc_frames.specs.Exceptions.{class_of_exception, reason_of}
 use Rattle.jc_frames.specs.Frames.{Caller, Frame, Frames, Next, GoesOn, Throws, Ends, in_frame, push, with_stack}
@@ -68,8 +68,8 @@ use Rattle.jc_instructions.specs.Throw.{has_reason_cell, handler_entry, or_throw
 use Rattle.jc_instructions.specs.Throw.{exception_throw, athrow, object_unwind, unwind, with_reason}
 use Rattle.jc_interp.specs.Natives.{native_call}
 use Rattle.jc_interp.specs.Calling.{after_native, invoke_instruction, invoke_selected, native_invoke}
-use Rattle.jc_interp.specs.Stepping.{at_place, throw_from, code_of, instruction_at, fetch, instruction_step, is_plain, machine_step}
-use Rattle.law_code.specs.Steps.{IsCalled}
+use Rattle.jc_interp.specs.Step.{at_place, throw_from, code_of, instruction_at, fetch, instruction_step, is_plain, machine_step}
+use Rattle.law_code.specs.IsolationLaws.Steps.{IsCalled}
 use Rattle.jc_api.proofs.Due.{DueThen, due_of}
 use Rattle.jc_api.proofs.Exits.{FaultsOnly, IsPlainExit, plain_check, plain_end, plain_firewall, plain_object}
 use Rattle.jc_api.proofs.Reaching.{header_is}

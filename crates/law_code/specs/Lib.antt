@@ -1,14 +1,8 @@
 pub mod Reach
 pub mod FrameReferences
-pub mod SparingEffects
-pub mod Groups
-pub mod Natives
-pub mod Steps
-pub mod Runs
 pub mod Bytes
 pub mod Orderly
-pub mod Tears
-pub mod Same
 pub mod PinChanges
 pub mod PinUpdateLaws
-pub mod OrderlyRuns
+pub mod TransactionLaws
+pub mod IsolationLaws

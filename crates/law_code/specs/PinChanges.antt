@@ -1,7 +1,7 @@
 -- PINs that the open transaction changes.
 use Rattle.std.specs.Prelude.{ℕ, ◌≡◌, true}
 use Rattle.jc_heap.specs.Heap.{goes_back}
-use Rattle.jc_heap.specs.Places.{place_at}
+use Rattle.jc_heap.specs.Place.{place_at}
 use Rattle.jc_memory.specs.State.{MemoryState}
 use Rattle.jc_environment.specs.Pins.{counter}
 

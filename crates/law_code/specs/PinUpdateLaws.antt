@@ -4,7 +4,7 @@ use Rattle.jc_heap.specs.Heap.{set_cell}
 use Rattle.jc_memory.specs.State.{MemoryState}
 use Rattle.jc_memory.specs.Programs.{Completes}
 use Rattle.jc_environment.specs.Pins.{record_of}
-use Rattle.jc_environment.specs.PinChecks.{pin_check}
+use Rattle.jc_environment.specs.Pins.Checks.{pin_check}
 use Rattle.law_code.specs.PinChanges.{IsChanged}
 
 -- a guess at a PIN that the open transaction has not changed takes a try where it is wrong, from the heap as it is and from

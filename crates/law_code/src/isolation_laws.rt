@@ -1,9 +1,9 @@
 //! Laws of the definitions.
-ghost use Rattle.law_code.specs.Groups.{ArraysSpare, FieldsSpare, ObjectsSpare};
-ghost use Rattle.law_code.specs.Natives.{NativesSpare};
-ghost use Rattle.law_code.specs.Runs.{AreIsolated, RunsAreSteps};
-ghost use Rattle.law_code.specs.SparingEffects.{LeaveObjects};
-ghost use Rattle.law_code.specs.Steps.{ResolveStatics, StepsSpare};
+ghost use Rattle.law_code.specs.IsolationLaws.Groups.{ArraysSpare, FieldsSpare, ObjectsSpare};
+ghost use Rattle.law_code.specs.IsolationLaws.Natives.{NativesSpare};
+ghost use Rattle.law_code.specs.IsolationLaws.Runs.{AreIsolated, RunsAreSteps};
+ghost use Rattle.law_code.specs.IsolationLaws.SparingEffects.{LeaveObjects};
+ghost use Rattle.law_code.specs.IsolationLaws.Steps.{ResolveStatics, StepsSpare};
 
 /// Quiet effects that spare an object outside the reach of the code that runs leave its cells as they are, and
 /// leave it outside that reach.

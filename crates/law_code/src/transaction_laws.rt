@@ -1,7 +1,5 @@
 //! Laws of the definitions, for whatever is done by effects that keep the order of transactions.
-ghost use Rattle.law_code.specs.OrderlyRuns.{CodeIsOrderly};
-ghost use Rattle.law_code.specs.Same.{StaysSameButSet};
-ghost use Rattle.law_code.specs.Tears.{TransactionsAreAtomic};
+ghost use Rattle.law_code.specs.TransactionLaws.{CodeIsOrderly, StaysSameButSet, TransactionsAreAtomic};
 
 /// For all that is done by orderly effects: wherever a loss of power falls within it, or an abort comes, the
 /// heap that stays is the one that the open transaction found, but for tries of PINs and elements of arrays of bytes

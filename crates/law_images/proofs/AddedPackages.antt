@@ -6,12 +6,12 @@ use Rattle.std.proofs.lemmas.List.{map-append}
 use Rattle.std.proofs.lemmas.Bool.{cases_lt, false≢true}
 use Rattle.jc_cap.specs.declared.texts.LoadedComponents.{LoadedComponents}
 use Rattle.jc_heap.specs.declared.object.Kind.{Kind}
-use Rattle.jc_heap.specs.Components.{record_of, words_of}
+use Rattle.jc_heap.specs.Component.{record_of, words_of}
 use Rattle.jc_heap.specs.Heap.{HeapState, add_object, heap_item_at}
-use Rattle.jc_heap.specs.Keeping.{AreConsistent, IsConsistentHeap}
+use Rattle.jc_heap.specs.HeapLaws.{AreConsistent, IsConsistentHeap}
 use Rattle.jc_heap.specs.Moves.{AddPackage}
 use Rattle.jc_heap.specs.Object.{APackage}
-use Rattle.jc_heap.specs.Packages.{add_arrays, add_package, array_object, array_size, package_owner, package_record, push_package}
+use Rattle.jc_heap.specs.Package.{add_arrays, add_package, array_object, array_size, package_owner, package_record, push_package}
 use Rattle.jc_heap.proofs.NewPackages.{item-package, top-push}
 use Rattle.jc_heap.proofs.Tables.{at_or-push_other}
 use Rattle.jc_memory.specs.State.{MemoryState, HeapMove, apply_effect}

@@ -5,8 +5,8 @@ use Rattle.jc_heap.specs.declared.object.Kind.{Kind}
 use Rattle.jc_heap.specs.declared.object.Kind.TheVariants.{ReferenceArray}
 use Rattle.jc_heap.specs.Object.{AnObject, Object, is_object}
 use Rattle.jc_heap.specs.Heap.{HasEnd, HeapState, IsObject, add_object, heap_item_at}
-use Rattle.jc_heap.specs.Packages.{add_arrays, array_addresses, array_object, array_size, is_array_init}
-use Rattle.jc_heap.specs.Whole.{IsConsistent}
+use Rattle.jc_heap.specs.Package.{add_arrays, array_addresses, array_object, array_size, is_array_init}
+use Rattle.jc_heap.specs.WholeHeap.{IsConsistent}
 use Rattle.jc_heap.proofs.Laws.{heap_item_at-add_object, heap_item_at-add_other, object_named, top-add_object}
 use Rattle.jc_heap.proofs.Keeping.{object_whole}
 use Rattle.jc_heap.proofs.KeepingPackages.{end-add}

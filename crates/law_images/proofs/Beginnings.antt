@@ -10,11 +10,11 @@ use Rattle.jc_heap.specs.declared.object.Kind.{Kind}
 use Rattle.jc_heap.specs.declared.place.Place.{Place}
 use Rattle.jc_heap.specs.declared.place.Place.TheVariants.{Cell, Static, Registry, AppletCount}
 use Rattle.jc_heap.specs.Object.{AnObject, APackage, Item, Object, facts_of, is_object, new_transient, with_cell}
-use Rattle.jc_heap.specs.Table.{entry_or}
+use Rattle.jc_heap.specs.Walk.{entry_or}
 use Rattle.jc_heap.specs.Heap.{HeapState, add_object, add_transient, area_end, facts, first_above, heap_item_at, next_object, set_cell, set_cells}
 use Rattle.jc_heap.specs.Heap.{with_area_end}
-use Rattle.jc_heap.specs.Packages.{add_arrays, add_package, array_object, array_size, package_owner, package_record, push_package}
-use Rattle.jc_heap.specs.Places.{set_place, set_places}
+use Rattle.jc_heap.specs.Package.{add_arrays, add_package, array_object, array_size, package_owner, package_record, push_package}
+use Rattle.jc_heap.specs.Place.{set_place, set_places}
 use Rattle.jc_heap.specs.Statics.{set_word, with_word}
 use Rattle.jc_heap.proofs.Laws.{facts-set_cell, same_facts}
 use Rattle.jc_heap.proofs.RecordWords.{header_only-set_word}

@@ -12,10 +12,10 @@ use Rattle.jc_card.proofs.Objects.{last_numbered}
 use Rattle.jc_packages.specs.Objects.{is_persistent_instance}
 use Rattle.law_images.specs.StableReading.{IsReadAs}
 use Rattle.law_images.proofs.ReadingEffects.{keeps_reading}
-use Rattle.law_soundness.specs.Environment.{HasEnvironment, AreEnvironmentObjects}
-use Rattle.law_soundness.specs.State.{IsSoundMemory, IsSoundUpTo, last_own}
+use Rattle.law_soundness.specs.MemoryLaws.Environment.{HasEnvironment, AreEnvironmentObjects}
+use Rattle.law_soundness.specs.MemoryLaws.State.{IsSoundMemory, IsSoundUpTo, last_own}
 use Rattle.law_soundness.proofs.Frames.{same_object}
-use Rattle.law_soundness.specs.Commands.{IsServed}
+use Rattle.law_soundness.specs.MachineLaws.Commands.{IsServed}
 use Rattle.law_soundness.proofs.CommandEffects.{serving_keeps}
 use Rattle.law_images.specs.Loads.{AreLaidOut, IsLaidOut}
 use Rattle.law_images.proofs.HeapLayout.{effects_keep_layout}

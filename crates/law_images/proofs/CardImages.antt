@@ -4,9 +4,9 @@ use Rattle.std.specs.Prelude.{Ok}
 use Rattle.std.proofs.lemmas.Option.{none-some}
 use Rattle.jc_words.specs.Refusals.{Refusals}
 use Rattle.jc_commit.specs.Image.{recovered_of}
-use Rattle.jc_heap.specs.Whole.{IsConsistent}
+use Rattle.jc_heap.specs.WholeHeap.{IsConsistent}
 use Rattle.jc_heap.specs.Heap.{HeapState, heap_of}
-use Rattle.jc_heap.specs.Stored.{HoldsHeap}
+use Rattle.jc_heap.specs.Heap.Store.{HoldsHeap}
 use Rattle.jc_heap.proofs.RawWords.{head_is, recovered-head}
 use Rattle.jc_image.specs.declared.laying.ImageRoom.{ImageRoom}
 use Rattle.jc_image.specs.Laying.{unsealed_heap}
@@ -15,19 +15,19 @@ use Rattle.law_linking.proofs.Bytes.{have_bytes}
 use Rattle.jc_platform.proofs.NamesTold.{names_told}
 use Rattle.jc_platform.specs.Table.{Reads}
 use Rattle.jc_platform.specs.Tokens.{Tokens}
-use Rattle.jc_card.specs.CardState.{CardState}
+use Rattle.jc_card.specs.Card.{CardState}
 use Rattle.jc_card.specs.Fixed.{last_fixed}
-use Rattle.jc_card.specs.Made.{IsCardHeap, IsMade, new_card_heap, objects_in}
+use Rattle.jc_card.specs.ProductImages.{IsCardHeap, IsMade, new_card_heap, objects_in}
 use Rattle.jc_card.proofs.FittingImages.{counts_add, packages_add}
 use Rattle.jc_packages.specs.Sound.{IsSound}
 use Rattle.jc_card.proofs.NewFronts.{sizes-new_card_heap}
-use Rattle.jc_card.specs.Power.{KeptState, Up, durable_rest}
-use Rattle.law_soundness.specs.State.{IsFitObject}
+use Rattle.jc_card.specs.State.Power.{KeptState, Up, durable_rest}
+use Rattle.law_soundness.specs.MemoryLaws.State.{IsFitObject}
 use Rattle.law_images.specs.Loads.{IsLaidOut}
 use Rattle.law_images.specs.Heaps.{IsOwnHeap}
 use Rattle.law_images.proofs.CardHeaps.{own_at}
 use Rattle.law_images.proofs.NewImages.{new_images}
-use Rattle.law_images.proofs.NewApart.{new_apart}
+use Rattle.law_images.proofs.NewSeparation.{new_apart}
 use Rattle.law_images.specs.Cards.{IsOwnCard, IsOwnKept}
 use Rattle.law_images.specs.CardImages.{ImagesStayMade, Keeps}
 use Rattle.law_images.proofs.Sessions.{kept_own}

@@ -15,7 +15,7 @@ use Rattle.jc_memory.specs.declared.registers.PackageNumber.{PackageNumber}
 use Rattle.jc_memory.specs.State.{MemoryState, Effect, HeapMove, SetRegisters, BeginCommand, apply_effect}
 use Rattle.jc_memory.specs.Programs.{Program, Finish, Perform, bind, unless_refused}
 use Rattle.jc_memory.specs.Reading.{AllResults}
-use Rattle.jc_memory.specs.Changing.{package_addition}
+use Rattle.jc_memory.specs.Changes.{package_addition}
 use Rattle.jc_memory.proofs.ProgramLemmas.{each_always, each_bind, each_more}
 use Rattle.jc_platform.specs.declared.names.PlatformMethod.TheVariants.{Applets}
 use Rattle.jc_platform.specs.declared.names.AppletsMethod.TheVariants.{AppletSelect, AppletDeselect, AppletProcess}
@@ -28,8 +28,8 @@ use Rattle.jc_dispatch.specs.Create.{applet_named, applet_creation, creation_in_
 use Rattle.jc_dispatch.specs.AppletResult.{is_select_accepted}
 use Rattle.jc_dispatch.specs.Install.{applet_installation, next_applet, with_installation}
 use Rattle.jc_dispatch.specs.AdHocCode.{ad_hoc_run}
-use Rattle.jc_dispatch.specs.Phases.{then_with, applet_method_call, close, abort_if_open, instance_of, method_run, registers_released}
-use Rattle.jc_dispatch.specs.Selecting.{after_select, header_of, applet_left, deselection, manager_selection, process_command, applet_selection, with_command, with_next, with_selected}
+use Rattle.jc_dispatch.specs.Phase.{then_with, applet_method_call, close, abort_if_open, instance_of, method_run, registers_released}
+use Rattle.jc_dispatch.specs.Select.{after_select, header_of, applet_left, deselection, manager_selection, process_command, applet_selection, with_command, with_next, with_selected}
 use Rattle.jc_packages.specs.PendingPackages.{PendingPackageValue, linked_components}
 use Rattle.jc_packages.specs.RecordContents.{arrays_of, image_of, parts_of, statics_of}
 use Rattle.jc_packages.specs.declared.load_refusal.LoadRefusal.{LoadRefusal}
@@ -37,8 +37,8 @@ use Rattle.jc_packages.specs.declared.load.OpenLoad.{OpenLoad}
 use Rattle.jc_packages.specs.LoadEnd.{package_entry, assembly_result, after_addition, after_preparation, end_of_load}
 use Rattle.jc_card.specs.Answers.{manager_command, exchange, exchange_of_apdu, is_dispatched, run_code}
 use Rattle.jc_memory.specs.Commands.{has_extended_length}
-use Rattle.jc_card.specs.Apdu.{Apdu, apdu_of}
-use Rattle.jc_card.specs.CardState.{CardState}
+use Rattle.jc_card.specs.Command.{Apdu, apdu_of}
+use Rattle.jc_card.specs.Card.{CardState}
 use Rattle.jc_card.specs.Dispatching.{create_applet, dispatch, expected_by, is_select, manager_aid, route, takes_extended, to_named, to_selected}
 use Rattle.jc_card.specs.Loading.{begin_component, end_component, append_component, end_load}
 

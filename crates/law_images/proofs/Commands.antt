@@ -17,23 +17,23 @@ use Rattle.jc_platform.specs.Tokens.{Tokens}
 use Rattle.jc_environment.specs.Registry.{applet_count, applet_with_aid, first_with_aid}
 use Rattle.jc_packages.specs.declared.load.OpenLoad.{OpenLoad}
 use Rattle.jc_packages.specs.declared.load_refusal.LoadRefusal.TheVariants.{OutOfSequence}
-use Rattle.jc_packages.specs.Loading.{CommandResult, component_append}
+use Rattle.jc_packages.specs.Load.{CommandResult, component_append}
 use Rattle.jc_dispatch.specs.declared.applet_result.AppletResult.TheVariants.{NotSelected}
 use Rattle.jc_dispatch.specs.Create.{applet_creation}
 use Rattle.jc_dispatch.specs.AdHocCode.{ad_hoc_run}
 use Rattle.jc_card.specs.Answers.{answer_of, respond_with, run_code}
-use Rattle.jc_card.specs.Apdu.{Apdu}
-use Rattle.jc_card.specs.CardState.{CardState}
+use Rattle.jc_card.specs.Command.{Apdu}
+use Rattle.jc_card.specs.Card.{CardState}
 use Rattle.jc_card.specs.Dispatching.{with_response, create_applet, dispatch, expected_by, is_select, manager_aid, route, to_named}
 use Rattle.jc_card.specs.Dispatching.{to_selected}
 use Rattle.jc_card.specs.Loading.{LoadResponse, append_component, component_append_without_memory, load_command, on_load}
 use Rattle.law_images.specs.LoadedPackages.{AreBytes}
 use Rattle.law_images.specs.ReadingLoads.{IsOpenReadable}
 use Rattle.law_images.proofs.OpenLoads.{are_readable}
-use Rattle.law_soundness.specs.State.{is_applet}
-use Rattle.law_soundness.specs.Soundness.{AreKnown}
-use Rattle.law_soundness.specs.Commands.{CommandsAreSound, IsReady, IsServed, LeavesReady}
-use Rattle.law_soundness.specs.CommandParts.{OneOf}
+use Rattle.law_soundness.specs.MemoryLaws.State.{is_applet}
+use Rattle.law_soundness.specs.MachineLaws.Soundness.{AreKnown}
+use Rattle.law_soundness.specs.MachineLaws.Commands.{CommandsAreSound, IsReady, IsServed, LeavesReady}
+use Rattle.law_soundness.specs.MachineLaws.CommandParts.{OneOf}
 use Rattle.law_soundness.proofs.Commands.{in_range}
 use Rattle.law_soundness.proofs.Phases.{Good, good_bind, good_gives, good_more, good_then}
 use Rattle.law_soundness.proofs.CommandEffects.{serving_keeps}

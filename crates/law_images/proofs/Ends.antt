@@ -6,7 +6,7 @@ use Rattle.jc_cap.specs.declared.texts.LoadedComponents.{LoadedComponents}
 use Rattle.jc_heap.specs.declared.object.Kind.{Kind}
 use Rattle.jc_heap.specs.declared.refusal.HeapRefusal.{HeapRefusal}
 use Rattle.jc_heap.specs.Heap.{HeapState}
-use Rattle.jc_heap.specs.Keeping.{AreConsistent}
+use Rattle.jc_heap.specs.HeapLaws.{AreConsistent}
 use Rattle.jc_heap.specs.Moves.{AddPackage, refusal_of_package}
 use Rattle.jc_heap.specs.Completions.{Done}
 use Rattle.jc_memory.specs.Programs.{Completes, Program, Finish, TearLeaves, Choose, Perform, bind, unless_refused}

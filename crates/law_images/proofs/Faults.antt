@@ -3,16 +3,16 @@ use Rattle.std.proofs.Common.{◌≡◌, ℕ, zero, suc, List, [], ◌∷◌, ta
 use Rattle.std.specs.Prelude.{◌⊎◌}
 use Rattle.jc_commit.specs.Image.{recovered_of}
 use Rattle.jc_platform.specs.Tokens.{Tokens}
-use Rattle.jc_card.specs.Made.{IsMade}
+use Rattle.jc_card.specs.ProductImages.{IsMade}
 use Rattle.jc_card.specs.PowerUp.{PowerUpRefuses}
 use Rattle.jc_card.specs.declared.power_up.PowerFault.{PowerFault as Fault}
 use Rattle.jc_card.specs.declared.power_up.PowerFault.TheVariants.{NoMemory, StoreDown}
 use Rattle.jc_card.proofs.PoweredUp.{refused_made}
-use Rattle.jc_card.specs.Requests.{Request, Command, Reset, ArmFuse, PlanFault, Reply, Response, Ready, Down}
-use Rattle.jc_card.specs.Power.{KeptState, PowerState, Up, Off, StoreState, IsStoreOf, armed, budget_of, durable_state, durable_state_in_store, planned, with_power}
+use Rattle.jc_card.specs.Session.Requests.{Request, Command, Reset, ArmFuse, PlanFault, Reply, Response, Ready, Down}
+use Rattle.jc_card.specs.State.Power.{KeptState, PowerState, Up, Off, StoreState, IsStoreOf, armed, budget_of, durable_state, durable_state_in_store, planned, with_power}
 use Rattle.jc_card.specs.declared.planned_fault.PlannedFault.{PlannedFault}
-use Rattle.jc_card.specs.Serving.{AnswersCommand, AnswersReset, Serves, SessionRun}
-use Rattle.jc_card.specs.Starting.{FailsToReset, FailsToStart, Starts}
+use Rattle.jc_card.specs.Session.Serving.{AnswersCommand, AnswersReset, Serves, SessionRun}
+use Rattle.jc_card.specs.Session.Starting.{FailsToReset, FailsToStart, Starts}
 use Rattle.jc_card.specs.Session.{IsSession, FailsAtReset}
 use Rattle.jc_card.proofs.Laid.{if_laid, laid_if}
 use Rattle.jc_card.proofs.Resets.{start_fails}

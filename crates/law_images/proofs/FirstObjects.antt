@@ -3,7 +3,7 @@ use Rattle.std.proofs.Common.{◌≡◌, ℕ, Bool, true, false, List, [], ◌�
 use Rattle.std.proofs.lemmas.Bool.{eq-eqb, false≢true}
 use Rattle.std.proofs.lemmas.Option.{none-some, same_Some}
 use Rattle.jc_heap.specs.Object.{Item, is_object}
-use Rattle.jc_heap.specs.Table.{entry_or, has_entry, with_entry}
+use Rattle.jc_heap.specs.Walk.{entry_or, has_entry, with_entry}
 use Rattle.jc_heap.specs.Heap.{first_above}
 
 -- what is found stays the first where something comes after

@@ -7,17 +7,16 @@ use Rattle.jc_heap.specs.declared.object.Kind.TheVariants.{Instance, BooleanArra
 use Rattle.jc_heap.specs.Heap.{HeapState, cells, facts}
 use Rattle.jc_platform.specs.declared.names.PlatformClass.{PlatformClass}
 use Rattle.jc_platform.specs.declared.names.PlatformClass.TheVariants.{Aid, Applet, OwnerPin}
-use Rattle.jc_platform.specs.Distinct.{class_word}
-use Rattle.jc_linker.specs.Classes.{is_class, size_of}
-use Rattle.jc_linker.specs.Resolves.{names_interface}
+use Rattle.jc_platform.specs.NamePlaces.{class_word}
+use Rattle.jc_linker.specs.Classes.{is_class, size_of, is_a}
+use Rattle.jc_linker.specs.Resolve.{names_interface}
 use Rattle.jc_linker.specs.Values.{PackageValue, Packages}
 use Rattle.jc_linker.specs.Linking.{next_number, with_package}
 use Rattle.jc_packages.specs.Objects.{HoldsValues, fits_class, has_value, is_instance, is_object_address}
-use Rattle.jc_linker.specs.Classes.{is_a}
 use Rattle.jc_packages.specs.Sound.{HoldsStatics, IsRegistered, entry_word, package_record_at}
-use Rattle.law_linking.specs.Stability.{ClassStays, Stays}
+use Rattle.law_linking.specs.ResolutionLaws.{ClassStays, Stays}
 use Rattle.law_linking.proofs.ResolutionLaws.{adding_keeps}
-use Rattle.law_soundness.specs.State.{IsFitObject, IsSoundUpTo}
+use Rattle.law_soundness.specs.MemoryLaws.State.{IsFitObject, IsSoundUpTo}
 use Rattle.law_images.specs.Growth.{GrowthKeepsSound}
 use Rattle.law_images.proofs.Names.{a_beside, class_beside}
 use Rattle.law_images.proofs.Prepares.{prepares}

@@ -2,7 +2,7 @@
 use Rattle.std.proofs.Common.{◌≡◌, ℕ, suc, ◌<◌, List, [], ◌∷◌, Option, Some, None, Result, Ok, Err, length, map, get_or, refl, sym, ap, subst, ◌∙◌, arith}
 use Rattle.std.specs.Prelude.{slice_get}
 use Rattle.std.specs.Option.{option_and_then}
-use Rattle.jc_heap.specs.Components.{record_of}
+use Rattle.jc_heap.specs.Component.{record_of}
 use Rattle.jc_heap.specs.Heap.{HeapState}
 use Rattle.jc_platform.specs.Platform.{TellNames}
 use Rattle.jc_platform.proofs.NamesTold.{names_told}
@@ -17,7 +17,7 @@ use Rattle.jc_packages.specs.declared.load_refusal.LoadRefusal.{LoadRefusal}
 use Rattle.law_linking.specs.LinkedPackages.{AreLinkedAgainst, IsLinkedAgainst}
 use Rattle.law_linking.proofs.LinkAnswers.{some_value}
 use Rattle.law_linking.proofs.Lists.{AllOf, IfThere, all_at}
-use Rattle.law_linking.specs.Given.{HasAppletComponent, HasByteTokens, HasClassComponent}
+use Rattle.law_linking.specs.ReadPackages.{HasAppletComponent, HasByteTokens, HasClassComponent}
 use Rattle.law_images.specs.GrowthLaws.{AreWords, RecordsAreRead}
 use Rattle.law_images.proofs.Prepares.{IsPrepared, prepares}
 use Rattle.law_images.proofs.GrowthTexts.{IsOfBytes, applet_component, applets_said, assembled_applets, class_component, few_classes, text_bytes}

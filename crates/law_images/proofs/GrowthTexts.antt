@@ -5,7 +5,7 @@ use Rattle.std.specs.Prelude.{All}
 use Rattle.std.proofs.lemmas.List.{get_or-drop}
 use Rattle.std.proofs.lemmas.List.Elements.{All-from_get_or}
 use Rattle.std.proofs.lemmas.List.FromFn.{length-map-range_with_len, get_or-map-range_with_len}
-use Rattle.jc_heap.specs.Components.{info_of}
+use Rattle.jc_heap.specs.Component.{info_of}
 use Rattle.jc_heap.specs.Packed.{packed_byte, bytes_of_packed}
 use Rattle.jc_cap.specs.declared.formats.Format.{Format}
 use Rattle.jc_cap.specs.Reading.{value_of_whole}
@@ -27,7 +27,7 @@ use Rattle.jc_cap.proofs.Named.{is_assembled}
 use Rattle.jc_packages.specs.Reading.{text_at, text_in}
 use Rattle.law_linking.proofs.ClosedPackages.{anything}
 use Rattle.law_linking.proofs.Lists.{IfThere, map_there}
-use Rattle.law_linking.specs.Given.{HasAppletComponent}
+use Rattle.law_linking.specs.ReadPackages.{HasAppletComponent}
 use Rattle.law_images.specs.GrowthLaws.{AreWords}
 use Rattle.law_images.proofs.RecordPackages.{has_all}
 

@@ -8,16 +8,16 @@ use Rattle.jc_heap.specs.declared.place.Place.TheVariants.{Cell, Static, Registr
 use Rattle.jc_heap.specs.Heap.{HeapState, add_object, add_transient, area_end, goes_back, set_cell, set_cells, with_area_end}
 use Rattle.jc_heap.specs.Moves.{Move, Write, SetPlaces, WriteNonAtomic, SetCells, AddObject, AddTransient, AddPackage, Begin, Commit, Abort, new_move}
 use Rattle.jc_heap.specs.Object.{new_object, new_transient, object_size}
-use Rattle.jc_heap.specs.Places.{place_at, set_place, set_places}
+use Rattle.jc_heap.specs.Place.{place_at, set_place, set_places}
 use Rattle.jc_heap.specs.Statics.{set_word}
 use Rattle.jc_memory.specs.State.{Effect, HeapMove, SetTransient, SetFlag, ClearTransient, SetRegisters, BeginCommand, SendBytes, MemoryState}
 use Rattle.jc_memory.specs.State.{apply_effect}
 use Rattle.jc_linker.specs.Values.{Packages}
-use Rattle.law_soundness.specs.Commands.{IsServed}
-use Rattle.law_soundness.specs.State.{IsSoundMemory}
+use Rattle.law_soundness.specs.MachineLaws.Commands.{IsServed}
+use Rattle.law_soundness.specs.MemoryLaws.State.{IsSoundMemory}
 use Rattle.law_soundness.proofs.Memories.{choose}
 use Rattle.law_images.specs.Loads.{AreLaidOut, CountsPackages, EffectsKeepLayout, IsLaidOut}
-use Rattle.law_images.proofs.Apart.{new_object_apart, place_apart, places_apart, run_apart, transient_apart}
+use Rattle.law_images.proofs.Separation.{new_object_apart, place_apart, places_apart, run_apart, transient_apart}
 
 cell_counts : (h : HeapState) (r i v : ℕ) → CountsPackages h → CountsPackages (set_cell h r i v)
 unfolding set_cell

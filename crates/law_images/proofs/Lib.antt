@@ -20,7 +20,7 @@ pub mod PreparedPackages
 pub mod Whole
 pub mod LoadRecords
 pub mod RecordFit
-pub mod Apart
+pub mod Separation
 pub mod HeapLayout
 pub mod LivingLoads
 pub mod Memories
@@ -28,7 +28,7 @@ pub mod FirstObjects
 pub mod Beginnings
 pub mod ImageEffects
 pub mod NewImages
-pub mod NewApart
+pub mod NewSeparation
 pub mod CardHeaps
 pub mod Commands
 pub mod Loads

@@ -5,12 +5,12 @@ use Rattle.jc_transient.specs.State.{RamState}
 use Rattle.jc_heap.specs.declared.object.Kind.{Kind}
 use Rattle.jc_heap.specs.Object.{facts_of, is_object}
 use Rattle.jc_heap.specs.Heap.{HasEnd, HeapState, IsObject, add_object, facts, is_allocated}
-use Rattle.jc_heap.specs.Packages.{add_arrays, add_package, array_object, array_size, package_owner, package_record, push_package}
+use Rattle.jc_heap.specs.Package.{add_arrays, add_package, array_object, array_size, package_owner, package_record, push_package}
 use Rattle.jc_heap.proofs.KeepingPackages.{end-add, end-push}
 use Rattle.jc_heap.proofs.Laws.{object_named}
-use Rattle.law_soundness.specs.State.{TransientCells}
+use Rattle.law_soundness.specs.MemoryLaws.State.{TransientCells}
 use Rattle.law_soundness.proofs.Transients.{added, more_carried, no_elements}
-use Rattle.law_images.proofs.Apart.{record_some}
+use Rattle.law_images.proofs.Separation.{record_some}
 use Rattle.law_images.proofs.LoadRecords.{item_beside, item_pushed}
 
 -- arrays that are added are persistent

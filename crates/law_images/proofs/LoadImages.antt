@@ -4,9 +4,9 @@ use Rattle.std.proofs.Common.{append_assoc, Some}
 use Rattle.jc_cap.proofs.FoundHeader.{back_of}
 use Rattle.std.proofs.lemmas.List.{length-append, length-replicate, get_or_append_left, get_or-append_right}
 use Rattle.jc_heap.specs.declared.object.Kind.{Kind}
-use Rattle.jc_heap.specs.Components.{part_sizes, words_for}
-use Rattle.jc_heap.specs.Cut.{records_from}
-use Rattle.jc_heap.specs.Packages.{array_addresses, component_words, components_words, image_words, package_record, record_size}
+use Rattle.jc_heap.specs.Component.{part_sizes, words_for}
+use Rattle.jc_heap.specs.Walk.{records_from}
+use Rattle.jc_heap.specs.Package.{array_addresses, component_words, components_words, image_words, package_record, record_size}
 use Rattle.jc_heap.specs.Packed.{packed_words}
 use Rattle.jc_heap.specs.Statics.{image_from, statics_of}
 use Rattle.jc_heap.proofs.NewPackages.{length-package_record}

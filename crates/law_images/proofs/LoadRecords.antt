@@ -6,11 +6,11 @@ use Rattle.std.proofs.lemmas.Bool.{and_from, and_parts, cases_eq, cases_lt, fals
 use Rattle.std.proofs.lemmas.List.{get_or_append_left, get_or-append_right, length-append}
 use Rattle.jc_heap.specs.declared.object.Kind.{Kind}
 use Rattle.jc_heap.specs.declared.object.Kind.TheVariants.{Instance, BooleanArray, ByteArray, ShortArray, ReferenceArray}
-use Rattle.jc_heap.specs.Components.{record_of, words_for, words_of}
+use Rattle.jc_heap.specs.Component.{record_of, words_for, words_of}
 use Rattle.jc_heap.specs.Heap.{HasEnd, HeapState, IsObject, cells, facts, heap_item_at, is_allocated}
-use Rattle.jc_heap.specs.Keeping.{IsConsistentHeap}
+use Rattle.jc_heap.specs.HeapLaws.{IsConsistentHeap}
 use Rattle.jc_heap.specs.Object.{APackage, Object, cells_of, facts_of, is_object}
-use Rattle.jc_heap.specs.Packages.{add_package, array_object, components_words, is_array_init, package_owner, package_record, push_package}
+use Rattle.jc_heap.specs.Package.{add_package, array_object, components_words, is_array_init, package_owner, package_record, push_package}
 use Rattle.jc_heap.proofs.KeepingPackages.{end-push}
 use Rattle.jc_heap.proofs.NewPackages.{item-package, top-push}
 use Rattle.jc_heap.proofs.Tables.{at_or-push_other, at_or-push_same}
@@ -18,7 +18,7 @@ use Rattle.jc_linker.specs.Lookups.{statics_at}
 use Rattle.jc_linker.specs.Values.{Packages}
 use Rattle.jc_packages.specs.Objects.{HoldsValues, fits_class, is_instance, is_reference, is_object_address}
 use Rattle.jc_packages.specs.Sound.{HoldsStatics, IsRegistered, aid_in, aid_of_entry, entry_word, package_record_at}
-use Rattle.law_soundness.specs.State.{IsFitObject, IsOwnAid, IsSoundUpTo, is_owner_up_to}
+use Rattle.law_soundness.specs.MemoryLaws.State.{IsFitObject, IsOwnAid, IsSoundUpTo, is_owner_up_to}
 use Rattle.law_soundness.proofs.HeapChanges.{Carries, HoldsBut, IsFitBut, object_kept, registered_kept, statics_kept}
 use Rattle.law_images.proofs.Arrays.{AreInitial, IsArrayOf, below_end, item_behind, old_or_array, same_registry}
 use Rattle.law_images.proofs.LoadImages.{AreTagged, image_begins, image_ends}

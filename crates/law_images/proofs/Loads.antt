@@ -21,13 +21,13 @@ use Rattle.jc_packages.specs.declared.load.OpenLoad.{OpenLoad}
 use Rattle.jc_packages.specs.declared.load_refusal.LoadRefusal.{LoadRefusal}
 use Rattle.jc_packages.specs.declared.load_refusal.LoadRefusal.TheVariants.{HeapFull, Full, LinkFailed, OutOfSequence}
 use Rattle.jc_packages.specs.LoadEnd.{LoadResult, assembly_result, with_dropped_load, after_addition, after_preparation, end_of_load}
-use Rattle.jc_card.specs.CardState.{CardState}
+use Rattle.jc_card.specs.Card.{CardState}
 use Rattle.jc_card.specs.Loading.{LoadResponse, answer_of_left, end_load}
 use Rattle.law_images.specs.LoadedPackages.{AreBytes, IsReadable}
 use Rattle.law_images.specs.ReadingLoads.{IsOpenReadable}
 use Rattle.law_images.proofs.Ends.{ends_keep}
 use Rattle.law_images.proofs.OneMore.{growth_keeps_read}
-use Rattle.law_soundness.specs.State.{is_open}
+use Rattle.law_soundness.specs.MemoryLaws.State.{is_open}
 use Rattle.law_images.specs.Loads.{IsSoundForLoads, LoadsKeepSound, load_move}
 use Rattle.law_images.specs.NewImages.{EffectsKeepBeginnings, KeepsBeginning}
 use Rattle.law_images.specs.Cards.{AreLinkedWell, IsOwnCard}

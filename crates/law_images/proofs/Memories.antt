@@ -7,7 +7,7 @@ use Rattle.std.proofs.lemmas.List.{length-append}
 use Rattle.jc_cap.specs.declared.texts.LoadedComponents.{LoadedComponents}
 use Rattle.jc_heap.specs.declared.object.Kind.{Kind}
 use Rattle.jc_heap.specs.Heap.{HeapState, SameShape}
-use Rattle.jc_heap.specs.Keeping.{IsConsistentHeap}
+use Rattle.jc_heap.specs.HeapLaws.{IsConsistentHeap}
 use Rattle.jc_heap.specs.Object.{facts_of, is_object}
 use Rattle.jc_heap.proofs.Changing.{shape-same}
 use Rattle.jc_heap.proofs.NewPackages.{top-package}
@@ -22,8 +22,8 @@ use Rattle.law_linking.specs.LinkedPackages.{AreLinked}
 use Rattle.jc_packages.specs.RecordContents.{arrays_of, image_of, parts_of, statics_of}
 use Rattle.jc_packages.specs.PendingPackages.{PendingPackageValue, linked_components}
 use Rattle.jc_packages.specs.Objects.{is_instance, is_persistent_instance}
-use Rattle.law_soundness.specs.Environment.{HasEnvironment, AreEnvironmentObjects}
-use Rattle.law_soundness.specs.State.{IsSoundMemory, IsSoundUpTo, is_home, is_open, is_owner_up_to, last_own, most_owner}
+use Rattle.law_soundness.specs.MemoryLaws.Environment.{HasEnvironment, AreEnvironmentObjects}
+use Rattle.law_soundness.specs.MemoryLaws.State.{IsSoundMemory, IsSoundUpTo, is_home, is_open, is_owner_up_to, last_own, most_owner}
 use Rattle.law_images.specs.Growth.{GrowthKeepsSound}
 use Rattle.law_images.proofs.Grows.{growth_keeps}
 use Rattle.law_images.specs.Loads.{AreLaidOut, CountsPackages, IsLaidOut, IsSoundForLoads, LoadsKeepSound, load_move, with_record}
@@ -32,7 +32,7 @@ use Rattle.law_images.proofs.PreparedPackages.{initial_arrays}
 use Rattle.law_images.proofs.LoadRecords.{applets_same, counts_grown, item_low, item_old, longer, no_instance, old_or_new}
 use Rattle.law_images.proofs.LivingLoads.{package_carried}
 use Rattle.law_images.proofs.Whole.{package_stands}
-use Rattle.law_images.proofs.Apart.{package_apart}
+use Rattle.law_images.proofs.Separation.{package_apart}
 
 -- owners, with one package more
 owner_more : (most : ℕ) (h g : HeapState) (n : ℕ) → length h.packages ≤ length g.packages → is_owner_up_to most h n ≡ true → is_owner_up_to most g n ≡ true

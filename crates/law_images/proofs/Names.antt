@@ -3,12 +3,11 @@ use Rattle.std.proofs.Common.{◌≡◌, ℕ, zero, suc, ◌/◌, ◌<◌, inl, 
 use Rattle.std.specs.Prelude.{is_some}
 use Rattle.std.proofs.lemmas.Bool.{cases_Bool, eqb-true, false≢true, or_cases}
 use Rattle.jc_platform.specs.declared.names.PlatformClass.{PlatformClass}
-use Rattle.jc_platform.specs.Distinct.{class_word}
+use Rattle.jc_platform.specs.NamePlaces.{class_word}
 use Rattle.jc_platform.specs.Platform.{class_by_word}
-use Rattle.jc_linker.specs.Classes.{any_is, class_in, implements, interfaces_in, is_below, is_class, lineage_from, most_classes, superclass_in}
+use Rattle.jc_linker.specs.Classes.{any_is, class_in, implements, interfaces_in, is_below, is_class, lineage_from, most_classes, superclass_in, is_a}
 use Rattle.jc_linker.specs.Values.{Packages}
 use Rattle.jc_linker.specs.Linking.{next_number}
-use Rattle.jc_linker.specs.Classes.{is_a}
 use Rattle.law_linking.proofs.Numbers.{class_stands, stands_beside, word_high}
 
 none_of : {A : Type 0} (o : Option A) → is_some o ≡ false → o ≡ None

@@ -11,9 +11,9 @@ use Rattle.jc_transient.specs.declared.cell.ClearEvent.TheVariants.{Reset}
 use Rattle.jc_transient.specs.State.{AreSizes, buffer_told}
 use Rattle.jc_heap.specs.declared.object.Kind.{Kind}
 use Rattle.jc_heap.specs.Object.{AnObject, APackage, Item, facts_of, is_object, new_transient}
-use Rattle.jc_heap.specs.Table.{entry_or}
+use Rattle.jc_heap.specs.Walk.{entry_or}
 use Rattle.jc_heap.specs.Heap.{HeapState, IsObject, add_object, add_transient, area_end, heap_item_at, is_allocated, next_object}
-use Rattle.jc_heap.specs.Keeping.{IsConsistentHeap}
+use Rattle.jc_heap.specs.HeapLaws.{IsConsistentHeap}
 use Rattle.jc_image.specs.declared.laying.ImageRoom.{ImageRoom}
 use Rattle.jc_image.specs.Laying.{unsealed_heap}
 use Rattle.jc_platform.specs.declared.names.PlatformClass.{PlatformClass}
@@ -30,14 +30,14 @@ use Rattle.jc_platform.specs.Names.{ClassEntry, classes}
 use Rattle.jc_card.specs.Fixed.{BeginsWithFixed, buffer_cells, class_number_of, fixed_facts, fixed_of, last_fixed, next_or_null, object_number, with_objects}
 use Rattle.jc_image.specs.Beginning.{HeadersFollow, HeapBeginsWith}
 use Rattle.jc_image.proofs.Referring.{not_true}
-use Rattle.jc_card.specs.Made.{new_card_heap, objects_in}
+use Rattle.jc_card.specs.ProductImages.{new_card_heap, objects_in}
 use Rattle.jc_card.proofs.FittingImages.{alone, counts_add, no_packages, number_suc, packages_add}
 use Rattle.jc_card.proofs.FixedObjects.{IsBelow, begins-new_card_heap, below-one, head-new_card_heap, items-one, next_is, text-new_card_heap, top-add}
 use Rattle.jc_card.proofs.FixedObjects.{whole-new_card_heap, with_one}
 use Rattle.jc_card.proofs.Objects.{zeroth}
-use Rattle.law_soundness.specs.Environment.{AreEnvironmentObjects}
-use Rattle.law_soundness.specs.Fit.{IsPlatformClass}
-use Rattle.law_soundness.specs.State.{IsSoundUpTo}
+use Rattle.law_soundness.specs.MemoryLaws.Environment.{AreEnvironmentObjects}
+use Rattle.law_soundness.specs.MemoryLaws.Fit.{IsPlatformClass}
+use Rattle.law_soundness.specs.MemoryLaws.State.{IsSoundUpTo}
 use Rattle.law_images.specs.Heaps.{HasBeginning, IsOwnHeap}
 use Rattle.law_images.specs.NewImages.{NewImagesFit}
 use Rattle.law_images.proofs.FirstObjects.{found_there}

@@ -8,7 +8,7 @@ use Rattle.jc_cap.specs.Contents.{Content}
 use Rattle.jc_packages.specs.declared.load.OpenLoad.{OpenLoad}
 use Rattle.jc_packages.specs.Incoming.{IncomingValue}
 use Rattle.jc_cap.specs.Texts.{with_component}
-use Rattle.jc_packages.specs.Loading.{CommandResult, content_in, empty_load, component_begin, is_tag, load_with, more_of, read_of}
+use Rattle.jc_packages.specs.Load.{CommandResult, content_in, empty_load, component_begin, is_tag, load_with, more_of, read_of}
 use Rattle.law_soundness.proofs.Memories.{choose}
 use Rattle.law_images.specs.LoadedPackages.{AreBytes, IsReadable}
 use Rattle.law_images.specs.ReadingLoads.{IsOpenReadable, LoadsAreReadable}

@@ -7,12 +7,11 @@ use Rattle.jc_cap.specs.declared.static_arrays.ElementType.TheVariants.{Boolean,
 use Rattle.jc_cap.specs.StaticValues.{StaticArray}
 use Rattle.jc_cap.specs.declared.texts.LoadedComponents.{LoadedComponents}
 use Rattle.jc_cap.specs.declared.texts.PackageBytes.{PackageBytes}
-use Rattle.jc_cap.specs.Assembling.{assembly_of}
+use Rattle.jc_cap.specs.Assembling.{assembly_of, IsPackage}
 use Rattle.jc_cap.specs.Contents.{PackageContents}
-use Rattle.jc_cap.specs.KnownPackages.{IsPackage}
 use Rattle.jc_cap.specs.PackageReading.{contents_of}
 use Rattle.jc_cap.proofs.Named.{is_assembled}
-use Rattle.jc_heap.specs.Packages.{AreComponents, is_array_init}
+use Rattle.jc_heap.specs.Package.{AreComponents, is_array_init}
 use Rattle.jc_linker.specs.Lookups.{package_with_aid}
 use Rattle.jc_linker.specs.Values.{PackageValue, Packages}
 use Rattle.jc_linker.specs.Linking.{link_result}

@@ -7,9 +7,9 @@ use Rattle.std.proofs.lemmas.List.FromFn.{fill_by_all}
 use Rattle.std.proofs.lemmas.Option.{none-some, same_Some}
 use Rattle.jc_heap.specs.declared.component.Span.{Span}
 use Rattle.jc_heap.specs.declared.object.Kind.{Kind}
-use Rattle.jc_heap.specs.Components.{AreInfosOfBytes, HasBytes, info_of}
+use Rattle.jc_heap.specs.Component.{AreInfosOfBytes, HasBytes, info_of}
 use Rattle.jc_heap.specs.Packed.{packed_byte, bytes_of_packed}
-use Rattle.jc_heap.specs.Packages.{AreComponents, package_record}
+use Rattle.jc_heap.specs.Package.{AreComponents, package_record}
 use Rattle.jc_heap.proofs.ReadBack.{reads_back}
 use Rattle.jc_packages.specs.Reading.{text_at, text_in}
 

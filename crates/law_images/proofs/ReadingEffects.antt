@@ -5,14 +5,14 @@ use Rattle.jc_heap.specs.declared.place.Place.{Place}
 use Rattle.jc_heap.specs.declared.place.Place.TheVariants.{Cell, Static, Registry, AppletCount}
 use Rattle.jc_heap.specs.Heap.{HeapState, add_object, add_transient, heap_after_change, goes_back, is_allocated, set_cell, set_cells}
 use Rattle.jc_heap.specs.Moves.{Move, Write, SetPlaces, WriteNonAtomic, SetCells, AddObject, AddTransient, AddPackage, Begin, Commit, Abort}
-use Rattle.jc_heap.specs.Places.{place_at, set_place, set_places, cell_changes}
+use Rattle.jc_heap.specs.Place.{place_at, set_place, set_places, cell_changes}
 use Rattle.jc_memory.specs.State.{MemoryState, Effect, HeapMove, SetTransient, SetFlag, ClearTransient, SetRegisters, BeginCommand, SendBytes}
 use Rattle.jc_memory.specs.State.{apply_effect}
 use Rattle.jc_linker.specs.Values.{Packages}
 use Rattle.jc_platform.specs.Tokens.{Tokens}
 use Rattle.jc_packages.specs.Reading.{packages_of}
-use Rattle.law_soundness.specs.State.{IsSoundMemory}
-use Rattle.law_soundness.specs.Fit.{FitPlaces, FitsChange, FitsMove, FitsPlace, IsFit, OfPin, OfPlaces, OfRegistry, OfValue}
+use Rattle.law_soundness.specs.MemoryLaws.State.{IsSoundMemory}
+use Rattle.law_soundness.specs.MemoryLaws.Fit.{FitPlaces, FitsChange, FitsMove, FitsPlace, IsFit, OfPin, OfPlaces, OfRegistry, OfValue}
 use Rattle.law_soundness.proofs.Memories.{choose}
 use Rattle.law_images.specs.StableReading.{IsReadAs, KeepsReading}
 use Rattle.law_images.proofs.ReadingHeaps.{ArePlaced, IsPlaced, TellSame, object_tells, place_tells, places_tell, read_same, run_tells, transient_tells}

@@ -9,12 +9,12 @@ use Rattle.jc_transient.specs.declared.cell.ClearEvent.TheVariants.{Reset, Desel
 use Rattle.jc_heap.specs.declared.object.Kind.{Kind}
 use Rattle.jc_heap.specs.declared.place.Place.{Place}
 use Rattle.jc_heap.specs.declared.place.Place.TheVariants.{Cell, Static, Registry, AppletCount}
-use Rattle.jc_heap.specs.Components.{record_of, words_of}
+use Rattle.jc_heap.specs.Component.{record_of, words_of}
 use Rattle.jc_heap.specs.Heap.{HeapState, add_object, add_transient, area_end, heap_item_at, is_allocated, set_cell, set_cells, with_area_end}
 use Rattle.jc_heap.specs.Object.{Object, new_transient, transient_size}
-use Rattle.jc_heap.specs.Places.{set_place, set_places}
+use Rattle.jc_heap.specs.Place.{set_place, set_places}
 use Rattle.jc_heap.specs.Statics.{IsStatic, set_word}
-use Rattle.jc_heap.specs.Whole.{AreAllocated}
+use Rattle.jc_heap.specs.WholeHeap.{AreAllocated}
 use Rattle.jc_heap.proofs.Laws.{heap_item_at-add_other}
 use Rattle.jc_linker.specs.Values.{Packages}
 use Rattle.jc_platform.specs.Tokens.{Tokens}

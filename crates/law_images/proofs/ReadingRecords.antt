@@ -7,8 +7,8 @@ use Rattle.std.proofs.lemmas.Bool.{cases_Bool, cases_eq, eq-eqb, ne_eqb}
 use Rattle.std.proofs.lemmas.Option.{none-some, same_Some}
 use Rattle.jc_cap.specs.declared.texts.LoadedComponents.{LoadedComponents}
 use Rattle.jc_heap.specs.declared.component.Span.{Span}
-use Rattle.jc_heap.specs.Components.{info_of, info_span, part_sizes, record_parts, span_in, words_for}
-use Rattle.jc_heap.specs.Cut.{records_from}
+use Rattle.jc_heap.specs.Component.{info_of, info_span, part_sizes, record_parts, span_in, words_for}
+use Rattle.jc_heap.specs.Walk.{records_from}
 use Rattle.jc_heap.specs.Packed.{packed_byte, bytes_of_packed}
 use Rattle.jc_heap.specs.Statics.{IsStatic, image_from, statics_of}
 use Rattle.jc_heap.proofs.StaticImages.{static_behind, statics-walk, statics-zero}

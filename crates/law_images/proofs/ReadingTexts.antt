@@ -10,8 +10,8 @@ use Rattle.jc_cap.proofs.ToldEnvelope.{info_takes}
 use Rattle.jc_cap.specs.declared.texts.LoadedComponents.{LoadedComponents}
 use Rattle.jc_cap.specs.declared.texts.PackageBytes.{PackageBytes}
 use Rattle.jc_heap.specs.declared.object.Kind.{Kind}
-use Rattle.jc_heap.specs.Components.{AreInfosOfBytes}
-use Rattle.jc_heap.specs.Packages.{package_record}
+use Rattle.jc_heap.specs.Component.{AreInfosOfBytes}
+use Rattle.jc_heap.specs.Package.{package_record}
 use Rattle.jc_packages.specs.RecordContents.{part, component_if_present, parts_of}
 use Rattle.jc_packages.specs.Reading.{load_of, text_in}
 use Rattle.jc_packages.specs.LinkerView.{info_of_component}

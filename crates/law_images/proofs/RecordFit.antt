@@ -7,8 +7,8 @@ use Rattle.std.proofs.lemmas.List.{length-append, length-map, length-replicate}
 use Rattle.jc_cap.specs.StaticValues.{StaticParts}
 use Rattle.jc_cap.specs.declared.texts.PackageBytes.{PackageBytes}
 use Rattle.jc_heap.specs.Heap.{HeapState, IsObject}
-use Rattle.jc_heap.specs.Keeping.{IsConsistentHeap}
-use Rattle.jc_heap.specs.Packages.{array_addresses, components_words, package_owner, package_record, push_package, record_size}
+use Rattle.jc_heap.specs.HeapLaws.{IsConsistentHeap}
+use Rattle.jc_heap.specs.Package.{array_addresses, components_words, package_owner, package_record, push_package, record_size}
 use Rattle.jc_heap.proofs.KeepingPackages.{end-push}
 use Rattle.jc_heap.proofs.NewPackages.{length-package_record, top-push}
 use Rattle.jc_linker.specs.Classes.{package_in}

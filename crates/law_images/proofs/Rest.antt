@@ -8,10 +8,10 @@ use Rattle.jc_memory.specs.State.{MemoryState, Effect, HeapMove, SetTransient, S
 use Rattle.jc_memory.specs.State.{apply_effect, apply_effects}
 use Rattle.jc_memory.proofs.ProgramLemmas.{down_did, each_did, took}
 use Rattle.jc_card.specs.Answers.{exchange}
-use Rattle.jc_card.specs.CardState.{CardState}
-use Rattle.jc_card.specs.Power.{KeptState, armed_card}
-use Rattle.jc_card.specs.Starting.{IsPoweredUp}
-use Rattle.law_code.specs.Tears.{IsDurableOutside}
+use Rattle.jc_card.specs.Card.{CardState}
+use Rattle.jc_card.specs.State.Power.{KeptState, armed_card}
+use Rattle.jc_card.specs.Session.Starting.{IsPoweredUp}
+use Rattle.law_code.specs.TransactionLaws.{IsDurableOutside}
 use Rattle.law_code.proofs.AtomicEffects.{settled_effect}
 use Rattle.law_images.proofs.ClosedTransactions.{IsShut, exchanging_shut}
 use Rattle.law_images.specs.Rest.{IsResting, LeaveAtRest}

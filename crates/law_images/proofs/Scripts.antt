@@ -7,20 +7,20 @@ use Rattle.std.proofs.lemmas.Option.{slice_get-get_or}
 use Rattle.std.specs.Str.Lines.{lines}
 use Rattle.jc_words.specs.Count.{saturating_count}
 use Rattle.jc_words.specs.Refusals.{with_fuse_at}
-use Rattle.jc_words.specs.Stores.{FuseStoreValue}
+use Rattle.jc_words.specs.Store.{FuseStoreValue}
 use Rattle.jc_commit.specs.Image.{IsGoodLog, recovered_of}
 use Rattle.jc_heap.specs.Heap.{HeapView, heap_at_rest}
 use Rattle.jc_memory.specs.Programs.{TearLeaves}
 use Rattle.jc_card.specs.Answers.{exchange}
 use Rattle.jc_card.specs.Dispatching.{with_response}
-use Rattle.jc_card.specs.Requests.{Request, Command, Reset, ArmFuse, PlanFault, Reply, Response, Ready, Down}
-use Rattle.jc_card.specs.Power.{PowerState, Up, Off, StoreState, IsStoreOf, armed, budget_of, durable_state, durable_rest, durable_state_in_store, planned, with_refusal}
+use Rattle.jc_card.specs.Session.Requests.{Request, Command, Reset, ArmFuse, PlanFault, Reply, Response, Ready, Down}
+use Rattle.jc_card.specs.State.Power.{PowerState, Up, Off, StoreState, IsStoreOf, armed, budget_of, durable_state, durable_rest, durable_state_in_store, planned, with_refusal}
 use Rattle.jc_card.specs.declared.planned_fault.PlannedFault.{PlannedFault}
-use Rattle.jc_card.specs.Serving.{AnswersCommand, AnswersCommandOver, IsReset, Serves, ServesOver, SessionRun}
+use Rattle.jc_card.specs.Session.Serving.{AnswersCommand, AnswersCommandOver, IsReset, Serves, ServesOver, SessionRun}
 use Rattle.jc_card.specs.declared.session.SessionFault.{SessionFault}
 use Rattle.jc_card.specs.declared.session.SessionFault.TheVariants.{PowerFault as NotPoweredUp}
 use Rattle.jc_card.specs.Session.{FailsAtReset, IsSession, SessionEnds}
-use Rattle.jc_card.specs.Starting.{FailsToReset, FailsToStart, IsPoweredUp, Starts}
+use Rattle.jc_card.specs.Session.Starting.{FailsToReset, FailsToStart, IsPoweredUp, Starts}
 use Rattle.jc_card.specs.declared.power_up.PowerFault.{PowerFault as Fault}
 use Rattle.jc_card.proofs.Laid.{if_laid}
 use Rattle.jc_card.proofs.Resets.{start_fails}
@@ -29,7 +29,7 @@ use Rattle.jc_card.proofs.WholeSessions.{are_whole}
 use Rattle.jcard_script.specs.declared.script.ScriptFault.{ScriptFault}
 use Rattle.jcard_script.specs.declared.script.ScriptFault.TheVariants.{ReadFailed, WriteFailed, BadLine, TooLong, PowerFault}
 use Rattle.jcard_script.specs.ScriptStates.{ScriptState, FailsReset, FailsUp, IsReset as IsResetOf, IsStoreOf as IsStoreOfHeap, IsSessionStore}
-use Rattle.jc_card.specs.SessionStates.{with_fuse}
+use Rattle.jc_card.specs.State.{with_fuse}
 use Rattle.jcard_script.specs.ScriptStates.{PowersUp, fuse_kind, with_power}
 use Rattle.jcard_script.specs.Script.{AreCarriedOut, Form, Skipped, Asks, Bad, IsWrittenFor, form_of, lines_so_far, text_of_reply}
 use Rattle.jcard_script.specs.Texts.{IsCutOf}

@@ -7,7 +7,7 @@ use Rattle.std.proofs.lemmas.Option.{none-some, same_Some}
 use Rattle.jc_words.specs.Refusals.{Refusals}
 use Rattle.jc_transient.specs.State.{IsCleared}
 use Rattle.jc_heap.specs.Heap.{HeapState, area_sizes, heap_at_rest}
-use Rattle.jc_heap.specs.Keeping.{AreConsistent}
+use Rattle.jc_heap.specs.HeapLaws.{AreConsistent}
 use Rattle.jc_heap.proofs.Changing.{shape-same}
 use Rattle.jc_memory.specs.Owners.{at_reset}
 use Rattle.jc_memory.specs.State.{MemoryState}
@@ -17,30 +17,30 @@ use Rattle.jc_platform.specs.Table.{Reads}
 use Rattle.jc_platform.specs.Tokens.{Tokens}
 use Rattle.jc_interp.specs.declared.attacks.Budget.{Budget}
 use Rattle.jc_packages.specs.Reading.{packages_of}
-use Rattle.jc_packages.specs.Loading.{empty_load, component_begin, component_end as ended_component}
+use Rattle.jc_packages.specs.Load.{empty_load, component_begin, component_end as ended_component}
 use Rattle.jc_card.specs.Answers.{respond_with, manager_command, exchange, exchange_of_apdu, is_dispatched, manager_response, run_code}
 use Rattle.jc_memory.specs.Commands.{data_of, data_offset, has_extended_length}
-use Rattle.jc_card.specs.Apdu.{Apdu, apdu_of, has_extended_form, has_short_form}
-use Rattle.jc_card.specs.CardState.{CardState}
+use Rattle.jc_card.specs.Command.{Apdu, apdu_of, has_extended_form, has_short_form}
+use Rattle.jc_card.specs.Card.{CardState}
 use Rattle.jc_card.specs.Dispatching.{with_response, create_applet, dispatch, takes_extended}
 use Rattle.jc_environment.specs.Objects.{last_of}
 use Rattle.jc_card.specs.Fixed.{fixed_of, last_fixed}
 use Rattle.jc_card.proofs.Objects.{last_numbered}
 use Rattle.jc_card.specs.Loading.{LoadResponse, begin_component, end_component, append_component, begin_load}
 use Rattle.jc_card.specs.StatusWord.{cla_not_supported, ins_not_supported, status_bytes, wrong_length}
-use Rattle.jc_card.specs.Requests.{Request, Command, Reset, ArmFuse, PlanFault, Reply, Response, Ready, Down}
-use Rattle.jc_card.specs.Power.{KeptState, PowerState, Up, Off, armed, armed_card, budget_of, durable_state, planned}
+use Rattle.jc_card.specs.Session.Requests.{Request, Command, Reset, ArmFuse, PlanFault, Reply, Response, Ready, Down}
+use Rattle.jc_card.specs.State.Power.{KeptState, PowerState, Up, Off, armed, armed_card, budget_of, durable_state, planned}
 use Rattle.jc_card.specs.declared.planned_fault.PlannedFault.{PlannedFault}
-use Rattle.jc_card.specs.Serving.{AnswersCommand, AnswersReset, Serves, SessionRun}
-use Rattle.jc_card.specs.Starting.{IsPoweredUp}
+use Rattle.jc_card.specs.Session.Serving.{AnswersCommand, AnswersReset, Serves, SessionRun}
+use Rattle.jc_card.specs.Session.Starting.{IsPoweredUp}
 use Rattle.law_linking.proofs.Aids.{have_aids}
 use Rattle.law_linking.proofs.ClassLaws.{have_classes}
 use Rattle.law_linking.proofs.MethodLaws.{have_methods, have_no_code}
 use Rattle.law_images.specs.LoadedPackages.{AreBytes}
 use Rattle.law_images.proofs.OpenLoads.{are_readable}
-use Rattle.law_soundness.specs.State.{IsSoundMemory, IsSoundUpTo}
+use Rattle.law_soundness.specs.MemoryLaws.State.{IsSoundMemory, IsSoundUpTo}
 use Rattle.law_soundness.proofs.Transients.{blank_lives}
-use Rattle.law_soundness.specs.Soundness.{AreKnown}
+use Rattle.law_soundness.specs.MachineLaws.Soundness.{AreKnown}
 use Rattle.law_soundness.proofs.CommandLaws.{commands_are_sound}
 use Rattle.law_soundness.proofs.Phases.{Good}
 use Rattle.law_images.specs.Heaps.{IsOwnHeap}

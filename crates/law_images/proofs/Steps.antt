@@ -1,12 +1,12 @@
 -- What is left of a card where a write was refused, in the store of a script.
 use Rattle.std.proofs.Common.{◌≡◌, ℕ, false, sym, ◌∙◌, subst}
 use Rattle.jc_words.specs.Refusals.{refused_once}
-use Rattle.jc_words.specs.Stores.{FuseStoreValue}
+use Rattle.jc_words.specs.Store.{FuseStoreValue}
 use Rattle.jc_commit.specs.Image.{recovered_of}
 use Rattle.jc_heap.specs.Heap.{HeapState, HeapView}
 use Rattle.jc_heap.specs.Moves.{IsTorn}
-use Rattle.jc_card.specs.Power.{durable_state_in_store}
-use Rattle.jc_card.specs.Serving.{IsKeptOf}
+use Rattle.jc_card.specs.State.Power.{durable_state_in_store}
+use Rattle.jc_card.specs.Session.Serving.{IsKeptOf}
 use Rattle.jc_card.proofs.Laid.{if_laid}
 use Rattle.jcard_script.specs.ScriptStates.{IsStoreOf}
 use Rattle.law_images.specs.ScriptLaws.{state_of}

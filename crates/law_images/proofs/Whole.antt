@@ -4,10 +4,10 @@ use Rattle.std.proofs.lemmas.List.{length-append}
 use Rattle.jc_words.specs.Layout.{most_packages}
 use Rattle.jc_heap.specs.declared.object.Kind.{Kind}
 use Rattle.jc_heap.specs.Heap.{HasEnd, HeapState}
-use Rattle.jc_heap.specs.Keeping.{IsConsistentHeap}
-use Rattle.jc_heap.specs.Packages.{AreArrays, add_package, array_addresses, components_words, package_owner, package_record, push_package, record_size}
+use Rattle.jc_heap.specs.HeapLaws.{IsConsistentHeap}
+use Rattle.jc_heap.specs.Package.{AreArrays, add_package, array_addresses, components_words, package_owner, package_record, push_package, record_size}
 use Rattle.jc_heap.specs.Packed.{packed_words}
-use Rattle.jc_heap.specs.Whole.{IsConsistent}
+use Rattle.jc_heap.specs.WholeHeap.{IsConsistent}
 use Rattle.jc_heap.proofs.KeepingPackages.{package_whole}
 use Rattle.jc_heap.proofs.NewPackages.{top-package}
 use Rattle.jc_heap.proofs.Packing.{length-array_addresses}

@@ -1,11 +1,10 @@
 -- The words of an image's records.
 use Rattle.std.proofs.Common.{ℕ, zero, suc, ◌<◌, ◌==◌, Bool, true, false, List, [], ◌∷◌, map, take, drop, get_or, arith, if◌then◌else◌}
-use Rattle.jc_heap.specs.Components.{words_of}
-use Rattle.jc_heap.specs.Cut.{Sizes, records_from}
+use Rattle.jc_heap.specs.Component.{words_of}
+use Rattle.jc_heap.specs.Walk.{Sizes, records_from, entry_or}
 use Rattle.jc_heap.specs.Heap.{heap_item_at, read_image}
 use Rattle.jc_heap.specs.Image.{base, image, is_package, item, item_entry, package_addresses, records, sizes}
 use Rattle.jc_heap.specs.Object.{Item, AnObject, APackage, object_of}
-use Rattle.jc_heap.specs.Table.{entry_or}
 use Rattle.law_linking.proofs.Lists.{AllOf}
 use Rattle.law_images.specs.GrowthLaws.{AreWords, ImagesHaveWords}
 

@@ -4,13 +4,13 @@ use Rattle.jc_words.specs.Refusals.{Refusals}
 use Rattle.jc_commit.specs.Image.{IsGoodLog, limit_of, recovered_of}
 use Rattle.jc_heap.specs.Heap.{heap_of}
 use Rattle.jc_heap.specs.Image.{IsWellFormed}
-use Rattle.jc_heap.specs.Stored.{HoldsHeap}
+use Rattle.jc_heap.specs.Heap.Store.{HoldsHeap}
 use Rattle.jc_image.specs.declared.laying.ImageRoom.{ImageRoom}
 use Rattle.jc_platform.specs.Table.{Reads}
 use Rattle.jc_platform.specs.Tokens.{Tokens}
-use Rattle.jc_card.specs.CardState.{CardState}
-use Rattle.jc_card.specs.Made.{IsMade, new_card_heap}
-use Rattle.jc_card.specs.Power.{KeptState}
+use Rattle.jc_card.specs.Card.{CardState}
+use Rattle.jc_card.specs.ProductImages.{IsMade, new_card_heap}
+use Rattle.jc_card.specs.State.Power.{KeptState}
 use Rattle.law_images.specs.Cards.{IsOwnCard, IsOwnKept}
 
 -- these words keep what is left of a card: a recovery of them leaves its heap

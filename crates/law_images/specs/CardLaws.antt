@@ -5,12 +5,12 @@ use Rattle.jc_heap.specs.Heap.{heap_of}
 use Rattle.jc_image.specs.declared.laying.ImageRoom.{ImageRoom}
 use Rattle.jc_platform.specs.Table.{Reads}
 use Rattle.jc_platform.specs.Tokens.{Tokens}
-use Rattle.jc_card.specs.Made.{IsMade, new_card_heap}
+use Rattle.jc_card.specs.ProductImages.{IsMade, new_card_heap}
 use Rattle.jc_card.specs.declared.power_up.PowerFault.{PowerFault as Fault}
 use Rattle.jc_card.specs.declared.power_up.PowerFault.TheVariants.{NoMemory}
 use Rattle.jc_card.specs.declared.session.SessionFault.TheVariants.{PowerFault}
-use Rattle.jc_card.specs.Requests.{Request, Reply}
-use Rattle.jc_card.specs.Power.{StoreState, durable_state_in_store}
+use Rattle.jc_card.specs.Session.Requests.{Request, Reply}
+use Rattle.jc_card.specs.State.Power.{StoreState, durable_state_in_store}
 use Rattle.jc_card.specs.Session.{SessionEnds}
 use Rattle.law_images.specs.Cards.{AreOfBytes, IsOwnKept}
 use Rattle.law_images.specs.CardImages.{Keeps}

@@ -3,16 +3,16 @@ use Rattle.std.specs.Prelude.{List, [], ◌∷◌, IfSome}
 use Rattle.jc_platform.specs.Tokens.{Tokens}
 use Rattle.jc_linker.specs.Values.{Packages}
 use Rattle.jc_linker.specs.Values.{LinkerComponents}
-use Rattle.jc_card.specs.CardState.{CardState}
-use Rattle.law_linking.specs.Given.{AreRead}
+use Rattle.jc_card.specs.Card.{CardState}
+use Rattle.law_linking.specs.ReadPackages.{AreRead}
 use Rattle.law_images.specs.GrowthLaws.{HaveAppletComponents}
-use Rattle.jc_card.specs.Requests.{Request, Command, Reset, ArmFuse, PlanFault, Reply}
-use Rattle.jc_card.specs.Power.{PowerState, Up, Off, KeptState}
-use Rattle.jc_card.specs.Serving.{Serves, SessionRun}
+use Rattle.jc_card.specs.Session.Requests.{Request, Command, Reset, ArmFuse, PlanFault, Reply}
+use Rattle.jc_card.specs.State.Power.{PowerState, Up, Off, KeptState}
+use Rattle.jc_card.specs.Session.Serving.{Serves, SessionRun}
 use Rattle.law_images.specs.StableReading.{IsReadAs}
 use Rattle.law_images.specs.LoadedPackages.{AreBytes}
 use Rattle.law_images.specs.ReadingLoads.{IsOpenReadable}
-use Rattle.law_soundness.specs.Commands.{IsReady}
+use Rattle.law_soundness.specs.MachineLaws.Commands.{IsReady}
 use Rattle.law_images.specs.Loads.{AreLaidOut, IsLaidOut}
 use Rattle.law_images.specs.Heaps.{IsOwnHeap}
 use Rattle.law_images.specs.NewImages.{KeepsBeginning}

@@ -2,15 +2,15 @@
 use Rattle.std.specs.Prelude.{ℕ, ◌≡◌, ◌<◌, ◌≤◌, false, length, Ok, Some}
 use Rattle.jc_words.specs.Layout.{magic, least_size, registry_length}
 use Rattle.jc_heap.specs.Heap.{HeapState, IsObject, facts}
-use Rattle.jc_heap.specs.Keeping.{IsConsistentHeap}
+use Rattle.jc_heap.specs.HeapLaws.{IsConsistentHeap}
 use Rattle.jc_platform.specs.Tokens.{Tokens}
 use Rattle.jc_platform.specs.Table.{Reads}
 use Rattle.jc_linker.specs.Values.{Packages}
 use Rattle.jc_packages.specs.Objects.{is_persistent_instance}
 use Rattle.jc_packages.specs.Reading.{packages_of}
 use Rattle.jc_card.specs.Fixed.{BeginsWithFixed, fixed_of, last_fixed}
-use Rattle.law_soundness.specs.Environment.{AreEnvironmentObjects}
-use Rattle.law_soundness.specs.State.{IsSoundUpTo}
+use Rattle.law_soundness.specs.MemoryLaws.Environment.{AreEnvironmentObjects}
+use Rattle.law_soundness.specs.MemoryLaws.State.{IsSoundUpTo}
 
 -- what no command changes of a heap: the magic word and the number of words of its image, its table, and the objects of the runtime environment with which it begins
 pub record HasBeginning (n : ℕ) (t : Tokens) (h : HeapState) : Type 0 where

@@ -3,7 +3,7 @@ pub mod LoadedPackages
 pub mod ReadingLoads
 pub mod Growth
 pub mod GrowthLaws
-pub mod Apart
+pub mod Separation
 pub mod Loads
 pub mod Heaps
 pub mod NewImages
@@ -12,6 +12,6 @@ pub mod CardImages
 pub mod CardLaws
 pub mod Rest
 pub mod ScriptLaws
-pub mod Comes
+pub mod Outcomes
 pub mod Tries
-pub mod Left
+pub mod Losses

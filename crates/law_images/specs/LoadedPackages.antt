@@ -4,9 +4,9 @@ use Rattle.std.specs.List.{All}
 use Rattle.jc_cap.specs.declared.texts.LoadedComponents.{LoadedComponents}
 use Rattle.jc_heap.specs.declared.object.Kind.{Kind}
 use Rattle.jc_heap.specs.Heap.{HeapState}
-use Rattle.jc_heap.specs.Keeping.{AreConsistent, IsConsistentHeap}
+use Rattle.jc_heap.specs.HeapLaws.{AreConsistent, IsConsistentHeap}
 use Rattle.jc_heap.specs.Moves.{AddPackage}
-use Rattle.jc_heap.specs.Packages.{add_package}
+use Rattle.jc_heap.specs.Package.{add_package}
 use Rattle.jc_memory.specs.State.{MemoryState, HeapMove, apply_effect}
 use Rattle.jc_linker.specs.Values.{Packages}
 use Rattle.jc_platform.specs.Tokens.{Tokens}

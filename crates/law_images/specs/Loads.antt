@@ -4,9 +4,9 @@ use Rattle.jc_cap.specs.declared.texts.LoadedComponents.{LoadedComponents}
 use Rattle.jc_cap.specs.declared.texts.PackageBytes.{PackageBytes}
 use Rattle.jc_words.specs.Layout.{most_packages}
 use Rattle.jc_heap.specs.Heap.{HeapState}
-use Rattle.jc_heap.specs.Keeping.{IsConsistentHeap}
+use Rattle.jc_heap.specs.HeapLaws.{IsConsistentHeap}
 use Rattle.jc_heap.specs.Moves.{Move, AddPackage}
-use Rattle.jc_heap.specs.Packages.{add_package}
+use Rattle.jc_heap.specs.Package.{add_package}
 use Rattle.jc_memory.specs.State.{MemoryState, Effect, HeapMove, apply_effect}
 use Rattle.jc_linker.specs.Values.{Packages}
 use Rattle.jc_linker.specs.Values.{LinkerComponents}
@@ -14,10 +14,10 @@ use Rattle.jc_linker.specs.Linking.{with_package}
 use Rattle.law_linking.specs.LinkedPackages.{AreLinked}
 use Rattle.jc_packages.specs.RecordContents.{arrays_of, image_of, parts_of, statics_of}
 use Rattle.jc_packages.specs.PendingPackages.{PendingPackageValue, linked_components}
-use Rattle.law_soundness.specs.Commands.{IsServed}
-use Rattle.law_soundness.specs.Environment.{HasEnvironment}
-use Rattle.law_soundness.specs.State.{IsSoundMemory, IsSoundUpTo, is_open}
-use Rattle.law_images.specs.Apart.{StandApart}
+use Rattle.law_soundness.specs.MachineLaws.Commands.{IsServed}
+use Rattle.law_soundness.specs.MemoryLaws.Environment.{HasEnvironment}
+use Rattle.law_soundness.specs.MemoryLaws.State.{IsSoundMemory, IsSoundUpTo, is_open}
+use Rattle.law_images.specs.Separation.{StandApart}
 
 -- the heap counts its packages
 abbrev pub CountsPackages : HeapState → Type 0

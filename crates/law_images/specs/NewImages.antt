@@ -7,7 +7,7 @@ use Rattle.jc_memory.specs.State.{MemoryState, Effect, apply_effect}
 use Rattle.jc_platform.specs.Tokens.{Tokens}
 use Rattle.jc_platform.specs.Table.{Reads}
 use Rattle.jc_card.specs.Fixed.{fixed_of}
-use Rattle.jc_card.specs.Made.{new_card_heap}
+use Rattle.jc_card.specs.ProductImages.{new_card_heap}
 use Rattle.law_images.specs.Heaps.{HasBeginning, IsOwnHeap}
 
 -- the heap of a new image fits its packages, of which there are none

@@ -1,7 +1,7 @@
 -- What is read of a heap while a package is loaded.
 use Rattle.std.specs.Prelude.{ℕ, ◌≡◌, false, List, Option, IfSome, Some}
 use Rattle.jc_heap.specs.Heap.{HeapState}
-use Rattle.jc_heap.specs.Keeping.{AreConsistent}
+use Rattle.jc_heap.specs.HeapLaws.{AreConsistent}
 use Rattle.jc_memory.specs.Programs.{Completes, TearLeaves}
 use Rattle.jc_memory.specs.State.{MemoryState}
 use Rattle.jc_linker.specs.Values.{Packages}
@@ -9,7 +9,7 @@ use Rattle.jc_platform.specs.Tokens.{Tokens}
 use Rattle.jc_packages.specs.Reading.{packages_of}
 use Rattle.jc_packages.specs.declared.load.OpenLoad.{OpenLoad}
 use Rattle.jc_packages.specs.LoadEnd.{LoadResult, end_of_load}
-use Rattle.jc_packages.specs.Loading.{empty_load, component_begin, component_end, component_append}
+use Rattle.jc_packages.specs.Load.{empty_load, component_begin, component_end, component_append}
 use Rattle.law_images.specs.StableReading.{IsReadAs}
 use Rattle.law_images.specs.LoadedPackages.{AreBytes, IsReadable}
 

@@ -4,7 +4,7 @@ use Rattle.jc_heap.specs.Heap.{HeapView, heap_at_rest}
 use Rattle.jc_memory.specs.State.{MemoryState}
 use Rattle.jc_memory.specs.Programs.{Completes}
 use Rattle.jc_card.specs.Answers.{exchange}
-use Rattle.jc_card.specs.CardState.{CardState}
+use Rattle.jc_card.specs.Card.{CardState}
 use Rattle.jc_card.specs.Loading.{LoadResponse}
 
 -- no transaction is open, and a loss of power leaves the heap as it is

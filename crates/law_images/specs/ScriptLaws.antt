@@ -2,14 +2,13 @@
 use Rattle.std.specs.Prelude.{ℕ, ◌≡◌, ◌≢◌, ◌+◌, ◌⊎◌, List, [], ◌∷◌, ◌++◌, length, Bool, false, Result, Ok, Err}
 use Rattle.std.specs.List.{flat_map}
 use Rattle.std.specs.Str.Lines.{lines}
-use Rattle.jc_words.specs.Stores.{FuseStoreValue}
+use Rattle.jc_words.specs.Store.{FuseStoreValue}
 use Rattle.jc_card.specs.declared.session.SessionFault.{SessionFault}
 use Rattle.jc_card.specs.declared.session.SessionFault.TheVariants.{PowerFault as NotPoweredUp}
-use Rattle.jc_card.specs.Requests.{Request, Reset, Reply}
-use Rattle.jc_card.specs.Power.{PowerState, StoreState, IsStoreOf}
-use Rattle.jc_card.specs.Session.{IsSession, SessionEnds}
-use Rattle.jc_card.specs.Starting.{FailsToReset, FailsToStart}
-use Rattle.jc_card.specs.WholeCopies.{IsWholeSession, RefusesNone}
+use Rattle.jc_card.specs.Session.Requests.{Request, Reset, Reply}
+use Rattle.jc_card.specs.State.Power.{PowerState, StoreState, IsStoreOf}
+use Rattle.jc_card.specs.Session.{IsSession, SessionEnds, IsWholeSession, RefusesNone}
+use Rattle.jc_card.specs.Session.Starting.{FailsToReset, FailsToStart}
 use Rattle.jcard_script.specs.declared.script.ScriptFault.{ScriptFault}
 use Rattle.jcard_script.specs.declared.script.ScriptFault.TheVariants.{ReadFailed, WriteFailed, BadLine, TooLong, PowerFault}
 use Rattle.jcard_script.specs.Script.{EndsWithin, Form, Skipped, Asks, Bad, form_of, lines_so_far, text_of_reply}

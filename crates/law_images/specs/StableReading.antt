@@ -4,8 +4,8 @@ use Rattle.jc_memory.specs.State.{MemoryState, Effect, apply_effect}
 use Rattle.jc_linker.specs.Values.{Packages}
 use Rattle.jc_platform.specs.Tokens.{Tokens}
 use Rattle.jc_packages.specs.Reading.{packages_of}
-use Rattle.law_soundness.specs.State.{IsSoundMemory}
-use Rattle.law_soundness.specs.Fit.{IsFit}
+use Rattle.law_soundness.specs.MemoryLaws.State.{IsSoundMemory}
+use Rattle.law_soundness.specs.MemoryLaws.Fit.{IsFit}
 
 -- these packages are read of a memory's heap, and of the one that a loss of power leaves
 pub record IsReadAs (t : Tokens) (p : Packages) (m : MemoryState) : Type 0 where

@@ -5,12 +5,12 @@ use Rattle.jc_heap.specs.declared.place.Place.TheVariants.{Cell}
 use Rattle.jc_heap.specs.Object.{header_only, with_cell}
 use Rattle.jc_heap.specs.Heap.{HeapState, cells, facts, goes_back, heap_item_at, is_allocated}
 use Rattle.jc_heap.specs.Moves.{SetPlaces, WriteNonAtomic}
-use Rattle.jc_heap.specs.Places.{place_at}
+use Rattle.jc_heap.specs.Place.{place_at}
 use Rattle.jc_memory.specs.State.{MemoryState, Effect, HeapMove, apply_effect}
 use Rattle.jc_linker.specs.Values.{Packages}
 use Rattle.jc_environment.specs.Pins.{counter_cell, record_of}
-use Rattle.jc_environment.specs.PinInit.{first_record}
-use Rattle.jc_environment.specs.PinUpdates.{changes_of_update}
+use Rattle.jc_environment.specs.Pins.PinInit.{first_record}
+use Rattle.jc_environment.specs.Pins.Updates.{changes_of_update}
 use Rattle.jc_platform.specs.declared.names.PlatformClass.TheVariants.{OwnerPin}
 use Rattle.jc_packages.specs.Objects.{is_bytes, is_object_address, is_persistent_instance}
 use Rattle.jc_linker.specs.Classes.{is_a}

@@ -3,7 +3,7 @@ use Rattle.std.proofs.Common.{◌≡◌, ℕ, ◌/◌, Bool, true, false, List, 
 use Rattle.std.specs.Option.{option_and_then, option_map}
 use Rattle.std.proofs.lemmas.Option.{none-some}
 use Rattle.jc_platform.specs.declared.names.PlatformClass.{PlatformClass}
-use Rattle.jc_platform.specs.Distinct.{class_word}
+use Rattle.jc_platform.specs.NamePlaces.{class_word}
 use Rattle.jc_platform.specs.Hierarchy.{is_interface, superclass_of}
 use Rattle.jc_platform.specs.Platform.{class_by_word}
 use Rattle.jc_cap.specs.declared.pool.VirtualToken.{VirtualToken}
@@ -13,7 +13,7 @@ use Rattle.jc_linker.specs.declared.target.Target.TheVariants as targets
 use Rattle.jc_linker.specs.Classes.{class_in, superclass_by, superclass_in}
 use Rattle.jc_linker.specs.Lookups.{target_at}
 use Rattle.jc_linker.specs.Methods.{method_at}
-use Rattle.jc_linker.specs.Resolves.{class_named, interface_by, names_interface, super_target}
+use Rattle.jc_linker.specs.Resolve.{class_named, interface_by, names_interface, super_target}
 use Rattle.jc_linker.specs.Values.{ClassValue, Packages}
 use Rattle.jc_linker.specs.Values.{LinkerComponents}
 use Rattle.law_linking.specs.LinkedPackages.{AreLinked}

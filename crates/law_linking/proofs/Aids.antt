@@ -15,7 +15,7 @@ use Rattle.jc_linker.specs.Outlines.{all_of, applet_of}
 use Rattle.law_linking.specs.LinkedPackages.{AreLinkedAgainst}
 use Rattle.law_linking.proofs.LinkAnswers.{made}
 use Rattle.law_linking.proofs.Lists.{AllOf, IfThere, all_at, all_behind, then_there}
-use Rattle.law_linking.specs.Given.{HasAppletComponent}
+use Rattle.law_linking.specs.ReadPackages.{HasAppletComponent}
 use Rattle.law_linking.specs.ClassLaws.{HaveAids}
 
 abbrev IsByte : ℕ → Type 0

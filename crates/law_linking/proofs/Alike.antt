@@ -4,7 +4,7 @@ use Rattle.std.specs.Prelude.{is_some}
 use Rattle.std.specs.List.{list_any}
 use Rattle.std.specs.Option.{option_and_then}
 use Rattle.jc_platform.specs.declared.names.PlatformClass.TheVariants.{Shareable}
-use Rattle.jc_platform.specs.Distinct.{class_word}
+use Rattle.jc_platform.specs.NamePlaces.{class_word}
 use Rattle.jc_platform.specs.Platform.{class_by_word}
 use Rattle.jc_cap.specs.declared.pool.VirtualToken.{VirtualToken}
 use Rattle.jc_cap.specs.declared.pool.VirtualToken.TheVariants.{Public, PackageVisible}
@@ -14,9 +14,9 @@ use Rattle.jc_linker.specs.Classes.{reference_cell, size_by, size_of, stands_bef
 use Rattle.jc_linker.specs.declared.target.Method.{Method}
 use Rattle.jc_linker.specs.Methods.{implementation_by, implementation_in, interface_method_at, lookup_classes, method_at, method_in, method_by_class}
 use Rattle.jc_linker.specs.Methods.{first_decided}
-use Rattle.jc_linker.specs.Resolves.{interface_by, names_interface}
+use Rattle.jc_linker.specs.Resolve.{interface_by, names_interface}
 use Rattle.jc_linker.specs.Values.{PackageValue, Packages}
-use Rattle.law_linking.specs.Stability.{ClassStays}
+use Rattle.law_linking.specs.ResolutionLaws.{ClassStays}
 use Rattle.law_linking.proofs.Lists.{AllOf, IfThere, all_filtered, any_alike, searched_alike, then_alike}
 
 abbrev pub with_loaded : Packages → List PackageValue → Packages

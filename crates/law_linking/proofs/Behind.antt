@@ -13,7 +13,7 @@ use Rattle.law_linking.proofs.ClosedPackages.{IsClosed, IsClosedClass, class_clo
 use Rattle.law_linking.proofs.LinkAnswers.{closed_next, imports_stand, longer, made}
 use Rattle.law_linking.proofs.Lists.{IfThere}
 use Rattle.law_linking.proofs.Numbers.{Stands}
-use Rattle.law_linking.specs.Given.{AreRead, HasClassComponent}
+use Rattle.law_linking.specs.ReadPackages.{AreRead, HasClassComponent}
 use Rattle.law_linking.proofs.Good.{AllRead, class_last, none_loaded}
 use Rattle.law_linking.proofs.Inherits.{Inherits, one_by_one}
 

@@ -7,7 +7,7 @@ use Rattle.std.proofs.lemmas.Bool.{and_parts, ltb-true}
 use Rattle.jc_platform.specs.declared.names.PlatformClass.{PlatformClass}
 use Rattle.jc_platform.specs.Names.{classes, packages}
 use Rattle.jc_platform.specs.Numbers.{same_class}
-use Rattle.jc_platform.specs.Packed.{class_entry, is_packed, method_entry, package_entry, row_in, row_of_entry, row_of_kind}
+use Rattle.jc_platform.specs.PackedEntry.{class_entry, is_packed, method_entry, package_entry, row_in, row_of_entry, row_of_kind}
 use Rattle.jc_platform.specs.Rows.{Above, above, bytes_of, class_row, class_token_in, classes_of, kind_of, may_be_class, may_be_extended, may_be_method, may_be_package, may_be_random}
 use Rattle.jc_platform.specs.Rows.{method_named, method_row, methods_of, number_of, package_row, parts_at, random_row, row_of, row_of_line}
 use Rattle.jc_platform.specs.Table.{Say}

@@ -8,19 +8,19 @@ use Rattle.std.specs.Option.{option_map}
 use Rattle.std.proofs.lemmas.Bool.{and_parts, cases_lt, false≢true, leb-true, ltb-true}
 use Rattle.std.proofs.Math.Nat.{min-eq_left, min-eq_right}
 use Rattle.jc_platform.specs.declared.names.PlatformClass.{PlatformClass}
-use Rattle.jc_platform.specs.Distinct.{class_word}
+use Rattle.jc_platform.specs.NamePlaces.{class_word}
 use Rattle.jc_platform.specs.Hierarchy.{cells_of, holds_reference, interfaces_of, is_interface, superclass_of}
 use Rattle.jc_platform.specs.Platform.{TellNames, class_by_word}
 use Rattle.jc_platform.specs.Tokens.{token_of_class}
 use Rattle.jc_linker.specs.Classes.{class_in, declares_reference, interfaces_by, interfaces_in, platform_interfaces, own_reference, size_by, size_of}
 use Rattle.jc_linker.specs.Classes.{superclass_by, superclass_in}
-use Rattle.jc_linker.specs.Resolves.{interface_by, names_interface}
+use Rattle.jc_linker.specs.Resolve.{interface_by, names_interface}
 use Rattle.jc_linker.specs.Values.{ClassValue, Packages}
 use Rattle.law_linking.proofs.Fields.{no_class}
 use Rattle.law_linking.proofs.ClosedPackages.{if_each}
 use Rattle.law_linking.proofs.Lists.{IfThere, both_there, map_there}
 use Rattle.law_linking.proofs.Numbers.{word_high}
-use Rattle.law_linking.specs.Given.{HasByteTokens}
+use Rattle.law_linking.specs.ReadPackages.{HasByteTokens}
 use Rattle.law_linking.proofs.Chains.{Fits, IsOrdered, own}
 use Rattle.law_linking.proofs.Good.{AllGood, AreInterfaces, IsGood}
 use Rattle.law_linking.proofs.Facts.{fewer_above, interfaces_are, reference_behind, reference_within}

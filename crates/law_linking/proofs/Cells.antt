@@ -6,19 +6,18 @@ use Rattle.std.specs.Option.{option_map}
 use Rattle.std.proofs.lemmas.Bool.{and_from, and_parts, cases_Bool, false≢true, le-leb, ltb-true, or_cases}
 use Rattle.std.proofs.lemmas.Option.{none-some, same_Some}
 use Rattle.jc_platform.specs.declared.names.PlatformClass.{PlatformClass}
-use Rattle.jc_platform.specs.Distinct.{class_word}
+use Rattle.jc_platform.specs.NamePlaces.{class_word}
 use Rattle.jc_platform.specs.Hierarchy.{cells_of, holds_reference, is_interface, superclass_of}
 use Rattle.jc_platform.specs.Platform.{TellNames, class_by_word}
 use Rattle.jc_platform.specs.Tokens.{token_of_class}
-use Rattle.jc_linker.specs.Classes.{any_reference, class_in, declares_reference, is_below, is_class, lineage_from, most_classes, own_reference, reference_cell}
-use Rattle.jc_linker.specs.Classes.{size_by, size_of, superclass_by, superclass_in}
-use Rattle.jc_linker.specs.Resolves.{interface_by, names_interface}
+use Rattle.jc_linker.specs.Classes.{any_reference, class_in, declares_reference, is_below, is_class, lineage_from, most_classes, own_reference}
+use Rattle.jc_linker.specs.Classes.{reference_cell, size_by, size_of, superclass_by, superclass_in, is_a}
+use Rattle.jc_linker.specs.Resolve.{interface_by, names_interface}
 use Rattle.jc_linker.specs.Values.{ClassValue, Packages}
-use Rattle.jc_linker.specs.Classes.{is_a}
 use Rattle.law_linking.specs.Classes.{HasPlatformCells, IsPlatformBelow, has_instances}
 use Rattle.law_linking.specs.Classes.IsPlatformBelow.{Above, Itself}
 use Rattle.law_linking.proofs.Lists.{IfThere, map_there}
-use Rattle.law_linking.specs.Given.{HasByteTokens}
+use Rattle.law_linking.specs.ReadPackages.{HasByteTokens}
 use Rattle.law_linking.proofs.Chains.{Fits, Reaches, below_reached, cell_of_reached, none_behind, one_first, own, reached_size}
 use Rattle.law_linking.proofs.Good.{AllGood}
 use Rattle.law_linking.proofs.Facts.{few_cells, reference_above}

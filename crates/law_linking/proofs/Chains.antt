@@ -3,9 +3,9 @@ use Rattle.std.proofs.Common.{◌≡◌, ℕ, zero, suc, ◌<◌, ◌≤◌, ◌
 use Rattle.std.proofs.Common.{arith}
 use Rattle.std.proofs.lemmas.Bool.{and_parts, eqb-true, false_from_ne_true, false≢true, or_cases, or_from, or_left}
 use Rattle.jc_platform.specs.Platform.{class_by_word}
-use Rattle.jc_linker.specs.Classes.{any_is, any_reference, class_in, extends, extends_within, implements, interfaces_in, is_below, lineage_from, most_classes}
-use Rattle.jc_linker.specs.Classes.{own_reference, size_of, stands_before, superclass_in}
-use Rattle.jc_linker.specs.Resolves.{names_interface}
+use Rattle.jc_linker.specs.Classes.{any_is, any_reference, class_in, extends, extends_within, implements, interfaces_in, is_below, lineage_from}
+use Rattle.jc_linker.specs.Classes.{most_classes, own_reference, size_of, stands_before, superclass_in}
+use Rattle.jc_linker.specs.Resolve.{names_interface}
 use Rattle.jc_linker.specs.Values.{Packages}
 use Rattle.law_linking.proofs.ClosedPackages.{if_more}
 use Rattle.law_linking.proofs.Lists.{AllOf, IfThere, any_so}

@@ -3,15 +3,14 @@ use Rattle.std.proofs.Common.{◌≡◌, ℕ, ◌≤◌, Bool, false, true, List
 use Rattle.jc_platform.specs.declared.names.PlatformClass.{PlatformClass}
 use Rattle.jc_platform.specs.Hierarchy.{cells_of, is_interface}
 use Rattle.jc_linker.specs.declared.target.Target.TheVariants.{InstanceField}
-use Rattle.jc_linker.specs.Classes.{is_below, reference_cell}
+use Rattle.jc_linker.specs.Classes.{is_below, reference_cell, is_a}
 use Rattle.jc_linker.specs.Lookups.{target_at}
 use Rattle.jc_linker.specs.Values.{Packages}
 use Rattle.jc_linker.specs.Values.{LinkerComponents}
 use Rattle.law_linking.proofs.EntryTargets.{few_packages}
 use Rattle.law_linking.proofs.Fields.{named_field}
-use Rattle.jc_linker.specs.Classes.{is_a}
 use Rattle.law_linking.specs.Classes.{has_instances}
-use Rattle.law_linking.specs.Given.{AreRead}
+use Rattle.law_linking.specs.ReadPackages.{AreRead}
 use Rattle.law_linking.specs.ClassLaws.{HaveCells, HaveClasses, HaveFields, HaveReceivers}
 use Rattle.law_linking.proofs.Cells.{field_behind, field_is, platform_cells}
 use Rattle.law_linking.proofs.Fields.{hide_fields}

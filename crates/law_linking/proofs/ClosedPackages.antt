@@ -6,11 +6,11 @@ use Rattle.std.specs.Option.{option_map, option_and_then}
 use Rattle.std.proofs.lemmas.Bool.{false≢true, eqb-false, cases_Bool}
 use Rattle.std.proofs.lemmas.List.Quantifiers.{position-Some}
 use Rattle.jc_platform.specs.declared.names.PlatformClass.{PlatformClass}
-use Rattle.jc_platform.specs.Distinct.{class_word}
+use Rattle.jc_platform.specs.NamePlaces.{class_word}
 use Rattle.jc_platform.specs.Hierarchy.{interfaces_of, superclass_of}
 use Rattle.jc_platform.specs.Platform.{class_by_token, class_by_word, package_by_number}
 use Rattle.jc_linker.specs.Classes.{class_in, interfaces_by, interfaces_in, platform_interfaces, package_in, superclass_by, superclass_in}
-use Rattle.jc_linker.specs.Resolves.{class_at_offset, class_by, class_of, class_with_token, exported_class, import_of, import_by_token, class_index}
+use Rattle.jc_linker.specs.Resolve.{class_at_offset, class_by, class_of, class_with_token, exported_class, import_of, import_by_token, class_index}
 use Rattle.jc_linker.specs.Values.{ClassValue, PackageValue, Packages}
 use Rattle.jc_linker.specs.Linking.{next_number, with_package}
 use Rattle.jc_linker.specs.Outlines.{outline_of}

@@ -5,7 +5,7 @@ use Rattle.std.specs.Prelude.{is_some, nat_lt, slice_get}
 use Rattle.std.specs.Option.{option_map}
 use Rattle.std.proofs.lemmas.Bool.{false≢true, ltb-true, or_cases, or_left, or_right}
 use Rattle.jc_platform.specs.declared.names.PlatformClass.{PlatformClass}
-use Rattle.jc_platform.specs.Distinct.{class_word}
+use Rattle.jc_platform.specs.NamePlaces.{class_word}
 use Rattle.jc_platform.specs.Hierarchy.{superclass_of}
 use Rattle.jc_platform.specs.Numbers.{class_count, class_number}
 use Rattle.jc_platform.specs.Platform.{TellNames, class_by_word}
@@ -16,7 +16,7 @@ use Rattle.law_linking.proofs.Facts.{superclass_before}
 use Rattle.law_linking.proofs.Fields.{IsHigh, no_class}
 use Rattle.law_linking.proofs.Lists.{IfThere}
 use Rattle.law_linking.proofs.Numbers.{package_low, then_some}
-use Rattle.law_linking.specs.Given.{HasByteTokens}
+use Rattle.law_linking.specs.ReadPackages.{HasByteTokens}
 use Rattle.law_linking.proofs.Chains.{Reaches}
 use Rattle.law_linking.proofs.CellOrder.{no_value, platform_above, superclass_stands}
 use Rattle.law_linking.proofs.Tokens.{HasToken, token_of_word}

@@ -12,8 +12,8 @@ use Rattle.jc_linker.specs.declared.target.Target.{Target}
 use Rattle.jc_linker.specs.declared.target.Target.TheVariants as targets
 use Rattle.jc_linker.specs.Classes.{package_in, superclass_in}
 use Rattle.jc_linker.specs.Methods.{method_at}
-use Rattle.jc_linker.specs.Resolves.{class_at_offset, class_by, class_named, class_of, class_with_token, export_of, field_of, field_target, foreign_field}
-use Rattle.jc_linker.specs.Resolves.{foreign_method, import_of, import_by_token, names_interface, resolution, static_method_by, super_target, virtual_target}
+use Rattle.jc_linker.specs.Resolve.{class_at_offset, class_by, class_named, class_of, class_with_token, export_of, field_of, field_target, foreign_field}
+use Rattle.jc_linker.specs.Resolve.{foreign_method, import_of, import_by_token, names_interface, resolution, static_method_by, super_target, virtual_target}
 use Rattle.jc_linker.specs.Values.{PackageValue, Packages}
 use Rattle.law_linking.proofs.Lists.{IfThere, then_alike, then_there}
 use Rattle.law_linking.proofs.Alike.{AreAlike, with_loaded, interface_alike, method_alike, superclass_alike}

@@ -8,12 +8,12 @@ use Rattle.jc_cap.specs.declared.pool.Entry.{Entry}
 use Rattle.jc_linker.specs.declared.target.Target.{Target}
 use Rattle.jc_linker.specs.Classes.{package_in}
 use Rattle.jc_linker.specs.Lookups.{target_at, target_of}
-use Rattle.jc_linker.specs.Resolves.{resolution}
+use Rattle.jc_linker.specs.Resolve.{resolution}
 use Rattle.jc_linker.specs.Values.{PackageValue, Packages}
 use Rattle.jc_linker.specs.Values.{LinkerComponents}
 use Rattle.jc_linker.specs.Linking.{with_package}
 use Rattle.law_linking.specs.LinkedPackages.{AreLinked, AreLinkedAgainst}
-use Rattle.law_linking.specs.Resolution.{Resolve}
+use Rattle.law_linking.specs.ResolutionLaws.{Resolve}
 use Rattle.law_linking.proofs.ResolutionLaws.{all_resolve}
 use Rattle.law_linking.proofs.LinkAnswers.{longer}
 

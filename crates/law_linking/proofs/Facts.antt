@@ -7,7 +7,7 @@ use Rattle.std.proofs.lemmas.Bool.{and_parts, false_from_ne_true, false≢true, 
 use Rattle.jc_platform.specs.declared.names.PlatformClass.{PlatformClass}
 use Rattle.jc_platform.specs.declared.names.PlatformPackage.TheVariants.{JavaLang}
 use Rattle.jc_platform.specs.declared.kinds.CellKind.{CellKind}
-use Rattle.jc_platform.specs.Distinct.{entry_of_class, home_of, is_needed_class}
+use Rattle.jc_platform.specs.NamePlaces.{entry_of_class, home_of, is_needed_class}
 use Rattle.jc_platform.specs.Hierarchy.{cells_of, holds_reference, interfaces_of, is_instantiable, is_interface, is_reference, superclass_of}
 use Rattle.jc_platform.specs.Names.{classes}
 use Rattle.jc_platform.specs.Numbers.{class_number, same_package}

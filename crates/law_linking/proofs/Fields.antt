@@ -5,7 +5,7 @@ use Rattle.std.specs.Prelude.{is_some, nat_lt, slice_get}
 use Rattle.std.specs.Option.{option_map, option_and_then}
 use Rattle.std.proofs.lemmas.Bool.{and_parts, eqb-true, false≢true, ltb-true, or_cases}
 use Rattle.jc_platform.specs.declared.names.PlatformClass.{PlatformClass}
-use Rattle.jc_platform.specs.Distinct.{class_word}
+use Rattle.jc_platform.specs.NamePlaces.{class_word}
 use Rattle.jc_platform.specs.Hierarchy.{interfaces_of, superclass_of}
 use Rattle.jc_platform.specs.Platform.{class_by_word}
 use Rattle.jc_cap.specs.declared.class_refs.ClassRef.{ClassRef}
@@ -21,11 +21,11 @@ use Rattle.jc_linker.specs.Classes.{any_is, class_in, declares_reference, extend
 use Rattle.jc_linker.specs.Classes.{platform_interfaces, is_below, lineage_from, most_classes, package_in, stands_before, superclass_by, superclass_in}
 use Rattle.jc_linker.specs.Lookups.{target_at}
 use Rattle.jc_linker.specs.Methods.{method_at}
-use Rattle.jc_linker.specs.Resolves.{class_named, class_with_token, export_of, field_of, field_target, foreign_field, foreign_method, import_by_token}
-use Rattle.jc_linker.specs.Resolves.{names_interface, resolution, static_method_by, super_target, virtual_target}
+use Rattle.jc_linker.specs.Resolve.{class_named, class_with_token, export_of, field_of, field_target, foreign_field, foreign_method, import_by_token}
+use Rattle.jc_linker.specs.Resolve.{names_interface, resolution, static_method_by, super_target, virtual_target}
 use Rattle.jc_linker.specs.Values.{ClassValue, Packages}
 use Rattle.jc_linker.specs.Values.{LinkerComponents}
-use Rattle.law_linking.specs.Fields.{HideFields}
+use Rattle.law_linking.specs.ResolutionLaws.{HideFields}
 use Rattle.law_linking.specs.LinkedPackages.{AreLinked}
 use Rattle.law_linking.proofs.Lists.{AllOf, IfThere, any_so, map_there, then_there}
 use Rattle.law_linking.proofs.ClosedPackages.{anything}

@@ -8,7 +8,7 @@ use Rattle.std.proofs.lemmas.Bool.{and_parts, cases_eq, eq-eqb, false≢true, ne
 use Rattle.std.proofs.lemmas.Option.{none-some}
 use Rattle.jc_platform.specs.Platform.{class_by_word}
 use Rattle.jc_linker.specs.Classes.{class_in, is_class, package_in, size_by, size_of}
-use Rattle.jc_linker.specs.Resolves.{names_interface}
+use Rattle.jc_linker.specs.Resolve.{names_interface}
 use Rattle.jc_linker.specs.Values.{ClassValue, Implementation, PackageValue, Packages}
 use Rattle.jc_linker.specs.Values.{LinkerComponents}
 use Rattle.jc_linker.specs.Linking.{cells_above, cells_in, next_number, with_classes, with_package}
@@ -23,7 +23,7 @@ use Rattle.law_linking.proofs.LinkAnswers.{closed_next, imports_stand, made}
 use Rattle.law_linking.proofs.Lists.{AllOf, IfThere, all_at, all_more}
 use Rattle.law_linking.proofs.Nameless.{nameless, no_class_there}
 use Rattle.law_linking.proofs.Numbers.{Stands, stands_beside}
-use Rattle.law_linking.specs.Given.{HasClassComponent}
+use Rattle.law_linking.specs.ReadPackages.{HasClassComponent}
 use Rattle.law_linking.proofs.Inherits.{Inherits, all_inherit}
 
 abbrev pub AreInterfaces : Packages → List Implementation → Type 0

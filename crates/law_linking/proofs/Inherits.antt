@@ -14,7 +14,7 @@ use Rattle.jc_cap.specs.declared.class_records.ClassRecord.TheVariants as record
 use Rattle.jc_cap.specs.Classes.{AreClasses, AreRecords, IsEarlier, IsRecord, LooksBack}
 use Rattle.jc_cap.specs.ClassValues.{RecordAt, offsets_of}
 use Rattle.jc_linker.specs.Classes.{size_of}
-use Rattle.jc_linker.specs.Resolves.{class_at_offset, class_named, class_of, class_with_token, import_of, import_by_token, class_index}
+use Rattle.jc_linker.specs.Resolve.{class_at_offset, class_named, class_of, class_with_token, import_of, import_by_token, class_index}
 use Rattle.jc_linker.specs.Values.{ClassValue, PackageValue, Packages}
 use Rattle.jc_linker.specs.Values.{LinkerComponents}
 use Rattle.jc_linker.specs.Linking.{cells_above, cells_in, class_by_record, classes_behind, next_number, with_package, word_of}

@@ -15,7 +15,7 @@ use Rattle.jc_cap.specs.ClassValues.{RecordAt}
 use Rattle.jc_linker.specs.declared.target.Target.{Target}
 use Rattle.jc_linker.specs.Classes.{is_class}
 use Rattle.jc_linker.specs.Lookups.{package_with_aid}
-use Rattle.jc_linker.specs.Resolves.{names_interface, resolution}
+use Rattle.jc_linker.specs.Resolve.{names_interface, resolution}
 use Rattle.jc_linker.specs.Values.{ClassValue, Implementation, PackageValue, Packages}
 use Rattle.jc_linker.specs.Values.{LinkerComponents}
 use Rattle.jc_linker.specs.declared.fault.LinkFault.{LinkFault}

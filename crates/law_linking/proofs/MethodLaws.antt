@@ -1,18 +1,17 @@
 -- The laws.
 use Rattle.std.proofs.Common.{◌≡◌, ℕ, ◌/◌, true, List, Some, arith}
 use Rattle.jc_platform.specs.declared.names.PlatformMethod.{PlatformMethod}
-use Rattle.jc_platform.specs.Distinct.{class_of, class_word}
+use Rattle.jc_platform.specs.NamePlaces.{class_of, class_word}
 use Rattle.jc_cap.specs.declared.pool.VirtualToken.{VirtualToken}
 use Rattle.jc_linker.specs.declared.target.Method.TheVariants.{Native}
 use Rattle.jc_linker.specs.declared.target.Target.TheVariants.{SuperMethod, VirtualMethod}
-use Rattle.jc_linker.specs.Classes.{is_below, most_classes}
+use Rattle.jc_linker.specs.Classes.{is_below, most_classes, is_a}
 use Rattle.jc_linker.specs.Methods.{method_at, method_below}
 use Rattle.jc_linker.specs.Lookups.{target_at}
 use Rattle.jc_linker.specs.Values.{Packages}
 use Rattle.jc_linker.specs.Values.{LinkerComponents}
-use Rattle.jc_linker.specs.Classes.{is_a}
 use Rattle.law_linking.proofs.EntryTargets.{few_packages}
-use Rattle.law_linking.specs.Given.{AreRead}
+use Rattle.law_linking.specs.ReadPackages.{AreRead}
 use Rattle.law_linking.proofs.Chains.{below_reached}
 use Rattle.law_linking.proofs.ClassLaws.{good_of}
 use Rattle.law_linking.proofs.CellOrder.{listed}

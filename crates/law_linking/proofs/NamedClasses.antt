@@ -9,13 +9,13 @@ use Rattle.std.proofs.lemmas.List.Quantifiers.{position-Some}
 use Rattle.jc_cap.specs.declared.class_refs.ClassRef.{ClassRef}
 use Rattle.jc_cap.specs.declared.class_refs.ClassRef.TheVariants.{External, Internal}
 use Rattle.jc_platform.specs.declared.names.PlatformClass.{PlatformClass}
-use Rattle.jc_platform.specs.Distinct.{class_word}
+use Rattle.jc_platform.specs.NamePlaces.{class_word}
 use Rattle.jc_platform.specs.Platform.{TellNames, class_by_token, class_by_word, package_by_number}
 use Rattle.jc_linker.specs.declared.target.Target.{Target}
 use Rattle.jc_linker.specs.declared.target.Target.TheVariants as targets
 use Rattle.jc_linker.specs.Classes.{class_in, is_class, package_in}
 use Rattle.jc_linker.specs.Lookups.{target_at}
-use Rattle.jc_linker.specs.Resolves.{class_at_offset, class_by, class_named, class_of, class_with_token, exported_class, import_by_token, class_index}
+use Rattle.jc_linker.specs.Resolve.{class_at_offset, class_by, class_named, class_of, class_with_token, exported_class, import_by_token, class_index}
 use Rattle.jc_linker.specs.Values.{PackageValue, Packages}
 use Rattle.jc_linker.specs.Values.{LinkerComponents}
 use Rattle.jc_linker.specs.Outlines.{outline_of}
@@ -24,7 +24,7 @@ use Rattle.law_linking.proofs.EntryTargets.{entered, there as some_at}
 use Rattle.law_linking.proofs.Fields.{any_field, any_foreign, any_super, of_entry, some_there}
 use Rattle.law_linking.proofs.ResolutionLaws.{linked_closed}
 use Rattle.law_linking.proofs.Lists.{IfThere, all_at, map_there}
-use Rattle.law_linking.specs.Given.{AreRead, HasByteTokens}
+use Rattle.law_linking.specs.ReadPackages.{AreRead, HasByteTokens}
 use Rattle.law_linking.proofs.Tokens.{HasToken, class_is, word_parts, word_told}
 
 abbrev IsThere : Packages → ℕ → Type 0

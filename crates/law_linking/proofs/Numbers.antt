@@ -7,12 +7,12 @@ use Rattle.std.proofs.lemmas.Bool.{false≢true, eqb-true}
 use Rattle.jc_platform.specs.declared.names.PlatformPackage.{PlatformPackage}
 use Rattle.jc_platform.specs.declared.names.PlatformPackage.TheVariants.{JavaLang, JavacardFramework, JavacardxApdu, JavacardSecurity, JavacardxCrypto}
 use Rattle.jc_platform.specs.declared.names.PlatformClass.{PlatformClass}
-use Rattle.jc_platform.specs.Distinct.{class_word, home_of, word_of_token}
+use Rattle.jc_platform.specs.NamePlaces.{class_word, home_of, word_of_token}
 use Rattle.jc_platform.specs.Numbers.{same_package}
 use Rattle.jc_platform.specs.Platform.{class_by_token, class_by_word, package_by_number}
 use Rattle.jc_platform.specs.Tokens.{Tokens, number_in, token_of_class}
 use Rattle.jc_linker.specs.Classes.{class_in, is_class, package_in}
-use Rattle.jc_linker.specs.Resolves.{interface_by, names_interface}
+use Rattle.jc_linker.specs.Resolve.{interface_by, names_interface}
 use Rattle.jc_linker.specs.Values.{ClassValue, PackageValue, Packages}
 
 -- a loaded package's, of this many, or one of the platform's

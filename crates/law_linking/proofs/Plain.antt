@@ -10,13 +10,13 @@ use Rattle.jc_platform.specs.declared.names.PlatformPackage.{PlatformPackage}
 use Rattle.jc_platform.specs.declared.names.PlatformPackage.TheVariants.{JavaLang, JavacardFramework, JavacardxApdu, JavacardSecurity, JavacardxCrypto}
 use Rattle.jc_platform.specs.declared.names.PlatformClass.{PlatformClass}
 use Rattle.jc_platform.specs.declared.names.PlatformMethod.{PlatformMethod}
-use Rattle.jc_platform.specs.Distinct.{is_needed_class, is_needed_method}
+use Rattle.jc_platform.specs.NamePlaces.{is_needed_class, is_needed_method}
 use Rattle.jc_platform.specs.Names.{ClassEntry, MethodEntry, classes, methods, packages}
 use Rattle.jc_platform.specs.Names.{objects_rows, exceptions_rows, utilities_rows, system_rows, aids_rows, pins_rows, applets_rows, apdus_rows, events_rows, engines_rows}
 use Rattle.jc_platform.specs.Names.{keys_rows, key_interfaces_rows, ciphers_rows}
 use Rattle.jc_platform.specs.Names.{rsa_keys_rows, ec_keys_rows, rsa_interfaces_rows, ec_interfaces_rows, key_pairs_rows}
 use Rattle.jc_platform.specs.Numbers.{class_number, is_needed_package, method_number, package_number, same_class, same_kind, same_method, same_package}
-use Rattle.jc_platform.specs.Packed.{is_packed}
+use Rattle.jc_platform.specs.PackedEntry.{is_packed}
 use Rattle.jc_platform.specs.Rows.{Above, above, allows, class_row, has_class_token, has_method_token, has_needed_packages, has_supertypes, is_package}
 use Rattle.jc_platform.specs.Rows.{kind_of, largest_token, may_be_class, may_be_extended, may_be_method, may_be_package, method_named, method_row}
 use Rattle.jc_platform.specs.Rows.{bytes_of, may_be_random, number_of, package_row, parts_at, random_row, row_of}
@@ -24,7 +24,7 @@ use Rattle.jc_platform.specs.Table.{Say, no_random}
 use Rattle.jc_platform.proofs.Distinct.{class_by_number, found_has, method_by_number}
 use Rattle.jc_platform.proofs.Lines.{are_lines, read_as_line, reverse-cons}
 use Rattle.jc_platform.proofs.Lists.{parts_cut, parts_uncut}
-use Rattle.law_linking.specs.Plain.{ArePlain}
+use Rattle.law_linking.specs.MethodLaws.{ArePlain}
 use Rattle.law_linking.proofs.Bytes.{one_of_two, where_so}
 use Rattle.law_linking.proofs.Fields.{some_there}
 use Rattle.law_linking.proofs.Lists.{IfThere}

@@ -8,7 +8,7 @@ use Rattle.jc_platform.specs.declared.names.PlatformClass.{PlatformClass}
 use Rattle.jc_platform.specs.declared.names.PlatformClass.TheVariants.{Object}
 use Rattle.jc_platform.specs.declared.names.PlatformMethod.{PlatformMethod}
 use Rattle.jc_platform.specs.declared.names.PlatformPackage.TheVariants.{JavaLang}
-use Rattle.jc_platform.specs.Distinct.{class_word, home_of}
+use Rattle.jc_platform.specs.NamePlaces.{class_word, home_of}
 use Rattle.jc_platform.specs.Names.{classes}
 use Rattle.jc_platform.specs.Hierarchy.{interfaces_of, superclass_of}
 use Rattle.jc_platform.specs.Platform.{TellNames, class_by_word, method_by_token}
@@ -19,16 +19,15 @@ use Rattle.jc_linker.specs.declared.search.Search.TheVariants.{Found}
 use Rattle.jc_linker.specs.declared.target.Method.{Method}
 use Rattle.jc_linker.specs.declared.target.Method.TheVariants.{Code}
 use Rattle.jc_linker.specs.Classes.{any_is, class_in, extends, implements, interfaces_by, interfaces_in, is_below, lineage, lineage_from, most_classes}
-use Rattle.jc_linker.specs.Classes.{superclass_in}
+use Rattle.jc_linker.specs.Classes.{superclass_in, is_a}
 use Rattle.jc_linker.specs.declared.target.Target.TheVariants.{VirtualMethod}
 use Rattle.jc_linker.specs.Lookups.{target_at}
 use Rattle.jc_linker.specs.Methods.{implementation_in, if_native, interface_method_at, lookup_classes, method_at, method_in, method_by_class, first_decided}
 use Rattle.jc_linker.specs.Values.{ClassValue, Packages}
-use Rattle.jc_linker.specs.Classes.{is_a}
 use Rattle.law_linking.proofs.Fields.{IsHigh, below_high, lineage_high, no_class}
 use Rattle.law_linking.proofs.Lists.{AllOf, all_filtered}
 use Rattle.law_linking.proofs.Numbers.{word_high}
-use Rattle.law_linking.specs.Given.{HasByteTokens}
+use Rattle.law_linking.specs.ReadPackages.{HasByteTokens}
 use Rattle.law_linking.proofs.Nameless.{names_none, token_or_none}
 use Rattle.law_linking.proofs.CellOrder.{named, not_loaded, platform_above}
 use Rattle.law_linking.proofs.Facts.{language_needed}

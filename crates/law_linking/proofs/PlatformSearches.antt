@@ -3,7 +3,7 @@ use Rattle.std.proofs.Common.{◌≡◌, ℕ, ◌⊎◌, inl, inr, List, [], ◌
 use Rattle.std.proofs.lemmas.Option.{none-some, option_and_then_some, same_Some}
 use Rattle.jc_platform.specs.declared.names.MethodKind.TheVariants as kinds
 use Rattle.jc_platform.specs.declared.names.PlatformMethod.{PlatformMethod}
-use Rattle.jc_platform.specs.Distinct.{kind_of_method}
+use Rattle.jc_platform.specs.NamePlaces.{kind_of_method}
 use Rattle.jc_platform.specs.Numbers.{kind_number}
 use Rattle.jc_cap.specs.declared.pool.VirtualToken.{VirtualToken}
 use Rattle.jc_cap.specs.declared.pool.VirtualToken.TheVariants.{Public}

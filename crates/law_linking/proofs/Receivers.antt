@@ -10,7 +10,7 @@ use Rattle.jc_platform.specs.declared.names.MethodKind.{MethodKind}
 use Rattle.jc_platform.specs.declared.names.MethodKind.TheVariants as kinds
 use Rattle.jc_platform.specs.declared.names.PlatformClass.{PlatformClass}
 use Rattle.jc_platform.specs.declared.names.PlatformMethod.{PlatformMethod}
-use Rattle.jc_platform.specs.Distinct.{class_of, class_word, kind_of_method}
+use Rattle.jc_platform.specs.NamePlaces.{class_of, class_word, kind_of_method}
 use Rattle.jc_platform.specs.Numbers.{kind_number}
 use Rattle.jc_platform.specs.Platform.{class_by_word, method_by_token}
 use Rattle.jc_cap.specs.declared.pool.VirtualToken.{VirtualToken}
@@ -21,13 +21,12 @@ use Rattle.jc_linker.specs.declared.target.Method.{Method}
 use Rattle.jc_linker.specs.declared.target.Method.TheVariants.{Code, Native}
 use Rattle.jc_linker.specs.declared.target.Target.{Target}
 use Rattle.jc_linker.specs.declared.target.Target.TheVariants as targets
-use Rattle.jc_linker.specs.Classes.{any_is, class_in, implements, is_below, lineage}
+use Rattle.jc_linker.specs.Classes.{any_is, class_in, implements, is_below, lineage, is_a}
 use Rattle.jc_linker.specs.Lookups.{target_at}
 use Rattle.jc_linker.specs.Methods.{by_offset, if_native, in_table, lookup_classes, method_at, method_in, method_by_class, first_decided, found_or_above}
-use Rattle.jc_linker.specs.Resolves.{class_named as named_class, class_with_token, export_of, foreign_method, static_method_by}
+use Rattle.jc_linker.specs.Resolve.{class_named as named_class, class_with_token, export_of, foreign_method, static_method_by}
 use Rattle.jc_linker.specs.Values.{ClassValue, Export, MethodTable, Packages}
 use Rattle.jc_linker.specs.Values.{LinkerComponents}
-use Rattle.jc_linker.specs.Classes.{is_a}
 use Rattle.law_linking.specs.LinkedPackages.{AreLinked}
 use Rattle.law_linking.proofs.EntryTargets.{entered}
 use Rattle.law_linking.proofs.Fields.{any_field, any_super, mapped_there, of_entry, some_there}

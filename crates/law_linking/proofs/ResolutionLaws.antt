@@ -15,13 +15,12 @@ use Rattle.jc_linker.specs.declared.target.Target.{Target}
 use Rattle.jc_linker.specs.Classes.{class_in, interfaces_in, package_in, superclass_in}
 use Rattle.jc_linker.specs.Lookups.{applet_entry, applet_of, code_at, entry_at, entry_with_aid, package_with_aid, if_entry, methods_of, statics_at, statics_of}
 use Rattle.jc_linker.specs.Lookups.{target_at, target_of}
-use Rattle.jc_linker.specs.Resolves.{class_at_offset, class_with_token, import_by_token, resolution}
+use Rattle.jc_linker.specs.Resolve.{class_at_offset, class_with_token, import_by_token, resolution}
 use Rattle.jc_linker.specs.Values.{PackageValue, Packages}
 use Rattle.jc_linker.specs.Values.{LinkerComponents}
 use Rattle.jc_linker.specs.Linking.{next_number, with_classes, with_package}
 use Rattle.law_linking.specs.LinkedPackages.{AreLinkedAgainst, IsLinkedAgainst}
-use Rattle.law_linking.specs.Stability.{AddingKeeps, PackageStays, Stays}
-use Rattle.law_linking.specs.Resolution.{AllResolve, Resolve}
+use Rattle.law_linking.specs.ResolutionLaws.{AddingKeeps, PackageStays, Stays, AllResolve, Resolve}
 use Rattle.law_linking.proofs.Lists.{AllOf}
 use Rattle.law_linking.proofs.Alike.{AreAlike, class_stays}
 use Rattle.law_linking.proofs.Entries.{NamesAlike, bare, resolves_alike}

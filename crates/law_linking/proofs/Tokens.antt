@@ -10,13 +10,13 @@ use Rattle.jc_platform.specs.declared.names.PlatformPackage.TheVariants.{JavaLan
 use Rattle.jc_platform.specs.declared.names.PlatformClass.{PlatformClass}
 use Rattle.jc_platform.specs.declared.names.MethodKind.{MethodKind}
 use Rattle.jc_platform.specs.declared.names.PlatformMethod.{PlatformMethod}
-use Rattle.jc_platform.specs.Distinct.{class_of, class_word, home_of, kind_of_method, word_of_token}
+use Rattle.jc_platform.specs.NamePlaces.{class_of, class_word, home_of, kind_of_method, word_of_token}
 use Rattle.jc_platform.specs.Names.{ClassEntry, MethodEntry, classes, methods}
 use Rattle.jc_platform.specs.Numbers.{class_number, kind_number, package_number, same_class, same_kind, same_package}
 use Rattle.jc_platform.specs.Platform.{TellNames, class_by_token, class_by_word, method_by_token, package_by_number}
 use Rattle.jc_platform.specs.Tokens.{Tokens, number_in, token_of_class, token_of_method}
 use Rattle.jc_platform.specs.Rows.{is_token}
-use Rattle.law_linking.specs.Given.{HasByteTokens}
+use Rattle.law_linking.specs.ReadPackages.{HasByteTokens}
 use Rattle.jc_platform.proofs.Distinct.{class_by_number, found_has}
 use Rattle.jc_platform.proofs.Facts.{homes, method_homes}
 

@@ -4,7 +4,7 @@ use Rattle.jc_linker.specs.Values.{Packages}
 use Rattle.jc_linker.specs.Values.{LinkerComponents}
 use Rattle.law_linking.specs.LinkedPackages.{AreLinked}
 use Rattle.law_linking.specs.Classes.{HasAids, HasFieldCells, HasPlatformCells, HasReceivers, KnowsClasses}
-use Rattle.law_linking.specs.Given.{AreRead, HasAppletComponent}
+use Rattle.law_linking.specs.ReadPackages.{AreRead, HasAppletComponent}
 
 -- instances of the platform's classes, and of those below, have the platform's cells
 abbrev pub HaveCells : Type 0

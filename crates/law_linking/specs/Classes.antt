@@ -4,17 +4,16 @@ use Rattle.jc_cap.specs.declared.pool.VirtualToken.{VirtualToken}
 use Rattle.jc_platform.specs.declared.names.PlatformClass.{PlatformClass}
 use Rattle.jc_platform.specs.declared.names.PlatformMethod.{PlatformMethod}
 use Rattle.jc_platform.specs.declared.names.MethodKind.TheVariants as kinds
-use Rattle.jc_platform.specs.Distinct.{class_of, class_word, is_needed_class, kind_of_method}
+use Rattle.jc_platform.specs.NamePlaces.{class_of, class_word, is_needed_class, kind_of_method}
 use Rattle.jc_platform.specs.Hierarchy.{cells_of, holds_reference, is_interface, superclass_of}
 use Rattle.jc_platform.specs.Tokens.{token_of_class}
 use Rattle.jc_linker.specs.declared.target.Method.TheVariants.{Native}
 use Rattle.jc_linker.specs.declared.target.Target.TheVariants.{Class, InstanceField, StaticMethod}
-use Rattle.jc_linker.specs.Classes.{is_below, is_class, reference_cell, size_of}
+use Rattle.jc_linker.specs.Classes.{is_below, is_class, reference_cell, size_of, is_a}
 use Rattle.jc_linker.specs.Lookups.{applet_entry, target_at}
 use Rattle.jc_linker.specs.Methods.{method_at}
-use Rattle.jc_linker.specs.Resolves.{names_interface}
+use Rattle.jc_linker.specs.Resolve.{names_interface}
 use Rattle.jc_linker.specs.Values.{AppletEntry, Packages}
-use Rattle.jc_linker.specs.Classes.{is_a}
 
 -- a class of which there may be instances: no interface, and with no more cells than an object can have
 abbrev pub has_instances : Packages → ℕ → Bool

@@ -2,10 +2,7 @@ pub mod Classes
 pub mod Methods
 pub mod Platform
 pub mod LinkedPackages
-pub mod Stability
-pub mod Resolution
-pub mod Fields
-pub mod Given
+pub mod ResolutionLaws
+pub mod ReadPackages
 pub mod ClassLaws
 pub mod MethodLaws
-pub mod Plain

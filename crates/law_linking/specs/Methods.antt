@@ -6,14 +6,13 @@ use Rattle.jc_platform.specs.declared.names.MethodKind.TheVariants.{Static}
 use Rattle.jc_platform.specs.declared.names.PlatformClass.{PlatformClass}
 use Rattle.jc_platform.specs.declared.names.PlatformClass.TheVariants.{Object}
 use Rattle.jc_platform.specs.declared.names.PlatformMethod.{PlatformMethod}
-use Rattle.jc_platform.specs.Distinct.{class_of, class_word, kind_of_method}
+use Rattle.jc_platform.specs.NamePlaces.{class_of, class_word, kind_of_method}
 use Rattle.jc_linker.specs.declared.target.Method.TheVariants.{Native}
 use Rattle.jc_linker.specs.declared.target.Target.TheVariants.{SuperMethod, VirtualMethod}
-use Rattle.jc_linker.specs.Classes.{is_below}
+use Rattle.jc_linker.specs.Classes.{is_below, is_a}
 use Rattle.jc_linker.specs.Lookups.{target_at}
 use Rattle.jc_linker.specs.Methods.{interface_method_at, method_at}
 use Rattle.jc_linker.specs.Values.{Packages}
-use Rattle.jc_linker.specs.Classes.{is_a}
 
 -- a method of the platform may be called on instances of a class: it is one of this class, or of one above, and no static one
 abbrev pub IsMethodOf : Packages → ℕ → PlatformMethod → Type 0

@@ -2,7 +2,7 @@
 use Rattle.std.specs.Prelude.{ℕ, ◌≡◌, true, Some}
 use Rattle.jc_cap.specs.declared.pool.VirtualToken.{VirtualToken}
 use Rattle.jc_platform.specs.declared.names.PlatformClass.{PlatformClass}
-use Rattle.jc_platform.specs.Distinct.{class_word}
+use Rattle.jc_platform.specs.NamePlaces.{class_word}
 use Rattle.jc_linker.specs.declared.target.Method.TheVariants.{Code}
 use Rattle.jc_linker.specs.declared.target.Target.TheVariants.{VirtualMethod}
 use Rattle.jc_linker.specs.Classes.{is_below}

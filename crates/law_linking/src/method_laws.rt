@@ -1,6 +1,5 @@
 //! Laws of the definitions of methods, and of the platform's tokens.
-ghost use Rattle.law_linking.specs.MethodLaws.{HaveBytes, HaveMethods, HaveNoCode, RunTheirMethods};
-ghost use Rattle.law_linking.specs.Plain.{ArePlain};
+ghost use Rattle.law_linking.specs.MethodLaws.{HaveBytes, HaveMethods, HaveNoCode, RunTheirMethods, ArePlain};
 
 /// Among packages that were linked, each onto those before it, what a call by token, one by interface and one
 /// of a superclass's method find of the platform is a method of the receiver's class, by the first two no

@@ -1,7 +1,5 @@
 //! Laws of the definitions of linking.
-ghost use Rattle.law_linking.specs.Fields.{HideFields};
-ghost use Rattle.law_linking.specs.Resolution.{AllResolve};
-ghost use Rattle.law_linking.specs.Stability.{AddingKeeps};
+ghost use Rattle.law_linking.specs.ResolutionLaws.{HideFields, AllResolve, AddingKeeps};
 
 /// Where one more package comes after packages that were linked, each onto those before it, all look-ups stay
 /// as they were in each package and each class but those of the new one's number: what entries resolve to,

@@ -14,7 +14,7 @@ use Rattle.jc_heap.specs.declared.place.AppletEntry.{AppletEntry}
 use Rattle.jc_heap.specs.Heap.{HeapState, IsObject, add_object, cells, facts, heap_item_at, is_allocated, set_cells}
 use Rattle.jc_heap.specs.Moves.{Commit, SetCells, SetPlaces, new_move}
 use Rattle.jc_heap.specs.Object.{AnObject, Object, header_only, cells_of, facts_of, is_object, new_object, object_size}
-use Rattle.jc_heap.specs.Places.{applet_changes}
+use Rattle.jc_heap.specs.Place.{applet_changes}
 use Rattle.jc_heap.proofs.Laws.{heap_item_at-add_object, heap_item_at-add_other, object_named, same_facts}
 use Rattle.jc_heap.proofs.Keeping.{object-header_only}
 use Rattle.jc_frames.specs.declared.outcome.FrameExit.{FrameExit}
@@ -24,17 +24,16 @@ use Rattle.jc_memory.specs.declared.registers.PackageNumber.{PackageNumber}
 use Rattle.jc_memory.specs.Owners.{owner_number}
 use Rattle.jc_memory.specs.State.{MemoryState, HeapMove, IsNew, SetRegisters, apply_effect}
 use Rattle.jc_memory.specs.Cells.{byte_at, header_at}
-use Rattle.jc_linker.specs.Classes.{is_class, reference_cell, size_of}
+use Rattle.jc_linker.specs.Classes.{is_class, reference_cell, size_of, is_a}
 use Rattle.jc_linker.specs.Lookups.{applet_entry}
-use Rattle.jc_linker.specs.Resolves.{names_interface}
+use Rattle.jc_linker.specs.Resolve.{names_interface}
 use Rattle.jc_linker.specs.Values.{Packages}
 use Rattle.jc_platform.specs.declared.names.PlatformClass.TheVariants.{Aid, Applet, OwnerPin}
-use Rattle.jc_platform.specs.Distinct.{class_word}
+use Rattle.jc_platform.specs.NamePlaces.{class_word}
 use Rattle.jc_platform.specs.Hierarchy.{is_interface}
 use Rattle.jc_platform.specs.Hierarchy as platform
 use Rattle.jc_platform.specs.Names.{classes}
 use Rattle.jc_packages.specs.Objects.{is_instance, is_object_address}
-use Rattle.jc_linker.specs.Classes.{is_a}
 use Rattle.jc_packages.specs.Sound.{aid_in, aid_of_entry, entry_word, holds_aid}
 use Rattle.jc_world.specs.declared.arrays.Stretch.{Stretch}
 use Rattle.jc_world.specs.declared.native_result.NativeResult.{NativeResult}
@@ -46,8 +45,8 @@ use Rattle.jc_api_framework.specs.Applet.{install_aid}
 use Rattle.jc_api_framework.specs.Applet.Register.{is_owned, next_number, open_installation, with_installation}
 use Rattle.law_linking.proofs.Facts.{numbers_before}
 use Rattle.law_linking.specs.Classes.{HasAids, KnowsClasses}
-use Rattle.law_soundness.specs.Fit.{AreCellsOf, FitsNew, FitsObject, FitsRun, FitsTurn, IsFit, KeepsSound, OfRegistry, RegistersApplet}
-use Rattle.law_soundness.specs.State.{IsSoundMemory, IsSteady, is_home, is_open, is_owner_up_to}
+use Rattle.law_soundness.specs.MemoryLaws.Fit.{AreCellsOf, FitsNew, FitsObject, FitsRun, FitsTurn, IsFit, KeepsSound, OfRegistry, RegistersApplet}
+use Rattle.law_soundness.specs.MemoryLaws.State.{IsSoundMemory, IsSteady, is_home, is_open, is_owner_up_to}
 use Rattle.jc_api.proofs.Reaching.{header_is}
 use Rattle.jc_api.proofs.Stretches.{length_bytes}
 use Rattle.jc_api_framework.proofs.AppletCalls.Registering.{MayRegister, Registering}

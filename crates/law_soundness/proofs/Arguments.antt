@@ -7,7 +7,7 @@ use Rattle.std.specs.Prelude.{pos, nat_le, slice_get, ◌==◌}
 use Rattle.jc_frames.specs.declared.cell.Cell.{Cell}
 use Rattle.jc_frames.specs.declared.cell.Cell.TheVariants.{Short}
 use Rattle.jc_frames.specs.Calls.{arguments_on}
-use Rattle.jc_frames.specs.Cells.{as_reference}
+use Rattle.jc_frames.specs.Cell.{as_reference}
 use Rattle.jc_world.specs.Objects.{reference_argument}
 use Rattle.jc_instructions.specs.Invoke.{receiver_on}
 use Rattle.law_code.proofs.Receivers.{args_are, first_is}

@@ -27,13 +27,13 @@ use Rattle.jc_world.specs.Values.{keepable}
 use Rattle.jc_instructions.specs.ArrayElements.{assignable_or_null, element_value, has_elements, element_if_assignable}
 use Rattle.jc_instructions.specs.ArrayCreation.{kind_of}
 use Rattle.law_linking.specs.Classes.{KnowsClasses}
-use Rattle.law_soundness.specs.Fit.{FitsFill, FitsValue, IsFit}
-use Rattle.law_soundness.specs.State.{IsLivingValue, IsSoundMemory, IsSteady}
+use Rattle.law_soundness.specs.MemoryLaws.Fit.{FitsFill, FitsValue, IsFit}
+use Rattle.law_soundness.specs.MemoryLaws.State.{IsLivingValue, IsSoundMemory, IsSteady}
 use Rattle.law_code.proofs.Instructions.{arrays_due}
 use Rattle.jc_api.proofs.Passing.{Makes}
 use Rattle.jc_api.proofs.Reaching.{err_not_ok, same_Ok}
 use Rattle.law_code.proofs.EffectConditions.{ArraysPass, new_for}
-use Rattle.law_soundness.specs.Groups.{ArraysFit}
+use Rattle.law_soundness.specs.MachineLaws.Groups.{ArraysFit}
 use Rattle.law_soundness.proofs.RunObjects.{active_known, new_kept, one_fits, set_in}
 use Rattle.law_soundness.proofs.RunValues.{HasType, IsRef, element_of, has_type, keepable_is, keepable_lives, keepable_same}
 

@@ -17,12 +17,12 @@ use Rattle.jc_instructions.specs.Enter.{method_entry, registers_in_callee}
 use Rattle.jc_instructions.specs.ServerCall.{server_call}
 use Rattle.jc_api.proofs.Due.{due_of}
 use Rattle.law_code.proofs.Walk.{AnyCell, EntersPass, asking, entering}
-use Rattle.law_soundness.specs.Fit.{IsFit}
-use Rattle.law_soundness.specs.State.{IsSoundMemory, is_owner_up_to, most_owner}
-use Rattle.law_soundness.specs.Natives.{IsReceiver}
+use Rattle.law_soundness.specs.MemoryLaws.Fit.{IsFit}
+use Rattle.law_soundness.specs.MemoryLaws.State.{IsSoundMemory, is_owner_up_to, most_owner}
+use Rattle.law_soundness.specs.MachineLaws.Natives.{IsReceiver}
 use Rattle.law_soundness.proofs.Natives.{natives_are_fit}
 use Rattle.law_linking.specs.Methods.{KnowsMethods}
-use Rattle.law_soundness.specs.Steps.{AsksFit, CallsFit, IsSoundInvoke, callee_of}
+use Rattle.law_soundness.specs.MachineLaws.Steps.{AsksFit, CallsFit, IsSoundInvoke, callee_of}
 use Rattle.law_soundness.proofs.Arguments.{receiver_first}
 use Rattle.law_soundness.proofs.LivingReferences.{arguments_living}
 use Rattle.law_soundness.proofs.Receivers.{aid_minds}

@@ -13,7 +13,7 @@ use Rattle.jc_memory.specs.declared.making.NewObject.{NewObject}
 use Rattle.jc_memory.specs.declared.registers.Owner.{Owner}
 use Rattle.jc_memory.specs.declared.registers.PackageNumber.{PackageNumber}
 use Rattle.jc_memory.specs.Cells.{cell_effect_in, cells_effect_in}
-use Rattle.jc_memory.specs.Changing.{nonatomic_store}
+use Rattle.jc_memory.specs.Changes.{nonatomic_store}
 use Rattle.jc_memory.specs.Making.{creation_move}
 use Rattle.jc_memory.specs.Owners.{owner_number, owner_of}
 use Rattle.jc_memory.specs.Programs.{Program, Finish, Perform, Choose, Either}
@@ -63,15 +63,15 @@ use Rattle.jc_instructions.specs.Invoke.{call_decision, call_of, receiver_of}
 use Rattle.jc_instructions.specs.ServerCall.{with_local}
 use Rattle.jc_interp.proofs.Calls.{method_due}
 use Rattle.jc_interp.specs.Natives.{native_call}
-use Rattle.jc_interp.specs.Stepping.{at_place, instruction_at, machine_step}
+use Rattle.jc_interp.specs.Step.{at_place, instruction_at, machine_step}
 use Rattle.law_code.proofs.Bytes.{store_due}
 use Rattle.law_code.proofs.StepsInMethod.{IsPlainNext, StaysIn}
 use Rattle.law_code.proofs.Instructions.{any_frame, any_reads, arrays_going, checked_going, examined_going, fields_going, made_going}
 use Rattle.law_code.proofs.EffectConditions.{ArraysPass, FieldsPass, InstancesPass}
 use Rattle.law_code.proofs.MethodSelection.{Bare, Found, Named, Selected, selected}
 use Rattle.law_code.proofs.Walk.{AnyCell, EntersPass, IsAlone, IsAnswered, LeavesPass, any_handed, walked_of, walked_step}
-use Rattle.law_code.specs.Steps.{IsCalled}
-use Rattle.law_soundness.specs.OwnerSwitches.{AsksServer, Cause, Called, Asked, Left, FollowsWithin, HasLeft, IsOfStep, IsSwitchingCall, SwitchesHaveCauses}
+use Rattle.law_code.specs.IsolationLaws.Steps.{IsCalled}
+use Rattle.law_soundness.specs.MachineLaws.OwnerSwitches.{AsksServer, Cause, Called, Asked, Left, FollowsWithin, HasLeft, IsOfStep, IsSwitchingCall, SwitchesHaveCauses}
 
 -- ---- what is done in a method
 

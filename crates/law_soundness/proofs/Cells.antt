@@ -5,15 +5,14 @@ use Rattle.std.proofs.lemmas.List.{get_or-set_same, get_or-set_other}
 use Rattle.std.proofs.lemmas.Bool.{and_parts, cases_Bool, cases_eq, or_left, or_right, not_from_false, leb-true, le-leb}
 use Rattle.jc_platform.specs.declared.names.PlatformClass.TheVariants.{Aid, OwnerPin}
 use Rattle.jc_heap.specs.Object.{AnObject, APackage, Item, cells_of, is_object, with_cell}
-use Rattle.jc_heap.specs.Components.{record_of, words_of}
+use Rattle.jc_heap.specs.Component.{record_of, words_of}
 use Rattle.jc_heap.specs.Heap.{HeapState, IsObject, cells, facts, heap_item_at, is_allocated, set_cell}
 use Rattle.jc_heap.proofs.Laws.{header_only-set_cell, cells-set_other, cells-with_cell, facts-set_cell, heap_item_at-set_cell, heap_item_at-set_other}
 use Rattle.jc_heap.proofs.Laws.{length-cells-set_cell, object_named, set_cell-absent}
 use Rattle.jc_heap.proofs.Keeping.{object-header_only}
-use Rattle.jc_linker.specs.Classes.{reference_cell}
+use Rattle.jc_linker.specs.Classes.{reference_cell, is_a}
 use Rattle.jc_linker.specs.Values.{Packages}
 use Rattle.jc_packages.specs.Objects.{HoldsReferences, fits_aid, fits_pin, is_persistent_instance, is_reference, is_object_address}
-use Rattle.jc_linker.specs.Classes.{is_a}
 use Rattle.jc_packages.specs.Sound.{entry_word}
 use Rattle.law_soundness.proofs.Lists.{first_set}
 use Rattle.law_soundness.proofs.HeapChanges.{AidsStay, Carries, HoldsBut, IsFitBut, IsSoundBut, object_kept, object_new, pin_kept, pin_same, records_kept}

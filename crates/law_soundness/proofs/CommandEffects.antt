@@ -5,7 +5,7 @@ use Rattle.std.proofs.lemmas.Bool.{both_ways, cases_Bool}
 use Rattle.jc_heap.specs.declared.place.Place.{Place}
 use Rattle.jc_heap.specs.declared.place.Place.TheVariants.{Cell, Static, Registry, AppletCount}
 use Rattle.jc_heap.specs.Heap.{HeapState, goes_back}
-use Rattle.jc_heap.specs.Places.{place_at, set_place, set_places}
+use Rattle.jc_heap.specs.Place.{place_at, set_place, set_places}
 use Rattle.jc_heap.specs.Moves.{Move, Write, SetPlaces, WriteNonAtomic, SetCells, AddObject, AddTransient, AddPackage, Begin, Commit, Abort}
 use Rattle.jc_memory.specs.declared.registers.Registers.{Registers}
 use Rattle.jc_memory.specs.Owners.{owner_number}
@@ -14,18 +14,18 @@ use Rattle.jc_memory.specs.State.{apply_effect}
 use Rattle.jc_memory.specs.Programs.{Program, Finish, Perform, Choose, Either}
 use Rattle.jc_memory.specs.Reading.{AllDue, AllResults}
 use Rattle.jc_linker.specs.Values.{Packages}
-use Rattle.law_soundness.specs.Environment.{HasEnvironment}
+use Rattle.law_soundness.specs.MemoryLaws.Environment.{HasEnvironment}
 use Rattle.jc_environment.specs.Pins.{record_of as pin_of}
-use Rattle.jc_environment.specs.PinInit.{first_record}
-use Rattle.jc_environment.specs.PinUpdates.{changes_of_update}
-use Rattle.law_soundness.specs.Fit.{FitsChange, FitsMove, FitsPlace, FitsTurn, IsFit, OfPin, OfPlaces, OfRegistry, OfValue}
-use Rattle.law_soundness.specs.State.{IsSoundMemory, is_home, is_open, is_owner_up_to, most_owner}
+use Rattle.jc_environment.specs.Pins.PinInit.{first_record}
+use Rattle.jc_environment.specs.Pins.Updates.{changes_of_update}
+use Rattle.law_soundness.specs.MemoryLaws.Fit.{FitsChange, FitsMove, FitsPlace, FitsTurn, IsFit, OfPin, OfPlaces, OfRegistry, OfValue}
+use Rattle.law_soundness.specs.MemoryLaws.State.{IsSoundMemory, is_home, is_open, is_owner_up_to, most_owner}
 use Rattle.law_soundness.proofs.Effects.{keeps_sound}
 use Rattle.law_soundness.proofs.Environment.{keeps_environment}
 use Rattle.law_soundness.proofs.Frames.{bytes_held, cell_frames, object_frames, places_frames, run_frames, places_held, transient_frames, word_frames}
 use Rattle.law_soundness.proofs.HeapChanges.{owner_more}
 use Rattle.law_soundness.proofs.Memories.{choose, turned_kept}
-use Rattle.law_soundness.specs.Commands.{IsServed, OpensInstallation, ServingKeeps}
+use Rattle.law_soundness.specs.MachineLaws.Commands.{IsServed, OpensInstallation, ServingKeeps}
 
 -- ---- an installation begins
 

@@ -11,10 +11,10 @@ use Rattle.jc_frames.specs.Frames.{Frames, Next, GoesOn, Throws}
 use Rattle.jc_frames.specs.Frames as frames
 use Rattle.jc_interp.specs.declared.attacks.Attack.{Attack}
 use Rattle.jc_interp.specs.Attacks.{attacked_step}
-use Rattle.jc_interp.specs.Running.{or_end, run_of}
-use Rattle.law_code.specs.Runs.{RunSteps}
+use Rattle.jc_interp.specs.Run.{or_end, run_of}
+use Rattle.law_code.specs.IsolationLaws.Runs.{RunSteps}
 use Rattle.law_soundness.specs.References.{MayBegin}
-use Rattle.law_soundness.specs.CommandParts.{IsByEnvironment, IsDispatched, Stops, Does, Chooses, OneOf, Runs, IsOfRun, DispatchedAreRuns}
+use Rattle.law_soundness.specs.MachineLaws.CommandParts.{IsByEnvironment, IsDispatched, Stops, Does, Chooses, OneOf, Runs, IsOfRun, DispatchedAreRuns}
 
 -- ---- one after the other
 

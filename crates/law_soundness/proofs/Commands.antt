@@ -26,7 +26,7 @@ use Rattle.jc_linker.specs.Lookups.{applet_entry, entry_with_aid}
 use Rattle.jc_linker.specs.Values.{Packages}
 use Rattle.jc_platform.specs.declared.names.PlatformMethod.TheVariants.{Applets}
 use Rattle.jc_platform.specs.declared.names.AppletsMethod.TheVariants.{AppletDeselect, AppletProcess, AppletSelect}
-use Rattle.jc_interp.specs.Running.{bare_frames, no_package, run_ad_hoc}
+use Rattle.jc_interp.specs.Run.{bare_frames, no_package, run_ad_hoc}
 use Rattle.jc_memory.specs.Reading.{AllDue, AllResults}
 use Rattle.jc_memory.proofs.ProgramLemmas.{each_did, each_more}
 use Rattle.jc_interp.specs.declared.attacks.Budget.{Budget}
@@ -38,15 +38,15 @@ use Rattle.jc_dispatch.specs.Create.{field_of, first_with_entry, creation_by_ent
 use Rattle.jc_dispatch.specs.AppletResult.{is_select_accepted}
 use Rattle.jc_dispatch.specs.Install.{applet_installation, next_applet, with_installation}
 use Rattle.jc_dispatch.specs.AdHocCode.{ad_hoc_run}
-use Rattle.jc_dispatch.specs.Phases.{applet_method_call, close, instance_of, method_run}
-use Rattle.jc_dispatch.specs.Selecting.{after_select, header_of, applet_left, deselection, manager_selection, process_command, applet_selection, with_command, with_next, with_selected}
-use Rattle.law_soundness.specs.Environment.{HasEnvironment}
-use Rattle.law_soundness.specs.Fit.{FitsTurn, IsFit}
-use Rattle.law_soundness.specs.State.{IsSoundMemory, IsSteady, is_applet, is_home, is_open, is_owner_up_to, most_owner}
+use Rattle.jc_dispatch.specs.Phase.{applet_method_call, close, instance_of, method_run}
+use Rattle.jc_dispatch.specs.Select.{after_select, header_of, applet_left, deselection, manager_selection, process_command, applet_selection, with_command, with_next, with_selected}
+use Rattle.law_soundness.specs.MemoryLaws.Environment.{HasEnvironment}
+use Rattle.law_soundness.specs.MemoryLaws.Fit.{FitsTurn, IsFit}
+use Rattle.law_soundness.specs.MemoryLaws.State.{IsSoundMemory, IsSteady, is_applet, is_home, is_open, is_owner_up_to, most_owner}
 use Rattle.law_soundness.proofs.HeapChanges.{owner_more}
 use Rattle.law_soundness.specs.Machines.{IsSoundMachine}
-use Rattle.law_soundness.specs.Soundness.{AreKnown, RunsAreSound}
-use Rattle.law_soundness.specs.Commands.{CommandsAreSound, IsReady, LeavesReady, OpensInstallation}
+use Rattle.law_soundness.specs.MachineLaws.Soundness.{AreKnown, RunsAreSound}
+use Rattle.law_soundness.specs.MachineLaws.Commands.{CommandsAreSound, IsReady, LeavesReady, OpensInstallation}
 use Rattle.law_soundness.proofs.Phases.{Good, IsFilled, MayRun, called_good, closed_good, filled_good, good_bind, good_gives, good_more}
 use Rattle.law_soundness.specs.LivingReferences.{AreLivingCells}
 use Rattle.law_soundness.proofs.LivingReferences.{first_living, more_living, none_living}

@@ -11,11 +11,11 @@ use Rattle.jc_heap.specs.declared.place.Place.{Place}
 use Rattle.jc_heap.specs.declared.place.Place.TheVariants.{Cell, Static, Registry, AppletCount}
 use Rattle.jc_heap.specs.Object.{facts_of, header_only, is_object, new_object, object_size, transient_size}
 use Rattle.jc_heap.specs.Heap.{HeapState, LacksCells, add_object, add_transient, cells, facts, goes_back, heap_item_at, is_allocated, set_cell, set_cells}
-use Rattle.jc_heap.specs.Keeping.{AreLegalValues, IsLegalValue}
+use Rattle.jc_heap.specs.HeapLaws.{AreLegalValues, IsLegalValue}
 use Rattle.jc_heap.specs.Moves.{Move, Write, SetPlaces, WriteNonAtomic, SetCells, AddObject, AddTransient, AddPackage, Begin, Commit, Abort, new_move}
-use Rattle.jc_heap.specs.Places.{applet_changes, place_at, set_places, cell_changes}
+use Rattle.jc_heap.specs.Place.{applet_changes, place_at, set_places, cell_changes}
 use Rattle.jc_heap.specs.Statics.{set_word}
-use Rattle.jc_heap.specs.Whole.{IsReference}
+use Rattle.jc_heap.specs.WholeHeap.{IsReference}
 use Rattle.jc_heap.proofs.KeepingMoves.{keeps}
 use Rattle.jc_heap.proofs.KeptWords.{outside_none_goes_back}
 use Rattle.jc_heap.proofs.Laws.{header_only-set_cell, facts-set_cell, heap_item_at-absent, same_facts, set_cell-absent}
@@ -25,11 +25,11 @@ use Rattle.jc_memory.specs.Owners.{owner_number}
 use Rattle.jc_memory.specs.State.{MemoryState, Effect, HeapMove, SetTransient, SetFlag, ClearTransient, SetRegisters, BeginCommand, SendBytes}
 use Rattle.jc_memory.specs.State.{apply_effect, ram_after_move}
 use Rattle.jc_linker.specs.Values.{Packages}
-use Rattle.jc_environment.specs.PinInit.{first_record}
+use Rattle.jc_environment.specs.Pins.PinInit.{first_record}
 use Rattle.jc_packages.specs.Objects.{is_bytes, is_instance, is_persistent_instance}
-use Rattle.law_soundness.specs.State.{IsFitObject, IsSoundMemory, IsSoundUpTo, is_applet, is_open, is_owner_up_to, last_own, most_owner}
-use Rattle.law_soundness.specs.Fit.{FitsChange, FitsMove, FitsNew, FitsPlace, FitsRun, IsFit, IsPinObject, KeepsSound, OfPin, OfPlaces, OfRegistry}
-use Rattle.law_soundness.specs.Fit.{OfValue, RegistersApplet, SetsAid, SetsUpPin, UpdatesPin}
+use Rattle.law_soundness.specs.MemoryLaws.State.{IsFitObject, IsSoundMemory, IsSoundUpTo, is_applet, is_open, is_owner_up_to, last_own, most_owner}
+use Rattle.law_soundness.specs.MemoryLaws.Fit.{FitsChange, FitsMove, FitsNew, FitsPlace, FitsRun, IsFit, IsPinObject, KeepsSound, OfPin, OfPlaces, OfRegistry}
+use Rattle.law_soundness.specs.MemoryLaws.Fit.{OfValue, RegistersApplet, SetsAid, SetsUpPin, UpdatesPin}
 use Rattle.law_soundness.proofs.Frames.{Frames, bytes_held, cell_frames, object_frames, places_frames, places_headers, places_held, run_frames, run_headers, same_object}
 use Rattle.law_soundness.proofs.Frames.{transient_frames}
 use Rattle.law_soundness.proofs.Transients.{cleared_carried, fill_carried, flags_carried, names_object, object_carried, same_carried, transient_carried}

@@ -10,8 +10,8 @@ use Rattle.jc_memory.specs.State.{MemoryState}
 use Rattle.jc_linker.specs.Values.{Packages}
 use Rattle.jc_api_framework.specs.Applet.Register.{open_installation}
 use Rattle.jc_api_framework.proofs.Passing.{Bears}
-use Rattle.law_soundness.specs.Fit.{FitsTurn, IsFit}
-use Rattle.law_soundness.specs.State.{IsSoundMemory, is_home, is_open, is_owner_up_to}
+use Rattle.law_soundness.specs.MemoryLaws.Fit.{FitsTurn, IsFit}
+use Rattle.law_soundness.specs.MemoryLaws.State.{IsSoundMemory, is_home, is_open, is_owner_up_to}
 use Rattle.law_soundness.proofs.Effects.{keeps_sound}
 
 -- registers that have the same owner, the same installation and the same selected applet

@@ -17,9 +17,9 @@ use Rattle.jc_memory.specs.Reading.{AllDue}
 use Rattle.jc_memory.specs.State.{HeapMove, IsNew, MemoryState, apply_effect}
 use Rattle.jc_memory.specs.declared.making.NewObject.{NewObject}
 use Rattle.jc_linker.specs.Classes.{is_a, is_class, reference_cell, size_of}
-use Rattle.jc_linker.specs.Resolves.{names_interface}
+use Rattle.jc_linker.specs.Resolve.{names_interface}
 use Rattle.jc_linker.specs.Values.{Packages}
-use Rattle.jc_platform.specs.Distinct.{class_word}
+use Rattle.jc_platform.specs.NamePlaces.{class_word}
 use Rattle.jc_platform.specs.Hierarchy.{cells_of}
 use Rattle.jc_platform.specs.declared.names.PlatformClass.TheVariants.{Aid, OwnerPin}
 use Rattle.jc_packages.specs.Objects.{is_instance, is_object_address, is_reference}
@@ -33,8 +33,8 @@ use Rattle.jc_api.proofs.EngineRoom.{with_array}
 use Rattle.jc_api.proofs.Passing.{IsTransientArray}
 use Rattle.jc_api.proofs.Standing.{item_after_object, object-set_cell}
 use Rattle.law_linking.specs.Classes.{KnowsClasses, has_instances}
-use Rattle.law_soundness.specs.Fit.{AreCellsOf, FitsCell, FitsNew, FitsValue, IsFit}
-use Rattle.law_soundness.specs.State.{IsSoundMemory, IsSteady}
+use Rattle.law_soundness.specs.MemoryLaws.Fit.{AreCellsOf, FitsCell, FitsNew, FitsValue, IsFit}
+use Rattle.law_soundness.specs.MemoryLaws.State.{IsSoundMemory, IsSteady}
 use Rattle.law_soundness.proofs.Effects.{keeps_sound}
 use Rattle.law_soundness.proofs.Frames.{object_frames, transient_frames}
 use Rattle.law_soundness.proofs.NewObjects.{new_there}

@@ -8,15 +8,15 @@ use Rattle.jc_heap.specs.declared.object.Kind.{Kind}
 use Rattle.jc_heap.specs.Object.{Object, facts_of, is_object, new_object, new_transient, object_size}
 use Rattle.jc_heap.specs.Heap.{HeapState, add_object, add_transient, area_end, facts, goes_back, heap_item_at, is_allocated}
 use Rattle.jc_heap.specs.Moves.{Move, Write, SetPlaces, WriteNonAtomic, SetCells, AddObject, AddTransient, AddPackage, Begin, Commit, Abort}
-use Rattle.jc_heap.specs.Places.{place_at, set_place}
+use Rattle.jc_heap.specs.Place.{place_at, set_place}
 use Rattle.jc_heap.proofs.Laws.{heap_item_at-add_object, heap_item_at-add_other, object_named, same_facts}
 use Rattle.jc_memory.specs.State.{MemoryState, Effect, HeapMove}
 use Rattle.jc_memory.specs.State.{apply_effect}
 use Rattle.jc_linker.specs.Values.{Packages}
 use Rattle.jc_packages.specs.Objects.{is_instance, is_object_address}
-use Rattle.law_soundness.specs.Environment.{HasEnvironment, AreEnvironmentObjects, KeepsEnvironment}
-use Rattle.law_soundness.specs.Fit.{FitsMove, FitsNew, IsFit, IsPlatformClass}
-use Rattle.law_soundness.specs.State.{IsSoundMemory, last_own}
+use Rattle.law_soundness.specs.MemoryLaws.Environment.{HasEnvironment, AreEnvironmentObjects, KeepsEnvironment}
+use Rattle.law_soundness.specs.MemoryLaws.Fit.{FitsMove, FitsNew, IsFit, IsPlatformClass}
+use Rattle.law_soundness.specs.MemoryLaws.State.{IsSoundMemory, last_own}
 use Rattle.law_soundness.proofs.Frames.{SameHeaders, end_headers, place_headers, places_headers, run_headers, same_object}
 use Rattle.law_soundness.proofs.Memories.{choose}
 

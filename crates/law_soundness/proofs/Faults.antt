@@ -1,7 +1,7 @@
 -- Faults leave a machine sound: they change places and cells of the frame that runs, and put 0 or null in.
 use Rattle.std.proofs.Common.{ℕ, inl, List, [], ◌∷◌, Option, Some, None, refl}
 use Rattle.jc_heap.specs.Heap.{HeapState}
-use Rattle.jc_heap.specs.Whole.{IsReference}
+use Rattle.jc_heap.specs.WholeHeap.{IsReference}
 use Rattle.jc_memory.specs.State.{MemoryState}
 use Rattle.jc_linker.specs.Values.{Packages}
 use Rattle.jc_frames.specs.declared.instr.BranchOp.{BranchOp}
@@ -16,12 +16,12 @@ use Rattle.jc_interp.specs.declared.attacks.Attack.{Attack}
 use Rattle.jc_interp.specs.declared.attacks.FaultModel.{FaultModel}
 use Rattle.jc_interp.specs.declared.attacks.FaultModel.TheVariants.{Skip, Turn, Zero}
 use Rattle.jc_interp.specs.Attacks.{attacked, faulted, opposite, skipped_instruction, turned_branch, turned_instruction, zero_like, zeroed_top}
-use Rattle.jc_interp.specs.Stepping.{at_place}
+use Rattle.jc_interp.specs.Step.{at_place}
 use Rattle.jc_interp.proofs.Kept.{attacked_kept}
 use Rattle.law_code.proofs.StackCells.{cell_taken}
 use Rattle.law_soundness.specs.LivingReferences.{AreLivingCells, IsLivingCell}
 use Rattle.law_soundness.specs.Machines.{IsSoundMachine}
-use Rattle.law_soundness.specs.Soundness.{FaultsAreSound, IsSoundNext}
+use Rattle.law_soundness.specs.MachineLaws.Soundness.{FaultsAreSound, IsSoundNext}
 use Rattle.law_soundness.proofs.LivingReferences.{more_living}
 use Rattle.law_soundness.proofs.Machines.{framed, machine_of, stacked, under_of}
 use Rattle.law_soundness.proofs.Plain.{keeps_branched}

@@ -18,9 +18,9 @@ use Rattle.law_code.proofs.Instructions.{fields_due}
 use Rattle.law_code.proofs.EffectConditions.{FieldsPass}
 use Rattle.law_code.proofs.AccessChecks.{IsCell, Names}
 use Rattle.law_linking.specs.Classes.{KnowsClasses}
-use Rattle.law_soundness.specs.Fit.{FitsCell, FitsValue, IsFit, OfPlaces}
-use Rattle.law_soundness.specs.State.{IsSoundMemory}
-use Rattle.law_soundness.specs.Groups.{FieldsFit}
+use Rattle.law_soundness.specs.MemoryLaws.Fit.{FitsCell, FitsValue, IsFit, OfPlaces}
+use Rattle.law_soundness.specs.MemoryLaws.State.{IsSoundMemory}
+use Rattle.law_soundness.specs.MachineLaws.Groups.{FieldsFit}
 use Rattle.law_soundness.proofs.RunObjects.{instance_no_array, kept_fits, one_fits, set_in}
 use Rattle.law_soundness.proofs.RunStatics.{halves_set, static_is, word_set}
 use Rattle.law_soundness.proofs.RunValues.{HasType, has_type, keepable_is, keepable_lives}

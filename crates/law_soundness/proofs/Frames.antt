@@ -7,13 +7,13 @@ use Rattle.jc_heap.specs.declared.place.Place.{Place}
 use Rattle.jc_heap.specs.declared.place.Place.TheVariants.{Cell, Static, Registry, AppletCount}
 use Rattle.jc_heap.specs.Object.{Item, Object, header_only, facts_of, is_object, new_transient}
 use Rattle.jc_heap.specs.Heap.{HeapState, add_object, add_transient, area_end, facts, heap_item_at, set_cell, set_cells, with_area_end}
-use Rattle.jc_heap.specs.Places.{set_place, set_places, cell_changes}
+use Rattle.jc_heap.specs.Place.{set_place, set_places, cell_changes}
 use Rattle.jc_heap.specs.Statics.{set_word}
 use Rattle.jc_heap.proofs.Laws.{header_only-set_cell, facts-set_cell, heap_item_at-add_other, same_facts}
 use Rattle.jc_heap.proofs.RecordWords.{header_only-set_word}
 use Rattle.jc_heap.proofs.Keeping.{object-header_only}
 use Rattle.jc_linker.specs.Values.{Packages}
-use Rattle.law_soundness.specs.Fit.{FitPlaces}
+use Rattle.law_soundness.specs.MemoryLaws.Fit.{FitPlaces}
 
 -- what differs in cells and words alone is an object in both
 pub same_object : (a b : Item) → header_only a ≡ header_only b → is_object a ≡ is_object b

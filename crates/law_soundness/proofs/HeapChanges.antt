@@ -4,18 +4,17 @@ use Rattle.std.proofs.Common.{if◌then◌else◌, nat_lt, nat_le}
 use Rattle.std.specs.Prelude.{not, slice_index, None}
 use Rattle.std.proofs.lemmas.Bool.{and_parts, and_from, or_cases, or_left, or_right, cases_Bool, cases_eq, leb-true, le-leb}
 use Rattle.jc_platform.specs.declared.names.PlatformClass.TheVariants.{Aid, Applet, OwnerPin}
-use Rattle.jc_platform.specs.Distinct.{class_word}
+use Rattle.jc_platform.specs.NamePlaces.{class_word}
 use Rattle.jc_heap.specs.declared.object.Facts.{Facts}
-use Rattle.jc_heap.specs.Components.{record_of}
+use Rattle.jc_heap.specs.Component.{record_of}
 use Rattle.jc_heap.specs.Heap.{HeapState, IsObject, cells, facts}
-use Rattle.jc_linker.specs.Classes.{reference_cell}
+use Rattle.jc_linker.specs.Classes.{reference_cell, is_a}
 use Rattle.jc_linker.specs.Lookups.{statics_at}
 use Rattle.jc_linker.specs.Values.{Packages}
 use Rattle.jc_packages.specs.Objects.{HoldsReferences, HoldsValues, fits_aid, fits_class, fits_pin, has_value, is_byte_array, is_instance}
-use Rattle.jc_linker.specs.Classes.{is_a}
 use Rattle.jc_packages.specs.Objects.{is_persistent_instance, is_reference, is_object_address}
 use Rattle.jc_packages.specs.Sound.{HasOwnAid, HoldsStatics, IsRegistered, aid_of_entry, aid_in, entry_word, holds_aid, package_record_at}
-use Rattle.law_soundness.specs.State.{IsFitObject, IsOwnAid, IsSoundUpTo, is_owner_up_to}
+use Rattle.law_soundness.specs.MemoryLaws.State.{IsFitObject, IsOwnAid, IsSoundUpTo, is_owner_up_to}
 use Rattle.law_soundness.proofs.Lists.{Agree, aid_same}
 use Rattle.law_code.proofs.SparedObjects.{SameApplets}
 

@@ -6,8 +6,8 @@ use Rattle.std.proofs.lemmas.Option.{slice_get_cases}
 use Rattle.std.specs.Option.{option_and_then}
 use Rattle.std.specs.Prelude.{◌==◌, ◌||◌, slice_index, unwrap_or}
 use Rattle.jc_heap.specs.Heap.{HeapState, facts}
-use Rattle.jc_heap.specs.Whole.{IsReference}
-use Rattle.jc_frames.specs.Cells.{as_reference}
+use Rattle.jc_heap.specs.WholeHeap.{IsReference}
+use Rattle.jc_frames.specs.Cell.{as_reference}
 use Rattle.jc_frames.specs.declared.cell.Cell.{Cell}
 use Rattle.jc_frames.specs.declared.cell.Cell.TheVariants.{Short, Reference, ReturnAddress}
 use Rattle.jc_memory.specs.State.{MemoryState}
@@ -24,9 +24,9 @@ use Rattle.jc_api.specs.declared.initializing.FieldValue.{FieldValue}
 use Rattle.jc_api.specs.declared.initializing.FieldValue.TheVariants.{Argument, Word}
 use Rattle.jc_api.proofs.Passing.{IsInitializing}
 use Rattle.law_linking.specs.Classes.{KnowsClasses}
-use Rattle.law_soundness.specs.Fit.{FitsRun}
+use Rattle.law_soundness.specs.MemoryLaws.Fit.{FitsRun}
 use Rattle.law_soundness.specs.LivingReferences.{AreLivingCells, IsLivingCell}
-use Rattle.law_soundness.specs.State.{IsSoundMemory}
+use Rattle.law_soundness.specs.MemoryLaws.State.{IsSoundMemory}
 use Rattle.law_soundness.proofs.RunObjects.{instance_no_array, kept_fits}
 use Rattle.law_soundness.proofs.Stateful.{cell_is, no_aid, no_pin}
 

@@ -16,12 +16,12 @@ use Rattle.jc_instructions.specs.Throw.{athrow, exception_throw, has_reason_cell
 use Rattle.jc_api.proofs.Due.{due_of}
 use Rattle.jc_api.proofs.Reaching.{header_is}
 use Rattle.law_code.proofs.Walk.{AnyCell, LeavesPass, any_handed, returning, throwing, thrown}
-use Rattle.law_soundness.specs.Fit.{FitsFill, FitsTurn, IsFit}
-use Rattle.law_soundness.specs.LocalEffects.{IsLocalEffect}
+use Rattle.law_soundness.specs.MemoryLaws.Fit.{FitsFill, FitsTurn, IsFit}
+use Rattle.law_soundness.specs.MachineLaws.LocalEffects.{IsLocalEffect}
 use Rattle.law_soundness.specs.Machines.{KnowOwners}
 use Rattle.law_linking.specs.Methods.{KnowsMethods}
-use Rattle.law_soundness.specs.State.{IsSoundMemory, is_owner_up_to, most_owner}
-use Rattle.law_soundness.specs.Steps.{LeavesFit}
+use Rattle.law_soundness.specs.MemoryLaws.State.{IsSoundMemory, is_owner_up_to, most_owner}
+use Rattle.law_soundness.specs.MachineLaws.Steps.{LeavesFit}
 use Rattle.law_soundness.proofs.Effects.{keeps_sound}
 use Rattle.law_soundness.proofs.LocalEffects.{calm_stays}
 use Rattle.law_soundness.proofs.Owners.{known_again, turn_known}

@@ -6,10 +6,10 @@ use Rattle.std.proofs.lemmas.Option.{get_or_from_slice_get, none-some, option_an
 use Rattle.std.specs.Option.{option_and_then}
 use Rattle.std.specs.Prelude.{nat_le, pos, replicate, slice_get}
 use Rattle.jc_heap.specs.Heap.{HeapState}
-use Rattle.jc_heap.specs.Whole.{IsReference}
+use Rattle.jc_heap.specs.WholeHeap.{IsReference}
 use Rattle.jc_frames.specs.declared.cell.Cell.{Cell}
 use Rattle.jc_frames.specs.declared.cell.Cell.TheVariants.{Short, Reference, ReturnAddress}
-use Rattle.jc_frames.specs.Cells.{as_reference, without_dead}
+use Rattle.jc_frames.specs.Cell.{as_reference, without_dead}
 use Rattle.jc_frames.specs.Calls.{arguments_on, caller_without_dead, first_frame, frame_without_dead}
 use Rattle.jc_frames.specs.declared.method.Origin.{Origin}
 use Rattle.jc_frames.specs.declared.outcome.FrameExit.TheVariants.{End}

@@ -12,9 +12,9 @@ use Rattle.jc_transient.specs.State.{cell_at}
 use Rattle.jc_heap.specs.declared.object.Facts.{Facts}
 use Rattle.jc_heap.specs.declared.object.Kind.{Kind}
 use Rattle.jc_heap.specs.declared.object.Kind.TheVariants.{ReferenceArray}
-use Rattle.jc_heap.specs.Components.{record_of}
+use Rattle.jc_heap.specs.Component.{record_of}
 use Rattle.jc_heap.specs.Heap.{HeapState, cells, facts}
-use Rattle.jc_heap.specs.Whole.{IsReference}
+use Rattle.jc_heap.specs.WholeHeap.{IsReference}
 use Rattle.jc_memory.specs.Cells.{word_at, word_in, word_of}
 use Rattle.jc_memory.specs.State.{MemoryState}
 use Rattle.jc_linker.specs.Lookups.{statics_at}
@@ -40,10 +40,10 @@ use Rattle.law_code.proofs.AccessChecks.{IsArray, IsCell, Names, array_reached, 
 use Rattle.jc_api.proofs.Reaching.{err_not_ok}
 use Rattle.law_code.proofs.StackCells.{mapped_some}
 use Rattle.law_linking.specs.Classes.{KnowsClasses}
-use Rattle.law_soundness.specs.Environment.{HasEnvironment}
+use Rattle.law_soundness.specs.MemoryLaws.Environment.{HasEnvironment}
 use Rattle.law_soundness.specs.LivingReferences.{IsLivingCell}
-use Rattle.law_soundness.specs.LocalEffects.{LocalEffectsStay}
-use Rattle.law_soundness.specs.State.{IsFitObject, IsLivingElement, IsSoundMemory, last_own, most_owner}
+use Rattle.law_soundness.specs.MachineLaws.LocalEffects.{LocalEffectsStay}
+use Rattle.law_soundness.specs.MemoryLaws.State.{IsFitObject, IsLivingElement, IsSoundMemory, last_own, most_owner}
 use Rattle.law_soundness.proofs.Transients.{names_object}
 use Rattle.law_soundness.proofs.RunObjects.{kept_fits}
 use Rattle.law_soundness.proofs.RunStatics.{HasStatic, static_is, word_is}

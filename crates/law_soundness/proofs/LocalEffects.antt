@@ -5,17 +5,17 @@ use Rattle.jc_heap.specs.declared.place.Place.{Place}
 use Rattle.jc_heap.specs.declared.place.Place.TheVariants.{Cell, Static, Registry, AppletCount}
 use Rattle.jc_heap.specs.Heap.{HeapState, heap_after_change, goes_back}
 use Rattle.jc_heap.specs.Moves.{Write, SetPlaces, WriteNonAtomic, SetCells, AddObject, AddTransient, AddPackage, Begin, Commit, Abort}
-use Rattle.jc_heap.specs.Keeping.{IsConsistentHeap}
-use Rattle.jc_heap.specs.Places.{place_at, set_place, set_places}
+use Rattle.jc_heap.specs.HeapLaws.{IsConsistentHeap}
+use Rattle.jc_heap.specs.Place.{place_at, set_place, set_places}
 use Rattle.jc_heap.proofs.Keeping.{reference-add}
 use Rattle.jc_memory.specs.State.{MemoryState, Effect, HeapMove, SetTransient, SetFlag, ClearTransient, SetRegisters, BeginCommand, SendBytes}
 use Rattle.jc_memory.specs.State.{apply_effect}
 use Rattle.jc_frames.specs.Frames.{Caller}
-use Rattle.law_soundness.specs.State.{IsSteady, is_open, is_owner_up_to, most_owner}
+use Rattle.law_soundness.specs.MemoryLaws.State.{IsSteady, is_open, is_owner_up_to, most_owner}
 use Rattle.law_soundness.proofs.Frames.{cell_frames, object_frames, place_headers, places_headers, run_frames, run_headers, transient_frames, word_frames}
 use Rattle.law_soundness.proofs.References.{headers_keep, transient_keeps}
 use Rattle.law_soundness.specs.LivingReferences.{KeepsReferences}
-use Rattle.law_soundness.specs.LocalEffects.{AreElsewhere, LocalEffectsStay, IsLocalEffect, IsElsewhere}
+use Rattle.law_soundness.specs.MachineLaws.LocalEffects.{AreElsewhere, LocalEffectsStay, IsLocalEffect, IsElsewhere}
 use Rattle.law_soundness.specs.Machines.{KnowOwners}
 
 -- two heaps have the same numbers and packages

@@ -4,7 +4,7 @@ use Rattle.std.proofs.lemmas.Option.{none-some}
 use Rattle.jc_environment.specs.Objects.{last_of}
 use Rattle.jc_transient.specs.State.{IsCleared}
 use Rattle.jc_heap.specs.Heap.{SameShape, area_sizes, facts, heap_item_at}
-use Rattle.jc_heap.specs.Keeping.{AreConsistent, IsConsistentHeap}
+use Rattle.jc_heap.specs.HeapLaws.{AreConsistent, IsConsistentHeap}
 use Rattle.jc_heap.proofs.Changing.{shape-same}
 use Rattle.jc_heap.proofs.Laws.{same_facts}
 use Rattle.jc_memory.specs.Owners.{at_reset, owner_number}
@@ -14,7 +14,7 @@ use Rattle.jc_packages.specs.Objects.{is_persistent_instance, is_object_address}
 use Rattle.jc_packages.specs.Sound.{IsSound}
 use Rattle.law_soundness.proofs.Frames.{same_object}
 use Rattle.law_soundness.proofs.Transients.{blank_lives}
-use Rattle.law_soundness.specs.State.{IsFitObject, IsSoundMemory, IsSoundUpTo, OutlastsLosses, is_home, is_open, is_owner_up_to, last_own, most_owner}
+use Rattle.law_soundness.specs.MemoryLaws.State.{IsFitObject, IsSoundMemory, IsSoundUpTo, OutlastsLosses, is_home, is_open, is_owner_up_to, last_own, most_owner}
 
 found : (p : Packages) (m : MemoryState) → IsSoundMemory p m → IsSound p m.heap.durable (last_own m)
 found p m s = record {

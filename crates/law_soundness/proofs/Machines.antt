@@ -1,7 +1,7 @@
 -- What effects leave of a sound machine, and what follows in a method.
 use Rattle.std.proofs.Common.{◌≡◌, false, List, sym, subst, ap, ◌∙◌}
 use Rattle.std.specs.Prelude.{◌==◌}
-use Rattle.jc_heap.specs.Whole.{IsReference}
+use Rattle.jc_heap.specs.WholeHeap.{IsReference}
 use Rattle.jc_memory.specs.Programs.{Program, Finish, Perform, Choose, Either}
 use Rattle.jc_memory.specs.Owners.{owner_number}
 use Rattle.jc_memory.specs.Reading.{AllDue}
@@ -10,16 +10,16 @@ use Rattle.jc_linker.specs.Values.{Packages}
 use Rattle.jc_frames.specs.declared.cell.Cell.{Cell}
 use Rattle.jc_frames.specs.declared.method.Origin.{Origin}
 use Rattle.jc_frames.specs.Frames.{Caller, Frame, Frames, Next, GoesOn, Throws, Ends, in_frame, with_stack}
-use Rattle.law_soundness.specs.Environment.{HasEnvironment, KeepsEnvironment}
-use Rattle.law_soundness.specs.Fit.{IsFit, KeepsSound}
+use Rattle.law_soundness.specs.MemoryLaws.Environment.{HasEnvironment, KeepsEnvironment}
+use Rattle.law_soundness.specs.MemoryLaws.Fit.{IsFit, KeepsSound}
 use Rattle.law_soundness.specs.LivingReferences.{AreLivingCallers, AreLivingCells, IsLivingFrame}
-use Rattle.law_soundness.specs.State.{IsSoundMemory, IsSteady}
-use Rattle.law_soundness.specs.LocalEffects.{LocalEffectsStay, IsLocalEffect}
+use Rattle.law_soundness.specs.MemoryLaws.State.{IsSoundMemory, IsSteady}
+use Rattle.law_soundness.specs.MachineLaws.LocalEffects.{LocalEffectsStay, IsLocalEffect}
 use Rattle.law_soundness.specs.Machines.{IsSoundMachine, KnowOwners}
 use Rattle.law_linking.specs.Methods.{KnowsMethods}
-use Rattle.law_soundness.specs.Steps.{HasSoundCallers, InstructionsFit}
-use Rattle.law_soundness.specs.Calls.{NativesLeave}
-use Rattle.law_soundness.specs.Soundness.{IsSoundNext}
+use Rattle.law_soundness.specs.MachineLaws.Steps.{HasSoundCallers, InstructionsFit}
+use Rattle.law_soundness.specs.MachineLaws.Calls.{NativesLeave}
+use Rattle.law_soundness.specs.MachineLaws.Soundness.{IsSoundNext}
 use Rattle.jc_api.proofs.Due.{DueThen}
 use Rattle.law_code.proofs.StepsInMethod.{IsPlainNext, StaysIn}
 use Rattle.law_code.proofs.StackCells.{with_cells}

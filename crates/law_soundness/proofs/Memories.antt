@@ -5,7 +5,7 @@ use Rattle.std.proofs.lemmas.Bool.{and_from, and_parts, cases_Bool, le-leb, leb-
 use Rattle.jc_words.specs.Layout.{registry_length}
 use Rattle.jc_transient.specs.State.{RamState}
 use Rattle.jc_heap.specs.Heap.{HeapState, heap_after_change, heap_item_at}
-use Rattle.jc_heap.specs.Keeping.{AreConsistent}
+use Rattle.jc_heap.specs.HeapLaws.{AreConsistent}
 use Rattle.jc_heap.specs.Moves.{Begin, Commit, Abort}
 use Rattle.jc_heap.proofs.KeepingMoves.{keeps}
 use Rattle.jc_heap.proofs.Laws.{same_facts}
@@ -17,7 +17,7 @@ use Rattle.jc_memory.specs.Owners.{owner_number}
 use Rattle.jc_memory.specs.State.{MemoryState, HeapMove, SetRegisters, apply_effect}
 use Rattle.jc_linker.specs.Values.{Packages}
 use Rattle.jc_packages.specs.Objects.{is_persistent_instance}
-use Rattle.law_soundness.specs.State.{IsSoundMemory, IsSoundUpTo, TransientCells, is_applet, is_home, is_open, is_owner_up_to, last_own, most_in, most_new, most_owner}
+use Rattle.law_soundness.specs.MemoryLaws.State.{IsSoundMemory, IsSoundUpTo, TransientCells, is_applet, is_home, is_open, is_owner_up_to, last_own, most_in, most_new, most_owner}
 use Rattle.law_soundness.proofs.HeapChanges.{more_owners, owner_more, owner_same}
 use Rattle.law_soundness.proofs.Frames.{Frames, SameHeaders, same_object}
 use Rattle.law_soundness.proofs.Transients.{abort_carried, same_carried}

@@ -18,8 +18,8 @@ use Rattle.jc_api_framework.specs.Aid.Cells.{cells_of_aid, is_aid_length}
 use Rattle.jc_api.proofs.Stretches.{HoldsNumbers}
 use Rattle.law_linking.proofs.Facts.{numbers_before}
 use Rattle.law_linking.specs.Classes.{KnowsClasses}
-use Rattle.law_soundness.specs.Fit.{FitsRun, IsFit}
-use Rattle.law_soundness.specs.State.{IsSoundMemory}
+use Rattle.law_soundness.specs.MemoryLaws.Fit.{FitsRun, IsFit}
+use Rattle.law_soundness.specs.MemoryLaws.State.{IsSoundMemory}
 use Rattle.law_soundness.proofs.RunObjects.{instance_no_array, kept_fits}
 use Rattle.law_soundness.proofs.Below.{aid_no_pin}
 use Rattle.law_soundness.proofs.Transients.{numbers_fit}

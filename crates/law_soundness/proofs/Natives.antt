@@ -2,16 +2,16 @@
 use Rattle.std.specs.Prelude.{ℤ}
 use Rattle.std.proofs.Common.{◌≡◌, ℕ, true, false, inl, inr, List, length, map, Some, refl, sym, ◌∙◌, ap, subst, arith}
 use Rattle.std.proofs.lemmas.List.{length-map}
-use Rattle.jc_transient.specs.Cells.{number_of}
+use Rattle.jc_transient.specs.Cell.{number_of}
 use Rattle.jc_transient.specs.declared.cell.CellValue.TheVariants.{Short}
 use Rattle.jc_heap.specs.declared.object.Kind.{Kind}
 use Rattle.jc_heap.specs.declared.object.Kind.TheVariants.{ByteArray, ReferenceArray}
 use Rattle.jc_heap.specs.Heap.{HeapState, facts, set_cell}
-use Rattle.jc_heap.specs.Whole.{IsReference}
+use Rattle.jc_heap.specs.WholeHeap.{IsReference}
 use Rattle.jc_frames.specs.declared.cell.Cell.{Cell}
 use Rattle.jc_memory.specs.State.{MemoryState, SetTransient, apply_effect}
 use Rattle.jc_memory.specs.Cells.{cells_effect}
-use Rattle.jc_memory.specs.Changing.{nonatomic_store}
+use Rattle.jc_memory.specs.Changes.{nonatomic_store}
 use Rattle.jc_memory.specs.Reading.{AllDue}
 use Rattle.jc_linker.specs.Values.{Packages}
 use Rattle.jc_platform.specs.declared.names.PlatformClass.{PlatformClass}
@@ -20,7 +20,7 @@ use Rattle.jc_platform.specs.declared.names.PlatformMethod.{PlatformMethod}
 use Rattle.jc_platform.specs.declared.names.PlatformMethod.TheVariants.{Aids, Applets}
 use Rattle.jc_platform.specs.declared.names.AidsMethod.TheVariants.{AidInit}
 use Rattle.jc_platform.specs.declared.names.AppletsMethod.TheVariants.{AppletRegister, AppletRegisterBytes}
-use Rattle.jc_platform.specs.Distinct.{class_of}
+use Rattle.jc_platform.specs.NamePlaces.{class_of}
 use Rattle.jc_platform.specs.Names.{aids_rows, applets_rows}
 use Rattle.jc_packages.specs.Objects.{is_instance}
 use Rattle.jc_linker.specs.Classes.{is_a}
@@ -42,12 +42,12 @@ use Rattle.jc_interp.proofs.Calls.{IsPlainMethod, method_called, method_then}
 use Rattle.law_code.proofs.Bytes.{store_due}
 use Rattle.law_code.proofs.Natives.{nine}
 use Rattle.law_linking.specs.Classes.{HasAids, KnowsClasses}
-use Rattle.law_soundness.specs.Fit.{IsFit, IsPinObject, OfValue}
-use Rattle.law_soundness.specs.State.{IsSoundMemory, IsSteady}
+use Rattle.law_soundness.specs.MemoryLaws.Fit.{IsFit, IsPinObject, OfValue}
+use Rattle.law_soundness.specs.MemoryLaws.State.{IsSoundMemory, IsSteady}
 use Rattle.law_soundness.proofs.Effects.{keeps_sound}
 use Rattle.law_soundness.proofs.Engines.{engine_fits}
 use Rattle.law_soundness.specs.LivingReferences.{AreLivingCells}
-use Rattle.law_soundness.specs.Natives.{IsReceiver, NativesFit}
+use Rattle.law_soundness.specs.MachineLaws.Natives.{IsReceiver, NativesFit}
 use Rattle.law_soundness.proofs.InitialCells.{fields_fit}
 use Rattle.law_soundness.proofs.Applets.{bytes_small, entry_named, open_home, registering_fits}
 use Rattle.law_soundness.proofs.Below.{reasoned}
@@ -59,8 +59,8 @@ use Rattle.law_soundness.proofs.Transients.{numbers_fit}
 use Rattle.law_soundness.proofs.EffectsWithoutCells.{bears}
 use Rattle.law_soundness.proofs.Pairs.{forms_fit, forms_still}
 use Rattle.law_soundness.proofs.Receivers.{aid_minds}
-use Rattle.law_soundness.specs.Calls.{IsCallResult, NativesLeave}
-use Rattle.law_soundness.specs.Environment.{HasEnvironment}
+use Rattle.law_soundness.specs.MachineLaws.Calls.{IsCallResult, NativesLeave}
+use Rattle.law_soundness.specs.MemoryLaws.Environment.{HasEnvironment}
 use Rattle.law_soundness.proofs.StillCalls.{still_left}
 use Rattle.law_soundness.proofs.LocalEffects.{calm_stays}
 use Rattle.law_soundness.proofs.NewObjects.{new_there}

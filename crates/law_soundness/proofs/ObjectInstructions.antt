@@ -10,19 +10,19 @@ use Rattle.jc_memory.specs.State.{MemoryState}
 use Rattle.jc_platform.specs.declared.names.PlatformClass.{PlatformClass}
 use Rattle.jc_platform.specs.Platform.{class_by_word}
 use Rattle.jc_linker.specs.Classes.{class_in, is_class, is_instantiable_class, is_instantiable_class_by, size_of}
-use Rattle.jc_linker.specs.Resolves.{interface_by, names_interface}
+use Rattle.jc_linker.specs.Resolve.{interface_by, names_interface}
 use Rattle.jc_linker.specs.Values.{ClassValue, Packages}
 use Rattle.jc_packages.specs.Objects.{fits_class}
 use Rattle.jc_world.specs.Types.{class_named}
 use Rattle.jc_instructions.specs.ObjectCreation.{instantiable_or_none, instantiable_class}
-use Rattle.law_soundness.specs.Fit.{IsFit}
+use Rattle.law_soundness.specs.MemoryLaws.Fit.{IsFit}
 use Rattle.law_linking.proofs.Facts.{instantiable_is}
 use Rattle.law_linking.specs.Classes.{KnowsClasses}
-use Rattle.law_soundness.specs.State.{IsSoundMemory, IsSteady}
+use Rattle.law_soundness.specs.MemoryLaws.State.{IsSoundMemory, IsSteady}
 use Rattle.law_code.proofs.Instructions.{checked_due, examined_due, made_due}
 use Rattle.law_code.proofs.EffectConditions.{InstancesPass, new_for}
 use Rattle.jc_api.proofs.Reaching.{err_not_ok, same_Ok}
-use Rattle.law_soundness.specs.Groups.{ObjectsFit}
+use Rattle.law_soundness.specs.MachineLaws.Groups.{ObjectsFit}
 use Rattle.law_soundness.proofs.RunObjects.{active_known, new_kept}
 
 made_by : (c : Option ClassValue) (other : Option PlatformClass) → is_instantiable_class_by c other ≡ true

@@ -9,15 +9,15 @@ use Rattle.jc_transient.specs.declared.cell.ClearEvent.TheVariants.{Reset, Desel
 use Rattle.jc_platform.specs.declared.names.PlatformClass.TheVariants.{Aid, OwnerPin}
 use Rattle.jc_heap.specs.declared.object.Kind.{Kind}
 use Rattle.jc_heap.specs.Object.{AnObject, Object, cells_of, facts_of, is_object, new_object, new_transient}
-use Rattle.jc_heap.specs.Components.{words_of}
+use Rattle.jc_heap.specs.Component.{words_of}
 use Rattle.jc_heap.specs.Heap.{HeapState, IsObject, add_object, add_transient, area_end, cells, facts, heap_item_at, is_allocated, with_area_end}
-use Rattle.jc_heap.specs.Whole.{AreAllocated}
+use Rattle.jc_heap.specs.WholeHeap.{AreAllocated}
 use Rattle.jc_heap.proofs.Laws.{heap_item_at-add_object, heap_item_at-add_other, object_named}
 use Rattle.jc_linker.specs.Values.{Packages}
 use Rattle.jc_packages.specs.Objects.{fits_aid, fits_class, fits_pin, is_instance, is_reference, is_object_address}
 use Rattle.jc_linker.specs.Classes.{is_a}
 use Rattle.jc_packages.specs.Sound.{entry_word}
-use Rattle.law_soundness.specs.State.{is_owner_up_to}
+use Rattle.law_soundness.specs.MemoryLaws.State.{is_owner_up_to}
 use Rattle.law_soundness.proofs.Lists.{zeros}
 use Rattle.law_soundness.proofs.HeapChanges.{Carries, HoldsBut, IsFitBut, IsSoundBut, object_kept, owner_same, pin_same, records_kept, sound_kept}
 use Rattle.law_code.proofs.SparedObjects.{applets-add_object}

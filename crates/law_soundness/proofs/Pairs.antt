@@ -2,7 +2,7 @@
 use Rattle.std.proofs.Common.{◌≡◌, ◌∙◌, ℕ, zero, suc, ◌+◌, ◌<◌, ◌≤◌, true, inl, inr, List, [], ◌∷◌, length, map, Some, None, Ok, refl, sym, ap, subst, arith}
 use Rattle.std.proofs.lemmas.Bool.{and_from, and_parts, both_ways, true≢false, or_right}
 use Rattle.std.specs.Prelude.{◌==◌, ◌||◌, is_none, pos, slice_index, unwrap_or}
-use Rattle.jc_transient.specs.Cells.{number_of}
+use Rattle.jc_transient.specs.Cell.{number_of}
 use Rattle.jc_transient.specs.declared.cell.CellValue.TheVariants.{Short}
 use Rattle.jc_heap.specs.Heap.{HeapState, cells, facts}
 use Rattle.jc_heap.specs.Moves.{SetPlaces, Write}
@@ -11,7 +11,7 @@ use Rattle.jc_heap.specs.declared.object.Kind.{Kind}
 use Rattle.jc_heap.specs.declared.object.Kind.TheVariants.{ByteArray, ReferenceArray}
 use Rattle.jc_heap.specs.declared.place.Place.{Place}
 use Rattle.jc_heap.specs.declared.place.Place.TheVariants as place
-use Rattle.jc_heap.specs.Whole.{IsReference}
+use Rattle.jc_heap.specs.WholeHeap.{IsReference}
 use Rattle.jc_frames.specs.declared.cell.Cell.{Cell}
 use Rattle.jc_memory.specs.Cells.{cells_effect, word_at, word_in, word_of}
 use Rattle.jc_memory.specs.Making.{creation_move}
@@ -42,10 +42,10 @@ use Rattle.jc_api.proofs.Reaching.{same_Ok}
 use Rattle.jc_api_pairs.proofs.PairForms.{AreOfPairs, FormsPass, IsOfPair, IsPairClass, IsPairNumber, IsReachedByte}
 use Rattle.jc_api_pairs.proofs.PairPasses.{AreReached}
 use Rattle.law_linking.specs.Classes.{KnowsClasses}
-use Rattle.law_soundness.specs.Fit.{FitPlaces, FitsPlace, IsFit, OfPlaces}
+use Rattle.law_soundness.specs.MemoryLaws.Fit.{FitPlaces, FitsPlace, IsFit, OfPlaces}
 use Rattle.law_soundness.specs.LivingReferences.{AreLivingCells}
-use Rattle.law_soundness.specs.LocalEffects.{AreElsewhere}
-use Rattle.law_soundness.specs.State.{IsSoundMemory, IsSteady}
+use Rattle.law_soundness.specs.MachineLaws.LocalEffects.{AreElsewhere}
+use Rattle.law_soundness.specs.MemoryLaws.State.{IsSoundMemory, IsSteady}
 use Rattle.law_soundness.proofs.Effects.{keeps_sound}
 use Rattle.law_soundness.proofs.Engines.{engine_fits}
 use Rattle.law_soundness.proofs.InitialCells.{argument_lives}

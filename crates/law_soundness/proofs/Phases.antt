@@ -6,7 +6,7 @@ use Rattle.std.proofs.lemmas.Bool.{and_parts, both_ways, false≢true, leb-true,
 use Rattle.std.proofs.lemmas.List.{length-append, length-replicate}
 use Rattle.std.proofs.lemmas.Option.{cond_some, option_and_then_some}
 use Rattle.jc_transient.specs.declared.cell.ClearEvent.{ClearEvent}
-use Rattle.jc_transient.specs.Cells.{number_of}
+use Rattle.jc_transient.specs.Cell.{number_of}
 use Rattle.jc_transient.specs.State.{buffer_size}
 use Rattle.jc_heap.specs.declared.object.Facts.{Facts}
 use Rattle.jc_heap.specs.Heap.{HeapState, facts}
@@ -28,21 +28,21 @@ use Rattle.jc_linker.specs.declared.target.Method.TheVariants.{Code, Native}
 use Rattle.jc_linker.specs.Values.{Packages}
 use Rattle.jc_platform.specs.declared.names.PlatformMethod.{PlatformMethod}
 use Rattle.jc_instructions.specs.Enter.{first_frames_of, first_frames_with, first_frames}
-use Rattle.jc_interp.specs.Running.{run_methods}
+use Rattle.jc_interp.specs.Run.{run_methods}
 use Rattle.jc_interp.specs.declared.attacks.Budget.{Budget}
 use Rattle.jc_dispatch.specs.Buffer.{apdu_buffer, buffer_fill, buffer_fill_in, is_buffer, is_of_bytes, padded_bytes}
-use Rattle.jc_dispatch.specs.Phases.{then_with, applet_method_call, close, abort_if_open, method_named, registers_idle, method_run, method_run_from, run_method}
-use Rattle.jc_dispatch.specs.Phases.{registers_for, registers_released}
+use Rattle.jc_dispatch.specs.Phase.{then_with, applet_method_call, close, abort_if_open, method_named, registers_idle, method_run, method_run_from, run_method}
+use Rattle.jc_dispatch.specs.Phase.{registers_for, registers_released}
 use Rattle.jc_api.proofs.Reaching.{header_is}
-use Rattle.law_soundness.specs.Environment.{HasEnvironment}
-use Rattle.law_soundness.specs.Fit.{FitsFill, FitsTurn, IsFit}
-use Rattle.law_soundness.specs.State.{IsSoundMemory, IsSteady, is_open, is_owner_up_to, most_owner}
+use Rattle.law_soundness.specs.MemoryLaws.Environment.{HasEnvironment}
+use Rattle.law_soundness.specs.MemoryLaws.Fit.{FitsFill, FitsTurn, IsFit}
+use Rattle.law_soundness.specs.MemoryLaws.State.{IsSoundMemory, IsSteady, is_open, is_owner_up_to, most_owner}
 use Rattle.law_soundness.specs.LivingReferences.{AreLivingCallers, AreLivingCells, IsLivingFrame}
 use Rattle.law_soundness.specs.Machines.{IsSoundMachine, KnowOwners}
 use Rattle.law_soundness.proofs.LivingReferences.{first_living}
-use Rattle.law_soundness.specs.Soundness.{AreKnown, RunsAreSound}
-use Rattle.law_soundness.specs.Commands.{IsServed}
-use Rattle.law_soundness.specs.CommandParts.{IsByEnvironment, IsDispatched, Stops, Does}
+use Rattle.law_soundness.specs.MachineLaws.Soundness.{AreKnown, RunsAreSound}
+use Rattle.law_soundness.specs.MachineLaws.Commands.{IsServed}
+use Rattle.law_soundness.specs.MachineLaws.CommandParts.{IsByEnvironment, IsDispatched, Stops, Does}
 use Rattle.law_soundness.proofs.CommandParts.{dispatched_more, dispatched_run, dispatched_then}
 use Rattle.law_soundness.proofs.CommandEffects.{StandsBehind, all_served, behind_both, behind_each, behind_itself, behind_one, same_fits}
 use Rattle.law_soundness.proofs.Transients.{numbers_fit}

@@ -9,19 +9,18 @@ use Rattle.jc_heap.specs.declared.place.Place.{Place}
 use Rattle.jc_heap.specs.declared.place.Place.TheVariants.{Cell, Static, Registry, AppletCount}
 use Rattle.jc_heap.specs.Object.{header_only, is_object}
 use Rattle.jc_heap.specs.Heap.{HeapState, IsObject, cells, facts, heap_item_at, set_cell}
-use Rattle.jc_heap.specs.Places.{set_place, set_places, cell_changes}
+use Rattle.jc_heap.specs.Place.{set_place, set_places, cell_changes}
 use Rattle.jc_heap.specs.Statics.{set_word}
 use Rattle.jc_heap.proofs.Laws.{header_only-set_cell, cells-set_other, facts-set_cell, same_facts}
 use Rattle.jc_heap.proofs.Keeping.{object-header_only}
 use Rattle.jc_memory.specs.State.{MemoryState}
-use Rattle.jc_linker.specs.Classes.{reference_cell}
+use Rattle.jc_linker.specs.Classes.{reference_cell, is_a}
 use Rattle.jc_linker.specs.Values.{Packages}
-use Rattle.jc_environment.specs.PinInit.{first_record}
+use Rattle.jc_environment.specs.Pins.PinInit.{first_record}
 use Rattle.jc_packages.specs.Objects.{fits_pin, has_value, is_byte_array, is_bytes, is_instance, is_persistent_instance, is_reference}
-use Rattle.jc_linker.specs.Classes.{is_a}
 use Rattle.jc_packages.specs.Objects.{is_object_address}
-use Rattle.law_soundness.specs.State.{IsSoundUpTo}
-use Rattle.law_soundness.specs.Fit.{IsPinObject}
+use Rattle.law_soundness.specs.MemoryLaws.State.{IsSoundUpTo}
+use Rattle.law_soundness.specs.MemoryLaws.Fit.{IsPinObject}
 use Rattle.law_soundness.proofs.HeapChanges.{Carries, IsSoundBut, but_one, pin_kept, pin_same, value_kept, with_one}
 use Rattle.law_soundness.proofs.Cells.{CellFits, cell_carries, cell_kept, cells_set}
 use Rattle.law_soundness.proofs.Values.{bytes_other, kept_aid, value_kept as array_kept}

@@ -19,7 +19,7 @@ use Rattle.jc_frames.specs.Short.{answer_of, wrap}
 use Rattle.jc_frames.specs.declared.cell.Cell.{Cell}
 use Rattle.jc_frames.specs.declared.cell.Cell.TheVariants.{Short, Reference, ReturnAddress}
 use Rattle.jc_frames.specs.declared.method.Origin.{Origin}
-use Rattle.jc_frames.specs.Cells.{as_address, as_reference, as_short, cell_on, reference_on, short_on, storable_on, two_references_on, two_shorts_on}
+use Rattle.jc_frames.specs.Cell.{as_address, as_reference, as_short, cell_on, reference_on, short_on, storable_on, two_references_on, two_shorts_on}
 use Rattle.jc_frames.specs.Frames.{Frame, Next, GoesOn, Throws, Ends, copy_below, exchange_cells, if_some, push, store_local}
 use Rattle.jc_frames.specs.ArithmeticOps.{with_quotient, arithmetic_instruction}
 use Rattle.jc_frames.specs.BranchOps.{branch_instruction, pair_offset, table_offset, jump_to, branch_target, place_in, condition_on, at_target}
@@ -27,7 +27,7 @@ use Rattle.jc_frames.specs.ConstantOps.{constant_instruction}
 use Rattle.jc_frames.specs.LocalOps.{local_instruction}
 use Rattle.jc_frames.specs.StackOps.{stack_instruction}
 use Rattle.jc_heap.specs.Heap.{HeapState}
-use Rattle.jc_heap.specs.Whole.{IsReference}
+use Rattle.jc_heap.specs.WholeHeap.{IsReference}
 use Rattle.law_soundness.specs.LivingReferences.{AreLivingCells, IsLivingCell, IsLivingFrame, IsLivingOutcome}
 use Rattle.law_code.proofs.StackCells.{cell_taken, mapped_some, reference_taken, short_taken, storable_taken, two_references_taken, two_shorts_taken}
 use Rattle.law_code.proofs.StackCells.{with_cells, without_cells}

@@ -14,7 +14,7 @@ use Rattle.jc_memory.specs.State.{MemoryState}
 use Rattle.jc_linker.specs.declared.target.Method.{Method}
 use Rattle.jc_linker.specs.declared.target.Method.TheVariants.{Native}
 use Rattle.jc_linker.specs.declared.target.Target.TheVariants.{SuperMethod, StaticMethod, VirtualMethod}
-use Rattle.jc_linker.specs.Classes.{is_below}
+use Rattle.jc_linker.specs.Classes.{is_below, is_a}
 use Rattle.jc_linker.specs.Lookups.{target_at}
 use Rattle.jc_linker.specs.Values.{Packages}
 use Rattle.jc_platform.specs.declared.names.MethodKind.TheVariants.{Static}
@@ -23,7 +23,7 @@ use Rattle.jc_platform.specs.declared.names.PlatformClass.TheVariants.{Aid, Obje
 use Rattle.jc_platform.specs.declared.names.PlatformMethod.{PlatformMethod}
 use Rattle.jc_platform.specs.declared.names.PlatformMethod.TheVariants.{Aids}
 use Rattle.jc_platform.specs.declared.names.AidsMethod.TheVariants.{AidInit}
-use Rattle.jc_platform.specs.Distinct.{class_of as class_of_method, class_word, kind_of_method}
+use Rattle.jc_platform.specs.NamePlaces.{class_of as class_of_method, class_word, kind_of_method}
 use Rattle.jc_frames.specs.declared.instr.InvokeOp.{InvokeOp}
 use Rattle.jc_firewall.specs.declared.decide.Decision.{Decision}
 use Rattle.jc_firewall.specs.declared.decide.Decision.TheVariants.{Allow, Switch, Deny}
@@ -37,14 +37,13 @@ use Rattle.jc_world.specs.Contexts.{context_of, firewall_decision, designation_o
 use Rattle.jc_world.specs.Objects.{object_at, some_or_fault}
 use Rattle.jc_world.specs.Objects as world
 use Rattle.jc_packages.specs.Objects.{is_instance}
-use Rattle.jc_linker.specs.Classes.{is_a}
 use Rattle.jc_instructions.specs.declared.invoke.MethodCall.{MethodCall}
 use Rattle.jc_instructions.specs.Invoke.{call_decision, call_of, class_of, is_native_constructor, is_of_any, method_selection, receiver_of, receiver_on}
 use Rattle.jc_api.proofs.Reaching.{err_not_ok, object_is, same_Ok}
 use Rattle.jc_api.proofs.Stretches.{both_ok}
 use Rattle.law_code.proofs.MethodSelection.{Bare, Found, Named, Selected, is_there, selected}
 use Rattle.law_linking.specs.Classes.{KnowsClasses}
-use Rattle.law_soundness.specs.State.{IsSoundMemory, is_owner_up_to, last_own, most_owner}
+use Rattle.law_soundness.specs.MemoryLaws.State.{IsSoundMemory, is_owner_up_to, last_own, most_owner}
 use Rattle.jc_platform.specs.Names.{aids_rows}
 use Rattle.jc_platform.specs.Signatures.{minds_receiver}
 use Rattle.law_linking.specs.Methods.{IsMethodOf, KnowsMethods}

@@ -6,21 +6,21 @@ use Rattle.jc_heap.specs.declared.place.AppletEntry.{AppletEntry}
 use Rattle.jc_heap.specs.Heap.{HeapState, add_object}
 use Rattle.jc_heap.specs.Moves.{Commit, SetCells, SetPlaces, new_move}
 use Rattle.jc_heap.specs.Object.{Object, new_object, object_size}
-use Rattle.jc_heap.specs.Places.{applet_changes}
+use Rattle.jc_heap.specs.Place.{applet_changes}
 use Rattle.jc_memory.specs.declared.registers.Installation.TheVariants.{Registered}
 use Rattle.jc_memory.specs.declared.registers.PackageNumber.{PackageNumber}
 use Rattle.jc_memory.specs.State.{MemoryState, HeapMove, SetRegisters, apply_effect}
 use Rattle.jc_linker.specs.Values.{Packages}
 use Rattle.jc_platform.specs.declared.names.PlatformClass.TheVariants.{Aid}
-use Rattle.jc_platform.specs.Distinct.{class_word}
+use Rattle.jc_platform.specs.NamePlaces.{class_word}
 use Rattle.jc_api_framework.specs.Aid.Cells.{cells_of_aid}
 use Rattle.jc_api_framework.specs.Applet.Register.{with_installation}
 use Rattle.jc_heap.proofs.Keeping.{reference-add}
 use Rattle.law_soundness.specs.LivingReferences.{KeepsReferences}
-use Rattle.law_soundness.specs.State.{IsSoundMemory, IsSteady, is_open, most_owner}
+use Rattle.law_soundness.specs.MemoryLaws.State.{IsSoundMemory, IsSteady, is_open, most_owner}
 use Rattle.law_soundness.proofs.Frames.{object_frames, places_headers, run_frames, run_headers}
 use Rattle.law_soundness.proofs.References.{headers_keep}
-use Rattle.law_soundness.specs.Calls.{IsReadyAgain}
+use Rattle.law_soundness.specs.MachineLaws.Calls.{IsReadyAgain}
 use Rattle.law_soundness.proofs.StillCalls.{same_owners}
 
 module _ (p : Packages) (m : MemoryState) (sound : IsSoundMemory p m) (steady : IsSteady m) where

@@ -6,14 +6,14 @@ use Rattle.jc_words.specs.Layout.{most_applets, registry_length}
 use Rattle.jc_platform.specs.declared.names.PlatformClass.TheVariants.{Applet}
 use Rattle.jc_heap.specs.declared.place.AppletEntry.{AppletEntry}
 use Rattle.jc_heap.specs.Object.{cells_of, facts_of, is_object}
-use Rattle.jc_heap.specs.Components.{words_of}
+use Rattle.jc_heap.specs.Component.{words_of}
 use Rattle.jc_heap.specs.Heap.{HeapState, IsObject, cells, facts, heap_item_at}
-use Rattle.jc_heap.specs.Places.{applet_changes, set_places}
+use Rattle.jc_heap.specs.Place.{applet_changes, set_places}
 use Rattle.jc_linker.specs.Values.{Packages}
 use Rattle.jc_packages.specs.Objects.{is_instance, is_object_address}
 use Rattle.jc_linker.specs.Classes.{is_a}
 use Rattle.jc_packages.specs.Sound.{IsRegistered, aid_in, aid_of_entry, entry_word, holds_aid}
-use Rattle.law_soundness.specs.State.{IsOwnAid}
+use Rattle.law_soundness.specs.MemoryLaws.State.{IsOwnAid}
 use Rattle.law_soundness.proofs.HeapChanges.{Carries, IsSoundBut, object_kept, records_kept, registered_kept}
 
 -- an entry that the registry may have after the others

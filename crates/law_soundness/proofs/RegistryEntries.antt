@@ -5,7 +5,7 @@ use Rattle.std.proofs.lemmas.Option.{cond_some, none-some}
 use Rattle.std.specs.Option.{option_map}
 use Rattle.std.specs.Prelude.{◌==◌, nat_le, nat_lt, unwrap_or}
 use Rattle.jc_heap.specs.declared.place.AppletEntry.{AppletEntry}
-use Rattle.jc_heap.specs.Whole.{IsReference}
+use Rattle.jc_heap.specs.WholeHeap.{IsReference}
 use Rattle.jc_memory.specs.declared.registers.AppletNumber.{AppletNumber}
 use Rattle.jc_memory.specs.State.{MemoryState}
 use Rattle.jc_linker.specs.Values.{Packages}
@@ -13,7 +13,7 @@ use Rattle.jc_environment.specs.Registry.{aid_of_applet, applet_count, applet_en
 use Rattle.jc_packages.specs.Objects.{is_object_address}
 use Rattle.jc_packages.specs.Sound.{entry_word}
 use Rattle.jc_api_framework.specs.System.Sharing.{aid_or_null}
-use Rattle.law_soundness.specs.State.{IsSoundMemory, IsSteady, is_open, is_owner_up_to, most_owner}
+use Rattle.law_soundness.specs.MemoryLaws.State.{IsSoundMemory, IsSteady, is_open, is_owner_up_to, most_owner}
 use Rattle.law_code.proofs.StackCells.{mapped_some}
 
 module _ (p : Packages) (m : MemoryState) (sound : IsSoundMemory p m) where

@@ -15,14 +15,14 @@ use Rattle.jc_memory.specs.State.{MemoryState, HeapMove}
 use Rattle.jc_memory.specs.Cells.{cell_effect_in, word_of}
 use Rattle.jc_memory.specs.Making.{creation_move}
 use Rattle.jc_linker.specs.Classes.{is_class, size_of}
-use Rattle.jc_linker.specs.Resolves.{names_interface}
+use Rattle.jc_linker.specs.Resolve.{names_interface}
 use Rattle.jc_linker.specs.Values.{Packages}
 use Rattle.jc_packages.specs.Objects.{fits_class, is_instance, is_persistent_instance}
 use Rattle.jc_api.proofs.Passing.{Makes}
 pub use Rattle.law_code.proofs.AccessChecks.{instance_kind}
 use Rattle.law_linking.specs.Classes.{has_instances}
-use Rattle.law_soundness.specs.Fit.{FitsFill, FitsNew, FitsValue, IsFit}
-use Rattle.law_soundness.specs.State.{IsLivingElement, IsLivingValue, IsSoundMemory, IsSteady, is_open, is_owner_up_to, last_own, most_new, most_owner}
+use Rattle.law_soundness.specs.MemoryLaws.Fit.{FitsFill, FitsNew, FitsValue, IsFit}
+use Rattle.law_soundness.specs.MemoryLaws.State.{IsLivingElement, IsLivingValue, IsSoundMemory, IsSteady, is_open, is_owner_up_to, last_own, most_new, most_owner}
 
 pub instance_no_array : (kind : Kind) → is_instance kind ≡ true → kind ≡ ReferenceArray → ⊥
 instance_no_array kind e array = true≢false (sym e ∙ ap is_instance array)

@@ -13,19 +13,18 @@ use Rattle.jc_memory.specs.Owners.{owner_number}
 use Rattle.jc_memory.specs.State.{MemoryState, HeapMove, SetFlag, IsNew, apply_effect}
 use Rattle.jc_memory.specs.Making.{object_creation}
 use Rattle.jc_memory.specs.Reading.{AllDue}
-use Rattle.jc_linker.specs.Classes.{reference_cell}
+use Rattle.jc_linker.specs.Classes.{reference_cell, is_a}
 use Rattle.jc_linker.specs.Values.{Packages}
 use Rattle.jc_environment.specs.Pins.{counter, is_pin}
-use Rattle.jc_environment.specs.PinInit.{value_array}
+use Rattle.jc_environment.specs.Pins.PinInit.{value_array}
 use Rattle.jc_platform.specs.declared.names.PlatformClass.TheVariants.{Aid, OwnerPin}
 use Rattle.jc_platform.specs.Hierarchy.{cells_of, is_interface}
 use Rattle.jc_platform.specs.Names.{classes}
 use Rattle.jc_packages.specs.Objects.{is_byte_array, is_instance, is_persistent_instance, is_object_address}
-use Rattle.jc_linker.specs.Classes.{is_a}
 use Rattle.law_linking.proofs.Facts.{numbers_before}
 use Rattle.law_linking.specs.Classes.{KnowsClasses}
-use Rattle.law_soundness.specs.Fit.{IsFit, IsPinObject, OfPin}
-use Rattle.law_soundness.specs.State.{IsSoundMemory, IsSteady}
+use Rattle.law_soundness.specs.MemoryLaws.Fit.{IsFit, IsPinObject, OfPin}
+use Rattle.law_soundness.specs.MemoryLaws.State.{IsSoundMemory, IsSteady}
 use Rattle.jc_api_framework.proofs.Passing.{recorded}
 use Rattle.law_code.proofs.Pins.{pin_record}
 use Rattle.law_soundness.proofs.RunObjects.{active_known, kept_behind, kept_fits, new_kept}

@@ -15,7 +15,7 @@ use Rattle.jc_memory.specs.Cells.{word_at, word_in, words_at}
 use Rattle.jc_linker.specs.Classes.{is_class, size_of}
 use Rattle.jc_linker.specs.Values.{Packages}
 use Rattle.jc_platform.specs.declared.names.PlatformClass.TheVariants.{Aid}
-use Rattle.jc_platform.specs.Distinct.{class_word}
+use Rattle.jc_platform.specs.NamePlaces.{class_word}
 use Rattle.jc_platform.specs.Hierarchy.{cells_of, is_interface}
 use Rattle.jc_platform.specs.Names.{classes}
 use Rattle.jc_heap.specs.declared.object.Kind.TheVariants.{Instance}
@@ -24,7 +24,7 @@ use Rattle.jc_packages.specs.Sound.{aid_in, aid_of_entry, entry_word, holds_aid}
 use Rattle.jc_environment.specs.Aid.{aid_at, aid_behind, aid_of_cells}
 use Rattle.jc_environment.specs.Registry.{applet_count, applet_entry, applet_with_aid, aid_of_applet, first_with_aid, has_aid, is_aid, is_applet}
 use Rattle.law_linking.specs.Classes.{KnowsClasses}
-use Rattle.law_soundness.specs.State.{IsSoundMemory}
+use Rattle.law_soundness.specs.MemoryLaws.State.{IsSoundMemory}
 use Rattle.law_soundness.proofs.RunObjects.{instance_kind, kept_behind}
 use Rattle.law_soundness.proofs.RunCells.{aid_of, none_found}
 use Rattle.law_soundness.proofs.Values.{none_of}

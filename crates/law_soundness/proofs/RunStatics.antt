@@ -6,7 +6,7 @@ use Rattle.std.proofs.lemmas.Option.{cond_some, get_or_from_slice_get, none-some
 use Rattle.std.specs.Option.{option_and_then}
 use Rattle.std.specs.Prelude.{◌==◌, ◌&&◌, ◌%◌, ◌/◌, nat_le, nat_lt, slice_get, slice_index}
 use Rattle.jc_transient.specs.declared.cell.CellValue.{CellValue}
-use Rattle.jc_heap.specs.Components.{record_of}
+use Rattle.jc_heap.specs.Component.{record_of}
 use Rattle.jc_heap.specs.Heap.{HeapState, is_allocated}
 use Rattle.jc_heap.specs.Statics.{statics_of}
 use Rattle.jc_frames.specs.declared.instr.ValueType.{ValueType}
@@ -23,8 +23,8 @@ use Rattle.jc_instructions.specs.declared.static_images.ImageWord.{ImageWord}
 use Rattle.jc_instructions.specs.declared.field_names.FieldOfImage.{FieldOfImage}
 use Rattle.jc_instructions.specs.StaticImages.{package_record_or_none, image_word, next_word, place_of, record_at, word_behind, word_in}
 use Rattle.jc_instructions.specs.FieldNames.{has_field, static_named, static_of}
-use Rattle.law_soundness.specs.Fit.{FitPlaces, FitsStatic}
-use Rattle.law_soundness.specs.State.{IsSoundMemory}
+use Rattle.law_soundness.specs.MemoryLaws.Fit.{FitPlaces, FitsStatic}
+use Rattle.law_soundness.specs.MemoryLaws.State.{IsSoundMemory}
 use Rattle.law_code.proofs.EffectConditions.{IsWordOf}
 use Rattle.law_soundness.proofs.RunValues.{HasType, keepable_is}
 

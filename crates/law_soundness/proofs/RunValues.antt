@@ -12,7 +12,7 @@ use Rattle.jc_frames.specs.declared.instr.ValueType.{ValueType}
 use Rattle.jc_frames.specs.declared.instr.ValueType.TheVariants as types
 use Rattle.jc_frames.specs.declared.cell.Cell.{Cell}
 use Rattle.jc_frames.specs.declared.outcome.FrameExit.{FrameExit}
-use Rattle.jc_frames.specs.Cells.{reference_on}
+use Rattle.jc_frames.specs.Cell.{reference_on}
 use Rattle.jc_memory.specs.State.{MemoryState}
 use Rattle.jc_memory.specs.Cells.{word_of}
 use Rattle.jc_linker.specs.Values.{Packages}
@@ -20,7 +20,7 @@ use Rattle.jc_packages.specs.Objects.{is_reference}
 use Rattle.jc_world.specs.Objects.{storable_in, storable_of}
 use Rattle.jc_world.specs.Values.{keepable, value_if_allowed, value_on}
 use Rattle.jc_api.proofs.Reaching.{err_not_ok, same_Ok}
-use Rattle.law_soundness.specs.State.{IsLivingElement, IsLivingValue}
+use Rattle.law_soundness.specs.MemoryLaws.State.{IsLivingElement, IsLivingValue}
 use Rattle.law_soundness.proofs.Transients.{names_object}
 
 -- a value that is a reference

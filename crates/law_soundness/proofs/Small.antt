@@ -13,20 +13,19 @@ use Rattle.jc_memory.specs.declared.making.NewObject.{NewObject}
 use Rattle.jc_memory.specs.Owners.{owner_number}
 use Rattle.jc_memory.specs.State.{MemoryState}
 use Rattle.jc_memory.specs.Making.{creation_refusal, creation_refusal_in}
-use Rattle.jc_linker.specs.Classes.{is_class, reference_cell}
+use Rattle.jc_linker.specs.Classes.{is_class, reference_cell, is_a}
 use Rattle.jc_linker.specs.Values.{Packages}
 use Rattle.jc_platform.specs.declared.names.PlatformClass.{PlatformClass}
 use Rattle.jc_platform.specs.declared.names.PlatformClass.TheVariants.{Object}
-use Rattle.jc_platform.specs.Distinct.{class_word}
+use Rattle.jc_platform.specs.NamePlaces.{class_word}
 use Rattle.jc_platform.specs.Hierarchy.{is_interface}
 use Rattle.jc_platform.specs.Names.{classes}
 use Rattle.jc_packages.specs.Objects.{fits_class, is_instance}
-use Rattle.jc_linker.specs.Classes.{is_a}
 use Rattle.jc_world.specs.Instances.{IsInstanceWith}
 use Rattle.jc_api.specs.NewArrays.{class_for}
 use Rattle.law_linking.specs.Classes.{KnowsClasses}
-use Rattle.law_soundness.specs.Fit.{FitsNew, FitsValue, IsFit}
-use Rattle.law_soundness.specs.State.{IsSoundMemory, IsSteady, is_owner_up_to, most_new}
+use Rattle.law_soundness.specs.MemoryLaws.Fit.{FitsNew, FitsValue, IsFit}
+use Rattle.law_soundness.specs.MemoryLaws.State.{IsSoundMemory, IsSteady, is_owner_up_to, most_new}
 use Rattle.jc_api.proofs.Passing.{IsTransientArray, Makes}
 use Rattle.law_soundness.proofs.RunObjects.{active_known, instance_kind, instance_no_array, kept_fits, new_transient}
 use Rattle.law_soundness.proofs.Below.{HasReason, reason_no_aid, reason_no_pin}

@@ -4,9 +4,9 @@ use Rattle.std.proofs.Common.{Option, Some, None, IfSome, if◌then◌else◌}
 use Rattle.std.proofs.lemmas.List.{length-set, get_or-set_same, get_or-set_other}
 use Rattle.std.proofs.lemmas.Bool.{cases_Bool, cases_eq, eq-eqb, ne_eqb}
 use Rattle.std.proofs.lemmas.Option.{none-some, same_Some}
-use Rattle.jc_heap.specs.Cut.{records_from}
+use Rattle.jc_heap.specs.Walk.{records_from}
 use Rattle.jc_heap.specs.Object.{AnObject, APackage, Item, cells_of, facts_of, is_object}
-use Rattle.jc_heap.specs.Components.{part_sizes, record_of, words_for, words_of}
+use Rattle.jc_heap.specs.Component.{part_sizes, record_of, words_for, words_of}
 use Rattle.jc_heap.specs.Heap.{HeapState, IsObject, heap_item_at, is_allocated}
 use Rattle.jc_heap.specs.Statics.{IsStatic, image_from, set_word, statics_of, with_word}
 use Rattle.jc_heap.proofs.Laws.{heap_item_at-absent}
@@ -17,7 +17,7 @@ use Rattle.jc_linker.specs.Lookups.{statics_at}
 use Rattle.jc_linker.specs.Values.{Packages}
 use Rattle.jc_packages.specs.Objects.{is_reference}
 use Rattle.jc_packages.specs.Sound.{HoldsStatics, entry_word, package_record_at}
-use Rattle.law_soundness.specs.Fit.{FitsStatic}
+use Rattle.law_soundness.specs.MemoryLaws.Fit.{FitsStatic}
 use Rattle.law_soundness.proofs.HeapChanges.{Carries, IsSoundBut, object_kept, reference_kept, sound_kept, statics_kept}
 use Rattle.law_code.proofs.SparedObjects.{applets-set_word}
 

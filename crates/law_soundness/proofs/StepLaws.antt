@@ -4,7 +4,7 @@ use Rattle.law_soundness.proofs.Environment.{keeps_environment}
 use Rattle.law_soundness.proofs.Natives.{natives_leave}
 use Rattle.law_soundness.proofs.LocalEffects.{calm_stays}
 use Rattle.law_soundness.proofs.Instructions.{instructions_are_fit}
-use Rattle.law_soundness.specs.Soundness.{RunsAreSound}
+use Rattle.law_soundness.specs.MachineLaws.Soundness.{RunsAreSound}
 use Rattle.law_soundness.proofs.Machines.{Given}
 use Rattle.law_soundness.proofs.StepsAndRuns.{runs_sound}
 

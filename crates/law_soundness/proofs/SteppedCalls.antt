@@ -3,7 +3,7 @@ use Rattle.std.proofs.Common.{◌≡◌, ℕ, Bool, true, false, List, [], ◌�
 use Rattle.std.proofs.Common.{reverse, take}
 use Rattle.std.proofs.lemmas.List.Elements.{All-drop, All-take}
 use Rattle.std.specs.Prelude.{◌==◌, ◌&&◌, nat_le}
-use Rattle.jc_heap.specs.Whole.{IsReference}
+use Rattle.jc_heap.specs.WholeHeap.{IsReference}
 use Rattle.jc_memory.specs.declared.registers.Owner.{Owner}
 use Rattle.jc_memory.specs.Owners.{owner_number}
 use Rattle.jc_memory.specs.State.{MemoryState, SetRegisters, apply_effect}
@@ -28,14 +28,14 @@ use Rattle.jc_instructions.specs.ServerCall.{with_local}
 use Rattle.jc_api.proofs.Due.{DueThen}
 use Rattle.law_code.proofs.StackCells.{frame_kept, with_cells}
 use Rattle.law_code.proofs.Walk.{EntersPass, IsAnswered, walked_of}
-use Rattle.law_soundness.specs.Calls.{IsCallResult, IsReadyAgain, IsSteadyAgain}
-use Rattle.law_soundness.specs.Environment.{HasEnvironment}
-use Rattle.law_soundness.specs.Fit.{FitsTurn, IsFit}
+use Rattle.law_soundness.specs.MachineLaws.Calls.{IsCallResult, IsReadyAgain, IsSteadyAgain}
+use Rattle.law_soundness.specs.MemoryLaws.Environment.{HasEnvironment}
+use Rattle.law_soundness.specs.MemoryLaws.Fit.{FitsTurn, IsFit}
 use Rattle.law_soundness.specs.LivingReferences.{IsLivingCell}
 use Rattle.law_soundness.specs.Machines.{IsSoundMachine, KnowOwners}
-use Rattle.law_soundness.specs.Soundness.{AreKnown, IsSoundNext}
-use Rattle.law_soundness.specs.State.{IsSoundMemory, is_owner_up_to, most_owner}
-use Rattle.law_soundness.specs.Steps.{IsSoundInvoke}
+use Rattle.law_soundness.specs.MachineLaws.Soundness.{AreKnown, IsSoundNext}
+use Rattle.law_soundness.specs.MemoryLaws.State.{IsSoundMemory, is_owner_up_to, most_owner}
+use Rattle.law_soundness.specs.MachineLaws.Steps.{IsSoundInvoke}
 use Rattle.law_soundness.proofs.Calls.{IsKnown, calls_are_fit, is_receiver, selected_fit}
 use Rattle.law_soundness.proofs.LivingReferences.{arguments_living, callers_kept, callers_nulled, first_living, frame_nulled, none_living, reverse_living}
 use Rattle.law_soundness.proofs.Machines.{Given, IsOthers, framed, machine_of, stacked, under_after, under_of}

@@ -4,7 +4,7 @@ use Rattle.std.proofs.lemmas.Option.{same_Some}
 use Rattle.std.specs.Prelude.{slice_index}
 use Rattle.jc_transient.specs.declared.cell.CellValue.TheVariants.{Short}
 use Rattle.jc_heap.specs.Heap.{HeapState}
-use Rattle.jc_heap.specs.Whole.{IsReference}
+use Rattle.jc_heap.specs.WholeHeap.{IsReference}
 use Rattle.jc_memory.specs.State.{MemoryState, SetTransient, SetRegisters, apply_effect}
 use Rattle.jc_linker.specs.Values.{Packages}
 use Rattle.jc_frames.specs.declared.instr.ReturnOp.{ReturnOp}
@@ -13,18 +13,18 @@ use Rattle.jc_frames.specs.declared.cell.Cell.{Cell}
 use Rattle.jc_frames.specs.declared.cell.Cell.TheVariants.{Reference, ReturnAddress}
 use Rattle.jc_frames.specs.declared.cell.Cell.TheVariants as variants
 use Rattle.jc_frames.specs.Calls.{outcome_of}
-use Rattle.jc_frames.specs.Cells.{reference_on, short_on}
+use Rattle.jc_frames.specs.Cell.{reference_on, short_on}
 use Rattle.jc_frames.specs.Frames.{Caller, Frame}
 use Rattle.jc_frames.specs.ReturnOps.{returned_cell}
 use Rattle.jc_instructions.specs.MethodReturn.{registers_of_caller}
 use Rattle.jc_api.proofs.Reaching.{header_is}
 use Rattle.law_code.proofs.StackCells.{mapped_some, reference_taken}
 use Rattle.law_code.proofs.Walk.{IsHanded, LeavesPass}
-use Rattle.law_soundness.specs.Fit.{FitsTurn, IsFit}
+use Rattle.law_soundness.specs.MemoryLaws.Fit.{FitsTurn, IsFit}
 use Rattle.law_soundness.specs.LivingReferences.{AreLivingCells, IsLivingCell, IsLivingOutcome}
 use Rattle.law_soundness.specs.Machines.{IsSoundMachine}
 use Rattle.law_linking.specs.Methods.{KnowsMethods}
-use Rattle.law_soundness.specs.Soundness.{IsSoundNext}
+use Rattle.law_soundness.specs.MachineLaws.Soundness.{IsSoundNext}
 use Rattle.law_soundness.proofs.Leaves.{back_fits, reason_fits}
 use Rattle.law_soundness.proofs.LivingReferences.{none_living}
 use Rattle.law_soundness.proofs.Owners.{owner_zero}

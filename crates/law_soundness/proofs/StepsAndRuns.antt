@@ -14,17 +14,17 @@ use Rattle.jc_instructions.specs.ArrayOps.{array_instruction}
 use Rattle.jc_instructions.specs.FieldOps.{field_instruction}
 use Rattle.jc_interp.specs.declared.attacks.Attack.{Attack}
 use Rattle.jc_interp.specs.Attacks.{attacked, attacked_step, step_from}
-use Rattle.jc_interp.specs.Running.{or_end, run_of}
-use Rattle.jc_interp.specs.Stepping.{at_place, instruction_at, is_plain, machine_step}
+use Rattle.jc_interp.specs.Run.{or_end, run_of}
+use Rattle.jc_interp.specs.Step.{at_place, instruction_at, is_plain, machine_step}
 use Rattle.jc_api.proofs.Due.{DueThen, due_of, results_of}
 use Rattle.law_code.proofs.Instructions.{arrays_going, checked_going, examined_going, fields_going, made_going}
 use Rattle.law_code.proofs.EffectConditions.{ReadsSo}
 use Rattle.law_code.proofs.Walk.{IsAlone, walked_bind, walked_step}
-use Rattle.law_soundness.specs.Fit.{IsFit}
+use Rattle.law_soundness.specs.MemoryLaws.Fit.{IsFit}
 use Rattle.law_soundness.specs.LivingReferences.{IsLivingCell}
 use Rattle.law_soundness.specs.Machines.{IsSoundMachine}
-use Rattle.law_soundness.specs.Steps.{calls}
-use Rattle.law_soundness.specs.Soundness.{AreKnown, IsSoundNext, RunsAreSound, StepsAreSound}
+use Rattle.law_soundness.specs.MachineLaws.Steps.{calls}
+use Rattle.law_soundness.specs.MachineLaws.Soundness.{AreKnown, IsSoundNext, RunsAreSound, StepsAreSound}
 use Rattle.law_soundness.proofs.Faults.{placed, sound_before}
 use Rattle.law_soundness.proofs.Loads.{living_reads}
 use Rattle.law_soundness.proofs.Machines.{Given, framed, stayed}

@@ -5,12 +5,12 @@ use Rattle.jc_transient.specs.declared.cell.CellValue.TheVariants.{Short}
 use Rattle.jc_transient.specs.declared.cell.ClearEvent.{ClearEvent}
 use Rattle.jc_heap.specs.declared.place.Place.{Place}
 use Rattle.jc_heap.specs.Heap.{facts}
-use Rattle.jc_heap.specs.Places.{cell_changes}
-use Rattle.jc_heap.specs.Whole.{IsReference}
+use Rattle.jc_heap.specs.Place.{cell_changes}
+use Rattle.jc_heap.specs.WholeHeap.{IsReference}
 use Rattle.jc_frames.specs.declared.cell.Cell.{Cell}
 use Rattle.jc_memory.specs.declared.making.NewObject.{NewObject}
 use Rattle.jc_memory.specs.Cells.{cell_effect_in, cells_effect_in}
-use Rattle.jc_memory.specs.Changing.{nonatomic_store}
+use Rattle.jc_memory.specs.Changes.{nonatomic_store}
 use Rattle.jc_memory.specs.Making.{creation_move}
 use Rattle.jc_memory.specs.Reading.{AllDue}
 use Rattle.jc_memory.specs.State.{MemoryState, Effect, HeapMove, apply_effect}
@@ -24,7 +24,7 @@ use Rattle.jc_api.specs.Initializing.{words_given}
 use Rattle.jc_api.proofs.Passing.{Turns}
 use Rattle.jc_api_framework.proofs.Passing.{MethodPasses}
 use Rattle.law_code.proofs.EffectConditions.{ArraysPass, FieldsPass, InstancesPass}
-use Rattle.law_soundness.specs.LocalEffects.{AreElsewhere, IsLocalEffect}
+use Rattle.law_soundness.specs.MachineLaws.LocalEffects.{AreElsewhere, IsLocalEffect}
 
 -- an effect is local, and after it code runs for the same owner
 abbrev pub IsStill : Effect → MemoryState → Type 0

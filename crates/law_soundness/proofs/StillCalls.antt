@@ -10,11 +10,11 @@ use Rattle.jc_linker.specs.Values.{Packages}
 use Rattle.jc_world.specs.declared.native_result.NativeResult.{NativeResult}
 use Rattle.jc_world.specs.declared.native_result.NativeResult.TheVariants.{ReturnVoid, ReturnValue, CallServer, Aborted}
 use Rattle.jc_world.specs.NativeCalls.{NativeProgram}
-use Rattle.law_soundness.specs.Fit.{IsFit, KeepsSound}
-use Rattle.law_soundness.specs.State.{IsSoundMemory, IsSteady, is_owner_up_to, most_owner}
-use Rattle.law_soundness.specs.LocalEffects.{LocalEffectsStay}
+use Rattle.law_soundness.specs.MemoryLaws.Fit.{IsFit, KeepsSound}
+use Rattle.law_soundness.specs.MemoryLaws.State.{IsSoundMemory, IsSteady, is_owner_up_to, most_owner}
+use Rattle.law_soundness.specs.MachineLaws.LocalEffects.{LocalEffectsStay}
 use Rattle.law_soundness.specs.Machines.{KnowOwners}
-use Rattle.law_soundness.specs.Calls.{IsCallResult, IsReadyAgain}
+use Rattle.law_soundness.specs.MachineLaws.Calls.{IsCallResult, IsReadyAgain}
 use Rattle.jc_api.proofs.Due.{IsPlainAnswer, IsPlainCall}
 use Rattle.jc_api.proofs.Exits.{IsPlainExit}
 use Rattle.law_soundness.proofs.LivingReferences.{plain_living}

@@ -9,7 +9,7 @@ use Rattle.jc_memory.specs.Owners.{owner_number, owner_of}
 use Rattle.jc_memory.specs.State.{MemoryState}
 use Rattle.jc_platform.specs.declared.names.PlatformClass.{PlatformClass}
 use Rattle.jc_platform.specs.declared.names.PlatformClass.TheVariants.{Object}
-use Rattle.jc_platform.specs.Distinct.{class_word}
+use Rattle.jc_platform.specs.NamePlaces.{class_word}
 use Rattle.jc_linker.specs.declared.target.Method.{Method}
 use Rattle.jc_linker.specs.declared.target.Method.TheVariants.{Code}
 use Rattle.jc_linker.specs.declared.target.Target.TheVariants.{VirtualMethod}
@@ -30,8 +30,8 @@ use Rattle.jc_instructions.specs.Invoke.{call_decision, call_of, class_of, metho
 use Rattle.jc_api.proofs.Reaching.{err_not_ok, object_is, same_Ok}
 use Rattle.jc_api.proofs.Stretches.{both_ok}
 use Rattle.law_code.proofs.MethodSelection.{Bare, Found, Named, Selected, selected}
-use Rattle.law_soundness.specs.Environment.{HasEnvironment}
-use Rattle.law_soundness.specs.Fit.{IsPlatformClass}
+use Rattle.law_soundness.specs.MemoryLaws.Environment.{HasEnvironment}
+use Rattle.law_soundness.specs.MemoryLaws.Fit.{IsPlatformClass}
 use Rattle.law_linking.specs.Platform.{KeepsPlatform}
 use Rattle.law_soundness.proofs.Owners.{owner_zero}
 

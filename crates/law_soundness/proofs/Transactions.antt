@@ -3,7 +3,7 @@ use Rattle.std.proofs.Common.{◌≡◌, ℕ, ◌+◌, false, inl, None, refl, s
 use Rattle.std.proofs.lemmas.Bool.{both_ways, cond-false, false_from_ne_true}
 use Rattle.std.specs.Prelude.{nat_lt}
 use Rattle.jc_heap.specs.Moves.{Begin, Commit, Abort}
-use Rattle.jc_heap.specs.Whole.{IsReference}
+use Rattle.jc_heap.specs.WholeHeap.{IsReference}
 use Rattle.jc_memory.specs.declared.registers.Depth.{Depth}
 use Rattle.jc_memory.specs.declared.registers.Depth.TheVariants.{Outside, Inside}
 use Rattle.jc_memory.specs.State.{MemoryState, HeapMove, apply_effect}
@@ -11,8 +11,8 @@ use Rattle.jc_linker.specs.Values.{Packages}
 use Rattle.jc_api_framework.specs.Applet.Register.{open_installation}
 use Rattle.jc_api_framework.specs.System.Transactions.{set_level}
 use Rattle.jc_api_framework.proofs.Passing.{EndsSo}
-use Rattle.law_soundness.specs.State.{IsSoundMemory, IsSteady, is_open}
-use Rattle.law_soundness.specs.Calls.{IsCallResult, IsReadyAgain, IsSteadyAgain}
+use Rattle.law_soundness.specs.MemoryLaws.State.{IsSoundMemory, IsSteady, is_open}
+use Rattle.law_soundness.specs.MachineLaws.Calls.{IsCallResult, IsReadyAgain, IsSteadyAgain}
 use Rattle.law_soundness.specs.LivingReferences.{KeepsReferencesBelow}
 use Rattle.law_soundness.proofs.Memories.{choose}
 use Rattle.law_soundness.proofs.Transients.{left}

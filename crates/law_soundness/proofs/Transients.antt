@@ -12,22 +12,22 @@ use Rattle.jc_transient.specs.declared.cell.CellValue.TheVariants.{Short, Refere
 use Rattle.jc_transient.specs.declared.cell.ClearEvent.{ClearEvent}
 use Rattle.jc_transient.specs.declared.sizes.RamSizes.{RamSizes}
 use Rattle.jc_transient.specs.declared.cell.ClearEvent.TheVariants.{Reset, Deselect}
-use Rattle.jc_transient.specs.Cells.{default_value, number_of, without_dead}
+use Rattle.jc_transient.specs.Cell.{default_value, number_of, without_dead}
 use Rattle.jc_transient.specs.State.{RamState, HasSizes, IsCleared, area, area_size, cell_at, ram_sizes, size_in, with_area, with_cells}
 use Rattle.jc_heap.specs.declared.object.Facts.{Facts}
 use Rattle.jc_heap.specs.declared.object.Kind.{Kind}
 use Rattle.jc_heap.specs.declared.object.Kind.TheVariants.{ReferenceArray}
 use Rattle.jc_heap.specs.Object.{Object, facts_of, header_only, is_object, new_transient}
 use Rattle.jc_heap.specs.Heap.{HeapState, HeapView, IsObject, LacksCells, add_object, add_transient, area_end, area_limit, area_sizes, facts, heap_item_at, is_allocated, with_area_end}
-use Rattle.jc_heap.specs.Keeping.{AreConsistent, IsConsistentHeap}
-use Rattle.jc_heap.specs.Whole.{IsConsistent, IsReference}
+use Rattle.jc_heap.specs.HeapLaws.{AreConsistent, IsConsistentHeap}
+use Rattle.jc_heap.specs.WholeHeap.{IsConsistent, IsReference}
 use Rattle.jc_heap.proofs.Laws.{heap_item_at-absent, heap_item_at-add_object, heap_item_at-add_other, object_named, same_facts}
 use Rattle.jc_heap.proofs.OwnCells.{owns_cells}
 use Rattle.jc_memory.specs.State.{MemoryState, ram_after_set, ram_unflagged, ram_without_dead, zero_of}
 use Rattle.jc_packages.specs.Objects.{is_object_address, is_reference}
 use Rattle.law_code.proofs.ObjectsOutside.{area_long}
-use Rattle.law_soundness.specs.Fit.{FitsFill}
-use Rattle.law_soundness.specs.State.{HasLivingElements, IsLivingElement, IsLivingValue, TransientCells}
+use Rattle.law_soundness.specs.MemoryLaws.Fit.{FitsFill}
+use Rattle.law_soundness.specs.MemoryLaws.State.{HasLivingElements, IsLivingElement, IsLivingValue, TransientCells}
 use Rattle.law_soundness.proofs.Frames.{same_object}
 
 abbrev blank : CellValue

@@ -5,18 +5,17 @@ use Rattle.std.specs.Prelude.{is_none, slice_index}
 use Rattle.std.proofs.lemmas.Bool.{and_parts, false≢true, eqb-true}
 use Rattle.jc_transient.specs.declared.cell.ClearEvent.{ClearEvent}
 use Rattle.jc_platform.specs.declared.names.PlatformClass.TheVariants.{Aid, OwnerPin}
-use Rattle.jc_platform.specs.Distinct.{class_word}
+use Rattle.jc_platform.specs.NamePlaces.{class_word}
 use Rattle.jc_heap.specs.declared.object.Kind.{Kind}
 use Rattle.jc_heap.specs.declared.object.Kind.TheVariants.{Instance}
 use Rattle.jc_heap.specs.Heap.{HeapState, facts, set_cell, set_cells}
 use Rattle.jc_heap.proofs.Laws.{facts-set_cell}
-use Rattle.jc_linker.specs.Classes.{is_below, reference_cell}
+use Rattle.jc_linker.specs.Classes.{is_below, reference_cell, is_a}
 use Rattle.jc_linker.specs.Values.{Packages}
 use Rattle.jc_packages.specs.Objects.{is_bytes, is_instance, is_persistent_instance, is_object_address}
-use Rattle.jc_linker.specs.Classes.{is_a}
 use Rattle.jc_packages.specs.Sound.{IsRegistered, entry_word}
-use Rattle.law_soundness.specs.State.{IsSoundUpTo}
-use Rattle.law_soundness.specs.Fit.{FitsCell}
+use Rattle.law_soundness.specs.MemoryLaws.State.{IsSoundUpTo}
+use Rattle.law_soundness.specs.MemoryLaws.Fit.{FitsCell}
 use Rattle.law_soundness.proofs.HeapChanges.{Carries, IsSoundBut, but_one, reference_kept, with_one}
 use Rattle.law_soundness.proofs.Cells.{CellFits, cell_carries, cell_kept}
 use Rattle.law_code.proofs.SparedObjects.{SameApplets, applets-set_cell}

@@ -1,15 +1,5 @@
-pub mod State
-pub mod Fit
 pub mod LivingReferences
-pub mod Environment
-pub mod Groups
-pub mod Natives
 pub mod Machines
-pub mod LocalEffects
-pub mod Steps
-pub mod Calls
-pub mod Soundness
 pub mod References
-pub mod CommandParts
-pub mod Commands
-pub mod OwnerSwitches
+pub mod MachineLaws
+pub mod MemoryLaws

@@ -4,9 +4,9 @@ use Rattle.jc_memory.specs.Owners.{owner_number}
 use Rattle.jc_memory.specs.State.{MemoryState}
 use Rattle.jc_linker.specs.Values.{Packages}
 use Rattle.jc_frames.specs.Frames.{Caller, Frames}
-use Rattle.law_soundness.specs.Environment.{HasEnvironment}
+use Rattle.law_soundness.specs.MemoryLaws.Environment.{HasEnvironment}
 use Rattle.law_soundness.specs.LivingReferences.{AreLivingFrames}
-use Rattle.law_soundness.specs.State.{IsSoundMemory, IsSteady, is_owner_up_to, most_owner}
+use Rattle.law_soundness.specs.MemoryLaws.State.{IsSoundMemory, IsSteady, is_owner_up_to, most_owner}
 
 -- for whom each caller ran is there, and was not the runtime environment
 abbrev pub KnowOwners : List Caller → MemoryState → Type 0

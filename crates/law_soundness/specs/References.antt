@@ -2,7 +2,7 @@
 use Rattle.std.specs.Prelude.{ℕ, ◌≡◌, ◌<◌, ◌+◌, ◌==◌, true, false, List, [], length, slice_index, Option}
 use Rattle.jc_heap.specs.declared.object.Kind.TheVariants.{ReferenceArray}
 use Rattle.jc_heap.specs.Heap.{IsObject, cells, facts}
-use Rattle.jc_heap.specs.Whole.{IsReference}
+use Rattle.jc_heap.specs.WholeHeap.{IsReference}
 use Rattle.jc_frames.specs.declared.outcome.Outcome.{Outcome}
 use Rattle.jc_frames.specs.Frames.{Frames, Ends}
 use Rattle.jc_memory.specs.Cells.{word_at}
@@ -17,9 +17,9 @@ use Rattle.jc_interp.specs.Attacks.{attacked_step}
 use Rattle.jc_packages.specs.Objects.{is_persistent_instance}
 use Rattle.jc_packages.specs.Sound.{HoldsStatics, package_record_at}
 use Rattle.jc_dispatch.specs.Buffer.{apdu_buffer, apdu_object}
-use Rattle.jc_dispatch.specs.Phases.{instance_of}
+use Rattle.jc_dispatch.specs.Phase.{instance_of}
 use Rattle.law_soundness.specs.LivingReferences.{IsLivingFrame, IsLivingOutcome}
-use Rattle.law_soundness.specs.State.{IsSteady}
+use Rattle.law_soundness.specs.MemoryLaws.State.{IsSteady}
 
 -- each reference in an array, persistent or transient, in a field and in a static field is null or names an object that is there
 pub record NamesObjects (p : Packages) (m : MemoryState) : Type 0 where

@@ -1,13 +1,13 @@
 //! Laws of the definitions.
-ghost use Rattle.law_soundness.specs.Calls.{NativesLeave};
-ghost use Rattle.law_soundness.specs.LocalEffects.{LocalEffectsStay};
-ghost use Rattle.law_soundness.specs.Commands.{CommandsAreSound, ServingKeeps};
-ghost use Rattle.law_soundness.specs.CommandParts.{DispatchedAreRuns};
-ghost use Rattle.law_soundness.specs.Groups.{ArraysFit, FieldsFit, ObjectsFit};
-ghost use Rattle.law_soundness.specs.Natives.{NativesFit};
-ghost use Rattle.law_soundness.specs.Soundness.{FaultsAreSound, RunsAreSound, StepsAreSound};
-ghost use Rattle.law_soundness.specs.OwnerSwitches.{SwitchesHaveCauses};
-ghost use Rattle.law_soundness.specs.Steps.{AsksFit, CallsFit, InstructionsFit, LeavesFit};
+ghost use Rattle.law_soundness.specs.MachineLaws.Calls.{NativesLeave};
+ghost use Rattle.law_soundness.specs.MachineLaws.LocalEffects.{LocalEffectsStay};
+ghost use Rattle.law_soundness.specs.MachineLaws.Commands.{CommandsAreSound, ServingKeeps};
+ghost use Rattle.law_soundness.specs.MachineLaws.CommandParts.{DispatchedAreRuns};
+ghost use Rattle.law_soundness.specs.MachineLaws.Groups.{ArraysFit, FieldsFit, ObjectsFit};
+ghost use Rattle.law_soundness.specs.MachineLaws.Natives.{NativesFit};
+ghost use Rattle.law_soundness.specs.MachineLaws.Soundness.{FaultsAreSound, RunsAreSound, StepsAreSound};
+ghost use Rattle.law_soundness.specs.MachineLaws.OwnerSwitches.{SwitchesHaveCauses};
+ghost use Rattle.law_soundness.specs.MachineLaws.Steps.{AsksFit, CallsFit, InstructionsFit, LeavesFit};
 
 /// Whatever an instruction on fields may do in a sound memory fits the packages that are linked.
 pub fn effects_of_field_instructions_fit_packages()

@@ -1,7 +1,7 @@
 //! Laws of the definitions.
-ghost use Rattle.law_soundness.specs.Environment.{KeepsEnvironment};
-ghost use Rattle.law_soundness.specs.Fit.{KeepsSound};
-ghost use Rattle.law_soundness.specs.State.{OutlastsLosses};
+ghost use Rattle.law_soundness.specs.MemoryLaws.Environment.{KeepsEnvironment};
+ghost use Rattle.law_soundness.specs.MemoryLaws.Fit.{KeepsSound};
+ghost use Rattle.law_soundness.specs.MemoryLaws.State.{OutlastsLosses};
 
 /// An effect that fits the packages leaves a memory that fits them so, the heap as it is and the one that a
 /// loss of power leaves.

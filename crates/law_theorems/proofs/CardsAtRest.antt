@@ -3,15 +3,15 @@ use Rattle.std.proofs.Common.{List, [], ◌∷◌, sym, subst}
 use Rattle.jc_platform.specs.Tokens.{Tokens}
 use Rattle.jc_platform.proofs.OneAnswer.{one_table}
 use Rattle.jc_card.specs.Dispatching.{with_response}
-use Rattle.jc_card.specs.Requests.{Request, Command, Reset, ArmFuse, PlanFault, Reply, Response, Ready, Down}
-use Rattle.jc_card.specs.Power.{PowerState, Up, Off, budget_of, durable_state, durable_state_in_store}
-use Rattle.jc_card.specs.Serving.{Serves, SessionRun}
-use Rattle.jc_card.specs.Starting.{Starts}
+use Rattle.jc_card.specs.Session.Requests.{Request, Command, Reset, ArmFuse, PlanFault, Reply, Response, Ready, Down}
+use Rattle.jc_card.specs.State.Power.{PowerState, Up, Off, budget_of, durable_state, durable_state_in_store}
+use Rattle.jc_card.specs.Session.Serving.{Serves, SessionRun}
+use Rattle.jc_card.specs.Session.Starting.{Starts}
 use Rattle.law_images.specs.Cards.{IsOwnPower, StaysOwn}
 use Rattle.law_images.specs.Rest.{IsResting}
 use Rattle.law_images.proofs.Rest.{armed_rests, leave_at_rest, rests_so}
 use Rattle.law_images.proofs.Sessions.{stays_own}
-use Rattle.law_images.specs.Comes.{ComesTo, StoresCome}
+use Rattle.law_images.specs.Outcomes.{ComesTo, StoresCome}
 
 pub comes_own : (t : Tokens) (s : PowerState) → ComesTo t s → IsOwnPower t s
 comes_own t s c = let stays : StaysOwn = stays_own one_table in stays.session t (Off c.budget c.first) c.requests c.replies s c.bytes c.own c.run

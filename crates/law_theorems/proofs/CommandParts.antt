@@ -13,27 +13,27 @@ use Rattle.jc_memory.proofs.ProgramLemmas.{due_before}
 use Rattle.jc_linker.specs.Values.{Packages}
 use Rattle.jc_platform.specs.Tokens.{Tokens}
 use Rattle.jc_interp.specs.Attacks.{attacked, step_from}
-use Rattle.jc_interp.specs.Stepping.{machine_step}
+use Rattle.jc_interp.specs.Step.{machine_step}
 use Rattle.jc_card.specs.Answers.{exchange, run_code}
-use Rattle.jc_card.specs.CardState.{CardState}
+use Rattle.jc_card.specs.Card.{CardState}
 use Rattle.jc_card.specs.Dispatching.{create_applet, dispatch}
 use Rattle.jc_card.specs.Loading.{LoadResponse, end_load}
-use Rattle.jc_card.specs.Power.{Up}
+use Rattle.jc_card.specs.State.Power.{Up}
 use Rattle.law_code.proofs.AtomicEffects.{due_begun}
-use Rattle.law_soundness.specs.Commands.{IsServed}
-use Rattle.law_soundness.specs.CommandParts.{IsByEnvironment, IsDispatched, Stops, Does, Chooses, OneOf, IsOfRun}
-use Rattle.law_soundness.specs.OwnerSwitches.{IsOfStep}
+use Rattle.law_soundness.specs.MachineLaws.Commands.{IsServed}
+use Rattle.law_soundness.specs.MachineLaws.CommandParts.{IsByEnvironment, IsDispatched, Stops, Does, Chooses, OneOf, IsOfRun}
+use Rattle.law_soundness.specs.MachineLaws.OwnerSwitches.{IsOfStep}
 use Rattle.law_soundness.proofs.Causes.{causes}
 use Rattle.law_soundness.proofs.CommandLaws.{commands_are_sound}
 use Rattle.law_soundness.proofs.CommandParts.{dispatched_apart, dispatched_more, nothing_more}
 use Rattle.law_images.specs.Cards.{IsOwnCard}
-use Rattle.law_images.specs.Comes.{AddNone, ComesWithin, memory_at}
+use Rattle.law_images.specs.Outcomes.{AddNone, ComesWithin, memory_at}
 use Rattle.law_images.specs.LoadedPackages.{AreBytes}
 use Rattle.law_soundness.proofs.Phases.{Good}
 use Rattle.law_images.proofs.Commands.{IsAnswered, creates_good, dispatched_good, runs_good}
 use Rattle.law_images.proofs.Sessions.{linked_known}
-use Rattle.law_theorems.specs.Commands.{CommandsRunCode}
-use Rattle.law_theorems.specs.References.{RunsFrom}
+use Rattle.law_theorems.specs.SessionTheorems.Commands.{CommandsRunCode}
+use Rattle.law_theorems.specs.SessionTheorems.References.{RunsFrom}
 use Rattle.law_theorems.proofs.CardsAtRest.{comes_own, comes_rests}
 use Rattle.law_theorems.proofs.Exchanges.{exchanged, load_ended}
 use Rattle.law_theorems.proofs.Prefixes.{due_after, front}

@@ -1,14 +1,14 @@
 -- What was complete before a cut stays.
 use Rattle.std.proofs.Common.{◌≡◌, ℕ, ◌+◌, ◌-◌, ◌≤◌, List, [], ◌∷◌, ◌++◌, refl, sym, ◌∙◌, ap, arith}
 use Rattle.jc_heap.specs.Heap.{HeapState, HeapView}
-use Rattle.jc_heap.specs.Losses.{durable_behind, writes_of_moves}
+use Rattle.jc_heap.specs.HeapLaws.{durable_behind, writes_of_moves}
 use Rattle.jc_heap.specs.Moves.{Move, apply_moves}
 use Rattle.jc_heap.proofs.Losses.{kept}
 use Rattle.jc_memory.specs.State.{MemoryState, Effect, HeapMove, moves_of}
 use Rattle.jc_memory.proofs.ProgramLemmas.{heap_after}
-use Rattle.jc_card.specs.CardState.{CardState}
-use Rattle.law_images.specs.Comes.{memory_at}
-use Rattle.law_theorems.specs.Cuts.{IsBehind, IsHeapCutAt}
+use Rattle.jc_card.specs.Card.{CardState}
+use Rattle.law_images.specs.Outcomes.{memory_at}
+use Rattle.law_theorems.specs.SessionTheorems.Cuts.{IsBehind, IsHeapCutAt}
 use Rattle.law_theorems.proofs.Prefixes.{behind_both}
 
 -- ---- effects and their moves

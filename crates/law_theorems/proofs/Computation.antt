@@ -1,15 +1,15 @@
 -- All that the session computes with.
 use Rattle.hex.specs.Hex.{encode_with}
-use Rattle.jc_commit.specs.Keeping.{goes_back, unlogged_addresses, writes_for, has_room_for}
+use Rattle.jc_commit.specs.Keep.{goes_back, unlogged_addresses, writes_for, has_room_for}
 use Rattle.jc_transient.specs.State.{ram_sizes}
 use Rattle.jc_heap.specs.Heap.{heap_item_at, is_allocated, set_cell, add_object, add_transient, next_object, cell_address, end_address}
-use Rattle.jc_heap.specs.Packages.{record_size, package_record, push_package, addresses_of_package}
+use Rattle.jc_heap.specs.Package.{record_size, package_record, push_package, addresses_of_package}
 use Rattle.jc_environment.specs.Aid.{aid_of_cells}
 use Rattle.jc_environment.specs.Registry.{applet_entry as applet_entry_in_registry, applet_with_aid}
-use Rattle.jc_environment.specs.PinChecks.{pin_check}
-use Rattle.jc_environment.specs.PinInit.{pin_init}
+use Rattle.jc_environment.specs.Pins.Checks.{pin_check}
+use Rattle.jc_environment.specs.Pins.PinInit.{pin_init}
 use Rattle.jc_environment.specs.Pins.{is_pin}
-use Rattle.jc_environment.specs.PinUpdates.{pin_update}
+use Rattle.jc_environment.specs.Pins.Updates.{pin_update}
 use Rattle.jc_platform.specs.Hierarchy.{superclass_of, interfaces_of, is_interface, is_instantiable, cells_of, holds_reference, implementation_of}
 use Rattle.jc_platform.specs.Names.{packages, classes, objects_rows, exceptions_rows, utilities_rows, system_rows, aids_rows, pins_rows, applets_rows}
 use Rattle.jc_platform.specs.Names.{apdus_rows, events_rows, engines_rows, keys_rows, key_interfaces_rows, ciphers_rows}
@@ -26,8 +26,8 @@ use Rattle.jc_linker.specs.Lookups.{target_at, code_at, aid_at as aid_at_in_look
 use Rattle.jc_linker.specs.Lookups.{applet_entry as applet_entry_in_lookups}
 use Rattle.jc_linker.specs.Lookups.{entry_with_aid, package_with_aid}
 use Rattle.jc_linker.specs.Methods.{first_decided, method_below, method_in, method_at as method_at_in_methods}
-use Rattle.jc_linker.specs.Resolves.{class_index, class_with_token, import_by_token, class_at_offset, class_named as class_named_in_resolves, names_interface}
-use Rattle.jc_linker.specs.Resolves.{field_target, virtual_target, super_target, export_of, foreign_method, resolution}
+use Rattle.jc_linker.specs.Resolve.{class_index, class_with_token, import_by_token, class_at_offset, class_named as class_named_in_resolves, names_interface}
+use Rattle.jc_linker.specs.Resolve.{field_target, virtual_target, super_target, export_of, foreign_method, resolution}
 use Rattle.jc_frames.specs.Header.{header_in}
 use Rattle.jc_memory.specs.Commands.{data_of}
 use Rattle.jc_environment.specs.Objects.{first_objects, is_first, fixed_objects, own_place}
@@ -56,16 +56,16 @@ use Rattle.jc_api_framework.specs.OwnerPin.{owner_pin_init, pin_comparison, owne
 use Rattle.jc_api_framework.specs.System.{system_call}
 use Rattle.jc_interp.specs.Calling.{native_invoke, invoke_instruction}
 use Rattle.jc_interp.specs.Natives.{native_call}
-use Rattle.jc_interp.specs.Running.{run_of}
-use Rattle.jc_interp.specs.Stepping.{instruction_at, instruction_step, machine_step}
+use Rattle.jc_interp.specs.Run.{run_of}
+use Rattle.jc_interp.specs.Step.{instruction_at, instruction_step, machine_step}
 use Rattle.jc_dispatch.specs.AppletResult.{result_of_run}
 use Rattle.jc_dispatch.specs.Buffer.{buffer_fill}
 use Rattle.jc_dispatch.specs.Create.{creation_of, applet_named, applet_creation}
 use Rattle.jc_dispatch.specs.Install.{applet_installation}
-use Rattle.jc_dispatch.specs.Phases.{method_run, method_named, applet_method_call, close}
-use Rattle.jc_dispatch.specs.Selecting.{applet_left, deselection, process_command, applet_selection}
+use Rattle.jc_dispatch.specs.Phase.{method_run, method_named, applet_method_call, close}
+use Rattle.jc_dispatch.specs.Select.{applet_left, deselection, process_command, applet_selection}
 use Rattle.jc_packages.specs.LoadEnd.{assembly_result}
-use Rattle.jc_packages.specs.Loading.{empty_load}
+use Rattle.jc_packages.specs.Load.{empty_load}
 use Rattle.jc_packages.specs.PendingPackages.{linked_package, linked_components}
 use Rattle.jc_packages.specs.Reading.{packages_of}
 use Rattle.jc_packages.specs.RecordContents.{parts_of}
@@ -73,13 +73,12 @@ use Rattle.jc_card.specs.Answers.{manager_command, exchange}
 use Rattle.jc_card.specs.Dispatching.{route, dispatch, create_applet}
 use Rattle.jc_card.specs.Fixed.{object_number}
 use Rattle.jc_cap.specs.Assembling.{required_components, checked_package, assembly_of}
-use Rattle.jc_cap.specs.Components.{content_at, component_at}
+use Rattle.jc_cap.specs.Component.{content_at, component_at}
 use Rattle.jc_cap.specs.PackageReading.{contents_of}
-use Rattle.jc_cap.specs.Taking.{with_size}
-use Rattle.jc_cap.specs.Texts.{with_component}
+use Rattle.jc_cap.specs.Texts.{with_size, with_component}
 use Rattle.jc_cap.specs.ClassReading.{super_at, references_at, table_sizes_at, tables_at, class_at, interface_at, record_at as record_at_in_class_reading}
 use Rattle.jc_cap.specs.ClassReading.{records_at, records_start, classes_of}
-use Rattle.jc_cap.specs.Implemented.{implemented_at}
+use Rattle.jc_cap.specs.ClassLists.{implemented_at}
 use Rattle.jc_cap.specs.MethodReading.{active_at, handler_at, methods_of, header_of as header_of_in_method_reading}
 use Rattle.jc_cap.specs.MethodReading.{method_at as method_at_in_method_reading}
 use Rattle.jc_cap.specs.StaticReading.{element_type_at, static_array_at, static_arrays_at, value_counts_at, statics_at as statics_at_in_static_reading}

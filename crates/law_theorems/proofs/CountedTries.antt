@@ -7,7 +7,7 @@ use Rattle.jc_heap.specs.declared.object.Facts.{Facts}
 use Rattle.jc_heap.specs.Object.{Object, AnObject, cells_of, facts_of, header_only, is_object, with_cell}
 use Rattle.jc_heap.specs.Heap.{HeapState, facts, goes_back, heap_item_at, set_cell}
 use Rattle.jc_heap.specs.Moves.{Write, SetPlaces, WriteNonAtomic, SetCells, AddObject, AddTransient, AddPackage, Begin, Commit, Abort}
-use Rattle.jc_heap.specs.Places.{place_at}
+use Rattle.jc_heap.specs.Place.{place_at}
 use Rattle.jc_heap.proofs.Laws.{heap_item_at-set_cell, object_named, same_facts}
 use Rattle.jc_memory.specs.State.{MemoryState, Effect, HeapMove, SetTransient, SetFlag, ClearTransient, SetRegisters, BeginCommand, SendBytes}
 use Rattle.jc_memory.specs.State.{apply_effect, apply_effects}
@@ -17,15 +17,15 @@ use Rattle.jc_environment.specs.Pins.{counter}
 use Rattle.jc_platform.specs.declared.names.PlatformClass.TheVariants.{OwnerPin}
 use Rattle.jc_packages.specs.Objects.{is_object_address, is_persistent_instance}
 use Rattle.jc_linker.specs.Classes.{is_a}
-use Rattle.law_soundness.specs.Commands.{IsServed}
-use Rattle.law_soundness.specs.Soundness.{AreKnown}
-use Rattle.law_soundness.specs.State.{IsSoundMemory}
+use Rattle.law_soundness.specs.MachineLaws.Commands.{IsServed}
+use Rattle.law_soundness.specs.MachineLaws.Soundness.{AreKnown}
+use Rattle.law_soundness.specs.MemoryLaws.State.{IsSoundMemory}
 use Rattle.law_soundness.proofs.Effects.{event_none}
 use Rattle.law_soundness.proofs.CommandEffects.{serving_keeps}
 use Rattle.law_images.proofs.Arrays.{below_end}
 use Rattle.law_images.specs.Tries.{is_owner_pin, tries_in}
-use Rattle.law_theorems.specs.Cuts.{SetNoTries, SetsTries}
-use Rattle.law_theorems.specs.TryChanges.{Renews}
+use Rattle.law_theorems.specs.SessionTheorems.Cuts.{SetNoTries, SetsTries}
+use Rattle.law_theorems.specs.SessionTheorems.TryChanges.{Renews}
 use Rattle.law_theorems.proofs.OwnerPins.{an_object, pin_in, pin_stands}
 use Rattle.law_theorems.proofs.Pins.{PinIn}
 use Rattle.law_theorems.proofs.PinTries.{Holds, held_behind, held_place}

@@ -3,7 +3,7 @@ use Rattle.std.proofs.Common.{◌≡◌, ℕ, ◌+◌, true, List, [], ◌∷◌
 use Rattle.std.proofs.lemmas.Bool.{false_from_ne_true}
 use Rattle.std.proofs.lemmas.Bool.{and_parts}
 use Rattle.jc_heap.specs.Heap.{HeapState, HeapView, facts}
-use Rattle.jc_heap.specs.Losses.{IsExactCut}
+use Rattle.jc_heap.specs.HeapLaws.{IsExactCut}
 use Rattle.jc_heap.specs.Moves.{Commit, WriteNonAtomic}
 use Rattle.jc_heap.proofs.Losses.{exact}
 use Rattle.jc_memory.specs.State.{MemoryState, Effect, HeapMove, apply_effects, moves_of}
@@ -12,18 +12,18 @@ use Rattle.jc_memory.proofs.ProgramLemmas.{due_before, lost_by}
 use Rattle.jc_platform.specs.Tokens.{Tokens}
 use Rattle.jc_environment.specs.Pins.{counter}
 use Rattle.jc_card.specs.Answers.{exchange}
-use Rattle.jc_card.specs.CardState.{CardState}
+use Rattle.jc_card.specs.Card.{CardState}
 use Rattle.jc_packages.specs.Objects.{is_object_address}
 use Rattle.law_code.specs.PinChanges.{IsChanged}
 use Rattle.law_code.proofs.AtomicEffects.{due_begun}
-use Rattle.law_soundness.specs.Commands.{IsServed}
-use Rattle.law_soundness.specs.State.{IsSoundMemory}
+use Rattle.law_soundness.specs.MachineLaws.Commands.{IsServed}
+use Rattle.law_soundness.specs.MemoryLaws.State.{IsSoundMemory}
 use Rattle.law_images.specs.Cards.{IsOwnCard}
-use Rattle.law_images.specs.Comes.{memory_at}
+use Rattle.law_images.specs.Outcomes.{memory_at}
 use Rattle.law_images.specs.LoadedPackages.{AreBytes}
 use Rattle.law_images.specs.Tries.{is_owner_pin, tries_in}
 use Rattle.law_images.proofs.Sessions.{linked_known}
-use Rattle.law_theorems.specs.Cuts.{IsBehind, IsHeapCutAt, KeepWhatWasDone, LeaveTheChangesBeforeThem, SetNoTries}
+use Rattle.law_theorems.specs.SessionTheorems.Cuts.{IsBehind, IsHeapCutAt, KeepWhatWasDone, LeaveTheChangesBeforeThem, SetNoTries}
 use Rattle.law_theorems.proofs.CardsAtRest.{comes_own}
 use Rattle.law_theorems.proofs.Complete.{behind_complete}
 use Rattle.law_theorems.proofs.CountedTries.{HoldsInBoth, behind_all, counted_in_both, none_before, tries_of}

@@ -10,28 +10,28 @@ use Rattle.jc_heap.specs.declared.object.Kind.{Kind}
 use Rattle.jc_heap.specs.declared.object.Kind.TheVariants.{Instance, BooleanArray, ByteArray, ShortArray, ReferenceArray}
 use Rattle.jc_heap.specs.declared.place.Place.{Place}
 use Rattle.jc_heap.specs.declared.place.Place.TheVariants.{Cell, Static, Registry, AppletCount}
-use Rattle.jc_heap.specs.Components.{record_of, words_of}
+use Rattle.jc_heap.specs.Component.{record_of, words_of}
 use Rattle.jc_heap.specs.Heap.{HeapState, area_end_address, cell_address, cells, end_address, facts, heap_item_at, is_allocated}
 use Rattle.jc_heap.specs.Moves.{Write, SetPlaces, WriteNonAtomic, SetCells, AddObject, AddTransient, AddPackage, Begin, Commit, Abort}
 use Rattle.jc_heap.specs.Object.{AnObject, APackage, Item, facts_of, header_size, is_packed, words_of_cells, has_bytes}
-use Rattle.jc_heap.specs.Places.{cell_changes, cells_from, place_at, places_of, share_word, words_at}
+use Rattle.jc_heap.specs.Place.{cell_changes, cells_from, place_at, places_of, share_word, words_at}
 use Rattle.jc_heap.specs.Statics.{IsStatic}
 use Rattle.jc_heap.proofs.Laws.{heap_item_at-absent, object_named}
 use Rattle.jc_memory.specs.Cells.{word_at, word_in}
 use Rattle.jc_memory.specs.State.{MemoryState, Effect, HeapMove, SetTransient, SetFlag, ClearTransient, SetRegisters, BeginCommand, SendBytes}
 use Rattle.jc_linker.specs.Values.{Packages}
 use Rattle.jc_environment.specs.Pins.{counter, record_of as pin_of}
-use Rattle.jc_environment.specs.PinInit.{first_record}
-use Rattle.jc_environment.specs.PinUpdates.{changes_of_update}
+use Rattle.jc_environment.specs.Pins.PinInit.{first_record}
+use Rattle.jc_environment.specs.Pins.Updates.{changes_of_update}
 use Rattle.jc_platform.specs.declared.names.PlatformClass.TheVariants.{OwnerPin}
 use Rattle.jc_packages.specs.Objects.{is_byte_array, is_bytes, is_instance, is_object_address, is_persistent_instance}
 use Rattle.jc_linker.specs.Classes.{is_a}
-use Rattle.law_soundness.specs.Commands.{IsServed}
-use Rattle.law_soundness.specs.Fit.{AreCellsOf, FitPlaces, FitsChange, FitsPlace, FitsRun, IsPinObject, OfPin, OfPlaces, OfRegistry, OfValue, RegistersApplet, SetsUpPin, UpdatesPin}
-use Rattle.law_soundness.specs.State.{IsSoundMemory}
+use Rattle.law_soundness.specs.MachineLaws.Commands.{IsServed}
+use Rattle.law_soundness.specs.MemoryLaws.Fit.{AreCellsOf, FitPlaces, FitsChange, FitsPlace, FitsRun, IsPinObject, OfPin, OfPlaces, OfRegistry, OfValue, RegistersApplet, SetsUpPin, UpdatesPin}
+use Rattle.law_soundness.specs.MemoryLaws.State.{IsSoundMemory}
 use Rattle.law_soundness.proofs.Effects.{event_none}
 use Rattle.law_soundness.proofs.Values.{none_of as none_is}
-use Rattle.law_images.specs.Apart.{StandApart, item_size}
+use Rattle.law_images.specs.Separation.{StandApart, item_size}
 use Rattle.law_images.specs.Tries.{SetsAnew}
 
 -- the words that an effect names, of those whose old values an abort needs

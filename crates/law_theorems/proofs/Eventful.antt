@@ -13,8 +13,8 @@ use Rattle.jc_heap.specs.declared.place.Place.{Place}
 use Rattle.jc_heap.specs.declared.place.Place.TheVariants.{Cell}
 use Rattle.jc_heap.specs.Heap.{facts, goes_back, heap_item_at}
 use Rattle.jc_heap.specs.Object.{is_object}
-use Rattle.jc_heap.specs.Places.{place_at}
-use Rattle.jc_heap.specs.Losses.{durable_behind, writes_of_moves}
+use Rattle.jc_heap.specs.Place.{place_at}
+use Rattle.jc_heap.specs.HeapLaws.{durable_behind, writes_of_moves}
 use Rattle.jc_heap.specs.Moves.{AddPackage, Abort, Commit, SetPlaces, Write, WriteNonAtomic, IsCutIn, writes_of}
 use Rattle.jc_firewall.specs.FirewallLaws.{IsInReach}
 use Rattle.jc_firewall.specs.Situation.{is_global_array}
@@ -25,40 +25,40 @@ use Rattle.jc_memory.specs.Programs.{Completes}
 use Rattle.jc_memory.specs.Reading.{HasTrace, HasTracePrefix}
 use Rattle.jc_memory.specs.State.{SetFlag, Effect, HeapMove, MemoryState, apply_effects, moves_of}
 use Rattle.jc_environment.specs.Pins.{counter, record_of}
-use Rattle.jc_environment.specs.PinUpdates.{changes_of_update}
+use Rattle.jc_environment.specs.Pins.Updates.{changes_of_update}
 use Rattle.jc_platform.proofs.OneAnswer.{one_table}
 use Rattle.jc_world.specs.Contexts.{situation_of}
-use Rattle.jc_dispatch.specs.Phases.{close, instance_of}
+use Rattle.jc_dispatch.specs.Phase.{close, instance_of}
 use Rattle.jc_frames.specs.declared.cell.Cell.TheVariants.{Reference}
 use Rattle.jc_frames.specs.Frames.{Frames, GoesOn, Next}
 use Rattle.jc_frames.specs.Table.{decode}
 use Rattle.jc_frames.specs.declared.instr.Instr.{Instr}
 use Rattle.jc_frames.specs.declared.instr.Instr.TheVariants.{Invoke}
 use Rattle.jc_instructions.specs.Enter.{first_frames_of}
-use Rattle.jc_interp.specs.Running.{bare_frames}
-use Rattle.jc_interp.specs.Stepping.{code_of, machine_step}
+use Rattle.jc_interp.specs.Run.{bare_frames}
+use Rattle.jc_interp.specs.Step.{code_of, machine_step}
 use Rattle.jc_dispatch.specs.Buffer.{apdu_object}
-use Rattle.law_code.specs.Steps.{Stays}
+use Rattle.law_code.specs.IsolationLaws.Steps.{Stays}
 use Rattle.jc_card.specs.Answers.{exchange}
-use Rattle.jc_card.specs.CardState.{CardState}
+use Rattle.jc_card.specs.Card.{CardState}
 use Rattle.jc_card.specs.Dispatching.{usual_budget}
 use Rattle.jc_card.specs.Loading.{LoadResponse}
-use Rattle.jc_card.specs.Requests.{Command, Down, Ready, Reset, Response}
-use Rattle.jc_card.specs.Power.{KeptState, Off, Up, with_refusal}
-use Rattle.jc_card.specs.Serving.{AnswersCommand, SessionRun}
+use Rattle.jc_card.specs.Session.Requests.{Command, Down, Ready, Reset, Response}
+use Rattle.jc_card.specs.State.Power.{KeptState, Off, Up, with_refusal}
+use Rattle.jc_card.specs.Session.Serving.{AnswersCommand, SessionRun}
 use Rattle.law_code.specs.Reach.{IsOutside}
-use Rattle.law_soundness.specs.CommandParts.{IsOfRun}
+use Rattle.law_soundness.specs.MachineLaws.CommandParts.{IsOfRun}
 use Rattle.law_images.specs.Cards.{AreOfBytes, IsOwnKept, StaysOwn}
-use Rattle.law_images.specs.Comes.{AddNone, ComesTo, ComesWithin, memory_at}
+use Rattle.law_images.specs.Outcomes.{AddNone, ComesTo, ComesWithin, memory_at}
 use Rattle.law_images.specs.Heaps.{IsOwnHeap}
 use Rattle.law_images.specs.LoadedPackages.{AreBytes}
 use Rattle.law_images.specs.Tries.{is_owner_pin}
 use Rattle.law_images.proofs.Sessions.{stays_own}
-use Rattle.law_theorems.specs.Cuts.{IsHeapCutAt}
-use Rattle.law_theorems.specs.Eventful.{Acts, HaveEventfulWitness, MeetPremises, before_abort, before_commit}
-use Rattle.law_theorems.specs.Eventful.{before_update, to_commit, to_count, to_field, to_update}
-use Rattle.law_theorems.specs.Isolation.{RunsApart}
-use Rattle.law_theorems.specs.Witness.{new_kept}
+use Rattle.law_theorems.specs.SessionTheorems.Cuts.{IsHeapCutAt}
+use Rattle.law_theorems.specs.SessionTheorems.Eventful.{Acts, HaveEventfulWitness, MeetPremises, before_abort, before_commit}
+use Rattle.law_theorems.specs.SessionTheorems.Eventful.{before_update, to_commit, to_count, to_field, to_update}
+use Rattle.law_theorems.specs.SessionTheorems.Isolation.{RunsApart}
+use Rattle.law_theorems.specs.SessionTheorems.Witness.{new_kept}
 use Rattle.law_theorems.proofs.CardsAtRest.{comes_own}
 use Rattle.law_theorems.proofs.CommandParts.{commands_run_code}
 use Rattle.law_theorems.proofs.Computation.{computing}

@@ -6,7 +6,7 @@ use Rattle.jc_heap.specs.declared.object.Kind.{Kind}
 use Rattle.jc_heap.specs.declared.refusal.HeapRefusal.{HeapRefusal}
 use Rattle.jc_heap.specs.Completions.{Attempt, Done, Refused}
 use Rattle.jc_heap.specs.Moves.{AddPackage, refusal_of_package}
-use Rattle.jc_memory.specs.Changing.{package_addition}
+use Rattle.jc_memory.specs.Changes.{package_addition}
 use Rattle.jc_memory.specs.Programs.{Program, Finish, Either, bind, unless_refused}
 use Rattle.jc_memory.specs.Reading.{AllDue}
 use Rattle.jc_memory.specs.State.{MemoryState, Effect, HeapMove}
@@ -17,10 +17,10 @@ use Rattle.jc_packages.specs.RecordContents.{arrays_of, image_of, parts_of, stat
 use Rattle.jc_packages.specs.declared.load_refusal.LoadRefusal.{LoadRefusal}
 use Rattle.jc_packages.specs.declared.load.OpenLoad.{OpenLoad}
 use Rattle.jc_packages.specs.LoadEnd.{package_entry, assembly_result, after_addition, after_preparation, end_of_load}
-use Rattle.jc_packages.specs.Loading.{CommandResult, component_append, component_begin, component_end}
+use Rattle.jc_packages.specs.Load.{CommandResult, component_append, component_begin, component_end}
 use Rattle.jc_card.specs.Answers.{manager_command, exchange, exchange_of_apdu, is_dispatched, run_code}
-use Rattle.jc_card.specs.Apdu.{Apdu, apdu_of}
-use Rattle.jc_card.specs.CardState.{CardState}
+use Rattle.jc_card.specs.Command.{Apdu, apdu_of}
+use Rattle.jc_card.specs.Card.{CardState}
 use Rattle.jc_card.specs.Dispatching.{create_applet, dispatch, takes_extended}
 use Rattle.jc_memory.specs.Commands.{has_extended_length}
 use Rattle.jc_api.proofs.Due.{due_if}

@@ -5,7 +5,7 @@ use Rattle.std.proofs.lemmas.Bool.{and_parts, cases_lt}
 use Rattle.jc_heap.specs.declared.place.Place.TheVariants.{Cell}
 use Rattle.jc_heap.specs.Heap.{cells, facts, goes_back, heap_item_at}
 use Rattle.jc_heap.specs.Object.{cells_of}
-use Rattle.jc_heap.specs.Places.{place_at}
+use Rattle.jc_heap.specs.Place.{place_at}
 use Rattle.jc_heap.proofs.Laws.{object_named}
 use Rattle.jc_heap.specs.Moves.{Begin, IsInside}
 use Rattle.jc_memory.specs.State.{MemoryState, Effect, HeapMove, apply_effect, apply_effects, moves_of}
@@ -13,16 +13,16 @@ use Rattle.jc_memory.specs.Reading.{AllEffectsDue}
 use Rattle.jc_memory.proofs.ProgramLemmas.{due_before}
 use Rattle.jc_platform.specs.Tokens.{Tokens}
 use Rattle.jc_card.specs.Answers.{exchange}
-use Rattle.jc_card.specs.CardState.{CardState}
+use Rattle.jc_card.specs.Card.{CardState}
 use Rattle.law_code.specs.Orderly.{KeepsTransactionOrder}
 use Rattle.law_code.proofs.Same.{differ}
 use Rattle.law_code.proofs.AtomicEffects.{saved_within, due_begun}
-use Rattle.law_soundness.specs.State.{IsSoundMemory}
-use Rattle.law_soundness.specs.Commands.{IsServed}
+use Rattle.law_soundness.specs.MemoryLaws.State.{IsSoundMemory}
+use Rattle.law_soundness.specs.MachineLaws.Commands.{IsServed}
 use Rattle.law_images.specs.Cards.{IsOwnCard}
 use Rattle.law_images.proofs.Rest.{IsEmpty, empty_effect}
 use Rattle.law_images.proofs.Sessions.{linked_known}
-use Rattle.law_images.specs.Comes.{ComesWithin, memory_at}
+use Rattle.law_images.specs.Outcomes.{ComesWithin, memory_at}
 use Rattle.law_images.specs.Tries.{IsAsFound, PlaceStays, is_persistent_bytes}
 use Rattle.jc_packages.specs.Objects.{is_bytes, is_object_address}
 use Rattle.law_soundness.proofs.Effects.{event_none}
@@ -35,8 +35,8 @@ use Rattle.law_theorems.proofs.Pins.{as_it_was}
 use Rattle.law_theorems.proofs.Prefixes.{behind_both, due_after, due_all}
 use Rattle.law_theorems.proofs.ServedEffects.{AddsPackage, IsFine, commands_fine}
 use Rattle.jc_heap.specs.Heap.{HeapView}
-use Rattle.jc_card.specs.Power.{Up}
-use Rattle.law_images.specs.Comes.{ComesTo}
+use Rattle.jc_card.specs.State.Power.{Up}
+use Rattle.law_images.specs.Outcomes.{ComesTo}
 use Rattle.law_images.specs.Tries.{tries_in}
 use Rattle.law_theorems.proofs.CardsAtRest.{comes_rests}
 use Rattle.law_theorems.proofs.OwnerPins.{pin_in, pin_stands}

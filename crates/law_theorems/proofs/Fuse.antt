@@ -5,12 +5,12 @@ use Rattle.std.proofs.lemmas.Bool.{eqb-true, false≢true}
 use Rattle.std.proofs.lemmas.Option.{none-some, same_Some}
 use Rattle.jc_words.specs.Count.{saturating_count}
 use Rattle.jc_words.specs.Refusals.{Refusals, is_at, refused_once, with_fuse_at}
-use Rattle.jc_card.specs.Requests.{Request, Command, Reset, ArmFuse, PlanFault, Reply, Response, Ready, Down}
-use Rattle.jc_card.specs.Power.{PowerState, Up, Off, KeptState, armed, budget_of, durable_state}
-use Rattle.jc_card.specs.Serving.{AnswersCommand, AnswersReset, Serves, SessionRun}
+use Rattle.jc_card.specs.Session.Requests.{Request, Command, Reset, ArmFuse, PlanFault, Reply, Response, Ready, Down}
+use Rattle.jc_card.specs.State.Power.{PowerState, Up, Off, KeptState, armed, budget_of, durable_state}
+use Rattle.jc_card.specs.Session.Serving.{AnswersCommand, AnswersReset, Serves, SessionRun}
 use Rattle.jc_card.proofs.Refusals.{done_refusals, one_more, planned_durable, powered_refusals}
 use Rattle.law_theorems.specs.DownRuns.{ArmNone, ArmsNone}
-use Rattle.law_theorems.specs.Fuse.{FusesCut, IsCutAt, refusals_of}
+use Rattle.law_theorems.specs.SessionTheorems.Fuse.{FusesCut, IsCutAt, refusals_of}
 
 abbrev most : ℕ
 most = 18446744073709551615

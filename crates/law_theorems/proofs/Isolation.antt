@@ -7,24 +7,24 @@ use Rattle.jc_memory.specs.Reading.{AllDue, AllEffectsDue, HasTrace}
 use Rattle.jc_memory.proofs.ProgramLemmas.{due_before, due_taken}
 use Rattle.jc_linker.specs.Values.{Packages}
 use Rattle.jc_platform.specs.Tokens.{Tokens}
-use Rattle.jc_interp.specs.Stepping.{machine_step}
+use Rattle.jc_interp.specs.Step.{machine_step}
 use Rattle.jc_card.specs.Answers.{exchange}
-use Rattle.jc_card.specs.CardState.{CardState}
-use Rattle.jc_card.specs.Power.{Up}
-use Rattle.law_code.specs.Runs.{RunStepsWithin, RunsOutside}
-use Rattle.law_code.specs.SparingEffects.{AreQuiet, IsQuiet, IsSet}
-use Rattle.law_code.specs.Steps.{NamesStatics}
+use Rattle.jc_card.specs.Card.{CardState}
+use Rattle.jc_card.specs.State.Power.{Up}
+use Rattle.law_code.specs.IsolationLaws.Runs.{RunStepsWithin, RunsOutside}
+use Rattle.law_code.specs.IsolationLaws.SparingEffects.{AreQuiet, IsQuiet, IsSet}
+use Rattle.law_code.specs.IsolationLaws.Steps.{NamesStatics}
 use Rattle.law_code.proofs.Runs.{isolated}
-use Rattle.law_soundness.specs.Commands.{IsServed}
-use Rattle.law_soundness.specs.Environment.{HasEnvironment}
-use Rattle.law_soundness.specs.State.{IsSoundMemory}
-use Rattle.law_soundness.specs.OwnerSwitches.{IsOfStep}
+use Rattle.law_soundness.specs.MachineLaws.Commands.{IsServed}
+use Rattle.law_soundness.specs.MemoryLaws.Environment.{HasEnvironment}
+use Rattle.law_soundness.specs.MemoryLaws.State.{IsSoundMemory}
+use Rattle.law_soundness.specs.MachineLaws.OwnerSwitches.{IsOfStep}
 use Rattle.law_soundness.proofs.Causes.{causes}
 use Rattle.law_soundness.proofs.CommandEffects.{serving_keeps}
 use Rattle.law_images.specs.Cards.{IsOwnCard}
 use Rattle.law_images.proofs.Sessions.{linked_known}
-use Rattle.law_images.specs.Comes.{AddNone, ComesWithin, memory_at}
-use Rattle.law_theorems.specs.Isolation.{RunsApart, StayApart, StaysApart, StepsApart}
+use Rattle.law_images.specs.Outcomes.{AddNone, ComesWithin, memory_at}
+use Rattle.law_theorems.specs.SessionTheorems.Isolation.{RunsApart, StayApart, StaysApart, StepsApart}
 use Rattle.law_theorems.proofs.Prefixes.{due_all}
 use Rattle.law_theorems.proofs.ServedEffects.{AddsPackage, IsFine, commands_fine}
 use Rattle.law_theorems.proofs.CardsAtRest.{comes_own}

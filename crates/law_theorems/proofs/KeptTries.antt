@@ -7,14 +7,14 @@ use Rattle.std.proofs.lemmas.List.{append_assoc, map-append}
 use Rattle.std.specs.List.{list_any}
 use Rattle.std.specs.Prelude.{nat_le}
 use Rattle.jc_words.specs.Layout.{addresses_start}
-use Rattle.jc_commit.specs.Keeping.{Keeping, goes_back as journal_goes_back, unlogged_addresses, with_kept}
+use Rattle.jc_commit.specs.Keep.{Keeping, goes_back as journal_goes_back, unlogged_addresses, with_kept}
 use Rattle.jc_commit.proofs.WhatIsKept.{keeps_old_values}
 use Rattle.jc_heap.specs.declared.place.Place.{Place}
 use Rattle.jc_heap.specs.declared.place.Place.TheVariants.{Cell}
 use Rattle.jc_heap.specs.Heap.{HeapState, HeapView, cell_address, facts, goes_back, heap_after_change, heap_item_at, is_allocated, keeping, set_cell}
 use Rattle.jc_heap.specs.Moves.{Write, SetPlaces, WriteNonAtomic, SetCells, AddObject, AddTransient, AddPackage, Begin, Commit, Abort, IsInside}
 use Rattle.jc_heap.specs.Object.{header_only, is_packed, with_cell}
-use Rattle.jc_heap.specs.Places.{ArePlain, cell_changes, place_at, place_word, places_of, words_at}
+use Rattle.jc_heap.specs.Place.{ArePlain, cell_changes, place_at, place_word, places_of, words_at}
 use Rattle.jc_heap.proofs.KeptWords.{goes_back_now, keeping_counted}
 use Rattle.jc_heap.proofs.WordsAt.{words_at-append, words_at-plain}
 use Rattle.jc_heap.proofs.Laws.{heap_item_at-set_cell, heap_item_at-set_other, object_named, same_facts}
@@ -26,9 +26,9 @@ use Rattle.jc_environment.specs.Pins.{counter, record_of}
 use Rattle.jc_platform.specs.declared.names.PlatformClass.TheVariants.{OwnerPin}
 use Rattle.jc_packages.specs.Objects.{is_bytes, is_instance, is_object_address, is_persistent_instance}
 use Rattle.jc_linker.specs.Classes.{is_a}
-use Rattle.law_soundness.specs.Commands.{IsServed}
-use Rattle.law_soundness.specs.Soundness.{AreKnown}
-use Rattle.law_soundness.specs.State.{IsSoundMemory}
+use Rattle.law_soundness.specs.MachineLaws.Commands.{IsServed}
+use Rattle.law_soundness.specs.MachineLaws.Soundness.{AreKnown}
+use Rattle.law_soundness.specs.MemoryLaws.State.{IsSoundMemory}
 use Rattle.law_soundness.proofs.CommandEffects.{serving_keeps}
 use Rattle.law_soundness.proofs.Frames.{same_object}
 use Rattle.law_images.specs.Loads.{AreLaidOut}

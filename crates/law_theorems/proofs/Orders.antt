@@ -17,12 +17,12 @@ use Rattle.jc_environment.specs.Pins.{has_value, is_persistent_with, is_pin, rec
 use Rattle.jc_packages.specs.Objects.{is_bytes, is_instance}
 use Rattle.jc_linker.specs.Classes.{is_a}
 use Rattle.jc_card.specs.Answers.{exchange}
-use Rattle.jc_card.specs.CardState.{CardState}
+use Rattle.jc_card.specs.Card.{CardState}
 use Rattle.law_code.specs.Orderly.{KeepsTransactionOrder}
 use Rattle.law_code.proofs.AtomicEffects.{due_begun}
-use Rattle.law_soundness.specs.Commands.{IsServed}
-use Rattle.law_soundness.specs.Fit.{IsPinObject}
-use Rattle.law_soundness.specs.State.{IsSoundMemory}
+use Rattle.law_soundness.specs.MachineLaws.Commands.{IsServed}
+use Rattle.law_soundness.specs.MemoryLaws.Fit.{IsPinObject}
+use Rattle.law_soundness.specs.MemoryLaws.State.{IsSoundMemory}
 use Rattle.law_soundness.proofs.CommandEffects.{serving_keeps}
 use Rattle.law_images.specs.LoadedPackages.{AreBytes}
 use Rattle.law_images.specs.Cards.{IsOwnCard}

@@ -8,7 +8,7 @@ use Rattle.jc_heap.specs.declared.place.Place.TheVariants.{Cell}
 use Rattle.jc_heap.specs.Object.{Item, AnObject, APackage, is_object, facts_of}
 use Rattle.jc_heap.specs.Heap.{HeapState, facts, goes_back, heap_item_at, is_allocated, set_cell}
 use Rattle.jc_heap.specs.Moves.{WriteNonAtomic, IsInside}
-use Rattle.jc_heap.specs.Places.{place_at}
+use Rattle.jc_heap.specs.Place.{place_at}
 use Rattle.jc_heap.proofs.Laws.{heap_item_at-absent, is_allocated-set_cell, same_facts}
 use Rattle.jc_memory.specs.State.{MemoryState, Effect, HeapMove}
 use Rattle.jc_memory.specs.State.{apply_effect, apply_effects, moves_of}
@@ -17,9 +17,9 @@ use Rattle.jc_linker.specs.Values.{Packages}
 use Rattle.jc_platform.specs.declared.names.PlatformClass.TheVariants.{OwnerPin}
 use Rattle.jc_packages.specs.Objects.{is_bytes, is_persistent_instance, is_object_address}
 use Rattle.jc_linker.specs.Classes.{is_a}
-use Rattle.law_soundness.specs.Fit.{IsPinObject}
-use Rattle.law_soundness.specs.State.{IsSoundMemory}
-use Rattle.law_soundness.specs.Commands.{IsServed}
+use Rattle.law_soundness.specs.MemoryLaws.Fit.{IsPinObject}
+use Rattle.law_soundness.specs.MemoryLaws.State.{IsSoundMemory}
+use Rattle.law_soundness.specs.MachineLaws.Commands.{IsServed}
 use Rattle.law_soundness.proofs.Frames.{same_object}
 use Rattle.law_soundness.proofs.CommandEffects.{serving_keeps}
 use Rattle.law_images.specs.Tries.{is_owner_pin, is_persistent_bytes}

@@ -8,16 +8,15 @@ use Rattle.jc_heap.specs.Object.{Object, Item, AnObject, APackage, cells_of, is_
 use Rattle.jc_heap.specs.Heap.{cells, facts, heap_item_at}
 use Rattle.jc_heap.proofs.Laws.{object_named}
 use Rattle.jc_memory.specs.State.{MemoryState}
-use Rattle.jc_linker.specs.Classes.{is_class, size_of}
-use Rattle.jc_linker.specs.Resolves.{names_interface}
+use Rattle.jc_linker.specs.Classes.{is_class, size_of, is_a}
+use Rattle.jc_linker.specs.Resolve.{names_interface}
 use Rattle.jc_linker.specs.Values.{Packages}
 use Rattle.jc_platform.specs.declared.names.PlatformClass.TheVariants.{OwnerPin}
 use Rattle.jc_platform.specs.Hierarchy.{cells_of as platform_cells, is_interface}
 use Rattle.jc_platform.specs.Names.{classes}
 use Rattle.jc_packages.specs.Objects.{fits_class, is_instance, is_persistent_instance, is_object_address}
-use Rattle.jc_linker.specs.Classes.{is_a}
-use Rattle.law_soundness.specs.State.{IsSoundMemory}
-use Rattle.law_soundness.specs.Soundness.{AreKnown}
+use Rattle.law_soundness.specs.MemoryLaws.State.{IsSoundMemory}
+use Rattle.law_soundness.specs.MachineLaws.Soundness.{AreKnown}
 use Rattle.law_soundness.proofs.RunObjects.{instance_kind, kept_behind, kept_fits}
 use Rattle.law_soundness.proofs.Effects.{event_none}
 use Rattle.law_images.specs.Tries.{is_owner_pin}

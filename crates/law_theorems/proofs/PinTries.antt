@@ -10,8 +10,8 @@ use Rattle.jc_heap.specs.declared.place.Place.TheVariants.{Cell, Static, Registr
 use Rattle.jc_heap.specs.Object.{Object, AnObject, cells_of, facts_of, is_object, with_cell}
 use Rattle.jc_heap.specs.Heap.{HasEnd, HeapState, add_object, add_transient, facts, heap_item_at, is_allocated, set_cell, set_cells}
 use Rattle.jc_heap.specs.Moves.{Write, SetPlaces, WriteNonAtomic, SetCells, AddObject, AddTransient, AddPackage, Begin, Commit, Abort}
-use Rattle.jc_heap.specs.Packages.{add_arrays, array_object, array_size, package_owner, package_record, push_package}
-use Rattle.jc_heap.specs.Places.{cell_changes, set_place, set_places}
+use Rattle.jc_heap.specs.Package.{add_arrays, array_object, array_size, package_owner, package_record, push_package}
+use Rattle.jc_heap.specs.Place.{cell_changes, set_place, set_places}
 use Rattle.jc_heap.proofs.KeepingPackages.{end-add, end-push}
 use Rattle.jc_heap.proofs.Laws.{heap_item_at-add_other, heap_item_at-set_cell, object_named}
 use Rattle.jc_heap.proofs.NewPackages.{top-push}
@@ -21,25 +21,25 @@ use Rattle.jc_memory.specs.Reading.{AllDue, AllEffectsDue}
 use Rattle.jc_memory.proofs.ProgramLemmas.{due_before}
 use Rattle.jc_linker.specs.Values.{Packages}
 use Rattle.jc_environment.specs.Pins.{counter, record_of}
-use Rattle.jc_environment.specs.PinInit.{first_record}
-use Rattle.jc_environment.specs.PinUpdates.{changes_of_update}
+use Rattle.jc_environment.specs.Pins.PinInit.{first_record}
+use Rattle.jc_environment.specs.Pins.Updates.{changes_of_update}
 use Rattle.jc_platform.specs.declared.names.PlatformClass.TheVariants.{OwnerPin}
 use Rattle.jc_card.specs.Answers.{exchange}
 use Rattle.jc_packages.specs.Objects.{is_bytes, is_instance, is_object_address, is_persistent_instance}
 use Rattle.jc_linker.specs.Classes.{is_a}
 use Rattle.law_code.proofs.OnHeap.{StandsBeside, count_set, not_top, place_set, registry_set, transient_added}
-use Rattle.law_soundness.specs.Commands.{IsServed}
-use Rattle.law_soundness.specs.Fit.{FitPlaces, FitsChange, FitsPlace, FitsRun, IsPinObject, OfPin, OfPlaces, OfRegistry, OfValue}
-use Rattle.law_soundness.specs.State.{IsSoundMemory}
+use Rattle.law_soundness.specs.MachineLaws.Commands.{IsServed}
+use Rattle.law_soundness.specs.MemoryLaws.Fit.{FitPlaces, FitsChange, FitsPlace, FitsRun, IsPinObject, OfPin, OfPlaces, OfRegistry, OfValue}
+use Rattle.law_soundness.specs.MemoryLaws.State.{IsSoundMemory}
 use Rattle.law_soundness.proofs.Effects.{event_none}
 use Rattle.law_images.specs.Cards.{IsOwnCard}
-use Rattle.law_images.proofs.Apart.{record_some}
+use Rattle.law_images.proofs.Separation.{record_some}
 use Rattle.law_images.proofs.Arrays.{below_end, item_behind}
 use Rattle.law_images.proofs.Sessions.{linked_known}
 use Rattle.law_images.proofs.AddedPackages.{item-push_other}
-use Rattle.law_images.specs.Comes.{memory_at}
+use Rattle.law_images.specs.Outcomes.{memory_at}
 use Rattle.law_images.specs.Tries.{SetsAnew}
-use Rattle.law_theorems.specs.TryChanges.{Renews, TriesChangeByPinCalls}
+use Rattle.law_theorems.specs.SessionTheorems.TryChanges.{Renews, TriesChangeByPinCalls}
 use Rattle.law_theorems.proofs.CardsAtRest.{comes_own}
 use Rattle.law_theorems.proofs.EffectWords.{PinStands, is_value, no_instance}
 use Rattle.law_theorems.proofs.OwnerPins.{an_object, pin_stands}

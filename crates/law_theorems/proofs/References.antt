@@ -5,8 +5,8 @@ use Rattle.std.specs.Prelude.{◌==◌, Some, None}
 use Rattle.jc_heap.specs.declared.object.Facts.{Facts}
 use Rattle.jc_heap.specs.Heap.{facts, heap_item_at}
 use Rattle.jc_heap.specs.Object.{is_object}
-use Rattle.jc_heap.specs.Whole.{IsReference}
-use Rattle.jc_frames.specs.declared.outcome.Exception.TheVariants.{NullPointerException}
+use Rattle.jc_heap.specs.WholeHeap.{IsReference}
+use Rattle.jc_frames.specs.declared.exceptions.Exception.TheVariants.{NullPointerException}
 use Rattle.jc_frames.specs.declared.outcome.FrameExit.TheVariants.{End, Throw}
 use Rattle.jc_frames.specs.declared.outcome.Outcome.TheVariants.{Fault}
 use Rattle.jc_frames.specs.Frames.{Ends, Frames, GoesOn, Next}
@@ -18,15 +18,15 @@ use Rattle.jc_platform.specs.Tokens.{Tokens}
 use Rattle.jc_world.specs.Objects.{object_at, some_or_fault}
 use Rattle.jc_interp.specs.declared.attacks.Attack.{Attack}
 use Rattle.jc_interp.specs.Attacks.{attacked_step}
-use Rattle.jc_card.specs.CardState.{CardState}
-use Rattle.jc_card.specs.Power.{Up}
-use Rattle.law_code.specs.Runs.{RunSteps}
-use Rattle.law_soundness.specs.Environment.{HasEnvironment}
+use Rattle.jc_card.specs.Card.{CardState}
+use Rattle.jc_card.specs.State.Power.{Up}
+use Rattle.law_code.specs.IsolationLaws.Runs.{RunSteps}
+use Rattle.law_soundness.specs.MemoryLaws.Environment.{HasEnvironment}
 use Rattle.law_soundness.specs.LivingReferences.{AreLivingCallers, AreLivingFrames}
 use Rattle.law_soundness.specs.Machines.{IsSoundMachine, KnowOwners}
-use Rattle.law_soundness.specs.Soundness.{AreKnown, IsSoundNext}
+use Rattle.law_soundness.specs.MachineLaws.Soundness.{AreKnown, IsSoundNext}
 use Rattle.law_soundness.specs.References.{EndsLiving, HandsObjects, MayBegin, NamesObjects}
-use Rattle.law_soundness.specs.State.{IsSoundMemory}
+use Rattle.law_soundness.specs.MemoryLaws.State.{IsSoundMemory}
 use Rattle.law_soundness.proofs.Loads.{element_refers}
 use Rattle.law_soundness.proofs.RegistryEntries.{instance_refers}
 use Rattle.law_soundness.proofs.RunObjects.{kept_behind}
@@ -34,8 +34,8 @@ use Rattle.law_soundness.proofs.StepLaws.{given}
 use Rattle.law_soundness.proofs.StepsAndRuns.{steps_sound}
 use Rattle.law_soundness.proofs.Transients.{names_object}
 use Rattle.law_images.proofs.Sessions.{linked_known}
-use Rattle.law_images.specs.Comes.{AddNone, ComesWithin, memory_at}
-use Rattle.law_theorems.specs.References.{ReferencesNameObjects, RunsFrom}
+use Rattle.law_images.specs.Outcomes.{AddNone, ComesWithin, memory_at}
+use Rattle.law_theorems.specs.SessionTheorems.References.{ReferencesNameObjects, RunsFrom}
 use Rattle.law_theorems.proofs.CardsAtRest.{comes_own}
 use Rattle.law_theorems.proofs.TransientCells.{name_what_is_there}
 use Rattle.law_theorems.proofs.Isolation.{IsWell, is_well}

@@ -15,12 +15,12 @@ use Rattle.jc_linker.specs.Values.{Packages}
 use Rattle.jc_platform.specs.Tokens.{Tokens}
 use Rattle.jc_interp.specs.Attacks.{undisturbed}
 use Rattle.jc_packages.specs.Sound.{IsSound}
-use Rattle.jc_card.specs.CardState.{CardState}
+use Rattle.jc_card.specs.Card.{CardState}
 use Rattle.jc_card.specs.Fixed.{fixed_of, last_fixed}
-use Rattle.jc_card.specs.Made.{IsCardHeap}
-use Rattle.jc_card.specs.Reset.{ReadsAsZero}
-use Rattle.jc_card.specs.Starting.{IsPoweredUp}
-use Rattle.law_soundness.specs.State.{IsFitObject}
+use Rattle.jc_card.specs.ProductImages.{IsCardHeap}
+use Rattle.jc_card.specs.PowerUp.Reset.{ReadsAsZero}
+use Rattle.jc_card.specs.Session.Starting.{IsPoweredUp}
+use Rattle.law_soundness.specs.MemoryLaws.State.{IsFitObject}
 use Rattle.law_images.specs.Heaps.{IsOwnHeap}
 
 -- ---- transient contents

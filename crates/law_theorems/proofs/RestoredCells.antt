@@ -3,7 +3,7 @@ use Rattle.std.proofs.Common.{◌≡◌, ℕ, ◌<◌, ◌&&◌, ◌==◌, ◌�
 use Rattle.std.proofs.Common.{if◌then◌else◌}
 use Rattle.std.proofs.lemmas.Bool.{and_parts, cases_Bool, cases_eq, cases_lt, eq-eqb, false≢true, ne_eqb}
 use Rattle.std.proofs.lemmas.List.{get_or-set_same}
-use Rattle.jc_commit.specs.Keeping.{Keeping, goes_back as journal_goes_back}
+use Rattle.jc_commit.specs.Keep.{Keeping, goes_back as journal_goes_back}
 use Rattle.jc_heap.specs.declared.object.Facts.{Facts}
 use Rattle.jc_heap.specs.declared.object.Kind.TheVariants.{ByteArray}
 use Rattle.jc_heap.specs.declared.place.Place.{Place}
@@ -11,7 +11,7 @@ use Rattle.jc_heap.specs.declared.place.Place.TheVariants.{Cell}
 use Rattle.jc_heap.specs.Heap.{HeapState, cells, facts, goes_back, heap_item_at, is_allocated, set_cell}
 use Rattle.jc_heap.specs.Moves.{Write, SetPlaces, WriteNonAtomic, SetCells, AddObject, AddTransient, AddPackage, Begin, Commit, Abort, IsInside}
 use Rattle.jc_heap.specs.Object.{cells_of, header_only}
-use Rattle.jc_heap.specs.Places.{cell_at, place_at}
+use Rattle.jc_heap.specs.Place.{cell_at, place_at}
 use Rattle.jc_heap.proofs.KeptWords.{goes_back_counted, goes_back_later, keeping_counted}
 use Rattle.jc_heap.proofs.Laws.{cells-set_cell, header_only-set_cell, heap_item_at-absent, heap_item_at-set_other, same_facts, same_length}
 use Rattle.jc_memory.specs.State.{MemoryState, Effect, HeapMove, SetTransient, SetFlag, ClearTransient, SetRegisters, BeginCommand, SendBytes}
@@ -21,9 +21,9 @@ use Rattle.jc_linker.specs.Values.{Packages}
 use Rattle.jc_packages.specs.Objects.{is_bytes, is_instance}
 use Rattle.law_code.proofs.Same.{stays_beside}
 use Rattle.law_code.proofs.AtomicEffects.{begun_inside, kept as stands_if}
-use Rattle.law_soundness.specs.Commands.{IsServed}
-use Rattle.law_soundness.specs.Fit.{IsPinObject}
-use Rattle.law_soundness.specs.State.{IsSoundMemory}
+use Rattle.law_soundness.specs.MachineLaws.Commands.{IsServed}
+use Rattle.law_soundness.specs.MemoryLaws.Fit.{IsPinObject}
+use Rattle.law_soundness.specs.MemoryLaws.State.{IsSoundMemory}
 use Rattle.law_soundness.proofs.CommandEffects.{serving_keeps}
 use Rattle.law_images.specs.Tries.{ChangesFirst, PlaceStays, value_after}
 use Rattle.law_theorems.proofs.EffectWords.{no_instance}

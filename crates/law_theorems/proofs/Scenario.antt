@@ -9,11 +9,11 @@ use Rattle.jc_heap.specs.Heap.{HeapState, cells}
 use Rattle.jc_heap.specs.Moves.{Begin, SetPlaces, Write, WriteNonAtomic}
 use Rattle.jc_memory.specs.State.{Effect, HeapMove}
 use Rattle.jc_linker.specs.Values.{Packages}
-use Rattle.jc_dispatch.specs.Phases.{instance_of}
+use Rattle.jc_dispatch.specs.Phase.{instance_of}
 use Rattle.jc_image.specs.declared.laying.ImageRoom.{ImageRoom}
-use Rattle.jc_card.specs.CardState.{CardState}
+use Rattle.jc_card.specs.Card.{CardState}
 use Rattle.jc_card.specs.Dispatching.{usual_budget}
-use Rattle.jc_card.specs.Made.{new_card_heap}
+use Rattle.jc_card.specs.ProductImages.{new_card_heap}
 use Rattle.law_theorems.proofs.Restarts.{restarted}
 use Rattle.law_theorems.proofs.TableText.{table, table_text}
 use Rattle.law_theorems.proofs.Ways.{or_else}

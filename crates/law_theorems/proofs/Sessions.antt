@@ -8,10 +8,10 @@ use Rattle.jc_platform.proofs.OneAnswer.{one_table}
 use Rattle.jc_card.proofs.PoweredUp.{refused_made}
 use Rattle.jc_card.specs.declared.session.SessionFault.{SessionFault}
 use Rattle.jc_card.specs.declared.session.SessionFault.TheVariants.{NoMemory, PowerFault}
-use Rattle.jc_card.specs.Requests.{Request, Command, Reset, ArmFuse, PlanFault, Reply, Response, Ready, Down, Armed, Planned}
+use Rattle.jc_card.specs.Session.Requests.{Request, Command, Reset, ArmFuse, PlanFault, Reply, Response, Ready, Down, Armed, Planned}
 use Rattle.jc_card.specs.SessionLaws.{IsToldByReply, IsToldOfRefusal, refusals_before}
-use Rattle.jc_card.specs.Power.{PowerState, Up, Off, KeptState, StoreState, durable_state}
-use Rattle.jc_card.specs.Serving.{Serves}
+use Rattle.jc_card.specs.State.Power.{PowerState, Up, Off, KeptState, StoreState, durable_state}
+use Rattle.jc_card.specs.Session.Serving.{Serves}
 use Rattle.jc_card.specs.Session.{SessionEnds}
 use Rattle.jc_card.proofs.Refusals.{count_raised, done_refusals, one_more, planned_durable, powered_refusals}
 use Rattle.jc_card.proofs.WholeSessions.{are_whole, down_tells}
@@ -21,9 +21,9 @@ use Rattle.law_images.specs.CardLaws.{IsOwnStore, SessionsEndWell}
 use Rattle.law_images.specs.ScriptLaws.{state_of}
 use Rattle.law_images.proofs.Faults.{end_well}
 use Rattle.law_images.proofs.Scripts.{end_as_sessions}
-use Rattle.law_theorems.specs.Images.{PowerUpAgain}
-use Rattle.law_theorems.specs.Refusals.{DownTells}
-use Rattle.law_theorems.specs.WholeCopies.{AreOfWholeCopies}
+use Rattle.law_theorems.specs.SessionTheorems.Images.{PowerUpAgain}
+use Rattle.law_theorems.specs.SessionTheorems.Refusals.{DownTells}
+use Rattle.law_theorems.specs.SessionTheorems.WholeCopies.{AreOfWholeCopies}
 
 pub whole : AreOfWholeCopies
 whole budget before after requests replies ends none = are_whole budget before after requests replies ends.0 ends.1 ends.2 none

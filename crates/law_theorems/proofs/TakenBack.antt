@@ -7,23 +7,23 @@ use Rattle.jc_memory.specs.State.{MemoryState, Effect, HeapMove, SetRegisters, a
 use Rattle.jc_memory.specs.Programs.{Finish, Completes}
 use Rattle.jc_memory.specs.Reading.{AllEffectsDue, HasTracePrefix}
 use Rattle.jc_platform.specs.Tokens.{Tokens}
-use Rattle.jc_dispatch.specs.Phases.{close, abort_if_open, then_with, registers_released}
+use Rattle.jc_dispatch.specs.Phase.{close, abort_if_open, then_with, registers_released}
 use Rattle.jc_card.specs.Answers.{exchange}
-use Rattle.jc_card.specs.CardState.{CardState}
+use Rattle.jc_card.specs.Card.{CardState}
 use Rattle.jc_card.specs.Dispatching.{with_response}
-use Rattle.jc_card.specs.Requests.{Request, Command, Reset, ArmFuse, PlanFault, Reply, Response, Ready, Down, Armed, Planned}
-use Rattle.jc_card.specs.Power.{PowerState, Up, Off, KeptState, armed, durable_state}
-use Rattle.jc_card.specs.Serving.{AnswersReset, Serves, SessionRun}
-use Rattle.jc_card.specs.Starting.{IsPoweredUp}
+use Rattle.jc_card.specs.Session.Requests.{Request, Command, Reset, ArmFuse, PlanFault, Reply, Response, Ready, Down, Armed, Planned}
+use Rattle.jc_card.specs.State.Power.{PowerState, Up, Off, KeptState, armed, durable_state}
+use Rattle.jc_card.specs.Session.Serving.{AnswersReset, Serves, SessionRun}
+use Rattle.jc_card.specs.Session.Starting.{IsPoweredUp}
 use Rattle.law_code.specs.Orderly.{KeepsTransactionOrder}
-use Rattle.law_code.specs.Tears.{IsDurableOutside, TearLeavesAfter}
+use Rattle.law_code.specs.TransactionLaws.{IsDurableOutside, TearLeavesAfter}
 use Rattle.law_code.proofs.AtomicEffects.{begun_inside, behind, lost_at}
 use Rattle.law_images.specs.LoadedPackages.{AreBytes}
 use Rattle.law_images.specs.Cards.{IsOfBytes, IsOwnCard}
 use Rattle.law_images.proofs.Rest.{leave_at_rest, rests_so}
-use Rattle.law_images.specs.Comes.{AreDown, ComesTo, IsDown, memory_at}
-use Rattle.law_images.specs.Left.{IsLeft, IsLeftBy, IsWhatWasFound}
-use Rattle.law_theorems.specs.TakenBack.{IsTakenBack}
+use Rattle.law_images.specs.Outcomes.{AreDown, ComesTo, IsDown, memory_at}
+use Rattle.law_images.specs.Losses.{IsLeft, IsLeftBy, IsWhatWasFound}
+use Rattle.law_theorems.specs.SessionTheorems.TakenBack.{IsTakenBack}
 use Rattle.law_images.specs.Tries.{IsAsFound}
 use Rattle.law_theorems.proofs.Founds.{is_found}
 use Rattle.law_theorems.proofs.Orders.{commands_orderly}

@@ -4,34 +4,34 @@ use Rattle.std.proofs.lemmas.Bool.{false≢true}
 use Rattle.std.proofs.lemmas.List.Concat.{flat_map-append}
 use Rattle.std.specs.Str.Lines.{lines}
 use Rattle.jc_words.specs.Count.{saturating_count}
-use Rattle.jc_words.specs.Stores.{FuseStoreValue}
+use Rattle.jc_words.specs.Store.{FuseStoreValue}
 use Rattle.jc_commit.specs.Image.{plain_of, recovered_of}
 use Rattle.jc_heap.specs.Heap.{HeapView, heap_of}
-use Rattle.jc_heap.specs.Losses.{IsExactCut}
+use Rattle.jc_heap.specs.HeapLaws.{IsExactCut}
 use Rattle.jc_heap.proofs.Losses.{exact}
 use Rattle.jc_heap.proofs.Migrated.{migrated_alike}
 use Rattle.jc_memory.specs.State.{moves_of}
 use Rattle.jc_memory.proofs.ProgramLemmas.{lost_by}
 use Rattle.jc_platform.specs.Tokens.{Tokens}
 use Rattle.jc_card.specs.Answers.{exchange}
-use Rattle.jc_card.specs.CardState.{CardState}
+use Rattle.jc_card.specs.Card.{CardState}
 use Rattle.jc_card.specs.Dispatching.{with_response}
-use Rattle.jc_card.specs.Requests.{Request, Command, ArmFuse, Reply, Response, Ready, Down, Armed, Planned}
-use Rattle.jc_card.specs.Power.{PowerState, Up, Off, KeptState, armed, durable_state}
-use Rattle.jc_card.specs.Serving.{AnswersCommand, SessionRun}
-use Rattle.jc_card.specs.Starting.{Starts}
+use Rattle.jc_card.specs.Session.Requests.{Request, Command, ArmFuse, Reply, Response, Ready, Down, Armed, Planned}
+use Rattle.jc_card.specs.State.Power.{PowerState, Up, Off, KeptState, armed, durable_state}
+use Rattle.jc_card.specs.Session.Serving.{AnswersCommand, SessionRun}
+use Rattle.jc_card.specs.Session.Starting.{Starts}
 use Rattle.jc_card.proofs.SessionRuns.{run_then}
 use Rattle.jcard_script.specs.Script.{form_of}
 use Rattle.jcard_outcomes.specs.declared.standing.Left.{Left}
 use Rattle.jcard_tear.specs.declared.cuts.Command.{Command as CutCommand}
 use Rattle.jcard_tear.specs.Runs.{IsLeft, Runs, store_of}
-use Rattle.jcard_tear.specs.Sweeps.{cut_script}
-use Rattle.law_images.specs.Comes.{ComesTo}
+use Rattle.jcard_tear.specs.Sweep.{cut_script}
+use Rattle.law_images.specs.Outcomes.{ComesTo}
 use Rattle.law_images.specs.CardLaws.{IsOwnStore}
 use Rattle.law_images.specs.ScriptLaws.{asked_by, asked_by_form, state_of}
 use Rattle.law_images.proofs.Rest.{leave_at_rest}
 use Rattle.law_images.proofs.Scripts.{are_sessions, ask_bytes}
-use Rattle.law_theorems.specs.Tears.{CutsAreNamed, IsNamed, ReadsAsCut}
+use Rattle.law_theorems.specs.SessionTheorems.Tears.{CutsAreNamed, IsNamed, ReadsAsCut}
 use Rattle.law_theorems.proofs.CardsAtRest.{comes_rests, stores_come}
 use Rattle.law_theorems.proofs.Fuse.{at_count, by_fuse, faults_grow}
 

@@ -11,13 +11,13 @@ use Rattle.jc_memory.specs.Programs.{Program, Finish, Perform, Choose, Either, C
 use Rattle.jc_memory.specs.Reading.{HasTrace, HasTracePrefix}
 use Rattle.jc_memory.specs.State.{Effect, HeapMove, IsNew, MemoryState, apply_effect, apply_effects}
 use Rattle.jc_linker.specs.Values.{Packages}
-use Rattle.jc_interp.specs.Stepping.{machine_step}
+use Rattle.jc_interp.specs.Step.{machine_step}
 use Rattle.jc_card.specs.Answers.{exchange}
-use Rattle.jc_card.specs.CardState.{CardState}
+use Rattle.jc_card.specs.Card.{CardState}
 use Rattle.jc_card.specs.Loading.{LoadResponse}
-use Rattle.jc_card.specs.Requests.{Command, Reply, Response}
-use Rattle.jc_card.specs.Power.{Up}
-use Rattle.jc_card.specs.Serving.{SessionRun}
+use Rattle.jc_card.specs.Session.Requests.{Command, Reply, Response}
+use Rattle.jc_card.specs.State.Power.{Up}
+use Rattle.jc_card.specs.Session.Serving.{SessionRun}
 use Rattle.law_theorems.proofs.Prefixes.{behind_both}
 
 -- ---- one program

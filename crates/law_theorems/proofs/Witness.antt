@@ -8,7 +8,7 @@ use Rattle.jc_words.specs.Layout.{least_size}
 use Rattle.jc_words.specs.Image.{heap_end}
 use Rattle.jc_words.specs.Refusals.{Refusals, no_refusals, refused_once}
 use Rattle.jc_commit.specs.Image.{limit_of, recovered_of}
-use Rattle.jc_heap.specs.Whole.{IsConsistent}
+use Rattle.jc_heap.specs.WholeHeap.{IsConsistent}
 use Rattle.jc_heap.specs.Heap.{HeapState}
 use Rattle.jc_linker.specs.Values.{Packages}
 use Rattle.jc_transient.specs.State.{AreSizes}
@@ -17,30 +17,30 @@ use Rattle.jc_image.specs.declared.laying.ImageRoom.{ImageRoom}
 use Rattle.jc_platform.specs.Table.{Reads}
 use Rattle.jc_platform.specs.Tokens.{Tokens}
 use Rattle.jc_platform.proofs.NamesTold.{names_told}
-use Rattle.jc_interp.specs.Running.{bare_frames, no_package}
-use Rattle.jc_interp.specs.Stepping.{instruction_step, machine_step}
-use Rattle.jc_packages.specs.Loading.{empty_load}
+use Rattle.jc_interp.specs.Run.{bare_frames, no_package}
+use Rattle.jc_interp.specs.Step.{instruction_step, machine_step}
+use Rattle.jc_packages.specs.Load.{empty_load}
 use Rattle.jc_card.specs.Answers.{manager_command, exchange}
-use Rattle.jc_card.specs.CardState.{CardState}
+use Rattle.jc_card.specs.Card.{CardState}
 use Rattle.jc_card.specs.Dispatching.{dispatch}
-use Rattle.jc_card.specs.Made.{new_card_heap}
+use Rattle.jc_card.specs.ProductImages.{new_card_heap}
 use Rattle.jc_card.proofs.NewFronts.{sizes-new_card_heap}
-use Rattle.jc_card.specs.Requests.{Reset, Ready}
-use Rattle.jc_card.specs.Power.{KeptState, Up, Off, StoreState, durable_state, is_well_formed, with_refusal}
-use Rattle.jc_card.specs.Starting.{IsPoweredUp}
+use Rattle.jc_card.specs.Session.Requests.{Reset, Ready}
+use Rattle.jc_card.specs.State.Power.{KeptState, Up, Off, StoreState, durable_state, is_well_formed, with_refusal}
+use Rattle.jc_card.specs.Session.Starting.{IsPoweredUp}
 use Rattle.jc_card.proofs.Laid.{if_laid}
 use Rattle.law_soundness.specs.References.{MayBegin}
 use Rattle.law_soundness.proofs.LivingReferences.{first_living, none_living}
 use Rattle.law_linking.proofs.Bytes.{have_bytes}
 use Rattle.law_images.specs.Cards.{IsOwnKept}
-use Rattle.law_images.specs.Comes.{ComesTo}
+use Rattle.law_images.specs.Outcomes.{ComesTo}
 use Rattle.law_images.specs.Heaps.{IsOwnHeap}
 use Rattle.law_images.specs.LoadedPackages.{AreBytes}
 use Rattle.law_images.proofs.CardHeaps.{own_at}
 use Rattle.law_images.proofs.CardImages.{new_layout}
 use Rattle.law_images.proofs.NewImages.{new_images}
 use Rattle.law_theorems.proofs.Restarts.{powered, restarted}
-use Rattle.law_theorems.specs.Witness.{HaveWitnesses, NewStoresServe, begin_load_bytes, new_blown, new_kept, select_bytes}
+use Rattle.law_theorems.specs.SessionTheorems.Witness.{HaveWitnesses, NewStoresServe, begin_load_bytes, new_blown, new_kept, select_bytes}
 
 module _ (budget n : ℕ) (room : ImageRoom) (text : List ℕ) (t : Tokens) (enough : least_size ≤ n) (sizes : AreSizes room.cells room.buffer) (reads : Reads text (Ok t)) where
   abbrev heap : HeapState

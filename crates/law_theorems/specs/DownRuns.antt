@@ -1,8 +1,8 @@
 -- Sessions that arm no fuse, and that are answered down once.
 use Rattle.std.specs.Prelude.{◌≡◌, List, [], ◌∷◌, ◌++◌}
-use Rattle.jc_card.specs.Requests.{Request, Command, Reset, ArmFuse, PlanFault, Reply, Down}
-use Rattle.jc_card.specs.Power.{PowerState}
-use Rattle.jc_card.specs.Serving.{Serves, SessionRun}
+use Rattle.jc_card.specs.Session.Requests.{Request, Command, Reset, ArmFuse, PlanFault, Reply, Down}
+use Rattle.jc_card.specs.State.Power.{PowerState}
+use Rattle.jc_card.specs.Session.Serving.{Serves, SessionRun}
 
 -- it arms no fuse
 abbrev pub ArmsNone : Request → Type 0

@@ -1,14 +1,2 @@
-pub mod WholeCopies
-pub mod Refusals
-pub mod Images
-pub mod TryChanges
-pub mod TakenBack
-pub mod Cuts
-pub mod Isolation
 pub mod DownRuns
-pub mod Fuse
-pub mod Witness
-pub mod References
-pub mod Commands
-pub mod Tears
-pub mod Eventful
+pub mod SessionTheorems

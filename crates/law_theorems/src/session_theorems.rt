@@ -1,18 +1,18 @@
 //! Laws of whole sessions.
-ghost use Rattle.law_images.specs.Comes.{StoresCome};
-ghost use Rattle.law_theorems.specs.Commands.{CommandsRunCode};
-ghost use Rattle.law_theorems.specs.Cuts.{KeepWhatWasDone, LeaveTheChangesBeforeThem};
-ghost use Rattle.law_theorems.specs.Eventful.{HaveEventfulWitness};
-ghost use Rattle.law_theorems.specs.Fuse.{FusesCut};
-ghost use Rattle.law_theorems.specs.Images.{PowerUpAgain};
-ghost use Rattle.law_theorems.specs.Isolation.{StayApart};
-ghost use Rattle.law_theorems.specs.References.{ReferencesNameObjects};
-ghost use Rattle.law_theorems.specs.Refusals.{DownTells};
-ghost use Rattle.law_theorems.specs.TakenBack.{IsTakenBack};
-ghost use Rattle.law_theorems.specs.Tears.{CutsAreNamed};
-ghost use Rattle.law_theorems.specs.TryChanges.{TriesChangeByPinCalls};
-ghost use Rattle.law_theorems.specs.WholeCopies.{AreOfWholeCopies};
-ghost use Rattle.law_theorems.specs.Witness.{HaveWitnesses, NewStoresServe};
+ghost use Rattle.law_images.specs.Outcomes.{StoresCome};
+ghost use Rattle.law_theorems.specs.SessionTheorems.Commands.{CommandsRunCode};
+ghost use Rattle.law_theorems.specs.SessionTheorems.Cuts.{KeepWhatWasDone, LeaveTheChangesBeforeThem};
+ghost use Rattle.law_theorems.specs.SessionTheorems.Eventful.{HaveEventfulWitness};
+ghost use Rattle.law_theorems.specs.SessionTheorems.Fuse.{FusesCut};
+ghost use Rattle.law_theorems.specs.SessionTheorems.Images.{PowerUpAgain};
+ghost use Rattle.law_theorems.specs.SessionTheorems.Isolation.{StayApart};
+ghost use Rattle.law_theorems.specs.SessionTheorems.References.{ReferencesNameObjects};
+ghost use Rattle.law_theorems.specs.SessionTheorems.Refusals.{DownTells};
+ghost use Rattle.law_theorems.specs.SessionTheorems.TakenBack.{IsTakenBack};
+ghost use Rattle.law_theorems.specs.SessionTheorems.Tears.{CutsAreNamed};
+ghost use Rattle.law_theorems.specs.SessionTheorems.TryChanges.{TriesChangeByPinCalls};
+ghost use Rattle.law_theorems.specs.SessionTheorems.WholeCopies.{AreOfWholeCopies};
+ghost use Rattle.law_theorems.specs.SessionTheorems.Witness.{HaveWitnesses, NewStoresServe};
 
 /// While no write is refused, a session answers exactly as a card does that keeps two whole copies of its heap,
 /// the present one and the one of the last commit, and leaves the same heap.

@@ -1,6 +1,6 @@
 //! The ciphers, and their numbers.
 ghost use Rattle.std.specs.Prelude.{◌≡◌, Some};
-ghost use Rattle.jc_api_crypto.specs.CipherAlgorithms.{aes_named, algorithm_number, cipher_named, cipher_number, cipher_of, cipher_of_numbers, cipher_with, des_named, padding_named, padding_number};
+ghost use Rattle.jc_api_crypto.specs.Cipher.Algorithms.{aes_named, algorithm_number, cipher_named, cipher_number, cipher_of, cipher_of_numbers, cipher_with, des_named, padding_named, padding_number};
 
 use jc_ciphers::kept::BlockAlgorithm;
 use jc_ciphers::kept::conversion::Chaining;
@@ -76,7 +76,7 @@ fn aes_named(number: i16) -> Option<CipherAlgorithm>
 }
 
 /// The cipher of a number.
-#[tactic(auto, unfolding(crate::specs::CipherAlgorithms::cipher_named))]
+#[tactic(auto, unfolding(crate::specs::Cipher::Algorithms::cipher_named))]
 pub(crate) fn cipher_named(number: i16) -> Option<CipherAlgorithm>
     ensures { result ≡ cipher_named number }
 {
@@ -122,7 +122,7 @@ fn cipher_with(number: i16, padding: Padding) -> Option<CipherAlgorithm>
 }
 
 /// The cipher of two numbers, one of block algorithm and chaining, one of the padding.
-#[tactic(auto, unfolding(crate::specs::CipherAlgorithms::cipher_of_numbers))]
+#[tactic(auto, unfolding(crate::specs::Cipher::Algorithms::cipher_of_numbers))]
 pub(crate) fn cipher_of_numbers(cipher: i16, padding: i16) -> Option<CipherAlgorithm>
     ensures { result ≡ cipher_of_numbers cipher padding }
 {

@@ -8,7 +8,7 @@ ghost use Rattle.jc_world.specs.NativeCalls.{after_call};
 ghost use Rattle.jc_api.specs.Changing.{changing_call};
 ghost use Rattle.jc_api.specs.Exits.{plainly};
 ghost use Rattle.jc_api.specs.Initializing.{initializing_call};
-ghost use Rattle.jc_api_crypto.specs.BlockCiphers.{IsRunning, block_do_final, block_init, block_init_with_vector, block_update, cipher_key, cipher_requirements, cipher_shorts, direction_of, has_key_length, keys_of, running_in, vector_size};
+ghost use Rattle.jc_api_crypto.specs.Cipher.Block.{IsRunning, block_do_final, block_init, block_init_with_vector, block_update, cipher_key, cipher_requirements, cipher_shorts, direction_of, has_key_length, keys_of, running_in, vector_size};
 ghost use Rattle.jc_api_crypto.specs.Initialized.{keyed_cells};
 
 use crate::cipher::algorithms::CipherAlgorithm;
@@ -154,7 +154,7 @@ fn running_in<S: WordStore>(
 }
 
 /// `init` by a key and a mode: sets them, and a vector of zeros; nothing came.
-#[tactic(auto, unfolding(crate::specs::BlockCiphers::block_init))]
+#[tactic(auto, unfolding(crate::specs::Cipher::Block::block_init))]
 pub(crate) fn init_block<S: WordStore>(
     algorithm: CipherAlgorithm,
     own: &KeyedEngine,
@@ -171,7 +171,7 @@ pub(crate) fn init_block<S: WordStore>(
 }
 
 /// `init` with a vector, of one block: sets it with key and mode; nothing came.
-#[tactic(auto, unfolding(crate::specs::BlockCiphers::block_init_with_vector))]
+#[tactic(auto, unfolding(crate::specs::Cipher::Block::block_init_with_vector))]
 pub(crate) fn init_block_with_vector<S: WordStore>(
     algorithm: CipherAlgorithm,
     own: &KeyedEngine,
@@ -188,7 +188,7 @@ pub(crate) fn init_block_with_vector<S: WordStore>(
 }
 
 /// `update`: the bytes follow the message; puts what is converted then, and returns how many bytes that is.
-#[tactic(auto, unfolding(crate::specs::BlockCiphers::block_update))]
+#[tactic(auto, unfolding(crate::specs::Cipher::Block::block_update))]
 pub(crate) fn update_block<S: WordStore>(
     algorithm: CipherAlgorithm,
     own: &KeyedEngine,
@@ -208,7 +208,7 @@ pub(crate) fn update_block<S: WordStore>(
 
 /// `doFinal`: the message ends with these bytes; puts what is left, and returns how many bytes that is. Where the message cannot end so
 /// it throws ILLEGAL_USE.
-#[tactic(auto, unfolding(crate::specs::BlockCiphers::block_do_final))]
+#[tactic(auto, unfolding(crate::specs::Cipher::Block::block_do_final))]
 pub(crate) fn end_block<S: WordStore>(
     algorithm: CipherAlgorithm,
     own: &KeyedEngine,

@@ -1,6 +1,6 @@
 //! All ciphers, by their numbers.
 ghost use Rattle.std.specs.Prelude.{◌≡◌, ◌≤◌};
-ghost use Rattle.jc_api_crypto.specs.CipherKinds.{kind_cipher_number, kind_named, kind_number, kind_of_numbers, kind_padding_number, kind_shorts, rsa_named, rsa_number, rsa_padding_named, rsa_padding_number, rsa_shorts};
+ghost use Rattle.jc_api_crypto.specs.Cipher.Kinds.{kind_cipher_number, kind_named, kind_number, kind_of_numbers, kind_padding_number, kind_shorts, rsa_named, rsa_number, rsa_padding_named, rsa_padding_number, rsa_shorts};
 
 use crate::cipher::algorithms::{CipherAlgorithm, cipher_named, cipher_of_numbers};
 use crate::cipher::block::cipher_shorts;
@@ -82,7 +82,7 @@ fn rsa_padding_number(padding: RsaPadding) -> i16
 }
 
 /// The cipher of a number.
-#[tactic(auto, unfolding(crate::specs::CipherKinds::kind_named))]
+#[tactic(auto, unfolding(crate::specs::Cipher::Kinds::kind_named))]
 pub(crate) fn kind_named(number: i16) -> Option<CipherKind>
     ensures { result ≡ kind_named number }
 {
@@ -96,7 +96,7 @@ pub(crate) fn kind_named(number: i16) -> Option<CipherKind>
 }
 
 /// The cipher of two numbers, of a cipher and a padding.
-#[tactic(auto, unfolding(crate::specs::CipherKinds::kind_of_numbers))]
+#[tactic(auto, unfolding(crate::specs::Cipher::Kinds::kind_of_numbers))]
 pub(crate) fn kind_of_numbers(cipher: i16, padding: i16) -> Option<CipherKind>
     ensures { result ≡ kind_of_numbers cipher padding }
 {

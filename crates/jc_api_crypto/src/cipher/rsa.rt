@@ -11,7 +11,7 @@ ghost use Rattle.jc_api.specs.Changing.{changing_call};
 ghost use Rattle.jc_api.specs.Exits.{plainly};
 ghost use Rattle.jc_api.specs.Initializing.{initializing_call};
 ghost use Rattle.jc_api_keys.specs.KeyObjects.Contents.{IsKey};
-ghost use Rattle.jc_api_crypto.specs.RsaCiphers.{IsRunningRsa, kept_rsa_key, rsa_do_final, rsa_init, rsa_init_with_vector, rsa_key_of, rsa_update, running_rsa, taken_rsa_key, way_of, way_of_private, way_to_encipher};
+ghost use Rattle.jc_api_crypto.specs.Cipher.Rsa.{IsRunningRsa, kept_rsa_key, rsa_do_final, rsa_init, rsa_init_with_vector, rsa_key_of, rsa_update, running_rsa, taken_rsa_key, way_of, way_of_private, way_to_encipher};
 
 use crate::cipher::kinds::{RSA_SHORTS, RsaPadding};
 use crate::cipher::rsa::messages::{end, gather};
@@ -161,7 +161,7 @@ fn kept_rsa_key<S: WordStore>(
 }
 
 /// `init` by a key and a mode: sets them; nothing came.
-#[tactic(auto, unfolding(crate::specs::RsaCiphers::rsa_init))]
+#[tactic(auto, unfolding(crate::specs::Cipher::Rsa::rsa_init))]
 pub(crate) fn init_rsa<S: WordStore>(
     padding: RsaPadding,
     own: &KeyedEngine,
@@ -185,7 +185,7 @@ pub(crate) fn init_rsa<S: WordStore>(
 }
 
 /// `init` with a vector, which RSA does not take: it throws ILLEGAL_VALUE after the key, the mode and the vector's elements.
-#[tactic(auto, unfolding(crate::specs::RsaCiphers::rsa_init_with_vector))]
+#[tactic(auto, unfolding(crate::specs::Cipher::Rsa::rsa_init_with_vector))]
 pub(crate) fn init_rsa_with_vector<S: WordStore>(
     padding: RsaPadding,
     args: &[Cell],
@@ -203,7 +203,7 @@ pub(crate) fn init_rsa_with_vector<S: WordStore>(
 }
 
 // The message under an object with RSA.
-#[tactic(auto, unfolding(crate::specs::RsaCiphers::running_rsa))]
+#[tactic(auto, unfolding(crate::specs::Cipher::Rsa::running_rsa))]
 fn running_rsa<S: WordStore>(
     padding: RsaPadding,
     own: &KeyedEngine,
@@ -230,7 +230,7 @@ fn running_rsa<S: WordStore>(
 }
 
 /// `update`: the bytes follow the message; puts nothing, and returns 0. More than a modulus has throw ILLEGAL_USE.
-#[tactic(auto, unfolding(crate::specs::RsaCiphers::rsa_update))]
+#[tactic(auto, unfolding(crate::specs::Cipher::Rsa::rsa_update))]
 pub(crate) fn update_rsa<S: WordStore>(
     padding: RsaPadding,
     own: &KeyedEngine,
@@ -249,7 +249,7 @@ pub(crate) fn update_rsa<S: WordStore>(
 
 /// `doFinal`: the message ends with these bytes; puts what becomes of it, and returns how many bytes that is. Where nothing does it throws
 /// ILLEGAL_USE.
-#[tactic(auto, unfolding(crate::specs::RsaCiphers::rsa_do_final))]
+#[tactic(auto, unfolding(crate::specs::Cipher::Rsa::rsa_do_final))]
 pub(crate) fn end_rsa<S: WordStore>(
     padding: RsaPadding,
     own: &KeyedEngine,

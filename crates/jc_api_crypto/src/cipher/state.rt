@@ -2,12 +2,12 @@
 ghost use Rattle.std.specs.Prelude.{◌≡◌, ◌≤◌, ◌<◌, ◌*◌, ◌+◌, ◌/◌, false, length, take, IfSome, Some};
 ghost use Rattle.std.specs.Option.{option_map};
 ghost use Rattle.jc_memory.specs.Programs.{Executes};
-ghost use Rattle.jc_ciphers.specs.Conversions.{conversion_after, conversion_end, conversion_output};
+ghost use Rattle.jc_ciphers.specs.Kept.Conversion.{conversion_after, conversion_end, conversion_output};
 ghost use Rattle.jc_ciphers.specs.Kept.{block_size};
 ghost use Rattle.jc_world.specs.Arrays.{IsInArray, bytes_in};
 ghost use Rattle.jc_world.specs.NativeCalls.{after_call};
 ghost use Rattle.jc_api.specs.Changing.{changing_call};
-ghost use Rattle.jc_api_crypto.specs.BlockCiphers.{IsRunning, bytes_after, cipher_shorts, ends_with, goes_on, last_output, output_after, vector_of};
+ghost use Rattle.jc_api_crypto.specs.Cipher.Block.{IsRunning, bytes_after, cipher_shorts, ends_with, goes_on, last_output, output_after, vector_of};
 ghost use Rattle.jc_api_crypto.specs.Outputs.{puts_output};
 ghost use Rattle.jc_api_keys.specs.Receivers.{bytes_of_state};
 ghost use Rattle.jc_api_keys.specs.Shorts.{shorts_of};

@@ -1,7 +1,7 @@
 //! The signatures, and their numbers.
 ghost use Rattle.std.specs.Prelude.{◌≡◌, ◌≤◌, Some};
 ghost use Rattle.jc_digests.specs.Kept.{digest_size};
-ghost use Rattle.jc_api_crypto.specs.SignatureAlgorithms.{block_number, code_size, des_mac, des_mac_4, des_mac_8, des_mac_named, des_number, digest_number, further_named, hash_number, hmac_of_number, mac_number, mac_of_numbers, mac_padding_number, method_number, method_number_3, one_if, signature_cipher_number, signature_named, signature_of_numbers, signature_padding_number, signature_size};
+ghost use Rattle.jc_api_crypto.specs.Signature.Algorithms.{block_number, code_size, des_mac, des_mac_4, des_mac_8, des_mac_named, des_number, digest_number, further_named, hash_number, hmac_of_number, mac_number, mac_of_numbers, mac_padding_number, method_number, method_number_3, one_if, signature_cipher_number, signature_named, signature_of_numbers, signature_padding_number, signature_size};
 
 use jc_ciphers::kept::BlockAlgorithm;
 use jc_ciphers::kept::macs::MacAlgorithm;
@@ -89,7 +89,7 @@ fn further_named(number: i16) -> Option<SignatureAlgorithm>
 }
 
 /// The signature of a number.
-#[tactic(auto, unfolding(crate::specs::SignatureAlgorithms::signature_named))]
+#[tactic(auto, unfolding(crate::specs::Signature::Algorithms::signature_named))]
 pub(crate) fn signature_named(number: i16) -> Option<SignatureAlgorithm>
     ensures { result ≡ signature_named number }
 {
@@ -150,7 +150,7 @@ fn one_if(padding: i16, wanted: i16, number: i16) -> Option<i16>
 }
 
 // The one number of a code by a cipher, with a padding.
-#[tactic(auto, unfolding(crate::specs::SignatureAlgorithms::mac_of_numbers))]
+#[tactic(auto, unfolding(crate::specs::Signature::Algorithms::mac_of_numbers))]
 fn mac_of_numbers(cipher: i16, padding: i16) -> Option<i16>
     ensures { result ≡ mac_of_numbers cipher padding }
 {
@@ -168,7 +168,7 @@ fn mac_of_numbers(cipher: i16, padding: i16) -> Option<i16>
 }
 
 // The one number of HMAC with a hash function.
-#[tactic(auto, unfolding(crate::specs::SignatureAlgorithms::hmac_of_number))]
+#[tactic(auto, unfolding(crate::specs::Signature::Algorithms::hmac_of_number))]
 fn hmac_of_number(digest: i16) -> Option<i16>
     ensures { result ≡ hmac_of_number digest }
 {

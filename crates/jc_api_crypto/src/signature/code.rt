@@ -10,8 +10,8 @@ ghost use Rattle.jc_api.specs.Forms.{reading_call};
 ghost use Rattle.jc_api.specs.Initializing.{initializing_call};
 ghost use Rattle.jc_api_crypto.specs.Initialized.{keyed_cells};
 ghost use Rattle.jc_api_keys.specs.KeyObjects.Contents.{most_key};
-ghost use Rattle.jc_api_crypto.specs.SignatureCodes.{FitsKey, IsRunning, code_get_length, code_init, code_init_with_vector, code_sign, code_update, code_verify, key_of_length, mac_takes_length, mac_vector, running_in, signature_key, signature_keys, signature_requirements, signature_shorts, taken_vector_size, takes_length, vector_size};
-ghost use Rattle.jc_ciphers.specs.KeptMacs.{IsMacKeyLength};
+ghost use Rattle.jc_api_crypto.specs.Signature.Codes.{FitsKey, IsRunning, code_get_length, code_init, code_init_with_vector, code_sign, code_update, code_verify, key_of_length, mac_takes_length, mac_vector, running_in, signature_key, signature_keys, signature_requirements, signature_shorts, taken_vector_size, takes_length, vector_size};
+ghost use Rattle.jc_ciphers.specs.Kept.Macs.{IsMacKeyLength};
 
 use crate::cipher::block::{cipher_shorts, has_key_length, keys_of};
 use crate::initialized::{
@@ -208,7 +208,7 @@ fn running_in<S: WordStore>(
 }
 
 /// `init` by a key and a mode: sets them, and a vector of zeros; nothing came.
-#[tactic(auto, unfolding(crate::specs::SignatureCodes::code_init))]
+#[tactic(auto, unfolding(crate::specs::Signature::Codes::code_init))]
 pub(crate) fn init_code<S: WordStore>(
     algorithm: SignatureAlgorithm,
     own: &KeyedEngine,
@@ -226,7 +226,7 @@ pub(crate) fn init_code<S: WordStore>(
 }
 
 /// `init` with a vector, of one block: sets it with key and mode; nothing came. CMAC and HMAC take none.
-#[tactic(auto, unfolding(crate::specs::SignatureCodes::code_init_with_vector))]
+#[tactic(auto, unfolding(crate::specs::Signature::Codes::code_init_with_vector))]
 pub(crate) fn init_code_with_vector<S: WordStore>(
     algorithm: SignatureAlgorithm,
     own: &KeyedEngine,
@@ -245,7 +245,7 @@ pub(crate) fn init_code_with_vector<S: WordStore>(
 }
 
 /// `getLength`: returns how many bytes a signature has.
-#[tactic(auto, unfolding(crate::specs::SignatureCodes::code_get_length))]
+#[tactic(auto, unfolding(crate::specs::Signature::Codes::code_get_length))]
 pub(crate) fn get_length_of_code<S: WordStore>(
     algorithm: SignatureAlgorithm,
     own: &KeyedEngine,
@@ -262,7 +262,7 @@ pub(crate) fn get_length_of_code<S: WordStore>(
 }
 
 /// `update`: the bytes follow the message.
-#[tactic(auto, unfolding(crate::specs::SignatureCodes::code_update))]
+#[tactic(auto, unfolding(crate::specs::Signature::Codes::code_update))]
 pub(crate) fn update_code<S: WordStore>(
     algorithm: SignatureAlgorithm,
     own: &KeyedEngine,
@@ -282,7 +282,7 @@ pub(crate) fn update_code<S: WordStore>(
 
 /// `sign`: the message ends with these bytes; puts its signature, and returns its length. Where the message cannot end so it throws
 /// ILLEGAL_USE.
-#[tactic(auto, unfolding(crate::specs::SignatureCodes::code_sign))]
+#[tactic(auto, unfolding(crate::specs::Signature::Codes::code_sign))]
 pub(crate) fn sign_code<S: WordStore>(
     algorithm: SignatureAlgorithm,
     own: &KeyedEngine,
@@ -303,7 +303,7 @@ pub(crate) fn sign_code<S: WordStore>(
 
 /// `verify`: the message ends with these bytes; returns whether others are its signature. Where the message cannot end so it throws
 /// ILLEGAL_USE.
-#[tactic(auto, unfolding(crate::specs::SignatureCodes::code_verify))]
+#[tactic(auto, unfolding(crate::specs::Signature::Codes::code_verify))]
 pub(crate) fn verify_code<S: WordStore>(
     algorithm: SignatureAlgorithm,
     own: &KeyedEngine,

@@ -2,9 +2,9 @@
 ghost use Rattle.std.specs.Prelude.{◌≡◌, length, take, if◌then◌else◌, Some, None};
 ghost use Rattle.std.specs.Option.{option_map};
 ghost use Rattle.jc_ciphers.specs.Kept.{block_size, state_size};
-ghost use Rattle.jc_ciphers.specs.KeptMacs.{IsMacKeyLength, cipher_of, mac_of_state};
-ghost use Rattle.jc_api_crypto.specs.SignatureCodes.{FitsKey, signature_of_state, state_after, state_bytes, vector_size};
-ghost use Rattle.jc_api_crypto.specs.SignatureAlgorithms.{code_size, signature_size};
+ghost use Rattle.jc_ciphers.specs.Kept.Macs.{IsMacKeyLength, cipher_of, mac_of_state};
+ghost use Rattle.jc_api_crypto.specs.Signature.Codes.{FitsKey, signature_of_state, state_after, state_bytes, vector_size};
+ghost use Rattle.jc_api_crypto.specs.Signature.Algorithms.{code_size, signature_size};
 
 use crate::signature::algorithms::{CodeLength, SignatureAlgorithm};
 use jc_ciphers::kept::MOST_BLOCK;

@@ -1,6 +1,6 @@
 //! All signatures, by their numbers.
 ghost use Rattle.std.specs.Prelude.{◌≡◌, ◌≤◌};
-ghost use Rattle.jc_api_crypto.specs.SignatureKinds.{kind_cipher_number, kind_digest_number, kind_named, kind_of_numbers, kind_padding_number, kind_shorts};
+ghost use Rattle.jc_api_crypto.specs.Signature.Kinds.{kind_cipher_number, kind_digest_number, kind_named, kind_of_numbers, kind_padding_number, kind_shorts};
 
 use crate::initialized::MOST_SHORTS;
 use crate::signature::algorithms::{
@@ -19,7 +19,7 @@ pub enum SignatureKind {
 }
 
 /// The signature of a number.
-#[tactic(auto, unfolding(crate::specs::SignatureKinds::kind_named))]
+#[tactic(auto, unfolding(crate::specs::Signature::Kinds::kind_named))]
 pub(crate) fn kind_named(number: i16) -> Option<SignatureKind>
     ensures { result ≡ kind_named number }
 {
@@ -33,7 +33,7 @@ pub(crate) fn kind_named(number: i16) -> Option<SignatureKind>
 }
 
 /// The one number of a signature by those of a hash function, a cipher and a padding.
-#[tactic(auto, unfolding(crate::specs::SignatureKinds::kind_of_numbers))]
+#[tactic(auto, unfolding(crate::specs::Signature::Kinds::kind_of_numbers))]
 pub(crate) fn kind_of_numbers(digest: i16, cipher: i16, padding: i16) -> Option<i16>
     ensures { result ≡ kind_of_numbers digest cipher padding }
 {

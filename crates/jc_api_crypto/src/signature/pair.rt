@@ -16,9 +16,9 @@ ghost use Rattle.jc_api.specs.Changing.{changing_call};
 ghost use Rattle.jc_api.specs.Exits.{plainly};
 ghost use Rattle.jc_api.specs.Forms.{reading_call};
 ghost use Rattle.jc_api.specs.Initializing.{initializing_call};
-ghost use Rattle.jc_api_crypto.specs.KeptBytes.{first_bytes};
-ghost use Rattle.jc_api_crypto.specs.PairSigning.{IsRunningPair, is_signature_of, signature_of};
-ghost use Rattle.jc_api_crypto.specs.SignaturePairs.{digest_with, goes_on, longest_signature, pair_get_length, pair_init, pair_init_with_vector, pair_sign, pair_update, pair_verify, puts_signature, running_pair, signs, tells_if_signed, verifies};
+ghost use Rattle.jc_api_crypto.specs.Signature.Pair.Kept.{first_bytes};
+ghost use Rattle.jc_api_crypto.specs.Signature.Pair.Signing.{IsRunningPair, is_signature_of, signature_of};
+ghost use Rattle.jc_api_crypto.specs.Signature.Pair.{digest_with, goes_on, longest_signature, pair_get_length, pair_init, pair_init_with_vector, pair_sign, pair_update, pair_verify, puts_signature, running_pair, signs, tells_if_signed, verifies};
 
 use crate::initialized::{KeyedEngine, MOST_SHORTS, Setup, set_up, taken_mode};
 use crate::message_digest::state::{digest, put_next_words};
@@ -58,7 +58,7 @@ pub struct RunningPair {
 }
 
 /// `init` by a key and a mode: sets them; nothing came.
-#[tactic(auto, unfolding(crate::specs::SignaturePairs::pair_init))]
+#[tactic(auto, unfolding(crate::specs::Signature::Pair::pair_init))]
 pub(crate) fn init_pair<S: WordStore>(
     algorithm: PairSignature,
     own: &KeyedEngine,
@@ -82,7 +82,7 @@ pub(crate) fn init_pair<S: WordStore>(
 }
 
 /// `init` with a vector, which no such signature takes: it throws ILLEGAL_VALUE after the key, the mode and the vector's elements.
-#[tactic(auto, unfolding(crate::specs::SignaturePairs::pair_init_with_vector))]
+#[tactic(auto, unfolding(crate::specs::Signature::Pair::pair_init_with_vector))]
 pub(crate) fn init_pair_with_vector<S: WordStore>(
     algorithm: PairSignature,
     args: &[Cell],
@@ -100,7 +100,7 @@ pub(crate) fn init_pair_with_vector<S: WordStore>(
 }
 
 // The message under an object with a signature.
-#[tactic(auto, unfolding(crate::specs::SignaturePairs::running_pair))]
+#[tactic(auto, unfolding(crate::specs::Signature::Pair::running_pair))]
 fn running_pair<S: WordStore>(
     purpose: Purpose,
     algorithm: PairSignature,
@@ -153,7 +153,7 @@ fn longest_signature(algorithm: PairSignature, size: u16) -> u16
 }
 
 /// `getLength`: returns how many bytes a signature has, at most where they differ.
-#[tactic(auto, unfolding(crate::specs::SignaturePairs::pair_get_length))]
+#[tactic(auto, unfolding(crate::specs::Signature::Pair::pair_get_length))]
 pub(crate) fn get_length_of_pair<S: WordStore>(
     algorithm: PairSignature,
     own: &KeyedEngine,
@@ -196,7 +196,7 @@ fn go_on<S: WordStore>(
 }
 
 /// `update`: the bytes follow the message.
-#[tactic(auto, unfolding(crate::specs::SignaturePairs::pair_update))]
+#[tactic(auto, unfolding(crate::specs::Signature::Pair::pair_update))]
 pub(crate) fn update_by_pair<S: WordStore>(
     algorithm: PairSignature,
     own: &KeyedEngine,
@@ -287,7 +287,7 @@ fn sign<S: WordStore>(
 }
 
 /// `sign`: the message ends with these bytes; puts its signature, and returns its length. Where the key makes none it throws ILLEGAL_VALUE.
-#[tactic(auto, unfolding(crate::specs::SignaturePairs::pair_sign))]
+#[tactic(auto, unfolding(crate::specs::Signature::Pair::pair_sign))]
 pub(crate) fn sign_by_pair<S: WordStore>(
     algorithm: PairSignature,
     own: &KeyedEngine,
@@ -369,7 +369,7 @@ fn verify<S: WordStore>(
 }
 
 /// `verify`: the message ends with these bytes; returns whether others are a signature of it.
-#[tactic(auto, unfolding(crate::specs::SignaturePairs::pair_verify))]
+#[tactic(auto, unfolding(crate::specs::Signature::Pair::pair_verify))]
 pub(crate) fn verify_by_pair<S: WordStore>(
     algorithm: PairSignature,
     own: &KeyedEngine,

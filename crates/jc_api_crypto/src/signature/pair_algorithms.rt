@@ -1,6 +1,6 @@
 //! Signatures under a key of a pair, and their numbers.
 ghost use Rattle.std.specs.Prelude.{◌≡◌, ◌≤◌, Some};
-ghost use Rattle.jc_api_crypto.specs.PairAlgorithms.{ecdsa_named, ecdsa_of_number, ecdsa_of_numbers, encoding_number, hash_of, iso_of_number, kept_shorts, pair_cipher_number, pair_named, pair_padding_number, pair_shorts, pkcs1_named, pkcs1_of_number, pss_named, pss_of_number, pss_or_ecdsa_named, rsa_of_numbers};
+ghost use Rattle.jc_api_crypto.specs.Signature.PairAlgorithms.{ecdsa_named, ecdsa_of_number, ecdsa_of_numbers, encoding_number, hash_of, iso_of_number, kept_shorts, pair_cipher_number, pair_named, pair_padding_number, pair_shorts, pkcs1_named, pkcs1_of_number, pss_named, pss_of_number, pss_or_ecdsa_named, rsa_of_numbers};
 
 use crate::cipher::kinds::RSA_SHORTS;
 use crate::initialized::MOST_SHORTS;
@@ -83,7 +83,7 @@ fn ecdsa_named(number: i16) -> Option<PairSignature>
 }
 
 // RSA with EMSA-PSS or ECDSA, of a number.
-#[tactic(auto, unfolding(crate::specs::PairAlgorithms::pss_or_ecdsa_named))]
+#[tactic(auto, unfolding(crate::specs::Signature::PairAlgorithms::pss_or_ecdsa_named))]
 fn pss_or_ecdsa_named(number: i16) -> Option<PairSignature>
     ensures { result ≡ pss_or_ecdsa_named number }
 {
@@ -94,7 +94,7 @@ fn pss_or_ecdsa_named(number: i16) -> Option<PairSignature>
 }
 
 /// The signature of a number.
-#[tactic(auto, unfolding(crate::specs::PairAlgorithms::pair_named))]
+#[tactic(auto, unfolding(crate::specs::Signature::PairAlgorithms::pair_named))]
 pub(crate) fn pair_named(number: i16) -> Option<PairSignature>
     ensures { result ≡ pair_named number }
 {
@@ -176,7 +176,7 @@ fn iso_of_number(digest: i16) -> Option<i16>
 }
 
 /// The one number of RSA by those of a hash function and a padding.
-#[tactic(auto, unfolding(crate::specs::PairAlgorithms::rsa_of_numbers))]
+#[tactic(auto, unfolding(crate::specs::Signature::PairAlgorithms::rsa_of_numbers))]
 pub(crate) fn rsa_of_numbers(digest: i16, padding: i16) -> Option<i16>
     ensures { result ≡ rsa_of_numbers digest padding }
 {
@@ -192,7 +192,7 @@ pub(crate) fn rsa_of_numbers(digest: i16, padding: i16) -> Option<i16>
 }
 
 /// The one number of ECDSA by those of a hash function and no padding.
-#[tactic(auto, unfolding(crate::specs::PairAlgorithms::ecdsa_of_numbers))]
+#[tactic(auto, unfolding(crate::specs::Signature::PairAlgorithms::ecdsa_of_numbers))]
 pub(crate) fn ecdsa_of_numbers(digest: i16, padding: i16) -> Option<i16>
     ensures { result ≡ ecdsa_of_numbers digest padding }
 {

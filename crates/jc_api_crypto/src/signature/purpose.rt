@@ -1,7 +1,7 @@
 //! What a call of `Signature` asks of the mode.
 ghost use Rattle.std.specs.Prelude.{◌≡◌};
 ghost use Rattle.jc_api.specs.Exits.{plainly};
-ghost use Rattle.jc_api_crypto.specs.SignaturePurposes.{allows, initialized_for};
+ghost use Rattle.jc_api_crypto.specs.Signature.Purpose.{allows, initialized_for};
 
 use crate::initialized::is_mode;
 use jc_api_keys::exceptions::INVALID_INIT;

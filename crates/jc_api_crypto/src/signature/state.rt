@@ -7,8 +7,8 @@ ghost use Rattle.jc_world.specs.NativeCalls.{after_call};
 ghost use Rattle.jc_api.specs.Arguments.{AreAsked};
 ghost use Rattle.jc_api.specs.Changing.{changes, changes_and_puts, changing_call};
 ghost use Rattle.jc_api_keys.specs.Receivers.{bytes_of_state};
-ghost use Rattle.jc_api_crypto.specs.SignatureCodes.{IsRunning, bytes_after, goes_on, is_signature, nothing_came, signature_of_state, signature_with, signs, state_after, state_bytes, vector_of, vector_size, verifies};
-ghost use Rattle.jc_api_crypto.specs.SignatureAlgorithms.{signature_size};
+ghost use Rattle.jc_api_crypto.specs.Signature.Codes.{IsRunning, bytes_after, goes_on, is_signature, nothing_came, signature_of_state, signature_with, signs, state_after, state_bytes, vector_of, vector_size, verifies};
+ghost use Rattle.jc_api_crypto.specs.Signature.Algorithms.{signature_size};
 
 use crate::initialized::{MOST_VECTOR, read_vector};
 use crate::message_digest::state::MOST_SHORTS;

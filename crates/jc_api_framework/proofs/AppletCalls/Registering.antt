@@ -6,7 +6,7 @@ use Rattle.std.proofs.lemmas.Bool.{true≢false, ltb-true}
 use Rattle.std.proofs.lemmas.Option.{none-some, same_Some}
 use Rattle.jc_words.specs.Layout.{most_applets}
 use Rattle.jc_heap.specs.Moves.{new_move, SetCells, SetPlaces, Commit}
-use Rattle.jc_heap.specs.Places.{applet_changes}
+use Rattle.jc_heap.specs.Place.{applet_changes}
 use Rattle.jc_heap.specs.declared.object.Kind.TheVariants.{Instance}
 use Rattle.jc_heap.specs.declared.place.AppletEntry.{AppletEntry}
 use Rattle.jc_memory.specs.Cells.{header_at}
@@ -15,7 +15,7 @@ use Rattle.jc_memory.specs.declared.registers.Installation.{Installation}
 use Rattle.jc_memory.specs.declared.registers.Installation.TheVariants.{Idle, Open, Registered}
 use Rattle.jc_memory.specs.declared.registers.PackageNumber.{PackageNumber}
 use Rattle.jc_environment.specs.Registry.{applet_with_aid}
-use Rattle.jc_platform.specs.Distinct.{class_word}
+use Rattle.jc_platform.specs.NamePlaces.{class_word}
 use Rattle.jc_platform.specs.declared.names.PlatformClass.TheVariants.{Aid}
 use Rattle.jc_linker.specs.Values.{Packages}
 use Rattle.jc_frames.specs.Reasons.{buffer_full, no_resource, illegal_aid, in_progress}

@@ -5,20 +5,20 @@ use Rattle.std.proofs.lemmas.Bool.{ltb-false}
 use Rattle.std.proofs.lemmas.Option.{cond_some, option_and_then_some}
 use Rattle.jc_transient.specs.State.{flag_of}
 use Rattle.jc_heap.specs.Moves.{WriteNonAtomic, refusal_of_places}
-use Rattle.jc_heap.specs.Places.{places_of}
+use Rattle.jc_heap.specs.Place.{places_of}
 use Rattle.jc_heap.specs.declared.object.Kind.TheVariants.{ByteArray}
 use Rattle.jc_heap.specs.declared.refusal.HeapRefusal.{HeapRefusal}
 use Rattle.jc_memory.specs.Programs.{Program}
 use Rattle.jc_memory.specs.Reading.{AllDue}
 use Rattle.jc_memory.specs.CommitCapacity.{has_space, lacks_capacity}
 use Rattle.jc_memory.specs.State.{MemoryState, Effect, HeapMove, SetFlag}
-use Rattle.jc_environment.specs.PinChecks.{is_value, comparison, pin_check}
-use Rattle.jc_environment.specs.PinInit.{pin_init, touched_by_init}
+use Rattle.jc_environment.specs.Pins.Checks.{is_value, comparison, pin_check}
+use Rattle.jc_environment.specs.Pins.PinInit.{pin_init, touched_by_init}
 use Rattle.jc_environment.specs.Pins.{is_pin, counter, record_of}
-use Rattle.jc_environment.specs.PinResets.{pin_reset}
-use Rattle.jc_environment.specs.PinUpdates.{unless_no_room, changes_of_update, pin_update}
-use Rattle.jc_environment.specs.declared.pins.updating.PinRefusal.{PinRefusal}
-use Rattle.jc_platform.specs.Distinct.{class_of}
+use Rattle.jc_environment.specs.Pins.Resets.{pin_reset}
+use Rattle.jc_environment.specs.Pins.Updates.{unless_no_room, changes_of_update, pin_update}
+use Rattle.jc_environment.specs.declared.pins.updates.PinRefusal.{PinRefusal}
+use Rattle.jc_platform.specs.NamePlaces.{class_of}
 use Rattle.jc_platform.specs.Signatures.{sets_receiver}
 use Rattle.jc_platform.specs.declared.names.PlatformClass.TheVariants.{OwnerPin}
 use Rattle.jc_platform.specs.declared.names.PlatformMethod.{PlatformMethod}

@@ -4,9 +4,9 @@ use Rattle.jc_memory.specs.State.{MemoryState}
 use Rattle.jc_memory.specs.Programs.{Program, Executes}
 use Rattle.jc_heap.specs.Completions.{Completed}
 use Rattle.jc_memory.proofs.ProgramLemmas.{bind_made, bind_cut}
-use Rattle.jc_environment.specs.declared.pins.updating.PinRefusal.{PinRefusal}
-use Rattle.jc_environment.specs.declared.pins.updating.PinRefusal.TheVariants.{StoreDown, CommitFull, IllegalValue, HeapFull}
-use Rattle.jc_environment.specs.PinUpdates.{after_pin}
+use Rattle.jc_environment.specs.declared.pins.updates.PinRefusal.{PinRefusal}
+use Rattle.jc_environment.specs.declared.pins.updates.PinRefusal.TheVariants.{StoreDown, CommitFull, IllegalValue, HeapFull}
+use Rattle.jc_environment.specs.Pins.Updates.{after_pin}
 use Rattle.jc_frames.specs.declared.outcome.FrameExit.TheVariants.{Throw}
 use Rattle.jc_world.specs.declared.native_result.NativeResult.TheVariants.{ReturnVoid}
 use Rattle.jc_world.specs.NativeCalls.{after_call}

@@ -12,7 +12,7 @@ use Rattle.jc_memory.specs.State.{MemoryState, Effect}
 use Rattle.jc_memory.specs.declared.registers.AppletNumber.{AppletNumber}
 use Rattle.jc_environment.specs.Aid.{aid_at}
 use Rattle.jc_environment.specs.Registry.{applet_with_aid, instance_of_applet}
-use Rattle.jc_platform.specs.Distinct.{class_word}
+use Rattle.jc_platform.specs.NamePlaces.{class_word}
 use Rattle.jc_platform.specs.declared.names.PlatformClass.TheVariants.{Aid}
 use Rattle.jc_platform.specs.declared.names.PlatformMethod.{PlatformMethod}
 use Rattle.jc_linker.specs.Values.{Packages}

@@ -7,7 +7,7 @@ use Rattle.jc_heap.specs.declared.place.AppletEntry.{AppletEntry}
 use Rattle.jc_heap.specs.declared.touch.Touch.{Touch}
 use Rattle.jc_heap.specs.declared.touch.Touch.TheVariants.{HeapEnd}
 use Rattle.jc_heap.specs.Moves.{Commit}
-use Rattle.jc_heap.specs.Places.{applet_places}
+use Rattle.jc_heap.specs.Place.{applet_places}
 use Rattle.jc_heap.specs.Touch.{touched_new_cells, touched_places}
 use Rattle.jc_frames.specs.Reasons.{buffer_full, illegal_aid, in_progress, no_resource}
 use Rattle.jc_frames.specs.declared.outcome.FrameExit.{FrameExit}
@@ -25,7 +25,7 @@ use Rattle.jc_memory.specs.Programs.{Program, Finish, Perform, bind}
 use Rattle.jc_memory.specs.Making.{object_creation}
 use Rattle.jc_memory.specs.Cells.{header_at}
 use Rattle.jc_platform.specs.declared.names.PlatformClass.TheVariants.{Aid}
-use Rattle.jc_platform.specs.Distinct.{class_word}
+use Rattle.jc_platform.specs.NamePlaces.{class_word}
 use Rattle.jc_linker.specs.Values.{Packages}
 use Rattle.jc_environment.specs.Registry.{applet_with_aid}
 use Rattle.jc_memory.specs.CommitCapacity.{has_space, lacks_capacity, applet_registration, cells_update}

@@ -11,7 +11,7 @@ use Rattle.jc_memory.specs.declared.registers.Owner.TheVariants.{Runtime, Applet
 use Rattle.jc_memory.specs.State.{MemoryState}
 use Rattle.jc_memory.specs.Cells.{header_at}
 use Rattle.jc_platform.specs.declared.names.PlatformClass.TheVariants.{Aid}
-use Rattle.jc_platform.specs.Distinct.{class_word}
+use Rattle.jc_platform.specs.NamePlaces.{class_word}
 use Rattle.jc_linker.specs.Values.{Packages}
 use Rattle.jc_world.specs.declared.native_result.NativeResult.TheVariants.{ReturnValue, CallServer}
 use Rattle.jc_world.specs.NativeCalls.{NativeProgram, return_value, code_fault, if_some, if_ok}

@@ -8,7 +8,7 @@ use Rattle.jc_heap.specs.Object.{event_number}
 use Rattle.jc_frames.specs.declared.cell.Cell.{Cell}
 use Rattle.jc_frames.specs.declared.cell.Cell.TheVariants.{Reference}
 use Rattle.jc_frames.specs.Reasons.{illegal_value}
-use Rattle.jc_frames.specs.declared.outcome.Exception.TheVariants.{NegativeArraySizeException}
+use Rattle.jc_frames.specs.declared.exceptions.Exception.TheVariants.{NegativeArraySizeException}
 use Rattle.jc_frames.specs.declared.outcome.FrameExit.{FrameExit}
 use Rattle.jc_frames.specs.declared.outcome.FrameExit.TheVariants.{Throw}
 use Rattle.jc_memory.specs.declared.making.NewObject.{NewObject}

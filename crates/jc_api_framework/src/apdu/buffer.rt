@@ -1,6 +1,6 @@
 //! The APDU buffer.
 ghost use Rattle.std.specs.Prelude.{◌≡◌, false, IfOk};
-ghost use Rattle.jc_frames.specs.Cells.{result_or_none};
+ghost use Rattle.jc_frames.specs.Cell.{result_or_none};
 ghost use Rattle.jc_api_framework.specs.Apdu.Buffer.{buffer_length, buffer_of, IsBuffer};
 
 use jc_environment::APDU_BUFFER;

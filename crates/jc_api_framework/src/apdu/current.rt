@@ -1,6 +1,6 @@
 //! The command of the code that runs.
 ghost use Rattle.std.specs.Prelude.{◌≡◌, false};
-ghost use Rattle.jc_frames.specs.Cells.{result_or_none};
+ghost use Rattle.jc_frames.specs.Cell.{result_or_none};
 ghost use Rattle.jc_memory.specs.Programs.{Executes};
 ghost use Rattle.jc_world.specs.NativeCalls.{after_call};
 ghost use Rattle.jc_api_framework.specs.Apdu.Current.{apdu_object, has_command, has_process, is_select, is_selection, names_somebody};

@@ -3,7 +3,7 @@ ghost use Rattle.std.specs.Prelude.{◌≡◌, ◌≤◌, false, Some, IfOk};
 ghost use Rattle.jc_memory.specs.Programs.{Executes};
 ghost use Rattle.jc_heap.specs.Completions.{after_step};
 ghost use Rattle.jc_world.specs.NativeCalls.{after_call};
-ghost use Rattle.jc_environment.specs.PinChecks.{pin_check};
+ghost use Rattle.jc_environment.specs.Pins.Checks.{pin_check};
 ghost use Rattle.jc_environment.specs.Pins.{IsPin};
 ghost use Rattle.jc_world.specs.Arrays.{IsInArray, bytes_in};
 ghost use Rattle.jc_api_framework.specs.OwnerPin.{pin_comparison, owner_pin_check};

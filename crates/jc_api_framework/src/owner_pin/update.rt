@@ -3,8 +3,8 @@ ghost use Rattle.std.specs.Prelude.{◌≡◌, ◌≤◌, false};
 ghost use Rattle.jc_memory.specs.Programs.{Executes};
 ghost use Rattle.jc_world.specs.NativeCalls.{after_call};
 ghost use Rattle.jc_environment.specs.Pins.{IsPin};
-ghost use Rattle.jc_environment.specs.PinInit.{pin_init};
-ghost use Rattle.jc_environment.specs.PinUpdates.{after_pin, pin_update};
+ghost use Rattle.jc_environment.specs.Pins.PinInit.{pin_init};
+ghost use Rattle.jc_environment.specs.Pins.Updates.{after_pin, pin_update};
 ghost use Rattle.jc_world.specs.Arrays.{IsInArray, bytes_in};
 ghost use Rattle.jc_api_framework.specs.OwnerPin.{answer_of, at_least_1, changed_or_thrown, is_own_value, owner_pin_init, owner_pin_update};
 

@@ -1,6 +1,6 @@
 //! Bytes that calls of `Util` put into arrays.
 ghost use Rattle.std.specs.Prelude.{◌≡◌, false, length};
-ghost use Rattle.jc_memory.specs.Changing.{nonatomic_store};
+ghost use Rattle.jc_memory.specs.Changes.{nonatomic_store};
 ghost use Rattle.jc_memory.specs.Programs.{Executes, bind};
 ghost use Rattle.jc_world.specs.Answers.{returns_short};
 ghost use Rattle.jc_world.specs.Arrays.{IsInArray};

@@ -7,7 +7,7 @@ use Rattle.jc_frames.specs.declared.outcome.FrameExit.{FrameExit}
 use Rattle.jc_frames.specs.declared.outcome.FrameExit.TheVariants.{Throw}
 use Rattle.jc_memory.specs.Cells.{header_at, short_at, word_at}
 use Rattle.jc_memory.specs.State.{MemoryState}
-use Rattle.jc_platform.specs.Distinct.{class_word}
+use Rattle.jc_platform.specs.NamePlaces.{class_word}
 use Rattle.jc_platform.specs.declared.names.PlatformClass.TheVariants.{KeyObject}
 use Rattle.jc_linker.specs.Values.{Packages}
 use Rattle.jc_world.specs.Answers.{and_then}

@@ -1,10 +1,10 @@
 -- What a call sets that makes new keys of a pair: the data of both keys, and how many times keys were made.
 use Rattle.std.specs.Prelude.{ℕ, pos, ◌≡◌, ◌≤◌, ◌+◌, ◌%◌, ◌^◌, ◌==◌, ◌&&◌, is_none, not, Bool, List, [], ◌∷◌, ◌++◌, length, map, Option, Some, None, Result}
-use Rattle.jc_transient.specs.Cells.{number_of}
+use Rattle.jc_transient.specs.Cell.{number_of}
 use Rattle.jc_transient.specs.declared.cell.ClearEvent.{ClearEvent}
 use Rattle.jc_heap.specs.Heap.{cells, facts}
 use Rattle.jc_heap.specs.Moves.{SetPlaces, refusal_of_places}
-use Rattle.jc_heap.specs.Places.{cell_changes, places_of}
+use Rattle.jc_heap.specs.Place.{cell_changes, places_of}
 use Rattle.jc_heap.specs.declared.place.Place.{Place}
 use Rattle.jc_heap.specs.declared.place.Place.TheVariants as place
 use Rattle.jc_frames.specs.declared.cell.Cell.{Cell}

@@ -1,6 +1,6 @@
 //! What a call sets that makes new keys of a pair.
 ghost use Rattle.std.specs.Prelude.{◌≡◌, ◌≤◌, ◌≢◌, false, true, length, map, Ok, IfOk};
-ghost use Rattle.jc_transient.specs.Cells.{number_of};
+ghost use Rattle.jc_transient.specs.Cell.{number_of};
 ghost use Rattle.jc_heap.specs.Heap.{IsObject, cells, facts};
 ghost use Rattle.jc_memory.specs.Programs.{Executes};
 ghost use Rattle.jc_memory.specs.State.{SetTransient, apply_effect};

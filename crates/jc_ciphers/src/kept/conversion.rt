@@ -3,7 +3,7 @@
 ghost use Rattle.std.specs.Prelude.{◌≡◌, ◌≢◌, ◌≤◌, ◌<◌, ◌+◌, ◌*◌, ◌++◌, ◌&&◌, ℕ, List, IfSome, false, length, nat_eq, not, take, true};
 ghost use Rattle.std.specs.Option.{option_map};
 ghost use Rattle.jc_ciphers.specs.Kept.{IsKeyLength, block_size, chain_in, next_output, next_state, open_in, ready_blocks, state_of, state_size};
-ghost use Rattle.jc_ciphers.specs.Conversions.{chained_by, conversion_after, conversion_end, conversion_output, holds_back, last_size, next_end, padded, released, size_of, unpadded, whole_output, written_by};
+ghost use Rattle.jc_ciphers.specs.Kept.Conversion.{chained_by, conversion_after, conversion_end, conversion_output, holds_back, last_size, next_end, padded, released, size_of, unpadded, whole_output, written_by};
 ghost use Rattle.jc_ciphers.specs.Modes.{IsUnderWay};
 
 use crate::aes::Aes;
@@ -14,7 +14,7 @@ use crate::des::Des;
 use crate::kept::{BlockAlgorithm, MOST_BLOCK};
 use crate::padding::{Padding, pad, unpadded};
 use crate::steps::{CbcDecryption, CbcEncryption, EcbDecryption, EcbEncryption, Step};
-use crate::triple::TripleDes;
+use crate::triple_des::TripleDes;
 
 /// How blocks are chained.
 #[derive(Clone, Copy)]

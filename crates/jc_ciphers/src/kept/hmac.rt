@@ -2,7 +2,7 @@
 
 ghost use Rattle.std.specs.Prelude.{◌≡◌, ◌==◌, length};
 ghost use Rattle.jc_digests.specs.Kept.{block_size, digest_size, form_of, length_in, state_size};
-ghost use Rattle.jc_ciphers.specs.KeptHmac.{digest_of_whole, hmac_of_state, hmac_state_after, inner_state, keyed_state};
+ghost use Rattle.jc_ciphers.specs.Kept.Hmac.{digest_of_whole, hmac_of_state, hmac_state_after, inner_state, keyed_state};
 ghost use Rattle.jc_ciphers.specs.Macs.{key_block};
 
 use crate::hmac::{mark, put_padded};

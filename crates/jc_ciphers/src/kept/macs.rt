@@ -7,7 +7,7 @@ ghost use Rattle.std.specs.Option.{option_map};
 ghost use Rattle.jc_ciphers.specs.Aes as aes;
 ghost use Rattle.jc_ciphers.specs.TripleDes.{IsTripleLength};
 ghost use Rattle.jc_ciphers.specs.Kept.{IsKeyLength, block_size, chain_in, encrypted_under, next_state, open_in, ready_blocks, state_of, state_size};
-ghost use Rattle.jc_ciphers.specs.KeptMacs.{IsMacKeyLength, blocks_after, cipher_of, closed_mac, finished_by, is_closed, last_chain, mac_from, mac_of_state, mac_state_after, padded};
+ghost use Rattle.jc_ciphers.specs.Kept.Macs.{IsMacKeyLength, blocks_after, cipher_of, closed_mac, finished_by, is_closed, last_chain, mac_from, mac_of_state, mac_state_after, padded};
 ghost use Rattle.jc_ciphers.specs.declared.kept.BlockAlgorithm.TheVariants as ciphers;
 ghost use Rattle.jc_ciphers.specs.Macs.{cmac_end};
 ghost use Rattle.jc_ciphers.specs.Modes.{IsUnderWay, chain_after};
@@ -21,7 +21,7 @@ use crate::kept::{BlockAlgorithm, MOST_BLOCK, MOST_STATE};
 use crate::macs::{finish_3, finish_cmac};
 use crate::padding::Padding;
 use crate::steps::{CbcEncryption, Step};
-use crate::triple::TripleDes;
+use crate::triple_des::TripleDes;
 
 /// How a code comes of a message.
 #[derive(Clone, Copy)]

@@ -5,12 +5,12 @@ ghost use Rattle.jc_memory.specs.Programs.{Executes};
 ghost use Rattle.jc_heap.specs.Completions.{after_step};
 ghost use Rattle.jc_memory.specs.CommitCapacity.{lacks_capacity, places_update};
 ghost use Rattle.jc_environment.specs.Pins.{IsPersistentWith, cell_count, limit_cell};
-ghost use Rattle.jc_environment.specs.PinUpdates.{after_pin};
+ghost use Rattle.jc_environment.specs.Pins.Updates.{after_pin};
 ghost use Rattle.jc_heap.specs.Touch.{touched_cells};
-ghost use Rattle.jc_environment.specs.PinInit.{first_record, touched_by_init, pin_init};
+ghost use Rattle.jc_environment.specs.Pins.PinInit.{first_record, touched_by_init, pin_init};
 
 use crate::pins::pin::{COUNTER, LENGTH, LIMIT, MAXIMUM, VALUE};
-use crate::pins::updating::PinRefusal;
+use crate::pins::updates::PinRefusal;
 use jc_heap::{Kind, Place, Touch};
 use jc_memory::{
     Memory, NewObject, has_space, lacks_capacity, make_within_capacity, write_within_capacity,
@@ -59,7 +59,7 @@ fn set_record<S: WordStore>(
 /// Sets a PIN up: makes an array for values of up to `maximum` bytes, which belongs to whom the code runs for, and sets its
 /// cells, with all tries and no value. The flag is taken away. Refused, before anything is written: no space for
 /// the array; no room in the transaction for all of it.
-#[tactic(auto, unfolding(crate::specs::PinInit::pin_init))]
+#[tactic(auto, unfolding(crate::specs::Pins::PinInit::pin_init))]
 pub fn init<S: WordStore>(
     memory: &mut Memory<S>,
     pin: Ref,

@@ -1,7 +1,7 @@
 use Rattle.std.proofs.Common.{◌≡◌, false, [], ◌∷◌, refl, sym, subst, arith}
 use Rattle.jc_heap.specs.Heap.{IsObject, facts, set_cell}
 use Rattle.jc_heap.specs.Moves.{refusal_of_places}
-use Rattle.jc_heap.specs.Places.{place_at}
+use Rattle.jc_heap.specs.Place.{place_at}
 use Rattle.jc_heap.specs.declared.place.Place.TheVariants as place
 use Rattle.jc_heap.specs.declared.touch.Touch.TheVariants as touch
 use Rattle.jc_heap.proofs.Laws.{facts-set_cell, top-set_cell}

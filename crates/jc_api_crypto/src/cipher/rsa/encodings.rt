@@ -2,7 +2,7 @@
 ghost use Rattle.std.specs.Prelude.{◌≡◌, ◌≤◌, length, take, if◌then◌else◌, IfSome, Some, None};
 ghost use Rattle.std.specs.Option.{option_map};
 ghost use Rattle.jc_public_keys.specs.RsaCiphers.{message_of};
-ghost use Rattle.jc_api_crypto.specs.RsaEncodings.{message_in, private_form, public_form};
+ghost use Rattle.jc_api_crypto.specs.Cipher.Rsa.Encodings.{message_in, private_form, public_form};
 
 use crate::cipher::kinds::RsaPadding;
 use crate::cipher::rsa::oaep::{put_oaep, put_oaep_message};

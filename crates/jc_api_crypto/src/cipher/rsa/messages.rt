@@ -7,9 +7,9 @@ ghost use Rattle.jc_world.specs.NativeCalls.{after_call};
 ghost use Rattle.jc_api.specs.Changing.{changing_call};
 ghost use Rattle.jc_api_crypto.specs.Gathered.{state_of};
 ghost use Rattle.jc_api_crypto.specs.Outputs.{puts_output};
-ghost use Rattle.jc_api_crypto.specs.PairSigning.{AreParts, HasSize, key_power, seed_of};
-ghost use Rattle.jc_api_crypto.specs.RsaEncodings.{message_in, private_form, public_form};
-ghost use Rattle.jc_api_crypto.specs.RsaCiphers.{IsRunningRsa, converted, converted_by, ends, gathers, message_with};
+ghost use Rattle.jc_api_crypto.specs.Signature.Pair.Signing.{AreParts, HasSize, key_power, seed_of};
+ghost use Rattle.jc_api_crypto.specs.Cipher.Rsa.Encodings.{message_in, private_form, public_form};
+ghost use Rattle.jc_api_crypto.specs.Cipher.Rsa.{IsRunningRsa, converted, converted_by, ends, gathers, message_with};
 ghost use Rattle.jc_api_keys.specs.Shorts.{shorts_of};
 
 use crate::cipher::kinds::RSA_SHORTS;

@@ -1,7 +1,7 @@
 //! RSAES-OAEP over SHA-1, with an empty label (RFC 8017, 7.1).
 ghost use Rattle.std.specs.Prelude.{◌≡◌, ◌≤◌, drop, length, take, if◌then◌else◌, IfSome, Some, None};
 ghost use Rattle.std.specs.Option.{option_map};
-ghost use Rattle.jc_api_crypto.specs.RsaOaep.{oaep_message, oaep_representative};
+ghost use Rattle.jc_api_crypto.specs.Cipher.Rsa.Oaep.{oaep_message, oaep_representative};
 
 use jc_digests::kept::HashAlgorithm;
 use jc_public_keys::random::{MOST_SEED, put_random};

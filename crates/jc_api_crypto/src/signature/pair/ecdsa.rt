@@ -2,9 +2,9 @@
 ghost use Rattle.std.specs.Prelude.{◌≡◌, ◌≤◌, ◌<◌, false, true, length, take, IfSome};
 ghost use Rattle.std.specs.Option.{option_map};
 ghost use Rattle.jc_world.specs.Arrays.{IsInArray, bytes_in};
-ghost use Rattle.jc_public_keys.specs.EcdsaSignatures.{ecdsa_signature, is_ecdsa_signature};
-ghost use Rattle.jc_api_crypto.specs.CurveParts.{IsShortCurve, curve_of, ecdsa_of, is_ecdsa_of, is_short_curve};
-ghost use Rattle.jc_api_crypto.specs.PairParts.{AreEcParts};
+ghost use Rattle.jc_public_keys.specs.Ecdsa.{ecdsa_signature, is_ecdsa_signature};
+ghost use Rattle.jc_api_crypto.specs.Signature.Pair.Ecdsa.{IsShortCurve, curve_of, ecdsa_of, is_ecdsa_of, is_short_curve};
+ghost use Rattle.jc_api_crypto.specs.Signature.Pair.Parts.{AreEcParts};
 
 use crate::signature::pair::parts::EcParts;
 use jc_api_keys::receivers::read;

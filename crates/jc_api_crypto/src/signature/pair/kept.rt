@@ -2,10 +2,10 @@
 ghost use Rattle.std.specs.Prelude.{◌≡◌, ◌≤◌, false, length, take};
 ghost use Rattle.jc_world.specs.Arrays.{IsInArray};
 ghost use Rattle.jc_api.specs.Changing.{IsState};
-ghost use Rattle.jc_api_crypto.specs.CipherKinds.{rsa_shorts};
-ghost use Rattle.jc_api_crypto.specs.KeptBytes.{first_bytes, kept_with, kept_words, no_more_than};
-ghost use Rattle.jc_api_crypto.specs.PairAlgorithms.{kept_shorts};
-ghost use Rattle.jc_api_crypto.specs.PairSigning.{IsRunningPair};
+ghost use Rattle.jc_api_crypto.specs.Cipher.Kinds.{rsa_shorts};
+ghost use Rattle.jc_api_crypto.specs.Signature.Pair.Kept.{first_bytes, kept_with, kept_words, no_more_than};
+ghost use Rattle.jc_api_crypto.specs.Signature.PairAlgorithms.{kept_shorts};
+ghost use Rattle.jc_api_crypto.specs.Signature.Pair.Signing.{IsRunningPair};
 
 use crate::gathered::{put_gathered_words, put_piece, read_gathered};
 use crate::signature::pair::RunningPair;

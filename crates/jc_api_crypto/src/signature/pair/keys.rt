@@ -2,8 +2,8 @@
 ghost use Rattle.std.specs.Prelude.{◌≡◌, ◌≤◌, false, true, IfOk, IfSome};
 ghost use Rattle.jc_api.specs.Exits.{plainly};
 ghost use Rattle.jc_api_keys.specs.KeyObjects.Contents.{IsKey};
-ghost use Rattle.jc_api_crypto.specs.PairKeys.{ec_parts, ecdsa_takes, kept_pair_key, pair_parts, primes_parts, rsa_parts, rsa_takes, sized_key, takes_key, takes_size, taken_pair_key};
-ghost use Rattle.jc_api_crypto.specs.PairSigning.{AreParts, HasSize, IsLongEnough};
+ghost use Rattle.jc_api_crypto.specs.Signature.Pair.Keys.{ec_parts, ecdsa_takes, kept_pair_key, pair_parts, primes_parts, rsa_parts, rsa_takes, sized_key, takes_key, takes_size, taken_pair_key};
+ghost use Rattle.jc_api_crypto.specs.Signature.Pair.Signing.{AreParts, HasSize, IsLongEnough};
 
 use crate::initialized::{KeyedEngine, check};
 use crate::signature::pair::parts::{EcParts, Parts, Primes, RsaParts};

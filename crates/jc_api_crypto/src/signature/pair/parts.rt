@@ -1,6 +1,6 @@
 //! The parts of keys of pairs, as signatures read them.
 ghost use Rattle.std.specs.Prelude.{◌≡◌, ◌≤◌, false, length, if◌then◌else◌, Some, None};
-ghost use Rattle.jc_api_crypto.specs.PairParts.{ArePrimes, AreRsaParts, crt_power, power};
+ghost use Rattle.jc_api_crypto.specs.Signature.Pair.Parts.{ArePrimes, AreRsaParts, crt_power, power};
 
 use jc_api_keys::receivers::read;
 use jc_memory::Memory;

@@ -4,8 +4,8 @@ ghost use Rattle.std.specs.Option.{option_map};
 ghost use Rattle.jc_digests.specs.Kept.{digest_size};
 ghost use Rattle.jc_world.specs.Arrays.{IsInArray, bytes_in};
 ghost use Rattle.jc_public_keys.specs.RsaSignatures.{least_modulus, signature_encoding};
-ghost use Rattle.jc_api_crypto.specs.PairParts.{AreRsaParts, power};
-ghost use Rattle.jc_api_crypto.specs.PairSigning.{AreParts, HasSize, IsRunningPair, ecdsa_by_parts, is_ecdsa_by_parts, is_iso_signature, is_rsa_signature, is_signature_of, key_power, power_by_parts, power_under, seed_of, signature_of};
+ghost use Rattle.jc_api_crypto.specs.Signature.Pair.Parts.{AreRsaParts, power};
+ghost use Rattle.jc_api_crypto.specs.Signature.Pair.Signing.{AreParts, HasSize, IsRunningPair, ecdsa_by_parts, is_ecdsa_by_parts, is_iso_signature, is_rsa_signature, is_signature_of, key_power, power_by_parts, power_under, seed_of, signature_of};
 
 use crate::signature::pair::RunningPair;
 use crate::signature::pair::ecdsa::{is_ecdsa, put_ecdsa};

@@ -1,7 +1,6 @@
 use Rattle.std.proofs.Common.{◌≡◌, ◌-◌}
 use Rattle.jc_cap.specs.Reading.{many_at, rest_after}
-use Rattle.jc_cap.specs.ClassReading.{super_at}
-use Rattle.jc_cap.specs.Known.{is_known_class}
+use Rattle.jc_cap.specs.ClassReading.{super_at, is_known_class}
 use Rattle.jc_cap.proofs.class_reading.after_supers.Given as goal
 
 abbrev pub invariant-loop : goal.invariant-loop

@@ -1,5 +1,5 @@
 use Rattle.std.proofs.Common.{ap, ◌∙◌, Ok, sym}
-use Rattle.jc_cap.specs.Known.{is_known_class}
+use Rattle.jc_cap.specs.ClassReading.{is_known_class}
 use Rattle.jc_cap.proofs.Supers.{supers_list, supers_read}
 use Rattle.jc_cap.proofs.class_reading.read_supers.Goals as goal
 

@@ -1,6 +1,5 @@
 use Rattle.std.proofs.Common.{List, ℕ, Ok, ap, sym, subst, ◌≡◌, ◌∙◌}
-use Rattle.jc_cap.specs.Again.{IsReadable}
-use Rattle.jc_cap.specs.Reading.{value_of_whole}
+use Rattle.jc_cap.specs.Reading.{IsReadable, value_of_whole}
 use Rattle.jc_cap.specs.Header.{name_at}
 use Rattle.jc_cap.proofs.FoundHeader.{has_count, name_behind, no_name}
 use Rattle.jc_cap.proofs.header.name_found.Goals as goal

@@ -1,10 +1,10 @@
 use Rattle.std.proofs.Common.{◌≡◌, ◌≤◌, ℕ, length, take, ap, subst, sym, ◌∙◌}
 use Rattle.jc_words.specs.Layout.{front_length}
-use Rattle.jc_heap.specs.Stored.{HoldsHeap}
+use Rattle.jc_heap.specs.Heap.Store.{HoldsHeap}
 use Rattle.jc_image.specs.Laying.{first_words_of, sealed_heap, sealed_view}
 use Rattle.jc_environment.specs.Objects.{cells_of_all}
 use Rattle.jc_card.specs.Fixed.{with_objects}
-use Rattle.jc_card.specs.Made.{new_front, objects_in}
+use Rattle.jc_card.specs.ProductImages.{new_front, objects_in}
 use Rattle.jc_card.proofs.MadeImages.{long_of, made_if, mapped_if}
 use Rattle.jc_card.proofs.FixedObjects.{head-all, room_limit}
 use Rattle.jc_heap.specs.Heap.{HeapState, area_limit}

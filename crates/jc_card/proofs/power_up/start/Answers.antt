@@ -3,7 +3,7 @@ use Rattle.std.proofs.Math.Seq.{take-append_seam}
 use Rattle.jc_commit.specs.Image.{recovered_of}
 use Rattle.jc_heap.specs.Heap.{heap_of}
 use Rattle.jc_packages.specs.Objects.{MarksObjects}
-use Rattle.jc_card.specs.Reset.{ArePartsOf}
+use Rattle.jc_card.specs.PowerUp.Reset.{ArePartsOf}
 use Rattle.jc_card.proofs.power_up.start.Goals as goal
 
 pub card_over-requires-clause-marked : goal.card_over-requires-clause-marked

@@ -4,7 +4,7 @@ use Rattle.jc_transient.specs.State.{buffer_told, most_buffer}
 use Rattle.jc_heap.specs.declared.object.Facts.{Facts}
 use Rattle.jc_heap.specs.Heap.{HeapState, heap_of}
 use Rattle.jc_heap.specs.Image.{IsWellFormed, buffer_address}
-use Rattle.jc_heap.specs.Whole.{IsConsistent}
+use Rattle.jc_heap.specs.WholeHeap.{IsConsistent}
 use Rattle.jc_heap.proofs.AreaSizes.{buffer_read}
 use Rattle.std.specs.Prelude.{slice_index}
 use Rattle.jc_image.specs.Beginning.{HeapBeginsWith}

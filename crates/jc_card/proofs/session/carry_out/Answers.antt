@@ -1,8 +1,8 @@
 use Rattle.std.proofs.Common.{ℕ, subst, sym}
-use Rattle.jc_card.specs.Power.{Off}
-use Rattle.jc_card.specs.Requests.{Down}
-use Rattle.jc_card.specs.Serving.{AnswersCommand}
-use Rattle.jc_card.specs.SessionStates.{kept_power, power_of}
+use Rattle.jc_card.specs.State.Power.{Off}
+use Rattle.jc_card.specs.Session.Requests.{Down}
+use Rattle.jc_card.specs.Session.Serving.{AnswersCommand}
+use Rattle.jc_card.specs.State.{kept_power, power_of}
 use Rattle.jc_card.proofs.HeldStates.{command_answered, command_refused}
 use Rattle.jc_card.proofs.session.carry_out.Goals as goal
 

@@ -1,7 +1,7 @@
 use Rattle.std.proofs.Common.{◌≡◌, ◌∙◌, subst, sym}
-use Rattle.jc_card.specs.Requests.{Reply, reply_of}
-use Rattle.jc_card.specs.Serving.{AnswersReset}
-use Rattle.jc_card.specs.SessionStates.{answer_of_power_up, kept_power, power_of}
+use Rattle.jc_card.specs.Session.Requests.{Reply, reply_of}
+use Rattle.jc_card.specs.Session.Serving.{AnswersReset}
+use Rattle.jc_card.specs.State.{answer_of_power_up, kept_power, power_of}
 use Rattle.jc_card.proofs.HeldStates.{reset_answered, same_answer, same_budget, store_held}
 use Rattle.jc_card.proofs.Resets.{start_fails}
 use Rattle.jc_card.proofs.session.reset.Goals as goal

@@ -1,8 +1,8 @@
 use Rattle.std.proofs.Common.{◌<◌, ◌≤◌, length, map, inr, arith}
 use Rattle.jc_card.specs.Dispatching.{usual_budget}
-use Rattle.jc_card.specs.SessionStates.{kept_power, power_of}
-use Rattle.jc_card.specs.Power.{StoreState}
-use Rattle.jc_card.specs.Requests.{reply_of}
+use Rattle.jc_card.specs.State.{kept_power, power_of}
+use Rattle.jc_card.specs.State.Power.{StoreState}
+use Rattle.jc_card.specs.Session.Requests.{reply_of}
 use Rattle.jc_card.specs.Session.{requests_of}
 use Rattle.jc_card.proofs.HeldStates.{store_held}
 use Rattle.jc_card.proofs.SessionRuns.{session_ended, session_more, stops_at_reset}

@@ -1,8 +1,8 @@
 use Rattle.std.proofs.Common.{◌≡◌, ◌≤◌, map, take, length, vec_len, vec_capacity}
 use Rattle.jc_card.specs.Dispatching.{usual_budget}
-use Rattle.jc_card.specs.SessionStates.{IsGood, kept_power, power_of}
-use Rattle.jc_card.specs.Power.{StoreState}
-use Rattle.jc_card.specs.Requests.{reply_of}
+use Rattle.jc_card.specs.State.{IsGood, kept_power, power_of}
+use Rattle.jc_card.specs.State.Power.{StoreState}
+use Rattle.jc_card.specs.Session.Requests.{reply_of}
 use Rattle.jc_card.specs.Session.{IsSession, requests_of}
 use Rattle.jc_card.proofs.session.session.Given as goal
 

@@ -1,4 +1,4 @@
-use Rattle.jc_card.specs.SessionStates.{power_of}
+use Rattle.jc_card.specs.State.{power_of}
 use Rattle.jc_card.proofs.HeldStates.{fault_held, held_starts}
 use Rattle.jc_card.proofs.session.start.Goals as goal
 

@@ -1,6 +1,6 @@
 use Rattle.std.proofs.Common.{◌≡◌, ◌*◌, ◌/◌, length, take}
 use Rattle.jc_ciphers.specs.Aes.{schedule, word_before}
-use Rattle.jc_ciphers.specs.AesPlaces.{IsPlace}
+use Rattle.jc_ciphers.specs.AesPlace.{IsPlace}
 use Rattle.jc_ciphers.proofs.aes.expanded.Given as goal
 
 abbrev pub invariant-expansion : goal.invariant-expansion

@@ -1,5 +1,5 @@
 use Rattle.std.proofs.Common.{◌≡◌, ◌∙◌, ◌≤◌, ◌+◌, ◌*◌, ◌++◌, List, [], ℕ, length, length-append, length-take-le, take, ap, arith}
-use Rattle.jc_ciphers.specs.Paddings.{padding_of}
+use Rattle.jc_ciphers.specs.Padding.{padding_of}
 use Rattle.jc_ciphers.proofs.Pieces.{open_block, part_left}
 use Rattle.jc_ciphers.proofs.conversion.finish.Goals as goal
 

@@ -1,8 +1,7 @@
 use Rattle.std.proofs.Common.{◌≡◌, ◌+◌, ◌*◌, ◌∙◌, List, ℕ, bit_xor, suc, slice_index, refl, ap, subst, arith}
 use Rattle.std.proofs.lemmas.Nat.{xor_lt}
 use Rattle.jc_ciphers.specs.Des.{bits_of, crypted, mangled, place_of, right_of, rounds, select, selected_bit, swapped}
-use Rattle.jc_ciphers.specs.DesNumbers.{number_of}
-use Rattle.jc_ciphers.specs.DesGathering.{IsHalves, source}
+use Rattle.jc_ciphers.specs.DesNumbers.{number_of, IsHalves, source}
 use Rattle.jc_ciphers.specs.DesTables.{final_permutation, initial_permutation}
 use Rattle.jc_ciphers.proofs.DesHalves.{IsBits-bits_of, IsBits-right_of, IsBits-rounds, IsBits-select, IsBits-swapped, block-number, bytes-are, halves-of, right-number, round-halves, selected-number, sources_final, sources_initial, swapped-number}
 use Rattle.jc_ciphers.proofs.DesLists.{listed-at}

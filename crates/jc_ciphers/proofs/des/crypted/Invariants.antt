@@ -1,7 +1,6 @@
 use Rattle.std.proofs.Common.{◌≡◌, ◌<◌, ◌^◌, List, ℕ}
 use Rattle.jc_ciphers.specs.Des.{bits_of, rounds, select}
-use Rattle.jc_ciphers.specs.DesNumbers.{IsBits, sixes}
-use Rattle.jc_ciphers.specs.DesGathering.{IsHalves}
+use Rattle.jc_ciphers.specs.DesNumbers.{IsBits, sixes, IsHalves}
 use Rattle.jc_ciphers.specs.DesTables.{initial_permutation}
 use Rattle.jc_ciphers.proofs.des.crypted.Given as goal
 

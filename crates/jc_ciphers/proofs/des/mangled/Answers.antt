@@ -1,7 +1,6 @@
 use Rattle.std.proofs.Common.{◌≡◌, ◌<◌, ◌/◌, ◌+◌, ◌*◌, ◌%◌, ◌^◌, ◌-◌, ◌∙◌, List, ℕ, bit_xor, slice_index, sym, ap, arith}
 use Rattle.jc_ciphers.specs.Des.{keyed, select, substituted_bit}
-use Rattle.jc_ciphers.specs.DesNumbers.{number_of}
-use Rattle.jc_ciphers.specs.DesGathering.{source}
+use Rattle.jc_ciphers.specs.DesNumbers.{number_of, source}
 use Rattle.jc_ciphers.specs.DesTables.{expansion, permutation}
 use Rattle.jc_ciphers.proofs.DesGatherings.{box_entry-is}
 use Rattle.jc_ciphers.proofs.DesHalves.{groups_permutation, key_bit, key_bit-lt, keyed-at, mangled-number, six-is}

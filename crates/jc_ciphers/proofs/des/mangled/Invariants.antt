@@ -1,7 +1,6 @@
 use Rattle.std.proofs.Common.{◌≡◌, ◌/◌, List, ℕ, slice_index}
 use Rattle.jc_ciphers.specs.Des.{keyed, select, substituted_bit}
-use Rattle.jc_ciphers.specs.DesNumbers.{IsBits, number_of, sixes}
-use Rattle.jc_ciphers.specs.DesGathering.{source}
+use Rattle.jc_ciphers.specs.DesNumbers.{IsBits, number_of, sixes, source}
 use Rattle.jc_ciphers.specs.DesTables.{expansion, permutation}
 use Rattle.jc_ciphers.proofs.DesNumbers.{gathered_bit}
 use Rattle.jc_ciphers.proofs.des.mangled.Given as goal

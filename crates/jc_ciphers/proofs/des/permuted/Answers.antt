@@ -1,6 +1,5 @@
 use Rattle.std.proofs.Common.{◌≡◌, ◌<◌, ◌/◌, ◌∙◌, ℕ, bit_xor, refl, sym, ap, arith}
-use Rattle.jc_ciphers.specs.DesNumbers.{number_of}
-use Rattle.jc_ciphers.specs.DesGathering.{source}
+use Rattle.jc_ciphers.specs.DesNumbers.{number_of, source}
 use Rattle.jc_ciphers.proofs.DesGatherings.{entry}
 use Rattle.jc_ciphers.proofs.DesNumbers.{gathered_all, gathered_bit, gathered_more, gathered_none}
 use Rattle.jc_ciphers.proofs.des.permuted.Goals as goal

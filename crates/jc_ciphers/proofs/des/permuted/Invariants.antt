@@ -1,6 +1,5 @@
 use Rattle.std.proofs.Common.{◌≡◌, ◌/◌, List, ℕ}
-use Rattle.jc_ciphers.specs.DesNumbers.{AreBits, number_of}
-use Rattle.jc_ciphers.specs.DesGathering.{nibble_table, source}
+use Rattle.jc_ciphers.specs.DesNumbers.{AreBits, number_of, nibble_table, source}
 use Rattle.jc_ciphers.proofs.DesNumbers.{gathered_bit}
 use Rattle.jc_ciphers.proofs.des.permuted.Given as goal
 

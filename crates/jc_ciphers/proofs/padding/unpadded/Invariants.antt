@@ -1,5 +1,5 @@
 use Rattle.std.proofs.Common.{◌<◌, ℕ}
-use Rattle.jc_ciphers.specs.Paddings.{EndsByPadding}
+use Rattle.jc_ciphers.specs.Padding.{EndsByPadding}
 use Rattle.jc_ciphers.proofs.padding.unpadded.Given as goal
 
 abbrev pub invariant-places : goal.invariant-places

@@ -1,5 +1,5 @@
 use Rattle.std.proofs.Common.{◌≡◌, ◌≤◌, length, filter, not, take}
-use Rattle.jc_commit.specs.Keeping.{is_taken_back}
+use Rattle.jc_commit.specs.Keep.{is_taken_back}
 use Rattle.jc_commit.specs.EntryIndex.{named_by}
 use Rattle.jc_commit.proofs.keep.count_new.Given as goal
 

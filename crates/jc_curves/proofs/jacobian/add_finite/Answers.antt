@@ -1,7 +1,7 @@
 use Rattle.std.proofs.Common.{◌∙◌, ◌<◌, sym, arith}
 use Rattle.jc_numbers.specs.Numbers.{value}
 use Rattle.jc_curves.specs.Elements.{residue_of}
-use Rattle.jc_curves.specs.Standing.{coordinates}
+use Rattle.jc_curves.specs.PointValues.{coordinates}
 use Rattle.jc_curves.proofs.ElementLaws.{residue_below}
 use Rattle.jc_curves.proofs.Places.{made_infinite, ruled_out, total_law}
 use Rattle.jc_curves.proofs.Sums.{IsOther, opposite_adds, other_adds, same_adds}

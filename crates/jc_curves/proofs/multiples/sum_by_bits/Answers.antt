@@ -1,7 +1,7 @@
 use Rattle.std.proofs.Common.{arith}
 use Rattle.jc_numbers.specs.Numbers.{value}
 use Rattle.jc_curves.specs.Elements.{residue_of}
-use Rattle.jc_curves.specs.Standing.{coordinates, point_at}
+use Rattle.jc_curves.specs.PointValues.{coordinates, point_at}
 use Rattle.jc_curves.proofs.BinaryMethod.{all_taken, next_taken, start_taken}
 use Rattle.jc_curves.proofs.multiples.sum_by_bits.Goals as goal
 

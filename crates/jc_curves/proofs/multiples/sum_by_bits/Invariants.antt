@@ -1,7 +1,7 @@
 use Rattle.std.proofs.Common.{◌-◌, ◌/◌, ◌^◌}
 use Rattle.jc_numbers.specs.Numbers.{value}
 use Rattle.jc_curves.specs.Elements.{residue_of}
-use Rattle.jc_curves.specs.Standing.{AreElements, StandsForMultiple, coordinates, point_at}
+use Rattle.jc_curves.specs.PointValues.{AreElements, StandsForMultiple, coordinates, point_at}
 use Rattle.jc_curves.proofs.multiples.sum_by_bits.Given as goal
 
 abbrev pub invariant-bits : goal.invariant-bits

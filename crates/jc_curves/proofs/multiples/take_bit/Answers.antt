@@ -1,7 +1,7 @@
 use Rattle.std.proofs.Common.{◌≡◌, ℕ, subst, sym, arith}
 use Rattle.jc_numbers.specs.Numbers.{value}
 use Rattle.jc_curves.specs.Elements.{residue_of}
-use Rattle.jc_curves.specs.Standing.{TakesBit, coordinates, point_at}
+use Rattle.jc_curves.specs.PointValues.{TakesBit, coordinates, point_at}
 use Rattle.jc_curves.proofs.BinaryMethod.{takes_one, takes_zero}
 use Rattle.jc_curves.proofs.multiples.take_bit.Goals as goal
 

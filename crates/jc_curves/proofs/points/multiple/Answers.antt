@@ -1,8 +1,7 @@
 use Rattle.std.proofs.Common.{arith}
 use Rattle.jc_numbers.specs.Numbers.{number_of_bytes, value}
-use Rattle.jc_curves.specs.Curves.{CurveNumbers}
+use Rattle.jc_curves.specs.Curves.{CurveNumbers, numbers_of}
 use Rattle.jc_curves.specs.Elements.{residue_of}
-use Rattle.jc_curves.specs.Prepared.{numbers_of}
 use Rattle.jc_curves.proofs.CallLaws.{multiple_call}
 use Rattle.jc_curves.proofs.PointBytes.{held}
 use Rattle.jc_curves.proofs.points.multiple.Goals as goal

@@ -1,7 +1,6 @@
 use Rattle.std.proofs.Common.{arith}
 use Rattle.jc_numbers.specs.Numbers.{number_of_bytes, value}
-use Rattle.jc_curves.specs.Curves.{CurveNumbers}
-use Rattle.jc_curves.specs.Prepared.{numbers_of}
+use Rattle.jc_curves.specs.Curves.{CurveNumbers, numbers_of}
 use Rattle.jc_curves.proofs.CallLaws.{key_call}
 use Rattle.jc_curves.proofs.PointBytes.{held}
 use Rattle.jc_curves.proofs.points.public_point.Goals as goal

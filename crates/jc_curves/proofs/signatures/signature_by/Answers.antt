@@ -1,7 +1,6 @@
 use Rattle.std.proofs.Common.{◌∙◌, sym, arith}
 use Rattle.jc_numbers.specs.Numbers.{value}
-use Rattle.jc_curves.specs.Curves.{CurveNumbers}
-use Rattle.jc_curves.specs.Prepared.{numbers_of}
+use Rattle.jc_curves.specs.Curves.{CurveNumbers, numbers_of}
 use Rattle.jc_curves.proofs.SignatureLaws.{no_s}
 use Rattle.jc_curves.proofs.signatures.signature_by.Goals as goal
 

@@ -1,10 +1,9 @@
 use Rattle.std.proofs.Common.{ℕ, refl}
 use Rattle.jc_numbers.specs.Numbers.{number_of_bytes, value}
 use Rattle.jc_curves.specs.Calls.{digest_number}
-use Rattle.jc_curves.specs.Curves.{CurveNumbers}
+use Rattle.jc_curves.specs.Curves.{CurveNumbers, numbers_of}
 use Rattle.jc_curves.specs.Elements.{residue_of}
-use Rattle.jc_curves.specs.Prepared.{numbers_of}
-use Rattle.jc_curves.specs.Standing.{point_of}
+use Rattle.jc_curves.specs.PointValues.{point_of}
 use Rattle.jc_curves.proofs.SignatureLaws.{no_sum_verified, verified_from, verified_to}
 use Rattle.jc_curves.proofs.Standing.{true_false}
 use Rattle.jc_curves.proofs.signatures.verify.Goals as goal

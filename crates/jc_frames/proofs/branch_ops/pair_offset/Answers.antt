@@ -1,5 +1,5 @@
 use Rattle.std.proofs.Common.{rules, arith, sym, ◌∙◌, ap, w16, SFits, to_z-of_z}
-use Rattle.jc_frames.specs.Cells.{result_or_none}
+use Rattle.jc_frames.specs.Cell.{result_or_none}
 use Rattle.jc_frames.proofs.Pairs.{pairs_found, result_or_none-ok_or, same_bits}
 use Rattle.jc_frames.proofs.branch_ops.pair_offset.Goals as goal
 

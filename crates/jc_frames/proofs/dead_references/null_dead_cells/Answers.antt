@@ -1,6 +1,6 @@
 use Rattle.std.proofs.Common.{get_or, ap, arith}
 use Rattle.std.proofs.lemmas.List.Edits.{map_over_more}
-use Rattle.jc_frames.specs.Cells.{without_dead}
+use Rattle.jc_frames.specs.Cell.{without_dead}
 use Rattle.jc_frames.proofs.dead_references.null_dead_cells.Goals as goal
 
 pub loop-cell-preserved : goal.loop-cell-preserved

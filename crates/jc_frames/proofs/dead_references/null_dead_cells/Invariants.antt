@@ -1,6 +1,6 @@
 -- The dead references before the index are null.
 use Rattle.std.proofs.Common.{◌≡◌, ◌++◌, map, take, drop}
-use Rattle.jc_frames.specs.Cells.{without_dead}
+use Rattle.jc_frames.specs.Cell.{without_dead}
 use Rattle.jc_frames.proofs.dead_references.null_dead_cells.Given as goal
 
 abbrev pub invariant-loop-cell : goal.invariant-loop-cell

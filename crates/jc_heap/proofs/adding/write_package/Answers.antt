@@ -1,5 +1,5 @@
 use Rattle.std.proofs.Common.{◌≡◌, ◌+◌, ◌∙◌, length, refl, sym, ap, arith}
-use Rattle.jc_heap.specs.Packages.{parts, array_inits, package_record, package_size, arrays_words}
+use Rattle.jc_heap.specs.Package.{parts, array_inits, package_record, package_size, arrays_words}
 use Rattle.jc_heap.proofs.Packing.{length-arrays_words}
 use Rattle.jc_heap.proofs.NewPackages.{length-package_record}
 use Rattle.jc_heap.proofs.Streams.{Stands, first_piece, next_piece, stands_below, stands_free}

@@ -1,7 +1,7 @@
 use Rattle.std.proofs.Common.{◌≡◌, ◌+◌, ◌-◌, ℕ, List, length, take, drop, get_or, refl, sym, ◌∙◌, ap, arith}
 use Rattle.std.proofs.lemmas.List.{drop-drop}
-use Rattle.jc_heap.specs.Cut.{records_from}
-use Rattle.jc_heap.specs.Components.{words_for, part_sizes, info_span, info_of}
+use Rattle.jc_heap.specs.Walk.{records_from}
+use Rattle.jc_heap.specs.Component.{words_for, part_sizes, info_span, info_of}
 use Rattle.jc_heap.proofs.RecordReading.{word_in, length_left, info-here, info-next, info-image, info-records_from}
 use Rattle.jc_heap.proofs.component.find_info.Goals as goal
 use Rattle.jc_heap.proofs.component.find_info.Goals.{then-word-eq0-via-then-word-eq0, then-word-eq0-via-else-word-eq0+then-at-from}

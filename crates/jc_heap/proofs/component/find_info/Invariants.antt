@@ -1,7 +1,7 @@
 -- What is left of the walk has the answer.
 use Rattle.std.proofs.Common.{◌≡◌, ◌≤◌, ◌-◌, drop, take}
-use Rattle.jc_heap.specs.Cut.{records_from}
-use Rattle.jc_heap.specs.Components.{part_sizes, info_span, info_of}
+use Rattle.jc_heap.specs.Walk.{records_from}
+use Rattle.jc_heap.specs.Component.{part_sizes, info_span, info_of}
 use Rattle.jc_heap.proofs.component.find_info.Given as goal
 
 abbrev pub invariant-loop-at : goal.invariant-loop-at

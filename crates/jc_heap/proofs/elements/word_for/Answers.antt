@@ -1,5 +1,5 @@
 use Rattle.std.proofs.Common.{length, subst, sym, ◌∙◌, arith}
-use Rattle.jc_heap.specs.Places.{HasPlace}
+use Rattle.jc_heap.specs.Place.{HasPlace}
 use Rattle.jc_heap.specs.Heap.{heap_of}
 use Rattle.jc_heap.proofs.Views.{readable, packed_spot}
 use Rattle.jc_heap.proofs.elements.word_for.Goals as goal

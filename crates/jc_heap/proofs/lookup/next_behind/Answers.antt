@@ -1,7 +1,7 @@
 use Rattle.std.proofs.Common.{arith, ◌≡◌, ◌+◌, ◌/◌, ◌∙◌, ap, sym, subst, map, drop}
 use Rattle.std.proofs.lemmas.Bool.{false≢true}
 use Rattle.jc_words.specs.Layout.{text_start}
-use Rattle.jc_heap.specs.Cut.{records_from, missing_words}
+use Rattle.jc_heap.specs.Walk.{records_from, missing_words}
 use Rattle.jc_heap.specs.Image.{image, package_addresses, sizes, base, item_entry}
 use Rattle.jc_heap.specs.Heap.{first_above, next_object, heap_of, IsObject}
 use Rattle.jc_heap.proofs.Reading.{object_spot}

@@ -1,5 +1,5 @@
 use Rattle.std.proofs.Common.{arith}
-use Rattle.jc_heap.specs.Packages.{record_size}
+use Rattle.jc_heap.specs.Package.{record_size}
 use Rattle.jc_heap.proofs.Packing.{length-packed_words, length-array_inits}
 use Rattle.jc_heap.proofs.package.size_of_record.Goals as goal
 

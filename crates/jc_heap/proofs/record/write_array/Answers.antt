@@ -1,5 +1,5 @@
 use Rattle.std.proofs.Common.{arith}
-use Rattle.jc_heap.specs.Packages.{array_init}
+use Rattle.jc_heap.specs.Package.{array_init}
 use Rattle.jc_heap.proofs.FreshRuns.{keeps_then}
 use Rattle.jc_heap.proofs.Packing.{length-elements}
 use Rattle.jc_heap.proofs.record.write_array.Goals as goal

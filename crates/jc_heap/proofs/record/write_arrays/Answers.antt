@@ -1,6 +1,6 @@
 use Rattle.std.proofs.Common.{◌≡◌, ◌+◌, length, take, get_or, sym, arith}
 use Rattle.jc_heap.specs.Fresh.{Fills}
-use Rattle.jc_heap.specs.Packages.{array_init, array_inits, array_words, arrays_words}
+use Rattle.jc_heap.specs.Package.{array_init, array_inits, array_words, arrays_words}
 use Rattle.jc_heap.proofs.Packing.{no_array, values_small, are_bytes-step, arrays-step, arrays-within}
 use Rattle.jc_heap.proofs.Streams.{piece_below, piece_more, free_left}
 use Rattle.jc_heap.proofs.FreshRuns.{anyway, torn_piece}

@@ -1,7 +1,7 @@
 -- The arrays before the index are written.
 use Rattle.std.proofs.Common.{◌≡◌, ◌+◌, take, length}
 use Rattle.jc_heap.specs.Fresh.{KeepsBelow, Fills}
-use Rattle.jc_heap.specs.Packages.{array_inits, arrays_words, AreArraysOfBytes}
+use Rattle.jc_heap.specs.Package.{array_inits, arrays_words, AreArraysOfBytes}
 use Rattle.jc_heap.proofs.record.write_arrays.Given as goal
 
 abbrev pub invariant-loop-array : goal.invariant-loop-array

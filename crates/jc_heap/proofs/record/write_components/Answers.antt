@@ -1,6 +1,6 @@
 use Rattle.std.proofs.Common.{◌≡◌, ◌+◌, length, take, get_or, sym, arith}
 use Rattle.jc_heap.specs.Fresh.{Fills}
-use Rattle.jc_heap.specs.Packages.{part, parts, component_words, components_words}
+use Rattle.jc_heap.specs.Package.{part, parts, component_words, components_words}
 use Rattle.jc_heap.proofs.Packing.{no_component, components-step, components-within, info_small}
 use Rattle.jc_heap.proofs.Streams.{piece_below, piece_more, free_left}
 use Rattle.jc_heap.proofs.FreshRuns.{anyway, torn_piece}

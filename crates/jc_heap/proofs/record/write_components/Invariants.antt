@@ -1,7 +1,7 @@
 -- The components before the index are written.
 use Rattle.std.proofs.Common.{◌≡◌, ◌+◌, take, length}
 use Rattle.jc_heap.specs.Fresh.{KeepsBelow, Fills}
-use Rattle.jc_heap.specs.Packages.{parts, components_words}
+use Rattle.jc_heap.specs.Package.{parts, components_words}
 use Rattle.jc_heap.proofs.record.write_components.Given as goal
 
 abbrev pub invariant-loop-component : goal.invariant-loop-component

@@ -1,7 +1,7 @@
 use Rattle.std.proofs.Common.{◌+◌, List, ℕ, [], ◌∷◌, ◌++◌, length, refl, ◌∙◌, ap, subst, arith, append_assoc}
 use Rattle.std.proofs.lemmas.List.{length-append}
 use Rattle.jc_heap.specs.Fresh.{Fills}
-use Rattle.jc_heap.specs.Packages.{parts, array_inits, components_words, image_words, record_size, package_record}
+use Rattle.jc_heap.specs.Package.{parts, array_inits, components_words, image_words, record_size, package_record}
 use Rattle.jc_heap.specs.Packed.{packed_words}
 use Rattle.jc_heap.proofs.Packing.{length-array_inits}
 use Rattle.jc_heap.proofs.Streams.{Stands, first_piece, next_piece, stands_below, stands_free, free_fewer}

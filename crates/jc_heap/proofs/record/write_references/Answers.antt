@@ -1,6 +1,6 @@
 use Rattle.std.proofs.Common.{◌+◌, ◌++◌, length, [], ◌∷◌, take, sym, subst, arith}
 use Rattle.jc_heap.specs.Fresh.{KeepsBelow, Fills}
-use Rattle.jc_heap.specs.Packages.{array_inits, array_addresses}
+use Rattle.jc_heap.specs.Package.{array_inits, array_addresses}
 use Rattle.jc_heap.proofs.Packing.{arrays-counted, arrays-below, addresses-step, length-addresses_taken}
 use Rattle.jc_heap.proofs.Streams.{word_push}
 use Rattle.jc_heap.proofs.FreshRuns.{anyway, torn_piece, torn_word}

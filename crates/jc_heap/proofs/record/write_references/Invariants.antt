@@ -1,7 +1,7 @@
 -- The addresses of the arrays before the index are written.
 use Rattle.std.proofs.Common.{◌≡◌, ◌+◌, take}
 use Rattle.jc_heap.specs.Fresh.{KeepsBelow, Fills}
-use Rattle.jc_heap.specs.Packages.{array_inits, array_addresses, arrays_size}
+use Rattle.jc_heap.specs.Package.{array_inits, array_addresses, arrays_size}
 use Rattle.jc_heap.proofs.record.write_references.Given as goal
 
 abbrev pub invariant-loop-k : goal.invariant-loop-k

@@ -1,5 +1,5 @@
 use Rattle.std.proofs.Common.{◌+◌, length, refl, arith}
-use Rattle.jc_heap.specs.Packages.{array_inits, array_addresses, image_words}
+use Rattle.jc_heap.specs.Package.{array_inits, array_addresses, image_words}
 use Rattle.jc_heap.specs.Packed.{packed_words}
 use Rattle.jc_heap.proofs.FreshRuns.{anyway, keeps_then, torn_piece}
 use Rattle.jc_heap.proofs.Packing.{length-addresses}

@@ -1,7 +1,7 @@
 use Rattle.std.proofs.Common.{◌≡◌, ◌+◌, ◌-◌, ℕ, List, length, take, drop, get_or, sym, ◌∙◌, ap, arith}
 use Rattle.std.proofs.lemmas.List.{drop-drop}
-use Rattle.jc_heap.specs.Cut.{records_from}
-use Rattle.jc_heap.specs.Components.{words_for, part_sizes}
+use Rattle.jc_heap.specs.Walk.{records_from}
+use Rattle.jc_heap.specs.Component.{words_for, part_sizes}
 use Rattle.jc_heap.specs.Statics.{image_from}
 use Rattle.jc_heap.proofs.RecordReading.{word_in, length_left}
 use Rattle.jc_heap.proofs.StaticImages.{image-here, image-next, image-records_from}

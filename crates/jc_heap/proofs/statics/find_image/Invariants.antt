@@ -1,7 +1,7 @@
 -- What is left of the walk has the answer.
 use Rattle.std.proofs.Common.{◌≡◌, ◌≤◌, ◌-◌, drop, take}
-use Rattle.jc_heap.specs.Cut.{records_from}
-use Rattle.jc_heap.specs.Components.{part_sizes, record_parts}
+use Rattle.jc_heap.specs.Walk.{records_from}
+use Rattle.jc_heap.specs.Component.{part_sizes, record_parts}
 use Rattle.jc_heap.specs.Statics.{image_from}
 use Rattle.jc_heap.proofs.statics.find_image.Given as goal
 

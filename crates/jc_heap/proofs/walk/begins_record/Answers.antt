@@ -2,8 +2,7 @@ use Rattle.std.proofs.Common.{arith, ◌≡◌, ◌<◌, ◌≤◌, ◌+◌, ◌
 use Rattle.std.proofs.lemmas.Bool.{eq-eqb, ne_eqb}
 use Rattle.std.proofs.lemmas.List.{length-take-le, drop_all}
 use Rattle.jc_words.specs.Layout.{top_address}
-use Rattle.jc_heap.specs.Cut.{records_from}
-use Rattle.jc_heap.specs.Table.{has_entry}
+use Rattle.jc_heap.specs.Walk.{records_from, has_entry}
 use Rattle.jc_heap.specs.Image.{image, package_addresses, sizes}
 use Rattle.jc_heap.proofs.Following.{step_fits, step_whole, step_cut}
 use Rattle.jc_heap.proofs.walk.begins_record.Goals as goal

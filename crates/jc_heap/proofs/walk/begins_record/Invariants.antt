@@ -1,8 +1,7 @@
 -- What is left of the walk has the answer, and it is whole.
 use Rattle.std.proofs.Common.{◌≡◌, ◌≤◌, ◌-◌, drop}
 use Rattle.jc_words.specs.Layout.{text_start}
-use Rattle.jc_heap.specs.Cut.{records_from, missing_words}
-use Rattle.jc_heap.specs.Table.{has_entry}
+use Rattle.jc_heap.specs.Walk.{records_from, missing_words, has_entry}
 use Rattle.jc_heap.specs.Image.{image, package_addresses, sizes}
 use Rattle.jc_heap.proofs.walk.begins_record.Given as goal
 

@@ -1,7 +1,7 @@
 use Rattle.std.proofs.Common.{arith, length, ◌≡◌, ◌<◌, ◌+◌, ◌∙◌, ap, sym, get_or, true, slice_index}
 use Rattle.jc_words.specs.Layout.{top_address}
 use Rattle.jc_image.specs.Steps.{item_from}
-use Rattle.jc_heap.specs.Whole.{lies_in, cells_in}
+use Rattle.jc_heap.specs.WholeHeap.{lies_in, cells_in}
 use Rattle.jc_heap.proofs.Views.{readable}
 use Rattle.jc_image.proofs.Filling.{lies_within, lies_place, lies_cells}
 use Rattle.jc_image.proofs.areas.place_behind.Goals as goal

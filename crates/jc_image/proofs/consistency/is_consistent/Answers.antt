@@ -2,7 +2,7 @@ use Rattle.std.proofs.Common.{◌≤◌, ◌∙◌, sym}
 use Rattle.std.proofs.lemmas.Bool.{false≢true}
 use Rattle.jc_words.specs.Layout.{most_packages, most_applets}
 use Rattle.jc_heap.specs.Heap.{heap_of}
-use Rattle.jc_heap.specs.Whole.{AreAllocated, AreRecords, AreDistinct}
+use Rattle.jc_heap.specs.WholeHeap.{AreAllocated, AreRecords, AreDistinct}
 use Rattle.jc_image.proofs.consistency.is_consistent.Goals as goal
 
 pub returns-then-not-mark_records-clause-exact : goal.returns-then-not-mark_records-clause-exact

@@ -1,6 +1,6 @@
 use Rattle.jc_image.proofs.Sealing.{holds_sealed, holds_unsealed, settled_outside}
 use Rattle.std.proofs.Common.{◌∙◌, ap}
-use Rattle.jc_heap.specs.Stored.{HoldsHeap}
+use Rattle.jc_heap.specs.Heap.Store.{HoldsHeap}
 use Rattle.jc_image.specs.Laying.{first_words_of, sealed_view}
 use Rattle.jc_image.proofs.NewFronts.{front-words}
 use Rattle.jc_image.proofs.laying.seal.Goals as goal

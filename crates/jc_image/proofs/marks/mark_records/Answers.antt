@@ -3,7 +3,7 @@ use Rattle.std.proofs.lemmas.List.{length-set}
 use Rattle.std.proofs.lemmas.Bool.{false≢true}
 use Rattle.jc_transient.specs.declared.cell.ClearEvent.TheVariants.{Reset, Deselect}
 use Rattle.jc_heap.specs.Heap.{heap_of, area_end, area_limit}
-use Rattle.jc_heap.specs.Table.{has_entry}
+use Rattle.jc_heap.specs.Walk.{has_entry}
 use Rattle.jc_image.specs.Steps.{items_from, item_from}
 use Rattle.jc_heap.proofs.AreaRuns.{Run, run_of}
 use Rattle.jc_image.proofs.Stepping.{first_items, first_missing, missing_from, cut_short, laid_at_top, step_missing, nothing_from}

@@ -2,7 +2,7 @@ use Rattle.std.proofs.Common.{arith, ◌≡◌, ◌<◌, ◌≤◌, ◌∙◌, a
 use Rattle.std.proofs.lemmas.Bool.{false≢true}
 use Rattle.jc_words.specs.Layout.{packages_address}
 use Rattle.jc_commit.specs.Image.{IsReadable}
-use Rattle.jc_heap.specs.Components.{record_of}
+use Rattle.jc_heap.specs.Component.{record_of}
 use Rattle.jc_heap.specs.Heap.{heap_of}
 use Rattle.jc_image.proofs.PackageTable.{table_long, table_short, table_word, table_readable, record_long, record_readable, below_or_at}
 use Rattle.jc_image.proofs.package_table.are_records.Goals as goal

@@ -1,5 +1,5 @@
 use Rattle.std.proofs.Common.{ℕ, ◌<◌, ◌≤◌, length, slice_index}
-use Rattle.jc_heap.specs.Components.{record_of}
+use Rattle.jc_heap.specs.Component.{record_of}
 use Rattle.jc_heap.specs.Heap.{heap_of}
 use Rattle.jc_image.proofs.package_table.are_records.Given as goal
 

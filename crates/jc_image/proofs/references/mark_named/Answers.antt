@@ -6,7 +6,7 @@ use Rattle.jc_heap.specs.Heap.{heap_of}
 use Rattle.jc_image.specs.Steps.{item_from, AreReferences}
 use Rattle.jc_heap.specs.Object.{kind_number}
 use Rattle.jc_heap.specs.declared.object.Kind.TheVariants.{ReferenceArray}
-use Rattle.jc_heap.specs.Whole.{IsReference, HoldsReferences}
+use Rattle.jc_heap.specs.WholeHeap.{IsReference, HoldsReferences}
 use Rattle.jc_heap.proofs.Views.{readable}
 use Rattle.jc_image.proofs.PackageTable.{below_or_at}
 use Rattle.jc_image.proofs.Stepping.{header_within}

@@ -1,7 +1,7 @@
 -- What was marked before, and the cells before the index, are references just if all that is marked is.
 use Rattle.std.proofs.Common.{ℕ, ◌≡◌, ◌<◌, ◌≤◌, ◌+◌, ◌↔◌, false, length, get_or, slice_index}
 use Rattle.jc_heap.specs.Heap.{heap_of}
-use Rattle.jc_heap.specs.Whole.{IsReference}
+use Rattle.jc_heap.specs.WholeHeap.{IsReference}
 use Rattle.jc_image.specs.Steps.{AreReferences}
 use Rattle.jc_image.proofs.references.mark_named.Given as goal
 

@@ -1,5 +1,5 @@
 use Rattle.std.proofs.Common.{◌-◌, arith, sym, ◌∙◌, ap}
-use Rattle.jc_interp.specs.Stepping.{code_of}
+use Rattle.jc_interp.specs.Step.{code_of}
 use Rattle.jc_interp.proofs.Advances.{goes_on, pauses, used_up}
 use Rattle.jc_interp.proofs.frames_only.run_in_frames.Goals as goal
 

@@ -4,8 +4,8 @@ use Rattle.jc_linker.specs.Values.{Packages}
 use Rattle.jc_memory.specs.State.{MemoryState}
 use Rattle.jc_interp.specs.declared.attacks.Attack.{Attack}
 use Rattle.jc_interp.specs.Attacks.{IsAway}
-use Rattle.jc_interp.specs.Stepping.{code_of}
-use Rattle.jc_interp.specs.Running.{run_of}
+use Rattle.jc_interp.specs.Step.{code_of}
+use Rattle.jc_interp.specs.Run.{run_of}
 use Rattle.jc_interp.proofs.frames_only.run_in_frames.Given as goal
 
 abbrev pub invariant-loop-turns : goal.invariant-loop-turns

@@ -1,6 +1,6 @@
 -- What ends so from here, with what is left of the attack, ends so from the beginning.
 use Rattle.std.proofs.Common.{◌≡◌, ◌≤◌}
-use Rattle.jc_interp.specs.Running.{Continues}
+use Rattle.jc_interp.specs.Run.{Continues}
 use Rattle.jc_interp.proofs.Struck.{fault_count}
 use Rattle.jc_interp.proofs.run.run_attacked.Given as goal
 

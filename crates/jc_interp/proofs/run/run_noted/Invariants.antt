@@ -2,7 +2,7 @@
 use Rattle.std.proofs.Common.{◌≡◌, ◌+◌, ◌-◌, Option}
 use Rattle.jc_interp.specs.declared.attacks.Attack.{Attack}
 use Rattle.jc_interp.specs.Attacks.{IsAway}
-use Rattle.jc_interp.specs.Running.{Continues}
+use Rattle.jc_interp.specs.Run.{Continues}
 use Rattle.jc_interp.proofs.run.run_noted.Given as goal
 
 abbrev pub invariant-loop-turns : goal.invariant-loop-turns

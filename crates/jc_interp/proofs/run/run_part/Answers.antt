@@ -3,7 +3,7 @@ use Rattle.jc_heap.specs.Completions.{Completed, Torn}
 use Rattle.jc_memory.proofs.ProgramLemmas.{down_did}
 use Rattle.jc_frames.specs.declared.outcome.Outcome.TheVariants.{Fault}
 use Rattle.jc_frames.specs.Frames.{GoesOn, Ends}
-use Rattle.jc_interp.specs.Stepping.{code_of}
+use Rattle.jc_interp.specs.Step.{code_of}
 use Rattle.jc_interp.specs.PausedSteps.{step_rest}
 use Rattle.jc_interp.proofs.Advances.{away_fewer}
 use Rattle.jc_interp.proofs.Runs.{run_cut, run_ended, run_thrown, run_more}

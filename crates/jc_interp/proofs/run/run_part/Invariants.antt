@@ -1,8 +1,8 @@
 use Rattle.std.proofs.Common.{◌≡◌, ◌<◌, ◌≤◌, ◌+◌, ◌^◌, length, false, Option}
 use Rattle.jc_interp.specs.declared.attacks.Attack.{Attack}
 use Rattle.jc_interp.specs.Attacks.{IsAway}
-use Rattle.jc_interp.specs.Stepping.{code_of}
-use Rattle.jc_interp.specs.Running.{Continues}
+use Rattle.jc_interp.specs.Step.{code_of}
+use Rattle.jc_interp.specs.Run.{Continues}
 use Rattle.jc_interp.proofs.run.run_part.Given as goal
 
 abbrev pub invariant-loop-rest : goal.invariant-loop-rest

@@ -2,7 +2,7 @@ use Rattle.std.proofs.Common.{◌-◌, Ok, Some, ap, ◌∙◌, sym}
 use Rattle.jc_heap.specs.Completions.{Completed}
 use Rattle.jc_frames.specs.declared.outcome.Outcome.TheVariants.{Fault}
 use Rattle.jc_interp.specs.Attacks.{faulted}
-use Rattle.jc_interp.specs.Stepping.{code_of}
+use Rattle.jc_interp.specs.Step.{code_of}
 use Rattle.jc_interp.proofs.Struck.{on_from_struck, struck, struck_ends, up_to}
 use Rattle.jc_interp.proofs.run.run_to_fault.Goals as goal
 

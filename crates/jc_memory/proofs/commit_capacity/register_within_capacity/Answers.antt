@@ -1,5 +1,5 @@
 use Rattle.std.proofs.Common.{arith}
-use Rattle.jc_heap.specs.Places.{applet_changes}
+use Rattle.jc_heap.specs.Place.{applet_changes}
 use Rattle.jc_heap.specs.Moves.{applet_move, refusal_of_applet}
 use Rattle.jc_memory.proofs.Room.{changes_left, cut_applet, has_room}
 use Rattle.jc_memory.proofs.commit_capacity.register_within_capacity.Goals as goal

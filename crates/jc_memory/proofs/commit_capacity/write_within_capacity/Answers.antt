@@ -1,6 +1,6 @@
 use Rattle.std.proofs.Common.{arith}
 use Rattle.jc_heap.specs.Moves.{refusal_of_places}
-use Rattle.jc_heap.specs.Places.{places_of}
+use Rattle.jc_heap.specs.Place.{places_of}
 use Rattle.jc_memory.proofs.Room.{changes_left, cut_change, has_room}
 use Rattle.jc_memory.proofs.commit_capacity.write_within_capacity.Goals as goal
 

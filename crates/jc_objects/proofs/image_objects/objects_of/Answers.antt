@@ -1,7 +1,7 @@
 use Rattle.std.proofs.Common.{◌∙◌, ℕ, List, ap, sym, subst, arith}
 use Rattle.std.proofs.lemmas.Bool.{false≢true}
 use Rattle.std.proofs.lemmas.Result.{err_from_is_err_and}
-use Rattle.jc_words.specs.Stores.{MemStoreValue}
+use Rattle.jc_words.specs.Store.{MemStoreValue}
 use Rattle.jc_commit.specs.Image.{recovered_of}
 use Rattle.jc_platform.specs.Tokens.{Tokens}
 use Rattle.jc_objects.specs.ImageObjects.{IsImage, IsWhole}

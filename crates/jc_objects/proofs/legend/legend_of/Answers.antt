@@ -2,7 +2,7 @@ use Rattle.std.proofs.Common.{◌∙◌, sym, subst, None, Option}
 use Rattle.std.proofs.lemmas.Result.{IfOk-weaker}
 use Rattle.jc_linker.specs.Values.{Packages}
 use Rattle.jc_platform.specs.Tokens.{Tokens}
-use Rattle.jc_objects.specs.Legends.{ArePackagesIn, IsLegend}
+use Rattle.jc_objects.specs.Legend.{ArePackagesIn, IsLegend}
 use Rattle.jc_objects.proofs.Opened.{none_found}
 use Rattle.jc_objects.proofs.legend.legend_of.Goals as goal
 

@@ -1,4 +1,4 @@
-use Rattle.jc_heap.specs.Components.{record_of}
+use Rattle.jc_heap.specs.Component.{record_of}
 use Rattle.jc_packages.specs.Reading.{load_of}
 use Rattle.jc_packages.proofs.Assembled.{added_is, nothing_is}
 use Rattle.jc_packages.proofs.reading.add_record.Goals as goal

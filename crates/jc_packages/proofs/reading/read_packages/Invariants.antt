@@ -1,5 +1,5 @@
 use Rattle.std.proofs.Common.{◌≡◌, map, drop}
-use Rattle.jc_heap.specs.Components.{record_of}
+use Rattle.jc_heap.specs.Component.{record_of}
 use Rattle.jc_packages.specs.Reading.{packages_of, with_records}
 use Rattle.jc_packages.proofs.reading.read_packages.Given as goal
 

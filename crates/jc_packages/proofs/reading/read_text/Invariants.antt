@@ -1,6 +1,6 @@
 use Rattle.std.proofs.Common.{◌≡◌, ◌∷◌, ◌/◌, ◌%◌, map, drop}
 use Rattle.std.specs.List.{range_with_len}
-use Rattle.jc_heap.specs.Components.{record_of}
+use Rattle.jc_heap.specs.Component.{record_of}
 use Rattle.jc_heap.specs.Packed.{packed_byte}
 use Rattle.jc_packages.proofs.reading.read_text.Given as goal
 

@@ -1,5 +1,5 @@
 use Rattle.std.proofs.Common.{ap, arith, drop, length}
-use Rattle.jc_heap.specs.Components.{record_of}
+use Rattle.jc_heap.specs.Component.{record_of}
 use Rattle.jc_heap.proofs.PackedBytes.{length-bytes_of_packed}
 use Rattle.jc_packages.proofs.reading.take_text.Goals as goal
 

@@ -1,6 +1,6 @@
 use Rattle.std.proofs.Common.{◌≡◌, ◌∙◌, ap, Err}
 use Rattle.std.proofs.lemmas.Result.{err_from_is_err_and}
-use Rattle.jc_heap.specs.Components.{record_of}
+use Rattle.jc_heap.specs.Component.{record_of}
 use Rattle.jc_packages.specs.declared.fault.ReadFault.TheVariants.{Damaged}
 use Rattle.jc_packages.specs.Reading.{text_in, text_taken}
 use Rattle.jc_packages.proofs.NoPackages.{no_header, no_directory, no_applets, no_imports, no_pool, no_classes, no_methods, no_statics, no_exports}

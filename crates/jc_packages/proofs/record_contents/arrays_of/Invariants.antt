@@ -1,5 +1,5 @@
 use Rattle.std.proofs.Common.{◌≡◌, ◌++◌, map, length}
-use Rattle.jc_heap.specs.Packages.{AreArrays, array_inits}
+use Rattle.jc_heap.specs.Package.{AreArrays, array_inits}
 use Rattle.jc_packages.specs.RecordContents.{array_of}
 use Rattle.jc_packages.proofs.record_contents.arrays_of.Given as goal
 

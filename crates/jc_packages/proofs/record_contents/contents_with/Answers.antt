@@ -2,7 +2,7 @@ use Rattle.std.proofs.Common.{◌≡◌, ◌+◌, ◌*◌, ◌≤◌, ◌++◌, 
 use Rattle.std.proofs.lemmas.List.{length-map, length-replicate}
 use Rattle.jc_cap.specs.StaticValues.{StaticParts}
 use Rattle.jc_cap.specs.StaticViews.{static_parts}
-use Rattle.jc_heap.specs.Packages.{AreComponents, array_inits, parts}
+use Rattle.jc_heap.specs.Package.{AreComponents, array_inits, parts}
 use Rattle.jc_packages.specs.RecordContents.{array_of, arrays_of, image_of, parts_of, statics_of, zeros_of}
 use Rattle.jc_packages.proofs.Fit.{parts_fit}
 use Rattle.jc_packages.proofs.StaticCells.{few_arrays, image_adds_up}

@@ -1,5 +1,5 @@
 use Rattle.std.proofs.Common.{◌≡◌, subst, sym}
-use Rattle.jc_cap.specs.KnownPackages.{IsPackage}
+use Rattle.jc_cap.specs.Assembling.{IsPackage}
 use Rattle.jc_cap.specs.Views.{package_contents}
 use Rattle.jc_cap.specs.StaticViews.{static_parts}
 use Rattle.jc_packages.specs.RecordContents.{statics_of}

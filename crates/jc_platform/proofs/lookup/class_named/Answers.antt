@@ -4,7 +4,7 @@ use Rattle.std.specs.Str.{bytes_eq}
 use Rattle.std.proofs.lemmas.Iterator.{YieldsList-from_slice}
 use Rattle.std.proofs.lemmas.Iterator.Search.{find_from_yields_List}
 use Rattle.jc_platform.specs.Names.{classes}
-use Rattle.jc_platform.specs.Seen.{class_value}
+use Rattle.jc_platform.specs.RowValues.{class_value}
 use Rattle.jc_platform.proofs.Lists.{found_through}
 use Rattle.jc_platform.proofs.lookup.class_named.Goals as goal
 

@@ -1,7 +1,7 @@
 use Rattle.std.proofs.Common.{◌≡◌, ◌≤◌, ◌+◌, length, get_or, ap, sym, ◌∙◌, arith}
 use Rattle.std.proofs.lemmas.List.{length-map}
 use Rattle.jc_platform.specs.Numbers.{class_count}
-use Rattle.jc_platform.specs.Seen.{class_value}
+use Rattle.jc_platform.specs.RowValues.{class_value}
 use Rattle.jc_platform.proofs.PackageClasses.{are_together, ends_within, firsts}
 use Rattle.jc_platform.proofs.Facts.{class_places}
 use Rattle.jc_platform.proofs.lookup.classes_of.Goals as goal

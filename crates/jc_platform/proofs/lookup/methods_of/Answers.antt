@@ -1,7 +1,7 @@
 use Rattle.std.proofs.Common.{◌≡◌, ◌≤◌, length, ap, sym, ◌∙◌, arith}
 use Rattle.std.proofs.lemmas.List.{length-map}
-use Rattle.jc_platform.specs.Rooms.{rows_of}
-use Rattle.jc_platform.specs.Seen.{method_value}
+use Rattle.jc_platform.specs.Lookup.{rows_of}
+use Rattle.jc_platform.specs.RowValues.{method_value}
 use Rattle.jc_platform.proofs.ClassMethods.{are_together, ends_within, stretch_of}
 use Rattle.jc_platform.proofs.lookup.methods_of.Goals as goal
 

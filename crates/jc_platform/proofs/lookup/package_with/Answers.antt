@@ -4,7 +4,7 @@ use Rattle.std.specs.Str.{bytes_eq}
 use Rattle.std.proofs.lemmas.Iterator.{YieldsList-from_slice}
 use Rattle.std.proofs.lemmas.Iterator.Search.{find_from_yields_List}
 use Rattle.jc_platform.specs.Names.{packages}
-use Rattle.jc_platform.specs.Seen.{package_value}
+use Rattle.jc_platform.specs.RowValues.{package_value}
 use Rattle.jc_platform.proofs.Lists.{found_through}
 use Rattle.jc_platform.proofs.lookup.package_with.Goals as goal
 

@@ -3,10 +3,10 @@ use Rattle.std.specs.List.{position}
 use Rattle.std.specs.Option.{option_and_then}
 use Rattle.std.proofs.lemmas.Iterator.{YieldsList-from_slice}
 use Rattle.std.proofs.lemmas.Iterator.Search.{position_from_yields_List}
-use Rattle.jc_platform.specs.Distinct.{home_of}
+use Rattle.jc_platform.specs.NamePlaces.{home_of}
 use Rattle.jc_platform.specs.Numbers.{same_class}
 use Rattle.jc_platform.specs.Rows.{classes_of}
-use Rattle.jc_platform.specs.Seen.{class_value}
+use Rattle.jc_platform.specs.RowValues.{class_value}
 use Rattle.jc_platform.specs.Packing.{byte_place}
 use Rattle.jc_platform.proofs.Places.{placed_through}
 use Rattle.jc_platform.proofs.packed_entry.place_of_class.Goals as goal

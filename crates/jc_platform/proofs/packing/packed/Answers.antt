@@ -1,7 +1,7 @@
 use Rattle.std.proofs.Common.{◌≡◌, ◌<◌, ◌≤◌, None, Some, true, length, ap, arith, sym, ◌∙◌, rules, reverse}
 use Rattle.std.specs.Option.{option_map}
 use Rattle.std.proofs.lemmas.Bool.{false≢true}
-use Rattle.jc_platform.specs.Packed.{is_packed}
+use Rattle.jc_platform.specs.PackedEntry.{is_packed}
 use Rattle.jc_platform.specs.Table.{Spells}
 use Rattle.jc_platform.specs.Packing.{entries_of}
 use Rattle.jc_platform.proofs.PackedLines.{none_so, some_so}

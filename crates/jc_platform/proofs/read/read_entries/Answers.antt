@@ -1,6 +1,6 @@
 use Rattle.std.proofs.Common.{sym, ◌∙◌}
 use Rattle.jc_platform.specs.Reading.{above_of}
-use Rattle.jc_platform.specs.Packed.{entries}
+use Rattle.jc_platform.specs.PackedEntry.{entries}
 use Rattle.jc_platform.proofs.Lines.{after_part, are_entries, at_first, bad_part, bad_row, has_entries, read_as_entry}
 use Rattle.jc_platform.proofs.read.read_entries.Goals as goal
 

@@ -1,6 +1,6 @@
 use Rattle.std.proofs.Common.{length}
 use Rattle.jc_platform.specs.Reading.{above_of}
-use Rattle.jc_platform.specs.Packed.{entries}
+use Rattle.jc_platform.specs.PackedEntry.{entries}
 use Rattle.jc_platform.proofs.Lines.{IsReadTo}
 use Rattle.jc_platform.proofs.read.read_entries.Given as goal
 

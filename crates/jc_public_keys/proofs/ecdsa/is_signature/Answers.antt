@@ -1,5 +1,5 @@
 use Rattle.std.proofs.Common.{◌∙◌, ap}
-use Rattle.jc_public_keys.specs.EcdsaSignatures.{is_ecdsa_signature, on_curve, verified_on}
+use Rattle.jc_public_keys.specs.Ecdsa.{is_ecdsa_signature, on_curve, verified_on}
 use Rattle.jc_public_keys.proofs.ecdsa.is_signature.Goals as goal
 
 pub returns-in-Some : goal.returns-in-Some

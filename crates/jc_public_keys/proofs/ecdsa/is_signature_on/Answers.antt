@@ -3,7 +3,7 @@ use Rattle.std.proofs.Math.Facts.{Fits-lt-pow}
 use Rattle.std.proofs.lemmas.Bool.Decides.{same_from_decides}
 use Rattle.jc_numbers.specs.Numbers.{number_of_bytes}
 use Rattle.jc_curves.specs.Der.{IsSignatureEncoding}
-use Rattle.jc_public_keys.specs.EcdsaSignatures.{verified_on}
+use Rattle.jc_public_keys.specs.Ecdsa.{verified_on}
 use Rattle.jc_public_keys.proofs.SignaturesFound.{large, no_numbers, not_below, verifies}
 use Rattle.jc_public_keys.proofs.ecdsa.is_signature_on.Goals as goal
 use Rattle.jc_public_keys.proofs.ecdsa.is_signature_on.Goals.{then-r-most-via-then-r-most, then-r-most-via-else-r-most+then-s-most}

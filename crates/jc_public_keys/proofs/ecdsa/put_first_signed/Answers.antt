@@ -1,6 +1,6 @@
 use Rattle.std.proofs.Common.{◌∙◌, sym, arith}
 use Rattle.jc_numbers.specs.Numbers.{number_of_bytes}
-use Rattle.jc_public_keys.specs.EcdsaSignatures.{signed_at}
+use Rattle.jc_public_keys.specs.Ecdsa.{signed_at}
 use Rattle.jc_public_keys.proofs.Tries.{found_try, next_try, no_try}
 use Rattle.jc_public_keys.proofs.ecdsa.put_first_signed.Goals as goal
 

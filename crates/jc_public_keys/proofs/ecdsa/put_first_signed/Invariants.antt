@@ -1,6 +1,6 @@
 use Rattle.std.proofs.Common.{◌≡◌, ◌-◌}
 use Rattle.jc_numbers.specs.Numbers.{number_of_bytes}
-use Rattle.jc_public_keys.specs.EcdsaSignatures.{signed_at}
+use Rattle.jc_public_keys.specs.Ecdsa.{signed_at}
 use Rattle.jc_public_keys.specs.RandomNumbers.{first_of, first_try, tries}
 use Rattle.jc_public_keys.proofs.ecdsa.put_first_signed.Given as goal
 

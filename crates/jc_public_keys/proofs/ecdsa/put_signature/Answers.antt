@@ -1,7 +1,7 @@
 use Rattle.std.proofs.Common.{◌∙◌, ap}
 use Rattle.std.specs.Prelude.{option_and_then}
 use Rattle.jc_numbers.specs.Numbers.{number_of_bytes}
-use Rattle.jc_public_keys.specs.EcdsaSignatures.{ecdsa_signature, signed_at}
+use Rattle.jc_public_keys.specs.Ecdsa.{ecdsa_signature, signed_at}
 use Rattle.jc_public_keys.specs.RandomNumbers.{first_try}
 use Rattle.jc_public_keys.proofs.ecdsa.put_signature.Goals as goal
 

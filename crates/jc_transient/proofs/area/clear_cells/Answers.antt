@@ -1,6 +1,6 @@
 use Rattle.std.proofs.Common.{arith}
 use Rattle.std.proofs.lemmas.List.Edits.{map_over_more}
-use Rattle.jc_transient.specs.Cells.{default_value}
+use Rattle.jc_transient.specs.Cell.{default_value}
 use Rattle.jc_transient.proofs.area.clear_cells.Goals as goal
 
 pub loop-k-preserved : goal.loop-k-preserved

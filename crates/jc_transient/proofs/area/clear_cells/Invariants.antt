@@ -1,6 +1,6 @@
 -- The cells before the index are cleared.
 use Rattle.std.proofs.Common.{◌≡◌, ◌++◌, map, take, drop}
-use Rattle.jc_transient.specs.Cells.{default_value}
+use Rattle.jc_transient.specs.Cell.{default_value}
 use Rattle.jc_transient.proofs.area.clear_cells.Given as goal
 
 abbrev pub invariant-loop-k : goal.invariant-loop-k

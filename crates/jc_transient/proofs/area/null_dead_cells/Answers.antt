@@ -1,6 +1,6 @@
 use Rattle.std.proofs.Common.{arith}
 use Rattle.std.proofs.lemmas.List.Edits.{map_over_more}
-use Rattle.jc_transient.specs.Cells.{without_dead}
+use Rattle.jc_transient.specs.Cell.{without_dead}
 use Rattle.jc_transient.proofs.area.null_dead_cells.Goals as goal
 
 pub loop-k-preserved : goal.loop-k-preserved

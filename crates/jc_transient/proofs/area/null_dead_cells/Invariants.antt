@@ -1,6 +1,6 @@
 -- The dead references before the index are null.
 use Rattle.std.proofs.Common.{◌≡◌, ◌++◌, map, take, drop}
-use Rattle.jc_transient.specs.Cells.{without_dead}
+use Rattle.jc_transient.specs.Cell.{without_dead}
 use Rattle.jc_transient.proofs.area.null_dead_cells.Given as goal
 
 abbrev pub invariant-loop-k : goal.invariant-loop-k

@@ -1,6 +1,6 @@
 -- The bytes before the index are written.
 use Rattle.std.proofs.Common.{◌≡◌, map}
-use Rattle.jc_transient.specs.Cells.{number_of}
+use Rattle.jc_transient.specs.Cell.{number_of}
 use lib.Seq.{paste}
 use Rattle.jc_transient.proofs.area.write_bytes.Given as goal
 

@@ -3,7 +3,7 @@ use Rattle.std.proofs.lemmas.List.{drop_min}
 use Rattle.jcard_tear.specs.Runs.{IsRunFault, Runs}
 use Rattle.jcard_tear.specs.declared.runs.RunFault.TheVariants.{Script}
 use Rattle.jcard_attack.specs.Aftermaths.{in_probe, lines_counted}
-use Rattle.jcard_attack.proofs.Unswept.{probe_unfinished}
+use Rattle.jcard_attack.proofs.AttackFaults.{probe_unfinished}
 use Rattle.jcard_attack.proofs.aftermaths.probed.Goals as goal
 
 -- past the end of a list nothing more is dropped

@@ -1,7 +1,7 @@
 use Rattle.std.proofs.Common.{◌≡◌, ◌∙◌, ◌++◌, ◌∷◌, [], List, ℕ, ap, map}
 use Rattle.std.proofs.lemmas.List.{take_all}
 use Rattle.jcard_attack.specs.PartLines.{fault_line, fault_lines}
-use Rattle.jcard_attack.specs.Reports.{fault_told, told_by}
+use Rattle.jcard_attack.specs.Report.{fault_told, told_by}
 use Rattle.jcard_attack.proofs.PartWholes.{lines_next}
 use Rattle.jcard_attack.proofs.part_lines.push_lines.Goals as goal
 

@@ -1,6 +1,6 @@
 use Rattle.std.proofs.Common.{◌≡◌, ◌++◌, map, take}
 use Rattle.jcard_attack.specs.PartLines.{fault_lines}
-use Rattle.jcard_attack.specs.Reports.{fault_told}
+use Rattle.jcard_attack.specs.Report.{fault_told}
 use Rattle.jcard_attack.proofs.part_lines.push_lines.Given as goal
 
 abbrev pub invariant-loop-struck : goal.invariant-loop-struck

@@ -1,7 +1,7 @@
 use Rattle.std.proofs.Common.{◌≡◌, ◌∙◌, List, ℕ, Some, map, subst, sym}
 use Rattle.std.specs.Prelude.{option_map}
 use Rattle.jcard_outcomes.proofs.RowSteps.{rows_told}
-use Rattle.jcard_attack.specs.Reports.{FaultTold, fault_told, open_text, row_by, told_by}
+use Rattle.jcard_attack.specs.Report.{FaultTold, fault_told, open_text, row_by, told_by}
 use Rattle.jcard_attack.proofs.RowSteps.{GoesOn, rows_done, rows_next}
 use Rattle.jcard_attack.proofs.rows.push_rows.Goals as goal
 

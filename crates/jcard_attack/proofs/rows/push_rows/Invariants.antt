@@ -1,6 +1,6 @@
 use Rattle.std.proofs.Common.{◌≡◌, ◌++◌, drop, map}
 use Rattle.std.specs.Prelude.{option_map}
-use Rattle.jcard_attack.specs.Reports.{fault_told, row_by, rows_after, rows_text}
+use Rattle.jcard_attack.specs.Report.{fault_told, row_by, rows_after, rows_text}
 use Rattle.jcard_attack.proofs.rows.push_rows.Given as goal
 
 abbrev pub invariant-loop-struck : goal.invariant-loop-struck

@@ -1,7 +1,7 @@
 use Rattle.std.proofs.Common.{◌∙◌, Some, sym}
 use Rattle.std.specs.Prelude.{option_map}
 use Rattle.jcard_outcomes.proofs.RowSteps.{rows_told}
-use Rattle.jcard_attack.specs.Reports.{open_text, row_by, told_by}
+use Rattle.jcard_attack.specs.Report.{open_text, row_by, told_by}
 use Rattle.jcard_attack.proofs.RowSteps.{rows_done, rows_next_read}
 use Rattle.jcard_attack.proofs.rows.push_told_rows.Goals as goal
 

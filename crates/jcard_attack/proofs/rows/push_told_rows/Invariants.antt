@@ -1,6 +1,6 @@
 use Rattle.std.proofs.Common.{◌≡◌, ◌++◌, drop, map}
 use Rattle.std.specs.Prelude.{option_map}
-use Rattle.jcard_attack.specs.Reports.{told_by, row_by, rows_after, rows_text}
+use Rattle.jcard_attack.specs.Report.{told_by, row_by, rows_after, rows_text}
 use Rattle.jcard_attack.proofs.rows.push_told_rows.Given as goal
 
 abbrev pub invariant-loop-fault : goal.invariant-loop-fault

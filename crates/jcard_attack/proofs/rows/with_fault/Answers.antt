@@ -1,7 +1,7 @@
 use Rattle.std.proofs.Common.{◌∙◌, Some, None, ap, sym}
 use Rattle.std.specs.Prelude.{option_map}
 use Rattle.std.proofs.lemmas.Result.{IfOk-weaker}
-use Rattle.jcard_attack.specs.Reports.{row_by, told_by}
+use Rattle.jcard_attack.specs.Report.{row_by, told_by}
 use Rattle.jcard_attack.proofs.RowSteps.{row_begins, row_ends, row_grows}
 use Rattle.jcard_attack.proofs.rows.with_fault.Goals as goal
 

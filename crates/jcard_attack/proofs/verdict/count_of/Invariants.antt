@@ -1,5 +1,5 @@
 use Rattle.std.proofs.Common.{◌≡◌, ◌+◌, ◌≤◌, drop}
-use Rattle.jcard_attack.specs.Reports.{count_of}
+use Rattle.jcard_attack.specs.Report.{count_of}
 use Rattle.jcard_attack.proofs.verdict.count_of.Given as goal
 
 abbrev pub invariant-loop-struck : goal.invariant-loop-struck

@@ -1,5 +1,5 @@
 use Rattle.std.proofs.Common.{◌≡◌, drop}
-use Rattle.jcard_attack.specs.Reports.{first_of}
+use Rattle.jcard_attack.specs.Report.{first_of}
 use Rattle.jcard_attack.proofs.verdict.first_of.Given as goal
 
 abbrev pub invariant-loop-struck : goal.invariant-loop-struck

@@ -3,8 +3,8 @@ use Rattle.std.specs.Borrow.{Bor}
 use Rattle.jc_words.specs.Count.{failures_after}
 use Rattle.jcard_script.proofs.Known.{appends_same}
 use Rattle.jcard_arguments.specs.CommandLine.{SizeAsked, ToJoin, test_asked_by, text_of, texts_of}
-use Rattle.jcard_files.specs.NewImages.{IsNew}
-use Rattle.jcard_files.proofs.Unwritten.{new_unwritten}
+use Rattle.jcard_files.specs.NewImage.{IsNew}
+use Rattle.jcard_files.proofs.ImageEnds.{new_unwritten}
 use Rattle.jcard_commands.specs.Commands.{IsDone, IsTestWith, budget_of}
 use Rattle.jcard_commands.specs.Trial.{IsTrial}
 use Rattle.jcard_commands.proofs.run.act.Goals as goal

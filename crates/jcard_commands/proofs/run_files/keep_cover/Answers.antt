@@ -1,6 +1,6 @@
 use Rattle.std.proofs.Common.{◌∙◌, ap}
-use Rattle.jcard_files.specs.Faults.{is_unwritten}
-use Rattle.jcard_commands.proofs.Unwritten.{ended_unwritten}
+use Rattle.jcard_files.specs.Fault.{is_unwritten}
+use Rattle.jcard_commands.proofs.WriteFaults.{ended_unwritten}
 use Rattle.jcard_commands.proofs.run_files.keep_cover.Goals as goal
 
 pub returns-in-Some-clause-unwritten : goal.returns-in-Some-clause-unwritten

@@ -1,5 +1,5 @@
 use Rattle.std.proofs.Common.{refl}
-use Rattle.jcard_commands.proofs.Unwritten.{script_unwritten}
+use Rattle.jcard_commands.proofs.WriteFaults.{script_unwritten}
 use Rattle.jcard_commands.proofs.script_run.outcome_of.Goals as goal
 
 pub returns-in-Err-clause-outcome : goal.returns-in-Err-clause-outcome

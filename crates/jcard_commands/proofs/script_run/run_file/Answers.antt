@@ -1,7 +1,7 @@
 use Rattle.std.proofs.Common.{◌≡◌, ◌∙◌, inl, inr, List, [], ◌∷◌, Ok, Err, refl, ap, subst, sym}
 use Rattle.jcard_script.proofs.Known.{appends_same}
 use Rattle.jc_words.specs.Count.{failures_after}
-use Rattle.jc_words.specs.Stores.{below_fuse, store_value}
+use Rattle.jc_words.specs.Store.{below_fuse, store_value}
 use Rattle.jcard_files.specs.FileDeeds.{FileDeed, ClosesImage, OpensImage, ReadsText, fresh_store, untouched}
 use Rattle.jcard_commands.specs.ScriptRun.{IsCarriedOut}
 use Rattle.jcard_files.proofs.Stores.{fresh_under_fuse}

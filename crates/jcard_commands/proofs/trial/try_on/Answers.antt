@@ -9,7 +9,7 @@ use Rattle.jcard_commands.specs.ScriptRun.{IsCarriedOut}
 use Rattle.jcard_files.proofs.Stores.{fresh_under_fuse}
 use Rattle.jcard_commands.proofs.Trials.{not_tried}
 use Rattle.jcard_files.proofs.Effects.{unfailed, unopened_unwritten}
-use Rattle.jcard_files.proofs.Unwritten.{in_memory_unwritten}
+use Rattle.jcard_files.proofs.ImageEnds.{in_memory_unwritten}
 use Rattle.jcard_commands.proofs.trial.try_on.Goals as goal
 
 pub returns-in_err-file : goal.returns-in_err-file

@@ -7,7 +7,7 @@ use Rattle.jcard_files.specs.ImageSize.{IsNoExtent}
 use Rattle.jcard_files.specs.UsualTable.{IsNoPlatform, IsPlatform}
 use Rattle.jcard_arguments.specs.CommandLine.{text_of}
 use Rattle.jcard_files.proofs.Effects.{unfailed}
-use Rattle.jcard_files.proofs.Unwritten.{no_extent_unwritten, platform_unwritten}
+use Rattle.jcard_files.proofs.ImageEnds.{no_extent_unwritten, platform_unwritten}
 use Rattle.jcard_commands.proofs.trial.try_script.Goals as goal
 
 pub returns-in_err-extent : goal.returns-in_err-extent

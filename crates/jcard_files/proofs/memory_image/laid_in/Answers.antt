@@ -2,9 +2,9 @@ use Rattle.std.proofs.Common.{◌∙◌, Ok, Err, ap, false, length, subst, sym}
 use Rattle.std.specs.Prelude.{codes}
 use Rattle.std.proofs.lemmas.Bool.{false≢true}
 use Rattle.jc_words.specs.Refusals.{no_refusals}
-use Rattle.jc_words.specs.Stores.{MemStoreValue}
+use Rattle.jc_words.specs.Store.{MemStoreValue}
 use Rattle.jc_card.specs.Formatting.{Formats}
-use Rattle.jcard_files.specs.NewImages.{IsNewImageOf}
+use Rattle.jcard_files.specs.NewImage.{IsNewImageOf}
 use Rattle.jcard_files.proofs.NewImages.{laid_new, not_in_memory}
 use Rattle.jcard_files.proofs.memory_image.laid_in.Goals as goal
 

@@ -1,7 +1,7 @@
 use Rattle.std.proofs.Common.{◌∙◌, Ok, Err, ap, length, refl, subst}
 use Rattle.jc_words.specs.Count.{saturating_count}
 use Rattle.jc_words.specs.Refusals.{Refusals}
-use Rattle.jc_words.specs.Stores.{store_value}
+use Rattle.jc_words.specs.Store.{store_value}
 use Rattle.jc_words.proofs.Refusals.{count-refused_once}
 use Rattle.jc_card.specs.Formatting.{Formats}
 use Rattle.jcard_files.specs.FileDeeds.{untouched}

@@ -1,8 +1,8 @@
 use Rattle.std.proofs.Common.{◌≡◌, ◌∙◌, List, [], ◌∷◌, Ok, refl, subst, ap, inr, length}
 use Rattle.std.proofs.lemmas.List.{length-replicate}
-use Rattle.jc_words.specs.Stores.{store_value}
+use Rattle.jc_words.specs.Store.{store_value}
 use Rattle.jcard_files.specs.FileDeeds.{FileDeed, ClosesImage, MakesImage}
-use Rattle.jcard_files.specs.NewImages.{IsLaid}
+use Rattle.jcard_files.specs.NewImage.{IsLaid}
 use Rattle.jcard_files.proofs.new_image.make_from.Goals as goal
 
 pub returns-in-Ok-make_image : goal.returns-in-Ok-make_image

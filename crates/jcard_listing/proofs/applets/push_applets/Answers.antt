@@ -3,7 +3,7 @@ use Rattle.std.proofs.lemmas.Result.{err_from_is_err_and}
 use Rattle.std.specs.Prelude.{slice_index}
 use Rattle.jc_words.specs.Layout.{applets_address}
 use Rattle.jcard_listing.specs.Applets.{applet_lines}
-use Rattle.jcard_listing.proofs.Listed.{next_listed, next_stopped, none_listed}
+use Rattle.jcard_listing.proofs.LineLists.{next_listed, next_stopped, none_listed}
 use Rattle.jcard_listing.proofs.applets.push_applets.Goals as goal
 
 pub loop-i-init : goal.loop-i-init

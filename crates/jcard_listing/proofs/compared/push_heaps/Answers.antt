@@ -5,7 +5,7 @@ use Rattle.jcard_listing.specs.Compared.{compared_lines}
 use Rattle.jcard_listing.specs.Fault.{Lists}
 use Rattle.jcard_listing.specs.Pairs.{end_lines, lines_of}
 use Rattle.jcard_listing.specs.declared.pairs.Side.TheVariants.{One, Other}
-use Rattle.jcard_listing.proofs.Differing.{text_then}
+use Rattle.jcard_listing.proofs.ImageDifferences.{text_then}
 use Rattle.jcard_listing.proofs.compared.push_heaps.Goals as goal
 
 pub returns : goal.returns

@@ -1,9 +1,9 @@
 use Rattle.std.proofs.Common.{◌≡◌, ◌∙◌, List, ℕ, ap, inr, refl, subst}
 use Rattle.jcard_listing.specs.Differences.{content_lines}
 use Rattle.jcard_listing.specs.Fault.{Lists}
-use Rattle.jcard_listing.specs.Images.{ListedImage, image_of}
+use Rattle.jcard_listing.specs.Image.{ListedImage, image_of}
 use Rattle.jcard_listing.specs.declared.shown.Shown.{Shown}
-use Rattle.jcard_listing.proofs.Differing.{content_by, no_other_table}
+use Rattle.jcard_listing.proofs.ImageDifferences.{content_by, no_other_table}
 use Rattle.jcard_listing.proofs.differences.push_beside_image.Goals as goal
 
 pub returns-in-Ok : goal.returns-in-Ok

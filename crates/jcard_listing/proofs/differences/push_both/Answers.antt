@@ -2,7 +2,7 @@ use Rattle.std.proofs.Common.{◌≡◌, ◌∙◌, ◌++◌, List, ℕ, ap, ap�
 use Rattle.jcard_listing.specs.InventoryLines.{Lines}
 use Rattle.jcard_listing.specs.Differences.{both_lines}
 use Rattle.jcard_listing.specs.Fault.{Lists}
-use Rattle.jcard_listing.specs.Images.{hiding, keys_in}
+use Rattle.jcard_listing.specs.Image.{hiding, keys_in}
 use Rattle.jcard_listing.proofs.differences.push_both.Goals as goal
 
 pub returns : goal.returns

@@ -1,9 +1,9 @@
 use Rattle.std.proofs.Common.{List, ℕ, Some, subst, sym}
 use Rattle.jcard_listing.specs.Differences.{IsContentTold}
-use Rattle.jcard_listing.specs.Images.{ListedImage}
+use Rattle.jcard_listing.specs.Image.{ListedImage}
 use Rattle.jcard_listing.specs.Listing.{IsLegendOf}
 use Rattle.jcard_listing.specs.declared.shown.Shown.{Shown}
-use Rattle.jcard_listing.proofs.Differing.{no_table}
+use Rattle.jcard_listing.proofs.ImageDifferences.{no_table}
 use Rattle.jcard_listing.proofs.differences.push_content.Goals as goal
 
 pub push_beside_image-requires-clause-legend : goal.push_beside_image-requires-clause-legend

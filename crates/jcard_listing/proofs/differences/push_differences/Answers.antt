@@ -1,7 +1,7 @@
 use Rattle.std.proofs.Common.{List, ℕ}
 use Rattle.std.proofs.lemmas.Result.{err_from_is_err_and}
 use Rattle.jc_objects.proofs.HeapBounds.{bounded}
-use Rattle.jcard_listing.proofs.Differing.{areas_untold, content_told, first_bounds, other_bounds}
+use Rattle.jcard_listing.proofs.ImageDifferences.{areas_untold, content_told, first_bounds, other_bounds}
 use Rattle.jcard_listing.proofs.differences.push_differences.Goals as goal
 
 pub push_content-requires-clause-bounds : goal.push_content-requires-clause-bounds

@@ -3,7 +3,7 @@ use Rattle.std.proofs.lemmas.Result.{err_from_is_err_and}
 use Rattle.jcard_listing.specs.InventoryLines.{Lines, then_lines}
 use Rattle.jcard_listing.specs.Compared.{heap_lines}
 use Rattle.jcard_listing.specs.Differences.{named_lines, placed_lines}
-use Rattle.jcard_listing.proofs.Listed.{lists_stopped, lists_then}
+use Rattle.jcard_listing.proofs.LineLists.{lists_stopped, lists_then}
 use Rattle.jcard_listing.proofs.differences.push_lines.Goals as goal
 
 pub returns-in_err-push_named : goal.returns-in_err-push_named

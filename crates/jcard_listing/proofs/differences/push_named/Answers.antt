@@ -3,7 +3,7 @@ use Rattle.std.proofs.lemmas.Result.{err_from_is_err_and}
 use Rattle.jcard_listing.specs.InventoryLines.{Lines, then_lines}
 use Rattle.jcard_listing.specs.Parts.{part_lines}
 use Rattle.jcard_listing.specs.declared.parts.Part.TheVariants.{Sizes, Packages, Applets}
-use Rattle.jcard_listing.proofs.Listed.{lists_stopped, lists_then}
+use Rattle.jcard_listing.proofs.LineLists.{lists_stopped, lists_then}
 use Rattle.jcard_listing.proofs.differences.push_named.Goals as goal
 
 pub returns-in_err-push_part : goal.returns-in_err-push_part

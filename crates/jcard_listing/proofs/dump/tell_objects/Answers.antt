@@ -1,7 +1,7 @@
 use Rattle.std.proofs.Common.{◌++◌, ◌∙◌, List, ℕ, ap, inl, inr, refl, subst}
 use Rattle.std.specs.Io.KnownBytes.{Appends}
 use Rattle.jc_words.specs.Count.{failures_after}
-use Rattle.jcard_files.specs.Faults.{is_unwritten}
+use Rattle.jcard_files.specs.Fault.{is_unwritten}
 use Rattle.jcard_script.proofs.Known.{appends_then_appends}
 use Rattle.jcard_listing.specs.Inventory.{dump_text}
 use Rattle.jcard_listing.proofs.dump.tell_objects.Goals as goal

@@ -2,7 +2,7 @@ use Rattle.std.proofs.Common.{arith}
 use Rattle.std.proofs.lemmas.Result.{err_from_is_err_and}
 use Rattle.jc_commit.specs.Image.{count_of}
 use Rattle.jcard_listing.specs.Entries.{entry_lines}
-use Rattle.jcard_listing.proofs.Listed.{next_listed, next_stopped, none_listed}
+use Rattle.jcard_listing.proofs.LineLists.{next_listed, next_stopped, none_listed}
 use Rattle.jcard_listing.proofs.entries.push_entries.Goals as goal
 
 pub loop-i-init : goal.loop-i-init

@@ -4,7 +4,7 @@ use Rattle.jcard_listing.specs.InventoryLines.{Lines}
 use Rattle.jcard_listing.specs.Fault.{Lists}
 use Rattle.jcard_listing.specs.Listing.{tables_lines}
 use Rattle.jcard_listing.specs.Objects.{objects_lines}
-use Rattle.jcard_listing.proofs.Listed.{lists_stopped, lists_then}
+use Rattle.jcard_listing.proofs.LineLists.{lists_stopped, lists_then}
 use Rattle.jcard_listing.proofs.listing.push_contents.Goals as goal
 
 pub returns-in_err-push_tables : goal.returns-in_err-push_tables

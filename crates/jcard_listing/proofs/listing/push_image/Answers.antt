@@ -1,6 +1,6 @@
 use Rattle.std.proofs.Common.{◌≡◌, ◌∙◌, ap, subst}
 use Rattle.jcard_listing.specs.Fault.{Lists}
-use Rattle.jcard_listing.specs.Images.{ListedImage, hiding, keys_in}
+use Rattle.jcard_listing.specs.Image.{ListedImage, hiding, keys_in}
 use Rattle.jcard_listing.specs.Listing.{image_lines}
 use Rattle.jcard_listing.proofs.listing.push_image.Goals as goal
 

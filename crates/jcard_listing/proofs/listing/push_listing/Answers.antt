@@ -2,7 +2,7 @@ use Rattle.std.proofs.Common.{subst}
 use Rattle.std.proofs.lemmas.Result.{err_from_is_err_and}
 use Rattle.jc_objects.proofs.HeapBounds.{bounded}
 use Rattle.jcard_listing.specs.Fault.{Lists}
-use Rattle.jcard_listing.specs.Images.{ListedImage}
+use Rattle.jcard_listing.specs.Image.{ListedImage}
 use Rattle.jcard_listing.specs.Listing.{shown_lines}
 use Rattle.jcard_listing.proofs.Listings.{areas_told, areas_untold, contents_told, table_untold}
 use Rattle.jcard_listing.proofs.listing.push_listing.Goals as goal

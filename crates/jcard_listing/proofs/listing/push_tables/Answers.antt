@@ -8,7 +8,7 @@ use Rattle.jcard_listing.specs.Applets.{applet_lines}
 use Rattle.jcard_listing.specs.Entries.{entry_lines}
 use Rattle.jcard_listing.specs.Fault.{each_line}
 use Rattle.jcard_listing.specs.Packages.{package_lines}
-use Rattle.jcard_listing.proofs.Listed.{lists_stopped, lists_then}
+use Rattle.jcard_listing.proofs.LineLists.{lists_stopped, lists_then}
 use Rattle.jcard_listing.proofs.listing.push_tables.Goals as goal
 
 pub returns-in_err-push_entries : goal.returns-in_err-push_entries

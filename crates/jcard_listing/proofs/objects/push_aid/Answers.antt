@@ -1,6 +1,6 @@
 use Rattle.std.proofs.Common.{arith, ◌≡◌, ◌∙◌, ◌++◌, ap, List, ℕ}
 use Rattle.std.specs.Prelude.{codes}
-use Rattle.jcard_listing.specs.Images.{cells_in}
+use Rattle.jcard_listing.specs.Image.{cells_in}
 use Rattle.jcard_listing.specs.Objects.{aid_byte, byte_text}
 use Rattle.jcard_listing.specs.Texts.{each_text}
 use Rattle.jcard_listing.proofs.EachText.{text_begun, text_grown}

@@ -1,7 +1,7 @@
 use Rattle.std.proofs.Common.{arith, ◌≡◌, ◌∙◌, ◌++◌, ap, ap₂, List, ℕ}
 use Rattle.std.specs.Prelude.{codes}
 use Rattle.jc_objects.specs.declared.legend.Legend.{Legend}
-use Rattle.jcard_listing.specs.Images.{cells_in}
+use Rattle.jcard_listing.specs.Image.{cells_in}
 use Rattle.jcard_listing.specs.Objects.{cell_at, cell_text}
 use Rattle.jcard_listing.specs.Texts.{each_text}
 use Rattle.jcard_listing.proofs.EachText.{text_begun, text_grown}

@@ -1,6 +1,6 @@
 use Rattle.std.proofs.Common.{◌≡◌, ◌++◌}
 use Rattle.std.specs.Prelude.{codes}
-use Rattle.jcard_listing.specs.Images.{cells_in}
+use Rattle.jcard_listing.specs.Image.{cells_in}
 use Rattle.jcard_listing.specs.Objects.{cell_at}
 use Rattle.jcard_listing.specs.Texts.{each_text}
 use Rattle.jcard_listing.proofs.objects.push_cells.Given as goal

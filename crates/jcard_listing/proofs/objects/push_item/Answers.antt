@@ -2,7 +2,7 @@ use Rattle.std.proofs.Common.{◌≡◌, ◌∙◌, ◌++◌, [], Bool, List, �
 use Rattle.std.proofs.lemmas.Result.{on_ok_weaker}
 use Rattle.jc_heap.specs.Object.{cells_of}
 use Rattle.jc_objects.specs.Records.{item_at}
-use Rattle.jcard_listing.specs.Images.{cells_in}
+use Rattle.jcard_listing.specs.Image.{cells_in}
 use Rattle.jcard_listing.specs.Objects.{listed_text, object_text}
 use Rattle.jcard_listing.specs.declared.image.PlacedObject.{PlacedObject}
 use Rattle.jcard_listing.proofs.objects.push_item.Goals as goal

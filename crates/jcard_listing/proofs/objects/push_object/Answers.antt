@@ -1,6 +1,6 @@
 use Rattle.std.proofs.Common.{◌++◌, List, ℕ}
 use Rattle.std.specs.Prelude.{codes}
-use Rattle.jcard_listing.specs.Images.{cells_in}
+use Rattle.jcard_listing.specs.Image.{cells_in}
 use Rattle.jcard_listing.specs.Objects.{header_text, rest_text}
 use Rattle.jcard_listing.proofs.Chains.{push_behind}
 use Rattle.jcard_listing.proofs.objects.push_object.Goals as goal

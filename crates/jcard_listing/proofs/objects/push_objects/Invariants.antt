@@ -1,7 +1,7 @@
 use Rattle.std.proofs.Common.{◌≤◌, ◌-◌}
 use Rattle.jc_words.specs.Layout.{text_start}
 use Rattle.jcard_listing.specs.Objects.{item_text, objects_lines}
-use Rattle.jcard_listing.proofs.Listed.{IsTelling}
+use Rattle.jcard_listing.proofs.LineLists.{IsTelling}
 use Rattle.jcard_listing.proofs.ObjectLines.{lines_from}
 use Rattle.jcard_listing.proofs.objects.push_objects.Given as goal
 

@@ -4,7 +4,7 @@ use Rattle.jcard_listing.specs.Fault.{Lists}
 use Rattle.jcard_listing.specs.Packages.{lines_if, record_at}
 use Rattle.jcard_listing.specs.declared.fault.ListFault.TheVariants.{Unreadable}
 use Rattle.jcard_listing.specs.declared.packages.Record.{Record}
-use Rattle.jcard_listing.proofs.Listed.{lists_unread}
+use Rattle.jcard_listing.proofs.LineLists.{lists_unread}
 use Rattle.jcard_listing.proofs.PackageRecords.{IsPlaced, record_is}
 use Rattle.jcard_listing.proofs.packages.push_package.Goals as goal
 

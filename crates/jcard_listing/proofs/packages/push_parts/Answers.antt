@@ -1,5 +1,5 @@
 use Rattle.std.proofs.Common.{arith, refl, ◌≡◌, ◌<◌, ◌+◌, ◌-◌, ◌∙◌, ◌++◌, ap, sym, subst, get_or, length, take, drop, List, ℕ, Ok, Err, true}
-use Rattle.jc_heap.specs.Components.{words_for}
+use Rattle.jc_heap.specs.Component.{words_for}
 use Rattle.jc_objects.specs.Records.{record_size, record_words}
 use Rattle.jc_objects.proofs.HeapBounds.{bounds}
 use Rattle.jc_objects.proofs.ItemWords.{length-words}
@@ -7,7 +7,7 @@ use Rattle.jcard_listing.specs.InventoryLines.{Lines}
 use Rattle.jcard_listing.specs.Packages.{component_text, image_text, parts_lines}
 use Rattle.jcard_listing.specs.Fault.{Lists}
 use Rattle.jcard_listing.specs.declared.fault.ListFault.TheVariants.{Unreadable}
-use Rattle.jcard_listing.proofs.Listed.{IsTelling, lists_none, lists_unread, telling_more, telling_none, telling_then}
+use Rattle.jcard_listing.proofs.LineLists.{IsTelling, lists_none, lists_unread, telling_more, telling_none, telling_then}
 use Rattle.jcard_listing.proofs.PartLines.{bytes_some, component_step, image_step, image_words, lacks_words, part_word, parts_end, parts_from, parts_short}
 use Rattle.jcard_listing.proofs.packages.push_parts.Goals as goal
 

@@ -1,7 +1,7 @@
 use Rattle.std.proofs.Common.{◌≤◌, ◌-◌}
 use Rattle.jc_objects.specs.Records.{record_words}
 use Rattle.jcard_listing.specs.Packages.{parts_lines}
-use Rattle.jcard_listing.proofs.Listed.{IsTelling}
+use Rattle.jcard_listing.proofs.LineLists.{IsTelling}
 use Rattle.jcard_listing.proofs.PartLines.{parts_from}
 use Rattle.jcard_listing.proofs.packages.push_parts.Given as goal
 

@@ -1,11 +1,11 @@
 use Rattle.std.proofs.Common.{refl, subst, List, ℕ}
 use Rattle.std.specs.Prelude.{codes}
-use Rattle.jc_objects.specs.Legends.{static_references}
+use Rattle.jc_objects.specs.Legend.{static_references}
 use Rattle.jc_objects.specs.Records.{record_words}
 use Rattle.jcard_listing.specs.InventoryLines.{line}
 use Rattle.jcard_listing.specs.Fault.{Lists}
 use Rattle.jcard_listing.specs.Packages.{ended, head_text, parts_lines}
-use Rattle.jcard_listing.proofs.Listed.{lists_ended, lists_then}
+use Rattle.jcard_listing.proofs.LineLists.{lists_ended, lists_then}
 use Rattle.jcard_listing.proofs.packages.push_record.Goals as goal
 
 pub returns : goal.returns

@@ -1,6 +1,6 @@
 use Rattle.std.proofs.Common.{◌≡◌, ◌∙◌, ◌++◌, ap₂, List, ℕ}
 use Rattle.jcard_listing.specs.Pairs.{end_lines, pair_text}
-use Rattle.jcard_listing.proofs.Differing.{text_then}
+use Rattle.jcard_listing.proofs.ImageDifferences.{text_then}
 use Rattle.jcard_listing.proofs.pairs.push_pair.Goals as goal
 
 pub returns : goal.returns

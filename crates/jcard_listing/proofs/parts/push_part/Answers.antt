@@ -1,7 +1,7 @@
 use Rattle.std.proofs.Common.{List, ℕ, ◌∙◌, ap₂, arith}
 use Rattle.std.proofs.lemmas.Result.{err_from_is_err_and}
 use Rattle.jcard_listing.specs.Parts.{larger, pair_at, part_count}
-use Rattle.jcard_listing.proofs.Listed.{next_listed, next_stopped, none_listed}
+use Rattle.jcard_listing.proofs.LineLists.{next_listed, next_stopped, none_listed}
 use Rattle.jcard_listing.proofs.parts.push_part.Goals as goal
 
 pub loop-i-init : goal.loop-i-init

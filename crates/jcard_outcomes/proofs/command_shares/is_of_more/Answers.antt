@@ -1,6 +1,6 @@
 use Rattle.std.proofs.Common.{◌∙◌, ◌++◌, ap}
 use Rattle.jcard_outcomes.specs.CommandShares.{share_label}
-use Rattle.jcard_outcomes.specs.Parts.{numbered}
+use Rattle.jcard_outcomes.specs.Part.{numbered}
 use Rattle.jcard_outcomes.proofs.ShareLists.{of_more}
 use Rattle.jcard_outcomes.proofs.command_shares.is_of_more.Goals as goal
 

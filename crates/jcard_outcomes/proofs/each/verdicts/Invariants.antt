@@ -1,5 +1,5 @@
 use Rattle.std.proofs.Common.{◌≡◌, ◌++◌, drop}
-use Rattle.jcard_outcomes.specs.Reports.{verdicts_text}
+use Rattle.jcard_outcomes.specs.Report.{verdicts_text}
 use Rattle.jcard_outcomes.proofs.each.verdicts.Given as goal
 
 abbrev pub invariant-loop-sweep : goal.invariant-loop-sweep

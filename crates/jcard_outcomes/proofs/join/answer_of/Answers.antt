@@ -1,5 +1,5 @@
 use Rattle.std.proofs.Common.{◌∙◌, ◌++◌, ap, codes}
-use Rattle.jcard_outcomes.proofs.Told.{no_colon}
+use Rattle.jcard_outcomes.proofs.CutReports.{no_colon}
 use Rattle.jcard_outcomes.proofs.join.answer_of.Goals as goal
 
 pub returns-in_default : goal.returns-in_default

@@ -2,7 +2,7 @@ use Rattle.std.proofs.Common.{◌≡◌, ◌≤◌, List, ℕ, map, take, length
 use Rattle.std.specs.Borrow.{Bor}
 use Rattle.std.specs.List.{All}
 use Rattle.jcard_outcomes.specs.Join.{AreTold}
-use Rattle.jcard_outcomes.specs.Parts.{IsReadCut, told_cut}
+use Rattle.jcard_outcomes.specs.Part.{IsReadCut, told_cut}
 use Rattle.jcard_outcomes.specs.declared.standing.Cut.{Cut}
 use Rattle.jcard_outcomes.proofs.join.cuts_of.Given as goal
 

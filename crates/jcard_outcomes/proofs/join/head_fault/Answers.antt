@@ -1,6 +1,6 @@
 use Rattle.std.proofs.Common.{arith, ◌≡◌, ◌∙◌, ◌-◌, ◌++◌, ap, refl, sym}
-use Rattle.jcard_outcomes.specs.Parts.{line_text}
-use Rattle.jcard_outcomes.proofs.Dealt.{line_read}
+use Rattle.jcard_outcomes.specs.Part.{line_text}
+use Rattle.jcard_outcomes.proofs.LineOrder.{line_read}
 use Rattle.jcard_outcomes.proofs.join.head_fault.Goals as goal
 
 pub returns-then-number-parts : goal.returns-then-number-parts

@@ -1,5 +1,5 @@
 use Rattle.std.proofs.Common.{◌∙◌, ◌++◌, ap}
-use Rattle.jcard_outcomes.specs.Parts.{line_start}
+use Rattle.jcard_outcomes.specs.Part.{line_start}
 use Rattle.jcard_outcomes.proofs.Heads.{head_cut}
 use Rattle.jcard_outcomes.proofs.join.line_at.Goals as goal
 

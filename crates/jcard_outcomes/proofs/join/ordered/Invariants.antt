@@ -1,6 +1,6 @@
 use Rattle.std.proofs.Common.{List, ℕ, map}
 use Rattle.std.specs.Borrow.{Bor}
-use Rattle.jcard_outcomes.proofs.Dealt.{Reading}
+use Rattle.jcard_outcomes.proofs.LineOrder.{Reading}
 use Rattle.jcard_outcomes.proofs.join.ordered.Given as goal
 
 abbrev pub invariant-loop-number : goal.invariant-loop-number

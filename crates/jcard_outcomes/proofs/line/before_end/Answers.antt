@@ -1,5 +1,5 @@
 use Rattle.jcard_outcomes.proofs.Splits.{other}
-use Rattle.jcard_outcomes.proofs.Told.{ends_not, too_short_to_end}
+use Rattle.jcard_outcomes.proofs.CutReports.{ends_not, too_short_to_end}
 use Rattle.jcard_outcomes.proofs.line.before_end.Goals as goal
 
 pub returns : goal.returns

@@ -1,4 +1,4 @@
-use Rattle.jcard_outcomes.proofs.Told.{no_calls, only_calls}
+use Rattle.jcard_outcomes.proofs.CutReports.{no_calls, only_calls}
 use Rattle.jcard_outcomes.proofs.line.changed_of.Goals as goal
 
 pub returns-in-None : goal.returns-in-None

@@ -1,4 +1,4 @@
-use Rattle.jcard_outcomes.proofs.Recovered.{cut_read, left_in_one_line, no_recovered}
+use Rattle.jcard_outcomes.proofs.RecoveryReports.{cut_read, left_in_one_line, no_recovered}
 use Rattle.jcard_outcomes.proofs.line.cut_of.Goals as goal
 
 pub returns-in_default : goal.returns-in_default

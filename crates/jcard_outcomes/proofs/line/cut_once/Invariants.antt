@@ -1,5 +1,5 @@
 use Rattle.std.proofs.Common.{◌≡◌, take, false}
-use Rattle.jcard_outcomes.specs.Parts.{has}
+use Rattle.jcard_outcomes.specs.Part.{has}
 use Rattle.jcard_outcomes.proofs.line.cut_once.Given as goal
 
 abbrev pub invariant-loop-place : goal.invariant-loop-place

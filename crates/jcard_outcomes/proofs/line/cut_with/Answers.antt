@@ -1,6 +1,6 @@
 use Rattle.std.proofs.Common.{◌∙◌, ◌∷◌, ◌++◌, ap, sym, refl}
-use Rattle.jcard_outcomes.specs.Parts.{cut_tail, has}
-use Rattle.jcard_outcomes.proofs.Told.{cut_there, no_cut, no_parts}
+use Rattle.jcard_outcomes.specs.Part.{cut_tail, has}
+use Rattle.jcard_outcomes.proofs.CutReports.{cut_there, no_cut, no_parts}
 use Rattle.jcard_outcomes.proofs.line.cut_with.Goals as goal
 
 pub returns-in_default : goal.returns-in_default

@@ -1,4 +1,4 @@
-use Rattle.jcard_outcomes.proofs.Told.{no_address, no_before, no_is, no_now}
+use Rattle.jcard_outcomes.proofs.CutReports.{no_address, no_before, no_is, no_now}
 use Rattle.jcard_outcomes.proofs.line.difference_of.Goals as goal
 
 pub returns-in_default : goal.returns-in_default

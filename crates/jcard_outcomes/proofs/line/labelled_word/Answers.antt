@@ -1,4 +1,4 @@
-use Rattle.jcard_outcomes.proofs.Told.{no_space, no_word}
+use Rattle.jcard_outcomes.proofs.CutReports.{no_space, no_word}
 use Rattle.jcard_outcomes.proofs.line.labelled_word.Goals as goal
 
 pub returns-in_default-cut_once : goal.returns-in_default-cut_once

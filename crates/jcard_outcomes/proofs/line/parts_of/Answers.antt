@@ -1,4 +1,4 @@
-use Rattle.jcard_outcomes.proofs.Told.{no_answers, no_comma, no_lost, parts_there}
+use Rattle.jcard_outcomes.proofs.CutReports.{no_answers, no_comma, no_lost, parts_there}
 use Rattle.jcard_outcomes.proofs.line.parts_of.Goals as goal
 
 pub returns-in_default : goal.returns-in_default

@@ -1,5 +1,5 @@
 use Rattle.std.proofs.Common.{arith, rules, ◌<◌, ◌^◌, refl}
-use Rattle.jcard_outcomes.proofs.Recovered.{ends_untold, left_told, no_difference_end, no_ways, recoveries_untold, untold}
+use Rattle.jcard_outcomes.proofs.RecoveryReports.{ends_untold, left_told, no_difference_end, no_ways, recoveries_untold, untold}
 use Rattle.jcard_outcomes.proofs.line.recovered_of.Goals as goal
 
 pub returns-in_default : goal.returns-in_default

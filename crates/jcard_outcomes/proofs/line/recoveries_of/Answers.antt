@@ -1,5 +1,5 @@
 use Rattle.std.proofs.Common.{codes}
-use Rattle.jcard_outcomes.proofs.Recovered.{alike_only}
+use Rattle.jcard_outcomes.proofs.RecoveryReports.{alike_only}
 use Rattle.jcard_outcomes.proofs.Splits.{same}
 use Rattle.jcard_outcomes.proofs.line.recoveries_of.Goals as goal
 

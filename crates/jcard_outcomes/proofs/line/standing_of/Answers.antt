@@ -1,6 +1,6 @@
 use Rattle.std.proofs.Common.{codes}
 use Rattle.jcard_outcomes.proofs.Splits.{other}
-use Rattle.jcard_outcomes.proofs.Told.{or_changed}
+use Rattle.jcard_outcomes.proofs.CutReports.{or_changed}
 use Rattle.jcard_outcomes.proofs.line.standing_of.Goals as goal
 
 pub returns : goal.returns

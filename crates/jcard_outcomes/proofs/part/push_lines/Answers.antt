@@ -1,5 +1,5 @@
 use Rattle.std.proofs.Common.{arith, ◌^◌, ◌∙◌, length}
-use Rattle.jcard_outcomes.specs.Parts.{line_text}
+use Rattle.jcard_outcomes.specs.Part.{line_text}
 use Rattle.jcard_outcomes.proofs.PartSteps.{line_more, lines_end, number_fits, number_next}
 use Rattle.jcard_outcomes.proofs.RowSteps.{rows_told}
 use Rattle.jcard_outcomes.proofs.part.push_lines.Goals as goal

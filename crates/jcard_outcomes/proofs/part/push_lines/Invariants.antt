@@ -1,5 +1,5 @@
 use Rattle.std.proofs.Common.{◌≡◌, ◌+◌, ◌*◌, ◌++◌, drop}
-use Rattle.jcard_outcomes.specs.Parts.{lines_text}
+use Rattle.jcard_outcomes.specs.Part.{lines_text}
 use Rattle.jcard_outcomes.proofs.part.push_lines.Given as goal
 
 abbrev pub invariant-loop-cut : goal.invariant-loop-cut

@@ -1,5 +1,5 @@
-use Rattle.jcard_outcomes.specs.Parts.{difference_told}
-use Rattle.jcard_outcomes.proofs.Recovered.{some_pushed}
+use Rattle.jcard_outcomes.specs.Part.{difference_told}
+use Rattle.jcard_outcomes.proofs.RecoveryReports.{some_pushed}
 use Rattle.jcard_outcomes.proofs.part.push_some.Goals as goal
 
 pub returns : goal.returns

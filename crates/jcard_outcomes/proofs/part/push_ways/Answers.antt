@@ -1,5 +1,5 @@
 use Rattle.std.proofs.Common.{codes, decimal}
-use Rattle.jcard_outcomes.proofs.Recovered.{in_three}
+use Rattle.jcard_outcomes.proofs.RecoveryReports.{in_three}
 use Rattle.jcard_outcomes.proofs.part.push_ways.Goals as goal
 
 pub returns : goal.returns

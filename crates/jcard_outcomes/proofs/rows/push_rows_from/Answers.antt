@@ -1,6 +1,6 @@
 use Rattle.std.proofs.Common.{arith, ◌≡◌, ◌∙◌, ◌++◌, ap, sym, true, false}
 use Rattle.std.specs.Str.{bytes_eq}
-use Rattle.jcard_outcomes.specs.Reports.{outcome_text, row_text}
+use Rattle.jcard_outcomes.specs.Report.{outcome_text, row_text}
 use Rattle.jcard_outcomes.proofs.RowSteps.{rows_end, rows_other, rows_same, rows_told}
 use Rattle.jcard_outcomes.proofs.rows.push_rows_from.Goals as goal
 use Rattle.jcard_outcomes.proofs.rows.push_rows_from.Goals.{then-not-is_same+in_ok-push_row, else-not-is_same}

@@ -1,5 +1,5 @@
 use Rattle.std.proofs.Common.{◌≡◌, ◌++◌, ◌≤◌, drop}
-use Rattle.jcard_outcomes.specs.Reports.{rows_from}
+use Rattle.jcard_outcomes.specs.Report.{rows_from}
 use Rattle.jcard_outcomes.proofs.rows.push_rows_from.Given as goal
 
 abbrev pub invariant-loop-cut : goal.invariant-loop-cut

@@ -1,5 +1,5 @@
 use Rattle.std.proofs.Common.{◌≡◌, ◌+◌, ◌≤◌, drop}
-use Rattle.jcard_outcomes.specs.Reports.{count_before}
+use Rattle.jcard_outcomes.specs.Report.{count_before}
 use Rattle.jcard_outcomes.proofs.verdict.count_before.Given as goal
 
 abbrev pub invariant-loop-cut : goal.invariant-loop-cut

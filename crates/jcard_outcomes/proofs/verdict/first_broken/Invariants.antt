@@ -1,5 +1,5 @@
 use Rattle.std.proofs.Common.{◌≡◌, drop}
-use Rattle.jcard_outcomes.specs.Reports.{first_broken}
+use Rattle.jcard_outcomes.specs.Report.{first_broken}
 use Rattle.jcard_outcomes.proofs.verdict.first_broken.Given as goal
 
 abbrev pub invariant-loop-number : goal.invariant-loop-number

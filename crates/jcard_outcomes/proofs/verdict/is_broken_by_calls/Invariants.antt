@@ -1,5 +1,5 @@
 use Rattle.std.proofs.Common.{◌≡◌, drop}
-use Rattle.jcard_outcomes.specs.Reports.{broken_by_calls}
+use Rattle.jcard_outcomes.specs.Report.{broken_by_calls}
 use Rattle.jcard_outcomes.proofs.verdict.is_broken_by_calls.Given as goal
 
 abbrev pub invariant-loop-cut : goal.invariant-loop-cut

@@ -1,5 +1,5 @@
 use Rattle.std.proofs.Common.{◌≡◌, drop}
-use Rattle.jcard_outcomes.specs.Reports.{most_lost_from}
+use Rattle.jcard_outcomes.specs.Report.{most_lost_from}
 use Rattle.jcard_outcomes.proofs.verdict.most_lost.Given as goal
 
 abbrev pub invariant-loop-cut : goal.invariant-loop-cut

@@ -1,7 +1,7 @@
 use Rattle.std.proofs.Common.{◌≡◌, ◌∙◌, ℕ, ap, subst}
-use Rattle.jc_card.specs.CardState.{CardState}
-use Rattle.jc_card.specs.Power.{Up, armed_card}
-use Rattle.jc_card.specs.SessionStates.{with_fuse}
+use Rattle.jc_card.specs.Card.{CardState}
+use Rattle.jc_card.specs.State.Power.{Up, armed_card}
+use Rattle.jc_card.specs.State.{with_fuse}
 use Rattle.jcard_script.proofs.GoesOn.{armed_at_rest, goes_on}
 use Rattle.jcard_script.proofs.begun.cut_copy.Goals as goal
 

@@ -2,7 +2,7 @@ use Rattle.std.proofs.Common.{◌∙◌, ap, subst}
 use Rattle.jc_memory.specs.Programs.{Completes}
 use Rattle.jc_memory.proofs.ProgramLemmas.{down_did}
 use Rattle.jc_card.specs.Answers.{exchange}
-use Rattle.jc_card.specs.CardState.{CardState}
+use Rattle.jc_card.specs.Card.{CardState}
 use Rattle.jc_card.specs.Dispatching.{with_response}
 use Rattle.jcard_script.proofs.begun.glitched.Goals as goal
 

@@ -1,5 +1,5 @@
-use Rattle.jc_card.specs.SessionStates.{power_of}
-use Rattle.jcard_script.proofs.Kept.{command_answered, command_refused}
+use Rattle.jc_card.specs.State.{power_of}
+use Rattle.jcard_script.proofs.PowerUps.{command_answered, command_refused}
 use Rattle.jcard_script.proofs.held_card.exchange.Goals as goal
 
 pub returns : goal.returns

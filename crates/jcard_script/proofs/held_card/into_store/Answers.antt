@@ -1,5 +1,5 @@
-use Rattle.jc_card.specs.SessionStates.{power_of}
-use Rattle.jcard_script.proofs.Kept.{store_held}
+use Rattle.jc_card.specs.State.{power_of}
+use Rattle.jcard_script.proofs.PowerUps.{store_held}
 use Rattle.jcard_script.proofs.held_card.into_store.Goals as goal
 
 pub returns : goal.returns

@@ -1,5 +1,5 @@
-use Rattle.jc_card.specs.SessionStates.{power_of}
-use Rattle.jcard_script.proofs.Kept.{fails_up, powered_up}
+use Rattle.jc_card.specs.State.{power_of}
+use Rattle.jcard_script.proofs.PowerUps.{fails_up, powered_up}
 use Rattle.jcard_script.proofs.held_card.power_up.Goals as goal
 
 pub returns : goal.returns

@@ -1,4 +1,4 @@
-use Rattle.jcard_script.proofs.Ending.{ends_within}
+use Rattle.jcard_script.proofs.ScriptEnds.{ends_within}
 use Rattle.jcard_script.proofs.script.run_script_explained.Goals as goal
 
 pub returns-clause-script : goal.returns-clause-script

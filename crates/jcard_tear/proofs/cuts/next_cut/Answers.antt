@@ -1,6 +1,6 @@
 use Rattle.std.proofs.Common.{subst}
 use Rattle.jcard_tear.proofs.KeptCuts.{kept_carried, reported_at}
-use Rattle.jcard_tear.proofs.Uncut.{probe_uncut}
+use Rattle.jcard_tear.proofs.CutFaults.{probe_uncut}
 use Rattle.jcard_tear.proofs.cuts.next_cut.Goals as goal
 
 pub returns-in-Ok-clause-cut : goal.returns-in-Ok-clause-cut

@@ -1,7 +1,7 @@
 use Rattle.std.proofs.Common.{◌≡◌, ◌+◌, ◌*◌, length}
 use Rattle.std.specs.Prelude.{IfSome}
-use Rattle.jcard_tear.specs.Kept.{IsLastCut}
-use Rattle.jcard_tear.specs.Sweeps.{AreCuts}
+use Rattle.jcard_tear.specs.KeptCard.{IsLastCut}
+use Rattle.jcard_tear.specs.Sweep.{AreCuts}
 use Rattle.jcard_tear.proofs.cuts.push_cuts.Given as goal
 
 abbrev pub invariant-loop-place : goal.invariant-loop-place

@@ -1,5 +1,5 @@
 use Rattle.std.proofs.Common.{◌∙◌, sym}
-use Rattle.jcard_tear.proofs.EachSwept.{text_end, text_kept, text_passed}
+use Rattle.jcard_tear.proofs.CutCommands.{text_end, text_kept, text_passed}
 use Rattle.jcard_tear.proofs.each.command_text.Goals as goal
 use Rattle.jcard_tear.proofs.each.command_text.Goals.{then-not-is_blank+in_ok-push, else-not-is_blank}
 

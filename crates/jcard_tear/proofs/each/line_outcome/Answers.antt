@@ -1,6 +1,6 @@
 use Rattle.jcard_tear.specs.ScriptLines.{line_of}
-use Rattle.jcard_tear.specs.Sweeps.{given_of}
-use Rattle.jcard_tear.proofs.EachSwept.{down_outcome}
+use Rattle.jcard_tear.specs.Sweep.{given_of}
+use Rattle.jcard_tear.proofs.CutCommands.{down_outcome}
 use Rattle.jcard_tear.proofs.each.line_outcome.Goals as goal
 
 pub returns-in-Err-Down : goal.returns-in-Err-Down

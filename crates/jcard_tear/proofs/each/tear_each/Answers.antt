@@ -4,9 +4,9 @@ use Rattle.std.specs.Prelude.{option_map}
 use Rattle.jcard_tear.specs.Faults.{IsLineUncut}
 use Rattle.jcard_tear.specs.ScriptLines.{line_of}
 use Rattle.jcard_tear.specs.declared.script_lines.ScriptLine.{ScriptLine}
-use Rattle.jcard_tear.specs.Sweeps.{given_of}
-use Rattle.jcard_tear.proofs.EachSwept.{swept_next, swept_none}
-use Rattle.jcard_tear.proofs.Uncut.{passed_on}
+use Rattle.jcard_tear.specs.Sweep.{given_of}
+use Rattle.jcard_tear.proofs.CutCommands.{swept_next, swept_none}
+use Rattle.jcard_tear.proofs.CutFaults.{passed_on}
 use Rattle.jcard_tear.proofs.each.tear_each.Goals as goal
 
 pub loop-line-init : goal.loop-line-init

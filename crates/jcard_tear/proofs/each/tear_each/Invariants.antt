@@ -1,6 +1,6 @@
 use Rattle.std.proofs.Common.{take, map}
 use Rattle.jcard_tear.specs.ScriptLines.{line_of}
-use Rattle.jcard_tear.specs.Sweeps.{AreSwept, given_of}
+use Rattle.jcard_tear.specs.Sweep.{AreSwept, given_of}
 use Rattle.jcard_tear.proofs.each.tear_each.Given as goal
 
 abbrev pub invariant-loop-line : goal.invariant-loop-line

@@ -1,5 +1,5 @@
 use Rattle.std.proofs.Common.{List, ℕ, refl, subst}
-use Rattle.jcard_tear.specs.Kept.{GivesAnswers}
+use Rattle.jcard_tear.specs.KeptCard.{GivesAnswers}
 use Rattle.jcard_tear.proofs.last_cut.answered.Goals as goal
 
 pub returns-in-Some : goal.returns-in-Some

@@ -1,8 +1,8 @@
 use Rattle.std.proofs.Common.{◌≡◌, ◌∙◌, ℕ, [], ap, subst, sym}
 use Rattle.std.proofs.lemmas.Option.{IfSome_then}
-use Rattle.jc_words.specs.Stores.{FuseStoreValue}
-use Rattle.jc_card.specs.CardState.{CardState}
-use Rattle.jc_card.specs.Power.{Up}
+use Rattle.jc_words.specs.Store.{FuseStoreValue}
+use Rattle.jc_card.specs.Card.{CardState}
+use Rattle.jc_card.specs.State.Power.{Up}
 use Rattle.jcard_script.specs.Begun.{HasBegun}
 use Rattle.jcard_script.specs.ScriptStates.{PowersUp}
 use Rattle.jcard_tear.specs.Runs.{store_of}

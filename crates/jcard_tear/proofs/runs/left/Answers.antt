@@ -3,7 +3,7 @@ use Rattle.jc_commit.specs.Image.{recovered_of}
 use Rattle.jc_commit.specs.Migration.{migrated}
 use Rattle.jcard_tear.specs.Faults.{IsLogFault}
 use Rattle.jcard_tear.specs.Runs.{IsRunFault}
-use Rattle.jcard_tear.proofs.Uncut.{log_left, memory_left, passed_on, run_left}
+use Rattle.jcard_tear.proofs.CutFaults.{log_left, memory_left, passed_on, run_left}
 use Rattle.jcard_tear.proofs.runs.left.Goals as goal
 
 pub returns : goal.returns

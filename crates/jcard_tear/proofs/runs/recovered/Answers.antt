@@ -1,7 +1,7 @@
 use Rattle.std.proofs.Common.{◌≡◌, ◌≢◌, ◌∙◌, ℕ, List, ap, arith, sym}
 use Rattle.std.specs.Prelude.{slice_index}
 use Rattle.jc_words.specs.Layout.{first_version, version, version_address}
-use Rattle.jc_words.specs.Stores.{MemStoreValue}
+use Rattle.jc_words.specs.Store.{MemStoreValue}
 use Rattle.jc_commit.specs.Image.{plain_of, recovered_of}
 use Rattle.jc_commit.specs.Migration.{migrated}
 use Rattle.jc_commit.specs.State.{State}

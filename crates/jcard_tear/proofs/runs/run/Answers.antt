@@ -1,5 +1,5 @@
 use Rattle.std.proofs.Common.{rules, ◌≡◌, ◌∙◌, ap, sym, subst, Err}
-use Rattle.jc_words.specs.Stores.{FuseStoreValue}
+use Rattle.jc_words.specs.Store.{FuseStoreValue}
 use Rattle.jcard_script.specs.Script.{EndsWithin}
 use Rattle.jcard_tear.specs.Runs.{store_of}
 use Rattle.jcard_tear.proofs.WholeRuns.{under_fuse}

@@ -1,7 +1,7 @@
 use Rattle.std.proofs.Common.{rules, ◌≡◌, ◌∙◌, ◌++◌, ap, sym, subst, Some, Ok, Err}
-use Rattle.jc_words.specs.Stores.{FuseStoreValue}
+use Rattle.jc_words.specs.Store.{FuseStoreValue}
 use Rattle.jcard_script.specs.Script.{EndsSelecting, EndsWithin}
-use Rattle.jcard_script.proofs.Ending.{ends_within}
+use Rattle.jcard_script.proofs.ScriptEnds.{ends_within}
 use Rattle.jcard_tear.specs.Runs.{store_of}
 use Rattle.jcard_tear.proofs.WholeRuns.{selected_whole, under_fuse}
 use Rattle.jcard_tear.proofs.runs.selected_by.Goals as goal

@@ -1,5 +1,5 @@
 use Rattle.std.proofs.Common.{ap, sym}
-use Rattle.jc_words.specs.Stores.{StoreValue}
+use Rattle.jc_words.specs.Store.{StoreValue}
 use Rattle.jcard_tear.proofs.runs.words_of.Goals as goal
 
 pub returns-clause-refuses_none : goal.returns-clause-refuses_none

@@ -1,5 +1,5 @@
 use Rattle.std.proofs.Common.{subst}
-use Rattle.jcard_files.specs.NewImages.{IsNewImageInMemory}
+use Rattle.jcard_files.specs.NewImage.{IsNewImageInMemory}
 use Rattle.jcard_tests.proofs.RowTests.{new_card_of}
 use Rattle.jcard_tests.proofs.answering.new_card.Goals as goal
 

@@ -1,5 +1,5 @@
 use Rattle.std.proofs.Common.{◌∙◌}
-use Rattle.jcard_tests.proofs.Fitting.{space_dropped}
+use Rattle.jcard_tests.proofs.AnswerFit.{space_dropped}
 use Rattle.jcard_tests.proofs.answers.+behind_spaces.Goals as goal
 
 pub returns-then-first-eq32-clause-same : goal.returns-then-first-eq32-clause-same

@@ -1,7 +1,7 @@
 use Rattle.std.proofs.Common.{◌≡◌, ◌↔◌, true, refl, subst}
 use Rattle.std.proofs.lemmas.Bool.{iff_false, ne_eqb}
 use Rattle.jcard_tests.specs.Answers.{Fits, unspaced}
-use Rattle.jcard_tests.proofs.Fitting.{first_kept, fit_any_none, fit_any_one, fit_any_other, fit_any_short, fit_byte, fit_none, fit_other, fit_short, none_kept, whether_kept}
+use Rattle.jcard_tests.proofs.AnswerFit.{first_kept, fit_any_none, fit_any_one, fit_any_other, fit_any_short, fit_byte, fit_none, fit_other, fit_short, none_kept, whether_kept}
 use Rattle.jcard_tests.proofs.answers.+fits.Goals as goal
 
 pub returns-in_default : goal.returns-in_default

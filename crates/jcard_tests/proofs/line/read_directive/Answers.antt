@@ -1,5 +1,5 @@
 use Rattle.std.proofs.Common.{◌∙◌, ◌++◌, ℕ, List, ap, codes, sym, rules}
-use Rattle.jcard_tests.proofs.Said.{directive_of}
+use Rattle.jcard_tests.proofs.LineMeanings.{directive_of}
 use Rattle.jcard_tests.proofs.line.read_directive.Goals as goal
 
 pub returns : goal.returns

@@ -1,5 +1,5 @@
 use Rattle.std.proofs.Common.{refl}
-use Rattle.jcard_tests.proofs.Said.{loop_named, loop_unnamed}
+use Rattle.jcard_tests.proofs.LineMeanings.{loop_named, loop_unnamed}
 use Rattle.jcard_tests.proofs.line.read_for.Goals as goal
 
 pub returns-in-Some : goal.returns-in-Some

@@ -1,7 +1,7 @@
 use Rattle.std.proofs.Common.{◌≡◌, ◌≢◌, ◌∙◌, ◌==◌, ℕ, List, [], true, false, ap, sym, length, lit<, slice_index}
 use Rattle.std.proofs.lemmas.Str.Pattern.{starts_char}
 use Rattle.jcard_tests.specs.Lines.{HasText}
-use Rattle.jcard_tests.proofs.Said.{says_directive, says_row}
+use Rattle.jcard_tests.proofs.LineMeanings.{says_directive, says_row}
 use Rattle.jcard_tests.proofs.line.read_line.Goals as goal
 
 pub returns-in-Some : goal.returns-in-Some

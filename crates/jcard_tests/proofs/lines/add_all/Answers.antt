@@ -1,6 +1,6 @@
 use Rattle.std.proofs.Common.{◌∙◌, ◌++◌, ◌∷◌, ℕ, List, [], ap, sym, append-nil, append_assoc}
 use Rattle.std.specs.Borrow.{Bor}
-use Rattle.jcard_tests.specs.declared.numbered.Numbered.{Numbered}
+use Rattle.jcard_tests.specs.declared.numbered_line.Numbered.{Numbered}
 use Rattle.jcard_tests.proofs.Numbering.{all_next, all_none}
 use Rattle.jcard_tests.proofs.lines.add_all.Goals as goal
 

@@ -1,6 +1,6 @@
 use Rattle.std.proofs.Common.{◌≡◌, ◌++◌, List, take}
-use Rattle.jcard_tests.specs.Unrolled.{AreAllNumbered}
-use Rattle.jcard_tests.specs.declared.numbered.Numbered.{Numbered}
+use Rattle.jcard_tests.specs.TextLines.{AreAllNumbered}
+use Rattle.jcard_tests.specs.declared.numbered_line.Numbered.{Numbered}
 use Rattle.jcard_tests.proofs.Numbering.{texts_of}
 use Rattle.jcard_tests.proofs.lines.add_all.Given as goal
 

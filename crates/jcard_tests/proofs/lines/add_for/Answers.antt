@@ -1,8 +1,8 @@
 use Rattle.std.proofs.Common.{◌∙◌, ◌++◌, ◌∷◌, ℕ, List, [], ap, codes, sym, append-nil, append_assoc, subst}
 use Rattle.std.specs.String.{string_bytes}
 use Rattle.std.proofs.lemmas.List.{take_all}
-use Rattle.jcard_tests.specs.Unrolled.{AreCopies, IsCopy, IsReplaced}
-use Rattle.jcard_tests.specs.declared.numbered.Numbered.{Numbered}
+use Rattle.jcard_tests.specs.TextLines.{AreCopies, IsCopy, IsReplaced}
+use Rattle.jcard_tests.specs.declared.numbered_line.Numbered.{Numbered}
 use Rattle.jcard_tests.proofs.Numbering.{copies_next, copies_none}
 use Rattle.jcard_tests.proofs.lines.add_for.Goals as goal
 

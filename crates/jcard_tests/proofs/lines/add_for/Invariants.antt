@@ -1,6 +1,6 @@
 use Rattle.std.proofs.Common.{◌≡◌, ◌++◌, List, take}
-use Rattle.jcard_tests.specs.Unrolled.{AreCopies}
-use Rattle.jcard_tests.specs.declared.numbered.Numbered.{Numbered}
+use Rattle.jcard_tests.specs.TextLines.{AreCopies}
+use Rattle.jcard_tests.specs.declared.numbered_line.Numbered.{Numbered}
 use Rattle.jcard_tests.proofs.lines.add_for.Given as goal
 
 abbrev pub invariant-loop-line : goal.invariant-loop-line

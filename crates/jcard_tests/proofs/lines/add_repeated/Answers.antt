@@ -1,6 +1,6 @@
 use Rattle.std.proofs.Common.{arith, ◌≡◌, ◌∙◌, ◌+◌, ◌-◌, ◌++◌, List, [], suc, ap, refl, sym, subst, append-nil, append_assoc}
-use Rattle.jcard_tests.specs.Unrolled.{AreRepeated}
-use Rattle.jcard_tests.specs.declared.numbered.Numbered.{Numbered}
+use Rattle.jcard_tests.specs.TextLines.{AreRepeated}
+use Rattle.jcard_tests.specs.declared.numbered_line.Numbered.{Numbered}
 use Rattle.jcard_tests.proofs.Numbering.{repeated_more, repeated_none}
 use Rattle.jcard_tests.proofs.lines.add_repeated.Goals as goal
 

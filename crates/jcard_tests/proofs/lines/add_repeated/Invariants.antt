@@ -1,6 +1,6 @@
 use Rattle.std.proofs.Common.{◌≡◌, ◌++◌, List}
-use Rattle.jcard_tests.specs.Unrolled.{AreRepeated}
-use Rattle.jcard_tests.specs.declared.numbered.Numbered.{Numbered}
+use Rattle.jcard_tests.specs.TextLines.{AreRepeated}
+use Rattle.jcard_tests.specs.declared.numbered_line.Numbered.{Numbered}
 use Rattle.jcard_tests.proofs.lines.add_repeated.Given as goal
 
 abbrev pub invariant-loop-place : goal.invariant-loop-place

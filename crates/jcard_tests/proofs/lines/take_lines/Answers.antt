@@ -1,7 +1,7 @@
 use Rattle.std.proofs.Common.{ℕ, List, [], get_or, subst}
 use Rattle.std.specs.Borrow.{Bor}
 use Rattle.std.proofs.lemmas.List.{take_all}
-use Rattle.jcard_tests.specs.Unrolled.{AreTaken, IsTakenIn}
+use Rattle.jcard_tests.specs.TextLines.{AreTaken, IsTakenIn}
 use Rattle.jcard_tests.proofs.Numbering.{taken_next, taken_none, texts_of}
 use Rattle.jcard_tests.proofs.lines.take_lines.Goals as goal
 

@@ -1,5 +1,5 @@
 use Rattle.std.proofs.Common.{[], take}
-use Rattle.jcard_tests.specs.Unrolled.{AreTaken}
+use Rattle.jcard_tests.specs.TextLines.{AreTaken}
 use Rattle.jcard_tests.proofs.Numbering.{texts_of}
 use Rattle.jcard_tests.proofs.lines.take_lines.Given as goal
 

@@ -1,6 +1,6 @@
 use Rattle.std.proofs.Common.{◌≡◌, ◌∙◌, List, ℕ, [], ap, subst}
 use Rattle.std.specs.Str.Lines.{lines}
-use Rattle.jcard_tests.specs.Unrolled.{AreTaken}
+use Rattle.jcard_tests.specs.TextLines.{AreTaken}
 use Rattle.jcard_tests.proofs.Numbering.{texts_of, unrolled_by}
 use Rattle.jcard_tests.proofs.lines.unroll.Goals as goal
 

@@ -3,7 +3,7 @@ use Rattle.std.proofs.lemmas.Result.{err_from_is_err_and}
 use Rattle.jcard_files.specs.ImageSize.{IsNoExtent}
 use Rattle.jcard_files.specs.UsualTable.{IsNoPlatform}
 use Rattle.jcard_tests.specs.Planning.{buffer_asked, cells_asked, table_asked}
-use Rattle.jcard_tests.proofs.Planned.{no_platform_reading, platform_reading}
+use Rattle.jcard_tests.proofs.PlannedCards.{no_platform_reading, platform_reading}
 use Rattle.jcard_tests.proofs.RowTests.{no_reading}
 use Rattle.jcard_tests.proofs.planning.plan_of.Goals as goal
 

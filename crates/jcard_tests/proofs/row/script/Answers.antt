@@ -1,4 +1,4 @@
-use Rattle.jcard_tests.specs.Rows.{line_text, script_text}
+use Rattle.jcard_tests.specs.Row.{line_text, script_text}
 use Rattle.jcard_tests.proofs.Items.{text_grows, text_whole}
 use Rattle.jcard_tests.proofs.Reports.{script_more, script_none}
 use Rattle.jcard_tests.proofs.row.script.Goals as goal

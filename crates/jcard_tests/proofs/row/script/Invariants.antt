@@ -1,5 +1,5 @@
 use Rattle.std.proofs.Common.{◌≡◌, ◌++◌, drop}
-use Rattle.jcard_tests.specs.Rows.{script_text}
+use Rattle.jcard_tests.specs.Row.{script_text}
 use Rattle.jcard_tests.proofs.row.script.Given as goal
 
 abbrev pub invariant-loop-row : goal.invariant-loop-row

@@ -1,6 +1,6 @@
 use Rattle.std.proofs.Common.{[], subst}
 use Rattle.std.specs.String.{string_bytes}
-use Rattle.jcard_tests.specs.Unrolled.{AreLinesOf}
+use Rattle.jcard_tests.specs.TextLines.{AreLinesOf}
 use Rattle.jcard_tests.specs.Tests.{IsRowsText}
 use Rattle.jcard_tests.proofs.RowTests.{nothing_noted}
 use Rattle.jcard_tests.proofs.rows_file.add_file.Goals as goal

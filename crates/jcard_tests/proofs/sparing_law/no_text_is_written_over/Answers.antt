@@ -1,4 +1,4 @@
-use Rattle.jcard_tests.proofs.Sparing.{test_spares}
+use Rattle.jcard_tests.proofs.SparedFiles.{test_spares}
 use Rattle.jcard_tests.proofs.sparing_law.no_text_is_written_over.Goals as goal
 
 pub returns : goal.returns

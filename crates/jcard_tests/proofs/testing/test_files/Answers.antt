@@ -1,6 +1,6 @@
 use Rattle.std.proofs.Common.{[], ◌++◌, refl, inl, inr}
 use Rattle.jcard_script.proofs.Known.{appends_same}
-use Rattle.jcard_tests.proofs.Planned.{unplanned_unwritten}
+use Rattle.jcard_tests.proofs.PlannedCards.{unplanned_unwritten}
 use Rattle.jcard_files.proofs.Effects.{unfailed}
 use Rattle.jcard_tests.proofs.testing.test_files.Goals as goal
 

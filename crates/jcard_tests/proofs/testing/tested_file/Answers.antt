@@ -1,7 +1,7 @@
 use Rattle.std.proofs.Common.{◌≡◌, subst}
 use Rattle.std.specs.Prelude.{MatchResult}
 use Rattle.jcard_tests.specs.Tests.{AreAnswered, IsUntested}
-use Rattle.jcard_tests.proofs.Planned.{tested_as}
+use Rattle.jcard_tests.proofs.PlannedCards.{tested_as}
 use Rattle.jcard_tests.proofs.testing.tested_file.Goals as goal
 
 pub returns-in-Ok : goal.returns-in-Ok

@@ -1,4 +1,4 @@
-use Rattle.jcard_tests.proofs.Planned.{answered_cards}
+use Rattle.jcard_tests.proofs.PlannedCards.{answered_cards}
 use Rattle.jcard_tests.proofs.testing.tested_lines.Goals as goal
 
 pub returns-in-Ok : goal.returns-in-Ok

@@ -5,7 +5,7 @@ use Rattle.jc_ciphers.specs.declared.kept.BlockAlgorithm.{BlockAlgorithm}
 use Rattle.jc_ciphers.specs.declared.kept.BlockAlgorithm.TheVariants.{Aes, Des}
 use Rattle.jc_world.specs.NativeCalls.{after_call}
 use Rattle.jc_api.specs.Changing.{changing_call}
-use Rattle.jc_api_crypto.specs.BlockCiphers.{cipher_shorts}
+use Rattle.jc_api_crypto.specs.Cipher.Block.{cipher_shorts}
 use Rattle.jc_api_crypto.specs.Outputs.{puts_output}
 use Rattle.jc_api_crypto.proofs.cipher.state.put_last.Goals as goal
 

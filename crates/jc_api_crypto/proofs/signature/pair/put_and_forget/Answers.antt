@@ -4,8 +4,8 @@ use Rattle.jc_memory.specs.Programs.{Executes}
 use Rattle.jc_world.specs.NativeCalls.{after_call}
 use Rattle.jc_api.specs.Changing.{changing_call}
 use Rattle.jc_api_crypto.specs.Outputs.{puts_output}
-use Rattle.jc_api_crypto.specs.PairAlgorithms.{pair_shorts}
-use Rattle.jc_api_crypto.specs.SignaturePairs.{nothing_to_sign}
+use Rattle.jc_api_crypto.specs.Signature.PairAlgorithms.{pair_shorts}
+use Rattle.jc_api_crypto.specs.Signature.Pair.{nothing_to_sign}
 use Rattle.jc_api_crypto.proofs.signature.pair.put_and_forget.Goals as goal
 
 -- the first of these zeros are as many zeros

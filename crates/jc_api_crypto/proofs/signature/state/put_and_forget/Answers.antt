@@ -3,7 +3,7 @@ use Rattle.std.proofs.lemmas.List.{take-replicate}
 use Rattle.jc_memory.specs.Programs.{Executes}
 use Rattle.jc_world.specs.NativeCalls.{after_call}
 use Rattle.jc_api.specs.Changing.{EngineAnswer, changes_and_puts, changing_call}
-use Rattle.jc_api_crypto.specs.SignatureCodes.{nothing_came, signature_shorts}
+use Rattle.jc_api_crypto.specs.Signature.Codes.{nothing_came, signature_shorts}
 use Rattle.jc_api_crypto.proofs.signature.state.put_and_forget.Goals as goal
 
 pub returns : goal.returns

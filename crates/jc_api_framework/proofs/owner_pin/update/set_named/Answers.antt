@@ -1,6 +1,6 @@
 use Rattle.std.proofs.Common.{sym, subst}
 use Rattle.jc_memory.specs.Programs.{Executes}
-use Rattle.jc_environment.specs.PinUpdates.{pin_update}
+use Rattle.jc_environment.specs.Pins.Updates.{pin_update}
 use Rattle.jc_world.specs.Arrays.{bytes_in}
 use Rattle.jc_world.specs.NativeCalls.{after_call}
 use Rattle.jc_api_framework.specs.OwnerPin.{changed_or_thrown}

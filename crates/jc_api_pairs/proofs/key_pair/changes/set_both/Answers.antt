@@ -1,7 +1,7 @@
 use Rattle.std.proofs.Common.{◌++◌, [], ◌∷◌, subst, sym}
 use Rattle.jc_heap.specs.declared.place.Place.TheVariants.{Cell}
-use Rattle.jc_heap.specs.Keeping.{AreLegalValues}
-use Rattle.jc_heap.specs.Places.{AreApart, AreThere, places_of}
+use Rattle.jc_heap.specs.HeapLaws.{AreLegalValues}
+use Rattle.jc_heap.specs.Place.{AreApart, AreThere, places_of}
 use Rattle.jc_api_pairs.specs.KeyPair.Changes.{places_in}
 use Rattle.jc_api_pairs.proofs.PairPlaces.{both_apart, both_stand, count_plain, count_there}
 use Rattle.jc_api_pairs.proofs.key_pair.changes.set_both.Goals as goal

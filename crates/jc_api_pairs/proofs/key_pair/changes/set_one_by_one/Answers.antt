@@ -1,9 +1,9 @@
 use Rattle.std.proofs.Common.{◌++◌, List, [], ◌∷◌, ℕ, subst, sym}
 use Rattle.jc_heap.specs.declared.place.Place.{Place}
 use Rattle.jc_heap.specs.declared.place.Place.TheVariants.{Cell}
-use Rattle.jc_heap.specs.Keeping.{AreLegalValues}
+use Rattle.jc_heap.specs.HeapLaws.{AreLegalValues}
 use Rattle.jc_heap.specs.Moves.{refusal_of_places}
-use Rattle.jc_heap.specs.Places.{AreApart, AreThere, places_of}
+use Rattle.jc_heap.specs.Place.{AreApart, AreThere, places_of}
 use Rattle.jc_api_pairs.specs.KeyPair.Changes.{places_in}
 use Rattle.jc_api_pairs.proofs.PairPlaces.{count_plain, count_there, elements_stay, public_apart, public_stands, transient_stays}
 use Rattle.jc_api_pairs.proofs.key_pair.changes.set_one_by_one.Goals as goal

@@ -1,5 +1,5 @@
 use Rattle.std.proofs.Common.{subst}
-use Rattle.jc_cap.specs.KnownPackages.{IsPackage}
+use Rattle.jc_cap.specs.Assembling.{IsPackage}
 use Rattle.jc_cap.proofs.Named.{is_package, never_unread}
 use Rattle.jc_cap.proofs.assembling.Package.contents.Goals as goal
 

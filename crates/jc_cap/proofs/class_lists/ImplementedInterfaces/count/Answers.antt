@@ -1,4 +1,4 @@
-use Rattle.jc_cap.specs.Implemented.{implemented_at}
+use Rattle.jc_cap.specs.ClassLists.{implemented_at}
 use Rattle.jc_cap.proofs.Lent.{count_is}
 use Rattle.jc_cap.proofs.class_lists.ImplementedInterfaces.count.Goals as goal
 

@@ -1,6 +1,5 @@
 use Rattle.std.proofs.Common.{◌-◌, sym, subst, ◌∙◌, arith, ℕ}
-use Rattle.jc_cap.specs.Implemented.{implemented_at}
-use Rattle.jc_cap.specs.ImplementedViews.{implemented_value}
+use Rattle.jc_cap.specs.ClassLists.{implemented_at, implemented_value}
 use Rattle.jc_cap.specs.Reading.{many_at, list_or_empty, BeginsWithList}
 use Rattle.jc_cap.proofs.Many.{BeginsWithList-nil, BeginsWithList-begins_above, Begins-reads, Begins-no_fault}
 use Rattle.jc_cap.proofs.class_lists.ImplementedInterfaces.split_first.Goals as goal

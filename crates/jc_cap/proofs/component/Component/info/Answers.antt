@@ -1,7 +1,7 @@
 use Rattle.std.proofs.Common.{ℕ, List, sym, subst}
-use Rattle.jc_cap.specs.Again.{IsReadable}
+use Rattle.jc_cap.specs.Reading.{IsReadable}
 use Rattle.jc_cap.specs.Envelope.{info_at}
-use Rattle.jc_cap.specs.Components.{component_at}
+use Rattle.jc_cap.specs.Component.{component_at}
 use Rattle.jc_cap.proofs.ReadAgain.{has_info, in_info}
 use Rattle.jc_cap.proofs.component.Component.info.Goals as goal
 

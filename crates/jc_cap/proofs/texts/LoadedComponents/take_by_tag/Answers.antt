@@ -1,6 +1,5 @@
 use Rattle.std.proofs.Common.{rules, refl, sym, ap, ◌∙◌}
-use Rattle.jc_cap.specs.Taking.{taken_with}
-use Rattle.jc_cap.specs.Texts.{with_component}
+use Rattle.jc_cap.specs.Texts.{taken_with, with_component}
 use Rattle.jc_cap.proofs.ReadAgain.{others_kept}
 use Rattle.jc_cap.proofs.Taken.{classes_are, statics_are, unused_is}
 use Rattle.jc_cap.proofs.texts.LoadedComponents.take_by_tag.Goals as goal

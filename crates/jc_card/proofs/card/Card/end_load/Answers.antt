@@ -1,7 +1,7 @@
 use Rattle.std.proofs.Common.{ap, subst, ◌∙◌}
 use Rattle.jc_memory.specs.Programs.{Executes}
 use Rattle.jc_packages.specs.LoadEnd.{end_of_load}
-use Rattle.jc_card.specs.CardState.{CardState}
+use Rattle.jc_card.specs.Card.{CardState}
 use Rattle.jc_card.specs.Loading.{end_load}
 use Rattle.jc_card.specs.Answers.{after_exchange}
 use Rattle.jc_card.proofs.Loaded.{ends_outside, ends_so}

@@ -2,7 +2,7 @@ use Rattle.std.proofs.Common.{subst, sym}
 use Rattle.jc_commit.specs.Journal.{OpeningFails}
 use Rattle.jc_commit.specs.declared.refusal.OpenRefusal.TheVariants.{BadLog, StoreDown}
 use Rattle.jc_card.specs.PowerUp.{fault_of}
-use Rattle.jc_card.specs.PoweringUp.{PowerUpFails}
+use Rattle.jc_card.specs.PowerUp.Outcome.{PowerUpFails}
 use Rattle.jc_card.proofs.PoweredUp.{head_found}
 use Rattle.jc_card.proofs.PoweringUp.{image_leaves, image_refuses, powers_up}
 use Rattle.jc_card.proofs.card.Card.power_up.Goals as goal

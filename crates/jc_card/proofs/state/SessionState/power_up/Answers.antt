@@ -1,5 +1,5 @@
 use Rattle.std.proofs.Common.{◌≡◌, refl, rules, subst}
-use Rattle.jc_card.specs.PoweringUp.{PowerUpFails}
+use Rattle.jc_card.specs.PowerUp.Outcome.{PowerUpFails}
 use Rattle.jc_card.specs.declared.power_up.PowerFault.TheVariants.{StoreDown}
 use Rattle.jc_card.proofs.state.SessionState.power_up.Goals as goal
 

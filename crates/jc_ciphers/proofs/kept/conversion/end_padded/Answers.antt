@@ -1,7 +1,7 @@
 use Rattle.std.proofs.Common.{◌≡◌, ◌∙◌, ◌≤◌, ◌<◌, ◌+◌, ◌%◌, ◌++◌, Bool, List, [], ℕ, append-nil, length, length-append, length-take-le, sym, take, ap, arith}
 use Rattle.jc_ciphers.specs.declared.padding.Padding.{Padding}
-use Rattle.jc_ciphers.specs.Conversions.{last_size, whole_output}
-use Rattle.jc_ciphers.specs.Paddings.{padding_of, space}
+use Rattle.jc_ciphers.specs.Kept.Conversion.{last_size, whole_output}
+use Rattle.jc_ciphers.specs.Padding.{padding_of, space}
 use Rattle.jc_ciphers.proofs.Pieces.{part_put}
 use Rattle.jc_ciphers.proofs.Ready.{ended_part, ended_whole, last_size-mod, left_over, space_left}
 use Rattle.jc_ciphers.proofs.kept.conversion.end_padded.Goals as goal

@@ -1,5 +1,5 @@
 use Rattle.std.proofs.Common.{◌≡◌, ◌∙◌, ◌+◌, ◌++◌, ◌&&◌, Bool, List, ℕ, length, length-append, nat_eq, not, slice_index, subst, take, ap, arith}
-use Rattle.jc_ciphers.specs.Conversions.{padded, next_end, whole_output}
+use Rattle.jc_ciphers.specs.Kept.Conversion.{padded, next_end, whole_output}
 use Rattle.jc_ciphers.specs.Kept.{chain_in, open_in}
 use Rattle.jc_ciphers.specs.Modes.{IsUnderWay}
 use Rattle.jc_ciphers.proofs.kept.conversion.finish_padded.Goals as goal

@@ -1,6 +1,6 @@
 use Rattle.std.proofs.Common.{◌≡◌, ◌∙◌, ◌++◌, List, ℕ, refl, subst, take, ap, arith}
 use Rattle.std.specs.Option.{option_and_then}
-use Rattle.jc_ciphers.specs.Conversions.{next_end, unpadded}
+use Rattle.jc_ciphers.specs.Kept.Conversion.{next_end, unpadded}
 use Rattle.jc_ciphers.specs.Kept.{chain_in, open_in}
 use Rattle.jc_ciphers.specs.Modes.{IsUnderWay}
 use Rattle.jc_ciphers.proofs.Ready.{ended_part, ended_whole, front_map}

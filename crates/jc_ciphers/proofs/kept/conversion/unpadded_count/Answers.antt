@@ -4,7 +4,7 @@ use Rattle.std.specs.Option.{option_map}
 use Rattle.std.proofs.lemmas.Bool.{eqb-false}
 use Rattle.std.proofs.lemmas.List.{take_all}
 use Rattle.jc_ciphers.specs.declared.padding.Padding.{Padding}
-use Rattle.jc_ciphers.specs.Conversions.{unpadded, unpadded_from}
+use Rattle.jc_ciphers.specs.Kept.Conversion.{unpadded, unpadded_from}
 use Rattle.jc_ciphers.proofs.Ready.{first_place, no_place}
 use Rattle.jc_ciphers.proofs.kept.conversion.unpadded_count.Goals as goal
 

@@ -1,6 +1,6 @@
 use Rattle.std.proofs.Common.{◌≡◌, ◌∙◌, ◌≤◌, ◌+◌, ◌/◌, ◌++◌, [], ℕ, List, length, length-take-le, take, sym, ap, arith}
 use Rattle.jc_ciphers.specs.Modes.{IsUnderWay, chain_after}
-use Rattle.jc_ciphers.specs.Paddings.{IsWhole, padding_of}
+use Rattle.jc_ciphers.specs.Padding.{IsWhole, padding_of}
 use Rattle.jc_ciphers.proofs.KeptBlocks.{whole_through}
 use Rattle.jc_ciphers.proofs.KeptEnds.{closed_whole, outcome}
 use Rattle.jc_ciphers.proofs.Pieces.{open_block}

@@ -1,6 +1,6 @@
 use Rattle.std.proofs.Common.{◌∙◌, ◌/◌, ℕ, List, length, take, ap}
 use Rattle.jc_ciphers.specs.Aes.{encrypted}
-use Rattle.jc_ciphers.specs.KeptMacs.{padded}
+use Rattle.jc_ciphers.specs.Kept.Macs.{padded}
 use Rattle.jc_ciphers.specs.Modes.{chain_after, xor_first}
 use Rattle.jc_ciphers.proofs.kept.macs.close_aes.Goals as goal
 

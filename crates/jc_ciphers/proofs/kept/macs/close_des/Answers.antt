@@ -1,6 +1,6 @@
 use Rattle.std.proofs.Common.{◌∙◌, ◌/◌, ℕ, List, length, take, sym, ap}
 use Rattle.jc_ciphers.specs.Des.{encrypted}
-use Rattle.jc_ciphers.specs.KeptMacs.{padded}
+use Rattle.jc_ciphers.specs.Kept.Macs.{padded}
 use Rattle.jc_ciphers.specs.Modes.{chain_after, xor_first}
 use Rattle.jc_ciphers.proofs.KeptCiphers.{des_under}
 use Rattle.jc_ciphers.proofs.kept.macs.close_des.Goals as goal

@@ -1,6 +1,6 @@
 use Rattle.std.proofs.Common.{◌≡◌, ◌∙◌, ◌≤◌, ℕ, Bool, List, Option, Some, None, true, false, length, length-take-le, take, sym, ap, arith, if◌then◌else◌}
 use Rattle.jc_ciphers.specs.Kept.{block_size}
-use Rattle.jc_ciphers.specs.KeptMacs.{is_closed, last_chain}
+use Rattle.jc_ciphers.specs.Kept.Macs.{is_closed, last_chain}
 use Rattle.jc_ciphers.proofs.kept.macs.finish_cbc.Goals as goal
 
 pub returns-then-is_closed : goal.returns-then-is_closed

@@ -1,7 +1,7 @@
 use Rattle.std.proofs.Common.{◌≡◌, ◌∙◌, ◌≤◌, ℕ, Bool, List, Option, Some, None, true, false, length, length-take-le, take, sym, ap, arith, if◌then◌else◌}
 use Rattle.std.specs.Option.{option_map}
 use Rattle.jc_ciphers.specs.declared.kept.BlockAlgorithm.TheVariants as algorithm
-use Rattle.jc_ciphers.specs.KeptMacs.{finished_by, is_closed, last_chain}
+use Rattle.jc_ciphers.specs.Kept.Macs.{finished_by, is_closed, last_chain}
 use Rattle.jc_ciphers.proofs.kept.macs.finish_retail.Goals as goal
 
 pub returns-then-is_closed : goal.returns-then-is_closed

@@ -10,7 +10,7 @@ use Rattle.jc_commit.specs.Image.{plain_of, touched_of, count_of, limit_of, capa
 use Rattle.jc_commit.specs.Entries.{addresses_of, ArePlaces}
 use Rattle.jc_commit.specs.EntryIndex.{needing}
 use Rattle.jc_commit.specs.State.{State, IsSound, keeping}
-use Rattle.jc_commit.specs.Keeping.{writes_for, writes_inside, writes_outside}
+use Rattle.jc_commit.specs.Keep.{writes_for, writes_inside, writes_outside}
 use Rattle.jc_commit.proofs.Words.{heap_end_within}
 use Rattle.jc_commit.proofs.Steps.{plain-set_count, log-set_count, IsGoodLog-set_zero}
 use Rattle.jc_commit.proofs.InPlace.{limit_is, capacity_is, places_in}

@@ -5,7 +5,7 @@ use Rattle.jc_heap.specs.Touch.{touched_cells}
 use Rattle.jc_memory.specs.CommitCapacity.{lacks_capacity}
 use Rattle.jc_memory.proofs.Touched.{room_first}
 use Rattle.jc_environment.specs.Pins.{cell_count, limit_cell}
-use Rattle.jc_environment.specs.PinInit.{touched_by_init}
+use Rattle.jc_environment.specs.Pins.PinInit.{touched_by_init}
 use Rattle.jc_environment.proofs.pins.pin_init.init.Goals as goal
 
 pub make_within_capacity-requires-clause-room : goal.make_within_capacity-requires-clause-room

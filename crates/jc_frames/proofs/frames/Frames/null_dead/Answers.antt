@@ -1,6 +1,6 @@
 use Rattle.std.proofs.Common.{ap, ◌∙◌, map}
 use Rattle.std.specs.Prelude.{reverse}
-use Rattle.jc_frames.specs.Cells.{without_dead}
+use Rattle.jc_frames.specs.Cell.{without_dead}
 use Rattle.jc_frames.proofs.Buried.{bury_through}
 use Rattle.jc_frames.proofs.frames.Frames.null_dead.Goals as goal
 

@@ -1,6 +1,6 @@
 use Rattle.std.proofs.Common.{◌≡◌, ◌<◌, ℕ, List, length, sym, ap, subst, ◌∙◌, arith}
 use Rattle.jc_heap.specs.declared.place.Place.{Place}
-use Rattle.jc_heap.specs.Places.{words_of}
+use Rattle.jc_heap.specs.Place.{words_of}
 use Rattle.jc_heap.proofs.Several.{words_of-at, length-words}
 use Rattle.jc_heap.proofs.changes.PlaceWordsWordChanges.change.Goals as goal
 

@@ -1,12 +1,12 @@
 use Rattle.std.proofs.Common.{◌≡◌, ◌≤◌, ◌<◌, ◌+◌, ◌∙◌, [], ◌∷◌, length, get_or, arith, refl, sym, ap, subst, true, Err}
 use Rattle.jc_words.specs.Layout.{top_address, packages_address, addresses_start, most_packages}
-use Rattle.jc_commit.specs.Keeping.{has_room_for, writes_for as journal_writes}
+use Rattle.jc_commit.specs.Keep.{has_room_for, writes_for as journal_writes}
 use Rattle.jc_commit.specs.State.{Changes, keeping as journal_keeping}
 use Rattle.jc_commit.specs.declared.refusal.WriteRefusal.TheVariants.{StoreDown}
 use Rattle.jc_heap.specs.Fresh.{KeepsBelow, Fills}
 use Rattle.jc_heap.specs.Object.{APackage}
 use Rattle.jc_heap.specs.Heap.{heap_view, heap_after_change, heap_item_at, end_address, writes_for, IsTornChange}
-use Rattle.jc_heap.specs.Packages.{parts, array_inits, package_record, package_size, package_words, addresses_of_package, add_package}
+use Rattle.jc_heap.specs.Package.{parts, array_inits, package_record, package_size, package_words, addresses_of_package, add_package}
 use Rattle.jc_heap.proofs.Changing.{up_is}
 use Rattle.jc_heap.proofs.Views.{nothing_at_top, view_top}
 use Rattle.jc_heap.proofs.NewObjects.{kept_alike, lacks_space, has_space, only_down, fresh_stopped_sound, fresh_stopped_view, top_stopped_sound, top_stopped_view}

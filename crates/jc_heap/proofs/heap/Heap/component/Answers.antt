@@ -1,6 +1,6 @@
 use Rattle.std.proofs.Common.{◌≡◌, ◌+◌, ◌≤◌, ◌∙◌, get_or, length, take, drop, max, sym, ap, subst, arith, IfSome}
 use Rattle.jc_words.specs.Layout.{text_start}
-use Rattle.jc_heap.specs.Components.{record_of, info_of, IsWithin}
+use Rattle.jc_heap.specs.Component.{record_of, info_of, IsWithin}
 use Rattle.jc_heap.proofs.Changing.{up_is}
 use Rattle.jc_heap.proofs.Views.{readable}
 use Rattle.jc_heap.proofs.RecordReading.{record_long, record_low, record_within, record_view, view_record, info_within}

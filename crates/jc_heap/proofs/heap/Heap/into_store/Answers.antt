@@ -1,5 +1,5 @@
 use Rattle.std.proofs.Common.{subst}
-use Rattle.jc_heap.specs.Stored.{HoldsHeap}
+use Rattle.jc_heap.specs.Heap.Store.{HoldsHeap}
 use Rattle.jc_heap.proofs.Holding.{holds}
 use Rattle.jc_heap.proofs.heap.Heap.into_store.Goals as goal
 

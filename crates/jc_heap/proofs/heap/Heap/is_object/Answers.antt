@@ -1,7 +1,6 @@
 use Rattle.std.proofs.Common.{IsTrue, false, ◌↔◌, not, ◌≡◌, ◌+◌, ◌/◌, ◌∙◌, ap, sym, subst, refl, drop}
 use Rattle.jc_words.specs.Layout.{text_start}
-use Rattle.jc_heap.specs.Cut.{records_from, missing_words}
-use Rattle.jc_heap.specs.Table.{has_entry}
+use Rattle.jc_heap.specs.Walk.{records_from, missing_words, has_entry}
 use Rattle.jc_heap.specs.Image.{image, package_addresses, is_package, sizes, base, records}
 use Rattle.jc_heap.specs.Heap.{IsObject}
 use Rattle.jc_heap.proofs.Changing.{up_is}

@@ -1,7 +1,7 @@
 use Rattle.std.proofs.Common.{◌≡◌, ◌<◌, ◌≤◌, ◌∙◌, sym, subst, length, slice_index, true, arith}
 use Rattle.jc_words.specs.Layout.{most_packages}
 use Rattle.jc_heap.specs.Heap.{is_allocated}
-use Rattle.jc_heap.specs.Components.{record_of}
+use Rattle.jc_heap.specs.Component.{record_of}
 use Rattle.jc_heap.proofs.Changing.{up_is}
 use Rattle.jc_heap.proofs.RecordReading.{view_packages, view_package}
 use Rattle.jc_heap.proofs.heap.Heap.package_address.Goals as goal

@@ -2,7 +2,7 @@ use Rattle.std.proofs.Common.{◌≡◌, ◌+◌, ◌≤◌, ◌∙◌, get_or, 
 use Rattle.jc_words.specs.Layout.{text_start}
 use Rattle.jc_heap.proofs.Changing.{up_is}
 use Rattle.jc_heap.proofs.Views.{readable}
-use Rattle.jc_heap.specs.Components.{record_of}
+use Rattle.jc_heap.specs.Component.{record_of}
 use Rattle.jc_heap.proofs.RecordReading.{record_long, record_low, record_within, record_view, length_record}
 use Rattle.jc_heap.proofs.heap.Heap.record_length.Goals as goal
 

@@ -1,6 +1,6 @@
 use Rattle.std.proofs.Common.{◌≤◌, ◌+◌, arith, ◌++◌, length, subst, sym, ap, refl, ℕ, List}
 use Rattle.jc_heap.specs.Heap.{HeapView, heap_of, cells}
-use Rattle.jc_heap.specs.Places.{cell_changes}
+use Rattle.jc_heap.specs.Place.{cell_changes}
 use Rattle.jc_heap.specs.Elements.{elements_of}
 use Rattle.jc_heap.specs.Moves.{SetPlaces}
 use Rattle.jc_heap.proofs.Calls.{ok_not_err}

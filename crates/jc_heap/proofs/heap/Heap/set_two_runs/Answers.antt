@@ -1,6 +1,6 @@
 use Rattle.std.proofs.Common.{◌++◌, ◌+◌, ◌≤◌, arith, refl, length, length-append, subst, sym, ap, ℕ, List}
 use Rattle.jc_heap.specs.Heap.{HeapView, heap_of, cells}
-use Rattle.jc_heap.specs.ByteRuns.{run_changes}
+use Rattle.jc_heap.specs.Place.{run_changes}
 use Rattle.jc_heap.specs.Moves.{SetPlaces}
 use Rattle.jc_heap.proofs.Calls.{ok_not_err}
 use Rattle.jc_heap.proofs.Changing.{up_is}

@@ -1,6 +1,6 @@
 use Rattle.std.proofs.Common.{◌≡◌, ◌+◌, ◌<◌, ◌≤◌, ◌∙◌, get_or, length, max, take, drop, sym, ap, subst, arith, IfSome}
 use Rattle.jc_words.specs.Layout.{text_start}
-use Rattle.jc_heap.specs.Components.{record_of, record_parts}
+use Rattle.jc_heap.specs.Component.{record_of, record_parts}
 use Rattle.jc_heap.specs.Statics.{image_from}
 use Rattle.jc_heap.proofs.Changing.{up_is}
 use Rattle.jc_heap.proofs.Views.{readable}

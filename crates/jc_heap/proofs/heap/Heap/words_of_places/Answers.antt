@@ -1,6 +1,6 @@
 use Rattle.std.proofs.Common.{arith, length}
 use Rattle.jc_commit.specs.Entries.{ArePlaces}
-use Rattle.jc_heap.specs.Places.{words_of}
+use Rattle.jc_heap.specs.Place.{words_of}
 use Rattle.jc_heap.proofs.Changing.{up_is}
 use Rattle.jc_heap.proofs.Several.{several_places}
 use Rattle.jc_heap.proofs.heap.Heap.words_of_places.Goals as goal

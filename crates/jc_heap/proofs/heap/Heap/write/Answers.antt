@@ -1,9 +1,9 @@
 use Rattle.std.proofs.Common.{◌≡◌, ◌∙◌, [], ◌∷◌, length, refl, subst, sym, ap, inl, inr, Err, true, List, ℕ}
-use Rattle.jc_commit.specs.Keeping.{has_room_for as journal_room, writes_for as journal_writes}
+use Rattle.jc_commit.specs.Keep.{has_room_for as journal_room, writes_for as journal_writes}
 use Rattle.jc_commit.specs.State.{Changes, keeping as journal_keeping}
 use Rattle.jc_heap.specs.Heap.{IsSound, heap_view, has_room_for}
 use Rattle.jc_heap.specs.Moves.{Write, refusal_at}
-use Rattle.jc_heap.specs.Places.{place_at}
+use Rattle.jc_heap.specs.Place.{place_at}
 use Rattle.jc_heap.specs.Elements.{word_for}
 use Rattle.jc_heap.proofs.Changing.{up_is, refusal_cases, journal_stopped_sound}
 use Rattle.jc_heap.proofs.Calls.{ok_not_err, not_false, room_is, count_is, not_full, unless_done, change_refused}

@@ -1,5 +1,5 @@
 use Rattle.std.proofs.Common.{length, refl}
-use Rattle.jc_heap.specs.Places.{place_at}
+use Rattle.jc_heap.specs.Place.{place_at}
 use Rattle.jc_heap.proofs.Changing.{up_is}
 use Rattle.jc_heap.proofs.Places.{PlaceSpot, place_spot, place_unlogged, both_view}
 use Rattle.jc_heap.proofs.heap.Heap.write_both.Goals as goal

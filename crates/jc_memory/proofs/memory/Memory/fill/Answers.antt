@@ -1,5 +1,5 @@
 use Rattle.std.proofs.Common.{◌∙◌, ◌+◌, ◌≤◌, ap, arith, length, map, subst}
-use Rattle.jc_transient.specs.Cells.{number_of}
+use Rattle.jc_transient.specs.Cell.{number_of}
 use Rattle.jc_transient.specs.State.{HasSizes, RamState, area, area_size, size_in, with_area, with_cells}
 use Rattle.jc_transient.specs.declared.sizes.RamSizes.{RamSizes}
 use Rattle.jc_memory.specs.State.{MemoryState}

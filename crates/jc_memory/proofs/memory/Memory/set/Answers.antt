@@ -1,6 +1,6 @@
 use Rattle.std.proofs.Common.{ap, arith, ◌∙◌, subst, sym}
 use Rattle.jc_heap.specs.declared.place.Place.TheVariants.{Cell}
-use Rattle.jc_heap.specs.Keeping.{IsLegalValue}
+use Rattle.jc_heap.specs.HeapLaws.{IsLegalValue}
 use Rattle.jc_memory.specs.Cells.{word_of}
 use Rattle.jc_memory.proofs.Marking.{known_change}
 use Rattle.jc_memory.proofs.Usable.{within_area}

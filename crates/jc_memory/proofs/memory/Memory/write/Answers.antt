@@ -1,5 +1,5 @@
 use Rattle.std.proofs.Common.{ap, ◌∙◌, subst, sym}
-use Rattle.jc_heap.specs.Keeping.{IsLegalValue}
+use Rattle.jc_heap.specs.HeapLaws.{IsLegalValue}
 use Rattle.jc_memory.proofs.Marking.{known_change}
 use Rattle.jc_memory.proofs.memory.Memory.write.Goals as goal
 

@@ -1,5 +1,5 @@
 use Rattle.std.proofs.Common.{ap, ◌∙◌, subst, sym}
-use Rattle.jc_heap.specs.Keeping.{AreLegalValues}
+use Rattle.jc_heap.specs.HeapLaws.{AreLegalValues}
 use Rattle.jc_memory.proofs.Marking.{known_change}
 use Rattle.jc_memory.proofs.memory.Memory.write_all.Goals as goal
 

@@ -1,6 +1,6 @@
 use Rattle.std.proofs.Common.{ap, ◌∙◌, ◌++◌, subst, sym}
-use Rattle.jc_heap.specs.Places.{cell_changes}
-use Rattle.jc_heap.specs.Keeping.{AreLegalValues}
+use Rattle.jc_heap.specs.Place.{cell_changes}
+use Rattle.jc_heap.specs.HeapLaws.{AreLegalValues}
 use Rattle.jc_memory.proofs.Marking.{known_change}
 use Rattle.jc_memory.proofs.memory.Memory.write_bytes_and_places.Goals as goal
 

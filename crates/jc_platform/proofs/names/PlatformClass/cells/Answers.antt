@@ -1,7 +1,7 @@
 use Rattle.std.proofs.Common.{◌≡◌, ◌<◌, ap, arith, length, true}
 use Rattle.std.specs.Prelude.{nat_lt}
 use Rattle.std.proofs.lemmas.Bool.{ltb-true}
-use Rattle.jc_platform.specs.Distinct.{entry_of_class}
+use Rattle.jc_platform.specs.NamePlaces.{entry_of_class}
 use Rattle.jc_platform.specs.Names.{ClassEntry}
 use Rattle.jc_platform.proofs.EveryRow.{every_class}
 use Rattle.jc_platform.proofs.Facts.{few_cells}

@@ -2,7 +2,7 @@ use Rattle.std.proofs.Common.{◌≡◌, ◌∙◌, ℕ, length, get_or, ap, sym
 use Rattle.std.proofs.lemmas.List.{get_or-map, length-map}
 use Rattle.jc_platform.specs.Names.{classes, no_class}
 use Rattle.jc_platform.specs.Numbers.{class_count}
-use Rattle.jc_platform.specs.Seen.{class_value}
+use Rattle.jc_platform.specs.RowValues.{class_value}
 use Rattle.jc_platform.proofs.Facts.{class_places}
 use Rattle.jc_platform.proofs.names.PlatformClass.row.Goals as goal
 

@@ -4,7 +4,7 @@ use Rattle.std.proofs.lemmas.Bool.{ltb-true}
 use Rattle.jc_platform.specs.declared.kinds.Receiver.{Receiver}
 use Rattle.jc_platform.specs.declared.kinds.Receiver.TheVariants.{Absent, Kept, Registered, Changed}
 use Rattle.jc_platform.specs.declared.names.PlatformMethod.{PlatformMethod}
-use Rattle.jc_platform.specs.Distinct.{entry_of_method}
+use Rattle.jc_platform.specs.NamePlaces.{entry_of_method}
 use Rattle.jc_platform.specs.Names.{MethodEntry}
 use Rattle.jc_platform.specs.Signatures.{receiver_cells}
 use Rattle.jc_platform.proofs.EveryRow.{every_method}

@@ -4,9 +4,9 @@ use Rattle.jc_platform.specs.declared.names.PlatformMethod.{PlatformMethod}
 use Rattle.jc_platform.specs.declared.names.PlatformMethod.TheVariants.{Objects, Exceptions, Utilities, System, Aids, Pins, Applets, Apdus, Events, Engines}
 use Rattle.jc_platform.specs.declared.names.PlatformMethod.TheVariants.{Keys, KeyInterfaces, Ciphers}
 use Rattle.jc_platform.specs.declared.names.PlatformMethod.TheVariants.{RsaKeys, EcKeys, RsaInterfaces, EcInterfaces, KeyPairs}
-use Rattle.jc_platform.specs.Distinct.{entry_of_method, room_place, room_rows}
+use Rattle.jc_platform.specs.NamePlaces.{entry_of_method, room_place, room_rows}
 use Rattle.jc_platform.specs.Names.{no_method}
-use Rattle.jc_platform.specs.Seen.{method_value}
+use Rattle.jc_platform.specs.RowValues.{method_value}
 use Rattle.jc_platform.proofs.names.PlatformMethod.row.Goals as goal
 
 placed : (m : PlatformMethod) → get_or (room_rows m) (room_place m) no_method ≡ entry_of_method m

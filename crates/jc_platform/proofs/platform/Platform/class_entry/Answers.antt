@@ -5,7 +5,7 @@ use Rattle.std.proofs.lemmas.Iterator.Search.{find_from_yields_List}
 use Rattle.jc_platform.specs.Names.{classes}
 use Rattle.jc_platform.specs.Numbers.{same_package}
 use Rattle.jc_platform.specs.Rows.{classes_of, is_token}
-use Rattle.jc_platform.specs.Seen.{class_value}
+use Rattle.jc_platform.specs.RowValues.{class_value}
 use Rattle.jc_platform.specs.Tokens.{token_of_class}
 use Rattle.jc_platform.proofs.Lists.{find-filter, found_through}
 use Rattle.jc_platform.proofs.platform.Platform.class_entry.Goals as goal

@@ -5,7 +5,7 @@ use Rattle.std.proofs.lemmas.Iterator.Search.{find_from_yields_List}
 use Rattle.jc_platform.specs.Names.{methods}
 use Rattle.jc_platform.specs.Numbers.{same_class, same_kind}
 use Rattle.jc_platform.specs.Rows.{is_token, methods_of}
-use Rattle.jc_platform.specs.Seen.{method_value}
+use Rattle.jc_platform.specs.RowValues.{method_value}
 use Rattle.jc_platform.specs.Tokens.{token_of_method}
 use Rattle.jc_platform.proofs.Lists.{and_within, find-filter, found_through}
 use Rattle.jc_platform.proofs.platform.Platform.method_entry.Goals as goal

@@ -5,7 +5,7 @@ use Rattle.jc_platform.specs.Names.{classes}
 use Rattle.jc_platform.specs.Numbers.{same_package}
 use Rattle.jc_platform.specs.Reading.{above_of}
 use Rattle.jc_platform.specs.Rows.{is_token}
-use Rattle.jc_platform.specs.Seen.{class_value}
+use Rattle.jc_platform.specs.RowValues.{class_value}
 use Rattle.jc_platform.proofs.Lists.{any_through}
 use Rattle.jc_platform.proofs.reading.Reading.has_class_token.Goals as goal
 

@@ -5,7 +5,7 @@ use Rattle.jc_platform.specs.Names.{methods}
 use Rattle.jc_platform.specs.Numbers.{same_class, same_kind}
 use Rattle.jc_platform.specs.Reading.{above_of}
 use Rattle.jc_platform.specs.Rows.{is_token, methods_of}
-use Rattle.jc_platform.specs.Seen.{method_value}
+use Rattle.jc_platform.specs.RowValues.{method_value}
 use Rattle.jc_platform.proofs.ClassMethods.{any-filter}
 use Rattle.jc_platform.proofs.Lists.{any_through}
 use Rattle.jc_platform.proofs.reading.Reading.has_method_token.Goals as goal

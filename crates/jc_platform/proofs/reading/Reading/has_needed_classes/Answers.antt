@@ -4,7 +4,7 @@ use Rattle.std.proofs.lemmas.Iterator.{YieldsList-from_slice}
 use Rattle.std.proofs.lemmas.Iterator.Search.{all_from_yields_List}
 use Rattle.jc_platform.specs.Names.{classes}
 use Rattle.jc_platform.specs.Reading.{above_of}
-use Rattle.jc_platform.specs.Seen.{class_value}
+use Rattle.jc_platform.specs.RowValues.{class_value}
 use Rattle.jc_platform.proofs.Lists.{all_through}
 use Rattle.jc_platform.proofs.reading.Reading.has_needed_classes.Goals as goal
 

@@ -3,7 +3,7 @@ use Rattle.std.specs.Prelude.{is_some}
 use Rattle.std.proofs.lemmas.Iterator.{YieldsList-from_slice}
 use Rattle.std.proofs.lemmas.Iterator.Search.{all_from_yields_List}
 use Rattle.jc_platform.specs.Reading.{above_of}
-use Rattle.jc_platform.specs.Seen.{method_value}
+use Rattle.jc_platform.specs.RowValues.{method_value}
 use Rattle.jc_platform.proofs.Lists.{all_through}
 use Rattle.jc_platform.proofs.reading.Reading.has_needed_of.Goals as goal
 

@@ -1,5 +1,5 @@
 use Rattle.std.proofs.Common.{◌∙◌, ap, map, refl, subst, sym}
-use Rattle.jc_transient.specs.Cells.{AreNumbers, AreZeros, default_value}
+use Rattle.jc_transient.specs.Cell.{AreNumbers, AreZeros, default_value}
 use Rattle.jc_transient.proofs.Clearing.{cleared_in, keeps_cleared, lent_done}
 use Rattle.jc_transient.proofs.Numbers.{numbers_cleared}
 use Rattle.jc_transient.proofs.Zeros.{zeros_map}

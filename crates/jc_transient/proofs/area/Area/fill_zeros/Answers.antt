@@ -1,6 +1,6 @@
 use Rattle.std.proofs.Common.{◌∙◌, ◌+◌, ◌-◌, ◌≤◌, length, ap, arith, max, refl, replicate, subst, sym}
 use Rattle.std.proofs.lemmas.List.{length-replicate}
-use Rattle.jc_transient.specs.Cells.{AreZeros}
+use Rattle.jc_transient.specs.Cell.{AreZeros}
 use Rattle.jc_transient.specs.State.{with_cells}
 use Rattle.jc_transient.proofs.Clearing.{lent_put}
 use Rattle.jc_transient.proofs.Numbers.{lent_numbers, numbers_replicate}

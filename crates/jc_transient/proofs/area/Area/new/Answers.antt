@@ -1,5 +1,5 @@
 use Rattle.std.proofs.Common.{◌∙◌, ap, arith, map, pos, refl, subst, sym}
-use Rattle.jc_transient.specs.Cells.{AreNumbers, default_value}
+use Rattle.jc_transient.specs.Cell.{AreNumbers, default_value}
 use Rattle.jc_transient.specs.declared.cell.CellValue.TheVariants.{Short}
 use Rattle.jc_transient.proofs.Clearing.{zeros_in}
 use Rattle.jc_transient.proofs.Zeros.{zeros_of}

@@ -1,5 +1,5 @@
 use Rattle.std.proofs.Common.{◌∙◌, ap, map, refl, subst, sym}
-use Rattle.jc_transient.specs.Cells.{AreNumbers, AreZeros, without_dead}
+use Rattle.jc_transient.specs.Cell.{AreNumbers, AreZeros, without_dead}
 use Rattle.jc_transient.proofs.Clearing.{keeps_without_dead, lent_done}
 use Rattle.jc_transient.proofs.Numbers.{numbers_same}
 use Rattle.jc_transient.proofs.Zeros.{zeros_map}

@@ -1,6 +1,6 @@
 use Rattle.std.proofs.Common.{◌∙◌, ◌+◌, ap, arith, length, max, sym}
 use Rattle.std.proofs.lemmas.List.{length-map}
-use Rattle.jc_transient.specs.Cells.{number_of}
+use Rattle.jc_transient.specs.Cell.{number_of}
 use Rattle.jc_transient.proofs.Clearing.{lent_put}
 use Rattle.jc_transient.proofs.Numbers.{lent_numbers, numbers_words}
 use Rattle.jc_transient.proofs.Zeros.{lent_zeros}

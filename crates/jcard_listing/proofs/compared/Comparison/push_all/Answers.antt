@@ -7,7 +7,7 @@ use Rattle.jc_objects.proofs.Sizes.{size_none, size_some}
 use Rattle.jcard_listing.specs.InventoryLines.{Lines}
 use Rattle.jcard_listing.specs.Compared.{compared_lines, compared_text}
 use Rattle.jcard_listing.specs.declared.fault.ListFault.TheVariants.{Unreadable}
-use Rattle.jcard_listing.proofs.Listed.{IsTelling, lists_none, lists_unread, telling_more, telling_none, telling_then}
+use Rattle.jcard_listing.proofs.LineLists.{IsTelling, lists_none, lists_unread, telling_more, telling_none, telling_then}
 use Rattle.jcard_listing.proofs.ObjectLines.{Texts, lines_end, lines_first, lines_from, lines_short, lines_step}
 use Rattle.jcard_listing.proofs.compared.Comparison.push_all.Goals as goal
 

@@ -2,7 +2,7 @@ use Rattle.std.proofs.Common.{◌≤◌, ◌-◌}
 use Rattle.jc_words.specs.Layout.{text_start}
 use Rattle.jc_objects.specs.Places.{IsPlaceFor}
 use Rattle.jcard_listing.specs.Compared.{compared_lines, compared_text}
-use Rattle.jcard_listing.proofs.Listed.{IsTelling}
+use Rattle.jcard_listing.proofs.LineLists.{IsTelling}
 use Rattle.jcard_listing.proofs.ObjectLines.{lines_from}
 use Rattle.jcard_listing.proofs.compared.Comparison.push_all.Given as goal
 

@@ -1,6 +1,6 @@
 use Rattle.std.proofs.Common.{ℕ, subst}
 use Rattle.jc_objects.specs.Places.{IsPlaceFor}
-use Rattle.jcard_listing.specs.Images.{ListedImage}
+use Rattle.jcard_listing.specs.Image.{ListedImage}
 use Rattle.jcard_listing.proofs.image.Image.first_place.Goals as goal
 
 pub returns : goal.returns

@@ -1,7 +1,7 @@
 use Rattle.jcard_script.specs.HeldCard.{state_of_held}
 use Rattle.jcard_script.specs.Reply.{text_for_line}
 use Rattle.jcard_script.specs.Script.{form_of}
-use Rattle.jcard_script.proofs.Ending.{written_line}
+use Rattle.jcard_script.proofs.ScriptEnds.{written_line}
 use Rattle.jcard_script.proofs.LongCommands.{answered_line}
 use Rattle.jcard_script.proofs.session.Session.answer_command.Goals as goal
 

@@ -5,7 +5,7 @@ use Rattle.jcard_script.specs.HeldCard.{state_of_held}
 use Rattle.jcard_script.specs.Line.{IsCommandOf}
 use Rattle.jcard_script.specs.Session.{LinesEnd, IsKeptOf, unfinished_line}
 use Rattle.jcard_script.proofs.Parts.{line_ended}
-use Rattle.jcard_script.proofs.Ending.{line_done, if_carried}
+use Rattle.jcard_script.proofs.ScriptEnds.{line_done, if_carried}
 use Rattle.jcard_script.proofs.session.Session.end_line.Goals as goal
 
 pub returns-then-whole_command-clause-goes : goal.returns-then-whole_command-clause-goes

@@ -4,7 +4,7 @@ use Rattle.jcard_script.specs.Script.{ended_lines}
 use Rattle.jcard_script.specs.HeldCard.{state_of_held}
 use Rattle.jcard_script.specs.Session.{LinesEnd, IsKeptOf, unfinished_line}
 use Rattle.jcard_script.proofs.Parts.{line_ended}
-use Rattle.jcard_script.proofs.Ending.{line_done, if_carried}
+use Rattle.jcard_script.proofs.ScriptEnds.{line_done, if_carried}
 use Rattle.jcard_script.proofs.session.Session.end_other_line.Goals as goal
 
 pub returns-clause-goes : goal.returns-clause-goes

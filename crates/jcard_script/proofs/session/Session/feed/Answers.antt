@@ -5,7 +5,7 @@ use Rattle.jcard_script.specs.Session.{StandsAt, IsKeptOf, unfinished_line}
 use Rattle.std.proofs.lemmas.Result.{err_from_is_err_and}
 use Rattle.jcard_script.proofs.Known.{appends_same, appends_then_appends, whole_rest}
 use Rattle.jcard_script.proofs.Parts.{unbroken_before, unbroken_whole, more_unbroken}
-use Rattle.jcard_script.proofs.Ending.{fault_inside, piece_whole}
+use Rattle.jcard_script.proofs.ScriptEnds.{fault_inside, piece_whole}
 use Rattle.jcard_script.proofs.session.Session.feed.Goals as goal
 
 pub end_line-requires-clause-unbroken : goal.end_line-requires-clause-unbroken

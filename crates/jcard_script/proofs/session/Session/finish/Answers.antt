@@ -1,6 +1,6 @@
 use Rattle.std.proofs.Common.{◌+◌, ap}
 use Rattle.jcard_script.specs.Session.{unfinished_line}
-use Rattle.jcard_script.proofs.Ending.{script_done}
+use Rattle.jcard_script.proofs.ScriptEnds.{script_done}
 use Rattle.jcard_script.proofs.session.Session.finish.Goals as goal
 
 pub returns-clause-goes : goal.returns-clause-goes

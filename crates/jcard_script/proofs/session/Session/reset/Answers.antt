@@ -1,8 +1,8 @@
 use Rattle.std.proofs.Common.{rules}
-use Rattle.jc_card.specs.SessionStates.{answer_of_power_up, power_of}
+use Rattle.jc_card.specs.State.{answer_of_power_up, power_of}
 use Rattle.jcard_script.specs.HeldCard.{state_of_held}
 use Rattle.jcard_script.specs.ScriptStates.{IsReset}
-use Rattle.jcard_script.proofs.Kept.{reset_answered}
+use Rattle.jcard_script.proofs.PowerUps.{reset_answered}
 use Rattle.jcard_script.proofs.session.Session.reset.Goals as goal
 
 pub returns-in-Ok-clause-powered : goal.returns-in-Ok-clause-powered

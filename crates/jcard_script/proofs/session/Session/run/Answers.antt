@@ -6,7 +6,7 @@ use Rattle.jcard_script.specs.HeldCard.{state_of_held}
 use Rattle.jcard_script.specs.Session.{LinesEnd}
 use Rattle.jcard_script.proofs.Known.{consumes_then_keeps, consumes_then_none, consumes_then_consumes, appends_then_appends, within_bound}
 use Rattle.jcard_script.proofs.Parts.{ended_few}
-use Rattle.jcard_script.proofs.Ending.{ends_at_end, ends_before}
+use Rattle.jcard_script.proofs.ScriptEnds.{ends_at_end, ends_before}
 use Rattle.jcard_script.proofs.session.Session.run.Goals as goal
 
 pub returns-in_default-clause-script : goal.returns-in_default-clause-script

@@ -1,5 +1,0 @@
-use Rattle.jc_api_crypto.proofs.Whole.{of_the_whole}
-use Rattle.jc_api_crypto.proofs.law.digests_are_of_the_whole.Goals as goal
-
-pub returns : goal.returns
-returns c = of_the_whole

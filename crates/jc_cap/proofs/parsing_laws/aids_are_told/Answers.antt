@@ -1,5 +1,0 @@
-use Rattle.jc_cap.proofs.Telling.{aid_tells}
-use Rattle.jc_cap.proofs.parsing_laws.aids_are_told.Goals as goal
-
-pub returns : goal.returns
-returns c = aid_tells

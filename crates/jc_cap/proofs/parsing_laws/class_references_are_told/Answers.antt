@@ -1,5 +1,0 @@
-use Rattle.jc_cap.proofs.Telling.{class_ref_tells}
-use Rattle.jc_cap.proofs.parsing_laws.class_references_are_told.Goals as goal
-
-pub returns : goal.returns
-returns c = class_ref_tells

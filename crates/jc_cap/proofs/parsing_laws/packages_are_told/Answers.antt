@@ -1,5 +1,0 @@
-use Rattle.jc_cap.proofs.Telling.{package_tells}
-use Rattle.jc_cap.proofs.parsing_laws.packages_are_told.Goals as goal
-
-pub returns : goal.returns
-returns c = package_tells

@@ -1,0 +1,13 @@
+use Rattle.std.proofs.Common.{◌≡◌, ◌∙◌, ap, subst}
+use Rattle.jc_words.specs.Store.{FuseStoreValue}
+use Rattle.jcard_script.specs.Begun.{HasBegun}
+use Rattle.jcard_tear.specs.Runs.{store_of}
+use Rattle.jcard_tear.proofs.WholeRuns.{under_fuse}
+use Rattle.jcard_attack.proofs.kept_card.kept_for.Goals as goal
+
+pub returns : goal.returns
+returns c =
+    let fresh : c.new-store.result ≡ store_of c.args.words.now =
+    c.new-store.ensures ∙ ap under_fuse c.of.ensures ∙ ap store_of c.in-Ok.ensures.items in
+    let begun = subst (λ (f : FuseStoreValue). HasBegun c.args.attacked.instructions f c.args.attacked.before.now c.in_ok-begun.begun) fresh c.in_ok-begun.ensures in
+    (begun, c.in_ok-command.ensures)

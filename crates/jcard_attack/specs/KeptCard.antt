@@ -1,0 +1,32 @@
+-- The card at a command, which is kept for all its faults.
+use Rattle.std.specs.Prelude.{ℕ, ◌≡◌, List, ◌++◌, Option, None}
+use Rattle.jc_words.specs.Store.{FuseStoreValue}
+use Rattle.jc_card.specs.Card.{CardState}
+use Rattle.jc_commit.specs.Image.{plain_of, recovered_of}
+use Rattle.jc_commit.specs.Migration.{migrated}
+use Rattle.jc_card.specs.State.Power.{Up, planned_card}
+use Rattle.jc_card.specs.declared.planned_fault.PlannedFault.{PlannedFault}
+use Rattle.jcard_outcomes.specs.declared.standing.Left.{Left}
+use Rattle.jcard_script.specs.Begun.{AnswersLines, HasBegun, IsCommandLine}
+use Rattle.jcard_script.specs.Script.{planned_text, text_of}
+use Rattle.jcard_script.specs.ScriptStates.{IsSessionStore}
+use Rattle.jcard_tear.specs.Runs.{store_of}
+use Rattle.jcard_attack.specs.Aftermaths.{attacked_script}
+use Rattle.jcard_attack.specs.declared.aftermaths.Attacked.{Attacked}
+use Rattle.jcard_attack.specs.declared.kept_card.AtCommand.{AtCommand}
+
+-- a card over these words has carried out the lines before a command, and these are the command's bytes
+abbrev pub IsKeptFor : List ℕ → Attacked → AtCommand → Type 0
+IsKeptFor words c kept = HasBegun c.instructions (store_of words) c.before.now kept.begun × IsCommandLine kept.command.items c.line.now
+
+-- a card has carried out the lines before the command, the command with this fault, or with none, and `glitch none`, and this was the command's
+-- response
+abbrev pub HasStruck : List ℕ → Attacked → Option PlannedFault → List ℕ → CardState → Type 0
+HasStruck words c fault response card = (end : CardState) × (text : List ℕ) × (planned : Option PlannedFault)
+    × (begun : HasBegun c.instructions (store_of words) (attacked_script c fault) end)
+    × (begun.text ≡ (text ++ planned_text planned) ++ text_of response) × (card ≡ planned_card None end)
+
+-- a card leaves this: the heap that a recovery finds, and what it answers to the lines of a probe
+abbrev pub Leaves : CardState → List ℕ → Left → Type 0
+Leaves card probe left = (after last : FuseStoreValue) × IsSessionStore (Up card) after × (plain_of left.words.items ≡ migrated 3 (recovered_of after.words))
+    × AnswersLines card probe left.answers.items last

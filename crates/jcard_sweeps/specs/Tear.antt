@@ -1,0 +1,86 @@
+-- `jcard tear`: what is read, what is done with it, and what is reported.
+use Rattle.std.specs.Prelude.{ℕ, ◌≡◌, ◌⊎◌, map, List, [], ◌∷◌, Option, Some, None, Ok, Err}
+use Rattle.jcard_files.specs.Reading.{IsScriptRead, IsUnread}
+use Rattle.jcard_files.specs.FileDeeds.{FileDeed, ClosesImage, ReadsImage, untouched}
+use Rattle.jcard_files.specs.Images.{IsNotOpened}
+use Rattle.jcard_files.specs.declared.fault.Fault.{Fault}
+use Rattle.jcard_files.specs.declared.fault.Fault.TheVariants.{NoMemory}
+use Rattle.jcard_tear.specs.Faults.{told_run_fault}
+use Rattle.jcard_tear.specs.Runs.{IsCarriedThrough, IsRunFault}
+use Rattle.jcard_tear.specs.ScriptLines.{commands_of, line_of}
+use Rattle.jcard_tear.specs.declared.runs.RunFault.{RunFault}
+use Rattle.jcard_tear.specs.declared.sweep.TearFault.{TearFault}
+use Rattle.jcard_sweeps.specs.Cuts.{IsCut, IsUncut}
+use Rattle.jcard_sweeps.specs.SweepsAsked.{SweepAsked}
+use Rattle.jcard_sweeps.specs.Targets.{IsNoTarget, IsTarget}
+use Rattle.jcard_sweeps.specs.TearFaults.{IsTearFault}
+use Rattle.jcard_sweeps.specs.Texts.{text_of}
+use Rattle.jcard_files.specs.Effects.{FindsThen, ReadsThen, Tells, WithNoFile}
+use Rattle.jcard_sweeps.specs.Report.{IsTold}
+use Rattle.jcard_sweeps.specs.declared.cuts.Cutting.{Cutting}
+use Rattle.jcard_sweeps.specs.declared.cuts.Subject.{Subject}
+use Rattle.jcard_sweeps.specs.declared.targets.Target.{Target}
+
+-- ---- files
+
+-- the image with this name was opened to read it alone, and closed with no write asked for
+abbrev pub IsImageRead : List ℕ → List ℕ → List FileDeed → Type 0
+IsImageRead image w deeds = deeds ≡ ReadsImage image (Ok w) ∷ ClosesImage image (untouched w) ∷ []
+
+-- it could not be opened; or memory was refused for its words
+abbrev pub IsImageUnread : List ℕ → Fault → List FileDeed → Type 0
+IsImageUnread image fault deeds = (IsNotOpened image fault × (deeds ≡ ReadsImage image (Err fault) ∷ []))
+    ⊎ ((w : List ℕ) × (fault ≡ NoMemory) × IsImageRead image w deeds)
+
+-- these lines were read, if a probe was named
+abbrev pub IsProbeRead : Option (List ℕ) → Option (List ℕ) → List FileDeed → Type 0
+IsProbeRead None given deeds = (given ≡ None) × (deeds ≡ [])
+IsProbeRead (Some name) given deeds = (text : List ℕ) × (given ≡ Some text) × IsScriptRead name text deeds
+
+-- they could not be read
+abbrev pub IsProbeUnread : Option (List ℕ) → Fault → List FileDeed → Type 0
+IsProbeUnread None fault deeds = ⊥
+IsProbeUnread (Some name) fault deeds = IsUnread name fault deeds
+
+-- ---- scripts
+
+-- a script over these words, of which these are the commands; the image has this name
+abbrev pub IsSubject : List ℕ → List ℕ → List ℕ → Subject → Type 0
+IsSubject image w script subject = (subject.names.image.now ≡ image) × (subject.words.now ≡ w) × (subject.script.now ≡ script)
+    × (map line_of subject.commands.now ≡ commands_of script)
+
+-- the script was carried out to its end over the words, with at most this many instructions a command
+abbrev pub IsCarried : ℕ → Subject → Type 0
+IsCarried budget subject = IsCarriedThrough budget subject.words.now subject.script.now
+
+-- it was not, and that is reported
+abbrev pub IsUncarried : ℕ → Subject → Fault → Type 0
+IsUncarried budget subject fault = (cause : RunFault) × IsRunFault budget subject.words.now subject.script.now cause
+    × IsTearFault subject.names.image.now (told_run_fault cause) fault
+
+-- the probe was read with which this script is cut as is asked, if one is named
+abbrev pub IsCuttingRead : Subject → SweepAsked → Cutting → List FileDeed → Type 0
+IsCuttingRead subject asked cutting deeds = (cutting.subject ≡ subject) × (cutting.follow_up.behind ≡ asked.behind)
+    × IsProbeRead asked.probe (text_of cutting.follow_up.probe) deeds
+
+-- that was not cut, which is reported
+abbrev pub IsUncutTold : Cutting → Target → Fault → Type 0
+IsUncutTold cutting target fault = (cause : TearFault) × IsUncut cutting target cause × IsTearFault cutting.subject.names.image.now cause fault
+
+-- what is meant of the commands of a script was found, the probe was read, that was cut, and the report was written
+abbrev pub IsTorn : Subject → SweepAsked → Tells
+IsTorn subject asked =
+    FindsThen (IsTarget asked subject.commands.now) (IsNoTarget asked subject.commands.now) (λ target.
+    ReadsThen (IsCuttingRead subject asked) (IsProbeUnread asked.probe) (λ cutting.
+    FindsThen (IsCut cutting target) (IsUncutTold cutting target) (λ told.
+    WithNoFile (IsTold told.text.items told.is_whole))))
+
+-- the words of the image and the script were read, the whole script was carried out over these words, and what is meant of its commands was cut,
+-- on cards in memory alone
+abbrev pub IsTear : List ℕ → SweepAsked → Tells
+IsTear image asked =
+    ReadsThen (IsImageRead image) (IsImageUnread image) (λ w.
+    ReadsThen (IsScriptRead asked.script) (IsUnread asked.script) (λ script.
+    FindsThen (IsSubject image w script) (λ fault. fault ≡ NoMemory) (λ subject.
+    FindsThen (λ (done : Unit {0}). IsCarried asked.behind.instructions subject) (IsUncarried asked.behind.instructions subject) (λ done.
+    IsTorn subject asked))))

@@ -1,0 +1,105 @@
+//! The card at a command, which is kept for all its cuts: the lines before the command are carried out once.
+ghost use Rattle.std.specs.Prelude.{◌≡◌, ◌<◌, ◌++◌, ℕ, List, codes, decimal, length, vec_len, IfOk, IfSome};
+ghost use Rattle.jc_commit.specs.Image.{plain_of, recovered_of};
+ghost use Rattle.jcard_tear.specs.KeptCard.{IsKeptCut, IsKeptFor, IsShort};
+ghost use Rattle.jcard_tear.specs.Runs.{IsRecovered};
+ghost use Rattle.jcard_tear.specs.declared.cuts.Command.{Command as CommandText};
+
+use crate::cuts::Command;
+use crate::recoveries::journal_of;
+use crate::runs::{recovered, words_of};
+use arrayvec::ArrayVec;
+use itoa::Buffer;
+use jc_words::{FuseStore, MemStore, WordStore};
+use jcard_outcomes::recoveries::Depth;
+use jcard_script::begun::{BegunScript, begin_script, command_of_line};
+use std::alloc::{AllocError, Global};
+
+/// How many bytes are taken once; copies of a card of the largest image take less.
+const KEPT_ROOM: usize = 4_194_304;
+
+/// A card that has carried out the lines before a command, and the bytes of the command.
+#[derive(Drop)]
+pub(crate) struct AtCommand {
+    begun: BegunScript<MemStore>,
+    command: ArrayVec<u8, 65545>,
+}
+
+/// What came of a cut of a copy of that card.
+#[derive(Drop)]
+pub(crate) enum KeptCut {
+    /// The command makes no more writes.
+    Uncut,
+    /// What a recovery then left.
+    Left(Vec<u16>),
+}
+
+/// The card of a copy of these words at a command. Nothing where its line is no command that a line feed ends, where the lines before it
+/// lead to no card that is up, or where recoveries are to be cut.
+pub(crate) fn kept_for(alloc: Global, words: &[u16], command: Command) -> Option<AtCommand>
+    requires { length words.now < 65536 }
+    ensures { IfSome result (λ kept. IsKeptFor words.now command.entry kept) }
+{
+    let Depth::Zero = command.behind.depth else {
+        return None;
+    };
+    let bytes = command_of_line(command.line)?;
+    keep_room(alloc);
+    let Ok(copy) = Vec::from_slice(alloc, words) else {
+        return None;
+    };
+    let store = FuseStore::new(MemStore::of(copy));
+    let begun = begin_script(alloc, store, command.behind.instructions, command.before)?;
+    Some(AtCommand {
+        begun,
+        command: bytes,
+    })
+}
+
+// Takes room once and gives it back. The allocator of the C library keeps from then on what is given back, up to twice as much, in place of giving
+// it to the system and asking for it again for each copy of the card.
+fn keep_room(alloc: Global) {
+    let room: Result<Vec<u8>, AllocError> = Vec::with_capacity(alloc, KEPT_ROOM);
+    drop(room);
+}
+
+impl AtCommand {
+    /// Cuts a copy of the card after this many writes of the command, and recovers what is left. Nothing where memory is refused, or
+    /// where the image is of the first version.
+    pub(crate) fn cut(&self, alloc: Global, number: u16) -> Option<KeptCut>
+        ensures cut { IfSome result (λ cut. (words : List ℕ) (c : CommandText)
+            → IsKeptFor words c self.now → IsKeptCut words c number cut) }
+        ensures short { IfSome result IsShort }
+    {
+        let Ok(stop) = stop_line(alloc, number) else {
+            return None;
+        };
+        let store = self.begun.cut(&stop, self.command.as_slice())?;
+        if !store.is_down() {
+            return Some(KeptCut::Uncut);
+        }
+        let found = recovered_alike(words_of(store))?;
+        Some(KeptCut::Left(found))
+    }
+}
+
+// What a recovery of these words leaves; nothing where no journal is found in them, as in an image of the first version.
+fn recovered_alike(words: Vec<u16>) -> Option<Vec<u16>>
+    requires { vec_len words < 65536 }
+    ensures recovered { IfSome result (λ found. IsRecovered found.items) }
+    ensures heap { IfSome result (λ found. plain_of found.items ≡ recovered_of words.items) }
+    ensures short { IfSome result (λ found. vec_len found < 65536) }
+{
+    journal_of(&words)?;
+    recovered(words).ok()
+}
+
+// The line `stop K`, without its line feed.
+fn stop_line(alloc: Global, number: u16) -> Result<Vec<u8>, AllocError>
+    ensures { IfOk result (λ line. line.items ≡ codes "stop " ++ decimal number) }
+{
+    let mut digits = Buffer::new();
+    let mut line = Vec::from_slice(alloc, b"stop ")?;
+    line.extend_from_slice(digits.format(number).as_bytes())?;
+    Ok(line)
+}

@@ -1,0 +1,262 @@
+//! A command that is cut after each number of its writes, beside what was before it and what it leaves.
+ghost use Rattle.std.specs.Prelude.{◌≡◌, ◌<◌, ◌+◌, ◌*◌, ◌++◌, ℕ, length, vec_len, IfOk, IfSome, IsTrue, MatchResult};
+ghost use Rattle.jcard_tear.specs.declared.sweep.TearFault.TheVariants.{NoMemory};
+ghost use Rattle.jcard_tear.specs.KeptCard.{HasAnswered, IsKnown};
+ghost use Rattle.jcard_tear.specs.Sweep.{IsBegun, IsDone, IsLastLine, IsSwept, IsSweptBy};
+ghost use Rattle.jcard_tear.specs.Runs.{IsLeft, IsRecovered};
+ghost use Rattle.jcard_tear.specs.Faults.{IsImageFault, IsProbeFault, IsUncutFor, told_probe_fault, told_run_fault};
+ghost use Rattle.jc_objects.specs.Pins.{AreTriesIn};
+
+use crate::cuts::{Baseline, Command, cut_all};
+use crate::progress::Progress;
+use crate::recoveries::are_equal;
+use crate::report::{left_told, objects_asked};
+use crate::runs::{RunFault, answers_over, left, recovered, run_copy, run_told};
+use jc_card::power_up::PowerFault;
+use jc_objects::pins::try_words;
+use jc_packages::fault::ReadFault;
+use jcard_outcomes::part::Share;
+use jcard_outcomes::report::Sweep;
+use jcard_outcomes::standing::Left;
+use jcard_script::script::ScriptFault;
+use std::alloc::{AllocError, Global};
+
+/// What a command leaves is no whole image.
+pub(crate) const DAMAGED: TearFault = TearFault::Probe(ScriptFault::PowerFault(
+    PowerFault::BadPackage,
+));
+
+/// Why a command was not cut after each number of its writes.
+#[derive(Clone, Copy, Drop)]
+pub enum TearFault {
+    NoMemory,
+    /// The script, up to the command, was not carried out to its end.
+    Script(ScriptFault),
+    /// Nor was a recovery after it, or the probe.
+    Probe(ScriptFault),
+    /// The script cut the power itself, and the card is down at the command.
+    Down,
+    /// The command makes more writes than are counted.
+    TooManyCuts,
+}
+
+/// Carries out the script up to the command on a card of a copy of these words, and then cuts the command after each number
+/// of its writes, each time on a card of a copy of its own. After each cut comes a reset, and then the probe; and as many
+/// recoveries as the command says are cut before a reset that is not. The tries of OwnerPINs do not count in a comparison. Where
+/// the command asks for objects, the cells that changed since before it are reported after the answers. Each cut is reported as it is made.
+pub fn tear<P: Progress>(
+    alloc: Global,
+    words: &[u16],
+    command: Command,
+    progress: &mut P,
+) -> Result<Sweep, TearFault>
+    requires { length words.now < 65536 }
+    ensures { MatchResult result (IsSwept words.now command.entry)
+        (IsUncutFor words.now command.entry 1) }
+{
+    let whole = Share { first: 0, step: 1 };
+    tear_share(alloc, words, command, whole, progress)
+}
+
+/// The same with the cuts in a part of them alone.
+pub(crate) fn tear_share<P: Progress>(
+    alloc: Global,
+    words: &[u16],
+    command: Command,
+    share: Share,
+    progress: &mut P,
+) -> Result<Sweep, TearFault>
+    requires { length words.now < 65536 }
+    ensures swept { MatchResult result (IsSweptBy words.now command.entry share.first share.step)
+        (IsUncutFor words.now command.entry share.step) }
+    ensures below { IfOk result (λ sweep. share.first + share.step * length sweep.cuts.items < 65536) }
+{
+    let (answer, after, by_calls) = done(alloc, words, command, progress)?;
+    let (before, is_known) = begun(alloc, words, command)?;
+    progress.tell_image(&before.words);
+    let spared = tries_in(alloc, &after)?;
+    let lenient = joined(alloc, &spared, &by_calls)?;
+    let objects = objects_asked(alloc, command.behind.objects, &before)?;
+    let baseline = Baseline {
+        before: &before,
+        is_known,
+        after: &after,
+        spared: &spared,
+        lenient: &lenient,
+        objects: &objects,
+    };
+    let cuts = cut_all(alloc, words, command, baseline, share, progress)?;
+    let after = left_told(alloc, &objects, after)?;
+    Ok(Sweep {
+        before,
+        answer,
+        after,
+        cuts,
+        depth: command.behind.depth,
+    })
+}
+
+// These words, and those.
+fn joined(alloc: Global, these: &[u16], those: &[u16]) -> Result<Vec<u16>, AllocError>
+    ensures { IfOk result (λ joined. joined.items ≡ these.now ++ those.now) }
+{
+    let mut joined = Vec::from_slice(alloc, these)?;
+    joined.extend_from_slice(those)?;
+    Ok(joined)
+}
+
+// The answer of a command that is not cut, what it leaves, and which words its non-atomic calls write. What makes its writes is reported.
+fn done<P: Progress>(
+    alloc: Global,
+    words: &[u16],
+    command: Command,
+    progress: &mut P,
+) -> Result<(Vec<u8>, Left, Vec<u16>), TearFault>
+    requires { length words.now < 65536 }
+    ensures { MatchResult result (λ r. IsDone words.now command.entry r.0.items r.1)
+        (λ fault. (step : ℕ) → IsUncutFor words.now command.entry step fault) }
+{
+    let mut script = Vec::from_slice(alloc, command.before)?;
+    script.extend_from_slice(command.line)?;
+    let watched = run_told(
+        alloc,
+        words,
+        &script,
+        command.behind.instructions,
+        progress.names(),
+    )?;
+    progress.tell_writes(watched.told);
+    let ran = watched.ran;
+    if ran.is_down {
+        return Err(TearFault::Down);
+    }
+    let answer = Vec::from_slice(alloc, last_line(&ran.text))?;
+    let left = left_by_probe(alloc, ran.words, command.probe, command.behind.instructions)?;
+    Ok((answer, left, watched.by_calls))
+}
+
+// What is left by the lines before a command; and whether a reset then finds the words as they were left, so that the answers are known of a
+// card that powers up over them.
+fn begun(alloc: Global, words: &[u16], command: Command) -> Result<(Left, bool), TearFault>
+    requires { length words.now < 65536 }
+    ensures { MatchResult result (λ r. IsBegun words.now command.entry r.0
+        × (IsTrue r.1 → IsKnown command.entry r.0))
+        (λ fault. (step : ℕ) → IsUncutFor words.now command.entry step fault) }
+{
+    let ran = run_copy(alloc, words, command.before, command.behind.instructions)?;
+    left_known(alloc, ran.words, command.probe, command.behind.instructions)
+}
+
+// What a reset finds and the probe is answered; and whether it is known of a card that powers up over the words that it finds.
+fn left_known(
+    alloc: Global,
+    words: Vec<u16>,
+    probe: &[u8],
+    budget: u32,
+) -> Result<(Left, bool), TearFault>
+    requires { vec_len words < 65536 }
+    ensures { MatchResult result (λ r. IsLeft budget words.items probe.now r.0
+        × (IsTrue r.1 → IsRecovered r.0.words.items × HasAnswered budget probe.now r.0))
+        (λ fault. IsProbeFault budget probe.now fault) }
+{
+    if let Some(left) = left_standing(alloc, &words, probe, budget) {
+        return Ok((left, true));
+    }
+    match left_by_probe(alloc, words, probe, budget) {
+        Ok(left) => Ok((left, false)),
+        Err(fault) => Err(fault),
+    }
+}
+
+// The same of words that a reset leaves as they are, if a card powers up over them.
+fn left_standing(alloc: Global, words: &[u16], probe: &[u8], budget: u32) -> Option<Left>
+    requires { length words.now < 65536 }
+    ensures left { IfSome result (λ left. IsLeft budget words.now probe.now left) }
+    ensures known { IfSome result (λ left. IsRecovered left.words.items × HasAnswered budget probe.now left) }
+{
+    let Ok(copy) = Vec::from_slice(alloc, words) else {
+        return None;
+    };
+    let Ok(found) = recovered(copy) else {
+        return None;
+    };
+    if !are_equal(&found, words) {
+        return None;
+    }
+    let answers = answers_over(alloc, &found, probe, budget)?;
+    Some(Left {
+        words: found,
+        answers,
+    })
+}
+
+// What a reset finds and the probe is answered; what is wrong then is wrong with the probe.
+pub(crate) fn left_by_probe(
+    alloc: Global,
+    words: Vec<u16>,
+    probe: &[u8],
+    budget: u32,
+) -> Result<Left, TearFault>
+    requires { vec_len words < 65536 }
+    ensures { MatchResult result (λ left. IsLeft budget words.items probe.now left)
+        (λ fault. IsProbeFault budget probe.now fault) }
+{
+    match left(alloc, words, probe, budget) {
+        Ok(left) => Ok(left),
+        Err(fault) => Err(probe_fault(fault)),
+    }
+}
+
+// What it means that a recovery, or the probe after it, was not carried out to its end.
+pub(crate) fn probe_fault(fault: RunFault) -> TearFault
+    ensures { result ≡ told_probe_fault fault }
+{
+    match fault {
+        RunFault::NoMemory => TearFault::NoMemory,
+        RunFault::Script(fault) => TearFault::Probe(fault),
+    }
+}
+
+// The words with the tries of the OwnerPINs in what is left.
+fn tries_in(alloc: Global, left: &Left) -> Result<Vec<u16>, TearFault>
+    ensures { MatchResult result (λ tries. AreTriesIn left.now.words.items tries.items)
+        (λ fault. IsImageFault fault) }
+{
+    let copy = Vec::from_slice(alloc, &left.words)?;
+    match try_words(alloc, copy) {
+        Ok(tries) => Ok(tries),
+        Err(ReadFault::NoMemory) => Err(TearFault::NoMemory),
+        Err(ReadFault::Damaged) => Err(DAMAGED),
+    }
+}
+
+/// The last line of a text, without its line feed.
+pub fn last_line(text: &[u8]) -> &[u8]
+    ensures { IsLastLine text.now result.now }
+{
+    let end = text.len().saturating_sub(1);
+    let mut start = end;
+    while start > 0 && text[start - 1] != b'\n' {
+        start -= 1;
+    }
+    &text[start..end]
+}
+
+impl From<AllocError> for TearFault {
+    ghost from_gives = { λ _ fault. fault ≡ NoMemory };
+
+    fn from(_: AllocError) -> Self {
+        TearFault::NoMemory
+    }
+}
+
+impl From<RunFault> for TearFault {
+    ghost from_gives = { λ cause fault. fault ≡ told_run_fault cause };
+
+    fn from(cause: RunFault) -> Self {
+        match cause {
+            RunFault::NoMemory => TearFault::NoMemory,
+            RunFault::Script(fault) => TearFault::Script(fault),
+        }
+    }
+}
