@@ -5,17 +5,17 @@ use Rattle.jcard_arguments.specs.CommandLine.{AskForHelp, AskForNothing, Command
 use Rattle.jcard_arguments.specs.CommandLine.{ToAttack, ToCompare, ToJoin, ToList, ToListObjects, ToMake, ToRun, ToTear, ToTest, ToTry}
 use Rattle.jcard_arguments.specs.declared.arguments.NoAction.{NoAction}
 use Rattle.jcard_arguments.specs.declared.arguments.NoAction.TheVariants.{Help, Refused, Misused, NoMemory as NoRoom}
-use Rattle.jcard_listing.specs.Inventory.{IsDump}
+use Rattle.jcard_dump.specs.Inventory.{IsDump}
 use Rattle.jcard_files.specs.Effects.{Says, Tells}
 use Rattle.jcard_files.specs.FileDeeds.{FileDeed}
 use Rattle.jcard_sweeps.specs.Join.{IsJoining}
 use Rattle.jc_card.specs.Dispatching.{usual_budget}
 use Rattle.jcard_files.specs.NewImage.{IsNew}
 use Rattle.jcard_files.specs.declared.image_size.ImageSize.{ImageSize}
-use Rattle.jcard_listing.specs.Comparison.{IsComparison}
-use Rattle.jcard_listing.specs.Dump.{IsObjectsDump}
-use Rattle.jcard_tests.specs.Tests.{IsTest}
-use Rattle.jcard_tests.specs.declared.request.Asked.{Asked}
+use Rattle.jcard_dump.specs.Comparison.{IsComparison}
+use Rattle.jcard_dump.specs.Dump.{IsObjectsDump}
+use Rattle.jcard_test.specs.Tests.{IsTest}
+use Rattle.jcard_test.specs.declared.request.Asked.{Asked}
 use Rattle.jcard_files.specs.declared.fault.Fault.{Fault}
 use Rattle.jcard_files.specs.declared.fault.Fault.TheVariants.{BadCommandLine, NoMemory, CannotRead, WriteFailed}
 use Rattle.jcard_commands.specs.Listing.{IsAttackWith, IsTearWith, IsToldBy}

@@ -7,8 +7,8 @@ use Rattle.jcard_files.specs.declared.fault.Fault.{Fault}
 use Rattle.jcard_files.specs.declared.fault.Fault.TheVariants.{NoMemory, WriteFailed}
 use Rattle.jcard_files.specs.FileDeeds.{FileDeed}
 use Rattle.jcard_files.specs.Reading.{IsScriptRead, IsUnread}
-use Rattle.jcard_listing.specs.Comparison.{IsComparison}
-use Rattle.jcard_listing.specs.Dump.{IsObjectsDump}
+use Rattle.jcard_dump.specs.Comparison.{IsComparison}
+use Rattle.jcard_dump.specs.Dump.{IsObjectsDump}
 use Rattle.jcard_script.specs.Texts.{IsCutOf}
 use Rattle.jcard_sweeps.specs.Attack as sweeps
 use Rattle.jcard_sweeps.specs.SweepsAsked.{SweepAsked}

@@ -3,7 +3,7 @@
 use crate::listener::Listener;
 use jcard_files::remarks::Remarks;
 use jcard_tear::progress::Progress;
-use jcard_tests::timer::Timer;
+use jcard_test::timer::Timer;
 use std::rt::Clock;
 use std::time::Instant;
 

@@ -19,19 +19,19 @@ use jc_card::card::USUAL_BUDGET;
 use jcard_arguments::arguments::{Action, NoAction, parse};
 use jcard_arguments::joined_words::joined;
 use jcard_arguments::options::{SizeOptions, TestOptions};
+use jcard_dump::inventory::dump_image;
+use jcard_dump::shown::Shown;
 use jcard_files::disk::Disk;
 use jcard_files::fault::{Fault, tell};
 use jcard_files::image_size::ImageSize;
 use jcard_files::new_image::make_image;
 use jcard_files::remarks::Remarks;
-use jcard_listing::inventory::dump_image;
-use jcard_listing::shown::Shown;
 use jcard_script::streams::{TextOut, write_all};
 use jcard_sweeps::join::join_files;
 use jcard_tear::progress::Progress;
-use jcard_tests::request::Asked as TestRequest;
-use jcard_tests::testing::test_files;
-use jcard_tests::timer::Timer;
+use jcard_test::request::Asked as TestRequest;
+use jcard_test::testing::test_files;
+use jcard_test::timer::Timer;
 use std::alloc::AllocError;
 
 /// Does what the words ask for, the program's name among them as the first, and answers the exit

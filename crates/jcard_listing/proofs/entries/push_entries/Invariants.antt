@@ -1,7 +1,0 @@
-use Rattle.std.proofs.Common.{Ok}
-use Rattle.jcard_listing.specs.Entries.{entry_lines}
-use Rattle.jcard_listing.specs.Fault.{Lists, each_line}
-use Rattle.jcard_listing.proofs.entries.push_entries.Given as goal
-
-abbrev pub invariant-loop-i : goal.invariant-loop-i
-invariant-loop-i g l = Lists l.fn.text.items l.text.items (each_line (entry_lines l.platform (g.S.WordStore.words l.store)) l.i) (Ok tt)

@@ -1,7 +1,0 @@
-use Rattle.std.proofs.Common.{Ok}
-use Rattle.jcard_listing.specs.Packages.{package_lines}
-use Rattle.jcard_listing.specs.Fault.{Lists, each_line}
-use Rattle.jcard_listing.proofs.packages.push_packages.Given as goal
-
-abbrev pub invariant-loop-i : goal.invariant-loop-i
-invariant-loop-i g l = Lists l.fn.text.items l.text.items (each_line (package_lines l.legend (g.S.WordStore.words l.store)) l.i) (Ok tt)

@@ -1,0 +1,23 @@
+use Rattle.std.specs.Prelude.{option_map}
+use Rattle.jcard_test.proofs.RowTests.{named_file}
+use Rattle.jcard_test.proofs.rows_file.of_lines.Goals as goal
+
+pub returns-in-Some : goal.returns-in-Some
+returns-in-Some g c =
+    let file = c.with_table.ensures in (
+      file.0,
+      file.1,
+      file.2,
+      named_file (λ f. option_map (λ t. t.items) f.table) (λ f. f.lines.items) c.with_table.result c.args.name.now c.args.own.now c.in-Some.line
+          file.0 c.in-Some.ensures file.3,
+    )
+
+pub returns-in-Ok : goal.returns-in-Ok
+returns-in-Ok g c =
+    let more = c.in-Ok.ensures in
+    (more.0, more.1, more.2, (c.in-None.ensures, more.3))
+
+pub returns-in-Err : goal.returns-in-Err
+returns-in-Err g c =
+    let more = c.in-Err.ensures in
+    (more.0, more.1, more.2, more.3)

@@ -1,4 +1,0 @@
-use Rattle.jcard_tests.proofs.answering.outcome_of.Goals as goal
-
-pub returns-in-Ok : goal.returns-in-Ok
-returns-in-Ok g c = (c.in-Ok.outcome, c.in-Ok.ensures, c.with_a_row.ensures)

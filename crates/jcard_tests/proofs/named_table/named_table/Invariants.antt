@@ -1,7 +1,0 @@
-use Rattle.std.proofs.Common.{take}
-use Rattle.std.specs.Prelude.{All}
-use Rattle.jcard_tests.specs.NamedTable.{SaysNothing}
-use Rattle.jcard_tests.proofs.named_table.named_table.Given as goal
-
-abbrev pub invariant-loop-place : goal.invariant-loop-place
-invariant-loop-place l = All SaysNothing (take l.place l.lines)

@@ -1,5 +1,0 @@
-use Rattle.jcard_tests.proofs.SparedFiles.{test_spares}
-use Rattle.jcard_tests.proofs.sparing_law.no_text_is_written_over.Goals as goal
-
-pub returns : goal.returns
-returns c = test_spares
