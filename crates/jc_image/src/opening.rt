@@ -95,13 +95,9 @@ impl<S: WordStore> OpenImage<S> {
     pub fn open(store: S) -> Result<OpenImage<S>, (OpenRefusal, S)>
         ensures { Opens S.words S.down S.passed S.refusals store result }
     {
-        match Journal::open(store) {
-            Ok(journal) => {
-                let size = journal.limit();
-                Ok(OpenImage { journal, size })
-            }
-            Err(refused) => Err(refused),
-        }
+        let journal = Journal::open(store)?;
+        let size = journal.limit();
+        Ok(OpenImage { journal, size })
     }
 
     /// A recovered image, over a store as `into_store` gives it. Nothing is read or written.
