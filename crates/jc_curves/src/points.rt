@@ -72,13 +72,9 @@ fn write_multiple(
         (HasNoCoordinates (value field.now) (residue_of field.now a.now.limbs) (value scalar.now.limbs)
         (point_at field.now point.now)) }
 {
-    match finite_multiple(field, a, &scalar.limbs, point) {
-        Ok(at) => {
-            encode(field, &at, to, size);
-            Ok(())
-        }
-        Err(why) => Err(why),
-    }
+    let at = finite_multiple(field, a, &scalar.limbs, point)?;
+    encode(field, &at, to, size);
+    Ok(())
 }
 
 /// Writes the multiple of a point by a number of at most 66 bytes: 04, x and y.
