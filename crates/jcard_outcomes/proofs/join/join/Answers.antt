@@ -26,4 +26,4 @@ pub returns-in_err-ordered-clause-parts : goal.returns-in_err-ordered-clause-par
 returns-in_err-ordered-clause-parts c = λ s tellable bodies.
     let p = err_from_is_err_and c.from_residual.result c.from_residual.ensures.1 in
     rw (p.1, p.2) (bodies_placed s (lent c.args.texts.now) c.in_err-ordered.field-0.0
-    (omega (arith, lent_length c.args.texts.now, c.in_order-ordered.ensures.few)) bodies c.in_err-ordered.ensures.placed)
+    (omega (arith, lent_length c.args.texts.now, c.in_order.ensures.few)) bodies c.in_err-ordered.ensures.placed)

@@ -16,6 +16,12 @@ returns-in_err-place-clause-placed c =
     let p = err_from_is_err_and c.from_residual.result c.from_residual.ensures.1 in
     rw (p.1, p.2) (c.loop-number.number, omega (arith, lent_length c.args.texts.now, c.loop-number-test.true), c.in_err-place.ensures)
 
+pub returns-in_err-push_text-clause-placed : goal.returns-in_err-push_text-clause-placed
+returns-in_err-push_text-clause-placed c =
+    let p = err_from_is_err_and c.from_residual-in_err-push_text.result c.from_residual-in_err-push_text.ensures.1 in
+    rw (p.1, p.2 ∙ c.in_err-push_text.ensures.refused)
+    (c.loop-number.number, omega (arith, lent_length c.args.texts.now, c.loop-number-test.true), tt)
+
 pub returns-clause-placed : goal.returns-clause-placed
 returns-clause-placed c = order_all c.args.label.now (lent c.args.texts.now) (lent c.loop-number.ordered.items) c.loop-number.number c.loop-number.invariant
     (omega (arith, lent_length c.args.texts.now, c.loop-number-test.false, c.loop-number.auto.number-end))
