@@ -23,7 +23,7 @@ use Rattle.jc_api_crypto.specs.Initialized.{engine_of}
 use Rattle.jc_api_crypto.specs.Cipher.Rsa.{rsa_do_final, rsa_init, rsa_init_with_vector, rsa_update}
 use Rattle.jc_api_crypto.specs.declared.cipher.OwnCipher.{OwnCipher}
 use Rattle.jc_api_crypto.specs.declared.cipher.kinds.CipherKind.{CipherKind}
-use Rattle.jc_api_crypto.specs.declared.cipher.kinds.CipherKind.TheVariants.{Block, Rsa}
+use Rattle.jc_api_crypto.specs.declared.cipher.kinds.CipherKind.TheVariants.{Block as BlockKind, Rsa as RsaKind}
 use Rattle.jc_api_crypto.specs.declared.initialized.KeyedEngine.{KeyedEngine}
 use Rattle.jc_api_keys.specs.Receivers.{named_or_throw}
 
@@ -64,20 +64,20 @@ cipher_get_padding_algorithm args p m = and_then (own_cipher args p m) (λ own. 
 -- ---- calls of which each kind of ciphers has its own
 
 abbrev pub init_of : CipherKind → KeyedEngine → List Cell → Packages → MemoryState → Result FieldsAnswer FrameExit
-init_of (Block a) own args p m = block_init a own args p m
-init_of (Rsa padding) own args p m = rsa_init padding own args p m
+init_of (BlockKind a) own args p m = block_init a own args p m
+init_of (RsaKind padding) own args p m = rsa_init padding own args p m
 
 abbrev pub init_with_vector_of : CipherKind → KeyedEngine → List Cell → Packages → MemoryState → Result FieldsAnswer FrameExit
-init_with_vector_of (Block a) own args p m = block_init_with_vector a own args p m
-init_with_vector_of (Rsa padding) own args p m = rsa_init_with_vector padding args p m
+init_with_vector_of (BlockKind a) own args p m = block_init_with_vector a own args p m
+init_with_vector_of (RsaKind padding) own args p m = rsa_init_with_vector padding args p m
 
 abbrev pub update_of : CipherKind → KeyedEngine → List Cell → Packages → MemoryState → Result EngineAnswer FrameExit
-update_of (Block a) own args p m = block_update a own args p m
-update_of (Rsa padding) own args p m = rsa_update padding own args p m
+update_of (BlockKind a) own args p m = block_update a own args p m
+update_of (RsaKind padding) own args p m = rsa_update padding own args p m
 
 abbrev pub do_final_of : CipherKind → KeyedEngine → List Cell → Packages → MemoryState → Result EngineAnswer FrameExit
-do_final_of (Block a) own args p m = block_do_final a own args p m
-do_final_of (Rsa padding) own args p m = rsa_do_final padding own args p m
+do_final_of (BlockKind a) own args p m = block_do_final a own args p m
+do_final_of (RsaKind padding) own args p m = rsa_do_final padding own args p m
 
 -- Cipher.init by a key and a mode, and with a vector
 unfoldable pub cipher_init : List Cell → Packages → MemoryState → Result FieldsAnswer FrameExit

@@ -26,7 +26,7 @@ use Rattle.jc_api_crypto.specs.Signature.Pair.{pair_get_length, pair_init, pair_
 use Rattle.jc_api_crypto.specs.declared.initialized.KeyedEngine.{KeyedEngine}
 use Rattle.jc_api_crypto.specs.declared.signature.OwnSignature.{OwnSignature}
 use Rattle.jc_api_crypto.specs.declared.signature.kinds.SignatureKind.{SignatureKind}
-use Rattle.jc_api_crypto.specs.declared.signature.kinds.SignatureKind.TheVariants.{Code, Pair}
+use Rattle.jc_api_crypto.specs.declared.signature.kinds.SignatureKind.TheVariants.{Code, Pair as PairKind}
 use Rattle.jc_api_keys.specs.Receivers.{named_or_throw}
 
 -- ---- the objects
@@ -74,27 +74,27 @@ signature_get_padding_algorithm args p m = and_then (own_signature args p m) (λ
 
 abbrev pub init_of : SignatureKind → KeyedEngine → List Cell → Packages → MemoryState → Result FieldsAnswer FrameExit
 init_of (Code a) own args p m = code_init a own args p m
-init_of (Pair a) own args p m = pair_init a own args p m
+init_of (PairKind a) own args p m = pair_init a own args p m
 
 abbrev pub init_with_vector_of : SignatureKind → KeyedEngine → List Cell → Packages → MemoryState → Result FieldsAnswer FrameExit
 init_with_vector_of (Code a) own args p m = code_init_with_vector a own args p m
-init_with_vector_of (Pair a) own args p m = pair_init_with_vector a args p m
+init_with_vector_of (PairKind a) own args p m = pair_init_with_vector a args p m
 
 abbrev pub get_length_of : SignatureKind → KeyedEngine → Packages → MemoryState → Result CallAnswer FrameExit
 get_length_of (Code a) own p m = code_get_length a own p m
-get_length_of (Pair a) own p m = pair_get_length a own p m
+get_length_of (PairKind a) own p m = pair_get_length a own p m
 
 abbrev pub update_of : SignatureKind → KeyedEngine → List Cell → Packages → MemoryState → Result EngineAnswer FrameExit
 update_of (Code a) own args p m = code_update a own args p m
-update_of (Pair a) own args p m = pair_update a own args p m
+update_of (PairKind a) own args p m = pair_update a own args p m
 
 abbrev pub sign_of : SignatureKind → KeyedEngine → List Cell → Packages → MemoryState → Result EngineAnswer FrameExit
 sign_of (Code a) own args p m = code_sign a own args p m
-sign_of (Pair a) own args p m = pair_sign a own args p m
+sign_of (PairKind a) own args p m = pair_sign a own args p m
 
 abbrev pub verify_of : SignatureKind → KeyedEngine → List Cell → Packages → MemoryState → Result EngineAnswer FrameExit
 verify_of (Code a) own args p m = code_verify a own args p m
-verify_of (Pair a) own args p m = pair_verify a own args p m
+verify_of (PairKind a) own args p m = pair_verify a own args p m
 
 -- Signature.init by a key and a mode, and with a vector
 unfoldable pub signature_init : List Cell → Packages → MemoryState → Result FieldsAnswer FrameExit

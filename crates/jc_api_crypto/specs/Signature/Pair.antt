@@ -29,9 +29,9 @@ use Rattle.jc_api_crypto.specs.Signature.Purpose.{initialized_for}
 use Rattle.jc_api_crypto.specs.declared.initialized.KeyedEngine.{KeyedEngine}
 use Rattle.jc_api_crypto.specs.declared.signature.pair.RunningPair.{RunningPair}
 use Rattle.jc_api_crypto.specs.declared.signature.pair_algorithms.PairSignature.{PairSignature}
-use Rattle.jc_api_crypto.specs.declared.signature.pair_algorithms.PairSignature.TheVariants.{Ecdsa, Iso9796, Rsa}
+use Rattle.jc_api_crypto.specs.declared.signature.pair_algorithms.PairSignature.TheVariants.{Ecdsa as EcdsaSignature, Iso9796, Rsa}
 use Rattle.jc_api_crypto.specs.declared.signature.purpose.Purpose.{Purpose}
-use Rattle.jc_api_crypto.specs.declared.signature.purpose.Purpose.TheVariants.{Either, Signing, Verifying}
+use Rattle.jc_api_crypto.specs.declared.signature.purpose.Purpose.TheVariants.{Either, Signing as ToSign, Verifying}
 use Rattle.jc_api_keys.specs.Exceptions.{illegal_value}
 use Rattle.jc_api_keys.specs.Shorts.{shorts_of}
 
@@ -70,7 +70,7 @@ longest_encoding n = if nat_lt n 128 then n + 2 else n + 3
 -- getLength: how many bytes a signature has, at most where they differ: those of ECDSA are of two numbers of at most one byte more than a coordinate
 abbrev pub longest_signature : PairSignature → ℕ → ℕ
 longest_signature (Rsa padding h) size = size
-longest_signature (Ecdsa h) size = longest_encoding (2 * (size + 3))
+longest_signature (EcdsaSignature h) size = longest_encoding (2 * (size + 3))
 longest_signature Iso9796 size = size
 
 unfoldable pub pair_get_length : PairSignature → KeyedEngine → Packages → MemoryState → Result CallAnswer FrameExit
@@ -107,7 +107,7 @@ signs own e args p m = puts_if_signed own (signature_of p m own (first_bytes own
 
 -- sign: the message ends with these bytes
 unfoldable pub pair_sign : PairSignature → KeyedEngine → List Cell → Packages → MemoryState → Result EngineAnswer FrameExit
-pair_sign a own args p m = and_then (running_pair Signing a own p m) (λ run. and_then (counted_of 1 args p m) (λ e. signs run e args p m))
+pair_sign a own args p m = and_then (running_pair ToSign a own p m) (λ run. and_then (counted_of 1 args p m) (λ e. signs run e args p m))
 
 -- whether elements are a signature is returned, and nothing came from now on
 abbrev pub tells_if_signed : RunningPair → Bool → EngineAnswer
