@@ -145,15 +145,22 @@ fn read_parts<S: WordStore + Drop>(
     ensures parts { IfOk result (ArePartsOf (heap_of image.plain)) }
     ensures cause { IfErr result (λ fault. RecoveredWordsFail fault image.plain) }
 {
-    let table = platform_of(alloc, &image)?;
-    let heap = whole_heap(image, &table, marks)?;
-    let Ok(ram) = Ram::new(alloc, heap.area_sizes()) else {
-        return Err(PowerFault::NoMemory);
+    let table = match platform_of(alloc, &image) {
+        Ok(table) => table,
+        Err(fault) => return Err(fault),
     };
-    let Ok(rooms) = Rooms::new(alloc) else {
-        return Err(PowerFault::NoMemory);
-    };
-    link_packages(alloc, &table, &heap, marks, ram, rooms)
+    match whole_heap(image, &table, marks) {
+        Ok(heap) => {
+            let Ok(ram) = Ram::new(alloc, heap.area_sizes()) else {
+                return Err(PowerFault::NoMemory);
+            };
+            let Ok(rooms) = Rooms::new(alloc) else {
+                return Err(PowerFault::NoMemory);
+            };
+            link_packages(alloc, &table, &heap, marks, ram, rooms)
+        }
+        Err(fault) => Err(fault),
+    }
 }
 
 // The heap of a recovered image, where it is whole and begins with the objects of the runtime environment; and marks where

@@ -172,9 +172,13 @@ fn reset<S: WordStore>(
 {
     let budget = held.budget();
     let store = held.into_store();
-    let held = start(alloc, store, budget)?;
-    let answer = power_up_answer(&held);
-    Ok((held, answer))
+    match start(alloc, store, budget) {
+        Ok(held) => {
+            let answer = power_up_answer(&held);
+            Ok((held, answer))
+        }
+        Err(fault) => Err(fault),
+    }
 }
 
 // Ready where the card is up, else down.
