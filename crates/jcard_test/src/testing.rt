@@ -1,14 +1,14 @@
 //! `jcard test`: rows of files, answered by cards in memory.
 ghost use Rattle.std.specs.Prelude.{◌≡◌, ◌++◌, ◌∷◌, [], IfErr, IfOk, MatchResult, OnOk, unwrap_or};
 ghost use Rattle.jcard_files.specs.Effects.{Does, Writes};
-ghost use Rattle.jcard_test.specs.Sources.{name_of, names_of};
-ghost use Rattle.jcard_test.specs.Tests.{AreAnswered, AreTested, IsOutcome, IsPlanFor, IsReported, IsTest, IsTestBeside, IsTestBy, IsTestOn, IsTested, IsTold, IsUnanswered, IsUntested, table_of};
+ghost use Rattle.jcard_test.specs.Sources.{name_of, names_of, paths_of};
+ghost use Rattle.jcard_test.specs.Tests.{AreAnswered, AreTested, IsOutcome, IsPlanFor, IsReported, IsTest, IsTestBeside, IsTestBy, IsTestOfRead, IsTestOn, IsTested, IsTold, IsUnanswered, IsUntested, table_of};
 ghost use Rattle.jcard_test.specs.declared.outcome.Tested.{Tested};
 
 use crate::answering::outcome_of;
 use crate::card_rows::CardRows;
 use crate::cards::cards_of;
-use crate::files_read::files_read;
+use crate::files_read::{FilesRead, files_read};
 use crate::junit_file::{JunitFile, begin_junit, keep_junit};
 use crate::numbered_line::Numbered;
 use crate::outcome::Tested;
@@ -48,7 +48,7 @@ pub fn test_files<'n, D: Disk, W: TextOut, T: Timer + Remarks>(
     }
 }
 
-// Does so with cards as they are planned: all files are read before one is written, and the report for build servers replaces none of them.
+// Does so with cards as they are planned: all files are read before one is written.
 fn test_by<'n, D: Disk, W: TextOut, T: Timer + Remarks>(
     disk: &mut D,
     names: &[&'n str],
@@ -60,10 +60,26 @@ fn test_by<'n, D: Disk, W: TextOut, T: Timer + Remarks>(
     ensures { Does D.does W.contents W.failures disk.old disk.new out.old out.new result
         (IsTestBy plan.now (names_of names.now) asked.entry) }
 {
-    let read = match files_read(disk, names) {
-        Ok(read) => read,
-        Err(fault) => return Err(fault),
-    };
+    match files_read(disk, names) {
+        Ok(read) => test_read(disk, names, &read, plan, asked, out, timer),
+        Err(fault) => Err(fault),
+    }
+}
+
+// Does so with files that were read: the report for build servers replaces none of them.
+fn test_read<'n, D: Disk, W: TextOut, T: Timer + Remarks>(
+    disk: &mut D,
+    names: &[&'n str],
+    read: &FilesRead<'n>,
+    plan: &Plan,
+    asked: Asked<'n>,
+    out: &mut W,
+    timer: &mut T,
+) -> Result<(), Fault<'n>>
+    ensures { Does D.does W.contents W.failures disk.old disk.new out.old out.new result
+        (IsTestOfRead plan.now (names_of names.now) read.now.files.items
+        (paths_of read.now.sources.items) asked.entry) }
+{
     let Ok(operands) = spared(disk.alloc(), names, asked.table, &read.sources) else {
         return Err(Fault::NoMemory);
     };
