@@ -42,13 +42,13 @@ returns g c =
     let words = c.in_ok-store.store.words in
     let unread = g.D.Text.Read.remaining in
     let known = unread c.in_ok-file.file in
-    let after = c.run_script_explained.result.0 in
-    let carried = c.run_script_explained.result.1 in
+    let after = c.run_script_explained-carried.result.0 in
+    let carried = c.run_script_explained-carried.result.1 in
     let ended = c.outcome_of.result in
-    let left = unread c.run_script_explained.new.reader.inner in
+    let left = unread c.run_script_explained-carried.new.reader.inner in
     let made = c.in_ok-store.ensures in
     let fresh : c.new.result ≡ fresh_store words = c.new.ensures ∙ fresh_under_fuse words _ _ _ refl made.1 refl in
-    let done = c.run_script_explained.ensures.script in
+    let done = c.run_script_explained-carried.ensures.script in
     let over = subst (λ f. IsCarriedOut c.args.asked.budget (codes "memory") script (unread f) left c.new.result after ended done.1) c.new-reader.ensures.inner
     (done.0, done.2, carried, done.3, done.5, done.6, c.outcome_of.ensures.outcome) in
     let run = subst (λ s. IsCarriedOut c.args.asked.budget (codes "memory") script known left s after ended done.1) fresh over in (
@@ -59,5 +59,5 @@ returns g c =
         inr (known, left, refl, inr (inr (words, after, made.0, run))),
         c.in_ok-file.ensures.does,
       ),
-      c.run_script_explained.ensures.writes ∙ ap (failures_after (g.W.TextOut.failures c.args.out.now)) (sym c.outcome_of.ensures.unwritten),
+      c.run_script_explained-carried.ensures.writes ∙ ap (failures_after (g.W.TextOut.failures c.args.out.now)) (sym c.outcome_of.ensures.unwritten),
     )
