@@ -1,5 +1,5 @@
 //! The entries that count, in the order of the addresses that they name.
-ghost use Rattle.std.specs.Prelude.{◌≡◌, ◌<◌, ◌≤◌, ◌+◌, ◌*◌, ◌^◌, ◌==◌, length, IfSome, MatchResult};
+ghost use Rattle.std.specs.Prelude.{◌≡◌, ◌<◌, ◌≤◌, ◌+◌, ◌*◌, ◌^◌, ◌==◌, length, insert, IfSome, MatchResult};
 ghost use Rattle.std.specs.List.{list_any};
 ghost use Rattle.jc_words.specs.Layout.{most_capacity};
 ghost use Rattle.jc_commit.specs.Entries.{AreDistinct};
@@ -118,6 +118,21 @@ pub(crate) fn is_named<S: WordStore>(
     find(store, log, n, numbers, address).is_ok()
 }
 
+// Puts a number into the index: at its end without a move of others, as where code writes words in their order.
+#[tactic(auto, using(std::proofs::lemmas::List::Edits::insert_end))]
+#[inline(always)]
+fn insert_at(numbers: &mut EntryIndex, place: usize, n: u16)
+    requires within { place ≤ length numbers.old.items }
+    requires room { length numbers.old.items < most_capacity }
+    ensures { numbers.new.items ≡ insert numbers.old.items place n }
+{
+    if place == numbers.len() {
+        numbers.push(n);
+    } else {
+        numbers.insert(place, n);
+    }
+}
+
 // Puts entry n into the index of those before it, none of which names its address.
 #[inline(always)]
 fn add_entry<S: WordStore>(store: &S, log: Log, n: u16, numbers: &mut EntryIndex)
@@ -131,7 +146,7 @@ fn add_entry<S: WordStore>(store: &S, log: Log, n: u16, numbers: &mut EntryIndex
     let address = store.read(slot);
     match find(store, log, n, numbers.as_slice(), address) {
         Ok(_) => unreachable!(),
-        Err(place) => numbers.insert(place, n),
+        Err(place) => insert_at(numbers, place, n),
     }
 }
 

@@ -1,7 +1,6 @@
 -- Dead references of all frames, and of the one array that holds their cells.
 use Rattle.std.proofs.Common.{◌≡◌, ℕ, List, [], ◌∷◌, ◌++◌, length, take, drop, map, refl, sym, ◌∙◌, ap}
 use Rattle.std.specs.Prelude.{reverse}
-use Rattle.std.specs.List.{refill}
 use Rattle.std.proofs.lemmas.List.{take-map, drop-map, map-append, reverse-append, length-map}
 use Rattle.jc_frames.specs.declared.cell.Cell.{Cell}
 use Rattle.jc_frames.specs.declared.frames.Region.{Region}
@@ -9,7 +8,6 @@ use Rattle.jc_frames.specs.declared.frames.SavedFrame.{SavedFrame}
 use Rattle.jc_frames.specs.Cell.{without_dead}
 use Rattle.jc_frames.specs.Frames.{Frame, Caller, Frames, frame_of_region, frame_in, caller_of, callers_in, frames_of}
 use Rattle.jc_frames.specs.Calls.{frame_without_dead, caller_without_dead, frames_without_dead}
-use Rattle.jc_frames.proofs.Stores.{refill_same}
 
 reverse-map : (f : Cell → Cell) (xs : List Cell) → reverse (map f xs) ≡ map f (reverse xs)
 reverse-map f [] = refl
@@ -46,8 +44,5 @@ frames_are top xs r sv =
     (frame_is top xs r) (ap (λ l. callers_in l sv) (take-map f r.base xs) ∙ callers_are top sv (take r.base xs))
 
 pub bury_through : (top : ℕ) (xs ys : List Cell) (r : Region) (sv : List SavedFrame) (s : Frames) → ys ≡ map (without_dead top) xs → frames_of xs r sv ≡ s →
-    frames_of (refill (length xs) xs ys) r sv ≡ frames_without_dead top s
-bury_through top xs ys r sv s e is =
-    let whole : refill (length xs) xs (map (without_dead top) xs) ≡ map (without_dead top) xs =
-    refill_same (length xs) xs (map (without_dead top) xs) (sym (length-map xs (without_dead top))) in
-    rw (e, whole, ← is) (frames_are top xs r sv)
+    frames_of ys r sv ≡ frames_without_dead top s
+bury_through top xs ys r sv s e is = rw (e, ← is) (frames_are top xs r sv)

@@ -2,7 +2,6 @@
 use Rattle.std.proofs.Common.{◌≡◌, ℕ, ◌+◌, ◌<◌, ◌≤◌, List, [], ◌∷◌, ◌++◌, length, take, drop, refl, sym, ap, arith, set, true, length-set, length-take}
 use Rattle.std.proofs.Common.{length-drop}
 use Rattle.std.specs.Prelude.{nat_lt}
-use Rattle.std.specs.List.{refill}
 use Rattle.std.proofs.Math.Seq.{take-set-lt}
 use Rattle.std.proofs.lemmas.List.{drop-set-lt, drop-set-add, take-set-le}
 use Rattle.std.proofs.lemmas.Bool.Decides.{nat_tests}
@@ -10,13 +9,6 @@ use Rattle.jc_frames.specs.declared.cell.Cell.{Cell}
 use Rattle.jc_frames.specs.declared.frames.Region.{Region}
 use Rattle.jc_frames.specs.declared.frames.SavedFrame.{SavedFrame}
 use Rattle.jc_frames.specs.Frames.{Frames, GoesOn, in_frame, store_local, frame_in, frames_of}
-
-take_whole : (xs ys : List Cell) → take (length xs) (xs ++ ys) ≡ xs
-take_whole [] ys = refl
-take_whole (x ∷ xs) ys = ap (λ l. x ∷ l) (take_whole xs ys)
-
-pub refill_same : (n : ℕ) (xs ws : List Cell) → n ≡ length ws → refill n xs ws ≡ ws
-refill_same n xs ws e = rw e (take_whole ws _)
 
 is_below : (n k : ℕ) → n < k → nat_lt n k ≡ true
 is_below n k h = grind (arith, nat_tests)
@@ -34,10 +26,6 @@ store_is xs r sv n c h fits =
       take-set-le r.base xs (r.base + n) c low,
     ) refl
 
-pub store_through : (xs ys : List Cell) (r : Region) (sv : List SavedFrame) (n m : ℕ) (c : Cell) (s : Frames) → ys ≡ xs → m ≡ n → frames_of xs r sv ≡ s
-    → r.base + m < r.bottom → r.bottom ≤ length xs →
-    GoesOn (frames_of (refill (length xs) xs (set ys (r.base + m) c)) r sv) ≡ in_frame s (store_local n c s.current)
-store_through xs ys r sv n m c s same number e h fits =
-    let whole : refill (length xs) xs (set xs (r.base + m) c) ≡ set xs (r.base + m) c =
-    refill_same (length xs) xs (set xs (r.base + m) c) (sym (length-set xs (r.base + m) c)) in
-    rw (same, whole, ← number, ← e) (store_is xs r sv m c h fits)
+pub store_through : (xs ys : List Cell) (r : Region) (sv : List SavedFrame) (n m : ℕ) (c : Cell) (s : Frames) → ys ≡ set xs (r.base + m) c → m ≡ n
+    → frames_of xs r sv ≡ s → r.base + m < r.bottom → r.bottom ≤ length xs → GoesOn (frames_of ys r sv) ≡ in_frame s (store_local n c s.current)
+store_through xs ys r sv n m c s written number is h fits = rw (written, ← number, ← is) (store_is xs r sv m c h fits)

@@ -8,7 +8,6 @@ use crate::cell::Cell;
 use crate::frames::{Frames, MOST_CELLS, MOST_FRAMES, Region, SavedFrame, push_zeros};
 use crate::method::{CallKind, Entry, ReturnPoint};
 use crate::outcome::CodeFault;
-use crate::stack::keep_cells;
 
 impl Frames {
     /// Begins the frame of a method that is called: the arguments on top of the caller's stack become
@@ -70,7 +69,7 @@ impl Frames {
         ensures same { IsNone result → self.new ≡ self.old }
     {
         let caller = self.saved.pop()?;
-        keep_cells(&mut self.cells, self.current.base);
+        self.cells.truncate(self.current.base);
         self.current = caller.region;
         Some(caller.resume)
     }
@@ -79,7 +78,7 @@ impl Frames {
     pub fn resume(&self) -> Option<ReturnPoint>
         ensures { result ≡ option_map (λ p. p.0) (frames_after_return self.now.callers) }
     {
-        Some(self.saved.last()?.resume)
+        Some(self.saved.as_slice().last()?.resume)
     }
 
     /// Puts what a called method hands over on the stack of its caller, which goes on. A code fault

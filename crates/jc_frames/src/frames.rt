@@ -5,8 +5,8 @@ ghost use Rattle.jc_frames.specs.Frames.{Frames};
 ghost use Rattle.jc_frames.specs.Calls.{empty_frames, first_frame};
 
 use crate::cell::Cell;
+use crate::fixed_stack::FixedStack;
 use crate::method::{Origin, ReturnPoint};
-use arrayvec::ArrayVec;
 use std::marker::Model;
 
 /// The most cells of all frames.
@@ -36,9 +36,9 @@ pub(crate) struct SavedFrame {
 /// The frame that runs, and its callers.
 #[derive(Drop)]
 pub struct Frames {
-    pub(crate) cells: ArrayVec<Cell, MOST_CELLS>,
+    pub(crate) cells: FixedStack<Cell, MOST_CELLS>,
     pub(crate) current: Region,
-    pub(crate) saved: ArrayVec<SavedFrame, 31>,
+    pub(crate) saved: FixedStack<SavedFrame, 31>,
 }
 
 impl Model for Frames {
@@ -61,9 +61,9 @@ impl Frames {
         ensures { result ≡ empty_frames }
     {
         Frames {
-            cells: ArrayVec::new(),
+            cells: FixedStack::new(),
             current: Region::default(),
-            saved: ArrayVec::new(),
+            saved: FixedStack::new(),
         }
     }
 
@@ -118,7 +118,7 @@ impl Frames {
 }
 
 // Puts cells after the others.
-fn push_all(cells: &mut ArrayVec<Cell, MOST_CELLS>, more: &[Cell])
+fn push_all(cells: &mut FixedStack<Cell, MOST_CELLS>, more: &[Cell])
     requires { length cells.old.items + length more.now ≤ 512 }
     ensures { cells.new.items ≡ cells.old.items ++ more.now }
 {
@@ -129,7 +129,7 @@ fn push_all(cells: &mut ArrayVec<Cell, MOST_CELLS>, more: &[Cell])
 
 // Puts cells that are short 0 after the others.
 #[inline(always)]
-pub(crate) fn push_zeros(cells: &mut ArrayVec<Cell, MOST_CELLS>, count: u16)
+pub(crate) fn push_zeros(cells: &mut FixedStack<Cell, MOST_CELLS>, count: u16)
     requires { length cells.old.items + count ≤ 512 }
     ensures { cells.new.items ≡ cells.old.items ++ replicate count (Short (pos 0)) }
 {

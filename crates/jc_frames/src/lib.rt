@@ -11,6 +11,7 @@ pub mod constant_ops;
 mod dead_references;
 pub mod decode;
 pub mod exceptions;
+mod fixed_stack;
 pub mod frames;
 pub mod handlers;
 pub mod header;

@@ -17,7 +17,7 @@ impl Frames {
     {
         let place = self.current.base + usize::from(number);
         if place < self.current.bottom {
-            Some(self.cells[place])
+            Some(self.cells.as_slice()[place])
         } else {
             None
         }
@@ -69,7 +69,7 @@ impl Frames {
         if place >= self.current.bottom {
             return Err(CodeFault);
         }
-        self.cells[place] = cell;
+        self.cells.set(place, cell);
         Ok(())
     }
 }

@@ -1,12 +1,12 @@
 //! The stack of the frame that runs.
-ghost use Rattle.std.specs.Prelude.{IsTrue, ◌≡◌, ◌+◌, ◌<◌, ◌≤◌, [], ◌∷◌, ◌++◌, ◌-◌, drop, take, length, option_copied, slice_get, OnOk, OnErr, IfOk};
+ghost use Rattle.std.specs.Prelude.{IsTrue, ◌≡◌, ◌+◌, ◌<◌, ◌≤◌, [], ◌∷◌, ◌++◌, ◌-◌, drop, length, option_copied, slice_get, OnOk, OnErr, IfOk};
 ghost use Rattle.jc_frames.specs.Table.{can_duplicate_below, can_swap};
 ghost use Rattle.jc_frames.specs.Cell.{cell_on, short_on, two_shorts_on, reference_on, storable_on, popped, popped_two};
 ghost use Rattle.jc_frames.specs.Calls.{arguments_on};
 ghost use Rattle.jc_frames.specs.Frames.{in_frame, with_stack, unless_fault, has_room, push, copy_below, exchange_cells};
 
 use crate::cell::Cell;
-use crate::frames::{Frames, MOST_CELLS};
+use crate::frames::Frames;
 use crate::outcome::CodeFault;
 use arrayvec::ArrayVec;
 use jc_transient::Ref;
@@ -101,7 +101,7 @@ impl Frames {
         if self.cells.len() <= self.current.bottom + depth {
             None
         } else {
-            Some(self.cells[self.cells.len() - 1 - depth])
+            Some(self.cells.as_slice()[self.cells.len() - 1 - depth])
         }
     }
 
@@ -124,7 +124,7 @@ impl Frames {
         ensures { self.new ≡ with_stack self.old (drop count self.old.current.stack) }
     {
         let kept = self.cells.len() - usize::from(count);
-        keep_cells(&mut self.cells, kept);
+        self.cells.truncate(kept);
     }
 
     /// Whether there is room for one more cell.
@@ -219,24 +219,5 @@ impl Frames {
         ensures { result + length self.now.current.stack ≡ self.now.current.limit }
     {
         self.current.ceiling - self.cells.len()
-    }
-}
-
-// Keeps this many cells: few others are taken off one by one, which is shorter than to blank a range.
-#[inline(always)]
-pub(crate) fn keep_cells(cells: &mut ArrayVec<Cell, MOST_CELLS>, kept: usize)
-    requires { kept ≤ length cells.old.items }
-    ensures { cells.new.items ≡ take kept cells.old.items }
-{
-    let count = cells.len() - kept;
-    if count == 0 {
-        return;
-    }
-    if count > 3 {
-        cells.truncate(kept);
-        return;
-    }
-    for _done in 0..count {
-        cells.pop();
     }
 }

@@ -17,5 +17,5 @@ returns g c =
     let w = g.S.WordStore.words c.args.store.now in
     let n = c.args.n in
     let is : c.read-address.result ≡ address_at l w n = c.read-address.ensures ∙ ap (slice_index w) c.address_word-slot.ensures in
-    subst (IsIndexOf l w (n + 1)) (sym c.insert.ensures.items) (index_more l w _ n c.in-Err.place c.requires.stands.index
+    subst (IsIndexOf l w (n + 1)) (sym c.insert_at.ensures) (index_more l w _ n c.in-Err.place c.requires.stands.index
     (subst (λ xs. IsGapFor l w xs (address_at l w n) c.in-Err.place) c.as_slice.ensures.value (subst (λ a. IsGapFor l w c.as_slice.result.now a c.in-Err.place) is c.in-Err.ensures)))

@@ -31,7 +31,7 @@ returns c = enters c.self.inside.cells.items c.push_zeros.new.cells.items c.self
     (omega (arith, c.len-length.ensures.value, c.from-arguments.ensures, c.if-height-arguments.false))
     (omega (arith, c.len-callers.ensures.value, c.if-frames-gt-MOST_FRAMES.false))
     (omega (arith, c.len-length.ensures.value, c.from-locals.ensures, c.from-limit.ensures, c.if-ceiling-gt-MOST_CELLS.false))
-    c.push_zeros.ensures c.push.ensures.items
+    c.push_zeros.ensures c.push.ensures
     (omega (arith, c.len-length.ensures.value, c.from-arguments.ensures))
     (omega (arith, c.len-length.ensures.value, c.from-locals.ensures))
     (omega (arith, c.from-limit.ensures))
