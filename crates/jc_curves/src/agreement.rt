@@ -35,13 +35,9 @@ fn write_x(
         (HasNoCoordinates (value field.now) (residue_of field.now a.now.limbs) (value scalar.now)
         (point_at field.now point.now)) }
 {
-    match finite_multiple(field, a, scalar, point) {
-        Ok(at) => {
-            write(to, &residue(field, &at.x));
-            Ok(())
-        }
-        Err(why) => Err(why),
-    }
+    let at = finite_multiple(field, a, scalar, point)?;
+    write(to, &residue(field, &at.x));
+    Ok(())
 }
 
 // The shared secret by the private key times a factor.

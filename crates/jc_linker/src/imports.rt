@@ -51,10 +51,7 @@ impl Linked {
     {
         let mut numbers: ArrayVec<u8, 255> = ArrayVec::new();
         for token in 0..imports.count() {
-            let number = match self.import_number(imports.get(token)) {
-                Ok(number) => number,
-                Err(fault) => return Err(fault),
-            };
+            let number = self.import_number(imports.get(token))?;
             numbers.push(number);
         }
         Ok(numbers)

@@ -184,10 +184,7 @@ impl<S: WordStore> Memory<S> {
             (after_step result self.new) }
     {
         for k in 0..bytes.len() {
-            match self.write_byte_nonatomic(array, i + k as u16, bytes[k]) {
-                Ok(()) => {}
-                Err(StoreDown) => return Err(StoreDown),
-            }
+            self.write_byte_nonatomic(array, i + k as u16, bytes[k])?;
         }
         Ok(())
     }
