@@ -76,9 +76,15 @@ static ssize_t put(int file, const void *bytes, size_t size, off_t place) {
     return real(file, bytes, size, place);
 }
 
+/* Whether the fuse refuses the next word. */
+static int is_due(void) {
+    const char *fuse = getenv("FUSE");
+    return fuse && !is_used_up && passed == strtoul(fuse, 0, 10);
+}
+
 static ssize_t write_word(int file, const void *bytes, off_t place) {
-    const char *fuse = getenv("FUSE"), *count = getenv("COUNT");
-    if (fuse && !is_used_up && passed == strtoul(fuse, 0, 10)) return is_used_up = 1, errno = EIO, -1;
+    const char *count = getenv("COUNT");
+    if (is_due()) return is_used_up = 1, errno = EIO, -1;
     ssize_t moved = put(file, bytes, WORD, place);
     if (moved == WORD && count) {
         char text[24];
@@ -88,10 +94,10 @@ static ssize_t write_word(int file, const void *bytes, off_t place) {
     return moved;
 }
 
-/* One word after another; as many as come before one that is refused. */
+/* One word after another. The call ends before a word that the fuse refuses, so that the next call, which begins with it, fails. */
 static ssize_t write_words(int file, const char *bytes, size_t size, off_t place) {
     size_t moved = 0;
-    while (moved < size) {
+    while (moved < size && !(moved && is_due())) {
         ssize_t now = write_word(file, bytes + moved, place + (off_t)moved);
         if (now != WORD) return moved ? (ssize_t)moved : now;
         moved += WORD;
