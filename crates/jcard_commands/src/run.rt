@@ -27,7 +27,7 @@ use jcard_files::image_size::ImageSize;
 use jcard_files::new_image::make_image;
 use jcard_files::remarks::Remarks;
 use jcard_script::streams::{TextOut, write_all};
-use jcard_sweeps::join::join_files;
+use jcard_attack::part_files::join_files;
 use jcard_tear::progress::Progress;
 use jcard_test::request::Asked as TestRequest;
 use jcard_test::testing::test_files;
