@@ -1,5 +1,5 @@
 //! Attacking commands of a script over the words of an image, and what is reported of that.
-ghost use Rattle.std.specs.Prelude.{◌≡◌, ◌<◌, length, MatchResult};
+ghost use Rattle.std.specs.Prelude.{◌<◌, length, MatchResult};
 ghost use Rattle.jcard_attack.specs.Sweep.{IsUnswept};
 ghost use Rattle.jcard_attack.specs.TargetAttacks.{AreToldEach, AreToldIn, AreUntoldEach, AreUntoldIn, IsCommandTold, IsToldBy, IsToldPart, IsUntoldBy};
 ghost use Rattle.jcard_tear.specs.ScriptLines.{line_of};

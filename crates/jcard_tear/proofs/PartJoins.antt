@@ -18,6 +18,7 @@ use Rattle.jcard_outcomes.specs.declared.recoveries.Depth.{Depth}
 use Rattle.jcard_outcomes.specs.declared.report.Sweep.{Sweep}
 use Rattle.jcard_tear.specs.Join.{AreBodiesJoinedTo, IsJoinTold, IsReported, told_join_fault}
 use Rattle.jcard_tear.specs.PartTexts.{AreRead}
+use Rattle.jcard_tear.specs.Texts.{texts_of}
 
 -- one more was read
 pub read_push : (names texts : List (List ℕ)) (deeds : List FileDeed) (name text : List ℕ) (opened : List FileDeed) → AreRead names texts deeds
@@ -74,22 +75,18 @@ pushed (Err f) b new old v e n h = absurd (true≢false (sym e ∙ n))
 abbrev pub nothing : Bor (List ℕ)
 nothing = record { ref_ptr = (0, 0); now = [] }
 
--- these names
-abbrev pub named : List (Bor (List ℕ)) → List (List ℕ)
-named files = map (λ (f : Bor (List ℕ)). f.now) files
-
 -- the names up to the next, and around it
 pub names_next : (files : List (Bor (List ℕ))) (i : ℕ) → i < length files
-    → named (take (i + 1) files) ≡ named (take i files) ++ (get_or files i nothing).now ∷ []
-names_next files i h = ap named (take_more files i nothing h)
+    → texts_of (take (i + 1) files) ≡ texts_of (take i files) ++ (get_or files i nothing).now ∷ []
+names_next files i h = ap texts_of (take_more files i nothing h)
     ∙ map-append (λ (f : Bor (List ℕ)). f.now) (take i files) (get_or files i nothing ∷ [])
 
 pub names_around : (files : List (Bor (List ℕ))) (i : ℕ) → i < length files
-    → named files ≡ named (take i files) ++ (get_or files i nothing).now ∷ named (drop (i + 1) files)
+    → texts_of files ≡ texts_of (take i files) ++ (get_or files i nothing).now ∷ texts_of (drop (i + 1) files)
 names_around files i h =
     let at : drop i files ≡ get_or files i nothing ∷ drop (i + 1) files = rw add-one (drop-cons files i nothing h) in
-    sym (ap named (take-append-drop i files)) ∙ map-append (λ (f : Bor (List ℕ)). f.now) (take i files) (drop i files)
-    ∙ ap (λ l. named (take i files) ++ l) (ap named at)
+    sym (ap texts_of (take-append-drop i files)) ∙ map-append (λ (f : Bor (List ℕ)). f.now) (take i files) (drop i files)
+    ∙ ap (λ l. texts_of (take i files) ++ l) (ap texts_of at)
 
 -- the names up to the next, and those after it
 pub names_split : {S : Type 0} (f : S → List ℕ) (files : List S) (i : ℕ) → map f files ≡ map f (take i files) ++ map f (drop i files)

@@ -5,7 +5,6 @@ use Rattle.jcard_outcomes.specs.Part.{head_text, part_text}
 use Rattle.jcard_outcomes.specs.CommandShares.{share_text}
 use Rattle.jcard_outcomes.specs.declared.each.LineSweep.{LineSweep}
 use Rattle.jcard_outcomes.specs.declared.part.Part.{Part}
-use Rattle.jcard_outcomes.specs.declared.part.Share.{Share}
 use Rattle.jcard_outcomes.specs.declared.report.Sweep.{Sweep}
 use Rattle.jcard_tear.specs.Shares.{share_in}
 use Rattle.jcard_tear.specs.Faults.{IsLineUncut, IsOneUncut}

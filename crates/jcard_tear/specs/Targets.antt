@@ -1,4 +1,4 @@
--- Which commands of a script are cut, and in which parts.
+-- Which commands of a script are swept, and in which parts.
 use Rattle.std.specs.Prelude.{ℕ, ◌≡◌, ◌⊎◌, ◌<◌, true, false, List, Option, Some, None}
 use Rattle.std.specs.Str.Parse.{IsNumeral, digits_value}
 use Rattle.jcard_files.specs.declared.fault.Fault.{Fault}
@@ -34,7 +34,7 @@ IsShareNamed part (Some share) = (text : List ℕ) × (part ≡ Some text) × Is
 abbrev pub IsNoShare : Option (List ℕ) → Type 0
 IsNoShare part = (text : List ℕ) × (part ≡ Some text) × ((share : Share) → IsShareText text share → ⊥)
 
--- of these commands that is cut: the one that is meant, or each, whole or in the part that is named
+-- of these commands that is swept: the one that is meant, or each, whole or in the part that is named
 abbrev pub IsTarget : SweepAsked → List ScriptLine → Target → Type 0
 IsTarget asked all (Command line) = (asked.each ≡ false) × IsMeant asked.line all (Some line) × IsShareNamed asked.part None
 IsTarget asked all (CommandPart line share) = (asked.each ≡ false) × IsMeant asked.line all (Some line) × IsShareNamed asked.part (Some share)

@@ -1,5 +1,5 @@
 //! Cutting commands of a script over the words of an image, and what is reported of that.
-ghost use Rattle.std.specs.Prelude.{◌≡◌, ◌<◌, length, IfOk, MatchResult};
+ghost use Rattle.std.specs.Prelude.{◌<◌, length, MatchResult};
 ghost use Rattle.jcard_tear.specs.TargetCuts.{IsCut, IsUncut};
 ghost use Rattle.jcard_tear.specs.Targets.{IsAmong};
 

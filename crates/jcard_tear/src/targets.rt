@@ -1,4 +1,4 @@
-//! Which commands of a script are to be cut, and in which parts.
+//! Which commands of a script are to be swept, and in which parts.
 ghost use Rattle.std.specs.Prelude.{◌≡◌, Err, false, IfErr, MatchResult};
 ghost use Rattle.jcard_files.specs.Fault.{is_unwritten};
 ghost use Rattle.jcard_tear.specs.SweepAsked.{sweep_asked_by};
@@ -10,7 +10,7 @@ use crate::script_lines::{ScriptLine, chosen};
 use jcard_files::fault::Fault;
 use jcard_outcomes::part::{Share, share_of};
 
-/// What is cut of a script: a command, or a part of its cuts; each command, or those in a part of them.
+/// What is swept of a script: a command, or a part of its cuts or faults; each command, or those in a part of them.
 #[derive(Clone, Copy, Drop)]
 pub enum Target<'a> {
     Command(ScriptLine<'a>),

@@ -1,4 +1,4 @@
-use Rattle.std.proofs.Common.{◌∙◌, subst, sym}
+use Rattle.std.proofs.Common.{◌∙◌, sym}
 use Rattle.jcard_attack.proofs.part_files.join_named.Goals as goal
 
 pub returns-then-is_of_faults : goal.returns-then-is_of_faults

@@ -2,6 +2,7 @@ use Rattle.std.proofs.Common.{[], ℕ, List, arith, map}
 use Rattle.std.specs.Borrow.{Bor}
 use Rattle.std.proofs.lemmas.List.{length-map}
 use Rattle.jcard_script.proofs.Known.{appends_same}
+use Rattle.jcard_tear.specs.Texts.{texts_of}
 use Rattle.jcard_attack.proofs.FileJoins.{heads_joined, others_told}
 use Rattle.jcard_files.proofs.Effects.{unfailed}
 use Rattle.jcard_attack.proofs.part_files.join_texts.Goals as goal
@@ -24,8 +25,8 @@ returns-in-Ok g c =
       (
         told.0,
         told.1,
-        heads_joined (map (λ (f : Bor (List ℕ)). f.now) c.args.files.now) (map (λ t. t.items) c.args.texts.now)
-            (map (λ (t : Bor (List ℕ)). t.now) c.in-Ok.bodies.texts.items) c.in-Ok.bodies.name.now c.join_named.result told.0
+        heads_joined (texts_of c.args.files.now) (map (λ t. t.items) c.args.texts.now)
+            (texts_of c.in-Ok.bodies.texts.items) c.in-Ok.bodies.name.now c.join_named.result told.0
             (omega (arith, length-map c.args.texts.now (λ t. t.items), c.requires.some)) behind (rw c.deref.ensures.value at told.2),
       ),
       c.join_named.ensures.1,
@@ -36,7 +37,7 @@ returns-in-Err g c = (
   (
     [],
     appends_same _,
-    others_told (map (λ (f : Bor (List ℕ)). f.now) c.args.files.now) (map (λ t. t.items) c.args.texts.now) c.in-Err.cause c.head_fault.result
+    others_told (texts_of c.args.files.now) (map (λ t. t.items) c.args.texts.now) c.in-Err.cause c.head_fault.result
         (omega (arith, length-map c.args.texts.now (λ t. t.items), c.requires.some)) c.in-Err.ensures c.head_fault.ensures.told,
   ),
   unfailed _ c.head_fault.result c.head_fault.ensures.unwritten,
