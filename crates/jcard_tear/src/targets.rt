@@ -20,10 +20,7 @@ pub enum Target<'a> {
 }
 
 /// What is asked for of these commands.
-pub fn target_of<'n, 'a>(
-    commands: &[ScriptLine<'a>],
-    asked: Asked,
-) -> Result<Target<'a>, Fault<'n>>
+pub fn target_of<'n, 'a>(commands: &[ScriptLine<'a>], asked: Asked) -> Result<Target<'a>, Fault<'n>>
     ensures found { MatchResult result
         (λ target. IsTarget (sweep_asked_by asked.entry) commands.now target)
         (λ fault. IsNoTarget (sweep_asked_by asked.entry) commands.now fault) }
