@@ -1,4 +1,4 @@
-use Rattle.std.proofs.Common.{List, ℕ, map, take}
+use Rattle.std.proofs.Common.{List, map, take}
 use Rattle.jcard_files.specs.FileDeeds.{FileDeed}
 use Rattle.jcard_tear.specs.PartTexts.{AreRead}
 use Rattle.jcard_tear.specs.Texts.{texts_of}
