@@ -13,3 +13,5 @@ pub mod StruckLists
 pub mod AttackFaults
 pub mod VerdictSteps
 pub mod Verdicts
+pub mod AskedLines
+pub mod FileJoins

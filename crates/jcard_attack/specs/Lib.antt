@@ -6,5 +6,11 @@ pub mod Models
 pub mod Objects
 pub mod PartLines
 pub mod Report
-pub mod Shares
 pub mod Sweep
+pub mod AttackAsked
+pub mod Names
+pub mod TargetAttacks
+pub mod ReportedFaults
+pub mod ImageSweep
+pub mod Output
+pub mod PartFiles

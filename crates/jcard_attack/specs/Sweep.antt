@@ -5,11 +5,11 @@ use Rattle.jc_card.specs.declared.planned_fault.PlannedFault.{PlannedFault}
 use Rattle.jcard_outcomes.specs.declared.part.Share.{Share}
 use Rattle.jcard_outcomes.specs.declared.standing.Left.{Left}
 use Rattle.jcard_tear.specs.Report.{AreObjectsAsked, IsTold}
+use Rattle.jcard_tear.specs.Shares.{share_in}
 use Rattle.jcard_attack.specs.Aftermaths.{IsAftermath, IsBegun, IsUnfinished}
 use Rattle.jcard_attack.specs.Judgement.{IsLastAnswer, IsSameAs, IsStanding, gives_access, judged}
 use Rattle.jcard_attack.specs.Models.{faults_tried, kinds_tried}
 use Rattle.jcard_attack.specs.Objects.{IsAftermathTold, IsObjectsFault}
-use Rattle.jcard_attack.specs.Shares.{asked_in}
 use Rattle.jcard_attack.specs.declared.aftermaths.AttackFault.{AttackFault}
 use Rattle.jcard_attack.specs.declared.aftermaths.AttackFault.TheVariants.{Down, NoMemory, TooManyInstructions}
 use Rattle.jcard_attack.specs.declared.aftermaths.Attacked.{Attacked}
@@ -38,6 +38,11 @@ unfoldable pub AreStruckBy : List ℕ → Attacked → Baseline → List Planned
 AreStruckBy words c b [] [] = Unit {0}
 AreStruckBy words c b (fault ∷ faults) (s ∷ strikes) = ((s.fault ≡ fault) × IsStruck words c b s) × AreStruckBy words c b faults strikes
 AreStruckBy words c b faults strikes = ⊥
+
+-- all of a list, or those in the part that is asked for
+abbrev pub asked_in : {A : Type 0} → Option Share → List A → List A
+asked_in None all = all
+asked_in (Some share) all = share_in share all
 
 -- the faults that are tried of a command of n instructions: all, or those of a part
 abbrev pub faults_of : Sought → Option Share → ℕ → List PlannedFault

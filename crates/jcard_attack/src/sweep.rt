@@ -3,8 +3,7 @@ ghost use Rattle.std.specs.Prelude.{◌≡◌, ◌<◌, ◌++◌, ◌∷◌, [],
 ghost use Rattle.jcard_attack.specs.Aftermaths.{IsAftermath, IsUnfinished};
 ghost use Rattle.jcard_attack.specs.KeptCard.{IsKeptFor};
 ghost use Rattle.jcard_attack.specs.Models.{faults_tried, kinds_tried};
-ghost use Rattle.jcard_attack.specs.Shares.{asked_in};
-ghost use Rattle.jcard_attack.specs.Sweep.{AreStruckBy, IsStruck, IsSwept, IsTraceFault, IsUnswept};
+ghost use Rattle.jcard_attack.specs.Sweep.{AreStruckBy, IsStruck, IsSwept, IsTraceFault, IsUnswept, asked_in};
 ghost use Rattle.jcard_attack.specs.declared.aftermaths.Attacked.{Attacked as AnAttacked};
 ghost use Rattle.jcard_attack.specs.declared.aftermaths.AttackFault.TheVariants.{NoMemory};
 ghost use Rattle.jcard_tear.specs.Report.{AreOfImage};
@@ -15,7 +14,6 @@ use crate::kept_card::{AtCommand, kept_for};
 use crate::models::{faults_tried, kinds_tried};
 use crate::objects::{aftermath_told, objects_before};
 use crate::outcomes::{Aftermath, AttackSweep, Struck};
-use crate::shares::share_in;
 use crate::trace::instructions_of;
 use jc_card::planned_fault::PlannedFault;
 use jc_objects::image_objects::ImageObjects;
@@ -24,6 +22,7 @@ use jcard_outcomes::part::Share;
 use jcard_outcomes::rows::is_same;
 use jcard_outcomes::standing::Left;
 use jcard_tear::report::told;
+use jcard_tear::shares::share_in;
 use std::alloc::{AllocError, Global};
 
 /// How many bytes are taken once; copies of a card of the largest image take less.

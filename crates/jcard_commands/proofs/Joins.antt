@@ -3,7 +3,7 @@ use Rattle.std.proofs.Common.{◌≡◌, ℕ, List, [], ◌∷◌, length, Resul
 use Rattle.std.specs.Borrow.{Bor}
 use Rattle.jcard_arguments.specs.CommandLine.{ToJoin, texts_of}
 use Rattle.jcard_files.specs.FileDeeds.{FileDeed}
-use Rattle.jcard_sweeps.specs.Join.{IsJoining}
+use Rattle.jcard_attack.specs.PartFiles.{IsJoining}
 use Rattle.jcard_commands.specs.Commands.{IsDone}
 use Rattle.jcard_files.specs.declared.fault.Fault.{Fault}
 use Rattle.jcard_files.specs.declared.fault.Fault.TheVariants.{BadCommandLine}

@@ -8,7 +8,7 @@ use Rattle.jcard_arguments.specs.declared.arguments.NoAction.TheVariants.{Help, 
 use Rattle.jcard_dump.specs.Inventory.{IsDump}
 use Rattle.jcard_files.specs.Effects.{Says, Tells}
 use Rattle.jcard_files.specs.FileDeeds.{FileDeed}
-use Rattle.jcard_sweeps.specs.Join.{IsJoining}
+use Rattle.jcard_attack.specs.PartFiles.{IsJoining}
 use Rattle.jc_card.specs.Dispatching.{usual_budget}
 use Rattle.jcard_files.specs.NewImage.{IsNew}
 use Rattle.jcard_files.specs.declared.image_size.ImageSize.{ImageSize}

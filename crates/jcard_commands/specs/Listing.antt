@@ -10,9 +10,10 @@ use Rattle.jcard_files.specs.Reading.{IsScriptRead, IsUnread}
 use Rattle.jcard_dump.specs.Comparison.{IsComparison}
 use Rattle.jcard_dump.specs.Dump.{IsObjectsDump}
 use Rattle.jcard_script.specs.Texts.{IsCutOf}
-use Rattle.jcard_sweeps.specs.Attack as sweeps
-use Rattle.jcard_sweeps.specs.SweepsAsked.{SweepAsked}
-use Rattle.jcard_sweeps.specs.Tear.{IsTear}
+use Rattle.jcard_attack.specs.AttackAsked as sweeps
+use Rattle.jcard_attack.specs.ImageSweep.{IsAttack}
+use Rattle.jcard_tear.specs.SweepAsked.{SweepAsked}
+use Rattle.jcard_tear.specs.ImageSweep.{IsTear}
 use Rattle.jcard_files.specs.Effects.{Says, Tells}
 use Rattle.jcard_why.specs.NamedText.{HasNames}
 use Rattle.jcard_commands.specs.declared.listing.Listed.{Listed}
@@ -48,7 +49,7 @@ pub record IsAskedOf (script : List ℕ) (words : AttackAsked) (asked : sweeps.A
 
 -- an attack over the words of an image
 abbrev pub IsAttackWith : List ℕ → List ℕ → AttackAsked → Tells
-IsAttackWith image script words ended text deeds = (asked : sweeps.AttackAsked) × IsAskedOf script words asked × sweeps.IsAttack image asked ended text deeds
+IsAttackWith image script words ended text deeds = (asked : sweeps.AttackAsked) × IsAskedOf script words asked × IsAttack image asked ended text deeds
 
 -- this was listed, without names
 abbrev pub IsListed : Listed → Tells

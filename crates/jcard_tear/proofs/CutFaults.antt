@@ -55,6 +55,11 @@ pub passed_on : {A F : Type 0} (P : A → Type 0) {Q : F → Type 0} (R : F → 
 passed_on P R (Ok x) is to = absurd is
 passed_on P R (Err fault) is to = to fault is
 
+-- the same of a cause that is known
+pub cause_passed_on : {A F : Type 0} (P : A → Type 0) (R : F → Type 0) (r : Result A F) (cause : F) → IsErrAnd r (λ fault. fault ≡ cause) → R cause → MatchResult r P R
+cause_passed_on P R (Ok x) cause is h = absurd is
+cause_passed_on P R (Err fault) cause is h = subst R (sym is) h
+
 -- the same of a fault alone
 pub refused_on : {A F : Type 0} {Q : F → Type 0} (R : F → Type 0) (r : Result A F) → IsErrAnd r Q → ((fault : F) → Q fault → R fault) → IfErr r R
 refused_on R (Ok x) is to = tt

@@ -9,3 +9,6 @@ pub mod CutFaults
 pub mod SameHeaps
 pub mod KeptCuts
 pub mod OneHeaps
+pub mod NamedParts
+pub mod PartJoins
+pub mod PowerUpFaults

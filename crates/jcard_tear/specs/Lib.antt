@@ -7,3 +7,14 @@ pub mod ScriptLines
 pub mod Names
 pub mod Parts
 pub mod KeptCard
+pub mod Texts
+pub mod SweepAsked
+pub mod Targets
+pub mod ReportedFaults
+pub mod TargetCuts
+pub mod Output
+pub mod Subject
+pub mod ImageSweep
+pub mod Shares
+pub mod PartTexts
+pub mod Join

@@ -1,6 +1,5 @@
 -- A command of a script that is cut after each number of its word writes.
-use Rattle.std.specs.Prelude.{ℕ, ◌≡◌, ◌+◌, ◌-◌, ◌*◌, ◌<◌, ◌≤◌, ◌≢◌, ◌⊎◌, true, false, List, [], ◌∷◌, ◌++◌, codes, decimal, drop, take, length, option_map, slice_index, Option, Some, None}
-use Rattle.std.specs.Borrow.{Bor}
+use Rattle.std.specs.Prelude.{ℕ, ◌≡◌, ◌+◌, ◌-◌, ◌*◌, ◌<◌, ◌≤◌, ◌≢◌, ◌⊎◌, true, false, List, [], ◌∷◌, ◌++◌, codes, decimal, drop, take, length, slice_index, Option, Some, None}
 use Rattle.hex.specs.Hex.{encode_upper}
 use Rattle.jc_words.specs.Store.{FuseStoreValue}
 use Rattle.jc_objects.specs.Pins.{AreTriesIn}
@@ -17,6 +16,7 @@ use Rattle.jcard_tear.specs.Recoveries.{AreRecoveries}
 use Rattle.jcard_tear.specs.Runs.{IsLeft, IsSelectedBy, Runs}
 use Rattle.jcard_tear.specs.ScriptLines.{Line, command_text}
 use Rattle.jcard_tear.specs.Report.{AreObjectsAsked, IsTold}
+use Rattle.jcard_tear.specs.Texts.{text_of}
 use Rattle.jcard_tear.specs.declared.cuts.Baseline.{Baseline}
 use Rattle.jcard_tear.specs.declared.cuts.Behind.{Behind}
 use Rattle.jcard_tear.specs.declared.cuts.Command.{Command}
@@ -100,7 +100,7 @@ select_line (Some aid) = codes "00A40400" ++ encode_upper (length aid ∷ []) ++
 
 -- the lines of a probe that are given to follow each cut, if any are
 abbrev pub given_of : FollowUp → Option (List ℕ)
-given_of f = option_map (λ (lines : Bor (List ℕ)). lines.now) f.probe
+given_of f = text_of f.probe
 
 -- the lines of a probe: those that are given, or else the SELECT of the applet that is selected before the command
 abbrev pub IsProbe : ℕ → List ℕ → Option (List ℕ) → List ℕ → List ℕ → Type 0

@@ -1,11 +1,10 @@
 //! The name of a sweep, by which its parts know one another.
 ghost use Rattle.std.specs.Prelude.{◌≡◌, ◌++◌, ◌<◌, flat_map, length, IfOk, OnOk};
 ghost use Rattle.byteorder.specs.Endian.{big_bytes};
-ghost use Rattle.std.specs.Prelude.{ℕ, List, option_map};
-ghost use Rattle.std.specs.Borrow.{Bor};
 ghost use Rattle.hex.specs.Hex.{encode_lower};
 ghost use Rattle.sha1.specs.Sha1.{sha1};
 ghost use Rattle.jcard_tear.specs.Names.{commands_name, commands_text, instructions_text, measured, options_text, probe_text, sweep_name, swept_text};
+ghost use Rattle.jcard_tear.specs.Texts.{text_of};
 
 use crate::cuts::{Behind, Command};
 use itoa::Buffer;
@@ -43,7 +42,7 @@ pub fn commands_name(
 ) -> Result<Vec<u8>, AllocError>
     requires { length words.now < 65536 }
     ensures { IfOk result (λ name. name.items ≡ commands_name words.now script.now
-        (option_map (λ (text : Bor (List ℕ)). text.now) probe.entry) behind parts) }
+        (text_of probe.entry) behind parts) }
 {
     let swept = commands_text(alloc, words, script, probe, behind, parts)?;
     let mut name = checksum_of(alloc, &swept)?;
@@ -71,7 +70,7 @@ fn commands_text(
 ) -> Result<Vec<u8>, AllocError>
     requires { length words.now < 65536 }
     ensures { IfOk result (λ text. text.items ≡ commands_text words.now script.now
-        (option_map (λ (text : Bor (List ℕ)). text.now) probe.entry) behind parts) }
+        (text_of probe.entry) behind parts) }
 {
     let image = bytes_of(alloc, words)?;
     let mut text = Vec::new(alloc);
@@ -86,8 +85,7 @@ fn commands_text(
 
 // Writes the lines of a probe, if any are given.
 fn push_probe(text: &mut Vec<u8>, probe: Option<&[u8]>) -> Result<(), AllocError>
-    ensures { OnOk result (text.new.items ≡ text.old.items
-        ++ probe_text (option_map (λ (text : Bor (List ℕ)). text.now) probe.entry)) }
+    ensures { OnOk result (text.new.items ≡ text.old.items ++ probe_text (text_of probe.entry)) }
 {
     match probe {
         Some(lines) => {

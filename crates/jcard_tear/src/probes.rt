@@ -1,9 +1,9 @@
 //! The lines that a card is asked after a cut.
-ghost use Rattle.std.specs.Prelude.{◌≡◌, ◌<◌, ◌++◌, ℕ, List, length, option_map, IfOk, MatchResult, OnOk};
-ghost use Rattle.std.specs.Borrow.{Bor};
+ghost use Rattle.std.specs.Prelude.{◌≡◌, ◌<◌, ◌++◌, length, IfOk, MatchResult, OnOk};
 ghost use Rattle.hex.specs.Hex.{encode_upper};
 ghost use Rattle.jcard_tear.specs.Runs.{IsRunFault};
 ghost use Rattle.jcard_tear.specs.Sweep.{IsProbe, select_line};
+ghost use Rattle.jcard_tear.specs.Texts.{text_of};
 
 use crate::runs::{RunFault, selected_by};
 use jc_environment::Aid;
@@ -19,8 +19,7 @@ pub(crate) fn probe_for(
     budget: u32,
 ) -> Result<Vec<u8>, RunFault>
     requires { length words.now < 65536 }
-    ensures { MatchResult result (λ lines. IsProbe budget words.now
-        (option_map (λ (text : Bor (List ℕ)). text.now) probe.entry) before.now lines.items)
+    ensures { MatchResult result (λ lines. IsProbe budget words.now (text_of probe.entry) before.now lines.items)
         (λ fault. IsRunFault budget words.now before.now fault) }
 {
     match probe {

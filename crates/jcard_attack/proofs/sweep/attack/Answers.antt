@@ -6,8 +6,7 @@ use Rattle.jcard_tear.proofs.CutFaults.{passed_on}
 use Rattle.jcard_attack.specs.Aftermaths.{IsUnfinished}
 use Rattle.jcard_attack.specs.Models.{faults_tried, kinds_tried}
 use Rattle.jcard_attack.specs.Objects.{IsObjectsFault}
-use Rattle.jcard_attack.specs.Shares.{asked_in}
-use Rattle.jcard_attack.specs.Sweep.{AreStruckBy, IsUnswept}
+use Rattle.jcard_attack.specs.Sweep.{AreStruckBy, IsUnswept, asked_in}
 use Rattle.jcard_attack.proofs.AttackFaults.{trace_unswept}
 use Rattle.jcard_attack.proofs.sweep.attack.Goals as goal
 

@@ -1,6 +1,6 @@
 use Rattle.std.proofs.Common.{subst}
-use Rattle.jcard_sweeps.specs.Attack.{attack_asked_by}
-use Rattle.jcard_sweeps.specs.Tear.{IsTear}
+use Rattle.jcard_attack.specs.AttackAsked.{attack_asked_by}
+use Rattle.jcard_tear.specs.ImageSweep.{IsTear}
 use Rattle.jcard_commands.proofs.listing.list_plainly.Goals as goal
 
 pub returns-in-Objects : goal.returns-in-Objects

@@ -1,9 +1,0 @@
-use Rattle.std.proofs.Common.{List, ℕ, map, take}
-use Rattle.std.specs.Borrow.{Bor}
-use Rattle.jcard_files.specs.FileDeeds.{FileDeed}
-use Rattle.jcard_sweeps.specs.Join.{AreRead}
-use Rattle.jcard_sweeps.proofs.join.texts_of.Given as goal
-
-abbrev pub invariant-loop-file : goal.invariant-loop-file
-invariant-loop-file g l = (deeds : List FileDeed) × g.D.Disk.does l.fn.disk deeds l.disk
-    × AreRead (map (λ (f : Bor (List ℕ)). f.now) (take l.file-index l.files)) (map (λ t. t.items) l.texts.items) deeds

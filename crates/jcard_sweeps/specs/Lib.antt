@@ -1,9 +1,0 @@
-pub mod Attack
-pub mod Cuts
-pub mod Join
-pub mod SweepsAsked
-pub mod Targets
-pub mod TearFaults
-pub mod Tear
-pub mod Texts
-pub mod Report

@@ -1,0 +1,94 @@
+//! `jcard tear`: cutting the power within commands of a script, after each number of their word writes.
+ghost use Rattle.std.specs.Prelude.{◌<◌, length};
+ghost use Rattle.jcard_files.specs.Effects.{Does};
+ghost use Rattle.jcard_tear.specs.ImageSweep.{IsTear, IsTorn};
+ghost use Rattle.jcard_tear.specs.SweepAsked.{sweep_asked_by};
+
+use crate::cuts::{Behind, FollowUp};
+use crate::output::write_report;
+use crate::progress::Progress;
+use crate::remarks::remark_on_probe;
+use crate::reported_faults::tear_fault;
+use crate::script_lines::commands;
+use crate::subject::{Subject, carry_through, image_words, lent, probe_of};
+use crate::target_cuts::{Cutting, cut};
+use crate::targets::target_of;
+use jcard_files::disk::Disk;
+use jcard_files::fault::Fault;
+use jcard_files::reading::script_of;
+use jcard_files::remarks::Remarks;
+use jcard_files::script_fault::Names;
+use jcard_script::streams::TextOut;
+
+/// What is torn of an image: the names of a script and perhaps of a probe, the command in the line of a number, the last
+/// command, or each, and what comes after each cut.
+#[derive(Clone, Copy, Drop)]
+pub struct Asked<'a> {
+    pub script: &'a str,
+    pub probe: Option<&'a str>,
+    pub line: Option<&'a str>,
+    pub each: bool,
+    pub behind: Behind,
+    pub part: Option<&'a str>,
+}
+
+/// `jcard tear`: cuts a command of the script, or each, after each number of its writes, each time on a card of a copy of the image's
+/// words, and says what is left. The whole script is carried out before, and refused as `jcard run` refuses it. The image is read, and
+/// never written. A part of one command has some of its cuts, a part of each command some of the commands.
+pub fn tear_image<'n, D: Disk, W: TextOut, P: Progress + Remarks>(
+    disk: &mut D,
+    image: &'n str,
+    asked: Asked<'n>,
+    out: &mut W,
+    progress: &mut P,
+) -> Result<(), Fault<'n>>
+    ensures { Does D.does W.contents W.failures disk.old disk.new out.old out.new result
+        (IsTear image.now (sweep_asked_by asked.entry)) }
+{
+    let words = image_words(disk, image)?;
+    let script = script_of(disk, asked.script)?;
+    let Ok(commands) = commands(disk.alloc(), &script) else {
+        return Err(Fault::NoMemory);
+    };
+    let subject = Subject {
+        names: Names {
+            image,
+            script: asked.script,
+        },
+        words: &words,
+        script: &script,
+        commands: &commands,
+    };
+    carry_through(disk.alloc(), subject, asked.behind.instructions, progress)?;
+    tear_subject(disk, subject, asked, out, progress)
+}
+
+// Cuts what is asked for of a script that was carried out, with the lines of the probe after each cut, and writes the report.
+fn tear_subject<'n, D: Disk, W: TextOut, P: Progress + Remarks>(
+    disk: &mut D,
+    subject: Subject<'n, '_>,
+    asked: Asked<'n>,
+    out: &mut W,
+    progress: &mut P,
+) -> Result<(), Fault<'n>>
+    requires { length subject.words.now < 65536 }
+    ensures { Does D.does W.contents W.failures disk.old disk.new out.old out.new result
+        (IsTorn subject.entry (sweep_asked_by asked.entry)) }
+{
+    let target = target_of(subject.commands, asked)?;
+    let probe = probe_of(disk, asked.probe)?;
+    let cutting = Cutting {
+        subject,
+        follow_up: FollowUp {
+            probe: lent(&probe),
+            behind: asked.behind,
+        },
+    };
+    match cut(disk.alloc(), cutting, target, progress) {
+        Ok(told) => write_report(&told.text, told.is_whole, out),
+        Err(cause) => {
+            remark_on_probe(disk.alloc(), cutting.follow_up.probe, cause, progress);
+            Err(tear_fault(subject.names, cause))
+        }
+    }
+}
