@@ -58,14 +58,10 @@ fn make_from<'n, D: Disk>(
         Ok(_) => (),
         Err(TableFault::BadTable(line)) => return Err(Fault::BadTable(line)),
     }
-    match disk.make_image(image, extent.count) {
-        Ok(store) => {
-            let (store, ended) = lay_image(store, image, text, extent.room);
-            disk.close_image(image, ClosedStore::new(store));
-            ended
-        }
-        Err(fault) => Err(fault),
-    }
+    let store = disk.make_image(image, extent.count)?;
+    let (store, ended) = lay_image(store, image, text, extent.room);
+    disk.close_image(image, ClosedStore::new(store));
+    ended
 }
 
 // Makes the zero words of a store an image, for the file with this name, and gives the store back.

@@ -21,10 +21,8 @@ pub fn text_of<'n, D: Disk>(disk: &mut D, name: &'n str) -> Result<Vec<u8>, Faul
     ensures { ReadsFiles D.does disk.old disk.new result
         (λ text. IsRead name.now text.items) (IsUnread name.now) }
 {
-    match disk.open_text(name) {
-        Ok(mut file) => read_text(disk.alloc(), name, &mut file),
-        Err(fault) => Err(fault),
-    }
+    let mut file = disk.open_text(name)?;
+    read_text(disk.alloc(), name, &mut file)
 }
 
 // What is left in the file with this name, up to the limit.
@@ -36,10 +34,8 @@ fn read_text<'a, F: Read>(alloc: Global, path: &'a str, file: &mut F) -> Result<
     let Ok(mut text) = Vec::with_capacity(alloc, TABLE_LIMIT as usize + 1) else {
         return Err(Fault::NoMemory);
     };
-    match read_into(path, file, &mut text) {
-        Ok(()) => Ok(text),
-        Err(fault) => Err(fault),
-    }
+    read_into(path, file, &mut text)?;
+    Ok(text)
 }
 
 // The same, into room that is there: no memory is asked for.
@@ -61,10 +57,8 @@ pub fn script_of<'n, D: Disk>(disk: &mut D, name: &'n str) -> Result<Vec<u8>, Fa
         (λ text. IsScriptRead name.now text.items) (IsUnread name.now) }
     ensures unwritten { IfErr result (λ fault. is_unwritten (Err fault) ≡ false) }
 {
-    match disk.open_text(name) {
-        Ok(mut file) => read_script(disk.alloc(), name, &mut file),
-        Err(fault) => Err(fault),
-    }
+    let mut file = disk.open_text(name)?;
+    read_script(disk.alloc(), name, &mut file)
 }
 
 fn read_script<'n, F: Read>(
