@@ -28,14 +28,10 @@ pub fn compare_images<'n, D: Disk, W: TextOut>(
     ensures { Does D.does W.contents W.failures disk.old disk.new out.old out.new result
         (IsComparison image.now other.now shown) }
 {
-    match disk.open_image_to_read(image) {
-        Ok(store) => {
-            let told = compare_with(disk, &store, other, shown, out);
-            disk.close_image(image, ClosedStore::new(store));
-            told
-        }
-        Err(fault) => Err(fault),
-    }
+    let store = disk.open_image_to_read(image)?;
+    let told = compare_with(disk, &store, other, shown, out);
+    disk.close_image(image, ClosedStore::new(store));
+    told
 }
 
 // Prints what is not the same in a store and in the image with this name.
@@ -49,14 +45,10 @@ fn compare_with<'n, D: Disk, W: TextOut>(
     ensures { Does D.does W.contents W.failures disk.old disk.new out.old out.new result
         (IsBesideTold (D.Image.words store.now) other.now shown) }
 {
-    match disk.open_image_to_read(other) {
-        Ok(second) => {
-            let told = tell_differences(disk.alloc(), store, &second, shown, out);
-            disk.close_image(other, ClosedStore::new(second));
-            told
-        }
-        Err(fault) => Err(fault),
-    }
+    let second = disk.open_image_to_read(other)?;
+    let told = tell_differences(disk.alloc(), store, &second, shown, out);
+    disk.close_image(other, ClosedStore::new(second));
+    told
 }
 
 // Writes what is not the same in two stores, if both are images.

@@ -25,14 +25,10 @@ pub fn dump_objects<'n, D: Disk, W: TextOut>(
     ensures { Does D.does W.contents W.failures disk.old disk.new out.old out.new result
         (IsObjectsDump image.now shown) }
 {
-    match disk.open_image_to_read(image) {
-        Ok(store) => {
-            let told = tell_objects(disk.alloc(), &store, shown, out);
-            disk.close_image(image, ClosedStore::new(store));
-            told
-        }
-        Err(fault) => Err(fault),
-    }
+    let store = disk.open_image_to_read(image)?;
+    let told = tell_objects(disk.alloc(), &store, shown, out);
+    disk.close_image(image, ClosedStore::new(store));
+    told
 }
 
 // Writes what the words of a store hold.
@@ -45,10 +41,8 @@ fn tell_objects<'a, S: WordStore, W: TextOut>(
     ensures { Writes W.contents W.failures out.old out.new result
         (AreObjectsTold (S.words store.now) shown) }
 {
-    match dump_store(store, out) {
-        Ok(()) => tell_listing(alloc, store, shown, out),
-        Err(fault) => Err(fault),
-    }
+    dump_store(store, out)?;
+    tell_listing(alloc, store, shown, out)
 }
 
 // Writes the listing.

@@ -31,14 +31,10 @@ pub fn dump_image<'n, D: Disk, W: TextOut>(
     ensures { Does D.does W.contents W.failures disk.old disk.new out.old out.new result
         (IsDump image.now) }
 {
-    match disk.open_image_to_read(image) {
-        Ok(store) => {
-            let told = dump_store(&store, out);
-            disk.close_image(image, ClosedStore::new(store));
-            told
-        }
-        Err(fault) => Err(fault),
-    }
+    let store = disk.open_image_to_read(image)?;
+    let told = dump_store(&store, out);
+    disk.close_image(image, ClosedStore::new(store));
+    told
 }
 
 /// Prints what the words of a store hold, as `jcard dump` does.

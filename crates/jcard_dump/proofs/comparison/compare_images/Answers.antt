@@ -1,4 +1,5 @@
 use Rattle.std.proofs.Common.{◌≡◌, ◌∙◌, ◌++◌, List, [], ◌∷◌, Ok, Err, refl, ap, subst, inl, inr}
+use Rattle.std.proofs.lemmas.Result.{err_from_is_err_and}
 use Rattle.jcard_script.proofs.Known.{appends_same}
 use Rattle.jc_words.specs.Store.{store_value}
 use Rattle.jcard_files.specs.FileDeeds.{FileDeed, ClosesImage, ReadsImage, untouched}
@@ -6,14 +7,14 @@ use Rattle.jcard_files.proofs.Stores.{fresh_untouched}
 use Rattle.jcard_files.proofs.Effects.{not_opened_unwritten, unfailed}
 use Rattle.jcard_dump.proofs.comparison.compare_images.Goals as goal
 
-pub returns-in-Ok : goal.returns-in-Ok
-returns-in-Ok g c =
+pub returns : goal.returns
+returns g c =
     let image = c.args.image.now in
-    let words = g.D.Image.WordStore.words c.in-Ok.store in
+    let words = g.D.Image.WordStore.words c.in_ok-store.store in
     let I = g.D.Image.WordStore in
     let value = store_value I.words I.down I.passed I.refusals in
     let fresh : value c.new.result.store ≡ untouched words = ap value c.new.ensures
-    ∙ fresh_untouched words _ _ _ c.in-Ok.ensures.up c.in-Ok.ensures.none_passed c.in-Ok.ensures.none_refused in
+    ∙ fresh_untouched words _ _ _ c.in_ok-store.ensures.up c.in_ok-store.ensures.none_passed c.in_ok-store.ensures.none_refused in
     let closed = subst (λ s. g.D.Disk.does c.compare_with-told.new.disk (ClosesImage image s ∷ []) c.close_image.new.self) fresh
     c.close_image.ensures in
     let told = c.compare_with-told.ensures.0 in
@@ -23,20 +24,22 @@ returns-in-Ok g c =
         told.0,
         ReadsImage image (Ok words) ∷ (within ++ ClosesImage image (untouched words) ∷ []),
         told.2,
-        inr (words, within, c.in-Ok.ensures.size, told.3, refl),
-        g.met.D.Disk.then _ _ _ reads _ c.in-Ok.ensures.does (g.met.D.Disk.then _ _ _ within _ told.4 closed),
+        inr (words, within, c.in_ok-store.ensures.size, told.3, refl),
+        g.met.D.Disk.then _ _ _ reads _ c.in_ok-store.ensures.does (g.met.D.Disk.then _ _ _ within _ told.4 closed),
       ),
       c.compare_with-told.ensures.1,
     )
 
-pub returns-in-Err : goal.returns-in-Err
-returns-in-Err g c = (
-  (
-    [],
-    ReadsImage c.args.image.now (Err c.in-Err.fault) ∷ [],
-    appends_same _,
-    inl (c.in-Err.fault, refl, c.in-Err.ensures.refused, refl, refl),
-    c.in-Err.ensures.does,
-  ),
-  unfailed _ c.in-Err.fault (not_opened_unwritten c.args.image.now c.in-Err.fault c.in-Err.ensures.refused),
-)
+pub returns-in_err-store : goal.returns-in_err-store
+returns-in_err-store g c =
+    let p = err_from_is_err_and c.from_residual.result c.from_residual.ensures.1 in
+    rw (p.1, p.2) (
+      (
+        [],
+        ReadsImage c.args.image.now (Err c.in_err-store.field-0.0) ∷ [],
+        appends_same _,
+        inl (c.in_err-store.field-0.0, refl, c.in_err-store.ensures.refused, refl, refl),
+        c.in_err-store.ensures.does,
+      ),
+      unfailed _ c.in_err-store.field-0.0 (not_opened_unwritten c.args.image.now c.in_err-store.field-0.0 c.in_err-store.ensures.refused),
+    )
