@@ -186,10 +186,7 @@ fn next_cut(
 {
     match cut_of_card(alloc, number, shared) {
         Some(KeptCut::Uncut) => Ok(None),
-        Some(KeptCut::Left(found)) => match reported_cut(alloc, shared, found, last) {
-            Ok(cut) => Ok(Some(cut)),
-            Err(fault) => Err(fault),
-        },
+        Some(KeptCut::Left(found)) => Ok(Some(reported_cut(alloc, shared, found, last)?)),
         None => cut_anew(alloc, number, shared),
     }
 }

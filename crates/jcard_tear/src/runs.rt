@@ -137,17 +137,14 @@ pub(crate) fn run_told(
     let Ok(mut watcher) = Watcher::new(alloc, names) else {
         return Err(RunFault::NoMemory);
     };
-    match run_watched(alloc, words, script, budget, &mut watcher) {
-        Ok(ran) => match watcher.words(alloc) {
-            Ok(by_calls) => Ok(WatchedRun {
-                ran,
-                by_calls,
-                told: watcher.told().unwrap_or(Vec::new(alloc)),
-            }),
-            Err(AllocError) => Err(RunFault::NoMemory),
-        },
-        Err(fault) => Err(fault),
-    }
+    let ran = run_watched(alloc, words, script, budget, &mut watcher)?;
+    let by_calls = watcher.words(alloc)?;
+    let told = watcher.told().unwrap_or(Vec::new(alloc));
+    Ok(WatchedRun {
+        ran,
+        by_calls,
+        told,
+    })
 }
 
 /// Carries out a whole script, to see whether that can be done.
@@ -161,10 +158,8 @@ pub fn carried_through(
     ensures { MatchResult result (λ _. IsCarriedThrough budget words.now script.now)
         (λ fault. IsRunFault budget words.now script.now fault) }
 {
-    match run_copy(alloc, words, script, budget) {
-        Ok(_ran) => Ok(()),
-        Err(fault) => Err(fault),
-    }
+    run_copy(alloc, words, script, budget)?;
+    Ok(())
 }
 
 /// The AID of the applet that is selected after a script was carried out on the card of a copy of these words; nothing where none is.

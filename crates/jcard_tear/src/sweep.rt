@@ -162,10 +162,8 @@ fn left_known(
     if let Some(left) = left_standing(alloc, &words, probe, budget) {
         return Ok((left, true));
     }
-    match left_by_probe(alloc, words, probe, budget) {
-        Ok(left) => Ok((left, false)),
-        Err(fault) => Err(fault),
-    }
+    let left = left_by_probe(alloc, words, probe, budget)?;
+    Ok((left, false))
 }
 
 // The same of words that a reset leaves as they are, if a card powers up over them.
