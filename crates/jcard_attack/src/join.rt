@@ -44,10 +44,8 @@ fn joined(alloc: Global, text: &[u8], parts: usize) -> Result<JoinedAttack, Join
     requires { 0 < parts }
     ensures { MatchResult result (IsJoined parts text.now) (IsUnjoined parts text.now) }
 {
-    match read(alloc, text) {
-        Ok(lines) => joined_lines(alloc, &lines, parts),
-        Err(fault) => Err(fault),
-    }
+    let lines = read(alloc, text)?;
+    joined_lines(alloc, &lines, parts)
 }
 
 // The report of these lines of this many parts.
