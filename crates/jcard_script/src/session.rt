@@ -592,10 +592,8 @@ impl<S: WordStore + Drop> Session<S> {
         explain(&mut held, &self.notes);
         let reply = power_up_reply(&held);
         self.held = Some(held);
-        match result {
-            Ok(()) => Ok(reply),
-            Err(fault) => Err(fault),
-        }
+        result?;
+        Ok(reply)
     }
 
     // Script line `stop K`: lets K writes pass and refuses the next.

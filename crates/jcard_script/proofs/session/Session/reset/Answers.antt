@@ -5,8 +5,8 @@ use Rattle.jcard_script.specs.ScriptStates.{IsReset}
 use Rattle.jcard_script.proofs.PowerUps.{reset_answered}
 use Rattle.jcard_script.proofs.session.Session.reset.Goals as goal
 
-pub returns-in-Ok-clause-powered : goal.returns-in-Ok-clause-powered
-returns-in-Ok-clause-powered g c =
+pub returns-clause-powered : goal.returns-clause-powered
+returns-clause-powered g c =
     let before = state_of_held c.args.self.now.held in
     let after = power_of c.explain.new.held in
     let powered : IsReset before after = search rules in
