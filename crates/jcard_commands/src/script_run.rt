@@ -40,14 +40,9 @@ pub(crate) fn run_with<'n, D: Disk, W: TextOut, L: Listener + Remarks>(
     ensures { Does D.does W.contents W.failures disk.old disk.new out.old out.new result
         (IsRunWith image.now script.now (run_asked_by options.entry)) }
 {
-    let names = match names_of(disk, options.map) {
-        Ok(names) => names,
-        Err(fault) => return Err(fault),
-    };
+    let names = names_of(disk, options.map)?;
     let operands = operands_of(image, script, options.map);
-    if let Err(fault) = begin_cover(disk, options.cover, &operands) {
-        return Err(fault);
-    }
+    begin_cover(disk, options.cover, &operands)?;
     remark_on(disk.alloc(), &names, listener);
     let points = points_in(disk.alloc(), &names, options.stops, listener);
     let mut told = Told::new(disk.alloc(), listener, &names, points, &options);
@@ -119,10 +114,7 @@ fn run_file<'n, D: Disk, W: TextOut, E: Explainer>(
     ensures { Does D.does W.contents W.failures disk.old disk.new out.old out.new result
         (IsRun budget image.now script.now) }
 {
-    let store = match disk.open_image(image) {
-        Ok(store) => FuseStore::new(store),
-        Err(fault) => return Err(fault),
-    };
+    let store = FuseStore::new(disk.open_image(image)?);
     match disk.open_text(script) {
         Ok(file) => {
             let names = Names { image, script };

@@ -1,27 +1,32 @@
 use Rattle.std.proofs.Common.{[], ◌++◌, ◌∙◌, ap, refl, inl, inr, subst, sym, Err, Ok, ℕ}
+use Rattle.std.proofs.lemmas.Result.{err_from_is_err_and}
 use Rattle.jc_words.specs.Count.{failures_after}
 use Rattle.jcard_script.proofs.Known.{appends_same}
 use Rattle.jcard_commands.specs.ScriptRun.{IsRun}
 use Rattle.jcard_files.proofs.Effects.{unfailed}
 use Rattle.jcard_commands.proofs.script_run.run_with.Goals as goal
 
-pub returns-in-Err : goal.returns-in-Err
-returns-in-Err g c =
-    let read = c.in-Err.ensures.read in (
-      ([], read.0, appends_same _, inl (c.in-Err.fault, refl, refl, read.2), read.1),
-      unfailed _ c.in-Err.fault c.in-Err.ensures.unwritten,
+pub returns-in_err-names : goal.returns-in_err-names
+returns-in_err-names g c =
+    let p = err_from_is_err_and c.from_residual.result c.from_residual.ensures.1 in
+    let read = c.in_err-names.ensures.read in
+    rw (p.1, p.2) (
+      ([], read.0, appends_same _, inl (c.in_err-names.field-0.0, refl, refl, read.2), read.1),
+      unfailed _ c.in_err-names.field-0.0 c.in_err-names.ensures.unwritten,
     )
 
-pub returns-in-Err-begin_cover : goal.returns-in-Err-begin_cover
-returns-in-Err-begin_cover g c =
-    let read = c.in-Ok.ensures.read in
-    let begun = c.in-Err-begin_cover.ensures.begun in (
+pub returns-in_err-begin_cover : goal.returns-in_err-begin_cover
+returns-in_err-begin_cover g c =
+    let p = err_from_is_err_and c.from_residual-in_err-begin_cover.result c.from_residual-in_err-begin_cover.ensures.1 in
+    let read = c.in_ok-names.ensures.read in
+    let begun = c.in_err-begin_cover.ensures.begun in
+    rw (p.1, p.2) (
       (
         [],
         read.0 ++ (begun.0 ++ []),
         appends_same _,
         inr (
-          Err c.in-Err-begin_cover.fault,
+          Err c.in_err-begin_cover.field-0.0,
           read.0,
           begun.0,
           [],
@@ -34,13 +39,13 @@ returns-in-Err-begin_cover g c =
         ),
         g.met.D.Disk.then _ _ _ read.0 (begun.0 ++ []) read.1 (g.met.D.Disk.then _ _ _ begun.0 [] begun.1 (g.met.D.Disk.none _)),
       ),
-      unfailed _ c.in-Err-begin_cover.fault c.in-Err-begin_cover.ensures.unwritten,
+      unfailed _ c.in_err-begin_cover.field-0.0 c.in_err-begin_cover.ensures.unwritten,
     )
 
 pub returns : goal.returns
 returns g c =
-    let read = c.in-Ok.ensures.read in
-    let begun = c.in_default.ensures.begun in
+    let read = c.in_ok-names.ensures.read in
+    let begun = c.in_ok-begin_cover.ensures.begun in
     let done = c.run_file-ran.ensures.0 in
     let kept = c.keep_cover.ensures.kept in
     let ran = subst (λ (budget : ℕ). IsRun budget c.args.image.now c.args.script.now c.run_file-ran.result done.0 done.1) c.unwrap_or-budget.ensures done.3 in (
