@@ -42,10 +42,8 @@ pub(crate) fn outcome_of<'n, T: Timer>(
     ensures { MatchResult result (λ outcome. IsOutcome plan.now cards.now outcome)
         (λ fault. IsUnanswered plan.now fault) }
 {
-    match rows_outcome(alloc, plan, cards, timer, times) {
-        Ok(outcome) => Ok(with_a_row(outcome)),
-        Err(fault) => Err(fault),
-    }
+    let outcome = rows_outcome(alloc, plan, cards, timer, times)?;
+    Ok(with_a_row(outcome))
 }
 
 // That no row is there is a failure.
@@ -76,10 +74,9 @@ fn rows_outcome<'n, T: Timer>(
 {
     let mut passed = 0usize;
     for card in cards {
-        match first_failure_on(alloc, plan, card, passed, timer, times) {
-            Ok(Some(failure)) => return Ok(Outcome::Failed(failure)),
-            Ok(None) => passed = passed.saturating_add(card.rows.as_slice().len()),
-            Err(fault) => return Err(fault),
+        match first_failure_on(alloc, plan, card, passed, timer, times)? {
+            Some(failure) => return Ok(Outcome::Failed(failure)),
+            None => passed = passed.saturating_add(card.rows.as_slice().len()),
         }
     }
     Ok(Outcome::Held(passed))
@@ -97,10 +94,9 @@ fn first_failure_on<'n, T: Timer>(
     ensures { MatchResult result (λ failure. EndsOn plan.now card.now passed failure)
         (λ fault. IsUnanswered plan.now fault) }
 {
-    match failure_on(alloc, plan, card, passed, timer, times) {
-        Ok(Some(failure)) => Ok(Some(failure)),
-        Ok(None) => swept_failure_on(alloc, plan, card.words, &card.rows, passed),
-        Err(fault) => Err(fault),
+    match failure_on(alloc, plan, card, passed, timer, times)? {
+        Some(failure) => Ok(Some(failure)),
+        None => swept_failure_on(alloc, plan, card.words, &card.rows, passed),
     }
 }
 
@@ -120,12 +116,10 @@ fn failure_on<'n, T: Timer>(
     let Ok(script) = script(alloc, &card.rows) else {
         return Err(Fault::NoMemory);
     };
-    match answers(alloc, plan, card.words, &script, timer, times) {
-        Ok(text) => match first_failure(alloc, &card.rows, &text, passed) {
-            Ok(failure) => Ok(failure),
-            Err(AllocError) => Err(Fault::NoMemory),
-        },
-        Err(fault) => Err(fault),
+    let text = answers(alloc, plan, card.words, &script, timer, times)?;
+    match first_failure(alloc, &card.rows, &text, passed) {
+        Ok(failure) => Ok(failure),
+        Err(AllocError) => Err(Fault::NoMemory),
     }
 }
 
@@ -142,16 +136,10 @@ fn answers<'n, T: Timer>(
     ensures { MatchResult result (λ text. IsPrinted plan.now words script.now text.items)
         (λ fault. IsUnanswered plan.now fault) }
 {
-    match new_card(alloc, plan, words) {
-        Ok(store) => match printed(alloc, store, script, plan.budget, timer) {
-            Ok(mut printed) => {
-                let _ = times.append(&mut printed.times);
-                Ok(printed.text)
-            }
-            Err(fault) => Err(fault),
-        },
-        Err(fault) => Err(fault),
-    }
+    let store = new_card(alloc, plan, words)?;
+    let mut printed = printed(alloc, store, script, plan.budget, timer)?;
+    let _ = times.append(&mut printed.times);
+    Ok(printed.text)
 }
 
 // The store of a new card of this many words.
@@ -230,10 +218,8 @@ fn swept_failure_on<'n>(
         (λ fault. IsUnanswered plan.now fault) }
 {
     for (place, row) in rows.iter().enumerate() {
-        match told_of(alloc, plan, words, &rows[..place], row) {
-            Ok(Some(told)) => return failure_of(alloc, row, passed.saturating_add(place), told),
-            Ok(None) => (),
-            Err(fault) => return Err(fault),
+        if let Some(told) = told_of(alloc, plan, words, &rows[..place], row)? {
+            return failure_of(alloc, row, passed.saturating_add(place), told);
         }
     }
     Ok(None)

@@ -28,10 +28,8 @@ pub(crate) fn files_read<'n, D: Disk>(
         (λ fault. IsOneUnread (names_of names.now) fault deeds) }
 {
     let mut sources = Vec::new(disk.alloc());
-    match named_files(disk, names, &mut sources) {
-        Ok(files) => Ok(FilesRead { files, sources }),
-        Err(fault) => Err(fault),
-    }
+    let files = named_files(disk, names, &mut sources)?;
+    Ok(FilesRead { files, sources })
 }
 
 // The files with these names.
@@ -46,10 +44,7 @@ fn named_files<'n, D: Disk>(
 {
     let mut files = Vec::new(disk.alloc());
     for name in names {
-        match add_named_file(disk, *name, &mut files, sources) {
-            Ok(()) => (),
-            Err(fault) => return Err(fault),
-        }
+        add_named_file(disk, *name, &mut files, sources)?;
     }
     Ok(files)
 }
@@ -65,10 +60,8 @@ fn add_named_file<'n, D: Disk>(
         (λ _ deeds. (file : NamedFile) × IsFileRead name.now file deeds
         × (files.new.items ≡ files.old.items ++ file ∷ [])) (AreNoFileLines name.now) }
 {
-    match file_of(disk, name, sources) {
-        Ok(file) => push_file(files, NamedFile { name, file }),
-        Err(fault) => Err(fault),
-    }
+    let file = file_of(disk, name, sources)?;
+    push_file(files, NamedFile { name, file })
 }
 
 fn push_file<'n>(files: &mut Vec<NamedFile<'n>>, file: NamedFile<'n>) -> Result<(), Fault<'n>>

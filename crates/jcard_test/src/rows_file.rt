@@ -46,10 +46,8 @@ pub(crate) fn file_of<'n, D: Disk>(
     ensures { ReadsNoted D.does disk.old disk.new sources.old.items sources.new.items result
         (λ file. IsFile name.now (table_of file) file.lines.items) (AreNoFileLines name.now) }
 {
-    match rows_text(disk, name, sources) {
-        Ok(text) => unrolled(disk, name, text.as_str(), sources),
-        Err(fault) => Err(fault),
-    }
+    let text = rows_text(disk, name, sources)?;
+    unrolled(disk, name, text.as_str(), sources)
 }
 
 // The file with this name that has this text.
@@ -81,13 +79,11 @@ fn of_lines<'n, D: Disk>(
         (λ file. IsFileOf name.now own.now (table_of file) file.lines.items)
         (λ fault _. IsNotIncluded name.now fault) }
 {
-    match named_table(own) {
-        Some(line) => with_table(disk, name, line, sources),
-        None => match with_included(disk, name, own, sources) {
-            Ok(lines) => Ok(RowFile { table: None, lines }),
-            Err(fault) => Err(fault),
-        },
+    if let Some(line) = named_table(own) {
+        return with_table(disk, name, line, sources);
     }
+    let lines = with_included(disk, name, own, sources)?;
+    Ok(RowFile { table: None, lines })
 }
 
 // The file with this name, one of whose lines names that platform table.
@@ -101,17 +97,12 @@ fn with_table<'n, D: Disk>(
         (λ file. IsFileBehind name.now line.entry (table_of file) file.lines.items)
         (λ fault _. IsNotIncluded name.now fault) }
 {
-    let table = match table_beside(disk, name, line.name, line.number, sources) {
-        Ok(table) => table,
-        Err(fault) => return Err(fault),
-    };
-    match with_included(disk, name, line.rest, sources) {
-        Ok(lines) => Ok(RowFile {
-            table: Some(table),
-            lines,
-        }),
-        Err(fault) => Err(fault),
-    }
+    let table = table_beside(disk, name, line.name, line.number, sources)?;
+    let lines = with_included(disk, name, line.rest, sources)?;
+    Ok(RowFile {
+        table: Some(table),
+        lines,
+    })
 }
 
 // The text of the platform table that the line of this number in the file with this name names.
@@ -148,10 +139,7 @@ fn with_included<'n, D: Disk>(
 {
     let mut lines = Vec::new(disk.alloc());
     for line in own {
-        match add_line(disk, name, line, &mut lines, sources) {
-            Ok(()) => (),
-            Err(fault) => return Err(fault),
-        }
+        add_line(disk, name, line, &mut lines, sources)?;
     }
     Ok(lines)
 }
@@ -269,10 +257,8 @@ fn read_rows<'n, D: Disk>(disk: &mut D, name: &'n str) -> Result<String, Fault<'
     ensures { ReadsFiles D.does disk.old disk.new result
         (λ text. IsRowsText name.now (string_bytes text)) (IsNoRowsText name.now) }
 {
-    match script_of(disk, name) {
-        Ok(bytes) => text_of_bytes(name, bytes),
-        Err(fault) => Err(fault),
-    }
+    let bytes = script_of(disk, name)?;
+    text_of_bytes(name, bytes)
 }
 
 // These bytes of the file with this name as a text, which has no more than are read of a script.

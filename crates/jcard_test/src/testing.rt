@@ -42,10 +42,8 @@ pub fn test_files<'n, D: Disk, W: TextOut, T: Timer + Remarks>(
     ensures { Does D.does W.contents W.failures disk.old disk.new out.old out.new result
         (IsTest (names_of files.now) asked.entry) }
 {
-    match plan_of(disk, asked) {
-        Ok(plan) => test_by(disk, files, &plan, asked, out, timer),
-        Err(fault) => Err(fault),
-    }
+    let plan = plan_of(disk, asked)?;
+    test_by(disk, files, &plan, asked, out, timer)
 }
 
 // Does so with cards as they are planned: all files are read before one is written.
@@ -102,10 +100,8 @@ fn test_beside<'n, D: Disk, W: TextOut, T: Timer + Remarks>(
     ensures { Does D.does W.contents W.failures disk.old disk.new out.old out.new result
         (IsTestBeside plan.now files.now junit.entry.spared.now (name_of junit.entry.name)) }
 {
-    match begin_junit(disk, junit) {
-        Ok(()) => test_on(disk, files, plan, junit, out, timer),
-        Err(fault) => Err(fault),
-    }
+    begin_junit(disk, junit)?;
+    test_on(disk, files, plan, junit, out, timer)
 }
 
 // Answers the rows, and writes the reports.
@@ -120,13 +116,9 @@ fn test_on<'n, D: Disk, W: TextOut, T: Timer + Remarks>(
     ensures { Does D.does W.contents W.failures disk.old disk.new out.old out.new result
         (IsTestOn plan.now files.now junit.entry.spared.now (name_of junit.entry.name)) }
 {
-    match tested_files(disk.alloc(), files, plan, timer) {
-        Ok(tested) => {
-            remark_on(disk.alloc(), &tested, timer);
-            tell_tested(disk, &tested, junit, out)
-        }
-        Err(fault) => Err(fault),
-    }
+    let tested = tested_files(disk.alloc(), files, plan, timer)?;
+    remark_on(disk.alloc(), &tested, timer);
+    tell_tested(disk, &tested, junit, out)
 }
 
 // What comes of the rows of these files.
@@ -141,10 +133,7 @@ fn tested_files<'n, T: Timer + Remarks>(
 {
     let mut tested = Vec::new(alloc);
     for file in files {
-        match add_tested(alloc, file, plan, timer, &mut tested) {
-            Ok(()) => (),
-            Err(fault) => return Err(fault),
-        }
+        add_tested(alloc, file, plan, timer, &mut tested)?;
     }
     Ok(tested)
 }
@@ -160,10 +149,8 @@ fn add_tested<'n, T: Timer + Remarks>(
     ensures { MatchResult result (λ _. (one : Tested) × IsTested plan.now file.now one
         × (tested.new.items ≡ tested.old.items ++ one ∷ [])) (λ fault. IsUntested fault) }
 {
-    match tested_file(alloc, file, plan, timer) {
-        Ok(one) => push_tested(tested, one),
-        Err(fault) => Err(fault),
-    }
+    let one = tested_file(alloc, file, plan, timer)?;
+    push_tested(tested, one)
 }
 
 fn push_tested<'n>(tested: &mut Vec<Tested<'n>>, one: Tested<'n>) -> Result<(), Fault<'n>>
@@ -263,15 +250,13 @@ fn tested_cards<'n, T: Timer>(
         (λ fault. IsUnanswered plan.now fault) }
 {
     let mut times = Vec::new(alloc);
-    match outcome_of(alloc, plan, &cards, timer, &mut times) {
-        Ok(outcome) => Ok(Tested {
-            name,
-            cards,
-            times,
-            outcome,
-        }),
-        Err(fault) => Err(fault),
-    }
+    let outcome = outcome_of(alloc, plan, &cards, timer, &mut times)?;
+    Ok(Tested {
+        name,
+        cards,
+        times,
+        outcome,
+    })
 }
 
 // Writes the report, and then that for build servers.
@@ -284,10 +269,8 @@ fn tell_tested<'n, D: Disk, W: TextOut>(
     ensures { Does D.does W.contents W.failures disk.old disk.new out.old out.new result
         (IsTold junit.entry.spared.now (name_of junit.entry.name) tested.now) }
 {
-    match tell(disk.alloc(), tested, out) {
-        Ok(()) => keep_junit(disk, tested, junit),
-        Err(fault) => Err(fault),
-    }
+    tell(disk.alloc(), tested, out)?;
+    keep_junit(disk, tested, junit)
 }
 
 // Writes the report.

@@ -7,16 +7,16 @@ use Rattle.jcard_test.proofs.answering.rows_outcome.Goals as goal
 pub loop-card-init : goal.loop-card-init
 loop-card-init g c = λ outcome a. a
 
-pub returns-in-Ok-Some : goal.returns-in-Ok-Some
-returns-in-Ok-Some g c =
-    c.loop-card.invariant (Failed c.in-Ok-Some.failure) (answered_not c.args.plan.now c.args.cards.now c.loop-card.card-index c.card-item.result c.loop-card-test.true
-    c.card-item.is c.loop-card.passed (Failed c.in-Ok-Some.failure) c.in-Ok-Some.failure refl
-    (subst (λ found. EndsOn c.args.plan.now c.card-item.result c.loop-card.passed found) c.in-Ok-Some.field-0-is c.in-Ok-Some.ensures))
+pub returns-in-Some : goal.returns-in-Some
+returns-in-Some g c =
+    c.loop-card.invariant (Failed c.in-Some.failure) (answered_not c.args.plan.now c.args.cards.now c.loop-card.card-index c.card-item.result c.loop-card-test.true
+    c.card-item.is c.loop-card.passed (Failed c.in-Some.failure) c.in-Some.failure refl
+    (subst (λ found. EndsOn c.args.plan.now c.card-item.result c.loop-card.passed found) c.in-Some.is c.in_ok-failure.ensures))
 
 pub loop-card-preserved : goal.loop-card-preserved
 loop-card-preserved g c = λ outcome more.
     c.loop-card.invariant outcome (answered_next c.args.plan.now c.args.cards.now c.loop-card.card-index c.card-item.result c.loop-card-test.true c.card-item.is
-    c.loop-card.passed outcome (subst (λ found. EndsOn c.args.plan.now c.card-item.result c.loop-card.passed found) c.in-Ok-None.field-0-is c.in-Ok-None.ensures)
+    c.loop-card.passed outcome (subst (λ found. EndsOn c.args.plan.now c.card-item.result c.loop-card.passed found) c.in-None.is c.in_ok-failure.ensures)
     (subst (λ n. AreAnsweredOn c.args.plan.now (drop (c.loop-card.card-index + 1) c.args.cards.now) n outcome)
     (c.saturating_add-passed.ensures ∙ ap (λ rows. min (c.loop-card.passed + length rows) 18446744073709551615) c.as_slice.ensures.value) more))
 

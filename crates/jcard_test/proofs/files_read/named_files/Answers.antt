@@ -1,6 +1,7 @@
 use Rattle.std.proofs.Common.{ℕ, List, [], ◌++◌, refl, subst}
 use Rattle.std.specs.Borrow.{Bor}
 use Rattle.std.proofs.lemmas.List.{take_all}
+use Rattle.std.proofs.lemmas.Result.{err_from_is_err_and}
 use Rattle.jcard_test.specs.Sources.{names_of}
 use Rattle.jcard_test.specs.Tests.{AreFilesRead, AreNoFileLines}
 use Rattle.jcard_test.proofs.RowTests.{any_at, files_next, files_none, noted_more, nothing_noted}
@@ -13,7 +14,7 @@ pub loop-name-preserved : goal.loop-name-preserved
 loop-name-preserved g c =
     let none : Bor (List ℕ) = record { ref_ptr = (0, 0); now = [] } in
     let so_far = c.loop-name.invariant in
-    let next = c.in-Ok.ensures in (
+    let next = c.in_ok-add_named_file.ensures in (
       so_far.0 ++ next.0,
       g.met.D.Disk.then _ _ _ so_far.0 next.0 so_far.1 next.1,
       noted_more _ _ _ so_far.0 next.0 so_far.2 next.2,
@@ -21,15 +22,18 @@ loop-name-preserved g c =
           c.loop-name-test.true so_far.3 next.3.1 next.3.2,
     )
 
-pub returns-in-Err : goal.returns-in-Err
-returns-in-Err g c =
+pub returns-in_err-add_named_file : goal.returns-in_err-add_named_file
+returns-in_err-add_named_file g c =
     let none : Bor (List ℕ) = record { ref_ptr = (0, 0); now = [] } in
     let so_far = c.loop-name.invariant in
-    let last = c.in-Err.ensures in (
+    let last = c.in_err-add_named_file.ensures in
+    let fault = c.in_err-add_named_file.field-0.0 in
+    let p = err_from_is_err_and c.from_residual.result c.from_residual.ensures.1 in
+    rw (p.1, p.2) (
       so_far.0 ++ last.0,
       g.met.D.Disk.then _ _ _ so_far.0 last.0 so_far.1 last.1,
       noted_more _ _ _ so_far.0 last.0 so_far.2 last.2,
-      (so_far.0, last.0, refl, any_at (λ name. AreNoFileLines name c.in-Err.fault last.0) c.args.names.now c.loop-name.name-index none c.loop-name-test.true last.3),
+      (so_far.0, last.0, refl, any_at (λ name. AreNoFileLines name fault last.0) c.args.names.now c.loop-name.name-index none c.loop-name-test.true last.3),
     )
 
 pub returns : goal.returns

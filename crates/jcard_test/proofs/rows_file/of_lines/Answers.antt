@@ -1,3 +1,4 @@
+use Rattle.std.proofs.lemmas.Result.{err_from_is_err_and}
 use Rattle.std.specs.Prelude.{option_map}
 use Rattle.jcard_test.proofs.RowTests.{named_file}
 use Rattle.jcard_test.proofs.rows_file.of_lines.Goals as goal
@@ -12,12 +13,13 @@ returns-in-Some g c =
           file.0 c.in-Some.ensures file.3,
     )
 
-pub returns-in-Ok : goal.returns-in-Ok
-returns-in-Ok g c =
-    let more = c.in-Ok.ensures in
-    (more.0, more.1, more.2, (c.in-None.ensures, more.3))
+pub returns : goal.returns
+returns g c =
+    let more = c.in_ok-lines.ensures in
+    (more.0, more.1, more.2, (c.in_default.ensures, more.3))
 
-pub returns-in-Err : goal.returns-in-Err
-returns-in-Err g c =
-    let more = c.in-Err.ensures in
-    (more.0, more.1, more.2, more.3)
+pub returns-in_err-lines : goal.returns-in_err-lines
+returns-in_err-lines g c =
+    let more = c.in_err-lines.ensures in
+    let p = err_from_is_err_and c.from_residual.result c.from_residual.ensures.1 in
+    rw (p.1, p.2) (more.0, more.1, more.2, more.3)

@@ -1,5 +1,6 @@
 use Rattle.std.proofs.Common.{[], ◌++◌, subst}
 use Rattle.std.proofs.lemmas.List.{take_all}
+use Rattle.std.proofs.lemmas.Result.{err_from_is_err_and}
 use Rattle.jcard_test.specs.Tests.{AreIncluded}
 use Rattle.jcard_test.proofs.RowTests.{included_next, included_none, noted_more, nothing_noted}
 use Rattle.jcard_test.proofs.rows_file.with_included.Goals as goal
@@ -10,7 +11,7 @@ loop-line-init g c = ([], g.met.D.Disk.none c.args.disk.now, nothing_noted c.arg
 pub loop-line-preserved : goal.loop-line-preserved
 loop-line-preserved g c =
     let so_far = c.loop-line.invariant in
-    let next = c.in-Ok.ensures in (
+    let next = c.in_ok-add_line.ensures in (
       so_far.0 ++ next.0,
       g.met.D.Disk.then _ _ _ so_far.0 next.0 so_far.1 next.1,
       noted_more _ _ _ so_far.0 next.0 so_far.2 next.2,
@@ -18,11 +19,12 @@ loop-line-preserved g c =
           c.loop-line-test.true c.line-item.is so_far.3 next.3.1 next.3.2,
     )
 
-pub returns-in-Err : goal.returns-in-Err
-returns-in-Err g c =
+pub returns-in_err-add_line : goal.returns-in_err-add_line
+returns-in_err-add_line g c =
     let so_far = c.loop-line.invariant in
-    let last = c.in-Err.ensures in
-    (so_far.0 ++ last.0, g.met.D.Disk.then _ _ _ so_far.0 last.0 so_far.1 last.1, noted_more _ _ _ so_far.0 last.0 so_far.2 last.2, last.3)
+    let last = c.in_err-add_line.ensures in
+    let p = err_from_is_err_and c.from_residual.result c.from_residual.ensures.1 in
+    rw (p.1, p.2) (so_far.0 ++ last.0, g.met.D.Disk.then _ _ _ so_far.0 last.0 so_far.1 last.1, noted_more _ _ _ so_far.0 last.0 so_far.2 last.2, last.3)
 
 pub returns : goal.returns
 returns g c =

@@ -9,7 +9,7 @@ loop-file-init g c = rw c.new-tested.ensures.items (tested_none c.args.plan.now)
 
 pub loop-file-preserved : goal.loop-file-preserved
 loop-file-preserved g c =
-    let next = c.in-Ok.ensures in
+    let next = c.in_ok-add_tested.ensures in
     tested_next c.args.plan.now c.args.files.now c.loop-file.file-index c.file-item.result c.loop-file.tested.items _ next.0
     c.loop-file-test.true c.file-item.is c.loop-file.invariant next.1 next.2
 
