@@ -145,22 +145,15 @@ fn read_parts<S: WordStore + Drop>(
     ensures parts { IfOk result (ArePartsOf (heap_of image.plain)) }
     ensures cause { IfErr result (λ fault. RecoveredWordsFail fault image.plain) }
 {
-    let table = match platform_of(alloc, &image) {
-        Ok(table) => table,
-        Err(fault) => return Err(fault),
+    let table = platform_of(alloc, &image)?;
+    let heap = whole_heap(image, &table, marks)?;
+    let Ok(ram) = Ram::new(alloc, heap.area_sizes()) else {
+        return Err(PowerFault::NoMemory);
     };
-    match whole_heap(image, &table, marks) {
-        Ok(heap) => {
-            let Ok(ram) = Ram::new(alloc, heap.area_sizes()) else {
-                return Err(PowerFault::NoMemory);
-            };
-            let Ok(rooms) = Rooms::new(alloc) else {
-                return Err(PowerFault::NoMemory);
-            };
-            link_packages(alloc, &table, &heap, marks, ram, rooms)
-        }
-        Err(fault) => Err(fault),
-    }
+    let Ok(rooms) = Rooms::new(alloc) else {
+        return Err(PowerFault::NoMemory);
+    };
+    link_packages(alloc, &table, &heap, marks, ram, rooms)
 }
 
 // The heap of a recovered image, where it is whole and begins with the objects of the runtime environment; and marks where

@@ -172,13 +172,9 @@ fn reset<S: WordStore>(
 {
     let budget = held.budget();
     let store = held.into_store();
-    match start(alloc, store, budget) {
-        Ok(held) => {
-            let answer = power_up_answer(&held);
-            Ok((held, answer))
-        }
-        Err(fault) => Err(fault),
-    }
+    let held = start(alloc, store, budget)?;
+    let answer = power_up_answer(&held);
+    Ok((held, answer))
 }
 
 // Ready where the card is up, else down.

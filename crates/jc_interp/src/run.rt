@@ -84,10 +84,8 @@ fn run_noted<S: WordStore>(
     for turns in 0..budget {
         note_step(frames, memory.notes());
         let after = budget - (turns + 1) + later;
-        match run_part(lent, 1, frames, memory, linked, after) {
-            Ok(None) => {}
-            Ok(Some(end)) => return Ok(Some(end)),
-            Err(StoreDown) => return Err(StoreDown),
+        if let Some(end) = run_part(lent, 1, frames, memory, linked, after)? {
+            return Ok(Some(end));
         }
     }
     Ok(None)

@@ -7,10 +7,10 @@ use Rattle.jc_card.proofs.power_up.read_parts.Goals as goal
 pub link_packages-requires-clause-reads : goal.link_packages-requires-clause-reads
 link_packages-requires-clause-reads g c =
     let w = c.args.image.plain in
-    let now = ap (λ v. v.now) c.in-Ok-whole_heap.ensures.heap in
-    subst (λ h. Reads h.text (Ok c.in-Ok.table)) (sym now)
-    (subst (λ l. Reads l (Ok c.in-Ok.table)) (sym (text_is w (c.in-Ok-whole_heap.ensures.exact.0 refl).0)) c.in-Ok.ensures.1)
+    let now = ap (λ v. v.now) c.in_ok-heap.ensures.heap in
+    subst (λ h. Reads h.text (Ok c.in_ok-table.table)) (sym now)
+    (subst (λ l. Reads l (Ok c.in_ok-table.table)) (sym (text_is w (c.in_ok-heap.ensures.exact.0 refl).0)) c.in_ok-table.ensures.1)
 
 pub link_packages-requires-clause-marked : goal.link_packages-requires-clause-marked
 link_packages-requires-clause-marked g c =
-    subst (λ h. MarksObjects c.whole_heap.new.marks h) (sym (ap (λ v. v.now) c.in-Ok-whole_heap.ensures.heap)) c.in-Ok-whole_heap.ensures.marked
+    subst (λ h. MarksObjects c.whole_heap.new.marks h) (sym (ap (λ v. v.now) c.in_ok-heap.ensures.heap)) c.in_ok-heap.ensures.marked
