@@ -2,7 +2,7 @@
 ghost use Rattle.std.specs.Prelude.{◌≡◌, ◌<◌, ◌≤◌, ◌+◌, ℕ, List, length, slice_index_or, IfSome};
 ghost use Rattle.jc_commit.specs.Runs.{run_words, WritesWords};
 
-use jc_words::{RunRefusal, WordStore};
+use jc_words::{LONGEST_RUN, RunRefusal, WordStore};
 use std::marker::Model;
 
 /// Words that are to be written as one change, with their values. They may be made up as they are asked
@@ -28,6 +28,9 @@ pub trait WordChanges {
     }
 }
 
+/// How many words a run of changes has at most: an entry has two words, and a store takes the entries of all by one call.
+pub const LONGEST_WORD_RUN: usize = LONGEST_RUN / 2;
+
 /// Words that are to be written from an address on, one after the other.
 #[derive(Drop)]
 pub struct WordRun<'a> {
@@ -43,7 +46,8 @@ impl<'a> Model for WordRun<'a> {
 
     ghost view = { λ r. run_words r.first r.words.now };
 
-    ghost invariant = { λ r. (0 < length r.words.now) × (r.first + length r.words.now ≤ 65536) };
+    ghost invariant = { λ r. (0 < length r.words.now) × (r.first + length r.words.now ≤ 65536)
+        × (length r.words.now ≤ LONGEST_WORD_RUN) };
 }
 
 impl<'a> WordRun<'a> {
@@ -51,6 +55,7 @@ impl<'a> WordRun<'a> {
     #[inline(always)]
     pub fn new(first: u16, words: &'a [u16]) -> Self
         requires some { 0 < length words.now }
+        requires few { length words.now ≤ LONGEST_WORD_RUN }
         requires within { first + length words.now ≤ 65536 }
         ensures { result ≡ run_words first words.now }
     {
@@ -73,7 +78,10 @@ impl<'a> WordChanges for WordRun<'a> {
     ghost changes = { λ words. words };
 
     #[inline(always)]
-    fn count(&self) -> usize {
+    fn count(&self) -> usize
+        ensures all { result ≡ length self.now }
+        ensures few { result ≤ LONGEST_WORD_RUN }
+    {
         let words = self.words;
         words.len()
     }

@@ -11,7 +11,7 @@ ghost use Rattle.jc_commit.specs.Writing.{Wrote, HasLog, IsIndexed, IsFreeFrom, 
 use crate::changes::{WordChanges, WordRun};
 use crate::index::is_named;
 use jc_words::layout::COUNT;
-use jc_words::{Log, StoreDown, WordStore};
+use jc_words::{LONGEST_RUN, Log, StoreDown, WordStore};
 
 // Whether an abort takes back what is written at the address, with nothing more kept of it.
 pub(crate) fn is_taken_back<S: WordStore>(
@@ -156,9 +156,6 @@ fn put_change<S: WordStore>(
     Ok(k + 1)
 }
 
-// Of how many words a run has at most whose entries are written by one call.
-const MOST_RUN: usize = 256;
-
 // The words of the entries that keep the values of a run's words.
 #[inline(always)]
 fn fill_entries<S: WordStore>(store: &S, run: &WordRun<'_>, out: &mut [u16])
@@ -180,14 +177,13 @@ fn put_run<S: WordStore>(store: &mut S, log: Log, run: &WordRun<'_>) -> Result<u
     requires size { log.start + 2 * log.capacity ≤ length (S.words store.old) }
     requires places { AreBeside log (length (S.words store.old)) run.now }
     requires room { length run.now ≤ log.capacity }
-    requires few { length run.now ≤ MOST_RUN }
     ensures put { IfOk result (λ n. ArePut log 0 run.now (S.words store.old) (S.words store.new) n) }
     ensures same { SameBefore log 0 (S.words store.old) (S.words store.new) }
     ensures wrote { Wrote S.down S.passed S.refusals (2 * length run.now) (is_ok result) store.old
         store.new }
 {
     let count = run.count();
-    let mut room = [0; 2 * MOST_RUN];
+    let mut room = [0; LONGEST_RUN];
     let words = &mut room[..2 * count];
     fill_entries(store, run, words);
     store.write_run(log.start, words)?;
@@ -220,9 +216,7 @@ fn put_needing<S: WordStore, C: WordChanges>(
     if first == 0 && born == u16::MAX {
         let _ = store.size(); // so that the proof knows that each address is below the largest number
         if let Some(run) = changes.as_run() {
-            if run.count() <= MOST_RUN {
-                return put_run(store, log, &run);
-            }
+            return put_run(store, log, &run);
         }
     }
     let mut k = first;

@@ -6,8 +6,8 @@ use Rattle.std.specs.List.{range_with_len}
 use Rattle.std.specs.Option.{is_some}
 use mir.Val.{bool_byte}
 use Rattle.jc_commit.specs.Entries.{addresses_of}
-use Rattle.jc_heap.specs.Heap.{HeapState, SameShape, set_cell, set_cells}
 use Rattle.jc_commit.specs.Runs.{run_words}
+use Rattle.jc_heap.specs.Heap.{HeapState, SameShape, set_cell, set_cells}
 use Rattle.jc_heap.specs.Packed.{packed_words}
 use Rattle.jc_heap.specs.Elements.{byte_or_none, bytes_with}
 use Rattle.jc_heap.proofs.Laws.{shape-set}

@@ -11,8 +11,8 @@ use Rattle.jc_commit.proofs.keep.put_run.Goals as goal
 pub fill_entries-requires-clause-there : goal.fill_entries-requires-clause-there
 fill_entries-requires-clause-there g c = λ k lt. (c.requires.places k lt).below
 
-pub write_run-requires : goal.write_run-requires
-write_run-requires g c =
+pub write_run-requires-clause-there : goal.write_run-requires-clause-there
+write_run-requires-clause-there g c =
     let long = ap (λ (l : List ℕ). length l) c.fill_entries.ensures ∙ length-entry_words (g.S.WordStore.words c.args.store.now) c.args.run.now in
     omega (arith, long, c.requires.size, c.requires.room)
 
@@ -29,7 +29,7 @@ returns g c =
     let entries : with_run w l.start out ≡ with_entries l w 0 run = (λ i. with_run w (e i) (c.fill_entries.ensures i))
     ∙ run_of_entries l w w 0 (length w) run (omega (arith, c.requires.room)) c.requires.places (λ j lt. refl) in
     record {
-      put = record { next = omega (arith, c.run-count.ensures); words = did.written ∙ whole ∙ entries };
+      put = record { next = omega (arith, c.run-count.ensures.all); words = did.written ∙ whole ∙ entries };
       same = subst (SameBefore l 0 w) (sym (did.written ∙ whole)) (same_beside l w out (omega (arith, long, c.requires.room)));
       wrote = subst (λ (n : ℕ). Wrote g.S.WordStore.down g.S.WordStore.passed g.S.WordStore.refusals n true c.args.store.now c.write_run.new.store) long did.wrote;
     }

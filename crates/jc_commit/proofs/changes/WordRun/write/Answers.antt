@@ -3,8 +3,8 @@ use Rattle.jc_commit.proofs.WordRuns.{viewed_length, run_words-at, words_written
 use Rattle.jc_commit.proofs.changes.WordRun.write.Goals as goal
 
 -- the last of them is there
-pub write_run-requires : goal.write_run-requires
-write_run-requires g c =
+pub write_run-requires-clause-there : goal.write_run-requires-clause-there
+write_run-requires-clause-there g c =
     let first = c.self.inside.first in
     let words = c.self.inside.words.now in
     let long = viewed_length first words c.args.self.now c.self.view_is in

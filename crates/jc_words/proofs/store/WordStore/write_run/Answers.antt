@@ -7,7 +7,7 @@ pub write-requires : goal.write-requires
 write-requires g c =
     let w = g.Self.WordStore.words c.args.self.now in
     let long : length (g.Self.WordStore.words c.loop-k.self) ≡ length w = ap (λ (ws : List ℕ). length ws) c.loop-k.invariant.written ∙ length-with_run w c.args.i (take c.loop-k.k c.args.run.now) in
-    omega (arith, long, c.requires, c.loop-k-test.true)
+    omega (arith, long, c.requires.there, c.loop-k-test.true)
 
 pub loop-k-preserved : goal.loop-k-preserved
 loop-k-preserved g c =

@@ -1,6 +1,6 @@
 use Rattle.std.proofs.Common.{◌+◌, ◌∙◌, List, ℕ, set, slice_index, sym, ap, arith}
 use Rattle.jc_words.proofs.Runs.{with_run_more}
-use Rattle.jc_words.proofs.memory.put_run.Goals as goal
+use Rattle.jc_words.proofs.memory.set_words.Goals as goal
 
 pub loop-k-preserved : goal.loop-k-preserved
 loop-k-preserved c =
