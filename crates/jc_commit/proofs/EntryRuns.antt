@@ -1,14 +1,13 @@
 -- Entries of a run, which are written as one.
-use Rattle.std.proofs.Common.{◌≡◌, ℕ, zero, suc, ◌+◌, ◌*◌, ◌<◌, ◌≤◌, Bool, true, false, cond, not, List, [], ◌∷◌, ◌++◌, length, take, drop, get_or, set, slice_index, filter}
-use Rattle.std.proofs.Common.{refl, sym, ◌∙◌, ap, subst, arith, get_or-set_other}
+use Rattle.std.proofs.Common.{◌≡◌, ℕ, suc, ◌+◌, ◌*◌, ◌<◌, ◌≤◌, Bool, false, cond, not, List, [], ◌∷◌, ◌++◌, length, take, drop, get_or, set, slice_index}
+use Rattle.std.proofs.Common.{refl, sym, ◌∙◌, ap, arith, get_or-set_other}
 use Rattle.std.specs.Prelude.{nat_le}
-use Rattle.std.proofs.lemmas.List.{length-append, length-take, take_more, set_at}
-use Rattle.std.proofs.lemmas.List.Edits.{drop_more}
+use Rattle.std.proofs.lemmas.List.{drop_more, length-append, length-take, take_more, set_at}
 use Rattle.std.proofs.lemmas.Bool.Decides.{nat_tests}
 use Rattle.jc_words.specs.declared.log.Log.{Log}
 use Rattle.jc_words.specs.WordRuns.{with_run}
 use Rattle.jc_words.proofs.Runs.{length-with_run}
-use Rattle.jc_commit.specs.Entries.{SameBefore, IsBeside, AreBeside}
+use Rattle.jc_commit.specs.Entries.{SameBefore, AreBeside}
 use Rattle.jc_commit.specs.EntryIndex.{named_by, needing, with_entries}
 use Rattle.jc_commit.specs.Runs.{entry_words}
 use Rattle.jc_commit.proofs.Entries.{target}
@@ -44,10 +43,10 @@ entry_more w cs old out k a below room is address many =
     let second : 2 * k + 1 + 1 ≡ 2 * (k + 1) = omega arith in
     let parts : out ≡ front ++ (x ∷ y ∷ rest) = is ∙ ap (λ (l : List ℕ). front ++ l) (drop_more old (2 * k) 0 (omega (arith, below, room))
     ∙ ap (λ (l : List ℕ). x ∷ l) (drop_more old (2 * k + 1) 0 (omega (arith, below, room)) ∙ ap (λ (n : ℕ). y ∷ drop n old) second)) in
-    let one : set out (2 * k) a ≡ front ++ (a ∷ y ∷ rest) = ap (λ (l : List ℕ). set l (2 * k) a) parts ∙ set_at front (y ∷ rest) x a (2 * k) long in
+    let one : set out (2 * k) a ≡ front ++ (a ∷ y ∷ rest) = ap (λ (l : List ℕ). set l (2 * k) a) parts ∙ set_at front x (y ∷ rest) a (2 * k) long in
     let longer : length (front ++ (a ∷ [])) ≡ 2 * k + 1 = length-append front (a ∷ []) ∙ omega (arith, long) in
     let two : set (set out (2 * k) a) (2 * k + 1) o ≡ (front ++ (a ∷ [])) ++ (o ∷ rest) =
-    ap (λ (l : List ℕ). set l (2 * k + 1) o) (one ∙ sym (assoc_one front a (y ∷ rest))) ∙ set_at (front ++ (a ∷ [])) rest y o (2 * k + 1) longer in
+    ap (λ (l : List ℕ). set l (2 * k + 1) o) (one ∙ sym (assoc_one front a (y ∷ rest))) ∙ set_at (front ++ (a ∷ [])) y rest o (2 * k + 1) longer in
     let last : entry_words w (take (k + 1) cs) ≡ front ++ (a ∷ o ∷ []) = ap (entry_words w) (take_more cs k (0, 0) below)
     ∙ entry_words-end w (take k cs) (get_or cs k (0, 0)) ∙ ap (λ (b : ℕ). front ++ (b ∷ slice_index w b ∷ [])) (sym address) in
     two ∙ assoc_one front a (o ∷ rest) ∙ sym (ap (λ (l : List ℕ). l ++ rest) last ∙ assoc_two front a o rest)

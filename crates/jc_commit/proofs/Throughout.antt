@@ -1,9 +1,13 @@
 -- What the words stand for as words are written of which an abort takes each back.
-use Rattle.std.proofs.Common.{◌≡◌, ℕ, zero, suc, ◌+◌, ◌<◌, ◌≤◌, ◌⊎◌, List, IsSome, length, take, get_or, set, refl, sym, ◌∙◌, ap, subst, arith}
+use Rattle.std.proofs.Common.{◌≡◌, ℕ, zero, suc, ◌+◌, ◌<◌, ◌≤◌, ◌⊎◌, Bool, true, List, [], ◌∷◌, IsSome, length, take, take_all, get_or, set, refl, sym, ◌∙◌, ap, subst, arith}
+use Rattle.std.proofs.Common.{length-set}
+use Rattle.std.specs.Prelude.{Result, Ok, Err, OnOk, is_ok}
+use Rattle.jc_words.specs.Refusals.{Refusals}
 use Rattle.jc_commit.specs.Image.{IsGoodLog, IsPlace, limit_of, entries, old_value, plain_of, with_words}
 use Rattle.jc_commit.specs.Entries.{ArePlaces}
 use Rattle.jc_commit.specs.EntryIndex.{GoBack}
-use Rattle.jc_commit.specs.Writing.{KeepsTransaction, IsFreeFrom}
+use Rattle.jc_commit.specs.Writing.{KeepsTransaction, IsFreeFrom, Wrote}
+use Rattle.jc_commit.specs.Runs.{WritesWords}
 use Rattle.jc_commit.proofs.Steps.{limit-same}
 use Rattle.jc_commit.proofs.Entries.{target}
 use Rattle.jc_commit.proofs.Counted.{with_words_more}
@@ -42,3 +46,33 @@ throughout w born changes good places kept free (suc n) few =
       entries = step.entries ∙ before.entries;
       plain = step.plain ∙ ap (λ (p : List ℕ). set p a x) before.plain ∙ sym plain;
     })
+
+pub length-with_words : (w : List ℕ) (changes : List (ℕ × ℕ)) → length (with_words w changes) ≡ length w
+length-with_words w [] = refl
+length-with_words w (change ∷ changes) = length-with_words (set w change.0 change.1) changes ∙ length-set w change.0 change.1
+
+-- what is left where these words, or the first of them, were written
+pub record LeftThrough {S E : Type 0} (words_of : S → List ℕ) (is_down : S → Bool) (count : S → ℕ) (refused : S → Refusals) (changes : List (ℕ × ℕ))
+    (result : Result Unit E) (old new : S) : Type 0 where
+  pub stays : KeepsTransaction (words_of old) (words_of new)
+  pub entries : entries (words_of new) ≡ entries (words_of old)
+  pub plain : OnOk result (plain_of (words_of new) ≡ with_words (plain_of (words_of old)) changes)
+  pub wrote : Wrote is_down count refused (length changes) (is_ok result) old new
+
+where_done : {E P : Type 0} (result : Result Unit E) → (is_ok result ≡ true → P) → OnOk result P
+where_done (Ok done) holds = holds refl
+where_done (Err refusal) holds = tt
+
+pub left_through : {S E : Type 0} {w : S → List ℕ} {d : S → Bool} {p : S → ℕ} {r : S → Refusals} {x y : S} (born : ℕ) (changes : List (ℕ × ℕ))
+    (result : Result Unit E) → IsGoodLog (w x) → ArePlaces (limit_of (w x)) changes → GoBack (w x) born changes → IsFreeFrom (w x) born
+    → WritesWords w d p r changes result x y → LeftThrough w d p r changes result x y
+left_through {w = w} {x = x} born changes result good places kept free did =
+    let many = did.0 in
+    let now = throughout (w x) born changes good places kept free many did.1.within in
+    let is = did.1.written in
+    record {
+      stays = subst (λ (v : List ℕ). KeepsTransaction (w x) v) (sym is) now.stays;
+      entries = ap entries is ∙ now.entries;
+      plain = where_done result (λ done. ap plain_of is ∙ now.plain ∙ ap (with_words (plain_of (w x))) (take_all many changes (omega (arith, did.1.all done))));
+      wrote = did.1.wrote;
+    }

@@ -1,13 +1,11 @@
 -- Words that are written one after the other, as changes.
 use Rattle.std.proofs.Common.{◌≡◌, ℕ, zero, suc, ◌+◌, ◌<◌, ◌≤◌, Bool, true, false, List, [], ◌∷◌, length, take, get_or, set, refl, sym, ◌∙◌, ap, subst, arith, add-zero}
-use Rattle.std.specs.Prelude.{Result, Ok, Err}
 use Rattle.std.proofs.lemmas.Bool.{false≢true}
 use Rattle.jc_words.specs.Refusals.{Refusals}
-use Rattle.jc_words.specs.WordRuns.{with_run, WroteRun, WritesRun}
-use Rattle.jc_words.specs.declared.store.RunRefusal.{RunRefusal}
+use Rattle.jc_words.specs.WordRuns.{with_run, WroteRun}
 use Rattle.jc_commit.specs.Image.{with_words}
 use Rattle.jc_commit.specs.Writing.{Wrote}
-use Rattle.jc_commit.specs.Runs.{run_words, WroteWords, WritesWords}
+use Rattle.jc_commit.specs.Runs.{run_words, WroteWords}
 
 pub length-run_words : (at : ℕ) (vs : List ℕ) → length (run_words at vs) ≡ length vs
 length-run_words at [] = refl
@@ -94,8 +92,11 @@ as_changes {w = w} {d = d} {p = p} {r = r} {x = x} {y = y} {done = done} at vs c
       wrote = subst (λ (m : ℕ). Wrote d p r m done x y) (sym n) far.wrote;
     }
 
-pub words_written : {S : Type 0} {w : S → List ℕ} {d : S → Bool} {p : S → ℕ} {r : S → Refusals} {x y : S} (at : ℕ) (vs : List ℕ) (changes : List (ℕ × ℕ))
-    (result : Result Unit RunRefusal) → run_words at vs ≡ changes → WritesRun w d p r at vs result x y → WritesWords w d p r changes result x y
-words_written at vs changes (Ok done) is run = (length vs, as_changes at vs changes (length vs) is (ran_whole at vs run))
-words_written at vs changes (Err refusal) is run =
-    (refusal.written, as_changes at vs changes refusal.written is (ran_in_part at vs refusal.written run.0 run.1))
+-- the words of a run were written as changes: all, or k of them
+pub run_written : {S : Type 0} {w : S → List ℕ} {d : S → Bool} {p : S → ℕ} {r : S → Refusals} {x y : S} (at : ℕ) (vs : List ℕ) (changes : List (ℕ × ℕ))
+    → run_words at vs ≡ changes → WroteRun w d p r at vs (length vs) true x y → WroteWords w d p r changes (length vs) true x y
+run_written at vs changes is run = as_changes at vs changes (length vs) is (ran_whole at vs run)
+
+pub part_written : {S : Type 0} {w : S → List ℕ} {d : S → Bool} {p : S → ℕ} {r : S → Refusals} {x y : S} (at : ℕ) (vs : List ℕ) (changes : List (ℕ × ℕ)) (k : ℕ)
+    → run_words at vs ≡ changes → k < length vs → WroteRun w d p r at vs k false x y → WroteWords w d p r changes k false x y
+part_written at vs changes k is within run = as_changes at vs changes k is (ran_in_part at vs k within run)

@@ -1,7 +1,6 @@
 -- Words that are written one after the other.
 use Rattle.std.specs.Prelude.{ℕ, suc, ◌≡◌, ◌≤◌, List, [], ◌∷◌, Bool, true, Result, length, slice_index, take, is_ok}
 use Rattle.jc_words.specs.Refusals.{Refusals}
-use Rattle.jc_words.specs.declared.store.RunRefusal.{RunRefusal}
 use Rattle.jc_commit.specs.Image.{with_words}
 use Rattle.jc_commit.specs.Writing.{Wrote}
 
@@ -24,6 +23,6 @@ pub record WroteWords {S : Type 0} (words_of : S → List ℕ) (is_down : S → 
   pub wrote : Wrote is_down count refused (length changes) done old new
 
 -- what became of a store to which these words were to be written
-abbrev pub WritesWords : {S : Type 0} → (S → List ℕ) → (S → Bool) → (S → ℕ) → (S → Refusals) → List (ℕ × ℕ) → Result Unit RunRefusal → S → S → Type 0
+abbrev pub WritesWords : {S E : Type 0} → (S → List ℕ) → (S → Bool) → (S → ℕ) → (S → Refusals) → List (ℕ × ℕ) → Result Unit E → S → S → Type 0
 WritesWords words down passed refusals changes result old new =
     (many : ℕ) × WroteWords words down passed refusals changes many (is_ok result) old new

@@ -2,7 +2,7 @@
 ghost use Rattle.std.specs.Prelude.{◌≡◌, ◌<◌, ◌≤◌, ◌+◌, ℕ, List, length, slice_index_or, IfSome};
 ghost use Rattle.jc_commit.specs.Runs.{run_words, WritesWords};
 
-use jc_words::{LONGEST_RUN, RunRefusal, WordStore};
+use jc_words::{LONGEST_RUN, StoreDown, WordStore};
 use std::marker::Model;
 
 /// Words that are to be written as one change, with their values. They may be made up as they are asked
@@ -47,7 +47,7 @@ impl<'a> Model for WordRun<'a> {
     ghost view = { λ r. run_words r.first r.words.now };
 
     ghost invariant = { λ r. (0 < length r.words.now) × (r.first + length r.words.now ≤ 65536)
-        × (length r.words.now ≤ LONGEST_WORD_RUN) };
+        × (length r.words.now ≤ 256) };
 }
 
 impl<'a> WordRun<'a> {
@@ -64,13 +64,16 @@ impl<'a> WordRun<'a> {
 
     /// Writes them.
     #[inline(always)]
-    pub(crate) fn write<S: WordStore>(&self, store: &mut S) -> Result<(), RunRefusal>
+    pub(crate) fn write<S: WordStore>(&self, store: &mut S) -> Result<(), StoreDown>
         requires { (k : ℕ) → k < length self.now
             → (slice_index_or self.now k (0, 0)).0 < length (S.words store.old) }
         ensures { WritesWords S.words S.down S.passed S.refusals self.now result store.old
             store.new }
     {
-        store.write_run(self.first, self.words)
+        match store.write_run(self.first, self.words) {
+            Ok(()) => Ok(()),
+            Err(_) => Err(StoreDown),
+        }
     }
 }
 

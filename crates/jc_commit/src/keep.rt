@@ -1,11 +1,11 @@
 //! Changes: a word's first old value in a transaction is kept, and none of a word born in it.
-ghost use Rattle.std.specs.Prelude.{◌≡◌, ◌<◌, ◌≤◌, ◌+◌, ◌*◌, ◌^◌, ◌==◌, [], ◌∷◌, nat_le, length, OnOk, OnErr, IfOk, slice_index_or, slice_set, filter, not, is_ok, if◌then◌else◌};
+ghost use Rattle.std.specs.Prelude.{◌≡◌, ◌<◌, ◌≤◌, ◌+◌, ◌*◌, ◌^◌, ◌==◌, ℕ, [], ◌∷◌, nat_le, length, OnOk, OnErr, IfOk, slice_index_or, slice_set, filter, not, is_ok, if◌then◌else◌};
 ghost use Rattle.jc_words.specs.Layout.{count_address, log_end};
 ghost use Rattle.jc_commit.specs.Image.{count_of, entries, limit_of, plain_of, touched_of, with_words, IsGoodLog};
 ghost use Rattle.jc_commit.specs.Entries.{ArePlaces, IsBeside, AreBeside, SameBefore};
 ghost use Rattle.jc_commit.specs.Keep.{is_taken_back, writes_inside};
 ghost use Rattle.jc_commit.specs.EntryIndex.{named_by, needing, with_entries, IsIndexOf, GoBack};
-ghost use Rattle.jc_commit.specs.Runs.{entry_words};
+ghost use Rattle.jc_commit.specs.Runs.{entry_words, WritesWords};
 ghost use Rattle.jc_commit.specs.Writing.{Wrote, HasLog, IsIndexed, IsFreeFrom, KeepsTransaction, ArePut, ChangesInside};
 
 use crate::changes::{WordChanges, WordRun};
@@ -243,6 +243,21 @@ fn count_entries<S: WordStore>(store: &mut S, before: u16, behind: u16) -> Resul
     Ok(())
 }
 
+// Writes words, one after the other.
+#[inline(always)]
+fn write_each<S: WordStore, C: WordChanges>(store: &mut S, changes: &C) -> Result<(), StoreDown>
+    requires { (k : ℕ) → k < length (C.changes changes.now)
+        → (slice_index_or (C.changes changes.now) k (0, 0)).0 < length (S.words store.old) }
+    ensures { WritesWords S.words S.down S.passed S.refusals (C.changes changes.now) result store.old
+        store.new }
+{
+    for i in 0..changes.count() {
+        let (address, value) = changes.change(i);
+        store.write(address, value)?;
+    }
+    Ok(())
+}
+
 // Writes words of which an abort takes each back.
 #[inline(always)]
 fn write_through<S: WordStore, C: WordChanges>(
@@ -262,14 +277,9 @@ fn write_through<S: WordStore, C: WordChanges>(
         (is_ok result) store.old store.new }
 {
     if let Some(run) = changes.as_run() {
-        run.write(store)?;
-        return Ok(());
+        return run.write(store);
     }
-    for i in 0..changes.count() {
-        let (address, value) = changes.change(i);
-        store.write(address, value)?;
-    }
-    Ok(())
+    write_each(store, changes)
 }
 
 // A change: puts entries for the words whose old values have to be kept, counts them, and then writes the

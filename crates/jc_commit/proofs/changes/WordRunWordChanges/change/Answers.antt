@@ -17,5 +17,10 @@ bounds-words-k c =
     let long = viewed_length c.self.inside.first c.self.inside.words.now c.args.self.now c.self.view_is in
     omega (arith, long, c.requires)
 
+pub offset_bounds-words-k : goal.offset_bounds-words-k
+offset_bounds-words-k c =
+    let long = viewed_length c.self.inside.first c.self.inside.words.now c.args.self.now c.self.view_is in
+    omega (arith, long, c.requires, c.self.invariant.1)
+
 pub returns : goal.returns
 returns c = run_word c.self.inside.first c.self.inside.words.now c.args.self.now c.args.k _ c.self.view_is c.requires refl

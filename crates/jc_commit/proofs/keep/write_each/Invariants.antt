@@ -1,7 +1,8 @@
+-- The words before the place are written.
 use Rattle.std.proofs.Common.{◌≡◌, true, take}
 use Rattle.jc_commit.specs.Image.{with_words}
 use Rattle.jc_commit.specs.Writing.{Wrote}
-use Rattle.jc_commit.proofs.keep.write_through.Given as goal
+use Rattle.jc_commit.proofs.keep.write_each.Given as goal
 
 abbrev pub invariant-loop-i : goal.invariant-loop-i
 invariant-loop-i g l = record {
