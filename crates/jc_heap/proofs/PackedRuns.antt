@@ -1,13 +1,13 @@
 -- Runs of packed bytes: what the first word, the bytes of those between and the last word say.
-use Rattle.std.proofs.Common.{◌≡◌, ℕ, suc, ◌+◌, ◌-◌, ◌*◌, ◌%◌, ◌<◌, ◌≤◌, List, length, get_or, drop}
+use Rattle.std.proofs.Common.{◌≡◌, ℕ, suc, ◌+◌, ◌-◌, ◌*◌, ◌<◌, ◌≤◌, List, length, get_or, drop}
 use Rattle.std.proofs.Common.{refl, sym, ◌∙◌, ap, arith, Option, Some, None}
-use Rattle.std.proofs.lemmas.List.{get_or-drop, length-drop, get_or_append_left, append-nil}
+use Rattle.std.proofs.lemmas.List.{get_or-drop, length-drop, get_or_append_left}
 use Rattle.jc_commit.specs.Runs.{run_words}
 use Rattle.jc_commit.proofs.WordRuns.{viewed_length, run_words-at}
 use Rattle.jc_heap.specs.Packed.{packed_words}
 use Rattle.jc_heap.specs.Elements.{byte_or_none, bytes_with, AreSaidBy}
 use Rattle.jc_heap.proofs.Runs.{length-double}
-use Rattle.jc_heap.proofs.Packing.{length-packed_words, packed_words-word}
+use Rattle.jc_heap.proofs.Packing.{packed_words-word}
 
 -- the bytes of a run's words after the first one
 abbrev pub behind_first : Option ℕ → List ℕ → List ℕ

@@ -69,6 +69,7 @@ pub filled_more : (at : ℕ) (room : List ℕ) (cs : List (ℕ × ℕ)) (k v : �
     → (get_or cs k (0, 0)).0 ≡ at + k → v ≡ (get_or cs k (0, 0)).1 → run_words at (take (k + 1) (set room k v)) ≡ take (k + 1) cs
 filled_more at room cs k v there within before address value =
     let long : length (take k room) ≡ k = omega (arith, length-take k room, there) in
-    let here : (at + length (take k room), v) ≡ get_or cs k (0, 0) = λ i. (omega (arith, long, address) i, value i) in
+    let place : at + length (take k room) ≡ (get_or cs k (0, 0)).0 = omega (arith, long, address) in
+    let here : (at + length (take k room), v) ≡ get_or cs k (0, 0) = λ i. (place i, value i) in
     ap (run_words at) (take_more_set room k v there) ∙ run_words-end at (take k room) v
     ∙ (λ i. before i ++ here i ∷ []) ∙ sym (take_more cs k (0, 0) within)

@@ -7,7 +7,7 @@ ghost use Rattle.jc_heap.specs.Elements.{elements_of, byte_or_none, bytes_with, 
 
 use crate::layout::HEADER;
 use crate::place::Place;
-use jc_commit::WordChanges;
+use jc_commit::{LONGEST_WORD_RUN, WordChanges, WordRun};
 use jc_transient::Ref;
 use jc_words::layout::{APPLETS, REGISTRY};
 use std::marker::Model;
@@ -160,14 +160,23 @@ impl<'a> CellRun<'a> {
         (self.address(k), value)
     }
 
-    // The address of a word, which are one after another.
+    // The address of a word.
     #[inline(always)]
     fn address(&self, k: usize) -> u16
         requires { k < length self.now }
-        ensures exact { result ≡ (slice_index_or self.now k (0, 0)).0 }
-        ensures row { result ≡ (slice_index_or self.now 0 (0, 0)).0 + k }
+        ensures { result ≡ (slice_index_or self.now k (0, 0)).0 }
     {
         self.at + k as u16
+    }
+
+    // The address of the first word, after which the others stand.
+    #[inline(always)]
+    fn start(&self) -> u16
+        ensures row { (k : ℕ) → k < length self.now
+            → (slice_index_or self.now k (0, 0)).0 ≡ result + k }
+        ensures within { result + length self.now ≤ 65536 }
+    {
+        self.at
     }
 
     // How many words there are.
@@ -224,6 +233,21 @@ impl<'a> WordChanges for CellRun<'a> {
     fn change(&self, k: usize) -> (u16, u16) {
         self.word(k)
     }
+
+    // Words of which each stands in one of its own.
+    #[inline(always)]
+    fn as_run(&self) -> Option<WordRun<'_>> {
+        let Packing::Single = self.packing else {
+            return None;
+        };
+        let Elements::Words(words) = self.values else {
+            return None;
+        };
+        if words.is_empty() || LONGEST_WORD_RUN < words.len() {
+            return None;
+        }
+        Some(WordRun::new(self.at, words))
+    }
 }
 
 /// A run of bytes of which two stand in each word. What the first word and the last one say is known, and the bytes of
@@ -278,17 +302,15 @@ impl<'a> PackedRun<'a> {
     /// Puts the words into a room that has as many, and answers the address of the first one.
     #[inline(always)]
     pub(crate) fn fill(&self, room: &mut [u16]) -> u16
-        requires some { 0 < length self.now }
-        requires all { length room.old ≡ length self.now }
+        requires { length room.old ≡ length self.now }
         ensures same { run_words result room.new ≡ self.now }
         ensures within { result + length room.new ≤ 65536 }
     {
+        let first = self.run.start();
         for k in 0..room.len() {
-            let _ = self.run.address(k); // so that the proof knows that it stands after the others
             room[k] = self.value(k);
         }
-        let _ = self.run.address(self.count - 1); // and that the last one has an address
-        self.run.address(0)
+        first
     }
 }
 

@@ -14,14 +14,12 @@ use crate::changes::{CellRun, Elements, PackedRun, Packing};
 use crate::layout::HEADER;
 use crate::object::is_packed_header;
 use crate::place::Place;
-use jc_commit::{Journal, WordChanges, WordRun, WriteRefusal};
+use jc_commit::{Journal, LONGEST_WORD_RUN, WordChanges, WordRun, WriteRefusal};
 use jc_transient::Ref;
 use jc_words::WordStore;
 
-// Of how many words a run of bytes has at least and at most that are written from a room.
+// How many words a run of bytes has at least for which they are put into a room.
 const LEAST_ROOM: usize = 8;
-
-const MOST_ROOM: usize = 256;
 
 // The byte of an index in its word.
 #[inline(always)]
@@ -251,8 +249,8 @@ pub(crate) fn byte_run_for<'a, S: WordStore>(
     run_for(journal, object, i, Elements::Bytes(bytes))
 }
 
-// Writes the words of a run of bytes as one change: those of one that is neither short nor long from a room, so that the store gets them
-// by one call.
+// Writes the words of a run of bytes as one change. Those of one that is neither short nor long are put into a room, so that the store
+// takes them by one call.
 fn change_packed<S: WordStore>(
     journal: &mut Journal<S>,
     packed: &PackedRun<'_>,
@@ -267,10 +265,10 @@ fn change_packed<S: WordStore>(
     ensures stopped { result ≡ Err WriteRefusal.StoreDown → IsTornWrite (writes_for (keeping journal.old) (addresses_of packed.now)) journal.old journal.new }
 {
     let count = packed.count();
-    if count < LEAST_ROOM || MOST_ROOM < count {
+    if count < LEAST_ROOM || LONGEST_WORD_RUN < count {
         return journal.write_all(packed);
     }
-    let mut room = [0; MOST_ROOM];
+    let mut room = [0; LONGEST_WORD_RUN];
     let words = &mut room[..count];
     let first = packed.fill(words);
     journal.write_all(&WordRun::new(first, words))

@@ -13,17 +13,9 @@ overflow_add-result c =
     let long = viewed_length c.self.inside.at (packing_words c.self.inside.packing (elements_of c.self.inside.values)) c.args.self.now c.self.view_is in
     omega (arith, long, c.requires, c.self.invariant.0)
 
-pub returns-clause-exact : goal.returns-clause-exact
-returns-clause-exact c =
+pub returns : goal.returns
+returns c =
     let words = packing_words c.self.inside.packing (elements_of c.self.inside.values) in
     let long = viewed_length c.self.inside.at words c.args.self.now c.self.view_is in
     sym (ap (λ (l : List (ℕ × ℕ)). (get_or l c.args.k (0, 0)).0) (sym c.self.view_is)
     ∙ ap (λ (w : ℕ × ℕ). w.0) (run_words-at c.self.inside.at words c.args.k (omega (arith, long, c.requires))))
-
-pub returns-clause-row : goal.returns-clause-row
-returns-clause-row c =
-    let words = packing_words c.self.inside.packing (elements_of c.self.inside.values) in
-    let long = viewed_length c.self.inside.at words c.args.self.now c.self.view_is in
-    let first = ap (λ (l : List (ℕ × ℕ)). (get_or l 0 (0, 0)).0) (sym c.self.view_is)
-    ∙ ap (λ (w : ℕ × ℕ). w.0) (run_words-at c.self.inside.at words 0 (omega (arith, long, c.requires))) in
-    omega (arith, first)
