@@ -1,4 +1,4 @@
-use Rattle.std.proofs.Common.{◌≡◌, ◌+◌, ◌<◌, ◌∙◌, List, ℕ, length, take, take_all, slice_index, refl, sym, ap, subst, arith}
+use Rattle.std.proofs.Common.{◌≡◌, ◌+◌, ◌∙◌, List, ℕ, length, take, take_all, slice_index, refl, sym, ap, subst, arith}
 use Rattle.jc_words.specs.Store.{FuseStoreValue, write_passed}
 use Rattle.jc_words.specs.WordPairs.{RefusedThrough}
 use Rattle.jc_words.specs.WordRuns.{writes_passed}

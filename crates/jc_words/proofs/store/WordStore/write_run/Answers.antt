@@ -1,4 +1,4 @@
-use Rattle.std.proofs.Common.{◌≡◌, ◌<◌, ◌∙◌, List, ℕ, length, take, refl, sym, ap, arith}
+use Rattle.std.proofs.Common.{◌≡◌, ◌∙◌, List, ℕ, length, take, refl, sym, ap, arith}
 use Rattle.jc_words.proofs.Runs.{length-with_run, run_more}
 use Rattle.jc_words.proofs.store.WordStore.write_run.Goals as goal
 
