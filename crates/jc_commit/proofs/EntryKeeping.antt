@@ -63,7 +63,7 @@ places_needing touched born n changes places k within =
 
 -- ---- entries that are put
 
-abbrev after_entry : Log → List ℕ → ℕ → ℕ × ℕ → List ℕ
+abbrev pub after_entry : Log → List ℕ → ℕ → ℕ × ℕ → List ℕ
 after_entry l w k change = set (set w (l.start + 2 * k) change.0) (l.start + 2 * k + 1) (slice_index w change.0)
 
 pub same_more : (l : Log) (first k : ℕ) (old w v : List ℕ) → first ≤ k → SameBefore l first old w → SameBefore l k w v → SameBefore l first old v
@@ -91,7 +91,7 @@ same_with l w k (c ∷ cs) few =
     same_more l k (k + 1) w (after_entry l w k c) (with_entries l (after_entry l w k c) (k + 1) cs) (omega arith) (entry_same l w k c (omega (arith, few))) rest
 
 -- a word that an entry may name is no word of an entry
-beside_entry : (l : Log) (w : List ℕ) (k n a : ℕ) (change : ℕ × ℕ) → k < l.capacity → IsBeside l n a → slice_index (after_entry l w k change) a ≡ slice_index w a
+pub beside_entry : (l : Log) (w : List ℕ) (k n a : ℕ) (change : ℕ × ℕ) → k < l.capacity → IsBeside l n a → slice_index (after_entry l w k change) a ≡ slice_index w a
 beside_entry l w k n a change few place =
     let beside = place.beside in
     get_or-set_other (set w (l.start + 2 * k) change.0) (l.start + 2 * k + 1) a (slice_index w change.0) 0 (λ e. absurd (omega (arith, few, beside, e)))

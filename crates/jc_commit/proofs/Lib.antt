@@ -14,3 +14,6 @@ pub mod WhatIsKept
 pub mod Migrations
 pub mod Openings
 pub mod Writes
+pub mod WordRuns
+pub mod Throughout
+pub mod EntryRuns

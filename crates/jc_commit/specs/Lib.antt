@@ -7,3 +7,4 @@ pub mod EntryIndex
 pub mod State
 pub mod Journal
 pub mod Writing
+pub mod Runs

@@ -1,16 +1,17 @@
 //! Changes: a word's first old value in a transaction is kept, and none of a word born in it.
-ghost use Rattle.std.specs.Prelude.{◌≡◌, ◌<◌, ◌≤◌, ◌+◌, ◌*◌, ◌^◌, ◌==◌, [], ◌∷◌, nat_le, length, OnOk, OnErr, IfOk, slice_set, filter, not, is_ok, if◌then◌else◌};
+ghost use Rattle.std.specs.Prelude.{◌≡◌, ◌<◌, ◌≤◌, ◌+◌, ◌*◌, ◌^◌, ◌==◌, ℕ, [], ◌∷◌, nat_le, length, OnOk, OnErr, IfOk, slice_index_or, slice_set, filter, not, is_ok, if◌then◌else◌};
 ghost use Rattle.jc_words.specs.Layout.{count_address, log_end};
 ghost use Rattle.jc_commit.specs.Image.{count_of, entries, limit_of, plain_of, touched_of, with_words, IsGoodLog};
 ghost use Rattle.jc_commit.specs.Entries.{ArePlaces, IsBeside, AreBeside, SameBefore};
 ghost use Rattle.jc_commit.specs.Keep.{is_taken_back, writes_inside};
 ghost use Rattle.jc_commit.specs.EntryIndex.{named_by, needing, with_entries, IsIndexOf, GoBack};
+ghost use Rattle.jc_commit.specs.Runs.{entry_words, WritesWords};
 ghost use Rattle.jc_commit.specs.Writing.{Wrote, HasLog, IsIndexed, IsFreeFrom, KeepsTransaction, ArePut, ChangesInside};
 
-use crate::changes::WordChanges;
+use crate::changes::{WordChanges, WordRun};
 use crate::index::is_named;
 use jc_words::layout::COUNT;
-use jc_words::{Log, StoreDown, WordStore};
+use jc_words::{LONGEST_RUN, Log, StoreDown, WordStore};
 
 // Whether an abort takes back what is written at the address, with nothing more kept of it.
 pub(crate) fn is_taken_back<S: WordStore>(
@@ -155,6 +156,40 @@ fn put_change<S: WordStore>(
     Ok(k + 1)
 }
 
+// The words of the entries that keep the values of a run's words.
+#[inline(always)]
+fn fill_entries<S: WordStore>(store: &S, run: &WordRun<'_>, out: &mut [u16])
+    requires all { length out.old ≡ 2 * length run.now }
+    requires there { (k : ℕ) → k < length run.now
+        → (slice_index_or run.now k (0, 0)).0 < length (S.words store.now) }
+    ensures { out.new ≡ entry_words (S.words store.now) run.now }
+{
+    for k in 0..run.count() {
+        let (address, _) = run.change(k);
+        out[2 * k] = address;
+        out[2 * k + 1] = store.read(address);
+    }
+}
+
+// Puts the first entries, one for each word of a run, and answers how many they are.
+#[inline(never)]
+fn put_run<S: WordStore>(store: &mut S, log: Log, run: &WordRun<'_>) -> Result<u16, StoreDown>
+    requires size { log.start + 2 * log.capacity ≤ length (S.words store.old) }
+    requires places { AreBeside log (length (S.words store.old)) run.now }
+    requires room { length run.now ≤ log.capacity }
+    ensures put { IfOk result (λ n. ArePut log 0 run.now (S.words store.old) (S.words store.new) n) }
+    ensures same { SameBefore log 0 (S.words store.old) (S.words store.new) }
+    ensures wrote { Wrote S.down S.passed S.refusals (2 * length run.now) (is_ok result) store.old
+        store.new }
+{
+    let count = run.count();
+    let mut room = [0; LONGEST_RUN];
+    let words = &mut room[..2 * count];
+    fill_entries(store, run, words);
+    store.write_run(log.start, words)?;
+    Ok(count as u16)
+}
+
 // Puts entries for the changes whose words' old values have to be kept, after the first ones, and answers
 // how many there are then.
 #[inline(always)]
@@ -178,6 +213,12 @@ fn put_needing<S: WordStore, C: WordChanges>(
         (2 * length (needing (named_by log (S.words store.old) first) born (C.changes changes.now)))
         (is_ok result) store.old store.new }
 {
+    if first == 0 && born == u16::MAX {
+        let _ = store.size(); // so that the proof knows that each address is below the largest number
+        if let Some(run) = changes.as_run() {
+            return put_run(store, log, &run);
+        }
+    }
     let mut k = first;
     for i in 0..changes.count() {
         k = put_change(store, log, first, numbers, born, k, changes.change(i))?;
@@ -202,6 +243,21 @@ fn count_entries<S: WordStore>(store: &mut S, before: u16, behind: u16) -> Resul
     Ok(())
 }
 
+// Writes words, one after the other.
+#[inline(always)]
+fn write_each<S: WordStore, C: WordChanges>(store: &mut S, changes: &C) -> Result<(), StoreDown>
+    requires { (k : ℕ) → k < length (C.changes changes.now)
+        → (slice_index_or (C.changes changes.now) k (0, 0)).0 < length (S.words store.old) }
+    ensures { WritesWords S.words S.down S.passed S.refusals (C.changes changes.now) result store.old
+        store.new }
+{
+    for i in 0..changes.count() {
+        let (address, value) = changes.change(i);
+        store.write(address, value)?;
+    }
+    Ok(())
+}
+
 // Writes words of which an abort takes each back.
 #[inline(always)]
 fn write_through<S: WordStore, C: WordChanges>(
@@ -220,11 +276,10 @@ fn write_through<S: WordStore, C: WordChanges>(
     ensures wrote { Wrote S.down S.passed S.refusals (length (C.changes changes.now))
         (is_ok result) store.old store.new }
 {
-    for i in 0..changes.count() {
-        let (address, value) = changes.change(i);
-        store.write(address, value)?;
+    if let Some(run) = changes.as_run() {
+        return run.write(store);
     }
-    Ok(())
+    write_each(store, changes)
 }
 
 // A change: puts entries for the words whose old values have to be kept, counts them, and then writes the

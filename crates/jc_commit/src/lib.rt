@@ -12,7 +12,7 @@ mod recovery_law;
 mod refusal;
 mod undo;
 
-pub use changes::WordChanges;
+pub use changes::{LONGEST_WORD_RUN, WordChanges, WordRun};
 pub use journal::Journal;
 pub use keeping_law::what_changes_keep;
 pub use recovery_law::recovery_may_be_interrupted;

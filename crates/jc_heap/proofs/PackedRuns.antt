@@ -1,12 +1,13 @@
 -- Runs of packed bytes: what the first word, the bytes of those between and the last word say.
-use Rattle.std.proofs.Common.{◌≡◌, ℕ, suc, ◌+◌, ◌-◌, ◌*◌, ◌%◌, ◌<◌, ◌≤◌, List, length, get_or, drop}
+use Rattle.std.proofs.Common.{◌≡◌, ℕ, suc, ◌+◌, ◌-◌, ◌*◌, ◌<◌, ◌≤◌, List, length, get_or, drop}
 use Rattle.std.proofs.Common.{refl, sym, ◌∙◌, ap, arith, Option, Some, None}
-use Rattle.std.proofs.lemmas.List.{get_or-drop, length-drop, get_or_append_left, append-nil}
-use Rattle.jc_heap.specs.Heap.{run_words}
+use Rattle.std.proofs.lemmas.List.{get_or-drop, length-drop, get_or_append_left}
+use Rattle.jc_commit.specs.Runs.{run_words}
+use Rattle.jc_commit.proofs.WordRuns.{viewed_length, run_words-at}
 use Rattle.jc_heap.specs.Packed.{packed_words}
 use Rattle.jc_heap.specs.Elements.{byte_or_none, bytes_with, AreSaidBy}
-use Rattle.jc_heap.proofs.Runs.{viewed_length, run_words-at, length-double}
-use Rattle.jc_heap.proofs.Packing.{length-packed_words, packed_words-word}
+use Rattle.jc_heap.proofs.Runs.{length-double}
+use Rattle.jc_heap.proofs.Packing.{packed_words-word}
 
 -- the bytes of a run's words after the first one
 abbrev pub behind_first : Option ℕ → List ℕ → List ℕ
@@ -64,23 +65,3 @@ said at before behind bs words first last n is count few begins ends =
           let there : n - 1 ≡ k = omega (arith, h, count) in
           ap (λ (w : ℕ × ℕ). w.1) (ap (λ (m : ℕ). get_or words m (0, 0)) (sym there) ∙ sym ends);
     }
-
--- a run whose words hold no more bytes than it has is of these bytes alone
-only_bytes : (before behind : Option ℕ) (bs : List ℕ) → 2 * length (packed_words (bytes_with before bs behind)) ≡ length bs
-    → bytes_with before bs behind ≡ bs
-only_bytes None None bs e = append-nil bs
-only_bytes None (Some c) bs e = absurd (omega (arith, e, length-double None bs (Some c) _ refl))
-only_bytes (Some b) None bs e = absurd (omega (arith, e, length-double (Some b) bs None _ refl))
-only_bytes (Some b) (Some c) bs e = absurd (omega (arith, e, length-double (Some b) bs (Some c) _ refl))
-
-pub whole_words : (at : ℕ) (before behind : Option ℕ) (bs : List ℕ) (words : List (ℕ × ℕ))
-    → run_words at (packed_words (bytes_with before bs behind)) ≡ words → 2 * length words ≡ length bs
-    → packed_words (bytes_with before bs behind) ≡ packed_words bs
-whole_words at before behind bs words is full =
-    let long : length words ≡ length (packed_words (bytes_with before bs behind)) = viewed_length at _ words is in
-    ap packed_words (only_bytes before behind bs (omega (arith, long, full)))
-
--- how many words bytes fill
-pub whole_length : (at : ℕ) (bs : List ℕ) (words : List (ℕ × ℕ)) → run_words at (packed_words bs) ≡ words → length bs % 2 ≡ 0
-    → 2 * length words ≡ length bs
-whole_length at bs words is even = omega (arith, viewed_length at (packed_words bs) words is, length-packed_words bs, even)

@@ -5,10 +5,11 @@ use Rattle.std.specs.List.{range_with_len}
 use Rattle.std.proofs.lemmas.Bool.{cases_Bool, cases_eq, eq-eqb, ne_eqb}
 use Rattle.jc_commit.specs.Image.{with_words}
 use Rattle.jc_commit.specs.Entries.{addresses_of}
+use Rattle.jc_commit.specs.Runs.{run_words}
 use Rattle.jc_heap.specs.declared.changes.Packing.TheVariants.{Single, Double}
 use Rattle.jc_heap.specs.Object.{is_packed}
 use Rattle.jc_heap.specs.Packed.{packed_words, byte_in, with_byte}
-use Rattle.jc_heap.specs.Heap.{heap_of, facts, cell_address, run_words}
+use Rattle.jc_heap.specs.Heap.{heap_of, facts, cell_address}
 use Rattle.jc_heap.specs.Place.{words_at, cells_from}
 use Rattle.jc_heap.specs.Elements.{byte_or_none, bytes_with, packing_words, byte_before, byte_behind, run_for}
 use Rattle.jc_heap.proofs.Runs.{addresses-run, length-double}

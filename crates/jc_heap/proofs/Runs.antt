@@ -1,37 +1,17 @@
 -- The words of a run of cells.
-use Rattle.std.proofs.Common.{◌≡◌, ℕ, zero, suc, ◌+◌, ◌*◌, ◌%◌, ◌<◌, List, [], ◌∷◌, ◌++◌, length, get_or, refl, sym, ◌∙◌, ap, arith, Option, Some, None, Bool}
+use Rattle.std.proofs.Common.{◌≡◌, ℕ, zero, suc, ◌+◌, ◌*◌, ◌%◌, ◌<◌, List, [], ◌∷◌, ◌++◌, length, take, set, get_or, refl, sym, ◌∙◌, ap, arith, Option, Some, None, Bool}
 use Rattle.std.proofs.Common.{add-zero}
-use Rattle.std.proofs.lemmas.List.{length-append}
+use Rattle.std.proofs.lemmas.List.{length-append, length-take, take_more, take_more_set}
 use Rattle.std.specs.List.{range_with_len}
 use Rattle.std.specs.Option.{is_some}
 use mir.Val.{bool_byte}
 use Rattle.jc_commit.specs.Entries.{addresses_of}
-use Rattle.jc_heap.specs.Heap.{HeapState, SameShape, run_words, set_cell, set_cells}
+use Rattle.jc_commit.specs.Runs.{run_words}
+use Rattle.jc_heap.specs.Heap.{HeapState, SameShape, set_cell, set_cells}
 use Rattle.jc_heap.specs.Packed.{packed_words}
 use Rattle.jc_heap.specs.Elements.{byte_or_none, bytes_with}
 use Rattle.jc_heap.proofs.Laws.{shape-set}
 use Rattle.jc_heap.proofs.Packing.{length-packed_words}
-
-pub length-run_words : (at : ℕ) (vs : List ℕ) → length (run_words at vs) ≡ length vs
-length-run_words at [] = refl
-length-run_words at (v ∷ vs) = ap suc (length-run_words (suc at) vs)
-
-pub viewed_length : (at : ℕ) (vs : List ℕ) (l : List (ℕ × ℕ)) → run_words at vs ≡ l → length l ≡ length vs
-viewed_length at vs l is = sym (ap (λ (m : List (ℕ × ℕ)). length m) is) ∙ length-run_words at vs
-
-pub run_words-at : (at : ℕ) (vs : List ℕ) (k : ℕ) → k < length vs → get_or (run_words at vs) k (0, 0) ≡ (at + k, get_or vs k 0)
-run_words-at at [] k h = absurd (omega arith)
-run_words-at at (v ∷ vs) zero h = ap (λ (a : ℕ). (a, v)) (sym (add-zero at))
-run_words-at at (v ∷ vs) (suc k) h =
-    let next : suc at + k ≡ at + suc k = omega arith in
-    run_words-at (suc at) vs k (omega arith) ∙ ap (λ (a : ℕ). (a, get_or vs k 0)) next
-
--- a word of a run, by its address and its value
-pub run_word : (at : ℕ) (vs : List ℕ) (words : List (ℕ × ℕ)) (k v : ℕ) → run_words at vs ≡ words → k < length words → v ≡ get_or vs k 0
-    → (at + k, v) ≡ get_or words k (0, 0)
-run_word at vs words k v is below e =
-    ap (λ (x : ℕ). (at + k, x)) e ∙ sym (run_words-at at vs k (omega (arith, below, viewed_length at vs words is)))
-    ∙ ap (λ (l : List (ℕ × ℕ)). get_or l k (0, 0)) is
 
 address-at : (at : ℕ) (vs : List ℕ) (k d : ℕ) → k < length (addresses_of (run_words at vs)) → get_or (addresses_of (run_words at vs)) k d ≡ at + k
 address-at at [] k d h = absurd (omega arith)
@@ -77,3 +57,19 @@ count_byte (Some w) m n e f = f ∙ ap bool_byte e
 pub shape-run : (d h : HeapState) (r i : ℕ) (vs : List ℕ) → SameShape d h → SameShape d (set_cells h r i vs)
 shape-run d h r i [] s = s
 shape-run d h r i (v ∷ vs) s = shape-run d (set_cell h r i v) r (suc i) vs (shape-set d h r i v s)
+
+run_words-end : (at : ℕ) (vs : List ℕ) (v : ℕ) → run_words at (vs ++ v ∷ []) ≡ run_words at vs ++ (at + length vs, v) ∷ []
+run_words-end at [] v = ap (λ (a : ℕ). (a, v) ∷ []) (sym (add-zero at))
+run_words-end at (x ∷ vs) v =
+    let next : suc at + length vs ≡ at + suc (length vs) = omega arith in
+    ap (λ (l : List (ℕ × ℕ)). (at, x) ∷ l) (run_words-end (suc at) vs v ∙ ap (λ (a : ℕ). run_words (suc at) vs ++ (a, v) ∷ []) next)
+
+-- one word more of a run in its room
+pub filled_more : (at : ℕ) (room : List ℕ) (cs : List (ℕ × ℕ)) (k v : ℕ) → k < length room → k < length cs → run_words at (take k room) ≡ take k cs
+    → (get_or cs k (0, 0)).0 ≡ at + k → v ≡ (get_or cs k (0, 0)).1 → run_words at (take (k + 1) (set room k v)) ≡ take (k + 1) cs
+filled_more at room cs k v there within before address value =
+    let long : length (take k room) ≡ k = omega (arith, length-take k room, there) in
+    let place : at + length (take k room) ≡ (get_or cs k (0, 0)).0 = omega (arith, long, address) in
+    let here : (at + length (take k room), v) ≡ get_or cs k (0, 0) = λ i. (place i, value i) in
+    ap (run_words at) (take_more_set room k v there) ∙ run_words-end at (take k room) v
+    ∙ (λ i. before i ++ here i ∷ []) ∙ sym (take_more cs k (0, 0) within)

@@ -4,19 +4,21 @@ use Rattle.std.proofs.lemmas.Bool.{cases_Bool}
 use Rattle.jc_commit.specs.Image.{with_words, IsPlace}
 use Rattle.jc_commit.specs.Entries.{addresses_of, ArePlaces, AreDistinct}
 use Rattle.jc_commit.specs.State.{State}
+use Rattle.jc_commit.specs.Runs.{run_words}
+use Rattle.jc_commit.proofs.WordRuns.{length-run_words}
 use Rattle.jc_heap.specs.declared.object.Facts.{Facts}
 use Rattle.jc_heap.specs.declared.place.Place.{Place}
 use Rattle.jc_heap.specs.declared.place.Place.TheVariants.{Cell}
 use Rattle.jc_heap.specs.Object.{is_packed, IsElement}
 use Rattle.jc_heap.specs.Packed.{packed_words}
 use Rattle.jc_heap.specs.Image.{IsWellFormed}
-use Rattle.jc_heap.specs.Heap.{HeapState, HeapView, heap_view, heap_of, heap_item_at, facts, cells, set_cell, set_cells, cell_address, run_words, IsSound}
+use Rattle.jc_heap.specs.Heap.{HeapState, HeapView, heap_view, heap_of, heap_item_at, facts, cells, set_cell, set_cells, cell_address, IsSound}
 use Rattle.jc_heap.specs.Place.{place_at, words_at, cells_from}
 use Rattle.jc_heap.specs.Elements.{bytes_with, byte_before, byte_behind, run_for}
 use Rattle.jc_heap.proofs.Laws.{length-cells-set_cell, header_only-set_cell, same_facts}
 use Rattle.jc_heap.proofs.Views.{spot_of_cell, packed_spot, single_spot, is_place}
 use Rattle.jc_heap.proofs.Places.{place_set}
-use Rattle.jc_heap.proofs.Runs.{distinct-run, length-run_words, shape-run}
+use Rattle.jc_heap.proofs.Runs.{distinct-run, shape-run}
 use Rattle.jc_heap.proofs.WordsAt.{each_word, each_cell}
 use Rattle.jc_heap.proofs.RunWords.{cell_step, cell_steps, steps_run, run_for-single, run_for-double, count_words, addresses-run_for}
 use Rattle.jc_heap.proofs.Changing.{up_is}

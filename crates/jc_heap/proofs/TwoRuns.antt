@@ -5,12 +5,13 @@ use Rattle.std.proofs.lemmas.Bool.{cases_Bool, cases_eq, ne_eqb, false≢true}
 use Rattle.jc_commit.specs.Image.{with_words}
 use Rattle.jc_commit.specs.Entries.{addresses_of}
 use Rattle.jc_commit.specs.State.{State}
+use Rattle.jc_commit.specs.Runs.{run_words}
 use Rattle.jc_heap.specs.declared.place.Place.{Place}
 use Rattle.jc_heap.specs.declared.place.Place.TheVariants.{Cell}
 use Rattle.jc_heap.specs.Object.{is_packed, IsElement}
 use Rattle.jc_heap.specs.Packed.{byte_in, packed_words}
 use Rattle.jc_heap.specs.Image.{IsWellFormed}
-use Rattle.jc_heap.specs.Heap.{HeapState, HeapView, heap_view, heap_of, facts, cells, cell_address, set_cell, set_cells, run_words, IsSound}
+use Rattle.jc_heap.specs.Heap.{HeapState, HeapView, heap_view, heap_of, facts, cells, cell_address, set_cell, set_cells, IsSound}
 use Rattle.jc_heap.specs.Place.{place_at, ArePlain, share_word, words_at, cells_from, cell_changes, set_places, places_of, words_of, AreThere, AreApart}
 use Rattle.jc_heap.specs.Elements.{bytes_with, byte_before, byte_behind, run_for}
 use Rattle.jc_heap.proofs.Changing.{up_is}

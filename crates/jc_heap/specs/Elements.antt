@@ -1,12 +1,13 @@
 -- Values for cells, and how they stand in words.
 use Rattle.std.specs.Prelude.{ℕ, ◌+◌, ◌-◌, ◌*◌, ◌/◌, ◌%◌, ◌<◌, ◌≤◌, ◌==◌, ◌≡◌, List, [], ◌∷◌, ◌++◌, length, slice_index, slice_index_or, Option, Some, None, if◌then◌else◌}
+use Rattle.jc_commit.specs.Runs.{run_words}
 use Rattle.jc_heap.specs.declared.changes.Elements.{Elements}
 use Rattle.jc_heap.specs.declared.changes.Elements.TheVariants.{Bytes, Words}
 use Rattle.jc_heap.specs.declared.changes.Packing.{Packing}
 use Rattle.jc_heap.specs.declared.changes.Packing.TheVariants.{Single, Double}
 use Rattle.jc_heap.specs.Packed.{packed_words, byte_in, with_byte}
 use Rattle.jc_heap.specs.Object.{is_packed}
-use Rattle.jc_heap.specs.Heap.{heap_of, facts, cell_address, run_words}
+use Rattle.jc_heap.specs.Heap.{heap_of, facts, cell_address}
 use Rattle.jc_heap.specs.declared.place.Place.{Place}
 use Rattle.jc_heap.specs.declared.place.Place.TheVariants.{Cell}
 use Rattle.jc_heap.specs.Place.{cell_at}

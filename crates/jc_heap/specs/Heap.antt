@@ -127,11 +127,6 @@ abbrev pub set_cells : HeapState → ℕ → ℕ → List ℕ → HeapState
 set_cells h r i [] = h
 set_cells h r i (v ∷ vs) = set_cells (set_cell h r i v) r (suc i) vs
 
--- the words of a run from an address on
-abbrev pub run_words : ℕ → List ℕ → List (ℕ × ℕ)
-run_words at [] = []
-run_words at (v ∷ vs) = (at, v) ∷ run_words (suc at) vs
-
 -- the first object above an address
 abbrev pub first_above : List (ℕ × Item) → ℕ → Option ℕ
 first_above [] r = None

@@ -1,13 +1,13 @@
 //! Changes of several words, made up as they are read.
 ghost use Rattle.std.specs.Prelude.{◌≡◌, ◌<◌, ◌≤◌, ◌+◌, ◌-◌, ◌^◌, ◌++◌, ℕ, List, length, drop, slice_index, slice_index_or, IfOk, IfErr, IfSome};
-ghost use Rattle.jc_heap.specs.Heap.{run_words};
+ghost use Rattle.jc_commit.specs.Runs.{run_words};
 ghost use Rattle.jc_heap.specs.Place.{place_word, words_of};
 ghost use Rattle.jc_heap.specs.Changes.{AreWords};
 ghost use Rattle.jc_heap.specs.Elements.{elements_of, byte_or_none, bytes_with, FitPacking, packing_words};
 
 use crate::layout::HEADER;
 use crate::place::Place;
-use jc_commit::WordChanges;
+use jc_commit::{LONGEST_WORD_RUN, WordChanges, WordRun};
 use jc_transient::Ref;
 use jc_words::layout::{APPLETS, REGISTRY};
 use std::marker::Model;
@@ -120,7 +120,7 @@ pub(crate) struct CellRun<'a> {
 
 impl<'a> Model for CellRun<'a> {
     ghost use Rattle.std.specs.Prelude.{List, ℕ, length, ◌+◌, ◌≤◌};
-    ghost use Rattle.jc_heap.specs.Heap.{run_words};
+    ghost use Rattle.jc_commit.specs.Runs.{run_words};
     ghost use Rattle.jc_heap.specs.Elements.{elements_of, packing_words, FitPacking};
 
     ghost Value = { List (ℕ × ℕ) };
@@ -169,6 +169,16 @@ impl<'a> CellRun<'a> {
         self.at + k as u16
     }
 
+    // The address of the first word, after which the others stand.
+    #[inline(always)]
+    fn start(&self) -> u16
+        ensures row { (k : ℕ) → k < length self.now
+            → (slice_index_or self.now k (0, 0)).0 ≡ result + k }
+        ensures within { result + length self.now ≤ 65536 }
+    {
+        self.at
+    }
+
     // How many words there are.
     #[inline(always)]
     fn length(&self) -> usize
@@ -181,23 +191,6 @@ impl<'a> CellRun<'a> {
                 (usize::from(before.is_some()) + count + usize::from(behind.is_some())).div_ceil(2)
             }
         }
-    }
-
-    /// The same where its bytes fill its words.
-    #[inline(always)]
-    pub(crate) fn whole(&self) -> Option<WholeRun<'a>>
-        ensures { IfSome result (λ run. run ≡ self.now) }
-    {
-        let Elements::Bytes(bytes) = self.values else {
-            return None;
-        };
-        let Packing::Double { .. } = self.packing else {
-            return None;
-        };
-        if 2 * self.length() != bytes.len() {
-            return None;
-        }
-        Some(WholeRun { at: self.at, bytes })
     }
 
     /// The same with its words ready to be read, where two bytes of a slice stand in each.
@@ -240,42 +233,20 @@ impl<'a> WordChanges for CellRun<'a> {
     fn change(&self, k: usize) -> (u16, u16) {
         self.word(k)
     }
-}
 
-/// A run of bytes that fill its words, two each.
-#[derive(Drop)]
-pub(crate) struct WholeRun<'a> {
-    at: u16,
-    bytes: &'a [u8],
-}
-
-impl<'a> Model for WholeRun<'a> {
-    ghost use Rattle.std.specs.Prelude.{List, ℕ, length, ◌+◌, ◌%◌, ◌≤◌, ◌≡◌};
-    ghost use Rattle.jc_heap.specs.Heap.{run_words};
-    ghost use Rattle.jc_heap.specs.Packed.{packed_words};
-
-    ghost Value = { List (ℕ × ℕ) };
-
-    ghost view = { λ r. run_words r.at (packed_words r.bytes.now) };
-
-    ghost invariant = { λ r. (r.at + length (packed_words r.bytes.now) ≤ 65536)
-        × (length r.bytes.now % 2 ≡ 0) };
-}
-
-impl<'a> WordChanges for WholeRun<'a> {
-    ghost changes = { λ words. words };
-
+    // Words of which each stands in one of its own.
     #[inline(always)]
-    fn count(&self) -> usize {
-        let bytes = self.bytes;
-        bytes.len() / 2
-    }
-
-    #[inline(always)]
-    fn change(&self, k: usize) -> (u16, u16) {
-        let bytes = self.bytes;
-        let value = 256 * u16::from(bytes[2 * k]) + u16::from(bytes[2 * k + 1]);
-        (self.at + k as u16, value)
+    fn as_run(&self) -> Option<WordRun<'_>> {
+        let Packing::Single = self.packing else {
+            return None;
+        };
+        let Elements::Words(words) = self.values else {
+            return None;
+        };
+        if words.is_empty() || LONGEST_WORD_RUN < words.len() {
+            return None;
+        }
+        Some(WordRun::new(self.at, words))
     }
 }
 
@@ -326,6 +297,20 @@ impl<'a> PackedRun<'a> {
         let middle = self.middle;
         let j = 2 * (k - 1);
         256 * u16::from(middle[j]) + u16::from(middle[j + 1])
+    }
+
+    /// Puts the words into a room that has as many, and answers the address of the first one.
+    #[inline(always)]
+    pub(crate) fn fill(&self, room: &mut [u16]) -> u16
+        requires { length room.old ≡ length self.now }
+        ensures same { run_words result room.new ≡ self.now }
+        ensures within { result + length room.new ≤ 65536 }
+    {
+        let first = self.run.start();
+        for k in 0..room.len() {
+            room[k] = self.value(k);
+        }
+        first
     }
 }
 

@@ -10,13 +10,16 @@ ghost use Rattle.jc_heap.specs.Packed.{byte_in, with_byte, low_bytes};
 ghost use Rattle.jc_heap.specs.Place.{cell_at, HasPlace, MayHold};
 ghost use Rattle.jc_heap.specs.Elements.{elements_of, word_for, byte_before, byte_behind, run_for};
 
-use crate::changes::{CellRun, Elements, Packing};
+use crate::changes::{CellRun, Elements, PackedRun, Packing};
 use crate::layout::HEADER;
 use crate::object::is_packed_header;
 use crate::place::Place;
-use jc_commit::{Journal, WriteRefusal};
+use jc_commit::{Journal, LONGEST_WORD_RUN, WordChanges, WordRun, WriteRefusal};
 use jc_transient::Ref;
 use jc_words::WordStore;
+
+// How many words a run of bytes has at least for which they are put into a room.
+const LEAST_ROOM: usize = 8;
 
 // The byte of an index in its word.
 #[inline(always)]
@@ -246,6 +249,31 @@ pub(crate) fn byte_run_for<'a, S: WordStore>(
     run_for(journal, object, i, Elements::Bytes(bytes))
 }
 
+// Writes the words of a run of bytes as one change. Those of one that is neither short nor long are put into a room, so that the store
+// takes them by one call.
+fn change_packed<S: WordStore>(
+    journal: &mut Journal<S>,
+    packed: &PackedRun<'_>,
+) -> Result<(), WriteRefusal>
+    requires up { journal.old.down ≡ false }
+    requires places { ArePlaces (length journal.old.plain) packed.now }
+    requires distinct { AreDistinct (addresses_of packed.now) }
+    ensures ok { OnOk result (Changes packed.now journal.old journal.new) }
+    ensures full { (result ≡ Err WriteRefusal.Full)
+        ↔ (has_room_for (keeping journal.old) (addresses_of packed.now) ≡ false) }
+    ensures kept { result ≡ Err WriteRefusal.Full → journal.new ≡ journal.old }
+    ensures stopped { result ≡ Err WriteRefusal.StoreDown → IsTornWrite (writes_for (keeping journal.old) (addresses_of packed.now)) journal.old journal.new }
+{
+    let count = packed.count();
+    if count < LEAST_ROOM || LONGEST_WORD_RUN < count {
+        return journal.write_all(packed);
+    }
+    let mut room = [0; LONGEST_WORD_RUN];
+    let words = &mut room[..count];
+    let first = packed.fill(words);
+    journal.write_all(&WordRun::new(first, words))
+}
+
 /// Writes the words of a run as one change.
 pub(crate) fn change_run<S: WordStore>(
     journal: &mut Journal<S>,
@@ -260,11 +288,8 @@ pub(crate) fn change_run<S: WordStore>(
     ensures kept { result ≡ Err WriteRefusal.Full → journal.new ≡ journal.old }
     ensures stopped { result ≡ Err WriteRefusal.StoreDown → IsTornWrite (writes_for (keeping journal.old) (addresses_of run.entry)) journal.old journal.new }
 {
-    if let Some(whole) = run.whole() {
-        return journal.write_all(&whole);
-    }
     match run.packed() {
-        Ok(packed) => journal.write_all(&packed),
+        Ok(packed) => change_packed(journal, &packed),
         Err(cells) => journal.write_all(&cells),
     }
 }

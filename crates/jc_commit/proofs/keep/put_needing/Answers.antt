@@ -1,8 +1,11 @@
-use Rattle.std.proofs.Common.{◌≡◌, ◌<◌, ◌≤◌, ◌+◌, ◌++◌, ℕ, List, [], ◌∷◌, length, take, take_all, get_or, sym, ap, subst, ◌∙◌, arith}
+use Rattle.std.proofs.Common.{◌≡◌, ◌<◌, ◌≤◌, ◌+◌, ◌*◌, ◌++◌, ℕ, List, [], ◌∷◌, length, take, take_all, get_or, sym, ap, subst, ◌∙◌, arith}
 use Rattle.std.proofs.lemmas.List.{length-append}
+use Rattle.std.specs.Prelude.{IfOk, is_ok}
 use Rattle.jc_words.specs.declared.log.Log.{Log}
 use Rattle.jc_commit.specs.Entries.{SameBefore, IsBeside}
 use Rattle.jc_commit.specs.EntryIndex.{named_by, needing, with_entries}
+use Rattle.jc_commit.specs.Writing.{ArePut, Wrote}
+use Rattle.jc_commit.proofs.EntryRuns.{needing_all}
 use Rattle.jc_commit.proofs.EntryKeeping.{needing_more, needing_part, named_by_kept, index_kept, same_more, with_entries-append}
 use Rattle.jc_commit.proofs.Writes.{no_write, more_writes, refused_later, at_err}
 use Rattle.jc_commit.proofs.keep.put_needing.Goals as goal
@@ -75,3 +78,32 @@ returns-clause-wrote g c =
     let changes = g.C.WordChanges.changes c.args.changes.now in
     let all = ap (λ (xs : List (ℕ × ℕ)). length (needing t c.args.born xs)) (take_all c.loop-i.i changes (omega arith)) in
     more_writes c.loop-i.invariant.wrote (no_write _) (omega (arith, all))
+
+-- ---- a run that begins a transaction has an entry for each word
+
+pub put_run-requires-clause-room : goal.put_run-requires-clause-room
+put_run-requires-clause-room g c =
+    let w = g.S.WordStore.words c.args.store.now in
+    let all = needing_all c.args.log w c.args.first c.args.born (g.C.WordChanges.changes c.args.changes.now) c.if-first-eq0.true c.if-born-eq65535.true
+    c.requires.places (omega (arith, c.size.ensures, c.size.type_inv)) in
+    let needed = ap (λ (cs : List (ℕ × ℕ)). length cs) (c.in-Some.ensures ∙ sym all) in
+    omega (arith, needed, c.requires.room)
+
+pub returns-in-Some-clause-put : goal.returns-in-Some-clause-put
+returns-in-Some-clause-put g c =
+    let w = g.S.WordStore.words c.args.store.now in
+    let v = g.S.WordStore.words c.put_run.new.store in
+    let none = c.if-first-eq0.true in
+    let all = needing_all c.args.log w c.args.first c.args.born (g.C.WordChanges.changes c.args.changes.now) none c.if-born-eq65535.true
+    c.requires.places (omega (arith, c.size.ensures, c.size.type_inv)) in
+    let needed = c.in-Some.ensures ∙ sym all in
+    subst (λ (d : ℕ × List (ℕ × ℕ)). IfOk c.put_run.result (λ n. ArePut c.args.log d.0 d.1 w v n)) (λ i. (sym none i, needed i)) c.put_run.ensures.put
+
+pub returns-in-Some-clause-wrote : goal.returns-in-Some-clause-wrote
+returns-in-Some-clause-wrote g c =
+    let s = g.S.WordStore in
+    let w = s.words c.args.store.now in
+    let all = needing_all c.args.log w c.args.first c.args.born (g.C.WordChanges.changes c.args.changes.now) c.if-first-eq0.true c.if-born-eq65535.true
+    c.requires.places (omega (arith, c.size.ensures, c.size.type_inv)) in
+    subst (λ (cs : List (ℕ × ℕ)). Wrote s.down s.passed s.refusals (2 * length cs) (is_ok c.put_run.result) c.args.store.now c.put_run.new.store)
+    (c.in-Some.ensures ∙ sym all) c.put_run.ensures.wrote

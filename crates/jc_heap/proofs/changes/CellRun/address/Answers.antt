@@ -1,6 +1,6 @@
 use Rattle.std.proofs.Common.{ℕ, List, get_or, sym, ap, ◌∙◌, arith}
+use Rattle.jc_commit.proofs.WordRuns.{viewed_length, run_words-at}
 use Rattle.jc_heap.specs.Elements.{elements_of, packing_words}
-use Rattle.jc_heap.proofs.Runs.{viewed_length, run_words-at}
 use Rattle.jc_heap.proofs.changes.CellRun.address.Goals as goal
 
 pub overflow_cast-result : goal.overflow_cast-result

@@ -1,7 +1,8 @@
 use Rattle.std.proofs.Common.{◌≡◌, length, sym, ap, ◌∙◌, arith, refl}
+use Rattle.jc_commit.proofs.WordRuns.{viewed_length}
 use Rattle.jc_heap.specs.Packed.{packed_words}
 use Rattle.jc_heap.specs.Elements.{elements_of, packing_words, byte_or_none, bytes_with}
-use Rattle.jc_heap.proofs.Runs.{viewed_length, length-double, count_byte}
+use Rattle.jc_heap.proofs.Runs.{length-double, count_byte}
 use Rattle.jc_heap.proofs.changes.CellRun.length.Goals as goal
 
 pub overflow_add-from : goal.overflow_add-from

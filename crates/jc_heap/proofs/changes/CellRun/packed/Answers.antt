@@ -1,5 +1,5 @@
 use Rattle.std.proofs.Common.{◌≡◌, ◌+◌, ◌≤◌, ◌∙◌, ℕ, List, length, subst, sym, ap}
-use Rattle.jc_heap.specs.Heap.{run_words}
+use Rattle.jc_commit.specs.Runs.{run_words}
 use Rattle.jc_heap.specs.Elements.{elements_of, packing_words, AreSaidBy}
 use Rattle.jc_heap.specs.declared.changes.Packing.TheVariants.{Double}
 use Rattle.jc_heap.proofs.PackedRuns.{said}

@@ -1,7 +1,7 @@
 use Rattle.std.proofs.Common.{◌≡◌, ℕ, ◌+◌, ◌*◌, List, length, get_or, sym, ap, subst, ◌∙◌, arith}
+use Rattle.jc_commit.proofs.WordRuns.{viewed_length, run_word}
 use Rattle.jc_heap.specs.Packed.{packed_words}
 use Rattle.jc_heap.specs.Elements.{elements_of, packing_words, bytes_with, FitPacking}
-use Rattle.jc_heap.proofs.Runs.{viewed_length, run_word}
 use Rattle.jc_heap.proofs.Packing.{packed_words-word}
 use Rattle.jc_heap.proofs.changes.CellRun.word.Goals.{in-Single, in-Double}
 use Rattle.jc_heap.proofs.changes.CellRun.word.Goals as goal
