@@ -48,6 +48,15 @@ impl CardPackages {
         }
     }
 
+    /// Packages that others share.
+    pub(crate) fn of_shared(linked: Rc<Linked>) -> CardPackages
+        ensures { result ≡ linked.value }
+    {
+        CardPackages {
+            held: Held::Shared(linked),
+        }
+    }
+
     /// The packages.
     #[inline(always)]
     pub(crate) fn get(&self) -> &Linked

@@ -5,10 +5,11 @@ ghost use Rattle.jcard_script.specs.Begun.{AnswersGlitched, AnswersLeaving, Answ
 ghost use Rattle.std.specs.Io.KnownBytes.{Appends, Consumes};
 ghost use Rattle.jc_card.specs.State.Power.{Up};
 ghost use Rattle.jcard_script.specs.Script.{IsWholeScript};
-ghost use Rattle.jcard_script.specs.ScriptStates.{IsSessionStore};
+ghost use Rattle.jcard_script.specs.ScriptStates.{IsSessionStore, PowersUp};
 ghost use Rattle.jcard_script.specs.Session.{IsUnbroken, unfinished_line};
 
 use crate::explainer::Unasked;
+use crate::held_card::powered_card;
 use crate::line::{Line, LineRequest};
 use crate::script::BOUND;
 use crate::session::Session;
@@ -19,6 +20,7 @@ use jc_card::card::Card;
 use jc_card::planned_fault::PlannedFault;
 use jc_card::response::Response;
 use jc_memory::Notes;
+use jc_packages::known::KnownPackages;
 use jc_words::{CopyStore, FuseStore, StoreDown, WordStore};
 use memchr::memchr;
 use std::alloc::Global;
@@ -68,6 +70,22 @@ pub fn begin_script<S: WordStore + Drop>(
     if card.has_open_load() {
         return None;
     }
+    Some(BegunScript {
+        card: card.sharing(),
+    })
+}
+
+/// Powers a card up over a store with a fuse, with a budget of instructions a command, where the table and the packages of another image may be
+/// known. Nothing where none powers up.
+pub fn begin_knowing<S: WordStore + Drop>(
+    alloc: Global,
+    fuse: FuseStore<S>,
+    budget: u32,
+    known: &Option<KnownPackages>,
+) -> Option<BegunScript<S>>
+    ensures { IfSome result (λ begun. PowersUp budget fuse (Up begun)) }
+{
+    let card = powered_card(alloc, fuse, budget, known)?;
     Some(BegunScript {
         card: card.sharing(),
     })

@@ -9,8 +9,9 @@ ghost use Rattle.jcard_tear.specs.Report.{AreOfImage};
 
 use crate::alike::{are_alike, hold_one_heap};
 use crate::cuts::{Baseline, Shared, told_cut};
-use crate::runs::{answers_over, run_copy};
+use crate::runs::{answers_over, known_of, run_copy};
 use crate::sweep::{TearFault, probe_fault};
+use jc_packages::known::KnownPackages;
 use jcard_outcomes::recoveries::Recoveries;
 use jcard_outcomes::standing::{Cut, Left};
 use std::alloc::{AllocError, Global};
@@ -20,6 +21,39 @@ use std::alloc::{AllocError, Global};
 pub(crate) struct LastCut {
     pub(crate) left: Left,
     pub(crate) cut: Cut,
+    gathered: Gathered,
+}
+
+/// What the cuts up to one found out for those after it.
+#[derive(Drop)]
+pub(crate) struct Gathered {
+    // Whether the probe was asked over a heap.
+    is_asked: bool,
+    // The table and the packages of a heap, once it is asked over a second one.
+    packages: Option<KnownPackages>,
+}
+
+impl Gathered {
+    // Before the first cut.
+    fn nothing() -> Gathered {
+        Gathered {
+            is_asked: false,
+            packages: None,
+        }
+    }
+
+    // The same, with the table and the packages of these words, if the probe was asked before.
+    fn with_packages_of(self, alloc: Global, words: &[u16]) -> Gathered
+        requires { length words.now < 65536 }
+    {
+        if self.is_asked && self.packages.is_none() {
+            return Gathered {
+                is_asked: true,
+                packages: known_of(alloc, words),
+            };
+        }
+        self
+    }
 }
 
 /// What is reported of a cut after which a recovery left these words: the same as of the cut before it, if they hold the same heap.
@@ -64,16 +98,21 @@ fn next_reported(
         (λ fault. IsProbeFault shared.now.command.behind.instructions shared.now.command.probe.now fault) }
 {
     let Some(reported) = last else {
-        return first_reported(alloc, shared, found);
+        return first_reported(alloc, shared, found, Gathered::nothing());
     };
     if shared.baseline.objects.is_some() && are_alike(&reported.left.words, &found) {
         return Ok(reported);
     }
-    if hold_one_heap(&reported.left.words, &found) {
-        let LastCut { left, cut: _ } = reported;
-        return answered_again(alloc, shared, found, left);
+    let LastCut {
+        left,
+        cut: _,
+        gathered,
+    } = reported;
+    if hold_one_heap(&left.words, &found) {
+        return answered_again(alloc, shared, found, left, gathered);
     }
-    first_reported(alloc, shared, found)
+    let gathered = gathered.with_packages_of(alloc, &left.words);
+    first_reported(alloc, shared, found, gathered)
 }
 
 // What is left, and what is reported of it, where it holds the heap of these words, which a recovery leaves as they are, so that their answers are
@@ -83,6 +122,7 @@ fn answered_again(
     shared: &Shared<'_>,
     found: Vec<u16>,
     last: Left,
+    gathered: Gathered,
 ) -> Result<LastCut, TearFault>
     requires whole { AreOfImage shared.now.baseline.objects.now }
     requires recovered { IsRecovered found.items }
@@ -96,12 +136,17 @@ fn answered_again(
         words: found,
         answers: last.answers,
     };
-    let reported = reported_of(alloc, &shared.baseline, left)?;
+    let reported = reported_of(alloc, &shared.baseline, left, gathered)?;
     Ok(reported)
 }
 
 // What is left, and what is reported of it, where that is not as of the cut before.
-fn first_reported(alloc: Global, shared: &Shared<'_>, found: Vec<u16>) -> Result<LastCut, TearFault>
+fn first_reported(
+    alloc: Global,
+    shared: &Shared<'_>,
+    found: Vec<u16>,
+    gathered: Gathered,
+) -> Result<LastCut, TearFault>
     requires whole { AreOfImage shared.now.baseline.objects.now }
     requires short { vec_len found < 65536 }
     requires recovered { IsRecovered found.items }
@@ -111,13 +156,19 @@ fn first_reported(alloc: Global, shared: &Shared<'_>, found: Vec<u16>) -> Result
         × (plain_of reported.left.words.items ≡ plain_of found.items))
         (λ fault. IsProbeFault shared.now.command.behind.instructions shared.now.command.probe.now fault) }
 {
-    let left = first_left(alloc, shared, found)?;
-    let reported = reported_of(alloc, &shared.baseline, left)?;
+    let mut gathered = gathered;
+    let left = first_left(alloc, shared, found, &mut gathered)?;
+    let reported = reported_of(alloc, &shared.baseline, left, gathered)?;
     Ok(reported)
 }
 
 // What is left, and what is reported of it.
-fn reported_of(alloc: Global, baseline: &Baseline<'_>, left: Left) -> Result<LastCut, AllocError>
+fn reported_of(
+    alloc: Global,
+    baseline: &Baseline<'_>,
+    left: Left,
+    gathered: Gathered,
+) -> Result<LastCut, AllocError>
     requires { AreOfImage baseline.now.objects.now }
     ensures left { IfOk result (λ reported. reported.left ≡ left) }
     ensures told { IfOk result (λ reported. IsToldAs baseline.now left reported.cut) }
@@ -128,11 +179,20 @@ fn reported_of(alloc: Global, baseline: &Baseline<'_>, left: Left) -> Result<Las
         difference: None,
     };
     let cut = told_cut(alloc, baseline, &left, none_cut)?;
-    Ok(LastCut { left, cut })
+    Ok(LastCut {
+        left,
+        cut,
+        gathered,
+    })
 }
 
 // What is left, and its answers: those of before the command, if they are known and it holds the same heap; else the probe is asked.
-fn first_left(alloc: Global, shared: &Shared<'_>, found: Vec<u16>) -> Result<Left, TearFault>
+fn first_left(
+    alloc: Global,
+    shared: &Shared<'_>,
+    found: Vec<u16>,
+    gathered: &mut Gathered,
+) -> Result<Left, TearFault>
     requires short { vec_len found < 65536 }
     requires recovered { IsRecovered found.items }
     requires known { shared.now.baseline.is_known ≡ true
@@ -148,11 +208,13 @@ fn first_left(alloc: Global, shared: &Shared<'_>, found: Vec<u16>) -> Result<Lef
             answers,
         });
     }
+    gathered.is_asked = true;
     answered(
         alloc,
         found,
         shared.command.probe,
         shared.command.behind.instructions,
+        &gathered.packages,
     )
 }
 
@@ -166,14 +228,20 @@ fn is_as_before(baseline: &Baseline<'_>, found: &[u16]) -> bool
 }
 
 // What a card that powers up over these words, which a recovery leaves as they are, answers to the lines of a probe.
-fn answered(alloc: Global, words: Vec<u16>, probe: &[u8], budget: u32) -> Result<Left, TearFault>
+fn answered(
+    alloc: Global,
+    words: Vec<u16>,
+    probe: &[u8],
+    budget: u32,
+    known: &Option<KnownPackages>,
+) -> Result<Left, TearFault>
     requires short { vec_len words < 65536 }
     requires recovered { IsRecovered words.items }
     ensures { MatchResult result (λ left. (IsRecovered left.words.items × HasAnswered budget probe.now left)
         × (left.words.items ≡ words.items))
         (λ fault. IsProbeFault budget probe.now fault) }
 {
-    match answers_over(alloc, &words, probe, budget) {
+    match answers_over(alloc, &words, probe, budget, known) {
         Some(answers) => Ok(Left { words, answers }),
         None => Err(unanswered(alloc, &words, probe, budget)),
     }

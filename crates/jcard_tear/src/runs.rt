@@ -8,15 +8,20 @@ ghost use Rattle.jcard_tear.specs.Faults.{IsLeftFault, IsLogFault};
 ghost use Rattle.jcard_tear.specs.Runs.{HasRun, IsCarriedThrough, IsLeft, IsRecovered, IsRunFault, IsSelectedBy};
 ghost use Rattle.jc_commit.specs.Image.{IsGoodLog, plain_of, recovered_of};
 ghost use Rattle.jc_commit.specs.Migration.{migrated};
+ghost use Rattle.jc_heap.specs.Heap.{heap_of};
+ghost use Rattle.jc_heap.specs.Image.{text_words};
+ghost use Rattle.jc_packages.specs.Known.{package_records};
 
 use crate::kept_text::KeptText;
 use crate::watched_store::{WatchedStore, Watcher};
 use jc_card::power_up::PowerFault;
 use jc_commit::Journal;
 use jc_environment::Aid;
+use jc_image::OpenImage;
 use jc_words::{FuseStore, MemStore, WordStore};
 use jcard_outcomes::standing::Left;
-use jcard_script::begun::{BegunScript, begin_script};
+use jc_packages::known::KnownPackages;
+use jcard_script::begun::{BegunScript, begin_knowing};
 use jcard_script::explainer::Unasked;
 use jcard_script::mem_text::MemText;
 use jcard_script::script::{ScriptFault, run_script_explained, run_script_selecting};
@@ -210,12 +215,14 @@ pub fn probed(alloc: Global, card: BegunScript<MemStore>, probe: &[u8]) -> Optio
     Some(writer.into_bytes())
 }
 
-/// What the lines of a probe are answered by a card that is powered up over a copy of these words. Nothing where there is none.
+/// What the lines of a probe are answered by a card that is powered up over a copy of these words, where the table and the packages of other words
+/// may be known. Nothing where there is none.
 pub(crate) fn answers_over(
     alloc: Global,
     words: &[u16],
     probe: &[u8],
     budget: u32,
+    known: &Option<KnownPackages>,
 ) -> Option<Vec<u8>>
     requires { length words.now < 65536 }
     ensures { IfSome result (λ answers. GivesAnswers budget words.now probe.now answers.items) }
@@ -224,7 +231,7 @@ pub(crate) fn answers_over(
         return None;
     };
     let store = FuseStore::new(MemStore::of(copy));
-    let card = begin_script(alloc, store, budget, b"")?;
+    let card = begin_knowing(alloc, store, budget, known)?;
     probed(alloc, card, probe)
 }
 
@@ -246,6 +253,22 @@ pub(crate) fn left(
         words: found,
         answers: probed.text,
     })
+}
+
+/// The table and the packages of these words, which a recovery leaves as they are. Nothing where they have none, or memory is refused.
+pub(crate) fn known_of(alloc: Global, words: &[u16]) -> Option<KnownPackages>
+    requires { length words.now < 65536 }
+    ensures text { IfSome result (λ known. known.text ≡ text_words (migrated 3 (recovered_of words.now))) }
+    ensures records { IfSome result (λ known. known.records
+        ≡ package_records (heap_of (migrated 3 (recovered_of words.now)))) }
+{
+    let Ok(copy) = Vec::from_slice(alloc, words) else {
+        return None;
+    };
+    match OpenImage::open(MemStore::of(copy)) {
+        Ok(image) => KnownPackages::read(alloc, image),
+        Err(_) => None,
+    }
 }
 
 /// The words that a recovery and a migration of these leave.
