@@ -97,6 +97,16 @@ impl CardPackages {
         }
     }
 
+    /// The same packages, to be shared. Nothing where memory for that is refused.
+    pub(crate) fn into_shared(self, alloc: Global) -> Option<Rc<Linked>>
+        ensures { IfSome result (λ shared. shared.value ≡ self) }
+    {
+        match self.held {
+            Held::Own(linked) => Rc::new(alloc, linked).ok(),
+            Held::Shared(linked) => Some(linked),
+        }
+    }
+
     // Has them alone from now on, if there is memory for a copy.
     fn unshare(&mut self, alloc: Global)
         ensures { self.new ≡ self.old }

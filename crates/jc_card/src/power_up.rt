@@ -81,12 +81,12 @@ impl From<ImageFault> for PowerFault {
     }
 }
 
-// What is read of an image for a card, beside the marks.
-struct CardParts {
-    linked: CardPackages,
-    ram: Ram,
-    fixed: ArrayVec<u16, MOST_FIXED>,
-    rooms: Rooms,
+/// What is read of an image for a card, beside the marks.
+pub(crate) struct CardParts {
+    pub(crate) linked: CardPackages,
+    pub(crate) ram: Ram,
+    pub(crate) fixed: ArrayVec<u16, MOST_FIXED>,
+    pub(crate) rooms: Rooms,
 }
 
 impl<S: WordStore> Card<S> {
@@ -95,23 +95,11 @@ impl<S: WordStore> Card<S> {
     pub fn power_up(alloc: Global, store: S, budget: u32) -> Result<Card<S>, (PowerFault, S)>
         ensures { PowersUpOver S.words S.down S.passed S.refusals store budget result }
     {
-        Card::power_up_knowing(alloc, store, budget, &None)
-    }
-
-    /// The same, where the table and the packages of another image are known: those of the image that has the same words for them are not read again.
-    pub fn power_up_knowing(
-        alloc: Global,
-        store: S,
-        budget: u32,
-        known: &Option<KnownPackages>,
-    ) -> Result<Card<S>, (PowerFault, S)>
-        ensures { PowersUpOver S.words S.down S.passed S.refusals store budget result }
-    {
         if let Err(fault) = check_image(&store) {
             return Err((PowerFault::from(fault), store));
         }
         match OpenImage::open(store) {
-            Ok(image) => start(alloc, image.into_store(), budget, known),
+            Ok(image) => start(alloc, image.into_store(), budget),
             Err((OpenRefusal::BadLog, store)) => Err((PowerFault::BadLog, store)),
             Err((OpenRefusal::StoreDown, store)) => Err((PowerFault::StoreDown, store)),
         }
@@ -119,12 +107,7 @@ impl<S: WordStore> Card<S> {
 }
 
 // The card of a store at rest. Its image is read of words that are lent, so that a fault leaves the store as it is.
-fn start<S: WordStore>(
-    alloc: Global,
-    store: S,
-    budget: u32,
-    known: &Option<KnownPackages>,
-) -> Result<Card<S>, (PowerFault, S)>
+fn start<S: WordStore>(alloc: Global, store: S, budget: u32) -> Result<Card<S>, (PowerFault, S)>
     requires up { S.down store ≡ false }
     requires good { IsGoodLog (S.words store) }
     requires current { slice_index (S.words store) version_address ≡ version }
@@ -142,14 +125,14 @@ fn start<S: WordStore>(
         return Err((PowerFault::NoMemory, store));
     };
     let image = OpenImage::resume(LentStore::of(&store));
-    match read_parts(alloc, image, marks.as_mut_slice(), known) {
+    match read_parts(alloc, image, marks.as_mut_slice(), &None) {
         Ok(parts) => Ok(card_over(alloc, store, parts, Marks::of_flags(marks), budget)),
         Err(fault) => Err((fault, store)),
     }
 }
 
-// What a recovered image says of a card; and marks where its objects stand. Its words are lent. The table that is known is taken where it has its text.
-fn read_parts<S: WordStore + Drop>(
+/// What a recovered image says of a card; and marks where its objects stand. Its words are lent. The table that is known is taken where it has its text.
+pub(crate) fn read_parts<S: WordStore + Drop>(
     alloc: Global,
     image: OpenImage<S>,
     marks: &mut [bool],
@@ -296,8 +279,8 @@ fn packages_of<S: WordStore>(
     }
 }
 
-// The card over a store at rest, of what was read of its words. No memory is asked for.
-fn card_over<S: WordStore>(
+/// The card over a store at rest, of what was read of its words. No memory is asked for.
+pub(crate) fn card_over<S: WordStore>(
     alloc: Global,
     store: S,
     parts: CardParts,

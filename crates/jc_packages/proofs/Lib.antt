@@ -6,3 +6,4 @@ pub mod RecordLoads
 pub mod ImageTables
 pub mod Aids
 pub mod Order
+pub mod SetCells

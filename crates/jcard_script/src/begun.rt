@@ -3,13 +3,14 @@ ghost use Rattle.std.specs.Prelude.{◌≡◌, ℕ, List, [], false, None, IfSom
 ghost use Rattle.jc_commit.specs.Image.{IsGoodLog};
 ghost use Rattle.jcard_script.specs.Begun.{AnswersGlitched, AnswersLeaving, AnswersLines, AnswersWith, ForEachAlike, HasBegun, IsCommandLine, IsGlitchLine, IsStopLine, LeavesCut};
 ghost use Rattle.std.specs.Io.KnownBytes.{Appends, Consumes};
+ghost use Rattle.jc_words.specs.Refusals.{no_refusals};
+ghost use Rattle.jc_card.specs.PowerUp.Outcome.{IsPoweredOver};
 ghost use Rattle.jc_card.specs.State.Power.{Up};
 ghost use Rattle.jcard_script.specs.Script.{IsWholeScript};
-ghost use Rattle.jcard_script.specs.ScriptStates.{IsSessionStore, PowersUp};
+ghost use Rattle.jcard_script.specs.ScriptStates.{IsSessionStore};
 ghost use Rattle.jcard_script.specs.Session.{IsUnbroken, unfinished_line};
 
 use crate::explainer::Unasked;
-use crate::held_card::powered_card;
 use crate::line::{Line, LineRequest};
 use crate::script::BOUND;
 use crate::session::Session;
@@ -18,10 +19,10 @@ use crate::word::word_asked;
 use arrayvec::ArrayVec;
 use jc_card::card::Card;
 use jc_card::planned_fault::PlannedFault;
+use jc_card::powered_image::PoweredImage;
 use jc_card::response::Response;
 use jc_memory::Notes;
-use jc_packages::known::KnownPackages;
-use jc_words::{CopyStore, FuseStore, StoreDown, WordStore};
+use jc_words::{CopyStore, FuseStore, MemStore, StoreDown, WordStore};
 use memchr::memchr;
 use std::alloc::Global;
 use std::marker::Model;
@@ -75,20 +76,16 @@ pub fn begin_script<S: WordStore + Drop>(
     })
 }
 
-/// Powers a card up over a store with a fuse, with a budget of instructions a command, where the table and the packages of another image may be
-/// known. Nothing where none powers up.
-pub fn begin_knowing<S: WordStore + Drop>(
+/// The card that has just powered up over an image, with a budget of instructions a command. Nothing where memory for it is refused.
+pub fn begin_over(
     alloc: Global,
-    fuse: FuseStore<S>,
+    image: &PoweredImage,
     budget: u32,
-    known: &Option<KnownPackages>,
-) -> Option<BegunScript<S>>
-    ensures { IfSome result (λ begun. PowersUp budget fuse (Up begun)) }
+) -> Option<BegunScript<MemStore>>
+    ensures { IfSome result (λ begun. IsPoweredOver image.now false 0 no_refusals budget begun) }
 {
-    let card = powered_card(alloc, fuse, budget, known)?;
-    Some(BegunScript {
-        card: card.sharing(),
-    })
+    let card = image.begin(alloc, budget)?;
+    Some(BegunScript { card })
 }
 
 impl<S: CopyStore> BegunScript<S> {

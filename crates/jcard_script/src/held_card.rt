@@ -1,8 +1,8 @@
 //! What a session of lines does with the card, or the store, that it holds.
-ghost use Rattle.std.specs.Prelude.{◌≡◌, ℕ, List, false, OnOk, IfErr, IfSome};
+ghost use Rattle.std.specs.Prelude.{◌≡◌, ℕ, List, false, OnOk, IfErr};
 ghost use Rattle.std.specs.Bool.{OnTrue};
 ghost use Rattle.jc_words.specs.Store.{FuseStoreValue};
-ghost use Rattle.jc_card.specs.State.Power.{Off, Up, budget_of};
+ghost use Rattle.jc_card.specs.State.Power.{Off, budget_of};
 ghost use Rattle.jc_card.specs.Session.Requests.{Down, Response as Responds};
 ghost use Rattle.jc_card.specs.Session.Serving.{AnswersCommandOver};
 ghost use Rattle.jc_card.specs.State.{IsUp, answer_of_power_up, power_of};
@@ -19,7 +19,6 @@ use jc_card::response::Response;
 use jc_card::state::SessionState;
 use jc_environment::Aid;
 use jc_memory::{Note, Notes};
-use jc_packages::known::KnownPackages;
 use jc_words::{FuseStore, WordStore};
 use jcard_why::cuts::told_of_cut;
 use jcard_why::explanation::{Asked, told};
@@ -39,19 +38,6 @@ pub(crate) fn power_up<S: WordStore>(
 {
     store.power_on();
     SessionState::power_up(alloc, store, budget)
-}
-
-/// The card that powers up so over a store, where the table and the packages of another image are known. Nothing where none does.
-pub(crate) fn powered_card<S: WordStore + Drop>(
-    alloc: Global,
-    mut store: FuseStore<S>,
-    budget: u32,
-    known: &Option<KnownPackages>,
-) -> Option<Card<FuseStore<S>>>
-    ensures { IfSome result (λ card. PowersUp budget store (Up card)) }
-{
-    store.power_on();
-    Card::power_up_knowing(alloc, store, budget, known).ok()
 }
 
 /// The store of the card, without power.

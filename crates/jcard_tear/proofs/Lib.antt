@@ -9,3 +9,4 @@ pub mod CutFaults
 pub mod SameHeaps
 pub mod KeptCuts
 pub mod OneHeaps
+pub mod ImagesAtRest

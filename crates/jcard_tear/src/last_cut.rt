@@ -2,15 +2,17 @@
 ghost use Rattle.std.specs.Prelude.{◌≡◌, ◌<◌, true, length, vec_len, IsTrue, IfOk, IfSome, MatchResult};
 ghost use Rattle.jc_commit.specs.Image.{plain_of};
 ghost use Rattle.jcard_tear.specs.Faults.{IsProbeFault};
-ghost use Rattle.jcard_tear.specs.KeptCard.{HasAnswered, HoldOneHeap, IsKnown, IsLastCut, IsReportedAlike, none_cut};
+ghost use Rattle.jcard_tear.specs.KeptCard.{GivesAnswers, HasAnswered, HoldOneHeap, IsKnown, IsLastCut, IsReportedAlike, none_cut};
 ghost use Rattle.jcard_tear.specs.Sweep.{IsToldAs};
 ghost use Rattle.jcard_tear.specs.Runs.{IsRecovered};
 ghost use Rattle.jcard_tear.specs.Report.{AreOfImage};
 
 use crate::alike::{are_alike, hold_one_heap};
 use crate::cuts::{Baseline, Shared, told_cut};
-use crate::runs::{answers_over, known_of, run_copy};
+use crate::moved_image::{moved, stands_for};
+use crate::runs::{answers_over, image_answers, known_of, run_copy};
 use crate::sweep::{TearFault, probe_fault};
+use jc_card::powered_image::PoweredImage;
 use jc_packages::known::KnownPackages;
 use jcard_outcomes::recoveries::Recoveries;
 use jcard_outcomes::standing::{Cut, Left};
@@ -24,12 +26,16 @@ pub(crate) struct LastCut {
     gathered: Gathered,
 }
 
+/// The number of the read of an image at which its table and its packages are kept for the reads after it.
+const KNOWN_AFTER: u32 = 3;
+
 /// What the cuts up to one found out for those after it.
 #[derive(Drop)]
 pub(crate) struct Gathered {
-    // Whether the probe was asked over a heap.
-    is_asked: bool,
-    // The table and the packages of a heap, once it is asked over a second one.
+    // The image over which the probe was asked last.
+    image: Option<PoweredImage>,
+    // How many were read, and the table and the packages of the third one that was.
+    reads: u32,
     packages: Option<KnownPackages>,
 }
 
@@ -37,23 +43,47 @@ impl Gathered {
     // Before the first cut.
     fn nothing() -> Gathered {
         Gathered {
-            is_asked: false,
+            image: None,
+            reads: 0,
             packages: None,
         }
     }
 
-    // The same, with the table and the packages of these words, if the probe was asked before.
-    fn with_packages_of(self, alloc: Global, words: &[u16]) -> Gathered
+    // The image of these words, by the one before it or by what is known of packages. Nothing where there is none.
+    fn image_of(&mut self, alloc: Global, words: &[u16]) -> Option<PoweredImage>
         requires { length words.now < 65536 }
+        ensures { IfSome result (λ image. HoldOneHeap image words.now × IsRecovered image) }
     {
-        if self.is_asked && self.packages.is_none() {
-            return Gathered {
-                is_asked: true,
-                packages: known_of(alloc, words),
-            };
+        if let Some(last) = self.image.take() {
+            if let Some(image) = moved(last, words) {
+                return Some(image);
+            }
         }
-        self
+        self.reads = self.reads.saturating_add(1);
+        if self.reads == KNOWN_AFTER {
+            self.packages = known_of(alloc, words);
+        }
+        read_image(alloc, words, &self.packages)
     }
+}
+
+// The image of these words, which is read.
+fn read_image(
+    alloc: Global,
+    words: &[u16],
+    known: &Option<KnownPackages>,
+) -> Option<PoweredImage>
+    requires { length words.now < 65536 }
+    ensures { IfSome result (λ image. HoldOneHeap image words.now × IsRecovered image) }
+{
+    let Ok(copy) = Vec::from_slice(alloc, words) else {
+        return None;
+    };
+    let image = PoweredImage::read(alloc, copy, known)?;
+    if !stands_for(&image, words) {
+        return None;
+    }
+    Some(image)
 }
 
 /// What is reported of a cut after which a recovery left these words: the same as of the cut before it, if they hold the same heap.
@@ -111,7 +141,6 @@ fn next_reported(
     if hold_one_heap(&left.words, &found) {
         return answered_again(alloc, shared, found, left, gathered);
     }
-    let gathered = gathered.with_packages_of(alloc, &left.words);
     first_reported(alloc, shared, found, gathered)
 }
 
@@ -208,13 +237,12 @@ fn first_left(
             answers,
         });
     }
-    gathered.is_asked = true;
     answered(
         alloc,
         found,
         shared.command.probe,
         shared.command.behind.instructions,
-        &gathered.packages,
+        gathered,
     )
 }
 
@@ -233,7 +261,7 @@ fn answered(
     words: Vec<u16>,
     probe: &[u8],
     budget: u32,
-    known: &Option<KnownPackages>,
+    gathered: &mut Gathered,
 ) -> Result<Left, TearFault>
     requires short { vec_len words < 65536 }
     requires recovered { IsRecovered words.items }
@@ -241,10 +269,46 @@ fn answered(
         × (left.words.items ≡ words.items))
         (λ fault. IsProbeFault budget probe.now fault) }
 {
-    match answers_over(alloc, &words, probe, budget, known) {
+    match answers_of(alloc, &words, probe, budget, gathered) {
         Some(answers) => Ok(Left { words, answers }),
         None => Err(unanswered(alloc, &words, probe, budget)),
     }
+}
+
+// What a card that powers up over these words, which a recovery leaves as they are, answers to the lines of a probe. Nothing where there is none.
+fn answers_of(
+    alloc: Global,
+    words: &[u16],
+    probe: &[u8],
+    budget: u32,
+    gathered: &mut Gathered,
+) -> Option<Vec<u8>>
+    requires short { length words.now < 65536 }
+    requires recovered { IsRecovered words.now }
+    ensures { IfSome result (λ answers. GivesAnswers budget words.now probe.now answers.items) }
+{
+    if let Some(answers) = answers_by_image(alloc, words, probe, budget, gathered) {
+        return Some(answers);
+    }
+    answers_over(alloc, words, probe, budget)
+}
+
+// The same by the image of these words.
+fn answers_by_image(
+    alloc: Global,
+    words: &[u16],
+    probe: &[u8],
+    budget: u32,
+    gathered: &mut Gathered,
+) -> Option<Vec<u8>>
+    requires short { length words.now < 65536 }
+    requires recovered { IsRecovered words.now }
+    ensures { IfSome result (λ answers. GivesAnswers budget words.now probe.now answers.items) }
+{
+    let image = gathered.image_of(alloc, words)?;
+    let answers = image_answers(alloc, &image, probe, budget);
+    gathered.image = Some(image);
+    answers
 }
 
 // Why the lines of a probe were not answered over these words. Where they are answered now, memory was refused before.

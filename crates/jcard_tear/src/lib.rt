@@ -7,6 +7,7 @@ pub mod each;
 mod kept_card;
 pub mod kept_text;
 mod last_cut;
+mod moved_image;
 pub mod names;
 pub mod parts;
 mod probes;

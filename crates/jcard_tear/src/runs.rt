@@ -15,13 +15,14 @@ ghost use Rattle.jc_packages.specs.Known.{package_records};
 use crate::kept_text::KeptText;
 use crate::watched_store::{WatchedStore, Watcher};
 use jc_card::power_up::PowerFault;
+use jc_card::powered_image::PoweredImage;
 use jc_commit::Journal;
 use jc_environment::Aid;
 use jc_image::OpenImage;
 use jc_words::{FuseStore, MemStore, WordStore};
 use jcard_outcomes::standing::Left;
 use jc_packages::known::KnownPackages;
-use jcard_script::begun::{BegunScript, begin_knowing};
+use jcard_script::begun::{BegunScript, begin_over, begin_script};
 use jcard_script::explainer::Unasked;
 use jcard_script::mem_text::MemText;
 use jcard_script::script::{ScriptFault, run_script_explained, run_script_selecting};
@@ -215,14 +216,12 @@ pub fn probed(alloc: Global, card: BegunScript<MemStore>, probe: &[u8]) -> Optio
     Some(writer.into_bytes())
 }
 
-/// What the lines of a probe are answered by a card that is powered up over a copy of these words, where the table and the packages of other words
-/// may be known. Nothing where there is none.
+/// What the lines of a probe are answered by a card that is powered up over a copy of these words. Nothing where there is none.
 pub(crate) fn answers_over(
     alloc: Global,
     words: &[u16],
     probe: &[u8],
     budget: u32,
-    known: &Option<KnownPackages>,
 ) -> Option<Vec<u8>>
     requires { length words.now < 65536 }
     ensures { IfSome result (λ answers. GivesAnswers budget words.now probe.now answers.items) }
@@ -231,7 +230,20 @@ pub(crate) fn answers_over(
         return None;
     };
     let store = FuseStore::new(MemStore::of(copy));
-    let card = begin_knowing(alloc, store, budget, known)?;
+    let card = begin_script(alloc, store, budget, b"")?;
+    probed(alloc, card, probe)
+}
+
+/// What the lines of a probe are answered by a card that has just powered up over an image. Nothing where there is none.
+pub(crate) fn image_answers(
+    alloc: Global,
+    image: &PoweredImage,
+    probe: &[u8],
+    budget: u32,
+) -> Option<Vec<u8>>
+    ensures { IfSome result (λ answers. GivesAnswers budget image.now probe.now answers.items) }
+{
+    let card = begin_over(alloc, image, budget)?;
     probed(alloc, card, probe)
 }
 

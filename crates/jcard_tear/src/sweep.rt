@@ -183,7 +183,7 @@ fn left_standing(alloc: Global, words: &[u16], probe: &[u8], budget: u32) -> Opt
     if !are_equal(&found, words) {
         return None;
     }
-    let answers = answers_over(alloc, &found, probe, budget, &None)?;
+    let answers = answers_over(alloc, &found, probe, budget)?;
     Some(Left {
         words: found,
         answers,

@@ -5,7 +5,7 @@ use Rattle.jc_card.specs.PowerUp.{fault_of}
 use Rattle.jc_card.specs.PowerUp.Outcome.{PowerUpFails}
 use Rattle.jc_card.proofs.PoweredUp.{head_found}
 use Rattle.jc_card.proofs.PoweringUp.{image_leaves, image_refuses, powers_up}
-use Rattle.jc_card.proofs.card.Card.power_up_knowing.Goals as goal
+use Rattle.jc_card.proofs.card.Card.power_up.Goals as goal
 
 pub returns-in-Err : goal.returns-in-Err
 returns-in-Err g c =

@@ -1,0 +1,99 @@
+-- Powered images: one is read, a cell of one is set, and cards begin over one.
+use Rattle.std.proofs.Common.{◌≡◌, ◌≢◌, ◌∙◌, ◌+◌, ◌<◌, ℕ, Bool, true, false, List, [], ◌∷◌, length, take, Option, Some, refl, sym, ap, ap₂, subst, arith, if◌then◌else◌}
+use Rattle.std.specs.Prelude.{slice_index}
+use Rattle.std.proofs.lemmas.Bool.{ne_eqb}
+use Rattle.jc_words.specs.Count.{saturating_count}
+use Rattle.jc_words.specs.Layout.{first_version, magic, magic_address, version, version_address}
+use Rattle.jc_words.specs.Refusals.{Refusals, no_refusals}
+use Rattle.jc_commit.specs.Image.{limit_of, recovered_of, touched_of, with_words}
+use Rattle.jc_commit.specs.Migration.{migrated, migration}
+use Rattle.jc_commit.specs.State.{recovered_journal, undo_writes}
+use Rattle.jc_commit.proofs.Migrations.{migration-recovered}
+use Rattle.jc_commit.proofs.Views.{length-touched, raised_none}
+use Rattle.jc_transient.specs.declared.sizes.RamSizes.{RamSizes}
+use Rattle.jc_heap.specs.Completions.{Completed, Done}
+use Rattle.jc_heap.specs.Heap.{HeapState, HeapView, heap_at_rest, heap_of, heap_view, set_cell}
+use Rattle.jc_heap.specs.Heap.Store.{HoldsHeap, heap_of_store_at_rest}
+use Rattle.jc_heap.specs.Moves.{PerformsMovesUnless, Write}
+use Rattle.jc_heap.specs.declared.place.Place.TheVariants.{Cell}
+use Rattle.jc_heap.specs.declared.refusal.HeapRefusal.{HeapRefusal}
+use Rattle.jc_heap.proofs.RawWords.{head_is, recovered-head}
+use Rattle.jc_interp.specs.Attacks.{undisturbed}
+use Rattle.jc_linker.specs.Values.{Packages}
+use Rattle.jc_packages.specs.Objects.{IsSoundObject}
+use Rattle.jc_card.specs.Card.{CardState}
+use Rattle.jc_card.specs.PowerUp.{HasHead}
+use Rattle.jc_card.specs.PowerUp.Outcome.{IsPoweredOver}
+use Rattle.jc_card.specs.PowerUp.Reset.{IsAtReset}
+use Rattle.jc_card.specs.PoweredImage.{IsFoundIn, IsPoweredImage, MayHold, heap_in}
+use Rattle.jc_card.proofs.CellSets.{found_still}
+use Rattle.jc_card.proofs.PoweredUp.{has_table, made_found}
+
+-- ---- a cell is set
+
+module _ (words next : List ℕ) (marks : List Bool) (p : Packages) (fixed : List ℕ) (sizes : RamSizes) (r i v : ℕ) where
+  pub cell_set : (before after : HeapView) (reason : Option HeapRefusal) (passed : ℕ) (refusals : Refusals) → IsPoweredImage words marks p fixed sizes
+      → before ≡ heap_of_store_at_rest words 0 no_refusals → MayHold p before.now r i v
+      → PerformsMovesUnless reason before (Completed (Done tt) after) (Write (Cell r i) v ∷ []) tt → IsSoundObject p after.now r
+      → HoldsHeap next false passed refusals after → length next < 65536
+      → IsPoweredImage next marks p fixed sizes × (heap_in next ≡ set_cell (heap_in words) r i v)
+  cell_set before after reason passed refusals image rest may done sound holds small =
+      let now : after.now ≡ set_cell (heap_in words) r i v = ap (λ (x : HeapView). x.now) done.2 ∙ ap (λ (x : HeapView). set_cell x.now r i v) rest in
+      let durable : after.durable ≡ set_cell (heap_in words) r i v = ap (λ (x : HeapView). x.durable) done.2 ∙ after_rest before rest in
+      let is : heap_in next ≡ set_cell (heap_in words) r i v = holds.durable ∙ durable in
+      let up : after.down ≡ false = ap (λ (x : HeapView). x.down) done.2 ∙ ap (λ (x : HeapView). x.down) rest in
+      let outside : after.begun ≡ false = ap (λ (x : HeapView). x.begun) done.2 ∙ ap (λ (x : HeapView). x.begun) rest in
+      let found : IsFoundIn (set_cell (heap_in words) r i v) marks p fixed sizes = found_still (heap_in words) r i v marks p fixed sizes
+          (subst (λ (x : HeapView). MayHold p x.now r i v) rest may) (subst (λ (h : HeapState). IsSoundObject p h r) now sound) image.found in
+      (record { small = small; rests = holds.rests up outside; found = subst (λ (h : HeapState). IsFoundIn h marks p fixed sizes) (sym is) found }, is)
+    where
+      after_rest : (before : HeapView) → before ≡ heap_of_store_at_rest words 0 no_refusals
+          → (if before.begun then before.durable else set_cell before.now r i v) ≡ set_cell (heap_in words) r i v
+      after_rest before rest = ap (λ (x : HeapView). if x.begun then x.durable else set_cell x.now r i v) rest
+
+-- ---- a card begins
+
+no_migration : (w : List ℕ) → slice_index w version_address ≡ version → migration w ≡ []
+no_migration w current =
+    let later : slice_index w version_address ≢ first_version = λ e. absurd (omega (arith, current, e)) in
+    rw (ne_eqb (slice_index w version_address) first_version later) refl
+
+module _ (words : List ℕ) (marks : List Bool) (p : Packages) (fixed : List ℕ) (sizes : RamSizes) (image : IsPoweredImage words marks p fixed sizes) where
+  heap_still : heap_of (migrated 3 (recovered_of words)) ≡ heap_in words
+  heap_still = ap (λ (ws : List (ℕ × ℕ)). heap_of (with_words (recovered_of words) (take 3 ws)))
+      (migration-recovered words image.rests.good ∙ no_migration words image.rests.current)
+
+  no_writes : saturating_count 0 (undo_writes (length (touched_of words)) + length (migration words)) ≡ 0
+  no_writes = ap₂ (λ (n : ℕ) (ws : List (ℕ × ℕ)). saturating_count 0 (undo_writes n + length ws)) (length-touched words ∙ image.rests.closed)
+      (no_migration words image.rests.current) ∙ raised_none 0
+
+  view_still : heap_view (recovered_journal words 0 no_refusals) (limit_of words) ≡ heap_of_store_at_rest words 0 no_refusals
+  view_still = λ t. record {
+    now = heap_still t;
+    durable = heap_still t;
+    begun = false;
+    touched = [];
+    down = false;
+    passed = no_writes t;
+    refusals = no_refusals;
+    size = limit_of words;
+  }
+
+  head : HasHead words
+  head = record {
+    magic = ap (λ (x : ℕ × ℕ). x.0) (sym (recovered-head words image.rests.good) ∙ sym (head_is (recovered_of words) image.rests.laid)) ∙ image.found.magic;
+    version = image.rests.good.known;
+    size = image.rests.good.size;
+  }
+
+  pub begins : (budget : ℕ) (card : CardState) → card.memory.heap ≡ heap_of_store_at_rest words 0 no_refusals → IsAtReset (heap_in words) card
+      → card.budget ≡ undisturbed budget → IsPoweredOver words false 0 no_refusals budget card
+  begins budget card heap reset has = record {
+    made = made_found words head image.rests.good image.found.tokens
+        (has_table (recovered_of words) image.found.tokens image.rests.laid image.found.reads)
+        (image.rests.laid, image.found.whole, image.found.begins, (p, image.found.linked, image.found.sound));
+    was_up = refl;
+    heap = heap ∙ sym view_still;
+    reset = reset;
+    budget = has;
+  }
