@@ -1,10 +1,10 @@
 -- An image over which a card powered up, beside what was found in it.
-use Rattle.std.specs.Prelude.{ℕ, ◌≡◌, ◌<◌, Bool, false, List, length, Ok, Some}
+use Rattle.std.specs.Prelude.{ℕ, ◌≡◌, ◌<◌, ◌⊎◌, Bool, false, List, length, Ok, Some}
 use Rattle.jc_words.specs.Layout.{magic}
 use Rattle.jc_commit.specs.Image.{recovered_of}
 use Rattle.jc_transient.specs.declared.sizes.RamSizes.{RamSizes}
 use Rattle.jc_heap.specs.declared.object.Kind.TheVariants.{ReferenceArray}
-use Rattle.jc_heap.specs.Heap.{HeapState, area_sizes, cells, facts, heap_of}
+use Rattle.jc_heap.specs.Heap.{HeapState, area_sizes, cells, facts, heap_of, set_cell}
 use Rattle.jc_heap.specs.Heap.Store.{IsAtRest}
 use Rattle.jc_heap.specs.Object.{IsElement}
 use Rattle.jc_heap.specs.WholeHeap.{IsConsistent, IsReference}
@@ -50,3 +50,7 @@ pub record MayHold (p : Packages) (h : HeapState) (r i v : ℕ) : Type 0 where
   pub value : IsElement (facts h r).kind v
   pub reference : (facts h r).kind ≡ ReferenceArray → IsReference h v
   pub other : (facts h r).class ≡ class_word p.platform Aid → ⊥
+
+-- one cell of an object is set, or two are, one after the other
+abbrev pub HasCellsSet : HeapState → ℕ → HeapState → Type 0
+HasCellsSet h r g = ((i v : ℕ) × (g ≡ set_cell h r i v)) ⊎ ((i v j w : ℕ) × (g ≡ set_cell (set_cell h r i v) r j w))

@@ -8,7 +8,7 @@ ghost use Rattle.jc_heap.specs.Heap.{IsObject, heap_of, set_cell};
 ghost use Rattle.jc_heap.specs.Heap.Store.{IsAtRest};
 ghost use Rattle.jc_memory.specs.Marks.{mark_count};
 ghost use Rattle.jc_packages.specs.Objects.{MarksObjects};
-ghost use Rattle.jc_card.specs.PoweredImage.{MayHold, heap_in};
+ghost use Rattle.jc_card.specs.PoweredImage.{HasCellsSet, MayHold, heap_in};
 ghost use Rattle.jc_card.specs.PowerUp.Outcome.{IsPoweredOver};
 
 use crate::card::Card;
@@ -140,7 +140,9 @@ impl PoweredImage {
 
     /// The image whose cells that stand in the word at an address have the values of this word. Nothing where no cell stands there, where an AID's
     /// does, or where no card powers up over that image.
-    pub fn with_word(self, address: u16, word: u16) -> Option<PoweredImage> {
+    pub fn with_word(self, address: u16, word: u16) -> Option<PoweredImage>
+        ensures { IfSome result (λ next. (r : ℕ) × (r < address) × HasCellsSet (heap_in self) r (heap_in next)) }
+    {
         let object = self.object_below(address)?;
         let place = address - object.address();
         if place < HEADER {
@@ -166,9 +168,8 @@ impl PoweredImage {
         ensures below { IfSome result (λ object. object < address) }
         ensures there { IfSome result (λ object. IsObject (heap_in self.now) object) }
     {
-        let mut at = address;
-        while at > 0 {
-            at -= 1;
+        for back in 0..address {
+            let at = address - 1 - back;
             if self.marks[usize::from(at)] {
                 return Some(Ref::at(at));
             }

@@ -7,3 +7,4 @@ pub mod ImageTables
 pub mod Aids
 pub mod Order
 pub mod SetCells
+pub mod KnownPackages

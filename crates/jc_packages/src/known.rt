@@ -1,11 +1,12 @@
 //! Packages that were read of one image, for others with the same table text and the same records.
-ghost use Rattle.std.specs.Prelude.{ℕ, List, ◌≡◌, ◌<◌, ◌↔◌, IsTrue, IfOk, IfSome, false, length, map, slice_index};
+ghost use Rattle.std.specs.Prelude.{ℕ, List, ◌≡◌, ◌<◌, ◌↔◌, IsTrue, IfOk, IfSome, Some, false, length, map, slice_index};
 ghost use Rattle.jc_words.specs.Layout.{text_length_address};
 ghost use Rattle.jc_heap.specs.Component.{record_of};
 ghost use Rattle.jc_heap.specs.Heap.{heap_of};
 ghost use Rattle.jc_heap.specs.Image.{text_words};
 ghost use Rattle.jc_heap.specs.WholeHeap.{IsConsistent};
 ghost use Rattle.jc_packages.specs.Known.{package_records};
+ghost use Rattle.jc_packages.specs.Reading.{packages_of};
 ghost use Rattle.jc_packages.specs.Tables.{HasTable, HasText};
 
 use crate::reading::{read_packages, record_at};
@@ -124,7 +125,9 @@ impl KnownPackages {
     pub fn has_records_of<S: WordStore>(&self, heap: &Heap<S>) -> bool
         requires up { heap.now.down ≡ false }
         requires whole { IsConsistent heap.now.now }
-        ensures { IsTrue result ↔ (self.now.records ≡ package_records heap.now.now) }
+        ensures exact { IsTrue result ↔ (self.now.records ≡ package_records heap.now.now) }
+        ensures packages { IsTrue result → packages_of self.now.tokens heap.now.now
+            ≡ Some self.now.packages }
     {
         are_records_of(heap, self.records.as_slice())
     }

@@ -4,15 +4,17 @@ ghost use Rattle.jcard_tear.specs.KeptCard.{HoldOneHeap};
 ghost use Rattle.jcard_tear.specs.Runs.{IsRecovered};
 
 use crate::alike::hold_one_heap;
-use crate::recoveries::journal_of;
+use crate::recoveries::{are_equal, journal_of};
 use jc_card::powered_image::PoweredImage;
 use jc_words::layout::TOP;
 
 /// The most words that an image is moved by.
 const MOST: u16 = 64;
 
-/// How many words are compared at once.
+/// How many words are compared at once, and how often that is done at most.
 const BLOCK: usize = 64;
+
+const MOST_BLOCKS: u16 = 1_024;
 
 /// The image moved to these words, which a recovery leaves as they are: they hold one heap. Nothing where they differ in many words, or in other
 /// words than those of cells.
@@ -24,8 +26,8 @@ pub(crate) fn moved(image: PoweredImage, found: &[u16]) -> Option<PoweredImage>
     let start = usize::from(log.start);
     let end = start + 2 * usize::from(log.capacity);
     let top = usize::from(found[usize::from(TOP)]);
-    let image = moved_between(image, found, 0, least(start, top))?;
-    let image = moved_between(image, found, end, least(found.len(), top))?;
+    let image = moved_between(image, found, 0, least(top, start))?;
+    let image = moved_between(image, found, end, least(top, found.len()))?;
     if !stands_for(&image, found) {
         return None;
     }
@@ -40,8 +42,10 @@ pub(crate) fn stands_for(image: &PoweredImage, found: &[u16]) -> bool
     hold_one_heap(image.words(), found)
 }
 
+// The lesser of two.
 fn least(a: usize, b: usize) -> usize
-    ensures { result ≤ a }
+    ensures first { result ≤ a }
+    ensures second { result ≤ b }
 {
     if a < b { a } else { b }
 }
@@ -75,9 +79,12 @@ fn difference(a: &[u16], b: &[u16], from: usize, to: usize) -> Option<usize>
 {
     let to = least(to, a.len());
     let mut at = from;
-    while at < to {
+    for _block in 0..MOST_BLOCKS {
+        if at >= to {
+            return None;
+        }
         let end = if to - at < BLOCK { to } else { at + BLOCK };
-        if a[at..end] != b[at..end] {
+        if !are_equal(&a[at..end], &b[at..end]) {
             return difference_in(a, b, at, end);
         }
         at = end;
