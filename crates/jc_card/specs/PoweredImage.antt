@@ -25,7 +25,7 @@ heap_in words = heap_of (recovered_of words)
 
 -- the heap is whole, begins with the objects of the runtime environment, and fits its packages; these are its packages, the addresses of those
 -- objects and the sizes of its areas, and its objects are marked
-pub record IsFoundIn (h : HeapState) (marks : List Bool) (p : Packages) (fixed : List ℕ) (sizes : RamSizes) : Type 0 where
+pub record IsFoundIn (h : HeapState) (marks : List Bool) (p : Packages) (first : List ℕ) (areas : RamSizes) : Type 0 where
   pub magic : h.head.0 ≡ magic
   pub whole : IsConsistent h
   pub tokens : Tokens
@@ -33,16 +33,16 @@ pub record IsFoundIn (h : HeapState) (marks : List Bool) (p : Packages) (fixed :
   pub begins : BeginsWithFixed tokens h
   pub linked : packages_of tokens h ≡ Some p
   pub sound : IsSound p h (last_fixed tokens h)
-  pub fixed : fixed ≡ fixed_of tokens h
-  pub sizes : sizes ≡ area_sizes h
+  pub fixed : first ≡ fixed_of tokens h
+  pub sizes : areas ≡ area_sizes h
   pub long : length marks ≡ mark_count
   pub marked : MarksObjects marks h
 
 -- words at rest, of whose heap this was found
-pub record IsPoweredImage (words : List ℕ) (marks : List Bool) (p : Packages) (fixed : List ℕ) (sizes : RamSizes) : Type 0 where
+pub record IsPoweredImage (words : List ℕ) (marks : List Bool) (p : Packages) (first : List ℕ) (areas : RamSizes) : Type 0 where
   pub small : length words < 65536
   pub rests : IsAtRest words false
-  pub found : IsFoundIn (heap_in words) marks p fixed sizes
+  pub found : IsFoundIn (heap_in words) marks p first areas
 
 -- a cell of an object that is no AID may hold this value, in an array of references a reference
 pub record MayHold (p : Packages) (h : HeapState) (r i v : ℕ) : Type 0 where

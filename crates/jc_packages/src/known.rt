@@ -1,5 +1,5 @@
 //! Packages that were read of one image, for others with the same table text and the same records.
-ghost use Rattle.std.specs.Prelude.{ℕ, List, ◌≡◌, ◌<◌, ◌↔◌, IsTrue, IfOk, IfSome, Some, false, length, map, slice_index};
+ghost use Rattle.std.specs.Prelude.{ℕ, List, ◌≡◌, ◌<◌, ◌≤◌, IsTrue, IfOk, IfSome, Some, drop, false, length, map, slice_index};
 ghost use Rattle.jc_words.specs.Layout.{text_length_address};
 ghost use Rattle.jc_heap.specs.Component.{record_of};
 ghost use Rattle.jc_heap.specs.Heap.{heap_of};
@@ -7,7 +7,7 @@ ghost use Rattle.jc_heap.specs.Image.{text_words};
 ghost use Rattle.jc_heap.specs.WholeHeap.{IsConsistent};
 ghost use Rattle.jc_packages.specs.Known.{package_records};
 ghost use Rattle.jc_packages.specs.Reading.{packages_of};
-ghost use Rattle.jc_packages.specs.Tables.{HasTable, HasText};
+ghost use Rattle.jc_packages.specs.Tables.{HasTable};
 
 use crate::reading::{read_packages, record_at};
 use crate::tables::{are_text_words_of, has_text, table_of, text_words_of};
@@ -111,9 +111,8 @@ impl KnownPackages {
 
     /// Whether an image has the table text, so that its table is this one.
     pub fn has_text_of<W: ImageWords>(&self, image: &W) -> bool
-        ensures exact { IsTrue result ↔ (HasText (W.words image.now)
-            × (self.now.size ≡ slice_index (W.words image.now) text_length_address)
-            × (self.now.text ≡ text_words (W.words image.now))) }
+        ensures text { IsTrue result → (self.now.size ≡ slice_index (W.words image.now) text_length_address)
+            × (self.now.text ≡ text_words (W.words image.now)) }
         ensures table { IsTrue result → HasTable (W.words image.now) self.now.tokens }
     {
         has_text(image)
@@ -125,11 +124,11 @@ impl KnownPackages {
     pub fn has_records_of<S: WordStore>(&self, heap: &Heap<S>) -> bool
         requires up { heap.now.down ≡ false }
         requires whole { IsConsistent heap.now.now }
-        ensures exact { IsTrue result ↔ (self.now.records ≡ package_records heap.now.now) }
+        ensures records { IsTrue result → self.now.records ≡ package_records heap.now.now }
         ensures packages { IsTrue result → packages_of self.now.tokens heap.now.now
             ≡ Some self.now.packages }
     {
-        are_records_of(heap, self.records.as_slice())
+        are_records_from(heap, 0, self.records.as_slice())
     }
 }
 
@@ -166,16 +165,14 @@ fn records_of<S: WordStore>(alloc: Global, heap: &Heap<S>) -> Result<Vec<Vec<u16
     Ok(records)
 }
 
-// Whether the record of a package has these words.
-fn is_record<S: WordStore>(heap: &Heap<S>, at: Ref, words: &[u16]) -> bool
+// Whether the words of a record are these, of which there are as many.
+fn agrees<S: WordStore>(heap: &Heap<S>, at: Ref, words: &[u16], count: u16) -> bool
     requires up { heap.now.down ≡ false }
-    requires there { 0 < length (record_of heap.now.now at) }
-    ensures { IsTrue result ↔ (words.now ≡ record_of heap.now.now at) }
+    requires long { length (record_of heap.now.now at) ≡ count }
+    requires many { length words.now ≡ count }
+    ensures { IsTrue result → (j : ℕ) → j < count → slice_index words.now j
+        ≡ slice_index (record_of heap.now.now at) j }
 {
-    let count = heap.record_length(at);
-    if usize::from(count) != words.len() {
-        return false;
-    }
     for j in 0..count {
         if heap.record_word(at, j) != words[usize::from(j)] {
             return false;
@@ -184,20 +181,35 @@ fn is_record<S: WordStore>(heap: &Heap<S>, at: Ref, words: &[u16]) -> bool
     true
 }
 
-// Whether the records of all packages have these words, in order.
-fn are_records_of<S: WordStore>(heap: &Heap<S>, records: &[Vec<u16>]) -> bool
+// Whether the record of a package has these words.
+fn is_record<S: WordStore>(heap: &Heap<S>, at: Ref, words: &[u16]) -> bool
     requires up { heap.now.down ≡ false }
-    requires whole { IsConsistent heap.now.now }
-    ensures { IsTrue result ↔ (map (λ r. r.items) records.now ≡ package_records heap.now.now) }
+    requires there { 0 < length (record_of heap.now.now at) }
+    ensures { IsTrue result → words.now ≡ record_of heap.now.now at }
 {
-    let count = heap.packages();
-    if usize::from(count) != records.len() {
+    let count = heap.record_length(at);
+    if usize::from(count) != words.len() {
         return false;
     }
-    for k in 0..count {
-        if !is_record(heap, record_at(heap, k), &records[usize::from(k)]) {
-            return false;
-        }
+    agrees(heap, at, words, count)
+}
+
+// Whether the records of the packages from a place of the registry on have these words, in order, and there are no more.
+fn are_records_from<S: WordStore>(heap: &Heap<S>, k: u16, records: &[Vec<u16>]) -> bool
+    requires up { heap.now.down ≡ false }
+    requires whole { IsConsistent heap.now.now }
+    requires within { k ≤ length heap.now.now.packages }
+    ensures { IsTrue result → map (λ r. r.items) records.now
+        ≡ map (record_of heap.now.now) (drop k heap.now.now.packages) }
+{
+    let Some((first, more)) = records.split_first() else {
+        return k == heap.packages();
+    };
+    if k >= heap.packages() {
+        return false;
     }
-    true
+    if !is_record(heap, record_at(heap, k), first) {
+        return false;
+    }
+    are_records_from(heap, k + 1, more)
 }

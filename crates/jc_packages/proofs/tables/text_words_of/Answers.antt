@@ -7,7 +7,7 @@ pub loop-j-preserved : goal.loop-j-preserved
 loop-j-preserved g c =
     let text : List ℕ = text_words (g.W.ImageWords.words c.args.image.now) in
     let j = c.loop-j.j in
-    let near : j < length text = omega (arith, c.text_word_count-count.ensures) in
+    let near : j < length text = omega (arith, c.text_word_count-count.ensures.exact) in
     c.in_ok-push.ensures.items
     ∙ ap (λ (l : List ℕ). l ++ c.text_word.result ∷ []) c.loop-j.invariant
     ∙ ap (λ (v : ℕ). take j text ++ v ∷ []) c.text_word.ensures
@@ -16,4 +16,4 @@ loop-j-preserved g c =
 pub returns : goal.returns
 returns g c =
     let text : List ℕ = text_words (g.W.ImageWords.words c.args.image.now) in
-    c.loop-j.invariant ∙ take_all c.loop-j.j text (omega (arith, c.text_word_count-count.ensures))
+    c.loop-j.invariant ∙ take_all c.loop-j.j text (omega (arith, c.text_word_count-count.ensures.exact))

@@ -1,6 +1,0 @@
-use Rattle.std.proofs.Common.{◌≡◌, map, take}
-use Rattle.jc_packages.specs.Known.{package_records}
-use Rattle.jc_packages.proofs.known.are_records_of.Given as goal
-
-abbrev pub invariant-loop-k : goal.invariant-loop-k
-invariant-loop-k g l = take l.k (map (λ r. r.items) l.records) ≡ take l.k (package_records l.heap.now)
