@@ -5,7 +5,7 @@ mod checks;
 mod pin;
 mod pin_init;
 mod resets;
-mod tries;
+mod try_counter;
 mod updates;
 
 pub use checks::check;

@@ -725,8 +725,8 @@ fn switched_owner<S: WordStore>(
     }
 }
 
-/// The method in bytecode that a virtual call runs whose entry names this one in bytecode, with how many arguments, and for whom, where that can be
-/// told at once: no receiver is null, no rule refuses the call, and no header is cut. Else nothing.
+/// The method in bytecode that a virtual call runs whose entry names this one in bytecode, with how many arguments, and for whom, where that is
+/// known at once: no receiver is null, no rule refuses the call, and no header is cut. Else nothing.
 #[tactic(auto, unfolding(crate::specs::Invoke::invokevirtual, crate::specs::Invoke::arguments_of, crate::specs::Invoke::receiver_of, crate::specs::Invoke::header_of, crate::specs::Parameters::fits))]
 #[inline(always)]
 pub fn select_code<S: WordStore>(

@@ -167,7 +167,7 @@ fn invoke_selected<S: WordStore>(
     }
 }
 
-// The method in bytecode that a call of an interface's method runs, where it can be told at once; nothing of other calls.
+// The method in bytecode that a call of an interface's method runs, where it is known at once; nothing of other calls.
 #[tactic(auto, unfolding(jc_instructions::specs::Invoke::method_selection))]
 #[inline(always)]
 fn select_by_interface<S: WordStore>(
@@ -336,7 +336,7 @@ fn invoke_static<S: WordStore>(
     }
 }
 
-// A virtual call by the instruction at a place whose entry names a method in bytecode, out of line. Where the one that it runs can be told
+// A virtual call by the instruction at a place whose entry names a method in bytecode, out of line. Where the one that it runs is known
 // at once, no more is asked.
 #[tactic(auto, unfolding(crate::specs::Calling::invoke_instruction, jc_instructions::specs::Invoke::method_selection, jc_instructions::specs::Invoke::header_of, jc_instructions::specs::Enter::method_entry))]
 #[inline(never)]

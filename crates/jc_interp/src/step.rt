@@ -105,7 +105,7 @@ fn array_of_package<S: WordStore>(
 
 // Carries out an instruction at a place, after which the next one stands, if the code has it. What frames alone carry out does not come here.
 // A package has what fields and calls name, so of those in code that was lent there is nothing to ask; to read and to write elements are arms
-// of their own, so that each instruction is told from the others once.
+// of their own, so that an instruction is distinguished from the others only once.
 #[inline(always)]
 fn execute<S: WordStore>(
     instr: &Instr,

@@ -67,10 +67,8 @@ pub fn join_shares(alloc: Global, texts: &[&[u8]]) -> Result<Joined, JoinFault>
         (λ joined. AreSharesJoined (map (λ (t : Bor (List ℕ)). t.now) texts.now) joined)
         (λ fault. AreNoShares (map (λ (t : Bor (List ℕ)). t.now) texts.now) fault) }
 {
-    match in_order(alloc, b"share ", texts) {
-        Ok(ordered) => shares_in_order(alloc, &ordered),
-        Err(fault) => Err(fault),
-    }
+    let ordered = in_order(alloc, b"share ", texts)?;
+    shares_in_order(alloc, &ordered)
 }
 
 // Joins them, from the first share on.

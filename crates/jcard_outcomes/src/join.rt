@@ -38,10 +38,8 @@ pub fn join(alloc: Global, depth: Depth, texts: &[&[u8]]) -> Result<Joined, Join
         × (joined.is_all_or_nothing ≡ are_whole sweep.cuts.items))
         (λ fault. fault ≡ JoinFault.NoMemory) }
 {
-    match in_order(alloc, b"cut after ", texts) {
-        Ok(ordered) => joined_in_order(alloc, depth, &ordered),
-        Err(fault) => Err(fault),
-    }
+    let ordered = in_order(alloc, b"cut after ", texts)?;
+    joined_in_order(alloc, depth, &ordered)
 }
 
 // Joins them, from the first part on.
@@ -55,10 +53,8 @@ fn joined_in_order(alloc: Global, depth: Depth, texts: &[&[u8]]) -> Result<Joine
         × (joined.is_all_or_nothing ≡ are_whole sweep.cuts.items))
         (λ fault. fault ≡ JoinFault.NoMemory) }
 {
-    match ordered(alloc, texts) {
-        Ok(lines) => joined_lines(alloc, depth, &lines, texts.len()),
-        Err(fault) => Err(fault),
-    }
+    let lines = ordered(alloc, texts)?;
+    joined_lines(alloc, depth, &lines, texts.len())
 }
 
 // Joins the lines of this many parts.
@@ -72,10 +68,8 @@ fn joined_lines(
     requires plain { All (λ t. has 10 t ≡ false) (map (λ (t : Bor (List ℕ)). t.now) lines.now) }
     ensures { IsJoinOf depth parts (map (λ (t : Bor (List ℕ)). t.now) lines.now) result }
 {
-    match cuts_of(alloc, lines) {
-        Ok(cuts) => joined_cuts(alloc, depth, lines, &cuts, parts),
-        Err(fault) => Err(fault),
-    }
+    let cuts = cuts_of(alloc, lines)?;
+    joined_cuts(alloc, depth, lines, &cuts, parts)
 }
 
 // Joins the lines of this many parts, which report these cuts.
@@ -91,10 +85,8 @@ fn joined_cuts(
     requires within { length cuts.now ≤ length lines.now }
     ensures { IsJoinOfCuts depth parts (map (λ (t : Bor (List ℕ)). t.now) lines.now) cuts.now result }
 {
-    match uncut_of(lines, cuts.len(), parts) {
-        Ok(uncut) => joined_report(alloc, depth, cuts, uncut),
-        Err(fault) => Err(fault),
-    }
+    let uncut = uncut_of(lines, cuts.len(), parts)?;
+    joined_report(alloc, depth, cuts, uncut)
 }
 
 fn joined_report(
@@ -144,10 +136,9 @@ fn ordered<'a>(alloc: Global, texts: &[&'a [u8]]) -> Result<Vec<&'a [u8]>, JoinF
     let mut rests = Vec::from_slice(alloc, texts)?;
     let mut lines = Vec::new(alloc);
     for number in 0..usize::MAX {
-        match next_line(alloc, &mut rests, number) {
-            Ok(Some(told)) => push_text(&mut lines, told)?,
-            Ok(None) => return ended(lines, &rests, number),
-            Err(fault) => return Err(fault),
+        match next_line(alloc, &mut rests, number)? {
+            Some(told) => push_text(&mut lines, told)?,
+            None => return ended(lines, &rests, number),
         }
     }
     // There is no memory for this many lines.

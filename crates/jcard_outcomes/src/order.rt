@@ -24,10 +24,8 @@ pub(crate) fn in_order<'a>(
     let count = texts.len();
     let mut ordered = Vec::new(alloc);
     for number in 0..count {
-        match only_at(alloc, label, texts, number) {
-            Ok(place) => push_text(&mut ordered, text_at(texts, place))?,
-            Err(fault) => return Err(fault),
-        }
+        let place = only_at(alloc, label, texts, number)?;
+        push_text(&mut ordered, text_at(texts, place))?;
     }
     Ok(ordered)
 }

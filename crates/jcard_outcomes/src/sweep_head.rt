@@ -43,10 +43,8 @@ pub fn bodies_of<'a>(alloc: Global, texts: &'a [Vec<u8>]) -> Result<Bodies<'a>, 
     let Some((name, _body)) = cut_head(&texts[0]) else {
         return Err(HeadFault::OtherSweep(0));
     };
-    match bodies_behind(alloc, texts, name) {
-        Ok(texts) => Ok(Bodies { name, texts }),
-        Err(fault) => Err(fault),
-    }
+    let texts = bodies_behind(alloc, texts, name)?;
+    Ok(Bodies { name, texts })
 }
 
 // What the texts say after heads with this name.

@@ -10,7 +10,7 @@ ghost use Rattle.jc_environment.specs.Pins.{IsPersistentWith, IsPin};
 ghost use Rattle.jc_environment.specs.Pins.Checks.{is_value, comparison, pin_check};
 
 use crate::pins::pin::record;
-use crate::pins::tries::set_tries;
+use crate::pins::try_counter::set_tries;
 use jc_memory::Memory;
 use jc_transient::Ref;
 use jc_words::{StoreDown, WordStore};

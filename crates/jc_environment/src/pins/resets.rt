@@ -6,7 +6,7 @@ ghost use Rattle.jc_environment.specs.Pins.{IsPin};
 ghost use Rattle.jc_environment.specs.Pins.Resets.{pin_unblock, pin_reset};
 
 use crate::pins::pin::record;
-use crate::pins::tries::set_tries;
+use crate::pins::try_counter::set_tries;
 use jc_memory::Memory;
 use jc_transient::Ref;
 use jc_words::{StoreDown, WordStore};

@@ -1,24 +1,29 @@
 use Rattle.std.proofs.Common.{arith, inl, length, subst}
+use Rattle.std.proofs.lemmas.Result.{err_from_is_err_and}
 use Rattle.jcard_outcomes.proofs.Ends.{lent, lent_length}
 use Rattle.jcard_outcomes.proofs.Orders.{bodies_ordered, bodies_placed, of_order}
 use Rattle.jcard_outcomes.proofs.join.join.Goals as goal
 
 pub joined_in_order-requires : goal.joined_in_order-requires
 joined_in_order-requires c = rw c.deref.ensures.value
-    (omega (arith, c.in-Ok.ensures.placed.all, lent_length c.args.texts.now, lent_length c.in-Ok.ordered.items, c.requires))
+    (omega (arith, c.in_ok-ordered.ensures.placed.all, lent_length c.args.texts.now, lent_length c.in_ok-ordered.ordered.items, c.requires))
 
-pub returns-in-Ok-clause-joined : goal.returns-in-Ok-clause-joined
-returns-in-Ok-clause-joined c = of_order c.args.depth (lent c.args.texts.now) (lent c.in-Ok.ordered.items) c.joined_in_order.result c.in-Ok.ensures.placed
+pub returns-clause-joined : goal.returns-clause-joined
+returns-clause-joined c = of_order c.args.depth (lent c.args.texts.now) (lent c.in_ok-ordered.ordered.items) c.joined_in_order.result c.in_ok-ordered.ensures.placed
     (rw c.deref.ensures.value at c.joined_in_order.ensures.joined)
 
-pub returns-in-Ok-clause-parts : goal.returns-in-Ok-clause-parts
-returns-in-Ok-clause-parts c = λ s tellable bodies.
+pub returns-clause-parts : goal.returns-clause-parts
+returns-clause-parts c = λ s tellable bodies.
     let parts = rw c.deref.ensures.value at c.joined_in_order.ensures.parts in
-    parts s tellable (bodies_ordered s (lent c.args.texts.now) (lent c.in-Ok.ordered.items) c.in-Ok.ensures.placed bodies)
+    parts s tellable (bodies_ordered s (lent c.args.texts.now) (lent c.in_ok-ordered.ordered.items) c.in_ok-ordered.ensures.placed bodies)
 
-pub returns-in-Err-clause-joined : goal.returns-in-Err-clause-joined
-returns-in-Err-clause-joined c = inl c.in-Err.ensures.placed
+pub returns-in_err-ordered-clause-joined : goal.returns-in_err-ordered-clause-joined
+returns-in_err-ordered-clause-joined c =
+    let p = err_from_is_err_and c.from_residual.result c.from_residual.ensures.1 in
+    rw (p.1, p.2) (inl c.in_err-ordered.ensures.placed)
 
-pub returns-in-Err-clause-parts : goal.returns-in-Err-clause-parts
-returns-in-Err-clause-parts c = λ s tellable bodies. bodies_placed s (lent c.args.texts.now) c.in-Err.fault
-    (omega (arith, lent_length c.args.texts.now, c.in_order.ensures.few)) bodies c.in-Err.ensures.placed
+pub returns-in_err-ordered-clause-parts : goal.returns-in_err-ordered-clause-parts
+returns-in_err-ordered-clause-parts c = λ s tellable bodies.
+    let p = err_from_is_err_and c.from_residual.result c.from_residual.ensures.1 in
+    rw (p.1, p.2) (bodies_placed s (lent c.args.texts.now) c.in_err-ordered.field-0.0
+    (omega (arith, lent_length c.args.texts.now, c.in_order.ensures.few)) bodies c.in_err-ordered.ensures.placed)

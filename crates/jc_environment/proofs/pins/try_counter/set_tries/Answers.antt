@@ -1,6 +1,6 @@
 use Rattle.std.proofs.Common.{◌∙◌, ap}
 use Rattle.jc_environment.proofs.KeptPins.{counted_pin}
-use Rattle.jc_environment.proofs.pins.tries.set_tries.Goals as goal
+use Rattle.jc_environment.proofs.pins.try_counter.set_tries.Goals as goal
 
 pub returns-clause-pin : goal.returns-clause-pin
 returns-clause-pin g c =
