@@ -38,3 +38,10 @@ one_more items f all records words packages k is below same before =
     ap (map items) is ∙ map-append items records (words ∷ []) ∙ (λ t. before t ++ same t ∷ [])
     ∙ ap (λ (v : List ℕ). take k (map f packages) ++ v ∷ []) (sym (get_or-map f packages k 0 [] below))
     ∙ sym (take_more (map f packages) k [] (subst (λ (n : ℕ). k < n) (sym (length-map packages f)) below))
+
+-- what is read of a heap is known
+pub records_linked : (t u : Tokens) (h : HeapState) (records : List (List ℕ)) (p q : Packages) → u ≡ t → records ≡ package_records h → q ≡ p
+    → packages_of u h ≡ Some p → with_records (record { platform = t; loaded = [] }) records ≡ Some q
+unfolding packages_of
+records_linked t u h records p q table same shared linked =
+    ap₂ (λ (x : Tokens) (l : List (List ℕ)). with_records (record { platform = x; loaded = [] }) l) (sym table) same ∙ linked ∙ ap Some (sym shared)
