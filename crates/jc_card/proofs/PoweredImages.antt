@@ -6,6 +6,7 @@ use Rattle.std.proofs.lemmas.Option.{same_Some}
 use Rattle.jc_words.specs.Count.{saturating_count}
 use Rattle.jc_words.specs.Layout.{first_version, magic, magic_address, version, version_address}
 use Rattle.jc_words.specs.Refusals.{Refusals, no_refusals}
+use Rattle.jc_words.specs.Store.{FuseStoreValue, MemStoreValue}
 use Rattle.jc_commit.specs.Image.{limit_of, recovered_of, touched_of, with_words}
 use Rattle.jc_commit.specs.Migration.{migrated, migration}
 use Rattle.jc_commit.specs.State.{State, recovered_journal, undo_writes}
@@ -140,3 +141,11 @@ read_image words passed refusals j marks parts sizes head holds found are marked
         marked = marked;
       });
     }
+
+-- ---- a store of its words
+
+abbrev pub store_of : List ℕ → FuseStoreValue
+store_of words = record { words = words; down = false; passed = 0; refusals = no_refusals; down_below = false; passed_below = 0 }
+
+abbrev pub under_fuse : MemStoreValue → FuseStoreValue
+under_fuse m = record { words = m.words; down = false; passed = 0; refusals = no_refusals; down_below = false; passed_below = m.passed }
