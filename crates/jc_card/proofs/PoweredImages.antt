@@ -56,7 +56,7 @@ module _ (words next : List ℕ) (marks : List Bool) (p : Packages) (fixed : Lis
       let up : after.down ≡ false = ap (λ (x : HeapView). x.down) done.2 ∙ ap (λ (x : HeapView). x.down) rest in
       let outside : after.begun ≡ false = ap (λ (x : HeapView). x.begun) done.2 ∙ ap (λ (x : HeapView). x.begun) rest in
       let found : IsFoundIn (set_cell (heap_in words) r i v) marks p fixed sizes = found_still (heap_in words) r i v marks p fixed sizes
-          (subst (λ (x : HeapView). MayHold p x.now r i v) rest may) (subst (λ (h : HeapState). IsSoundObject p h r) now sound) image.found in
+      (subst (λ (x : HeapView). MayHold p x.now r i v) rest may) (subst (λ (h : HeapState). IsSoundObject p h r) now sound) image.found in
       (record { small = small; rests = holds.rests up outside; found = subst (λ (h : HeapState). IsFoundIn h marks p fixed sizes) (sym is) found }, is)
     where
       after_rest : (before : HeapView) → before ≡ heap_of_store_at_rest words 0 no_refusals

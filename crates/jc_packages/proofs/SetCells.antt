@@ -46,6 +46,10 @@ module _ (h : HeapState) (r i v : ℕ) where
   unfolding set_cell
   entry_same a j = refl
 
+  number_same : (a : ℕ) → IsNumber h a → IsNumber g a
+  unfolding set_cell
+  number_same a is = is
+
   owner_same : (n : ℕ) → is_owner g n ≡ is_owner h n
   unfolding set_cell
   owner_same n = refl
@@ -136,10 +140,6 @@ module _ (h : HeapState) (r i v : ℕ) where
                 ∙ ap₂ (λ (b : Bool) (x : Facts). b && (is_instance x.kind && is_a p x.class Applet)) (object_same f) (facts-set_cell h r i v f)
                 ∙ is.instance;
           }
-        where
-          number_same : (a : ℕ) → IsNumber h a → IsNumber g a
-          unfolding set_cell
-          number_same a is = is
 
       -- where its object fits them, the heap does
       pub still_sound : (own : ℕ) → IsSoundObject p g r → IsSound p h own → IsSound p g own

@@ -77,11 +77,7 @@ pub fn begin_script<S: WordStore + Drop>(
 }
 
 /// The card that has just powered up over an image, with a budget of instructions a command. Nothing where memory for it is refused.
-pub fn begin_over(
-    alloc: Global,
-    image: &PoweredImage,
-    budget: u32,
-) -> Option<BegunScript<MemStore>>
+pub fn begin_over(alloc: Global, image: &PoweredImage, budget: u32) -> Option<BegunScript<MemStore>>
     ensures { IfSome result (λ begun. IsPoweredOver image.now false 0 no_refusals budget begun) }
 {
     let card = image.begin(alloc, budget)?;

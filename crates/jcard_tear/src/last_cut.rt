@@ -68,11 +68,7 @@ impl Gathered {
 }
 
 // The image of these words, which is read.
-fn read_image(
-    alloc: Global,
-    words: &[u16],
-    known: &Option<KnownPackages>,
-) -> Option<PoweredImage>
+fn read_image(alloc: Global, words: &[u16], known: &Option<KnownPackages>) -> Option<PoweredImage>
     requires { length words.now < 65536 }
     ensures { IfSome result (λ image. HoldOneHeap image words.now × IsRecovered image) }
 {

@@ -51,12 +51,7 @@ fn least(a: usize, b: usize) -> usize
 }
 
 // The image moved to these words from one address up to another.
-fn moved_between(
-    image: PoweredImage,
-    found: &[u16],
-    from: usize,
-    to: usize,
-) -> Option<PoweredImage>
+fn moved_between(image: PoweredImage, found: &[u16], from: usize, to: usize) -> Option<PoweredImage>
     requires to { to ≤ length found.now }
     requires small { length found.now < 65536 }
 {
