@@ -10,4 +10,4 @@ new-requires-clause-marked g c = λ up r is. subst (λ (v : HeapView). IsObject 
 pub returns-clause-reset : goal.returns-clause-reset
 returns-clause-reset g c =
     at_reset_of_parts (heap_of (recovered_of (g.S.WordStore.words c.args.store))) c.resume-heap.result c.args.parts _ c.requires.parts c.new.ensures
-    c.own.ensures refl
+    refl refl

@@ -1,0 +1,151 @@
+-- Powered images: one is read, a cell of one is set, and cards begin over one.
+use Rattle.std.proofs.Common.{◌≡◌, ◌≢◌, ◌∙◌, ◌+◌, ◌<◌, ℕ, Bool, true, false, List, [], ◌∷◌, length, take, Option, Some, Ok, refl, sym, ap, ap₂, subst, arith, if◌then◌else◌}
+use Rattle.std.specs.Prelude.{slice_index}
+use Rattle.std.proofs.lemmas.Bool.{ne_eqb}
+use Rattle.std.proofs.lemmas.Option.{same_Some}
+use Rattle.jc_words.specs.Count.{saturating_count}
+use Rattle.jc_words.specs.Layout.{first_version, magic, magic_address, version, version_address}
+use Rattle.jc_words.specs.Refusals.{Refusals, no_refusals}
+use Rattle.jc_words.specs.Store.{FuseStoreValue, MemStoreValue}
+use Rattle.jc_commit.specs.Image.{limit_of, recovered_of, touched_of, with_words}
+use Rattle.jc_commit.specs.Migration.{migrated, migration}
+use Rattle.jc_commit.specs.State.{State, recovered_journal, undo_writes}
+use Rattle.jc_commit.proofs.Migrations.{migration-recovered}
+use Rattle.jc_commit.proofs.Views.{length-touched, raised_none}
+use Rattle.jc_transient.specs.declared.sizes.RamSizes.{RamSizes}
+use Rattle.jc_heap.specs.Completions.{Completed, Done}
+use Rattle.jc_heap.specs.Heap.{HeapState, HeapView, area_sizes, heap_of, heap_view, set_cell}
+use Rattle.jc_heap.specs.Heap.Store.{HoldsHeap, heap_of_store_at_rest}
+use Rattle.jc_heap.specs.Moves.{PerformsMovesUnless, Write}
+use Rattle.jc_heap.specs.declared.place.Place.TheVariants.{Cell}
+use Rattle.jc_heap.specs.declared.refusal.HeapRefusal.{HeapRefusal}
+use Rattle.jc_heap.specs.Image.{IsWellFormed}
+use Rattle.jc_heap.proofs.RawWords.{head_is, recovered-head, text_is}
+use Rattle.jc_image.specs.Opening.{HoldsImage}
+use Rattle.jc_interp.specs.Attacks.{undisturbed}
+use Rattle.jc_linker.specs.Values.{Packages}
+use Rattle.jc_memory.specs.Marks.{mark_count}
+use Rattle.jc_packages.specs.Objects.{IsSoundObject, MarksObjects}
+use Rattle.jc_packages.specs.Sound.{IsSound}
+use Rattle.jc_packages.specs.Tables.{HasTable}
+use Rattle.jc_platform.specs.Table.{Reads}
+use Rattle.jc_platform.specs.Tokens.{Tokens}
+use Rattle.jc_platform.proofs.OneAnswer.{one_table}
+use Rattle.jc_card.specs.Card.{CardState}
+use Rattle.jc_card.specs.Fixed.{last_fixed}
+use Rattle.jc_card.specs.PowerUp.{HasHead, HasHeap, HasPackages}
+use Rattle.jc_card.specs.PowerUp.Outcome.{IsPoweredOver}
+use Rattle.jc_card.specs.PowerUp.Reset.{ArePartsOf, IsAtReset}
+use Rattle.jc_card.specs.PoweredImage.{IsFoundIn, IsPoweredImage, MayHold, heap_in}
+use Rattle.jc_card.specs.declared.power_up.CardParts.{CardParts}
+use Rattle.jc_card.proofs.CellSets.{found_still}
+use Rattle.jc_card.proofs.PoweredUp.{has_table, made_found}
+
+-- ---- a cell is set
+
+module _ (words next : List ℕ) (marks : List Bool) (p : Packages) (fixed : List ℕ) (sizes : RamSizes) (r i v : ℕ) where
+  pub cell_set : (before after : HeapView) (reason : Option HeapRefusal) (passed : ℕ) (refusals : Refusals) → IsPoweredImage words marks p fixed sizes
+      → before ≡ heap_of_store_at_rest words 0 no_refusals → MayHold p before.now r i v
+      → PerformsMovesUnless reason before (Completed (Done tt) after) (Write (Cell r i) v ∷ []) tt → IsSoundObject p after.now r
+      → HoldsHeap next false passed refusals after → length next < 65536
+      → IsPoweredImage next marks p fixed sizes × (heap_in next ≡ set_cell (heap_in words) r i v)
+  cell_set before after reason passed refusals image rest may done sound holds small =
+      let now : after.now ≡ set_cell (heap_in words) r i v = ap (λ (x : HeapView). x.now) done.2 ∙ ap (λ (x : HeapView). set_cell x.now r i v) rest in
+      let durable : after.durable ≡ set_cell (heap_in words) r i v = ap (λ (x : HeapView). x.durable) done.2 ∙ after_rest before rest in
+      let is : heap_in next ≡ set_cell (heap_in words) r i v = holds.durable ∙ durable in
+      let up : after.down ≡ false = ap (λ (x : HeapView). x.down) done.2 ∙ ap (λ (x : HeapView). x.down) rest in
+      let outside : after.begun ≡ false = ap (λ (x : HeapView). x.begun) done.2 ∙ ap (λ (x : HeapView). x.begun) rest in
+      let found : IsFoundIn (set_cell (heap_in words) r i v) marks p fixed sizes = found_still (heap_in words) r i v marks p fixed sizes
+      (subst (λ (x : HeapView). MayHold p x.now r i v) rest may) (subst (λ (h : HeapState). IsSoundObject p h r) now sound) image.found in
+      (record { small = small; rests = holds.rests up outside; found = subst (λ (h : HeapState). IsFoundIn h marks p fixed sizes) (sym is) found }, is)
+    where
+      after_rest : (before : HeapView) → before ≡ heap_of_store_at_rest words 0 no_refusals
+          → (if before.begun then before.durable else set_cell before.now r i v) ≡ set_cell (heap_in words) r i v
+      after_rest before rest = ap (λ (x : HeapView). if x.begun then x.durable else set_cell x.now r i v) rest
+
+-- ---- a card begins
+
+no_migration : (w : List ℕ) → slice_index w version_address ≡ version → migration w ≡ []
+no_migration w current =
+    let later : slice_index w version_address ≢ first_version = λ e. absurd (omega (arith, current, e)) in
+    rw (ne_eqb (slice_index w version_address) first_version later) refl
+
+module _ (words : List ℕ) (marks : List Bool) (p : Packages) (fixed : List ℕ) (sizes : RamSizes) (image : IsPoweredImage words marks p fixed sizes) where
+  heap_still : heap_of (migrated 3 (recovered_of words)) ≡ heap_in words
+  heap_still = ap (λ (ws : List (ℕ × ℕ)). heap_of (with_words (recovered_of words) (take 3 ws)))
+      (migration-recovered words image.rests.good ∙ no_migration words image.rests.current)
+
+  no_writes : saturating_count 0 (undo_writes (length (touched_of words)) + length (migration words)) ≡ 0
+  no_writes = ap₂ (λ (n : ℕ) (ws : List (ℕ × ℕ)). saturating_count 0 (undo_writes n + length ws)) (length-touched words ∙ image.rests.closed)
+      (no_migration words image.rests.current) ∙ raised_none 0
+
+  view_still : heap_view (recovered_journal words 0 no_refusals) (limit_of words) ≡ heap_of_store_at_rest words 0 no_refusals
+  view_still = λ t. record {
+    now = heap_still t;
+    durable = heap_still t;
+    begun = false;
+    touched = [];
+    down = false;
+    passed = no_writes t;
+    refusals = no_refusals;
+    size = limit_of words;
+  }
+
+  head : HasHead words
+  head = record {
+    magic = ap (λ (x : ℕ × ℕ). x.0) (sym (recovered-head words image.rests.good) ∙ sym (head_is (recovered_of words) image.rests.laid)) ∙ image.found.magic;
+    version = image.rests.good.known;
+    size = image.rests.good.size;
+  }
+
+  pub begins : (budget : ℕ) (card : CardState) → card.memory.heap ≡ heap_of_store_at_rest words 0 no_refusals → IsAtReset (heap_in words) card
+      → card.budget ≡ undisturbed budget → IsPoweredOver words false 0 no_refusals budget card
+  begins budget card heap reset has = record {
+    made = made_found words head image.rests.good image.found.tokens
+        (has_table (recovered_of words) image.found.tokens image.rests.laid image.found.reads)
+        (image.rests.laid, image.found.whole, image.found.begins, (p, image.found.linked, image.found.sound));
+    was_up = refl;
+    heap = heap ∙ sym view_still;
+    reset = reset;
+    budget = has;
+  }
+
+-- ---- an image is read
+
+pub read_image : (words : List ℕ) (passed : ℕ) (refusals : Refusals) (j : State) (marks : List Bool) (parts : CardParts) (sizes : RamSizes) → HasHead words
+    → HoldsImage words false passed refusals j → (t : Tokens) × HasTable j.plain t × HasHeap t j.plain → ArePartsOf (heap_of j.plain) parts
+    → MarksObjects marks (heap_of j.plain) → length marks ≡ mark_count → sizes ≡ area_sizes (heap_of j.plain) → length words < 65536
+    → IsPoweredImage words marks parts.linked parts.fixed.items sizes
+read_image words passed refusals j marks parts sizes head holds found are marked long areas small =
+    let h : HeapState = heap_of j.plain in
+    let t : Tokens = are.packages.0 in
+    let reads : Reads h.text (Ok found.0) = subst (λ (l : List ℕ). Reads l (Ok found.0)) (sym (text_is j.plain found.2.0)) found.1.1 in
+    let one : found.0 ≡ t = one_table h.text found.0 t reads are.packages.1 in
+    let heap : HasHeap t j.plain = subst (λ (x : Tokens). HasHeap x j.plain) one found.2 in
+    let fits : HasPackages t h = heap.3 in
+    let linked : fits.0 ≡ parts.linked = same_Some fits.0 parts.linked (sym fits.1 ∙ are.packages.2) in
+    record {
+      small = small;
+      rests = record { up = refl; good = holds.good; laid = subst IsWellFormed (sym holds.recovered) heap.0; closed = holds.closed; current = holds.current };
+      found = subst (λ (x : HeapState). IsFoundIn x marks parts.linked parts.fixed.items sizes) (ap heap_of (sym holds.recovered)) (record {
+        magic = ap (λ (x : ℕ × ℕ). x.0) (head_is j.plain heap.0 ∙ sym holds.head) ∙ head.magic;
+        whole = heap.1;
+        tokens = t;
+        reads = are.packages.1;
+        begins = heap.2;
+        linked = are.packages.2;
+        sound = subst (λ (p : Packages). IsSound p h (last_fixed t h)) linked fits.2;
+        fixed = are.packages.3;
+        sizes = areas;
+        long = long;
+        marked = marked;
+      });
+    }
+
+-- ---- a store of its words
+
+abbrev pub store_of : List ℕ → FuseStoreValue
+store_of words = record { words = words; down = false; passed = 0; refusals = no_refusals; down_below = false; passed_below = 0 }
+
+abbrev pub under_fuse : MemStoreValue → FuseStoreValue
+under_fuse m = record { words = m.words; down = false; passed = 0; refusals = no_refusals; down_below = false; passed_below = m.passed }
