@@ -7,9 +7,9 @@ use Rattle.jc_words.specs.Count.{saturating_count}
 use Rattle.jc_words.specs.Layout.{first_version, magic, magic_address, version, version_address}
 use Rattle.jc_words.specs.Refusals.{Refusals, no_refusals}
 use Rattle.jc_words.specs.Store.{FuseStoreValue, MemStoreValue}
-use Rattle.jc_commit.specs.Image.{limit_of, recovered_of, touched_of, with_words}
+use Rattle.jc_commit.specs.Image.{IsGoodLog, count_of, limit_of, recovered_of, touched_of, with_words}
 use Rattle.jc_commit.specs.Migration.{migrated, migration}
-use Rattle.jc_commit.specs.State.{State, recovered_journal, undo_writes}
+use Rattle.jc_commit.specs.State.{recovered_journal, undo_writes}
 use Rattle.jc_commit.proofs.Migrations.{migration-recovered}
 use Rattle.jc_commit.proofs.Views.{length-touched, raised_none}
 use Rattle.jc_transient.specs.declared.sizes.RamSizes.{RamSizes}
@@ -21,11 +21,11 @@ use Rattle.jc_heap.specs.declared.place.Place.TheVariants.{Cell}
 use Rattle.jc_heap.specs.declared.refusal.HeapRefusal.{HeapRefusal}
 use Rattle.jc_heap.specs.Image.{IsWellFormed}
 use Rattle.jc_heap.proofs.RawWords.{head_is, recovered-head, text_is}
-use Rattle.jc_image.specs.Opening.{HoldsImage}
 use Rattle.jc_interp.specs.Attacks.{undisturbed}
 use Rattle.jc_linker.specs.Values.{Packages}
 use Rattle.jc_memory.specs.Marks.{mark_count}
 use Rattle.jc_packages.specs.Objects.{IsSoundObject, MarksObjects}
+use Rattle.jc_packages.specs.Reading.{packages_of}
 use Rattle.jc_packages.specs.Sound.{IsSound}
 use Rattle.jc_packages.specs.Tables.{HasTable}
 use Rattle.jc_platform.specs.Table.{Reads}
@@ -112,34 +112,37 @@ module _ (words : List ℕ) (marks : List Bool) (p : Packages) (fixed : List ℕ
 
 -- ---- an image is read
 
-pub read_image : (words : List ℕ) (passed : ℕ) (refusals : Refusals) (j : State) (marks : List Bool) (parts : CardParts) (sizes : RamSizes) → HasHead words
-    → HoldsImage words false passed refusals j → (t : Tokens) × HasTable j.plain t × HasHeap t j.plain → ArePartsOf (heap_of j.plain) parts
-    → MarksObjects marks (heap_of j.plain) → length marks ≡ mark_count → sizes ≡ area_sizes (heap_of j.plain) → length words < 65536
-    → IsPoweredImage words marks parts.linked parts.fixed.items sizes
-read_image words passed refusals j marks parts sizes head holds found are marked long areas small =
-    let h : HeapState = heap_of j.plain in
+pub read_image : (words : List ℕ) (marks : List Bool) (parts : CardParts) (p : Packages) (sizes : RamSizes) → HasHead words → IsGoodLog words
+    → count_of words ≡ 0 → slice_index words version_address ≡ version
+    → (t : Tokens) × HasTable (recovered_of words) t × HasHeap t (recovered_of words) → ArePartsOf (heap_in words) parts → p ≡ parts.linked
+    → length marks ≡ mark_count → MarksObjects marks (heap_in words) → sizes ≡ area_sizes (heap_in words) → length words < 65536
+    → IsPoweredImage words marks p parts.fixed.items sizes
+read_image words marks parts p sizes head good closed current found are same long marked areas small =
+    let w : List ℕ = recovered_of words in
+    let h : HeapState = heap_of w in
     let t : Tokens = are.packages.0 in
-    let reads : Reads h.text (Ok found.0) = subst (λ (l : List ℕ). Reads l (Ok found.0)) (sym (text_is j.plain found.2.0)) found.1.1 in
+    let reads : Reads h.text (Ok found.0) = subst (λ (l : List ℕ). Reads l (Ok found.0)) (sym (text_is w found.2.0)) found.1.1 in
     let one : found.0 ≡ t = one_table h.text found.0 t reads are.packages.1 in
-    let heap : HasHeap t j.plain = subst (λ (x : Tokens). HasHeap x j.plain) one found.2 in
+    let heap : HasHeap t w = subst (λ (x : Tokens). HasHeap x w) one found.2 in
     let fits : HasPackages t h = heap.3 in
-    let linked : fits.0 ≡ parts.linked = same_Some fits.0 parts.linked (sym fits.1 ∙ are.packages.2) in
+    let is : packages_of t h ≡ Some p = are.packages.2 ∙ ap Some (sym same) in
+    let linked : fits.0 ≡ p = same_Some fits.0 p (sym fits.1 ∙ is) in
     record {
       small = small;
-      rests = record { up = refl; good = holds.good; laid = subst IsWellFormed (sym holds.recovered) heap.0; closed = holds.closed; current = holds.current };
-      found = subst (λ (x : HeapState). IsFoundIn x marks parts.linked parts.fixed.items sizes) (ap heap_of (sym holds.recovered)) (record {
-        magic = ap (λ (x : ℕ × ℕ). x.0) (head_is j.plain heap.0 ∙ sym holds.head) ∙ head.magic;
+      rests = record { up = refl; good = good; laid = heap.0; closed = closed; current = current };
+      found = record {
+        magic = ap (λ (x : ℕ × ℕ). x.0) (head_is w heap.0 ∙ recovered-head words good) ∙ head.magic;
         whole = heap.1;
         tokens = t;
         reads = are.packages.1;
         begins = heap.2;
-        linked = are.packages.2;
-        sound = subst (λ (p : Packages). IsSound p h (last_fixed t h)) linked fits.2;
+        linked = is;
+        sound = subst (λ (q : Packages). IsSound q h (last_fixed t h)) linked fits.2;
         fixed = are.packages.3;
         sizes = areas;
         long = long;
         marked = marked;
-      });
+      };
     }
 
 -- ---- a store of its words

@@ -1,15 +1,20 @@
 //! An image over which a card powered up: cards begin over it, and over images that differ from it in cells of objects, without a walk over its
 //! objects.
-ghost use Rattle.std.specs.Prelude.{ℕ, ◌≡◌, ◌<◌, ◌+◌, IsTrue, IfSome, false, length, vec_len};
+ghost use Rattle.std.specs.Prelude.{ℕ, ◌≡◌, ◌<◌, ◌+◌, IsTrue, IfSome, false, length, slice_index, vec_len};
+ghost use Rattle.jc_words.specs.Layout.{version, version_address};
 ghost use Rattle.jc_words.specs.Refusals.{no_refusals};
-ghost use Rattle.jc_commit.specs.Image.{recovered_of};
+ghost use Rattle.jc_commit.specs.Image.{IsGoodLog, count_of, recovered_of};
 ghost use Rattle.jc_commit.specs.Migration.{migrated};
 ghost use Rattle.jc_heap.specs.Heap.{IsObject, heap_of, set_cell};
 ghost use Rattle.jc_heap.specs.Heap.Store.{IsAtRest};
 ghost use Rattle.jc_memory.specs.Marks.{mark_count};
 ghost use Rattle.jc_packages.specs.Objects.{MarksObjects};
+ghost use Rattle.jc_packages.specs.Tables.{HasTable};
+ghost use Rattle.jc_platform.specs.Tokens.{Tokens};
 ghost use Rattle.jc_card.specs.PoweredImage.{HasCellsSet, MayHold, heap_in};
+ghost use Rattle.jc_card.specs.PowerUp.{HasHeap};
 ghost use Rattle.jc_card.specs.PowerUp.Outcome.{IsPoweredOver};
+ghost use Rattle.jc_card.specs.PowerUp.Reset.{ArePartsOf};
 
 use crate::card::Card;
 use crate::lent::LentStore;
@@ -65,20 +70,28 @@ impl PoweredImage {
         requires { vec_len words < 65536 }
         ensures { IfSome result (λ image. heap_in image ≡ heap_of (migrated 3 (recovered_of words.items))) }
     {
-        let Ok(image) = OpenImage::open(MemStore::of(words)) else {
-            return None;
-        };
-        let store = image.into_store();
+        match OpenImage::open(MemStore::of(words)) {
+            Ok(image) => PoweredImage::of_store(alloc, image.into_store(), known),
+            Err(_) => None,
+        }
+    }
+
+    // The image of a store that was recovered.
+    fn of_store(
+        alloc: Global,
+        store: MemStore,
+        known: &Option<KnownPackages>,
+    ) -> Option<PoweredImage>
+        requires good { IsGoodLog store.words }
+        requires current { slice_index store.words version_address ≡ version }
+        requires closed { count_of store.words ≡ 0 }
+        ensures { IfSome result (λ image. image ≡ store.words) }
+    {
         let Ok(()) = check_image(&store) else {
             return None;
         };
-        let Ok(mut marks) = unset_flags(alloc) else {
-            return None;
-        };
-        let lent = OpenImage::resume(LentStore::of(&store));
-        let Ok(parts) = read_parts(alloc, lent, marks.as_mut_slice(), known) else {
-            return None;
-        };
+        let image = OpenImage::resume(LentStore::of(&store));
+        let (parts, marks) = marked_parts(alloc, image, known)?;
         let CardParts {
             linked,
             ram: _,
@@ -220,6 +233,27 @@ impl PoweredImage {
             fixed,
             sizes,
         })
+    }
+}
+
+// What a recovered image says of a card, and flags at the addresses of its objects. Nothing where no card powers up over it.
+fn marked_parts<S: WordStore + Drop>(
+    alloc: Global,
+    image: OpenImage<S>,
+    known: &Option<KnownPackages>,
+) -> Option<(CardParts, Vec<bool>)>
+    requires { image.down ≡ false }
+    ensures long { IfSome result (λ found. vec_len found.1 ≡ mark_count) }
+    ensures marked { IfSome result (λ found. MarksObjects found.1.items (heap_of image.plain)) }
+    ensures ok { IfSome result (λ _. (t : Tokens) × HasTable image.plain t × HasHeap t image.plain) }
+    ensures parts { IfSome result (λ found. ArePartsOf (heap_of image.plain) found.0) }
+{
+    let Ok(mut marks) = unset_flags(alloc) else {
+        return None;
+    };
+    match read_parts(alloc, image, marks.as_mut_slice(), known) {
+        Ok(parts) => Some((parts, marks)),
+        Err(_) => None,
     }
 }
 
