@@ -25,9 +25,9 @@ pub(crate) fn moved(image: PoweredImage, found: &[u16]) -> Option<PoweredImage>
     let log = journal_of(found)?;
     let start = usize::from(log.start);
     let end = start + 2 * usize::from(log.capacity);
-    let top = usize::from(found[usize::from(TOP)]);
+    let top = least(usize::from(found[usize::from(TOP)]), found.len());
     let image = moved_between(image, found, 0, least(top, start))?;
-    let image = moved_between(image, found, end, least(top, found.len()))?;
+    let image = moved_between(image, found, end, top)?;
     if !stands_for(&image, found) {
         return None;
     }
