@@ -168,7 +168,7 @@ fn parts_over<S: WordStore + Drop>(
     requires long { length marks.old ≡ mark_count }
     requires unset { AreNone marks.old }
     requires table { HasTable image.plain table.now }
-    requires known { IfSome known.entry (λ k. k.now.tokens ≡ table.now) }
+    requires known { IfSome known (λ k. k.now.tokens ≡ table.now) }
     ensures long { length marks.new ≡ mark_count }
     ensures marked { OnOk result (MarksObjects marks.new (heap_of image.plain)) }
     ensures ok { OnOk result (HasHeap table.now image.plain) }
@@ -234,7 +234,7 @@ fn link_packages<S: WordStore>(
     requires sizes { ram.sizes ≡ area_sizes heap.now.now }
     requires command { rooms.command ≡ [] }
     requires sent { rooms.sent ≡ [] }
-    requires known { IfSome known.entry (λ k. k.now.tokens ≡ table.now) }
+    requires known { IfSome known (λ k. k.now.tokens ≡ table.now) }
     ensures fit { OnOk result (HasPackages table.now heap.now.now) }
     ensures parts { IfOk result (ArePartsOf heap.now.now) }
     ensures cause { IfErr result (λ fault. FailsToLink fault table.now heap.now.now) }
@@ -261,7 +261,7 @@ fn packages_of<S: WordStore>(
 ) -> Result<CardPackages, PowerFault>
     requires up { heap.now.down ≡ false }
     requires whole { IsConsistent heap.now.now }
-    requires known { IfSome known.entry (λ k. k.now.tokens ≡ table.now) }
+    requires known { IfSome known (λ k. k.now.tokens ≡ table.now) }
     ensures linked { IfOk result (λ linked. packages_of table.now heap.now.now ≡ Some linked) }
     ensures cause { IfErr result (λ fault. FailsToLink fault table.now heap.now.now) }
 {
