@@ -1,6 +1,7 @@
 -- Powered images: one is read, a cell of one is set, and cards begin over one.
-use Rattle.std.proofs.Common.{◌≡◌, ◌≢◌, ◌∙◌, ◌+◌, ◌<◌, ℕ, Bool, true, false, List, [], ◌∷◌, length, take, Option, Some, Ok, refl, sym, ap, ap₂, subst, arith, if◌then◌else◌}
+use Rattle.std.proofs.Common.{◌≡◌, ◌≢◌, ◌∙◌, ◌+◌, ◌<◌, ℕ, Bool, true, false, List, [], ◌∷◌, length, take, drop, ◌++◌, Option, Some, Ok, refl, sym, ap, ap₂, subst, arith, if◌then◌else◌}
 use Rattle.std.specs.Prelude.{slice_index}
+use Rattle.std.proofs.Math.Seq.{take-append_seam}
 use Rattle.std.proofs.lemmas.Bool.{ne_eqb}
 use Rattle.std.proofs.lemmas.Option.{same_Some}
 use Rattle.jc_words.specs.Count.{saturating_count}
@@ -14,7 +15,7 @@ use Rattle.jc_commit.proofs.Migrations.{migration-recovered}
 use Rattle.jc_commit.proofs.Views.{length-touched, raised_none}
 use Rattle.jc_transient.specs.declared.sizes.RamSizes.{RamSizes}
 use Rattle.jc_heap.specs.Completions.{Completed, Done}
-use Rattle.jc_heap.specs.Heap.{HeapState, HeapView, area_sizes, heap_of, heap_view, set_cell}
+use Rattle.jc_heap.specs.Heap.{HeapState, HeapView, IsObject, area_sizes, heap_of, heap_view, set_cell}
 use Rattle.jc_heap.specs.Heap.Store.{HoldsHeap, heap_of_store_at_rest}
 use Rattle.jc_heap.specs.Moves.{PerformsMovesUnless, Write}
 use Rattle.jc_heap.specs.declared.place.Place.TheVariants.{Cell}
@@ -28,6 +29,7 @@ use Rattle.jc_packages.specs.Objects.{IsSoundObject, MarksObjects}
 use Rattle.jc_packages.specs.Reading.{packages_of}
 use Rattle.jc_packages.specs.Sound.{IsSound}
 use Rattle.jc_packages.specs.Tables.{HasTable}
+use Rattle.jc_packages.proofs.SetCells.{marks_same, object_same}
 use Rattle.jc_platform.specs.Table.{Reads}
 use Rattle.jc_platform.specs.Tokens.{Tokens}
 use Rattle.jc_platform.proofs.OneAnswer.{one_table}
@@ -43,25 +45,37 @@ use Rattle.jc_card.proofs.PoweredUp.{has_table, made_found}
 
 -- ---- a cell is set
 
-module _ (words next : List ℕ) (marks : List Bool) (p : Packages) (fixed : List ℕ) (sizes : RamSizes) (r i v : ℕ) where
-  pub cell_set : (before after : HeapView) (reason : Option HeapRefusal) (passed : ℕ) (refusals : Refusals) → IsPoweredImage words marks p fixed sizes
-      → before ≡ heap_of_store_at_rest words 0 no_refusals → MayHold p before.now r i v
-      → PerformsMovesUnless reason before (Completed (Done tt) after) (Write (Cell r i) v ∷ []) tt → IsSoundObject p after.now r
-      → HoldsHeap next false passed refusals after → length next < 65536
-      → IsPoweredImage next marks p fixed sizes × (heap_in next ≡ set_cell (heap_in words) r i v)
-  cell_set before after reason passed refusals image rest may done sound holds small =
-      let now : after.now ≡ set_cell (heap_in words) r i v = ap (λ (x : HeapView). x.now) done.2 ∙ ap (λ (x : HeapView). set_cell x.now r i v) rest in
-      let durable : after.durable ≡ set_cell (heap_in words) r i v = ap (λ (x : HeapView). x.durable) done.2 ∙ after_rest before rest in
-      let is : heap_in next ≡ set_cell (heap_in words) r i v = holds.durable ∙ durable in
+module _ (words : List ℕ) (r i v : ℕ) (before after : HeapView) (reason : Option HeapRefusal) (rest : before ≡ heap_of_store_at_rest words 0 no_refusals)
+    (done : PerformsMovesUnless reason before (Completed (Done tt) after) (Write (Cell r i) v ∷ []) tt) where
+  now_after : after.now ≡ set_cell (heap_in words) r i v
+  now_after = ap (λ (x : HeapView). x.now) done.2 ∙ ap (λ (x : HeapView). set_cell x.now r i v) rest
+
+  pub marked_after : (marks : List Bool) → MarksObjects marks (heap_in words) → MarksObjects marks after.now
+  marked_after marks is = subst (MarksObjects marks) (sym now_after) (marks_same (heap_in words) r i v marks is)
+
+  pub object_after : IsObject (heap_in words) r → IsObject after.now r
+  object_after is = subst (λ (h : HeapState). IsObject h r) (sym now_after) (object_same (heap_in words) r i v r ∙ is)
+
+  -- the durable heap is the same, since no transaction is open
+  durable_after : after.durable ≡ set_cell (heap_in words) r i v
+  durable_after = ap (λ (x : HeapView). x.durable) done.2 ∙ ap (λ (x : HeapView). if x.begun then x.durable else set_cell x.now r i v) rest
+
+  pub heap_after : (next : List ℕ) (passed : ℕ) (refusals : Refusals) → HoldsHeap next false passed refusals after → heap_in next ≡ set_cell (heap_in words) r i v
+  heap_after next passed refusals holds = holds.durable ∙ durable_after
+
+  pub cell_set : (next : List ℕ) (passed : ℕ) (refusals : Refusals) (marks : List Bool) (p : Packages) (fixed : List ℕ) (sizes : RamSizes)
+      → IsPoweredImage words marks p fixed sizes → MayHold p before.now r i v → IsSoundObject p after.now r → HoldsHeap next false passed refusals after
+      → length next < 65536 → IsPoweredImage next marks p fixed sizes
+  cell_set next passed refusals marks p fixed sizes image may sound holds small =
       let up : after.down ≡ false = ap (λ (x : HeapView). x.down) done.2 ∙ ap (λ (x : HeapView). x.down) rest in
       let outside : after.begun ≡ false = ap (λ (x : HeapView). x.begun) done.2 ∙ ap (λ (x : HeapView). x.begun) rest in
       let found : IsFoundIn (set_cell (heap_in words) r i v) marks p fixed sizes = found_still (heap_in words) r i v marks p fixed sizes
-      (subst (λ (x : HeapView). MayHold p x.now r i v) rest may) (subst (λ (h : HeapState). IsSoundObject p h r) now sound) image.found in
-      (record { small = small; rests = holds.rests up outside; found = subst (λ (h : HeapState). IsFoundIn h marks p fixed sizes) (sym is) found }, is)
-    where
-      after_rest : (before : HeapView) → before ≡ heap_of_store_at_rest words 0 no_refusals
-          → (if before.begun then before.durable else set_cell before.now r i v) ≡ set_cell (heap_in words) r i v
-      after_rest before rest = ap (λ (x : HeapView). if x.begun then x.durable else set_cell x.now r i v) rest
+      (subst (λ (x : HeapView). MayHold p x.now r i v) rest may) (subst (λ (h : HeapState). IsSoundObject p h r) now_after sound) image.found in
+      record {
+        small = small;
+        rests = holds.rests up outside;
+        found = subst (λ (h : HeapState). IsFoundIn h marks p fixed sizes) (sym (heap_after next passed refusals holds)) found;
+      }
 
 -- ---- a card begins
 
@@ -152,3 +166,11 @@ store_of words = record { words = words; down = false; passed = 0; refusals = no
 
 abbrev pub under_fuse : MemStoreValue → FuseStoreValue
 under_fuse m = record { words = m.words; down = false; passed = 0; refusals = no_refusals; down_below = false; passed_below = m.passed }
+
+-- ---- flags that were set through a slice of them
+
+pub flags_set : (marks set : List Bool) (h : HeapState) → length set ≡ length marks → MarksObjects set h
+    → MarksObjects (take (length marks) (set ++ drop (length set) marks)) h
+flags_set marks set h long is =
+    subst (λ (l : List Bool). MarksObjects l h) (sym (ap (λ (n : ℕ). take n (set ++ drop (length set) marks)) (sym long)
+    ∙ take-append_seam set (drop (length set) marks))) is
