@@ -46,7 +46,7 @@ use Rattle.jc_card.proofs.PoweredUp.{has_table, made_found}
 -- ---- a cell is set
 
 module _ (words : List ℕ) (r i v : ℕ) (before after : HeapView) (reason : Option HeapRefusal) (rest : before ≡ heap_of_store_at_rest words 0 no_refusals)
-    (done : PerformsMovesUnless reason before (Completed (Done tt) after) (Write (Cell r i) v ∷ []) tt) where
+    (done : PerformsMovesUnless reason before (Completed (Done (tt {0})) after) (Write (Cell r i) v ∷ []) (tt {0})) where
   now_after : after.now ≡ set_cell (heap_in words) r i v
   now_after = ap (λ (x : HeapView). x.now) done.2 ∙ ap (λ (x : HeapView). set_cell x.now r i v) rest
 
@@ -169,8 +169,7 @@ under_fuse m = record { words = m.words; down = false; passed = 0; refusals = no
 
 -- ---- flags that were set through a slice of them
 
-pub flags_set : (marks set : List Bool) (h : HeapState) → length set ≡ length marks → MarksObjects set h
-    → MarksObjects (take (length marks) (set ++ drop (length set) marks)) h
-flags_set marks set h long is =
-    subst (λ (l : List Bool). MarksObjects l h) (sym (ap (λ (n : ℕ). take n (set ++ drop (length set) marks)) (sym long)
-    ∙ take-append_seam set (drop (length set) marks))) is
+pub flags_set : (flags set : List Bool) (n : ℕ) (h : HeapState) → n ≡ length set → MarksObjects set h → MarksObjects (take n (set ++ drop (length set) flags)) h
+flags_set flags set n h long is =
+    subst (λ (l : List Bool). MarksObjects l h) (sym (ap (λ (k : ℕ). take k (set ++ drop (length set) flags)) long
+    ∙ take-append_seam set (drop (length set) flags))) is

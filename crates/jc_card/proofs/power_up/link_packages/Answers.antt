@@ -1,4 +1,4 @@
-use Rattle.std.proofs.Common.{rules, ◌≡◌, ◌∙◌, length, ap, subst, sym}
+use Rattle.std.proofs.Common.{rules, ◌≡◌, ◌∙◌, ℕ, length, ap, subst, sym}
 use Rattle.std.proofs.lemmas.Bool.{false≢true}
 use Rattle.jc_linker.specs.Values.{Packages}
 use Rattle.jc_packages.specs.Sound.{IsSound}
@@ -13,14 +13,16 @@ is_sound-requires-clause-linked g c =
 pub returns-then-not-is_sound-clause-cause : goal.returns-then-not-is_sound-clause-cause
 returns-then-not-is_sound-clause-cause g c =
     let h = c.args.heap.now.now in
-    none_fit c.args.table.now h c.in_ok-linked.linked _ c.in_ok-linked.ensures.linked (search rules)
-    (λ fit. absurd (false≢true (sym c.if-not-is_sound.true ∙ c.is_sound.ensures.1 (subst (λ (p : Packages). IsSound p h _) (sym c.get.ensures) fit))))
+    let own : ℕ = c.first_objects-fixed.result.1 in
+    none_fit c.args.table.now h c.in_ok-linked.linked own c.in_ok-linked.ensures.linked (search rules)
+    (λ fit. absurd (false≢true (sym c.if-not-is_sound.true ∙ c.is_sound.ensures.1 (subst (λ (p : Packages). IsSound p h own) (sym c.get.ensures) fit))))
 
 pub returns-clause-fit : goal.returns-clause-fit
 returns-clause-fit g c =
     let h = c.args.heap.now.now in
-    has_packages c.args.table.now h c.in_ok-linked.linked _ c.in_ok-linked.ensures.linked (search rules)
-    (subst (λ (p : Packages). IsSound p h _) c.get.ensures (c.is_sound.ensures.0 c.if-not-is_sound.false))
+    let own : ℕ = c.first_objects-fixed.result.1 in
+    has_packages c.args.table.now h c.in_ok-linked.linked own c.in_ok-linked.ensures.linked (search rules)
+    (subst (λ (p : Packages). IsSound p h own) c.get.ensures (c.is_sound.ensures.0 c.if-not-is_sound.false))
 
 pub returns-clause-parts : goal.returns-clause-parts
 returns-clause-parts g c = record {

@@ -5,5 +5,5 @@ use Rattle.jc_card.proofs.powered_image.marked_parts.Goals as goal
 
 pub returns-in-Ok-read_parts-clause-marked : goal.returns-in-Ok-read_parts-clause-marked
 returns-in-Ok-read_parts-clause-marked g c =
-    flags_set c.in-Ok.marks.items c.read_parts.new.marks (heap_of c.args.image.plain) (c.in-Ok-read_parts.ensures.long ∙ sym c.in-Ok.ensures.long)
+    flags_set c.in-Ok.marks.items c.read_parts.new.marks _ (heap_of c.args.image.plain) (c.in-Ok.ensures.long ∙ sym c.in-Ok-read_parts.ensures.long)
     c.in-Ok-read_parts.ensures.marked
