@@ -65,7 +65,7 @@ text_fits w laid =
     let b : base (image w) ≡ text_start + (get_or w text_length_address 0 + 1) / 2 = base_is w laid in
     omega (arith, laid.based, laid.fits, b)
 
-has_table : (w : List ℕ) (t : Tokens) → IsWellFormed w → Reads (heap_of w).text (Ok t) → HasTable w t
+pub has_table : (w : List ℕ) (t : Tokens) → IsWellFormed w → Reads (heap_of w).text (Ok t) → HasTable w t
 has_table w t laid reads = (text_fits w laid, subst (λ l. Reads l (Ok t)) (text_is w laid) reads)
 
 -- what the product made is refused for want of memory alone, or by the store

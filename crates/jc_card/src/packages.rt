@@ -48,6 +48,15 @@ impl CardPackages {
         }
     }
 
+    /// Packages that others share.
+    pub(crate) fn of_shared(linked: Rc<Linked>) -> CardPackages
+        ensures { result ≡ linked.value }
+    {
+        CardPackages {
+            held: Held::Shared(linked),
+        }
+    }
+
     /// The packages.
     #[inline(always)]
     pub(crate) fn get(&self) -> &Linked
@@ -85,6 +94,16 @@ impl CardPackages {
             Held::Shared(linked) => CardPackages {
                 held: Held::Shared(linked),
             },
+        }
+    }
+
+    /// The same packages, to be shared. Nothing where memory for that is refused.
+    pub(crate) fn into_shared(self, alloc: Global) -> Option<Rc<Linked>>
+        ensures { IfSome result (λ shared. shared.value ≡ self) }
+    {
+        match self.held {
+            Held::Own(linked) => Rc::new(alloc, linked).ok(),
+            Held::Shared(linked) => Some(linked),
         }
     }
 

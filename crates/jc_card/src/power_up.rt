@@ -1,5 +1,5 @@
 //! Powering a card up over the words of its image.
-ghost use Rattle.std.specs.Prelude.{ℕ, List, ◌≡◌, ◌⊎◌, ◌+◌, ◌↔◌, length, slice_index, [], Ok, IsOk, IfOk, IfErr, OnOk, false, MatchResult};
+ghost use Rattle.std.specs.Prelude.{ℕ, List, ◌≡◌, ◌⊎◌, ◌+◌, ◌↔◌, length, slice_index, [], Ok, Some, IsOk, IfOk, IfErr, IfSome, OnOk, false, MatchResult};
 ghost use Rattle.jc_words.specs.Layout.{version, version_address};
 ghost use Rattle.jc_transient.specs.State.{IsCleared};
 ghost use Rattle.jc_heap.specs.Heap.{area_sizes, heap_of, heap_view};
@@ -13,6 +13,7 @@ ghost use Rattle.jc_platform.specs.Table.{Reads};
 ghost use Rattle.jc_platform.specs.Tokens.{Tokens};
 ghost use Rattle.jc_packages.specs.Tables.{HasTable};
 ghost use Rattle.jc_packages.specs.Objects.{MarksObjects};
+ghost use Rattle.jc_packages.specs.Reading.{packages_of};
 ghost use Rattle.jc_interp.specs.Attacks.{undisturbed};
 ghost use Rattle.jc_environment.specs.Objects.{sized_objects};
 ghost use Rattle.jc_card.specs.Fixed.{buffer_cells, fixed_facts};
@@ -31,9 +32,9 @@ use jc_frames::Frames;
 use jc_heap::Heap;
 use jc_image::OpenImage;
 use jc_interp::attacks::Budget;
-use jc_linker::linked::Linked;
 use jc_memory::{MOST_FIXED, Marks, Memory, Rooms, unset_flags};
 use jc_packages::fault::ReadFault;
+use jc_packages::known::KnownPackages;
 use jc_packages::reading::read_packages;
 use jc_packages::sound::is_sound;
 use jc_packages::tables::table_of;
@@ -80,12 +81,12 @@ impl From<ImageFault> for PowerFault {
     }
 }
 
-// What is read of an image for a card, beside the marks.
-struct CardParts {
-    linked: Linked,
-    ram: Ram,
-    fixed: ArrayVec<u16, MOST_FIXED>,
-    rooms: Rooms,
+/// What is read of an image for a card, beside the marks.
+pub(crate) struct CardParts {
+    pub(crate) linked: CardPackages,
+    pub(crate) ram: Ram,
+    pub(crate) fixed: ArrayVec<u16, MOST_FIXED>,
+    pub(crate) rooms: Rooms,
 }
 
 impl<S: WordStore> Card<S> {
@@ -124,17 +125,18 @@ fn start<S: WordStore>(alloc: Global, store: S, budget: u32) -> Result<Card<S>, 
         return Err((PowerFault::NoMemory, store));
     };
     let image = OpenImage::resume(LentStore::of(&store));
-    match read_parts(alloc, image, marks.as_mut_slice()) {
+    match read_parts(alloc, image, marks.as_mut_slice(), &None) {
         Ok(parts) => Ok(card_over(alloc, store, parts, Marks::of_flags(marks), budget)),
         Err(fault) => Err((fault, store)),
     }
 }
 
-// What a recovered image says of a card; and marks where its objects stand. Its words are lent.
-fn read_parts<S: WordStore + Drop>(
+/// What a recovered image says of a card; and marks where its objects stand. Its words are lent. The table that is known is taken where it has its text.
+pub(crate) fn read_parts<S: WordStore + Drop>(
     alloc: Global,
     image: OpenImage<S>,
     marks: &mut [bool],
+    known: &Option<KnownPackages>,
 ) -> Result<CardParts, PowerFault>
     requires up { image.down ≡ false }
     requires long { length marks.old ≡ mark_count }
@@ -145,15 +147,42 @@ fn read_parts<S: WordStore + Drop>(
     ensures parts { IfOk result (ArePartsOf (heap_of image.plain)) }
     ensures cause { IfErr result (λ fault. RecoveredWordsFail fault image.plain) }
 {
+    if let Some(known) = known {
+        if known.has_text_of(&image) {
+            return parts_over(alloc, image, marks, known.table(), Some(known));
+        }
+    }
     let table = platform_of(alloc, &image)?;
-    let heap = whole_heap(image, &table, marks)?;
+    parts_over(alloc, image, marks, &table, None)
+}
+
+// The same over its table, which is the one of the packages that are known, if any are.
+fn parts_over<S: WordStore + Drop>(
+    alloc: Global,
+    image: OpenImage<S>,
+    marks: &mut [bool],
+    table: &Table,
+    known: Option<&KnownPackages>,
+) -> Result<CardParts, PowerFault>
+    requires up { image.down ≡ false }
+    requires long { length marks.old ≡ mark_count }
+    requires unset { AreNone marks.old }
+    requires table { HasTable image.plain table.now }
+    requires known { IfSome known (λ k. k.now.tokens ≡ table.now) }
+    ensures long { length marks.new ≡ mark_count }
+    ensures marked { OnOk result (MarksObjects marks.new (heap_of image.plain)) }
+    ensures ok { OnOk result (HasHeap table.now image.plain) }
+    ensures parts { IfOk result (ArePartsOf (heap_of image.plain)) }
+    ensures cause { IfErr result (λ fault. RecoveredWordsFail fault image.plain) }
+{
+    let heap = whole_heap(image, table, marks)?;
     let Ok(ram) = Ram::new(alloc, heap.area_sizes()) else {
         return Err(PowerFault::NoMemory);
     };
     let Ok(rooms) = Rooms::new(alloc) else {
         return Err(PowerFault::NoMemory);
     };
-    link_packages(alloc, &table, &heap, marks, ram, rooms)
+    link_packages(alloc, table, &heap, marks, ram, rooms, known)
 }
 
 // The heap of a recovered image, where it is whole and begins with the objects of the runtime environment; and marks where
@@ -193,6 +222,7 @@ fn link_packages<S: WordStore>(
     marks: &[bool],
     ram: Ram,
     rooms: Rooms,
+    known: Option<&KnownPackages>,
 ) -> Result<CardParts, PowerFault>
     requires up { heap.now.down ≡ false }
     requires long { length marks.now ≡ mark_count }
@@ -204,16 +234,14 @@ fn link_packages<S: WordStore>(
     requires sizes { ram.sizes ≡ area_sizes heap.now.now }
     requires command { rooms.command ≡ [] }
     requires sent { rooms.sent ≡ [] }
+    requires known { IfSome known (λ k. k.now.tokens ≡ table.now) }
     ensures fit { OnOk result (HasPackages table.now heap.now.now) }
     ensures parts { IfOk result (ArePartsOf heap.now.now) }
     ensures cause { IfErr result (λ fault. FailsToLink fault table.now heap.now.now) }
 {
-    let linked = match read_packages(alloc, table.platform(), heap) {
-        Ok(linked) => linked,
-        Err(fault) => return Err(fault_of(fault)),
-    };
+    let linked = packages_of(alloc, table, heap, known)?;
     let (fixed, own) = first_objects(heap, fixed_objects(table).len());
-    if !is_sound(heap, marks, &linked, own) {
+    if !is_sound(heap, marks, linked.get(), own) {
         return Err(PowerFault::BadPackage);
     }
     Ok(CardParts {
@@ -224,8 +252,35 @@ fn link_packages<S: WordStore>(
     })
 }
 
-// The card over a store at rest, of what was read of its words. No memory is asked for.
-fn card_over<S: WordStore>(
+// The packages of a whole heap: those that are known, where their records have the same words, or else they are read.
+fn packages_of<S: WordStore>(
+    alloc: Global,
+    table: &Table,
+    heap: &Heap<S>,
+    known: Option<&KnownPackages>,
+) -> Result<CardPackages, PowerFault>
+    requires up { heap.now.down ≡ false }
+    requires whole { IsConsistent heap.now.now }
+    requires known { IfSome known (λ k. k.now.tokens ≡ table.now) }
+    ensures linked { IfOk result (λ linked. packages_of table.now heap.now.now ≡ Some linked) }
+    ensures cause { IfErr result (λ fault. FailsToLink fault table.now heap.now.now) }
+{
+    if let Some(known) = known {
+        if known.has_records_of(heap) {
+            return match known.linked() {
+                Ok(linked) => Ok(CardPackages::of_shared(linked)),
+                Err(_) => Err(PowerFault::NoMemory),
+            };
+        }
+    }
+    match read_packages(alloc, table.platform(), heap) {
+        Ok(linked) => Ok(CardPackages::own(linked)),
+        Err(fault) => Err(fault_of(fault)),
+    }
+}
+
+/// The card over a store at rest, of what was read of its words. No memory is asked for.
+pub(crate) fn card_over<S: WordStore>(
     alloc: Global,
     store: S,
     parts: CardParts,
@@ -251,7 +306,7 @@ fn card_over<S: WordStore>(
     Card {
         alloc,
         memory: Memory::new(heap, ram, fixed, marks, rooms),
-        linked: CardPackages::own(linked),
+        linked,
         load: None,
         budget: Budget::undisturbed(budget),
         frames: Frames::empty(),

@@ -6,3 +6,5 @@ pub mod RecordLoads
 pub mod ImageTables
 pub mod Aids
 pub mod Order
+pub mod SetCells
+pub mod KnownPackages

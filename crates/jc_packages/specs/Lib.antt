@@ -2,6 +2,7 @@ pub mod LinkerView
 pub mod PendingPackages
 pub mod RecordContents
 pub mod Reading
+pub mod Known
 pub mod Incoming
 pub mod Load
 pub mod LoadEnd

@@ -6,6 +6,7 @@ mod entries;
 pub mod fault;
 mod incoming;
 mod infos;
+pub mod known;
 mod linking;
 mod load;
 mod load_end;

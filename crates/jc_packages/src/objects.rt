@@ -46,8 +46,12 @@ pub(crate) fn is_persistent_instance(facts: Facts) -> bool
     matches!(facts.kind, Kind::Instance) && facts.event.is_none()
 }
 
-// The class, the owner and the cells of an object are there.
-fn is_sound_object<S: WordStore>(marked: &MarkedHeap<'_, S>, linked: &Linked, object: Ref) -> bool
+/// The class, the owner and the cells of an object are there.
+pub(crate) fn is_sound_object<S: WordStore>(
+    marked: &MarkedHeap<'_, S>,
+    linked: &Linked,
+    object: Ref,
+) -> bool
     requires up { marked.now.down ≡ false }
     requires there { IsObject marked.now.now object }
     ensures { IsTrue result ↔ IsSoundObject linked.now marked.now.now object }

@@ -204,8 +204,8 @@ pub fn read_packages<S: WordStore>(
     Ok(linked)
 }
 
-// Where the record of a package stands, in a whole heap.
-fn record_at<S: WordStore>(heap: &Heap<S>, k: u16) -> Ref
+/// Where the record of a package stands, in a whole heap.
+pub(crate) fn record_at<S: WordStore>(heap: &Heap<S>, k: u16) -> Ref
     requires up { heap.now.down ≡ false }
     requires whole { IsConsistent heap.now.now }
     requires below { k < length heap.now.now.packages }

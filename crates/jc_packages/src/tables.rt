@@ -1,7 +1,7 @@
 //! The platform table of an image.
-ghost use Rattle.std.specs.Prelude.{◌≡◌, ◌↔◌, ◌+◌, ◌/◌, ◌<◌, IfOk, IsTrue, MatchResult, Ok, length};
+ghost use Rattle.std.specs.Prelude.{ℕ, ◌≡◌, ◌↔◌, ◌+◌, ◌/◌, ◌<◌, ◌≤◌, IfOk, IsTrue, MatchResult, Ok, length, slice_index};
 ghost use Rattle.jc_words.specs.Layout.{text_start};
-ghost use Rattle.jc_heap.specs.Image.{table_text, text_byte};
+ghost use Rattle.jc_heap.specs.Image.{table_text, text_byte, text_words};
 ghost use Rattle.jc_platform.specs.Table.{Reads};
 ghost use Rattle.jc_platform.specs.Tokens.{Tokens};
 ghost use Rattle.jc_packages.specs.Tables.{HasTable, HasText, IsNoTable};
@@ -28,8 +28,8 @@ pub fn table_of<W: ImageWords>(alloc: Global, image: &W) -> Result<Table, ReadFa
     table_in(text.as_slice())
 }
 
-// Whether there are words for a table text as long as the image says.
-fn has_text<W: ImageWords>(image: &W) -> bool
+/// Whether there are words for a table text as long as the image says.
+pub(crate) fn has_text<W: ImageWords>(image: &W) -> bool
     ensures { IsTrue result ↔ HasText (W.words image.now) }
 {
     let count = u32::from(image.word_count());
@@ -58,6 +58,67 @@ fn text_of<W: ImageWords>(alloc: Global, image: &W) -> Result<Vec<u8>, AllocErro
         text.push(text_byte(image, i))?;
     }
     Ok(text)
+}
+
+/// The words of the table text of an image that has them.
+pub(crate) fn text_words_of<W: ImageWords>(alloc: Global, image: &W) -> Result<Vec<u16>, AllocError>
+    requires { HasText (W.words image.now) }
+    ensures { IfOk result (λ words. words.items ≡ text_words (W.words image.now)) }
+{
+    let count = text_word_count(image);
+    let mut words = Vec::with_capacity(alloc, usize::from(count))?;
+    for j in 0..count {
+        words.push(text_word(image, j))?;
+    }
+    Ok(words)
+}
+
+/// Whether these are the words of the table text of an image that has them.
+pub(crate) fn are_text_words_of<W: ImageWords>(image: &W, words: &[u16]) -> bool
+    requires { HasText (W.words image.now) }
+    ensures { IsTrue result → words.now ≡ text_words (W.words image.now) }
+{
+    let count = text_word_count(image);
+    if usize::from(count) != words.len() {
+        return false;
+    }
+    agrees_with_text(image, words, count)
+}
+
+// Whether the words of the table text are these, of which there are as many.
+fn agrees_with_text<W: ImageWords>(image: &W, words: &[u16], count: u16) -> bool
+    requires text { HasText (W.words image.now) }
+    requires long { length (text_words (W.words image.now)) ≡ count }
+    requires many { length words.now ≡ count }
+    requires few { count ≤ 32768 }
+    ensures { IsTrue result → (j : ℕ) → j < count → slice_index words.now j
+        ≡ slice_index (text_words (W.words image.now)) j }
+{
+    for j in 0..count {
+        if text_word(image, j) != words[usize::from(j)] {
+            return false;
+        }
+    }
+    true
+}
+
+// How many words the table text has.
+fn text_word_count<W: ImageWords>(image: &W) -> u16
+    requires { HasText (W.words image.now) }
+    ensures exact { result ≡ length (text_words (W.words image.now)) }
+    ensures few { result ≤ 32768 }
+{
+    ((u32::from(image.word(TEXT_LENGTH)) + 1) / 2) as u16
+}
+
+// A word of the table text.
+fn text_word<W: ImageWords>(image: &W, j: u16) -> u16
+    requires text { HasText (W.words image.now) }
+    requires word { j < length (text_words (W.words image.now)) }
+    requires few { j < 32768 }
+    ensures { result ≡ slice_index (text_words (W.words image.now)) j }
+{
+    image.word(TEXT_START as u16 + j)
 }
 
 // A byte of the table text.

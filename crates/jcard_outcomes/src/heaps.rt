@@ -6,7 +6,7 @@ ghost use Rattle.jcard_outcomes.specs.Heaps.{AgreeAtSpared, AgreeBetween, IsDiff
 use jc_words::layout::{ADDRESSES, PACKAGES, RESET_END, TEXT_LENGTH, TOP};
 
 /// How many words are compared at once.
-const BLOCK: u16 = 64;
+const BLOCK: u16 = 256;
 
 /// A word that has become another.
 #[derive(Clone, Copy, Drop)]

@@ -3,6 +3,8 @@ ghost use Rattle.std.specs.Prelude.{◌≡◌, ℕ, List, [], false, None, IfSom
 ghost use Rattle.jc_commit.specs.Image.{IsGoodLog};
 ghost use Rattle.jcard_script.specs.Begun.{AnswersGlitched, AnswersLeaving, AnswersLines, AnswersWith, ForEachAlike, HasBegun, IsCommandLine, IsGlitchLine, IsStopLine, LeavesCut};
 ghost use Rattle.std.specs.Io.KnownBytes.{Appends, Consumes};
+ghost use Rattle.jc_words.specs.Refusals.{no_refusals};
+ghost use Rattle.jc_card.specs.PowerUp.Outcome.{IsPoweredOver};
 ghost use Rattle.jc_card.specs.State.Power.{Up};
 ghost use Rattle.jcard_script.specs.Script.{IsWholeScript};
 ghost use Rattle.jcard_script.specs.ScriptStates.{IsSessionStore};
@@ -17,9 +19,10 @@ use crate::word::word_asked;
 use arrayvec::ArrayVec;
 use jc_card::card::Card;
 use jc_card::planned_fault::PlannedFault;
+use jc_card::powered_image::PoweredImage;
 use jc_card::response::Response;
 use jc_memory::Notes;
-use jc_words::{CopyStore, FuseStore, StoreDown, WordStore};
+use jc_words::{CopyStore, FuseStore, MemStore, StoreDown, WordStore};
 use memchr::memchr;
 use std::alloc::Global;
 use std::marker::Model;
@@ -71,6 +74,14 @@ pub fn begin_script<S: WordStore + Drop>(
     Some(BegunScript {
         card: card.sharing(),
     })
+}
+
+/// The card that has just powered up over an image, with a budget of instructions a command. Nothing where memory for it is refused.
+pub fn begin_over(alloc: Global, image: &PoweredImage, budget: u32) -> Option<BegunScript<MemStore>>
+    ensures { IfSome result (λ begun. IsPoweredOver image.now false 0 no_refusals budget begun) }
+{
+    let card = image.begin(alloc, budget)?;
+    Some(BegunScript { card })
 }
 
 impl<S: CopyStore> BegunScript<S> {

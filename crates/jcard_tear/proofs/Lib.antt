@@ -12,3 +12,4 @@ pub mod OneHeaps
 pub mod NamedParts
 pub mod PartJoins
 pub mod PowerUpFaults
+pub mod ImagesAtRest

@@ -2,15 +2,18 @@
 ghost use Rattle.std.specs.Prelude.{◌≡◌, ◌<◌, true, length, vec_len, IsTrue, IfOk, IfSome, MatchResult};
 ghost use Rattle.jc_commit.specs.Image.{plain_of};
 ghost use Rattle.jcard_tear.specs.Faults.{IsProbeFault};
-ghost use Rattle.jcard_tear.specs.KeptCard.{HasAnswered, HoldOneHeap, IsKnown, IsLastCut, IsReportedAlike, none_cut};
+ghost use Rattle.jcard_tear.specs.KeptCard.{GivesAnswers, HasAnswered, HoldOneHeap, IsKnown, IsLastCut, IsReportedAlike, none_cut};
 ghost use Rattle.jcard_tear.specs.Sweep.{IsToldAs};
 ghost use Rattle.jcard_tear.specs.Runs.{IsRecovered};
 ghost use Rattle.jcard_tear.specs.Report.{AreOfImage};
 
 use crate::alike::{are_alike, hold_one_heap};
 use crate::cuts::{Baseline, Shared, told_cut};
-use crate::runs::{answers_over, run_copy};
+use crate::moved_image::{moved, stands_for};
+use crate::runs::{answers_over, image_answers, known_of, run_copy};
 use crate::sweep::{TearFault, probe_fault};
+use jc_card::powered_image::PoweredImage;
+use jc_packages::known::KnownPackages;
 use jcard_outcomes::recoveries::Recoveries;
 use jcard_outcomes::standing::{Cut, Left};
 use std::alloc::{AllocError, Global};
@@ -20,6 +23,63 @@ use std::alloc::{AllocError, Global};
 pub(crate) struct LastCut {
     pub(crate) left: Left,
     pub(crate) cut: Cut,
+    gathered: Gathered,
+}
+
+/// The number of the read of an image at which its table and its packages are kept for the reads after it.
+const KNOWN_AFTER: u32 = 3;
+
+/// What the cuts up to one found out for those after it.
+#[derive(Drop)]
+pub(crate) struct Gathered {
+    // The image over which the probe was asked last.
+    image: Option<PoweredImage>,
+    // How many were read, and the table and the packages of the third one that was.
+    reads: u32,
+    packages: Option<KnownPackages>,
+}
+
+impl Gathered {
+    // Before the first cut.
+    fn nothing() -> Gathered {
+        Gathered {
+            image: None,
+            reads: 0,
+            packages: None,
+        }
+    }
+
+    // The image of these words, by the one before it or by what is known of packages. Nothing where there is none.
+    fn image_of(&mut self, alloc: Global, words: &[u16]) -> Option<PoweredImage>
+        requires { length words.now < 65536 }
+        ensures { IfSome result (λ image. HoldOneHeap image words.now × IsRecovered image) }
+    {
+        if let Some(last) = self.image.take() {
+            if let Some(image) = moved(last, words) {
+                return Some(image);
+            }
+        }
+        self.reads = self.reads.saturating_add(1);
+        if self.reads == KNOWN_AFTER {
+            self.packages = known_of(alloc, words);
+        }
+        read_image(alloc, words, &self.packages)
+    }
+}
+
+// The image of these words, which is read.
+fn read_image(alloc: Global, words: &[u16], known: &Option<KnownPackages>) -> Option<PoweredImage>
+    requires { length words.now < 65536 }
+    ensures { IfSome result (λ image. HoldOneHeap image words.now × IsRecovered image) }
+{
+    let Ok(copy) = Vec::from_slice(alloc, words) else {
+        return None;
+    };
+    let image = PoweredImage::read(alloc, copy, known)?;
+    if !stands_for(&image, words) {
+        return None;
+    }
+    Some(image)
 }
 
 /// What is reported of a cut after which a recovery left these words: the same as of the cut before it, if they hold the same heap.
@@ -64,16 +124,20 @@ fn next_reported(
         (λ fault. IsProbeFault shared.now.command.behind.instructions shared.now.command.probe.now fault) }
 {
     let Some(reported) = last else {
-        return first_reported(alloc, shared, found);
+        return first_reported(alloc, shared, found, Gathered::nothing());
     };
     if shared.baseline.objects.is_some() && are_alike(&reported.left.words, &found) {
         return Ok(reported);
     }
-    if hold_one_heap(&reported.left.words, &found) {
-        let LastCut { left, cut: _ } = reported;
-        return answered_again(alloc, shared, found, left);
+    let LastCut {
+        left,
+        cut: _,
+        gathered,
+    } = reported;
+    if hold_one_heap(&left.words, &found) {
+        return answered_again(alloc, shared, found, left, gathered);
     }
-    first_reported(alloc, shared, found)
+    first_reported(alloc, shared, found, gathered)
 }
 
 // What is left, and what is reported of it, where it holds the heap of these words, which a recovery leaves as they are, so that their answers are
@@ -83,6 +147,7 @@ fn answered_again(
     shared: &Shared<'_>,
     found: Vec<u16>,
     last: Left,
+    gathered: Gathered,
 ) -> Result<LastCut, TearFault>
     requires whole { AreOfImage shared.now.baseline.objects.now }
     requires recovered { IsRecovered found.items }
@@ -96,12 +161,17 @@ fn answered_again(
         words: found,
         answers: last.answers,
     };
-    let reported = reported_of(alloc, &shared.baseline, left)?;
+    let reported = reported_of(alloc, &shared.baseline, left, gathered)?;
     Ok(reported)
 }
 
 // What is left, and what is reported of it, where that is not as of the cut before.
-fn first_reported(alloc: Global, shared: &Shared<'_>, found: Vec<u16>) -> Result<LastCut, TearFault>
+fn first_reported(
+    alloc: Global,
+    shared: &Shared<'_>,
+    found: Vec<u16>,
+    gathered: Gathered,
+) -> Result<LastCut, TearFault>
     requires whole { AreOfImage shared.now.baseline.objects.now }
     requires short { vec_len found < 65536 }
     requires recovered { IsRecovered found.items }
@@ -111,13 +181,19 @@ fn first_reported(alloc: Global, shared: &Shared<'_>, found: Vec<u16>) -> Result
         × (plain_of reported.left.words.items ≡ plain_of found.items))
         (λ fault. IsProbeFault shared.now.command.behind.instructions shared.now.command.probe.now fault) }
 {
-    let left = first_left(alloc, shared, found)?;
-    let reported = reported_of(alloc, &shared.baseline, left)?;
+    let mut gathered = gathered;
+    let left = first_left(alloc, shared, found, &mut gathered)?;
+    let reported = reported_of(alloc, &shared.baseline, left, gathered)?;
     Ok(reported)
 }
 
 // What is left, and what is reported of it.
-fn reported_of(alloc: Global, baseline: &Baseline<'_>, left: Left) -> Result<LastCut, AllocError>
+fn reported_of(
+    alloc: Global,
+    baseline: &Baseline<'_>,
+    left: Left,
+    gathered: Gathered,
+) -> Result<LastCut, AllocError>
     requires { AreOfImage baseline.now.objects.now }
     ensures left { IfOk result (λ reported. reported.left ≡ left) }
     ensures told { IfOk result (λ reported. IsToldAs baseline.now left reported.cut) }
@@ -128,11 +204,20 @@ fn reported_of(alloc: Global, baseline: &Baseline<'_>, left: Left) -> Result<Las
         difference: None,
     };
     let cut = told_cut(alloc, baseline, &left, none_cut)?;
-    Ok(LastCut { left, cut })
+    Ok(LastCut {
+        left,
+        cut,
+        gathered,
+    })
 }
 
 // What is left, and its answers: those of before the command, if they are known and it holds the same heap; else the probe is asked.
-fn first_left(alloc: Global, shared: &Shared<'_>, found: Vec<u16>) -> Result<Left, TearFault>
+fn first_left(
+    alloc: Global,
+    shared: &Shared<'_>,
+    found: Vec<u16>,
+    gathered: &mut Gathered,
+) -> Result<Left, TearFault>
     requires short { vec_len found < 65536 }
     requires recovered { IsRecovered found.items }
     requires known { shared.now.baseline.is_known ≡ true
@@ -153,6 +238,7 @@ fn first_left(alloc: Global, shared: &Shared<'_>, found: Vec<u16>) -> Result<Lef
         found,
         shared.command.probe,
         shared.command.behind.instructions,
+        gathered,
     )
 }
 
@@ -166,17 +252,59 @@ fn is_as_before(baseline: &Baseline<'_>, found: &[u16]) -> bool
 }
 
 // What a card that powers up over these words, which a recovery leaves as they are, answers to the lines of a probe.
-fn answered(alloc: Global, words: Vec<u16>, probe: &[u8], budget: u32) -> Result<Left, TearFault>
+fn answered(
+    alloc: Global,
+    words: Vec<u16>,
+    probe: &[u8],
+    budget: u32,
+    gathered: &mut Gathered,
+) -> Result<Left, TearFault>
     requires short { vec_len words < 65536 }
     requires recovered { IsRecovered words.items }
     ensures { MatchResult result (λ left. (IsRecovered left.words.items × HasAnswered budget probe.now left)
         × (left.words.items ≡ words.items))
         (λ fault. IsProbeFault budget probe.now fault) }
 {
-    match answers_over(alloc, &words, probe, budget) {
+    match answers_of(alloc, &words, probe, budget, gathered) {
         Some(answers) => Ok(Left { words, answers }),
         None => Err(unanswered(alloc, &words, probe, budget)),
     }
+}
+
+// What a card that powers up over these words, which a recovery leaves as they are, answers to the lines of a probe. Nothing where there is none.
+fn answers_of(
+    alloc: Global,
+    words: &[u16],
+    probe: &[u8],
+    budget: u32,
+    gathered: &mut Gathered,
+) -> Option<Vec<u8>>
+    requires short { length words.now < 65536 }
+    requires recovered { IsRecovered words.now }
+    ensures { IfSome result (λ answers. GivesAnswers budget words.now probe.now answers.items) }
+{
+    if let Some(answers) = answers_by_image(alloc, words, probe, budget, gathered) {
+        return Some(answers);
+    }
+    answers_over(alloc, words, probe, budget)
+}
+
+// The same by the image of these words.
+fn answers_by_image(
+    alloc: Global,
+    words: &[u16],
+    probe: &[u8],
+    budget: u32,
+    gathered: &mut Gathered,
+) -> Option<Vec<u8>>
+    requires short { length words.now < 65536 }
+    requires recovered { IsRecovered words.now }
+    ensures { IfSome result (λ answers. GivesAnswers budget words.now probe.now answers.items) }
+{
+    let image = gathered.image_of(alloc, words)?;
+    let answers = image_answers(alloc, &image, probe, budget);
+    gathered.image = Some(image);
+    answers
 }
 
 // Why the lines of a probe were not answered over these words. Where they are answered now, memory was refused before.

@@ -9,6 +9,7 @@ pub mod join;
 mod kept_card;
 pub mod kept_text;
 mod last_cut;
+mod moved_image;
 pub mod names;
 mod output;
 pub mod part_texts;

@@ -8,15 +8,21 @@ ghost use Rattle.jcard_tear.specs.Faults.{IsLeftFault, IsLogFault};
 ghost use Rattle.jcard_tear.specs.Runs.{HasRun, IsCarriedThrough, IsLeft, IsRecovered, IsRunFault, IsSelectedBy};
 ghost use Rattle.jc_commit.specs.Image.{IsGoodLog, plain_of, recovered_of};
 ghost use Rattle.jc_commit.specs.Migration.{migrated};
+ghost use Rattle.jc_heap.specs.Heap.{heap_of};
+ghost use Rattle.jc_heap.specs.Image.{text_words};
+ghost use Rattle.jc_packages.specs.Known.{package_records};
 
 use crate::kept_text::KeptText;
 use crate::watched_store::{WatchedStore, Watcher};
 use jc_card::power_up::PowerFault;
+use jc_card::powered_image::PoweredImage;
 use jc_commit::Journal;
 use jc_environment::Aid;
+use jc_image::OpenImage;
+use jc_packages::known::KnownPackages;
 use jc_words::{FuseStore, MemStore, WordStore};
 use jcard_outcomes::standing::Left;
-use jcard_script::begun::{BegunScript, begin_script};
+use jcard_script::begun::{BegunScript, begin_over, begin_script};
 use jcard_script::explainer::Unasked;
 use jcard_script::mem_text::MemText;
 use jcard_script::script::{ScriptFault, run_script_explained, run_script_selecting};
@@ -223,6 +229,19 @@ pub(crate) fn answers_over(
     probed(alloc, card, probe)
 }
 
+/// What the lines of a probe are answered by a card that has just powered up over an image. Nothing where there is none.
+pub(crate) fn image_answers(
+    alloc: Global,
+    image: &PoweredImage,
+    probe: &[u8],
+    budget: u32,
+) -> Option<Vec<u8>>
+    ensures { IfSome result (λ answers. GivesAnswers budget image.now probe.now answers.items) }
+{
+    let card = begin_over(alloc, image, budget)?;
+    probed(alloc, card, probe)
+}
+
 /// What a power up over these words leaves, and what the lines of a probe are answered after it.
 pub(crate) fn left(
     alloc: Global,
@@ -241,6 +260,22 @@ pub(crate) fn left(
         words: found,
         answers: probed.text,
     })
+}
+
+/// The table and the packages of these words, which a recovery leaves as they are. Nothing where they have none, or memory is refused.
+pub(crate) fn known_of(alloc: Global, words: &[u16]) -> Option<KnownPackages>
+    requires { length words.now < 65536 }
+    ensures text { IfSome result (λ known. known.text ≡ text_words (migrated 3 (recovered_of words.now))) }
+    ensures records { IfSome result (λ known. known.records
+        ≡ package_records (heap_of (migrated 3 (recovered_of words.now)))) }
+{
+    let Ok(copy) = Vec::from_slice(alloc, words) else {
+        return None;
+    };
+    match OpenImage::open(MemStore::of(copy)) {
+        Ok(image) => KnownPackages::read(alloc, image),
+        Err(_) => None,
+    }
 }
 
 /// The words that a recovery and a migration of these leave.

@@ -1,4 +1,4 @@
-use Rattle.std.proofs.Common.{◌≡◌, ℕ, List, ap, subst, ◌∙◌}
+use Rattle.std.proofs.Common.{ℕ, List, ap, subst, ◌∙◌}
 use Rattle.jc_cap.specs.Views.{package_contents}
 use Rattle.jc_linker.specs.Answers.{Answers}
 use Rattle.jc_linker.specs.Linking.{link_result}
