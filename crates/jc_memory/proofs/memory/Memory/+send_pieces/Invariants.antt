@@ -1,5 +1,5 @@
 -- how many bytes are left
-use Rattle.jc_memory.proofs.memory.Memory.+send_elements.Given as goal
+use Rattle.jc_memory.proofs.memory.Memory.+send_pieces.Given as goal
 
-abbrev pub decreases-send_elements : goal.decreases-send_elements
-decreases-send_elements g l = l.count
+abbrev pub decreases-send_pieces : goal.decreases-send_pieces
+decreases-send_pieces g l = l.count
