@@ -39,7 +39,8 @@ fn is_object_of(kind: ParameterKind, facts: Facts, linked: &Linked) -> bool
     }
 }
 
-// Null, or a reference to what a kind asks for.
+// Null, or a reference to what a kind asks for. It stands out of line, so that no number asks for memory of its own.
+#[inline(never)]
 fn refers_to<S: WordStore>(
     kind: ParameterKind,
     reference: Ref,
