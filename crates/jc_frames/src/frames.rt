@@ -135,7 +135,7 @@ pub(crate) fn push_zeros(cells: &mut FixedStack<Cell, MOST_CELLS>, count: u16)
     requires { length cells.old.items + count ≤ 512 }
     ensures { cells.new.items ≡ cells.old.items ++ replicate count (Short (pos 0)) }
 {
-    for _done in 0..count {
+    for _done in 0..usize::from(count) {
         cells.push(Cell::Short(0));
     }
 }
